@@ -1,11 +1,7 @@
 -- What is ahead in a text, in the words of its spelling.
-use Rattle.std.proofs.Common.{◌≡◌, ℕ, ◌<◌, Bool, false, nat_eq, if◌then◌else◌, List, [], ◌∷◌, ◌++◌, length, take, get_or, Option, Some, None, refl, sym, ap, ◌∙◌, inl, inr, arith, length-append}
-use Rattle.std.specs.Cmp.Lexicographic.{pointwise, bytes_decides}
-use Rattle.std.proofs.lemmas.Bool.{false≢true, cases_Bool, eqb-true, both_ways, cond_both}
-use Rattle.zone_name.specs.Spelling.{Written, plain, escaped, decimal, text_of, octet_of, IsUnit, IsBadEscape, BeginsWithUnit, is_dot, no_octet}
+use Rattle.zone_name.proofs.Common.{◌≡◌, ℕ, ◌<◌, Bool, false, nat_eq, if◌then◌else◌, List, [], ◌∷◌, ◌++◌, length, take, Option, refl, sym, ap, ◌∙◌, arith, length-append, pointwise, cases_Bool, eqb-true, both_ways, cond_both, Written, plain, escaped, decimal, text_of, octet_of, IsUnit, IsBadEscape, BeginsWithUnit, is_dot, no_octet, Ahead, at_end, at_dot, at_octet, at_fault, unit_ahead, ahead_in}
 use Rattle.zone_name.specs.Machine.Units.{unit_first}
-use Rattle.zone_name.specs.Machine.LabelWalk.{Ahead, at_end, at_dot, at_octet, at_fault, unit_ahead, ahead_in}
-use Rattle.zone_name.proofs.Units.{IsFirst, at_end as no_more, at_octet as at_mark, at_backslash, first_is, first_of_unit, escape_of_unit, text_of-some}
+use Rattle.zone_name.proofs.Units.{IsFirst, first_is, first_of_unit, escape_of_unit, text_of-some}
 
 -- what is ahead, said of the text there
 abbrev pub IsAhead : List ℕ → Ahead → Type 0
@@ -16,10 +12,7 @@ IsAhead rest at_fault = IsBadEscape rest
 
 -- where a text goes on with no dot, a written octet or a bad escape is ahead
 unit_is : (c : ℕ) (rest : List ℕ) (found : Option (Written × List ℕ)) → is_dot c ≡ false → IsFirst is_dot (c ∷ rest) found → IsAhead (c ∷ rest) (unit_ahead found)
-unit_is c rest None other (no_more e) = absurd (cc)
-unit_is c rest None other (at_mark d more e dot) = let same : c ≡ d = cc in absurd (both_ways (is_dot c) other (ap is_dot same ∙ dot))
-unit_is c rest None other (at_backslash bad) = bad
-unit_is c rest (Some (w, more)) other is = record { unit = w; is_unit = is.0; value = refl; parts = is.1 }
+unit_is c rest found other is = grind (arith, both_ways)
 
 -- what is ahead is what the text's spelling says
 pub ahead_is : (rest : List ℕ) → IsAhead rest (ahead_in rest)
@@ -37,7 +30,7 @@ Shrinks rest at_fault = Unit {0}
 shrinks_by : (rest : List ℕ) (ahead : Ahead) → IsAhead rest ahead → Shrinks rest ahead
 shrinks_by rest at_end is = tt
 shrinks_by rest (at_dot after) is = omega (arith, ap length is)
-shrinks_by rest (at_octet c after) is = omega (arith, ap length is.parts, length-append (text_of is.unit) after, text_of-some is.unit)
+shrinks_by rest (at_octet c after) is = grind (arith, length-append, text_of-some)
 shrinks_by rest at_fault is = tt
 
 pub ahead_shrinks : (rest : List ℕ) → Shrinks rest (ahead_in rest)
@@ -45,7 +38,7 @@ ahead_shrinks rest = shrinks_by rest (ahead_in rest) (ahead_is rest)
 
 -- the way back: what is ahead where a written octet stands
 pub ahead-unit : (w : Written) (rest : List ℕ) → IsUnit is_dot w → ahead_in (text_of w ++ rest) ≡ at_octet (octet_of w) rest
-ahead-unit w rest is = by w is ∙ ap unit_ahead (first_of_unit is_dot w rest refl is)
+ahead-unit w rest is = cc (by w is, first_of_unit is_dot w rest refl is)
   where
     by : (w : Written) → IsUnit is_dot w → ahead_in (text_of w ++ rest) ≡ unit_ahead (unit_first is_dot (text_of w ++ rest))
     by (plain c) is = ap (λ (b : Bool). if b then at_dot rest else unit_ahead (unit_first is_dot (c ∷ rest))) is.0
@@ -54,8 +47,8 @@ ahead-unit w rest is = by w is ∙ ap unit_ahead (first_of_unit is_dot w rest re
 
 bad_by : (rest : List ℕ) (ahead : Ahead) → IsBadEscape rest → IsAhead rest ahead → ahead ≡ at_fault
 bad_by rest at_end bad is = absurd (let e : [] ≡ 92 ∷ bad.0 = sym is ∙ bad.1 in cc)
-bad_by rest (at_dot after) bad is = absurd (false≢true (ap (λ t. nat_eq (get_or t 0 0) 46) (sym bad.1 ∙ is)))
-bad_by rest (at_octet c after) bad is = absurd (bad.2 is.unit after (escape_of_unit is_dot is.unit after bad.0 is.is_unit (sym is.parts ∙ bad.1)) is.parts)
+bad_by rest (at_dot after) bad is = cc
+bad_by rest (at_octet c after) bad is = grind (arith, escape_of_unit)
 bad_by rest at_fault bad is = refl
 
 -- a backslash that begins no escape is a fault ahead
@@ -69,11 +62,7 @@ abbrev pub has_dot : List ℕ → Bool
 has_dot rest = pointwise nat_eq (46 ∷ []) (take 1 rest)
 
 unit_dot : (w : Written) (after : List ℕ) → has_dot (text_of w ++ after) ≡ false → IsUnit no_octet w → IsUnit is_dot w
-unit_dot (plain c) after e is = (elim (cases_Bool (is_dot c)) [ inl h ↦ absurd (both_ways (has_dot (c ∷ after)) e ((bytes_decides (46 ∷ []) (c ∷ [])).1 (ap (λ t. t ∷ []) (sym (eqb-true c 46 h))))) | inr h ↦ h ], is.1)
-unit_dot (escaped c) after e is = is
-unit_dot (decimal x y z) after e is = is
+unit_dot w after e is = grind (arith, cases_Bool, both_ways, eqb-true)
 
 pub unit_seen : (rest after : List ℕ) (c : ℕ) → has_dot rest ≡ false → BeginsWithUnit no_octet rest c after → at_octet c after ≡ ahead_in rest
-unit_seen rest after c other begins =
-    let is : IsUnit is_dot begins.unit = unit_dot begins.unit after (ap has_dot (sym begins.parts) ∙ other) begins.is_unit in
-    ap (λ t. at_octet t after) (sym begins.value) ∙ sym (ahead-unit begins.unit after is) ∙ ap ahead_in (sym begins.parts)
+unit_seen rest after c other begins = grind (arith, unit_dot, ahead-unit)

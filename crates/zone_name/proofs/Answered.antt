@@ -1,18 +1,10 @@
 -- The name that a text spells under an origin, or its first fault, as an answer on lists.
-use Rattle.std.proofs.Common.{◌≡◌, ◌≢◌, ℕ, ◌<◌, ◌≤◌, Bool, true, false, nat_eq, nat_le, if◌then◌else◌, List, [], ◌∷◌, ◌++◌, length, get_or, codes, Result, Ok, Err, Option, Some, None, IfOk, IfErr, IfSome, ◌⊎◌, inl, inr, refl, sym, ap, ◌∙◌, subst, arith}
-use Rattle.std.specs.List.{AllByRecursion}
-use Rattle.std.specs.Cmp.Lexicographic.{pointwise, bytes_decides}
-use Rattle.std.proofs.lemmas.List.{length-map}
-use Rattle.std.proofs.lemmas.Bool.{false≢true, leb-true, leb-false}
+use Rattle.zone_name.proofs.Common.{◌≡◌, ◌≢◌, ℕ, ◌<◌, ◌≤◌, Bool, true, false, nat_eq, nat_le, if◌then◌else◌, List, [], ◌∷◌, ◌++◌, length, get_or, codes, Result, Ok, Err, Option, Some, None, IfOk, IfErr, IfSome, ◌⊎◌, inl, inr, refl, sym, ap, ◌∙◌, subst, arith, AllByRecursion, pointwise, bytes_decides, length-map, false≢true, leb-true, leb-false, folded_label, folded_octet, wire, IsLabel, IsName, Written, plain, text_of, octet_of, IsUnit, is_dot, IsWrittenLabel, AreWrittenLabels, written_text, written_octets, dotted, parted, named, Writes, root, at_origin, absolute, relative, Spells, FaultAt, IsRelative, SpellingFault, within, unfounded, long_name, NameFault, sized, under_origin, HasShape}
 use Rattle.zone_name.specs.Common.{AreOctets}
-use Rattle.zone_name.specs.Name.{folded_label, folded_octet, wire, IsLabel, IsName}
-use Rattle.zone_name.specs.Spelling.{Written, plain, escaped, decimal, text_of, octet_of, IsUnit, is_dot, IsWrittenLabel, AreWrittenLabels, written_text, written_octets, dotted, parted, named, Writes, root, at_origin, absolute, relative, Spells, FaultAt, empty_label, long_label, bad_escape, IsRelative, SpellingFault, within, unfounded, long_name}
-use Rattle.zone_name.specs.declared.fault.NameFault.{NameFault}
 use Rattle.zone_name.specs.declared.fault.NameFault.TheVariants.{EmptyLabel, NameTooLong, RelativeName}
 use Rattle.zone_name.specs.declared.reading.NameShape.{NameShape}
 use Rattle.zone_name.specs.declared.reading.NameShape.TheVariants.{Root, Origin, Labels}
-use Rattle.zone_name.specs.Machine.LabelWalk.{reading, sized, under_origin}
-use Rattle.zone_name.specs.Machine.Seen.{HasShape}
+use Rattle.zone_name.specs.Machine.LabelWalk.{reading}
 use Rattle.zone_name.proofs.Spelled.{AreShort, Says, reading-says}
 use Rattle.zone_name.proofs.Only.{reading-dotted, reading-parted, reading-fault}
 use Rattle.zone_name.proofs.Pushing.{AllByRecursion-append, AllByRecursion-front, AllByRecursion-back, IsLabel-folded, sized-name, sized-long}
@@ -43,7 +35,7 @@ length_label label = length-map (written_octets label) folded_octet ∙ length-m
 
 short_labels : (written : List (List Written)) → AreShort written → ShortLabels (named written)
 short_labels [] short = tt
-short_labels (label ∷ written) short = (subst (λ n. n ≤ 63) (sym (length_label label)) short.0, short_labels written short.1)
+short_labels (label ∷ written) short = grind (arith, length_label, short_labels written short.1)
 
 short_name : (labels : List (List ℕ)) → AllByRecursion IsLabel labels → ShortLabels labels
 short_name [] each = tt
@@ -51,16 +43,14 @@ short_name (label ∷ labels) each = (each.0.short, short_name labels each.1)
 
 short_written : (written : List (List Written)) → ShortLabels (named written) → AreShort written
 short_written [] each = tt
-short_written (label ∷ written) each = (subst (λ n. n ≤ 63) (length_label label) each.0, short_written written each.1)
+short_written (label ∷ written) each = grind (arith, length_label, short_written written each.1)
 
 -- ---- what is so is answered
 absolute_reads : (text : List ℕ) (written : List (List Written)) (labels : List (List ℕ)) → AreWrittenLabels written → text ≡ dotted written → labels ≡ named written → ShortLabels labels → reading text ≡ Ok (labels, true)
-absolute_reads text written labels are text_is is short =
-    ap reading text_is ∙ reading-dotted written are (short_written written (subst ShortLabels is short)) ∙ ap (λ t. Ok (t, true)) (sym is)
+absolute_reads text written labels are text_is is short = grind (arith, reading-dotted, short_written)
 
 relative_reads : (text : List ℕ) (written : List (List Written)) (above labels : List (List ℕ)) → AreWrittenLabels written → text ≡ parted written → labels ≡ named written ++ above → ShortLabels labels → reading text ≡ Ok (named written, false)
-relative_reads text written above labels are text_is is short =
-    ap reading text_is ∙ reading-parted written are (short_written written (AllByRecursion-front (λ label. length label ≤ 63) (named written) above (subst ShortLabels is short)))
+relative_reads text written above labels are text_is is short = cc (reading-parted written are (short_written written (AllByRecursion-front (λ label. length label ≤ 63) (named written) above (rw is at short))))
 
 reading_dot : reading (codes ".") ≡ Err EmptyLabel
 unfolding reading
@@ -87,21 +77,17 @@ marks_differ e = false≢true (sym (ap (λ t. nat_eq (get_or t 0 0) 46) e))
 -- a text that writes labels is answered by them, where they fit
 writes_answered : (origin : Option (List (List ℕ))) (text : List ℕ) (labels : List (List ℕ)) (form : NameShape) → HasShape text form → Writes origin text labels → ShortLabels labels → answered origin text form ≡ sized labels
 writes_answered origin text labels Root dot (root e l) short = ap sized (sym l)
-writes_answered origin text labels Root dot (at_origin e o) short = absurd (marks_differ (sym dot ∙ e))
-writes_answered origin text labels Root dot (absolute written are e l) short =
-    absurd (err_not_ok EmptyLabel (labels, true) (sym (ap reading dot ∙ reading_dot) ∙ absolute_reads text written labels are e l short))
-writes_answered origin text labels Root dot (relative written above are n e o l) short =
-    absurd (err_not_ok EmptyLabel (named written, false) (sym (ap reading dot ∙ reading_dot) ∙ relative_reads text written above labels are e l short))
+writes_answered origin text labels Root dot (at_origin e o) short = cc
+writes_answered origin text labels Root dot (absolute written are e l) short = grind (arith, err_not_ok, reading_dot, absolute_reads)
+writes_answered origin text labels Root dot (relative written above are n e o l) short = grind (arith, err_not_ok, reading_dot, relative_reads)
 writes_answered origin text labels Origin at (root e l) short = absurd (marks_differ (sym e ∙ at))
-writes_answered origin text labels Origin at (at_origin e o) short = ap (λ t. answered t text Origin) o
-writes_answered origin text labels Origin at (absolute written are e l) short =
-    absurd (part_not_whole (reading text) ((64 ∷ []) ∷ []) labels (ap reading at ∙ reading_at) (absolute_reads text written labels are e l short))
+writes_answered origin text labels Origin at (at_origin e o) short = cc
+writes_answered origin text labels Origin at (absolute written are e l) short = grind (arith, part_not_whole, reading_at, absolute_reads)
 writes_answered origin text labels Origin at (relative written above are n e o l) short = absurd (n at)
 writes_answered origin text labels Labels other (root e l) short = absurd (other.0 e)
 writes_answered origin text labels Labels other (at_origin e o) short = absurd (other.1 e)
 writes_answered origin text labels Labels other (absolute written are e l) short = ap (under_origin origin) (absolute_reads text written labels are e l short)
-writes_answered origin text labels Labels other (relative written above are n e o l) short =
-    ap (λ t. under_origin t (reading text)) o ∙ ap (under_origin (Some above)) (relative_reads text written above labels are e l short) ∙ ap sized (sym l)
+writes_answered origin text labels Labels other (relative written above are n e o l) short = grind (arith, relative_reads)
 
 -- the name that a text spells is its answer
 pub answered-only : (origin : Option (List (List ℕ))) (text : List ℕ) (form : NameShape) (name : List (List ℕ)) → HasShape text form → Spells origin text name → answered origin text form ≡ Ok name
@@ -109,31 +95,22 @@ answered-only origin text form name has spells = writes_answered origin text nam
 
 -- an origin that is a name is the answer of an `@`
 pub answered-origin : (origin : Option (List (List ℕ))) (text : List ℕ) (above : List (List ℕ)) → origin ≡ Some above → IfSome origin IsName → answered origin text Origin ≡ Ok above
-answered-origin origin text above is known =
-    let found : IsName above = subst (λ t. IfSome t IsName) is known in
-    ap (λ t. answered t text Origin) is ∙ sized-name above found.short
+answered-origin origin text above is known = grind (arith, sized-name)
 
 -- a dot alone has no fault
 faultless_dot : (text : List ℕ) (fault : NameFault) → text ≡ codes "." → FaultAt text fault → reading text ≡ Err fault → ⊥
-faultless_dot text fault dot (empty_label before rest r ends first other) e = other dot
-faultless_dot text fault dot (long_label before open_label w rest r full is) e = let d = sym (ap reading dot ∙ reading_dot) ∙ e in absurd (cc)
-faultless_dot text fault dot (bad_escape before open_label rest r bad) e = let d = sym (ap reading dot ∙ reading_dot) ∙ e in absurd (cc)
+faultless_dot text fault dot h e = grind (arith, reading_dot)
 
 within_answered : (origin : Option (List (List ℕ))) (text : List ℕ) (form : NameShape) (fault : NameFault) → HasShape text form → FaultAt text fault → answered origin text form ≡ Err fault
-within_answered origin text Root fault dot at = absurd (faultless_dot text fault dot at (reading-fault text fault at))
-within_answered origin text Origin fault is at = absurd (err_not_ok fault ((64 ∷ []) ∷ [], false) (sym (reading-fault text fault at) ∙ ap reading is ∙ reading_at))
-within_answered origin text Labels fault other at = ap (under_origin origin) (reading-fault text fault at)
+within_answered origin text form fault dot at = grind (arith, faultless_dot, reading-fault, err_not_ok, reading_at)
 
 relative_answered : (text : List ℕ) (form : NameShape) → HasShape text form → IsRelative text → answered None text form ≡ Err RelativeName
-relative_answered text Root dot is =
-    absurd (err_not_ok EmptyLabel (named is.0, false) (sym (ap reading dot ∙ reading_dot) ∙ ap reading is.3 ∙ reading-parted is.0 is.1 is.2))
-relative_answered text Origin at is = refl
-relative_answered text Labels other is = ap (under_origin None) (ap reading is.3 ∙ reading-parted is.0 is.1 is.2)
+relative_answered text form dot is = grind (arith, err_not_ok, reading_dot, reading-parted)
 
 -- the first fault of a text is its answer
 pub answered-fault : (origin : Option (List (List ℕ))) (text : List ℕ) (form : NameShape) (fault : NameFault) → HasShape text form → SpellingFault origin text fault → answered origin text form ≡ Err fault
 answered-fault origin text form fault has (within f at) = within_answered origin text form f has at
-answered-fault origin text form fault has (unfounded none is) = ap (λ t. answered t text form) none ∙ relative_answered text form has is
+answered-fault origin text form fault has (unfounded none is) = grind (arith, relative_answered)
 answered-fault origin text form fault has (long_name labels writes short long) = writes_answered origin text labels form has writes short ∙ sized-long labels long
 
 -- ---- what is answered is so
@@ -148,10 +125,10 @@ sized_err labels fault false test e = (cc, leb-false (length (wire labels)) 255 
 found_by : (origin : Option (List (List ℕ))) (text : List ℕ) (found : Result (List (List ℕ) × Bool) NameFault) (name : List (List ℕ)) → text ≢ codes "@" → Says text found → Ok name ≡ under_origin origin found → IsName name → Writes origin text name
 found_by origin text (Err fault) name other says e is = absurd (cc)
 found_by origin text (Ok (labels, true)) name other says e is =
-    absolute says.written says.are says.text_is (sized_ok labels name (nat_le (length (wire labels)) 255) e ∙ says.labels_are)
+    absolute says.written says.are says.text_is (cc (sized_ok labels name (nat_le (length (wire labels)) 255) e))
 found_by None text (Ok (labels, false)) name other says e is = absurd (cc)
 found_by (Some above) text (Ok (labels, false)) name other says e is =
-    relative says.written above says.are other says.text_is refl (sized_ok (labels ++ above) name (nat_le (length (wire (labels ++ above))) 255) e ∙ ap (λ t. t ++ above) says.labels_are)
+    relative says.written above says.are other says.text_is refl (cc (sized_ok (labels ++ above) name (nat_le (length (wire (labels ++ above))) 255) e))
 
 -- an answer that is a name is spelled
 pub decided-found : (origin : Option (List (List ℕ))) (text : List ℕ) (result : Result (List (List ℕ)) NameFault) → text ≢ codes "." → text ≢ codes "@" → result ≡ under_origin origin (reading text) → IfOk result IsName → IfOk result (Spells origin text)
@@ -159,24 +136,23 @@ decided-found origin text (Ok name) dot other e is = record { written = found_by
 decided-found origin text (Err fault) dot other e is = tt
 
 fault_by : (origin : Option (List (List ℕ))) (text : List ℕ) (found : Result (List (List ℕ) × Bool) NameFault) (fault : NameFault) → text ≢ codes "@" → IfSome origin IsName → Says text found → Err fault ≡ under_origin origin found → SpellingFault origin text fault
-fault_by origin text (Err first) fault other known says e = let same : first ≡ fault = cc in subst (SpellingFault origin text) same (within first says)
+fault_by origin text (Err first) fault other known says e = let same : first ≡ fault = cc in rw (← same) (within first says)
 fault_by origin text (Ok (labels, true)) fault other known says e =
     let long = sized_err labels fault (nat_le (length (wire labels)) 255) refl e in
-    subst (SpellingFault origin text) long.0 (long_name labels (absolute says.written says.are says.text_is says.labels_are)
+    rw (← long.0) (long_name labels (absolute says.written says.are says.text_is says.labels_are)
     (subst ShortLabels (sym says.labels_are) (short_labels says.written says.short)) long.1)
 fault_by None text (Ok (labels, false)) fault other known says e =
     let same : RelativeName ≡ fault = cc in
-    subst (SpellingFault None text) same (unfounded refl (says.written, says.are, says.short, says.text_is))
+    rw same at (unfounded refl (says.written, says.are, says.short, says.text_is))
 fault_by (Some above) text (Ok (labels, false)) fault other known says e =
     let long = sized_err (labels ++ above) fault (nat_le (length (wire (labels ++ above))) 255) refl e in
-    let each = subst ShortLabels (sym says.labels_are) (short_labels says.written says.short) in
-    subst (SpellingFault (Some above) text) long.0 (long_name (labels ++ above) (relative says.written above says.are other says.text_is refl (ap (λ t. t ++ above) says.labels_are))
+    let each = rw (← says.labels_are) at (short_labels says.written says.short) in
+    rw long.0 at (long_name (labels ++ above) (relative says.written above says.are other says.text_is refl (ap (λ t. t ++ above) says.labels_are))
     (AllByRecursion-append (λ label. length label ≤ 63) labels above each (short_name above known.each)) long.1)
 
 -- an answer that is a fault is the first
 pub decided-fault : (origin : Option (List (List ℕ))) (text : List ℕ) (result : Result (List (List ℕ)) NameFault) → text ≢ codes "." → text ≢ codes "@" → IfSome origin IsName → result ≡ under_origin origin (reading text) → IfErr result (SpellingFault origin text)
-decided-fault origin text (Ok name) dot other known e = tt
-decided-fault origin text (Err fault) dot other known e = fault_by origin text (reading text) fault other known (reading-says text dot) e
+decided-fault origin text result dot other known e = grind (arith, fault_by, reading-says)
 
 -- an `@` is a relative text
 pub at-relative : (text : List ℕ) → text ≡ codes "@" → IsRelative text
@@ -184,14 +160,11 @@ at-relative text e = ((plain 64 ∷ []) ∷ [], record { some = omega arith; eac
 
 -- ---- the labels of a text of octets
 octet_short : (w : Written) → IsUnit is_dot w → AreOctets (text_of w) → octet_of w < 256
-octet_short (plain c) is each = each.0
-octet_short (escaped c) is each = each.1.0
-octet_short (decimal x y z) is each = omega (arith, is.3)
+octet_short w is each = grind arith
 
 octets_short : (label : List Written) → AllByRecursion (IsUnit is_dot) label → AreOctets (written_text label) → AreOctets (written_octets label)
 octets_short [] is each = tt
-octets_short (w ∷ label) is each =
-    (octet_short w is.0 (AllByRecursion-front (λ c. c < 256) (text_of w) (written_text label) each), octets_short label is.1 (AllByRecursion-back (λ c. c < 256) (text_of w) (written_text label) each))
+octets_short (w ∷ label) is each = grind (arith, octets_short label is.1 (AllByRecursion-back (λ c. c < 256) (text_of w) (written_text label) each))
 
 label_is : (label : List Written) → IsWrittenLabel label → length label ≤ 63 → AreOctets (written_text label) → IsLabel (folded_label (written_octets label))
 label_is label is short each =
@@ -223,14 +196,12 @@ sized_is labels each = by (nat_le (length (wire labels)) 255) refl
 
 -- what is said of the labels that are read
 pub reading-says_ok : (text : List ℕ) (labels : List (List ℕ)) (is_absolute : Bool) → Says text (Ok (labels, is_absolute)) → reading text ≡ Ok (labels, is_absolute)
-reading-says_ok text labels true says = ap reading says.text_is ∙ reading-dotted says.written says.are says.short ∙ ap (λ t. Ok (t, true)) (sym says.labels_are)
-reading-says_ok text labels false says = ap reading says.text_is ∙ reading-parted says.written says.are says.short ∙ ap (λ t. Ok (t, false)) (sym says.labels_are)
+reading-says_ok text labels true says = grind (arith, reading-dotted)
+reading-says_ok text labels false says = grind (arith, reading-parted)
 
 pub labels-says_ok : (text : List ℕ) (labels : List (List ℕ)) (is_absolute : Bool) → AreOctets text → Says text (Ok (labels, is_absolute)) → AllByRecursion IsLabel labels
-labels-says_ok text labels true octets says =
-    subst (AllByRecursion IsLabel) (sym says.labels_are) (dotted_are says.written says.are.each says.short (subst AreOctets says.text_is octets))
-labels-says_ok text labels false octets says =
-    subst (AllByRecursion IsLabel) (sym says.labels_are) (relative_are says.written says.are.each says.short (subst AreOctets says.text_is octets))
+labels-says_ok text labels true octets says = grind (arith, dotted_are)
+labels-says_ok text labels false octets says = grind (arith, relative_are)
 
 under_is : (origin : Option (List (List ℕ))) (text : List ℕ) (found : Result (List (List ℕ) × Bool) NameFault) → IfSome origin IsName → AreOctets text → Says text found → IfOk (under_origin origin found) IsName
 under_is origin text (Err fault) known octets says = tt
@@ -247,7 +218,7 @@ OneOf origin text = ((labels : List (List ℕ)) × Spells origin text labels) �
 
 one_at_origin : (origin : Option (List (List ℕ))) (text : List ℕ) → text ≡ codes "@" → IfSome origin IsName → OneOf origin text
 one_at_origin None text at known = inr (RelativeName, unfounded refl (at-relative text at))
-one_at_origin (Some above) text at known = inl (above, record { written = at_origin at refl; name = known })
+one_at_origin (Some above) text at known = grind arith
 
 one_by : (origin : Option (List (List ℕ))) (text : List ℕ) (result : Result (List (List ℕ)) NameFault) → IfOk result (Spells origin text) → IfErr result (SpellingFault origin text) → OneOf origin text
 one_by origin text (Ok name) found fault = inl (name, found)

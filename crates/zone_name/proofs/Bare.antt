@@ -1,13 +1,7 @@
 -- What is printed outside quotes is written octets, of which few stand by themselves.
-use Rattle.std.proofs.Common.{◌≡◌, ℕ, ◌<◌, ◌==◌, ◌||◌, ◌&&◌, not, Bool, true, false, List, [], ◌∷◌, ◌++◌, length, map, refl, sym, ap, ap₂, ◌∙◌, subst, arith, append_assoc, length-append}
-use Rattle.std.specs.List.{flat_map, AllByRecursion}
+use Rattle.zone_name.proofs.Common.{◌≡◌, ℕ, ◌<◌, ◌==◌, ◌||◌, ◌&&◌, not, Bool, true, false, List, [], ◌∷◌, ◌++◌, length, refl, sym, ap, ap₂, ◌∙◌, arith, append_assoc, length-append, flat_map, AllByRecursion, both_ways, append-nil, length-map, flat_map-append, IsFoldedOctet, IsLabel, IsName, Written, plain, text_of, IsUnit, written_text, is_special, is_printed, octet_text, label_text, name_text}
+use Rattle.std.proofs.Common.{map}
 use Rattle.std.proofs.Math.Bool.{or-true}
-use Rattle.std.proofs.lemmas.Bool.{both_ways}
-use Rattle.std.proofs.lemmas.List.{append-nil, length-map}
-use Rattle.std.proofs.lemmas.List.Concat.{flat_map-append}
-use Rattle.zone_name.specs.Name.{IsFoldedOctet, IsLabel, IsName}
-use Rattle.zone_name.specs.Spelling.{Written, plain, text_of, IsUnit, written_text}
-use Rattle.zone_name.specs.Text.{is_special, is_printed, octet_text, label_text, name_text}
 use Rattle.zone_name.proofs.Lawful.{written_by, printed_text, special_escapes, decimal_escapes}
 use Rattle.zone_name.proofs.Pushing.{AllByRecursion-append}
 
@@ -52,37 +46,29 @@ plain_text (c ∷ text) = ap (λ t. c ∷ t) (plain_text text)
 
 -- octets that stand by themselves
 pub bare_octets : (text : List ℕ) → 0 < length text → AllByRecursion (λ c. is_bare c ≡ true) text → StandsBare text
-bare_octets text some each = record {
-  units = map plain text;
-  some = omega (arith, some, length-map text plain);
-  each = plain_units text each;
-  parts = plain_text text;
-}
+bare_octets text some each = grind (arith, length-map, plain_units, plain_text)
 
 -- ---- names
 
 printed_unit : (special printed : Bool) (c : ℕ) → c < 256 → is_special c ≡ special → is_printed c ≡ printed → IsUnit not_bare (written_by special printed c)
 unfolding written_by
 printed_unit true printed c low s p = special_escapes c s
-printed_unit false true c low s p = bare_plain c (ap₂ (λ a b. c == 46 || (not a && b)) s p ∙ or-true (c == 46))
+printed_unit false true c low s p = grind (arith, bare_plain, or-true)
 printed_unit false false c low s p = decimal_escapes c low
 
 bare_octet : (c : ℕ) → c < 256 → StandsBare (octet_text c)
 bare_octet c low =
-    subst StandsBare (printed_text (is_special c) (is_printed c) c)
-    (bare_unit (written_by (is_special c) (is_printed c) c) (printed_unit (is_special c) (is_printed c) c low refl refl))
+    rw (printed_text (is_special c) (is_printed c) c) at (bare_unit (written_by (is_special c) (is_printed c) c) (printed_unit (is_special c) (is_printed c) c low refl refl))
 
 bare_label : (label : List ℕ) → AllByRecursion IsFoldedOctet label → StandsBare (label_text label)
 bare_label [] each = bare_octets (46 ∷ []) (omega arith) (refl, tt)
 bare_label (c ∷ label) each =
-    subst StandsBare (sym (append_assoc (octet_text c) (flat_map octet_text label) (46 ∷ [])))
-    (bare_append (octet_text c) (label_text label) (bare_octet c each.0.octet) (bare_label label each.1))
+    rw (append_assoc (octet_text c) (flat_map octet_text label) (46 ∷ [])) (bare_append (octet_text c) (label_text label) (bare_octet c each.0.octet) (bare_label label each.1))
 
 bare_labels : (label : List ℕ) (labels : List (List ℕ)) → IsLabel label → AllByRecursion IsLabel labels → StandsBare (label_text label ++ flat_map label_text labels)
-bare_labels label [] is each = subst StandsBare (sym (append-nil (label_text label))) (bare_label label is.each)
+bare_labels label [] is each = grind (arith, append-nil, bare_label)
 bare_labels label (next ∷ labels) is each = bare_append (label_text label) (flat_map label_text (next ∷ labels)) (bare_label label is.each) (bare_labels next labels each.0 each.1)
 
 -- what is printed for a name stands outside quotes
 pub bare_name : (labels : List (List ℕ)) → IsName labels → StandsBare (name_text labels)
-bare_name [] is = bare_octets (46 ∷ []) (omega arith) (refl, tt)
-bare_name (label ∷ labels) is = bare_labels label labels is.each.0 is.each.1
+bare_name labels is = grind (arith, bare_octets, bare_labels)

@@ -1,69 +1,53 @@
 -- Equality, order and containment of names, as the code decides them.
-use Rattle.std.proofs.Common.{◌≡◌, ℕ, ◌+◌, ◌-◌, ◌≤◌, ◌↔◌, Bool, IsTrue, List, [], ◌∷◌, ◌++◌, length, take, drop, reverse, Option, Some, None, MatchOption, refl, ap, sym, ◌∙◌, nat_eq, true, arith, length-append, length-drop}
+use Rattle.zone_name.proofs.Common.{◌≡◌, ℕ, ◌+◌, ◌-◌, ◌≤◌, ◌↔◌, Bool, IsTrue, List, [], ◌∷◌, ◌++◌, length, take, drop, reverse, Option, Some, None, MatchOption, refl, ap, sym, ◌∙◌, nat_eq, true, arith, length-append, ordering_then, nat_cmp, pointwise, pointwise_decides, bytes_decides, slice_cmp, reverse-append, reverse-reverse, length-reverse, length-take, take-append-drop, drop_at, drop-drop, nat_tests, wire, labels_of, IsWithin, label_cmp, name_cmp}
+use Rattle.std.proofs.Common.{length-drop}
 use Rattle.std.specs.declared.cmp.Ordering.{Ordering}
-use Rattle.std.specs.declared.cmp.Ordering.TheVariants.{Less, Equal, Greater}
-use Rattle.std.specs.Ordering.{ordering_then, nat_cmp}
+use Rattle.std.specs.declared.cmp.Ordering.TheVariants.{Equal}
 use Rattle.std.specs.Bool.{Decides, one_answer}
-use Rattle.std.specs.Cmp.Lexicographic.{pointwise, pointwise_decides, bytes_decides, slice_cmp}
-use Rattle.std.proofs.lemmas.List.{reverse-append, reverse-reverse, length-reverse, length-take, take-append-drop, drop_at, drop-drop}
-use Rattle.std.proofs.lemmas.Bool.Decides.{nat_tests}
 use Rattle.std.proofs.lemmas.Cmp.{lists_total, nat_list_cmp_total, on_total, tied_itself}
-use Rattle.zone_name.specs.Name.{wire, labels_of, IsWithin}
-use Rattle.zone_name.specs.Order.{label_cmp, name_cmp}
 
 -- the test on labels from the right decides equality
 labels_decide : (a b : List (List ℕ)) → Decides (pointwise (pointwise nat_eq) (reverse a) (reverse b)) (a ≡ b)
 labels_decide a b =
     let same = pointwise_decides bytes_decides (reverse a) (reverse b) in
-    (λ e. sym (reverse-reverse a) ∙ ap reverse (same.0 e) ∙ reverse-reverse b, λ e. same.1 (ap reverse e))
+    (λ e. cc (reverse-reverse a, same.0 e, reverse-reverse b), λ e. same.1 (ap reverse e))
 
 -- what `==` of octets answers is what `==` of labels answers
 pub eq-from_octets : (a b : List (List ℕ)) (octets others : List ℕ) (answer : Bool) → answer ≡ pointwise nat_eq octets others → octets ≡ wire a → others ≡ wire b → labels_of (wire a) ≡ a → labels_of (wire b) ≡ b → answer ≡ pointwise (pointwise nat_eq) (reverse a) (reverse b)
 eq-from_octets a b octets others answer e left right back_a back_b =
     let same = bytes_decides octets others in
-    e ∙ one_answer (pointwise nat_eq octets others) (pointwise (pointwise nat_eq) (reverse a) (reverse b))
-    (λ h. sym back_a ∙ ap labels_of (sym left ∙ same.0 h ∙ right) ∙ back_b, λ h. same.1 (left ∙ ap wire h ∙ sym right))
-    (labels_decide a b)
+    cc (one_answer (pointwise nat_eq octets others) (pointwise (pointwise nat_eq) (reverse a) (reverse b)) (λ h. cc (same.0 h), λ h. same.1 (cc)) (labels_decide a b))
 
 -- equal names compare so
 pub name_cmp-same : (a b : List (List ℕ)) (answer : Bool) → answer ≡ pointwise (pointwise nat_eq) (reverse a) (reverse b) → answer ≡ true → Equal ≡ name_cmp a b
-name_cmp-same a b answer is same =
-    let e : a ≡ b = (labels_decide a b).0 (sym is ∙ same) in
-    sym (ap (λ x. name_cmp x b) e ∙ tied_itself (on_total (reverse {A = List ℕ}) (lists_total nat_list_cmp_total)) b)
+name_cmp-same a b answer is same = grind (arith, labels_decide, tied_itself, on_total, ℕ, lists_total, nat_list_cmp_total)
 
 -- the first that decides, of three
 then_assoc : (a b c : Ordering) → ordering_then (ordering_then a b) c ≡ ordering_then a (ordering_then b c)
-then_assoc Less b c = refl
-then_assoc Equal b c = refl
-then_assoc Greater b c = refl
+then_assoc a b c = grind arith
 
 then_equal : (a : Ordering) → ordering_then a Equal ≡ a
-then_equal Less = refl
-then_equal Equal = refl
-then_equal Greater = refl
+then_equal a = grind arith
 
 -- fronts that are as long decide first
 slice_cmp-append : {K : Type 0} (R : K → K → Ordering) (xs ys us vs : List K) → length xs ≡ length ys → slice_cmp R (xs ++ us) (ys ++ vs) ≡ ordering_then (slice_cmp R xs ys) (slice_cmp R us vs)
 slice_cmp-append R [] [] us vs e = refl
 slice_cmp-append R [] (y ∷ ys) us vs e = absurd (omega arith)
 slice_cmp-append R (x ∷ xs) [] us vs e = absurd (omega arith)
-slice_cmp-append R (x ∷ xs) (y ∷ ys) us vs e =
-    ap (ordering_then (R x y)) (slice_cmp-append R xs ys us vs (omega arith)) ∙ sym (then_assoc (R x y) (slice_cmp R xs ys) (slice_cmp R us vs))
+slice_cmp-append R (x ∷ xs) (y ∷ ys) us vs e = grind (arith, slice_cmp-append R xs ys us vs (omega arith))
 
 -- names compared by their ends first, and then by what is before them
 name_cmp-append : (us vs xs ys : List (List ℕ)) → length xs ≡ length ys → name_cmp (us ++ xs) (vs ++ ys) ≡ ordering_then (name_cmp xs ys) (slice_cmp label_cmp (reverse us) (reverse vs))
-name_cmp-append us vs xs ys e =
-    rw (reverse-append us xs, reverse-append vs ys)
-    (slice_cmp-append label_cmp (reverse xs) (reverse ys) (reverse us) (reverse vs) (length-reverse xs ∙ e ∙ sym (length-reverse ys)))
+name_cmp-append us vs xs ys e = grind (arith, reverse-append, slice_cmp-append, length-reverse)
 
 -- one step of the comparison from the left: what is right of it decides first
 pub name_cmp-more : (xs ys xs' ys' : List (List ℕ)) (x y : List ℕ) (order found order' whole : Ordering) → xs ≡ x ∷ xs' → ys ≡ y ∷ ys' → length xs ≡ length ys → found ≡ label_cmp x y → order' ≡ ordering_then found order → ordering_then (name_cmp xs ys) order ≡ whole → (length xs' ≡ length ys') × (ordering_then (name_cmp xs' ys') order' ≡ whole)
 name_cmp-more xs ys xs' ys' x y order found order' whole left right long is next so_far =
-    let lengths : length (x ∷ xs') ≡ length (y ∷ ys') = ap length (sym left) ∙ long ∙ ap length right in
+    let lengths : length (x ∷ xs') ≡ length (y ∷ ys') = cc in
     let same : length xs' ≡ length ys' = omega arith in
     let split : name_cmp xs ys ≡ ordering_then (name_cmp xs' ys') found =
     ap (λ t. name_cmp t ys) left ∙ ap (λ t. name_cmp (x ∷ xs') t) right ∙ name_cmp-append (x ∷ []) (y ∷ []) xs' ys' same ∙ ap (ordering_then (name_cmp xs' ys')) (then_equal (label_cmp x y) ∙ sym is) in
-    (same, ap (ordering_then (name_cmp xs' ys')) next ∙ sym (then_assoc (name_cmp xs' ys') found order) ∙ ap (λ t. ordering_then t order) (sym split) ∙ so_far)
+    (same, cc (then_assoc (name_cmp xs' ys') found order))
 
 -- where one list at most has any, the longer comes last
 lengths_decide : (us vs : List (List ℕ)) (m n : ℕ) → length us ≡ m - n → length vs ≡ n - m → slice_cmp label_cmp us vs ≡ nat_cmp m n
@@ -80,18 +64,18 @@ name_cmp-start a b xs ys m n order long_a long_b left right is =
     let same : length xs ≡ length ys = omega (arith, ap length left, ap length right, length-drop (m - n) a, length-drop (n - m) b) in
     let front : slice_cmp label_cmp (reverse us) (reverse vs) ≡ nat_cmp m n =
     lengths_decide (reverse us) (reverse vs) m n (omega (arith, length-reverse us, length-take (m - n) a)) (omega (arith, length-reverse vs, length-take (n - m) b)) in
-    let whole_a : us ++ xs ≡ a = ap (λ t. us ++ t) left ∙ take-append-drop (m - n) a in
-    let whole_b : vs ++ ys ≡ b = ap (λ t. vs ++ t) right ∙ take-append-drop (n - m) b in
-    (same, ap (ordering_then (name_cmp xs ys)) (is ∙ sym front) ∙ sym (name_cmp-append us vs xs ys same) ∙ ap (λ t. name_cmp t (vs ++ ys)) whole_a ∙ ap (λ t. name_cmp a t) whole_b)
+    let whole_a : us ++ xs ≡ a = cc (take-append-drop (m - n) a) in
+    let whole_b : vs ++ ys ≡ b = cc (take-append-drop (n - m) b) in
+    (same, cc (name_cmp-append us vs xs ys same))
 
 -- a name lies within another where its last labels are that name's
 pub within_decided : (a b rest : List (List ℕ)) (m n : ℕ) (answer : Bool) → m ≡ length a → n ≡ length b → n ≤ m → rest ≡ drop (m - n) a → (IsTrue answer ↔ (rest ≡ b)) → (IsTrue answer ↔ IsWithin a b)
 within_decided a b rest m n answer long_a long_b fits is says = (
-  λ h. (take (m - n) a, sym (ap (λ t. take (m - n) a ++ t) (sym (says.0 h) ∙ is) ∙ take-append-drop (m - n) a)),
-  λ w. says.1 (is ∙ ap (drop (m - n)) w.1 ∙ drop_at w.0 b (m - n) (omega (arith, ap length w.1, length-append w.0 b))),
+  λ h. (take (m - n) a, sym (cc (says.0 h, take-append-drop (m - n) a))),
+  λ w. says.1 (cc (drop_at w.0 b (m - n) (omega (arith, ap length w.1, length-append w.0 b)))),
 )
 
 -- one label further
 pub drop_next : {A : Type 0} (r : Option A) (now : A → List ℕ) (left next whole : List (List ℕ)) (k : ℕ) → MatchOption r ((left ≡ []) × (next ≡ [])) (λ x. left ≡ now x ∷ next) → left ≡ drop k whole → next ≡ drop (k + 1) whole
-drop_next None now left next whole k says is = says.1 ∙ ap (drop 1) (sym says.0 ∙ is) ∙ drop-drop 1 k whole
+drop_next None now left next whole k says is = cc (drop-drop 1 k whole)
 drop_next (Some x) now left next whole k says is = ap (drop 1) (sym says ∙ is) ∙ drop-drop 1 k whole

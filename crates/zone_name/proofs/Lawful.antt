@@ -1,26 +1,15 @@
 -- The laws of the order and of what is printed.
-use Rattle.std.proofs.Common.{◌≡◌, ◌≢◌, ℕ, ◌+◌, ◌/◌, ◌%◌, ◌<◌, Bool, true, false, ◌||◌, ◌==◌, nat_eq, if◌then◌else◌, List, [], ◌∷◌, ◌++◌, reverse, Option, div-add-mod', refl, sym, ap, ◌∙◌, subst, arith}
-use Rattle.std.specs.Prelude.{map}
-use Rattle.std.specs.List.{flat_map, AllByRecursion}
+use Rattle.zone_name.proofs.Common.{◌≡◌, ◌≢◌, ℕ, ◌+◌, ◌/◌, ◌%◌, ◌<◌, Bool, true, false, ◌||◌, ◌==◌, nat_eq, if◌then◌else◌, List, [], ◌∷◌, reverse, Option, div-add-mod', refl, sym, subst, arith, map, flat_map, AllByRecursion, nat_cmp, pointwise, pointwise_decides, bytes_decides, slice_cmp, lists_ties, texts_ties, lists_total, reverse-reverse, length-map, nat_tests, IsFoldedOctet, IsLabel, IsName, folded_label, eqb-true, eqb-false, or_parts, name_cmp, Written, plain, escaped, decimal, text_of, octet_of, IsEscape, IsUnit, is_dot, IsWrittenLabel, written_text, written_octets, dotted, named, Writes, root, absolute, Spells, is_digit, is_special, is_printed, decimal_escape, octet_text, label_text, name_text}
 use Rattle.std.specs.declared.cmp.Ordering.TheVariants.{Equal}
-use Rattle.std.specs.Ordering.{nat_cmp, is_eq}
 use Rattle.std.specs.Cmp.{IsTotalOrder, on_total}
-use Rattle.std.specs.Cmp.Lexicographic.{pointwise, pointwise_decides, bytes_decides, slice_cmp, lists_ties, texts_ties, lists_total}
 use Rattle.std.proofs.lemmas.Cmp.{nat_cmp_total}
-use Rattle.std.proofs.lemmas.List.{reverse-reverse, length-map}
-use Rattle.std.proofs.lemmas.Bool.Decides.{nat_tests}
-use Rattle.zone_name.specs.Name.{IsFoldedOctet, IsLabel, IsName, folded_octet, folded_label}
-use Rattle.std.proofs.lemmas.Bool.{eqb-true, eqb-false, or_parts}
-use Rattle.zone_name.specs.Order.{name_cmp}
-use Rattle.zone_name.specs.Spelling.{Written, plain, escaped, decimal, text_of, octet_of, IsEscape, IsUnit, is_dot, IsWrittenLabel, written_text, written_octets, dotted, named, Writes, root, absolute, Spells, is_digit}
-use Rattle.zone_name.specs.Text.{is_special, is_printed, decimal_escape, octet_text, label_text, name_text}
 
 -- names that tie are equal
 pub name_cmp-exact : (a b : List (List ℕ)) → name_cmp a b ≡ Equal → a ≡ b
 name_cmp-exact a b e =
     let ties = lists_ties (slice_cmp nat_cmp) texts_ties (reverse a) (reverse b) in
-    let same : pointwise (pointwise nat_eq) (reverse a) (reverse b) ≡ true = ties ∙ ap is_eq e in
-    sym (reverse-reverse a) ∙ ap reverse ((pointwise_decides bytes_decides (reverse a) (reverse b)).0 same) ∙ reverse-reverse b
+    let same : pointwise (pointwise nat_eq) (reverse a) (reverse b) ≡ true = cc in
+    cc (reverse-reverse a, (pointwise_decides bytes_decides (reverse a) (reverse b)).0 same, reverse-reverse b)
 
 pub name_cmp-total : IsTotalOrder name_cmp
 name_cmp-total = on_total reverse (lists_total (lists_total nat_cmp_total))
@@ -62,8 +51,7 @@ pub digit_test : (d : ℕ) → d < 10 → is_digit (48 + d) ≡ true
 digit_test d h = grind (arith, nat_tests)
 
 pub decimal_escapes : (c : ℕ) → c < 256 → IsEscape (decimal (48 + c / 100) (48 + c / 10 % 10) (48 + c % 10))
-decimal_escapes c h =
-    (digit_test (c / 100) (omega (arith, div-add-mod' c 100)), digit_test (c / 10 % 10) (omega (arith, div-add-mod' (c / 10) 10)), digit_test (c % 10) (omega (arith, div-add-mod' c 10)), omega (arith, decimal_value c))
+decimal_escapes c h = grind (arith, digit_test, div-add-mod', decimal_value)
 
 -- no special octet is a digit or ends a line
 abbrev Escapes : ℕ → Type 0
@@ -77,30 +65,10 @@ either true b P f g e = f refl
 either false b P f g e = g e
 
 pub special_escapes : (c : ℕ) → is_special c ≡ true → Escapes c
-special_escapes c =
-    either (c == 34 || c == 36 || c == 40 || c == 41 || c == 46 || c == 59 || c == 64) (c == 92) (Escapes c)
-    (either (c == 34 || c == 36 || c == 40 || c == 41 || c == 46 || c == 59) (c == 64) (Escapes c)
-    (either (c == 34 || c == 36 || c == 40 || c == 41 || c == 46) (c == 59) (Escapes c)
-    (either (c == 34 || c == 36 || c == 40 || c == 41) (c == 46) (Escapes c)
-    (either (c == 34 || c == 36 || c == 40) (c == 41) (Escapes c)
-    (either (c == 34 || c == 36) (c == 40) (Escapes c)
-    (either (c == 34) (c == 36) (Escapes c)
-    (escapes_at c 34 (refl, omega arith, omega arith))
-    (escapes_at c 36 (refl, omega arith, omega arith)))
-    (escapes_at c 40 (refl, omega arith, omega arith)))
-    (escapes_at c 41 (refl, omega arith, omega arith)))
-    (escapes_at c 46 (refl, omega arith, omega arith)))
-    (escapes_at c 59 (refl, omega arith, omega arith)))
-    (escapes_at c 64 (refl, omega arith, omega arith)))
-    (escapes_at c 92 (refl, omega arith, omega arith))
+special_escapes c = grind (arith, either, escapes_at)
 
 plain_octets : (c : ℕ) → is_special c ≡ false → (is_dot c ≡ false) × (c ≢ 92)
-plain_octets c e =
-    let last = or_parts (c == 34 || c == 36 || c == 40 || c == 41 || c == 46 || c == 59 || c == 64) (c == 92) e in
-    let one = or_parts (c == 34 || c == 36 || c == 40 || c == 41 || c == 46 || c == 59) (c == 64) last.0 in
-    let two = or_parts (c == 34 || c == 36 || c == 40 || c == 41 || c == 46) (c == 59) one.0 in
-    let three = or_parts (c == 34 || c == 36 || c == 40 || c == 41) (c == 46) two.0 in
-    (three.1, eqb-false c 92 last.1)
+plain_octets c e = grind (arith, or_parts, eqb-false)
 
 written_is : (special printed : Bool) (c : ℕ) → c < 256 → is_special c ≡ special → IsUnit is_dot (written_by special printed c)
 unfolding written_by
@@ -117,17 +85,15 @@ label_each [] each = tt
 label_each (c ∷ label) each = (printed_is c each.0.octet, label_each label each.1)
 
 label_written : (label : List ℕ) → IsLabel label → IsWrittenLabel (map printed_octet label)
-label_written label is = record { some = omega (arith, is.some, length-map label printed_octet); each = label_each label is.each }
+label_written label is = grind (arith, length-map, printed_octet, label_each)
 
 label_spelling : (label : List ℕ) → written_text (map printed_octet label) ≡ flat_map octet_text label
 label_spelling [] = refl
-label_spelling (c ∷ label) = ap (λ t. t ++ written_text (map printed_octet label)) (text_of-printed c) ∙ ap (λ t. octet_text c ++ t) (label_spelling label)
+label_spelling (c ∷ label) = cc (text_of-printed c, label_spelling label)
 
 label_back : (label : List ℕ) → AllByRecursion IsFoldedOctet label → folded_label (written_octets (map printed_octet label)) ≡ label
 label_back [] each = refl
-label_back (c ∷ label) each =
-    ap (λ t. folded_octet t ∷ folded_label (written_octets (map printed_octet label))) (octet_of-printed c)
-    ∙ ap (λ t. t ∷ folded_label (written_octets (map printed_octet label))) each.0.lower ∙ ap (λ t. c ∷ t) (label_back label each.1)
+label_back (c ∷ label) each = cc (octet_of-printed c, label_back label each.1)
 
 name_each : (labels : List (List ℕ)) → AllByRecursion IsLabel labels → AllByRecursion IsWrittenLabel (map (map printed_octet) labels)
 name_each [] each = tt
@@ -135,12 +101,11 @@ name_each (label ∷ labels) each = (label_written label each.0, name_each label
 
 name_spelling : (labels : List (List ℕ)) → dotted (map (map printed_octet) labels) ≡ flat_map label_text labels
 name_spelling [] = refl
-name_spelling (label ∷ labels) =
-    ap (λ t. t ++ 46 ∷ [] ++ dotted (map (map printed_octet) labels)) (label_spelling label) ∙ ap (λ t. label_text label ++ t) (name_spelling labels)
+name_spelling (label ∷ labels) = cc (label_spelling label, name_spelling labels)
 
 name_back : (labels : List (List ℕ)) → AllByRecursion IsLabel labels → named (map (map printed_octet) labels) ≡ labels
 name_back [] each = refl
-name_back (label ∷ labels) each = ap (λ t. t ∷ named (map (map printed_octet) labels)) (label_back label each.0.each) ∙ ap (λ t. label ∷ t) (name_back labels each.1)
+name_back (label ∷ labels) each = cc (label_back label each.0.each, name_back labels each.1)
 
 printed_by : (origin : Option (List (List ℕ))) (labels : List (List ℕ)) → IsName labels → Writes origin (name_text labels) labels
 printed_by origin [] name = root refl refl

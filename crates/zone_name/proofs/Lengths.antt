@@ -1,9 +1,6 @@
 -- How many octets a printed name has, against those that it takes in a message.
-use Rattle.std.proofs.Common.{ℕ, ◌+◌, ◌*◌, ◌≤◌, Bool, true, false, List, [], ◌∷◌, length, arith, length-append}
+use Rattle.zone_name.proofs.Common.{ℕ, ◌+◌, ◌*◌, ◌≤◌, Bool, true, false, List, [], ◌∷◌, length, arith, length-append, flat_map, wire, with_length, decimal_escape, octet_text, label_text, name_text}
 use Rattle.std.specs.Prelude.{if◌then◌else◌}
-use Rattle.std.specs.List.{flat_map}
-use Rattle.zone_name.specs.Name.{wire, with_length}
-use Rattle.zone_name.specs.Text.{is_special, is_printed, decimal_escape, octet_text, label_text, name_text}
 
 -- at most a backslash and three digits
 pub octet_by : (special printed : Bool) (c : ℕ) → length (if special then 92 ∷ c ∷ [] else (if printed then c ∷ [] else decimal_escape c)) ≤ 4
@@ -13,12 +10,11 @@ octet_by false false c = omega arith
 
 octets_length : (label : List ℕ) → length (flat_map octet_text label) ≤ 4 * length label
 octets_length [] = omega arith
-octets_length (c ∷ label) = omega (arith, length-append (octet_text c) (flat_map octet_text label), octet_by (is_special c) (is_printed c) c, octets_length label)
+octets_length (c ∷ label) = grind (arith, octets_length label)
 
 labels_length : (labels : List (List ℕ)) → length (flat_map label_text labels) ≤ 4 * length (flat_map with_length labels)
 labels_length [] = omega arith
-labels_length (label ∷ labels) =
-    omega (arith, length-append (label_text label) (flat_map label_text labels), length-append (flat_map octet_text label) (46 ∷ []), octets_length label, length-append (with_length label) (flat_map with_length labels), labels_length labels)
+labels_length (label ∷ labels) = grind (arith, length-append, octets_length, labels_length labels)
 
 -- four for each octet of the name in a message, less three: the root is a dot, and one octet there
 pub name_text_length : (labels : List (List ℕ)) → length (name_text labels) + 3 ≤ 4 * length (wire labels)

@@ -13,3 +13,4 @@ pub mod Sinks
 pub mod Bare
 pub mod Plain
 pub mod Lengths
+pub mod Common

@@ -1,8 +1,6 @@
 -- The octets of names: what `labels_of` finds in what `wire` writes.
-use Rattle.std.proofs.Common.{◌≡◌, ℕ, zero, suc, ◌+◌, ◌-◌, ◌<◌, ◌≤◌, List, [], ◌∷◌, ◌++◌, length, take, drop, refl, sym, ap, ◌∙◌, subst, arith, append_assoc, length-append}
-use Rattle.std.specs.List.{flat_map, AllByRecursion}
-use Rattle.std.proofs.lemmas.List.{take_at, drop_at, append-nil, take-append-drop}
-use Rattle.zone_name.specs.Name.{IsLabel, IsName, with_length, wire, labels_by, labels_of, BeginsWithName, HoldsName}
+use Rattle.zone_name.proofs.Common.{◌≡◌, ℕ, zero, suc, ◌+◌, ◌-◌, ◌<◌, ◌≤◌, List, [], ◌∷◌, ◌++◌, length, take, drop, refl, sym, ap, ◌∙◌, subst, arith, append_assoc, length-append, flat_map, AllByRecursion, take_at, drop_at, append-nil, take-append-drop, IsLabel, IsName, with_length, wire, labels_by, BeginsWithName, HoldsName}
+use Rattle.zone_name.specs.Name.{labels_of}
 
 -- one label cut off the beginning
 labels_by-cut : (k m : ℕ) (text label more : List ℕ) → text ≡ label ++ more → length label ≡ suc k → labels_by (suc m) (suc k ∷ text) ≡ label ∷ labels_by m more
@@ -16,12 +14,12 @@ labels_by-frames ((c ∷ label) ∷ labels) rest zero n fuel each = absurd (omeg
 labels_by-frames ((c ∷ label) ∷ labels) rest (suc m) n fuel each =
     let more = flat_map with_length labels ++ rest in
     let left : m ≡ length labels + n = omega arith in
-    labels_by-cut (length label) m (c ∷ label ++ flat_map with_length labels ++ rest) (c ∷ label) more (ap (λ t. c ∷ t) (append_assoc label (flat_map with_length labels) rest)) refl ∙ ap (λ t. (c ∷ label) ∷ t) (labels_by-frames labels rest m n left each.1)
+    cc (labels_by-cut (length label) m (c ∷ label ++ flat_map with_length labels ++ rest) (c ∷ label) more (ap (λ t. c ∷ t) (append_assoc label (flat_map with_length labels) rest)) refl, labels_by-frames labels rest m n left each.1)
 
 -- frames are no fewer octets than labels
 pub length-frames : (labels : List (List ℕ)) → length labels ≤ length (flat_map with_length labels)
 length-frames [] = omega arith
-length-frames (label ∷ labels) = omega (arith, length-append label (flat_map with_length labels), length-frames labels)
+length-frames (label ∷ labels) = grind (arith, length-append, length-frames labels)
 
 -- the fuel of `labels_of` is enough for the labels in frames
 pub labels_of-frames : (labels : List (List ℕ)) (rest : List ℕ) → AllByRecursion IsLabel labels → (n : ℕ) × (labels_of (flat_map with_length labels ++ rest) ≡ labels ++ labels_by n rest)
@@ -33,13 +31,11 @@ labels_of-frames labels rest each =
 
 -- no label follows the root
 pub labels_by-root : (n : ℕ) (rest : List ℕ) → labels_by n (0 ∷ rest) ≡ []
-labels_by-root zero rest = refl
-labels_by-root (suc n) rest = refl
+labels_by-root n rest = grind arith
 
 -- no octets hold no label
 pub labels_by-nil : (n : ℕ) → labels_by n [] ≡ []
-labels_by-nil zero = refl
-labels_by-nil (suc n) = refl
+labels_by-nil n = grind arith
 
 -- `labels_of` gives back the labels that `wire` writes, whatever follows
 pub labels_of-wire_append : (labels : List (List ℕ)) (rest : List ℕ) → AllByRecursion IsLabel labels → labels_of (wire labels ++ rest) ≡ labels
@@ -56,19 +52,15 @@ labels_of-wire labels each =
 pub labels_of-open : (labels : List (List ℕ)) → AllByRecursion IsLabel labels → labels_of (flat_map with_length labels) ≡ labels
 labels_of-open labels each =
     let found = labels_of-frames labels [] each in
-    (ap labels_of (sym (append-nil (flat_map with_length labels)))) ∙ found.1 ∙ ap (λ t. labels ++ t) (labels_by-nil found.0) ∙ append-nil labels
+    cc (append-nil (flat_map with_length labels), labels_by-nil found.0, append-nil labels)
 
 -- the octets of a name are a name
 pub HoldsName-wire : (labels : List (List ℕ)) → IsName labels → HoldsName (wire labels)
-HoldsName-wire labels name =
-    let back = labels_of-wire labels name.each in
-    record { whole = ap wire back; name = subst IsName (sym back) name }
+HoldsName-wire labels name = grind (arith, labels_of-wire)
 
 -- the octets of a name begin with it, whatever follows
 pub BeginsWithName-wire_append : (labels : List (List ℕ)) (rest : List ℕ) → IsName labels → BeginsWithName (wire labels ++ rest)
-BeginsWithName-wire_append labels rest name =
-    let back = labels_of-wire_append labels rest name.each in
-    record { name = subst IsName (sym back) name; front = rw back (take_at (wire labels) rest (length (wire labels)) refl) }
+BeginsWithName-wire_append labels rest name = grind (arith, labels_of-wire_append, take_at)
 
 -- octets that begin with a name, taken apart at their first octet
 pub record NextLabel (n : ℕ) (more : List ℕ) (labels : List (List ℕ)) : Type 0 where
@@ -79,32 +71,15 @@ pub record NextLabel (n : ℕ) (more : List ℕ) (labels : List (List ℕ)) : Ty
 
 -- a label that is left out leaves a name
 pub IsName-tail : (label : List ℕ) (labels : List (List ℕ)) → IsName (label ∷ labels) → IsName labels
-IsName-tail label labels name = record {
-  each = name.each.1;
-  short = omega (arith, name.short, length-append (label ++ flat_map with_length labels) (0 ∷ []), length-append label (flat_map with_length labels), length-append (flat_map with_length labels) (0 ∷ []));
-}
+IsName-tail label labels name = grind (arith, length-append)
 
 next_in : (labels : List (List ℕ)) (rest : List ℕ) (n : ℕ) (more : List ℕ) → IsName labels → 0 < n → n ∷ more ≡ wire labels ++ rest → NextLabel n more labels
 next_in [] rest n more name positive is = absurd (let e : n ≡ 0 = cc in omega arith)
-next_in (label ∷ labels) rest n more name positive is =
-    let left = wire labels ++ rest in
-    let shape : wire (label ∷ labels) ++ rest ≡ length label ∷ (label ++ left) =
-    ap (λ t. length label ∷ t) (ap (λ t. t ++ rest) (append_assoc label (flat_map with_length labels) (0 ∷ [])) ∙ append_assoc label (wire labels) rest) in
-    let counts : n ≡ length label = cc (is ∙ shape) in
-    let text : more ≡ label ++ left = cc (is ∙ shape) in
-    let front : take n more ≡ label = rw text (take_at label left n (sym counts)) in
-    let after : drop n more ≡ left = rw text (drop_at label left n (sym counts)) in
-    let name' = IsName-tail label labels name in
-    record {
-      fits = rw text (omega (arith, counts, length-append label left));
-      short = omega (arith, counts, name.each.0.short);
-      cut = rw (front, after, labels_of-wire_append labels rest name'.each) refl;
-      rest = subst BeginsWithName (sym after) (BeginsWithName-wire_append labels rest name');
-    }
+next_in (label ∷ labels) rest n more name positive is = grind (arith, append_assoc, take_at, drop_at, length-append, labels_of-wire_append)
 
 -- octets that begin with a name, as the name's octets and the rest
 pub octets_split : (octets : List ℕ) → BeginsWithName octets → wire (labels_of octets) ++ drop (length (wire (labels_of octets))) octets ≡ octets
-octets_split octets begins = ap (λ t. t ++ drop (length (wire (labels_of octets))) octets) (sym begins.front) ∙ take-append-drop (length (wire (labels_of octets))) octets
+octets_split octets begins = grind (arith, take-append-drop)
 
 pub next_label : (n : ℕ) (more : List ℕ) → BeginsWithName (n ∷ more) → 0 < n → NextLabel n more (labels_of (n ∷ more))
 next_label n more begins positive = next_in (labels_of (n ∷ more)) (drop (length (wire (labels_of (n ∷ more)))) (n ∷ more)) n more begins.name positive (sym (octets_split (n ∷ more) begins))
@@ -116,21 +91,21 @@ root_label n more e = rw e (labels_by-root (length (0 ∷ more)) more)
 
 -- the root's octets, as they are pushed
 pub HoldsName-root : (octets : List ℕ) → octets ≡ [] ++ 0 ∷ [] → HoldsName octets
-HoldsName-root octets e = subst HoldsName (sym e) (HoldsName-wire [] (record { each = tt; short = omega arith }))
+HoldsName-root octets e = rw e (HoldsName-wire [] (record { each = tt; short = omega arith }))
 
 pub labels_of-root : (octets : List ℕ) → octets ≡ [] ++ 0 ∷ [] → labels_of octets ≡ []
 labels_of-root octets e = ap labels_of e ∙ labels_of-wire [] tt
 
 -- the octets that are cut out at the length of the name are the name
 pub HoldsName-front : (octets : List ℕ) (len : ℕ) → BeginsWithName octets → len ≡ length (wire (labels_of octets)) → HoldsName (take len octets)
-HoldsName-front octets len begins e = subst HoldsName (sym (ap (λ n. take n octets) e ∙ begins.front)) (HoldsName-wire (labels_of octets) begins.name)
+HoldsName-front octets len begins e = subst HoldsName (sym (cc)) (HoldsName-wire (labels_of octets) begins.name)
 
 pub labels_of-front : (octets : List ℕ) (len : ℕ) → BeginsWithName octets → len ≡ length (wire (labels_of octets)) → labels_of (take len octets) ≡ labels_of octets
-labels_of-front octets len begins e = ap labels_of (ap (λ n. take n octets) e ∙ begins.front) ∙ labels_of-wire (labels_of octets) begins.name.each
+labels_of-front octets len begins e = grind (arith, labels_of-wire)
 
 -- what was counted is the whole once nothing is left
 pub counted : (len whole : ℕ) (left : List (List ℕ)) → len + length (flat_map with_length left) ≡ whole → left ≡ [] → len ≡ whole
-counted len whole left e nothing = let h : len + length (flat_map with_length []) ≡ whole = subst (λ t. len + length (flat_map with_length t) ≡ whole) nothing e in omega arith
+counted len whole left e nothing = grind arith
 
 -- each label takes two octets or more
 length-frames_twice : (labels : List (List ℕ)) → AllByRecursion IsLabel labels → length labels + length labels ≤ length (flat_map with_length labels)
@@ -139,4 +114,4 @@ length-frames_twice (label ∷ labels) each = omega (arith, each.0.some, length-
 
 -- a name has at most 127 labels
 pub length-labels : (labels : List (List ℕ)) → IsName labels → length labels ≤ 127
-length-labels labels name = omega (arith, name.short, length-frames_twice labels name.each, length-append (flat_map with_length labels) (0 ∷ []))
+length-labels labels name = grind (arith, length-frames_twice, length-append)

@@ -1,13 +1,7 @@
 -- What a text spells, and its own first fault, is what the walk over it finds.
-use Rattle.std.proofs.Common.{◌≡◌, ℕ, zero, suc, ◌+◌, ◌<◌, ◌≤◌, Bool, true, false, if◌then◌else◌, List, [], ◌∷◌, ◌++◌, length, Ok, Err, inl, inr, refl, sym, ap, ◌∙◌, subst, arith, append_assoc, length-append}
-use Rattle.std.specs.List.{AllByRecursion}
-use Rattle.std.proofs.lemmas.List.{append-nil, length-map}
-use Rattle.std.proofs.lemmas.Bool.{le-leb}
-use Rattle.zone_name.specs.Name.{folded_label}
-use Rattle.zone_name.specs.Spelling.{Written, text_of, octet_of, IsUnit, is_dot, IsWrittenLabel, AreWrittenLabels, written_text, written_octets, dotted, parted, named, EndsLabel, Reaches, FaultAt, empty_label, long_label, bad_escape}
-use Rattle.zone_name.specs.declared.fault.NameFault.{NameFault}
+use Rattle.zone_name.proofs.Common.{◌≡◌, ℕ, zero, suc, ◌+◌, ◌<◌, ◌≤◌, true, false, List, [], ◌∷◌, ◌++◌, length, Ok, Err, inl, inr, refl, sym, ap, ◌∙◌, arith, append_assoc, length-append, AllByRecursion, append-nil, length-map, le-leb, folded_label, Written, text_of, octet_of, IsUnit, is_dot, IsWrittenLabel, AreWrittenLabels, written_text, written_octets, dotted, parted, named, EndsLabel, Reaches, FaultAt, empty_label, long_label, bad_escape, NameFault, Ahead, at_dot, at_octet, at_fault, ahead_in, failed, step_at, read}
 use Rattle.zone_name.specs.declared.fault.NameFault.TheVariants.{EmptyLabel, LabelTooLong, BadEscape}
-use Rattle.zone_name.specs.Machine.LabelWalk.{Ahead, at_dot, at_octet, at_fault, ahead_in, goes, failed, step_at, read, reading}
+use Rattle.zone_name.specs.Machine.LabelWalk.{reading}
 use Rattle.zone_name.proofs.Ahead.{ahead-unit, ahead-bad}
 use Rattle.zone_name.proofs.Units.{text_of-some}
 use Rattle.zone_name.proofs.Steps.{read_step, octet_step, bad_step, reading-nil, fault_by}
@@ -15,9 +9,7 @@ use Rattle.zone_name.proofs.Spelled.{AreShort}
 
 -- one written octet is read
 octet_reads : (w : Written) (rest open_label : List ℕ) (labels : List (List ℕ)) (n : ℕ) → IsUnit is_dot w → length open_label < 63 → read (suc n) labels open_label (text_of w ++ rest) ≡ read n labels (open_label ++ octet_of w ∷ []) rest
-octet_reads w rest open_label labels n is room =
-    read_step n labels open_label (text_of w ++ rest) (at_octet (octet_of w) rest) (ahead-unit w rest is)
-    ∙ octet_step n labels open_label rest (octet_of w) room
+octet_reads w rest open_label labels n is room = grind (arith, read_step, ahead-unit, octet_step)
 
 -- a written label is read
 label_reads : (label : List Written) (tail open_label : List ℕ) (labels : List (List ℕ)) (n : ℕ) → AllByRecursion (IsUnit is_dot) label → length open_label + length label ≤ 63 → length (written_text label ++ tail) < n → (m : ℕ) × (length tail < m) × (read n labels open_label (written_text label ++ tail) ≡ read m labels (open_label ++ written_octets label) tail)
@@ -29,7 +21,7 @@ label_reads (w ∷ label) tail open_label labels (suc n) each room enough =
     let shape : written_text (w ∷ label) ++ tail ≡ text_of w ++ rest = append_assoc (text_of w) (written_text label) tail in
     let left : length rest < n = omega (arith, ap length shape, length-append (text_of w) rest, text_of-some w) in
     let next = label_reads label tail open_next labels n each.1 (omega (arith, length-append open_label (octet_of w ∷ []))) left in
-    (next.0, next.1, ap (read (suc n) labels open_label) shape ∙ octet_reads w rest open_label labels n each.0 (omega arith) ∙ next.2 ∙ ap (λ t. read next.0 labels t tail) (append_assoc open_label (octet_of w ∷ []) (written_octets label)))
+    (next.0, next.1, cc (octet_reads w rest open_label labels n each.0 (omega arith), append_assoc open_label (octet_of w ∷ []) (written_octets label)))
 
 -- a written label and the dot after it
 dot_reads : (label : List Written) (rest : List ℕ) (labels : List (List ℕ)) (n : ℕ) → IsWrittenLabel label → length label ≤ 63 → length (written_text label ++ (46 ∷ rest)) < n → (m : ℕ) × (length rest < m) × (read n labels [] (written_text label ++ (46 ∷ rest)) ≡ read m (labels ++ folded_label (written_octets label) ∷ []) [] rest)
@@ -51,16 +43,16 @@ dots_read [] rest labels n each short enough = (n, enough, ap (λ t. read n t []
 dots_read (label ∷ written) rest labels n each short enough =
     let tail = dotted written ++ rest in
     let shape = append_assoc (written_text label ++ 46 ∷ []) (dotted written) rest ∙ regroup (written_text label) tail in
-    let found = dot_reads label tail labels n each.0 short.0 (subst (λ t. length t < n) shape enough) in
+    let found = dot_reads label tail labels n each.0 short.0 (rw shape at enough) in
     let next = dots_read written rest (labels ++ folded_label (written_octets label) ∷ []) found.0 each.1 short.1 found.1 in
-    (next.0, next.1, ap (read n labels []) shape ∙ found.2 ∙ next.2 ∙ ap (λ t. read next.0 t [] rest) (append_assoc labels (folded_label (written_octets label) ∷ []) (named written)))
+    (next.0, next.1, cc (append_assoc labels (folded_label (written_octets label) ∷ []) (named written)))
 
 -- labels with dots after them and no more
 dotted_reads : (written : List (List Written)) (labels : List (List ℕ)) (n : ℕ) → AllByRecursion IsWrittenLabel written → AreShort written → length (dotted written) < n → read n labels [] (dotted written) ≡ Ok (labels ++ named written, true)
 dotted_reads written labels n each short enough =
     let none = append-nil (dotted written) in
-    let found = dots_read written [] labels n each short (subst (λ t. length t < n) (sym none) enough) in
-    ap (read n labels []) (sym none) ∙ found.2 ∙ ends found.0 found.1
+    let found = dots_read written [] labels n each short (rw none enough) in
+    cc (ends found.0 found.1)
   where
     ends : (m : ℕ) → length {A = ℕ} [] < m → read m (labels ++ named written) [] [] ≡ Ok (labels ++ named written, true)
     ends zero left = absurd (omega arith)
@@ -71,8 +63,8 @@ last_reads : (label : List Written) (labels : List (List ℕ)) (n : ℕ) → IsW
 last_reads [] labels n is short enough = absurd (omega (arith, is.some))
 last_reads (w ∷ label) labels n is short enough =
     let none = append-nil (written_text (w ∷ label)) in
-    let found = label_reads (w ∷ label) [] [] labels n is.each (omega arith) (subst (λ t. length t < n) (sym none) enough) in
-    ap (read n labels []) (sym none) ∙ ends found.0 found.1 found.2
+    let found = label_reads (w ∷ label) [] [] labels n is.each (omega arith) (rw none enough) in
+    cc (ends found.0 found.1 found.2)
   where
     ends : (m : ℕ) → length {A = ℕ} [] < m → read n labels [] (written_text (w ∷ label) ++ []) ≡ read m labels (written_octets (w ∷ label)) [] → read n labels [] (written_text (w ∷ label) ++ []) ≡ Ok (labels ++ folded_label (written_octets (w ∷ label)) ∷ [], false)
     ends zero left e = absurd (omega arith)
@@ -83,35 +75,28 @@ parted_reads : (written : List (List Written)) (label : List Written) (labels : 
 parted_reads [] label labels n each short enough = last_reads label labels n each.0 short.0 enough
 parted_reads (next ∷ written) label labels n each short enough =
     let found = dot_reads label (parted (next ∷ written)) labels n each.0 short.0 enough in
-    found.2 ∙ parted_reads written next (labels ++ folded_label (written_octets label) ∷ []) found.0 each.1 short.1 found.1
-    ∙ ap (λ t. Ok (t, false)) (append_assoc labels (folded_label (written_octets label) ∷ []) (named (next ∷ written)))
+    cc (parted_reads written next (labels ++ folded_label (written_octets label) ∷ []) found.0 each.1 short.1 found.1, append_assoc labels (folded_label (written_octets label) ∷ []) (named (next ∷ written)))
 
 octets_some : (label : List Written) → IsWrittenLabel label → 0 < length (written_text label)
 octets_some [] is = absurd (omega (arith, is.some))
-octets_some (w ∷ label) is = omega (arith, length-append (text_of w) (written_text label), text_of-some w)
+octets_some (w ∷ label) is = grind (arith, length-append, text_of-some)
 
 reading_is : (text : List ℕ) → 0 < length text → reading text ≡ read (suc (length text)) [] [] text
 unfolding reading
-reading_is [] some = absurd (omega arith)
-reading_is (c ∷ text) some = refl
+reading_is text some = grind arith
 
 -- an absolute text
 pub reading-dotted : (written : List (List Written)) → AreWrittenLabels written → AreShort written → reading (dotted written) ≡ Ok (named written, true)
 reading-dotted [] are short = absurd (omega (arith, are.some))
-reading-dotted (label ∷ written) are short =
-    reading_is (dotted (label ∷ written)) (omega (arith, length-append (written_text label ++ 46 ∷ []) (dotted written), length-append (written_text label) (46 ∷ [])))
-    ∙ dotted_reads (label ∷ written) [] (suc (length (dotted (label ∷ written)))) are.each short (omega arith)
+reading-dotted (label ∷ written) are short = cc (reading_is (dotted (label ∷ written)) (omega (arith, length-append (written_text label ++ 46 ∷ []) (dotted written), length-append (written_text label) (46 ∷ []))), dotted_reads (label ∷ written) [] (suc (length (dotted (label ∷ written)))) are.each short (omega arith))
 
 parted_some : (written : List (List Written)) (label : List Written) → IsWrittenLabel label → 0 < length (parted (label ∷ written))
-parted_some [] label is = octets_some label is
-parted_some (next ∷ written) label is = omega (arith, length-append (written_text label) (46 ∷ parted (next ∷ written)))
+parted_some written label is = grind (arith, octets_some, length-append)
 
 -- a relative text
 pub reading-parted : (written : List (List Written)) → AreWrittenLabels written → AreShort written → reading (parted written) ≡ Ok (named written, false)
 reading-parted [] are short = absurd (omega (arith, are.some))
-reading-parted (label ∷ written) are short =
-    reading_is (parted (label ∷ written)) (parted_some written label are.each.0)
-    ∙ parted_reads written label [] (suc (length (parted (label ∷ written)))) are.each short (omega arith)
+reading-parted (label ∷ written) are short = cc (reading_is (parted (label ∷ written)) (parted_some written label are.each.0), parted_reads written label [] (suc (length (parted (label ∷ written)))) are.each short (omega arith))
 
 -- ---- the faults
 -- a walk that has come to a place leads from there to what the whole text leads to
@@ -123,30 +108,23 @@ reached text before open_label rest some r =
     let enough : length (dotted before ++ tail) < suc (length text) = omega (arith, ap length shape) in
     let closed = dots_read before tail [] (suc (length text)) r.labels r.short enough in
     let opened = label_reads open_label rest [] (named before) closed.0 r.octets (omega (arith, r.room)) closed.1 in
-    (opened.0, opened.1, reading_is text longer ∙ ap (read (suc (length text)) [] []) shape ∙ closed.2 ∙ opened.2)
+    (opened.0, opened.1, cc (reading_is text longer))
 
 -- a step that fails where a walk has come to is what is read
 reads_fault : (text : List ℕ) (before : List (List Written)) (open_label : List Written) (rest : List ℕ) (ahead : Ahead) (fault : NameFault) → 0 < length rest → Reaches text before open_label rest → ahead_in rest ≡ ahead → step_at (named before) (written_octets open_label) ahead ≡ failed fault → reading text ≡ Err fault
 reads_fault text before open_label rest ahead fault some r at fails =
     let walk = reached text before open_label rest some r in
-    walk.2 ∙ fault_by walk.0 (named before) (written_octets open_label) rest ahead fault walk.1 at fails
+    cc (fault_by walk.0 (named before) (written_octets open_label) rest ahead fault walk.1 at fails)
 
 full_step : (labels : List (List ℕ)) (open_label : List ℕ) (c : ℕ) (rest : List ℕ) → 63 ≤ length open_label → step_at labels open_label (at_octet c rest) ≡ failed LabelTooLong
-full_step labels [] c rest full = absurd (omega arith)
-full_step labels (x ∷ open_label) c rest full = ap (λ (b : Bool). if b then failed LabelTooLong else goes labels (x ∷ open_label ++ c ∷ []) rest) (le-leb 63 (length (x ∷ open_label)) full)
+full_step labels open_label c rest full = grind (arith, le-leb)
 
 empty_reads : (text : List ℕ) (before : List (List Written)) (rest : List ℕ) → Reaches text before [] rest → EndsLabel rest → (rest ≡ [] → before ≡ []) → reading text ≡ Err EmptyLabel
-empty_reads text before rest r (inl e) first =
-    let none : text ≡ [] = r.parts ∙ ap (λ t. dotted t ++ [] ++ rest) (first e) ∙ e in
-    reading-nil text (ap length none)
-empty_reads text before rest r (inr dot) first =
-    reads_fault text before [] rest (at_dot dot.0) EmptyLabel (omega (arith, ap length dot.1)) r (ap ahead_in dot.1) refl
+empty_reads text before rest r (inl e) first = grind (arith, reading-nil)
+empty_reads text before rest r (inr dot) first = cc (reads_fault text before [] rest (at_dot dot.0) EmptyLabel (omega (arith, ap length dot.1)) r (ap ahead_in dot.1) refl)
 
 -- the leftmost fault of a text is what is read
 pub reading-fault : (text : List ℕ) (fault : NameFault) → FaultAt text fault → reading text ≡ Err fault
-reading-fault text fault (empty_label before rest r ends first other) = empty_reads text before rest r ends first
-reading-fault text fault (long_label before open_label w rest r full is) =
-    reads_fault text before open_label (text_of w ++ rest) (at_octet (octet_of w) rest) LabelTooLong (omega (arith, length-append (text_of w) rest, text_of-some w)) r (ahead-unit w rest is)
-    (full_step (named before) (written_octets open_label) (octet_of w) rest (omega (arith, length-map open_label octet_of)))
-reading-fault text fault (bad_escape before open_label rest r bad) =
-    reads_fault text before open_label rest at_fault BadEscape (omega (arith, ap length bad.1)) r (ahead-bad rest bad) (bad_step (named before) (written_octets open_label))
+reading-fault text fault (empty_label before rest r ends first other) = grind (arith, empty_reads)
+reading-fault text fault (long_label before open_label w rest r full is) = cc (reads_fault text before open_label (text_of w ++ rest) (at_octet (octet_of w) rest) LabelTooLong (omega (arith, length-append (text_of w) rest, text_of-some w)) r (ahead-unit w rest is) (full_step (named before) (written_octets open_label) (octet_of w) rest (omega (arith, length-map open_label octet_of))))
+reading-fault text fault (bad_escape before open_label rest r bad) = cc (reads_fault text before open_label rest at_fault BadEscape (omega (arith, ap length bad.1)) r (ahead-bad rest bad) (bad_step (named before) (written_octets open_label)))

@@ -1,16 +1,11 @@
 -- The canonical spelling, label by label.
-use Rattle.std.proofs.Common.{◌≡◌, ℕ, suc, ◌&&◌, true, if◌then◌else◌, le-leb, ap₂, List, [], ◌∷◌, ◌++◌, sym, ap, refl, ◌∙◌, arith, append_assoc}
-use Rattle.std.specs.List.{flat_map}
-use Rattle.std.specs.Prelude.{slice_index, EachIndex}
+use Rattle.zone_name.proofs.Common.{◌≡◌, ℕ, suc, ap₂, List, [], ◌∷◌, ◌++◌, refl, arith, append_assoc, flat_map, slice_index, EachIndex, octet_text, label_text}
+use Rattle.std.proofs.Common.{le-leb}
 use Rattle.zone_name.specs.Machine.Shown.{IsShown}
-use Rattle.zone_name.specs.Text.{is_printed, decimal_escape, octet_text, label_text}
 
 -- octets that spell themselves
 octet_text-shown : (c : ℕ) → IsShown c → octet_text c ≡ c ∷ []
-octet_text-shown c shown =
-    let printed : is_printed c ≡ true = ap₂ (λ a b. a && b) (le-leb 33 c shown.low) (le-leb c 126 shown.high) in
-    ap (λ b. if b then 92 ∷ c ∷ [] else (if is_printed c then c ∷ [] else decimal_escape c)) shown.plain
-    ∙ ap (λ b. if b then c ∷ [] else decimal_escape c) printed
+octet_text-shown c shown = grind (arith, le-leb)
 
 pub flat_map-shown : (label : List ℕ) → EachIndex label (λ k. IsShown (slice_index label k)) → flat_map octet_text label ≡ label
 flat_map-shown [] each = refl
@@ -18,4 +13,4 @@ flat_map-shown (c ∷ label) each = ap₂ (λ (x y : List ℕ). x ++ y) (octet_t
 
 -- what a walk over labels has printed, and what is left
 pub prints_more : (text : List ℕ) (whole : List ℕ) (left rest : List (List ℕ)) (label : List ℕ) → left ≡ label ∷ rest → text ++ flat_map label_text left ≡ whole → (text ++ label_text label) ++ flat_map label_text rest ≡ whole
-prints_more text whole left rest label e so_far = append_assoc text (label_text label) (flat_map label_text rest) ∙ ap (λ t. text ++ flat_map label_text t) (sym e) ∙ so_far
+prints_more text whole left rest label e so_far = grind (arith, append_assoc)

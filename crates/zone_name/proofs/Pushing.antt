@@ -1,18 +1,8 @@
 -- A label that is added after others.
-use Rattle.std.proofs.Common.{◌≡◌, ℕ, suc, ◌+◌, ◌<◌, ◌≤◌, Bool, true, false, Option, Result, IfOk, IfErr, Ok, Err, refl, ap₂, List, [], ◌∷◌, ◌++◌, length, take, drop, get_or, if◌then◌else◌, sym, ap, ◌∙◌, subst, arith, append_assoc, length-append}
-use Rattle.std.specs.Prelude.{map}
-use Rattle.std.specs.List.{flat_map, AllByRecursion, refill}
+use Rattle.zone_name.proofs.Common.{◌≡◌, ℕ, suc, ◌+◌, ◌<◌, ◌≤◌, true, false, Option, Result, IfOk, IfErr, Ok, Err, refl, List, [], ◌∷◌, ◌++◌, length, take, drop, get_or, sym, ap, ◌∙◌, subst, arith, append_assoc, length-append, map, flat_map, AllByRecursion, refill, length-map, append-nil, take_all, take_at, map-append, flat_map-append, le-leb, lt-leb, false≢true, nat_tests, IsLabel, IsName, IsFoldedOctet, folded_octet, folded_label, with_length, wire, labels_of, HoldsName, HoldsLabels, Collects, under_origin, sized, HoldsUnfolded, unfolded_labels, NameFault}
 use Rattle.std.specs.Result.{IsOk, OnOk}
 use Rattle.std.specs.Char.{to_ascii_lowercase}
-use Rattle.std.proofs.lemmas.List.{length-map, append-nil, take_all, take_at, map-append}
-use Rattle.std.proofs.lemmas.List.Concat.{flat_map-append}
-use Rattle.std.proofs.lemmas.Bool.{le-leb, lt-leb, false≢true}
-use Rattle.std.proofs.lemmas.Bool.Decides.{nat_tests}
-use Rattle.zone_name.specs.Name.{IsLabel, IsName, IsFoldedOctet, folded_octet, folded_label, with_length, wire, labels_of, HoldsName, HoldsLabels}
-use Rattle.zone_name.specs.Machine.LabelWalk.{Collects, under_origin, sized}
-use Rattle.zone_name.specs.Machine.Seen.{HoldsUnfolded, unfolded_labels}
 use Rattle.zone_name.specs.declared.reading.Spelled.{Spelled}
-use Rattle.zone_name.specs.declared.fault.NameFault.{NameFault}
 use Rattle.zone_name.specs.declared.fault.NameFault.TheVariants.{NameTooLong}
 use Rattle.zone_name.proofs.Octets.{labels_of-open, labels_of-root, labels_of-wire, HoldsName-wire}
 
@@ -50,15 +40,11 @@ folded_each (c ∷ label) each = (IsFoldedOctet-folded c each.0, folded_each lab
 
 -- a label in lower case is one
 pub IsLabel-folded : (label : List ℕ) → 0 < length label → length label ≤ 63 → AllByRecursion (λ c. c < 256) label → IsLabel (folded_label label)
-IsLabel-folded label some short each = record {
-  some = omega (arith, length-map label folded_octet);
-  short = omega (arith, length-map label folded_octet);
-  each = folded_each label each;
-}
+IsLabel-folded label some short each = grind (arith, length-map, folded_each)
 
 -- frames, with one more after them
 pub frames_push : (labels : List (List ℕ)) (label : List ℕ) → flat_map with_length (labels ++ label ∷ []) ≡ flat_map with_length labels ++ with_length label
-frames_push labels label = flat_map-append with_length labels (label ∷ []) ∙ ap (λ t. flat_map with_length labels ++ t) (append-nil (with_length label))
+frames_push labels label = grind (arith, flat_map-append, append-nil)
 
 -- labels with one more after them, where there is room
 IsName-push : (labels : List (List ℕ)) (label : List ℕ) → IsName labels → IsLabel label → length (flat_map with_length labels) + length label + 2 ≤ 255 → IsName (labels ++ label ∷ [])
@@ -69,9 +55,7 @@ IsName-push labels label name is room = record {
 
 -- frames hold the labels
 pub HoldsLabels-frames : (labels : List (List ℕ)) → IsName labels → HoldsLabels (flat_map with_length labels)
-HoldsLabels-frames labels name =
-    let back = labels_of-open labels name.each in
-    record { whole = ap (flat_map with_length) back; name = subst IsName (sym back) name }
+HoldsLabels-frames labels name = grind (arith, labels_of-open)
 
 pub record Pushed (octets label new : List ℕ) : Type 0 where
   pub holds : HoldsLabels new
@@ -81,15 +65,15 @@ pub record Pushed (octets label new : List ℕ) : Type 0 where
 pub push_frame : (octets label new : List ℕ) → HoldsLabels octets → IsLabel label → length octets + length label + 2 ≤ 255 → new ≡ octets ++ with_length label → Pushed octets label new
 push_frame octets label new holds is room e =
     let name = IsName-push (labels_of octets) label holds.name is (rw holds.whole room) in
-    let text : flat_map with_length (labels_of octets ++ label ∷ []) ≡ new = frames_push (labels_of octets) label ∙ ap (λ t. t ++ with_length label) holds.whole ∙ sym e in
-    let gives : labels_of new ≡ labels_of octets ++ label ∷ [] = ap labels_of (sym text) ∙ labels_of-open (labels_of octets ++ label ∷ []) name.each in
-    record { holds = record { whole = ap (flat_map with_length) gives ∙ text; name = subst IsName (sym gives) name }; gives = gives }
+    let text : flat_map with_length (labels_of octets ++ label ∷ []) ≡ new = cc (frames_push (labels_of octets) label) in
+    let gives : labels_of new ≡ labels_of octets ++ label ∷ [] = cc (labels_of-open (labels_of octets ++ label ∷ []) name.each) in
+    record { holds = record { whole = cc; name = rw gives name }; gives = gives }
 
 -- no labels
 pub HoldsLabels-nil : (octets : List ℕ) → octets ≡ [] → HoldsLabels octets
 HoldsLabels-nil octets e =
-    let none : HoldsLabels [] = record { whole = ap (flat_map with_length) (labels_of-open [] tt); name = subst IsName (sym (labels_of-open [] tt)) (record { each = tt; short = omega arith }) } in
-    subst HoldsLabels (sym e) none
+    let none : HoldsLabels [] = record { whole = ap (flat_map with_length) (labels_of-open [] tt); name = rw (labels_of-open [] tt) (record { each = tt; short = omega arith }) } in
+    rw e none
 
 pub labels_of-none : (octets : List ℕ) → octets ≡ [] → labels_of octets ≡ []
 labels_of-none octets e = ap labels_of e ∙ labels_of-open [] tt
@@ -97,17 +81,14 @@ labels_of-none octets e = ap labels_of e ∙ labels_of-open [] tt
 -- the root's octet makes a name of them
 pub HoldsName-finish : (octets new : List ℕ) → HoldsLabels octets → new ≡ octets ++ 0 ∷ [] → HoldsName new
 HoldsName-finish octets new holds e =
-    subst HoldsName (ap (λ t. t ++ 0 ∷ []) holds.whole ∙ sym e) (HoldsName-wire (labels_of octets) holds.name)
+    subst HoldsName (cc) (HoldsName-wire (labels_of octets) holds.name)
 
 pub labels_of-finish : (octets new : List ℕ) → HoldsLabels octets → new ≡ octets ++ 0 ∷ [] → labels_of new ≡ labels_of octets
-labels_of-finish octets new holds e =
-    ap labels_of (e ∙ ap (λ t. t ++ 0 ∷ []) (sym holds.whole)) ∙ labels_of-wire (labels_of octets) holds.name.each
+labels_of-finish octets new holds e = grind (arith, labels_of-wire)
 
 -- a length and the octets after it, as they are pushed
 pub pushed_octets : (octets label pushed new : List ℕ) (n : ℕ) → pushed ≡ octets ++ length label ∷ [] → new ≡ pushed ++ map folded_octet (take n label) → length label ≤ n → new ≡ octets ++ with_length (folded_label label)
-pushed_octets octets label pushed new n first after all =
-    after ∙ ap (λ t. t ++ map folded_octet (take n label)) first ∙ ap (λ t. octets ++ length label ∷ [] ++ map folded_octet t) (take_all n label all)
-    ∙ append_assoc octets (length label ∷ []) (map folded_octet label) ∙ ap (λ k. octets ++ (k ∷ map folded_octet label)) (sym (length-map label folded_octet))
+pushed_octets octets label pushed new n first after all = grind (arith, take_all, append_assoc, length-map)
 
 -- a length is no letter
 pub folded_length : (n : ℕ) → n ≤ 63 → folded_octet n ≡ n
@@ -115,9 +96,7 @@ folded_length n short = grind (arith, nat_tests)
 
 -- a length and the octets after it, folded together
 pub folded_frame : (octets label pushed new : List ℕ) → length label ≤ 63 → pushed ≡ octets ++ length label ∷ [] → new ≡ pushed ++ label → map folded_octet new ≡ map folded_octet octets ++ with_length (folded_label label)
-folded_frame octets label pushed new short first after =
-    ap (map folded_octet) (after ∙ ap (λ t. t ++ label) first ∙ append_assoc octets (length label ∷ []) label) ∙ map-append folded_octet octets (length label ∷ label)
-    ∙ ap (λ k. map folded_octet octets ++ (k ∷ map folded_octet label)) (folded_length (length label) short ∙ sym (length-map label folded_octet))
+folded_frame octets label pushed new short first after = grind (arith, append_assoc, map-append, folded_length, length-map)
 
 pub push_unfolded : (octets label pushed new : List ℕ) → HoldsUnfolded octets → AllByRecursion (λ x. x < 256) label → 0 < length label → length label ≤ 63 → length octets + length label + 2 ≤ 255 → pushed ≡ octets ++ length label ∷ [] → new ≡ pushed ++ label → Pushed (map folded_octet octets) (folded_label label) (map folded_octet new)
 push_unfolded octets label pushed new holds each some short room first after =
@@ -140,60 +119,53 @@ joined octets others new left right holds is name text e room =
     let shape : wire (left ++ right) ≡ new =
     ap (λ t. t ++ 0 ∷ []) (flat_map-append with_length left right) ∙ append_assoc (flat_map with_length left) (flat_map with_length right) (0 ∷ [])
     ∙ ap (λ t. flat_map with_length t ++ wire right) (sym is) ∙ ap (λ t. t ++ wire right) holds.whole ∙ ap (λ t. octets ++ t) (sym text) ∙ sym e in
-    let each : AllByRecursion IsLabel left = subst (AllByRecursion IsLabel) is holds.name.each in
+    let each : AllByRecursion IsLabel left = rw is at holds.name.each in
     let both : IsName (left ++ right) = record {
       each = AllByRecursion-append IsLabel left right each name.each;
       short = omega (arith, ap length shape, ap length e, length-append octets others);
     } in
-    record { holds = subst HoldsName shape (HoldsName-wire (left ++ right) both); gives = ap labels_of (sym shape) ∙ labels_of-wire (left ++ right) both.each }
+    record { holds = subst HoldsName shape (HoldsName-wire (left ++ right) both); gives = cc (labels_of-wire (left ++ right) both.each) }
 
 -- a name's labels have its size
 pub sized-name : (labels : List (List ℕ)) → length (wire labels) ≤ 255 → sized labels ≡ Ok labels
-sized-name labels short = ap (λ (b : Bool). if b then Ok labels else Err NameTooLong) (le-leb (length (wire labels)) 255 short)
+sized-name labels short = grind (arith, le-leb)
 
 -- labels over that size are refused
 pub sized-long : (labels : List (List ℕ)) → 255 < length (wire labels) → sized labels ≡ Err NameTooLong
-sized-long labels long = ap (λ (b : Bool). if b then Ok labels else Err NameTooLong) (lt-leb (length (wire labels)) 255 long)
+sized-long labels long = grind (arith, lt-leb)
 
 pub sized-joined : (left right : List (List ℕ)) (new : List ℕ) (name : List (List ℕ)) → Joined left right new → name ≡ labels_of new → sized (left ++ right) ≡ Ok name
-sized-joined left right new name both is =
-    let named : IsName (left ++ right) = subst IsName both.gives both.holds.name in
-    sized-name (left ++ right) named.short ∙ ap (λ t. Ok t) (sym both.gives ∙ sym is)
+sized-joined left right new name both is = grind (arith, sized-name)
 
 -- what puts letters in lower case folds them
 lowered : (octets : List ℕ) → map to_ascii_lowercase octets ≡ map folded_octet octets
 lowered [] = refl
-lowered (c ∷ octets) = let same : to_ascii_lowercase c ≡ folded_octet c = grind (arith, nat_tests) in ap₂ (λ (x : ℕ) (t : List ℕ). x ∷ t) same (lowered octets)
+lowered (c ∷ octets) = grind (arith, lowered octets)
 
 -- what is written over all octets takes their place
 pub refilled : (octets new : List ℕ) → length new ≡ length octets → refill (length octets) octets new ≡ new
 refilled octets new same = take_at new (drop (length new) octets) (length octets) same
 
 pub folded_again : (octets lower : List ℕ) → lower ≡ map to_ascii_lowercase octets → refill (length octets) octets lower ≡ map folded_octet octets
-folded_again octets lower e = refilled octets lower (ap length e ∙ length-map octets to_ascii_lowercase) ∙ e ∙ lowered octets
+folded_again octets lower e = grind (arith, refilled, length-map, lowered)
 
 -- the octets of a name after labels that are now folded
 pub ended_with : (octets lower ending new : List ℕ) → HoldsUnfolded octets → HoldsName ending → lower ≡ map folded_octet octets → new ≡ lower ++ ending → length lower + length ending ≤ 255 → HoldsName new × (sized (unfolded_labels octets ++ labels_of ending) ≡ Ok (labels_of new))
 ended_with octets lower ending new holds name is e room =
     let space : length (map folded_octet octets) + length ending ≤ 255 = omega (arith, room, ap length is) in
-    let both = joined (map folded_octet octets) ending new (unfolded_labels octets) (labels_of ending) holds refl name.name (sym name.whole) (e ∙ ap (λ t. t ++ ending) is) space in
+    let both = joined (map folded_octet octets) ending new (unfolded_labels octets) (labels_of ending) holds refl name.name (sym name.whole) (cc) space in
     (both.holds, sized-joined (unfolded_labels octets) (labels_of ending) new (labels_of new) both refl)
 
 -- an answer that is a value keeps what is promised of one
 pub taken : {T E P : Type 0} (result : Result T E) → IsOk result → OnOk result P → P
-taken (Ok x) is holds = holds
-taken (Err e) is holds = absurd (false≢true is)
+taken result is holds = grind (arith, false≢true)
 
 -- nothing follows the labels of an absolute text
 under_root : (origin : Option (List (List ℕ))) (spelled : Spelled) (held labels : List (List ℕ)) (result : Result (List (List ℕ)) NameFault) → spelled.is_absolute ≡ true → spelled.is_too_long ≡ false → sized (held ++ labels_of (0 ∷ [])) ≡ result → Collects held spelled.is_too_long labels → under_origin origin (Ok (labels, spelled.is_absolute)) ≡ result
-under_root origin spelled held labels result absolute short e collects =
-    let same : held ≡ labels = subst (λ b. Collects held b labels) short collects in
-    ap (λ b. under_origin origin (Ok (labels, b))) absolute ∙ ap sized (sym (append-nil labels) ∙ ap (λ t. labels ++ t) (sym (labels_of-root (0 ∷ []) refl)) ∙ ap (λ t. t ++ labels_of (0 ∷ [])) (sym same)) ∙ e
+under_root origin spelled held labels result absolute short e collects = grind (arith, append-nil, labels_of-root)
 
 pub finished : (origin : Option (List (List ℕ))) (spelled : Spelled) (held : List (List ℕ)) (new : List ℕ) (result : Result (Unit {0}) NameFault) → spelled.is_absolute ≡ true → spelled.is_too_long ≡ false → IfOk result (λ _. HoldsName new × (sized (held ++ labels_of (0 ∷ [])) ≡ Ok (labels_of new))) → IfOk result (λ _. HoldsName new × ((labels : List (List ℕ)) → Collects held spelled.is_too_long labels → under_origin origin (Ok (labels, spelled.is_absolute)) ≡ Ok (labels_of new)))
-finished origin spelled held new (Ok x) absolute short is = (is.0, λ labels collects. under_root origin spelled held labels (Ok (labels_of new)) absolute short is.1 collects)
-finished origin spelled held new (Err fault) absolute short is = tt
+finished origin spelled held new result absolute short is = grind (arith, under_root)
 
 pub unfinished : (origin : Option (List (List ℕ))) (spelled : Spelled) (held : List (List ℕ)) (result : Result (Unit {0}) NameFault) → spelled.is_absolute ≡ true → spelled.is_too_long ≡ false → IfErr result (λ fault. sized (held ++ labels_of (0 ∷ [])) ≡ Err fault) → IfErr result (λ fault. (labels : List (List ℕ)) → Collects held spelled.is_too_long labels → under_origin origin (Ok (labels, spelled.is_absolute)) ≡ Err fault)
-unfinished origin spelled held (Ok x) absolute short is = tt
-unfinished origin spelled held (Err fault) absolute short is = λ labels collects. under_root origin spelled held labels (Err fault) absolute short is collects
+unfinished origin spelled held result absolute short is = grind (arith, under_root)

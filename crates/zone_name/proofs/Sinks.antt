@@ -1,5 +1,5 @@
 -- What a sink took while its printer is under way.
-use Rattle.std.proofs.Common.{◌≡◌, ℕ, List, ◌++◌, Result, Ok, Err, OnErr, subst}
+use Rattle.std.proofs.Common.{◌≡◌, ℕ, List, ◌++◌, Result, Ok, Err, OnErr, arith}
 use Rattle.zone_name.specs.Sink.{TakesSome}
 
 -- the second law of a sink
@@ -8,7 +8,7 @@ Joins {S = S} takes = (a b c : S) (x y : List ℕ) → takes a x b → takes b y
 
 -- two texts, one after the other, are a third
 pub takes_both : {S : Type 0} (takes : S → List ℕ → S → Type 0) → Joins takes → (a b c : S) (x y z : List ℕ) → takes a x b → takes b y c → x ++ y ≡ z → takes a z c
-takes_both takes joins a b c x y z first second is = subst (λ t. takes a t c) is (joins a b c x y first second)
+takes_both takes joins a b c x y z first second is = grind arith
 
 -- a printer that stops after a text that was taken
 pub stops_after : {S T E : Type 0} (answer : Result T E) (takes : S → List ℕ → S → Type 0) → Joins takes → (a b c : S) (x : List ℕ) → takes a x b → TakesSome takes b c → OnErr answer (TakesSome takes a c)
@@ -28,4 +28,4 @@ pub record Took {S : Type 0} (takes : S → List ℕ → S → Type 0) (start ou
 
 -- a text after it
 pub Took-more : {S : Type 0} (takes : S → List ℕ → S → Type 0) → Joins takes → (start out next : S) (Known Next : List ℕ → Type 0) (more : List ℕ) (took : Took takes start out Known) → takes out more next → Next (took.text ++ more) → Took takes start next Next
-Took-more takes joins start out next Known Next more took second is = record { text = took.text ++ more; known = is; taken = joins start out next took.text more took.taken second }
+Took-more takes joins start out next Known Next more took second is = grind arith

@@ -1,15 +1,7 @@
 -- What the walk over a text finds is what the text spells: from the left, as far as it has come.
-use Rattle.std.proofs.Common.{◌≡◌, ◌≢◌, ℕ, zero, suc, ◌<◌, ◌≤◌, Bool, true, false, nat_le, if◌then◌else◌, List, [], ◌∷◌, ◌++◌, length, codes, Result, Ok, Err, refl, sym, ap, ◌∙◌, subst, inl, inr, arith, append_assoc, length-append}
-use Rattle.std.specs.Prelude.{map}
-use Rattle.std.specs.List.{AllByRecursion}
-use Rattle.std.proofs.lemmas.List.{append-nil, map_push, length-map}
-use Rattle.std.proofs.lemmas.List.Concat.{flat_map-append}
-use Rattle.std.proofs.lemmas.Bool.Decides.{nat_tests}
-use Rattle.zone_name.specs.Name.{folded_label}
-use Rattle.zone_name.specs.Spelling.{Written, text_of, octet_of, IsUnit, is_dot, IsWrittenLabel, AreWrittenLabels, written_text, written_octets, dotted, parted, named, Reaches, FaultAt, empty_label, long_label, bad_escape}
-use Rattle.zone_name.specs.declared.fault.NameFault.{NameFault}
+use Rattle.zone_name.proofs.Common.{◌≡◌, ◌≢◌, ℕ, zero, suc, ◌<◌, ◌≤◌, Bool, true, false, nat_le, if◌then◌else◌, List, [], ◌∷◌, ◌++◌, length, codes, Result, Ok, Err, refl, sym, ap, ◌∙◌, subst, inl, inr, arith, append_assoc, length-append, AllByRecursion, append-nil, map_push, length-map, flat_map-append, nat_tests, folded_label, Written, text_of, octet_of, IsUnit, is_dot, IsWrittenLabel, AreWrittenLabels, written_text, written_octets, dotted, parted, named, Reaches, FaultAt, empty_label, long_label, bad_escape, NameFault, Ahead, at_end, at_dot, at_octet, at_fault, failed, goes, step_at, read}
 use Rattle.zone_name.specs.declared.fault.NameFault.TheVariants.{LabelTooLong}
-use Rattle.zone_name.specs.Machine.LabelWalk.{Ahead, at_end, at_dot, at_octet, at_fault, ahead_in, failed, goes, step_at, read, reading}
+use Rattle.zone_name.specs.Machine.LabelWalk.{reading}
 use Rattle.zone_name.proofs.Ahead.{IsAhead, ahead_is, Shrinks, ahead_shrinks}
 use Rattle.zone_name.proofs.Steps.{after_step, read_step}
 use Rattle.zone_name.proofs.Pushing.{AllByRecursion-append}
@@ -34,15 +26,13 @@ Says text (Err fault) = FaultAt text fault
 
 -- ---- one label or one octet more
 dotted_push : (before : List (List Written)) (label : List Written) → dotted (before ++ label ∷ []) ≡ dotted before ++ (written_text label ++ 46 ∷ [])
-dotted_push before label =
-    let f = λ (l : List Written). written_text l ++ 46 ∷ [] in
-    flat_map-append f before (label ∷ []) ∙ ap (λ t. dotted before ++ t) (append-nil (written_text label ++ 46 ∷ []))
+dotted_push before label = grind (arith, flat_map-append, append-nil)
 
 named_push : (before : List (List Written)) (label : List Written) → named (before ++ label ∷ []) ≡ named before ++ folded_label (written_octets label) ∷ []
-named_push before label = ap (map folded_label) (map_push written_octets before label) ∙ map_push folded_label (map written_octets before) (written_octets label)
+named_push before label = grind (arith, map_push)
 
 text_push : (label : List Written) (w : Written) → written_text (label ++ w ∷ []) ≡ written_text label ++ text_of w
-text_push label w = flat_map-append text_of label (w ∷ []) ∙ ap (λ t. written_text label ++ t) (append-nil (text_of w))
+text_push label w = grind (arith, flat_map-append, append-nil)
 
 join_more : (a b c : List ℕ) → a ++ (46 ∷ (b ++ c)) ≡ ((a ++ 46 ∷ []) ++ b) ++ c
 join_more a b c = sym (append_assoc (a ++ 46 ∷ []) b c ∙ append_assoc a (46 ∷ []) (b ++ c))
@@ -50,10 +40,10 @@ join_more a b c = sym (append_assoc (a ++ 46 ∷ []) b c ∙ append_assoc a (46 
 parted_push : (before : List (List Written)) (label : List Written) → parted (before ++ label ∷ []) ≡ dotted before ++ written_text label
 parted_push [] label = refl
 parted_push (l ∷ []) label = join_more (written_text l) [] (written_text label)
-parted_push (l ∷ m ∷ ls) label = ap (λ t. written_text l ++ (46 ∷ t)) (parted_push (m ∷ ls) label) ∙ join_more (written_text l) (dotted (m ∷ ls)) (written_text label)
+parted_push (l ∷ m ∷ ls) label = grind (arith, join_more, parted_push (m ∷ ls) label)
 
 regroup : (a b more : List ℕ) → a ++ b ++ 46 ∷ more ≡ a ++ (b ++ 46 ∷ []) ++ [] ++ more
-regroup a b more = sym (ap (λ t. t ++ more) (append-nil (a ++ (b ++ 46 ∷ [])) ∙ sym (append_assoc a b (46 ∷ []))) ∙ append_assoc (a ++ b) (46 ∷ []) more)
+regroup a b more = grind (arith, append-nil, append_assoc)
 
 reaches_label : (text : List ℕ) (before : List (List Written)) (w : Written) (label : List Written) (rest more : List ℕ) → Reaches text before (w ∷ label) rest → rest ≡ 46 ∷ more → Reaches text (before ++ (w ∷ label) ∷ []) [] more
 reaches_label text before w label rest more r e = record {
@@ -61,7 +51,7 @@ reaches_label text before w label rest more r e = record {
   short = AllByRecursion-append (λ l. length l ≤ 63) before ((w ∷ label) ∷ []) r.short (r.room, tt);
   octets = tt;
   room = omega arith;
-  parts = r.parts ∙ ap (λ t. dotted before ++ written_text (w ∷ label) ++ t) e ∙ regroup (dotted before) (written_text (w ∷ label)) more ∙ ap (λ t. t ++ [] ++ more) (sym (dotted_push before (w ∷ label)));
+  parts = cc (regroup (dotted before) (written_text (w ∷ label)) more, dotted_push before (w ∷ label));
 }
 
 reaches_octet : (text : List ℕ) (before : List (List Written)) (label : List Written) (w : Written) (rest more : List ℕ) → Reaches text before label rest → IsUnit is_dot w → rest ≡ text_of w ++ more → length label < 63 → Reaches text before (label ++ w ∷ []) more
@@ -70,7 +60,7 @@ reaches_octet text before label w rest more r is e room = record {
   short = r.short;
   octets = AllByRecursion-append (IsUnit is_dot) label (w ∷ []) r.octets (is, tt);
   room = omega (arith, length-append label (w ∷ []));
-  parts = r.parts ∙ ap (λ t. dotted before ++ written_text label ++ t) e ∙ sym (append_assoc (dotted before ++ written_text label) (text_of w) more) ∙ ap (λ t. t ++ more) (append_assoc (dotted before) (written_text label) (text_of w) ∙ ap (λ t. dotted before ++ t) (sym (text_push label w)));
+  parts = cc (append_assoc (dotted before ++ written_text label) (text_of w) more, append_assoc (dotted before) (written_text label) (text_of w), text_push label w);
 }
 
 -- ---- the ends
@@ -89,7 +79,7 @@ relative_end text before w label rest r e = record {
   written = before ++ (w ∷ label) ∷ [];
   are = record { some = omega (arith, length-append before ((w ∷ label) ∷ [])); each = AllByRecursion-append IsWrittenLabel before ((w ∷ label) ∷ []) r.labels (record { some = omega arith; each = r.octets }, tt) };
   short = AllByRecursion-append (λ l. length l ≤ 63) before ((w ∷ label) ∷ []) r.short (r.room, tt);
-  text_is = r.parts ∙ ap (λ t. dotted before ++ written_text (w ∷ label) ++ t) e ∙ append-nil (dotted before ++ written_text (w ∷ label)) ∙ sym (parted_push before (w ∷ label));
+  text_is = cc (append-nil (dotted before ++ written_text (w ∷ label)), parted_push before (w ∷ label));
   labels_are = sym (named_push before (w ∷ label));
 }
 
@@ -105,9 +95,8 @@ full_label n text before label rest more c later r shorter enough w is oc e true
     exact : (m k : ℕ) → k ≡ m → m ≤ 63 → nat_le 63 k ≡ true → m ≡ 63
     exact m k same room full = grind (arith, nat_tests)
 full_label n text before label rest more c later r shorter enough w is oc e false test =
-    let open_is : written_octets (label ++ w ∷ []) ≡ written_octets label ++ c ∷ [] = map_push octet_of label w ∙ ap (λ t. written_octets label ++ t ∷ []) oc in
-    subst (λ t. Says text (read n (named before) t more)) open_is
-    (later before (label ++ w ∷ []) more (reaches_octet text before label w rest more r is e (below (length label) (length (written_octets label)) (length-map label octet_of) test)) (omega arith))
+    let open_is : written_octets (label ++ w ∷ []) ≡ written_octets label ++ c ∷ [] = cc (map_push octet_of label w) in
+    rw open_is at (later before (label ++ w ∷ []) more (reaches_octet text before label w rest more r is e (below (length label) (length (written_octets label)) (length-map label octet_of) test)) (omega arith))
   where
     below : (m k : ℕ) → k ≡ m → nat_le 63 k ≡ false → m < 63
     below m k same full = grind (arith, nat_tests)
@@ -120,7 +109,7 @@ step_says n text before [] rest (at_dot more) other some later r enough is short
     dot_some : (more : List ℕ) → 46 ∷ more ≡ [] → ⊥
     dot_some more e = cc
 step_says n text before (w ∷ label) rest (at_dot more) other some later r enough is shorter =
-    subst (λ t. Says text (read n t [] more)) (named_push before (w ∷ label)) (later (before ++ (w ∷ label) ∷ []) [] more (reaches_label text before w label rest more r is) (omega arith))
+    rw (named_push before (w ∷ label)) at (later (before ++ (w ∷ label) ∷ []) [] more (reaches_label text before w label rest more r is) (omega arith))
 step_says n text before [] rest (at_octet c more) other some later r enough is shorter = full_label n text before [] rest more c later r shorter enough is.unit is.is_unit is.value is.parts (nat_le 63 (length (written_octets []))) refl
 step_says n text before (w ∷ label) rest (at_octet c more) other some later r enough is shorter = full_label n text before (w ∷ label) rest more c later r shorter enough is.unit is.is_unit is.value is.parts (nat_le 63 (length (written_octets (w ∷ label)))) refl
 step_says n text before [] rest at_fault other some later r enough is shorter = bad_escape before [] rest r is
@@ -128,12 +117,10 @@ step_says n text before (w ∷ label) rest at_fault other some later r enough is
 
 walk_says : (n : ℕ) (text : List ℕ) → text ≢ codes "." → 0 < length text → Later n text
 walk_says zero text other some before label rest r enough = absurd (omega arith)
-walk_says (suc n) text other some before label rest r enough =
-    let steps : Says text (after_step n (step_at (named before) (written_octets label) (ahead_in rest))) = step_says n text before label rest (ahead_in rest) other some (walk_says n text other some) r enough (ahead_is rest) (ahead_shrinks rest) in
-    subst (Says text) (sym (read_step n (named before) (written_octets label) rest (ahead_in rest) refl)) steps
+walk_says (suc n) text other some before label rest r enough = grind (arith, after_step, step_says, ahead_is, ahead_shrinks, read_step, walk_says n text other some)
 
 reaches_start : (text : List ℕ) → Reaches text [] [] text
-reaches_start text = record { labels = tt; short = tt; octets = tt; room = omega arith; parts = refl }
+reaches_start text = grind arith
 
 -- what is read is so
 pub reading-says : (text : List ℕ) → text ≢ codes "." → Says text (reading text)

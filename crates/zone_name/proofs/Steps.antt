@@ -1,15 +1,8 @@
 -- The walk over a text: what was read so far, and what it leads to.
-use Rattle.std.proofs.Common.{◌≡◌, ℕ, zero, suc, ◌<◌, ◌≤◌, ◌||◌, Bool, true, false, if◌then◌else◌, List, [], ◌∷◌, ◌++◌, length, Result, Ok, Err, refl, sym, ap, ◌∙◌, subst, inl, inr, arith, length-append}
-use Rattle.std.specs.List.{flat_map}
-use Rattle.std.proofs.lemmas.Bool.{lt-leb, le-leb}
-use Rattle.std.proofs.lemmas.List.Concat.{flat_map-append}
-use Rattle.zone_name.specs.Name.{folded_label, with_length, wire}
-use Rattle.zone_name.specs.Spelling.{IsBadEscape, EndsLabel}
-use Rattle.zone_name.specs.declared.fault.NameFault.{NameFault}
+use Rattle.zone_name.proofs.Common.{◌≡◌, ℕ, zero, suc, ◌<◌, ◌≤◌, ◌||◌, Bool, true, false, List, [], ◌∷◌, ◌++◌, length, Result, Ok, Err, refl, sym, ap, ◌∙◌, inl, inr, arith, length-append, lt-leb, le-leb, flat_map-append, folded_label, wire, IsBadEscape, EndsLabel, NameFault, Ahead, at_dot, at_octet, at_fault, ahead_in, Step, done, failed, goes, step_at, read, Collects, Closes, Joins, Goes, EndsInFault, RefusesLabel, empty, long, EndsLabelAt}
 use Rattle.zone_name.specs.declared.fault.NameFault.TheVariants.{EmptyLabel, LabelTooLong, NameTooLong, BadEscape, RelativeName}
-use Rattle.zone_name.specs.Machine.LabelWalk.{Ahead, at_end, at_dot, at_octet, at_fault, ahead_in, Step, done, failed, goes, step_at, read, reading, Collects}
-use Rattle.zone_name.specs.Machine.Seen.{Closes, Joins, Goes, EndsInFault, RefusesLabel, empty, long, EndsLabelAt}
-use Rattle.zone_name.proofs.Ahead.{Shrinks, ahead_shrinks, ahead-bad}
+use Rattle.zone_name.specs.Machine.LabelWalk.{reading}
+use Rattle.zone_name.proofs.Ahead.{ahead_shrinks, ahead-bad}
 
 -- ---- one step of the reading
 
@@ -19,24 +12,21 @@ after_step n (failed fault) = Err fault
 after_step n (goes more open_next left) = read n more open_next left
 
 pub read_step : (n : ℕ) (labels : List (List ℕ)) (open_label rest : List ℕ) (ahead : Ahead) → ahead_in rest ≡ ahead → read (suc n) labels open_label rest ≡ after_step n (step_at labels open_label ahead)
-read_step n labels open_label rest ahead e = by (step_at labels open_label (ahead_in rest)) refl ∙ ap (λ p. after_step n (step_at labels open_label p)) e
+read_step n labels open_label rest ahead e = cc (by (step_at labels open_label (ahead_in rest)) refl)
   where
     by : (s : Step) → step_at labels open_label (ahead_in rest) ≡ s → read (suc n) labels open_label rest ≡ after_step n (step_at labels open_label (ahead_in rest))
     by s h = refl
 
 -- an octet of a label that has room
 pub octet_step : (n : ℕ) (labels : List (List ℕ)) (open_label after : List ℕ) (c : ℕ) → length open_label < 63 → after_step n (step_at labels open_label (at_octet c after)) ≡ read n labels (open_label ++ c ∷ []) after
-octet_step n labels [] after c room = refl
-octet_step n labels (x ∷ open_label) after c room = ap (λ (b : Bool). after_step n (if b then failed LabelTooLong else goes labels (x ∷ open_label ++ c ∷ []) after)) (lt-leb 63 (length (x ∷ open_label)) room)
+octet_step n labels open_label after c room = grind (arith, lt-leb)
 
 -- and of one that has none
 full_step : (labels : List (List ℕ)) (open_label after : List ℕ) (c : ℕ) → 63 ≤ length open_label → step_at labels open_label (at_octet c after) ≡ failed LabelTooLong
-full_step labels [] after c full = absurd (omega arith)
-full_step labels (x ∷ open_label) after c full = ap (λ (b : Bool). if b then failed LabelTooLong else goes labels (x ∷ open_label ++ c ∷ []) after) (le-leb 63 (length (x ∷ open_label)) full)
+full_step labels open_label after c full = grind (arith, le-leb)
 
 pub bad_step : (labels : List (List ℕ)) (open_label : List ℕ) → step_at labels open_label at_fault ≡ failed BadEscape
-bad_step labels [] = refl
-bad_step labels (c ∷ open_label) = refl
+bad_step labels open_label = cc
 
 octet_by : (fuel : ℕ) (labels : List (List ℕ)) (open_label rest after : List ℕ) (c : ℕ) → length rest < fuel → ahead_in rest ≡ at_octet c after → length open_label < 63 → (n : ℕ) × (length rest < suc n) × (read fuel labels open_label rest ≡ read n labels (open_label ++ c ∷ []) after)
 octet_by zero labels open_label rest after c enough e room = absurd (omega arith)
@@ -44,8 +34,7 @@ octet_by (suc n) labels open_label rest after c enough e room =
     (n, enough, read_step n labels open_label rest (at_octet c after) e ∙ octet_step n labels open_label after c room)
 
 pub fault_by : (fuel : ℕ) (labels : List (List ℕ)) (open_label rest : List ℕ) (ahead : Ahead) (fault : NameFault) → length rest < fuel → ahead_in rest ≡ ahead → step_at labels open_label ahead ≡ failed fault → read fuel labels open_label rest ≡ Err fault
-fault_by zero labels open_label rest ahead fault enough e fails = absurd (omega arith)
-fault_by (suc n) labels open_label rest ahead fault enough e fails = read_step n labels open_label rest ahead e ∙ ap (after_step n) fails
+fault_by fuel labels open_label rest ahead fault enough e fails = grind (arith, read_step)
 
 -- ---- a label, octet by octet
 
@@ -56,9 +45,9 @@ pub Goes-octet : (text open_label rest after new : List ℕ) (c : ℕ) → Goes 
 Goes-octet text open_label rest after new c so_far e room grown = λ labels n enough.
     let reached = so_far labels n enough in
     let next = octet_by reached.0 labels open_label rest after c reached.1 (sym e) room in
-    let shorter : length after < length rest = subst (Shrinks rest) (sym e) (ahead_shrinks rest) in
+    let shorter : length after < length rest = rw (← e) at (ahead_shrinks rest) in
     let left : length after < next.0 = omega (arith, next.1, shorter) in
-    (next.0, left, reached.2 ∙ next.2 ∙ ap (λ t. read next.0 labels t after) (sym grown))
+    (next.0, left, cc)
 
 -- what fails from here on fails from the start
 refuses_by : (text open_label rest : List ℕ) (ahead : Ahead) (fault : NameFault) → Goes text open_label rest → ahead_in rest ≡ ahead → ((labels : List (List ℕ)) → step_at labels open_label ahead ≡ failed fault) → EndsInFault text fault
@@ -103,35 +92,25 @@ pub record Reads (text : List ℕ) (held : List (List ℕ)) (is_too_long : Bool)
 
 pub Reads-start : (text : List ℕ) (held : List (List ℕ)) → 0 < length text → held ≡ [] → Reads text held false text
 unfolding reading
-Reads-start [] held some none = absurd (omega arith)
-Reads-start (c ∷ text) held some none = record {
-  labels = [];
-  collects = none;
-  fuel = suc (length (c ∷ text));
-  enough = omega arith;
-  leads = refl;
-}
+Reads-start text held some none = grind arith
 
 -- no text spells no label
 pub reading-nil : (text : List ℕ) → length text ≡ 0 → reading text ≡ Err EmptyLabel
 unfolding reading
-reading-nil [] e = refl
-reading-nil (c ∷ text) e = absurd (omega arith)
+reading-nil text e = grind arith
 
 -- more labels take no fewer octets
 wire-more : (labels : List (List ℕ)) (label : List ℕ) → 255 < length (wire labels) → 255 < length (wire (labels ++ label ∷ []))
-wire-more labels label over = omega (arith, over, ap length (flat_map-append with_length labels (label ∷ [])), length-append (flat_map with_length labels) (flat_map with_length (label ∷ [])), length-append (flat_map with_length labels) (0 ∷ []), length-append (flat_map with_length (labels ++ label ∷ [])) (0 ∷ []))
+wire-more labels label over = grind (arith, flat_map-append, length-append)
 
 joined_collects : (before after labels : List (List ℕ)) (label : List ℕ) (is_too_long is_left_out : Bool) → Collects before is_too_long labels → Joins before label is_left_out after → Collects after (is_too_long || is_left_out) (labels ++ folded_label label ∷ [])
-joined_collects before after labels label true is_left_out collects joins = wire-more labels (folded_label label) collects
-joined_collects before after labels label false true collects joins = subst (λ t. 255 < length (wire (t ++ folded_label label ∷ []))) collects joins.1
-joined_collects before after labels label false false collects joins = joins ∙ ap (λ t. t ++ folded_label label ∷ []) collects
+joined_collects before after labels label true is_left_out collects joins = grind (arith, wire-more)
+joined_collects before after labels label false true collects joins = grind arith
+joined_collects before after labels label false false collects joins = cc
 
 -- a label's end, as the next step finds it
 end_step : (fuel : ℕ) (labels : List (List ℕ)) (label rest : List ℕ) → length rest < fuel → 0 < length label → rest ≡ [] → read fuel labels label rest ≡ Ok (labels ++ folded_label label ∷ [], false)
-end_step zero labels label rest enough some e = absurd (omega arith)
-end_step (suc n) labels [] rest enough some e = absurd (omega arith)
-end_step (suc n) labels (c ∷ label) rest enough some e = read_step n labels (c ∷ label) rest at_end (ap ahead_in e)
+end_step fuel labels label rest enough some e = grind (arith, read_step)
 
 dot_step : (fuel : ℕ) (labels : List (List ℕ)) (label rest more : List ℕ) → length rest < fuel → 0 < length label → rest ≡ 46 ∷ more → (m : ℕ) × (length more < m) × (read fuel labels label rest ≡ read m (labels ++ folded_label label ∷ []) [] more)
 dot_step zero labels label rest more enough some e = absurd (omega arith)
@@ -141,8 +120,7 @@ dot_step (suc n) labels (c ∷ label) rest more enough some e =
     (n, left, read_step n labels (c ∷ label) rest (at_dot more) (ap ahead_in e))
 
 dot_is : (rest more : List ℕ) (c : ℕ) → EndsLabel rest → rest ≡ c ∷ more → rest ≡ 46 ∷ more
-dot_is rest more c (inl e) is = absurd (omega (arith, ap length e, ap length is))
-dot_is rest more c (inr e) is = let same : e.0 ≡ more = cc (sym e.1 ∙ is) in e.1 ∙ ap (λ t. 46 ∷ t) same
+dot_is rest more c h is = grind arith
 
 -- a label with its dot
 pub Reads-label : (text : List ℕ) (before after : List (List ℕ)) (is_too_long is_left_out : Bool) (rest label following more : List ℕ) (c : ℕ) → Reads text before is_too_long rest → EndsLabelAt rest label following → Closes before label is_left_out after → following ≡ c ∷ more → Reads text after (is_too_long || is_left_out) more
@@ -154,7 +132,7 @@ Reads-label text before after is_too_long is_left_out rest label following more 
       collects = joined_collects before after reads.labels label is_too_long is_left_out reads.collects closes.joins;
       fuel = next.0;
       enough = next.1;
-      leads = sym next.2 ∙ sym reached.2 ∙ reads.leads;
+      leads = cc;
     }
 
 -- at the end of the text, in a label
@@ -162,6 +140,6 @@ pub Reads-relative : (text : List ℕ) (before after : List (List ℕ)) (is_too_
 Reads-relative text before after is_too_long is_left_out rest label following reads at closes is =
     let reached = at.goes reads.labels reads.fuel reads.enough in (
       reads.labels ++ folded_label label ∷ [],
-      sym reads.leads ∙ reached.2 ∙ end_step reached.0 reads.labels label following reached.1 closes.some is,
+      cc (end_step reached.0 reads.labels label following reached.1 closes.some is),
       joined_collects before after reads.labels label is_too_long is_left_out reads.collects closes.joins,
     )

@@ -1,9 +1,6 @@
 -- Written octets at the beginning of a text: what is read is so, and what is so is read.
-use Rattle.std.proofs.Common.{◌≡◌, ◌≢◌, ℕ, zero, suc, ◌≤◌, ◌<◌, Bool, true, false, ◌&&◌, ◌||◌, ◌==◌, nat_le, if◌then◌else◌, List, [], ◌∷◌, ◌++◌, length, Option, Some, None, refl, sym, ap, ◌∙◌, subst, inl, inr, arith, append_assoc, length-append}
-use Rattle.std.specs.Prelude.{IfSome, option_map}
-use Rattle.std.specs.List.{AllByRecursion}
-use Rattle.std.proofs.lemmas.Bool.{and_parts, or_parts, or_cases, eqb-true, eqb-false, ne_eqb, leb-true, le-leb, both_ways, cond_both}
-use Rattle.zone_name.specs.Spelling.{Written, plain, escaped, decimal, text_of, octet_of, written_text, IsEscape, IsUnit, IsBadEscape, BeginsWithEscape, BeginsWithUnit, is_digit, no_octet}
+use Rattle.zone_name.proofs.Common.{◌≡◌, ◌≢◌, ℕ, zero, suc, ◌≤◌, ◌<◌, Bool, true, false, ◌&&◌, ◌||◌, ◌==◌, nat_le, if◌then◌else◌, List, [], ◌∷◌, ◌++◌, length, Option, Some, None, refl, sym, ap, ◌∙◌, subst, arith, append_assoc, length-append, option_map, AllByRecursion, and_parts, or_parts, or_cases, eqb-true, eqb-false, ne_eqb, leb-true, le-leb, both_ways, cond_both, Written, plain, escaped, decimal, text_of, octet_of, written_text, IsEscape, IsUnit, IsBadEscape, BeginsWithEscape, BeginsWithUnit, is_digit, no_octet}
+use Rattle.std.specs.Prelude.{IfSome}
 use Rattle.zone_name.specs.Machine.Units.{decimal_first, digits_first, escape_first, unit_first, Units, units_then, units_by, units_first, valued}
 
 -- no written octet stands at the beginning
@@ -21,30 +18,20 @@ IsFirst left_out octets (Some (w, rest)) = IsUnit left_out w × (octets ≡ text
 
 -- an escape is a written octet wherever one may stand
 pub unit_of_escape : (left_out : ℕ → Bool) (w : Written) → IsEscape w → IsUnit left_out w
-unit_of_escape left_out (plain c) is = absurd is
-unit_of_escape left_out (escaped c) is = is
-unit_of_escape left_out (decimal x y z) is = is
+unit_of_escape left_out w is = grind arith
 
 -- and so is a written octet after a backslash
 pub escape_of_unit : (left_out : ℕ → Bool) (w : Written) (rest more : List ℕ) → IsUnit left_out w → text_of w ++ rest ≡ 92 ∷ more → IsEscape w
-escape_of_unit left_out (plain c) rest more is e = absurd (is.1 (cc))
-escape_of_unit left_out (escaped c) rest more is e = is
-escape_of_unit left_out (decimal x y z) rest more is e = is
+escape_of_unit left_out w rest more is e = grind arith
 
 pub bare_backslash : (w : Written) (after : List ℕ) → IsEscape w → 92 ∷ [] ≡ text_of w ++ after → ⊥
-bare_backslash (plain c) after is e = absurd is
-bare_backslash (escaped c) after is e = cc
-bare_backslash (decimal x y z) after is e = cc
+bare_backslash w after is e = grind arith
 
 pub one_digit : (x : ℕ) → is_digit x ≡ true → (w : Written) (after : List ℕ) → IsEscape w → 92 ∷ x ∷ [] ≡ text_of w ++ after → ⊥
-one_digit x d (plain c) after is e = absurd is
-one_digit x d (escaped c) after is e = let same : x ≡ c = cc in both_ways (is_digit c) is.0 (ap is_digit (sym same) ∙ d)
-one_digit x d (decimal u v w) after is e = cc
+one_digit x d w after is e = grind (arith, both_ways)
 
 pub two_digits : (x y : ℕ) → is_digit x ≡ true → (w : Written) (after : List ℕ) → IsEscape w → 92 ∷ x ∷ y ∷ [] ≡ text_of w ++ after → ⊥
-two_digits x y d (plain c) after is e = absurd is
-two_digits x y d (escaped c) after is e = let same : x ≡ c = cc in both_ways (is_digit c) is.0 (ap is_digit (sym same) ∙ d)
-two_digits x y d (decimal u v w) after is e = cc
+two_digits x y d w after is e = grind (arith, both_ways)
 
 -- the test of three digits
 abbrev is_decimal : ℕ → ℕ → ℕ → Bool
@@ -54,27 +41,13 @@ passes : (x y z : ℕ) → IsEscape (decimal x y z) → is_decimal x y z ≡ tru
 passes x y z is = rw (is.0, is.1, is.2) (le-leb (octet_of (decimal x y z)) 255 is.3)
 
 passed : (x y z : ℕ) → is_decimal x y z ≡ true → IsEscape (decimal x y z)
-passed x y z e =
-    let last = and_parts (is_digit x && is_digit y && is_digit z) (nat_le (octet_of (decimal x y z)) 255) e in
-    let third = and_parts (is_digit x && is_digit y) (is_digit z) last.0 in
-    let two = and_parts (is_digit x) (is_digit y) third.0 in
-    (two.0, two.1, third.1, leb-true (octet_of (decimal x y z)) 255 last.1)
+passed x y z e = grind (arith, and_parts, nat_le, leb-true)
 
 no_decimal : (x y z : ℕ) (rest : List ℕ) → is_digit x ≡ true → is_decimal x y z ≡ false → (w : Written) (after : List ℕ) → IsEscape w → 92 ∷ x ∷ y ∷ z ∷ rest ≡ text_of w ++ after → ⊥
-no_decimal x y z rest d f (plain c) after is e = absurd is
-no_decimal x y z rest d f (escaped c) after is e = let same : x ≡ c = cc in both_ways (is_digit c) is.0 (ap is_digit (sym same) ∙ d)
-no_decimal x y z rest d f (decimal u v w) after is e =
-    let one : u ≡ x = cc in
-    let two : v ≡ y = cc in
-    let three : w ≡ z = cc in
-    both_ways (is_decimal x y z) f (subst (λ t. is_decimal x y t ≡ true) three (subst (λ t. is_decimal x t w ≡ true) two (subst (λ t. is_decimal t v w ≡ true) one (passes u v w is))))
+no_decimal x y z rest d f w after is e = grind (arith, both_ways, passes)
 
 no_escaped : (x : ℕ) (rest : List ℕ) → is_digit x ≡ false → (x == 10 || x == 13) ≡ true → (w : Written) (after : List ℕ) → IsEscape w → 92 ∷ x ∷ rest ≡ text_of w ++ after → ⊥
-no_escaped x rest d t (plain c) after is e = absurd is
-no_escaped x rest d t (escaped c) after is e =
-    let same : c ≡ x = cc in
-    elim (or_cases (x == 10) (x == 13) t) as (λ s. ⊥) [ inl h ↦ is.1 (same ∙ eqb-true x 10 h) | inr h ↦ is.2 (same ∙ eqb-true x 13 h) ]
-no_escaped x rest d t (decimal u v w) after is e = let same : u ≡ x = cc in both_ways (is_digit u) (ap is_digit same ∙ d) is.0
+no_escaped x rest d t w after is e = grind (arith, or_cases, eqb-true, both_ways)
 
 -- ---- what is read at the beginning is so
 
@@ -89,29 +62,20 @@ decimal_is x y z rest d =
     (λ e. (x ∷ y ∷ z ∷ rest, refl, no_decimal x y z rest d e))
 
 digits_are : (x : ℕ) (rest : List ℕ) → is_digit x ≡ true → SaysEscape (92 ∷ x ∷ rest) (digits_first x rest)
-digits_are x [] d = (x ∷ [], refl, one_digit x d)
-digits_are x (y ∷ []) d = (x ∷ y ∷ [], refl, two_digits x y d)
-digits_are x (y ∷ z ∷ rest) d = decimal_is x y z rest d
+digits_are x rest d = grind (arith, one_digit, two_digits, decimal_is)
 
 escaped_is : (x : ℕ) (rest : List ℕ) → is_digit x ≡ false → SaysEscape (92 ∷ x ∷ rest) (if x == 10 || x == 13 then None else Some (escaped x, rest))
-escaped_is x rest d =
-    cond_both (x == 10 || x == 13) None (Some (escaped x, rest)) (SaysEscape (92 ∷ x ∷ rest)) (λ e. (x ∷ rest, refl, no_escaped x rest d e))
-    (λ e. let parts = or_parts (x == 10) (x == 13) e in ((d, eqb-false x 10 parts.0, eqb-false x 13 parts.1), refl))
+escaped_is x rest d = grind (arith, cond_both, no_escaped, or_parts, eqb-false)
 
 -- each escape that is read is what the text's spelling says
 pub escape_is : (rest : List ℕ) → SaysEscape (92 ∷ rest) (escape_first rest)
-escape_is [] = ([], refl, bare_backslash)
-escape_is (x ∷ rest) =
-    cond_both (is_digit x) (digits_first x rest) (if x == 10 || x == 13 then None else Some (escaped x, rest)) (SaysEscape (92 ∷ x ∷ rest)) (digits_are x rest) (escaped_is x rest)
+escape_is rest = grind (arith, bare_backslash, cond_both, digits_are, escaped_is)
 
 first_of_escape : (left_out : ℕ → Bool) (text : List ℕ) (read : Option (Written × List ℕ)) → SaysEscape text read → IsFirst left_out text read
-first_of_escape left_out text None says = at_backslash says
-first_of_escape left_out text (Some (w, rest)) says = (unit_of_escape left_out w says.0, says.1)
+first_of_escape left_out text read says = grind (arith, unit_of_escape)
 
 octet_is : (left_out : ℕ → Bool) (c : ℕ) (rest : List ℕ) → left_out c ≡ false → IsFirst left_out (c ∷ rest) (if c == 92 then escape_first rest else Some (plain c, rest))
-octet_is left_out c rest goes_on =
-    cond_both (c == 92) (escape_first rest) (Some (plain c, rest)) (IsFirst left_out (c ∷ rest)) (λ e. subst (λ (t : ℕ). IsFirst left_out (t ∷ rest) (escape_first rest)) (sym (eqb-true c 92 e)) (first_of_escape left_out (92 ∷ rest) (escape_first rest) (escape_is rest)))
-    (λ e. ((goes_on, eqb-false c 92 e), refl))
+octet_is left_out c rest goes_on = grind (arith, cond_both, ℕ, eqb-true, first_of_escape, escape_is, eqb-false)
 
 pub first_is : (left_out : ℕ → Bool) (octets : List ℕ) → IsFirst left_out octets (unit_first left_out octets)
 first_is left_out [] = at_end refl
@@ -121,19 +85,14 @@ first_is left_out (c ∷ rest) =
 -- ---- what is so is read
 
 pub first_of_unit : (left_out : ℕ → Bool) (w : Written) (rest : List ℕ) → left_out 92 ≡ false → IsUnit left_out w → unit_first left_out (text_of w ++ rest) ≡ Some (w, rest)
-first_of_unit left_out (plain c) rest backslash is = rw (is.0, ne_eqb c 92 is.1) refl
-first_of_unit left_out (escaped x) rest backslash is = rw (backslash, is.0, ne_eqb x 10 is.1, ne_eqb x 13 is.2) refl
-first_of_unit left_out (decimal x y z) rest backslash is =
-    rw (backslash)
-    (ap (λ (b : Bool). if b then digits_first x (y ∷ z ∷ rest) else (if x == 10 || x == 13 then None else Some (escaped x, y ∷ z ∷ rest))) is.0
-    ∙ ap (λ (b : Bool). if b then Some (decimal x y z, rest) else None) (passes x y z is))
+first_of_unit left_out w rest backslash is = grind (arith, ne_eqb, passes)
 
 no_unit_by : (left_out : ℕ → Bool) (octets : List ℕ) (found : Option (Written × List ℕ)) → IsFirst left_out octets found → NoUnit left_out octets → left_out 92 ≡ false → found ≡ None
 no_unit_by left_out octets None is none backslash = refl
 no_unit_by left_out octets (Some (w, rest)) is none backslash = absurd (elim none as (λ n. ⊥) [
   | at_end e ↦ some_text w rest (sym is.1 ∙ e)
   | at_octet c more e end ↦ unit_begins w rest c more is.0 (sym is.1 ∙ e) end
-  | at_backslash bad ↦ bad.2 w rest (escape_of_unit left_out w rest bad.0 is.0 (sym is.1 ∙ bad.1)) is.1
+  | at_backslash bad ↦ bad.2 w rest (escape_of_unit left_out w rest bad.0 is.0 (cc)) is.1
 ])
   where
     some_text : (w : Written) (rest : List ℕ) → text_of w ++ rest ≡ [] → ⊥
@@ -147,7 +106,7 @@ no_unit_by left_out octets (Some (w, rest)) is none backslash = absurd (elim non
     unit_begins (decimal x y z) rest c more is e end = let same : 92 ≡ c = cc in both_ways (left_out c) (ap left_out (sym same) ∙ backslash) end
 
 pub first_of_none : (left_out : ℕ → Bool) (octets : List ℕ) → left_out 92 ≡ false → NoUnit left_out octets → unit_first left_out octets ≡ None
-first_of_none left_out octets backslash none = no_unit_by left_out octets (unit_first left_out octets) (first_is left_out octets) none backslash
+first_of_none left_out octets backslash none = grind (arith, no_unit_by, first_is)
 
 -- ---- written octets as long as they come
 
@@ -158,19 +117,13 @@ pub record UnitsAre (left_out : ℕ → Bool) (octets : List ℕ) (found : Units
 
 -- a written octet takes one octet of text or more
 pub text_of-some : (w : Written) → 0 < length (text_of w)
-text_of-some (plain c) = omega arith
-text_of-some (escaped c) = omega arith
-text_of-some (decimal x y z) = omega arith
+text_of-some w = grind arith
 
 shorter : (w : Written) (octets rest : List ℕ) → octets ≡ text_of w ++ rest → length rest < length octets
 shorter w octets rest e = omega (arith, ap length e, length-append (text_of w) rest, text_of-some w)
 
 one_more : (left_out : ℕ → Bool) (octets rest : List ℕ) (w : Written) (found : Units) → IsUnit left_out w → octets ≡ text_of w ++ rest → UnitsAre left_out rest found → UnitsAre left_out octets (record { units = w ∷ found.units; rest = found.rest })
-one_more left_out octets rest w found is e more = record {
-  whole = e ∙ ap (λ t. text_of w ++ t) more.whole ∙ sym (append_assoc (text_of w) (written_text found.units) found.rest);
-  each = (is, more.each);
-  none = more.none;
-}
+one_more left_out octets rest w found is e more = grind (arith, append_assoc)
 
 units_by_first : (left_out : ℕ → Bool) (octets : List ℕ) (go_on : List ℕ → Units) (found : Option (Written × List ℕ)) → IsFirst left_out octets found → ((rest : List ℕ) → length rest < length octets → UnitsAre left_out rest (go_on rest)) → UnitsAre left_out octets (units_then go_on octets found)
 units_by_first left_out octets go_on None is more = record { whole = refl; each = tt; none = is }
@@ -185,15 +138,13 @@ units_are (suc n) left_out octets enough = units_by_first left_out octets (units
 units_only : (n : ℕ) (left_out : ℕ → Bool) (units : List Written) (rest : List ℕ) → left_out 92 ≡ false → length (written_text units ++ rest) ≤ n → AllByRecursion (IsUnit left_out) units → NoUnit left_out rest → units_by n left_out (written_text units ++ rest) ≡ record { units = units; rest = rest }
 unfolding units_by
 units_only zero left_out [] rest backslash enough each none = refl
-units_only zero left_out (w ∷ units) rest backslash enough each none =
-    absurd (omega (arith, length-append (written_text (w ∷ units)) rest, length-append (text_of w) (written_text units), text_of-some w))
-units_only (suc n) left_out [] rest backslash enough each none = ap (units_then (units_by n left_out) rest) (first_of_none left_out rest backslash none)
+units_only zero left_out (w ∷ units) rest backslash enough each none = grind (arith, length-append, text_of-some)
+units_only (suc n) left_out [] rest backslash enough each none = grind (arith, first_of_none)
 units_only (suc n) left_out (w ∷ units) rest backslash enough each none =
     let P : List ℕ → Type 0 = λ t. units_then (units_by n left_out) t (unit_first left_out t) ≡ record { units = w ∷ units; rest = rest } in
     let less : length (written_text units ++ rest) ≤ n = omega (arith, length-append (written_text (w ∷ units)) rest, length-append (text_of w) (written_text units), text_of-some w, length-append (written_text units) rest) in
     subst P (sym (append_assoc (text_of w) (written_text units) rest))
-    (ap (units_then (units_by n left_out) (text_of w ++ (written_text units ++ rest))) (first_of_unit left_out w (written_text units ++ rest) backslash each.0)
-    ∙ ap (λ (more : Units). record { units = w ∷ more.units; rest = more.rest }) (units_only n left_out units rest backslash less each.1 none))
+    (cc (first_of_unit left_out w (written_text units ++ rest) backslash each.0, units_only n left_out units rest backslash less each.1 none))
 
 pub units_first_are : (left_out : ℕ → Bool) (octets : List ℕ) → UnitsAre left_out octets (units_first left_out octets)
 unfolding units_first
@@ -202,7 +153,7 @@ units_first_are left_out octets = units_are (length octets) left_out octets (ome
 pub units_first_only : (left_out : ℕ → Bool) (octets : List ℕ) (units : List Written) (rest : List ℕ) → left_out 92 ≡ false → octets ≡ written_text units ++ rest → AllByRecursion (IsUnit left_out) units → NoUnit left_out rest → units_first left_out octets ≡ record { units = units; rest = rest }
 unfolding units_first
 units_first_only left_out octets units rest backslash e each none =
-    subst (λ t. units_by (length t) left_out t ≡ record { units = units; rest = rest }) (sym e) (units_only (length (written_text units ++ rest)) left_out units rest backslash (omega arith) each none)
+    rw (← e) at (units_only (length (written_text units ++ rest)) left_out units rest backslash (omega arith) each none)
 
 -- ---- what the code finds of an escape
 
@@ -212,7 +163,7 @@ valued_escape f (Some a) x rest text e d h = by (digits_first x rest) (digits_ar
   where
     by : (read : Option (Written × List ℕ)) → SaysEscape (92 ∷ x ∷ rest) read → Some (f a) ≡ valued read → BeginsWithEscape (92 ∷ text) (f a).0 (f a).1
     by None says h = absurd (cc)
-    by (Some (w, more)) says h = record { escape = w; is_escape = says.0; value = let same : f a ≡ (octet_of w, more) = cc in sym (ap (λ p. p.0) same); parts = let same : f a ≡ (octet_of w, more) = cc in ap (λ t. 92 ∷ t) e ∙ says.1 ∙ ap (λ p. text_of w ++ p.1) (sym same) }
+    by (Some (w, more)) says h = record { escape = w; is_escape = says.0; value = let same : f a ≡ (octet_of w, more) = cc in sym (ap (λ p. p.0) same); parts = let same : f a ≡ (octet_of w, more) = cc in cc }
 
 pub escaped_found : (x : ℕ) (rest text : List ℕ) → text ≡ x ∷ rest → is_digit x ≡ false → x ≢ 10 → x ≢ 13 → BeginsWithEscape (92 ∷ text) x rest
 escaped_found x rest text e d n m = record { escape = escaped x; is_escape = (d, n, m); value = refl; parts = ap (λ t. 92 ∷ t) e }

@@ -1,10 +1,5 @@
 -- Two colons in a row: where an address has them.
-use Rattle.std.proofs.Common.{◌≡◌, ℕ, zero, suc, ◌+◌, ◌-◌, ◌<◌, ◌≤◌, Bool, true, false, inl, inr, List, [], ◌∷◌, ◌++◌, length, get_or, take, drop, replicate, refl, sym, ap, ◌∙◌, subst, arith, append_assoc, length-append, Option, Some, None}
-use Rattle.std.specs.Prelude.{IfSome}
-use Rattle.std.proofs.lemmas.List.{take_at, drop_at, drop_more, drop_all, drop-replicate, replicate-append-replicate, length-replicate, append-nil, get_or_at, get_or_append_left, take-append-drop}
-use Rattle.std.proofs.lemmas.Bool.{cases_lt}
-use Rattle.zone_rdata.specs.Address.{AddressPart, IsLastPart, AreParts, parts_text, ArePartsOf, AreAround, IsIpv6Address, eight, fewer}
-use Rattle.zone_rdata.specs.Machine.AddressReading.{Lacks, HasGapAt}
+use Rattle.zone_rdata.proofs.Common.{[], ◌≡◌, ℕ, zero, suc, ◌+◌, ◌-◌, ◌<◌, ◌≤◌, Bool, true, false, inl, inr, List, ◌∷◌, ◌++◌, length, get_or, take, drop, replicate, refl, sym, ap, ◌∙◌, subst, arith, append_assoc, length-append, take_at, drop_at, drop_more, drop_all, drop-replicate, replicate-append-replicate, length-replicate, append-nil, get_or_at, get_or_append_left, take-append-drop, cases_lt, AddressPart, IsLastPart, AreParts, parts_text, ArePartsOf, AreAround, IsIpv6Address, eight, fewer, Lacks, HasGapAt}
 use Rattle.zone_rdata.proofs.Addresses.{group_lacks, last_lacks}
 use Rattle.zone_rdata.proofs.AddressParts.{parts_unique}
 
@@ -21,16 +16,14 @@ no_gaps_at (c ∷ d ∷ text) zero none at = none.0 at.0 at.1
 no_gaps_at (c ∷ d ∷ text) (suc k) none at = no_gaps_at (d ∷ text) k none.1 at
 
 no_gaps_tail : (c : ℕ) (text : List ℕ) → NoGaps (c ∷ text) → NoGaps text
-no_gaps_tail c [] none = tt
-no_gaps_tail c (d ∷ text) none = none.1
+no_gaps_tail c text none = grind arith
 
 no_gaps_lacks : (text : List ℕ) → Lacks 58 text → NoGaps text
 no_gaps_lacks (c ∷ d ∷ text) lacks = (λ e f. lacks.0 e, no_gaps_lacks (d ∷ text) lacks.1)
 no_gaps_lacks text lacks = tt
 
 no_gaps_colon : (text : List ℕ) → Lacks 58 text → NoGaps (58 ∷ text)
-no_gaps_colon [] lacks = tt
-no_gaps_colon (c ∷ text) lacks = (λ e f. lacks.0 f, no_gaps_lacks (c ∷ text) lacks)
+no_gaps_colon text lacks = grind (arith, no_gaps_lacks)
 
 -- a part with a colon after it
 no_gaps_part : (text rest : List ℕ) → Lacks 58 text → NoGaps (58 ∷ rest) → NoGaps (text ++ 58 ∷ rest)
@@ -40,7 +33,7 @@ no_gaps_part (c ∷ d ∷ text) rest lacks none = (λ e f. lacks.0 e, no_gaps_pa
 
 no_gaps_between : (text rest : List ℕ) → 0 < length text → Lacks 58 text → NoGaps (58 ∷ rest) → NoGaps (58 ∷ text ++ 58 ∷ rest)
 no_gaps_between [] rest some lacks none = absurd (omega arith)
-no_gaps_between (c ∷ text) rest some lacks none = (λ e f. lacks.0 f, no_gaps_part (c ∷ text) rest lacks none)
+no_gaps_between (c ∷ text) rest some lacks none = grind (arith, no_gaps_part)
 
 no_gaps_parts : (ends : Bool) (parts : List AddressPart) → AreParts ends parts → NoGaps (58 ∷ parts_text parts)
 no_gaps_parts ends [] are = tt
@@ -55,7 +48,7 @@ last_before p (inr are) = absurd cc
 no_gaps_groups : (p : AddressPart) (parts : List AddressPart) → AreParts false (p ∷ parts) → NoGaps (58 ∷ parts_text (p ∷ parts) ++ 58 ∷ [])
 no_gaps_groups p [] are = last_before p are
 no_gaps_groups p (q ∷ parts) are =
-    let regroup : p.text ++ 58 ∷ (parts_text (q ∷ parts) ++ 58 ∷ []) ≡ parts_text (p ∷ q ∷ parts) ++ 58 ∷ [] = sym (append_assoc p.text (58 ∷ parts_text (q ∷ parts)) (58 ∷ [])) in
+    let regroup = sym (append_assoc p.text (58 ∷ parts_text (q ∷ parts)) (58 ∷ [])) in
     subst (λ t. NoGaps (58 ∷ t)) regroup (no_gaps_between p.text (parts_text (q ∷ parts) ++ 58 ∷ []) are.0.some (group_lacks 58 p refl are.0) (no_gaps_groups q parts are.1))
 
 no_gaps_front : (parts : List AddressPart) → AreParts false parts → NoGaps (parts_text parts ++ 58 ∷ [])
@@ -68,33 +61,20 @@ pub record IsFirstGap (text : List ℕ) (at : ℕ) : Type 0 where
   pub none : (k : ℕ) → k < at → HasGapAt text k → ⊥
 
 first_same : (text : List ℕ) (a b : ℕ) → IsFirstGap text a → IsFirstGap text b → a ≡ b
-first_same text a b x y = elim (cases_lt a b) [
-  | inl lt ↦ absurd (y.none a lt x.here)
-  | inr ge ↦ elim (cases_lt b a) [
-    | inl lt ↦ absurd (x.none b lt y.here)
-    | inr le ↦ omega arith
-  ]
-]
+first_same text a b x y = grind (arith, cases_lt)
 
 -- the groups before `::` end at the first gap
 front_gap : (text front back octets : List ℕ) → text ≡ front ++ 58 ∷ 58 ∷ back → ArePartsOf false front octets → IsFirstGap text (length front)
 front_gap text front back octets parted are =
-    let regroup : text ≡ (front ++ 58 ∷ []) ++ 58 ∷ back = parted ∙ sym (append_assoc front (58 ∷ []) (58 ∷ back)) in
+    let regroup = parted ∙ sym (append_assoc front (58 ∷ []) (58 ∷ back)) in
     let len = length-append front (58 ∷ []) in
-    let free : NoGaps (front ++ 58 ∷ []) = subst (λ t. NoGaps (t ++ 58 ∷ [])) (sym are.parted) (no_gaps_front are.parts are.each) in
-    let first : get_or text (length front) 0 ≡ 58 = ap (λ t. get_or t (length front) 0) parted ∙ get_or_at front 58 (58 ∷ back) 0 (length front) refl in
-    let second : get_or text (suc (length front)) 0 ≡ 58 = ap (λ t. get_or t (suc (length front)) 0) regroup ∙ get_or_at (front ++ 58 ∷ []) 58 back 0 (suc (length front)) (omega (arith, len)) in
-    record {
-      here = (first, second);
-      none = λ k lt at.
-          let low : get_or text k 0 ≡ get_or (front ++ 58 ∷ []) k 0 = ap (λ t. get_or t k 0) regroup ∙ get_or_append_left (front ++ 58 ∷ []) (58 ∷ back) 0 k (omega (arith, len)) in
-          let high : get_or text (suc k) 0 ≡ get_or (front ++ 58 ∷ []) (suc k) 0 = ap (λ t. get_or t (suc k) 0) regroup ∙ get_or_append_left (front ++ 58 ∷ []) (58 ∷ back) 0 (suc k) (omega (arith, len)) in
-          no_gaps_at (front ++ 58 ∷ []) k free (sym low ∙ at.0, sym high ∙ at.1);
-    }
+    let free = subst (λ t. NoGaps (t ++ 58 ∷ [])) (sym are.parted) (no_gaps_front are.parts are.each) in
+    let first = ap (λ t. get_or t (length front) 0) parted ∙ get_or_at front 58 (58 ∷ back) 0 (length front) refl in
+    let second = ap (λ t. get_or t (suc (length front)) 0) regroup ∙ get_or_at (front ++ 58 ∷ []) 58 back 0 (suc (length front)) (omega (arith, len)) in
+    record { here = (first, second); none = λ k lt at. let low : get_or text k 0 ≡ get_or (front ++ 58 ∷ []) k 0 = ap (λ t. get_or t k 0) regroup ∙ get_or_append_left (front ++ 58 ∷ []) (58 ∷ back) 0 k (omega (arith, len)) in let high : get_or text (suc k) 0 ≡ get_or (front ++ 58 ∷ []) (suc k) 0 = ap (λ t. get_or t (suc k) 0) regroup ∙ get_or_append_left (front ++ 58 ∷ []) (58 ∷ back) 0 (suc k) (omega (arith, len)) in no_gaps_at (front ++ 58 ∷ []) k free (sym low ∙ at.0, sym high ∙ at.1) }
 
 parts_no_gap : (ends : Bool) (text octets : List ℕ) → ArePartsOf ends text octets → (k : ℕ) → HasGapAt text k → ⊥
-parts_no_gap ends text octets are k at =
-    no_gaps_at text k (subst NoGaps (sym are.parted) (no_gaps_tail 58 (parts_text are.parts) (no_gaps_parts ends are.parts are.each))) at
+parts_no_gap ends text octets are k at = grind (arith, no_gaps_at, no_gaps_tail, no_gaps_parts)
 
 -- a text without `::` has eight groups or is refused
 pub refused_without_gap : (text : List ℕ) → ((k : ℕ) → HasGapAt text k → ⊥) → ((octets : List ℕ) → ArePartsOf true text octets → length octets ≡ 16 → ⊥) → (octets : List ℕ) → IsIpv6Address text octets → ⊥
@@ -104,11 +84,9 @@ refused_without_gap text none refused octets (fewer front back parted around) = 
 -- a text is cut at its first gap
 around_gap : (text front back : List ℕ) (at : ℕ) (octets : List ℕ) → IsFirstGap text at → text ≡ front ++ 58 ∷ 58 ∷ back → AreAround front back octets → (front ≡ take at text) × (back ≡ drop (at + 2) text)
 around_gap text front back at octets first parted around =
-    let same : length front ≡ at = first_same text (length front) at (front_gap text front back around.before parted around.front_parts) first in
-    let regroup : text ≡ (front ++ 58 ∷ 58 ∷ []) ++ back = parted ∙ sym (append_assoc front (58 ∷ 58 ∷ []) back) in (
-      sym (ap (take at) parted ∙ take_at front (58 ∷ 58 ∷ back) at same),
-      sym (ap (drop (at + 2)) regroup ∙ drop_at (front ++ 58 ∷ 58 ∷ []) back (at + 2) (omega (arith, length-append front (58 ∷ 58 ∷ [])))),
-    )
+    let same = first_same text (length front) at (front_gap text front back around.before parted around.front_parts) first in
+    let regroup = parted ∙ sym (append_assoc front (58 ∷ 58 ∷ []) back) in
+    (sym (ap (take at) parted ∙ take_at front (58 ∷ 58 ∷ back) at same), sym (ap (drop (at + 2)) regroup ∙ drop_at (front ++ 58 ∷ 58 ∷ []) back (at + 2) (omega (arith, length-append front (58 ∷ 58 ∷ [])))))
 
 pub refused_at_gap : (text back : List ℕ) (at : ℕ) → back ≡ drop (at + 2) text → IsFirstGap text at → ((octets : List ℕ) → AreAround (take at text) back octets → ⊥) → (octets : List ℕ) → IsIpv6Address text octets → ⊥
 refused_at_gap text back at e first refused octets (eight are len) = parts_no_gap true text octets are at first.here
@@ -117,12 +95,7 @@ refused_at_gap text back at e first refused octets (fewer front' back' parted ar
     refused octets (subst (λ t. AreAround (take at text) t octets) (same.1 ∙ sym e) (subst (λ t. AreAround t back' octets) same.0 around))
 
 pub gap_parted : (text : List ℕ) (at : ℕ) → at + 2 ≤ length text → HasGapAt text at → text ≡ take at text ++ 58 ∷ 58 ∷ drop (at + 2) text
-gap_parted text at inside gap =
-    let second : suc at ≡ at + 1 = omega arith in
-    let third : at + 1 + 1 ≡ at + 2 = omega arith in
-    let first_here = drop_more text at 0 (omega arith) in
-    let second_here = drop_more text (at + 1) 0 (omega arith) in
-    sym (take-append-drop at text) ∙ ap (λ t. take at text ++ t) (first_here ∙ ap (λ c. c ∷ drop (at + 1) text) gap.0 ∙ ap (λ t. 58 ∷ t) (second_here ∙ ap (λ c. c ∷ drop (at + 1 + 1) text) (ap (λ k. get_or text k 0) (sym second) ∙ gap.1) ∙ ap (λ k. 58 ∷ drop k text) third))
+gap_parted text at inside gap = grind (arith, drop_more, take-append-drop)
 
 pub found_at_gap : (text back : List ℕ) (at : ℕ) → back ≡ drop (at + 2) text → at + 2 ≤ length text → HasGapAt text at → (octets : List ℕ) → AreAround (take at text) back octets → IsIpv6Address text octets
 found_at_gap text back at e inside gap octets around = fewer (take at text) back (gap_parted text at inside gap ∙ ap (λ t. take at text ++ 58 ∷ 58 ∷ t) (sym e)) around
@@ -140,19 +113,12 @@ around_written before after first second n m a k f s ln lm room end rest =
     let len : length (before ++ zeros) ≡ a = omega (arith, length-append before zeros, len_zeros) in
     let front : take a (first ++ drop n (replicate 16 0)) ≡ before ++ zeros = ap (take a) whole ∙ take_at (before ++ zeros) tail a len in
     let back : drop k (drop a (first ++ drop n (replicate 16 0))) ≡ [] = ap (λ t. drop k (drop a t)) whole ∙ ap (drop k) (drop_at (before ++ zeros) tail a len) ∙ drop_all k tail (omega (arith, len_tail)) in
-    ap (λ t. t ++ (second ++ drop k (drop a (first ++ drop n (replicate 16 0))))) front ∙ ap (λ t. (before ++ zeros) ++ (second ++ t)) back ∙ ap (λ t. (before ++ zeros) ++ t) (append-nil second ∙ s) ∙ append_assoc before zeros after
-
-pub if_some_weaker : {T : Type 0} (o : Option T) (P Q : T → Type 0) → ((x : T) → P x → Q x) → IfSome o P → IfSome o Q
-if_some_weaker None P Q f p = tt
-if_some_weaker (Some x) P Q f p = f x p
+    cc (append-nil second, append_assoc before zeros after)
 
 -- ---- a text is one address
 
 around_same : (front back a b : List ℕ) → AreAround front back a → AreAround front back b → a ≡ b
-around_same front back a b x y =
-    let befores : x.before ≡ y.before = parts_unique false front x.before y.before x.front_parts y.front_parts in
-    let afters : x.after ≡ y.after = parts_unique true back x.after y.after x.back_parts y.back_parts in
-    x.value ∙ ap (λ o. o ++ (replicate (16 - length o - length x.after) 0 ++ x.after)) befores ∙ ap (λ o. y.before ++ (replicate (16 - length y.before - length o) 0 ++ o)) afters ∙ sym y.value
+around_same front back a b x y = cc (parts_unique false front x.before y.before x.front_parts y.front_parts, parts_unique true back x.after y.after x.back_parts y.back_parts)
 
 pub groups_unique : (text a b : List ℕ) → IsIpv6Address text a → IsIpv6Address text b → a ≡ b
 groups_unique text a b (eight x len) (eight y len') = parts_unique true text a b x y

@@ -1,25 +1,13 @@
 -- What is printed for an address is read back, and is of the form that RFC 5952 recommends.
-use Rattle.std.proofs.Common.{◌≡◌, ℕ, zero, suc, ◌+◌, ◌-◌, ◌*◌, ◌/◌, ◌%◌, ◌^◌, ◌<◌, ◌≤◌, Bool, true, false, inl, inr, List, [], ◌∷◌, ◌++◌, length, take, drop, map, replicate, decimal, refl, sym, ap, ◌∙◌, subst, arith, append_assoc, length-append, le-leb, lt-ltb, le-ltb, rules}
-use Rattle.std.specs.Prelude.{fold, slice_index}
-use Rattle.std.specs.Char.{digit_char}
-use Rattle.std.specs.List.{AllByRecursion}
+use Rattle.zone_rdata.proofs.Common.{[], ◌≡◌, ℕ, zero, suc, ◌+◌, ◌-◌, ◌*◌, ◌/◌, ◌%◌, ◌^◌, ◌<◌, ◌≤◌, Bool, true, false, inl, inr, List, ◌∷◌, ◌++◌, length, take, drop, map, replicate, decimal, refl, sym, ap, ◌∙◌, subst, arith, append_assoc, length-append, lt-ltb, le-ltb, rules, fold, slice_index, AllByRecursion, longest_zero_run, cases_lt, lt-leb, decimal_nonempty, digits_decimal, digits_value-decimal, append-nil, take-append-drop, length-take-le, length-drop, drop-drop, All-weaker, recursion_from_All, decode_sized, decode_sized-encode_lower, AreOctets, is_digit, decimal_value, IsOctetNumber, IsIpv4Address, AddressPart, IsGroup, AreParts, parts_text, parts_octets, ArePartsOf, IsIpv6Address, eight, fewer, ipv4_text, ipv6_text, parted_groups, shortened_groups, IsZeroRun, IsShortenedRun, IsAddressOctet, AllByRecursion-front, AllByRecursion-back}
+use Rattle.std.proofs.Common.{le-leb}
 use Rattle.std.specs.Net.Addr.{segments_of}
-use Rattle.std.specs.Net.Text.{hex, longest_zero_run, hex_groups_text}
+use Rattle.std.specs.Net.Text.{hex, hex_groups_text}
 use Rattle.std.proofs.NetLemmas.Texts.{IsZeroRun-longest_zero_run, longest_zero_run_first}
 use Rattle.std.proofs.NetLemmas.Alphabet.{IsDigitOrDot, IsHexOrColon, All-ipv4_text, All-hex_groups_text}
-use Rattle.std.proofs.lemmas.Bool.{cases_lt, lt-leb}
-use Rattle.std.proofs.lemmas.Fmt.{decimal_nonempty, digits_decimal, digits_value-decimal}
-use Rattle.std.proofs.lemmas.List.{append-nil, take-append-drop, length-take-le, length-drop, drop-drop}
-use Rattle.std.proofs.lemmas.List.Elements.{All-weaker, recursion_from_All}
 use Rattle.std.proofs.lemmas.Str.Parse.{IsNumeralModel, IsDigitsTest, FoldsDigits, numerals_by_fold}
-use Rattle.hex.specs.Hex.{decode_sized}
-use Rattle.hex.proofs.HexLemmas.{decode_sized-encode_lower}
-use Rattle.zone_name.specs.Spelling.{is_digit}
-use Rattle.zone_rdata.specs.Number.{decimal_value}
-use Rattle.zone_rdata.specs.Address.{IsOctetNumber, IsIpv4Address, AddressPart, IsGroup, AreParts, parts_text, parts_octets, ArePartsOf, IsIpv6Address, eight, fewer, ipv4_text, ipv6_text, parted_groups, shortened_groups, IsZeroRun, IsShortenedRun, IsAddressOctet}
 use Rattle.zone_rdata.proofs.AddressTexts.{four_digits, four_encoded}
 use Rattle.zone_rdata.proofs.Lists.{each_below}
-use Rattle.zone_name.proofs.Pushing.{AllByRecursion-front, AllByRecursion-back}
 use Rattle.zone_rdata.proofs.AddressParts.{parts_some}
 
 -- ---- four octets
@@ -37,12 +25,9 @@ own : IsNumeralModel AreDigits decimal_value
 own = numerals_by_fold AreDigits digits_test (λ n text. fold (λ n c. n * 10 + (c - 48)) n text) digits_fold
 
 number_printed : (n : ℕ) → n < 256 → IsOctetNumber (decimal n) n
-number_printed n fits = record {
-  number = record { some = decimal_nonempty n (omega arith); digits = digits_decimal own n (omega arith); value = sym (digits_value-decimal own n (omega arith)) };
-  short = omega arith;
-}
+number_printed n fits = grind (arith, decimal_nonempty, digits_decimal, own, digits_value-decimal)
 
-pub ipv4_printed : (octets : List ℕ) → length octets ≡ 4 → AllByRecursion (λ c. c < 256) octets → IsIpv4Address (ipv4_text octets) octets
+pub ipv4_printed : (octets : List ℕ) → length octets ≡ 4 → AreOctets octets → IsIpv4Address (ipv4_text octets) octets
 ipv4_printed (a ∷ b ∷ c ∷ d ∷ []) len each = record {
   numbers = decimal a ∷ decimal b ∷ decimal c ∷ decimal d ∷ [];
   counted = refl;
@@ -59,22 +44,7 @@ IsFilled n text = (0 < length text) × (length text ≤ 4) × (replicate (4 - le
 
 hex_filled : (n : ℕ) → n < 2 ^ 16 → IsFilled n (hex n)
 unfolding hex
-hex_filled n fits = elim (cases_lt n 0x1000) [
-  | inr four ↦ rw (le-leb _ n four) (omega arith, omega arith, refl)
-  | inl h₃ ↦
-      let a : digit_char (n / 0x1000) ≡ 48 = let e : n / 0x1000 ≡ 0 = omega arith in ap digit_char e in
-      elim (cases_lt n 0x100) [
-        | inr three ↦ rw (lt-leb _ n h₃, le-leb _ n three) (omega arith, omega arith, cc)
-        | inl h₂ ↦
-            let b : digit_char (n / 0x100 % 16) ≡ 48 = let e : n / 0x100 % 16 ≡ 0 = omega arith in ap digit_char e in
-            elim (cases_lt n 0x10) [
-              | inr two ↦ rw (lt-leb _ n h₃, lt-leb _ n h₂, le-leb _ n two) (omega arith, omega arith, cc)
-              | inl h₁ ↦
-                  let d : digit_char (n / 0x10 % 16) ≡ 48 = let e : n / 0x10 % 16 ≡ 0 = omega arith in ap digit_char e in
-                  rw (lt-leb _ n h₃, lt-leb _ n h₂, lt-leb _ n h₁) (omega arith, omega arith, cc)
-            ]
-      ]
-]
+hex_filled n fits = grind (arith, cases_lt, le-leb, lt-leb)
 
 abbrev pair : ℕ → List ℕ
 pair n = n / 256 ∷ n % 256 ∷ []
@@ -83,9 +53,7 @@ abbrev part : ℕ → AddressPart
 part n = record { text = hex n; octets = pair n }
 
 pair_bytes : (a b : ℕ) → a < 256 → b < 256 → (i : ℕ) → slice_index (a ∷ b ∷ []) i < 256
-pair_bytes a b h k zero = h
-pair_bytes a b h k (suc zero) = k
-pair_bytes a b h k (suc (suc i)) = omega arith
+pair_bytes a b h k i = grind arith
 
 group_printed : (n : ℕ) → n < 2 ^ 16 → IsGroup (part n)
 group_printed n fits =
@@ -125,13 +93,11 @@ length-pairs (g ∷ groups) = omega (arith, length-pairs groups)
 
 zero_pairs : (n : ℕ) → pairs (replicate n 0) ≡ replicate (2 * n) 0
 zero_pairs zero = refl
-zero_pairs (suc n) =
-    let twice : 2 * suc n ≡ suc (suc (2 * n)) = omega arith in
-    ap (λ o. 0 ∷ 0 ∷ o) (zero_pairs n) ∙ ap (λ k. replicate k 0) (sym twice)
+zero_pairs (suc n) = let twice : 2 * suc n ≡ suc (suc (2 * n)) = omega arith in cc (zero_pairs n)
 
 -- the groups of octets
-segments_each : (octets : List ℕ) → AllByRecursion (λ c. c < 256) octets → AllGroups (segments_of octets)
-segments_each (a ∷ b ∷ octets) each = (let h = each.0 in let l = each.1.0 in omega arith, segments_each octets each.1.1)
+segments_each : (octets : List ℕ) → AreOctets octets → AllGroups (segments_of octets)
+segments_each (a ∷ b ∷ octets) each = grind (arith, segments_each octets each.1.1)
 segments_each octets each = tt
 
 pub segments_count : (count : ℕ) (octets : List ℕ) → length octets ≡ 2 * count → length (segments_of octets) ≡ count
@@ -139,14 +105,10 @@ segments_count zero [] len = refl
 segments_count (suc count) (a ∷ b ∷ octets) len = ap suc (segments_count count octets (omega arith))
 segments_count count octets len = absurd (omega arith)
 
-segments_back : (count : ℕ) (octets : List ℕ) → length octets ≡ 2 * count → AllByRecursion (λ c. c < 256) octets → pairs (segments_of octets) ≡ octets
+segments_back : (count : ℕ) (octets : List ℕ) → length octets ≡ 2 * count → AreOctets octets → pairs (segments_of octets) ≡ octets
 segments_back count (a ∷ []) len each = absurd (omega arith)
 segments_back zero (a ∷ b ∷ octets) len each = absurd (omega arith)
-segments_back (suc count) (a ∷ b ∷ octets) len each =
-    let low : b < 256 = each.1.0 in
-    let high_is : (a * 256 + b) / 256 ≡ a = omega arith in
-    let low_is : (a * 256 + b) % 256 ≡ b = omega arith in
-    ap (λ c. c ∷ (a * 256 + b) % 256 ∷ pairs (segments_of octets)) high_is ∙ ap (λ c. a ∷ c ∷ pairs (segments_of octets)) low_is ∙ ap (λ o. a ∷ b ∷ o) (segments_back count octets (omega arith) each.1.1)
+segments_back (suc count) (a ∷ b ∷ octets) len each = grind (arith, segments_back count octets (omega arith) each.1.1)
 segments_back count [] len each = refl
 
 -- groups around a run of zeros
@@ -170,7 +132,7 @@ around_printed groups octets start len count each value run long =
       value = sym value ∙ ap pairs whole ∙ pairs-append front (replicate len 0 ++ back) ∙ ap (λ o. pairs front ++ o) zeros;
     })
 
-pub ipv6_printed : (octets : List ℕ) → length octets ≡ 16 → AllByRecursion (λ c. c < 256) octets → IsIpv6Address (ipv6_text octets) octets
+pub ipv6_printed : (octets : List ℕ) → length octets ≡ 16 → AreOctets octets → IsIpv6Address (ipv6_text octets) octets
 ipv6_printed octets len each =
     let groups = segments_of octets in
     let start = (longest_zero_run groups).0 in
@@ -192,7 +154,6 @@ run_is groups start len run =
     let least = run.longest (longest_zero_run groups).0 (longest_zero_run groups).1 own_run in
     let same : (longest_zero_run groups).1 ≡ len = omega (arith, most.0, least) in
     let before = run.first (longest_zero_run groups).0 (subst (λ l. IsZeroRun groups (longest_zero_run groups).0 l) same own_run) in
-    let after = most.1 (sym same) in
     (omega arith, same)
 
 longest_is : (groups : List ℕ) → 1 < (longest_zero_run groups).1 → IsShortenedRun groups (longest_zero_run groups).0 (longest_zero_run groups).1
@@ -204,40 +165,26 @@ longest_is groups long = record {
 }
 
 pub run_shortened : (octets : List ℕ) (start len : ℕ) → IsShortenedRun (segments_of octets) start len → ipv6_text octets ≡ shortened_groups (segments_of octets) start len
-run_shortened octets start len run =
-    let groups = segments_of octets in
-    let same = run_is groups start len run in
-    let long : 1 < (longest_zero_run groups).1 = omega (arith, same.1, run.two) in
-    rw (lt-ltb 1 (longest_zero_run groups).1 long) (ap (λ s. shortened_groups groups s (longest_zero_run groups).1) same.0 ∙ ap (λ l. shortened_groups groups start l) same.1)
+run_shortened octets start len run = grind (arith, run_is, lt-ltb)
 
 pub none_shortened : (octets : List ℕ) → ((start len : ℕ) → IsShortenedRun (segments_of octets) start len → ⊥) → ipv6_text octets ≡ parted_groups (segments_of octets)
-none_shortened octets none =
-    let groups = segments_of octets in
-    elim (cases_lt 1 (longest_zero_run groups).1) [
-      | inl long ↦ absurd (none (longest_zero_run groups).0 (longest_zero_run groups).1 (longest_is groups long))
-      | inr short ↦ rw (le-ltb 1 (longest_zero_run groups).1 short) refl
-    ]
+none_shortened octets none = grind (arith, cases_lt, longest_is, le-ltb)
 
 pub run_exists : (groups : List ℕ) (start len : ℕ) → IsZeroRun groups start len → 2 ≤ len → (first longest : ℕ) × IsShortenedRun groups first longest
-run_exists groups start len run two = ((longest_zero_run groups).0, (longest_zero_run groups).1, longest_is groups (omega (arith, (longest_zero_run_first groups start len run).0)))
+run_exists groups start len run two = grind (arith, longest_is, longest_zero_run_first)
 
 -- ---- the octets of texts
 
 digit_or_dot : (c : ℕ) → IsDigitOrDot c → IsAddressOctet c
-digit_or_dot c (inl range) = inl (range.0, range.1)
-digit_or_dot c (inr dot) = inr (inr (inl dot))
+digit_or_dot c h = grind arith
 
 hex_or_colon : (c : ℕ) → IsHexOrColon c → IsAddressOctet c
-hex_or_colon c (inl range) = elim (cases_lt c 58) [
-  | inl digit ↦ inl (range.0, omega arith)
-  | inr colon ↦ inr (inr (inr (let high = range.1 in omega arith)))
-]
-hex_or_colon c (inr range) = inr (inl (range.0, range.1))
+hex_or_colon c h = grind (arith, cases_lt)
 
-pub ipv4_plain : (octets : List ℕ) → length octets ≡ 4 → AllByRecursion (λ c. c < 256) octets → AllByRecursion IsAddressOctet (ipv4_text octets)
+pub ipv4_plain : (octets : List ℕ) → length octets ≡ 4 → AreOctets octets → AllByRecursion IsAddressOctet (ipv4_text octets)
 ipv4_plain octets len each = recursion_from_All IsAddressOctet (ipv4_text octets) (All-weaker IsDigitOrDot IsAddressOctet digit_or_dot (ipv4_text octets) (All-ipv4_text octets (each_below (2 ^ 8) octets (omega arith) each)))
 
-pub ipv6_plain : (octets : List ℕ) → length octets ≡ 16 → AllByRecursion (λ c. c < 256) octets → AllByRecursion IsAddressOctet (ipv6_text octets)
+pub ipv6_plain : (octets : List ℕ) → length octets ≡ 16 → AreOctets octets → AllByRecursion IsAddressOctet (ipv6_text octets)
 unfolding hex_groups_text
 ipv6_plain octets len each = recursion_from_All IsAddressOctet (ipv6_text octets) (All-weaker IsHexOrColon IsAddressOctet hex_or_colon (ipv6_text octets) (All-hex_groups_text (segments_of octets) (each_below (2 ^ 16) (segments_of octets) (omega arith) (segments_each octets each))))
 
@@ -248,5 +195,4 @@ text_left [] each some = absurd (omega arith)
 text_left (p ∷ parts) each some = parts_some true p parts each
 
 pub ipv6_some : (text octets : List ℕ) → IsIpv6Address text octets → 0 < length text
-ipv6_some text octets (eight are size) = omega (arith, ap length are.parted, text_left are.parts are.each (omega (arith, ap length are.value)))
-ipv6_some text octets (fewer front back e around) = omega (arith, ap length e, length-append front (58 ∷ 58 ∷ back))
+ipv6_some text octets h = grind (arith, text_left, length-append)

@@ -1,16 +1,10 @@
 -- The parts of an address between its colons.
-use Rattle.std.proofs.Common.{◌≡◌, ℕ, ◌+◌, ◌<◌, ◌≤◌, Bool, inl, inr, List, [], ◌∷◌, ◌++◌, length, refl, sym, ap, ◌∙◌, subst, arith, append_assoc, length-append, IsTrue, Option, Some, None}
-use Rattle.std.specs.Prelude.{IfNone}
-use Rattle.std.specs.List.{AllByRecursion, join_with_byte}
-use Rattle.std.proofs.lemmas.List.{append-nil}
-use Rattle.std.proofs.lemmas.List.Concat.{flat_map-append}
-use Rattle.zone_rdata.specs.Address.{IsIpv4Address, AddressPart, IsGroup, IsLastPart, AreParts, parts_text, parts_octets, ArePartsOf}
-use Rattle.zone_rdata.specs.Machine.AddressReading.{Lacks, IsCutAtFirst}
-use Rattle.zone_rdata.proofs.Addresses.{cut_same, not_cut, group_lacks, group_same, last_lacks, last_same}
-use Rattle.zone_name.proofs.Pushing.{AllByRecursion-append}
+use Rattle.zone_rdata.proofs.Common.{[], ◌≡◌, ℕ, ◌+◌, ◌<◌, ◌≤◌, ◌==◌, Bool, inl, inr, List, ◌∷◌, ◌++◌, length, map, refl, sym, ap, ◌∙◌, subst, arith, append_assoc, length-append, AllByRecursion, join_with_byte, append-nil, IsIpv4Address, AddressPart, IsLastPart, AreParts, parts_text, parts_octets, ArePartsOf, Lacks, IsCutAtFirst, IsGroupOf, IsLastPartOf, NoneFits}
+use Rattle.std.proofs.lemmas.List.Splits.{join_with_byte-slice_split, length-slice_split}
+use Rattle.zone_rdata.proofs.Addresses.{split, split_cut, split_join, split_lacks, group_lacks, group_same, last_lacks, last_same}
 
 some_numbers : (text : List ℕ) (numbers : List (List ℕ)) → length numbers ≡ 4 → text ≡ join_with_byte 46 numbers → 0 < length text
-some_numbers text (a ∷ b ∷ numbers) counted parted = omega (arith, ap length parted, length-append a (46 ∷ join_with_byte 46 (b ∷ numbers)))
+some_numbers text (a ∷ b ∷ numbers) counted parted = grind (arith, length-append)
 some_numbers text numbers counted parted = absurd (omega arith)
 
 pub ipv4_some : (text octets : List ℕ) → IsIpv4Address text octets → 0 < length text
@@ -22,171 +16,123 @@ last_some ends p (inr are) = ipv4_some p.text p.octets are.1
 
 pub parts_some : (ends : Bool) (p : AddressPart) (parts : List AddressPart) → AreParts ends (p ∷ parts) → 0 < length (parts_text (p ∷ parts))
 parts_some ends p [] is = last_some ends p is
-parts_some ends p (q ∷ parts) are = omega (arith, are.0.some, length-append p.text (58 ∷ parts_text (q ∷ parts)))
+parts_some ends p (q ∷ parts) are = grind (arith, length-append)
 
 -- ---- a text's parts are its own
 
-parts_same : (ends : Bool) (ps qs : List AddressPart) → AreParts ends ps → AreParts ends qs → parts_text ps ≡ parts_text qs → parts_octets ps ≡ parts_octets qs
-parts_same ends [] [] x y e = refl
-parts_same ends [] (q ∷ qs) x y e = absurd (omega (arith, parts_some ends q qs y, ap length e))
-parts_same ends (p ∷ ps) [] x y e = absurd (omega (arith, parts_some ends p ps x, ap length e))
-parts_same ends (p ∷ []) (q ∷ []) x y e = ap (λ o. o ++ []) (last_same ends p q x y e)
-parts_same ends (p ∷ []) (q ∷ r ∷ qs) x y e = absurd (not_cut 58 p.text q.text (parts_text (r ∷ qs)) (last_lacks ends p x) e)
-parts_same ends (p ∷ r ∷ ps) (q ∷ []) x y e = absurd (not_cut 58 q.text p.text (parts_text (r ∷ ps)) (last_lacks ends q y) (sym e))
-parts_same ends (p ∷ r ∷ ps) (q ∷ s ∷ qs) x y e =
-    let same = cut_same 58 p.text (parts_text (r ∷ ps)) q.text (parts_text (s ∷ qs)) (group_lacks 58 p refl x.0) (group_lacks 58 q refl y.0) e in
-    let first : p.octets ≡ q.octets = group_same p.text p.octets q.octets x.0 (subst (λ t. IsGroup (record { text = t; octets = q.octets })) (sym same.0) y.0) in
-    ap (λ o. o ++ parts_octets (r ∷ ps)) first ∙ ap (λ o. q.octets ++ o) (parts_same ends (r ∷ ps) (s ∷ qs) x.1 y.1 same.1)
+-- texts are parts with these octets
+abbrev pub HaveParts : Bool → List (List ℕ) → List ℕ → Type 0
+HaveParts ends [] octets = octets ≡ []
+HaveParts ends (text ∷ []) octets = IsLastPartOf ends text octets
+HaveParts ends (text ∷ next ∷ texts) octets = (added : List ℕ) × (more : List ℕ) × IsGroupOf text added × HaveParts ends (next ∷ texts) more × (octets ≡ added ++ more)
+
+have_parts : (ends : Bool) (parts : List AddressPart) → AreParts ends parts → HaveParts ends (map (λ (p : AddressPart). p.text) parts) (parts_octets parts)
+have_parts ends [] are = refl
+have_parts ends (p ∷ []) are = rw append-nil are
+have_parts ends (p ∷ q ∷ parts) are = (p.octets, parts_octets (q ∷ parts), are.0, have_parts ends (q ∷ parts) are.1, refl)
+
+parts_lack : (ends : Bool) (parts : List AddressPart) → AreParts ends parts → AllByRecursion (Lacks 58) (map (λ (p : AddressPart). p.text) parts)
+parts_lack ends [] are = tt
+parts_lack ends (p ∷ []) are = (last_lacks ends p are, tt)
+parts_lack ends (p ∷ q ∷ parts) are = (group_lacks 58 p refl are.0, parts_lack ends (q ∷ parts) are.1)
+
+found_by : (ends : Bool) (text octets : List ℕ) (parts : List AddressPart) → 0 < length text → AreParts ends parts → text ≡ parts_text parts → octets ≡ parts_octets parts → HaveParts ends (split 58 text) octets
+found_by ends text octets [] some are parted value = absurd (omega (arith, ap length parted))
+found_by ends text octets (p ∷ parts) some are parted value =
+    rw (ap (split 58) parted ∙ split_join 58 p.text _ (parts_lack ends (p ∷ parts) are), value) (have_parts ends (p ∷ parts) are)
+
+-- parts are what stands between the colons
+pub parts_found : (ends : Bool) (text octets : List ℕ) → 0 < length text → ArePartsOf ends text octets → HaveParts ends (split 58 text) octets
+parts_found ends text octets some are = found_by ends text octets are.parts some are.each are.parted are.value
+
+put_first : (ends : Bool) (text next : List ℕ) (texts : List (List ℕ)) (octets added more : List ℕ) → IsGroupOf text added → (parts : List AddressPart) × AreParts ends parts × (map (λ (p : AddressPart). p.text) parts ≡ next ∷ texts) × (more ≡ parts_octets parts) → octets ≡ added ++ more → (parts : List AddressPart) × AreParts ends parts × (map (λ (p : AddressPart). p.text) parts ≡ text ∷ next ∷ texts) × (octets ≡ parts_octets parts)
+put_first ends text next texts octets added more is ([], are, e, value) whole = absurd cc
+put_first ends text next texts octets added more is (p ∷ parts, are, e, value) whole = (record { text = text; octets = added } ∷ p ∷ parts, (is, are), ap (λ t. text ∷ t) e, cc)
+
+listed : (ends : Bool) (texts : List (List ℕ)) (octets : List ℕ) → HaveParts ends texts octets → (parts : List AddressPart) × AreParts ends parts × (map (λ (p : AddressPart). p.text) parts ≡ texts) × (octets ≡ parts_octets parts)
+listed ends [] octets have = ([], tt, refl, have)
+listed ends (text ∷ []) octets have = (record { text = text; octets = octets } ∷ [], have, refl, sym (append-nil octets))
+listed ends (text ∷ next ∷ texts) octets have = put_first ends text next texts octets have.0 have.1 have.2 (listed ends (next ∷ texts) have.1 have.3) have.4
+
+pub parts_listed : (ends : Bool) (text octets : List ℕ) → HaveParts ends (split 58 text) octets → ArePartsOf ends text octets
+parts_listed ends text octets have =
+    let all = listed ends (split 58 text) octets have in
+    record { parts = all.0; each = all.1; parted = sym (join_with_byte-slice_split 58 text) ∙ ap (join_with_byte 58) (sym all.2); value = all.3 }
+
+have_once : (ends : Bool) (texts : List (List ℕ)) (a b : List ℕ) → HaveParts ends texts a → HaveParts ends texts b → a ≡ b
+have_once ends [] a b x y = cc
+have_once ends (text ∷ []) a b x y = last_same ends (record { text = text; octets = a }) (record { text = text; octets = b }) x y refl
+have_once ends (text ∷ next ∷ texts) a b x y = cc (group_same text x.0 y.0 x.2 y.2, have_once ends (next ∷ texts) x.1 y.1 x.3 y.3)
+
+none_empty : (ends : Bool) (parts : List AddressPart) → AreParts ends parts → parts_text parts ≡ [] → parts_octets parts ≡ []
+none_empty ends [] are e = refl
+none_empty ends (p ∷ parts) are e = absurd (omega (arith, parts_some ends p parts are, ap length e))
 
 pub parts_unique : (ends : Bool) (text a b : List ℕ) → ArePartsOf ends text a → ArePartsOf ends text b → a ≡ b
-parts_unique ends text a b x y = x.value ∙ parts_same ends x.parts y.parts x.each y.each (sym x.parted ∙ y.parted) ∙ sym y.value
+parts_unique ends [] a b x y = cc (none_empty ends x.parts x.each (sym x.parted), none_empty ends y.parts y.each (sym y.parted))
+parts_unique ends (c ∷ text) a b x y = have_once ends (split 58 (c ∷ text)) a b (parts_found ends _ a (omega arith) x) (parts_found ends _ b (omega arith) y)
 
 -- ---- reading part after part
 
--- one part or more
-pub record AreSomeParts (ends : Bool) (text octets : List ℕ) : Type 0 where
-  pub are : ArePartsOf ends text octets
-  pub some : 0 < length are.parts
-
-pub text_some : (ends : Bool) (text octets : List ℕ) (parts : List AddressPart) → 0 < length text → AreParts ends parts → text ≡ parts_text parts → octets ≡ parts_octets parts → AreSomeParts ends text octets
-text_some ends text octets [] some each parted value = absurd (omega (arith, ap length parted))
-text_some ends text octets (p ∷ parts) some each parted value = record { are = record { parts = p ∷ parts; each = each; parted = parted; value = value }; some = omega arith }
-
--- the first part and the others
-pub record PartsCut (ends : Bool) (group rest octets : List ℕ) : Type 0 where
-  pub added : List ℕ
-  pub more : List ℕ
-  pub is : IsGroup (record { text = group; octets = added })
-  pub are : AreSomeParts ends rest more
-  pub value : octets ≡ added ++ more
-
-cut_parts : (ends : Bool) (text group rest octets : List ℕ) (parts : List AddressPart) → IsCutAtFirst 58 text group rest → 0 < length parts → AreParts ends parts → text ≡ parts_text parts → octets ≡ parts_octets parts → PartsCut ends group rest octets
-cut_parts ends text group rest octets [] cut some each parted value = absurd (omega arith)
-cut_parts ends text group rest octets (p ∷ []) cut some each parted value = absurd (not_cut 58 p.text group rest (last_lacks ends p each) (sym parted ∙ cut.parted))
-cut_parts ends text group rest octets (p ∷ q ∷ parts) cut some each parted value =
-    let same = cut_same 58 p.text (parts_text (q ∷ parts)) group rest (group_lacks 58 p refl each.0) cut.lacks (sym parted ∙ cut.parted) in
-    record {
-      added = p.octets;
-      more = parts_octets (q ∷ parts);
-      is = subst (λ t. IsGroup (record { text = t; octets = p.octets })) same.0 each.0;
-      are = record { are = record { parts = q ∷ parts; each = each.1; parted = sym same.1; value = refl }; some = omega arith };
-      value = value;
-    }
-
-pub parts_cut : (ends : Bool) (text group rest octets : List ℕ) → IsCutAtFirst 58 text group rest → AreSomeParts ends text octets → PartsCut ends group rest octets
-parts_cut ends text group rest octets cut h = cut_parts ends text group rest octets h.are.parts cut h.some h.are.each h.are.parted h.are.value
-
-pub only_part : (ends : Bool) (text octets : List ℕ) (parts : List AddressPart) → Lacks 58 text → 0 < length parts → AreParts ends parts → text ≡ parts_text parts → octets ≡ parts_octets parts → IsLastPart ends (record { text = text; octets = octets })
-only_part ends text octets [] lacks some each parted value = absurd (omega arith)
-only_part ends text octets (p ∷ []) lacks some each parted value =
-    let own : octets ≡ p.octets = value ∙ append-nil p.octets in
-    subst (λ t. IsLastPart ends (record { text = t; octets = octets })) (sym parted) (subst (λ o. IsLastPart ends (record { text = p.text; octets = o })) (sym own) each)
-only_part ends text octets (p ∷ q ∷ parts) lacks some each parted value = absurd (not_cut 58 text p.text (parts_text (q ∷ parts)) lacks parted)
-
--- groups, each with its colon, and what follows them
-pub following : List AddressPart → List ℕ → List ℕ
-following [] rest = rest
-following (p ∷ parts) rest = p.text ++ 58 ∷ following parts rest
-
-after_push : (parts : List AddressPart) (p : AddressPart) (rest : List ℕ) → following (parts ++ p ∷ []) rest ≡ following parts (p.text ++ 58 ∷ rest)
-unfolding following
-after_push [] p rest = refl
-after_push (q ∷ parts) p rest = ap (λ t. q.text ++ 58 ∷ t) (after_push parts p rest)
-
-parts_end : (ends : Bool) (parts : List AddressPart) (p : AddressPart) → AllByRecursion IsGroup parts → IsLastPart ends p → AreParts ends (parts ++ p ∷ [])
-parts_end ends [] p each is = is
-parts_end ends (q ∷ []) p each is = (each.0, is)
-parts_end ends (q ∷ r ∷ parts) p each is = (each.0, parts_end ends (r ∷ parts) p each.1 is)
-
-text_end : (parts : List AddressPart) (p : AddressPart) → parts_text (parts ++ p ∷ []) ≡ following parts p.text
-unfolding following
-text_end (q ∷ r ∷ parts) p = ap (λ t. q.text ++ 58 ∷ t) (text_end (r ∷ parts) p)
-text_end parts p = refl
-
-octets_push : (parts : List AddressPart) (p : AddressPart) → parts_octets (parts ++ p ∷ []) ≡ parts_octets parts ++ p.octets
-octets_push parts p = flat_map-append (λ (p : AddressPart). p.octets) parts (p ∷ []) ∙ ap (λ o. parts_octets parts ++ o) (append-nil p.octets)
-
--- groups are read up to a place: whatever the text stands for, the rest stands for what is missing
+-- groups are read up to a place: what the rest stands for is what is missing
 pub record HaveReadParts (ends : Bool) (text rest octets : List ℕ) : Type 0 where
-  pub front : List AddressPart
-  pub groups : AllByRecursion IsGroup front
-  pub parted : text ≡ following front rest
-  pub value : octets ≡ parts_octets front
-  pub only : (others : List ℕ) → ArePartsOf ends text others → (more : List ℕ) × (AreSomeParts ends rest more × (others ≡ octets ++ more))
+  pub some : 0 < length text
+  pub goes : (more : List ℕ) → HaveParts ends (split 58 rest) more → HaveParts ends (split 58 text) (octets ++ more)
+  pub comes : (others : List ℕ) → HaveParts ends (split 58 text) others → (more : List ℕ) × HaveParts ends (split 58 rest) more × (others ≡ octets ++ more)
 
 pub parts_started : (ends : Bool) (text : List ℕ) → 0 < length text → HaveReadParts ends text text []
-unfolding following
-parts_started ends text some = record {
-  front = [];
-  groups = tt;
-  parted = refl;
-  value = refl;
-  only = λ others are. (others, (text_some ends text others are.parts some are.each are.parted are.value, refl));
+parts_started ends text some = record { some = some; goes = λ more have. have; comes = λ others have. (others, have, refl) }
+
+-- a group with a colon after it
+goes_first : (ends : Bool) (text : List ℕ) (texts : List (List ℕ)) (added more : List ℕ) → 0 < length texts → IsGroupOf text added → HaveParts ends texts more → HaveParts ends (text ∷ texts) (added ++ more)
+goes_first ends text [] added more some is have = absurd (omega arith)
+goes_first ends text (next ∷ texts) added more some is have = (added, more, is, have, refl)
+
+comes_first : (ends : Bool) (text : List ℕ) (texts : List (List ℕ)) (octets : List ℕ) → 0 < length texts → HaveParts ends (text ∷ texts) octets → (added : List ℕ) × (more : List ℕ) × IsGroupOf text added × HaveParts ends texts more × (octets ≡ added ++ more)
+comes_first ends text [] octets some have = absurd (omega arith)
+comes_first ends text (next ∷ texts) octets some have = have
+
+split_some : (c : ℕ) (text : List ℕ) → 0 < length (split c text)
+split_some c text = omega (arith, length-slice_split (λ b. b == c) text)
+
+left_first : (ends : Bool) (text rest group after octets others : List ℕ) → IsCutAtFirst 58 rest group after → HaveReadParts ends text rest octets → HaveParts ends (split 58 text) others → (added : List ℕ) × (more : List ℕ) × IsGroupOf group added × HaveParts ends (split 58 after) more × (others ≡ octets ++ (added ++ more))
+left_first ends text rest group after octets others cut reads have =
+    let left = reads.comes others have in
+    let first = comes_first ends group (split 58 after) left.0 (split_some 58 after) (subst (λ t. HaveParts ends t left.0) (split_cut 58 rest group after cut) left.1) in
+    (first.0, first.1, first.2, first.3, cc (left.2, first.4))
+
+pub parts_more : (ends : Bool) (text rest group after octets added : List ℕ) → IsCutAtFirst 58 rest group after → IsGroupOf group added → HaveReadParts ends text rest octets → HaveReadParts ends text after (octets ++ added)
+parts_more ends text rest group after octets added cut is reads = record {
+  some = reads.some;
+  goes = λ more have. rw append_assoc (reads.goes (added ++ more) (rw (split_cut 58 rest group after cut) (goes_first ends group (split 58 after) added more (split_some 58 after) is have)));
+  comes = λ others have.
+      let left = left_first ends text rest group after octets others cut reads have in
+      (left.1, left.3, cc (group_same group added left.0 is left.2, append_assoc octets added left.1));
 }
 
-pub parts_more : (ends : Bool) (text rest group after octets added : List ℕ) → IsCutAtFirst 58 rest group after → IsGroup (record { text = group; octets = added }) → HaveReadParts ends text rest octets → HaveReadParts ends text after (octets ++ added)
-parts_more ends text rest group after octets added cut is reads =
-    let p : AddressPart = record { text = group; octets = added } in
-    record {
-      front = reads.front ++ p ∷ [];
-      groups = AllByRecursion-append IsGroup reads.front (p ∷ []) reads.groups (is, tt);
-      parted = reads.parted ∙ ap (following reads.front) cut.parted ∙ sym (after_push reads.front p after);
-      value = ap (λ o. o ++ added) reads.value ∙ sym (octets_push reads.front p);
-      only = λ others are.
-          let was = reads.only others are in
-          let split = parts_cut ends rest group after was.0 cut was.1.0 in
-          let same : split.added ≡ added = group_same group split.added added split.is is in
-          (split.more, (split.are, was.1.1 ∙ ap (λ o. octets ++ o) (split.value ∙ ap (λ o. o ++ split.more) same) ∙ sym (append_assoc octets added split.more)));
-    }
-
 -- where no group goes on
-pub parts_stop : (ends : Bool) (text rest group after octets : List ℕ) → IsCutAtFirst 58 rest group after → HaveReadParts ends text rest octets → ((added : List ℕ) → IsGroup (record { text = group; octets = added }) → 16 < length octets + length added) → (others : List ℕ) → ArePartsOf ends text others → length others ≤ 16 → ⊥
+pub parts_stop : (ends : Bool) (text rest group after octets : List ℕ) → IsCutAtFirst 58 rest group after → HaveReadParts ends text rest octets → NoneFits (IsGroupOf group) octets → (others : List ℕ) → ArePartsOf ends text others → length others ≤ 16 → ⊥
 parts_stop ends text rest group after octets cut reads stops others are short =
-    let was = reads.only others are in
-    let split = parts_cut ends rest group after was.0 cut was.1.0 in
-    let long = stops split.added split.is in
-    omega (arith, ap length was.1.1, ap length split.value, length-append octets was.0, length-append split.added split.more)
+    let left = left_first ends text rest group after octets others cut reads (parts_found ends text others reads.some are) in
+    let long = stops left.0 left.2 in
+    omega (arith, ap length left.4, length-append octets (left.0 ++ left.1), length-append left.0 left.1)
 
-pub parts_ended : (ends : Bool) (text rest octets added : List ℕ) → HaveReadParts ends text rest octets → IsLastPart ends (record { text = rest; octets = added }) → ArePartsOf ends text (octets ++ added)
-parts_ended ends text rest octets added reads is =
-    let p : AddressPart = record { text = rest; octets = added } in
-    record {
-      parts = reads.front ++ p ∷ [];
-      each = parts_end ends reads.front p reads.groups is;
-      parted = reads.parted ∙ sym (text_end reads.front p);
-      value = ap (λ o. o ++ added) reads.value ∙ sym (octets_push reads.front p);
-    }
+pub parts_ended : (ends : Bool) (text rest octets added : List ℕ) → Lacks 58 rest → HaveReadParts ends text rest octets → IsLastPartOf ends rest added → ArePartsOf ends text (octets ++ added)
+parts_ended ends text rest octets added lacks reads is = parts_listed ends text (octets ++ added) (reads.goes added (rw (split_lacks 58 rest lacks) is))
 
-pub parts_unended : (ends : Bool) (text rest octets : List ℕ) → Lacks 58 rest → HaveReadParts ends text rest octets → ((added : List ℕ) → IsLastPart ends (record { text = rest; octets = added }) → 16 < length octets + length added) → (others : List ℕ) → ArePartsOf ends text others → length others ≤ 16 → ⊥
+pub parts_unended : (ends : Bool) (text rest octets : List ℕ) → Lacks 58 rest → HaveReadParts ends text rest octets → NoneFits (IsLastPartOf ends rest) octets → (others : List ℕ) → ArePartsOf ends text others → length others ≤ 16 → ⊥
 parts_unended ends text rest octets lacks reads stops others are short =
-    let was = reads.only others are in
-    let left = was.1.0 in
-    let long = stops was.0 (only_part ends rest was.0 left.are.parts lacks left.some left.are.each left.are.parted left.are.value) in
-    omega (arith, ap length was.1.1, length-append octets was.0)
+    let left = reads.comes others (parts_found ends text others reads.some are) in
+    let long = stops left.0 (subst (λ t. HaveParts ends t left.0) (split_lacks 58 rest lacks) left.1) in
+    omega (arith, ap length left.2, length-append octets left.0)
 
 pub no_parts : (ends : Bool) → ArePartsOf ends [] []
 no_parts ends = record { parts = []; each = tt; parted = refl; value = refl }
 
 -- where there is no room for the last part, or it is none
-pub group_full : (ends : Bool) (text own : List ℕ) (len : ℕ) → IsGroup (record { text = text; octets = own }) → 16 < len + length own → (added : List ℕ) → IsLastPart ends (record { text = text; octets = added }) → 16 < len + length added
-group_full ends text own len is long added last =
-    let same = last_same ends (record { text = text; octets = added }) (record { text = text; octets = own }) last (inl is) refl in
-    omega (arith, ap length same)
+pub part_full : (ends : Bool) (text own old : List ℕ) → IsLastPartOf ends text own → 16 < length old + length own → NoneFits (IsLastPartOf ends text) old
+part_full ends text own old is long added last = omega (arith, ap length (last_same ends (record { text = text; octets = added }) (record { text = text; octets = own }) last is refl))
 
-pub numbers_full : (ends : Bool) (text own : List ℕ) (len : ℕ) → IsTrue ends → IsIpv4Address text own → 16 < len + length own → (added : List ℕ) → IsLastPart ends (record { text = text; octets = added }) → 16 < len + length added
-numbers_full ends text own len may are long added last =
-    let same = last_same ends (record { text = text; octets = added }) (record { text = text; octets = own }) last (inr (may, are)) refl in
-    omega (arith, ap length same)
-
-pub part_refused : (ends : Bool) (text : List ℕ) (len : ℕ) → ((octets : List ℕ) → IsGroup (record { text = text; octets = octets }) → ⊥) → ((octets : List ℕ) → IsIpv4Address text octets → ⊥) → (added : List ℕ) → IsLastPart ends (record { text = text; octets = added }) → 16 < len + length added
-part_refused ends text len none none' added (inl is) = absurd (none added is)
-part_refused ends text len none none' added (inr are) = absurd (none' added are.1)
-
--- what holds after any answer
-pub if_none_any : {T : Type 0} (o : Option T) (P : Type 0) → P → IfNone o P
-if_none_any None P p = p
-if_none_any (Some x) P p = tt
-
-pub if_none_weaker : {T : Type 0} (o : Option T) (P Q : Type 0) → (P → Q) → IfNone o P → IfNone o Q
-if_none_weaker None P Q f p = f p
-if_none_weaker (Some x) P Q f p = tt
+pub part_refused : (ends : Bool) (text old : List ℕ) → ((octets : List ℕ) → IsGroupOf text octets → ⊥) → ((octets : List ℕ) → IsIpv4Address text octets → ⊥) → NoneFits (IsLastPartOf ends text) old
+part_refused ends text old none none' added (inl is) = absurd (none added is)
+part_refused ends text old none none' added (inr are) = absurd (none' added are.1)

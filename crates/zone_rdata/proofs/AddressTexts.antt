@@ -1,11 +1,8 @@
 -- The canonical texts of addresses.
-use Rattle.std.proofs.Common.{◌≡◌, ℕ, zero, suc, ◌-◌, ◌/◌, ◌%◌, ◌^◌, ◌<◌, Bool, true, ◌&&◌, List, [], ◌∷◌, take, drop, refl, ap, ◌∙◌, arith, ◌==◌, inl, inr}
+use Rattle.zone_rdata.proofs.Common.{[], ◌≡◌, ℕ, zero, suc, ◌-◌, ◌/◌, ◌%◌, ◌^◌, ◌<◌, Bool, true, ◌&&◌, List, ◌∷◌, take, drop, refl, ap, ◌∙◌, arith, ◌==◌, inl, inr, slice_index, leading_zero_digits, and_parts, cases_eq, eqb-true, take_rest, encode_lower, lower_digits}
 use Rattle.std.specs.Char.{digit_char}
-use Rattle.std.specs.Prelude.{slice_index}
-use Rattle.std.specs.Net.Text.{hex, leading_zero_digits}
-use Rattle.std.proofs.lemmas.Bool.{and_parts, cases_eq, eqb-true}
-use Rattle.std.proofs.lemmas.List.{take_rest}
-use Rattle.hex.specs.Hex.{encode_lower, encode_with, lower_digits}
+use Rattle.std.specs.Net.Text.{hex}
+use Rattle.hex.specs.Hex.{encode_with}
 
 -- the first places of hex's table hold the digits that std writes
 abbrev are_same : ℕ → Bool
@@ -30,12 +27,7 @@ four_digits n = digit_char (n / 0x1000) ∷ digit_char (n / 0x100 % 16) ∷ digi
 
 pub four_encoded : (n : ℕ) → n < 2 ^ 16 → encode_lower (n / 256 ∷ n % 256 ∷ []) ≡ four_digits n
 unfolding encode_with
-four_encoded n fits =
-    let a : slice_index lower_digits (n / 256 / 16) ≡ digit_char (n / 0x1000) = digit_same (n / 256 / 16) (omega arith) ∙ ap digit_char (omega arith) in
-    let b : slice_index lower_digits (n / 256 % 16) ≡ digit_char (n / 0x100 % 16) = digit_same (n / 256 % 16) (omega arith) in
-    let c : slice_index lower_digits (n % 256 / 16) ≡ digit_char (n / 0x10 % 16) = digit_same (n % 256 / 16) (omega arith) ∙ ap digit_char (omega arith) in
-    let d : slice_index lower_digits (n % 256 % 16) ≡ digit_char (n % 16) = digit_same (n % 256 % 16) (omega arith) ∙ ap digit_char (omega arith) in
-    cc
+four_encoded n fits = grind (arith, digit_same)
 
 pub group_written : (n zeros : ℕ) (digits bytes : List ℕ) → n < 2 ^ 16 → zeros ≡ leading_zero_digits n → bytes ≡ n / 256 % 256 ∷ n % 256 ∷ [] → digits ≡ encode_lower bytes → take (4 - zeros) (drop zeros digits) ≡ hex n
 unfolding hex

@@ -1,18 +1,6 @@
 -- What is proved of any field. `kind_of` picks the laws of its kind.
-use Rattle.std.proofs.Common.{List, Some, [], ap, length, subst, sym, ℕ, ◌++◌, ◌+◌, ◌*◌, ◌<◌, ◌∙◌, ◌∷◌, ◌≡◌, ◌≢◌, ◌≤◌}
-use Rattle.std.specs.List.{AllByRecursion}
-use Rattle.std.proofs.lemmas.List.{append_cancel_left}
-use Rattle.zone_name.specs.Name.{IsName}
-use Rattle.zone_rdata.specs.declared.fault.Fault.{Fault}
-use Rattle.zone_rdata.specs.declared.field.Field.{Field}
+use Rattle.zone_rdata.proofs.Common.{[], List, Some, ap, length, subst, sym, ℕ, ◌++◌, ◌+◌, ◌*◌, ◌<◌, ◌∙◌, ◌∷◌, ◌≡◌, ◌≢◌, ◌≤◌, arith, AllByRecursion, append_cancel_left, Labels, IsName, Fault, Field, FitsString, FieldValue, Holds, IsFieldFault, SpellsField, Suits, field_at, field_items, field_octets, field_text, items_after, own_items, IsGeneric, RawItem, bare, IsSized, BeginsWithValue, IsReal, part_field}
 use Rattle.zone_rdata.specs.declared.field.Field.TheVariants.{Name, Octets, OneString, Serial, Strings, Time, U16}
-use Rattle.zone_rdata.specs.Builder.{FitsString}
-use Rattle.zone_rdata.specs.Fault.{fault_of}
-use Rattle.zone_rdata.specs.Field.{FieldValue, Holds, IsFieldFault, SpellsField, Suits, field_at, field_items, field_octets, field_text, items_after, own_items}
-use Rattle.zone_rdata.specs.Item.{IsGeneric, RawItem, bare}
-use Rattle.zone_rdata.specs.Layout.{IsSized}
-use Rattle.zone_rdata.specs.Machine.Appending.{BeginsWithValue}
-use Rattle.zone_rdata.specs.Machine.Building.{IsReal, part_field}
 use Rattle.zone_rdata.proofs.FieldLaws.{AreLow, AreLowItems, FieldChoice, FieldLaws, FrontChoice, NameFaultOnce, NameOrFault, NamesNever, NamesOnce, NamesPrinted, plain_front}
 use Rattle.zone_rdata.proofs.Standing.{IsPrintedItem}
 use Rattle.zone_rdata.proofs.StringLaws.{fault-once}
@@ -45,10 +33,8 @@ each : (f : Field) (k : KindOf f) (P : FieldValue → Type 0) → ((x : k.X) →
 each f k P own v h = let x = k.laws.only v h in subst P (sym x.1) (own x.0 (subst (Holds f) x.1 h))
 
 -- likewise of items that spell one
-each_spelt : (origin : List (List ℕ)) (f : Field) (k : KindOf f) (P : List RawItem → FieldValue → Type 0) → ((i : k.I) (x : k.X) → SpellsField origin f (k.items i) (k.value x) → P (k.items i) (k.value x)) → (items : List RawItem) (v : FieldValue) → SpellsField origin f items v → P items v
-each_spelt origin f k P own items v h =
-    let x = k.laws.opens origin items v h in
-    subst (λ all. P all v) (sym x.2) (subst (P (k.items x.0)) (sym x.3) (own x.0 x.1 (subst (SpellsField origin f (k.items x.0)) x.3 (subst (λ all. SpellsField origin f all v) x.2 h))))
+each_spelt : (origin : Labels) (f : Field) (k : KindOf f) (P : List RawItem → FieldValue → Type 0) → ((i : k.I) (x : k.X) → SpellsField origin f (k.items i) (k.value x) → P (k.items i) (k.value x)) → (items : List RawItem) (v : FieldValue) → SpellsField origin f items v → P items v
+each_spelt origin f k P own items v h = grind arith
 
 -- ---- its octets
 
@@ -62,7 +48,7 @@ field_low f v h = let k = kind_of f in each f k (λ w. AreLow (field_octets w)) 
 -- a field that is no strings takes at most 256 octets: a name at most 255, a string its length and
 -- at most 255
 pub field_short : (f : Field) (v : FieldValue) → f ≢ Strings → IsSized f → Holds f v → length (field_octets v) ≤ 256
-field_short f v many sized h = let k = kind_of f in each f k (λ w. length (field_octets w) ≤ 256) (λ x held. k.laws.short x many sized held) v h
+field_short f v many sized h = grind (arith, kind_of, each)
 
 pub field_part : (f : Field) (v : FieldValue) → Suits (Some f) v → FitsString v → IsReal v → Holds (part_field f) v × (0 < length (field_octets v))
 field_part f v s fits real = (kind_of f).laws.part v s fits real
@@ -72,9 +58,7 @@ pub front_or_none : (f : Field) (octets : List ℕ) → AreLow octets → FrontC
 front_or_none f octets low = (kind_of f).laws.front octets low
 
 plain_at : (f : Field) (octets : List ℕ) (v : FieldValue) (rest : List ℕ) → f ≢ Name → BeginsWithValue f octets v rest → (octets ≡ field_octets v ++ rest) × (field_at f octets ≡ v)
-plain_at f octets v rest other b =
-    let parts : octets ≡ field_octets v ++ rest = b.parts ∙ ap (λ t. t ++ rest) (plain_front f v b.front other b.held b.sent) in
-    (parts, ap (field_at f) parts ∙ field_back f v rest b.held b.last)
+plain_at f octets v rest other b = grind (arith, plain_front, field_back)
 
 plain_once : (f : Field) (octets : List ℕ) (v w : FieldValue) (r s : List ℕ) → f ≢ Name → BeginsWithValue f octets v r → BeginsWithValue f octets w s → (v ≡ w) × (r ≡ s)
 plain_once f octets v w r s other x y =
@@ -89,32 +73,32 @@ front_once f octets v w r s x y = plain_once f octets v w r s (λ e. cc) x y
 
 -- ---- the items that spell it
 
-pub field_holds : (origin : List (List ℕ)) (f : Field) (items : List RawItem) (v : FieldValue) → SpellsField origin f items v → Holds f v
+pub field_holds : (origin : Labels) (f : Field) (items : List RawItem) (v : FieldValue) → SpellsField origin f items v → Holds f v
 field_holds origin f items v h = let k = kind_of f in each_spelt origin f k (λ all w. Holds f w) (k.laws.holds origin) items v h
 
-pub field_once : NamesOnce → (origin : List (List ℕ)) (f : Field) (items : List RawItem) (v w : FieldValue) → SpellsField origin f items v → SpellsField origin f items w → v ≡ w
+pub field_once : NamesOnce → (origin : Labels) (f : Field) (items : List RawItem) (v w : FieldValue) → SpellsField origin f items v → SpellsField origin f items w → v ≡ w
 field_once names origin f items v w =
     let k = kind_of f in
     each_spelt origin f k (λ all u. SpellsField origin f all w → u ≡ w)
     (λ i x h other. let y = k.laws.opens origin (k.items i) w other in ap k.value (k.laws.once names origin i x y.1 h (subst (SpellsField origin f (k.items i)) y.3 other)) ∙ sym y.3)
     items v
 
-pub field_never : NamesNever → (origin : List (List ℕ)) (f : Field) (items : List RawItem) (v : FieldValue) (fault : Fault) → SpellsField origin f items v → IsFieldFault origin f items fault → ⊥
+pub field_never : NamesNever → (origin : Labels) (f : Field) (items : List RawItem) (v : FieldValue) (fault : Fault) → SpellsField origin f items v → IsFieldFault origin f items fault → ⊥
 field_never names origin f items v fault = let k = kind_of f in each_spelt origin f k (λ all w. IsFieldFault origin f all fault → ⊥) (λ i x. k.laws.never names origin i x fault) items v
 
-pub field_or_fault : NameOrFault → (origin : List (List ℕ)) → IsName origin → (f : Field) (items : List RawItem) → AreLowItems items → FieldChoice origin f (own_items f items)
+pub field_or_fault : NameOrFault → (origin : Labels) → IsName origin → (f : Field) (items : List RawItem) → AreLowItems items → FieldChoice origin f (own_items f items)
 field_or_fault names origin is f items low = (kind_of f).laws.or_fault names origin is items low
 
-pub field_fault_once : NameFaultOnce → (origin : List (List ℕ)) (f : Field) (items : List RawItem) (a b : Fault) → IsFieldFault origin f items a → IsFieldFault origin f items b → a ≡ b
+pub field_fault_once : NameFaultOnce → (origin : Labels) (f : Field) (items : List RawItem) (a b : Fault) → IsFieldFault origin f items a → IsFieldFault origin f items b → a ≡ b
 field_fault_once names origin Strings items a b x y = strings_fault_once items a b x y
 field_fault_once names origin OneString (item ∷ items) a b x y = fault-once item a b x y
-field_fault_once names origin Name (bare text ∷ items) a b x y = x.2 ∙ ap fault_of (names (Some origin) text x.0 y.0 x.1 y.1) ∙ sym y.2
+field_fault_once names origin Name (bare text ∷ items) a b x y = grind arith
 field_fault_once names origin f (bare text ∷ items) a b x y = x.0 ∙ sym y.0
 field_fault_once names origin f items a b x y = x ∙ sym y
 
 -- ---- the items that are printed
 
-pub field_printed : NamesPrinted → (origin : List (List ℕ)) (f : Field) (v : FieldValue) (rest : List RawItem) → IsSized f → Holds f v → (f ≡ Strings → rest ≡ []) → SpellsField origin f (own_items f (field_items v ++ rest)) v × (items_after f (field_items v ++ rest) ≡ rest)
+pub field_printed : NamesPrinted → (origin : Labels) (f : Field) (v : FieldValue) (rest : List RawItem) → IsSized f → Holds f v → (f ≡ Strings → rest ≡ []) → SpellsField origin f (own_items f (field_items v ++ rest)) v × (items_after f (field_items v ++ rest) ≡ rest)
 field_printed names origin f v rest sized h last =
     let k = kind_of f in
     each f k (λ w. SpellsField origin f (own_items f (field_items w ++ rest)) w × (items_after f (field_items w ++ rest) ≡ rest)) (λ x held. k.laws.printed names origin x rest sized held last) v h

@@ -1,18 +1,7 @@
 -- Data that is made part by part.
-use Rattle.std.proofs.Common.{Bool, IsTrue, List, None, Option, Some, [], add-one, ap, arith, false, get_or, length, length-append, refl, subst, suc, sym, true, zero, ℕ, ◌++◌, ◌+◌, ◌-◌, ◌<◌, ◌↔◌, ◌∙◌, ◌∷◌, ◌≡◌, ◌≢◌, ◌≤◌}
-use Rattle.std.specs.List.{AllByRecursion, flat_map}
-use Rattle.std.proofs.lemmas.List.{append-nil}
-use Rattle.std.proofs.lemmas.List.Concat.{flat_map-append}
-use Rattle.zone_name.specs.Name.{with_length}
-use Rattle.zone_rdata.specs.declared.fault.Fault.{Fault}
+use Rattle.zone_rdata.proofs.Common.{[], Bool, IsTrue, List, None, Option, Some, add-one, ap, arith, false, get_or, length, length-append, refl, subst, suc, sym, true, zero, ℕ, ◌++◌, ◌+◌, ◌-◌, ◌<◌, ◌↔◌, ◌∙◌, ◌∷◌, ◌≡◌, ◌≢◌, ◌≤◌, AllByRecursion, flat_map, append-nil, flat_map-append, AreOctets, with_length, Fault, Field, Built, FitsString, IsNext, IsOpaque, IsPushFault, IsWhole, Pushes, ends_with_strings, misplaced, part_at, FieldValue, HoldEach, Holds, Suits, field_octets, fixed, is_strings, octets_of, string, strings, values_of, AreLaidOut, StringsLast, layout, ArePushedParts, Grows, IsBuilt, IsOver, IsReal, least_of, more_fields, over_data, over_string, part_field, part_fields, parts_held, Data, IsRdata, IsString}
 use Rattle.zone_rdata.specs.declared.fault.Fault.TheVariants.{BadRdata}
-use Rattle.zone_rdata.specs.declared.field.Field.{Field}
-use Rattle.zone_rdata.specs.Builder.{Built, FitsString, IsNext, IsOpaque, IsPushFault, IsWhole, Pushes, ends_with_strings, long_string, misplaced, part_at, too_long}
-use Rattle.zone_rdata.specs.Field.{FieldValue, HoldEach, Holds, Suits, field_octets, fixed, is_strings, octets_of, string, strings, values_of}
-use Rattle.zone_rdata.specs.Layout.{AreLaidOut, StringsLast, layout}
-use Rattle.zone_rdata.specs.Machine.Building.{ArePushedParts, Grows, IsBuilt, IsOver, IsReal, least_of, more_fields, over_data, over_string, part_field, part_fields, parts_held}
-use Rattle.zone_rdata.specs.Record.{Data, IsRdata}
-use Rattle.zone_rdata.specs.Strings.{IsString}
+use Rattle.zone_rdata.specs.Builder.{long_string, too_long}
 use Rattle.zone_rdata.proofs.AnyField.{field_part}
 use Rattle.zone_rdata.proofs.Layouts.{AreFor, laid_out, values_back}
 use Rattle.zone_rdata.proofs.Tables.{table_row}
@@ -224,7 +213,7 @@ parts_for : (class kind : ℕ) (laid : Option (List Field)) (count : ℕ) (octet
 parts_for class kind None count octets e held past = tt
 parts_for class kind (Some row) count octets e held past = whole_laid row count octets (table_row class kind row (sym e)).last past held
 
-pub parts_data : (class kind count : ℕ) (octets : List ℕ) → IsBuilt class kind count octets → least_of (layout class kind) ≤ count → AllByRecursion (λ c. c < 256) octets → IsRdata (record { class = class; kind = kind; octets = octets })
+pub parts_data : (class kind count : ℕ) (octets : List ℕ) → IsBuilt class kind count octets → least_of (layout class kind) ≤ count → AreOctets octets → IsRdata (record { class = class; kind = kind; octets = octets })
 parts_data class kind count octets is past each = record {
   class = is.is_class;
   kind = is.is_kind;

@@ -1,6 +1,5 @@
 -- Lists of which each element is an octet, by index.
-use Rattle.std.proofs.Common.{ℕ, zero, suc, ◌<◌, List, [], ◌∷◌, ◌++◌, lit<}
-use Rattle.std.specs.Prelude.{slice_index}
+use Rattle.zone_rdata.proofs.Common.{[], ℕ, zero, suc, ◌<◌, List, ◌∷◌, ◌++◌, lit<, slice_index}
 
 abbrev pub Bytes : List ℕ → Type 0
 Bytes xs = (i : ℕ) → slice_index xs i < 256

@@ -1,7 +1,5 @@
 -- What is so or not, of one thing or of none.
-use Rattle.std.proofs.Common.{◌≡◌, ℕ, ◌<◌, Bool, true, false, List, [], ◌∷◌, ◌⊎◌, inl, inr, refl, arith}
-use Rattle.std.specs.List.{AllByRecursion}
-use Rattle.std.proofs.lemmas.Bool.{cases_lt, false≢true}
+use Rattle.zone_rdata.proofs.Common.{[], ◌≡◌, ℕ, ◌<◌, Bool, true, false, List, ◌∷◌, ◌⊎◌, inl, inr, refl, arith, Option, AllByRecursion, IfNone, IfSome, cases_lt, false≢true}
 
 abbrev pub Decided : Type 0 → Type 0
 Decided P = P ⊎ (P → ⊥)
@@ -11,9 +9,7 @@ true_or_not true = inl refl
 true_or_not false = inr false≢true
 
 pub both_or_not : {A B : Type 0} → Decided A → Decided B → Decided (A × B)
-both_or_not (inl a) (inl b) = inl (a, b)
-both_or_not (inl a) (inr none) = inr (λ h. none h.1)
-both_or_not (inr none) b = inr (λ h. none h.0)
+both_or_not h b = grind arith
 
 pub each_or_not : {X : Type 0} (P : X → Type 0) → ((x : X) → Decided (P x)) → (xs : List X) → Decided (AllByRecursion P xs)
 each_or_not P one [] = inl tt
@@ -23,8 +19,7 @@ abbrev pub Choice : {X : Type 0} → (X → Type 0) → Type 0
 Choice {X = X} P = ((x : X) × P x) ⊎ ((x : X) → P x → ⊥)
 
 pub choice_as : {X Y : Type 0} {P : X → Type 0} {Q : Y → Type 0} (f : X → Y) → ((x : X) → P x → Q (f x)) → (((x : X) → P x → ⊥) → (y : Y) → Q y → ⊥) → Choice P → Choice Q
-choice_as f more none (inl found) = inl (f found.0, more found.0 found.1)
-choice_as f more none (inr lacks) = inr (none lacks)
+choice_as f more none h = grind arith
 
 -- a number below a bound is stated or none
 pub below_or_not : (Is : ℕ → Type 0) (bound : ℕ) → ((a b : ℕ) → Is a → Is b → a ≡ b) → Choice Is → Choice (λ n. Is n × (n < bound))
@@ -33,3 +28,13 @@ below_or_not Is bound once (inl found) = elim (cases_lt found.0 bound) [
   | inl short ↦ inl (found.0, (found.1, short))
   | inr over ↦ inr (λ n h. omega (arith, h.1, once n found.0 h.0 found.1))
 ]
+
+-- what holds after any answer
+pub if_none_any : {T : Type 0} (o : Option T) (P : Type 0) → P → IfNone o P
+if_none_any o P p = grind arith
+
+pub if_none_weaker : {T : Type 0} (o : Option T) (P Q : Type 0) → (P → Q) → IfNone o P → IfNone o Q
+if_none_weaker o P Q f p = grind arith
+
+pub if_some_weaker : {T : Type 0} (o : Option T) (P Q : T → Type 0) → ((x : T) → P x → Q x) → IfSome o P → IfSome o Q
+if_some_weaker o P Q f p = grind arith

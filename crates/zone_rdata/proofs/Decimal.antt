@@ -1,9 +1,5 @@
 -- Decimal digits read one after the other, under a cap.
-use Rattle.std.proofs.Common.{◌≡◌, ℕ, ◌+◌, ◌-◌, ◌*◌, min, true, List, [], ◌∷◌, ◌++◌, refl}
-use Rattle.std.specs.Prelude.{fold}
-use Rattle.std.specs.List.{AllByRecursion}
-use Rattle.zone_name.specs.Spelling.{is_digit}
-use Rattle.zone_rdata.specs.Number.{decimal_value}
+use Rattle.zone_rdata.proofs.Common.{[], ◌≡◌, ℕ, ◌+◌, ◌-◌, ◌*◌, min, true, List, ◌∷◌, ◌++◌, refl, fold, AllByRecursion, is_digit, decimal_value}
 
 -- digits so far, and their number under the cap
 pub record ReadsDigits (cap : ℕ) (text : List ℕ) (n : ℕ) : Type 0 where

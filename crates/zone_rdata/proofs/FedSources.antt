@@ -1,9 +1,7 @@
 -- What a source that is fed stands for after the records that it gives.
-use Rattle.std.proofs.Common.{◌≡◌, ℕ, List, [], ◌∷◌, ◌++◌, Option, Some, None, Result, Ok, Err, refl, sym, ap, ◌∙◌, subst, append_assoc}
-use Rattle.std.proofs.lemmas.List.{append-nil}
+use Rattle.zone_rdata.proofs.Common.{[], ◌≡◌, ℕ, List, ◌∷◌, ◌++◌, Option, Some, None, Result, Ok, Err, refl, sym, ap, ◌∙◌, subst, append_assoc, arith, append-nil, Fault}
 use Rattle.zone_rdata.specs.FedSource.{Gives, Held, SourceState, StandsFor}
 use Rattle.zone_rdata.specs.RrSource.{Pending, after, answer_of, first_answer, others}
-use Rattle.zone_rdata.specs.declared.fault.Fault.{Fault}
 use Rattle.zone_rdata.specs.declared.fault.Place.{Place}
 use Rattle.zone_rdata.specs.declared.fault.Stop.{Stop}
 use Rattle.zone_rdata.specs.declared.record.Placed.{Placed}
@@ -15,9 +13,7 @@ given_by (Ok (Some r)) = r ∷ []
 given_by (Err stop) = []
 
 first_given : (records : List Placed) (ending : Option (Fault × Place)) → records ≡ given_by (first_answer records ending) ++ others records
-first_given [] None = refl
-first_given [] (Some e) = refl
-first_given (r ∷ records) ending = refl
+first_given records ending = grind arith
 
 module _ {Kept : Type 0} (Decide Read : List Placed → Option (Fault × Place) → Type 0) (Leave : Kept → List ℕ → Type 0) (old new : SourceState Kept) where
   pub stands_given : (more : List Placed) (fed : List ℕ) (given : List Placed) → Gives old more new → StandsFor Decide Read Leave old fed given → StandsFor Decide Read Leave new fed (given ++ more)

@@ -1,24 +1,9 @@
 -- What is proved of every kind of field, and what kinds share.
-use Rattle.std.proofs.Common.{List, Option, Some, [], ap, arith, decimal, drop, get_or, inl, inr, length, length-append, refl, subst, suc, sym, take, true, zero, ℕ, ◌++◌, ◌+◌, ◌*◌, ◌<◌, ◌^◌, ◌∙◌, ◌∷◌, ◌≡◌, ◌≢◌, ◌≤◌, ◌⊎◌}
-use Rattle.std.specs.List.{AllByRecursion}
-use Rattle.std.specs.Prelude.{IfSome}
-use Rattle.std.proofs.lemmas.Bool.{cases_lt, false≢true}
-use Rattle.std.proofs.lemmas.List.{length-take, take-append-drop}
-use Rattle.zone_name.specs.Name.{IsName}
-use Rattle.zone_name.specs.Spelling.{SpellingFault, Spells, is_digit}
+use Rattle.zone_rdata.proofs.Common.{[], List, Option, Some, ap, arith, decimal, drop, get_or, inl, inr, length, length-append, refl, subst, suc, sym, take, true, zero, ℕ, ◌++◌, ◌+◌, ◌*◌, ◌<◌, ◌^◌, ◌∙◌, ◌∷◌, ◌≡◌, ◌≢◌, ◌≤◌, ◌⊎◌, AllByRecursion, IfSome, cases_lt, false≢true, length-take, take-append-drop, Labels, IsName, SpellingFault, Spells, is_digit, Fault, Field, FitsString, FieldValue, Holds, IsFieldFault, IsSent, SpellsField, Suits, field_at, field_items, field_octets, field_text, items_after, name, own_items, IsGeneric, RawItem, bare, quoted, IsSized, AppendsPrefix, AppendsValue, BeginsWithNone, BeginsWithValue, IsReal, part_field, item_text}
 use Rattle.zone_name.specs.Text.{name_text}
 use Rattle.zone_name.specs.declared.fault.NameFault.{NameFault}
-use Rattle.zone_rdata.specs.declared.fault.Fault.{Fault}
 use Rattle.zone_rdata.specs.declared.fault.Fault.TheVariants.{BadRdata}
-use Rattle.zone_rdata.specs.declared.field.Field.{Field}
 use Rattle.zone_rdata.specs.declared.field.Field.TheVariants.{Name, OneString, Strings}
-use Rattle.zone_rdata.specs.Builder.{FitsString}
-use Rattle.zone_rdata.specs.Field.{FieldValue, Holds, IsFieldFault, IsSent, SpellsField, Suits, field_at, field_items, field_octets, field_text, items_after, name, own_items}
-use Rattle.zone_rdata.specs.Item.{IsGeneric, RawItem, bare, quoted}
-use Rattle.zone_rdata.specs.Layout.{IsSized}
-use Rattle.zone_rdata.specs.Machine.Appending.{AppendsPrefix, AppendsValue, BeginsWithNone, BeginsWithValue}
-use Rattle.zone_rdata.specs.Machine.Building.{IsReal, part_field}
-use Rattle.zone_rdata.specs.Strings.{item_text}
 use Rattle.zone_rdata.proofs.Choices.{Choice}
 use Rattle.zone_rdata.proofs.GenericLaws.{decimal-is}
 use Rattle.zone_rdata.proofs.Standing.{IsPrintedItem}
@@ -27,11 +12,11 @@ use Rattle.zone_rdata.proofs.Standing.{IsPrintedItem}
 
 -- a text spells at most one name
 abbrev pub NamesOnce : Type 0
-NamesOnce = (origin : Option (List (List ℕ))) (text : List ℕ) (a b : List (List ℕ)) → Spells origin text a → Spells origin text b → a ≡ b
+NamesOnce = (origin : Option (List (List ℕ))) (text : List ℕ) (a b : Labels) → Spells origin text a → Spells origin text b → a ≡ b
 
 -- a text that has a first fault spells no name
 abbrev pub NamesNever : Type 0
-NamesNever = (origin : Option (List (List ℕ))) (text : List ℕ) (labels : List (List ℕ)) (fault : NameFault) → Spells origin text labels → SpellingFault origin text fault → ⊥
+NamesNever = (origin : Option (List (List ℕ))) (text : List ℕ) (labels : Labels) (fault : NameFault) → Spells origin text labels → SpellingFault origin text fault → ⊥
 
 -- a text has at most one first fault
 abbrev pub NameFaultOnce : Type 0
@@ -39,11 +24,11 @@ NameFaultOnce = (origin : Option (List (List ℕ))) (text : List ℕ) (f g : Nam
 
 -- a text of octets spells a name under an origin or has a first fault
 abbrev pub NameOrFault : Type 0
-NameOrFault = (origin : Option (List (List ℕ))) (text : List ℕ) → IfSome origin IsName → AllByRecursion (λ c. c < 256) text → ((labels : List (List ℕ)) × Spells origin text labels) ⊎ ((fault : NameFault) × SpellingFault origin text fault)
+NameOrFault = (origin : Option (List (List ℕ))) (text : List ℕ) → IfSome origin IsName → AllByRecursion (λ c. c < 256) text → ((labels : Labels) × Spells origin text labels) ⊎ ((fault : NameFault) × SpellingFault origin text fault)
 
 -- a name that is printed is spelled under any origin
 abbrev pub NamesPrinted : Type 0
-NamesPrinted = (origin : Option (List (List ℕ))) (labels : List (List ℕ)) → IsName labels → Spells origin (name_text labels) labels
+NamesPrinted = (origin : Option (List (List ℕ))) (labels : Labels) → IsName labels → Spells origin (name_text labels) labels
 
 -- ---- octets below 256
 
@@ -81,7 +66,7 @@ FrontChoice f octets = ((value : FieldValue) × ((rest : List ℕ) × BeginsWith
 pub record FieldLaws {X I : Type 0} (f : Field) (value : X → FieldValue) (items : I → List RawItem) : Type 0 where
   -- it holds no other value, and no other items spell one
   pub only : (v : FieldValue) → Holds f v → (x : X) × (v ≡ value x)
-  pub opens : (origin : List (List ℕ)) (all : List RawItem) (v : FieldValue) → SpellsField origin f all v → (i : I) × (x : X) × (all ≡ items i) × (v ≡ value x)
+  pub opens : (origin : Labels) (all : List RawItem) (v : FieldValue) → SpellsField origin f all v → (i : I) × (x : X) × (all ≡ items i) × (v ≡ value x)
   -- a part for it is a value, of one octet at least
   pub part : (v : FieldValue) → Suits (Some f) v → FitsString v → IsReal v → Holds (part_field f) v × (0 < length (field_octets v))
   -- its octets are read back, are octets, and few
@@ -90,13 +75,13 @@ pub record FieldLaws {X I : Type 0} (f : Field) (value : X → FieldValue) (item
   pub short : (x : X) → f ≢ Strings → IsSized f → Holds f (value x) → length (field_octets (value x)) ≤ 256
   pub front : (octets : List ℕ) → AreLow octets → FrontChoice f octets
   -- items spell a value that it holds, and one alone, or have a fault
-  pub holds : (origin : List (List ℕ)) (i : I) (x : X) → SpellsField origin f (items i) (value x) → Holds f (value x)
-  pub once : NamesOnce → (origin : List (List ℕ)) (i : I) (x y : X) → SpellsField origin f (items i) (value x) → SpellsField origin f (items i) (value y) → x ≡ y
-  pub never : NamesNever → (origin : List (List ℕ)) (i : I) (x : X) (fault : Fault) → SpellsField origin f (items i) (value x) → IsFieldFault origin f (items i) fault → ⊥
-  pub or_fault : NameOrFault → (origin : List (List ℕ)) → IsName origin → (all : List RawItem) → AreLowItems all → FieldChoice origin f (own_items f all)
+  pub holds : (origin : Labels) (i : I) (x : X) → SpellsField origin f (items i) (value x) → Holds f (value x)
+  pub once : NamesOnce → (origin : Labels) (i : I) (x y : X) → SpellsField origin f (items i) (value x) → SpellsField origin f (items i) (value y) → x ≡ y
+  pub never : NamesNever → (origin : Labels) (i : I) (x : X) (fault : Fault) → SpellsField origin f (items i) (value x) → IsFieldFault origin f (items i) fault → ⊥
+  pub or_fault : NameOrFault → (origin : Labels) → IsName origin → (all : List RawItem) → AreLowItems all → FieldChoice origin f (own_items f all)
   -- the items that are printed spell the value, stand in a file as they are, and are not in the
   -- generic form
-  pub printed : NamesPrinted → (origin : List (List ℕ)) (x : X) (rest : List RawItem) → IsSized f → Holds f (value x) → (f ≡ Strings → rest ≡ []) → SpellsField origin f (own_items f (field_items (value x) ++ rest)) (value x) × (items_after f (field_items (value x) ++ rest) ≡ rest)
+  pub printed : NamesPrinted → (origin : Labels) (x : X) (rest : List RawItem) → IsSized f → Holds f (value x) → (f ≡ Strings → rest ≡ []) → SpellsField origin f (own_items f (field_items (value x) ++ rest)) (value x) × (items_after f (field_items (value x) ++ rest) ≡ rest)
   pub stands : (x : X) → IsSized f → Holds f (value x) → AllByRecursion IsPrintedItem (field_items (value x))
   pub unmarked : (x : X) (rest : List RawItem) → IsSized f → Holds f (value x) → IsGeneric (field_items (value x) ++ rest) → ⊥
   -- its text and a space have at most four octets for each of its own
@@ -107,23 +92,19 @@ pub record FieldLaws {X I : Type 0} (f : Field) (value : X → FieldValue) (item
 abbrev pub bare_item : List ℕ → List RawItem
 bare_item text = bare text ∷ []
 
-no_item : (origin : List (List ℕ)) (f : Field) → IsFieldFault origin f [] BadRdata
-no_item origin Strings = refl
-no_item origin f = refl
+no_item : (origin : Labels) (f : Field) → IsFieldFault origin f [] BadRdata
+no_item origin f = grind arith
 
-quoted_item : (origin : List (List ℕ)) (f : Field) (text : List ℕ) → f ≢ Strings → f ≢ OneString → IsFieldFault origin f (quoted text ∷ []) BadRdata
-quoted_item origin Strings text many one = absurd (many refl)
-quoted_item origin OneString text many one = absurd (one refl)
-quoted_item origin f text many one = refl
+quoted_item : (origin : Labels) (f : Field) (text : List ℕ) → f ≢ Strings → f ≢ OneString → IsFieldFault origin f (quoted text ∷ []) BadRdata
+quoted_item origin f text many one = grind arith
 
-pub bare_or_fault : (origin : List (List ℕ)) (f : Field) → f ≢ Strings → f ≢ OneString → ((text : List ℕ) → AreLow text → FieldChoice origin f (bare text ∷ [])) → (items : List RawItem) → AreLowItems items → FieldChoice origin f (take 1 items)
+pub bare_or_fault : (origin : Labels) (f : Field) → f ≢ Strings → f ≢ OneString → ((text : List ℕ) → AreLow text → FieldChoice origin f (bare text ∷ [])) → (items : List RawItem) → AreLowItems items → FieldChoice origin f (take 1 items)
 bare_or_fault origin f many one own [] low = inr (BadRdata, no_item origin f)
 bare_or_fault origin f many one own (quoted text ∷ items) low = inr (BadRdata, quoted_item origin f text many one)
 bare_or_fault origin f many one own (bare text ∷ items) low = own text low.0
 
-pub value_or_fault : {X : Type 0} (origin : List (List ℕ)) (f : Field) (text : List ℕ) (value : X → FieldValue) (own : Fault) (Stated : X → Type 0) → ((x : X) → Stated x → SpellsField origin f (bare text ∷ []) (value x)) → (((x : X) → Stated x → ⊥) → IsFieldFault origin f (bare text ∷ []) own) → Choice Stated → FieldChoice origin f (bare text ∷ [])
-value_or_fault origin f text value own Stated spelt bad (inl found) = inl (value found.0, spelt found.0 found.1)
-value_or_fault origin f text value own Stated spelt bad (inr none) = inr (own, bad none)
+pub value_or_fault : {X : Type 0} (origin : Labels) (f : Field) (text : List ℕ) (value : X → FieldValue) (own : Fault) (Stated : X → Type 0) → ((x : X) → Stated x → SpellsField origin f (bare text ∷ []) (value x)) → (((x : X) → Stated x → ⊥) → IsFieldFault origin f (bare text ∷ []) own) → Choice Stated → FieldChoice origin f (bare text ∷ [])
+value_or_fault origin f text value own Stated spelt bad h = grind arith
 
 -- the mark of the generic form as a text
 abbrev pub mark : List ℕ
@@ -138,14 +119,10 @@ number_unmarked n fits e = false≢true (subst (λ t. AllByRecursion (λ c. is_d
 -- ---- values that are sent as they are kept: all but names
 
 pub plain_front : (f : Field) (v : FieldValue) (front : List ℕ) → f ≢ Name → Holds f v → IsSent v front → front ≡ field_octets v
-plain_front Name v front other h s = absurd (other refl)
-plain_front f (name labels) front other h s = absurd h
-plain_front f v front other h s = s
+plain_front f v front other h s = grind arith
 
 plain_sent : (f : Field) (v : FieldValue) (front : List ℕ) → f ≢ Name → Holds f v → front ≡ field_octets v → IsSent v front
-plain_sent Name v front other h s = absurd (other refl)
-plain_sent f (name labels) front other h s = absurd h
-plain_sent f v front other h s = s
+plain_sent f v front other h s = grind arith
 
 -- so many octets at the beginning of octets are a value, and appended
 pub appends_plain : (f : Field) (octets rest old new : List ℕ) (count : ℕ) (v : FieldValue) → f ≢ Name → Holds f v → take count octets ≡ field_octets v → (f ≡ Strings → rest ≡ []) → AppendsPrefix count octets rest old new → AppendsValue f octets rest old new
@@ -182,11 +159,7 @@ appends_sized {value = value} f count sized octets rest old new low grows =
     appends_plain f octets rest old new count (value own.0) sized.plain own.1 own.2 (λ e. absurd (sized.single e)) grows
 
 pub none_sized : {X : Type 0} {value : X → FieldValue} (f : Field) (count : ℕ) → SizedField f value count → (octets : List ℕ) → length octets < count → BeginsWithNone f octets
-none_sized {value = value} f count sized octets few v rest b =
-    let own = sized.only v b.held in
-    let same = plain_front f v b.front sized.plain b.held b.sent in
-    let size = sized.size own.0 (subst (Holds f) own.1 b.held) in
-    omega (arith, ap length same, ap (λ w. length (field_octets w)) own.1, size, ap length b.parts, length-append b.front rest)
+none_sized {value = value} f count sized octets few v rest b = grind (arith, plain_front, length-append)
 
 pub sized_front : {X : Type 0} {value : X → FieldValue} (f : Field) (count : ℕ) → SizedField f value count → (octets : List ℕ) → AreLow octets → FrontChoice f octets
 sized_front f count sized octets low = elim (cases_lt (length octets) count) [

@@ -1,20 +1,10 @@
 -- What items state for a layout, if there is one, and why they state nothing.
-use Rattle.std.proofs.Common.{◌≡◌, ℕ, ◌≤◌, List, length, refl, sym, ap, ◌∙◌, subst, Bool, false, IsTrue, ◌↔◌, Option, Some, None, Result, Ok, Err}
-use Rattle.std.specs.Prelude.{IfOk, IfErr, IsErrAnd, option_map}
+use Rattle.zone_rdata.proofs.Common.{◌≡◌, ℕ, ◌≤◌, List, length, sym, ap, ◌∙◌, subst, Bool, false, IsTrue, ◌↔◌, Option, Some, None, Result, Ok, Err, arith, IfOk, IfErr, IsErrAnd, Labels, Failing, Fault, IsFaultFor, IsGenericDataFault, IsWordsFault, no_value, opaque_words, IfFault, StatesGeneric, RawItem, IsGeneric, fields_of, AreSpelt, StatesFor, in_words, IsUncompressed}
+use Rattle.std.specs.Prelude.{option_map}
 use Rattle.zone_rdata.specs.declared.fault.Failing.TheVariants as failings
-use Rattle.zone_rdata.specs.declared.fault.Failing.{Failing}
-use Rattle.zone_rdata.specs.declared.fault.Fault.{Fault}
 use Rattle.zone_rdata.specs.declared.fault.Fault.TheVariants.{BadRdata, BadGeneric}
 use Rattle.zone_rdata.specs.declared.layout.Layout.{Layout}
-use Rattle.zone_rdata.specs.DataFault.{IsFaultFor, IsGenericDataFault, IsWordsFault, no_value, opaque_words}
 use Rattle.zone_rdata.specs.DataFault as faults
-use Rattle.zone_rdata.specs.Fault.{IfFault}
-use Rattle.zone_rdata.specs.Generic.{StatesGeneric}
-use Rattle.zone_rdata.specs.Item.{RawItem, IsGeneric}
-use Rattle.zone_rdata.specs.Layout.{fields_of}
-use Rattle.zone_rdata.specs.Machine.Appending.{AreSpelt}
-use Rattle.zone_rdata.specs.Spelling.{StatesFor, in_words}
-use Rattle.zone_rdata.specs.Uncompressed.{IsUncompressed}
 use Rattle.zone_rdata.proofs.Failings.{IfErr-fault}
 
 -- octets in the generic form that are no value of the layout
@@ -27,24 +17,22 @@ not_marked : (items : List RawItem) (b : Bool) → b ≡ false → (IsTrue b ↔
 not_marked items b plain_items test g = let marked = test.1 g in cc (sym plain_items ∙ marked)
 
 -- items in words
-words_found : (origin : List (List ℕ)) (laid : Option Layout) (own : Layout) (items : List RawItem) (b : Bool) (octets : List ℕ) → laid ≡ Some own → b ≡ false → (IsTrue b ↔ IsGeneric items) → AreSpelt origin (fields_of own) items octets → length octets ≤ 65535 → StatesFor origin (option_map fields_of laid) items octets
+words_found : (origin : Labels) (laid : Option Layout) (own : Layout) (items : List RawItem) (b : Bool) (octets : List ℕ) → laid ≡ Some own → b ≡ false → (IsTrue b ↔ IsGeneric items) → AreSpelt origin (fields_of own) items octets → length octets ≤ 65535 → StatesFor origin (option_map fields_of laid) items octets
 words_found origin laid own items b octets e plain_items test spelt short = in_words (fields_of own) spelt.values (ap (option_map fields_of) e) (not_marked items b plain_items test) spelt.spelt spelt.written short
 
-pub words_read : {T : Type 0} (octets_in : T → List ℕ) (r : Result T Failing) (origin : List (List ℕ)) (laid : Option Layout) (own : Layout) (items : List RawItem) (b : Bool) → laid ≡ Some own → b ≡ false → (IsTrue b ↔ IsGeneric items) → IfOk r (λ octets. AreSpelt origin (fields_of own) items (octets_in octets)) → IfOk r (λ octets. length (octets_in octets) ≤ 65535) → IfOk r (λ octets. StatesFor origin (option_map fields_of laid) items (octets_in octets))
+pub words_read : {T : Type 0} (octets_in : T → List ℕ) (r : Result T Failing) (origin : Labels) (laid : Option Layout) (own : Layout) (items : List RawItem) (b : Bool) → laid ≡ Some own → b ≡ false → (IsTrue b ↔ IsGeneric items) → IfOk r (λ octets. AreSpelt origin (fields_of own) items (octets_in octets)) → IfOk r (λ octets. length (octets_in octets) ≤ 65535) → IfOk r (λ octets. StatesFor origin (option_map fields_of laid) items (octets_in octets))
 words_read octets_in (Ok octets) origin laid own items b e plain_items test spelt short = words_found origin laid own items b (octets_in octets) e plain_items test spelt short
 words_read octets_in (Err failing) origin laid own items b e plain_items test spelt short = tt
 
-pub words_fault : (origin : List (List ℕ)) (laid : Option Layout) (own : Layout) (items : List RawItem) (b : Bool) (fault : Fault) → laid ≡ Some own → b ≡ false → (IsTrue b ↔ IsGeneric items) → IsWordsFault origin (fields_of own) items fault → IsFaultFor origin (option_map fields_of laid) items fault
+pub words_fault : (origin : Labels) (laid : Option Layout) (own : Layout) (items : List RawItem) (b : Bool) (fault : Fault) → laid ≡ Some own → b ≡ false → (IsTrue b ↔ IsGeneric items) → IsWordsFault origin (fields_of own) items fault → IsFaultFor origin (option_map fields_of laid) items fault
 words_fault origin laid own items b fault e plain_items test bad = faults.in_words (fields_of own) fault (ap (option_map fields_of) e) (not_marked items b plain_items test) bad
 
-pub opaque_fault : (origin : List (List ℕ)) (laid : Option Layout) (items : List RawItem) (b : Bool) → laid ≡ None → b ≡ false → (IsTrue b ↔ IsGeneric items) → IsFaultFor origin (option_map fields_of laid) items BadGeneric
+pub opaque_fault : (origin : Labels) (laid : Option Layout) (items : List RawItem) (b : Bool) → laid ≡ None → b ≡ false → (IsTrue b ↔ IsGeneric items) → IsFaultFor origin (option_map fields_of laid) items BadGeneric
 opaque_fault origin laid items b e plain_items test = opaque_words (ap (option_map fields_of) e) (not_marked items b plain_items test)
 
 -- items that state a value are refused for want of memory alone
 memory_left : (e : Failing) (P : Fault → Type 0) → IfFault P e → ((fault : Fault) → P fault → ⊥) → e ≡ failings.Memory
-memory_left (failings.Fault fault) P bad none = absurd (none fault bad)
-memory_left failings.Memory P bad none = refl
+memory_left e P bad none = grind arith
 
 pub only_memory : {T : Type 0} (r : Result T Failing) (e : Failing) (P : Fault → Type 0) (Q : T → Type 0) → IsErrAnd r (λ x. x ≡ e) → IfFault P e → ((fault : Fault) → P fault → ⊥) → IfOk r Q × IfErr r (λ x. x ≡ failings.Memory)
-only_memory (Ok x) e P Q is bad none = absurd is
-only_memory (Err x) e P Q is bad none = (tt, is ∙ memory_left e P bad none)
+only_memory r e P Q is bad none = grind (arith, memory_left)

@@ -1,15 +1,7 @@
 -- The generic form: digits that join to octets, item after item.
-use Rattle.std.proofs.Common.{◌≡◌, ◌≢◌, ℕ, ◌+◌, ◌-◌, ◌/◌, ◌<◌, ◌≤◌, min, List, [], ◌∷◌, ◌++◌, length, get_or, take, drop, map, length-drop, Ok, refl, sym, ap, ◌∙◌, subst, arith, append_assoc, length-append}
-use Rattle.std.proofs.lemmas.List.{drop_all, take_all, append-nil}
-use Rattle.hex.specs.Hex.{decode_of}
-use Rattle.hex.proofs.HexLemmas.{decode_of-ok, decode_of-same}
-use Rattle.zone_rdata.specs.declared.fault.Fault.{Fault}
+use Rattle.zone_rdata.proofs.Common.{[], ◌≡◌, ◌≢◌, ℕ, ◌+◌, ◌-◌, ◌/◌, ◌<◌, ◌≤◌, min, List, ◌∷◌, ◌++◌, length, get_or, take, drop, map, Ok, refl, sym, ap, ◌∙◌, subst, arith, append_assoc, length-append, drop_all, take_all, append-nil, decode_of, decode_of-ok, decode_of-same, Fault, Item, RawItem, bare, quoted, raw, generic_mark, IsGeneric, IsDecimal, StatesLength, JoinTo, StatesGeneric, GenericFault, no_length, long_length, bad_digits, Appends}
+use Rattle.std.proofs.Common.{length-drop}
 use Rattle.zone_rdata.specs.declared.fault.Fault.TheVariants.{BadGeneric, RdataTooLong}
-use Rattle.zone_rdata.specs.declared.item.Item.{Item}
-use Rattle.zone_rdata.specs.Item.{RawItem, bare, quoted, raw, generic_mark, IsGeneric}
-use Rattle.zone_rdata.specs.Number.{IsDecimal}
-use Rattle.zone_rdata.specs.Generic.{StatesLength, JoinTo, StatesGeneric, GenericFault, no_length, long_length, bad_digits}
-use Rattle.zone_rdata.specs.Machine.Appending.{Appends}
 use Rattle.zone_rdata.specs.Machine.GenericLength.{LengthFault, no_number, beyond}
 use Rattle.zone_rdata.proofs.Lists.{from_place}
 
@@ -20,10 +12,7 @@ half_length text front e = let twice = (decode_of-ok text front e).2 in omega ar
 -- items are digits of one list of octets
 pub JoinTo-once : (items : List RawItem) (a b : List ℕ) → JoinTo items a → JoinTo items b → a ≡ b
 JoinTo-once [] a b x y = x ∙ sym y
-JoinTo-once (bare text ∷ items) a b x y =
-    let fronts = decode_of-same text x.0 y.0 x.2 y.2 in
-    let rests = JoinTo-once items x.1 y.1 x.4 y.4 in
-    x.3 ∙ ap (λ t. t ++ x.1) fronts ∙ ap (λ t. y.0 ++ t) rests ∙ sym y.3
+JoinTo-once (bare text ∷ items) a b x y = grind (arith, JoinTo-once items x.1 y.1 x.4 y.4)
 JoinTo-once (quoted text ∷ items) a b x y = absurd x
 
 -- the items up to a place join to the octets, and those from it on to what follows
@@ -32,15 +21,7 @@ pub record HaveJoined (items : List RawItem) (rest : List RawItem) (octets : Lis
   pub back : (whole : List ℕ) → JoinTo items whole → (more : List ℕ) × JoinTo rest more × (whole ≡ octets ++ more)
 
 joined_step : (items rest : List RawItem) (text octets front new : List ℕ) → HaveJoined items (bare text ∷ rest) octets → decode_of text ≡ Ok front → new ≡ octets ++ front → HaveJoined items rest new
-joined_step items rest text octets front new joined e grown = record {
-  leads = λ more h.
-      subst (JoinTo items) (sym (ap (λ t. t ++ more) grown ∙ append_assoc octets front more)) (joined.leads (front ++ more) (front, more, e, refl, h));
-  back = λ whole h.
-      let b = joined.back whole h in
-      let j = b.1 in
-      let fronts = decode_of-same text j.0 front j.2 e in
-      (j.1, j.4, b.2 ∙ ap (λ t. octets ++ t) (j.3 ∙ ap (λ t. t ++ j.1) fronts) ∙ sym (append_assoc octets front j.1) ∙ ap (λ t. t ++ j.1) (sym grown));
-}
+joined_step items rest text octets front new joined e grown = grind (arith, append_assoc, decode_of-same)
 
 pub joined_more : (items : List Item) (i : ℕ) (item d : Item) (text octets new : List ℕ) → i < length items → item ≡ get_or items i d → raw item ≡ bare text → HaveJoined (map raw items) (map raw (drop i items)) octets → Appends (λ front. decode_of text ≡ Ok front) (λ front. front) octets new → HaveJoined (map raw items) (map raw (drop (i + 1) items)) new
 joined_more items i item d text octets new lt found is joined grows =
@@ -48,24 +29,15 @@ joined_more items i item d text octets new lt found is joined grows =
     joined_step (map raw items) (map raw (drop (i + 1) items)) text octets grows.value new (subst (λ r. HaveJoined (map raw items) r octets) here joined) grows.stated grows.written
 
 next_front : (items : List Item) (i : ℕ) (item d : Item) (text octets : List ℕ) → i < length items → item ≡ get_or items i d → raw item ≡ bare text → HaveJoined (map raw items) (map raw (drop i items)) octets → (whole : List ℕ) → JoinTo (map raw items) whole → (front : List ℕ) × (rest : List ℕ) × (decode_of text ≡ Ok front) × (whole ≡ octets ++ (front ++ rest))
-next_front items i item d text octets lt found is joined whole h =
-    let here : map raw (drop i items) ≡ bare text ∷ map raw (drop (i + 1) items) = ap (map raw) (from_place items i item d lt found) ∙ ap (λ x. x ∷ map raw (drop (i + 1) items)) is in
-    let b = joined.back whole h in
-    let j = subst (λ r. JoinTo r b.0) here b.1 in
-    (j.0, j.1, j.2, b.2 ∙ ap (λ t. octets ++ t) j.3)
+next_front items i item d text octets lt found is joined whole h = grind (arith, from_place)
 
 -- an item with another character, or of odd length, joins to nothing
 pub joined_bad : (items : List Item) (i : ℕ) (item d : Item) (text octets : List ℕ) → i < length items → item ≡ get_or items i d → raw item ≡ bare text → HaveJoined (map raw items) (map raw (drop i items)) octets → ((front : List ℕ) → decode_of text ≢ Ok front) → (whole : List ℕ) → JoinTo (map raw items) whole → ⊥
-joined_bad items i item d text octets lt found is joined bad whole h =
-    let next = next_front items i item d text octets lt found is joined whole h in
-    bad next.0 next.2
+joined_bad items i item d text octets lt found is joined bad whole h = grind (arith, next_front)
 
 -- an item of too many digits joins to too many octets
 pub joined_over : (items : List Item) (i : ℕ) (item d : Item) (text octets : List ℕ) (len : ℕ) → i < length items → item ≡ get_or items i d → raw item ≡ bare text → HaveJoined (map raw items) (map raw (drop i items)) octets → length octets ≤ len → len - length octets < length text / 2 → (whole : List ℕ) → JoinTo (map raw items) whole → length whole ≢ len
-joined_over items i item d text octets len lt found is joined room over whole h e =
-    let next = next_front items i item d text octets lt found is joined whole h in
-    let half = half_length text next.0 next.2 in
-    absurd (omega (arith, ap length next.3, length-append octets (next.0 ++ next.1), length-append next.0 next.1, half))
+joined_over items i item d text octets len lt found is joined room over whole h e = grind (arith, next_front, half_length, length-append)
 
 -- at the end all of it is joined
 pub joined_all : (items : List Item) (i : ℕ) (octets : List ℕ) → length items ≤ i → HaveJoined (map raw items) (map raw (drop i items)) octets → JoinTo (map raw items) octets
@@ -76,10 +48,6 @@ joined_all items i octets past joined =
 -- ---- the length
 decimal_once : (text : List ℕ) (m n : ℕ) → IsDecimal text m → IsDecimal text n → m ≡ n
 decimal_once text m n a b = a.value ∙ sym b.value
-
-pub StatesLength-once : (item : RawItem) (m n : ℕ) → StatesLength item m → StatesLength item n → m ≡ n
-StatesLength-once (bare text) m n a b = decimal_once text m n a b
-StatesLength-once (quoted text) m n a b = absurd a
 
 pub length_none : (item : Item) (text : List ℕ) → raw item ≡ bare text → ((n : ℕ) → IsDecimal text n → ⊥) → LengthFault (raw item) BadGeneric
 length_none item text is none = no_number (λ n h. none n (subst (λ r. StatesLength r n) is h))
@@ -96,20 +64,14 @@ pub form_missing : (items : List RawItem) → IsGeneric items → length items �
 form_missing items marked short = no_length marked (λ n digits form. absurd (omega (arith, ap length form.parts)))
 
 pub form_states : (items digits : List RawItem) (item : RawItem) (octets : List ℕ) (n : ℕ) → items ≡ generic_mark ∷ item ∷ digits → StatesLength item n → n ≤ 65535 → JoinTo digits octets → length octets ≡ n → StatesGeneric items octets
-form_states items digits item octets n e states short joined count = record {
-  digits = digits;
-  form = record { item = item; parts = e; states = subst (StatesLength item) (sym count) states };
-  short = omega arith;
-  joined = joined;
-}
+form_states items digits item octets n e states short joined count = grind arith
 
 pub form_digits : (items digits : List RawItem) (item : RawItem) (n : ℕ) (fault : Fault) → items ≡ generic_mark ∷ item ∷ digits → StatesLength item n → n ≤ 65535 → (fault ≡ BadGeneric) × ((octets : List ℕ) → JoinTo digits octets → length octets ≢ n) → GenericFault items fault
 form_digits items digits item n fault e states short bad =
     subst (GenericFault items) (sym bad.0) (bad_digits n digits (record { item = item; parts = e; states = states }) short bad.1)
 
 pub form_parts : (items : List Item) (d : Item) → 2 ≤ length items → IsGeneric (map raw items) → map raw items ≡ generic_mark ∷ raw (get_or items 1 d) ∷ map raw (drop 2 items)
-form_parts (a ∷ b ∷ items) d two marked = let same : raw a ≡ generic_mark = cc (marked.1) in ap (λ x. x ∷ raw b ∷ map raw items) same
-form_parts items d two marked = absurd (omega arith)
+form_parts items d two marked = grind arith
 
 pub length_beyond : (item : Item) (text : List ℕ) (number most : ℕ) → raw item ≡ bare text → (m : ℕ) × (IsDecimal text m × (number ≡ min most m)) → 65535 < number → LengthFault (raw item) RdataTooLong
 length_beyond item text number most is found over = beyond found.0 (subst (λ r. StatesLength r found.0) (sym is) found.1.0) (let e = found.1.1 in omega arith)

@@ -1,26 +1,12 @@
 -- The laws of the generic form.
-use Rattle.std.proofs.Common.{◌≡◌, ℕ, ◌+◌, ◌/◌, ◌%◌, ◌<◌, ◌≤◌, ◌^◌, true, List, [], ◌∷◌, ◌++◌, length, map, Result, Ok, Err, ◌⊎◌, inl, inr, refl, sym, ap, ◌∙◌, subst, arith, length-append}
+use Rattle.zone_rdata.proofs.Common.{[], ◌≡◌, ℕ, ◌+◌, ◌/◌, ◌%◌, ◌<◌, ◌≤◌, ◌^◌, true, List, ◌∷◌, ◌++◌, length, map, Result, Ok, Err, ◌⊎◌, inl, inr, refl, sym, ap, ◌∙◌, subst, arith, length-append, join_with_byte, cases_lt, cases_eq, decimal_digit, decimal_by_steps, append-nil, decode_of, decode_of-encode_lower, AreOctets, is_digit, Fault, RawItem, bare, quoted, generic_mark, IsGeneric, IsDecimal, decimal_value, StatesLength, IsGenericForm, JoinTo, StatesGeneric, GenericFault, no_length, long_length, bad_digits, digit_items, generic_items, item_text, generic_text, AllByRecursion-append}
 use Rattle.std.specs.Prelude.{decimal}
-use Rattle.std.specs.List.{AllByRecursion, join_with_byte}
-use Rattle.std.proofs.lemmas.Bool.{cases_lt, cases_eq}
-use Rattle.std.proofs.lemmas.Fmt.{decimal_digit, decimal_by_steps}
-use Rattle.std.proofs.lemmas.List.{append-nil}
-use Rattle.hex.specs.Hex.{decode_of}
 use Rattle.hex.specs.declared.error.FromHexError.{FromHexError}
-use Rattle.hex.proofs.HexLemmas.{decode_of-encode_lower}
-use Rattle.zone_name.specs.Spelling.{is_digit}
-use Rattle.zone_rdata.specs.declared.fault.Fault.{Fault}
 use Rattle.zone_rdata.specs.declared.fault.Fault.TheVariants.{BadGeneric, RdataTooLong}
-use Rattle.zone_rdata.specs.Item.{RawItem, bare, quoted, generic_mark, IsGeneric}
-use Rattle.zone_rdata.specs.Number.{IsDecimal, decimal_value}
-use Rattle.zone_rdata.specs.Generic.{StatesLength, IsGenericForm, JoinTo, StatesGeneric, GenericFault, no_length, long_length, bad_digits, digit_items, generic_items}
 use Rattle.zone_rdata.specs.Machine.GenericLength.{LengthFault, no_number, beyond}
-use Rattle.zone_rdata.specs.Strings.{item_text}
-use Rattle.zone_rdata.specs.Text.{generic_text}
 use Rattle.zone_rdata.proofs.Choices.{Choice, each_or_not, true_or_not}
 use Rattle.zone_rdata.proofs.Decimal.{value_push}
-use Rattle.zone_rdata.proofs.GenericForm.{JoinTo-once, StatesLength-once, form_faults, form_missing, form_states}
-use Rattle.zone_name.proofs.Pushing.{AllByRecursion-append}
+use Rattle.zone_rdata.proofs.GenericForm.{JoinTo-once, form_faults, form_missing, form_states}
 use Rattle.zone_rdata.proofs.Lists.{each_below}
 use Rattle.zone_name.proofs.Lawful.{digit_test}
 
@@ -29,9 +15,7 @@ forms_digits : (items : List RawItem) (m n : ℕ) (a b : List RawItem) → IsGen
 forms_digits items m n a b f g = let e = sym f.parts ∙ g.parts in cc
 
 forms_length : (items : List RawItem) (m n : ℕ) (a b : List RawItem) → IsGenericForm items m a → IsGenericForm items n b → m ≡ n
-forms_length items m n a b f g =
-    let same : f.item ≡ g.item = cc (sym f.parts ∙ g.parts) in
-    StatesLength-once g.item m n (subst (λ i. StatesLength i m) same f.states) g.states
+forms_length items m n a b f g = grind arith
 
 pub generic-once : (items : List RawItem) (a b : List ℕ) → StatesGeneric items a → StatesGeneric items b → a ≡ b
 generic-once items a b x y =
@@ -40,9 +24,8 @@ generic-once items a b x y =
 
 pub generic-never_both : (items : List RawItem) (octets : List ℕ) (fault : Fault) → StatesGeneric items octets → GenericFault items fault → ⊥
 generic-never_both items octets _ x (no_length marked none) = none (length octets) x.digits x.form
-generic-never_both items octets _ x (long_length n digits form over) = absurd (omega (arith, x.short, forms_length items (length octets) n x.digits digits x.form form))
-generic-never_both items octets _ x (bad_digits n digits form short bad) =
-    bad octets (subst (λ d. JoinTo d octets) (forms_digits items (length octets) n x.digits digits x.form form) x.joined) (forms_length items (length octets) n x.digits digits x.form form)
+generic-never_both items octets _ x (long_length n digits form over) = grind (arith, forms_length)
+generic-never_both items octets _ x (bad_digits n digits form short bad) = grind (arith, forms_digits, forms_length)
 
 pub generic_fault-once : (items : List RawItem) (a b : Fault) → GenericFault items a → GenericFault items b → a ≡ b
 generic_fault-once items _ _ (no_length marked none) (long_length n digits form over) = absurd (none n digits form)
@@ -73,7 +56,7 @@ length_or_fault (bare text) = elim (decimal_or_not text) [
 joins_by : (text : List ℕ) (items : List RawItem) (found : Result (List ℕ) FromHexError) → decode_of text ≡ found → Choice (JoinTo items) → Choice (JoinTo (bare text ∷ items))
 joins_by text items (Ok front) e (inl rest) = inl (front ++ rest.0, (front, rest.0, e, refl, rest.1))
 joins_by text items (Ok front) e (inr none) = inr (λ octets h. none h.1 h.4)
-joins_by text items (Err error) e rest = inr (λ octets h. absurd (let f : Err error ≡ Ok h.0 = sym e ∙ h.2 in cc))
+joins_by text items (Err error) e rest = grind arith
 
 joins_or_not : (items : List RawItem) → Choice (JoinTo items)
 joins_or_not [] = inl ([], refl)
@@ -113,11 +96,11 @@ more_digits n digits h is = record {
 pub decimal-is : (n : ℕ) → n < 2 ^ 64 → IsDecimal (decimal n) n
 decimal-is n h = decimal_by_steps (λ n text. IsDecimal text n) one_digit more_digits n h
 
-printed_joins : (octets : List ℕ) → AllByRecursion (λ c. c < 256) octets → JoinTo (digit_items octets) octets
+printed_joins : (octets : List ℕ) → AreOctets octets → JoinTo (digit_items octets) octets
 printed_joins [] each = refl
 printed_joins (c ∷ octets) each = (c ∷ octets, [], decode_of-encode_lower (c ∷ octets) (each_below 256 (c ∷ octets) (omega arith) each), sym (append-nil (c ∷ octets)), refl)
 
-pub printed-stated : (octets : List ℕ) → AllByRecursion (λ c. c < 256) octets → length octets ≤ 65535 → StatesGeneric (generic_items octets) octets
+pub printed-stated : (octets : List ℕ) → AreOctets octets → length octets ≤ 65535 → StatesGeneric (generic_items octets) octets
 printed-stated octets each short = record {
   digits = digit_items octets;
   form = record { item = bare (decimal (length octets)); parts = refl; states = decimal-is (length octets) (omega arith) };
@@ -126,5 +109,4 @@ printed-stated octets each short = record {
 }
 
 pub printed-text : (octets : List ℕ) → generic_text octets ≡ join_with_byte 32 (map item_text (generic_items octets))
-printed-text [] = ap (λ t. 92 ∷ 35 ∷ 32 ∷ t) (sym (decimal_digit 0 (omega arith)))
-printed-text (c ∷ octets) = refl
+printed-text octets = grind (arith, decimal_digit)

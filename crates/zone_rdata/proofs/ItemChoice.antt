@@ -1,20 +1,6 @@
 -- Items state a value or have a first fault.
-use Rattle.std.proofs.Common.{List, None, Option, Some, [], ap, inl, inr, length, refl, subst, sym, ℕ, ◌<◌, ◌∷◌, ◌≡◌, ◌⊎◌}
-use Rattle.std.proofs.lemmas.Bool.{cases_lt}
-use Rattle.hex.proofs.HexLemmas.{decode_of-ok}
-use Rattle.zone_name.specs.Name.{IsName}
-use Rattle.zone_name.proofs.Pushing.{AllByRecursion-append}
-use Rattle.zone_rdata.specs.declared.fault.Fault.{Fault}
+use Rattle.zone_rdata.proofs.Common.{[], List, None, Option, Some, ap, inl, inr, length, refl, subst, sym, ℕ, ◌<◌, ◌∷◌, ◌≡◌, ◌⊎◌, arith, cases_lt, decode_of-ok, Labels, IsName, AllByRecursion-append, Fault, Field, FirstFieldFault, IsDataFault, IsFaultFor, in_generic_form, malformed, no_value, opaque_words, too_long, unspelt, FieldValue, items_after, octets_of, own_items, GenericFault, JoinTo, StatesGeneric, IsGeneric, RawItem, bare, quoted, layout, SpellEach, States, StatesFor, in_words, IsUncompressed}
 use Rattle.zone_rdata.specs.declared.fault.Fault.TheVariants.{BadGeneric, BadRdata, RdataTooLong}
-use Rattle.zone_rdata.specs.declared.field.Field.{Field}
-use Rattle.zone_rdata.specs.declared.field.Field.TheVariants.{Strings}
-use Rattle.zone_rdata.specs.DataFault.{FirstFieldFault, IsDataFault, IsFaultFor, in_generic_form, malformed, no_value, opaque_words, too_long, unspelt}
-use Rattle.zone_rdata.specs.Field.{FieldValue, items_after, octets_of, own_items}
-use Rattle.zone_rdata.specs.Generic.{GenericFault, JoinTo, StatesGeneric}
-use Rattle.zone_rdata.specs.Item.{IsGeneric, RawItem, bare, quoted}
-use Rattle.zone_rdata.specs.Layout.{layout}
-use Rattle.zone_rdata.specs.Spelling.{SpellEach, States, StatesFor, in_octets, in_words}
-use Rattle.zone_rdata.specs.Uncompressed.{IsUncompressed}
 use Rattle.zone_rdata.proofs.AnyField.{field_or_fault}
 use Rattle.zone_rdata.proofs.Lists.{bytes_each}
 use Rattle.zone_rdata.proofs.Choices.{Choice, Decided}
@@ -25,20 +11,18 @@ use Rattle.zone_rdata.proofs.WordChoice.{same_or_not}
 use Rattle.zone_rdata.specs.DataFault as faults
 
 low_later : (f : Field) (items : List RawItem) → AreLowItems items → AreLowItems (items_after f items)
-low_later Strings items low = tt
-low_later f [] low = tt
-low_later f (item ∷ items) low = low.1
+low_later f items low = grind arith
 
 -- ---- items in words
 abbrev WordsChoice : List (List ℕ) → List Field → List RawItem → Type 0
 WordsChoice origin row items = ((values : List FieldValue) × SpellEach origin row items values) ⊎ ((fault : Fault) × FirstFieldFault origin row items fault)
 
-next_field : (origin : List (List ℕ)) (f : Field) (row : List Field) (items : List RawItem) → FieldChoice origin f (own_items f items) → WordsChoice origin row (items_after f items) → WordsChoice origin (f ∷ row) items
+next_field : (origin : Labels) (f : Field) (row : List Field) (items : List RawItem) → FieldChoice origin f (own_items f items) → WordsChoice origin row (items_after f items) → WordsChoice origin (f ∷ row) items
 next_field origin f row items (inr bad) rest = inr (bad.0, inl bad.1)
 next_field origin f row items (inl found) (inl more) = inl (found.0 ∷ more.0, (found.1, more.1))
 next_field origin f row items (inl found) (inr bad) = inr (bad.0, inr (found.0, found.1, bad.1))
 
-words_by : NameOrFault → (origin : List (List ℕ)) → IsName origin → (row : List Field) (items : List RawItem) → AreLowItems items → WordsChoice origin row items
+words_by : NameOrFault → (origin : Labels) → IsName origin → (row : List Field) (items : List RawItem) → AreLowItems items → WordsChoice origin row items
 words_by names origin is [] [] low = inl ([], tt)
 words_by names origin is [] (item ∷ items) low = inr (BadRdata, refl)
 words_by names origin is (f ∷ row) items low = next_field origin f row items (field_or_fault names origin is f items low) (words_by names origin is row (items_after f items) (low_later f items low))
@@ -47,14 +31,14 @@ words_by names origin is (f ∷ row) items low = next_field origin f row items (
 abbrev Outcome : List (List ℕ) → Option (List Field) → List RawItem → Type 0
 Outcome origin laid items = ((octets : List ℕ) × StatesFor origin laid items octets) ⊎ ((fault : Fault) × IsFaultFor origin laid items fault)
 
-worded : (origin : List (List ℕ)) (row : List Field) (items : List RawItem) → (IsGeneric items → ⊥) → WordsChoice origin row items → Outcome origin (Some row) items
+worded : (origin : Labels) (row : List Field) (items : List RawItem) → (IsGeneric items → ⊥) → WordsChoice origin row items → Outcome origin (Some row) items
 worded origin row items unmarked (inr bad) = inr (bad.0, faults.in_words row bad.0 refl unmarked (unspelt bad.0 bad.1))
 worded origin row items unmarked (inl found) = elim (cases_lt 65535 (length (octets_of found.0))) [
   | inl over ↦ inr (RdataTooLong, faults.in_words row RdataTooLong refl unmarked (too_long found.0 found.1 over))
   | inr short ↦ inl (octets_of found.0, in_words row found.0 refl unmarked found.1 refl short)
 ]
 
-words_or_fault : NameOrFault → (origin : List (List ℕ)) → IsName origin → (laid : Option (List Field)) (items : List RawItem) → AreLowItems items → (IsGeneric items → ⊥) → Outcome origin laid items
+words_or_fault : NameOrFault → (origin : Labels) → IsName origin → (laid : Option (List Field)) (items : List RawItem) → AreLowItems items → (IsGeneric items → ⊥) → Outcome origin laid items
 words_or_fault names origin is None items low unmarked = inr (BadGeneric, opaque_words refl unmarked)
 words_or_fault names origin is (Some row) items low unmarked = worded origin row items unmarked (words_by names origin is row items low)
 
@@ -64,13 +48,13 @@ joined_low [] octets h = subst AreLow (sym h) tt
 joined_low (bare text ∷ items) octets h = subst AreLow (sym h.3) (AllByRecursion-append (λ c. c < 256) h.0 h.1 (bytes_each h.0 (decode_of-ok text h.0 h.2).3) (joined_low items h.1 h.4))
 joined_low (quoted text ∷ items) octets h = absurd h
 
-canonical_item : (origin : List (List ℕ)) (row : List Field) (items : List RawItem) (stated : List ℕ) → StatesGeneric items stated → Choice (IsUncompressed row stated) → Outcome origin (Some row) items
-canonical_item origin row items stated form (inl found) = inl (found.0, in_octets (stated, form, found.1))
+canonical_item : (origin : Labels) (row : List Field) (items : List RawItem) (stated : List ℕ) → StatesGeneric items stated → Choice (IsUncompressed row stated) → Outcome origin (Some row) items
+canonical_item origin row items stated form (inl found) = grind arith
 canonical_item origin row items stated form (inr none) = inr (BadRdata, in_generic_form BadRdata (no_value row stated refl form none))
 
-form_by : (origin : List (List ℕ)) (class kind : ℕ) (laid : Option (List Field)) (items : List RawItem) → layout class kind ≡ laid → ((octets : List ℕ) × StatesGeneric items octets) ⊎ ((fault : Fault) × GenericFault items fault) → Outcome origin laid items
+form_by : (origin : Labels) (class kind : ℕ) (laid : Option (List Field)) (items : List RawItem) → layout class kind ≡ laid → ((octets : List ℕ) × StatesGeneric items octets) ⊎ ((fault : Fault) × GenericFault items fault) → Outcome origin laid items
 form_by origin class kind laid items e (inr bad) = inr (bad.0, in_generic_form bad.0 (malformed bad.0 bad.1))
-form_by origin class kind None items e (inl found) = inl (found.0, in_octets (found.0, found.1, refl))
+form_by origin class kind None items e (inl found) = grind arith
 form_by origin class kind (Some row) items e (inl found) = canonical_item origin row items found.0 found.1 (canonical_or_not class kind row found.0 e (joined_low found.1.digits found.0 found.1.joined))
 
 -- the first item is the mark or not
@@ -81,12 +65,12 @@ marked_or_not (bare text ∷ rest) = elim (same_or_not text mark) [
 ]
 marked_or_not items = inr (λ h. absurd (let e = h.1 in cc))
 
-outcome_by : NameOrFault → (origin : List (List ℕ)) → IsName origin → (class kind : ℕ) (items : List RawItem) → AreLowItems items → Decided (IsGeneric items) → Outcome origin (layout class kind) items
+outcome_by : NameOrFault → (origin : Labels) → IsName origin → (class kind : ℕ) (items : List RawItem) → AreLowItems items → Decided (IsGeneric items) → Outcome origin (layout class kind) items
 outcome_by names origin is class kind items low (inl marked) = form_by origin class kind (layout class kind) items refl (generic-or_fault items marked)
 outcome_by names origin is class kind items low (inr unmarked) = words_or_fault names origin is (layout class kind) items low unmarked
 
 -- ---- data of a class and type
-pub data-or_fault : NameOrFault → (origin : List (List ℕ)) (class kind : ℕ) (items : List RawItem) → IsName origin → AreLowItems items → ((octets : List ℕ) × States origin class kind items octets) ⊎ ((fault : Fault) × IsDataFault origin class kind items fault)
+pub data-or_fault : NameOrFault → (origin : Labels) (class kind : ℕ) (items : List RawItem) → IsName origin → AreLowItems items → ((octets : List ℕ) × States origin class kind items octets) ⊎ ((fault : Fault) × IsDataFault origin class kind items fault)
 data-or_fault names origin class kind items is low = elim (outcome_by names origin is class kind items low (marked_or_not items)) [
   | inl found ↦ inl (found.0, record { stated = found.1 })
   | inr bad ↦ inr (bad.0, record { first = bad.1 })

@@ -1,14 +1,5 @@
 -- Items state at most one value, or have at most one first fault.
-use Rattle.std.proofs.Common.{List, None, Option, Some, [], ap, arith, inl, inr, length, refl, subst, sym, ℕ, ◌∙◌, ◌∷◌, ◌≡◌, ◌≤◌}
-use Rattle.zone_rdata.specs.declared.fault.Fault.{Fault}
-use Rattle.zone_rdata.specs.declared.field.Field.{Field}
-use Rattle.zone_rdata.specs.DataFault.{FirstFieldFault, IsDataFault, IsFaultFor, IsGenericDataFault, IsWordsFault, in_generic_form, malformed, no_value, opaque_words, too_long, unspelt}
-use Rattle.zone_rdata.specs.Field.{FieldValue, items_after, octets_of, own_items}
-use Rattle.zone_rdata.specs.Generic.{StatesGeneric, GenericFault, no_length, long_length, bad_digits}
-use Rattle.zone_rdata.specs.Item.{RawItem, IsGeneric}
-use Rattle.zone_rdata.specs.Layout.{layout}
-use Rattle.zone_rdata.specs.Spelling.{IsCanonicalOf, SpellEach, States, StatesFor, in_octets, in_words}
-use Rattle.zone_rdata.specs.Uncompressed.{IsUncompressed}
+use Rattle.zone_rdata.proofs.Common.{[], List, None, Option, Some, arith, inl, inr, length, refl, subst, sym, ℕ, ◌∙◌, ◌∷◌, ◌≡◌, ◌≤◌, Labels, Fault, Field, FirstFieldFault, IsDataFault, IsFaultFor, IsGenericDataFault, IsWordsFault, in_generic_form, malformed, no_value, opaque_words, too_long, unspelt, FieldValue, items_after, octets_of, StatesGeneric, GenericFault, RawItem, IsGeneric, layout, IsCanonicalOf, SpellEach, States, StatesFor, in_octets, in_words, IsUncompressed}
 use Rattle.zone_rdata.proofs.AnyField.{field_fault_once, field_never, field_once}
 use Rattle.zone_rdata.proofs.FieldLaws.{NameFaultOnce, NamesNever, NamesOnce}
 use Rattle.zone_rdata.proofs.GenericLaws.{generic-never_both, generic-once, generic_fault-once}
@@ -17,33 +8,31 @@ use Rattle.zone_rdata.specs.DataFault as faults
 
 -- ---- items in words
 
-each_once : NamesOnce → (origin : List (List ℕ)) (row : List Field) (items : List RawItem) (vs ws : List FieldValue) → SpellEach origin row items vs → SpellEach origin row items ws → vs ≡ ws
+each_once : NamesOnce → (origin : Labels) (row : List Field) (items : List RawItem) (vs ws : List FieldValue) → SpellEach origin row items vs → SpellEach origin row items ws → vs ≡ ws
 each_once names origin [] [] [] [] h k = refl
 each_once names origin [] [] [] (w ∷ ws) h k = absurd k
 each_once names origin (f ∷ row) items (v ∷ vs) [] h k = absurd k
-each_once names origin (f ∷ row) items (v ∷ vs) (w ∷ ws) h k =
-    ap (λ x. x ∷ vs) (field_once names origin f (own_items f items) v w h.0 k.0) ∙ ap (λ xs. w ∷ xs) (each_once names origin row (items_after f items) vs ws h.1 k.1)
+each_once names origin (f ∷ row) items (v ∷ vs) (w ∷ ws) h k = grind (arith, field_once, each_once names origin row (items_after f items) vs ws h.1 k.1)
 each_once names origin row items vs ws h k = absurd h
 
-first_never : NamesNever → (origin : List (List ℕ)) (row : List Field) (items : List RawItem) (values : List FieldValue) (fault : Fault) → SpellEach origin row items values → FirstFieldFault origin row items fault → ⊥
+first_never : NamesNever → (origin : Labels) (row : List Field) (items : List RawItem) (values : List FieldValue) (fault : Fault) → SpellEach origin row items values → FirstFieldFault origin row items fault → ⊥
 first_never names origin [] [] values fault h bad = bad
-first_never names origin (f ∷ row) items (v ∷ values) fault h (inl bad) = field_never names origin f (own_items f items) v fault h.0 bad
+first_never names origin (f ∷ row) items (v ∷ values) fault h (inl bad) = grind (arith, field_never)
 first_never names origin (f ∷ row) items (v ∷ values) fault h (inr more) = first_never names origin row (items_after f items) values fault h.1 more.2
 first_never names origin row items values fault h bad = h
 
-first_once : NamesNever → NameFaultOnce → (origin : List (List ℕ)) (row : List Field) (items : List RawItem) (a b : Fault) → FirstFieldFault origin row items a → FirstFieldFault origin row items b → a ≡ b
+first_once : NamesNever → NameFaultOnce → (origin : Labels) (row : List Field) (items : List RawItem) (a b : Fault) → FirstFieldFault origin row items a → FirstFieldFault origin row items b → a ≡ b
 first_once names once origin [] [] a b x y = absurd x
 first_once names once origin [] (item ∷ items) a b x y = x ∙ sym y
-first_once names once origin (f ∷ row) items a b (inl x) (inl y) = field_fault_once once origin f (own_items f items) a b x y
-first_once names once origin (f ∷ row) items a b (inl x) (inr y) = absurd (field_never names origin f (own_items f items) y.0 a y.1 x)
-first_once names once origin (f ∷ row) items a b (inr x) (inl y) = absurd (field_never names origin f (own_items f items) x.0 b x.1 y)
+first_once names once origin (f ∷ row) items a b (inl x) (inl y) = grind (arith, field_fault_once)
+first_once names once origin (f ∷ row) items a b (inl x) (inr y) = grind (arith, field_never)
+first_once names once origin (f ∷ row) items a b (inr x) (inl y) = grind (arith, field_never)
 first_once names once origin (f ∷ row) items a b (inr x) (inr y) = first_once names once origin row (items_after f items) a b x.2 y.2
 
-words_never : NamesOnce → NamesNever → (origin : List (List ℕ)) (row : List Field) (items : List RawItem) (values : List FieldValue) (fault : Fault) → SpellEach origin row items values → length (octets_of values) ≤ 65535 → IsWordsFault origin row items fault → ⊥
-words_never once names origin row items values _ h short (unspelt fault bad) = first_never names origin row items values fault h bad
-words_never once names origin row items values _ h short (too_long vs k over) = absurd (let e = ap (λ ws. length (octets_of ws)) (each_once once origin row items values vs h k) in omega (arith, e, short, over))
+words_never : NamesOnce → NamesNever → (origin : Labels) (row : List Field) (items : List RawItem) (values : List FieldValue) (fault : Fault) → SpellEach origin row items values → length (octets_of values) ≤ 65535 → IsWordsFault origin row items fault → ⊥
+words_never once names origin row items values fault h short k = grind (arith, first_never, each_once)
 
-words_fault_once : NamesNever → NameFaultOnce → (origin : List (List ℕ)) (row : List Field) (items : List RawItem) (a b : Fault) → IsWordsFault origin row items a → IsWordsFault origin row items b → a ≡ b
+words_fault_once : NamesNever → NameFaultOnce → (origin : Labels) (row : List Field) (items : List RawItem) (a b : Fault) → IsWordsFault origin row items a → IsWordsFault origin row items b → a ≡ b
 words_fault_once names once origin row items _ _ (unspelt a x) (unspelt b y) = first_once names once origin row items a b x y
 words_fault_once names once origin row items _ _ (unspelt a x) (too_long vs h over) = absurd (first_never names origin row items vs a h x)
 words_fault_once names once origin row items _ _ (too_long vs h over) (unspelt b y) = absurd (first_never names origin row items vs b h y)
@@ -63,34 +52,26 @@ generic_marks : (items : List RawItem) (octets : List ℕ) → StatesGeneric ite
 generic_marks items octets s = (s.form.item ∷ s.digits, s.form.parts)
 
 generic_fault_marks : (items : List RawItem) (fault : Fault) → GenericFault items fault → IsGeneric items
-generic_fault_marks items _ (no_length marked none) = marked
-generic_fault_marks items _ (long_length n digits form over) = (form.item ∷ digits, form.parts)
-generic_fault_marks items _ (bad_digits n digits form short none) = (form.item ∷ digits, form.parts)
+generic_fault_marks items fault h = grind arith
 
 form_fault_marks : (laid : Option (List Field)) (items : List RawItem) (fault : Fault) → IsGenericDataFault laid items fault → IsGeneric items
-form_fault_marks laid items _ (malformed fault bad) = generic_fault_marks items fault bad
-form_fault_marks laid items _ (no_value row stated e form none) = generic_marks items stated form
+form_fault_marks laid items fault h = grind (arith, generic_fault_marks, generic_marks)
 
-for_once : NamesOnce → (origin : List (List ℕ)) (laid : Option (List Field)) (items : List RawItem) (a b : List ℕ) → CanonicalOnce laid → StatesFor origin laid items a → StatesFor origin laid items b → a ≡ b
-for_once names origin laid items a b once (in_words row vs e unmarked h is short) (in_words row' ws e' unmarked2 k is' short') =
-    let same : row' ≡ row = same_row laid row' row e' e in
-    is ∙ ap octets_of (each_once names origin row items vs ws h (subst (λ r. SpellEach origin r items ws) same k)) ∙ sym is'
+for_once : NamesOnce → (origin : Labels) (laid : Option (List Field)) (items : List RawItem) (a b : List ℕ) → CanonicalOnce laid → StatesFor origin laid items a → StatesFor origin laid items b → a ≡ b
+for_once names origin laid items a b once (in_words row vs e unmarked h is short) (in_words row' ws e' unmarked2 k is' short') = grind (arith, same_row, each_once)
 for_once names origin laid items a b once (in_words row vs e unmarked h is short) (in_octets stated) = absurd (unmarked (generic_marks items stated.0 stated.1))
 for_once names origin laid items a b once (in_octets stated) (in_words row vs e unmarked h is short) = absurd (unmarked (generic_marks items stated.0 stated.1))
-for_once names origin laid items a b once (in_octets h) (in_octets k) =
-    once h.0 a b h.2 (subst (λ o. IsCanonicalOf laid o b) (generic-once items k.0 h.0 k.1 h.1) k.2)
+for_once names origin laid items a b once (in_octets h) (in_octets k) = cc (once h.0 a b h.2 (subst (λ o. IsCanonicalOf laid o b) (generic-once items k.0 h.0 k.1 h.1) k.2))
 
 form_never : (laid : Option (List Field)) (items : List RawItem) (stated octets : List ℕ) (fault : Fault) → StatesGeneric items stated → IsCanonicalOf laid stated octets → IsGenericDataFault laid items fault → ⊥
 form_never laid items stated octets _ form canonical (malformed fault bad) = generic-never_both items stated fault form bad
 form_never laid items stated octets _ form canonical (no_value row stated' e form' none) =
-    let here : IsCanonicalOf (Some row) stated octets = subst (λ l. IsCanonicalOf l stated octets) e canonical in
+    let here = subst (λ l. IsCanonicalOf l stated octets) e canonical in
     none octets (subst (λ o. IsUncompressed row o octets) (generic-once items stated stated' form form') here)
 
-for_never : NamesOnce → NamesNever → (origin : List (List ℕ)) (laid : Option (List Field)) (items : List RawItem) (octets : List ℕ) (fault : Fault) → StatesFor origin laid items octets → IsFaultFor origin laid items fault → ⊥
+for_never : NamesOnce → NamesNever → (origin : Labels) (laid : Option (List Field)) (items : List RawItem) (octets : List ℕ) (fault : Fault) → StatesFor origin laid items octets → IsFaultFor origin laid items fault → ⊥
 for_never once names origin laid items octets _ (in_words row vs e unmarked h is short) (in_generic_form fault bad) = unmarked (form_fault_marks laid items fault bad)
-for_never once names origin laid items octets _ (in_words row vs e unmarked h is short) (faults.in_words row' fault e' unmarked2 bad) =
-    let same : row' ≡ row = same_row laid row' row e' e in
-    words_never once names origin row items vs fault h (subst (λ o. length o ≤ 65535) is short) (subst (λ r. IsWordsFault origin r items fault) same bad)
+for_never once names origin laid items octets _ (in_words row vs e unmarked h is short) (faults.in_words row' fault e' unmarked2 bad) = grind (arith, same_row, words_never)
 for_never once names origin laid items octets _ (in_words row vs e unmarked h is short) (opaque_words e' unmarked2) = let clash : Some row ≡ None = sym e ∙ e' in cc
 for_never once names origin laid items octets _ (in_octets h) (in_generic_form fault bad) = form_never laid items h.0 octets fault h.1 h.2 bad
 for_never once names origin laid items octets _ (in_octets h) (faults.in_words row fault e unmarked bad) = unmarked (generic_marks items h.0 h.1)
@@ -102,14 +83,12 @@ form_fault_once laid items _ _ (malformed fault bad) (no_value row stated e form
 form_fault_once laid items _ _ (no_value row stated e form none) (malformed fault bad) = absurd (generic-never_both items stated fault form bad)
 form_fault_once laid items _ _ (no_value row stated e form none) (no_value _ _ _ _ _) = refl
 
-for_fault_once : NamesNever → NameFaultOnce → (origin : List (List ℕ)) (laid : Option (List Field)) (items : List RawItem) (a b : Fault) → IsFaultFor origin laid items a → IsFaultFor origin laid items b → a ≡ b
+for_fault_once : NamesNever → NameFaultOnce → (origin : Labels) (laid : Option (List Field)) (items : List RawItem) (a b : Fault) → IsFaultFor origin laid items a → IsFaultFor origin laid items b → a ≡ b
 for_fault_once names once origin laid items _ _ (in_generic_form fault bad) (in_generic_form fault' bad') = form_fault_once laid items fault fault' bad bad'
 for_fault_once names once origin laid items _ _ (in_generic_form fault bad) (faults.in_words row fault' e unmarked bad') = absurd (unmarked (form_fault_marks laid items fault bad))
 for_fault_once names once origin laid items _ _ (in_generic_form fault bad) (opaque_words e unmarked) = absurd (unmarked (form_fault_marks laid items fault bad))
 for_fault_once names once origin laid items _ _ (faults.in_words row fault e unmarked bad) (in_generic_form fault' bad') = absurd (unmarked (form_fault_marks laid items fault' bad'))
-for_fault_once names once origin laid items _ _ (faults.in_words row fault e unmarked bad) (faults.in_words row' fault' e' unmarked2 bad') =
-    let same : row' ≡ row = same_row laid row' row e' e in
-    words_fault_once names once origin row items fault fault' bad (subst (λ r. IsWordsFault origin r items fault') same bad')
+for_fault_once names once origin laid items _ _ (faults.in_words row fault e unmarked bad) (faults.in_words row' fault' e' unmarked2 bad') = grind (arith, same_row, words_fault_once)
 for_fault_once names once origin laid items _ _ (faults.in_words row fault e unmarked bad) (opaque_words e' unmarked2) = let clash : Some row ≡ None = sym e ∙ e' in cc
 for_fault_once names once origin laid items _ _ (opaque_words e unmarked) (in_generic_form fault bad) = absurd (unmarked (form_fault_marks laid items fault bad))
 for_fault_once names once origin laid items _ _ (opaque_words e unmarked) (faults.in_words row fault e' unmarked2 bad) = let clash : Some row ≡ None = sym e' ∙ e in cc
@@ -117,11 +96,11 @@ for_fault_once names once origin laid items _ _ (opaque_words e unmarked) (opaqu
 
 -- ---- data of a class and type
 
-pub data-once : NamesOnce → (origin : List (List ℕ)) (class kind : ℕ) (items : List RawItem) (a b : List ℕ) → States origin class kind items a → States origin class kind items b → a ≡ b
+pub data-once : NamesOnce → (origin : Labels) (class kind : ℕ) (items : List RawItem) (a b : List ℕ) → States origin class kind items a → States origin class kind items b → a ≡ b
 data-once names origin class kind items a b x y = for_once names origin (layout class kind) items a b (λ stated v w. canonical_same class kind (layout class kind) stated v w refl) x.stated y.stated
 
-pub data-never_both : NamesOnce → NamesNever → (origin : List (List ℕ)) (class kind : ℕ) (items : List RawItem) (octets : List ℕ) (fault : Fault) → States origin class kind items octets → IsDataFault origin class kind items fault → ⊥
+pub data-never_both : NamesOnce → NamesNever → (origin : Labels) (class kind : ℕ) (items : List RawItem) (octets : List ℕ) (fault : Fault) → States origin class kind items octets → IsDataFault origin class kind items fault → ⊥
 data-never_both once names origin class kind items octets fault x y = for_never once names origin (layout class kind) items octets fault x.stated y.first
 
-pub data_fault-once : NamesNever → NameFaultOnce → (origin : List (List ℕ)) (class kind : ℕ) (items : List RawItem) (a b : Fault) → IsDataFault origin class kind items a → IsDataFault origin class kind items b → a ≡ b
-data_fault-once names once origin class kind items a b x y = for_fault_once names once origin (layout class kind) items a b x.first y.first
+pub data_fault-once : NamesNever → NameFaultOnce → (origin : Labels) (class kind : ℕ) (items : List RawItem) (a b : Fault) → IsDataFault origin class kind items a → IsDataFault origin class kind items b → a ≡ b
+data_fault-once names once origin class kind items a b x y = grind (arith, for_fault_once)

@@ -1,27 +1,17 @@
 -- Items read from the left, field after field.
-use Rattle.std.proofs.Common.{◌≡◌, ℕ, ◌+◌, ◌-◌, ◌<◌, ◌≤◌, List, [], ◌∷◌, ◌++◌, length, get_or, take, drop, map, refl, sym, ap, ◌∙◌, subst, arith, append_assoc, Bor, Bool, IsTrue, ◌↔◌, inl, inr}
+use Rattle.zone_rdata.proofs.Common.{[], ◌≡◌, ℕ, ◌+◌, ◌-◌, ◌<◌, ◌≤◌, List, ◌∷◌, ◌++◌, length, get_or, take, drop, map, refl, sym, ap, ◌∙◌, subst, arith, append_assoc, Bor, Bool, IsTrue, ◌↔◌, inl, inr, bytes_eq-Decides, append-nil, length-drop, take_all, drop_all, drop-drop, Labels, Fault, Item, Field, FirstFieldFault, IsWordsFault, unspelt, too_long, IsFieldFault, FieldValue, field_octets, octets_of, own_items, RawItem, bare, raw, generic_mark, IsGeneric, AppendsFirst, AreSpelt, SpellEach}
 use Rattle.std.specs.Str.{bytes_eq}
-use Rattle.std.proofs.lemmas.Slice.Eq.{bytes_eq-Decides}
-use Rattle.std.proofs.lemmas.List.{append-nil, length-drop, take_all, drop_all, drop-drop}
-use Rattle.zone_rdata.specs.declared.fault.Fault.{Fault}
 use Rattle.zone_rdata.specs.declared.fault.Fault.TheVariants.{BadRdata, RdataTooLong}
-use Rattle.zone_rdata.specs.declared.item.Item.{Item}
 use Rattle.zone_rdata.specs.declared.item.Item.TheVariants.{Bare}
-use Rattle.zone_rdata.specs.declared.field.Field.{Field}
-use Rattle.zone_rdata.specs.DataFault.{FirstFieldFault, IsWordsFault, unspelt, too_long}
-use Rattle.zone_rdata.specs.Field.{IsFieldFault, FieldValue, field_octets, octets_of, own_items}
-use Rattle.zone_rdata.specs.Item.{RawItem, bare, raw, generic_mark, IsGeneric}
-use Rattle.zone_rdata.specs.Machine.Appending.{AppendsFirst, AreSpelt}
-use Rattle.zone_rdata.specs.Spelling.{SpellEach}
 use Rattle.zone_rdata.proofs.Lists.{from_place}
 
 -- some fields were read, and what the items that are left are for the other fields, all items are
 -- for all fields
-pub record HaveRead (origin : List (List ℕ)) (row : List Field) (items : List RawItem) (later : List Field) (left : List RawItem) (octets : List ℕ) : Type 0 where
+pub record HaveRead (origin : Labels) (row : List Field) (items : List RawItem) (later : List Field) (left : List RawItem) (octets : List ℕ) : Type 0 where
   pub leads : (values : List FieldValue) → SpellEach origin later left values → AreSpelt origin row items (octets ++ octets_of values)
   pub fault : (fault : Fault) → FirstFieldFault origin later left fault → FirstFieldFault origin row items fault
 
-read_step : (origin : List (List ℕ)) (row : List Field) (items : List RawItem) (f : Field) (later : List Field) (left rest : List RawItem) (octets new : List ℕ) → HaveRead origin row items (f ∷ later) left octets → AppendsFirst origin f left rest octets new → HaveRead origin row items later rest new
+read_step : (origin : Labels) (row : List Field) (items : List RawItem) (f : Field) (later : List Field) (left rest : List RawItem) (octets new : List ℕ) → HaveRead origin row items (f ∷ later) left octets → AppendsFirst origin f left rest octets new → HaveRead origin row items later rest new
 read_step origin row items f later left rest octets new read grows =
     let v = grows.appends.value in
     record {
@@ -33,9 +23,9 @@ read_step origin row items f later left rest octets new read grows =
 
 -- a slice up to the end
 slice_end : (items : List Item) (place : ℕ) → take (length items - place) (drop place items) ≡ drop place items
-slice_end items place = take_all (length items - place) (drop place items) (let l = length-drop place items in omega (arith, l))
+slice_end items place = grind (arith, take_all, length-drop)
 
-pub read_more : (origin : List (List ℕ)) (row : List Field) (items : List Item) (i place n : ℕ) (f d : Field) (octets new : List ℕ) → i < length row → f ≡ get_or row i d → HaveRead origin row (map raw items) (drop i row) (map raw (drop place items)) octets → AppendsFirst origin f (map raw (take (length items - place) (drop place items))) (map raw (drop n (take (length items - place) (drop place items)))) octets new → HaveRead origin row (map raw items) (drop (i + 1) row) (map raw (drop (place + n) items)) new
+pub read_more : (origin : Labels) (row : List Field) (items : List Item) (i place n : ℕ) (f d : Field) (octets new : List ℕ) → i < length row → f ≡ get_or row i d → HaveRead origin row (map raw items) (drop i row) (map raw (drop place items)) octets → AppendsFirst origin f (map raw (take (length items - place) (drop place items))) (map raw (drop n (take (length items - place) (drop place items)))) octets new → HaveRead origin row (map raw items) (drop (i + 1) row) (map raw (drop (place + n) items)) new
 read_more origin row items i place n f d octets new lt found read sliced =
     let grows = subst (λ rest. AppendsFirst origin f (map raw rest) (map raw (drop n rest)) octets new) (slice_end items place) sliced in
     let left = map raw (drop place items) in
@@ -43,29 +33,29 @@ read_more origin row items i place n f d octets new lt found read sliced =
     subst (λ rest. HaveRead origin row (map raw items) (drop (i + 1) row) (map raw rest) new) (drop-drop n place items) (read_step origin row (map raw items) f (drop (i + 1) row) left (map raw (drop n (drop place items))) octets new here grows)
 
 -- the items of the next field spell no value of it
-pub read_bad : (origin : List (List ℕ)) (row own : List Field) (items : List Item) (i place : ℕ) (f d : Field) (octets : List ℕ) (fault : Fault) → row ≡ own → i < length row → f ≡ get_or row i d → HaveRead origin row (map raw items) (drop i row) (map raw (drop place items)) octets → IsFieldFault origin f (own_items f (map raw (take (length items - place) (drop place items)))) fault → IsWordsFault origin own (map raw items) fault
+pub read_bad : (origin : Labels) (row own : List Field) (items : List Item) (i place : ℕ) (f d : Field) (octets : List ℕ) (fault : Fault) → row ≡ own → i < length row → f ≡ get_or row i d → HaveRead origin row (map raw items) (drop i row) (map raw (drop place items)) octets → IsFieldFault origin f (own_items f (map raw (take (length items - place) (drop place items)))) fault → IsWordsFault origin own (map raw items) fault
 read_bad origin row own items i place f d octets fault same lt found read sliced =
     let bad = subst (λ rest. IsFieldFault origin f (own_items f (map raw rest)) fault) (slice_end items place) sliced in
     let left = map raw (drop place items) in
     let here : HaveRead origin row (map raw items) (f ∷ drop (i + 1) row) left octets = subst (λ r. HaveRead origin row (map raw items) r left octets) (from_place row i f d lt found) read in
     subst (λ r. IsWordsFault origin r (map raw items) fault) same (unspelt fault (here.fault fault (inl bad)))
 
-nothing_later : (origin : List (List ℕ)) (row : List Field) (items : List RawItem) (i : ℕ) (left : List RawItem) (octets : List ℕ) → length row ≤ i → HaveRead origin row items (drop i row) left octets → HaveRead origin row items [] left octets
-nothing_later origin row items i left octets past read = subst (λ r. HaveRead origin row items r left octets) (drop_all i row past) read
+nothing_later : (origin : Labels) (row : List Field) (items : List RawItem) (i : ℕ) (left : List RawItem) (octets : List ℕ) → length row ≤ i → HaveRead origin row items (drop i row) left octets → HaveRead origin row items [] left octets
+nothing_later origin row items i left octets past read = grind (arith, drop_all)
 
 -- no field is left for the next item
-pub read_over : (origin : List (List ℕ)) (row own : List Field) (items : List RawItem) (i : ℕ) (left : List RawItem) (octets : List ℕ) → row ≡ own → length row ≤ i → 0 < length left → HaveRead origin row items (drop i row) left octets → IsWordsFault origin own items BadRdata
+pub read_over : (origin : Labels) (row own : List Field) (items : List RawItem) (i : ℕ) (left : List RawItem) (octets : List ℕ) → row ≡ own → length row ≤ i → 0 < length left → HaveRead origin row items (drop i row) left octets → IsWordsFault origin own items BadRdata
 read_over origin row own items i [] octets same past some read = absurd (omega arith)
 read_over origin row own items i (item ∷ left) octets same past some read =
     subst (λ r. IsWordsFault origin r items BadRdata) same (unspelt BadRdata ((nothing_later origin row items i (item ∷ left) octets past read).fault BadRdata refl))
 
-pub read_all : (origin : List (List ℕ)) (row own : List Field) (items : List RawItem) (i : ℕ) (left : List RawItem) (octets : List ℕ) → row ≡ own → length row ≤ i → left ≡ [] → HaveRead origin row items (drop i row) left octets → AreSpelt origin own items octets
+pub read_all : (origin : Labels) (row own : List Field) (items : List RawItem) (i : ℕ) (left : List RawItem) (octets : List ℕ) → row ≡ own → length row ≤ i → left ≡ [] → HaveRead origin row items (drop i row) left octets → AreSpelt origin own items octets
 read_all origin row own items i left octets same past none read =
     let last : HaveRead origin row items [] [] octets = subst (λ is. HaveRead origin row items [] is octets) none (nothing_later origin row items i left octets past read) in
     subst (λ r. AreSpelt origin r items octets) same (subst (AreSpelt origin row items) (append-nil octets) (last.leads [] tt))
 
 -- all is spelled, and takes too many octets
-pub read_long : (origin : List (List ℕ)) (fields : List Field) (items : List RawItem) (octets : List ℕ) → 65535 < length octets → AreSpelt origin fields items octets → IsWordsFault origin fields items RdataTooLong
+pub read_long : (origin : Labels) (fields : List Field) (items : List RawItem) (octets : List ℕ) → 65535 < length octets → AreSpelt origin fields items octets → IsWordsFault origin fields items RdataTooLong
 read_long origin fields items octets long all = too_long all.values all.spelt (subst (λ o. 65535 < length o) all.written long)
 
 -- a first item that is bare is the mark exactly where its text is
@@ -73,9 +63,5 @@ pub generic_first : (items : List Item) (first : Item) (text : Bor (List ℕ)) (
 generic_first [] first text mark r some at is marks e = absurd (omega arith)
 generic_first (i ∷ items) first text mark r some at is marks e =
     let d = bytes_eq-Decides text.now mark in
-    let same : raw i ≡ bare text.now = ap raw (sym at ∙ is) in (
-      λ h. (map raw items, ap (λ x. x ∷ map raw items) (same ∙ ap bare (d.0 (sym e ∙ h) ∙ marks))),
-      λ g. let marked : raw i ≡ generic_mark = cc g.1 in
-          let texts : text.now ≡ 92 ∷ 35 ∷ [] = cc (sym same ∙ marked) in
-          e ∙ d.1 (texts ∙ sym marks),
-    )
+    let same = ap raw (sym at ∙ is) in
+    (λ h. (map raw items, ap (λ x. x ∷ map raw items) (same ∙ ap bare (d.0 (sym e ∙ h) ∙ marks))), λ g. let marked : raw i ≡ generic_mark = cc g.1 in let texts : text.now ≡ 92 ∷ 35 ∷ [] = cc (sym same ∙ marked) in e ∙ d.1 (texts ∙ sym marks))

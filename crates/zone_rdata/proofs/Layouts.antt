@@ -1,24 +1,14 @@
 -- Values of a layout are data: their octets hold them, are octets, and without strings few.
-use Rattle.std.proofs.Common.{List, Option, Some, [], ap, drop, length, refl, subst, sym, ℕ, ◌++◌, ◌<◌, ◌∙◌, ◌∷◌, ◌≡◌, ◌≤◌, arith, length-append, ◌*◌, ◌≢◌, None}
-use Rattle.std.specs.List.{AllByRecursion}
-use Rattle.std.specs.Prelude.{MatchOption}
-use Rattle.std.proofs.lemmas.List.{drop_at}
-use Rattle.zone_rdata.specs.declared.field.Field.{Field}
-use Rattle.zone_rdata.specs.Field.{FieldValue, HoldEach, Holds, field_at, field_octets, octets_of, values_of}
-use Rattle.zone_rdata.specs.Layout.{AreLaidOut, IsData, StringsLast, layout, IsSized}
-use Rattle.zone_rdata.specs.Spelling.{IsCanonicalOf}
+use Rattle.zone_rdata.proofs.Common.{[], List, Option, Some, ap, length, refl, ℕ, ◌++◌, ◌<◌, ◌∙◌, ◌∷◌, ◌≡◌, ◌≤◌, arith, length-append, ◌*◌, ◌≢◌, AllByRecursion, MatchOption, drop_at, Field, FieldValue, HoldEach, Holds, field_octets, octets_of, values_of, AreLaidOut, IsData, StringsLast, layout, IsSized, IsCanonicalOf, AllByRecursion-append}
 use Rattle.zone_rdata.proofs.AnyField.{field_back, field_short, field_low}
 use Rattle.zone_rdata.proofs.Taken.{uncompressed_length}
 use Rattle.zone_rdata.proofs.Tables.{table_row}
 use Rattle.zone_rdata.specs.declared.field.Field.TheVariants.{Strings}
-use Rattle.zone_name.proofs.Pushing.{AllByRecursion-append}
 use Rattle.zone_rdata.proofs.FieldLaws.{AreLow}
 
 -- the first field of octets, and the fields after it
 values_next : (f : Field) (row : List Field) (v : FieldValue) (octets : List ℕ) → Holds f v → (f ≡ Strings → octets ≡ []) → values_of (f ∷ row) (field_octets v ++ octets) ≡ v ∷ values_of row octets
-values_next f row v octets h last =
-    let first : field_at f (field_octets v ++ octets) ≡ v = field_back f v octets h last in
-    ap (λ (x : FieldValue). x ∷ values_of row (drop (length (field_octets x)) (field_octets v ++ octets))) first ∙ ap (λ (o : List ℕ). v ∷ values_of row o) (drop_at (field_octets v) octets (length (field_octets v)) refl)
+values_next f row v octets h last = grind (arith, field_back, ℕ, drop_at)
 
 pub values_back : (row : List Field) (values : List FieldValue) → StringsLast row → HoldEach row values → values_of row (octets_of values) ≡ values
 values_back [] [] last h = refl
@@ -28,9 +18,7 @@ values_back (f ∷ g ∷ row) (v ∷ values) last h = values_next f (g ∷ row) 
 values_back row values last h = absurd h
 
 pub laid_out : (row : List Field) (values : List FieldValue) → StringsLast row → HoldEach row values → AreLaidOut row (octets_of values)
-laid_out row values last h =
-    let back : values_of row (octets_of values) ≡ values = values_back row values last h in
-    record { held = subst (HoldEach row) (sym back) h; whole = ap octets_of back }
+laid_out row values last h = grind (arith, values_back)
 
 -- data for a layout, if there is one: octets that are one value
 abbrev pub AreFor : Option (List Field) → List ℕ → Type 0
@@ -38,12 +26,10 @@ AreFor laid octets = MatchOption laid (Unit {0}) (λ fields. AreLaidOut fields o
 
 -- the canonical octets of what is stated are data, and as many
 pub canonical_laid : (class kind : ℕ) (laid : Option (List Field)) (octets canonical : List ℕ) → laid ≡ layout class kind → IsCanonicalOf laid octets canonical → AreFor laid canonical
-canonical_laid class kind None octets canonical e is = tt
-canonical_laid class kind (Some row) octets canonical e is = subst (AreLaidOut row) (sym is.whole) (laid_out row is.values (table_row class kind row (sym e)).last is.held)
+canonical_laid class kind laid octets canonical e is = grind (arith, laid_out, table_row)
 
 pub canonical_length : (laid : Option (List Field)) (octets canonical : List ℕ) → IsCanonicalOf laid octets canonical → length canonical ≡ length octets
-canonical_length None octets canonical is = ap length is
-canonical_length (Some row) octets canonical is = uncompressed_length row octets canonical is
+canonical_length laid octets canonical is = grind (arith, uncompressed_length)
 
 pub low_values : (row : List Field) (values : List FieldValue) → HoldEach row values → AreLow (octets_of values)
 low_values [] [] held = tt
@@ -51,18 +37,11 @@ low_values (f ∷ row) (v ∷ values) held = AllByRecursion-append (λ c. c < 25
 low_values row values held = absurd held
 
 pub held_data : (class kind : ℕ) (row : List Field) (values : List FieldValue) → layout class kind ≡ Some row → HoldEach row values → length (octets_of values) ≤ 65535 → IsData class kind (octets_of values)
-held_data class kind row values e held short = record {
-  short = short;
-  each = low_values row values held;
-  value = subst (λ laid. AreFor laid (octets_of values)) (sym e) (laid_out row values (table_row class kind row e).last held);
-}
+held_data class kind row values e held short = grind (arith, low_values, laid_out, table_row)
 
 short_values : (row : List Field) (values : List FieldValue) → AllByRecursion (λ f. f ≢ Strings) row → AllByRecursion IsSized row → HoldEach row values → length (octets_of values) ≤ 256 * length row
 short_values [] [] others sized held = omega arith
-short_values (f ∷ row) (v ∷ values) others sized held =
-    let first = field_short f v others.0 sized.0 held.0 in
-    let rest = short_values row values others.1 sized.1 held.1 in
-    omega (arith, first, rest, length-append (field_octets v) (octets_of values))
+short_values (f ∷ row) (v ∷ values) others sized held = grind (arith, field_short, length-append, short_values row values others.1 sized.1 held.1)
 short_values row values others sized held = absurd held
 
 pub stringless_short : (class kind : ℕ) (row : List Field) (values : List FieldValue) → layout class kind ≡ Some row → AllByRecursion (λ f. f ≢ Strings) row → HoldEach row values → length (octets_of values) ≤ 65535
@@ -74,7 +53,7 @@ stringless_short class kind row values e others held =
 pub equal_values : (class kind : ℕ) (row : List Field) (values others : List FieldValue) → layout class kind ≡ Some row → HoldEach row values → HoldEach row others → octets_of values ≡ octets_of others → values ≡ others
 equal_values class kind row values others e held other_held same =
     let last = (table_row class kind row e).last in
-    sym (values_back row values last held) ∙ ap (values_of row) same ∙ values_back row others last other_held
+    cc (values_back row values last held, values_back row others last other_held)
 
 pub got_back : (class kind : ℕ) (row : List Field) (values : List FieldValue) → layout class kind ≡ Some row → HoldEach row values → values_of row (octets_of values) ≡ values
-got_back class kind row values e held = values_back row values (table_row class kind row e).last held
+got_back class kind row values e held = grind (arith, values_back, table_row)

@@ -1,32 +1,16 @@
 -- Of more items than any data can have, those that spell strings may be left out: the others have
 -- the same first fault, and state no data.
-use Rattle.std.proofs.Common.{◌≡◌, ℕ, ◌+◌, ◌<◌, ◌≤◌, List, [], ◌∷◌, ◌++◌, length, Option, Some, inl, inr, refl, sym, ap, ◌∙◌, subst, arith, append_assoc, length-append}
-use Rattle.std.specs.List.{flat_map, AllByRecursion}
-use Rattle.hex.proofs.HexLemmas.{decode_of-ok}
-use Rattle.zone_name.specs.Name.{with_length}
-use Rattle.zone_name.proofs.Octets.{length-frames}
-use Rattle.zone_name.proofs.Pushing.{AllByRecursion-front}
-use Rattle.zone_rdata.specs.declared.fault.Fault.{Fault}
-use Rattle.zone_rdata.specs.declared.field.Field.{Field}
+use Rattle.zone_rdata.proofs.Common.{[], ◌≡◌, ℕ, ◌+◌, ◌<◌, ◌≤◌, List, ◌∷◌, ◌++◌, length, Option, Some, inl, inr, refl, sym, ap, ◌∙◌, subst, arith, append_assoc, length-append, AllByRecursion, decode_of-ok, length-frames, AllByRecursion-front, Labels, Fault, Field, FirstFieldFault, IsDataFault, IsFaultFor, IsGenericDataFault, IsWordsFault, in_generic_form, malformed, no_value, opaque_words, too_long, unspelt, FieldValue, SpellsField, octets_of, strings, FirstStringFault, SpellEachString, GenericFault, IsGenericForm, JoinTo, StatesGeneric, bad_digits, long_length, no_length, IsGeneric, RawItem, bare, quoted, layout, SpellEach, States, StatesFor, in_octets, in_words, SpellsString}
 use Rattle.zone_rdata.specs.declared.field.Field.TheVariants.{Strings}
-use Rattle.zone_rdata.specs.DataFault.{FirstFieldFault, IsDataFault, IsFaultFor, IsGenericDataFault, IsWordsFault, in_generic_form, malformed, no_value, opaque_words, too_long, unspelt}
 use Rattle.zone_rdata.specs.DataFault as faults
-use Rattle.zone_rdata.specs.Field.{FieldValue, SpellsField, field_octets, octets_of, strings}
-use Rattle.zone_rdata.specs.Fields.Strings.{FirstStringFault, SpellEachString}
-use Rattle.zone_rdata.specs.Generic.{GenericFault, IsGenericForm, JoinTo, StatesGeneric, bad_digits, long_length, no_length}
-use Rattle.zone_rdata.specs.Item.{IsGeneric, RawItem, bare, quoted}
-use Rattle.zone_rdata.specs.Layout.{layout}
 use Rattle.zone_rdata.specs.Machine.LeftOut.{AreShortened, IsWritten, LeavesOut}
-use Rattle.zone_rdata.specs.Spelling.{SpellEach, States, StatesFor, in_octets, in_words}
-use Rattle.zone_rdata.specs.Strings.{SpellsString}
 use Rattle.zone_rdata.proofs.Tables.{table_row}
 
 -- ---- data has at most as many items as octets, but for a few
 
 joined_long : (first more : List RawItem) (octets : List ℕ) → AllByRecursion IsWritten first → JoinTo (first ++ more) octets → length first ≤ length octets
 joined_long [] more octets written h = omega arith
-joined_long (bare text ∷ first) more octets written h =
-    omega (arith, written.0, (decode_of-ok text h.0 h.2).2, joined_long first more h.1 written.1 h.4, ap length h.3, length-append h.0 h.1)
+joined_long (bare text ∷ first) more octets written h = grind (arith, decode_of-ok, length-append, joined_long first more h.1 written.1 h.4)
 joined_long (quoted text ∷ first) more octets written h = absurd h
 
 string_each : (items : List RawItem) (many : List (List ℕ)) → SpellEachString items many → length items ≤ length many
@@ -34,29 +18,22 @@ string_each [] many h = omega arith
 string_each (item ∷ items) [] h = absurd h
 string_each (item ∷ items) (octets ∷ many) h = omega (arith, string_each items many h.1)
 
-spelt_long : (origin : List (List ℕ)) (fields : List Field) (items : List RawItem) (values : List FieldValue) → SpellEach origin fields items values → length items ≤ length fields + length (octets_of values)
+spelt_long : (origin : Labels) (fields : List Field) (items : List RawItem) (values : List FieldValue) → SpellEach origin fields items values → length items ≤ length fields + length (octets_of values)
 spelt_long origin [] (item ∷ items) values h = absurd h
 spelt_long origin (f ∷ fields) items [] h = absurd h
-spelt_long origin (Strings ∷ fields) items (strings many ∷ values) h =
-    omega (arith, string_each items many h.0.each, length-frames many, length-append (flat_map with_length many) (octets_of values))
+spelt_long origin (Strings ∷ fields) items (strings many ∷ values) h = grind (arith, string_each, length-frames, length-append)
 spelt_long origin (Strings ∷ fields) items (v ∷ values) h = absurd h.0
-spelt_long origin (f ∷ fields) (item ∷ items) (v ∷ values) h =
-    omega (arith, spelt_long origin fields items values h.1, length-append (field_octets v) (octets_of values))
+spelt_long origin (f ∷ fields) (item ∷ items) (v ∷ values) h = grind (arith, length-append, spelt_long origin fields items values h.1)
 spelt_long origin fields [] values h = omega arith
 
 -- ---- words
-
-fault_after : (item : RawItem) (items others : List RawItem) (fault : Fault) → (FirstStringFault others fault → FirstStringFault items fault) → FirstStringFault (item ∷ others) fault → FirstStringFault (item ∷ items) fault
-fault_after item items others fault goes (inl bad) = inl bad
-fault_after item items others fault goes (inr h) = inr (h.0, h.1, goes h.2)
 
 strings_fault : (first more others : List RawItem) (fault : Fault) → LeavesOut more others → FirstStringFault (first ++ others) fault → FirstStringFault (first ++ more) fault
 strings_fault (item ∷ first) more others fault out (inl bad) = inl bad
 strings_fault (item ∷ first) more others fault out (inr h) = inr (h.0, h.1, strings_fault first more others fault out h.2)
 strings_fault [] [] others fault out bad = subst (λ t. FirstStringFault t fault) out bad
 strings_fault [] (item ∷ more) others fault (inr left) bad = inr (left.0, left.1, strings_fault [] more others fault left.2 bad)
-strings_fault [] (item ∷ more) others fault (inl kept) bad =
-    fault_after item more kept.0 fault (strings_fault [] more kept.0 fault kept.2) (subst (λ t. FirstStringFault t fault) kept.1 bad)
+strings_fault [] (item ∷ more) others fault (inl kept) bad = grind (arith, strings_fault [] more kept.0 fault kept.2)
 
 abbrev SpellSome : List RawItem → Type 0
 SpellSome items = (many : List (List ℕ)) × SpellEachString items many
@@ -73,13 +50,13 @@ strings_more [] (item ∷ more) others many (inr left) h = let all = strings_mor
 strings_more [] (item ∷ more) others many (inl kept) h =
     string_before item more kept.0 many (λ rest found. strings_more [] more kept.0 rest kept.2 found) (subst (λ t. SpellEachString t many) kept.1 h)
 
-all_strings : (origin : List (List ℕ)) (item : RawItem) (first more others : List RawItem) (value : FieldValue) → LeavesOut more others → SpellsField origin Strings (item ∷ first ++ others) value → (all : FieldValue) × SpellsField origin Strings (item ∷ first ++ more) all
+all_strings : (origin : Labels) (item : RawItem) (first more others : List RawItem) (value : FieldValue) → LeavesOut more others → SpellsField origin Strings (item ∷ first ++ others) value → (all : FieldValue) × SpellsField origin Strings (item ∷ first ++ more) all
 all_strings origin item first more others (strings many) out h =
     let all = strings_more (item ∷ first) more others many out h.each in
     (strings all.0, record { some = omega arith; each = all.1 })
 all_strings origin item first more others value out h = absurd h
 
-fields_fault : (origin : List (List ℕ)) (fields : List Field) (first more others : List RawItem) (fault : Fault) → length fields < length first → LeavesOut more others → FirstFieldFault origin fields (first ++ others) fault → FirstFieldFault origin fields (first ++ more) fault
+fields_fault : (origin : Labels) (fields : List Field) (first more others : List RawItem) (fault : Fault) → length fields < length first → LeavesOut more others → FirstFieldFault origin fields (first ++ others) fault → FirstFieldFault origin fields (first ++ more) fault
 fields_fault origin fields [] more others fault few out bad = absurd (omega (arith, few))
 fields_fault origin [] (item ∷ first) more others fault few out bad = bad
 fields_fault origin (Strings ∷ fields) (item ∷ first) more others fault few out (inl bad) = inl (strings_fault (item ∷ first) more others fault out bad)
@@ -89,7 +66,7 @@ fields_fault origin (Strings ∷ fields) (item ∷ first) more others fault few 
 fields_fault origin (f ∷ fields) (item ∷ first) more others fault few out (inl bad) = inl bad
 fields_fault origin (f ∷ fields) (item ∷ first) more others fault few out (inr h) = inr (h.0, h.1, fields_fault origin fields first more others fault (omega (arith, few)) out h.2)
 
-fields_more : (origin : List (List ℕ)) (fields : List Field) (first more others : List RawItem) (values : List FieldValue) → length fields < length first → LeavesOut more others → SpellEach origin fields (first ++ others) values → (all : List FieldValue) × SpellEach origin fields (first ++ more) all
+fields_more : (origin : Labels) (fields : List Field) (first more others : List RawItem) (values : List FieldValue) → length fields < length first → LeavesOut more others → SpellEach origin fields (first ++ others) values → (all : List FieldValue) × SpellEach origin fields (first ++ more) all
 fields_more origin fields [] more others values few out h = absurd (omega (arith, few))
 fields_more origin (Strings ∷ fields) (item ∷ first) more others (v ∷ values) few out h =
     let all = all_strings origin item first more others v out h.0 in
@@ -99,7 +76,7 @@ fields_more origin (f ∷ fields) (item ∷ first) more others (v ∷ values) fe
     (v ∷ all.0, (h.0, all.1))
 fields_more origin fields (item ∷ first) more others values few out h = absurd h
 
-words_fault : (origin : List (List ℕ)) (fields : List Field) (first more others : List RawItem) (fault : Fault) → length fields ≤ 7 → 65543 ≤ length first → LeavesOut more others → IsWordsFault origin fields (first ++ others) fault → IsWordsFault origin fields (first ++ more) fault
+words_fault : (origin : Labels) (fields : List Field) (first more others : List RawItem) (fault : Fault) → length fields ≤ 7 → 65543 ≤ length first → LeavesOut more others → IsWordsFault origin fields (first ++ others) fault → IsWordsFault origin fields (first ++ more) fault
 words_fault origin fields first more others _ few many out (unspelt fault bad) =
     unspelt fault (fields_fault origin fields first more others fault (omega (arith, few, many)) out bad)
 words_fault origin fields first more others _ few many out (too_long values spelt long) =
@@ -109,7 +86,7 @@ words_fault origin fields first more others _ few many out (too_long values spel
 -- ---- the generic form
 
 form_same : (a b : RawItem) (items others digits : List RawItem) (n : ℕ) → IsGenericForm (a ∷ b ∷ items) n digits → IsGenericForm (a ∷ b ∷ others) n others
-form_same a b items others digits n form = record { item = form.item; parts = (let e = form.parts in cc); states = form.states }
+form_same a b items others digits n form = grind arith
 
 digits_of : (a b : RawItem) (items digits : List RawItem) (n : ℕ) → IsGenericForm (a ∷ b ∷ items) n digits → digits ≡ items
 digits_of a b items digits n form = let e = form.parts in cc
@@ -128,9 +105,7 @@ generic_fault (a ∷ b ∷ digits) more others _ written many (bad_digits n foun
 generic_fault first more others fault written many bad = absurd (omega (arith, many))
 
 generic_never : (first others : List RawItem) (octets : List ℕ) → AllByRecursion IsWritten first → 65543 ≤ length first → StatesGeneric (first ++ others) octets → ⊥
-generic_never (a ∷ b ∷ digits) others octets written many h =
-    let joined : JoinTo (digits ++ others) octets = subst (λ t. JoinTo t octets) (digits_of a b (digits ++ others) h.digits (length octets) h.form) h.joined in
-    omega (arith, joined_long digits others octets written.1.1 joined, h.short, many)
+generic_never (a ∷ b ∷ digits) others octets written many h = grind (arith, digits_of, joined_long)
 generic_never first others octets written many h = omega (arith, many)
 
 form_fault : (laid : Option (List Field)) (first more others : List RawItem) (fault : Fault) → AllByRecursion IsWritten first → 65543 ≤ length first → IsGenericDataFault laid (first ++ others) fault → IsGenericDataFault laid (first ++ more) fault
@@ -146,7 +121,7 @@ marked : (first more others : List RawItem) → 65543 ≤ length first → IsGen
 marked [] more others many h = absurd (omega (arith, many))
 marked (a ∷ first) more others many h = mark_same a _ _ h
 
-fault_for : (origin : List (List ℕ)) (laid : Option (List Field)) (first more others : List RawItem) (fault : Fault) → AreFew laid → AllByRecursion IsWritten first → 65543 ≤ length first → LeavesOut more others → IsFaultFor origin laid (first ++ others) fault → IsFaultFor origin laid (first ++ more) fault
+fault_for : (origin : Labels) (laid : Option (List Field)) (first more others : List RawItem) (fault : Fault) → AreFew laid → AllByRecursion IsWritten first → 65543 ≤ length first → LeavesOut more others → IsFaultFor origin laid (first ++ others) fault → IsFaultFor origin laid (first ++ more) fault
 fault_for origin laid first more others _ few written many out (in_generic_form fault bad) =
     in_generic_form fault (form_fault laid first more others fault written many bad)
 fault_for origin laid first more others _ few written many out (faults.in_words fields fault e unmarked bad) =
@@ -154,35 +129,33 @@ fault_for origin laid first more others _ few written many out (faults.in_words 
 fault_for origin laid first more others _ few written many out (opaque_words e unmarked) =
     opaque_words e (λ h. unmarked (marked first others more many h))
 
-never_for : (origin : List (List ℕ)) (laid : Option (List Field)) (first others : List RawItem) (octets : List ℕ) → AreFew laid → AllByRecursion IsWritten first → 65543 ≤ length first → StatesFor origin laid (first ++ others) octets → ⊥
-never_for origin laid first others octets few written many (in_words fields values e unmarked spelt is short) =
-    omega (arith, many, few fields e, short, ap length is, spelt_long origin fields (first ++ others) values spelt, length-append first others)
+never_for : (origin : Labels) (laid : Option (List Field)) (first others : List RawItem) (octets : List ℕ) → AreFew laid → AllByRecursion IsWritten first → 65543 ≤ length first → StatesFor origin laid (first ++ others) octets → ⊥
+never_for origin laid first others octets few written many (in_words fields values e unmarked spelt is short) = grind (arith, spelt_long, length-append)
 never_for origin laid first others octets few written many (in_octets h) = generic_never first others h.0 written many h.1
 
 are_few : (class kind : ℕ) → AreFew (layout class kind)
 are_few class kind fields e = (table_row class kind fields e).few
 
 -- the others have the first fault of all items
-pub fault_of_all : (origin : List (List ℕ)) (class kind : ℕ) (items kept : List RawItem) (fault : Fault) → AllByRecursion IsWritten items → AreShortened 65543 items kept → IsDataFault origin class kind kept fault → IsDataFault origin class kind items fault
+pub fault_of_all : (origin : Labels) (class kind : ℕ) (items kept : List RawItem) (fault : Fault) → AllByRecursion IsWritten items → AreShortened 65543 items kept → IsDataFault origin class kind kept fault → IsDataFault origin class kind items fault
 fault_of_all origin class kind items kept fault written short bad =
-    let all : AllByRecursion IsWritten (short.first ++ short.more) = subst (AllByRecursion IsWritten) short.whole written in
+    let all = subst (AllByRecursion IsWritten) short.whole written in
     let first = subst (λ t. IsFaultFor origin (layout class kind) t fault) short.are_kept bad.first in
     let found = fault_for origin (layout class kind) short.first short.more short.others fault (are_few class kind) (AllByRecursion-front IsWritten short.first short.more all) short.many short.out first in
     record { first = subst (λ t. IsFaultFor origin (layout class kind) t fault) (sym short.whole) found }
 
 -- they state no data
-pub state_none : (origin : List (List ℕ)) (class kind : ℕ) (items kept : List RawItem) (octets : List ℕ) → AllByRecursion IsWritten items → AreShortened 65543 items kept → States origin class kind kept octets → ⊥
+pub state_none : (origin : Labels) (class kind : ℕ) (items kept : List RawItem) (octets : List ℕ) → AllByRecursion IsWritten items → AreShortened 65543 items kept → States origin class kind kept octets → ⊥
 state_none origin class kind items kept octets written short h =
-    let all : AllByRecursion IsWritten (short.first ++ short.more) = subst (AllByRecursion IsWritten) short.whole written in
-    never_for origin (layout class kind) short.first short.others octets (are_few class kind) (AllByRecursion-front IsWritten short.first short.more all) short.many
-    (subst (λ t. StatesFor origin (layout class kind) t octets) short.are_kept h.stated)
+    let all = subst (AllByRecursion IsWritten) short.whole written in
+    never_for origin (layout class kind) short.first short.others octets (are_few class kind) (AllByRecursion-front IsWritten short.first short.more all) short.many (subst (λ t. StatesFor origin (layout class kind) t octets) short.are_kept h.stated)
 
 -- ---- one item more
 
 leaves_kept : (more others : List RawItem) (item : RawItem) → LeavesOut more others → LeavesOut (more ++ item ∷ []) (others ++ item ∷ [])
 leaves_kept [] others item out = inl ([], ap (λ t. t ++ item ∷ []) out, refl)
-leaves_kept (x ∷ more) others item (inl kept) = inl (kept.0 ++ item ∷ [], ap (λ t. t ++ item ∷ []) kept.1, leaves_kept more kept.0 item kept.2)
-leaves_kept (x ∷ more) others item (inr left) = inr (left.0, left.1, leaves_kept more others item left.2)
+leaves_kept (x ∷ more) others item (inl kept) = grind (arith, leaves_kept more kept.0 item kept.2)
+leaves_kept (x ∷ more) others item (inr left) = grind (arith, leaves_kept more others item left.2)
 
 leaves_less : (more others : List RawItem) (item : RawItem) (octets : List ℕ) → SpellsString item octets → LeavesOut more others → LeavesOut (more ++ item ∷ []) others
 leaves_less [] others item octets spells out = inr (octets, spells, out)
@@ -191,15 +164,7 @@ leaves_less (x ∷ more) others item octets spells (inr left) = inr (left.0, lef
 
 -- the item is kept
 pub one_kept : (n : ℕ) (items kept : List RawItem) (item : RawItem) → AreShortened n items kept → AreShortened n (items ++ item ∷ []) (kept ++ item ∷ [])
-one_kept n items kept item short = record {
-  first = short.first;
-  more = short.more ++ item ∷ [];
-  others = short.others ++ item ∷ [];
-  whole = ap (λ t. t ++ item ∷ []) short.whole ∙ append_assoc short.first short.more (item ∷ []);
-  are_kept = ap (λ t. t ++ item ∷ []) short.are_kept ∙ append_assoc short.first short.others (item ∷ []);
-  many = short.many;
-  out = leaves_kept short.more short.others item short.out;
-}
+one_kept n items kept item short = grind (arith, append_assoc, leaves_kept)
 
 -- the item is left out
 pub one_left_out : (n : ℕ) (items kept : List RawItem) (item : RawItem) (octets : List ℕ) → SpellsString item octets → AreShortened n items kept → AreShortened n (items ++ item ∷ []) kept
@@ -226,17 +191,10 @@ pub record BeginWith (n : ℕ) (items kept : List RawItem) : Type 0 where
 
 begin_by : (n : ℕ) (items kept first more others : List RawItem) → items ≡ first ++ more → kept ≡ first ++ others → n < length first → LeavesOut more others → BeginWith n items kept
 begin_by n items kept [] more others whole are_kept many out = absurd (omega (arith, many))
-begin_by n items kept (item ∷ first) more others whole are_kept many out = record {
-  item = item;
-  rest = first ++ more;
-  others = first ++ others;
-  whole = whole;
-  are_kept = are_kept;
-  short = record { first = first; more = more; others = others; whole = refl; are_kept = refl; many = omega (arith, many); out = out };
-}
+begin_by n items kept (item ∷ first) more others whole are_kept many out = grind arith
 
 pub begin_with : (m n : ℕ) (items kept : List RawItem) → n < m → AreShortened m items kept → BeginWith n items kept
-begin_with m n items kept less short = begin_by n items kept short.first short.more short.others short.whole short.are_kept (omega (arith, less, short.many)) short.out
+begin_with m n items kept less short = grind (arith, begin_by)
 
 -- an item before both
 pub after_item : (n : ℕ) (item : RawItem) (items kept : List RawItem) → AreShortened n items kept → AreShortened n (item ∷ items) (item ∷ kept)
@@ -251,10 +209,7 @@ after_item n item items kept short = record {
 }
 
 pub are_many : (n : ℕ) (items kept : List RawItem) → AreShortened n items kept → (n ≤ length items) × (n ≤ length kept)
-are_many n items kept short = (
-  omega (arith, short.many, ap length short.whole, length-append short.first short.more),
-  omega (arith, short.many, ap length short.are_kept, length-append short.first short.others),
-)
+are_many n items kept short = grind (arith, length-append)
 
 pub at_least : (m n : ℕ) (items kept : List RawItem) → n ≤ m → AreShortened m items kept → AreShortened n items kept
-at_least m n items kept less short = record { first = short.first; more = short.more; others = short.others; whole = short.whole; are_kept = short.are_kept; many = omega (arith, less, short.many); out = short.out }
+at_least m n items kept less short = grind arith

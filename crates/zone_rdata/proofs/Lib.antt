@@ -48,3 +48,4 @@ pub mod PrintedWords
 pub mod LeftOut
 pub mod Bytes
 pub mod FedSources
+pub mod Common

@@ -1,8 +1,5 @@
 -- The last number of data, field after field.
-use Rattle.std.proofs.Common.{◌≡◌, ℕ, List, drop, Option, None}
-use Rattle.zone_rdata.specs.declared.field.Field.{Field}
-use Rattle.zone_rdata.specs.Field.{values_of}
-use Rattle.zone_rdata.specs.Layout.{AreLaidOut}
+use Rattle.zone_rdata.proofs.Common.{◌≡◌, ℕ, List, drop, Option, None, Field, values_of, AreLaidOut}
 use Rattle.zone_rdata.specs.Minimum.{last_number}
 
 -- the fields up to a place are passed: the rest is laid out, and leads to the last number of the

@@ -1,16 +1,6 @@
 -- A word has one number at most, and a text one time.
-use Rattle.std.proofs.Common.{◌≡◌, ℕ, ◌<◌, ◌≤◌, Bool, true, false, not, List, ◌++◌, length, take, drop, codes, refl, sym, ap, ◌∙◌, subst, arith, ◌==◌, Option, Some, None, bytes_eq, ◌⊎◌, inl, inr}
-use Rattle.std.specs.List.{find, list_all}
-use Rattle.std.specs.Option.{option_map}
+use Rattle.zone_rdata.proofs.Common.{◌≡◌, ℕ, ◌<◌, ◌≤◌, Bool, true, false, not, List, ◌++◌, length, take, drop, codes, refl, sym, ap, ◌∙◌, subst, arith, ◌==◌, Option, Some, None, bytes_eq, ◌⊎◌, inl, inr, find, list_all, option_map, eqb-true, not-true, false≢true, map-append, length-map, take_at, bytes_eq-Decides, folded_octet, folded_label, decimal_value, Named, classes, type_names, number_among, IsKind, IsMnemonic, IsNumbered, IsWordAmong, by_mnemonic, by_number, IsClassWord, IsKindWord, IsWordFault, nameless, beyond, for_queries, Fault}
 use Rattle.std.proofs.Math.Seq.{drop-append_seam}
-use Rattle.std.proofs.lemmas.Bool.{eqb-true, not-true, false≢true}
-use Rattle.std.proofs.lemmas.List.{map-append, length-map, take_at}
-use Rattle.std.proofs.lemmas.Slice.Eq.{bytes_eq-Decides}
-use Rattle.zone_name.specs.Name.{folded_octet, folded_label}
-use Rattle.zone_rdata.specs.Number.{decimal_value}
-use Rattle.zone_rdata.specs.Table.{Named, classes, type_names, number_among}
-use Rattle.zone_rdata.specs.Words.{IsKind, IsMnemonic, IsNumbered, IsWordAmong, by_mnemonic, by_number, IsClassWord, IsKindWord, IsWordFault, nameless, beyond, for_queries}
-use Rattle.zone_rdata.specs.declared.fault.Fault.{Fault}
 use Rattle.zone_rdata.specs.declared.fault.Fault.TheVariants.{UnknownType, MetaType}
 use Rattle.zone_rdata.proofs.Tables.{each_mnemonic}
 
@@ -45,8 +35,7 @@ unlike name rows = list_all (λ row. not (bytes_eq (take (length name) (folded_l
 
 the_number : (n : ℕ) (found : Option ℕ) → is_number n found ≡ true → found ≡ Some n
 unfolding is_number
-the_number n None e = absurd (let t : ⊥ = cc in t)
-the_number n (Some m) e = ap Some (eqb-true m n e)
+the_number n found e = grind (arith, eqb-true)
 
 mnemonic_number : (rows : List Named) → own_numbers rows ≡ true → (word : List ℕ) (n : ℕ) → IsMnemonic rows word n → number_among rows word ≡ Some n
 unfolding own_numbers
@@ -55,16 +44,13 @@ mnemonic_number rows own word n x =
     ∙ the_number n (number_among rows x.name) (each_mnemonic (λ n name. is_number n (number_among rows name)) rows own n x.name x.row)
 
 mnemonic_once : (rows : List Named) → own_numbers rows ≡ true → (word : List ℕ) (a b : ℕ) → IsMnemonic rows word a → IsMnemonic rows word b → a ≡ b
-mnemonic_once rows own word a b x y =
-    let same : Some a ≡ Some b = sym (mnemonic_number rows own word a x) ∙ mnemonic_number rows own word b y in
-    cc
+mnemonic_once rows own word a b x y = cc (mnemonic_number rows own word a x, mnemonic_number rows own word b y)
 
 mnemonic_or_numbered : (rows : List Named) (name : List ℕ) → unlike name rows ≡ true → (word : List ℕ) (a b : ℕ) → IsMnemonic rows word a → IsNumbered name word b → ⊥
 unfolding unlike
 mnemonic_or_numbered rows name apart word a b x y =
-    let other : bytes_eq (take (length name) (folded_label x.name)) (folded_label name) ≡ false = not-true _ (each_mnemonic (λ _ m. not (bytes_eq (take (length name) (folded_label m)) (folded_label name))) rows apart a x.name x.row) in
-    let front : take (length name) (folded_label x.name) ≡ folded_label name =
-    ap (take (length name)) (sym x.same ∙ numbered_front name word b y) ∙ take_at (folded_label name) (folded_label y.digits) (length name) (length-map name folded_octet) in
+    let other = not-true _ (each_mnemonic (λ _ m. not (bytes_eq (take (length name) (folded_label m)) (folded_label name))) rows apart a x.name x.row) in
+    let front = ap (take (length name)) (sym x.same ∙ numbered_front name word b y) ∙ take_at (folded_label name) (folded_label y.digits) (length name) (length-map name folded_octet) in
     false≢true (sym other ∙ (bytes_eq-Decides (take (length name) (folded_label x.name)) (folded_label name)).1 front)
 
 -- a class's mnemonic finds its number

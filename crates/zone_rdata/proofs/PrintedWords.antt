@@ -1,11 +1,5 @@
 -- Printed words are those of their class or type, and stand outside quotes.
-use Rattle.std.proofs.Common.{◌≡◌, ℕ, ◌^◌, ◌<◌, true, List, ◌++◌, codes, decimal, Option, Some, None, refl, arith}
-use Rattle.std.specs.List.{list_all}
-use Rattle.zone_name.proofs.Bare.{StandsBare, bare_append}
-use Rattle.zone_rdata.specs.declared.field.Field.{Field}
-use Rattle.zone_rdata.specs.Layout.{layout}
-use Rattle.zone_rdata.specs.Table.{Named, classes, type_names, mnemonic_among}
-use Rattle.zone_rdata.specs.Words.{IsClass, IsClassWord, IsKind, IsKindWord, IsNumbered, IsWordAmong, by_mnemonic, by_number, class_text, kind_text, laid_out_mnemonic, word_or_numbered}
+use Rattle.zone_rdata.proofs.Common.{◌≡◌, ℕ, ◌^◌, ◌<◌, true, List, ◌++◌, codes, decimal, Option, Some, None, refl, arith, list_all, StandsBare, bare_append, Field, layout, Named, classes, type_names, mnemonic_among, IsClass, IsClassWord, IsKind, IsKindWord, IsNumbered, IsWordAmong, by_number, class_text, kind_text, laid_out_mnemonic, word_or_numbered}
 use Rattle.zone_rdata.proofs.GenericLaws.{decimal-is}
 use Rattle.zone_rdata.proofs.Standing.{are_bare, bare_decimal, bare_tested}
 use Rattle.zone_rdata.proofs.Tables.{each_mnemonic}
@@ -14,15 +8,14 @@ numbered_printed : (name : List ℕ) (n : ℕ) → n < 2 ^ 64 → IsNumbered nam
 numbered_printed name n short = record { front = name; digits = decimal n; parts = refl; named = refl; number = decimal-is n short }
 
 word_of : (rows : List Named) (name : List ℕ) (row : Option (List ℕ)) (n : ℕ) → mnemonic_among rows n ≡ row → n < 2 ^ 64 → IsWordAmong rows name (word_or_numbered row name n) n
-word_of rows name None n e short = by_number (numbered_printed name n short)
-word_of rows name (Some word) n e short = by_mnemonic (record { name = word; row = e; same = refl })
+word_of rows name row n e short = grind (arith, numbered_printed)
 
 pub class_printed : (n : ℕ) → IsClass n → IsClassWord (class_text n) n
-class_printed n is = word_of classes (codes "CLASS") (mnemonic_among classes n) n refl (let short = is.short in omega arith)
+class_printed n is = grind (arith, word_of)
 
 kind_of_layout : (laid : Option (List Field)) (n : ℕ) → n < 2 ^ 64 → IsKindWord (word_or_numbered (laid_out_mnemonic laid n) (codes "TYPE") n) n
 kind_of_layout None n short = by_number (numbered_printed (codes "TYPE") n short)
-kind_of_layout (Some fields) n short = word_of type_names (codes "TYPE") (mnemonic_among type_names n) n refl short
+kind_of_layout (Some fields) n short = grind (arith, word_of)
 
 pub kind_printed : (class n : ℕ) → IsKind n → IsKindWord (kind_text class n) n
 kind_printed class n is = kind_of_layout (layout class n) n (let short = is.short in omega arith)
@@ -30,7 +23,7 @@ kind_printed class n is = kind_of_layout (layout class n) n (let short = is.shor
 -- ---- they stand outside quotes
 
 numbered_bare : (name : List ℕ) (n : ℕ) → are_bare name ≡ true → n < 2 ^ 64 → StandsBare (name ++ decimal n)
-numbered_bare name n bare short = bare_append name (decimal n) (bare_tested name bare) (bare_decimal n short)
+numbered_bare name n bare short = grind (arith, bare_append, bare_tested, bare_decimal)
 
 word_bare : (rows : List Named) (name : List ℕ) (row : Option (List ℕ)) (n : ℕ) → list_all (λ row. are_bare row.mnemonic) rows ≡ true → are_bare name ≡ true → mnemonic_among rows n ≡ row → n < 2 ^ 64 → StandsBare (word_or_numbered row name n)
 word_bare rows name None n all bare e short = numbered_bare name n bare short

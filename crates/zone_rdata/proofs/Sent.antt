@@ -1,15 +1,8 @@
 -- Uncompressed octets: what stands at their front, and that it is one thing.
-use Rattle.std.proofs.Common.{◌≡◌, ℕ, suc, ◌<◌, ◌≤◌, List, [], ◌∷◌, ◌++◌, length, take, drop, Result, Err, refl, sym, ap, ◌∙◌, subst, arith, append_assoc, length-append}
+use Rattle.zone_rdata.proofs.Common.{[], ◌≡◌, ℕ, ◌<◌, ◌≤◌, List, ◌∷◌, ◌++◌, length, take, drop, Result, Err, refl, sym, ap, ◌∙◌, subst, arith, append_assoc, length-append, flat_map, AllByRecursion, append-nil, take-append-drop, length-map, length-take, map-append, flat_map-append, Labels, IsLabel, IsName, folded_octet, folded_label, folded, with_length, wire, IsLabelFault, BeginsWithSent, AllByRecursion-append, AllByRecursion-back}
 use Rattle.std.specs.Prelude.{◌↔◌}
-use Rattle.std.specs.List.{flat_map, AllByRecursion}
-use Rattle.std.proofs.lemmas.List.{append-nil, take-append-drop, length-map, length-take, map-append}
-use Rattle.std.proofs.lemmas.List.Concat.{flat_map-append}
-use Rattle.zone_name.specs.Name.{IsLabel, IsName, folded_octet, folded_label, folded, with_length, wire}
-use Rattle.zone_name.specs.Spelling.{IsLabelFault}
 use Rattle.zone_name.specs.declared.fault.NameFault.{NameFault}
 use Rattle.zone_name.specs.declared.fault.NameFault.TheVariants.{EmptyLabel, LabelTooLong, NameTooLong}
-use Rattle.zone_rdata.specs.Machine.Fronts.{BeginsWithSent}
-use Rattle.zone_name.proofs.Pushing.{AllByRecursion-append, AllByRecursion-back}
 
 -- ---- lists one after another
 -- lists of one length are cut off alike
@@ -24,50 +17,42 @@ append_same x y a b count e = absurd (omega arith)
 
 -- what stands after its length is cut off alike
 pub frame_same : (x y a b : List ℕ) → with_length x ++ a ≡ with_length y ++ b → (x ≡ y) × (a ≡ b)
-frame_same x y a b e =
-    let counts : length x ≡ length y = cc in
-    let tails : x ++ a ≡ y ++ b = cc in
-    append_same x y a b counts tails
+frame_same x y a b e = grind (arith, append_same)
 
 -- octets up to a place, where the number there and so many octets are one with_length
 pub frame_at : (c : ℕ) (following : List ℕ) → c ≤ length following → c ∷ following ≡ with_length (take c following) ++ drop c following
-frame_at c following fits =
-    let count : length (take c following) ≡ c = omega (arith, length-take c following) in
-    ap (λ t. c ∷ t) (sym (take-append-drop c following)) ∙ ap (λ n. n ∷ (take c following ++ drop c following)) (sym count)
+frame_at c following fits = grind (arith, length-take, take-append-drop)
 
 pub frames_push : (many : List (List ℕ)) (x a : List ℕ) → flat_map with_length many ++ (with_length x ++ a) ≡ flat_map with_length (many ++ x ∷ []) ++ a
-frames_push many x a =
-    sym (append_assoc (flat_map with_length many) (with_length x) a)
-    ∙ ap (λ t. t ++ a) (ap (λ t. flat_map with_length many ++ t) (sym (append-nil (with_length x))) ∙ sym (flat_map-append with_length many (x ∷ [])))
+frames_push many x a = grind (arith, append_assoc, append-nil, flat_map-append)
 
 -- ---- names
 abbrev pub AreSome : List (List ℕ) → Type 0
 AreSome labels = AllByRecursion (λ label. 0 < length label) labels
 
-pub folded_some : (sent : List (List ℕ)) → AllByRecursion IsLabel (folded sent) → AreSome sent
+pub folded_some : (sent : Labels) → AllByRecursion IsLabel (folded sent) → AreSome sent
 folded_some [] each = tt
-folded_some (label ∷ sent) each = (omega (arith, each.0.some, length-map label folded_octet), folded_some sent each.1)
+folded_some (label ∷ sent) each = grind (arith, length-map, folded_some sent each.1)
 
 -- labels that were cut off stand first in every name there
 pub labels_first : (sent whole : List (List ℕ)) (rest tail : List ℕ) → AreSome sent → flat_map with_length sent ++ rest ≡ wire whole ++ tail → (more : List (List ℕ)) × (whole ≡ sent ++ more) × (rest ≡ wire more ++ tail)
 labels_first [] whole rest tail some e = (whole, refl, e)
 labels_first ([] ∷ sent) whole rest tail some e = absurd (omega (arith, some.0))
-labels_first ((c ∷ label) ∷ sent) [] rest tail some e = absurd (let bad : suc (length label) ≡ 0 = cc in omega arith)
+labels_first ((c ∷ label) ∷ sent) [] rest tail some e = cc
 labels_first ((c ∷ label) ∷ sent) (l ∷ whole) rest tail some e =
-    let shape : with_length (c ∷ label) ++ (flat_map with_length sent ++ rest) ≡ with_length l ++ (wire whole ++ tail) =
-    sym (append_assoc (with_length (c ∷ label)) (flat_map with_length sent) rest) ∙ e ∙ ap (λ t. t ++ tail) (append_assoc (with_length l) (flat_map with_length whole) (0 ∷ [])) ∙ append_assoc (with_length l) (wire whole) tail in
+    let shape = sym (append_assoc (with_length (c ∷ label)) (flat_map with_length sent) rest) ∙ e ∙ ap (λ t. t ++ tail) (append_assoc (with_length l) (flat_map with_length whole) (0 ∷ [])) ∙ append_assoc (with_length l) (wire whole) tail in
     let cut = frame_same (c ∷ label) l (flat_map with_length sent ++ rest) (wire whole ++ tail) shape in
     let next = labels_first sent whole rest tail some.1 cut.1 in
     (next.0, ap (λ h. h ∷ whole) (sym cut.0) ∙ ap (λ t. (c ∷ label) ∷ t) next.1, next.2)
 
 -- the labels that were cut off so far
-pub record HasCut (octets : List ℕ) (labels : List (List ℕ)) (rest : List ℕ) : Type 0 where
+pub record HasCut (octets : List ℕ) (labels : Labels) (rest : List ℕ) : Type 0 where
   pub sent : List (List ℕ)
   pub folds : folded sent ≡ labels
   pub some : AreSome sent
   pub parts : octets ≡ flat_map with_length sent ++ rest
 
-pub cut_none : (octets : List ℕ) (labels : List (List ℕ)) → labels ≡ [] → HasCut octets labels octets
+pub cut_none : (octets : List ℕ) (labels : Labels) → labels ≡ [] → HasCut octets labels octets
 cut_none octets labels e = record { sent = []; folds = sym e; some = tt; parts = refl }
 
 pub cut_more : (octets rest : List ℕ) (labels new : List (List ℕ)) (c : ℕ) (following label after : List ℕ) → HasCut octets labels rest → rest ≡ c ∷ following → 0 < c → c ≤ length following → label ≡ take c following → after ≡ drop c following → new ≡ labels ++ folded_label label ∷ [] → HasCut octets new after
@@ -80,19 +65,14 @@ cut_more octets rest labels new c following label after cut e some fits front ba
       parts = cut.parts ∙ ap (λ t. flat_map with_length cut.sent ++ t) (e ∙ frame_at c following fits ∙ ap (λ l. with_length l ++ drop c following) (sym front) ∙ ap (λ t. with_length label ++ t) (sym back)) ∙ frames_push cut.sent label after;
     }
 
-pub cut_name : (octets rest : List ℕ) (labels name : List (List ℕ)) (c : ℕ) (following : List ℕ) → HasCut octets labels rest → rest ≡ c ∷ following → c ≡ 0 → name ≡ labels → IsName name → BeginsWithSent octets name following
-cut_name octets rest labels name c following cut e nothing same is = record {
-  is_name = is;
-  sent = cut.sent;
-  folds = cut.folds ∙ sym same;
-  parts = cut.parts ∙ ap (λ t. flat_map with_length cut.sent ++ t) (e ∙ ap (λ n. n ∷ following) nothing) ∙ sym (append_assoc (flat_map with_length cut.sent) (0 ∷ []) following);
-}
+pub cut_name : (octets rest : List ℕ) (labels name : Labels) (c : ℕ) (following : List ℕ) → HasCut octets labels rest → rest ≡ c ∷ following → c ≡ 0 → name ≡ labels → IsName name → BeginsWithSent octets name following
+cut_name octets rest labels name c following cut e nothing same is = grind (arith, append_assoc)
 
 -- a name there goes on from what was cut off
-pub goes_on : (octets rest tail : List ℕ) (labels name : List (List ℕ)) (cut : HasCut octets labels rest) (b : BeginsWithSent octets name tail) → (more : List (List ℕ)) × (b.sent ≡ cut.sent ++ more) × (rest ≡ wire more ++ tail)
-goes_on octets rest tail labels name cut b = labels_first cut.sent b.sent rest tail cut.some (sym cut.parts ∙ b.parts)
+pub goes_on : (octets rest tail : List ℕ) (labels name : Labels) (cut : HasCut octets labels rest) (b : BeginsWithSent octets name tail) → (more : List (List ℕ)) × (b.sent ≡ cut.sent ++ more) × (rest ≡ wire more ++ tail)
+goes_on octets rest tail labels name cut b = grind (arith, labels_first)
 
-pub no_first : (octets rest : List ℕ) (labels : List (List ℕ)) → HasCut octets labels rest → length rest ≡ 0 → (name : List (List ℕ)) (tail : List ℕ) → BeginsWithSent octets name tail → ⊥
+pub no_first : (octets rest : List ℕ) (labels : Labels) → HasCut octets labels rest → length rest ≡ 0 → (name : Labels) (tail : List ℕ) → BeginsWithSent octets name tail → ⊥
 no_first octets rest labels cut none name tail b =
     let next = goes_on octets rest tail labels name cut b in
     omega (arith, ap length next.2, length-append (wire next.0) tail, length-append (flat_map with_length next.0) (0 ∷ []))
@@ -100,34 +80,29 @@ no_first octets rest labels cut none name tail b =
 -- a label there, where the number isn't 0
 next_label : (more : List (List ℕ)) (tail following : List ℕ) (c : ℕ) → 0 < c → c ∷ following ≡ wire more ++ tail → (label : List ℕ) × (others : List (List ℕ)) × (more ≡ label ∷ others) × (length label ≡ c) × (following ≡ label ++ (wire others ++ tail))
 next_label [] tail following c some e = absurd (let bad : c ≡ 0 = cc in omega arith)
-next_label (l ∷ others) tail following c some e =
-    let shape : c ∷ following ≡ length l ∷ (l ++ (wire others ++ tail)) = e ∙ ap (λ t. t ++ tail) (append_assoc (with_length l) (flat_map with_length others) (0 ∷ [])) ∙ append_assoc (with_length l) (wire others) tail in
-    (l, others, refl, (cc), (cc))
+next_label (l ∷ others) tail following c some e = grind (arith, append_assoc)
 
-pub no_room : (octets rest : List ℕ) (labels : List (List ℕ)) (c : ℕ) (following : List ℕ) → HasCut octets labels rest → rest ≡ c ∷ following → 0 < c → length following < c → (name : List (List ℕ)) (tail : List ℕ) → BeginsWithSent octets name tail → ⊥
+pub no_room : (octets rest : List ℕ) (labels : Labels) (c : ℕ) (following : List ℕ) → HasCut octets labels rest → rest ≡ c ∷ following → 0 < c → length following < c → (name : Labels) (tail : List ℕ) → BeginsWithSent octets name tail → ⊥
 no_room octets rest labels c following cut e some few name tail b =
     let next = goes_on octets rest tail labels name cut b in
     let label = next_label next.0 tail following c some (sym e ∙ next.2) in
     omega (arith, ap length label.4, length-append label.0 (wire label.1 ++ tail), label.3)
 
 -- what a name there says of the next label
-record Fits (labels : List (List ℕ)) (label : List ℕ) : Type 0 where
+record Fits (labels : Labels) (label : List ℕ) : Type 0 where
   short : length label ≤ 63
   room : length (wire (labels ++ label ∷ [])) ≤ 255
 
 fits_by : (before : List (List ℕ)) (label : List ℕ) (others : List (List ℕ)) → IsName (folded (before ++ label ∷ others)) → Fits (folded before) label
 fits_by before label others name =
-    let whole : folded (before ++ label ∷ others) ≡ folded before ++ folded_label label ∷ folded others = map-append folded_label before (label ∷ others) in
+    let whole = map-append folded_label before (label ∷ others) in
     let each = AllByRecursion-back IsLabel (folded before) (folded_label label ∷ folded others) (subst (AllByRecursion IsLabel) whole name.each) in
     let count = length-map label folded_octet in
     let frames = flat_map-append with_length (folded before) (folded_label label ∷ folded others) in
     let mine = flat_map-append with_length (folded before) (label ∷ []) in
-    record {
-      short = omega (arith, each.0.short, count);
-      room = omega (arith, name.short, ap (λ t. length (wire t)) whole, length-append (flat_map with_length (folded before ++ folded_label label ∷ folded others)) (0 ∷ []), ap length frames, length-append (flat_map with_length (folded before)) (flat_map with_length (folded_label label ∷ folded others)), length-append (with_length (folded_label label)) (flat_map with_length (folded others)), count, length-append (flat_map with_length (folded before ++ label ∷ [])) (0 ∷ []), ap length mine, length-append (flat_map with_length (folded before)) (flat_map with_length (label ∷ [])), length-append (with_length label) []);
-    }
+    record { short = omega (arith, each.0.short, count); room = omega (arith, name.short, ap (λ t. length (wire t)) whole, length-append (flat_map with_length (folded before ++ folded_label label ∷ folded others)) (0 ∷ []), ap length frames, length-append (flat_map with_length (folded before)) (flat_map with_length (folded_label label ∷ folded others)), length-append (with_length (folded_label label)) (flat_map with_length (folded others)), count, length-append (flat_map with_length (folded before ++ label ∷ [])) (0 ∷ []), ap length mine, length-append (flat_map with_length (folded before)) (flat_map with_length (label ∷ [])), length-append (with_length label) []) }
 
-next_fits : (octets rest : List ℕ) (labels : List (List ℕ)) (c : ℕ) (following : List ℕ) → HasCut octets labels rest → rest ≡ c ∷ following → 0 < c → c ≤ length following → (name : List (List ℕ)) (tail : List ℕ) → BeginsWithSent octets name tail → Fits labels (take c following)
+next_fits : (octets rest : List ℕ) (labels : Labels) (c : ℕ) (following : List ℕ) → HasCut octets labels rest → rest ≡ c ∷ following → 0 < c → c ≤ length following → (name : Labels) (tail : List ℕ) → BeginsWithSent octets name tail → Fits labels (take c following)
 next_fits octets rest labels c following cut e some fits name tail b =
     let next = goes_on octets rest tail labels name cut b in
     let label = next_label next.0 tail following c some (sym e ∙ next.2) in
@@ -137,13 +112,10 @@ next_fits octets rest labels c following cut e some fits name tail b =
     let is : IsName (folded (cut.sent ++ label.0 ∷ label.1)) = subst IsName (sym b.folds ∙ ap folded whole) b.is_name in
     subst (λ l. Fits labels l) (sym same) (subst (λ ls. Fits ls label.0) cut.folds (fits_by cut.sent label.0 label.1 is))
 
-refused_by : (fault : NameFault) (labels : List (List ℕ)) (label : List ℕ) (r : Result (Unit {0}) NameFault) → r ≡ Err fault → IsLabelFault fault → ((r ≡ Err EmptyLabel) ↔ (length label ≡ 0)) → ((r ≡ Err LabelTooLong) ↔ (63 < length label)) → ((r ≡ Err NameTooLong) ↔ ((0 < length label) × (length label ≤ 63) × (255 < length (wire (labels ++ label ∷ []))))) → 0 < length label → Fits labels label → ⊥
-refused_by EmptyLabel labels label r is only empty long too_long some fits = absurd (omega (arith, empty.0 is))
-refused_by LabelTooLong labels label r is only empty long too_long some fits = absurd (omega (arith, long.0 is, fits.short))
-refused_by NameTooLong labels label r is only empty long too_long some fits = absurd (omega (arith, (too_long.0 is).2, fits.room))
-refused_by fault labels label r is only empty long too_long some fits = only
+refused_by : (fault : NameFault) (labels : Labels) (label : List ℕ) (r : Result (Unit {0}) NameFault) → r ≡ Err fault → IsLabelFault fault → ((r ≡ Err EmptyLabel) ↔ (length label ≡ 0)) → ((r ≡ Err LabelTooLong) ↔ (63 < length label)) → ((r ≡ Err NameTooLong) ↔ ((0 < length label) × (length label ≤ 63) × (255 < length (wire (labels ++ label ∷ []))))) → 0 < length label → Fits labels label → ⊥
+refused_by fault labels label r is only empty long too_long some fits = grind arith
 
-pub no_label : (octets rest : List ℕ) (labels : List (List ℕ)) (c : ℕ) (following label : List ℕ) (fault : NameFault) (r : Result (Unit {0}) NameFault) → HasCut octets labels rest → rest ≡ c ∷ following → 0 < c → c ≤ length following → label ≡ take c following → r ≡ Err fault → IsLabelFault fault → ((r ≡ Err EmptyLabel) ↔ (length label ≡ 0)) → ((r ≡ Err LabelTooLong) ↔ (63 < length label)) → ((r ≡ Err NameTooLong) ↔ ((0 < length label) × (length label ≤ 63) × (255 < length (wire (labels ++ label ∷ []))))) → (name : List (List ℕ)) (tail : List ℕ) → BeginsWithSent octets name tail → ⊥
+pub no_label : (octets rest : List ℕ) (labels : Labels) (c : ℕ) (following label : List ℕ) (fault : NameFault) (r : Result (Unit {0}) NameFault) → HasCut octets labels rest → rest ≡ c ∷ following → 0 < c → c ≤ length following → label ≡ take c following → r ≡ Err fault → IsLabelFault fault → ((r ≡ Err EmptyLabel) ↔ (length label ≡ 0)) → ((r ≡ Err LabelTooLong) ↔ (63 < length label)) → ((r ≡ Err NameTooLong) ↔ ((0 < length label) × (length label ≤ 63) × (255 < length (wire (labels ++ label ∷ []))))) → (name : Labels) (tail : List ℕ) → BeginsWithSent octets name tail → ⊥
 no_label octets rest labels c following label fault r cut e some fits same is only empty long too_long name tail b =
     let count : 0 < length label = omega (arith, length-take c following, ap length same) in
     refused_by fault labels label r is only empty long too_long count (subst (λ l. Fits labels l) (sym same) (next_fits octets rest labels c following cut e some fits name tail b))
@@ -152,11 +124,11 @@ no_label octets rest labels c following label fault r cut e some fits same is on
 pub name_by : (more : List (List ℕ)) (rest tail : List ℕ) → AreSome more → 0 ∷ rest ≡ wire more ++ tail → (more ≡ []) × (rest ≡ tail)
 name_by [] rest tail some e = (refl, (cc))
 name_by ([] ∷ more) rest tail some e = absurd (omega (arith, some.0))
-name_by ((c ∷ l) ∷ more) rest tail some e = absurd (let bad : 0 ≡ suc (length l) = cc in omega arith)
+name_by ((c ∷ l) ∷ more) rest tail some e = cc
 
-pub sent_once : (octets rest tail : List ℕ) (a b : List (List ℕ)) → BeginsWithSent octets a rest → BeginsWithSent octets b tail → (a ≡ b) × (rest ≡ tail)
+pub sent_once : (octets rest tail : List ℕ) (a b : Labels) → BeginsWithSent octets a rest → BeginsWithSent octets b tail → (a ≡ b) × (rest ≡ tail)
 sent_once octets rest tail a b x y =
-    let open_x : octets ≡ flat_map with_length x.sent ++ 0 ∷ rest = x.parts ∙ append_assoc (flat_map with_length x.sent) (0 ∷ []) rest in
+    let open_x = x.parts ∙ append_assoc (flat_map with_length x.sent) (0 ∷ []) rest in
     let some_x = folded_some x.sent (subst (AllByRecursion IsLabel) (sym x.folds) x.is_name.each) in
     let some_y = folded_some y.sent (subst (AllByRecursion IsLabel) (sym y.folds) y.is_name.each) in
     let next = labels_first x.sent y.sent (0 ∷ rest) tail some_x (sym open_x ∙ y.parts) in

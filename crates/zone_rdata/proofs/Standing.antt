@@ -1,17 +1,8 @@
 -- Texts and items that stand in a master file as they are printed.
-use Rattle.std.proofs.Common.{◌≡◌, ℕ, ◌/◌, ◌%◌, ◌^◌, ◌<◌, ◌&&◌, nat_lt, Bool, true, List, [], ◌∷◌, length, decimal, inl, inr, refl, arith}
-use Rattle.std.specs.List.{AllByRecursion, list_all}
-use Rattle.std.proofs.lemmas.Bool.{and_parts}
-use Rattle.std.proofs.lemmas.Bool.Decides.{nat_tests}
-use Rattle.hex.specs.Hex.{lower_digits, encode_with, encode_lower}
-use Rattle.zone_name.specs.Spelling.{is_digit, escaped}
-use Rattle.zone_name.proofs.Bare.{StandsBare, is_bare, bare_octets, bare_unit}
-use Rattle.zone_rdata.specs.Address.{IsAddressOctet}
-use Rattle.zone_rdata.specs.Item.{RawItem, bare, quoted}
-use Rattle.zone_rdata.specs.Strings.{StandsInQuotes}
+use Rattle.zone_rdata.proofs.Common.{[], ◌≡◌, ℕ, ◌/◌, ◌%◌, ◌^◌, ◌<◌, ◌&&◌, nat_lt, Bool, true, List, ◌∷◌, length, decimal, inl, inr, refl, arith, AllByRecursion, list_all, and_parts, nat_tests, lower_digits, encode_lower, AreOctets, is_digit, escaped, StandsBare, is_bare, bare_octets, bare_unit, IsAddressOctet, RawItem, bare, quoted, StandsInQuotes, All-from_recursion}
+use Rattle.hex.specs.Hex.{encode_with}
 use Rattle.zone_rdata.proofs.GenericLaws.{decimal-is}
 use Rattle.zone_rdata.proofs.Lists.{each_weaker}
-use Rattle.std.proofs.lemmas.List.Elements.{All-from_recursion}
 
 -- an item that stands as it is printed: bare, or between its quotes in one line
 abbrev pub IsPrintedItem : RawItem → Type 0
@@ -53,7 +44,7 @@ bare_decimal n short =
     let is = decimal-is n short in
     bare_octets (decimal n) is.some (each_weaker (λ c. is_bare c ≡ true) digit_bare (decimal n) is.digits)
 
-hex_bare : (octets : List ℕ) → AllByRecursion (λ c. c < 256) octets → AreBare (encode_lower octets)
+hex_bare : (octets : List ℕ) → AreOctets octets → AreBare (encode_lower octets)
 unfolding encode_with
 hex_bare [] low = tt
 hex_bare (c ∷ octets) low =
@@ -61,7 +52,7 @@ hex_bare (c ∷ octets) low =
     let digits = All-from_recursion (λ c. is_bare c ≡ true) lower_digits (tested_each lower_digits refl) in
     (digits (c / 16) 0 (omega arith), (digits (c % 16) 0 (omega arith), hex_bare octets low.1))
 
-pub bare_hex : (c : ℕ) (octets : List ℕ) → AllByRecursion (λ c. c < 256) (c ∷ octets) → StandsBare (encode_lower (c ∷ octets))
+pub bare_hex : (c : ℕ) (octets : List ℕ) → AreOctets (c ∷ octets) → StandsBare (encode_lower (c ∷ octets))
 unfolding encode_with
 bare_hex c octets low = bare_octets (encode_lower (c ∷ octets)) (omega arith) (hex_bare (c ∷ octets) low)
 

@@ -1,57 +1,42 @@
 -- What items state is data.
-use Rattle.std.proofs.Common.{List, None, Option, Some, [], length, refl, subst, sym, ℕ, ◌<◌, ◌∷◌, ◌≡◌, ◌≤◌}
-use Rattle.std.specs.List.{AllByRecursion}
-use Rattle.zone_rdata.specs.declared.fault.Fault.{Fault}
-use Rattle.zone_rdata.specs.declared.field.Field.{Field}
-use Rattle.zone_rdata.specs.DataFault.{IsDataFault, IsFaultFor}
-use Rattle.zone_rdata.specs.Field.{FieldValue, HoldEach, items_after, own_items}
-use Rattle.zone_rdata.specs.Item.{RawItem}
-use Rattle.zone_rdata.specs.Layout.{AreLaidOut, IsData, layout}
-use Rattle.zone_rdata.specs.Spelling.{IsCanonicalOf, SpellEach, States, StatesFor, in_octets, in_words}
+use Rattle.zone_rdata.proofs.Common.{[], List, Option, length, refl, subst, ℕ, ◌∷◌, ◌≡◌, ◌≤◌, arith, AreOctets, Labels, Fault, Field, IsDataFault, IsFaultFor, FieldValue, HoldEach, items_after, own_items, RawItem, IsData, layout, IsCanonicalOf, SpellEach, States, StatesFor}
 use Rattle.zone_rdata.proofs.AnyField.{field_holds}
 use Rattle.zone_rdata.proofs.Tables.{table_row}
 use Rattle.zone_rdata.proofs.FieldLaws.{AreLow}
 use Rattle.zone_rdata.proofs.ItemChoice.{joined_low}
 use Rattle.zone_rdata.proofs.Layouts.{AreFor, canonical_laid, canonical_length, laid_out, low_values}
 
-pub spelt_hold : (origin : List (List ℕ)) (row : List Field) (items : List RawItem) (values : List FieldValue) → SpellEach origin row items values → HoldEach row values
+pub spelt_hold : (origin : Labels) (row : List Field) (items : List RawItem) (values : List FieldValue) → SpellEach origin row items values → HoldEach row values
 spelt_hold origin [] [] [] h = tt
 spelt_hold origin (f ∷ row) items (v ∷ values) h = (field_holds origin f (own_items f items) v h.0, spelt_hold origin row (items_after f items) values h.1)
 spelt_hold origin row items values h = absurd h
 
 -- the octets that items state for a layout of the table are data
-stated_laid : (origin : List (List ℕ)) (class kind : ℕ) (laid : Option (List Field)) (items : List RawItem) (octets : List ℕ) → laid ≡ layout class kind → StatesFor origin laid items octets → AreFor laid octets
-stated_laid origin class kind None items octets e stated = tt
-stated_laid origin class kind (Some row) items octets e (in_words own values is words spelt written short) =
-    let same : own ≡ row = cc in
-    subst (AreLaidOut row) (sym written) (laid_out row values (table_row class kind row (sym e)).last (subst (λ r. HoldEach r values) same (spelt_hold origin own items values spelt)))
-stated_laid origin class kind (Some row) items octets e (in_octets h) = canonical_laid class kind (Some row) h.0 octets e h.2
+stated_laid : (origin : Labels) (class kind : ℕ) (laid : Option (List Field)) (items : List RawItem) (octets : List ℕ) → laid ≡ layout class kind → StatesFor origin laid items octets → AreFor laid octets
+stated_laid origin class kind laid items octets e stated = grind (arith, laid_out, table_row, spelt_hold, canonical_laid)
 
-stated_short : (origin : List (List ℕ)) (laid : Option (List Field)) (items : List RawItem) (octets : List ℕ) → StatesFor origin laid items octets → length octets ≤ 65535
-stated_short origin laid items octets (in_words own values e words spelt written short) = short
-stated_short origin laid items octets (in_octets h) = rw (canonical_length laid h.0 octets h.2) h.1.short
+stated_short : (origin : Labels) (laid : Option (List Field)) (items : List RawItem) (octets : List ℕ) → StatesFor origin laid items octets → length octets ≤ 65535
+stated_short origin laid items octets h = grind (arith, canonical_length)
 
 -- what items state for the layout of a class and type is their data
-pub stated_data : (origin : List (List ℕ)) (class kind : ℕ) (laid : Option (List Field)) (items : List RawItem) (octets : List ℕ) → laid ≡ layout class kind → StatesFor origin laid items octets → AllByRecursion (λ c. c < 256) octets → IsData class kind octets
+pub stated_data : (origin : Labels) (class kind : ℕ) (laid : Option (List Field)) (items : List RawItem) (octets : List ℕ) → laid ≡ layout class kind → StatesFor origin laid items octets → AreOctets octets → IsData class kind octets
 stated_data origin class kind laid items octets e stated each = record {
   short = stated_short origin laid items octets stated;
   each = each;
   value = subst (λ l. AreFor l octets) e (stated_laid origin class kind laid items octets e stated);
 }
 
-pub states_for : (origin : List (List ℕ)) (class kind : ℕ) (laid : Option (List Field)) (items : List RawItem) (octets : List ℕ) → laid ≡ layout class kind → StatesFor origin laid items octets → States origin class kind items octets
-states_for origin class kind laid items octets e stated = record { stated = subst (λ l. StatesFor origin l items octets) e stated }
+pub states_for : (origin : Labels) (class kind : ℕ) (laid : Option (List Field)) (items : List RawItem) (octets : List ℕ) → laid ≡ layout class kind → StatesFor origin laid items octets → States origin class kind items octets
+states_for origin class kind laid items octets e stated = grind arith
 
-pub first_for : (origin : List (List ℕ)) (class kind : ℕ) (laid : Option (List Field)) (items : List RawItem) (fault : Fault) → laid ≡ layout class kind → IsFaultFor origin laid items fault → IsDataFault origin class kind items fault
-first_for origin class kind laid items fault e first = record { first = subst (λ l. IsFaultFor origin l items fault) e first }
+pub first_for : (origin : Labels) (class kind : ℕ) (laid : Option (List Field)) (items : List RawItem) (fault : Fault) → laid ≡ layout class kind → IsFaultFor origin laid items fault → IsDataFault origin class kind items fault
+first_for origin class kind laid items fault e first = grind arith
 
 low_form : (laid : Option (List Field)) (stated octets : List ℕ) → AreLow stated → IsCanonicalOf laid stated octets → AreLow octets
-low_form None stated octets low is = subst AreLow (sym is) low
-low_form (Some row) stated octets low is = subst AreLow (sym is.whole) (low_values row is.values is.held)
+low_form laid stated octets low is = grind (arith, low_values)
 
-stated_low : (origin : List (List ℕ)) (laid : Option (List Field)) (items : List RawItem) (octets : List ℕ) → StatesFor origin laid items octets → AreLow octets
-stated_low origin laid items octets (in_words row values e unmarked spelt written short) = subst AreLow (sym written) (low_values row values (spelt_hold origin row items values spelt))
-stated_low origin laid items octets (in_octets h) = low_form laid h.0 octets (joined_low h.1.digits h.0 h.1.joined) h.2
+stated_low : (origin : Labels) (laid : Option (List Field)) (items : List RawItem) (octets : List ℕ) → StatesFor origin laid items octets → AreLow octets
+stated_low origin laid items octets h = grind (arith, low_values, spelt_hold, low_form, joined_low)
 
-pub stated_is_data : (origin : List (List ℕ)) (class kind : ℕ) (items : List RawItem) (octets : List ℕ) → States origin class kind items octets → IsData class kind octets
+pub stated_is_data : (origin : Labels) (class kind : ℕ) (items : List RawItem) (octets : List ℕ) → States origin class kind items octets → IsData class kind octets
 stated_is_data origin class kind items octets x = stated_data origin class kind (layout class kind) items octets refl x.stated (stated_low origin (layout class kind) items octets x.stated)

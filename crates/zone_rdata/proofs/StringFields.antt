@@ -1,20 +1,11 @@
 -- Octets that are strings, each after its length.
-use Rattle.std.proofs.Common.{◌≡◌, ℕ, zero, suc, ◌+◌, ◌<◌, ◌≤◌, List, [], ◌∷◌, ◌++◌, length, take, drop, refl, sym, ap, ◌∙◌, subst, arith, length-append}
-use Rattle.std.specs.List.{flat_map, AllByRecursion}
-use Rattle.std.proofs.lemmas.List.{take_at, drop_at, take_all, drop_all, take-append-drop}
-use Rattle.zone_name.specs.Name.{with_length}
-use Rattle.zone_rdata.specs.Fields.OneString.{string_at}
-use Rattle.zone_rdata.specs.Fields.Strings.{AreStrings, strings_by, strings_of}
-use Rattle.zone_rdata.specs.Strings.{IsString}
-use Rattle.zone_rdata.specs.Machine.Fronts.{BeginsWithString, HoldsStrings}
-use Rattle.zone_rdata.specs.Machine.Printing.{BeginsWithField, after_field}
-use Rattle.zone_rdata.specs.declared.field.Field.{Field}
+use Rattle.zone_rdata.proofs.Common.{[], ◌≡◌, ℕ, zero, suc, ◌+◌, ◌<◌, ◌≤◌, List, ◌∷◌, ◌++◌, length, take, drop, refl, sym, ap, ◌∙◌, subst, arith, length-append, flat_map, take_at, drop_at, take_all, drop_all, take-append-drop, with_length, string_at, AreStrings, strings_by, BeginsWithString, HoldsStrings, BeginsWithField, after_field, Field, length-frames}
+use Rattle.zone_rdata.specs.Fields.Strings.{strings_of}
 use Rattle.zone_rdata.specs.declared.field.Field.TheVariants as fields
-use Rattle.zone_name.proofs.Octets.{length-frames}
 
 -- one string cut off the beginning
 string_cut : (text more : List ℕ) (m : ℕ) → strings_by (suc m) (with_length text ++ more) ≡ text ∷ strings_by m more
-string_cut text more m = rw (take_at text more (length text) refl, drop_at text more (length text) refl) refl
+string_cut text more m = grind (arith, take_at, drop_at)
 
 strings_by_back : (many : List (List ℕ)) (m : ℕ) → length many ≤ m → strings_by m (flat_map with_length many) ≡ many
 strings_by_back [] zero fuel = refl
@@ -46,7 +37,7 @@ fuel_same zero (suc n) (c ∷ octets) p q = absurd (omega arith)
 fuel_same (suc m) zero (c ∷ octets) p q = absurd (omega arith)
 fuel_same (suc m) (suc n) (c ∷ octets) p q =
     let parts : length (take c octets) + length (drop c octets) ≡ length octets = sym (length-append (take c octets) (drop c octets)) ∙ ap length (take-append-drop c octets) in
-    ap (λ t. take c octets ∷ t) (fuel_same m n (drop c octets) (omega (arith, parts)) (omega (arith, parts)))
+    cc (fuel_same m n (drop c octets) (omega (arith, parts)) (omega (arith, parts)))
 fuel_same m n octets p q = refl
 
 strings_next : (c : ℕ) (octets : List ℕ) → strings_of (c ∷ octets) ≡ take c octets ∷ strings_of (drop c octets)
@@ -57,24 +48,7 @@ strings_next c octets =
 
 -- strings begin with a string, and the rest is strings
 pub first_string : (octets : List ℕ) → 0 < length octets → HoldsStrings octets → BeginsWithString octets × HoldsStrings (drop (length (with_length (string_at octets))) octets) × (strings_of octets ≡ string_at octets ∷ strings_of (drop (length (with_length (string_at octets))) octets))
-first_string [] some held = absurd (omega arith)
-first_string (c ∷ octets) some held =
-    let text = take c octets in
-    let next : strings_of (c ∷ octets) ≡ text ∷ strings_of (drop c octets) = strings_next c octets in
-    let whole : length text ∷ (text ++ flat_map with_length (strings_of (drop c octets))) ≡ c ∷ octets = sym (ap (flat_map with_length) next) ∙ held.whole in
-    let count : length text ≡ c = cc whole in
-    let tail : text ++ flat_map with_length (strings_of (drop c octets)) ≡ octets = cc whole in
-    let each : AllByRecursion IsString (text ∷ strings_of (drop c octets)) = subst (AllByRecursion IsString) next held.each in
-    let following : drop (length (with_length text)) (c ∷ octets) ≡ drop c octets = ap (λ n. drop n octets) count in
-    let rest : flat_map with_length (strings_of (drop c octets)) ≡ drop c octets = sym (drop_at text (flat_map with_length (strings_of (drop c octets))) c count) ∙ ap (drop c) tail in (
-      record {
-        some = some;
-        held = each.0;
-        front = ap (λ n. c ∷ take n octets) count ∙ ap (λ n. n ∷ text) (sym count);
-      },
-      subst HoldsStrings (sym following) (record { each = each.1; whole = rest }),
-      next ∙ ap (λ o. text ∷ strings_of o) (sym following),
-    )
+first_string octets some held = grind (arith, strings_next, drop_at)
 
 pub no_strings : strings_of [] ≡ []
 unfolding strings_of
@@ -82,26 +56,24 @@ no_strings = refl
 
 -- a field of strings at the beginning of octets is all of them
 pub all_strings : (octets : List ℕ) → AreStrings (strings_of octets) → take (length (flat_map with_length (strings_of octets))) octets ≡ flat_map with_length (strings_of octets) → HoldsStrings octets
-all_strings octets are front =
-    let len = strings_len octets in
-    record { each = are.each; whole = sym front ∙ take_all (length (flat_map with_length (strings_of octets))) octets (omega (arith, len)) }
+all_strings octets are front = grind (arith, strings_len, take_all)
 
 pub some_strings : (octets : List ℕ) → AreStrings (strings_of octets) → 0 < length octets
-some_strings [] are = let h : 0 < length (strings_of []) = are.some in let e : length (strings_of []) ≡ 0 = ap length no_strings in omega (arith, e)
+some_strings [] are = grind (arith, no_strings)
 some_strings (c ∷ octets) are = omega arith
 
 pub nothing_later : (octets : List ℕ) → drop (length (flat_map with_length (strings_of octets))) octets ≡ []
-nothing_later octets = drop_all (length (flat_map with_length (strings_of octets))) octets (let len = strings_len octets in omega (arith, len))
+nothing_later octets = grind (arith, drop_all, strings_len)
 
 pub nothing_after : (field : Field) (octets rest : List ℕ) → field ≡ fields.Strings → rest ≡ drop (length octets) octets → rest ≡ after_field field octets
-nothing_after field octets rest is e = e ∙ drop_all (length octets) octets (omega arith) ∙ sym (ap (λ f. after_field f octets) is ∙ nothing_later octets)
+nothing_after field octets rest is e = grind (arith, drop_all, nothing_later)
 
 strings_held : (field : Field) (octets : List ℕ) → field ≡ fields.Strings → BeginsWithField field octets → BeginsWithField fields.Strings octets
 strings_held field octets is begins = subst (λ f. BeginsWithField f octets) is begins
 
 -- octets that begin with a field of strings
 pub strings_front : (field : Field) (octets : List ℕ) → field ≡ fields.Strings → BeginsWithField field octets → HoldsStrings octets
-strings_front field octets is begins = let h = strings_held field octets is begins in all_strings octets h.held h.front
+strings_front field octets is begins = grind (arith, strings_held, all_strings)
 
 pub strings_some : (field : Field) (octets : List ℕ) → field ≡ fields.Strings → BeginsWithField field octets → 0 < length octets
-strings_some field octets is begins = let h = strings_held field octets is begins in some_strings octets h.held
+strings_some field octets is begins = grind (arith, strings_held, some_strings)

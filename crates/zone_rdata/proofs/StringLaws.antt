@@ -1,13 +1,6 @@
 -- The laws of strings.
-use Rattle.std.proofs.Common.{◌≡◌, ◌≢◌, ℕ, ◌<◌, Bool, true, false, ◌||◌, ◌==◌, nat_le, List, [], ◌∷◌, ◌++◌, ◌⊎◌, inl, inr, refl, sym, ap, ◌∙◌, subst, arith}
+use Rattle.zone_rdata.proofs.Common.{[], ◌≡◌, ◌≢◌, ℕ, ◌<◌, Bool, true, false, ◌||◌, ◌==◌, nat_le, List, ◌∷◌, ◌⊎◌, refl, sym, ◌∙◌, arith, AllByRecursion, and_parts, or_parts, or_cases, eqb-true, eqb-false, leb-true, AreOctets, Written, text_of, octet_of, IsUnit, no_octet, written_text, written_octets, is_digit, Fault, RawItem, quoted, IsString, SpellsString, StringFault, StandsInQuotes, is_quote, inside_text, is_shown, unit_text}
 use Rattle.std.specs.Prelude.{map}
-use Rattle.std.specs.List.{AllByRecursion}
-use Rattle.std.proofs.lemmas.Bool.{and_parts, or_parts, or_cases, eqb-true, eqb-false, leb-true}
-use Rattle.zone_name.specs.Spelling.{Written, plain, text_of, octet_of, IsUnit, no_octet, written_text, written_octets, is_digit}
-use Rattle.zone_rdata.specs.declared.fault.Fault.{Fault}
-use Rattle.zone_rdata.specs.Item.{RawItem, quoted}
-use Rattle.zone_rdata.specs.Strings.{IsString, SpellsString, StringFault, StandsInQuotes, is_quote, inside_text, is_shown, unit_text}
-use Rattle.zone_name.proofs.Pushing.{AllByRecursion-append}
 use Rattle.zone_name.proofs.Lawful.{written_by, printed_text, value_by, decimal_escapes}
 use Rattle.zone_rdata.proofs.Strings.{string_reads, fault_reads}
 use Rattle.zone_rdata.proofs.Lists.{each_weaker}
@@ -17,98 +10,75 @@ pub string-once : (item : RawItem) (a b : List ℕ) → SpellsString item a → 
 string-once item a b s t = let e = sym (string_reads item a s) ∙ string_reads item b t in cc
 
 pub string-never_both : (item : RawItem) (octets : List ℕ) (fault : Fault) → SpellsString item octets → StringFault item fault → ⊥
-string-never_both item octets fault s f = let e = sym (string_reads item octets s) ∙ fault_reads item fault f in cc
+string-never_both item octets fault s f = cc (string_reads item octets s, fault_reads item fault f)
 
 pub fault-once : (item : RawItem) (a b : Fault) → StringFault item a → StringFault item b → a ≡ b
 fault-once item a b f g = let e = sym (fault_reads item a f) ∙ fault_reads item b g in cc
 
 -- ---- what is printed
-is_special : ℕ → Bool
+abbrev is_special : ℕ → Bool
 is_special c = c == 34 || c == 92
 
-printed_unit : ℕ → Written
+abbrev printed_unit : ℕ → Written
 printed_unit c = written_by (is_special c) (is_shown c) c
 
 text_of-printed : (c : ℕ) → text_of (printed_unit c) ≡ unit_text c
-unfolding printed_unit is_special
 text_of-printed c = printed_text (is_special c) (is_shown c) c
 
 octet_of-printed : (c : ℕ) → octet_of (printed_unit c) ≡ c
-unfolding printed_unit
 octet_of-printed c = value_by (is_special c) (is_shown c) c
 
 no_digit : (c : ℕ) → (c ≡ 34) ⊎ (c ≡ 92) → is_digit c ≡ false
-no_digit c (inl e) = rw e refl
-no_digit c (inr e) = rw e refl
+no_digit c h = grind arith
 
 special_is : (c : ℕ) → is_special c ≡ true → (c ≡ 34) ⊎ (c ≡ 92)
-unfolding is_special
-special_is c e = elim (or_cases (c == 34) (c == 92) e) [ inl h ↦ inl (eqb-true c 34 h) | inr h ↦ inr (eqb-true c 92 h) ]
+special_is c e = grind (arith, or_cases, eqb-true)
 
 special_not : (c n : ℕ) → (c ≡ 34) ⊎ (c ≡ 92) → n < 34 → c ≢ n
-special_not c n (inl e) low h = absurd (omega arith)
-special_not c n (inr e) low h = absurd (omega arith)
+special_not c n k low h = grind arith
 
 quoted_by : (special shown : Bool) (c : ℕ) → is_special c ≡ special → is_shown c ≡ shown → c < 256 → IsUnit is_quote (written_by special shown c)
-unfolding written_by is_special
-quoted_by true shown c e s low = let is = special_is c e in (no_digit c is, special_not c 10 is (omega arith), special_not c 13 is (omega arith))
-quoted_by false true c e s low = let parts = or_parts (c == 34) (c == 92) e in (parts.0, eqb-false c 92 parts.1)
+unfolding written_by
+quoted_by true shown c e s low = grind (arith, special_is, no_digit, special_not)
+quoted_by false true c e s low = grind (arith, or_parts, eqb-false)
 quoted_by false false c e s low = decimal_escapes c low
 
 quoted_unit : (c : ℕ) → c < 256 → IsUnit is_quote (printed_unit c)
-unfolding printed_unit
 quoted_unit c low = quoted_by (is_special c) (is_shown c) c refl refl low
 
 line_by : (special shown : Bool) (c : ℕ) → is_special c ≡ special → is_shown c ≡ shown → AllByRecursion (λ d. d ≢ 10) (text_of (written_by special shown c))
 unfolding written_by
-line_by true shown c e s = (λ h. absurd (omega (arith, h)), (special_not c 10 (special_is c e) (omega arith), tt))
-line_by false true c e s = let low = leb-true 32 c (and_parts (nat_le 32 c) (nat_le c 126) s).0 in (λ h. absurd (omega (arith, h)), tt)
-line_by false false c e s = (λ h. absurd (omega (arith, h)), (λ h. absurd (omega (arith, h)), (λ h. absurd (omega (arith, h)), (λ h. absurd (omega (arith, h)), tt))))
+line_by true shown c e s = grind (arith, special_not, special_is)
+line_by false true c e s = grind (arith, leb-true, and_parts, nat_le)
+line_by false false c e s = grind arith
 
 line_unit : (c : ℕ) → AllByRecursion (λ d. d ≢ 10) (text_of (printed_unit c))
-unfolding printed_unit
 line_unit c = line_by (is_special c) (is_shown c) c refl refl
 
-printed_units : List ℕ → List Written
+abbrev printed_units : List ℕ → List Written
 printed_units octets = map printed_unit octets
 
-quoted_units : (octets : List ℕ) → AllByRecursion (λ c. c < 256) octets → AllByRecursion (IsUnit is_quote) (printed_units octets)
-unfolding printed_units
+quoted_units : (octets : List ℕ) → AreOctets octets → AllByRecursion (IsUnit is_quote) (printed_units octets)
 quoted_units [] each = tt
 quoted_units (c ∷ octets) each = (quoted_unit c each.0, quoted_units octets each.1)
 
 units_text : (octets : List ℕ) → inside_text octets ≡ written_text (printed_units octets)
-unfolding printed_units
 units_text [] = refl
-units_text (c ∷ octets) = ap (λ t. t ++ inside_text octets) (sym (text_of-printed c)) ∙ ap (λ t. text_of (printed_unit c) ++ t) (units_text octets)
+units_text (c ∷ octets) = cc (text_of-printed c, units_text octets)
 
 units_octets : (octets : List ℕ) → octets ≡ written_octets (printed_units octets)
-unfolding printed_units
 units_octets [] = refl
-units_octets (c ∷ octets) = ap (λ d. d ∷ octets) (sym (octet_of-printed c)) ∙ ap (λ t. octet_of (printed_unit c) ∷ t) (units_octets octets)
+units_octets (c ∷ octets) = cc (octet_of-printed c, units_octets octets)
 
 units_line : (octets : List ℕ) → AllByRecursion (λ d. d ≢ 10) (written_text (printed_units octets))
-unfolding printed_units
 units_line [] = tt
-units_line (c ∷ octets) = AllByRecursion-append (λ d. d ≢ 10) (text_of (printed_unit c)) (written_text (printed_units octets)) (line_unit c) (units_line octets)
+units_line (c ∷ octets) = grind (arith, printed_unit, printed_units, line_unit, units_line octets)
 
 unit_of_quoted : (w : Written) → IsUnit is_quote w → IsUnit no_octet w
-unit_of_quoted (plain c) is = (refl, is.1)
-unit_of_quoted w is = is
+unit_of_quoted w is = grind arith
 
 pub printed-spells : (octets : List ℕ) → IsString octets → SpellsString (quoted (inside_text octets)) octets
-printed-spells octets is = record {
-  units = printed_units octets;
-  each = each_weaker (IsUnit no_octet) unit_of_quoted (printed_units octets) (quoted_units octets is.each);
-  text = units_text octets;
-  value = units_octets octets;
-  string = is;
-}
+printed-spells octets is = grind (arith, printed_units, each_weaker, unit_of_quoted, quoted_units, units_text, units_octets)
 
 pub printed-stands : (octets : List ℕ) → IsString octets → StandsInQuotes (inside_text octets)
-printed-stands octets is = record {
-  units = printed_units octets;
-  each = quoted_units octets is.each;
-  parts = units_text octets;
-  one_line = subst (AllByRecursion (λ d. d ≢ 10)) (sym (units_text octets)) (units_line octets);
-}
+printed-stands octets is = grind (arith, printed_units, quoted_units, units_text, units_line)

@@ -1,11 +1,6 @@
 -- The octets of a string as the code reads them, unit by unit.
-use Rattle.std.proofs.Common.{◌≡◌, ℕ, ◌<◌, ◌≤◌, List, [], ◌∷◌, ◌++◌, length, sym, ap, ◌∙◌, subst, arith, append_assoc, length-append}
-use Rattle.std.proofs.lemmas.List.{flat_map_more, map_push, length-map}
-use Rattle.zone_name.specs.Spelling.{Written, text_of, octet_of, IsUnit, no_octet, IsBadEscape, BeginsWithUnit, written_text, written_octets}
+use Rattle.zone_rdata.proofs.Common.{[], ◌≡◌, ℕ, ◌<◌, ◌≤◌, List, ◌∷◌, ◌++◌, length, sym, ap, ◌∙◌, subst, arith, append_assoc, length-append, flat_map_more, map_push, length-map, Written, text_of, octet_of, IsUnit, no_octet, IsBadEscape, BeginsWithUnit, written_text, written_octets, RawItem, ReachesUnit, StringFault, bad_escape, long_string, item_text, AllByRecursion-append}
 use Rattle.zone_rdata.specs.declared.fault.Fault.TheVariants.{BadEscape, StringTooLong}
-use Rattle.zone_rdata.specs.Item.{RawItem}
-use Rattle.zone_rdata.specs.Strings.{ReachesUnit, StringFault, bad_escape, long_string, item_text}
-use Rattle.zone_name.proofs.Pushing.{AllByRecursion-append}
 
 -- the octets of the units up to a place of an item's text
 pub record HasRead (item : RawItem) (octets rest : List ℕ) : Type 0 where

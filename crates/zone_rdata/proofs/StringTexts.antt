@@ -1,12 +1,5 @@
 -- The text of strings, one after another.
-use Rattle.std.proofs.Common.{◌≡◌, ℕ, ◌<◌, ◌≤◌, List, [], ◌∷◌, ◌++◌, length, drop, map, sym, ap, ◌∙◌, subst, arith, append_assoc}
-use Rattle.std.specs.List.{flat_map, join_with_byte}
-use Rattle.std.proofs.lemmas.List.{append-nil}
-use Rattle.zone_name.specs.Name.{with_length}
-use Rattle.zone_rdata.specs.Fields.OneString.{string_at}
-use Rattle.zone_rdata.specs.Fields.Strings.{strings_of}
-use Rattle.zone_rdata.specs.Machine.Fronts.{BeginsWithString, HoldsStrings}
-use Rattle.zone_rdata.specs.Strings.{string_text}
+use Rattle.zone_rdata.proofs.Common.{[], ◌≡◌, ℕ, ◌<◌, ◌≤◌, List, ◌∷◌, ◌++◌, length, drop, map, ap, arith, append_assoc, flat_map, join_with_byte, append-nil, with_length, string_at, strings_of, BeginsWithString, HoldsStrings, string_text}
 use Rattle.zone_rdata.proofs.StringFields.{first_string, no_strings}
 use Rattle.zone_rdata.proofs.Texts.{joined_more}
 
@@ -22,12 +15,10 @@ abbrev pub more_text : List ℕ → List ℕ
 more_text octets = flat_map (λ t. 32 ∷ t) (map string_text (strings_of octets))
 
 strings_first : (octets : List ℕ) → 0 < length octets → HoldsStrings octets → strings_text octets ≡ string_text (string_at octets) ++ more_text (following octets)
-strings_first octets some held =
-    let first = first_string octets some held in
-    ap (λ many. join_with_byte 32 (map string_text many)) first.2 ∙ joined_more (string_text (string_at octets)) (map string_text (strings_of (following octets)))
+strings_first octets some held = grind (arith, first_string, joined_more)
 
 more_first : (octets : List ℕ) → 0 < length octets → HoldsStrings octets → more_text octets ≡ 32 ∷ string_text (string_at octets) ++ more_text (following octets)
-more_first octets some held = let first = first_string octets some held in ap (λ many. flat_map (λ t. 32 ∷ t) (map string_text many)) first.2
+more_first octets some held = grind (arith, first_string)
 
 -- strings up to a place are printed, at least one
 pub record HaveQuoted (whole rest text : List ℕ) : Type 0 where
@@ -35,24 +26,17 @@ pub record HaveQuoted (whole rest text : List ℕ) : Type 0 where
   pub left : strings_text whole ≡ text ++ more_text rest
 
 pub quoted_first : (whole string rest : List ℕ) → 0 < length whole → HoldsStrings whole → string ≡ string_at whole → rest ≡ following whole → HaveQuoted whole rest (string_text string)
-quoted_first whole string rest some held at is = record {
-  held = subst HoldsStrings (sym is) (first_string whole some held).1;
-  left = strings_first whole some held ∙ ap (λ s. string_text s ++ more_text (following whole)) (sym at) ∙ ap (λ r. string_text string ++ more_text r) (sym is);
-}
+quoted_first whole string rest some held at is = grind (arith, first_string, strings_first)
 
 pub quoted_more : (whole rest text string after : List ℕ) → 0 < length rest → HaveQuoted whole rest text → string ≡ string_at rest → after ≡ following rest → HaveQuoted whole after (text ++ 32 ∷ string_text string)
-quoted_more whole rest text string after some so_far at is = record {
-  held = subst HoldsStrings (sym is) (first_string rest some so_far.held).1;
-  left = so_far.left ∙ ap (λ t. text ++ t) (more_first rest some so_far.held) ∙ sym (append_assoc text (32 ∷ string_text (string_at rest)) (more_text (following rest)))
-      ∙ ap (λ s. (text ++ 32 ∷ string_text s) ++ more_text (following rest)) (sym at) ∙ ap (λ r. (text ++ 32 ∷ string_text string) ++ more_text r) (sym is);
-}
+quoted_more whole rest text string after some so_far at is = grind (arith, first_string, more_first, append_assoc)
 
 no_more_text : (rest : List ℕ) → length rest ≤ 0 → more_text rest ≡ []
 no_more_text [] none = ap (λ many. flat_map (λ t. 32 ∷ t) (map string_text many)) no_strings
 no_more_text (c ∷ rest) none = absurd (omega arith)
 
 pub quoted_all : (whole rest text : List ℕ) → length rest ≤ 0 → HaveQuoted whole rest text → text ≡ strings_text whole
-quoted_all whole rest text none so_far = sym (so_far.left ∙ ap (λ t. text ++ t) (no_more_text rest none) ∙ append-nil text)
+quoted_all whole rest text none so_far = grind (arith, no_more_text, append-nil)
 
 pub first_of_rest : (whole rest text : List ℕ) → 0 < length rest → HaveQuoted whole rest text → BeginsWithString rest
 first_of_rest whole rest text some so_far = (first_string rest some so_far.held).0

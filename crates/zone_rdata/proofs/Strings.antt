@@ -1,17 +1,10 @@
 -- The string of an item, or its first fault, as an answer on lists: of the units at the beginning
 -- of its text.
-use Rattle.std.proofs.Common.{◌≡◌, ℕ, zero, suc, ◌<◌, ◌≤◌, Bool, nat_le, if◌then◌else◌, List, [], ◌∷◌, ◌++◌, length, Result, Ok, Err, ◌⊎◌, inl, inr, refl, sym, ap, ◌∙◌, subst, arith, append_assoc, length-append}
-use Rattle.std.specs.List.{AllByRecursion}
-use Rattle.std.proofs.lemmas.Bool.{cases_Bool, false≢true, le-leb, lt-leb, leb-true, leb-false}
-use Rattle.std.proofs.lemmas.List.{append-nil, length-map}
-use Rattle.std.proofs.lemmas.List.Concat.{flat_map-append}
-use Rattle.zone_name.specs.Spelling.{Written, plain, escaped, decimal, text_of, octet_of, IsUnit, no_octet, written_text, written_octets}
+use Rattle.zone_rdata.proofs.Common.{[], ◌≡◌, ℕ, zero, suc, ◌<◌, ◌≤◌, nat_le, List, ◌∷◌, ◌++◌, length, Result, Ok, Err, ◌⊎◌, inl, inr, refl, sym, ap, ◌∙◌, subst, arith, append_assoc, length-append, AllByRecursion, cases_Bool, le-leb, lt-leb, leb-true, leb-false, append-nil, length-map, flat_map-append, AreOctets, Written, escaped, text_of, octet_of, IsUnit, no_octet, written_text, written_octets, Fault, RawItem, SpellsString, StringFault, bad_escape, long_string, item_text, AllByRecursion-append, AllByRecursion-front, AllByRecursion-back}
+use Rattle.std.proofs.Common.{if◌then◌else◌}
+use Rattle.zone_name.specs.Spelling.{plain, decimal}
 use Rattle.zone_name.specs.Machine.Units.{Units, units_first}
-use Rattle.zone_rdata.specs.declared.fault.Fault.{Fault}
 use Rattle.zone_rdata.specs.declared.fault.Fault.TheVariants.{BadEscape, StringTooLong}
-use Rattle.zone_rdata.specs.Item.{RawItem}
-use Rattle.zone_rdata.specs.Strings.{SpellsString, StringFault, bad_escape, long_string, item_text}
-use Rattle.zone_name.proofs.Pushing.{AllByRecursion-append, AllByRecursion-front, AllByRecursion-back}
 use Rattle.zone_name.proofs.Units.{NoUnit, at_end, at_octet, at_backslash, UnitsAre, units_first_are, units_first_only}
 
 -- what follows the last unit is nothing, or a backslash that begins no escape
@@ -30,16 +23,13 @@ reading text = answer (units_first no_octet text)
 pub string_reads : (item : RawItem) (octets : List ℕ) → SpellsString item octets → reading (item_text item) ≡ Ok octets
 string_reads item octets spells =
     let short : length spells.units ≤ 255 = omega (arith, spells.string.short, ap length spells.value, length-map spells.units octet_of) in
-    ap answer (units_first_only no_octet (item_text item) spells.units [] refl (spells.text ∙ sym (append-nil (written_text spells.units))) spells.each (at_end refl))
-    ∙ ap (λ (b : Bool). if b then Ok (written_octets spells.units) else Err StringTooLong) (le-leb (length spells.units) 255 short) ∙ ap (λ t. Ok t) (sym spells.value)
+    cc (units_first_only no_octet (item_text item) spells.units [] refl (spells.text ∙ sym (append-nil (written_text spells.units))) spells.each (at_end refl), le-leb (length spells.units) 255 short)
 
 bad_ended : (units : List Written) (rest more : List ℕ) → rest ≡ 92 ∷ more → ended units rest ≡ Err BadEscape
 bad_ended units rest more e = ap (ended units) e
 
 pub fault_reads : (item : RawItem) (fault : Fault) → StringFault item fault → reading (item_text item) ≡ Err fault
-fault_reads item _ (bad_escape before rest r bad) =
-    ap answer (units_first_only no_octet (item_text item) before rest refl r.parts r.units (at_backslash bad))
-    ∙ ap (λ (b : Bool). if b then ended before rest else Err StringTooLong) (le-leb (length before) 255 r.room) ∙ bad_ended before rest bad.0 bad.1
+fault_reads item _ (bad_escape before rest r bad) = grind (arith, units_first_only, at_backslash, le-leb, bad_ended)
 fault_reads item _ (long_string before w rest r full is) =
     let found : Units = units_first no_octet rest in
     let are : UnitsAre no_octet rest found = units_first_are no_octet rest in
@@ -47,16 +37,15 @@ fault_reads item _ (long_string before w rest r full is) =
     let each : AllByRecursion (IsUnit no_octet) units = AllByRecursion-append (IsUnit no_octet) before (w ∷ found.units) r.units (is, are.each) in
     let following : text_of w ++ rest ≡ written_text (w ∷ found.units) ++ found.rest = ap (λ t. text_of w ++ t) are.whole ∙ sym (append_assoc (text_of w) (written_text found.units) found.rest) in
     let whole : item_text item ≡ written_text units ++ found.rest = r.parts ∙ ap (λ t. written_text before ++ t) following ∙ sym (append_assoc (written_text before) (written_text (w ∷ found.units)) found.rest) ∙ ap (λ t. t ++ found.rest) (sym (flat_map-append text_of before (w ∷ found.units))) in
-    ap answer (units_first_only no_octet (item_text item) units found.rest refl whole each are.none)
-    ∙ ap (λ (b : Bool). if b then ended units found.rest else Err StringTooLong) (lt-leb (length units) 255 (omega (arith, full, length-append before (w ∷ found.units))))
+    cc (units_first_only no_octet (item_text item) units found.rest refl whole each are.none, lt-leb (length units) 255 (omega (arith, full, length-append before (w ∷ found.units))))
 
 -- ---- the answer is spelled, or is the first fault
 
-octets_each : (units : List Written) → AllByRecursion (IsUnit no_octet) units → AllByRecursion (λ c. c < 256) (written_text units) → AllByRecursion (λ c. c < 256) (written_octets units)
+octets_each : (units : List Written) → AllByRecursion (IsUnit no_octet) units → AreOctets (written_text units) → AreOctets (written_octets units)
 octets_each [] each low = tt
 octets_each (plain c ∷ units) each low = (low.0, octets_each units each.1 low.1)
 octets_each (escaped c ∷ units) each low = (low.1.0, octets_each units each.1 low.1.1)
-octets_each (decimal x y z ∷ units) each low = (omega (arith, each.0.3), octets_each units each.1 low.1.1.1.1)
+octets_each (decimal x y z ∷ units) each low = grind (arith, octets_each units each.1 low.1.1.1.1)
 
 -- the unit after the first n
 record IsSplit (n : ℕ) (units : List Written) : Type 0 where
@@ -78,25 +67,20 @@ EitherOf item = ((octets : List ℕ) × SpellsString item octets) ⊎ ((fault : 
 
 long_units : (item : RawItem) (found : Units) → UnitsAre no_octet (item_text item) found → IsSplit 255 found.units → StringFault item StringTooLong
 long_units item found are split =
-    let each : AllByRecursion (IsUnit no_octet) (split.before ++ split.unit ∷ split.after) = subst (AllByRecursion (IsUnit no_octet)) split.whole are.each in
-    let whole : item_text item ≡ written_text split.before ++ (text_of split.unit ++ (written_text split.after ++ found.rest)) = are.whole ∙ ap (λ t. written_text t ++ found.rest) split.whole ∙ ap (λ t. t ++ found.rest) (flat_map-append text_of split.before (split.unit ∷ split.after)) ∙ append_assoc (written_text split.before) (text_of split.unit ++ written_text split.after) found.rest ∙ ap (λ t. written_text split.before ++ t) (append_assoc (text_of split.unit) (written_text split.after) found.rest) in
-    long_string split.before split.unit (written_text split.after ++ found.rest)
-    (record { units = AllByRecursion-front (IsUnit no_octet) split.before (split.unit ∷ split.after) each; room = omega (arith, split.count); parts = whole })
-    split.count (AllByRecursion-back (IsUnit no_octet) split.before (split.unit ∷ split.after) each).0
+    let each = subst (AllByRecursion (IsUnit no_octet)) split.whole are.each in
+    let whole = are.whole ∙ ap (λ t. written_text t ++ found.rest) split.whole ∙ ap (λ t. t ++ found.rest) (flat_map-append text_of split.before (split.unit ∷ split.after)) ∙ append_assoc (written_text split.before) (text_of split.unit ++ written_text split.after) found.rest ∙ ap (λ t. written_text split.before ++ t) (append_assoc (text_of split.unit) (written_text split.after) found.rest) in
+    long_string split.before split.unit (written_text split.after ++ found.rest) (record { units = AllByRecursion-front (IsUnit no_octet) split.before (split.unit ∷ split.after) each; room = omega (arith, split.count); parts = whole }) split.count (AllByRecursion-back (IsUnit no_octet) split.before (split.unit ∷ split.after) each).0
 
-short_units : (item : RawItem) (units : List Written) (rest : List ℕ) → item_text item ≡ written_text units ++ rest → AllByRecursion (IsUnit no_octet) units → NoUnit no_octet rest → length units ≤ 255 → AllByRecursion (λ c. c < 256) (item_text item) → EitherOf item
+short_units : (item : RawItem) (units : List Written) (rest : List ℕ) → item_text item ≡ written_text units ++ rest → AllByRecursion (IsUnit no_octet) units → NoUnit no_octet rest → length units ≤ 255 → AreOctets (item_text item) → EitherOf item
 short_units item units [] whole each none short low =
     let text : item_text item ≡ written_text units = whole ∙ append-nil (written_text units) in
-    inl (written_octets units, record { units = units; each = each; text = text; value = refl; string = record { short = omega (arith, short, length-map units octet_of); each = octets_each units each (subst (AllByRecursion (λ c. c < 256)) text low) } })
+    inl (written_octets units, record { units = units; each = each; text = text; value = refl; string = record { short = omega (arith, short, length-map units octet_of); each = octets_each units each (subst AreOctets text low) } })
 short_units item units (c ∷ rest) whole each (at_end e) short low = absurd (cc)
-short_units item units (c ∷ rest) whole each (at_octet d more e end) short low = absurd (false≢true end)
+short_units item units (c ∷ rest) whole each (at_octet d more e end) short low = cc
 short_units item units (c ∷ rest) whole each (at_backslash bad) short low = inr (BadEscape, bad_escape units (c ∷ rest) (record { units = each; room = short; parts = whole }) bad)
 
-pub string-or_fault : (item : RawItem) → AllByRecursion (λ c. c < 256) (item_text item) → ((octets : List ℕ) × SpellsString item octets) ⊎ ((fault : Fault) × StringFault item fault)
+pub string-or_fault : (item : RawItem) → AreOctets (item_text item) → ((octets : List ℕ) × SpellsString item octets) ⊎ ((fault : Fault) × StringFault item fault)
 string-or_fault item low =
-    let found : Units = units_first no_octet (item_text item) in
-    let are : UnitsAre no_octet (item_text item) found = units_first_are no_octet (item_text item) in
-    elim (cases_Bool (nat_le (length found.units) 255)) [
-      | inl short ↦ short_units item found.units found.rest are.whole are.each are.none (leb-true (length found.units) 255 short) low
-      | inr long ↦ inr (StringTooLong, long_units item found are (split_at 255 found.units (leb-false (length found.units) 255 long)))
-    ]
+    let found = units_first no_octet (item_text item) in
+    let are = units_first_are no_octet (item_text item) in
+    elim (cases_Bool (nat_le (length found.units) 255)) [ inl short ↦ short_units item found.units found.rest are.whole are.each are.none (leb-true (length found.units) 255 short) low | inr long ↦ inr (StringTooLong, long_units item found are (split_at 255 found.units (leb-false (length found.units) 255 long))) ]

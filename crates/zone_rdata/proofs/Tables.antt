@@ -1,17 +1,6 @@
 -- What is found in a table of rows, and what holds of each row.
-use Rattle.std.proofs.Common.{◌≡◌, ℕ, ◌<◌, List, [], ◌∷◌, length, map, Bool, true, false, not, cond, ◌&&◌, ◌||◌, ◌==◌, nat_lt, nat_le, bytes_eq, Option, Some, None, inl, inr, refl, sym, ap, ◌∙◌, subst, arith}
-use Rattle.std.specs.List.{AllByRecursion, find, list_all}
-use Rattle.std.specs.Option.{option_map}
-use Rattle.std.proofs.lemmas.Bool.{eqb-true, eq-eqb, and_parts, or_cases, not-true, cond-true, false≢true}
-use Rattle.std.proofs.lemmas.Bool.Decides.{nat_tests}
-use Rattle.std.proofs.lemmas.Slice.Eq.{bytes_eq-Decides}
-use Rattle.zone_name.specs.Name.{folded_label}
-use Rattle.zone_rdata.specs.declared.field.Field.{Field}
+use Rattle.zone_rdata.proofs.Common.{[], ◌≡◌, ℕ, ◌<◌, List, ◌∷◌, length, map, Bool, true, false, not, cond, ◌&&◌, ◌||◌, ◌==◌, nat_lt, nat_le, bytes_eq, Option, Some, None, refl, sym, ap, ◌∙◌, subst, arith, AllByRecursion, find, list_all, option_map, eqb-true, eq-eqb, and_parts, or_cases, not-true, cond-true, false≢true, nat_tests, bytes_eq-Decides, folded_label, Field, IsLayout, IsSized, StringsLast, fields_in, layout, is_strings, Named, NamedType, ascend, mnemonic_among, number_among, types, IsMnemonic}
 use Rattle.zone_rdata.specs.declared.field.Field.TheVariants as fields
-use Rattle.zone_rdata.specs.Layout.{IsLayout, IsSized, StringsLast, fields_in, layout}
-use Rattle.zone_rdata.specs.Field.{is_strings}
-use Rattle.zone_rdata.specs.Table.{Named, NamedType, ascend, in_class, mnemonic_among, number_among, types}
-use Rattle.zone_rdata.specs.Words.{IsMnemonic}
 
 -- ---- the first element that passes a test
 
@@ -22,7 +11,7 @@ found_by y x rest P false e here more = more e
 -- it passes the test
 pub found_passes : {X : Type 0} (q : X → Bool) (xs : List X) (x : X) → find q xs ≡ Some x → q x ≡ true
 found_passes q [] x e = absurd cc
-found_passes q (y ∷ ys) x e = found_by y x (find q ys) (λ z. q z ≡ true) (q y) e (λ t. t) (found_passes q ys x)
+found_passes q (y ∷ ys) x e = grind (arith, found_passes q ys x)
 
 -- what holds of each element holds of it
 pub found_each : {X : Type 0} (p q : X → Bool) (xs : List X) (x : X) → list_all p xs ≡ true → find q xs ≡ Some x → p x ≡ true
@@ -38,11 +27,11 @@ none_by y rest all false e more = more e
 -- where there is none, none passes
 pub none_passes : {X : Type 0} (q : X → Bool) (xs : List X) → find q xs ≡ None → list_all (λ x. not (q x)) xs ≡ true
 none_passes q [] e = refl
-none_passes q (y ∷ ys) e = none_by y (find q ys) (list_all (λ x. not (q x)) ys) (q y) e (none_passes q ys)
+none_passes q (y ∷ ys) e = grind (arith, none_passes q ys)
 
 pub find_mapped : {X Y : Type 0} (f : X → Y) (q : Y → Bool) (xs : List X) → find q (map f xs) ≡ option_map f (find (λ x. q (f x)) xs)
 find_mapped f q [] = refl
-find_mapped f q (x ∷ xs) = elim (q (f x)) as (λ t. cond t (Some (f x)) (find q (map f xs)) ≡ option_map f (cond t (Some x) (find (λ x. q (f x)) xs))) [ true ↦ refl | false ↦ find_mapped f q xs ]
+find_mapped f q (x ∷ xs) = grind (arith, find_mapped f q xs)
 
 -- ---- mnemonics
 
@@ -56,8 +45,7 @@ mnemonic_by p n word (Some row) each e =
 
 -- what holds of each row holds of a number and its mnemonic
 pub each_mnemonic : (p : ℕ → List ℕ → Bool) (rows : List Named) → list_all (λ row. p row.number row.mnemonic) rows ≡ true → (n : ℕ) (word : List ℕ) → mnemonic_among rows n ≡ Some word → p n word ≡ true
-each_mnemonic p rows all n word e =
-    mnemonic_by p n word (find (λ row. n == row.number) rows) (λ row found. (found_each (λ row. p row.number row.mnemonic) (λ row. n == row.number) rows row all found, found_passes (λ row. n == row.number) rows row found)) e
+each_mnemonic p rows all n word e = grind (arith, mnemonic_by, found_each, found_passes)
 
 -- rows whose numbers ascend from above one are above it
 found_above : (low : ℕ) (rows : List Named) (q : Named → Bool) (x : Named) → ascend low rows ≡ true → find q rows ≡ Some x → low < x.number
@@ -71,20 +59,14 @@ own_here : (row : Named) (rest : Option Named) → cond (row.number == row.numbe
 own_here row rest = cond-true _ _ _ (eq-eqb row.number row.number refl)
 
 own_after : (row x : Named) (rest : Option Named) → row.number < x.number → rest ≡ Some x → cond (x.number == row.number) (Some row) rest ≡ Some x
-own_after row x rest above e = by (x.number == row.number) refl
-  where
-    by : (t : Bool) → (x.number == row.number) ≡ t → cond t (Some row) rest ≡ Some x
-    by true t = absurd (let same : x.number ≡ row.number = eqb-true x.number row.number t in omega arith)
-    by false t = e
+own_after row x rest above e = grind (arith, eqb-true)
 
 -- a row is the one of its number
 own_row : (low : ℕ) (rows : List Named) (q : Named → Bool) (x : Named) → ascend low rows ≡ true → find q rows ≡ Some x → find (λ row. x.number == row.number) rows ≡ Some x
 own_row low [] q x up e = absurd cc
 own_row low (row ∷ rows) q x up e =
     let both = and_parts (nat_lt low row.number) (ascend row.number rows) up in
-    found_by row x (find q rows) (λ z. cond (z.number == row.number) (Some row) (find (λ other. z.number == other.number) rows) ≡ Some z) (q row) e
-    (λ t. own_here row (find (λ other. row.number == other.number) rows))
-    (λ more. own_after row x (find (λ other. x.number == other.number) rows) (found_above row.number rows q x both.1 more) (own_row row.number rows q x both.1 more))
+    cc (found_by row x (find q rows) (λ z. cond (z.number == row.number) (Some row) (find (λ other. z.number == other.number) rows) ≡ Some z) (q row) e (λ t. own_here row (find (λ other. row.number == other.number) rows)) (λ more. own_after row x (find (λ other. x.number == other.number) rows) (found_above row.number rows q x both.1 more) (own_row row.number rows q x both.1 more)))
 
 -- the row of a word has a number of which the word is the mnemonic
 pub row_is : (rows : List Named) → ascend 0 rows ≡ true → (word : List ℕ) (row : Named) → find (λ row. bytes_eq (folded_label word) (folded_label row.mnemonic)) rows ≡ Some row → IsMnemonic rows word row.number
@@ -96,11 +78,7 @@ row_is rows up word row e = record {
 
 -- and so has the number that a word finds
 pub number_is : (rows : List Named) → ascend 0 rows ≡ true → (word : List ℕ) (n : ℕ) → number_among rows word ≡ Some n → IsMnemonic rows word n
-number_is rows up word n = by (find (λ row. bytes_eq (folded_label word) (folded_label row.mnemonic)) rows) refl
-  where
-    by : (found : Option Named) → find (λ row. bytes_eq (folded_label word) (folded_label row.mnemonic)) rows ≡ found → option_map (λ row. row.number) found ≡ Some n → IsMnemonic rows word n
-    by None e none = absurd (let t : ⊥ = cc in t)
-    by (Some row) e some = let same : row.number ≡ n = cc in subst (IsMnemonic rows word) same (row_is rows up word row e)
+number_is rows up word n = grind (arith, bytes_eq, row_is)
 
 -- a word of no row is no mnemonic
 pub no_row : (rows : List Named) (word : List ℕ) → find (λ row. bytes_eq (folded_label word) (folded_label row.mnemonic)) rows ≡ None → (n : ℕ) → IsMnemonic rows word n → ⊥
@@ -111,17 +89,11 @@ no_row rows word e n x =
 -- ---- layouts
 
 fields_by : (p : List Field → Bool) (class : ℕ) (fields : List Field) (found : Option NamedType) → ((row : NamedType) → found ≡ Some row → p row.fields ≡ true) → fields_in class found ≡ Some fields → p fields ≡ true
-fields_by p class fields None each e = absurd (let t : ⊥ = cc in t)
-fields_by p class fields (Some row) each e = by (not row.in_only || class == in_class) e
-  where
-    by : (t : Bool) → cond t (Some row.fields) None ≡ Some fields → p fields ≡ true
-    by true e = let same : row.fields ≡ fields = cc in subst (λ f. p f ≡ true) same (each row refl)
-    by false e = absurd (let t : ⊥ = cc in t)
+fields_by p class fields found each e = grind arith
 
 -- what holds of the fields of each type holds of each layout
 pub each_layout : (p : List Field → Bool) → list_all (λ row. p row.fields) types ≡ true → (class kind : ℕ) (fields : List Field) → layout class kind ≡ Some fields → p fields ≡ true
-each_layout p all class kind fields =
-    fields_by p class fields (find (λ row. kind == row.named.number) types) (λ row found. found_each (λ row. p row.fields) (λ row. kind == row.named.number) types row all found)
+each_layout p all class kind fields = grind (arith, fields_by, found_each)
 
 abbrev strings_last : List Field → Bool
 strings_last [] = true
@@ -142,19 +114,14 @@ last_is (f ∷ g ∷ row) e =
 last_is row e = tt
 
 sized_is : (f : Field) → is_sized f ≡ true → IsSized f
-sized_is (fields.Octets n) e = elim (or_cases (n == 4) (n == 16) e) [ inl four ↦ inl (eqb-true n 4 four) | inr more ↦ inr (eqb-true n 16 more) ]
-sized_is f e = tt
+sized_is f e = grind (arith, or_cases, eqb-true)
 
 each_sized : (row : List Field) → list_all is_sized row ≡ true → AllByRecursion IsSized row
 each_sized [] e = tt
 each_sized (f ∷ row) e = let both = and_parts (is_sized f) (list_all is_sized row) e in (sized_is f both.0, each_sized row both.1)
 
 layout_is : (row : List Field) → is_layout row ≡ true → IsLayout row
-layout_is row e =
-    let outer = and_parts (nat_le (length row) 7) (strings_last row && list_all is_sized row) e in
-    let inner = and_parts (strings_last row) (list_all is_sized row) outer.1 in
-    let few : nat_le (length row) 7 ≡ true = outer.0 in
-    record { few = grind (arith, nat_tests); last = last_is row inner.0; sized = each_sized row inner.1 }
+layout_is row e = grind (arith, and_parts, nat_le, nat_tests, last_is, each_sized)
 
 -- what every layout of the table is
 pub table_row : (class kind : ℕ) (row : List Field) → layout class kind ≡ Some row → IsLayout row

@@ -1,20 +1,10 @@
 -- Uncompressed octets, field after field.
-use Rattle.std.proofs.Common.{Option, None, ◌≡◌, ℕ, ◌+◌, ◌<◌, ◌≤◌, List, [], ◌∷◌, ◌++◌, length, get_or, drop, Some, refl, sym, ap, ◌∙◌, subst, arith, append_assoc, inl, inr, length-append}
-use Rattle.std.proofs.lemmas.List.{append-nil, drop_all, length-map}
-use Rattle.zone_rdata.specs.declared.field.Field.{Field}
-use Rattle.zone_rdata.specs.Field.{FieldValue, field_octets, octets_of, HoldEach, name, IsSent}
-use Rattle.zone_rdata.specs.Layout.{StringsLast, layout}
-use Rattle.zone_rdata.specs.Spelling.{IsCanonicalOf}
-use Rattle.zone_rdata.specs.Uncompressed.{AreSent, IsUncompressed}
-use Rattle.zone_rdata.specs.Machine.Appending.{BeginsWithValue, BeginsWithNone, AppendsValue}
+use Rattle.zone_rdata.proofs.Common.{[], Option, None, ◌≡◌, ℕ, ◌+◌, ◌<◌, ◌≤◌, List, ◌∷◌, ◌++◌, length, get_or, drop, Some, refl, sym, ap, ◌∙◌, subst, arith, append_assoc, inl, inr, length-append, append-nil, drop_all, length-map, Field, FieldValue, field_octets, octets_of, HoldEach, name, IsSent, StringsLast, layout, IsCanonicalOf, AreSent, IsUncompressed, BeginsWithValue, BeginsWithNone, AppendsValue, AllByRecursion-back, flat_map, folded_octet, folded_label, folded, with_length}
 use Rattle.zone_rdata.proofs.Lists.{from_place}
 use Rattle.zone_rdata.proofs.Tables.{table_row}
 use Rattle.zone_rdata.proofs.AnyField.{front_once, front_or_none}
 use Rattle.zone_rdata.proofs.Choices.{Choice, choice_as}
-use Rattle.zone_name.proofs.Pushing.{AllByRecursion-back}
 use Rattle.zone_rdata.proofs.FieldLaws.{AreLow, FrontChoice}
-use Rattle.std.specs.List.{flat_map}
-use Rattle.zone_name.specs.Name.{folded_octet, folded_label, folded, with_length}
 
 -- octets that are a value for each field, one after another, and their canonical octets
 abbrev pub Reads : List Field → List ℕ → List ℕ → Type 0

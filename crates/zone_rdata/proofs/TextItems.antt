@@ -1,23 +1,7 @@
 -- The canonical text of data is its items, they stand in a file as they are, and they state that
 -- data.
-use Rattle.std.proofs.Common.{List, None, Option, Some, [], ap, arith, drop, length, length-append, map, nat_lt, refl, subst, sym, true, ℕ, ◌++◌, ◌<◌, ◌∙◌, ◌∷◌, ◌≡◌, ◌≤◌}
-use Rattle.std.specs.List.{AllByRecursion, flat_map, join_with_byte}
-use Rattle.std.proofs.lemmas.Bool.Decides.{nat_tests}
-use Rattle.std.proofs.lemmas.List.{append-nil, length-map, map-append}
-use Rattle.std.proofs.lemmas.List.Concat.{flat_map-append}
-use Rattle.zone_name.proofs.Pushing.{AllByRecursion-append}
-use Rattle.zone_rdata.specs.declared.field.Field.{Field}
+use Rattle.zone_rdata.proofs.Common.{[], List, None, Option, Some, ap, arith, drop, length, length-append, map, nat_lt, refl, subst, sym, true, ℕ, ◌++◌, ◌<◌, ◌∙◌, ◌∷◌, ◌≡◌, ◌≤◌, AllByRecursion, flat_map, join_with_byte, nat_tests, append-nil, length-map, map-append, flat_map-append, AllByRecursion-append, AreOctets, Labels, Field, FieldValue, HoldEach, Holds, field_items, field_text, string, strings, values_of, string_item, digit_items, generic_items, IsGeneric, RawItem, IsLayout, IsSized, StringsLast, layout, laid_out_text, Data, IsRdata, SpellEach, States, StatesFor, in_octets, in_words, string_text, data_items, data_text, generic_text, laid_out_items, written_item}
 use Rattle.zone_rdata.specs.declared.field.Field.TheVariants.{Strings}
-use Rattle.zone_rdata.specs.Field.{FieldValue, HoldEach, Holds, field_items, field_text, string, strings, values_of}
-use Rattle.zone_rdata.specs.Fields.OneString.{string_item}
-use Rattle.zone_rdata.specs.Generic.{digit_items, generic_items}
-use Rattle.zone_rdata.specs.Item.{IsGeneric, RawItem}
-use Rattle.zone_rdata.specs.Layout.{IsLayout, IsSized, StringsLast, layout}
-use Rattle.zone_rdata.specs.Machine.Printing.{laid_out_text}
-use Rattle.zone_rdata.specs.Record.{Data, IsRdata}
-use Rattle.zone_rdata.specs.Spelling.{SpellEach, States, StatesFor, in_octets, in_words}
-use Rattle.zone_rdata.specs.Strings.{string_text}
-use Rattle.zone_rdata.specs.Text.{data_items, data_text, generic_text, laid_out_items, written_item}
 use Rattle.zone_rdata.proofs.AnyField.{field_printed, field_stands, field_unmarked}
 use Rattle.zone_rdata.proofs.FieldLaws.{NamesPrinted}
 use Rattle.zone_rdata.proofs.GenericLaws.{printed-stated, printed-text}
@@ -79,7 +63,7 @@ data_written d h = written_for (layout d.class d.kind) d.octets h.octets.value
 abbrev ArePrintedItems : List RawItem → Type 0
 ArePrintedItems items = AllByRecursion IsPrintedItem items
 
-digits_stand : (octets : List ℕ) → AllByRecursion (λ c. c < 256) octets → ArePrintedItems (digit_items octets)
+digits_stand : (octets : List ℕ) → AreOctets octets → ArePrintedItems (digit_items octets)
 digits_stand [] low = tt
 digits_stand (c ∷ octets) low = (bare_hex c octets low, tt)
 
@@ -89,7 +73,7 @@ each_stand (f ∷ row) (v ∷ values) sized h =
     AllByRecursion-append IsPrintedItem (field_items v) (flat_map field_items values) (field_stands f v sized.0 h.0) (each_stand row values sized.1 h.1)
 each_stand row values sized h = absurd h
 
-laid_out_stand : (laid : Option (List Field)) (octets : List ℕ) → ((row : List Field) → laid ≡ Some row → IsLayout row) → length octets ≤ 65535 → AllByRecursion (λ c. c < 256) octets → AreFor laid octets → ArePrintedItems (laid_out_items laid octets)
+laid_out_stand : (laid : Option (List Field)) (octets : List ℕ) → ((row : List Field) → laid ≡ Some row → IsLayout row) → length octets ≤ 65535 → AreOctets octets → AreFor laid octets → ArePrintedItems (laid_out_items laid octets)
 laid_out_stand None octets table short low value = (bare_mark, (bare_decimal (length octets) (omega arith), digits_stand octets low))
 laid_out_stand (Some row) octets table short low value = each_stand row (values_of row octets) (table row refl).sized value.held
 
@@ -123,12 +107,12 @@ data_some d h = laid_out_some (layout d.class d.kind) d.octets (row_some d.class
 -- ---- the items spell the values
 
 -- a field before the others
-next_spelt : NamesPrinted → (origin : List (List ℕ)) (f : Field) (row : List Field) (v : FieldValue) (items : List RawItem) (values : List FieldValue) → IsSized f → Holds f v → (f ≡ Strings → items ≡ []) → SpellEach origin row items values → SpellEach origin (f ∷ row) (field_items v ++ items) (v ∷ values)
+next_spelt : NamesPrinted → (origin : Labels) (f : Field) (row : List Field) (v : FieldValue) (items : List RawItem) (values : List FieldValue) → IsSized f → Holds f v → (f ≡ Strings → items ≡ []) → SpellEach origin row items values → SpellEach origin (f ∷ row) (field_items v ++ items) (v ∷ values)
 next_spelt names origin f row v items values sized h last rest =
     let own = field_printed names origin f v items sized h last in
     (own.0, subst (λ following. SpellEach origin row following values) (sym own.1) rest)
 
-each_spelt : NamesPrinted → (origin : List (List ℕ)) (row : List Field) (values : List FieldValue) → StringsLast row → AllByRecursion IsSized row → HoldEach row values → SpellEach origin row (flat_map field_items values) values
+each_spelt : NamesPrinted → (origin : Labels) (row : List Field) (values : List FieldValue) → StringsLast row → AllByRecursion IsSized row → HoldEach row values → SpellEach origin row (flat_map field_items values) values
 each_spelt names origin [] [] last sized h = tt
 each_spelt names origin (f ∷ []) (v ∷ []) last sized h = next_spelt names origin f [] v [] [] sized.0 h.0 (λ e. refl) tt
 each_spelt names origin (f ∷ []) (v ∷ w ∷ values) last sized h = absurd h.1
@@ -145,12 +129,12 @@ fields_unmarked row values sized h g = h
 
 -- ---- the items state the data
 
-stated_for : NamesPrinted → (origin : List (List ℕ)) (laid : Option (List Field)) (octets : List ℕ) → ((row : List Field) → laid ≡ Some row → IsLayout row) → length octets ≤ 65535 → AllByRecursion (λ c. c < 256) octets → AreFor laid octets → StatesFor origin laid (laid_out_items laid octets) octets
+stated_for : NamesPrinted → (origin : Labels) (laid : Option (List Field)) (octets : List ℕ) → ((row : List Field) → laid ≡ Some row → IsLayout row) → length octets ≤ 65535 → AreOctets octets → AreFor laid octets → StatesFor origin laid (laid_out_items laid octets) octets
 stated_for names origin None octets table short each value = in_octets (octets, printed-stated octets each short, refl)
 stated_for names origin (Some row) octets table short each value =
     let values = values_of row octets in
     let sound = table row refl in
     in_words row values refl (fields_unmarked row values sound.sized value.held) (each_spelt names origin row values sound.last sound.sized value.held) (sym value.whole) short
 
-pub data_stated : NamesPrinted → (origin : List (List ℕ)) (d : Data) → IsRdata d → States origin d.class d.kind (data_items d) d.octets
+pub data_stated : NamesPrinted → (origin : Labels) (d : Data) → IsRdata d → States origin d.class d.kind (data_items d) d.octets
 data_stated names origin d h = record { stated = stated_for names origin (layout d.class d.kind) d.octets (table_row d.class d.kind) h.octets.short h.octets.each h.octets.value }

@@ -1,18 +1,5 @@
 -- How many octets printed words and data have at most.
-use Rattle.std.proofs.Common.{◌≡◌, ℕ, ◌+◌, ◌*◌, ◌<◌, ◌≤◌, true, List, [], ◌∷◌, ◌++◌, length, map, nat_le, codes, decimal, Option, Some, None, refl, ap, arith, length-append}
-use Rattle.std.specs.List.{AllByRecursion, flat_map, join_with_byte, list_all}
-use Rattle.std.proofs.lemmas.Bool.Decides.{nat_tests}
-use Rattle.std.proofs.lemmas.Fmt.{length-decimal-le}
-use Rattle.hex.specs.Hex.{encode_lower, lower_digits}
-use Rattle.hex.proofs.HexLemmas.{length-encode_with}
-use Rattle.zone_rdata.specs.declared.field.Field.{Field}
-use Rattle.zone_rdata.specs.Field.{FieldValue, HoldEach, field_octets, field_text, octets_of, values_of}
-use Rattle.zone_rdata.specs.Layout.{IsLayout, IsSized, layout}
-use Rattle.zone_rdata.specs.Machine.Printing.{laid_out_text}
-use Rattle.zone_rdata.specs.Record.{Data, IsRdata}
-use Rattle.zone_rdata.specs.Table.{Named, classes, type_names, mnemonic_among}
-use Rattle.zone_rdata.specs.Text.{data_text, generic_text}
-use Rattle.zone_rdata.specs.Words.{IsClass, IsKind, class_text, kind_text, laid_out_mnemonic, word_or_numbered}
+use Rattle.zone_rdata.proofs.Common.{[], ◌≡◌, ℕ, ◌+◌, ◌*◌, ◌<◌, ◌≤◌, true, List, ◌∷◌, ◌++◌, length, map, nat_le, codes, decimal, Option, Some, None, refl, ap, arith, length-append, AllByRecursion, flat_map, join_with_byte, list_all, nat_tests, length-decimal-le, encode_lower, lower_digits, length-encode_with, Field, FieldValue, HoldEach, field_octets, field_text, octets_of, values_of, IsLayout, IsSized, layout, laid_out_text, Data, IsRdata, Named, classes, type_names, mnemonic_among, data_text, generic_text, IsClass, IsKind, class_text, kind_text, laid_out_mnemonic, word_or_numbered}
 use Rattle.zone_rdata.proofs.AnyField.{field_few}
 use Rattle.zone_rdata.proofs.Layouts.{AreFor}
 use Rattle.zone_rdata.proofs.Tables.{each_mnemonic, table_row}

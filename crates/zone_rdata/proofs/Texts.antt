@@ -1,25 +1,12 @@
 -- The text of data, field after field.
-use Rattle.std.proofs.Common.{◌≡◌, ℕ, zero, suc, ◌+◌, ◌<◌, List, [], ◌∷◌, ◌++◌, length, get_or, take, drop, map, refl, sym, ap, ◌∙◌, subst, arith, append_assoc, codes, decimal, Some, ◌/◌, ◌%◌}
-use Rattle.std.specs.Prelude.{slice_index, Result, Ok, Err, OnOk, IsOk}
-use Rattle.hex.specs.Hex.{lower_digits, encode_with, encode_lower}
-use Rattle.std.specs.List.{flat_map, join_with_byte}
-use Rattle.std.proofs.lemmas.List.{take_at, drop_at, append-nil, take_more}
-use Rattle.zone_rdata.specs.declared.field.Field.{Field}
-use Rattle.zone_rdata.specs.Field.{field_octets, octets_of, field_at, values_of, field_text}
-use Rattle.zone_rdata.specs.Layout.{AreLaidOut}
-use Rattle.zone_rdata.specs.Machine.Printing.{BeginsWithField, after_field, spaced, generic_head, laid_out_text}
-use Rattle.zone_rdata.specs.Text.{generic_text}
+use Rattle.zone_rdata.proofs.Common.{[], ◌≡◌, ℕ, zero, suc, ◌+◌, ◌<◌, List, ◌∷◌, ◌++◌, length, get_or, take, drop, map, refl, sym, ap, ◌∙◌, subst, arith, append_assoc, Some, OnOk, IsOk, encode_lower, flat_map, join_with_byte, take_at, drop_at, append-nil, take_more, Field, field_at, values_of, field_text, AreLaidOut, BeginsWithField, after_field, spaced, generic_head, laid_out_text, generic_text}
+use Rattle.std.specs.Prelude.{Result}
+use Rattle.hex.specs.Hex.{encode_with}
 use Rattle.zone_rdata.proofs.Lists.{from_place}
 
 -- octets of a layout begin with its first field, and go on with the others
 pub first_field : (f : Field) (row : List Field) (octets : List ℕ) → AreLaidOut (f ∷ row) octets → BeginsWithField f octets × AreLaidOut row (after_field f octets)
-first_field f row octets laid =
-    let front = field_octets (field_at f octets) in
-    let others = octets_of (values_of row (after_field f octets)) in
-    let cut : drop (length front) octets ≡ others = ap (drop (length front)) (sym laid.whole) ∙ drop_at front others (length front) refl in (
-      record { held = laid.held.0; front = ap (take (length front)) (sym laid.whole) ∙ take_at front others (length front) refl },
-      record { held = laid.held.1; whole = sym cut },
-    )
+first_field f row octets laid = grind (arith, drop_at, take_at)
 
 -- what is left to print: the texts one after another, each but the very first with a space before
 -- it
@@ -32,13 +19,11 @@ joined_more text [] = sym (append-nil text)
 joined_more text (next ∷ texts) = ap (λ t. text ++ 32 ∷ t) (joined_more next texts)
 
 still_more : (i : ℕ) (text : List ℕ) (texts : List (List ℕ)) → still i (text ∷ texts) ≡ spaced i text ++ still (suc i) texts
-still_more zero text texts = joined_more text texts
-still_more (suc i) text texts = refl
+still_more i text texts = grind (arith, joined_more)
 
 -- a space, and the text after it
 spaced_text : (i : ℕ) (text : List ℕ) → spaced i [] ++ text ≡ spaced i text
-spaced_text zero text = refl
-spaced_text (suc i) text = refl
+spaced_text i text = grind arith
 
 -- the fields up to a place are printed: the rest is laid out, and its text is what is left of the
 -- whole
@@ -62,24 +47,20 @@ printed_more row whole rest text after i f d lt at so_far is =
 
 pub generic_whole : (octets : List ℕ) → generic_head octets ++ encode_lower octets ≡ generic_text octets
 unfolding encode_with
-generic_whole [] = refl
-generic_whole (c ∷ octets) = append_assoc (codes "\\# " ++ decimal (length (c ∷ octets))) (32 ∷ []) (encode_lower (c ∷ octets))
+generic_whole octets = grind (arith, append_assoc)
 
 pub encode_push : (octets : List ℕ) (c : ℕ) → encode_lower (octets ++ c ∷ []) ≡ encode_lower octets ++ encode_lower (c ∷ [])
 unfolding encode_with
 encode_push [] c = refl
-encode_push (d ∷ octets) c = ap (λ t. slice_index lower_digits (d / 16) ∷ slice_index lower_digits (d % 16) ∷ t) (encode_push octets c)
+encode_push (d ∷ octets) c = cc (encode_push octets c)
 
 -- one more octet in digits
 pub hex_more : (octets pair : List ℕ) (i c d : ℕ) → i < length octets → c ≡ get_or octets i d → pair ≡ encode_lower (c ∷ []) → encode_lower (take i octets) ++ pair ≡ encode_lower (take (i + 1) octets)
-hex_more octets pair i c d lt at is =
-    let more : take (i + 1) octets ≡ take i octets ++ c ∷ [] = take_more octets i d lt ∙ ap (λ x. take i octets ++ x ∷ []) (sym at) in
-    ap (λ t. encode_lower (take i octets) ++ t) is ∙ sym (ap encode_lower more ∙ encode_push (take i octets) c)
+hex_more octets pair i c d lt at is = cc (take_more octets i d lt, encode_push (take i octets) c)
 
 pub hex_started : [] ≡ encode_lower []
 unfolding encode_with
 hex_started = refl
 
 pub at_is_ok : {T E : Type 0} (r : Result T E) (P : Type 0) → IsOk r → OnOk r P → P
-at_is_ok (Ok x) P h p = p
-at_is_ok (Err e) P h p = absurd cc
+at_is_ok r P h p = grind arith

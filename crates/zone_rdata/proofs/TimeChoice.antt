@@ -1,11 +1,6 @@
 -- A text states a time or none.
-use Rattle.std.proofs.Common.{◌≡◌, ℕ, ◌<◌, Bool, true, false, List, [], ◌∷◌, ◌++◌, length, Option, Some, None, inl, inr, refl, sym, ap, ◌∙◌, subst, arith, append_assoc}
-use Rattle.std.specs.List.{AllByRecursion, flat_map, sum_by}
-use Rattle.std.proofs.lemmas.List.{append-nil}
-use Rattle.zone_name.specs.Spelling.{is_digit}
-use Rattle.zone_rdata.specs.Number.{Group, IsTimeGroup, group_text, group_seconds, unit_seconds, IsDecimal, IsTime, plain, grouped}
+use Rattle.zone_rdata.proofs.Common.{[], ◌≡◌, ℕ, ◌<◌, Bool, true, false, List, ◌∷◌, ◌++◌, length, Option, Some, None, inl, inr, refl, sym, ap, ◌∙◌, subst, arith, append_assoc, AllByRecursion, flat_map, sum_by, append-nil, is_digit, Group, IsTimeGroup, group_text, group_seconds, unit_seconds, IsDecimal, IsTime, plain, grouped, AllByRecursion-append}
 use Rattle.zone_rdata.proofs.Choices.{Choice, Decided}
-use Rattle.zone_name.proofs.Pushing.{AllByRecursion-append}
 use Rattle.zone_rdata.proofs.GenericLaws.{decimal_or_not}
 use Rattle.zone_rdata.proofs.Times.{AreDigits, run_split, no_run, run_nil, unit_no_digit}
 
@@ -80,8 +75,7 @@ some_groups c text [] e = absurd cc
 some_groups c text (g ∷ groups) e = omega arith
 
 grouped_by : (text : List ℕ) → ((n : ℕ) → IsDecimal text n → ⊥) → (AreGroups text → ⊥) → (n : ℕ) → IsTime text n → ⊥
-grouped_by text none no_groups n (plain h) = none n h
-grouped_by text none no_groups n (grouped groups some each parts sums) = no_groups (record { groups = groups; each = each; parts = parts })
+grouped_by text none no_groups n h = grind arith
 
 time_by : (c : ℕ) (text : List ℕ) → Choice (IsDecimal (c ∷ text)) → Decided (AreGroups (c ∷ text)) → Choice (IsTime (c ∷ text))
 time_by c text (inl found) choice = inl (found.0, plain found.1)
@@ -91,7 +85,7 @@ time_by c text (inr none) (inr no_groups) = inr (grouped_by (c ∷ text) none no
 no_time : (n : ℕ) → IsTime [] n → ⊥
 no_time n (plain h) = omega (arith, h.some)
 no_time n (grouped [] some each parts sums) = omega arith
-no_time n (grouped (g ∷ groups) some each parts sums) = run_nil g.digits g.letter (flat_map group_text groups) (sym (first_text g groups) ∙ sym parts)
+no_time n (grouped (g ∷ groups) some each parts sums) = grind (arith, run_nil, first_text)
 
 pub time_or_not : (text : List ℕ) → Choice (IsTime text)
 time_or_not [] = inr no_time

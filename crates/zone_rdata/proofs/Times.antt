@@ -1,17 +1,9 @@
 -- Times read octet by octet, and that a text has one reading.
-use Rattle.std.proofs.Common.{◌≡◌, ℕ, ◌+◌, ◌*◌, ◌<◌, ◌≤◌, min, true, false, List, [], ◌∷◌, ◌++◌, length, Some, refl, sym, ap, ◌∙◌, subst, arith, append_assoc, length-append, inl, inr, IsTrue, zero-add, take, drop, get_or}
-use Rattle.std.specs.List.{AllByRecursion, flat_map, sum_by}
-use Rattle.std.proofs.lemmas.List.{append-nil, take-append-drop, drop_more, take_all}
-use Rattle.std.proofs.lemmas.List.Concat.{flat_map-append}
-use Rattle.std.proofs.lemmas.Bool.{cases_lt}
-use Rattle.std.proofs.lemmas.Bool.Decides.{nat_tests}
+use Rattle.zone_rdata.proofs.Common.{[], ◌≡◌, ℕ, ◌+◌, ◌*◌, ◌<◌, ◌≤◌, min, true, false, List, ◌∷◌, ◌++◌, length, Some, refl, sym, ap, ◌∙◌, subst, arith, append_assoc, length-append, IsTrue, zero-add, take, drop, get_or, AllByRecursion, flat_map, sum_by, append-nil, take-append-drop, drop_more, take_all, flat_map-append, cases_lt, nat_tests, is_digit, Group, IsTimeGroup, group_text, group_seconds, decimal_value, unit_seconds, IsTime, plain, grouped, AllByRecursion-append}
 use Rattle.std.proofs.lemmas.List.Sums.{sum_by-append}
 use Rattle.std.proofs.Math.Nat.{le-mul_of_pos_right, min-eq_left, min-eq_right, mul-le-mul_right}
-use Rattle.zone_name.specs.Spelling.{is_digit}
 use Rattle.zone_rdata.specs.declared.time.Progress.{Progress}
-use Rattle.zone_rdata.specs.Number.{Group, IsTimeGroup, group_text, group_seconds, decimal_value, unit_seconds, IsTime, plain, grouped}
 use Rattle.zone_rdata.specs.Machine.TimeProgress.{ReadsTime}
-use Rattle.zone_name.proofs.Pushing.{AllByRecursion-append}
 
 abbrev pub AreDigits : List ℕ → Type 0
 AreDigits text = AllByRecursion (λ c. is_digit c ≡ true) text
@@ -19,10 +11,9 @@ AreDigits text = AllByRecursion (λ c. is_digit c ≡ true) text
 -- digits up to the first octet that is none are one run
 pub run_split : (a b : List ℕ) (c d : ℕ) (r s : List ℕ) → AreDigits a → AreDigits b → is_digit c ≡ false → is_digit d ≡ false → a ++ c ∷ r ≡ b ++ d ∷ s → (a ≡ b) × (c ≡ d) × (r ≡ s)
 run_split [] [] c d r s x y p q e = (refl, cc, cc)
-run_split [] (b ∷ bs) c d r s x y p q e = let h : c ≡ b = cc in absurd (let t = y.0 in let u : is_digit c ≡ is_digit b = ap is_digit h in cc)
-run_split (a ∷ as_) [] c d r s x y p q e = let h : a ≡ d = cc in absurd (let t = x.0 in let u : is_digit a ≡ is_digit d = ap is_digit h in cc)
+run_split [] (b ∷ bs) c d r s x y p q e = cc
+run_split (a ∷ as_) [] c d r s x y p q e = cc
 run_split (a ∷ as_) (b ∷ bs) c d r s x y p q e =
-    let h : a ≡ b = cc in
     let t : as_ ++ c ∷ r ≡ bs ++ d ∷ s = cc in
     let rest = run_split as_ bs c d r s x.1 y.1 p q t in
     (let k = rest.0 in cc, rest.1, rest.2)
@@ -30,7 +21,7 @@ run_split (a ∷ as_) (b ∷ bs) c d r s x y p q e =
 -- an octet that is no digit stands in no digits
 pub no_run : (a : List ℕ) (c : ℕ) (r b : List ℕ) → AreDigits b → is_digit c ≡ false → a ++ c ∷ r ≡ b → ⊥
 no_run [] c r [] each p e = cc
-no_run [] c r (b ∷ bs) each p e = let h : c ≡ b = cc in let t = each.0 in let u : is_digit c ≡ is_digit b = ap is_digit h in cc
+no_run [] c r (b ∷ bs) each p e = cc
 no_run (a ∷ as_) c r [] each p e = cc
 no_run (a ∷ as_) c r (b ∷ bs) each p e = let t : as_ ++ c ∷ r ≡ bs = cc in no_run as_ c r bs each.1 p t
 
@@ -48,9 +39,9 @@ groups_run [] [] a c r x y digits p none e = run_nil a c r e
 groups_run [] (h ∷ other) a c r x y digits p none e =
     let cut = run_split a h.digits c h.letter r (flat_map group_text other) digits y.0.each p (unit_no_digit h.letter h.unit y.0.lasts) (e ∙ append_assoc h.digits (h.letter ∷ []) (flat_map group_text other)) in
     none (let k = ap length cut.0 in let s = y.0.some in omega arith) h.unit (ap unit_seconds cut.1 ∙ y.0.lasts)
-groups_run (g ∷ groups) [] a c r x y digits p none e = run_nil g.digits g.letter (flat_map group_text groups ++ (a ++ c ∷ r)) (sym (ap (λ t. t ++ (a ++ c ∷ r)) (append_assoc g.digits (g.letter ∷ []) (flat_map group_text groups)) ∙ append_assoc g.digits (g.letter ∷ flat_map group_text groups) (a ++ c ∷ r)) ∙ e)
+groups_run (g ∷ groups) [] a c r x y digits p none e = grind (arith, run_nil, append_assoc)
 groups_run (g ∷ groups) (h ∷ other) a c r x y digits p none e =
-    let left : flat_map group_text (g ∷ groups) ++ (a ++ c ∷ r) ≡ g.digits ++ g.letter ∷ (flat_map group_text groups ++ (a ++ c ∷ r)) = ap (λ t. t ++ (a ++ c ∷ r)) (append_assoc g.digits (g.letter ∷ []) (flat_map group_text groups)) ∙ append_assoc g.digits (g.letter ∷ flat_map group_text groups) (a ++ c ∷ r) in
+    let left = ap (λ t. t ++ (a ++ c ∷ r)) (append_assoc g.digits (g.letter ∷ []) (flat_map group_text groups)) ∙ append_assoc g.digits (g.letter ∷ flat_map group_text groups) (a ++ c ∷ r) in
     let cut = run_split g.digits h.digits g.letter h.letter (flat_map group_text groups ++ (a ++ c ∷ r)) (flat_map group_text other) x.0.each y.0.each (unit_no_digit g.letter g.unit x.0.lasts) (unit_no_digit h.letter h.unit y.0.lasts) (sym left ∙ e ∙ append_assoc h.digits (h.letter ∷ []) (flat_map group_text other)) in
     groups_run groups other a c r x.1 y.1 digits p none cut.2
 
@@ -58,28 +49,18 @@ groups_run (g ∷ groups) (h ∷ other) a c r x y digits p none e =
 groups_open : (groups other : List Group) (a : List ℕ) → AllByRecursion IsTimeGroup groups → AllByRecursion IsTimeGroup other → AreDigits a → 0 < length a → flat_map group_text groups ++ a ≡ flat_map group_text other → ⊥
 groups_open [] [] a x y digits some e = let k = ap length e in omega arith
 groups_open [] (h ∷ other) a x y digits some e = no_run h.digits h.letter (flat_map group_text other) a digits (unit_no_digit h.letter h.unit y.0.lasts) (sym (e ∙ append_assoc h.digits (h.letter ∷ []) (flat_map group_text other)))
-groups_open (g ∷ groups) [] a x y digits some e = run_nil g.digits g.letter (flat_map group_text groups ++ a) (sym (ap (λ t. t ++ a) (append_assoc g.digits (g.letter ∷ []) (flat_map group_text groups)) ∙ append_assoc g.digits (g.letter ∷ flat_map group_text groups) a) ∙ e)
+groups_open (g ∷ groups) [] a x y digits some e = grind (arith, run_nil, append_assoc)
 groups_open (g ∷ groups) (h ∷ other) a x y digits some e =
-    let left : flat_map group_text (g ∷ groups) ++ a ≡ g.digits ++ g.letter ∷ (flat_map group_text groups ++ a) = ap (λ t. t ++ a) (append_assoc g.digits (g.letter ∷ []) (flat_map group_text groups)) ∙ append_assoc g.digits (g.letter ∷ flat_map group_text groups) a in
+    let left = ap (λ t. t ++ a) (append_assoc g.digits (g.letter ∷ []) (flat_map group_text groups)) ∙ append_assoc g.digits (g.letter ∷ flat_map group_text groups) a in
     let cut = run_split g.digits h.digits g.letter h.letter (flat_map group_text groups ++ a) (flat_map group_text other) x.0.each y.0.each (unit_no_digit g.letter g.unit x.0.lasts) (unit_no_digit h.letter h.unit y.0.lasts) (sym left ∙ e ∙ append_assoc h.digits (h.letter ∷ []) (flat_map group_text other)) in
     groups_open groups other a x.1 y.1 digits some cut.2
 
 -- no time goes on with an octet that is neither a digit nor, after digits, a unit
 pub stops : (text rest : List ℕ) (c n : ℕ) (p : Progress) → is_digit c ≡ false → (0 < length text → IsTrue p.open → (u : ℕ) → unit_seconds c ≡ Some u → ⊥) → ReadsTime text p → IsTime (text ++ c ∷ rest) n → ⊥
-stops text rest c n p no_digit none reads (plain h) = no_run text c rest (text ++ c ∷ rest) h.digits no_digit refl
-stops text rest c n p no_digit none reads (grouped groups some each parts sums) =
-    let cut : flat_map group_text reads.groups ++ (reads.digits ++ c ∷ rest) ≡ flat_map group_text groups = sym (append_assoc (flat_map group_text reads.groups) reads.digits (c ∷ rest)) ∙ ap (λ t. t ++ c ∷ rest) (sym reads.parts) ∙ parts in
-    groups_run reads.groups groups reads.digits c rest reads.each each reads.last no_digit (λ opens u e. none (let k = ap length reads.parts in let l = length-append (flat_map group_text reads.groups) reads.digits in omega arith) (reads.opened.1 opens) u e) cut
+stops text rest c n p no_digit none reads h = grind (arith, no_run, append_assoc, groups_run, length-append)
 
 capped_sum : (C T N u : ℕ) → 0 < u → min C (min C T + min C N * u) ≡ min C (T + N * u)
-capped_sum C T N u some = elim (cases_lt C N) [
-  | inl lt ↦
-      let a : min C N ≡ C = min-eq_left (omega arith) in
-      let b : C ≤ C * u = le-mul_of_pos_right C some in
-      let d : C * u ≤ N * u = mul-le-mul_right u (omega arith) in
-      rw a (omega arith)
-  | inr ge ↦ let a : min C N ≡ N = min-eq_right ge in rw a (omega arith)
-]
+capped_sum C T N u some = grind (arith, cases_lt, min-eq_left, le-mul_of_pos_right, mul-le-mul_right, min-eq_right)
 
 -- a group closes
 pub more_groups : (text : List ℕ) (c unit : ℕ) (p next : Progress) → unit_seconds c ≡ Some unit → 0 < unit → p.open ≡ true → next.total ≡ min 4294967296 (p.total + p.number * unit) → next.grouped ≡ true → next.number ≡ 0 → next.open ≡ false → ReadsTime text p → ReadsTime (text ++ c ∷ []) next
@@ -113,24 +94,23 @@ first_unit (g ∷ groups) digits text each some all e = no_run g.digits g.letter
 nothing : (text : List ℕ) (n : ℕ) → text ≡ [] → IsTime text n → ⊥
 nothing text n e (plain h) = let k = ap length e in let s = h.some in omega arith
 nothing text n e (grouped [] some each parts sums) = omega arith
-nothing text n e (grouped (g ∷ groups) some each parts sums) = run_nil g.digits g.letter (flat_map group_text groups) (sym (append_assoc g.digits (g.letter ∷ []) (flat_map group_text groups)) ∙ sym parts ∙ e)
+nothing text n e (grouped (g ∷ groups) some each parts sums) = grind (arith, run_nil, append_assoc)
 
 -- a text is read to its end
 pub ends_grouped : (text : List ℕ) (p : Progress) → p.grouped ≡ true → p.open ≡ false → ReadsTime text p → (m : ℕ) × (IsTime text m × (p.total ≡ min 4294967296 m))
 ends_grouped text p groups closed reads =
-    let none : reads.digits ≡ [] = no_digits reads.digits (λ some. cc (sym closed ∙ reads.opened.1 some)) in
+    let none = no_digits reads.digits (λ some. cc (sym closed ∙ reads.opened.1 some)) in
     (sum_by group_seconds reads.groups, (grouped reads.groups (reads.grouped.0 groups) reads.each (reads.parts ∙ ap (λ t. flat_map group_text reads.groups ++ t) none ∙ append-nil (flat_map group_text reads.groups)) refl, reads.total))
 
 -- groups and digits after them are no time
 pub ends_both : (text : List ℕ) (n : ℕ) (p : Progress) → p.grouped ≡ true → p.open ≡ true → ReadsTime text p → IsTime text n → ⊥
-ends_both text n p groups opens reads (plain h) = first_unit reads.groups reads.digits text reads.each (reads.grouped.0 groups) h.digits reads.parts
-ends_both text n p groups opens reads (grouped others some each parts sums) = groups_open reads.groups others reads.digits reads.each each reads.last (reads.opened.0 opens) (sym reads.parts ∙ parts)
+ends_both text n p groups opens reads h = grind (arith, first_unit, groups_open)
 
 -- nothing is no time
 pub ends_none : (text : List ℕ) (n : ℕ) (p : Progress) → p.grouped ≡ false → p.open ≡ false → ReadsTime text p → IsTime text n → ⊥
 ends_none text n p groups closed reads time =
-    let none : reads.groups ≡ [] = no_groups reads.groups (λ some. cc (sym groups ∙ reads.grouped.1 some)) in
-    let no_more : reads.digits ≡ [] = no_digits reads.digits (λ some. cc (sym closed ∙ reads.opened.1 some)) in
+    let none = no_groups reads.groups (λ some. cc (sym groups ∙ reads.grouped.1 some)) in
+    let no_more = no_digits reads.digits (λ some. cc (sym closed ∙ reads.opened.1 some)) in
     nothing text n (reads.parts ∙ ap (λ gs. flat_map group_text gs ++ reads.digits) none ∙ no_more) time
 
 -- an octet at which no time goes on

@@ -1,34 +1,17 @@
 -- What a field's items spell is appended.
-use Rattle.std.proofs.Common.{List, None, Option, Some, [], ap, append_assoc, arith, drop, get_or, inl, inr, length, map, min, subst, sym, ℕ, ◌++◌, ◌+◌, ◌<◌, ◌∙◌, ◌∷◌, ◌≡◌, ◌≤◌}
-use Rattle.std.specs.List.{flat_map, slice_get}
-use Rattle.std.specs.Prelude.{IfNone, IfSome}
-use Rattle.std.proofs.lemmas.List.{append-nil, drop_all}
-use Rattle.zone_name.specs.Name.{with_length}
-use Rattle.zone_rdata.specs.declared.fault.Fault.{Fault}
-use Rattle.zone_rdata.specs.declared.field.Field.{Field}
-use Rattle.zone_rdata.specs.declared.item.Item.{Item}
-use Rattle.zone_rdata.specs.Field.{FieldValue, SpellsField, field_octets, items_after, own_items, strings}
-use Rattle.zone_rdata.specs.Fields.Strings.{FirstStringFault, SpellEachString, SpellsStrings, StringsFault}
-use Rattle.zone_rdata.specs.Item.{RawItem, raw}
-use Rattle.zone_rdata.specs.Machine.Appending.{Appends, AppendsFirst}
-use Rattle.zone_rdata.specs.Strings.{SpellsString, StringFault}
+use Rattle.zone_rdata.proofs.Common.{[], List, Option, Some, ap, append_assoc, arith, drop, get_or, inr, length, map, min, subst, sym, ℕ, ◌++◌, ◌+◌, ◌<◌, ◌∙◌, ◌∷◌, ◌≡◌, ◌≤◌, flat_map, slice_get, IfNone, IfSome, append-nil, drop_all, Labels, with_length, Fault, Field, Item, FieldValue, SpellsField, field_octets, items_after, own_items, strings, FirstStringFault, SpellEachString, SpellsStrings, StringsFault, RawItem, raw, Appends, AppendsFirst, SpellsString, StringFault}
 use Rattle.zone_rdata.specs.declared.field.Field.TheVariants as fields
 use Rattle.zone_rdata.proofs.Lists.{from_place}
 
 -- ---- the items of the field at their front
 
 -- what is stated of the first item is spelled by it
-pub first_appended : {X : Type 0} {Stated : X → Type 0} {octets : X → List ℕ} (value : X → FieldValue) (origin : List (List ℕ)) (field f : Field) (first : Item) (items : List Item) (old new : List ℕ) → field ≡ f → Some first ≡ slice_get items 0 → ((rest : List RawItem) → items_after f (raw first ∷ rest) ≡ rest) → ((x : X) (rest : List RawItem) → Stated x → SpellsField origin f (own_items f (raw first ∷ rest)) (value x)) → ((x : X) → octets x ≡ field_octets (value x)) → Appends Stated octets old new → AppendsFirst origin field (map raw items) (map raw (drop 1 items)) old new
+pub first_appended : {X : Type 0} {Stated : X → Type 0} {octets : X → List ℕ} (value : X → FieldValue) (origin : Labels) (field f : Field) (first : Item) (items : List Item) (old new : List ℕ) → field ≡ f → Some first ≡ slice_get items 0 → ((rest : List RawItem) → items_after f (raw first ∷ rest) ≡ rest) → ((x : X) (rest : List RawItem) → Stated x → SpellsField origin f (own_items f (raw first ∷ rest)) (value x)) → ((x : X) → octets x ≡ field_octets (value x)) → Appends Stated octets old new → AppendsFirst origin field (map raw items) (map raw (drop 1 items)) old new
 first_appended value origin field f first [] old new which is following spells own done = absurd cc
-first_appended value origin field f first (item ∷ items) old new which is following spells own done =
-    let same : first ≡ item = cc in
-    subst (λ g. AppendsFirst origin g (raw item ∷ map raw items) (map raw items) old new) (sym which) (subst (λ i. AppendsFirst origin f (raw i ∷ map raw items) (map raw items) old new) same (record {
-      appends = record { value = value done.value; stated = spells done.value (map raw items) done.stated; written = done.written ∙ ap (λ t. old ++ t) (own done.value) };
-      following = sym (following (map raw items));
-    }))
+first_appended value origin field f first (item ∷ items) old new which is following spells own done = grind arith
 
 -- strings are all that is left
-pub all_appended : (origin : List (List ℕ)) (field : Field) (items : List Item) (old new : List ℕ) → field ≡ fields.Strings → Appends (SpellsStrings (map raw items)) (flat_map with_length) old new → AppendsFirst origin field (map raw items) (map raw (drop (length items) items)) old new
+pub all_appended : (origin : Labels) (field : Field) (items : List Item) (old new : List ℕ) → field ≡ fields.Strings → Appends (SpellsStrings (map raw items)) (flat_map with_length) old new → AppendsFirst origin field (map raw items) (map raw (drop (length items) items)) old new
 all_appended origin field items old new which h = subst (λ f. AppendsFirst origin f (map raw items) (map raw (drop (length items) items)) old new) (sym which) (record {
   appends = record { value = strings h.value; stated = h.stated; written = h.written };
   following = ap (map raw) (drop_all (length items) items (omega arith));
@@ -44,21 +27,15 @@ pub record HaveSpelt (items left : List RawItem) (old now : List ℕ) : Type 0 w
 pub spelt_more : (all items : List Item) (i : ℕ) (item d : Item) (old now new : List ℕ) → i < length items → item ≡ get_or items i d → HaveSpelt (map raw all) (map raw (drop i items)) old now → Appends (SpellsString (raw item)) with_length now new → HaveSpelt (map raw all) (map raw (drop (i + 1) items)) old new
 spelt_more all items i item d old now new lt is read h =
     let left = map raw (drop (i + 1) items) in
-    let here : HaveSpelt (map raw all) (raw item ∷ left) old now = subst (λ x. HaveSpelt (map raw all) x old now) (ap (map raw) (from_place items i item d lt is)) read in
-    record {
-      leads = λ many each. subst (Appends (SpellEachString (map raw all)) (flat_map with_length) old) (sym (ap (λ o. o ++ flat_map with_length many) h.written ∙ append_assoc now (with_length h.value) (flat_map with_length many))) (here.leads (h.value ∷ many) (h.stated, each));
-      fault = λ fault bad. here.fault fault (inr (h.value, h.stated, bad));
-    }
+    let here = subst (λ x. HaveSpelt (map raw all) x old now) (ap (map raw) (from_place items i item d lt is)) read in
+    record { leads = λ many each. subst (Appends (SpellEachString (map raw all)) (flat_map with_length) old) (sym (ap (λ o. o ++ flat_map with_length many) h.written ∙ append_assoc now (with_length h.value) (flat_map with_length many))) (here.leads (h.value ∷ many) (h.stated, each)); fault = λ fault bad. here.fault fault (inr (h.value, h.stated, bad)) }
 
 -- there is an item
 some_first : (items : List RawItem) (fault : Fault) → FirstStringFault items fault → StringsFault items fault
-some_first [] fault h = absurd h
-some_first (item ∷ items) fault h = h
+some_first items fault h = grind arith
 
 pub spelt_bad : (all items : List Item) (i : ℕ) (item d : Item) (old now : List ℕ) (fault : Fault) → i < length items → item ≡ get_or items i d → HaveSpelt (map raw all) (map raw (drop i items)) old now → StringFault (raw item) fault → StringsFault (map raw all) fault
-spelt_bad all items i item d old now fault lt is read bad =
-    let here : HaveSpelt (map raw all) (raw item ∷ map raw (drop (i + 1) items)) old now = subst (λ x. HaveSpelt (map raw all) x old now) (ap (map raw) (from_place items i item d lt is)) read in
-    some_first (map raw all) fault (here.fault fault (inl bad))
+spelt_bad all items i item d old now fault lt is read bad = grind (arith, from_place, some_first)
 
 pub spelt_all : (all items : List Item) (i : ℕ) (old now : List ℕ) → 0 < length all → length items ≤ i → HaveSpelt (map raw all) (map raw (drop i items)) old now → Appends (SpellsStrings (map raw all)) (flat_map with_length) old now
 spelt_all [] items i old now some past read = absurd (omega arith)
@@ -71,13 +48,8 @@ spelt_all (first ∷ all) items i old now some past read =
 
 -- no number up to a greatest one is stated where the one that is read is greater, or none is
 pub no_number : (Is : ℕ → Type 0) (bound most cap : ℕ) (number : Option ℕ) → ((a b : ℕ) → Is a → Is b → a ≡ b) → bound ≤ most + 1 → most < cap → IfSome number (λ n. (m : ℕ) × (Is m × (n ≡ min cap m))) → IfNone number ((m : ℕ) → Is m → ⊥) → IfSome number (λ n. most < n) → (n : ℕ) → Is n × (n < bound) → ⊥
-no_number Is bound most cap None once fits room found none over n h = none n h.0
-no_number Is bound most cap (Some k) once fits room found none over n h = omega (arith, once n found.0 h.0 found.1.0, found.1.1)
+no_number Is bound most cap number once fits room found none over n h = grind arith
 
 -- the number that was read, where it is no greater
 pub that_number : (Is : ℕ → Type 0) (n most cap : ℕ) (number : Option ℕ) → most < cap → number ≡ Some n → n ≤ most → IfSome number (λ n. (m : ℕ) × (Is m × (n ≡ min cap m))) → Is n
-that_number Is n most cap None room e short found = absurd cc
-that_number Is n most cap (Some k) room e short found =
-    let same : k ≡ n = cc in
-    let own : found.0 ≡ n = omega (arith, found.1.1, same) in
-    subst Is own found.1.0
+that_number Is n most cap number room e short found = grind arith

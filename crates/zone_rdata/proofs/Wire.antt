@@ -1,15 +1,10 @@
 -- Data from uncompressed octets.
-use Rattle.std.proofs.Common.{◌≡◌, ℕ, ◌<◌, ◌≤◌, List, length, Option, Some, None, sym, subst, arith}
-use Rattle.std.specs.Prelude.{IfSome, option_map}
-use Rattle.std.specs.List.{AllByRecursion}
-use Rattle.zone_rdata.specs.declared.fault.Fault.{Fault}
+use Rattle.zone_rdata.proofs.Common.{◌≡◌, ℕ, ◌≤◌, List, length, Option, Some, None, sym, subst, arith, IfSome, AllByRecursion, AreOctets, Fault, Field, IsData, IsSized, fields_of, layout, IsCanonicalOf}
+use Rattle.std.specs.Prelude.{option_map}
 use Rattle.zone_rdata.specs.declared.fault.Fault.TheVariants.{BadRdata}
-use Rattle.zone_rdata.specs.declared.field.Field.{Field}
 use Rattle.zone_rdata.specs.declared.layout.Layout.{Layout}
-use Rattle.zone_rdata.specs.Layout.{IsData, IsSized, fields_of, layout}
-use Rattle.zone_rdata.specs.Spelling.{IsCanonicalOf}
 use Rattle.zone_rdata.specs.Wire.{IsWireFault, no_value}
-use Rattle.zone_rdata.proofs.Layouts.{AreFor, canonical_laid, canonical_length}
+use Rattle.zone_rdata.proofs.Layouts.{canonical_laid, canonical_length}
 use Rattle.zone_rdata.proofs.Tables.{table_row}
 use Rattle.zone_rdata.proofs.Taken.{canonical_same}
 
@@ -18,15 +13,11 @@ pub table_sized : (class kind : ℕ) (laid : Option Layout) → option_map field
 table_sized class kind None e = tt
 table_sized class kind (Some l) e = (table_row class kind (fields_of l) (sym e)).sized
 
-pub canonical_data : (class kind : ℕ) (laid : Option (List Field)) (octets canonical : List ℕ) → laid ≡ layout class kind → IsCanonicalOf laid octets canonical → length octets ≤ 65535 → AllByRecursion (λ c. c < 256) canonical → IsData class kind canonical
-canonical_data class kind laid octets canonical e is short each = record {
-  short = omega (arith, canonical_length laid octets canonical is);
-  each = each;
-  value = subst (λ l. AreFor l canonical) e (canonical_laid class kind laid octets canonical e is);
-}
+pub canonical_data : (class kind : ℕ) (laid : Option (List Field)) (octets canonical : List ℕ) → laid ≡ layout class kind → IsCanonicalOf laid octets canonical → length octets ≤ 65535 → AreOctets canonical → IsData class kind canonical
+canonical_data class kind laid octets canonical e is short each = grind (arith, canonical_length, canonical_laid)
 
 pub canonical_only : (class kind : ℕ) (laid : Option (List Field)) (octets a b : List ℕ) → laid ≡ layout class kind → IsCanonicalOf laid octets a → IsCanonicalOf (layout class kind) octets b → a ≡ b
-canonical_only class kind laid octets a b e x y = canonical_same class kind laid octets a b e x (subst (λ l. IsCanonicalOf l octets b) (sym e) y)
+canonical_only class kind laid octets a b e x y = grind (arith, canonical_same)
 
 pub wire_fault : (class kind : ℕ) (laid : Option (List Field)) (octets : List ℕ) (fault : Fault) → laid ≡ layout class kind → length octets ≤ 65535 → (fault ≡ BadRdata) × ((canonical : List ℕ) → IsCanonicalOf laid octets canonical → ⊥) → IsWireFault (layout class kind) octets fault
 wire_fault class kind laid octets fault e short bad =

@@ -1,14 +1,5 @@
 -- A word is that of a class or of none, and that of a type or of none.
-use Rattle.std.proofs.Common.{◌≡◌, ℕ, ◌<◌, Bool, true, false, List, length, take, drop, codes, Option, Some, None, ◌⊎◌, inl, inr, refl, sym, ap, ◌∙◌, subst, bytes_eq}
-use Rattle.std.specs.List.{find}
-use Rattle.std.proofs.lemmas.Bool.{cases_lt, false≢true}
-use Rattle.std.proofs.lemmas.List.{take_at, drop_at, length-map, take-append-drop}
-use Rattle.std.proofs.lemmas.Slice.Eq.{bytes_eq-Decides}
-use Rattle.zone_name.specs.Name.{folded_octet, folded_label}
-use Rattle.zone_rdata.specs.Number.{IsDecimal}
-use Rattle.zone_rdata.specs.Table.{Named, classes, type_names, ascend}
-use Rattle.zone_rdata.specs.Words.{IsKind, is_meta, IsMnemonic, IsNumbered, IsWordAmong, by_mnemonic, by_number, IsClassWord, IsKindWord, IsWordFault, nameless, beyond, for_queries}
-use Rattle.zone_rdata.specs.declared.fault.Fault.{Fault}
+use Rattle.zone_rdata.proofs.Common.{◌≡◌, ℕ, ◌<◌, Bool, true, false, List, length, take, drop, codes, Option, Some, None, ◌⊎◌, inl, inr, refl, sym, ap, ◌∙◌, subst, bytes_eq, arith, find, cases_lt, false≢true, take_at, drop_at, length-map, take-append-drop, bytes_eq-Decides, folded_label, IsDecimal, Named, classes, type_names, ascend, IsKind, is_meta, IsMnemonic, IsNumbered, IsWordAmong, by_mnemonic, by_number, IsClassWord, IsKindWord, IsWordFault, nameless, beyond, for_queries, Fault}
 use Rattle.zone_rdata.specs.declared.fault.Fault.TheVariants.{UnknownType, MetaType}
 use Rattle.zone_rdata.proofs.Choices.{Choice, Decided, choice_as, true_or_not}
 use Rattle.zone_rdata.proofs.GenericLaws.{decimal_or_not}
@@ -25,13 +16,13 @@ mnemonic_by rows up word (Some row) e = inl (row.number, row_is rows up word row
 
 -- ---- a name and a number right after it
 front_is : (name word : List ℕ) (n : ℕ) (x : IsNumbered name word n) → length x.front ≡ length name
-front_is name word n x = sym (length-map x.front folded_octet) ∙ ap length x.named ∙ length-map name folded_octet
+front_is name word n x = grind (arith, length-map)
 
 take_is : (name word : List ℕ) (n : ℕ) (x : IsNumbered name word n) → take (length name) word ≡ x.front
-take_is name word n x = ap (take (length name)) x.parts ∙ take_at x.front x.digits (length name) (front_is name word n x)
+take_is name word n x = cc (take_at x.front x.digits (length name) (front_is name word n x))
 
 drop_is : (name word : List ℕ) (n : ℕ) (x : IsNumbered name word n) → drop (length name) word ≡ x.digits
-drop_is name word n x = ap (drop (length name)) x.parts ∙ drop_at x.front x.digits (length name) (front_is name word n x)
+drop_is name word n x = cc (drop_at x.front x.digits (length name) (front_is name word n x))
 
 numbered_or_not : (name word : List ℕ) → Choice (IsNumbered name word)
 numbered_or_not name word =

@@ -1,16 +1,6 @@
 -- Words that are equal in any case of their letters.
-use Rattle.std.proofs.Common.{◌≡◌, ℕ, ◌<◌, ◌≤◌, true, false, List, [], ◌∷◌, map, refl, sym, ap, ◌∙◌, arith, IsTrue, ◌↔◌, inl, inr, Option, Some, None, min, subst, bytes_eq, Bool}
+use Rattle.zone_rdata.proofs.Common.{[], ◌≡◌, ℕ, ◌<◌, ◌≤◌, true, false, List, ◌∷◌, map, refl, sym, ap, ◌∙◌, arith, IsTrue, ◌↔◌, inl, inr, Some, None, min, subst, bytes_eq, Bool, find, option_map, nat_tests, cases_lt, bytes_eq-Decides, folded_octet, folded_label, Named, ascend, IsKind, IsNumbered, IsWordAmong, by_mnemonic, by_number, IsKindWord, IsWordFault, for_queries, beyond, Fault}
 use Rattle.std.specs.Char.{to_ascii_lowercase}
-use Rattle.std.specs.List.{find}
-use Rattle.std.specs.Option.{option_map}
-use Rattle.std.specs.Prelude.{IfNone}
-use Rattle.std.proofs.lemmas.Bool.Decides.{nat_tests}
-use Rattle.std.proofs.lemmas.Bool.{cases_lt}
-use Rattle.std.proofs.lemmas.Slice.Eq.{bytes_eq-Decides}
-use Rattle.zone_name.specs.Name.{folded_octet, folded_label}
-use Rattle.zone_rdata.specs.Table.{Named, ascend}
-use Rattle.zone_rdata.specs.Words.{IsKind, IsNumbered, IsWordAmong, by_mnemonic, by_number, IsKindWord, IsWordFault, for_queries, beyond}
-use Rattle.zone_rdata.specs.declared.fault.Fault.{Fault}
 use Rattle.zone_rdata.specs.declared.fault.Fault.TheVariants.{UnknownType, MetaType}
 use Rattle.zone_rdata.proofs.Tables.{find_mapped, row_is, no_row}
 
@@ -23,29 +13,25 @@ lowercase_folds_all (c ∷ text) = cc (lowercase_folds c, lowercase_folds_all te
 
 -- std's comparison without regard to case, in this project's words
 pub same_word : (a b : List ℕ) (r : Bool) → IsTrue r ↔ (map to_ascii_lowercase a ≡ map to_ascii_lowercase b) → IsTrue r ↔ (folded_label a ≡ folded_label b)
-same_word a b r e = (
-  λ h. sym (lowercase_folds_all a) ∙ e.0 h ∙ lowercase_folds_all b,
-  λ h. e.1 (lowercase_folds_all a ∙ h ∙ sym (lowercase_folds_all b)),
-)
+same_word a b r e = grind (arith, lowercase_folds_all)
 
 -- the test of two words
 pub same_test : (word name mnemonic : List ℕ) → name ≡ mnemonic → folded_label word ≡ folded_label name → bytes_eq (folded_label word) (folded_label mnemonic) ≡ true
-same_test word name mnemonic e same = (bytes_eq-Decides (folded_label word) (folded_label mnemonic)).1 (same ∙ ap folded_label e)
+same_test word name mnemonic e same = grind (arith, bytes_eq-Decides)
 
 test_by : (word mnemonic : List ℕ) (t : Bool) → bytes_eq (folded_label word) (folded_label mnemonic) ≡ t → (folded_label word ≡ folded_label mnemonic → ⊥) → t ≡ false
-test_by word mnemonic true e other = absurd (other ((bytes_eq-Decides (folded_label word) (folded_label mnemonic)).0 e))
+test_by word mnemonic true e other = grind (arith, bytes_eq-Decides)
 test_by word mnemonic false e other = refl
 
 pub other_test : (word name mnemonic : List ℕ) → name ≡ mnemonic → (folded_label word ≡ folded_label name → ⊥) → bytes_eq (folded_label word) (folded_label mnemonic) ≡ false
-other_test word name mnemonic e other = test_by word mnemonic (bytes_eq (folded_label word) (folded_label mnemonic)) refl (λ same. other (same ∙ ap folded_label (sym e)))
+other_test word name mnemonic e other = grind (arith, test_by, bytes_eq)
 
 -- ---- the number that a word stands for
 
 -- the row that a word finds is that of a number
 pub word_of_row : {R : Type 0} (names : R → Named) (rows : List R) (name word : List ℕ) (row : R) (n : ℕ) → ascend 0 (map names rows) ≡ true → Some row ≡ find (λ row. bytes_eq (folded_label word) (folded_label (names row).mnemonic)) rows → n ≡ (names row).number → n < 65536 → (m : ℕ) × (IsWordAmong (map names rows) name word m × (n ≡ min 4294967296 m))
 word_of_row names rows name word row n up e number short =
-    let found : find (λ row. bytes_eq (folded_label word) (folded_label row.mnemonic)) (map names rows) ≡ Some (names row) =
-    find_mapped names (λ row. bytes_eq (folded_label word) (folded_label row.mnemonic)) rows ∙ ap (option_map names) (sym e) in
+    let found = find_mapped names (λ row. bytes_eq (folded_label word) (folded_label row.mnemonic)) rows ∙ ap (option_map names) (sym e) in
     ((names row).number, (by_mnemonic (row_is (map names rows) up word (names row) found), omega arith))
 
 -- a word of no row is that of a number after the name, or none
@@ -57,10 +43,6 @@ no_word names rows name word e none n (by_number is) = none n is
 -- a capped number of 16 bits is the number itself
 pub uncapped : (n m : ℕ) → n ≡ min 4294967296 m → n < 65536 → m ≡ n
 uncapped n m e short = omega arith
-
-pub none_weaker : (o : Option ℕ) (P Q : Type 0) → (P → Q) → IfNone o P → IfNone o Q
-none_weaker None P Q f p = f p
-none_weaker (Some n) P Q f p = tt
 
 pub kind_refused : (word : List ℕ) (n : ℕ) → ((m : ℕ) × (IsKindWord word m × (n ≡ min 4294967296 m))) → (fault : Fault) → (n < 65536 → fault ≡ MetaType) × (65536 ≤ n → fault ≡ UnknownType) × (IsKind n → ⊥) → IsWordFault word fault
 kind_refused word n found fault h = elim (cases_lt n 65536) [

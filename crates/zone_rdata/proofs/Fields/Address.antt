@@ -1,45 +1,31 @@
 -- An address of a fixed number of octets.
-use Rattle.std.proofs.Common.{List, Some, [], ap, arith, inl, inr, length, refl, subst, sym, ℕ, ◌+◌, ◌*◌, ◌<◌, ◌==◌, ◌∙◌, ◌∷◌, ◌≡◌, ◌≤◌, ◌⊎◌}
-use Rattle.std.specs.List.{AllByRecursion}
-use Rattle.std.specs.Prelude.{if◌then◌else◌}
-use Rattle.std.proofs.lemmas.List.{take_at}
+use Rattle.zone_rdata.proofs.Common.{[], List, Some, ap, arith, inl, inr, length, refl, subst, sym, ℕ, ◌+◌, ◌*◌, ◌<◌, ◌==◌, ◌∙◌, ◌∷◌, ◌≡◌, ◌≤◌, ◌⊎◌, if◌then◌else◌, take_at, IsAddressOctet, IsIpv6Address, ipv4_text, ipv6_text, FitsString, FieldValue, Holds, SpellsField, Suits, field_octets, fixed, AreFixed, IsAddress, address_text, of_ipv4, of_ipv6, RawItem, bare, IsReal, StandsBare}
 use Rattle.zone_rdata.specs.declared.fault.Fault.TheVariants.{BadRdata}
 use Rattle.zone_rdata.specs.declared.field.Field.TheVariants.{Octets}
-use Rattle.zone_rdata.specs.Address.{IsAddressOctet, IsIpv4Address, IsIpv6Address, ipv4_text, ipv6_text}
-use Rattle.zone_rdata.specs.Builder.{FitsString}
-use Rattle.zone_rdata.specs.Field.{FieldValue, Holds, SpellsField, Suits, field_octets, fixed}
-use Rattle.zone_rdata.specs.Fields.Address.{AreFixed, IsAddress, address_text, of_ipv4, of_ipv6}
-use Rattle.zone_rdata.specs.Item.{RawItem, bare}
-use Rattle.zone_rdata.specs.Machine.Building.{IsReal}
 use Rattle.zone_rdata.proofs.AddressChoice.{address_or_not}
 use Rattle.zone_rdata.proofs.AddressFields.{address_fixed}
 use Rattle.zone_rdata.proofs.AddressGaps.{groups_unique}
 use Rattle.zone_rdata.proofs.AddressLaws.{ipv4_plain, ipv4_printed, ipv6_plain, ipv6_printed, ipv6_some}
 use Rattle.zone_rdata.proofs.Addresses.{numbers_unique}
 use Rattle.zone_rdata.proofs.FieldLaws.{FieldLaws, SizedField, bare_item, bare_or_fault, mark, mark_text, sized_front, value_or_fault}
-use Rattle.zone_name.proofs.Bare.{StandsBare}
 use Rattle.zone_rdata.proofs.Standing.{bare_address}
 use Rattle.zone_rdata.proofs.FieldLengths.{ipv4_length, ipv6_length}
 use Rattle.zone_rdata.proofs.AddressParts.{ipv4_some}
 
 only : (n : ℕ) (v : FieldValue) → Holds (Octets n) v → (octets : List ℕ) × (v ≡ fixed octets)
-only n (fixed octets) h = (octets, refl)
-only n v h = absurd h
+only n v h = grind arith
 
 opens : (n : ℕ) (origin : List (List ℕ)) (items : List RawItem) (v : FieldValue) → SpellsField origin (Octets n) items v → (text octets : List ℕ) × (items ≡ bare text ∷ []) × (v ≡ fixed octets)
-opens n origin (bare text ∷ []) (fixed octets) h = (text, octets, refl, refl)
-opens n origin items v h = absurd h
+opens n origin items v h = grind arith
 
 pub sized : (n : ℕ) → SizedField (Octets n) fixed n
-sized n = record { plain = λ e. cc; single = λ e. cc; only = only n; size = λ octets h. h.size; read = λ octets low size. (octets, record { size = size; each = low }, refl) }
+sized n = grind (arith, only)
 
 part : (n : ℕ) (v : FieldValue) → Suits (Some (Octets n)) v → FitsString v → IsReal v → Holds (Octets n) v × (0 < length (field_octets v))
-part n (fixed octets) s fits real = (record { size = s.0; each = real }, omega (arith, s.0, s.1))
-part n v s fits real = absurd s
+part n v s fits real = grind arith
 
 short : (n : ℕ) (octets : List ℕ) → (n ≡ 4) ⊎ (n ≡ 16) → AreFixed n octets → length octets ≤ 256
-short n octets (inl four) h = omega (arith, h.size)
-short n octets (inr sixteen) h = omega (arith, h.size)
+short n octets k h = grind arith
 
 once : (n : ℕ) (text a b : List ℕ) → IsAddress n text a → IsAddress n text b → a ≡ b
 once n text a b (of_ipv4 e h) (of_ipv4 d k) = numbers_unique 3 text a b h k
@@ -54,18 +40,14 @@ text_of_ipv6 : (octets : List ℕ) → length octets ≡ 16 → address_text oct
 text_of_ipv6 octets e = ap (λ (n : ℕ). if n == 4 then ipv4_text octets else ipv6_text octets) e
 
 printed : (n : ℕ) (octets : List ℕ) → (n ≡ 4) ⊎ (n ≡ 16) → AreFixed n octets → IsAddress n (address_text octets) octets
-printed n octets (inl e) h = of_ipv4 e (subst (λ t. IsIpv4Address t octets) (sym (text_of_ipv4 octets (h.size ∙ e))) (ipv4_printed octets (h.size ∙ e) h.each))
+printed n octets (inl e) h = grind (arith, text_of_ipv4, ipv4_printed)
 printed n octets (inr e) h = of_ipv6 e (subst (λ t. IsIpv6Address t octets) (sym (text_of_ipv6 octets (h.size ∙ e))) (ipv6_printed octets (h.size ∙ e) h.each))
 
 no_backslash : IsAddressOctet 92 → ⊥
-no_backslash (inl h) = omega (arith, h.1)
-no_backslash (inr (inl h)) = omega (arith, h.0)
-no_backslash (inr (inr (inl h))) = omega (arith, h)
-no_backslash (inr (inr (inr h))) = omega (arith, h)
+no_backslash h = grind arith
 
 unmarked : (n : ℕ) (octets : List ℕ) → (n ≡ 4) ⊎ (n ≡ 16) → AreFixed n octets → address_text octets ≡ mark → ⊥
-unmarked n octets (inl is) h e = no_backslash (subst (AllByRecursion IsAddressOctet) (sym (text_of_ipv4 octets (h.size ∙ is)) ∙ e) (ipv4_plain octets (h.size ∙ is) h.each)).0
-unmarked n octets (inr is) h e = no_backslash (subst (AllByRecursion IsAddressOctet) (sym (text_of_ipv6 octets (h.size ∙ is)) ∙ e) (ipv6_plain octets (h.size ∙ is) h.each)).0
+unmarked n octets k h e = grind (arith, no_backslash, text_of_ipv4, ipv4_plain, text_of_ipv6, ipv6_plain)
 
 stands : (n : ℕ) (octets : List ℕ) → (n ≡ 4) ⊎ (n ≡ 16) → AreFixed n octets → StandsBare (address_text octets)
 stands n octets (inl e) h =
@@ -76,12 +58,7 @@ stands n octets (inr e) h =
     subst StandsBare (sym (text_of_ipv6 octets size)) (bare_address (ipv6_text octets) (ipv6_some _ octets (ipv6_printed octets size h.each)) (ipv6_plain octets size h.each))
 
 few : (n : ℕ) (octets : List ℕ) → (n ≡ 4) ⊎ (n ≡ 16) → AreFixed n octets → length (address_text octets) + 1 ≤ 4 * length octets
-few n octets (inl e) h =
-    let size : length octets ≡ 4 = h.size ∙ e in
-    omega (arith, size, ap length (text_of_ipv4 octets size), ipv4_length octets size h.each)
-few n octets (inr e) h =
-    let size : length octets ≡ 16 = h.size ∙ e in
-    omega (arith, size, ap length (text_of_ipv6 octets size), ipv6_length octets size)
+few n octets k h = grind (arith, text_of_ipv4, ipv4_length, text_of_ipv6, ipv6_length)
 
 pub laws : (n : ℕ) → FieldLaws (Octets n) fixed bare_item
 laws n = record {

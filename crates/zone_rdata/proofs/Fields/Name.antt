@@ -1,60 +1,42 @@
 -- A domain name.
-use Rattle.std.proofs.Common.{List, Some, [], ap, append_assoc, arith, drop, get_or, inl, inr, length, length-append, refl, subst, suc, sym, take, zero, ℕ, ◌++◌, ◌<◌, ◌∙◌, ◌∷◌, ◌≡◌, ◌≤◌, ◌⊎◌}
-use Rattle.std.specs.List.{AllByRecursion, flat_map}
-use Rattle.std.proofs.lemmas.Bool.{cases_eq, cases_lt}
-use Rattle.std.proofs.lemmas.List.{append-nil, length-drop}
-use Rattle.zone_name.specs.Name.{IsFoldedOctet, IsLabel, IsName, folded, folded_label, folded_octet, wire, with_length}
+use Rattle.zone_rdata.proofs.Common.{[], List, Some, ap, append_assoc, arith, drop, get_or, inl, inr, length, length-append, refl, subst, suc, sym, take, zero, ℕ, ◌++◌, ◌<◌, ◌∙◌, ◌∷◌, ◌≡◌, ◌≤◌, ◌⊎◌, AllByRecursion, flat_map, cases_eq, cases_lt, append-nil, length-drop, Labels, IsFoldedOctet, IsLabel, IsName, folded, folded_label, wire, with_length, AllByRecursion-append, AllByRecursion-back, FitsString, fault_of, FieldValue, Holds, SpellsField, Suits, field_octets, name, RawItem, bare, AppendsValue, BeginsWithNone, BeginsWithValue, IsReal, BeginsWithSent, labels_of-wire_append, bare_name}
 use Rattle.zone_name.specs.Text.{label_text, name_text, octet_text}
-use Rattle.zone_name.proofs.Pushing.{AllByRecursion-append, AllByRecursion-back}
 use Rattle.zone_rdata.specs.declared.field.Field.TheVariants.{Name}
-use Rattle.zone_rdata.specs.Builder.{FitsString}
-use Rattle.zone_rdata.specs.Fault.{fault_of}
-use Rattle.zone_rdata.specs.Field.{FieldValue, Holds, SpellsField, Suits, field_octets, name}
-use Rattle.zone_rdata.specs.Item.{RawItem, bare}
-use Rattle.zone_rdata.specs.Machine.Appending.{AppendsValue, BeginsWithNone, BeginsWithValue}
-use Rattle.zone_rdata.specs.Machine.Building.{IsReal}
-use Rattle.zone_rdata.specs.Machine.Fronts.{BeginsWithSent}
 use Rattle.zone_rdata.proofs.Choices.{Decided, each_or_not}
 use Rattle.zone_rdata.proofs.FieldLaws.{AreLow, FieldLaws, FrontChoice, bare_item, bare_or_fault, found_front, mark_text}
-use Rattle.zone_name.proofs.Octets.{labels_of-wire_append}
 use Rattle.zone_rdata.proofs.Sent.{AreSome, HasCut, cut_more, cut_name, cut_none, folded_some, goes_on, name_by, no_first, no_room, sent_once}
-use Rattle.zone_name.proofs.Bare.{bare_name}
 use Rattle.zone_name.proofs.Lengths.{name_text_length}
 use Rattle.zone_rdata.proofs.Lists.{each_weaker}
 
-only : (v : FieldValue) → Holds Name v → (labels : List (List ℕ)) × (v ≡ name labels)
-only (name labels) h = (labels, refl)
-only v h = absurd h
+only : (v : FieldValue) → Holds Name v → (labels : Labels) × (v ≡ name labels)
+only v h = grind arith
 
-opens : (origin : List (List ℕ)) (items : List RawItem) (v : FieldValue) → SpellsField origin Name items v → (text : List ℕ) × (labels : List (List ℕ)) × (items ≡ bare text ∷ []) × (v ≡ name labels)
-opens origin (bare text ∷ []) (name labels) h = (text, labels, refl, refl)
-opens origin items v h = absurd h
+opens : (origin : Labels) (items : List RawItem) (v : FieldValue) → SpellsField origin Name items v → (text : List ℕ) × (labels : Labels) × (items ≡ bare text ∷ []) × (v ≡ name labels)
+opens origin items v h = grind arith
 
 part : (v : FieldValue) → Suits (Some Name) v → FitsString v → IsReal v → Holds Name v × (0 < length (field_octets v))
-part (name labels) s fits real = (real, omega (arith, length-append (flat_map with_length labels) (0 ∷ [])))
-part v s fits real = absurd s
+part v s fits real = grind (arith, length-append)
 
 -- ---- its octets
-low_labels : (labels : List (List ℕ)) → AllByRecursion IsLabel labels → AreLow (flat_map with_length labels)
+low_labels : (labels : Labels) → AllByRecursion IsLabel labels → AreLow (flat_map with_length labels)
 low_labels [] each = tt
 low_labels (label ∷ labels) each = AllByRecursion-append (λ c. c < 256) (with_length label) (flat_map with_length labels) (omega (arith, each.0.short), each_weaker (λ c. c < 256) (λ c is. is.octet) label each.0.each) (low_labels labels each.1)
 
-low : (labels : List (List ℕ)) → IsName labels → AreLow (wire labels)
+low : (labels : Labels) → IsName labels → AreLow (wire labels)
 low labels h = AllByRecursion-append (λ c. c < 256) (flat_map with_length labels) (0 ∷ []) (low_labels labels h.each) (omega arith, tt)
 
 -- ---- the name at the beginning of octets
-pub appends_name : (octets rest old new : List ℕ) (labels : List (List ℕ)) → BeginsWithSent octets labels rest → new ≡ old ++ wire labels → AppendsValue Name octets rest old new
+pub appends_name : (octets rest old new : List ℕ) (labels : Labels) → BeginsWithSent octets labels rest → new ≡ old ++ wire labels → AppendsValue Name octets rest old new
 appends_name octets rest old new labels b grown = record {
   value = name labels;
   begins = record { held = b.is_name; front = wire b.sent; sent = (b.sent, b.folds, refl); parts = b.parts; last = λ e. absurd cc };
   written = grown;
 }
 
-as_sent : (octets : List ℕ) (v : FieldValue) (rest : List ℕ) → BeginsWithValue Name octets v rest → (labels : List (List ℕ)) × (v ≡ name labels) × BeginsWithSent octets labels rest
-as_sent octets (name labels) rest b = (labels, refl, record { is_name = b.held; sent = b.sent.0; folds = b.sent.1; parts = b.parts ∙ ap (λ t. t ++ rest) b.sent.2 })
-as_sent octets v rest b = absurd b.held
+as_sent : (octets : List ℕ) (v : FieldValue) (rest : List ℕ) → BeginsWithValue Name octets v rest → (labels : Labels) × (v ≡ name labels) × BeginsWithSent octets labels rest
+as_sent octets v rest b = grind arith
 
-pub none_name : (octets : List ℕ) → ((labels : List (List ℕ)) (rest : List ℕ) → BeginsWithSent octets labels rest → ⊥) → BeginsWithNone Name octets
+pub none_name : (octets : List ℕ) → ((labels : Labels) (rest : List ℕ) → BeginsWithSent octets labels rest → ⊥) → BeginsWithNone Name octets
 none_name octets none v rest b = let s = as_sent octets v rest b in none s.0 rest s.2
 
 pub front_once : (octets : List ℕ) (v w : FieldValue) (r s : List ℕ) → BeginsWithValue Name octets v r → BeginsWithValue Name octets w s → (v ≡ w) × (r ≡ s)
@@ -66,13 +48,7 @@ front_once octets v w r s x y =
 
 -- ---- labels are a name or not
 octet_or_not : (c : ℕ) → Decided (IsFoldedOctet c)
-octet_or_not c = elim (cases_lt c 256) [
-  | inr over ↦ inr (λ h. omega (arith, h.octet))
-  | inl low ↦ elim (cases_eq (folded_octet c) c) [
-    | inl same ↦ inl (record { octet = low; lower = same })
-    | inr other ↦ inr (λ h. other h.lower)
-  ]
-]
+octet_or_not c = grind (arith, cases_lt, low, cases_eq)
 
 label_or_not : (label : List ℕ) → Decided (IsLabel label)
 label_or_not label = elim (each_or_not IsFoldedOctet octet_or_not label) [
@@ -86,7 +62,7 @@ label_or_not label = elim (each_or_not IsFoldedOctet octet_or_not label) [
   ]
 ]
 
-labels_or_not : (labels : List (List ℕ)) → Decided (IsName labels)
+labels_or_not : (labels : Labels) → Decided (IsName labels)
 labels_or_not labels = elim (each_or_not IsLabel label_or_not labels) [
   | inr none ↦ inr (λ h. none h.each)
   | inl each ↦ elim (cases_lt 255 (length (wire labels))) [
@@ -97,10 +73,10 @@ labels_or_not labels = elim (each_or_not IsLabel label_or_not labels) [
 
 -- ---- octets begin with a name or not
 abbrev SentChoice : List ℕ → Type 0
-SentChoice octets = ((labels : List (List ℕ)) × ((rest : List ℕ) × BeginsWithSent octets labels rest)) ⊎ ((labels : List (List ℕ)) (rest : List ℕ) → BeginsWithSent octets labels rest → ⊥)
+SentChoice octets = ((labels : Labels) × ((rest : List ℕ) × BeginsWithSent octets labels rest)) ⊎ ((labels : Labels) (rest : List ℕ) → BeginsWithSent octets labels rest → ⊥)
 
 -- a name that ends here has the labels that were cut off
-ended_labels : (octets rest following tail : List ℕ) (labels own : List (List ℕ)) (c : ℕ) → (cut : HasCut octets labels rest) → rest ≡ c ∷ following → c ≡ 0 → BeginsWithSent octets own tail → IsName labels
+ended_labels : (octets rest following tail : List ℕ) (labels own : Labels) (c : ℕ) → (cut : HasCut octets labels rest) → rest ≡ c ∷ following → c ≡ 0 → BeginsWithSent octets own tail → IsName labels
 ended_labels octets rest following tail labels own c cut e nothing b =
     let next = goes_on octets rest tail labels own cut b in
     let some = folded_some b.sent (subst (AllByRecursion IsLabel) (sym b.folds) b.is_name.each) in
@@ -108,11 +84,11 @@ ended_labels octets rest following tail labels own c cut e nothing b =
     let same_labels : own ≡ labels = sym b.folds ∙ ap folded (next.1 ∙ ap (λ t. cut.sent ++ t) same.0 ∙ append-nil cut.sent) ∙ cut.folds in
     subst IsName same_labels b.is_name
 
-root_by : (octets rest following : List ℕ) (labels : List (List ℕ)) (c : ℕ) → HasCut octets labels rest → rest ≡ c ∷ following → c ≡ 0 → Decided (IsName labels) → SentChoice octets
+root_by : (octets rest following : List ℕ) (labels : Labels) (c : ℕ) → HasCut octets labels rest → rest ≡ c ∷ following → c ≡ 0 → Decided (IsName labels) → SentChoice octets
 root_by octets rest following labels c cut e nothing (inl is) = inl (labels, (following, cut_name octets rest labels labels c following cut e nothing refl is))
 root_by octets rest following labels c cut e nothing (inr none) = inr (λ own tail b. none (ended_labels octets rest following tail labels own c cut e nothing b))
 
-sent_by : (octets rest : List ℕ) (labels : List (List ℕ)) (fuel : ℕ) → length rest ≤ fuel → HasCut octets labels rest → SentChoice octets
+sent_by : (octets rest : List ℕ) (labels : Labels) (fuel : ℕ) → length rest ≤ fuel → HasCut octets labels rest → SentChoice octets
 sent_by octets [] labels fuel enough cut = inr (no_first octets [] labels cut refl)
 sent_by octets (c ∷ following) labels zero enough cut = absurd (omega arith)
 sent_by octets (c ∷ following) labels (suc fuel) enough cut = elim (cases_lt 0 c) [
@@ -134,7 +110,7 @@ front octets = elim (sent_or_not octets) [
 ]
 
 -- ---- its text
-dot_last : (label : List ℕ) (labels : List (List ℕ)) → (front : List ℕ) × (name_text (label ∷ labels) ≡ front ++ 46 ∷ [])
+dot_last : (label : List ℕ) (labels : Labels) → (front : List ℕ) × (name_text (label ∷ labels) ≡ front ++ 46 ∷ [])
 dot_last label [] = (flat_map octet_text label, append-nil (label_text label))
 dot_last label (next ∷ labels) =
     let more = dot_last next labels in
@@ -145,7 +121,7 @@ no_mark [] e = omega (arith, ap length e)
 no_mark (a ∷ []) e = omega (arith, ap (λ t. get_or t 1 0) e)
 no_mark (a ∷ b ∷ front) e = omega (arith, ap length e, length-append front (46 ∷ []))
 
-name_unmarked : (labels : List (List ℕ)) → name_text labels ≡ 92 ∷ 35 ∷ [] → ⊥
+name_unmarked : (labels : Labels) → name_text labels ≡ 92 ∷ 35 ∷ [] → ⊥
 name_unmarked [] e = omega (arith, ap length e)
 name_unmarked (label ∷ labels) e = let dot = dot_last label labels in no_mark dot.0 (sym dot.1 ∙ e)
 

@@ -1,21 +1,14 @@
 -- A number of 16 or of 32 bits, written in decimal digits.
-use Rattle.std.proofs.Common.{List, Some, [], ap, arith, decimal, length, refl, sym, ℕ, ◌^◌, ◌<◌, ◌∙◌, ◌∷◌, ◌≡◌}
+use Rattle.zone_rdata.proofs.Common.{[], List, Some, ap, arith, decimal, length, refl, sym, ℕ, ◌^◌, ◌<◌, ◌∙◌, ◌∷◌, ◌≡◌, take_at, Labels, FitsString, FieldValue, Holds, SpellsField, Suits, field_octets, u16_value, u32_value, RawItem, bare, IsReal, IsDecimal, length-decimal-le}
 use Rattle.std.specs.Int.{byte_len, from_be_bytes, to_be_bytes, Width, w16, w32}
-use Rattle.std.proofs.lemmas.List.{take_at}
 use Rattle.std.proofs.lemmas.Nat.{be_bytes_2, be_bytes_4, from_be_bytes-to_be_bytes_2, from_be_bytes-to_be_bytes_4}
 use Rattle.zone_rdata.specs.declared.fault.Fault.TheVariants.{BadNumber}
 use Rattle.zone_rdata.specs.declared.field.Field.TheVariants.{Serial, U16}
-use Rattle.zone_rdata.specs.Builder.{FitsString}
-use Rattle.zone_rdata.specs.Field.{FieldValue, Holds, SpellsField, Suits, field_octets, u16_value, u32_value}
 use Rattle.zone_rdata.specs.Fields.Number.{IsNumber, SpellsNumber}
-use Rattle.zone_rdata.specs.Item.{RawItem, bare}
-use Rattle.zone_rdata.specs.Machine.Building.{IsReal}
-use Rattle.zone_rdata.specs.Number.{IsDecimal}
 use Rattle.zone_rdata.proofs.Choices.{Choice, below_or_not}
 use Rattle.zone_rdata.proofs.FieldLaws.{AreLow, FieldLaws, SizedField, bare_item, bare_or_fault, low_at, mark_text, number_unmarked, sized_front, value_or_fault}
 use Rattle.zone_rdata.proofs.GenericLaws.{decimal-is, decimal_or_not}
 use Rattle.zone_rdata.proofs.Standing.{bare_decimal}
-use Rattle.std.proofs.lemmas.Fmt.{length-decimal-le}
 
 -- a text stands for one number of a width at most
 spelled_or_not : (w : Width) (text : List ℕ) → Choice (SpellsNumber w text)
@@ -25,13 +18,11 @@ spelled_or_not w text =
 -- ---- 16 bits
 
 u16_only : (v : FieldValue) → Holds U16 v → (n : ℕ) × (v ≡ u16_value n)
-u16_only (u16_value n) h = (n, refl)
-u16_only v h = absurd h
+u16_only v h = grind arith
 
-u16_opens : (origin : List (List ℕ)) (items : List RawItem) (v : FieldValue) → SpellsField origin U16 items v
+u16_opens : (origin : Labels) (items : List RawItem) (v : FieldValue) → SpellsField origin U16 items v
     → (text : List ℕ) × (n : ℕ) × (items ≡ bare text ∷ []) × (v ≡ u16_value n)
-u16_opens origin (bare text ∷ []) (u16_value n) h = (text, n, refl, refl)
-u16_opens origin items v h = absurd h
+u16_opens origin items v h = grind arith
 
 u16_read : (octets : List ℕ) → AreLow octets → length octets ≡ 2
     → (n : ℕ) × IsNumber w16 n × (octets ≡ to_be_bytes w16 n)
@@ -40,11 +31,10 @@ u16_read octets low size =
     (from_be_bytes w16 octets, omega (arith, each 0, each 1), sym (be_bytes_2 octets (from_be_bytes w16 octets) size each refl))
 
 pub u16_sized : SizedField U16 u16_value 2
-u16_sized = record { plain = λ e. cc; single = λ e. cc; only = u16_only; size = λ n h. refl; read = u16_read }
+u16_sized = grind (arith, u16_only, u16_read)
 
 u16_part : (v : FieldValue) → Suits (Some U16) v → FitsString v → IsReal v → Holds U16 v × (0 < length (field_octets v))
-u16_part (u16_value n) s fits real = (real, omega arith)
-u16_part v s fits real = absurd s
+u16_part v s fits real = grind arith
 
 pub u16_laws : FieldLaws U16 u16_value bare_item
 u16_laws = record {
@@ -69,13 +59,11 @@ u16_laws = record {
 -- ---- 32 bits
 
 serial_only : (v : FieldValue) → Holds Serial v → (n : ℕ) × (v ≡ u32_value n)
-serial_only (u32_value n) h = (n, refl)
-serial_only v h = absurd h
+serial_only v h = grind arith
 
-serial_opens : (origin : List (List ℕ)) (items : List RawItem) (v : FieldValue) → SpellsField origin Serial items v
+serial_opens : (origin : Labels) (items : List RawItem) (v : FieldValue) → SpellsField origin Serial items v
     → (text : List ℕ) × (n : ℕ) × (items ≡ bare text ∷ []) × (v ≡ u32_value n)
-serial_opens origin (bare text ∷ []) (u32_value n) h = (text, n, refl, refl)
-serial_opens origin items v h = absurd h
+serial_opens origin items v h = grind arith
 
 serial_read : (octets : List ℕ) → AreLow octets → length octets ≡ 4
     → (n : ℕ) × IsNumber w32 n × (octets ≡ to_be_bytes w32 n)
@@ -84,11 +72,10 @@ serial_read octets low size =
     (from_be_bytes w32 octets, omega (arith, each 0, each 1, each 2, each 3), sym (be_bytes_4 octets (from_be_bytes w32 octets) size each refl))
 
 pub serial_sized : SizedField Serial u32_value 4
-serial_sized = record { plain = λ e. cc; single = λ e. cc; only = serial_only; size = λ n h. refl; read = serial_read }
+serial_sized = grind (arith, serial_only, serial_read)
 
 serial_part : (v : FieldValue) → Suits (Some Serial) v → FitsString v → IsReal v → Holds Serial v × (0 < length (field_octets v))
-serial_part (u32_value n) s fits real = (real, omega arith)
-serial_part v s fits real = absurd s
+serial_part v s fits real = grind arith
 
 pub serial_laws : FieldLaws Serial u32_value bare_item
 serial_laws = record {

@@ -1,48 +1,35 @@
 -- One character-string.
-use Rattle.std.proofs.Common.{List, Some, [], add-one, ap, arith, drop, get_or, inl, inr, length, length-append, refl, subst, sym, take, ℕ, ◌++◌, ◌+◌, ◌<◌, ◌∙◌, ◌∷◌, ◌≡◌, ◌≤◌}
-use Rattle.std.proofs.lemmas.Bool.{cases_lt}
-use Rattle.std.proofs.lemmas.List.{length-take, take_at}
-use Rattle.zone_name.specs.Name.{with_length}
+use Rattle.zone_rdata.proofs.Common.{[], List, Some, add-one, ap, arith, drop, get_or, inl, inr, length, length-append, refl, subst, take, ℕ, ◌++◌, ◌+◌, ◌<◌, ◌∙◌, ◌∷◌, ◌≡◌, ◌≤◌, cases_lt, length-take, take_at, Labels, with_length, FitsString, FieldValue, Holds, SpellsField, Suits, field_octets, string, RawItem, AppendsPrefix, AppendsValue, BeginsWithNone, BeginsWithValue, IsReal, IsString}
 use Rattle.zone_rdata.specs.declared.fault.Fault.TheVariants.{BadRdata}
 use Rattle.zone_rdata.specs.declared.field.Field.TheVariants.{OneString}
-use Rattle.zone_rdata.specs.Builder.{FitsString}
-use Rattle.zone_rdata.specs.Field.{FieldValue, Holds, SpellsField, Suits, field_octets, string}
-use Rattle.zone_rdata.specs.Item.{RawItem}
-use Rattle.zone_rdata.specs.Machine.Appending.{AppendsPrefix, AppendsValue, BeginsWithNone, BeginsWithValue}
-use Rattle.zone_rdata.specs.Machine.Building.{IsReal}
-use Rattle.zone_rdata.specs.Strings.{IsString}
 use Rattle.zone_rdata.proofs.FieldLaws.{AreLow, AreLowItems, FieldChoice, FieldLaws, FrontChoice, appends_plain, found_front, front_of, low_take}
 use Rattle.zone_rdata.proofs.StringLaws.{printed-spells, printed-stands, string-never_both, string-once}
 use Rattle.zone_rdata.proofs.Strings.{string-or_fault}
 use Rattle.zone_rdata.proofs.FieldLengths.{string_length}
 
 only : (v : FieldValue) → Holds OneString v → (octets : List ℕ) × (v ≡ string octets)
-only (string octets) h = (octets, refl)
-only v h = absurd h
+only v h = grind arith
 
 abbrev pub one_item : RawItem → List RawItem
 one_item item = item ∷ []
 
-opens : (origin : List (List ℕ)) (items : List RawItem) (v : FieldValue) → SpellsField origin OneString items v → (item : RawItem) × (octets : List ℕ) × (items ≡ item ∷ []) × (v ≡ string octets)
-opens origin (item ∷ []) (string octets) h = (item, octets, refl, refl)
-opens origin items v h = absurd h
+opens : (origin : Labels) (items : List RawItem) (v : FieldValue) → SpellsField origin OneString items v → (item : RawItem) × (octets : List ℕ) × (items ≡ item ∷ []) × (v ≡ string octets)
+opens origin items v h = grind arith
 
 part : (v : FieldValue) → Suits (Some OneString) v → FitsString v → IsReal v → Holds OneString v × (0 < length (field_octets v))
-part (string octets) s fits real = (record { short = fits; each = real }, omega arith)
-part v s fits real = absurd s
+part v s fits real = grind arith
 
 -- ---- the string at the beginning of octets
 
 -- the first octet, and those after it
 pub first_later : (octets : List ℕ) → 1 ≤ length octets → octets ≡ get_or octets 0 0 ∷ drop 1 octets
-first_later [] some = absurd (omega arith)
-first_later (c ∷ octets) some = refl
+first_later octets some = grind arith
 
 pub low_string : (c : ℕ) (following : List ℕ) → AreLow (c ∷ following) → c ≤ length following → IsString (take c following)
-low_string c following low fits = record { short = omega (arith, length-take c following, low.0); each = low_take c following low.1 }
+low_string c following low fits = grind (arith, length-take, low_take)
 
 front_frame : (c : ℕ) (following : List ℕ) → c ≤ length following → take (c + 1) (c ∷ following) ≡ with_length (take c following)
-front_frame c following fits = rw add-one (ap (λ n. n ∷ take c following) (let count : c ≡ length (take c following) = omega (arith, length-take c following) in count))
+front_frame c following fits = grind (arith, add-one, length-take)
 
 pub appends_string : (octets rest old new : List ℕ) (c count : ℕ) (following : List ℕ) → AreLow octets → octets ≡ c ∷ following → count ≡ c + 1 → AppendsPrefix count octets rest old new → AppendsValue OneString octets rest old new
 appends_string octets rest old new c count following low e same grows =
@@ -51,15 +38,10 @@ appends_string octets rest old new c count following low e same grows =
     appends_plain OneString octets rest old new count (string (take c following)) (λ h. cc) (low_string c following (subst AreLow e low) fits) is (λ h. absurd cc) grows
 
 as_string : (octets : List ℕ) (v : FieldValue) (rest : List ℕ) → BeginsWithValue OneString octets v rest → (text : List ℕ) × (octets ≡ with_length text ++ rest)
-as_string octets (string text) rest b = (text, b.parts ∙ ap (λ t. t ++ rest) b.sent)
-as_string octets v rest b = absurd b.held
+as_string octets v rest b = grind arith
 
 pub none_string : (octets : List ℕ) (c count : ℕ) (following : List ℕ) → octets ≡ c ∷ following → count ≡ c + 1 → length octets < count → BeginsWithNone OneString octets
-none_string octets c count following e same few v rest b =
-    let s = as_string octets v rest b in
-    let shape : c ∷ following ≡ length s.0 ∷ (s.0 ++ rest) = sym e ∙ s.1 in
-    let first : c ≡ length s.0 = cc in
-    omega (arith, ap length e, ap length s.1, length-append s.0 rest)
+none_string octets c count following e same few v rest b = grind (arith, as_string, length-append)
 
 pub none_nil : (octets : List ℕ) → length octets ≡ 0 → BeginsWithNone OneString octets
 none_nil octets none v rest b = let s = as_string octets v rest b in omega (arith, ap length s.1)
@@ -71,7 +53,7 @@ front (c ∷ following) low = elim (cases_lt (length (c ∷ following)) (c + 1))
   | inr fits ↦ found_front OneString (c ∷ following) (drop (c + 1) (c ∷ following)) (take (c + 1) (c ∷ following)) (appends_string (c ∷ following) (drop (c + 1) (c ∷ following)) [] (take (c + 1) (c ∷ following)) c (c + 1) following low refl refl (front_of (c + 1) (c ∷ following) fits))
 ]
 
-spelt_or_fault : (origin : List (List ℕ)) (items : List RawItem) → AreLowItems items → FieldChoice origin OneString (take 1 items)
+spelt_or_fault : (origin : Labels) (items : List RawItem) → AreLowItems items → FieldChoice origin OneString (take 1 items)
 spelt_or_fault origin [] low = inr (BadRdata, refl)
 spelt_or_fault origin (item ∷ items) low = elim (string-or_fault item low.0) [ inl found ↦ inl (string found.0, found.1) | inr bad ↦ inr (bad.0, bad.1) ]
 

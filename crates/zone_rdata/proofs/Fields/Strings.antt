@@ -1,23 +1,8 @@
 -- One or more character-strings, up to the end of the data.
-use Rattle.std.proofs.Common.{List, Some, [], ap, append_assoc, arith, drop, inl, inr, length, length-append, map, refl, subst, suc, sym, take, zero, ℕ, ◌++◌, ◌<◌, ◌∙◌, ◌∷◌, ◌≡◌, ◌≤◌, ◌⊎◌}
-use Rattle.std.specs.List.{AllByRecursion, flat_map}
-use Rattle.std.proofs.lemmas.Bool.{cases_lt}
-use Rattle.std.proofs.lemmas.List.{append-nil, drop_all, length-drop, length-map, take_all}
-use Rattle.zone_name.specs.Name.{with_length}
-use Rattle.zone_name.proofs.Pushing.{AllByRecursion-append}
-use Rattle.zone_rdata.specs.declared.fault.Fault.{Fault}
+use Rattle.zone_rdata.proofs.Common.{[], List, Some, ap, append_assoc, arith, drop, inl, inr, length, length-append, map, refl, subst, suc, sym, take, zero, ℕ, ◌++◌, ◌<◌, ◌∙◌, ◌∷◌, ◌≡◌, ◌≤◌, ◌⊎◌, AllByRecursion, flat_map, cases_lt, append-nil, drop_all, length-drop, length-map, take_all, Labels, with_length, AllByRecursion-append, Fault, FitsString, FieldValue, Holds, SpellsField, Suits, field_octets, strings, string_item, AreStrings, FirstStringFault, SpellEachString, SpellsStrings, StringsFault, strings_of, IsGeneric, RawItem, AppendsPrefix, AppendsValue, BeginsWithNone, BeginsWithValue, IsReal, AreWithLengths, IsString, SpellsString, StringFault}
 use Rattle.zone_rdata.specs.declared.fault.Fault.TheVariants.{BadRdata}
 use Rattle.zone_rdata.specs.declared.field.Field.TheVariants.{OneString, Strings}
-use Rattle.zone_rdata.specs.Builder.{FitsString}
-use Rattle.zone_rdata.specs.Field.{FieldValue, Holds, SpellsField, Suits, field_octets, string, strings}
-use Rattle.zone_rdata.specs.Fields.OneString.{string_item}
-use Rattle.zone_rdata.specs.Fields.Strings.{AreStrings, FirstStringFault, SpellEachString, SpellsStrings, StringsFault, strings_of}
-use Rattle.zone_rdata.specs.Item.{IsGeneric, RawItem}
-use Rattle.zone_rdata.specs.Machine.Appending.{AppendsPrefix, AppendsValue, BeginsWithNone, BeginsWithValue}
-use Rattle.zone_rdata.specs.Machine.Building.{IsReal}
-use Rattle.zone_rdata.specs.Machine.Fronts.{AreWithLengths}
 use Rattle.zone_rdata.specs.RrSource.{after}
-use Rattle.zone_rdata.specs.Strings.{IsString, SpellsString, StringFault}
 use Rattle.zone_rdata.proofs.FieldLaws.{AreLow, AreLowItems, FieldChoice, FieldLaws, FrontChoice, appends_plain, found_front, front_of, low_drop}
 use Rattle.zone_rdata.proofs.Fields.OneString.{low_string}
 use Rattle.zone_rdata.proofs.Sent.{frame_at, frame_same, frames_push}
@@ -28,19 +13,16 @@ use Rattle.zone_rdata.proofs.Standing.{IsPrintedItem}
 use Rattle.zone_rdata.proofs.FieldLengths.{strings_length}
 
 only : (v : FieldValue) → Holds Strings v → (many : List (List ℕ)) × (v ≡ strings many)
-only (strings many) h = (many, refl)
-only v h = absurd h
+only v h = grind arith
 
 abbrev pub all_items : List RawItem → List RawItem
 all_items items = items
 
-opens : (origin : List (List ℕ)) (items : List RawItem) (v : FieldValue) → SpellsField origin Strings items v → (all : List RawItem) × (many : List (List ℕ)) × (items ≡ all) × (v ≡ strings many)
-opens origin items (strings many) h = (items, many, refl, refl)
-opens origin items v h = absurd h
+opens : (origin : Labels) (items : List RawItem) (v : FieldValue) → SpellsField origin Strings items v → (all : List RawItem) × (many : List (List ℕ)) × (items ≡ all) × (v ≡ strings many)
+opens origin items v h = grind arith
 
 part : (v : FieldValue) → Suits (Some Strings) v → FitsString v → IsReal v → Holds OneString v × (0 < length (field_octets v))
-part (string octets) s fits real = (record { short = fits; each = real }, omega arith)
-part v s fits real = absurd s
+part v s fits real = grind arith
 
 -- ---- its octets
 low_each : (many : List (List ℕ)) → AllByRecursion IsString many → AreLow (flat_map with_length many)
@@ -48,12 +30,12 @@ low_each [] each = tt
 low_each (text ∷ many) each = AllByRecursion-append (λ c. c < 256) (with_length text) (flat_map with_length many) (omega (arith, each.0.short), each.0.each) (low_each many each.1)
 
 back : (many : List (List ℕ)) (rest : List ℕ) → rest ≡ [] → strings_of (flat_map with_length many ++ rest) ≡ many
-back many rest last = ap (λ (r : List ℕ). strings_of (flat_map with_length many ++ r)) last ∙ ap strings_of (append-nil (flat_map with_length many)) ∙ strings_back many
+back many rest last = grind (arith, ℕ, append-nil, strings_back)
 
 -- ---- strings up to the end of octets
 pub appends_strings : (octets rest old new : List ℕ) → AreWithLengths octets → AppendsPrefix (length octets) octets rest old new → AppendsValue Strings octets rest old new
 appends_strings octets rest old new framed grows =
-    let is : take (length octets) octets ≡ flat_map with_length framed.0 = take_all (length octets) octets (omega arith) ∙ framed.2 in
+    let is = take_all (length octets) octets (omega arith) ∙ framed.2 in
     appends_plain Strings octets rest old new (length octets) (strings framed.0) (λ e. cc) framed.1 is (λ e. grows.following ∙ drop_all (length octets) octets (omega arith)) grows
 
 as_strings : (octets : List ℕ) (v : FieldValue) (rest : List ℕ) → BeginsWithValue Strings octets v rest → AreWithLengths octets
@@ -74,15 +56,10 @@ framed_none octets low = record { many = []; each = tt; parts = refl; low = low 
 
 pub framed_more : (octets rest : List ℕ) (c count : ℕ) (following after : List ℕ) → Framed octets rest → rest ≡ c ∷ following → count ≡ c → count ≤ length following → after ≡ drop count following → Framed octets after
 framed_more octets rest c count following after so_far e same fits is =
-    let here : rest ≡ count ∷ following = e ∙ ap (λ n. n ∷ following) (sym same) in
+    let here = e ∙ ap (λ n. n ∷ following) (sym same) in
     let low = subst AreLow here so_far.low in
     let text = take count following in
-    record {
-      many = so_far.many ++ text ∷ [];
-      each = AllByRecursion-append IsString so_far.many (text ∷ []) so_far.each (low_string count following low fits, tt);
-      parts = so_far.parts ∙ ap (λ t. flat_map with_length so_far.many ++ t) (here ∙ frame_at count following fits ∙ ap (λ t. with_length text ++ t) (sym is)) ∙ frames_push so_far.many text after;
-      low = subst AreLow (sym is) (low_drop count following low.1);
-    }
+    record { many = so_far.many ++ text ∷ []; each = AllByRecursion-append IsString so_far.many (text ∷ []) so_far.each (low_string count following low fits, tt); parts = so_far.parts ∙ ap (λ t. flat_map with_length so_far.many ++ t) (here ∙ frame_at count following fits ∙ ap (λ t. with_length text ++ t) (sym is)) ∙ frames_push so_far.many text after; low = subst AreLow (sym is) (low_drop count following low.1) }
 
 pub some_frames : (many : List (List ℕ)) → 0 < length (flat_map with_length many) → 0 < length many
 some_frames [] h = absurd (omega arith)
@@ -101,7 +78,7 @@ framed_all octets rest some so_far none =
     nothing many (c ∷ rest) e = absurd (omega arith)
 
 pub framed_empty : (octets : List ℕ) → length octets ≡ 0 → AreWithLengths octets → ⊥
-framed_empty octets none framed = omega (arith, ap length framed.2, frames_some framed.0 framed.1.some)
+framed_empty octets none framed = grind (arith, frames_some)
 
 strings_first : (many whole : List (List ℕ)) (rest : List ℕ) → flat_map with_length many ++ rest ≡ flat_map with_length whole → (more : List (List ℕ)) × (rest ≡ flat_map with_length more)
 strings_first [] whole rest e = (whole, e)
@@ -112,14 +89,10 @@ strings_first (x ∷ many) (y ∷ whole) rest e =
 
 short_by : (more : List (List ℕ)) (c : ℕ) (following : List ℕ) → c ∷ following ≡ flat_map with_length more → length following < c → ⊥
 short_by [] c following e few = absurd (omega (arith, ap length e))
-short_by (x ∷ more) c following e few =
-    let first : c ≡ length x = cc in
-    omega (arith, ap length e, length-append x (flat_map with_length more))
+short_by (x ∷ more) c following e few = grind (arith, length-append)
 
 pub framed_short : (octets rest : List ℕ) (c count : ℕ) (following : List ℕ) → Framed octets rest → rest ≡ c ∷ following → count ≡ c → length following < count → AreWithLengths octets → ⊥
-framed_short octets rest c count following so_far e same few framed =
-    let next = strings_first so_far.many framed.0 rest (sym so_far.parts ∙ framed.2) in
-    short_by next.0 c following (sym e ∙ next.1) (omega arith)
+framed_short octets rest c count following so_far e same few framed = grind (arith, strings_first, short_by)
 
 framed_by : (octets rest : List ℕ) (fuel : ℕ) → 0 < length octets → length rest ≤ fuel → Framed octets rest → AreWithLengths octets ⊎ (AreWithLengths octets → ⊥)
 framed_by octets [] fuel some enough framed = inl (framed_all octets [] some framed refl)
@@ -140,10 +113,10 @@ front octets (inr none) = inr (none_strings octets none)
 -- ---- the items that spell strings
 each_held : (items : List RawItem) (many : List (List ℕ)) → SpellEachString items many → AllByRecursion IsString many × (length many ≡ length items)
 each_held [] [] h = (tt, refl)
-each_held (item ∷ items) (octets ∷ many) h = let rest = each_held items many h.1 in ((h.0.string, rest.0), ap suc rest.1)
+each_held (item ∷ items) (octets ∷ many) h = grind (arith, each_held items many h.1)
 each_held items many h = absurd h
 
-each_once : (items : List RawItem) (a b : List (List ℕ)) → SpellEachString items a → SpellEachString items b → a ≡ b
+each_once : (items : List RawItem) (a b : Labels) → SpellEachString items a → SpellEachString items b → a ≡ b
 each_once [] [] [] h k = refl
 each_once [] (x ∷ a) b h k = absurd h
 each_once (item ∷ items) [] b h k = absurd h
@@ -183,11 +156,11 @@ each_or_fault : (items : List RawItem) → AreLowItems items → StringsChoice i
 each_or_fault [] low = inl ([], tt)
 each_or_fault (item ∷ items) low = next_string item items (string-or_fault item low.0) (each_or_fault items low.1)
 
-spelt_by : (origin : List (List ℕ)) (item : RawItem) (items : List RawItem) → StringsChoice (item ∷ items) → FieldChoice origin Strings (item ∷ items)
+spelt_by : (origin : Labels) (item : RawItem) (items : List RawItem) → StringsChoice (item ∷ items) → FieldChoice origin Strings (item ∷ items)
 spelt_by origin item items (inl found) = inl (strings found.0, record { some = omega arith; each = found.1 })
 spelt_by origin item items (inr bad) = inr (bad.0, bad.1)
 
-spelt_or_fault : (origin : List (List ℕ)) (items : List RawItem) → AreLowItems items → FieldChoice origin Strings items
+spelt_or_fault : (origin : Labels) (items : List RawItem) → AreLowItems items → FieldChoice origin Strings items
 spelt_or_fault origin [] low = inr (BadRdata, refl)
 spelt_or_fault origin (item ∷ items) low = spelt_by origin item items (each_or_fault (item ∷ items) low)
 
@@ -197,9 +170,7 @@ each_printed [] each = tt
 each_printed (octets ∷ many) each = (printed-spells octets each.0, each_printed many each.1)
 
 printed : (many : List (List ℕ)) (rest : List RawItem) → AreStrings many → rest ≡ [] → SpellsStrings (map string_item many ++ rest) many × ([] ≡ rest)
-printed many rest h last =
-    let items : map string_item many ++ rest ≡ map string_item many = ap (λ r. map string_item many ++ r) last ∙ append-nil (map string_item many) in
-    (subst (λ all. SpellsStrings all many) (sym items) (record { some = omega (arith, h.some, length-map many string_item); each = each_printed many h.each }), sym last)
+printed many rest h last = grind (arith, append-nil, length-map, each_printed)
 
 unmarked : (many : List (List ℕ)) (rest : List RawItem) → AreStrings many → IsGeneric (map string_item many ++ rest) → ⊥
 unmarked [] rest h g = omega (arith, h.some)

@@ -1,11 +1,8 @@
 -- A number of seconds, in octets a number of 32 bits, written in digits or as a time.
-use Rattle.std.proofs.Common.{List, [], arith, refl, ℕ, ◌∷◌, ◌≡◌}
+use Rattle.zone_rdata.proofs.Common.{[], List, arith, refl, ℕ, ◌∷◌, ◌≡◌, FieldValue, SpellsField, u32_value, RawItem, bare, IsTime, plain}
 use Rattle.zone_rdata.specs.declared.fault.Fault.TheVariants.{BadNumber}
 use Rattle.zone_rdata.specs.declared.field.Field.TheVariants.{Time}
-use Rattle.zone_rdata.specs.Field.{FieldValue, SpellsField, u32_value}
 use Rattle.zone_rdata.specs.Fields.Time.{SpellsTime}
-use Rattle.zone_rdata.specs.Item.{RawItem, bare}
-use Rattle.zone_rdata.specs.Number.{IsTime, plain}
 use Rattle.zone_rdata.proofs.Choices.{below_or_not}
 use Rattle.zone_rdata.proofs.FieldLaws.{FieldLaws, SizedField, bare_item, bare_or_fault, sized_front, value_or_fault}
 use Rattle.zone_rdata.proofs.GenericLaws.{decimal-is}
@@ -14,11 +11,10 @@ use Rattle.zone_rdata.proofs.TimeLaws.{one_time}
 use Rattle.zone_rdata.proofs.Fields.Number.{serial_laws, serial_sized}
 
 pub sized : SizedField Time u32_value 4
-sized = record { plain = λ e. cc; single = λ e. cc; only = serial_sized.only; size = serial_sized.size; read = serial_sized.read }
+sized = grind (arith, serial_sized)
 
 opens : (origin : List (List ℕ)) (items : List RawItem) (v : FieldValue) → SpellsField origin Time items v → (text : List ℕ) × (n : ℕ) × (items ≡ bare text ∷ []) × (v ≡ u32_value n)
-opens origin (bare text ∷ []) (u32_value n) h = (text, n, refl, refl)
-opens origin items v h = absurd h
+opens origin items v h = grind arith
 
 pub laws : FieldLaws Time u32_value bare_item
 laws = record {

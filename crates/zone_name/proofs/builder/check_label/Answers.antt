@@ -1,5 +1,4 @@
-use Rattle.std.proofs.Common.{arith}
-use Rattle.zone_name.specs.Machine.Seen.{empty, long}
+use Rattle.zone_name.proofs.Common.{arith, empty, long}
 use Rattle.zone_name.proofs.builder.check_label.Goals as goal
 
 pub returns-in-0-clause-err : goal.returns-in-0-clause-err

@@ -1,5 +1,4 @@
-use Rattle.std.proofs.Common.{◌≢◌, sym, ◌∙◌, arith}
-use Rattle.std.proofs.lemmas.Bool.Decides.{nat_tests}
+use Rattle.zone_name.proofs.Common.{◌≢◌, sym, ◌∙◌, arith, nat_tests}
 use Rattle.zone_name.proofs.Units.{valued_escape, escaped_found}
 use Rattle.zone_name.proofs.escape.escape_at.Goals as goal
 

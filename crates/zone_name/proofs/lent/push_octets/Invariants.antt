@@ -1,6 +1,4 @@
-use Rattle.std.proofs.Common.{take}
-use Rattle.std.specs.List.{flat_map}
-use Rattle.zone_name.specs.Text.{octet_text}
+use Rattle.zone_name.proofs.Common.{take, flat_map, octet_text}
 use Rattle.zone_name.proofs.lent.push_octets.Given as goal
 
 abbrev pub invariant-loop-octet : goal.invariant-loop-octet

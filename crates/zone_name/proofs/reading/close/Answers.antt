@@ -1,6 +1,4 @@
-use Rattle.std.proofs.Common.{◌≡◌, ◌<◌, ◌≤◌, ◌+◌, ◌++◌, length, arith}
-use Rattle.zone_name.specs.Name.{folded_label, folded_octet}
-use Rattle.std.specs.Prelude.{map}
+use Rattle.zone_name.proofs.Common.{◌≡◌, ◌<◌, ◌≤◌, ◌+◌, ◌++◌, length, arith, folded_label, folded_octet, map}
 use Rattle.zone_name.proofs.Pushing.{push_unfolded, Pushed, taken, AllByRecursion-from_places}
 use Rattle.zone_name.proofs.reading.close.Goals as goal
 

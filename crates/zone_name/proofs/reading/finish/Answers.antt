@@ -1,5 +1,4 @@
-use Rattle.std.proofs.Common.{refl, option_copied}
-use Rattle.zone_name.specs.Machine.Seen.{unfolded_labels}
+use Rattle.zone_name.proofs.Common.{refl, option_copied, unfolded_labels}
 use Rattle.zone_name.proofs.Octets.{HoldsName-root}
 use Rattle.zone_name.proofs.Pushing.{finished, unfinished}
 use Rattle.zone_name.proofs.reading.finish.Goals as goal

@@ -1,6 +1,4 @@
-use Rattle.std.proofs.Common.{◌∙◌, ◌≡◌, ◌<◌, ◌∷◌, [], length, length-append, ap, sym, subst, arith}
-use Rattle.std.proofs.lemmas.Bool.Decides.{nat_tests}
-use Rattle.zone_name.specs.Machine.LabelWalk.{at_octet, ahead_in}
+use Rattle.zone_name.proofs.Common.{◌∙◌, ◌≡◌, ◌<◌, ◌∷◌, [], length, length-append, ap, sym, subst, arith, nat_tests, at_octet, ahead_in}
 use Rattle.zone_name.proofs.Ahead.{unit_seen, Shrinks, ahead_shrinks}
 use Rattle.zone_name.proofs.Steps.{Goes-start, Goes-octet, Refuses-full, Refuses-bad}
 use Rattle.zone_name.proofs.reading.open_label.Goals as goal

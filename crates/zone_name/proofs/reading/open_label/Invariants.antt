@@ -1,5 +1,4 @@
-use Rattle.std.proofs.Common.{◌+◌, ◌<◌, ◌≤◌, length}
-use Rattle.zone_name.specs.Machine.Seen.{Goes}
+use Rattle.zone_name.proofs.Common.{◌+◌, ◌<◌, ◌≤◌, length, Goes}
 use Rattle.zone_name.proofs.reading.open_label.Given as goal
 
 abbrev pub invariant-loop-rest : goal.invariant-loop-rest

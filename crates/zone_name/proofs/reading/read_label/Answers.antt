@@ -1,6 +1,5 @@
-use Rattle.std.proofs.Common.{◌≤◌, length, ap, subst, arith}
+use Rattle.zone_name.proofs.Common.{◌≤◌, length, ap, subst, arith, RefusesLabel}
 use Rattle.std.proofs.lemmas.Result.{err_from_is_err_and}
-use Rattle.zone_name.specs.Machine.Seen.{RefusesLabel}
 use Rattle.zone_name.proofs.Steps.{Refuses-label}
 use Rattle.zone_name.proofs.reading.read_label.Goals as goal
 

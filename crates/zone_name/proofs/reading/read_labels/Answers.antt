@@ -1,7 +1,4 @@
-use Rattle.std.proofs.Common.{length, ap, arith}
-use Rattle.std.proofs.lemmas.Bool.Decides.{nat_tests}
-use Rattle.std.proofs.lemmas.List.{nil_from_length}
-use Rattle.zone_name.specs.Machine.Seen.{unfolded_labels}
+use Rattle.zone_name.proofs.Common.{length, ap, arith, nat_tests, nil_from_length, unfolded_labels}
 use Rattle.zone_name.proofs.Pushing.{HoldsUnfolded-nil, unfolded_labels-none}
 use Rattle.zone_name.proofs.Steps.{reading-nil, Reads-start, Reads-label, Reads-relative}
 use Rattle.zone_name.proofs.reading.read_labels.Goals as goal

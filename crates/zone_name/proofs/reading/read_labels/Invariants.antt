@@ -1,5 +1,4 @@
-use Rattle.std.proofs.Common.{length}
-use Rattle.zone_name.specs.Machine.Seen.{HoldsUnfolded, unfolded_labels}
+use Rattle.zone_name.proofs.Common.{length, HoldsUnfolded, unfolded_labels}
 use Rattle.zone_name.proofs.Steps.{Reads}
 use Rattle.zone_name.proofs.reading.read_labels.Given as goal
 

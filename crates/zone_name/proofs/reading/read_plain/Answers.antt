@@ -1,5 +1,4 @@
-use Rattle.std.proofs.Common.{◌≡◌, ◌∷◌, ◌++◌, ◌∙◌, length, ◌<◌, [], refl, ap, arith}
-use Rattle.std.specs.List.{refill}
+use Rattle.zone_name.proofs.Common.{◌≡◌, ◌∷◌, ◌++◌, ◌∙◌, length, ◌<◌, [], refl, ap, arith, refill}
 use Rattle.zone_name.proofs.Plain.{IsCut, PlainRead, cut_suffix, plain_read}
 use Rattle.zone_name.proofs.Pushing.{AllByRecursion-from_places, refilled, taken}
 use Rattle.zone_name.proofs.reading.read_plain.Goals as goal

@@ -1,5 +1,4 @@
-use Rattle.std.proofs.Common.{◌∙◌, ◌+◌, refl, arith}
-use Rattle.std.proofs.lemmas.List.{length-drop, length-set, take_rest}
+use Rattle.zone_name.proofs.Common.{◌∙◌, ◌+◌, refl, arith, length-drop, length-set, take_rest}
 use Rattle.zone_name.proofs.Plain.{lengths_more}
 use Rattle.zone_name.proofs.reading.write_lengths.Goals as goal
 

@@ -1,5 +1,4 @@
-use Rattle.std.proofs.Common.{arith}
-use Rattle.zone_rdata.specs.Machine.Building.{over_data}
+use Rattle.zone_rdata.proofs.Common.{arith, over_data}
 use Rattle.zone_rdata.proofs.builder.append_octets.Goals as goal
 
 pub returns-then-octets-len-clause-fault : goal.returns-then-octets-len-clause-fault

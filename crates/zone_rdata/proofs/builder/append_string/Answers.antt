@@ -1,5 +1,4 @@
-use Rattle.std.proofs.Common.{arith}
-use Rattle.zone_rdata.specs.Machine.Building.{over_data, over_string}
+use Rattle.zone_rdata.proofs.Common.{arith, over_data, over_string}
 use Rattle.zone_rdata.proofs.builder.append_string.Goals as goal
 
 pub returns-then-octets-gt255-clause-fault : goal.returns-then-octets-gt255-clause-fault

@@ -1,5 +1,4 @@
-use Rattle.std.proofs.Common.{ap}
-use Rattle.zone_rdata.specs.Item.{raw}
+use Rattle.zone_rdata.proofs.Common.{ap, raw}
 use Rattle.zone_rdata.proofs.GenericForm.{length_none, length_quoted, length_beyond}
 use Rattle.zone_rdata.proofs.generic.length_of.Goals as goal
 

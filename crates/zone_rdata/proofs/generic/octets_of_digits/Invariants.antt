@@ -1,5 +1,4 @@
-use Rattle.std.proofs.Common.{◌≤◌, length, drop, map}
-use Rattle.zone_rdata.specs.Item.{raw}
+use Rattle.zone_rdata.proofs.Common.{◌≤◌, length, drop, map, raw}
 use Rattle.zone_rdata.proofs.GenericForm.{HaveJoined}
 use Rattle.zone_rdata.proofs.generic.octets_of_digits.Given as goal
 

@@ -1,8 +1,4 @@
-use Rattle.std.proofs.Common.{sym, subst, arith, map}
-use Rattle.std.proofs.lemmas.List.{length-map}
-use Rattle.std.proofs.lemmas.Result.{err_from_is_err_and}
-use Rattle.zone_rdata.specs.Item.{raw}
-use Rattle.zone_rdata.specs.Generic.{JoinTo}
+use Rattle.zone_rdata.proofs.Common.{sym, subst, arith, map, length-map, err_from_is_err_and, raw, JoinTo}
 use Rattle.zone_rdata.proofs.Failings.{IfErr-fault}
 use Rattle.zone_rdata.proofs.GenericForm.{form_parts, form_faults, form_missing, form_digits, later_two}
 use Rattle.zone_rdata.proofs.generic.octets_of_generic.Goals as goal

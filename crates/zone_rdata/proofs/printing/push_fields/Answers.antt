@@ -1,5 +1,4 @@
-use Rattle.std.proofs.Common.{refl}
-use Rattle.zone_name.proofs.Sinks.{Took-more, stops_after}
+use Rattle.zone_rdata.proofs.Common.{refl, Took-more, stops_after}
 use Rattle.zone_rdata.proofs.Texts.{printed_more}
 use Rattle.zone_rdata.proofs.printing.push_fields.Goals as goal
 

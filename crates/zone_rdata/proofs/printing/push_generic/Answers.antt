@@ -1,6 +1,4 @@
-use Rattle.std.proofs.Common.{◌++◌}
-use Rattle.std.proofs.lemmas.Result.{on_err_weaker, on_ok_weaker}
-use Rattle.zone_name.proofs.Sinks.{takes_both}
+use Rattle.zone_rdata.proofs.Common.{◌++◌, on_err_weaker, on_ok_weaker, takes_both}
 use Rattle.zone_rdata.proofs.Texts.{generic_whole}
 use Rattle.zone_rdata.proofs.printing.push_generic.Goals as goal
 

@@ -1,5 +1,4 @@
-use Rattle.std.proofs.Common.{refl, subst}
-use Rattle.zone_name.proofs.Sinks.{stops_after, takes_both}
+use Rattle.zone_rdata.proofs.Common.{refl, subst, stops_after, takes_both}
 use Rattle.zone_rdata.proofs.Texts.{hex_started, hex_more, at_is_ok}
 use Rattle.zone_rdata.proofs.printing.push_hex.Goals as goal
 

@@ -1,5 +1,4 @@
-use Rattle.std.proofs.Common.{take}
-use Rattle.hex.specs.Hex.{encode_lower}
+use Rattle.zone_rdata.proofs.Common.{take, encode_lower}
 use Rattle.zone_rdata.proofs.printing.push_hex.Given as goal
 
 abbrev pub invariant-loop-octet : goal.invariant-loop-octet

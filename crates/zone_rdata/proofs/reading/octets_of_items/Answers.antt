@@ -1,6 +1,4 @@
-use Rattle.std.proofs.Common.{drop, map, refl, ap, arith}
-use Rattle.std.proofs.lemmas.List.{drop_all, length-drop, length-map}
-use Rattle.zone_rdata.specs.Item.{raw}
+use Rattle.zone_rdata.proofs.Common.{drop, map, refl, ap, arith, drop_all, length-drop, length-map, raw}
 use Rattle.zone_rdata.proofs.Failings.{if_fault_passed}
 use Rattle.zone_rdata.proofs.Items.{read_more, read_bad, read_over, read_all, read_long}
 use Rattle.zone_rdata.proofs.reading.octets_of_items.Goals as goal

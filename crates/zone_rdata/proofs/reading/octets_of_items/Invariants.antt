@@ -1,5 +1,4 @@
-use Rattle.std.proofs.Common.{◌≤◌, length, drop, map}
-use Rattle.zone_rdata.specs.Item.{raw}
+use Rattle.zone_rdata.proofs.Common.{◌≤◌, length, drop, map, raw}
 use Rattle.zone_rdata.proofs.Items.{HaveRead}
 use Rattle.zone_rdata.proofs.reading.octets_of_items.Given as goal
 

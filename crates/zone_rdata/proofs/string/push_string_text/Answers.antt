@@ -1,7 +1,4 @@
-use Rattle.std.proofs.Common.{arith}
-use Rattle.std.proofs.lemmas.Grind.{common_steps}
-use Rattle.std.proofs.lemmas.Result.{on_ok_weaker}
-use Rattle.zone_name.proofs.Sinks.{stops_after, stops_last, takes_both}
+use Rattle.zone_rdata.proofs.Common.{arith, common_steps, on_ok_weaker, stops_after, stops_last, takes_both}
 use Rattle.zone_rdata.proofs.string.push_string_text.Goals as goal
 
 pub returns-in_err-push_unit-clause-err : goal.returns-in_err-push_unit-clause-err

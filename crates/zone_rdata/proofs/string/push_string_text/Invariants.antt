@@ -1,5 +1,4 @@
-use Rattle.std.proofs.Common.{◌∷◌, take}
-use Rattle.zone_rdata.specs.Strings.{inside_text}
+use Rattle.zone_rdata.proofs.Common.{◌∷◌, take, inside_text}
 use Rattle.zone_rdata.proofs.string.push_string_text.Given as goal
 
 abbrev pub invariant-loop-octet : goal.invariant-loop-octet

@@ -1,6 +1,4 @@
-use Rattle.std.proofs.Common.{arith}
-use Rattle.std.proofs.lemmas.Bool.Decides.{nat_tests}
-use Rattle.zone_rdata.specs.Item.{raw}
+use Rattle.zone_rdata.proofs.Common.{arith, nat_tests, raw}
 use Rattle.zone_rdata.proofs.StringSteps.{read_more, read_full, read_bad}
 use Rattle.zone_rdata.proofs.string.string_of.Goals as goal
 

@@ -1,5 +1,4 @@
-use Rattle.std.proofs.Common.{length}
-use Rattle.zone_rdata.specs.Item.{raw}
+use Rattle.zone_rdata.proofs.Common.{length, raw}
 use Rattle.zone_rdata.proofs.StringSteps.{HasRead}
 use Rattle.zone_rdata.proofs.string.string_of.Given as goal
 

@@ -1,5 +1,4 @@
-use Rattle.std.proofs.Common.{◌≡◌, ◌==◌, drop}
-use Rattle.std.specs.List.{find}
+use Rattle.zone_rdata.proofs.Common.{◌≡◌, ◌==◌, drop, find}
 use Rattle.zone_rdata.proofs.table.row_of.Given as goal
 
 abbrev pub invariant-loop-row : goal.invariant-loop-row

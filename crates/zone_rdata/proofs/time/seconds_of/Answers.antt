@@ -1,5 +1,4 @@
-use Rattle.zone_rdata.proofs.Words.{none_weaker}
-use Rattle.zone_rdata.proofs.AddressParts.{if_none_any}
+use Rattle.zone_rdata.proofs.Choices.{if_none_any, if_none_weaker}
 use Rattle.zone_rdata.proofs.Times.{time_stops, read_whole}
 use Rattle.zone_rdata.proofs.time.seconds_of.Goals as goal
 
@@ -7,4 +6,4 @@ pub returns-in_err-so_far-clause-none : goal.returns-in_err-so_far-clause-none
 returns-in_err-so_far-clause-none c = if_none_any c.from_residual.result _ (time_stops c.args.text.now c.loop-octet.octet-index _ c.loop-octet.so_far c.loop-octet-test.true c.loop-octet.invariant c.in_err-so_far.ensures.none)
 
 pub returns-clause-none : goal.returns-clause-none
-returns-clause-none c = none_weaker c.seconds.result _ _ (λ none m. none c.args.text.now m (read_whole c.args.text.now c.loop-octet.octet-index c.loop-octet.so_far c.loop-octet-test.false c.loop-octet.invariant)) c.seconds.ensures.none
+returns-clause-none c = if_none_weaker c.seconds.result _ _ (λ none m. none c.args.text.now m (read_whole c.args.text.now c.loop-octet.octet-index c.loop-octet.so_far c.loop-octet-test.false c.loop-octet.invariant)) c.seconds.ensures.none

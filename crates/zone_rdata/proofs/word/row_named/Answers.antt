@@ -1,7 +1,4 @@
-use Rattle.std.proofs.Common.{◌≡◌, true, false, bytes_eq, refl, arith}
-use Rattle.std.proofs.lemmas.Grind.{common_steps}
-use Rattle.std.proofs.lemmas.Bool.{false≢true}
-use Rattle.zone_name.specs.Name.{folded_label}
+use Rattle.zone_rdata.proofs.Common.{◌≡◌, true, false, bytes_eq, refl, arith, common_steps, false≢true, folded_label}
 use Rattle.zone_rdata.proofs.Words.{same_test, other_test}
 use Rattle.zone_rdata.proofs.word.row_named.Goals as goal
 

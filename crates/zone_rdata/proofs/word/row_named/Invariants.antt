@@ -1,6 +1,4 @@
-use Rattle.std.proofs.Common.{◌≡◌, bytes_eq, drop}
-use Rattle.std.specs.List.{find}
-use Rattle.zone_name.specs.Name.{folded_label}
+use Rattle.zone_rdata.proofs.Common.{◌≡◌, bytes_eq, drop, find, folded_label}
 use Rattle.zone_rdata.proofs.word.row_named.Given as goal
 
 abbrev pub invariant-loop-row : goal.invariant-loop-row

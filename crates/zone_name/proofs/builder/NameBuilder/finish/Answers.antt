@@ -1,5 +1,4 @@
-use Rattle.std.proofs.Common.{◌∙◌, sym, subst}
-use Rattle.zone_name.specs.Name.{IsName}
+use Rattle.zone_name.proofs.Common.{◌∙◌, sym, subst, IsName}
 use Rattle.zone_name.proofs.Pushing.{HoldsName-finish, labels_of-finish}
 use Rattle.zone_name.proofs.builder.NameBuilder.finish.Goals as goal
 

@@ -1,6 +1,4 @@
-use Rattle.std.proofs.Common.{◌≡◌, ◌<◌, ◌≤◌, ◌+◌, ◌++◌, ◌∷◌, [], length, ◌∙◌, ap, arith}
-use Rattle.std.proofs.lemmas.List.{length-map}
-use Rattle.zone_name.specs.Name.{folded_label, folded_octet, with_length, IsLabel}
+use Rattle.zone_name.proofs.Common.{◌≡◌, ◌<◌, ◌≤◌, ◌+◌, ◌++◌, ◌∷◌, [], length, ◌∙◌, ap, arith, length-map, folded_label, folded_octet, with_length, IsLabel}
 use Rattle.zone_name.proofs.Pushing.{push_frame, pushed_octets, Pushed, IsLabel-folded, AllByRecursion-from_places}
 use Rattle.zone_name.proofs.builder.NameBuilder.push_label.Goals as goal
 

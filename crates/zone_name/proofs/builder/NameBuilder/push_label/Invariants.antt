@@ -1,6 +1,4 @@
-use Rattle.std.proofs.Common.{◌≡◌, ◌++◌, take}
-use Rattle.std.specs.Prelude.{map}
-use Rattle.zone_name.specs.Name.{folded_octet}
+use Rattle.zone_name.proofs.Common.{◌≡◌, ◌++◌, take, map, folded_octet}
 use Rattle.zone_name.proofs.builder.NameBuilder.push_label.Given as goal
 
 abbrev pub invariant-loop-octet : goal.invariant-loop-octet

@@ -1,5 +1,4 @@
-use Rattle.std.proofs.Common.{◌≡◌, length, ap, arith}
-use Rattle.zone_name.specs.Name.{labels_of}
+use Rattle.zone_name.proofs.Common.{◌≡◌, length, ap, arith, labels_of}
 use Rattle.zone_name.proofs.Octets.{length-labels}
 use Rattle.zone_name.proofs.labels.Labels.len.Goals as goal
 

@@ -1,5 +1,4 @@
-use Rattle.std.proofs.Common.{◌<◌, ap, ◌∙◌, sym, subst, arith, rules}
-use Rattle.zone_name.specs.Name.{BeginsWithName, labels_of}
+use Rattle.zone_name.proofs.Common.{◌<◌, ap, ◌∙◌, sym, subst, arith, rules, BeginsWithName, labels_of}
 use Rattle.zone_name.proofs.Octets.{next_label, root_label}
 use Rattle.zone_name.proofs.labels.LabelsIterator.next.Goals as goal
 

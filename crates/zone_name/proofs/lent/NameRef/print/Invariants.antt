@@ -1,7 +1,5 @@
-use Rattle.std.proofs.Common.{◌≡◌, ◌++◌}
-use Rattle.std.specs.List.{flat_map}
+use Rattle.zone_name.proofs.Common.{◌≡◌, ◌++◌, flat_map, label_text, name_text}
 use Rattle.zone_name.proofs.Sinks.{Took}
-use Rattle.zone_name.specs.Text.{label_text, name_text}
 use Rattle.zone_name.proofs.lent.NameRef.print.Given as goal
 
 -- the labels so far and those to come are the name

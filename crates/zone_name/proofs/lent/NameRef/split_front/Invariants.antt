@@ -1,6 +1,4 @@
-use Rattle.std.proofs.Common.{◌≡◌, ◌+◌, length}
-use Rattle.std.specs.List.{flat_map}
-use Rattle.zone_name.specs.Name.{with_length, wire, labels_of}
+use Rattle.zone_name.proofs.Common.{◌≡◌, ◌+◌, length, flat_map, with_length, wire, labels_of}
 use Rattle.zone_name.proofs.lent.NameRef.split_front.Given as goal
 
 abbrev pub invariant-loop-label : goal.invariant-loop-label

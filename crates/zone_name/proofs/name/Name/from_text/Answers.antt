@@ -1,5 +1,4 @@
-use Rattle.std.proofs.Common.{Ok, ap}
-use Rattle.std.proofs.lemmas.Bool.{false≢true}
+use Rattle.zone_name.proofs.Common.{Ok, ap, false≢true}
 use Rattle.zone_name.proofs.name.Name.from_text.Goals as goal
 
 pub returns-clause-only : goal.returns-clause-only

@@ -1,9 +1,6 @@
-use Rattle.std.proofs.Common.{◌≡◌, ℕ, List, Result, Ok, Err, Some, None, ap, arith, refl, sym, subst, ◌∙◌, option_copied}
+use Rattle.zone_name.proofs.Common.{◌≡◌, ℕ, List, Result, Ok, Err, ap, arith, refl, sym, subst, ◌∙◌, option_copied, HoldsName, root, unfounded, NameFault}
 use Rattle.std.specs.Prelude.{IfErr, IsOk, OnOk}
 use Rattle.std.proofs.lemmas.Result.{IfErr-weaker, on_err_weaker, on_ok_weaker}
-use Rattle.zone_name.specs.Name.{HoldsName}
-use Rattle.zone_name.specs.Spelling.{root, unfounded}
-use Rattle.zone_name.specs.declared.fault.NameFault.{NameFault}
 use Rattle.zone_name.specs.declared.fault.NameFault.TheVariants.{RelativeName}
 use Rattle.zone_name.specs.declared.reading.NameShape.TheVariants.{Root, Origin, Labels}
 use Rattle.zone_name.proofs.Answered.{answered, answered-only, answered-origin, decided-found, decided-fault, at-relative}

@@ -1,7 +1,5 @@
-use Rattle.std.proofs.Common.{◌≡◌, ◌∙◌, ℕ, List, [], ◌++◌, length, ap, arith, length-append}
+use Rattle.zone_name.proofs.Common.{◌≡◌, ◌∙◌, ℕ, List, [], ◌++◌, length, ap, arith, length-append, IsName, name_text}
 use Rattle.zone_name.specs.Machine.Fitting.{TakesWhatFits}
-use Rattle.zone_name.specs.Name.{IsName}
-use Rattle.zone_name.specs.Text.{name_text}
 use Rattle.zone_name.proofs.Lengths.{name_text_length}
 use Rattle.zone_name.proofs.name.Name.write_text.Goals as goal
 

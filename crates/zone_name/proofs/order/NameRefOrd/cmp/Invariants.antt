@@ -1,6 +1,4 @@
-use Rattle.std.proofs.Common.{◌≡◌, length}
-use Rattle.std.specs.Ordering.{ordering_then}
-use Rattle.zone_name.specs.Order.{name_cmp}
+use Rattle.zone_name.proofs.Common.{◌≡◌, length, ordering_then, name_cmp}
 use Rattle.zone_name.proofs.order.NameRefOrd.cmp.Given as goal
 
 abbrev pub invariant-loop-label : goal.invariant-loop-label

@@ -1,5 +1,4 @@
-use Rattle.std.proofs.Common.{ap, sym, ◌∙◌}
-use Rattle.zone_name.specs.Name.{labels_of}
+use Rattle.zone_name.proofs.Common.{ap, sym, ◌∙◌, labels_of}
 use Rattle.zone_name.proofs.Comparing.{eq-from_octets}
 use Rattle.zone_name.proofs.order.NameRefPartialEq.eq.Goals as goal
 

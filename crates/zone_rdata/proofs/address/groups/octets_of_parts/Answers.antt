@@ -1,6 +1,6 @@
-use Rattle.std.proofs.Common.{◌<◌, length, sym, subst, arith}
-use Rattle.zone_rdata.specs.Address.{ArePartsOf}
-use Rattle.zone_rdata.proofs.AddressParts.{HaveReadParts, if_none_any, parts_started, parts_more, parts_stop, parts_ended, parts_unended}
+use Rattle.zone_rdata.proofs.Common.{◌<◌, length, sym, subst, arith, ArePartsOf}
+use Rattle.zone_rdata.proofs.Choices.{if_none_any}
+use Rattle.zone_rdata.proofs.AddressParts.{HaveReadParts, parts_started, parts_more, parts_stop, parts_ended, parts_unended}
 use Rattle.zone_rdata.proofs.address.groups.octets_of_parts.Goals as goal
 
 pub loop-group-init : goal.loop-group-init
@@ -22,4 +22,4 @@ returns-in_err-push_last-clause-none c = if_none_any _ _ (parts_unended c.args.e
 pub returns-clause-found : goal.returns-clause-found
 returns-clause-found c =
     let added = c.in_ok-push_last.ensures.some in
-    subst (ArePartsOf c.args.ends c.args.text.now) (sym added.1.1) (parts_ended c.args.ends c.args.text.now _ _ added.0 c.loop-group.invariant added.1.0)
+    subst (ArePartsOf c.args.ends c.args.text.now) (sym added.1.1) (parts_ended c.args.ends c.args.text.now _ _ added.0 c.in_default.ensures.none c.loop-group.invariant added.1.0)

@@ -1,12 +1,13 @@
-use Rattle.std.proofs.Common.{length}
-use Rattle.zone_rdata.proofs.AddressParts.{if_none_any, if_none_weaker, group_full, numbers_full, part_refused}
+use Rattle.std.proofs.Common.{inl, inr}
+use Rattle.zone_rdata.proofs.Choices.{if_none_any, if_none_weaker}
+use Rattle.zone_rdata.proofs.AddressParts.{part_full, part_refused}
 use Rattle.zone_rdata.proofs.address.groups.push_last.Goals as goal
 
 pub returns-in-Some-clause-none : goal.returns-in-Some-clause-none
-returns-in-Some-clause-none c = if_none_weaker _ _ _ (group_full c.args.ends c.args.text.now _ (length c.args.octets.now.items) c.in-Some.ensures.found) c.push_octets.ensures.none
+returns-in-Some-clause-none c = if_none_weaker _ _ _ (part_full c.args.ends c.args.text.now _ c.args.octets.now.items (inl c.in-Some.ensures.found)) c.push_octets.ensures.none
 
 pub returns-in_err-numbers-clause-none : goal.returns-in_err-numbers-clause-none
-returns-in_err-numbers-clause-none c = if_none_any _ _ (part_refused c.args.ends c.args.text.now (length c.args.octets.now.items) c.in_default.ensures.none c.in_err-numbers.ensures.none)
+returns-in_err-numbers-clause-none c = if_none_any _ _ (part_refused c.args.ends c.args.text.now c.args.octets.now.items c.in_default.ensures.none c.in_err-numbers.ensures.none)
 
 pub returns-clause-none : goal.returns-clause-none
-returns-clause-none c = if_none_weaker _ _ _ (numbers_full c.args.ends c.args.text.now _ (length c.args.octets.now.items) (c.if-not-ends.false) c.in_ok-numbers.ensures.found) c.push_octets-2.ensures.none
+returns-clause-none c = if_none_weaker _ _ _ (part_full c.args.ends c.args.text.now _ c.args.octets.now.items (inr (c.if-not-ends.false, c.in_ok-numbers.ensures.found))) c.push_octets-2.ensures.none

@@ -1,5 +1,4 @@
-use Rattle.std.proofs.Common.{take}
-use Rattle.zone_rdata.specs.Machine.AddressReading.{Lacks}
+use Rattle.zone_rdata.proofs.Common.{take, Lacks}
 use Rattle.zone_rdata.proofs.address.ipv4.cut_at.Given as goal
 
 abbrev pub invariant-loop-at : goal.invariant-loop-at

@@ -1,5 +1,4 @@
-use Rattle.std.proofs.Common.{ℕ, suc, ◌<◌}
-use Rattle.zone_rdata.specs.Machine.AddressReading.{HasGapAt}
+use Rattle.zone_rdata.proofs.Common.{ℕ, suc, ◌<◌, HasGapAt}
 use Rattle.zone_rdata.proofs.address.ipv6.gap_in.Given as goal
 
 abbrev pub invariant-loop-at : goal.invariant-loop-at

@@ -1,5 +1,4 @@
-use Rattle.std.proofs.Common.{◌≡◌, ◌+◌, ◌≤◌, length, drop}
-use Rattle.std.specs.Net.Text.{zero_run, longest_zero_run}
+use Rattle.zone_rdata.proofs.Common.{◌≡◌, ◌+◌, ◌≤◌, length, drop, zero_run, longest_zero_run}
 use Rattle.zone_rdata.proofs.address.printing.longest_zero_run.Given as goal
 
 abbrev pub invariant-loop-i : goal.invariant-loop-i

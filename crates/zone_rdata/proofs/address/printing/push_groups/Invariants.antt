@@ -1,5 +1,4 @@
-use Rattle.std.proofs.Common.{◌≡◌, ◌+◌, ◌*◌, ◌≤◌, ◌∷◌, ◌++◌, take, get_or, length}
-use Rattle.zone_rdata.specs.Address.{parted_groups}
+use Rattle.zone_rdata.proofs.Common.{◌≡◌, ◌+◌, ◌*◌, ◌≤◌, ◌∷◌, ◌++◌, take, get_or, length, parted_groups}
 use Rattle.zone_rdata.proofs.address.printing.push_groups.Given as goal
 
 abbrev pub invariant-loop-group : goal.invariant-loop-group

@@ -1,7 +1,4 @@
-use Rattle.std.proofs.Common.{refl, subst}
-use Rattle.std.specs.Prelude.{IfSome}
-use Rattle.zone_rdata.specs.Address.{IsIpv4Address, IsIpv6Address}
-use Rattle.zone_rdata.specs.Fields.Address.{of_ipv4, of_ipv6}
+use Rattle.zone_rdata.proofs.Common.{refl, subst, IfSome, IsIpv4Address, IsIpv6Address, of_ipv4, of_ipv6}
 use Rattle.zone_rdata.proofs.AddressFields.{ipv4_missing, ipv6_missing}
 use Rattle.zone_rdata.proofs.Failings.{same_fault_answered}
 use Rattle.zone_rdata.proofs.field.address.push_address.Goals as goal

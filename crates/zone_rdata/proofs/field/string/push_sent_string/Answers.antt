@@ -1,5 +1,4 @@
-use Rattle.std.proofs.Common.{◌+◌, get_or, drop, ap, arith}
-use Rattle.std.proofs.lemmas.Result.{IfOk-weaker}
+use Rattle.zone_rdata.proofs.Common.{◌+◌, get_or, drop, ap, arith, IfOk-weaker}
 use Rattle.zone_rdata.proofs.Lists.{bytes_each}
 use Rattle.zone_rdata.proofs.Fields.OneString.{appends_string, first_later}
 use Rattle.zone_rdata.proofs.field.string.push_sent_string.Goals as goal

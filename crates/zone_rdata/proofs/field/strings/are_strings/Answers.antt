@@ -1,6 +1,4 @@
-use Rattle.std.proofs.Common.{arith}
-use Rattle.std.proofs.lemmas.Bool.{false≢true}
-use Rattle.std.proofs.lemmas.Bool.Decides.{nat_tests}
+use Rattle.zone_rdata.proofs.Common.{arith, false≢true, nat_tests}
 use Rattle.zone_rdata.proofs.Fields.Strings.{framed_empty, framed_short, framed_more}
 use Rattle.zone_rdata.proofs.field.strings.are_strings.Goals as goal
 

@@ -1,5 +1,4 @@
-use Rattle.std.proofs.Common.{refl, arith}
-use Rattle.std.proofs.lemmas.Bool.Decides.{nat_tests}
+use Rattle.zone_rdata.proofs.Common.{refl, arith, nat_tests}
 use Rattle.zone_rdata.proofs.Failings.{each_fault_passed}
 use Rattle.zone_rdata.proofs.Values.{spelt_more, spelt_bad, spelt_all}
 use Rattle.zone_rdata.proofs.field.strings.push_strings.Goals as goal

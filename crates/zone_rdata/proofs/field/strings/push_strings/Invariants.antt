@@ -1,5 +1,4 @@
-use Rattle.std.proofs.Common.{drop, map}
-use Rattle.zone_rdata.specs.Item.{raw}
+use Rattle.zone_rdata.proofs.Common.{drop, map, raw}
 use Rattle.zone_rdata.proofs.Values.{HaveSpelt}
 use Rattle.zone_rdata.proofs.field.strings.push_strings.Given as goal
 

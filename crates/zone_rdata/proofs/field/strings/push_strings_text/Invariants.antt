@@ -1,5 +1,4 @@
-use Rattle.std.proofs.Common.{length}
-use Rattle.zone_name.proofs.Sinks.{Took}
+use Rattle.zone_rdata.proofs.Common.{length, Took}
 use Rattle.zone_rdata.proofs.StringTexts.{HaveQuoted}
 use Rattle.zone_rdata.proofs.field.strings.push_strings_text.Given as goal
 

@@ -1,5 +1,4 @@
-use Rattle.std.proofs.Common.{refl, ◌∙◌, ap, ◌++◌, arith}
-use Rattle.zone_rdata.specs.Number.{IsTime}
+use Rattle.zone_rdata.proofs.Common.{refl, ◌∙◌, ap, ◌++◌, arith, IsTime}
 use Rattle.zone_rdata.proofs.Failings.{same_fault_answered}
 use Rattle.zone_rdata.proofs.TimeLaws.{one_time}
 use Rattle.zone_rdata.proofs.Values.{no_number, that_number}

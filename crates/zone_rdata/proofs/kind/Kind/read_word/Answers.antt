@@ -1,7 +1,4 @@
-use Rattle.std.proofs.Common.{◌≡◌, ℕ, min, arith}
-use Rattle.std.proofs.lemmas.Grind.{common_steps}
-use Rattle.std.proofs.lemmas.Result.{IfErr-weaker}
-use Rattle.zone_rdata.specs.Words.{IsKindWord, nameless}
+use Rattle.zone_rdata.proofs.Common.{◌≡◌, ℕ, min, arith, common_steps, IfErr-weaker, IsKindWord, nameless}
 use Rattle.zone_rdata.proofs.Words.{kind_refused}
 use Rattle.zone_rdata.proofs.kind.Kind.read_word.Goals as goal
 

@@ -1,5 +1,4 @@
-use Rattle.std.proofs.Common.{sym, ap, ◌∙◌}
-use Rattle.zone_rdata.specs.Field.{is_strings}
+use Rattle.zone_rdata.proofs.Common.{sym, ap, ◌∙◌, is_strings}
 use Rattle.zone_rdata.proofs.Building.{ends_at}
 use Rattle.zone_rdata.proofs.layout.Layout.ends_with_strings.Goals as goal
 

@@ -1,5 +1,4 @@
-use Rattle.std.proofs.Common.{subst, arith}
-use Rattle.zone_name.specs.Common.{AreOctets}
+use Rattle.zone_rdata.proofs.Common.{subst, arith, AreOctets}
 use Rattle.zone_rdata.specs.Wire.{beyond}
 use Rattle.zone_rdata.proofs.Failings.{if_fault_passed}
 use Rattle.zone_rdata.proofs.Wire.{canonical_data, canonical_only, wire_fault}

@@ -1,9 +1,4 @@
-use Rattle.std.proofs.Common.{List, ℕ, Option, ap, subst, ◌∙◌}
-use Rattle.std.specs.Prelude.{OnOk}
-use Rattle.zone_rdata.specs.declared.field.Field.{Field}
-use Rattle.zone_rdata.specs.Layout.{layout}
-use Rattle.zone_rdata.specs.Machine.Printing.{laid_out_text}
-use Rattle.zone_rdata.specs.Text.{data_text}
+use Rattle.zone_rdata.proofs.Common.{List, ℕ, Option, ap, subst, ◌∙◌, OnOk, Field, layout, laid_out_text, data_text}
 use Rattle.zone_rdata.proofs.TextItems.{data_written}
 use Rattle.zone_rdata.proofs.Wire.{table_sized}
 use Rattle.zone_rdata.proofs.rdata.Rdata.print.Goals as goal

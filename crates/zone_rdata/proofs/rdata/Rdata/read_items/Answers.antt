@@ -1,5 +1,4 @@
-use Rattle.std.proofs.Common.{subst}
-use Rattle.zone_name.specs.Common.{AreOctets}
+use Rattle.zone_rdata.proofs.Common.{subst, AreOctets}
 use Rattle.zone_rdata.proofs.StatedOctets.{stated_data, states_for, first_for}
 use Rattle.zone_rdata.proofs.Forms.{only_memory}
 use Rattle.zone_rdata.proofs.rdata.Rdata.read_items.Goals as goal

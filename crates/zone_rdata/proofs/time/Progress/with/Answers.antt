@@ -1,7 +1,4 @@
-use Rattle.std.proofs.Common.{refl, arith, sym, ◌∙◌, ◌≡◌, false, rules}
-use Rattle.std.proofs.lemmas.Bool.Decides.{nat_tests}
-use Rattle.std.proofs.lemmas.Grind.{common_steps}
-use Rattle.zone_name.specs.Spelling.{is_digit}
+use Rattle.zone_rdata.proofs.Common.{refl, arith, sym, ◌∙◌, ◌≡◌, false, rules, nat_tests, common_steps, is_digit}
 use Rattle.zone_rdata.proofs.Times.{more_groups, stops}
 use Rattle.zone_rdata.proofs.time.Progress.with.Goals as goal
 
