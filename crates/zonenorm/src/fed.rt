@@ -1,4 +1,4 @@
-ghost use Rattle.std.specs.Prelude.{◌≡◌, ◌+◌, ◌^◌, ◌<◌, ◌≤◌, ◌++◌, true, false, List, length, IfErr, IfSome, IsOk, OnOk};
+ghost use Rattle.std.specs.Prelude.{◌≡◌, ◌+◌, ◌^◌, ◌<◌, ◌≤◌, ◌++◌, true, false, List, length, IfErr, IfSome, IsOk, OnErr, OnOk};
 ghost use Rattle.zone_name.specs.Common.{Octets};
 ghost use Rattle.zone_rdata.specs.FedSource.{Held};
 ghost use Rattle.zone_rdata.specs.declared.fault.Stop.TheVariants.{Memory};
@@ -40,7 +40,8 @@ pub(crate) trait FedSource: LendingSource {
         ensures fed { (held self.new).fed ≤ (held self.old).fed + length piece.now }
         ensures decided { (Self.pending self.old).failed ≡ false
             → IfSome (Self.pending self.old).ending (λ _. IsOk result) }
-        ensures stopped { IfErr result (λ stop. stop ≡ Memory) };
+        ensures stopped { IfErr result (λ stop. stop ≡ Memory) }
+        ensures failed { OnErr result ((Self.pending self.new).failed ≡ true) };
 
     /// Ends the input.
     ///
@@ -55,7 +56,8 @@ pub(crate) trait FedSource: LendingSource {
         ensures ended { OnOk result ((held self.new).finished ≡ true) }
         ensures decided { (Self.pending self.old).failed ≡ false
             → IfSome (Self.pending self.old).ending (λ _. IsOk result) }
-        ensures stopped { IfErr result (λ stop. stop ≡ Memory) };
+        ensures stopped { IfErr result (λ stop. stop ≡ Memory) }
+        ensures failed { OnErr result ((Self.pending self.new).failed ≡ true) };
 
     /// Giving a record changes nothing else.
     ghost keeps: { (old new : Self) → Self.RrSource.beside new ≡ Self.RrSource.beside old

@@ -2,7 +2,7 @@ ghost use Rattle.std.specs.Prelude.{◌≡◌, drop, map, IfOk, IfErr, IsErr, Is
 ghost use Rattle.clap.specs.Words.{subcommand_rows_of, kind_of};
 ghost use Rattle.clap.specs.declared.error.kind.ErrorKind.TheVariants.{OutOfMemory};
 ghost use Rattle.zone_name.specs.Common.{NothingIs};
-ghost use Rattle.zonenorm.specs.Machine.Calling.{texts_of, IsOfCall, IsOfClap};
+ghost use Rattle.zonenorm.specs.Machine.Calling.{texts_of, IsOfCall, IsOfClap, Tells};
 ghost use Rattle.zonenorm.specs.Order.{Asks, Finds, IsOriginText, IsSource, Orders, IsLineFault, line_status, line_text};
 
 use crate::command::program;
@@ -228,6 +228,7 @@ fn without_command(alloc: Global) -> LineFault
 /// The text without the line feed at its end.
 fn told(text: Result<String, AllocError>) -> LineFault
     ensures kind { IsOfClap result }
+    ensures told { IfOk text (λ text. Tells (string_bytes text) result) }
     ensures memory { result ≡ LineFault.Memory → IsErr text }
 {
     match text {

@@ -1,5 +1,5 @@
 -- What private functions of the command line answer.
-use Rattle.std.specs.Prelude.{◌≡◌}
+use Rattle.std.specs.Prelude.{◌≡◌, ◌⊎◌, ◌++◌, ◌∷◌, [], ℕ, List, string_bytes}
 use Rattle.clap.specs.Words.{App, AddsSubcommand, app_of, with_subcommand}
 use Rattle.clap.specs.declared.builder.Command.{Command}
 use Rattle.zonenorm.specs.Order.{Call, normalise, explain, compare, HasBadOrigin}
@@ -32,6 +32,12 @@ abbrev pub IsOfClap : LineFault → Type 0
 IsOfClap BadOrigin = ⊥
 IsOfClap (Clap told) = Unit {0}
 IsOfClap Memory = Unit {0}
+
+-- this text is told, but for a line feed at its end
+abbrev pub Tells : List ℕ → LineFault → Type 0
+Tells text BadOrigin = ⊥
+Tells text (Clap told) = (text ≡ string_bytes told) ⊎ (text ≡ string_bytes told ++ 10 ∷ [])
+Tells text Memory = ⊥
 
 -- the command is added to another one as it stands
 abbrev pub IsAddedAs : App → Command → Type 0
