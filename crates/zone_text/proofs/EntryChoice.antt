@@ -4,6 +4,7 @@ use Rattle.std.specs.Prelude.{option_and_then}
 use Rattle.std.proofs.Common.{◌≡◌, ℕ, ◌<◌, Bool, true, false, if◌then◌else◌, List, [], ◌∷◌, ◌++◌, Option, Some, None, MatchOption, ◌⊎◌, inl, inr, refl, sym, ◌∙◌, subst, arith}
 use Rattle.std.specs.List.{AllByRecursion}
 use Rattle.std.proofs.lemmas.Bool.{cases_lt, cases_eq}
+use Rattle.zone_name.proofs.Pushing.{AllByRecursion-append}
 use Rattle.zone_name.specs.Name.{IsName}
 use Rattle.zone_name.specs.Spelling.{Spells, SpellingFault}
 use Rattle.zone_name.specs.declared.fault.NameFault.{NameFault}
@@ -23,6 +24,7 @@ use Rattle.zone_text.specs.Outcome.{AllState, AreOctetItems}
 use Rattle.zone_text.specs.Records.{HasValue, EntryStates, StatesNothing}
 use Rattle.zone_text.proofs.ClassWords.{class_word_of}
 use Rattle.zone_text.proofs.Entered.{nothing_or_parts}
+use Rattle.zone_text.proofs.WordsLeft.{parts_by}
 
 -- ---- the origin
 
@@ -124,22 +126,13 @@ after_known : (words : List Word) (item : RawItem) (word : Word) → word_after 
 after_known words (quoted text) word e = absurd (let clash : ⊥ = cc in clash)
 after_known words (bare text) word e = word_known (begins_with_digit text) (is_class_word text) (ttl_among words) (class_among words) text word refl e
 
-known_push : (words : List Word) (word : Word) → AllByRecursion IsKnown words → IsKnown word → AllByRecursion IsKnown (words ++ word ∷ [])
-known_push [] word known is = (is, tt)
-known_push (w ∷ words) word known is = (known.0, known_push words word known.1 is)
-
--- items of octets
-abbrev parts_by : List Word → RawItem → List RawItem → Option Word → Parts
-parts_by words item items None = record { words = words; rest = item ∷ items }
-parts_by words item items (Some word) = parts_after (words ++ word ∷ []) items
-
 pub record AreGood (parts : Parts) : Type 0 where
   pub known : AllByRecursion IsKnown parts.words
   pub low : AreOctetItems parts.rest
 
 good_by : (words : List Word) (item : RawItem) (items : List RawItem) (o : Option Word) → word_after words item ≡ o → AllByRecursion IsKnown words → AreOctetItems (item ∷ items) → ((word : Word) → AllByRecursion IsKnown (words ++ word ∷ []) → AreGood (parts_after (words ++ word ∷ []) items)) → AreGood (parts_by words item items o)
 good_by words item items None e known low goes = record { known = known; low = low }
-good_by words item items (Some word) e known low goes = goes word (known_push words word known (after_known words item word e))
+good_by words item items (Some word) e known low goes = goes word (AllByRecursion-append IsKnown words (word ∷ []) known (after_known words item word e, tt))
 
 pub parts_good : (items : List RawItem) (words : List Word) → AllByRecursion IsKnown words → AreOctetItems items → AreGood (parts_after words items)
 parts_good [] words known low = record { known = known; low = tt }

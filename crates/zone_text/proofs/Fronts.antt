@@ -1,6 +1,7 @@
 -- The first token of a text: what is read is so, and what is so is read.
-use Rattle.std.proofs.Common.{◌≡◌, ◌≢◌, ℕ, zero, suc, ◌<◌, Bool, true, false, ◌||◌, ◌==◌, if◌then◌else◌, List, [], ◌∷◌, ◌++◌, Option, Some, None, refl, sym, ap, ◌∙◌, subst, arith, append_assoc}
+use Rattle.std.proofs.Common.{◌≡◌, ◌≢◌, ℕ, zero, suc, ◌<◌, Bool, true, false, ◌||◌, ◌==◌, if◌then◌else◌, List, [], ◌∷◌, ◌++◌, length, drop, Option, Some, None, refl, sym, ap, ◌∙◌, subst, arith, append_assoc}
 use Rattle.std.specs.List.{AllByRecursion}
+use Rattle.std.proofs.Math.Seq.{drop-append_seam}
 use Rattle.std.proofs.lemmas.Bool.{or_parts, eqb-true, eqb-false, ne_eqb, both_ways, cond_both}
 use Rattle.std.proofs.lemmas.List.{append-nil}
 use Rattle.zone_name.specs.Spelling.{Written, plain, escaped, decimal, IsBadEscape, written_text, IsUnit}
@@ -10,7 +11,6 @@ use Rattle.zone_rdata.specs.Strings.{is_quote}
 use Rattle.zone_text.specs.Tokens.{Token, blank, opening, closing, line_feed, comment, bare, quoted, token_text, is_blank, ends_item, IsToken}
 use Rattle.zone_text.specs.Breaks.{IsBroken, closes_nothing, no_escape, no_quoted_escape, no_quote, not_closed}
 use Rattle.zone_name.specs.Machine.Units.{Units, units_first}
-use Rattle.zone_rdata.specs.Strings.{is_quote}
 use Rattle.zone_text.specs.Machine.Cutting.{before_line_feed, from_line_feed, Sign, a_blank, a_line_feed, an_opening, a_closing, a_semicolon, a_quote, of_item, sign_of, Front, takes, stops, quoted_front, bare_front, front_by, end_front, front_of}
 use Rattle.zone_name.proofs.Units.{NoUnit, at_end, at_octet, at_backslash, UnitsAre, units_first_are, units_first_only}
 
@@ -21,10 +21,10 @@ abbrev pub EndsComment : List ℕ → Type 0
 EndsComment [] = Unit {0}
 EndsComment (c ∷ rest) = c ≡ 10
 
-abbrev IsComment : List ℕ → Type 0
+abbrev pub IsComment : List ℕ → Type 0
 IsComment octets = AllByRecursion (λ c. c ≢ 10) octets
 
-comment_whole : (octets : List ℕ) → octets ≡ before_line_feed octets ++ from_line_feed octets
+pub comment_whole : (octets : List ℕ) → octets ≡ before_line_feed octets ++ from_line_feed octets
 unfolding before_line_feed from_line_feed
 comment_whole [] = refl
 comment_whole (c ∷ rest) = by (c == 10) (comment_whole rest)
@@ -33,15 +33,19 @@ comment_whole (c ∷ rest) = by (c == 10) (comment_whole rest)
     by true more = refl
     by false more = ap (λ t. c ∷ t) more
 
-comment_each : (octets : List ℕ) → IsComment (before_line_feed octets)
+pub comment_each : (octets : List ℕ) → IsComment (before_line_feed octets)
 unfolding before_line_feed
 comment_each [] = tt
 comment_each (c ∷ rest) = cond_both (c == 10) [] (c ∷ before_line_feed rest) IsComment (λ e. tt) (λ e. (eqb-false c 10 e, comment_each rest))
 
-comment_ends : (octets : List ℕ) → EndsComment (from_line_feed octets)
+pub comment_ends : (octets : List ℕ) → EndsComment (from_line_feed octets)
 unfolding from_line_feed
 comment_ends [] = tt
 comment_ends (c ∷ rest) = cond_both (c == 10) (c ∷ rest) (from_line_feed rest) EndsComment (eqb-true c 10) (λ e. comment_ends rest)
+
+pub comment_dropped : (octets : List ℕ) → drop (length (before_line_feed octets)) octets ≡ from_line_feed octets
+comment_dropped octets =
+    ap (drop (length (before_line_feed octets))) (comment_whole octets) ∙ drop-append_seam (before_line_feed octets) (from_line_feed octets)
 
 comment_only : (octets rest : List ℕ) → IsComment octets → EndsComment rest → (before_line_feed (octets ++ rest) ≡ octets) × (from_line_feed (octets ++ rest) ≡ rest)
 unfolding before_line_feed from_line_feed
@@ -84,6 +88,26 @@ sign_of_item c e =
     let p2 = or_parts (is_blank c || c == 10) (c == 34) p3.0 in
     let p1 = or_parts (is_blank c) (c == 10) p2.0 in
     rw (p1.0, p1.1, p2.1, p3.1, p4.1, p5.1) refl
+
+-- ---- first octets
+
+-- an octet that begins the token
+abbrev pub Begins : ℕ → Token → Type 0
+Begins c (blank d) = is_blank c ≡ true
+Begins c line_feed = c ≡ 10
+Begins c opening = c ≡ 40
+Begins c closing = c ≡ 41
+Begins c (comment octets) = c ≡ 59
+Begins c (bare units) = ends_item c ≡ false
+Begins c (quoted units) = c ≡ 34
+
+pub begins : (c : ℕ) (octets : List ℕ) (p : Token) (rest : List ℕ) → IsToken p → c ∷ octets ≡ token_text p ++ rest → Begins c p
+begins c octets (blank d) rest is e = let same : c ≡ d = cc in ap is_blank same ∙ is
+begins c octets (bare []) rest is e = absurd (omega (arith, is.0))
+begins c octets (bare (plain d ∷ units)) rest is e = let same : c ≡ d = cc in ap ends_item same ∙ is.1.0.0
+begins c octets (bare (escaped d ∷ units)) rest is e = let same : c ≡ 92 = cc in ap ends_item same
+begins c octets (bare (decimal x y z ∷ units)) rest is e = let same : c ≡ 92 = cc in ap ends_item same
+begins c octets p rest is e = cc
 
 -- ---- the beginning of a text
 

@@ -24,7 +24,7 @@ use Rattle.zone_text.specs.Machine.Cutting.{depth_past}
 use Rattle.zone_text.specs.Machine.Scan.{on, fed_line, closed, open_step, quoted_step, comment_step, ends_number, escape_step, step_in, step_of, scan_on, scan_of, unclosed, end_fault_of}
 use Rattle.zone_text.specs.Machine.Scan as machine
 use Rattle.zone_text.proofs.Escapes.{malformed_is_bad}
-use Rattle.zone_text.proofs.Fronts.{Takes, first_octet_is}
+use Rattle.zone_text.proofs.Fronts.{Begins, Takes, begins, first_octet_is}
 use Rattle.zone_text.proofs.Lasting.{begins_backslash}
 
 -- ---- tokens and what is open after them
@@ -59,24 +59,6 @@ pub data Reads (step : Step) : ℕ → List ℕ → Type 0 where
   then_more : (depth : ℕ) (octets : List ℕ) (p : Token) (rest : List ℕ) → Takes depth octets p rest → EndsNone depth p → Reads step (depth_past depth p) rest → Reads step depth octets
 
 -- ---- first octets
-
--- an octet that begins the token
-abbrev Begins : ℕ → Token → Type 0
-Begins c (blank d) = is_blank c ≡ true
-Begins c line_feed = c ≡ 10
-Begins c opening = c ≡ 40
-Begins c closing = c ≡ 41
-Begins c (comment octets) = c ≡ 59
-Begins c (bare units) = ends_item c ≡ false
-Begins c (quoted units) = c ≡ 34
-
-begins : (c : ℕ) (octets : List ℕ) (p : Token) (rest : List ℕ) → IsToken p → c ∷ octets ≡ token_text p ++ rest → Begins c p
-begins c octets (blank d) rest is e = let same : c ≡ d = cc in ap is_blank same ∙ is
-begins c octets (bare []) rest is e = absurd (omega (arith, is.0))
-begins c octets (bare (plain d ∷ units)) rest is e = let same : c ≡ d = cc in ap ends_item same ∙ is.1.0.0
-begins c octets (bare (escaped d ∷ units)) rest is e = let same : c ≡ 92 = cc in ap ends_item same
-begins c octets (bare (decimal x y z ∷ units)) rest is e = let same : c ≡ 92 = cc in ap ends_item same
-begins c octets p rest is e = cc
 
 escape_begins : (step : Step) (octets : List ℕ) → EscapeAt step octets → (more : List ℕ) × (octets ≡ 92 ∷ more)
 escape_begins (On at) octets open_escape = cut_begins open_escape.1
