@@ -43,14 +43,11 @@ first_folded : (word : List ℕ) → begins_with_digit (folded_label word) ≡ b
 first_folded [] = refl
 first_folded (c ∷ word) = digit_folded c
 
-numbered_first : (word : List ℕ) (n : ℕ) → IsNumbered (codes "CLASS") word n → begins_with_digit (folded_label word) ≡ false
-numbered_first word n is = rw (is.parts, map-append, is.named) refl
-
 -- and begins with no digit
 pub class_word_first : (word : List ℕ) (n : ℕ) → IsClassWord word n → begins_with_digit word ≡ false
 class_word_first word n (by_mnemonic is) =
     sym (first_folded word) ∙ ap begins_with_digit is.same ∙ not-true _ (each_mnemonic (λ _ name. not (begins_with_digit (folded_label name))) classes refl n is.name is.row)
-class_word_first word n (by_number is) = sym (first_folded word) ∙ numbered_first word n is
+class_word_first word n (by_number is) = sym (first_folded word) ∙ (rw (is.parts, map-append, is.named) refl)
 
 digits_first : (text rest : List ℕ) → 0 < length text → AllByRecursion (λ c. is_digit c ≡ true) text → begins_with_digit (text ++ rest) ≡ true
 digits_first [] rest some each = absurd (omega arith)

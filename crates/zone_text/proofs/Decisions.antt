@@ -111,16 +111,12 @@ fault_is_read origin octets placed found (undecided tokens (inl cut) none read) 
     let on = ended_entries_first tokens in
     whole tokens cut (subst (λ t. ReadEach origin None [] t placed (Some found)) (sym on.1) (refused_before origin None [] (ended_entries tokens) on.0 placed found read))
 
--- the octets after the ended entries are the last entry
-open_alone : (tokens : List Token) → (cut_from zero tokens).ended ≡ [] → (cut_from zero tokens).open_tokens ≡ tokens
-open_alone tokens none = sym (ap (λ t. joined t ++ (cut_from zero tokens).open_tokens) none) ∙ cut_whole zero tokens
-
 entries_are : (ended : List (List Token)) (tokens : List Token) → AreEnded zero ended → (cut_from zero tokens).ended ≡ [] → entries_of (joined ended ++ tokens) ≡ numbered 1 (and_last ended tokens)
 entries_are ended tokens are none =
     ap (λ (c : Cut). numbered 1 (and_last c.ended c.open_tokens)) (again_zero ended tokens are)
     ∙ ap (λ t. numbered 1 (and_last (ended ++ t) (cut_from zero tokens).open_tokens)) none
     ∙ ap (λ t. numbered 1 (and_last t (cut_from zero tokens).open_tokens)) (append-nil ended)
-    ∙ ap (λ t. numbered 1 (and_last ended t)) (open_alone tokens none)
+    ∙ ap (λ t. numbered 1 (and_last ended t)) (sym (ap (λ t. joined t ++ (cut_from zero tokens).open_tokens) none) ∙ cut_whole zero tokens)
 
 all_tokens : (fed : List ℕ) (ended : List (List Token)) (unfinished : List ℕ) (tokens : List Token) → IsSplit fed ended unfinished → Cuts unfinished tokens → Cuts fed (joined ended ++ tokens)
 all_tokens fed ended unfinished tokens is cut =

@@ -29,24 +29,25 @@ Choice P = ((n : ℕ) × P n) ⊎ ((n : ℕ) → P n → ⊥)
 -- ---- the TTL
 
 -- data without a MINIMUM state none
-pub states_no_minimum : Lower → (origin : List (List ℕ)) (before : List Entry) (entry : Entry) (head : Head) (octets : List ℕ) → HasHead origin before entry head → StatesData origin before head octets → minimum (record { class = head.class; kind = head.kind; octets = octets }) ≡ None → (seconds : ℕ) → StatesMinimum origin before entry seconds → ⊥
-states_no_minimum lower origin before entry head octets has rdata e seconds x =
-    let same : x.head ≡ head = head_once lower origin before entry x.head head x.has has in
-    let texts : x.octets ≡ octets = states_once lower origin before head x.octets octets (subst (λ h. StatesData origin before h x.octets) same x.rdata) rdata in
-    let left : minimum (record { class = x.head.class; kind = x.head.kind; octets = x.octets }) ≡ minimum (record { class = head.class; kind = head.kind; octets = octets }) = rw (same, texts) refl in
-    let clash : Some seconds ≡ None = sym x.field ∙ (left ∙ e) in
-    cc
+module _ (lower : Lower) (origin : List (List ℕ)) (before : List Entry) (entry : Entry) where
+  pub states_no_minimum : (head : Head) (octets : List ℕ) → HasHead origin before entry head → StatesData origin before head octets → minimum (record { class = head.class; kind = head.kind; octets = octets }) ≡ None → (seconds : ℕ) → StatesMinimum origin before entry seconds → ⊥
+  states_no_minimum head octets has rdata e seconds x =
+      let same : x.head ≡ head = head_once lower origin before entry x.head head x.has has in
+      let texts : x.octets ≡ octets = states_once lower origin before head x.octets octets (subst (λ h. StatesData origin before h x.octets) same x.rdata) rdata in
+      let left : minimum (record { class = x.head.class; kind = x.head.kind; octets = x.octets }) ≡ minimum (record { class = head.class; kind = head.kind; octets = octets }) = rw (same, texts) refl in
+      let clash : Some seconds ≡ None = sym x.field ∙ (left ∙ e) in
+      cc
 
-minimum_by : Lower → (origin : List (List ℕ)) (before : List Entry) (entry : Entry) (head : Head) (octets : List ℕ) (found : Option ℕ) → HasHead origin before entry head → StatesData origin before head octets → minimum (record { class = head.class; kind = head.kind; octets = octets }) ≡ found → Choice (StatesMinimum origin before entry)
-minimum_by lower origin before entry head octets (Some seconds) has rdata e = inl (seconds, record { head = head; octets = octets; has = has; rdata = rdata; field = e })
-minimum_by lower origin before entry head octets None has rdata e = inr (states_no_minimum lower origin before entry head octets has rdata e)
+  minimum_by : (head : Head) (octets : List ℕ) (found : Option ℕ) → HasHead origin before entry head → StatesData origin before head octets → minimum (record { class = head.class; kind = head.kind; octets = octets }) ≡ found → Choice (StatesMinimum origin before entry)
+  minimum_by head octets (Some seconds) has rdata e = inl (seconds, record { head = head; octets = octets; has = has; rdata = rdata; field = e })
+  minimum_by head octets None has rdata e = inr (states_no_minimum head octets has rdata e)
 
-minimum_of : Lower → (origin : List (List ℕ)) (before : List Entry) (entry : Entry) (head : Head) (octets : List ℕ) → HasHead origin before entry head → StatesData origin before head octets → Choice (StatesMinimum origin before entry)
-minimum_of lower origin before entry head octets has rdata = minimum_by lower origin before entry head octets (minimum (record { class = head.class; kind = head.kind; octets = octets })) has rdata refl
+  minimum_of : (head : Head) (octets : List ℕ) → HasHead origin before entry head → StatesData origin before head octets → Choice (StatesMinimum origin before entry)
+  minimum_of head octets has rdata = minimum_by head octets (minimum (record { class = head.class; kind = head.kind; octets = octets })) has rdata refl
 
-minimum_in : Lower → (origin : List (List ℕ)) (before : List Entry) (entry : Entry) → StatesNothing origin before (statement_of entry) ⊎ ((r : Record) × EntryStates origin before entry r) → Choice (StatesMinimum origin before entry)
-minimum_in lower origin before entry (inl n) = inr (λ seconds x. nothing_or_parts origin before (statement_of entry) x.has.parts n x.has.split)
-minimum_in lower origin before entry (inr s) = minimum_of lower origin before entry (head_of s.0 s.1.items) s.0.octets s.1.head s.1.rdata
+  minimum_in : StatesNothing origin before (statement_of entry) ⊎ ((r : Record) × EntryStates origin before entry r) → Choice (StatesMinimum origin before entry)
+  minimum_in (inl n) = inr (λ seconds x. nothing_or_parts origin before (statement_of entry) x.has.parts n x.has.split)
+  minimum_in (inr s) = minimum_of (head_of s.0 s.1.items) s.0.octets s.1.head s.1.rdata
 
 pub no_minimum : (origin : List (List ℕ)) (before : List Entry) (entry : Entry) → ((n : ℕ) → StatesMinimum origin before entry n → ⊥) → ((n : ℕ) → IsLastMinimum origin before n → ⊥) → (n : ℕ) → IsLastMinimum origin (entry ∷ before) n → ⊥
 no_minimum origin before entry here earlier n (inl x) = here n x
@@ -65,38 +66,10 @@ ttl_by : (o : Option (List ℕ)) (Last : ℕ → Type 0) → Choice Last → ((t
 ttl_by None Last last times = last
 ttl_by (Some text) Last last times = times text
 
-ttl_or_not : Lower → Choices → (origin : List (List ℕ)) (before : List Entry) (entry : Entry) (head : Head) (octets : List ℕ) → AllState origin before → HasHead origin before entry head → StatesData origin before head octets → Choice (HasTtl origin before entry)
-ttl_or_not lower choices origin before entry head octets states has rdata =
-    ttl_by (stated_ttl before entry) (IsLastMinimum origin (entry ∷ before)) (last_by origin before entry (minimum_of lower origin before entry head octets has rdata) (last_minimum lower origin before states)) choices.time
-
 -- ---- a record, from its last step to its first
 
 abbrev pub Outcome : List (List ℕ) → List Entry → Entry → Type 0
 Outcome origin before entry = StatesNothing origin before (statement_of entry) ⊎ (((r : Record) × EntryStates origin before entry r) ⊎ ((fault : Fault) × EntryFault origin before entry fault))
-
-from_ttl : Choices → (origin : List (List ℕ)) (before : List Entry) (entry : Entry) (head : Head) (octets : List ℕ) → IsName head.owner → IsClass head.class → HasHead origin before entry head → StatesData origin before head octets → Choice (HasTtl origin before entry) → Outcome origin before entry
-from_ttl choices origin before entry head octets name class has rdata (inr no_ttl) = inr (inr (NoTtl, of_ttl head octets has rdata (none no_ttl)))
-from_ttl choices origin before entry head octets name class has rdata (inl found) = elim (cases_lt 2147483647 found.0) [
-  | inl over ↦ inr (inr (BadTtl, of_ttl head octets has rdata (long found.0 found.1 over)))
-  | inr short ↦
-      let r : Record = record { owner = head.owner; class = head.class; kind = head.kind; ttl = found.0; octets = octets } in
-      inr (inl (
-        r,
-        record {
-          items = head.items;
-          head = has;
-          rdata = rdata;
-          ttl = found.1;
-          fits = record { owner = name; ttl = short; rdata = record { class = class; kind = has.kind; octets = choices.stated rdata.above head.class head.kind head.items octets rdata.states } };
-        },
-      ))
-]
-
-from_rdata : Lower → Choices → (origin : List (List ℕ)) (before : List Entry) (entry : Entry) (head : Head) (above : List (List ℕ)) → AllState origin before → IsName head.owner → IsClass head.class → HasHead origin before entry head → IsOrigin origin before above → ((octets : List ℕ) × States above head.class head.kind head.items octets) ⊎ ((fault : Fault) × IsDataFault above head.class head.kind head.items fault) → Outcome origin before entry
-from_rdata lower choices origin before entry head above states name class has under (inr bad) = inr (inr (bad.0, of_rdata head above has under bad.1))
-from_rdata lower choices origin before entry head above states name class has under (inl found) =
-    let rdata : StatesData origin before head found.0 = record { above = above; under = under; states = found.1 } in
-    from_ttl choices origin before entry head found.0 name class has rdata (ttl_or_not lower choices origin before entry head found.0 states has rdata)
 
 abbrev KindChoice : List RawItem → Type 0
 KindChoice rest = ((word : List ℕ) × ((items : List RawItem) × ((n : ℕ) × ((rest ≡ bare word ∷ items) × (AreOctetItems items × (IsKindWord word n × IsKind n)))))) ⊎ ((fault : Fault) × KindFault rest fault)
@@ -109,66 +82,11 @@ kind_or_fault : Choices → (rest : List RawItem) → AreOctetItems rest → Kin
 kind_or_fault choices (bare text ∷ items) low = kind_by text items low.1 (choices.kind text)
 kind_or_fault choices rest low = inr (UnknownType, refl)
 
-from_kind : Lower → Choices → (origin : List (List ℕ)) (before : List Entry) (entry : Entry) (parts : Parts) (owner : List (List ℕ)) → IsName origin → AllState origin before → parts_of entry ≡ Some parts → IsOwner origin before (statement_of entry) owner → IsName owner → AllByRecursion HasValue parts.words → KindChoice parts.rest → Outcome origin before entry
-from_kind lower choices origin before entry parts owner is states split owns name words (inr bad) = inr (inr (bad.0, of_kind owner parts owns split words bad.1))
-from_kind lower choices origin before entry parts owner is states split owns name words (inl found) =
-    let word = found.0 in
-    let items = found.1.0 in
-    let kind = found.1.1.0 in
-    let facts = found.1.1.1 in
-    let number = class_is origin before entry parts states split words in
-    let above = origin_is origin before is states in
-    let head : Head = record { owner = owner; class = number.0; kind = kind; items = items } in
-    let has : HasHead origin before entry head = record { parts = parts; word = word; split = split; owner = owns; words = words; class = number.1.0; rest = facts.0; named = facts.1.1.0; kind = facts.1.1.1 } in
-    from_rdata lower choices origin before entry head above.0 states name number.1.1 has above.1.0 (choices.rdata above.0 number.0 kind items above.1.1 facts.1.0)
-
-from_words : Lower → Choices → (origin : List (List ℕ)) (before : List Entry) (entry : Entry) (parts : Parts) (owner : List (List ℕ)) → IsName origin → AllState origin before → parts_of entry ≡ Some parts → AreOctetItems parts.rest → IsOwner origin before (statement_of entry) owner → IsName owner → AllByRecursion HasValue parts.words ⊎ ((fault : Fault) × WordsFault parts.words fault) → Outcome origin before entry
-from_words lower choices origin before entry parts owner is states split low owns name (inr bad) = inr (inr (bad.0, of_words owner parts owns split bad.1))
-from_words lower choices origin before entry parts owner is states split low owns name (inl words) = from_kind lower choices origin before entry parts owner is states split owns name words (kind_or_fault choices parts.rest low)
-
 abbrev OwnerOutcome : List (List ℕ) → List Entry → Statement → Type 0
 OwnerOutcome origin before form = ((owner : List (List ℕ)) × (IsOwner origin before form owner × IsName owner)) ⊎ ((fault : Fault) × OwnerFault origin before form fault)
 
-from_owner : Lower → Choices → (origin : List (List ℕ)) (before : List Entry) (entry : Entry) (parts : Parts) → IsName origin → AllState origin before → parts_of entry ≡ Some parts → AreGood parts → OwnerOutcome origin before (statement_of entry) → Outcome origin before entry
-from_owner lower choices origin before entry parts is states split good (inr bad) = inr (inr (bad.0, of_owner bad.1))
-from_owner lower choices origin before entry parts is states split good (inl found) = from_words lower choices origin before entry parts found.0 is states split good.low found.1.0 found.1.1 (words_or_fault lower choices parts.words good.known)
-
--- ---- the owner
-
-last_outcome : (origin : List (List ℕ)) (before : List Entry) (items : List RawItem) → OwnerChoice origin before None → OwnerOutcome origin before (unowned items)
-last_outcome origin before items (inl found) = inl found
-last_outcome origin before items (inr no_owner) = inr (NoOwner, (refl, no_owner))
-
-owned_outcome : Choices → (origin : List (List ℕ)) (before : List Entry) (owner : RawItem) (items : List RawItem) → IsName origin → AllState origin before → AreOctetItems (owner ∷ items) → OwnerOutcome origin before (owned owner items)
-owned_outcome choices origin before (bare text) items is states low = name_or_fault choices origin before text is states low.0
-owned_outcome choices origin before (quoted text) items is states low = inr (NoOwner, refl)
-
--- ---- directives
-
 abbrev DirectiveChoice : List (List ℕ) → List Entry → Statement → Type 0
 DirectiveChoice origin before form = StatesNothing origin before form ⊎ ((fault : Fault) × DirectiveFault origin before form fault)
-
-origin_text_by : (origin : List (List ℕ)) (before : List Entry) (text : List ℕ) → NameChoice origin before text → DirectiveChoice origin before (sets_origin (bare text ∷ []))
-origin_text_by origin before text (inl found) = inl (found.0, found.1.0)
-origin_text_by origin before text (inr bad) = inr bad
-
-origin_or_fault : Choices → (origin : List (List ℕ)) (before : List Entry) (items : List RawItem) → IsName origin → AllState origin before → AreOctetItems items → DirectiveChoice origin before (sets_origin items)
-origin_or_fault choices origin before (bare text ∷ []) is states low = origin_text_by origin before text (name_or_fault choices origin before text is states low.0)
-origin_or_fault choices origin before items is states low = inr (BadDirective, refl)
-
-default_by : (origin : List (List ℕ)) (before : List Entry) (text : List ℕ) → ((seconds : ℕ) × IsTtl text seconds) ⊎ ((seconds : ℕ) → IsTtl text seconds → ⊥) → DirectiveChoice origin before (sets_ttl (bare text ∷ []))
-default_by origin before text (inl found) = inl found
-default_by origin before text (inr no_ttl) = inr (BadTtl, (refl, no_ttl))
-
-default_or_fault : Lower → Choices → (origin : List (List ℕ)) (before : List Entry) (items : List RawItem) → DirectiveChoice origin before (sets_ttl items)
-default_or_fault lower choices origin before (bare text ∷ []) = default_by origin before text (ttl_word_by lower text (choices.time text))
-default_or_fault lower choices origin before items = inr (BadDirective, refl)
-
-directive_outcome : (origin : List (List ℕ)) (before : List Entry) (entry : Entry) → DirectiveChoice origin before (statement_of entry) → Outcome origin before entry
-directive_outcome origin before entry (inl n) = inl n
-directive_outcome origin before entry (inr bad) = inr (inr (bad.0, of_directive bad.1))
-
--- ---- the form
 
 -- the items of a form
 abbrev LowForm : Statement → Type 0
@@ -180,16 +98,96 @@ LowForm unknown = Unit {0}
 LowForm (owned owner items) = AreOctetItems (owner ∷ items)
 LowForm (unowned items) = AreOctetItems items
 
-outcome_by : Lower → Choices → (origin : List (List ℕ)) (before : List Entry) (entry : Entry) (form : Statement) → statement_of entry ≡ form → IsName origin → AllState origin before → LowForm form → Outcome origin before entry
-outcome_by lower choices origin before entry no_items e is states low = directive_outcome origin before entry (subst (DirectiveChoice origin before) (sym e) (inl tt))
-outcome_by lower choices origin before entry (sets_origin items) e is states low = directive_outcome origin before entry (subst (DirectiveChoice origin before) (sym e) (origin_or_fault choices origin before items is states low))
-outcome_by lower choices origin before entry (sets_ttl items) e is states low = directive_outcome origin before entry (subst (DirectiveChoice origin before) (sym e) (default_or_fault lower choices origin before items))
-outcome_by lower choices origin before entry includes e is states low = directive_outcome origin before entry (subst (DirectiveChoice origin before) (sym e) (inr (IncludeDirective, refl)))
-outcome_by lower choices origin before entry unknown e is states low = directive_outcome origin before entry (subst (DirectiveChoice origin before) (sym e) (inr (UnknownDirective, refl)))
-outcome_by lower choices origin before entry (owned owner items) e is states low =
-    from_owner lower choices origin before entry (parts_after [] items) is states (ap parts_in e) (parts_good items [] tt low.1) (subst (OwnerOutcome origin before) (sym e) (owned_outcome choices origin before owner items is states low))
-outcome_by lower choices origin before entry (unowned items) e is states low =
-    from_owner lower choices origin before entry (parts_after [] items) is states (ap parts_in e) (parts_good items [] tt low) (subst (OwnerOutcome origin before) (sym e) (last_outcome origin before items (last_owner origin before states)))
+module _ (lower : Lower) (choices : Choices) (origin : List (List ℕ)) (before : List Entry) (entry : Entry) (is : IsName origin) (states : AllState origin before) where
+  from_ttl : (head : Head) (octets : List ℕ) → IsName head.owner → IsClass head.class → HasHead origin before entry head → StatesData origin before head octets → Choice (HasTtl origin before entry) → Outcome origin before entry
+  from_ttl head octets name class has rdata (inr no_ttl) = inr (inr (NoTtl, of_ttl head octets has rdata (none no_ttl)))
+  from_ttl head octets name class has rdata (inl found) = elim (cases_lt 2147483647 found.0) [
+    | inl over ↦ inr (inr (BadTtl, of_ttl head octets has rdata (long found.0 found.1 over)))
+    | inr short ↦
+        let r : Record = record { owner = head.owner; class = head.class; kind = head.kind; ttl = found.0; octets = octets } in
+        inr (inl (
+          r,
+          record {
+            items = head.items;
+            head = has;
+            rdata = rdata;
+            ttl = found.1;
+            fits = record { owner = name; ttl = short; rdata = record { class = class; kind = has.kind; octets = choices.stated rdata.above head.class head.kind head.items octets rdata.states } };
+          },
+        ))
+  ]
+
+  from_rdata : (head : Head) (above : List (List ℕ)) → IsName head.owner → IsClass head.class → HasHead origin before entry head → IsOrigin origin before above → ((octets : List ℕ) × States above head.class head.kind head.items octets) ⊎ ((fault : Fault) × IsDataFault above head.class head.kind head.items fault) → Outcome origin before entry
+  from_rdata head above name class has under (inr bad) = inr (inr (bad.0, of_rdata head above has under bad.1))
+  from_rdata head above name class has under (inl found) =
+      let rdata : StatesData origin before head found.0 = record { above = above; under = under; states = found.1 } in
+      from_ttl head found.0 name class has rdata (ttl_by (stated_ttl before entry) (IsLastMinimum origin (entry ∷ before)) (last_by origin before entry (minimum_of lower origin before entry head found.0 has rdata) (last_minimum lower origin before states)) choices.time)
+
+  from_kind : (parts : Parts) (owner : List (List ℕ)) → parts_of entry ≡ Some parts → IsOwner origin before (statement_of entry) owner → IsName owner → AllByRecursion HasValue parts.words → KindChoice parts.rest → Outcome origin before entry
+  from_kind parts owner split owns name words (inr bad) = inr (inr (bad.0, of_kind owner parts owns split words bad.1))
+  from_kind parts owner split owns name words (inl found) =
+      let word = found.0 in
+      let items = found.1.0 in
+      let kind = found.1.1.0 in
+      let facts = found.1.1.1 in
+      let number = class_is origin before entry parts states split words in
+      let above = origin_is origin before is states in
+      let head : Head = record { owner = owner; class = number.0; kind = kind; items = items } in
+      let has : HasHead origin before entry head = record { parts = parts; word = word; split = split; owner = owns; words = words; class = number.1.0; rest = facts.0; named = facts.1.1.0; kind = facts.1.1.1 } in
+      from_rdata head above.0 name number.1.1 has above.1.0 (choices.rdata above.0 number.0 kind items above.1.1 facts.1.0)
+
+  from_words : (parts : Parts) (owner : List (List ℕ)) → parts_of entry ≡ Some parts → AreOctetItems parts.rest → IsOwner origin before (statement_of entry) owner → IsName owner → AllByRecursion HasValue parts.words ⊎ ((fault : Fault) × WordsFault parts.words fault) → Outcome origin before entry
+  from_words parts owner split low owns name (inr bad) = inr (inr (bad.0, of_words owner parts owns split bad.1))
+  from_words parts owner split low owns name (inl words) = from_kind parts owner split owns name words (kind_or_fault choices parts.rest low)
+
+  from_owner : (parts : Parts) → parts_of entry ≡ Some parts → AreGood parts → OwnerOutcome origin before (statement_of entry) → Outcome origin before entry
+  from_owner parts split good (inr bad) = inr (inr (bad.0, of_owner bad.1))
+  from_owner parts split good (inl found) = from_words parts found.0 split good.low found.1.0 found.1.1 (words_or_fault lower choices parts.words good.known)
+
+  -- ---- the owner
+
+  last_outcome : (items : List RawItem) → OwnerChoice origin before None → OwnerOutcome origin before (unowned items)
+  last_outcome items (inl found) = inl found
+  last_outcome items (inr no_owner) = inr (NoOwner, (refl, no_owner))
+
+  owned_outcome : (owner : RawItem) (items : List RawItem) → AreOctetItems (owner ∷ items) → OwnerOutcome origin before (owned owner items)
+  owned_outcome (bare text) items low = name_or_fault choices origin before text is states low.0
+  owned_outcome (quoted text) items low = inr (NoOwner, refl)
+
+  -- ---- directives
+
+  origin_text_by : (text : List ℕ) → NameChoice origin before text → DirectiveChoice origin before (sets_origin (bare text ∷ []))
+  origin_text_by text (inl found) = inl (found.0, found.1.0)
+  origin_text_by text (inr bad) = inr bad
+
+  origin_or_fault : (items : List RawItem) → AreOctetItems items → DirectiveChoice origin before (sets_origin items)
+  origin_or_fault (bare text ∷ []) low = origin_text_by text (name_or_fault choices origin before text is states low.0)
+  origin_or_fault items low = inr (BadDirective, refl)
+
+  default_by : (text : List ℕ) → ((seconds : ℕ) × IsTtl text seconds) ⊎ ((seconds : ℕ) → IsTtl text seconds → ⊥) → DirectiveChoice origin before (sets_ttl (bare text ∷ []))
+  default_by text (inl found) = inl found
+  default_by text (inr no_ttl) = inr (BadTtl, (refl, no_ttl))
+
+  default_or_fault : (items : List RawItem) → DirectiveChoice origin before (sets_ttl items)
+  default_or_fault (bare text ∷ []) = default_by text (ttl_word_by lower text (choices.time text))
+  default_or_fault items = inr (BadDirective, refl)
+
+  directive_outcome : DirectiveChoice origin before (statement_of entry) → Outcome origin before entry
+  directive_outcome (inl n) = inl n
+  directive_outcome (inr bad) = inr (inr (bad.0, of_directive bad.1))
+
+  -- ---- the form
+
+  outcome_by : (form : Statement) → statement_of entry ≡ form → LowForm form → Outcome origin before entry
+  outcome_by no_items e low = directive_outcome (subst (DirectiveChoice origin before) (sym e) (inl tt))
+  outcome_by (sets_origin items) e low = directive_outcome (subst (DirectiveChoice origin before) (sym e) (origin_or_fault items low))
+  outcome_by (sets_ttl items) e low = directive_outcome (subst (DirectiveChoice origin before) (sym e) (default_or_fault items))
+  outcome_by includes e low = directive_outcome (subst (DirectiveChoice origin before) (sym e) (inr (IncludeDirective, refl)))
+  outcome_by unknown e low = directive_outcome (subst (DirectiveChoice origin before) (sym e) (inr (UnknownDirective, refl)))
+  outcome_by (owned owner items) e low =
+      from_owner (parts_after [] items) (ap parts_in e) (parts_good items [] tt low.1) (subst (OwnerOutcome origin before) (sym e) (owned_outcome owner items low))
+  outcome_by (unowned items) e low =
+      from_owner (parts_after [] items) (ap parts_in e) (parts_good items [] tt low) (subst (OwnerOutcome origin before) (sym e) (last_outcome items (last_owner origin before states)))
 
 low_directive : (item : RawItem) (items : List RawItem) → AreOctetItems items → LowForm (directive item items)
 low_directive (quoted text) items low = tt
@@ -211,4 +209,4 @@ low_form None (item ∷ items) low = low
 low_form (Some c) (item ∷ items) low = low_first (c == 36) (is_blank c) item items low
 
 pub entry_outcome : Lower → Choices → (origin : List (List ℕ)) (before : List Entry) (entry : Entry) → IsName origin → AllState origin before → AreOctetItems entry.items → Outcome origin before entry
-entry_outcome lower choices origin before entry is states low = outcome_by lower choices origin before entry (statement_of entry) refl is states (low_form entry.first entry.items low)
+entry_outcome lower choices origin before entry is states low = outcome_by lower choices origin before entry is states (statement_of entry) refl (low_form entry.first entry.items low)

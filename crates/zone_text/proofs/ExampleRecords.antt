@@ -34,9 +34,6 @@ digit c n is value = record { some = lit< tt; digits = (is, tt); value = value }
 pub five : IsTime (codes "5") 5
 five = plain (digit 53 5 refl refl)
 
-is_soa : IsKindWord (codes "SOA") 6
-is_soa = by_mnemonic (record { name = codes "SOA"; row = refl; same = refl })
-
 soa_kind : IsKind 6
 soa_kind = record { short = lit< tt; stored = refl }
 
@@ -78,7 +75,7 @@ soa_head text before entry words split owns values has = record {
   words = values;
   class = has;
   rest = refl;
-  named = is_soa;
+  named = by_mnemonic (record { name = codes "SOA"; row = refl; same = refl });
   kind = soa_kind;
 }
 
@@ -117,9 +114,6 @@ states_ns_below before entry ttl words split owns values has under_it lasts shor
 pub sixty_one : IsTime (codes "61") 61
 sixty_one = plain (record { some = lit< tt; digits = (refl, (refl, tt)); value = refl })
 
-ten : IsOctetNumber (codes "10") 10
-ten = record { number = record { some = lit< tt; digits = (refl, (refl, tt)); value = refl }; short = lit≤ tt }
-
 one_digit : (c n : ℕ) → is_digit c ≡ true → n ≡ decimal_value (c ∷ []) → n ≤ 255 → IsOctetNumber (c ∷ []) n
 one_digit c n is value short = record { number = digit c n is value; short = short }
 
@@ -130,14 +124,11 @@ address_states = record {
       numbers = codes "10" ∷ codes "0" ∷ codes "0" ∷ codes "1" ∷ [];
       counted = refl;
       parted = refl;
-      each = (ten, (one_digit 48 0 refl refl (lit≤ tt), (one_digit 48 0 refl refl (lit≤ tt), (one_digit 49 1 refl refl (lit≤ tt), tt))));
+      each = ((record { number = record { some = lit< tt; digits = (refl, (refl, tt)); value = refl }; short = lit≤ tt }), (one_digit 48 0 refl refl (lit≤ tt), (one_digit 48 0 refl refl (lit≤ tt), (one_digit 49 1 refl refl (lit≤ tt), tt))));
     }),
     tt,
   ) refl (lit≤ tt);
 }
-
-is_a : IsKindWord (codes "A") 1
-is_a = by_mnemonic (record { name = codes "A"; row = refl; same = refl })
 
 address_kind : IsKind 1
 address_kind = record { short = lit< tt; stored = refl }
@@ -169,7 +160,7 @@ states_address before entry owner ttl words split owns values has under_it lasts
     words = values;
     class = has;
     rest = refl;
-    named = is_a;
+    named = by_mnemonic (record { name = codes "A"; row = refl; same = refl });
     kind = address_kind;
   };
   rdata = record { above = x; under = under_it; states = address_states };

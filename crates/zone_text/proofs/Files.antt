@@ -10,11 +10,8 @@ use Rattle.zone_text.specs.Machine.Lower.{Lower, Once}
 use Rattle.zone_text.proofs.Cuttings.{one_cut, one_break, cut_not_broken}
 use Rattle.zone_text.proofs.Entered.{record_once, fault_once, record_or_fault, nothing_or_record, nothing_or_fault}
 
-same_placed : (p q : Placed) → p.rr ≡ q.rr → p.place ≡ q.place → p ≡ q
-same_placed p q a b = rw (a, b) refl
-
 pub one_more : (p q : Placed) (a b more others : List Placed) → p.rr ≡ q.rr → p.place ≡ q.place → a ≡ p ∷ more → b ≡ q ∷ others → more ≡ others → a ≡ b
-one_more p q a b more others rr place x y rest = let same : p ≡ q = same_placed p q rr place in cc
+one_more p q a b more others rr place x y rest = let same : p ≡ q = (rw (rr, place) refl) in cc
 
 -- the readings of entries
 

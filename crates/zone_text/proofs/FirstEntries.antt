@@ -169,15 +169,12 @@ pub cut_on : (octets rest left : List ℕ) (kept : List RawItem) → IsCutTo oct
 cut_on octets rest left kept so_far found =
     more_by octets rest left kept kept [] so_far found (subst (λ t. AreKept t kept) (sym (append-nil so_far.so_far)) so_far.are_kept)
 
-line_end : IsOneEntry (10 ∷ []) (line_feed ∷ [])
-line_end = record { cut = record { whole = refl; each = (tt, tt); follow = tt; balanced = refl }; ended = refl }
-
 pub cut_ended : (octets rest after : List ℕ) (raws : List RawItem) (c n : ℕ) → IsCutTo octets rest raws → rest ≡ c ∷ after → c ≡ 10 → n ≡ length octets - length after → IsFirstEntry octets n raws
 cut_ended octets rest after raws c n so_far first is count =
     let fed : List ℕ = 10 ∷ [] in
     let e : rest ≡ fed ++ after = first ∙ ap (λ d. d ∷ after) is in
     let some : 0 < length fed = omega arith in
-    let found = so_far.goes fed after (line_feed ∷ []) e some line_end in
+    let found = so_far.goes fed after (line_feed ∷ []) e some (record { cut = record { whole = refl; each = (tt, tt); follow = tt; balanced = refl }; ended = refl }) in
     let whole : octets ≡ (so_far.front ++ fed) ++ after = so_far.whole ∙ ap (λ t. so_far.front ++ t) e ∙ sym (append_assoc so_far.front fed after) in
     let len : length octets ≡ length (so_far.front ++ fed) + length after = ap length whole ∙ length-append (so_far.front ++ fed) after in
     let last : length (so_far.front ++ fed) ≡ length so_far.front + length fed = length-append so_far.front fed in

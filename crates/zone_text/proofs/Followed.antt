@@ -82,14 +82,6 @@ follow_on origin entries at unfinished part fed given scanned none follow =
 
 -- ---- an entry is ended
 
-reverse_more : (entries : List Entry) (entry : Entry) → reverse (entries ++ entry ∷ []) ≡ entry ∷ reverse entries
-reverse_more entries entry = reverse-append entries (entry ∷ [])
-
--- the entries after one more
-numbered_more : (ended : List (List Token)) (tokens : List Token) → reverse (numbered 1 (ended ++ tokens ∷ [])) ≡ entry_of (line_after ended) tokens ∷ reverse (numbered 1 ended)
-numbered_more ended tokens =
-    ap reverse (numbered_then 1 ended (tokens ∷ [])) ∙ reverse_more (numbered 1 ended) (entry_of (line_after ended) tokens)
-
 line_more : (ended : List (List Token)) (tokens : List Token) → line_after (ended ++ tokens ∷ []) ≡ line_after ended + line_feeds (text tokens)
 line_more ended tokens =
     ap (λ t. 1 + line_feeds t) (sym (flat_map_more text [] ended tokens))
@@ -111,7 +103,7 @@ left_over origin ended old new unfinished part fed given tokens is one read none
         are = inl (cut_more fed part ended unfinished tokens is.parts one.cut);
         whole = octets ∙ ap (λ t. flat_map text t ++ []) (sym all);
       };
-      inherited = subst (λ (t : List Entry). IsStateAfter origin t new.state) (ap (λ n. entry_of n tokens ∷ reverse (numbered 1 ended)) is.line ∙ sym (numbered_more ended tokens) ∙ ap (λ t. reverse (numbered 1 t)) (sym all)) (read.state none);
+      inherited = subst (λ (t : List Entry). IsStateAfter origin t new.state) (ap (λ n. entry_of n tokens ∷ reverse (numbered 1 ended)) is.line ∙ sym (ap reverse (numbered_then 1 ended (tokens ∷ [])) ∙ (reverse-append (numbered 1 ended) ((entry_of (line_after ended) tokens) ∷ []))) ∙ ap (λ t. reverse (numbered 1 t)) (sym all)) (read.state none);
       numbered = read.line none ∙ ap (λ n. n + line_feeds (text tokens)) is.line ∙ sym (line_more ended tokens) ∙ ap line_after (sym all);
     }
 

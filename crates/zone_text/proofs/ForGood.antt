@@ -48,9 +48,6 @@ after_units units other after rest each another none no_more e =
 lost_begins_none : (rest : List ℕ) → IsLostEscape rest → NoUnit is_quote rest
 lost_begins_none rest lost = at_backslash (malformed_is_bad rest (inl lost))
 
-cut_off_begins_none : (rest : List ℕ) → IsCutOff rest → NoUnit is_quote rest
-cut_off_begins_none rest cut = at_backslash (malformed_is_bad rest (inr cut))
-
 -- a backslash begins the text, and no quote or parenthesis
 begins_cut_off : (rest : List ℕ) → IsCutOff rest → (after : List ℕ) × (rest ≡ 92 ∷ after)
 begins_cut_off rest (after_backslash e) = ([], e)
@@ -86,7 +83,7 @@ stays_or_ends_alone rest (escape_stays lost) (quoted_escape_open units more each
     other_first 92 34 rest begins.0 (written_text units ++ more) begins.1 f (λ h. omega arith)
 stays_or_ends_alone rest (quoted_escape_stays other after another e lost) (quoted_escape_open units more each f cut) =
     let same : written_text other ++ after ≡ written_text units ++ more = after_quote rest (written_text other ++ after) (written_text units ++ more) e f in
-    let at : after ≡ more = after_units other units after more another each (lost_begins_none after lost) (cut_off_begins_none more cut) same in
+    let at : after ≡ more = after_units other units after more another each (lost_begins_none after lost) (at_backslash (malformed_is_bad more (inr cut))) same in
     lost_not_cut after lost (subst IsCutOff (sym at) cut)
 
 -- ---- a break of a text whose rest after its tokens is known

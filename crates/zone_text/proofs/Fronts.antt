@@ -77,9 +77,6 @@ sign_is c =
     cond_both (c == 59) a_semicolon of_item P (eqb-true c 59) λ e5.
     rw (e0, e1, e2, e3, e4, e5) refl
 
-sign_of_blank : (c : ℕ) → is_blank c ≡ true → sign_of c ≡ a_blank
-sign_of_blank c e = rw e refl
-
 sign_of_item : (c : ℕ) → ends_item c ≡ false → sign_of c ≡ of_item
 sign_of_item c e =
     let p5 = or_parts (is_blank c || c == 10 || c == 34 || c == 40 || c == 41) (c == 59) e in
@@ -226,7 +223,7 @@ front_of_quote depth octets units rest whole each none =
     ∙ ap (λ (found : Units). quoted_front found.units found.rest) (units_first_only is_quote octets units rest refl whole each none)
 
 pub front_takes : (depth : ℕ) (p : Token) (rest : List ℕ) → IsToken p → Stops p rest → HasRoom depth p → front_of depth (token_text p ++ rest) ≡ takes p rest
-front_takes depth (blank c) rest is stop room = at_sign depth c rest a_blank (sign_of_blank c is)
+front_takes depth (blank c) rest is stop room = at_sign depth c rest a_blank (rw is refl)
 front_takes depth line_feed rest is stop room = at_sign depth 10 rest a_line_feed refl
 front_takes depth opening rest is stop room = at_sign depth 40 rest an_opening refl
 front_takes zero closing rest is stop room = absurd (omega arith)
@@ -244,15 +241,11 @@ bad_escape_front depth rest bad =
     let P : List ℕ → Type 0 = λ t. front_of depth t ≡ stops (Some BadEscape) in
     subst P (sym bad.1) (front_of_units depth 92 bad.0 [] (92 ∷ bad.0) refl refl tt (at_backslash (subst IsBadEscape bad.1 bad)))
 
-bad_quote_front : (depth : ℕ) (units : List Written) (after : List ℕ) → AllByRecursion (IsUnit is_quote) units → IsBadEscape after → front_of depth (34 ∷ (written_text units ++ after)) ≡ stops (Some BadEscape)
-bad_quote_front depth units after each bad =
-    front_of_quote depth (written_text units ++ after) units after refl each (at_backslash bad) ∙ ap (quoted_front units) bad.1
-
 broken_front : (depth : ℕ) (rest : List ℕ) (fault : Fault) → IsBroken depth rest fault → front_of depth rest ≡ stops (Some fault)
 unfolding front_of
 broken_front depth rest fault (closes_nothing after e whole) = rw (e, whole) refl
 broken_front depth rest fault (no_escape bad) = bad_escape_front depth rest bad
-broken_front depth rest fault (no_quoted_escape units after each whole bad) = rw whole (bad_quote_front depth units after each bad)
+broken_front depth rest fault (no_quoted_escape units after each whole bad) = rw whole (front_of_quote depth (written_text units ++ after) units after refl each (at_backslash bad) ∙ ap (quoted_front units) bad.1)
 broken_front depth rest fault (no_quote units each whole) =
     rw whole (front_of_quote depth (written_text units) units [] (sym (append-nil (written_text units))) each (at_end refl))
 broken_front zero rest fault (not_closed some whole) = absurd (omega arith)

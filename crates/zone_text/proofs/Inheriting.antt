@@ -47,9 +47,6 @@ owner_by : (origin : Labels) (before : List Entry) (o : Option (List ℕ)) (owne
 owner_by origin before None owner e so_far = so_far
 owner_by origin before (Some text) owner e so_far = absurd (let clash : ⊥ = cc in clash)
 
-pub same_owner : (origin : Labels) (before : List Entry) (entry : Entry) (form : Statement) (owner : Option Labels) → statement_of entry ≡ form → owner_text form ≡ None → IsOneOrNone (IsLastOwner origin before) owner → IsOneOrNone (IsLastOwner origin (entry ∷ before)) owner
-same_owner origin before entry form owner is none so_far = owner_by origin before (owner_text (statement_of entry)) owner (ap owner_text is ∙ none) so_far
-
 -- a directive or a blank entry leaves what it does not set
 pub leaves : (origin : Labels) (before : List Entry) (entry : Entry) (form : Statement) (d : ParserState) (name : Labels) (seconds : Option ℕ) → statement_of entry ≡ form → parts_in form ≡ None → owner_text form ≡ None → IsStateAfter origin before d → IsOrigin origin (entry ∷ before) name → IsTtlOrNone (latest default_ttl_text (entry ∷ before)) seconds → IsStateAfter origin (entry ∷ before) (record { origin = name; owner = d.owner; class = d.class; default_ttl = seconds; last_ttl = d.last_ttl; minimum = d.minimum })
 leaves origin before entry form d name seconds is no_parts no_owner so_far under default =
@@ -58,7 +55,7 @@ leaves origin before entry form d name seconds is no_parts no_owner so_far under
     let ttl : ttl_text (statement_of entry) ≡ None = ap (λ (o : Option Parts). option_and_then (λ (parts : Parts). ttl_among parts.words) o) parts in
     record {
       under = under;
-      owner = same_owner origin before entry form d.owner is no_owner so_far.owner;
+      owner = owner_by origin before (owner_text (statement_of entry)) d.owner (ap owner_text is ∙ no_owner) so_far.owner;
       class = rw word (so_far.class);
       default_ttl = default;
       last_ttl = rw ttl (so_far.last_ttl);

@@ -17,23 +17,24 @@ spells_once lower Above one text a b x y =
     let same : x.0 ≡ y.0 = one x.0 y.0 x.1.0 y.1.0 in
     lower.name y.0 text a b (subst (λ above. Spells (Some above) text a) same x.1.1) y.1.1
 
-pub origin_once : Lower → (origin : List (List ℕ)) (before : List Entry) → Once (List (List ℕ)) (IsOrigin origin before)
-origin_once lower origin [] a b x y = x ∙ sym y
-origin_once lower origin (entry ∷ before) a b x y =
-    match_once (List ℕ) (List (List ℕ)) (origin_text (statement_of entry)) (IsOrigin origin before) (λ text name. (above : List (List ℕ)) × (IsOrigin origin before above × Spells (Some above) text name)) (origin_once lower origin before) (spells_once lower (IsOrigin origin before) (origin_once lower origin before)) a b x y
+module _ (lower : Lower) (origin : List (List ℕ)) where
+  pub origin_once : (before : List Entry) → Once (List (List ℕ)) (IsOrigin origin before)
+  origin_once [] a b x y = x ∙ sym y
+  origin_once (entry ∷ before) a b x y =
+      match_once (List ℕ) (List (List ℕ)) (origin_text (statement_of entry)) (IsOrigin origin before) (λ text name. (above : List (List ℕ)) × (IsOrigin origin before above × Spells (Some above) text name)) (origin_once before) (spells_once lower (IsOrigin origin before) (origin_once before)) a b x y
 
-pub spells_after_once : Lower → (origin : List (List ℕ)) (before : List Entry) (text : List ℕ) → Once (List (List ℕ)) (SpellsAfter origin before text)
-spells_after_once lower origin before text = spells_once lower (IsOrigin origin before) (origin_once lower origin before) text
+  pub spells_after_once : (before : List Entry) (text : List ℕ) → Once (List (List ℕ)) (SpellsAfter origin before text)
+  spells_after_once before text = spells_once lower (IsOrigin origin before) (origin_once before) text
 
-pub last_owner_once : Lower → (origin : List (List ℕ)) (before : List Entry) → Once (List (List ℕ)) (IsLastOwner origin before)
-last_owner_once lower origin [] a b x y = absurd x
-last_owner_once lower origin (entry ∷ before) a b x y =
-    match_once (List ℕ) (List (List ℕ)) (owner_text (statement_of entry)) (IsLastOwner origin before) (SpellsAfter origin before) (last_owner_once lower origin before) (spells_after_once lower origin before) a b x y
+  pub last_owner_once : (before : List Entry) → Once (List (List ℕ)) (IsLastOwner origin before)
+  last_owner_once [] a b x y = absurd x
+  last_owner_once (entry ∷ before) a b x y =
+      match_once (List ℕ) (List (List ℕ)) (owner_text (statement_of entry)) (IsLastOwner origin before) (SpellsAfter origin before) (last_owner_once before) (spells_after_once before) a b x y
 
-pub owner_once : Lower → (origin : List (List ℕ)) (before : List Entry) (form : Statement) → Once (List (List ℕ)) (IsOwner origin before form)
-owner_once lower origin before (owned (bare text) items) a b x y = spells_after_once lower origin before text a b x y
-owner_once lower origin before (unowned items) a b x y = last_owner_once lower origin before a b x y
-owner_once lower origin before form a b x y = absurd x
+  pub owner_once : (before : List Entry) (form : Statement) → Once (List (List ℕ)) (IsOwner origin before form)
+  owner_once before (owned (bare text) items) a b x y = spells_after_once before text a b x y
+  owner_once before (unowned items) a b x y = last_owner_once before a b x y
+  owner_once before form a b x y = absurd x
 
 pub class_once : Lower → (before : List Entry) (entry : Entry) → Once ℕ (HasClass before entry)
 class_once lower before entry a b x y =
@@ -42,38 +43,39 @@ class_once lower before entry a b x y =
 same_head : (h k : Head) → h.owner ≡ k.owner → h.class ≡ k.class → h.kind ≡ k.kind → h.items ≡ k.items → h ≡ k
 same_head h k a b c d = rw (a, b, c, d) refl
 
-pub head_once : Lower → (origin : List (List ℕ)) (before : List Entry) (entry : Entry) → Once Head (HasHead origin before entry)
-head_once lower origin before entry h k x y =
-    let split : Some x.parts ≡ Some y.parts = sym x.split ∙ y.split in
-    let parts : x.parts ≡ y.parts = cc in
-    let rest : bare x.word ∷ h.items ≡ bare y.word ∷ k.items = sym x.rest ∙ (ap (λ p. p.rest) parts ∙ y.rest) in
-    let word : x.word ≡ y.word = cc in
-    let items : h.items ≡ k.items = cc in
-    same_head h k (owner_once lower origin before (statement_of entry) h.owner k.owner x.owner y.owner)
-    (class_once lower before entry h.class k.class x.class y.class)
-    (lower.kind y.word h.kind k.kind (rw (← word) (x.named)) y.named)
-    items
+module _ (lower : Lower) (origin : List (List ℕ)) where
+  pub head_once : (before : List Entry) (entry : Entry) → Once Head (HasHead origin before entry)
+  head_once before entry h k x y =
+      let split : Some x.parts ≡ Some y.parts = sym x.split ∙ y.split in
+      let parts : x.parts ≡ y.parts = cc in
+      let rest : bare x.word ∷ h.items ≡ bare y.word ∷ k.items = sym x.rest ∙ (ap (λ p. p.rest) parts ∙ y.rest) in
+      let word : x.word ≡ y.word = cc in
+      let items : h.items ≡ k.items = cc in
+      same_head h k (owner_once lower origin before (statement_of entry) h.owner k.owner x.owner y.owner)
+      (class_once lower before entry h.class k.class x.class y.class)
+      (lower.kind y.word h.kind k.kind (rw (← word) (x.named)) y.named)
+      items
 
-pub states_once : Lower → (origin : List (List ℕ)) (before : List Entry) (head : Head) → Once (List ℕ) (StatesData origin before head)
-states_once lower origin before head a b x y =
-    let same : x.above ≡ y.above = origin_once lower origin before x.above y.above x.under y.under in
-    lower.rdata y.above head.class head.kind head.items a b (subst (λ above. States above head.class head.kind head.items a) same x.states) y.states
+  pub states_once : (before : List Entry) (head : Head) → Once (List ℕ) (StatesData origin before head)
+  states_once before head a b x y =
+      let same : x.above ≡ y.above = origin_once lower origin before x.above y.above x.under y.under in
+      lower.rdata y.above head.class head.kind head.items a b (subst (λ above. States above head.class head.kind head.items a) same x.states) y.states
 
-pub minimum_once : Lower → (origin : List (List ℕ)) (before : List Entry) (entry : Entry) → Once ℕ (StatesMinimum origin before entry)
-minimum_once lower origin before entry a b x y =
-    let head : x.head ≡ y.head = head_once lower origin before entry x.head y.head x.has y.has in
-    let octets : x.octets ≡ y.octets = states_once lower origin before y.head x.octets y.octets (subst (λ h. StatesData origin before h x.octets) head x.rdata) y.rdata in
-    let left : minimum (record { class = x.head.class; kind = x.head.kind; octets = x.octets }) ≡ minimum (record { class = y.head.class; kind = y.head.kind; octets = y.octets }) = rw (head, octets) refl in
-    let values : Some a ≡ Some b = sym x.field ∙ (left ∙ y.field) in
-    cc
+  pub minimum_once : (before : List Entry) (entry : Entry) → Once ℕ (StatesMinimum origin before entry)
+  minimum_once before entry a b x y =
+      let head : x.head ≡ y.head = head_once before entry x.head y.head x.has y.has in
+      let octets : x.octets ≡ y.octets = states_once before y.head x.octets y.octets (subst (λ h. StatesData origin before h x.octets) head x.rdata) y.rdata in
+      let left : minimum (record { class = x.head.class; kind = x.head.kind; octets = x.octets }) ≡ minimum (record { class = y.head.class; kind = y.head.kind; octets = y.octets }) = rw (head, octets) refl in
+      let values : Some a ≡ Some b = sym x.field ∙ (left ∙ y.field) in
+      cc
 
-pub last_minimum_once : Lower → (origin : List (List ℕ)) (before : List Entry) → Once ℕ (IsLastMinimum origin before)
-last_minimum_once lower origin [] a b x y = absurd x
-last_minimum_once lower origin (entry ∷ before) a b (inl x) (inl y) = minimum_once lower origin before entry a b x y
-last_minimum_once lower origin (entry ∷ before) a b (inl x) (inr y) = absurd (y.0 a x)
-last_minimum_once lower origin (entry ∷ before) a b (inr x) (inl y) = absurd (x.0 b y)
-last_minimum_once lower origin (entry ∷ before) a b (inr x) (inr y) = last_minimum_once lower origin before a b x.1 y.1
+  pub last_minimum_once : (before : List Entry) → Once ℕ (IsLastMinimum origin before)
+  last_minimum_once [] a b x y = absurd x
+  last_minimum_once (entry ∷ before) a b (inl x) (inl y) = minimum_once before entry a b x y
+  last_minimum_once (entry ∷ before) a b (inl x) (inr y) = absurd (y.0 a x)
+  last_minimum_once (entry ∷ before) a b (inr x) (inl y) = absurd (x.0 b y)
+  last_minimum_once (entry ∷ before) a b (inr x) (inr y) = last_minimum_once before a b x.1 y.1
 
-pub ttl_once : Lower → (origin : List (List ℕ)) (before : List Entry) (entry : Entry) → Once ℕ (HasTtl origin before entry)
-ttl_once lower origin before entry a b x y =
-    match_once (List ℕ) ℕ (stated_ttl before entry) (IsLastMinimum origin (entry ∷ before)) IsTime (last_minimum_once lower origin (entry ∷ before)) lower.time a b x y
+  pub ttl_once : (before : List Entry) (entry : Entry) → Once ℕ (HasTtl origin before entry)
+  ttl_once before entry a b x y =
+      match_once (List ℕ) ℕ (stated_ttl before entry) (IsLastMinimum origin (entry ∷ before)) IsTime (last_minimum_once (entry ∷ before)) lower.time a b x y

@@ -29,9 +29,6 @@ use Rattle.zone_text.proofs.ForGood.{stays_for_good, ends_not_for_good}
 abbrev pub line_feeds : List ℕ → ℕ
 line_feeds octets = count_by (λ c. c == 10) octets
 
-more_records : (p : Placed) (placed rest more : List Placed) → placed ≡ p ∷ rest → placed ++ more ≡ p ∷ (rest ++ more)
-more_records p placed rest more e = ap (λ t. t ++ more) e
-
 none_is_some : {A : Type 0} (x : A) → None ≡ Some x → ⊥
 none_is_some x e = cc
 
@@ -41,28 +38,29 @@ turned entry entries before =
     ap (λ t. t ++ before) (reverse-append (entry ∷ []) entries) ∙ append_assoc (reverse entries) (entry ∷ []) before
 
 -- entries of which none is refused, and others after them
-pub reads_then : (origin : List (List ℕ)) (after : Ending) (before entries more : List Entry) (placed others : List Placed) (ending : Ending) → ReadEach origin None before entries placed None → ReadEach origin after (reverse entries ++ before) more others ending → ReadEach origin after before (entries ++ more) (placed ++ others) ending
-reads_then origin after before [] more placed others ending read next =
-    subst (λ t. ReadEach origin after before more t ending) (ap (λ t. t ++ others) (sym read.0)) next
-reads_then origin after before (entry ∷ entries) more placed others ending (stated (states_none n read)) next =
-    stated (states_none n (reads_then origin after (entry ∷ before) entries more placed others ending read (subst (λ t. ReadEach origin after t more others ending) (turned entry entries before) next)))
-reads_then origin after before (entry ∷ entries) more placed others ending (stated (states_one p rest states place e read)) next =
-    stated (states_one p (rest ++ others) states place (more_records p placed rest others e) (reads_then origin after (entry ∷ before) entries more rest others ending read (subst (λ t. ReadEach origin after t more others ending) (turned entry entries before) next)))
-reads_then origin after before (entry ∷ entries) more placed others ending (refused fault h e f) next = absurd (none_is_some (fault, Line entry.line) f)
+module _ (origin : List (List ℕ)) (after : Ending) where
+  pub reads_then : (before entries more : List Entry) (placed others : List Placed) (ending : Ending) → ReadEach origin None before entries placed None → ReadEach origin after (reverse entries ++ before) more others ending → ReadEach origin after before (entries ++ more) (placed ++ others) ending
+  reads_then before [] more placed others ending read next =
+      subst (λ t. ReadEach origin after before more t ending) (ap (λ t. t ++ others) (sym read.0)) next
+  reads_then before (entry ∷ entries) more placed others ending (stated (states_none n read)) next =
+      stated (states_none n (reads_then (entry ∷ before) entries more placed others ending read (subst (λ t. ReadEach origin after t more others ending) (turned entry entries before) next)))
+  reads_then before (entry ∷ entries) more placed others ending (stated (states_one p rest states place e read)) next =
+      stated (states_one p (rest ++ others) states place (ap (λ t. t ++ others) e) (reads_then (entry ∷ before) entries more rest others ending read (subst (λ t. ReadEach origin after t more others ending) (turned entry entries before) next)))
+  reads_then before (entry ∷ entries) more placed others ending (refused fault h e f) next = absurd (none_is_some (fault, Line entry.line) f)
 
--- entries of which one is refused, whatever follows them
-pub refused_before : (origin : List (List ℕ)) (after : Ending) (before entries more : List Entry) (placed : List Placed) (found : Fault × Place) → ReadEach origin None before entries placed (Some found) → ReadEach origin after before (entries ++ more) placed (Some found)
-refused_before origin after before [] more placed found read = absurd (none_is_some found (sym read.1))
-refused_before origin after before (entry ∷ entries) more placed found (stated (states_none n read)) = stated (states_none n (refused_before origin after (entry ∷ before) entries more placed found read))
-refused_before origin after before (entry ∷ entries) more placed found (stated (states_one p rest states place e read)) = stated (states_one p rest states place e (refused_before origin after (entry ∷ before) entries more rest found read))
-refused_before origin after before (entry ∷ entries) more placed found (refused fault h e f) = refused fault h e f
+  -- entries of which one is refused, whatever follows them
+  pub refused_before : (before entries more : List Entry) (placed : List Placed) (found : Fault × Place) → ReadEach origin None before entries placed (Some found) → ReadEach origin after before (entries ++ more) placed (Some found)
+  refused_before before [] more placed found read = absurd (none_is_some found (sym read.1))
+  refused_before before (entry ∷ entries) more placed found (stated (states_none n read)) = stated (states_none n (refused_before (entry ∷ before) entries more placed found read))
+  refused_before before (entry ∷ entries) more placed found (stated (states_one p rest states place e read)) = stated (states_one p rest states place e (refused_before (entry ∷ before) entries more rest found read))
+  refused_before before (entry ∷ entries) more placed found (refused fault h e f) = refused fault h e f
 
--- the same entries, and what follows them
-pub reads_after : (origin : List (List ℕ)) (after : Ending) (before entries : List Entry) (placed : List Placed) → ReadEach origin None before entries placed None → ReadEach origin after before entries placed after
-reads_after origin after before [] placed read = (read.0, refl)
-reads_after origin after before (entry ∷ entries) placed (stated (states_none n read)) = stated (states_none n (reads_after origin after (entry ∷ before) entries placed read))
-reads_after origin after before (entry ∷ entries) placed (stated (states_one p rest states place e read)) = stated (states_one p rest states place e (reads_after origin after (entry ∷ before) entries rest read))
-reads_after origin after before (entry ∷ entries) placed (refused fault h e f) = absurd (none_is_some (fault, Line entry.line) f)
+  -- the same entries, and what follows them
+  pub reads_after : (before entries : List Entry) (placed : List Placed) → ReadEach origin None before entries placed None → ReadEach origin after before entries placed after
+  reads_after before [] placed read = (read.0, refl)
+  reads_after before (entry ∷ entries) placed (stated (states_none n read)) = stated (states_none n (reads_after (entry ∷ before) entries placed read))
+  reads_after before (entry ∷ entries) placed (stated (states_one p rest states place e read)) = stated (states_one p rest states place e (reads_after (entry ∷ before) entries rest read))
+  reads_after before (entry ∷ entries) placed (refused fault h e f) = absurd (none_is_some (fault, Line entry.line) f)
 
 -- ---- lines
 
@@ -88,39 +86,40 @@ split fed tokens unfinished are rest = record {
 }
 
 -- other octets after them
-longer : (fed more : List ℕ) (ended : List (List Token)) (unfinished : List ℕ) → IsSplit fed ended unfinished → fed ++ more ≡ text (joined ended) ++ (unfinished ++ more)
-longer fed more ended unfinished is = ap (λ t. t ++ more) is.whole ∙ append_assoc (text (joined ended)) unfinished more
+module _ (fed more : List ℕ) (ended : List (List Token)) (unfinished : List ℕ) where
+  longer : IsSplit fed ended unfinished → fed ++ more ≡ text (joined ended) ++ (unfinished ++ more)
+  longer is = ap (λ t. t ++ more) is.whole ∙ append_assoc (text (joined ended)) unfinished more
 
-pub whole_after : (fed more : List ℕ) (ended : List (List Token)) (unfinished : List ℕ) → IsSplit fed ended unfinished → fed ++ more ≡ flat_map text ended ++ (unfinished ++ more)
-whole_after fed more ended unfinished is = longer fed more ended unfinished is ∙ ap (λ t. t ++ (unfinished ++ more)) (sym (text_of_entries ended))
+  pub whole_after : IsSplit fed ended unfinished → fed ++ more ≡ flat_map text ended ++ (unfinished ++ more)
+  whole_after is = longer is ∙ ap (λ t. t ++ (unfinished ++ more)) (sym (text_of_entries ended))
 
-pub cut_more : (fed more : List ℕ) (ended : List (List Token)) (unfinished : List ℕ) (tokens : List Token) → IsSplit fed ended unfinished → Cuts (unfinished ++ more) tokens → Cuts (fed ++ more) (joined ended ++ tokens)
-cut_more fed more ended unfinished tokens is cut =
-    subst (λ t. Cuts t (joined ended ++ tokens)) (sym (longer fed more ended unfinished is)) (cut_joined (text (joined ended)) (unfinished ++ more) (joined ended) tokens is.front is.stays.ends cut)
+  pub cut_more : (tokens : List Token) → IsSplit fed ended unfinished → Cuts (unfinished ++ more) tokens → Cuts (fed ++ more) (joined ended ++ tokens)
+  cut_more tokens is cut =
+      subst (λ t. Cuts t (joined ended ++ tokens)) (sym (longer is)) (cut_joined (text (joined ended)) (unfinished ++ more) (joined ended) tokens is.front is.stays.ends cut)
 
-pub break_more : (fed more : List ℕ) (ended : List (List Token)) (unfinished : List ℕ) (tokens : List Token) (fault : Fault) → IsSplit fed ended unfinished → Breaks (unfinished ++ more) tokens fault → Breaks (fed ++ more) (joined ended ++ tokens) fault
-break_more fed more ended unfinished tokens fault is breaks =
-    subst (λ t. Breaks t (joined ended ++ tokens) fault) (sym (longer fed more ended unfinished is)) (break_joined (text (joined ended)) (unfinished ++ more) (joined ended) tokens fault is.front is.stays.ends breaks)
+  pub break_more : (tokens : List Token) (fault : Fault) → IsSplit fed ended unfinished → Breaks (unfinished ++ more) tokens fault → Breaks (fed ++ more) (joined ended ++ tokens) fault
+  break_more tokens fault is breaks =
+      subst (λ t. Breaks t (joined ended ++ tokens) fault) (sym (longer is)) (break_joined (text (joined ended)) (unfinished ++ more) (joined ended) tokens fault is.front is.stays.ends breaks)
 
-pub tokens_more : (fed more : List ℕ) (ended : List (List Token)) (unfinished : List ℕ) (tokens : List Token) → IsSplit fed ended unfinished → AreTokens (unfinished ++ more) tokens → AreTokens (fed ++ more) (joined ended ++ tokens)
-tokens_more fed more ended unfinished tokens is (inl cut) = inl (cut_more fed more ended unfinished tokens is cut)
-tokens_more fed more ended unfinished tokens is (inr found) = inr (found.0, break_more fed more ended unfinished tokens found.0 is found.1)
+  pub tokens_more : (tokens : List Token) → IsSplit fed ended unfinished → AreTokens (unfinished ++ more) tokens → AreTokens (fed ++ more) (joined ended ++ tokens)
+  tokens_more tokens is (inl cut) = inl (cut_more tokens is cut)
+  tokens_more tokens is (inr found) = inr (found.0, break_more tokens found.0 is found.1)
 
--- what breaks the octets after the ended entries, as the octets so far show, breaks all
-after_tokens : (fed more : List ℕ) (ended : List (List Token)) (unfinished : List ℕ) (tokens : List Token) (rest : List ℕ) → IsSplit fed ended unfinished → unfinished ++ more ≡ text tokens ++ rest → fed ++ more ≡ text (joined ended ++ tokens) ++ rest
-after_tokens fed more ended unfinished tokens rest is e =
-    longer fed more ended unfinished is
-    ∙ ap (λ t. text (joined ended) ++ t) e
-    ∙ sym (append_assoc (text (joined ended)) (text tokens) rest)
-    ∙ ap (λ t. t ++ rest) (sym (flat_map-append token_text (joined ended) tokens))
+  -- what breaks the octets after the ended entries, as the octets so far show, breaks all
+  after_tokens : (tokens : List Token) (rest : List ℕ) → IsSplit fed ended unfinished → unfinished ++ more ≡ text tokens ++ rest → fed ++ more ≡ text (joined ended ++ tokens) ++ rest
+  after_tokens tokens rest is e =
+      longer is
+      ∙ ap (λ t. text (joined ended) ++ t) e
+      ∙ sym (append_assoc (text (joined ended)) (text tokens) rest)
+      ∙ ap (λ t. t ++ rest) (sym (flat_map-append token_text (joined ended) tokens))
 
-pub for_good_more : (fed more : List ℕ) (ended : List (List Token)) (unfinished : List ℕ) (tokens : List Token) (fault : Fault) → IsSplit fed ended unfinished → BreaksForGood (unfinished ++ more) tokens fault → BreaksForGood (fed ++ more) (joined ended ++ tokens) fault
-for_good_more fed more ended unfinished tokens fault is good =
-    stays_for_good (fed ++ more) (joined ended ++ tokens) fault
-    (break_more fed more ended unfinished tokens fault is good.breaks)
-    good.breaks.rest
-    (after_tokens fed more ended unfinished tokens good.breaks.rest is good.breaks.whole)
-    good.stays
+  pub for_good_more : (tokens : List Token) (fault : Fault) → IsSplit fed ended unfinished → BreaksForGood (unfinished ++ more) tokens fault → BreaksForGood (fed ++ more) (joined ended ++ tokens) fault
+  for_good_more tokens fault is good =
+      stays_for_good (fed ++ more) (joined ended ++ tokens) fault
+      (break_more tokens fault is good.breaks)
+      good.breaks.rest
+      (after_tokens tokens good.breaks.rest is good.breaks.whole)
+      good.stays
 
 -- and where nothing does yet, nothing does
 pub none_cut : (octets : List ℕ) (tokens : List Token) → Cuts octets tokens → (fault : Fault) → BreaksForGood octets tokens fault → ⊥

@@ -35,29 +35,30 @@ step_once A Good Bad good bad either (Err f) (Err g) p q = ap Err (bad f g p q)
 
 -- names
 
-pub name_fault_once : Lower → (origin : List (List ℕ)) (before : List Entry) (text : List ℕ) → Once Fault (IsNameFaultAfter origin before text)
-name_fault_once lower origin before text f g x y =
-    let above : x.0 ≡ y.0 = origin_once lower origin before x.0 y.0 x.1.0 y.1.0 in
-    let found : x.1.1.0 ≡ y.1.1.0 = lower.name_fault y.0 text x.1.1.0 y.1.1.0 (subst (λ a. SpellingFault (Some a) text x.1.1.0) above x.1.1.1) y.1.1.1 in
-    x.1.1.2 ∙ (ap fault_of found ∙ sym y.1.1.2)
+module _ (lower : Lower) (origin : List (List ℕ)) (before : List Entry) where
+  pub name_fault_once : (text : List ℕ) → Once Fault (IsNameFaultAfter origin before text)
+  name_fault_once text f g x y =
+      let above : x.0 ≡ y.0 = origin_once lower origin before x.0 y.0 x.1.0 y.1.0 in
+      let found : x.1.1.0 ≡ y.1.1.0 = lower.name_fault y.0 text x.1.1.0 y.1.1.0 (subst (λ a. SpellingFault (Some a) text x.1.1.0) above x.1.1.1) y.1.1.1 in
+      x.1.1.2 ∙ (ap fault_of found ∙ sym y.1.1.2)
 
-pub name_or_fault : Lower → (origin : List (List ℕ)) (before : List Entry) (text : List ℕ) (name : List (List ℕ)) (fault : Fault) → SpellsAfter origin before text name → IsNameFaultAfter origin before text fault → ⊥
-name_or_fault lower origin before text name fault x y =
-    let above : x.0 ≡ y.0 = origin_once lower origin before x.0 y.0 x.1.0 y.1.0 in
-    lower.name_or_fault x.0 text name y.1.1.0 x.1.1 (subst (λ a. SpellingFault (Some a) text y.1.1.0) (sym above) y.1.1.1)
+  pub name_or_fault : (text : List ℕ) (name : List (List ℕ)) (fault : Fault) → SpellsAfter origin before text name → IsNameFaultAfter origin before text fault → ⊥
+  name_or_fault text name fault x y =
+      let above : x.0 ≡ y.0 = origin_once lower origin before x.0 y.0 x.1.0 y.1.0 in
+      lower.name_or_fault x.0 text name y.1.1.0 x.1.1 (subst (λ a. SpellingFault (Some a) text y.1.1.0) (sym above) y.1.1.1)
 
--- the owner
+  -- the owner
 
-owner_fault_once : Lower → (origin : List (List ℕ)) (before : List Entry) (form : Statement) → Once Fault (OwnerFault origin before form)
-owner_fault_once lower origin before (owned (quoted text) items) f g x y = x ∙ sym y
-owner_fault_once lower origin before (owned (bare text) items) f g x y = name_fault_once lower origin before text f g x y
-owner_fault_once lower origin before (unowned items) f g x y = x.0 ∙ sym y.0
-owner_fault_once lower origin before form f g x y = absurd x
+  owner_fault_once : (form : Statement) → Once Fault (OwnerFault origin before form)
+  owner_fault_once (owned (quoted text) items) f g x y = x ∙ sym y
+  owner_fault_once (owned (bare text) items) f g x y = name_fault_once text f g x y
+  owner_fault_once (unowned items) f g x y = x.0 ∙ sym y.0
+  owner_fault_once form f g x y = absurd x
 
-owner_or_fault : Lower → (origin : List (List ℕ)) (before : List Entry) (form : Statement) (name : List (List ℕ)) (fault : Fault) → IsOwner origin before form name → OwnerFault origin before form fault → ⊥
-owner_or_fault lower origin before (owned (bare text) items) name f x y = name_or_fault lower origin before text name f x y
-owner_or_fault lower origin before (unowned items) name f x y = y.1 name x
-owner_or_fault lower origin before form name f x y = x
+  owner_or_fault : (form : Statement) (name : List (List ℕ)) (fault : Fault) → IsOwner origin before form name → OwnerFault origin before form fault → ⊥
+  owner_or_fault (owned (bare text) items) name f x y = name_or_fault text name f x y
+  owner_or_fault (unowned items) name f x y = y.1 name x
+  owner_or_fault form name f x y = x
 
 -- the words before the type
 

@@ -84,9 +84,6 @@ line_read octets e = record {
   entries = refl;
 }
 
-closing_read : (octets : List ℕ) → octets ≡ 41 ∷ [] → IsRead ClosesNothing zero octets
-closing_read octets e = stop_read ClosesNothing zero octets (closes_nothing [] refl e) (closing_stays [] e) refl
-
 at_depth : (step last : Step) (depth : ℕ) (octets : List ℕ) → step ≡ last → depth ≡ 0 → IsRead last zero octets → IsRead step depth octets
 at_depth step last depth octets e d read = subst (λ s. IsRead s depth octets) (sym e) (subst (λ n. IsRead last n octets) (sym d) read)
 
@@ -117,7 +114,7 @@ token_read step depth octets p rest front none more = record {
 
 pub is_read : (step : Step) (depth : ℕ) (octets : List ℕ) → Reads step depth octets → IsRead step depth octets
 is_read step _ _ (ends depth octets e d f) = at_depth step Ends depth octets e d (line_read octets f)
-is_read step _ _ (closes depth octets e d f) = at_depth step ClosesNothing depth octets e d (closing_read octets f)
+is_read step _ _ (closes depth octets e d f) = at_depth step ClosesNothing depth octets e d (stop_read ClosesNothing zero octets (closes_nothing [] refl f) (closing_stays [] f) refl)
 is_read step _ _ (runs_out depth octets ran f) = out_read step (unclosed depth) depth octets ran (unclosed_ends depth octets f) (nothing_left f)
 is_read step _ _ (in_quote depth octets units ran each f) = out_read step (Some UnclosedQuote) depth octets ran (no_quote units each f) (quote_open units each f)
 is_read step _ _ (in_escape depth octets open_escape) =
