@@ -25,8 +25,7 @@ use Rattle.zone_text.proofs.Followed.{follow_entry}
 use Rattle.zone_text.proofs.Fronts.{EndsComment, comment_dropped, comment_each, comment_ends, comment_whole}
 use Rattle.zone_text.proofs.Inheriting.{leaves, same_default, same_origin}
 use Rattle.zone_text.proofs.Left.{line_feeds}
-use Rattle.zone_text.proofs.FedPieces.{HasFed, fed_more}
-use Rattle.zone_text.proofs.PartTaken.{FollowsOn}
+use Rattle.zone_text.proofs.FedPieces.{HasFed, fed_more, FollowsOn}
 
 pub comment_ended : (octets after rest : List ℕ) (n c : ℕ) → n ≡ length (before_line_feed octets) → after ≡ drop n octets → after ≡ c ∷ rest → IsComment octets rest
 comment_ended octets after rest n c len back first =

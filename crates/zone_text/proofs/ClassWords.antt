@@ -70,10 +70,10 @@ time_first text n (grouped groups some each e value) = rw e (groups_first groups
 
 both_true : (a b : Bool) → (a && b) ≡ true → (a ≡ true) × (b ≡ true)
 both_true true b e = (refl, e)
-both_true false b e = absurd (let t : ⊥ = cc in t)
+both_true false b e = absurd cc
 
 digits_all : (text : List ℕ) → are_digits text ≡ true → (0 < length text) × AllByRecursion (λ c. is_digit c ≡ true) text
-digits_all [] e = absurd (let t : ⊥ = cc in t)
+digits_all [] e = absurd cc
 digits_all (c ∷ []) e = (omega arith, (e, tt))
 digits_all (c ∷ d ∷ text) e =
     let both = both_true (is_digit c) (are_digits (d ∷ text)) e in
@@ -81,7 +81,7 @@ digits_all (c ∷ d ∷ text) e =
     (omega arith, (both.0, rest.1))
 
 named_class : (text : List ℕ) (found : Option ℕ) → number_among classes text ≡ found → is_some found ≡ true → (m : ℕ) × IsClassWord text m
-named_class text None e some = absurd (let t : ⊥ = cc in t)
+named_class text None e some = absurd cc
 named_class text (Some n) e some = (n, by_mnemonic (number_is classes refl text n e))
 
 numbered_class : (text : List ℕ) → (bytes_eq (take 5 (folded_label text)) (codes "class") && are_digits (drop 5 text)) ≡ true → (m : ℕ) × IsClassWord text m

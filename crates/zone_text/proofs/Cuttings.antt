@@ -45,7 +45,7 @@ follows (comment octets) q rest is stop = follows_comment octets q rest is stop
 follows (bare units) q rest is stop = follows_bare units q rest is stop
 follows p q rest is stop = tt
 
-after_bare : (units : List Written) (q : Token) (rest : List ℕ) → IsToken q → MayFollow (bare units) q → NoUnit ends_item (token_text q ++ rest)
+pub after_bare : (units : List Written) (q : Token) (rest : List ℕ) → IsToken q → MayFollow (bare units) q → NoUnit ends_item (token_text q ++ rest)
 after_bare units (blank c) rest is may = at_octet c rest refl (rw is refl)
 after_bare units line_feed rest is may = at_octet 10 rest refl refl
 after_bare units opening rest is may = at_octet 40 rest refl refl

@@ -36,7 +36,7 @@ pub reads_on : Lower → (origin : List (List ℕ)) (after : Ending) (before ent
 reads_on lower origin after before [] others a b e f x y = record {
   others = b;
   first = ap (λ t. t ++ b) (sym x.0);
-  fault = λ found is. let end = x.1 in absurd (let t : ⊥ = cc in t);
+  fault = λ found is. let end = x.1 in absurd cc;
 }
 reads_on lower origin after before (entry ∷ entries) others a b e f (stated (states_none n xs)) (stated (states_none m ys)) = reads_on lower origin after (entry ∷ before) entries others a b e f xs ys
 reads_on lower origin after before (entry ∷ entries) others a b e f (stated (states_none n xs)) (stated (states_one q more r at w ys)) = absurd (nothing_or_record origin before entry q.rr n r)

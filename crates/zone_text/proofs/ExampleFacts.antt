@@ -80,7 +80,7 @@ pub states_server : (above : List (List ℕ)) (class : ℕ) (text : List ℕ) �
 states_server above class text not_mark spells = record { stated = in_words (Name ∷ []) (name (under 110 x) ∷ []) refl (λ is. let e = is.1 in not_mark (let mark : text ≡ codes "\\#" = cc in mark)) (spells, tt) refl (lit≤ tt) }
 
 pub ns_states : (above : List (List ℕ)) (class : ℕ) → States above class 2 (bare (codes "n.x.") ∷ []) (wire (under 110 x))
-ns_states above class = states_server above class (codes "n.x.") (λ e. absurd (let t : ⊥ = cc in t)) (n_spells above)
+ns_states above class = states_server above class (codes "n.x.") (λ e. absurd cc) (n_spells above)
 
 ns_fits : (owner : List (List ℕ)) (class ttl : ℕ) → IsName owner → IsClass class → ttl ≤ 2147483647 → IsRecord (ns owner class ttl)
 unfolding labels_of
@@ -119,7 +119,7 @@ states_server_by text origin before entry owner above class ttl words not_mark s
 }
 
 pub states_ns : (origin : List (List ℕ)) (before : List Entry) (entry : Entry) (owner above : List (List ℕ)) (class ttl : ℕ) (words : List Word) → parts_of entry ≡ Some (record { words = words; rest = bare (codes "NS") ∷ bare (codes "n.x.") ∷ [] }) → IsOwner origin before (statement_of entry) owner → AllByRecursion HasValue words → HasClass before entry class → IsOrigin origin before above → HasTtl origin before entry ttl → IsName owner → IsClass class → ttl ≤ 2147483647 → EntryStates origin before entry (ns owner class ttl)
-states_ns origin before entry owner above class ttl words = states_server_by (codes "n.x.") origin before entry owner above class ttl words (λ e. absurd (let t : ⊥ = cc in t)) (n_spells above)
+states_ns origin before entry owner above class ttl words = states_server_by (codes "n.x.") origin before entry owner above class ttl words (λ e. absurd cc) (n_spells above)
 
 pub long_time : IsTime (codes "2147483648") 2147483648
 long_time = number.plain (record { some = lit< tt; digits = (refl, (refl, (refl, (refl, (refl, (refl, (refl, (refl, (refl, (refl, tt)))))))))); value = refl })
@@ -133,11 +133,11 @@ too_long once seconds is =
 
 -- a word that begins with no digit is no TTL
 pub no_digit : (seconds : ℕ) → IsTtl (codes "x") seconds → ⊥
-no_digit seconds is = let first : begins_with_digit (codes "x") ≡ true = time_first (codes "x") seconds is.time in absurd (let t : ⊥ = cc in t)
+no_digit seconds is = let first : begins_with_digit (codes "x") ≡ true = time_first (codes "x") seconds is.time in absurd cc
 
 -- `a..b` has an empty label
 pub empty_label_between : SpellingFault (Some x) (codes "a..b") EmptyLabel
-empty_label_between = within EmptyLabel (empty_label ((plain 97 ∷ []) ∷ []) (codes ".b") (record { labels = (record { some = lit< tt; each = ((refl, omega arith), tt) }, tt); short = (lit≤ tt, tt); octets = tt; room = lit≤ tt; parts = refl }) (inr (codes "b", refl)) (λ e. absurd (let t : ⊥ = cc in t)) (λ e. absurd (let t : ⊥ = cc in t)))
+empty_label_between = within EmptyLabel (empty_label ((plain 97 ∷ []) ∷ []) (codes ".b") (record { labels = (record { some = lit< tt; each = ((refl, omega arith), tt) }, tt); short = (lit≤ tt, tt); octets = tt; room = lit≤ tt; parts = refl }) (inr (codes "b", refl)) (λ e. absurd cc) (λ e. absurd cc))
 
 pub class_zero_word : IsClassWord (codes "CLASS0") 0
 class_zero_word = by_number (record { front = codes "CLASS"; digits = codes "0"; parts = refl; named = refl; number = record { some = lit< tt; digits = (refl, tt); value = refl } })
@@ -146,12 +146,12 @@ pub type_65536 : IsWordFault (codes "TYPE65536") UnknownType
 type_65536 = beyond 65536 (by_number (record { front = codes "TYPE"; digits = codes "65536"; parts = refl; named = refl; number = record { some = lit< tt; digits = (refl, (refl, (refl, (refl, (refl, tt))))); value = refl } })) (lit≤ tt)
 
 pub type_41 : IsWordFault (codes "TYPE41") MetaType
-type_41 = for_queries 41 (by_number (record { front = codes "TYPE"; digits = codes "41"; parts = refl; named = refl; number = record { some = lit< tt; digits = (refl, (refl, tt)); value = refl } })) (lit< tt) (λ is. let stored = is.stored in absurd (let t : ⊥ = cc in t))
+type_41 = for_queries 41 (by_number (record { front = codes "TYPE"; digits = codes "41"; parts = refl; named = refl; number = record { some = lit< tt; digits = (refl, (refl, tt)); value = refl } })) (lit< tt) (λ is. let stored = is.stored in absurd cc)
 
 no_minimum : (class kind : ℕ) (octets : List ℕ) (seconds : ℕ) → kind ≡ 2 → minimum (record { class = class; kind = kind; octets = octets }) ≡ Some seconds → ⊥
 no_minimum class kind octets seconds is field =
     let at_two : minimum (record { class = class; kind = 2; octets = octets }) ≡ Some seconds = subst (λ (k : ℕ). minimum (record { class = class; kind = k; octets = octets }) ≡ Some seconds) is field in
-    absurd (let t : ⊥ = cc in t)
+    absurd cc
 
 -- an NS record is no SOA
 pub ns_has_no_minimum : ((word : List ℕ) (a b : ℕ) → IsKindWord word a → IsKindWord word b → a ≡ b) → (before : List Entry) (entry : Entry) (words : List Word) (items : List RawItem) (seconds : ℕ) → parts_of entry ≡ Some (record { words = words; rest = bare (codes "NS") ∷ items }) → StatesMinimum x before entry seconds → ⊥

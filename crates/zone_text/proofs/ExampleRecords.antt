@@ -46,7 +46,7 @@ soa_values last = name (under 110 x) ∷ name (under 104 x) ∷ u32_value 1 ∷ 
 
 pub soa_states : (text : List ℕ) (last : ℕ) → IsTime text last → last < 2 ^ 32 → States x 1 6 (soa_items text) (octets_of (soa_values last))
 soa_states text last time short = record {
-  stated = in_words (Name ∷ Name ∷ Serial ∷ Time ∷ Time ∷ Time ∷ Time ∷ []) (soa_values last) refl (λ is. let e = is.1 in absurd (let t : ⊥ = cc in t)) (n_spells, (h_spells, ((digit 49 1 refl refl, lit< tt), ((plain (digit 50 2 refl refl), lit< tt), ((plain (digit 51 3 refl refl), lit< tt), ((plain (digit 52 4 refl refl), lit< tt), ((time, short), tt))))))) refl (lit≤ tt);
+  stated = in_words (Name ∷ Name ∷ Serial ∷ Time ∷ Time ∷ Time ∷ Time ∷ []) (soa_values last) refl (λ is. let e = is.1 in absurd cc) (n_spells, (h_spells, ((digit 49 1 refl refl, lit< tt), ((plain (digit 50 2 refl refl), lit< tt), ((plain (digit 51 3 refl refl), lit< tt), ((plain (digit 52 4 refl refl), lit< tt), ((time, short), tt))))))) refl (lit≤ tt);
 }
 
 soa_fits : (ttl : ℕ) → ttl ≤ 2147483647 → IsRecord (soa ttl)
@@ -109,7 +109,7 @@ minimum_too_long = refl
 
 -- an entry of the items `NS n`
 pub states_ns_below : (before : List Entry) (entry : Entry) (ttl : ℕ) (words : List Word) → parts_of entry ≡ Some (record { words = words; rest = bare (codes "NS") ∷ bare (codes "n") ∷ [] }) → IsOwner x before (statement_of entry) x → AllByRecursion HasValue words → HasClass before entry 1 → IsOrigin x before x → HasTtl x before entry ttl → ttl ≤ 2147483647 → EntryStates x before entry (ns x 1 ttl)
-states_ns_below before entry ttl words split owns values has under_it lasts short = states_server_by (codes "n") x before entry x x 1 ttl words (λ e. absurd (let t : ⊥ = cc in t)) n_spells split owns values has under_it lasts x_name in_class short
+states_ns_below before entry ttl words split owns values has under_it lasts short = states_server_by (codes "n") x before entry x x 1 ttl words (λ e. absurd cc) n_spells split owns values has under_it lasts x_name in_class short
 
 pub sixty_one : IsTime (codes "61") 61
 sixty_one = plain (record { some = lit< tt; digits = (refl, (refl, tt)); value = refl })
@@ -119,7 +119,7 @@ one_digit c n is value short = record { number = digit c n is value; short = sho
 
 address_states : States x 1 1 (bare (codes "10.0.0.1") ∷ []) (10 ∷ 0 ∷ 0 ∷ 1 ∷ [])
 address_states = record {
-  stated = in_words (Octets 4 ∷ []) (fixed (10 ∷ 0 ∷ 0 ∷ 1 ∷ []) ∷ []) refl (λ is. let e = is.1 in absurd (let t : ⊥ = cc in t)) (
+  stated = in_words (Octets 4 ∷ []) (fixed (10 ∷ 0 ∷ 0 ∷ 1 ∷ []) ∷ []) refl (λ is. let e = is.1 in absurd cc) (
     of_ipv4 refl (record {
       numbers = codes "10" ∷ codes "0" ∷ codes "0" ∷ codes "1" ∷ [];
       counted = refl;

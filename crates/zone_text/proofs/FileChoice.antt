@@ -19,10 +19,9 @@ use Rattle.zone_text.specs.Machine.Lower.{Lower, Choices}
 use Rattle.zone_text.specs.Outcome.{AllState, AreOctetItems}
 use Rattle.zone_text.specs.Tokens.{Token, bare, quoted, token_text, text, Cuts}
 use Rattle.zone_text.proofs.Cuttings.{cut_not_broken, cut_or_broken}
-use Rattle.zone_text.proofs.Ending.{entries_text}
+use Rattle.zone_text.proofs.Left.{entries_text}
 use Rattle.zone_text.proofs.EntryOutcome.{Outcome, entry_outcome}
-use Rattle.zone_text.proofs.Escapes.{break_stays_or_ends}
-use Rattle.zone_text.proofs.ForGood.{ends_not_for_good}
+use Rattle.zone_text.proofs.ForGood.{break_stays_or_ends, ends_not_for_good}
 
 -- ---- the items of entries are octets
 

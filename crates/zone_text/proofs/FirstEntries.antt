@@ -19,9 +19,8 @@ use Rattle.zone_text.specs.Machine.Line.{KeepsItems, IsInside, IsInFront, IsFirs
 use Rattle.zone_text.specs.Machine.Feeding.{IsSplitter, ReadsOctets}
 use Rattle.zone_text.specs.Machine.Scan.{IsOneEntry}
 use Rattle.zone_text.specs.declared.splitter.EntrySplitter.{EntrySplitter}
-use Rattle.zone_text.proofs.PartTaken.{FollowsOn}
+use Rattle.zone_text.proofs.FedPieces.{FollowsOn, HasFed, fed_more}
 use Rattle.zone_text.proofs.Cuttings.{cuts, is_cut, one_cut, one_token_more, shorter}
-use Rattle.zone_text.proofs.FedPieces.{HasFed, fed_more}
 use Rattle.zone_text.proofs.Followed.{follow_one}
 use Rattle.zone_text.proofs.Fronts.{EndsComment, Takes, Stops, comment_dropped, comment_each, comment_ends, comment_whole}
 use Rattle.zone_text.proofs.Kept.{keeps_more, none_kept}

@@ -151,7 +151,7 @@ quoted_is depth c octets units (d ∷ rest) is whole each none =
     (λ e. no_quoted_escape units (d ∷ rest) each (first_octet_is c 34 octets is ∙ ap (λ t. 34 ∷ t) whole) (escape_of e none))
   where
     escape_of : is_quote d ≡ false → NoUnit is_quote (d ∷ rest) → IsBadEscape (d ∷ rest)
-    escape_of e (at_end h) = absurd (cc)
+    escape_of e (at_end h) = absurd cc
     escape_of e (at_octet x more h end) = let same : d ≡ x = cc in absurd (both_ways (is_quote d) e (ap is_quote same ∙ end))
     escape_of e (at_backslash bad) = bad
 
@@ -159,7 +159,7 @@ bare_is : (depth c : ℕ) (octets : List ℕ) (units : List Written) (rest : Lis
 bare_is depth c octets [] rest goes_on whole each none = no_escape (escape_of none)
   where
     escape_of : NoUnit ends_item rest → IsBadEscape (c ∷ octets)
-    escape_of (at_end h) = absurd (cc)
+    escape_of (at_end h) = absurd cc
     escape_of (at_octet x more h end) = let same : c ≡ x = cc in absurd (both_ways (ends_item c) goes_on (ap ends_item same ∙ end))
     escape_of (at_backslash bad) = subst IsBadEscape (sym whole) bad
 bare_is depth c octets (w ∷ units) rest goes_on whole each none = record {

@@ -1,9 +1,6 @@
 pub mod ClassWords
-pub mod Once
 pub mod Inherits
-pub mod Outcomes
 pub mod Entered
-pub mod EntryChoice
 pub mod EntryOutcome
 pub mod Files
 pub mod Seconds
@@ -15,15 +12,11 @@ pub mod ExampleRecords
 pub mod Fronts
 pub mod Cuttings
 pub mod Lasting
-pub mod Ending
-pub mod Escapes
 pub mod ForGood
 pub mod Left
-pub mod Decisions
 pub mod Followed
 pub mod EntryTaken
 pub mod Begun
-pub mod PartTaken
 pub mod FedPieces
 pub mod BlankLines
 pub mod FirstEntries
@@ -31,7 +24,6 @@ pub mod Standing
 pub mod DecidedOnce
 pub mod ScanSteps
 pub mod ScanReads
-pub mod ScanTokens
 pub mod Scanned
 pub mod TokenEnds
 pub mod ItemsLeft
@@ -41,6 +33,5 @@ pub mod WordsLeft
 pub mod Heads
 pub mod Inheriting
 pub mod RecordsRead
-pub mod DirectivesRead
 pub mod Lines
 pub mod StandingItems

@@ -23,7 +23,8 @@ use Rattle.zone_text.specs.Lasting.{IsLostEscape, at_line_end, one_digit, two_di
 use Rattle.zone_text.specs.Machine.Cutting.{depth_past}
 use Rattle.zone_text.specs.Machine.Scan.{on, fed_line, closed, open_step, quoted_step, comment_step, ends_number, escape_step, step_in, step_of, scan_on, scan_of, unclosed, end_fault_of}
 use Rattle.zone_text.specs.Machine.Scan as machine
-use Rattle.zone_text.proofs.Escapes.{malformed_is_bad}
+use Rattle.zone_text.proofs.Cuttings.{after_bare}
+use Rattle.zone_text.proofs.ForGood.{malformed_is_bad}
 use Rattle.zone_text.proofs.Fronts.{Begins, Takes, begins, first_octet_is}
 use Rattle.zone_text.proofs.Lasting.{begins_backslash}
 
@@ -170,12 +171,7 @@ module _ (step : Step) (depth : ℕ) (w : Written) (is : IsUnit ends_item w) (oc
     stop = front.stop;
     room = tt;
   }) tt more
-  bare_more rest (blank d) front none more = bare_alone (at_octet d rest front.whole (rw front.token refl)) (then_more depth octets (blank d) rest front none more)
-  bare_more rest line_feed front none more = bare_alone (at_octet 10 rest front.whole refl) (then_more depth octets line_feed rest front none more)
-  bare_more rest opening front none more = bare_alone (at_octet 40 rest front.whole refl) (then_more depth octets opening rest front none more)
-  bare_more rest closing front none more = bare_alone (at_octet 41 rest front.whole refl) (then_more depth octets closing rest front none more)
-  bare_more rest (comment others) front none more = bare_alone (at_octet 59 (others ++ rest) front.whole refl) (then_more depth octets (comment others) rest front none more)
-  bare_more rest (quoted units) front none more = bare_alone (at_octet 34 ((written_text units ++ 34 ∷ []) ++ rest) front.whole refl) (then_more depth octets (quoted units) rest front none more)
+  bare_more rest p front none more = bare_alone (subst (NoUnit ends_item) (sym front.whole) (after_bare [] p rest front.token tt)) (then_more depth octets p rest front none more)
 
   push_bare : Reads step depth octets → Reads step depth (text_of w ++ octets)
   push_bare (ends depth octets s d f) = bare_alone (at_octet 10 [] f refl) (ends depth octets s d f)
