@@ -1,4 +1,5 @@
--- An entry has an outcome: nothing, a record or a first fault.
+-- An entry after others that state nothing or a record has an outcome: nothing, a record or a first
+-- fault.
 use Rattle.std.proofs.Common.{◌≡◌, ℕ, ◌==◌, Bool, true, false, if◌then◌else◌, List, [], ◌∷◌, Option, Some, None, MatchOption, ◌⊎◌, inl, inr, refl, sym, ◌∙◌, ap, subst, ◌<◌, ◌++◌, arith}
 use Rattle.std.specs.List.{AllByRecursion}
 use Rattle.std.proofs.lemmas.Bool.{cases_lt, cases_eq}

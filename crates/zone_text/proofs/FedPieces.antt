@@ -1,4 +1,4 @@
--- A piece fed part by part.
+-- A piece fed part by part, each by what its last octet leads to.
 use Rattle.std.proofs.Common.{◌≡◌, ℕ, ◌+◌, ◌≤◌, List, [], ◌++◌, length, take, true, Option, Some, None, IfSome, refl, sym, ap, ◌∙◌, subst, arith, append_assoc}
 use Rattle.std.proofs.lemmas.List.{append-nil}
 use Rattle.zone_name.specs.Common.{Labels}

@@ -1,4 +1,5 @@
--- What follows from octets fed and records given, part by part.
+-- What is decided of octets by what those before them left, and what follows from octets fed and
+-- records given, part by part.
 use Rattle.std.proofs.Common.{◌≡◌, ℕ, zero, ◌+◌, List, [], ◌∷◌, ◌++◌, length, Some, None, refl, sym, ap, ◌∙◌, subst, arith, append_assoc, length-append, inl, inr}
 use Rattle.std.specs.List.{flat_map}
 use Rattle.std.specs.Prelude.{reverse}

@@ -1,4 +1,5 @@
--- A break stays or stands at the end of the text, and not both.
+-- A break stays or stands at the end of the text, and not both. So does a backslash that begins no
+-- escape, by what follows it.
 use Rattle.std.proofs.Common.{◌≡◌, ℕ, true, false, List, [], ◌∷◌, ◌++◌, refl, sym, ap, ◌∙◌, arith, subst, ◌⊎◌, inl, inr}
 use Rattle.std.specs.List.{AllByRecursion}
 use Rattle.std.proofs.lemmas.Bool.{both_ways, cases_Bool, cases_eq, cases_lt}

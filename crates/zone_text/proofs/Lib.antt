@@ -7,7 +7,6 @@ pub mod Seconds
 pub mod FileChoice
 pub mod CutAgain
 pub mod Decides
-pub mod ExampleFacts
 pub mod ExampleRecords
 pub mod Fronts
 pub mod Cuttings
