@@ -24,12 +24,12 @@ some_left (c ∷ octets) n empty len is some_is none = cc
 
 -- a fault that is decided
 pub some_found : {A : Type 0} (o : Option A) → is_some o ≡ true → (x : A) × (o ≡ Some x)
-some_found None is = absurd (let t : ⊥ = cc in t)
+some_found None is = absurd cc
 some_found (Some x) is = (x, refl)
 
 pub none_found : {A : Type 0} (o : Option A) → is_some o ≡ false → o ≡ None
 none_found None is = refl
-none_found (Some x) is = absurd (let t : ⊥ = cc in t)
+none_found (Some x) is = absurd cc
 
 -- no octets lead to the beginning of an entry
 pub scans_nothing : (at : ScanState) (unfinished : List ℕ) → at ≡ beginning → unfinished ≡ [] → ScansTo beginning unfinished (On at)

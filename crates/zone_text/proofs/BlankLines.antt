@@ -1,7 +1,7 @@
 -- Lines without items: what is cut of them, and what follows from octets with such lines after them.
 use Rattle.std.proofs.Common.{◌≡◌, ◌≢◌, ℕ, suc, ◌+◌, ◌≤◌, List, [], ◌∷◌, ◌++◌, ◌==◌, if◌then◌else◌, ◌<◌, length, drop, None, refl, sym, ap, ◌∙◌, subst, arith, append_assoc, length-append}
 use Rattle.std.specs.List.{AllByRecursion, flat_map}
-use Rattle.std.proofs.lemmas.Bool.{cond_both, eqb-true, eqb-false, ne_eqb}
+use Rattle.std.proofs.lemmas.Bool.{ne_eqb}
 use Rattle.std.proofs.lemmas.List.{append-nil}
 use Rattle.std.proofs.lemmas.List.Sums.{sum_by-cons}
 use Rattle.zone_name.specs.Common.{Labels}
@@ -10,7 +10,7 @@ use Rattle.zone_text.specs.Entries.{Entry, entry_of, item_of}
 use Rattle.zone_text.specs.Statements.{no_items, statement_by, statement_of}
 use Rattle.zone_text.specs.Tokens.{Token, comment, line_feed, Cuts}
 use Rattle.zone_text.specs.Machine.Blank.{AreBlankLines, IsBlankLine, IsComment, line_feed as fed_line, commented, no_lines, one_line_more}
-use Rattle.zone_text.specs.Machine.Cutting.{before_line_feed}
+use Rattle.zone_text.specs.Machine.Cutting.{before_line_feed, from_line_feed}
 use Rattle.zone_text.specs.Machine.EntryReading.{LeavesNoRecord, decides_none}
 use Rattle.zone_text.specs.Machine.Feeding.{Follow, IsSplitter, ReadsOctets, ScansTo}
 use Rattle.zone_text.specs.Machine.Scan.{beginning, further, scan_of}
@@ -22,35 +22,19 @@ use Rattle.zone_text.specs.declared.scan.Step.TheVariants.{Ends}
 use Rattle.zone_text.proofs.Cuttings.{one_cut}
 use Rattle.zone_text.proofs.EntryTaken.{lines_after, takes_entry}
 use Rattle.zone_text.proofs.Followed.{follow_entry}
+use Rattle.zone_text.proofs.Fronts.{EndsComment, comment_dropped, comment_each, comment_ends, comment_whole}
 use Rattle.zone_text.proofs.Inheriting.{leaves, same_default, same_origin}
 use Rattle.zone_text.proofs.Left.{line_feeds}
-use Rattle.zone_text.proofs.FedPieces.{HasFed, fed_more}
-use Rattle.zone_text.proofs.PartTaken.{FollowsOn}
-
--- ---- a comment at the front
-
-abbrev pub IsFront : List ℕ → List ℕ → Type 0
-IsFront octets front =
-    (octets ≡ front ++ drop (length front) octets) × (AllByRecursion (λ c. c ≢ 10) front × ((c : ℕ) (rest : List ℕ) → drop (length front) octets ≡ c ∷ rest → c ≡ 10))
-
-pub comment_front : (octets : List ℕ) → IsFront octets (before_line_feed octets)
-unfolding before_line_feed
-comment_front [] = (refl, (tt, λ c rest e. absurd (let t : ⊥ = cc in t)))
-comment_front (c ∷ octets) =
-    let more = comment_front octets in
-    cond_both (c == 10) [] (c ∷ before_line_feed octets) (IsFront (c ∷ octets))
-    (λ e. (refl, (tt, λ d rest same. let first : d ≡ c = cc in first ∙ eqb-true c 10 e)))
-    (λ e. (ap (λ t. c ∷ t) more.0, ((eqb-false c 10 e, more.1.0), more.1.1)))
+use Rattle.zone_text.proofs.FedPieces.{HasFed, fed_more, FollowsOn}
 
 pub comment_ended : (octets after rest : List ℕ) (n c : ℕ) → n ≡ length (before_line_feed octets) → after ≡ drop n octets → after ≡ c ∷ rest → IsComment octets rest
 comment_ended octets after rest n c len back first =
-    let front = comment_front octets in
-    let left : drop (length (before_line_feed octets)) octets ≡ c ∷ rest = ap (λ k. drop k octets) (sym len) ∙ sym back ∙ first in
-    let is : c ≡ 10 = front.1.1 c rest left in
+    let left : from_line_feed octets ≡ c ∷ rest = sym (comment_dropped octets) ∙ ap (λ k. drop k octets) (sym len) ∙ sym back ∙ first in
+    let is : c ≡ 10 = subst EndsComment left (comment_ends octets) in
     record {
       comment = before_line_feed octets;
-      inside = front.1.0;
-      whole = front.0 ∙ ap (λ t. before_line_feed octets ++ t) (left ∙ ap (λ d. d ∷ rest) is);
+      inside = comment_each octets;
+      whole = comment_whole octets ∙ ap (λ t. before_line_feed octets ++ t) (left ∙ ap (λ d. d ∷ rest) is);
     }
 
 -- ---- a line as an entry

@@ -43,14 +43,11 @@ first_folded : (word : List ℕ) → begins_with_digit (folded_label word) ≡ b
 first_folded [] = refl
 first_folded (c ∷ word) = digit_folded c
 
-numbered_first : (word : List ℕ) (n : ℕ) → IsNumbered (codes "CLASS") word n → begins_with_digit (folded_label word) ≡ false
-numbered_first word n is = rw (is.parts, map-append, is.named) refl
-
 -- and begins with no digit
 pub class_word_first : (word : List ℕ) (n : ℕ) → IsClassWord word n → begins_with_digit word ≡ false
 class_word_first word n (by_mnemonic is) =
     sym (first_folded word) ∙ ap begins_with_digit is.same ∙ not-true _ (each_mnemonic (λ _ name. not (begins_with_digit (folded_label name))) classes refl n is.name is.row)
-class_word_first word n (by_number is) = sym (first_folded word) ∙ numbered_first word n is
+class_word_first word n (by_number is) = sym (first_folded word) ∙ (rw (is.parts, map-append, is.named) refl)
 
 digits_first : (text rest : List ℕ) → 0 < length text → AllByRecursion (λ c. is_digit c ≡ true) text → begins_with_digit (text ++ rest) ≡ true
 digits_first [] rest some each = absurd (omega arith)
@@ -73,10 +70,10 @@ time_first text n (grouped groups some each e value) = rw e (groups_first groups
 
 both_true : (a b : Bool) → (a && b) ≡ true → (a ≡ true) × (b ≡ true)
 both_true true b e = (refl, e)
-both_true false b e = absurd (let t : ⊥ = cc in t)
+both_true false b e = absurd cc
 
 digits_all : (text : List ℕ) → are_digits text ≡ true → (0 < length text) × AllByRecursion (λ c. is_digit c ≡ true) text
-digits_all [] e = absurd (let t : ⊥ = cc in t)
+digits_all [] e = absurd cc
 digits_all (c ∷ []) e = (omega arith, (e, tt))
 digits_all (c ∷ d ∷ text) e =
     let both = both_true (is_digit c) (are_digits (d ∷ text)) e in
@@ -84,7 +81,7 @@ digits_all (c ∷ d ∷ text) e =
     (omega arith, (both.0, rest.1))
 
 named_class : (text : List ℕ) (found : Option ℕ) → number_among classes text ≡ found → is_some found ≡ true → (m : ℕ) × IsClassWord text m
-named_class text None e some = absurd (let t : ⊥ = cc in t)
+named_class text None e some = absurd cc
 named_class text (Some n) e some = (n, by_mnemonic (number_is classes refl text n e))
 
 numbered_class : (text : List ℕ) → (bytes_eq (take 5 (folded_label text)) (codes "class") && are_digits (drop 5 text)) ≡ true → (m : ℕ) × IsClassWord text m

@@ -15,21 +15,11 @@ front_whole p [] others tokens e = ap (λ t. p ∷ t) e
 front_whole p (entry ∷ ended) others tokens e = ap (λ t. p ∷ t) e
 
 pub cut_whole : (depth : ℕ) (tokens : List Token) → joined (cut_from depth tokens).ended ++ (cut_from depth tokens).open_tokens ≡ tokens
-cut_whole zero (line_feed ∷ tokens) = ap (λ t. line_feed ∷ t) (cut_whole zero tokens)
-cut_whole (suc depth) (line_feed ∷ tokens) = front_whole line_feed (cut_from (suc depth) tokens).ended _ _ (cut_whole (suc depth) tokens)
-cut_whole zero (opening ∷ tokens) = front_whole opening (cut_from (suc zero) tokens).ended _ _ (cut_whole (suc zero) tokens)
-cut_whole (suc depth) (opening ∷ tokens) = front_whole opening (cut_from (suc (suc depth)) tokens).ended _ _ (cut_whole (suc (suc depth)) tokens)
-cut_whole zero (closing ∷ tokens) = front_whole closing (cut_from zero tokens).ended _ _ (cut_whole zero tokens)
-cut_whole (suc depth) (closing ∷ tokens) = front_whole closing (cut_from depth tokens).ended _ _ (cut_whole depth tokens)
-cut_whole zero (blank c ∷ tokens) = front_whole (blank c) (cut_from zero tokens).ended _ _ (cut_whole zero tokens)
-cut_whole (suc depth) (blank c ∷ tokens) = front_whole (blank c) (cut_from (suc depth) tokens).ended _ _ (cut_whole (suc depth) tokens)
-cut_whole zero (comment o ∷ tokens) = front_whole (comment o) (cut_from zero tokens).ended _ _ (cut_whole zero tokens)
-cut_whole (suc depth) (comment o ∷ tokens) = front_whole (comment o) (cut_from (suc depth) tokens).ended _ _ (cut_whole (suc depth) tokens)
-cut_whole zero (bare u ∷ tokens) = front_whole (bare u) (cut_from zero tokens).ended _ _ (cut_whole zero tokens)
-cut_whole (suc depth) (bare u ∷ tokens) = front_whole (bare u) (cut_from (suc depth) tokens).ended _ _ (cut_whole (suc depth) tokens)
-cut_whole zero (quoted u ∷ tokens) = front_whole (quoted u) (cut_from zero tokens).ended _ _ (cut_whole zero tokens)
-cut_whole (suc depth) (quoted u ∷ tokens) = front_whole (quoted u) (cut_from (suc depth) tokens).ended _ _ (cut_whole (suc depth) tokens)
 cut_whole depth [] = refl
+cut_whole zero (line_feed ∷ tokens) = ap (λ t. line_feed ∷ t) (cut_whole zero tokens)
+cut_whole depth (opening ∷ tokens) = front_whole opening (cut_from (suc depth) tokens).ended _ _ (cut_whole (suc depth) tokens)
+cut_whole (suc depth) (closing ∷ tokens) = front_whole closing (cut_from depth tokens).ended _ _ (cut_whole depth tokens)
+cut_whole depth (p ∷ tokens) = front_whole p (cut_from depth tokens).ended _ _ (cut_whole depth tokens)
 
 -- ---- ended entries: cut again with more after them they are the first, they end in a line feed,
 -- at depth zero
@@ -49,7 +39,7 @@ end_after (blank c) (q ∷ entry) rest some ends = ends
 end_after p (q ∷ entry) rest some ends = ends
 
 front_ended : (depth next : ℕ) (p : Token) (ended : List (List Token)) (others : List Token) → ((tokens : List Token) → cut_from depth (p ∷ tokens) ≡ in_front_of p (cut_from next tokens)) → AreEnded next ended → AreEnded depth (in_front p ended others).ended
-front_ended depth next p [] others step are = record { each = tt; ends = tt; again = λ entry rest more e. absurd (let t : ⊥ = cc in t) }
+front_ended depth next p [] others step are = record { each = tt; ends = tt; again = λ entry rest more e. absurd cc }
 front_ended depth next p (first ∷ ended) others step are = record {
   each = (omega arith, are.each.1);
   ends = end_after p first (joined ended) are.each.0 are.ends;
@@ -57,7 +47,7 @@ front_ended depth next p (first ∷ ended) others step are = record {
 }
 
 none_ended : (depth : ℕ) → AreEnded depth []
-none_ended depth = record { each = tt; ends = tt; again = λ entry rest more e. absurd (let t : ⊥ = cc in t) }
+none_ended depth = record { each = tt; ends = tt; again = λ entry rest more e. absurd cc }
 
 line_after : (tokens : List Token) → EndInLineFeed tokens → EndInLineFeed (line_feed ∷ tokens)
 line_after [] ends = tt
@@ -75,22 +65,11 @@ line_ended ended are = record {
 }
 
 pub cut_ended : (depth : ℕ) (tokens : List Token) → AreEnded depth (cut_from depth tokens).ended
-cut_ended zero [] = none_ended zero
-cut_ended (suc depth) [] = none_ended (suc depth)
+cut_ended depth [] = none_ended depth
 cut_ended zero (line_feed ∷ tokens) = line_ended (cut_from zero tokens).ended (cut_ended zero tokens)
-cut_ended (suc depth) (line_feed ∷ tokens) = front_ended (suc depth) (suc depth) line_feed (cut_from (suc depth) tokens).ended _ (λ ps. refl) (cut_ended (suc depth) tokens)
-cut_ended zero (opening ∷ tokens) = front_ended zero (suc zero) opening (cut_from (suc zero) tokens).ended _ (λ ps. refl) (cut_ended (suc zero) tokens)
-cut_ended (suc depth) (opening ∷ tokens) = front_ended (suc depth) (suc (suc depth)) opening (cut_from (suc (suc depth)) tokens).ended _ (λ ps. refl) (cut_ended (suc (suc depth)) tokens)
-cut_ended zero (closing ∷ tokens) = front_ended zero zero closing (cut_from zero tokens).ended _ (λ ps. refl) (cut_ended zero tokens)
+cut_ended depth (opening ∷ tokens) = front_ended depth (suc depth) opening (cut_from (suc depth) tokens).ended _ (λ ps. refl) (cut_ended (suc depth) tokens)
 cut_ended (suc depth) (closing ∷ tokens) = front_ended (suc depth) depth closing (cut_from depth tokens).ended _ (λ ps. refl) (cut_ended depth tokens)
-cut_ended zero (blank c ∷ tokens) = front_ended zero zero (blank c) (cut_from zero tokens).ended _ (λ ps. refl) (cut_ended zero tokens)
-cut_ended (suc depth) (blank c ∷ tokens) = front_ended (suc depth) (suc depth) (blank c) (cut_from (suc depth) tokens).ended _ (λ ps. refl) (cut_ended (suc depth) tokens)
-cut_ended zero (comment o ∷ tokens) = front_ended zero zero (comment o) (cut_from zero tokens).ended _ (λ ps. refl) (cut_ended zero tokens)
-cut_ended (suc depth) (comment o ∷ tokens) = front_ended (suc depth) (suc depth) (comment o) (cut_from (suc depth) tokens).ended _ (λ ps. refl) (cut_ended (suc depth) tokens)
-cut_ended zero (bare u ∷ tokens) = front_ended zero zero (bare u) (cut_from zero tokens).ended _ (λ ps. refl) (cut_ended zero tokens)
-cut_ended (suc depth) (bare u ∷ tokens) = front_ended (suc depth) (suc depth) (bare u) (cut_from (suc depth) tokens).ended _ (λ ps. refl) (cut_ended (suc depth) tokens)
-cut_ended zero (quoted u ∷ tokens) = front_ended zero zero (quoted u) (cut_from zero tokens).ended _ (λ ps. refl) (cut_ended zero tokens)
-cut_ended (suc depth) (quoted u ∷ tokens) = front_ended (suc depth) (suc depth) (quoted u) (cut_from (suc depth) tokens).ended _ (λ ps. refl) (cut_ended (suc depth) tokens)
+cut_ended depth (p ∷ tokens) = front_ended depth depth p (cut_from depth tokens).ended _ (λ ps. refl) (cut_ended depth tokens)
 
 -- the ended entries of tokens are the first where others follow them
 pub cut_again : (tokens more : List Token) → cut_from zero (joined (cut_from zero tokens).ended ++ more) ≡ record { ended = (cut_from zero tokens).ended ++ (cut_from zero more).ended; open_tokens = (cut_from zero more).open_tokens }
@@ -99,7 +78,7 @@ cut_again tokens more = again_zero (cut_from zero tokens).ended more (cut_ended 
 -- ---- their depth
 
 front_depth : (depth next : ℕ) (p : Token) (ended : List (List Token)) (others : List Token) → ((tokens : List Token) → depth_after depth (p ∷ tokens) ≡ depth_after next tokens) → ((entry : List Token) (rest : List (List Token)) → ended ≡ entry ∷ rest → depth_after next (joined ended) ≡ Some zero) → (entry : List Token) (rest : List (List Token)) → (in_front p ended others).ended ≡ entry ∷ rest → depth_after depth (joined (in_front p ended others).ended) ≡ Some zero
-front_depth depth next p [] others step are entry rest e = absurd (let t : ⊥ = cc in t)
+front_depth depth next p [] others step are entry rest e = absurd cc
 front_depth depth next p (first ∷ ended) others step are entry rest e = step (joined (first ∷ ended)) ∙ are first ended refl
 
 depth_zero : (ended : List (List Token)) → ((entry : List Token) (rest : List (List Token)) → ended ≡ entry ∷ rest → depth_after zero (joined ended) ≡ Some zero) → depth_after zero (joined ended) ≡ Some zero
@@ -107,20 +86,12 @@ depth_zero [] are = refl
 depth_zero (entry ∷ ended) are = are entry ended refl
 
 ended_depth : (depth last : ℕ) (tokens : List Token) → depth_after depth tokens ≡ Some last → (entry : List Token) (rest : List (List Token)) → (cut_from depth tokens).ended ≡ entry ∷ rest → depth_after depth (joined (cut_from depth tokens).ended) ≡ Some zero
+ended_depth depth last [] d entry rest e = absurd cc
 ended_depth zero last (line_feed ∷ tokens) d entry rest e = depth_zero (cut_from zero tokens).ended (ended_depth zero last tokens d)
-ended_depth (suc depth) last (line_feed ∷ tokens) d entry rest e = front_depth (suc depth) (suc depth) line_feed (cut_from (suc depth) tokens).ended (cut_from (suc depth) tokens).open_tokens (λ ps. refl) (ended_depth (suc depth) last tokens d) entry rest e
-ended_depth zero last (opening ∷ tokens) d entry rest e = front_depth zero (suc zero) opening (cut_from (suc zero) tokens).ended (cut_from (suc zero) tokens).open_tokens (λ ps. refl) (ended_depth (suc zero) last tokens d) entry rest e
-ended_depth (suc depth) last (opening ∷ tokens) d entry rest e = front_depth (suc depth) (suc (suc depth)) opening (cut_from (suc (suc depth)) tokens).ended (cut_from (suc (suc depth)) tokens).open_tokens (λ ps. refl) (ended_depth (suc (suc depth)) last tokens d) entry rest e
+ended_depth depth last (opening ∷ tokens) d entry rest e = front_depth depth (suc depth) opening (cut_from (suc depth) tokens).ended (cut_from (suc depth) tokens).open_tokens (λ ps. refl) (ended_depth (suc depth) last tokens d) entry rest e
+ended_depth zero last (closing ∷ tokens) d entry rest e = absurd cc
 ended_depth (suc depth) last (closing ∷ tokens) d entry rest e = front_depth (suc depth) depth closing (cut_from depth tokens).ended (cut_from depth tokens).open_tokens (λ ps. refl) (ended_depth depth last tokens d) entry rest e
-ended_depth zero last (blank c ∷ tokens) d entry rest e = front_depth zero zero (blank c) (cut_from zero tokens).ended (cut_from zero tokens).open_tokens (λ ps. refl) (ended_depth zero last tokens d) entry rest e
-ended_depth (suc depth) last (blank c ∷ tokens) d entry rest e = front_depth (suc depth) (suc depth) (blank c) (cut_from (suc depth) tokens).ended (cut_from (suc depth) tokens).open_tokens (λ ps. refl) (ended_depth (suc depth) last tokens d) entry rest e
-ended_depth zero last (comment o ∷ tokens) d entry rest e = front_depth zero zero (comment o) (cut_from zero tokens).ended (cut_from zero tokens).open_tokens (λ ps. refl) (ended_depth zero last tokens d) entry rest e
-ended_depth (suc depth) last (comment o ∷ tokens) d entry rest e = front_depth (suc depth) (suc depth) (comment o) (cut_from (suc depth) tokens).ended (cut_from (suc depth) tokens).open_tokens (λ ps. refl) (ended_depth (suc depth) last tokens d) entry rest e
-ended_depth zero last (bare u ∷ tokens) d entry rest e = front_depth zero zero (bare u) (cut_from zero tokens).ended (cut_from zero tokens).open_tokens (λ ps. refl) (ended_depth zero last tokens d) entry rest e
-ended_depth (suc depth) last (bare u ∷ tokens) d entry rest e = front_depth (suc depth) (suc depth) (bare u) (cut_from (suc depth) tokens).ended (cut_from (suc depth) tokens).open_tokens (λ ps. refl) (ended_depth (suc depth) last tokens d) entry rest e
-ended_depth zero last (quoted u ∷ tokens) d entry rest e = front_depth zero zero (quoted u) (cut_from zero tokens).ended (cut_from zero tokens).open_tokens (λ ps. refl) (ended_depth zero last tokens d) entry rest e
-ended_depth (suc depth) last (quoted u ∷ tokens) d entry rest e = front_depth (suc depth) (suc depth) (quoted u) (cut_from (suc depth) tokens).ended (cut_from (suc depth) tokens).open_tokens (λ ps. refl) (ended_depth (suc depth) last tokens d) entry rest e
-ended_depth depth last tokens d entry rest e = absurd (let t : ⊥ = cc in t)
+ended_depth depth last (p ∷ tokens) d entry rest e = front_depth depth depth p (cut_from depth tokens).ended (cut_from depth tokens).open_tokens (λ ps. refl) (ended_depth depth last tokens d) entry rest e
 
 pub ended_at_zero : (last : ℕ) (tokens : List Token) → depth_after zero tokens ≡ Some last → depth_after zero (joined (cut_from zero tokens).ended) ≡ Some zero
 ended_at_zero last tokens d = depth_zero (cut_from zero tokens).ended (ended_depth zero last tokens d)

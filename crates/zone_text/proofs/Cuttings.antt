@@ -45,7 +45,7 @@ follows (comment octets) q rest is stop = follows_comment octets q rest is stop
 follows (bare units) q rest is stop = follows_bare units q rest is stop
 follows p q rest is stop = tt
 
-after_bare : (units : List Written) (q : Token) (rest : List ℕ) → IsToken q → MayFollow (bare units) q → NoUnit ends_item (token_text q ++ rest)
+pub after_bare : (units : List Written) (q : Token) (rest : List ℕ) → IsToken q → MayFollow (bare units) q → NoUnit ends_item (token_text q ++ rest)
 after_bare units (blank c) rest is may = at_octet c rest refl (rw is refl)
 after_bare units line_feed rest is may = at_octet 10 rest refl refl
 after_bare units opening rest is may = at_octet 40 rest refl refl
@@ -164,12 +164,12 @@ one_token_more depth octets rest p tokens fault front more = record {
   ends = more.ends;
 }
 
-pub some_octet : (p : Token) → IsToken p → 0 < length (token_text p)
+some_octet : (p : Token) → IsToken p → 0 < length (token_text p)
 some_octet (bare []) is = absurd (omega (arith, is.0))
 some_octet (bare (w ∷ units)) is = omega (arith, text_of-some w, length-append (text_of w) (written_text units))
 some_octet p is = omega arith
 
-shorter : (octets rest : List ℕ) (p : Token) → IsToken p → octets ≡ token_text p ++ rest → length rest < length octets
+pub shorter : (octets rest : List ℕ) (p : Token) → IsToken p → octets ≡ token_text p ++ rest → length rest < length octets
 shorter octets rest p is e = omega (arith, ap length e, length-append (token_text p) rest, some_octet p is)
 
 cut_by_front : (depth : ℕ) (octets : List ℕ) (go_on : ℕ → List ℕ → Cutting) (front : Front) → IsFront depth octets front → ((at : ℕ) (rest : List ℕ) → length rest < length octets → IsCut at rest (go_on at rest).tokens (go_on at rest).broken) → IsCut depth octets (cut_on go_on depth front).tokens (cut_on go_on depth front).broken

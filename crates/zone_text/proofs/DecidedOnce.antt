@@ -46,11 +46,8 @@ unfinished_once octets a b x y =
 
 -- ---- the entries of tokens one after the other
 
-all_ended : (tokens : List Token) → (cut_from zero tokens).open_tokens ≡ [] → tokens ≡ joined (cut_from zero tokens).ended
-all_ended tokens none = sym (cut_whole zero tokens) ∙ ap (λ t. joined (cut_from zero tokens).ended ++ t) none ∙ append-nil (joined (cut_from zero tokens).ended)
-
 pub cut_after_all : (tokens more : List Token) → (cut_from zero tokens).open_tokens ≡ [] → cut_from zero (tokens ++ more) ≡ record { ended = (cut_from zero tokens).ended ++ (cut_from zero more).ended; open_tokens = (cut_from zero more).open_tokens }
-cut_after_all tokens more none = ap (λ p. cut_from zero (p ++ more)) (all_ended tokens none) ∙ cut_again tokens more
+cut_after_all tokens more none = ap (λ p. cut_from zero (p ++ more)) (sym (cut_whole zero tokens) ∙ ap (λ t. joined (cut_from zero tokens).ended ++ t) none ∙ append-nil (joined (cut_from zero tokens).ended)) ∙ cut_again tokens more
 
 pub ended_on_after : (tokens more : List Token) → (cut_from zero tokens).open_tokens ≡ [] → ended_entries (tokens ++ more) ≡ ended_entries tokens ++ numbered (open_line tokens) (cut_from zero more).ended
 ended_on_after tokens more none =

@@ -32,14 +32,11 @@ stays_on p q a b more others e f rr place x y stays = record {
   fault = λ found is. let rest = stays.fault found is in (one_more q p b a others more (sym rr) (sym place) y x rest.0, rest.1);
 }
 
-same_end : (fault other : Fault) (line : ℕ) (e f : Ending) → fault ≡ other → e ≡ Some (fault, Line line) → f ≡ Some (other, Line line) → f ≡ e
-same_end fault other line e f same x y = y ∙ (ap (λ (z : Fault). let o : Ending = Some (z, Line line) in o) (sym same) ∙ sym x)
-
 pub reads_on : Lower → (origin : List (List ℕ)) (after : Ending) (before entries others : List Entry) (a b : List Placed) (e f : Ending) → ReadEach origin None before entries a e → ReadEach origin after before (entries ++ others) b f → Stays a e b f
 reads_on lower origin after before [] others a b e f x y = record {
   others = b;
   first = ap (λ t. t ++ b) (sym x.0);
-  fault = λ found is. let end = x.1 in absurd (let t : ⊥ = cc in t);
+  fault = λ found is. let end = x.1 in absurd cc;
 }
 reads_on lower origin after before (entry ∷ entries) others a b e f (stated (states_none n xs)) (stated (states_none m ys)) = reads_on lower origin after (entry ∷ before) entries others a b e f xs ys
 reads_on lower origin after before (entry ∷ entries) others a b e f (stated (states_none n xs)) (stated (states_one q more r at w ys)) = absurd (nothing_or_record origin before entry q.rr n r)
@@ -53,7 +50,7 @@ reads_on lower origin after before (entry ∷ entries) others a b e f (refused f
 reads_on lower origin after before (entry ∷ entries) others a b e f (refused fault h u v) (refused other k s t) = record {
   others = [];
   first = s ∙ (sym u ∙ sym (append-nil a));
-  fault = λ found is. (s ∙ sym u, same_end fault other entry.line e f (fault_once lower origin before entry fault other h k) v t);
+  fault = λ found is. (s ∙ sym u, (t ∙ (ap (λ (z : Fault). let o : Ending = Some (z, Line entry.line) in o) (sym (fault_once lower origin before entry fault other h k)) ∙ sym v)));
 }
 
 -- ---- the tokens of a prefix and of a text that goes on
@@ -128,29 +125,30 @@ broken_once lower origin octets tokens all fault other a b e f x y xs ys =
     let one : fault ≡ other = same.1 in
     reads_once lower origin (Some (other, Line (open_line all))) [] (ended_entries all) a b e f (rw (← front, ← one) xs) ys
 
-pub decided_stays : Lower → (origin : List (List ℕ)) (octets more : List ℕ) (a b : List Placed) (e f : Ending) → FileDecides origin octets a e → FileDecides origin (octets ++ more) b f → Stays a e b f
-decided_stays lower origin octets more a b e f (undecided ps are absent xs) (undecided qs others none ys) =
-    let on = ended_on ps qs (goes_on octets more ps qs are others) in
-    reads_on lower origin None [] (ended_entries ps) on.0 a b e f xs (subst (λ es. ReadEach origin None [] es b f) on.1 ys)
-decided_stays lower origin octets more a b e f (undecided ps are absent xs) (decided qs fault good ys) =
-    let on = ended_on ps qs (goes_on octets more ps qs are (inr (fault, good.breaks))) in
-    reads_on lower origin (Some (fault, Line (open_line qs))) [] (ended_entries ps) on.0 a b e f xs (subst (λ es. ReadEach origin (Some (fault, Line (open_line qs))) [] es b f) on.1 ys)
-decided_stays lower origin octets more a b e f (decided ps fault good xs) (undecided qs others none ys) =
-    let still = breaks_for_good octets more ps fault good in
-    let same : ps ≡ qs = tokens_of (octets ++ more) ps qs (inr (fault, still.breaks)) others in
-    absurd (none fault (subst (λ p. BreaksForGood (octets ++ more) p fault) same still))
-decided_stays lower origin octets more a b e f (decided ps fault good xs) (decided qs other better ys) =
-    let still = breaks_for_good octets more ps fault good in
-    same_stays a b e f (broken_once lower origin (octets ++ more) ps qs fault other a b e f still.breaks better.breaks xs ys)
+module _ (lower : Lower) (origin : List (List ℕ)) (octets : List ℕ) where
+  pub decided_stays : (more : List ℕ) (a b : List Placed) (e f : Ending) → FileDecides origin octets a e → FileDecides origin (octets ++ more) b f → Stays a e b f
+  decided_stays more a b e f (undecided ps are absent xs) (undecided qs others none ys) =
+      let on = ended_on ps qs (goes_on octets more ps qs are others) in
+      reads_on lower origin None [] (ended_entries ps) on.0 a b e f xs (subst (λ es. ReadEach origin None [] es b f) on.1 ys)
+  decided_stays more a b e f (undecided ps are absent xs) (decided qs fault good ys) =
+      let on = ended_on ps qs (goes_on octets more ps qs are (inr (fault, good.breaks))) in
+      reads_on lower origin (Some (fault, Line (open_line qs))) [] (ended_entries ps) on.0 a b e f xs (subst (λ es. ReadEach origin (Some (fault, Line (open_line qs))) [] es b f) on.1 ys)
+  decided_stays more a b e f (decided ps fault good xs) (undecided qs others none ys) =
+      let still = breaks_for_good octets more ps fault good in
+      let same : ps ≡ qs = tokens_of (octets ++ more) ps qs (inr (fault, still.breaks)) others in
+      absurd (none fault (subst (λ p. BreaksForGood (octets ++ more) p fault) same still))
+  decided_stays more a b e f (decided ps fault good xs) (decided qs other better ys) =
+      let still = breaks_for_good octets more ps fault good in
+      same_stays a b e f (broken_once lower origin (octets ++ more) ps qs fault other a b e f still.breaks better.breaks xs ys)
 
-pub decided_stays_at_end : Lower → (origin : List (List ℕ)) (octets more : List ℕ) (a b : List Placed) (e f : Ending) → FileDecides origin octets a e → FileReads origin (octets ++ more) b f → Stays a e b f
-decided_stays_at_end lower origin octets more a b e f (undecided ps are absent xs) (whole qs cut ys) =
-    let on = entries_on ps qs (goes_on octets more ps qs are (inl cut)) in
-    reads_on lower origin None [] (ended_entries ps) on.0 a b e f xs (subst (λ es. ReadEach origin None [] es b f) on.1 ys)
-decided_stays_at_end lower origin octets more a b e f (undecided ps are absent xs) (broken qs fault breaks ys) =
-    let on = ended_on ps qs (goes_on octets more ps qs are (inr (fault, breaks))) in
-    reads_on lower origin (Some (fault, Line (open_line qs))) [] (ended_entries ps) on.0 a b e f xs (subst (λ es. ReadEach origin (Some (fault, Line (open_line qs))) [] es b f) on.1 ys)
-decided_stays_at_end lower origin octets more a b e f (decided ps fault good xs) (whole qs cut ys) =
-    absurd (cut_not_broken (octets ++ more) qs ps fault cut (breaks_for_good octets more ps fault good).breaks)
-decided_stays_at_end lower origin octets more a b e f (decided ps fault good xs) (broken qs other breaks ys) =
-    same_stays a b e f (broken_once lower origin (octets ++ more) ps qs fault other a b e f (breaks_for_good octets more ps fault good).breaks breaks xs ys)
+  pub decided_stays_at_end : (more : List ℕ) (a b : List Placed) (e f : Ending) → FileDecides origin octets a e → FileReads origin (octets ++ more) b f → Stays a e b f
+  decided_stays_at_end more a b e f (undecided ps are absent xs) (whole qs cut ys) =
+      let on = entries_on ps qs (goes_on octets more ps qs are (inl cut)) in
+      reads_on lower origin None [] (ended_entries ps) on.0 a b e f xs (subst (λ es. ReadEach origin None [] es b f) on.1 ys)
+  decided_stays_at_end more a b e f (undecided ps are absent xs) (broken qs fault breaks ys) =
+      let on = ended_on ps qs (goes_on octets more ps qs are (inr (fault, breaks))) in
+      reads_on lower origin (Some (fault, Line (open_line qs))) [] (ended_entries ps) on.0 a b e f xs (subst (λ es. ReadEach origin (Some (fault, Line (open_line qs))) [] es b f) on.1 ys)
+  decided_stays_at_end more a b e f (decided ps fault good xs) (whole qs cut ys) =
+      absurd (cut_not_broken (octets ++ more) qs ps fault cut (breaks_for_good octets more ps fault good).breaks)
+  decided_stays_at_end more a b e f (decided ps fault good xs) (broken qs other breaks ys) =
+      same_stays a b e f (broken_once lower origin (octets ++ more) ps qs fault other a b e f (breaks_for_good octets more ps fault good).breaks breaks xs ys)

@@ -1,15 +1,208 @@
 -- An entry states a record, states nothing or has a fault: one of the three at most, and each once.
-use Rattle.std.proofs.Common.{◌≡◌, ℕ, List, [], ◌∷◌, Option, Some, None, Ok, Err, ◌⊎◌, inl, inr, refl, sym, ◌∙◌, subst}
+use Rattle.std.proofs.Common.{◌≡◌, ℕ, List, [], ◌∷◌, Option, Some, None, Ok, Err, ◌⊎◌, inl, inr, refl, sym, ◌∙◌, subst, ◌≤◌, Result, ap, arith}
+use Rattle.std.specs.List.{AllByRecursion}
+use Rattle.zone_name.specs.Spelling.{SpellingFault}
 use Rattle.zone_rdata.specs.Record.{Record}
-use Rattle.zone_rdata.specs.Spelling.{bare}
+use Rattle.zone_rdata.specs.Spelling.{bare, RawItem, quoted, States}
 use Rattle.zone_rdata.specs.declared.fault.Fault.{Fault}
+use Rattle.zone_rdata.specs.DataFault.{IsDataFault}
+use Rattle.zone_rdata.specs.Fault.{fault_of}
+use Rattle.zone_rdata.specs.Words.{IsClass, IsKind, IsKindWord}
+use Rattle.zone_rdata.specs.declared.fault.Fault.TheVariants.{NoTtl, BadTtl}
 use Rattle.zone_text.specs.Entries.{Entry}
-use Rattle.zone_text.specs.Statements.{Statement, no_items, sets_origin, sets_ttl, includes, unknown, owned, unowned, statement_of, Parts, parts_of, parts_in, parts_after}
-use Rattle.zone_text.specs.Inherited.{one_bare}
-use Rattle.zone_text.specs.Records.{EntryStates, StatesNothing}
-use Rattle.zone_text.specs.EntryFault.{OriginFault, DefaultTtlFault, DirectiveFault, OwnerFault, EntryFault, of_directive, of_owner, of_words, of_kind, of_rdata, of_ttl}
+use Rattle.zone_text.specs.Statements.{Statement, no_items, sets_origin, sets_ttl, includes, unknown, owned, unowned, statement_of, Parts, parts_of, parts_in, parts_after, Word, ttl, class}
+use Rattle.zone_text.specs.Inherited.{one_bare, IsOrigin, SpellsAfter, IsOwner, HasClass}
+use Rattle.zone_text.specs.Records.{EntryStates, StatesNothing, HasValue, HasTtl}
+use Rattle.zone_text.specs.EntryFault.{OriginFault, DefaultTtlFault, DirectiveFault, OwnerFault, EntryFault, of_directive, of_owner, of_words, of_kind, of_rdata, of_ttl, IsNameFaultAfter, WordFault, WordsFault, KindFault, TtlFault, none, long}
 use Rattle.zone_text.specs.Machine.Lower.{Lower, Once}
-use Rattle.zone_text.proofs.Outcomes.{FromOwner, from_owner_once, name_fault_once, name_or_fault}
+use Rattle.zone_text.proofs.Inherits.{Then, then_once, origin_once, owner_once, class_once, ttl_once}
+
+abbrev pub Outcome : Type 0 → Type 0
+Outcome A = Result A Fault
+
+-- a value or a fault
+abbrev pub Step : (A : Type 0) → (A → Type 0) → (Fault → Type 0) → Outcome A → Type 0
+Step A Good Bad (Ok x) = Good x
+Step A Good Bad (Err fault) = Bad fault
+
+pub step_once : (A : Type 0) (Good : A → Type 0) (Bad : Fault → Type 0) → Once A Good → Once Fault Bad → ((x : A) (fault : Fault) → Good x → Bad fault → ⊥) → Once (Outcome A) (Step A Good Bad)
+step_once A Good Bad good bad either (Ok x) (Ok y) p q = ap Ok (good x y p q)
+step_once A Good Bad good bad either (Ok x) (Err f) p q = absurd (either x f p q)
+step_once A Good Bad good bad either (Err f) (Ok y) p q = absurd (either y f q p)
+step_once A Good Bad good bad either (Err f) (Err g) p q = ap Err (bad f g p q)
+
+-- names
+
+module _ (lower : Lower) (origin : List (List ℕ)) (before : List Entry) where
+  pub name_fault_once : (text : List ℕ) → Once Fault (IsNameFaultAfter origin before text)
+  name_fault_once text f g x y =
+      let above : x.0 ≡ y.0 = origin_once lower origin before x.0 y.0 x.1.0 y.1.0 in
+      let found : x.1.1.0 ≡ y.1.1.0 = lower.name_fault y.0 text x.1.1.0 y.1.1.0 (subst (λ a. SpellingFault (Some a) text x.1.1.0) above x.1.1.1) y.1.1.1 in
+      x.1.1.2 ∙ (ap fault_of found ∙ sym y.1.1.2)
+
+  pub name_or_fault : (text : List ℕ) (name : List (List ℕ)) (fault : Fault) → SpellsAfter origin before text name → IsNameFaultAfter origin before text fault → ⊥
+  name_or_fault text name fault x y =
+      let above : x.0 ≡ y.0 = origin_once lower origin before x.0 y.0 x.1.0 y.1.0 in
+      lower.name_or_fault x.0 text name y.1.1.0 x.1.1 (subst (λ a. SpellingFault (Some a) text y.1.1.0) (sym above) y.1.1.1)
+
+  -- the owner
+
+  owner_fault_once : (form : Statement) → Once Fault (OwnerFault origin before form)
+  owner_fault_once (owned (quoted text) items) f g x y = x ∙ sym y
+  owner_fault_once (owned (bare text) items) f g x y = name_fault_once text f g x y
+  owner_fault_once (unowned items) f g x y = x.0 ∙ sym y.0
+  owner_fault_once form f g x y = absurd x
+
+  owner_or_fault : (form : Statement) (name : List (List ℕ)) (fault : Fault) → IsOwner origin before form name → OwnerFault origin before form fault → ⊥
+  owner_or_fault (owned (bare text) items) name f x y = name_or_fault text name f x y
+  owner_or_fault (unowned items) name f x y = y.1 name x
+  owner_or_fault form name f x y = x
+
+-- the words before the type
+
+word_fault_once : (word : Word) → Once Fault (WordFault word)
+word_fault_once (ttl text) f g x y = x.0 ∙ sym y.0
+word_fault_once (class text) f g x y = x.0 ∙ sym y.0
+
+word_or_fault : Lower → (word : Word) (fault : Fault) → HasValue word → WordFault word fault → ⊥
+word_or_fault lower (ttl text) f x y = y.1 x.0 x.1
+word_or_fault lower (class text) f x y =
+    let same : x.0 ≡ y.1.0 = lower.class text x.0 y.1.0 x.1.0 y.1.1.0 in
+    y.1.1.1 (subst IsClass same x.1.1)
+
+words_fault_once : Lower → (words : List Word) → Once Fault (WordsFault words)
+words_fault_once lower [] f g x y = absurd x
+words_fault_once lower (word ∷ words) f g (inl x) (inl y) = word_fault_once word f g x y
+words_fault_once lower (word ∷ words) f g (inl x) (inr y) = absurd (word_or_fault lower word f y.0 x)
+words_fault_once lower (word ∷ words) f g (inr x) (inl y) = absurd (word_or_fault lower word g x.0 y)
+words_fault_once lower (word ∷ words) f g (inr x) (inr y) = words_fault_once lower words f g x.1 y.1
+
+words_or_fault : Lower → (words : List Word) (fault : Fault) → AllByRecursion HasValue words → WordsFault words fault → ⊥
+words_or_fault lower [] f x y = y
+words_or_fault lower (word ∷ words) f x (inl y) = word_or_fault lower word f x.0 y
+words_or_fault lower (word ∷ words) f x (inr y) = words_or_fault lower words f x.1 y.1
+
+-- the type
+
+abbrev pub KindAnd : Type 0
+KindAnd = ℕ × List RawItem
+
+pub record HasKind (rest : List RawItem) (k : KindAnd) : Type 0 where
+  pub word : List ℕ
+  pub items : rest ≡ bare word ∷ k.1
+  pub named : IsKindWord word k.0
+  pub kind : IsKind k.0
+
+kind_once : Lower → (rest : List RawItem) → Once KindAnd (HasKind rest)
+kind_once lower rest (a, xs) (b, ys) x y =
+    let e : bare x.word ∷ xs ≡ bare y.word ∷ ys = sym x.items ∙ y.items in
+    let word : x.word ≡ y.word = cc in
+    let items : xs ≡ ys = cc in
+    let number : a ≡ b = lower.kind y.word a b (rw (← word) (x.named)) y.named in
+    cc
+
+kind_fault_once : Lower → (rest : List RawItem) → Once Fault (KindFault rest)
+kind_fault_once lower (bare text ∷ items) f g x y = lower.kind_fault text f g x y
+kind_fault_once lower rest f g x y = x ∙ sym y
+
+kind_or_fault : Lower → (rest : List RawItem) (k : KindAnd) (fault : Fault) → HasKind rest k → KindFault rest fault → ⊥
+kind_or_fault lower [] k f x y = let e = x.items in absurd cc
+kind_or_fault lower (quoted text ∷ items) k f x y = let e = x.items in absurd cc
+kind_or_fault lower (bare text ∷ items) k f x y =
+    let e = x.items in
+    let word : x.word ≡ text = cc in
+    lower.kind_or_fault text k.0 f (rw (← word) (x.named)) x.kind y
+
+-- the data
+
+pub record Found (origin : List (List ℕ)) (before : List Entry) (entry : Entry) (k : KindAnd) (d : ℕ × List ℕ) : Type 0 where
+  pub above : List (List ℕ)
+  pub under : IsOrigin origin before above
+  pub class : HasClass before entry d.0
+  pub states : States above d.0 k.0 k.1 d.1
+
+pub record Refused (origin : List (List ℕ)) (before : List Entry) (entry : Entry) (k : KindAnd) (fault : Fault) : Type 0 where
+  pub above : List (List ℕ)
+  pub number : ℕ
+  pub under : IsOrigin origin before above
+  pub class : HasClass before entry number
+  pub first : IsDataFault above number k.0 k.1 fault
+
+found_once : Lower → (origin : List (List ℕ)) (before : List Entry) (entry : Entry) (k : KindAnd) → Once (ℕ × List ℕ) (Found origin before entry k)
+found_once lower origin before entry k (a, xs) (b, ys) x y =
+    let above : x.above ≡ y.above = origin_once lower origin before x.above y.above x.under y.under in
+    let number : a ≡ b = class_once lower before entry a b x.class y.class in
+    let left : States y.above b k.0 k.1 xs = rw (← above, ← number) (x.states) in
+    let octets : xs ≡ ys = lower.rdata y.above b k.0 k.1 xs ys left y.states in
+    cc
+
+refused_once : Lower → (origin : List (List ℕ)) (before : List Entry) (entry : Entry) (k : KindAnd) → Once Fault (Refused origin before entry k)
+refused_once lower origin before entry k f g x y =
+    let above : x.above ≡ y.above = origin_once lower origin before x.above y.above x.under y.under in
+    let number : x.number ≡ y.number = class_once lower before entry x.number y.number x.class y.class in
+    lower.rdata_fault y.above y.number k.0 k.1 f g (rw (← above, ← number) (x.first)) y.first
+
+found_or_refused : Lower → (origin : List (List ℕ)) (before : List Entry) (entry : Entry) (k : KindAnd) (d : ℕ × List ℕ) (fault : Fault) → Found origin before entry k d → Refused origin before entry k fault → ⊥
+found_or_refused lower origin before entry k d f x y =
+    let above : x.above ≡ y.above = origin_once lower origin before x.above y.above x.under y.under in
+    let number : d.0 ≡ y.number = class_once lower before entry d.0 y.number x.class y.class in
+    lower.rdata_or_fault y.above y.number k.0 k.1 d.1 f (rw (← above, ← number) (x.states)) y.first
+
+-- the TTL
+
+pub record HasGoodTtl (origin : List (List ℕ)) (before : List Entry) (entry : Entry) (seconds : ℕ) : Type 0 where
+  pub has : HasTtl origin before entry seconds
+  pub short : seconds ≤ 2147483647
+
+ttl_fault_once : Lower → (origin : List (List ℕ)) (before : List Entry) (entry : Entry) → Once Fault (TtlFault origin before entry)
+ttl_fault_once lower origin before entry f g x y = both f g x y
+  where
+    of_none : (g : Fault) → ((seconds : ℕ) → HasTtl origin before entry seconds → ⊥) → TtlFault origin before entry g → NoTtl ≡ g
+    of_none g missing (none other) = refl
+    of_none g missing (long n has over) = absurd (missing n has)
+
+    of_long : (g : Fault) (n : ℕ) → HasTtl origin before entry n → TtlFault origin before entry g → BadTtl ≡ g
+    of_long g n has (none other) = absurd (other n has)
+    of_long g n has (long m more over) = refl
+
+    both : (f g : Fault) → TtlFault origin before entry f → TtlFault origin before entry g → f ≡ g
+    both f g (none missing) y = of_none g missing y
+    both f g (long n has over) y = of_long g n has y
+
+ttl_or_fault : Lower → (origin : List (List ℕ)) (before : List Entry) (entry : Entry) (n : ℕ) (fault : Fault) → HasGoodTtl origin before entry n → TtlFault origin before entry fault → ⊥
+ttl_or_fault lower origin before entry n f x (none missing) = missing n x.has
+ttl_or_fault lower origin before entry n f x (long m has over) =
+    let same : n ≡ m = ttl_once lower origin before entry n m x.has has in
+    let short : n ≤ 2147483647 = x.short in
+    absurd (omega arith)
+
+-- a record entry, step by step: owner, words, type, data, TTL
+
+abbrev pub IsMade : List (List ℕ) → KindAnd → (ℕ × List ℕ) → ℕ → Outcome Record → Type 0
+IsMade owner k d seconds r = r ≡ Ok (record { owner = owner; class = d.0; kind = k.0; ttl = seconds; octets = d.1 })
+
+abbrev pub FromTtl : List (List ℕ) → List Entry → Entry → List (List ℕ) → KindAnd → (ℕ × List ℕ) → Outcome Record → Type 0
+FromTtl origin before entry owner k d = Then ℕ Record Fault (Step ℕ (HasGoodTtl origin before entry) (TtlFault origin before entry)) (IsMade owner k d)
+
+abbrev pub FromData : List (List ℕ) → List Entry → Entry → List (List ℕ) → KindAnd → Outcome Record → Type 0
+FromData origin before entry owner k = Then (ℕ × List ℕ) Record Fault (Step (ℕ × List ℕ) (Found origin before entry k) (Refused origin before entry k)) (FromTtl origin before entry owner k)
+
+abbrev pub FromKind : List (List ℕ) → List Entry → Entry → List (List ℕ) → Parts → Outcome Record → Type 0
+FromKind origin before entry owner parts = Then KindAnd Record Fault (Step KindAnd (HasKind parts.rest) (KindFault parts.rest)) (FromData origin before entry owner)
+
+abbrev pub FromWords : List (List ℕ) → List Entry → Entry → Parts → List (List ℕ) → Outcome Record → Type 0
+FromWords origin before entry parts owner = Then (Unit {0}) Record Fault (Step (Unit {0}) (λ u. AllByRecursion HasValue parts.words) (WordsFault parts.words)) (λ u. FromKind origin before entry owner parts)
+
+abbrev pub FromOwner : List (List ℕ) → List Entry → Entry → Parts → Outcome Record → Type 0
+FromOwner origin before entry parts = Then (List (List ℕ)) Record Fault (Step (List (List ℕ)) (IsOwner origin before (statement_of entry)) (OwnerFault origin before (statement_of entry))) (FromWords origin before entry parts)
+
+pub from_owner_once : Lower → (origin : List (List ℕ)) (before : List Entry) (entry : Entry) (parts : Parts) → Once (Outcome Record) (FromOwner origin before entry parts)
+from_owner_once lower origin before entry parts =
+    then_once (List (List ℕ)) Record Fault _ _ (step_once (List (List ℕ)) _ _ (owner_once lower origin before (statement_of entry)) (owner_fault_once lower origin before (statement_of entry)) (owner_or_fault lower origin before (statement_of entry))) (λ owner.
+    then_once (Unit {0}) Record Fault _ _ (step_once (Unit {0}) _ _ (λ u v p q. refl) (words_fault_once lower parts.words) (λ u. words_or_fault lower parts.words)) (λ u.
+    then_once KindAnd Record Fault _ _ (step_once KindAnd _ _ (kind_once lower parts.rest) (kind_fault_once lower parts.rest) (kind_or_fault lower parts.rest)) (λ k.
+    then_once (ℕ × List ℕ) Record Fault _ _ (step_once (ℕ × List ℕ) _ _ (found_once lower origin before entry k) (refused_once lower origin before entry k) (found_or_refused lower origin before entry k)) (λ d.
+    then_once ℕ Record Fault _ _ (step_once ℕ _ _ (λ m n p q. ttl_once lower origin before entry m n p.has q.has) (ttl_fault_once lower origin before entry) (ttl_or_fault lower origin before entry)) (λ seconds a b x y. x ∙ sym y)))))
 
 -- the steps of a stated record
 stated_steps : (origin : List (List ℕ)) (before : List Entry) (entry : Entry) (r : Record) (states : EntryStates origin before entry r) → FromOwner origin before entry states.head.parts (Ok r)

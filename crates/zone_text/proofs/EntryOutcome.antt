@@ -1,27 +1,192 @@
--- An entry has an outcome: nothing, a record or a first fault.
-use Rattle.std.proofs.Common.{◌≡◌, ℕ, ◌==◌, Bool, true, false, if◌then◌else◌, List, [], ◌∷◌, Option, Some, None, MatchOption, ◌⊎◌, inl, inr, refl, sym, ◌∙◌, ap, subst}
+-- An entry after others that state nothing or a record has an outcome: nothing, a record or a first
+-- fault.
+use Rattle.std.proofs.Common.{◌≡◌, ℕ, ◌==◌, Bool, true, false, if◌then◌else◌, List, [], ◌∷◌, Option, Some, None, MatchOption, ◌⊎◌, inl, inr, refl, sym, ◌∙◌, ap, subst, ◌<◌, ◌++◌, arith}
 use Rattle.std.specs.List.{AllByRecursion}
-use Rattle.std.proofs.lemmas.Bool.{cases_lt}
+use Rattle.std.proofs.lemmas.Bool.{cases_lt, cases_eq}
+use Rattle.std.specs.Prelude.{option_and_then}
 use Rattle.zone_name.specs.Name.{IsName}
+use Rattle.zone_name.proofs.Pushing.{AllByRecursion-append}
+use Rattle.zone_name.specs.Spelling.{Spells, SpellingFault}
+use Rattle.zone_name.specs.declared.fault.NameFault.{NameFault}
 use Rattle.zone_rdata.specs.DataFault.{IsDataFault}
 use Rattle.zone_rdata.specs.Minimum.{minimum}
 use Rattle.zone_rdata.specs.Number.{IsTime}
 use Rattle.zone_rdata.specs.Record.{Record}
 use Rattle.zone_rdata.specs.Spelling.{RawItem, bare, quoted, States}
-use Rattle.zone_rdata.specs.Words.{IsClass, IsKind, IsKindWord, IsWordFault}
+use Rattle.zone_rdata.specs.Words.{IsClass, IsKind, IsKindWord, IsWordFault, IsClassWord}
 use Rattle.zone_rdata.specs.declared.fault.Fault.{Fault}
-use Rattle.zone_rdata.specs.declared.fault.Fault.TheVariants.{IncludeDirective, UnknownDirective, BadDirective, NoOwner, NoTtl, BadTtl, UnknownType}
+use Rattle.zone_rdata.specs.declared.fault.Fault.TheVariants.{IncludeDirective, UnknownDirective, BadDirective, NoOwner, NoTtl, BadTtl, UnknownType, BadClass}
+use Rattle.zone_rdata.specs.Fault.{fault_of}
 use Rattle.zone_text.specs.Entries.{Entry}
-use Rattle.zone_text.specs.EntryFault.{DirectiveFault, OwnerFault, WordsFault, KindFault, none, long, EntryFault, of_directive, of_owner, of_words, of_kind, of_rdata, of_ttl}
-use Rattle.zone_text.specs.Statements.{Statement, no_items, sets_origin, sets_ttl, includes, unknown, owned, unowned, statement_of, statement_by, directive, Parts, parts_of, parts_in, parts_after}
-use Rattle.zone_text.specs.Inherited.{IsOrigin, IsOwner, stated_ttl, IsTtl}
+use Rattle.zone_text.specs.EntryFault.{DirectiveFault, OwnerFault, WordsFault, KindFault, none, long, EntryFault, of_directive, of_owner, of_words, of_kind, of_rdata, of_ttl, IsNameFaultAfter, WordFault}
+use Rattle.zone_text.specs.Statements.{Statement, no_items, sets_origin, sets_ttl, includes, unknown, owned, unowned, statement_of, statement_by, directive, Parts, parts_of, parts_in, parts_after, Word, ttl, class, class_among, word_after, begins_with_digit, is_class_word, ttl_among, unless_stated}
+use Rattle.zone_text.specs.Inherited.{IsOrigin, IsOwner, stated_ttl, IsTtl, SpellsAfter, IsLastOwner, HasClass, or_else, latest, origin_text, owner_text, class_word}
 use Rattle.zone_text.specs.Machine.Lower.{Lower, Choices}
 use Rattle.zone_text.specs.Outcome.{AllState, AreOctetItems}
 use Rattle.zone_text.specs.Records.{HasValue, Head, HasHead, head_of, StatesData, StatesMinimum, IsLastMinimum, HasTtl, EntryStates, StatesNothing}
 use Rattle.zone_text.specs.Tokens.{is_blank}
 use Rattle.zone_text.proofs.Entered.{nothing_or_parts}
-use Rattle.zone_text.proofs.EntryChoice.{origin_is, last_owner, name_or_fault, class_is, words_or_fault, parts_good, AreGood, ttl_word_by, OwnerChoice, NameChoice}
 use Rattle.zone_text.proofs.Inherits.{head_once, states_once}
+use Rattle.zone_text.proofs.ClassWords.{class_word_of}
+use Rattle.zone_text.proofs.WordsLeft.{parts_by}
+
+-- ---- the origin
+
+abbrev OriginFact : List (List ℕ) → List Entry → Option (List ℕ) → Type 0
+OriginFact origin before o = (name : List (List ℕ)) × (MatchOption o (IsOrigin origin before name) (λ text. SpellsAfter origin before text name) × IsName name)
+
+origin_nothing : (origin : List (List ℕ)) (before : List Entry) (form : Statement) → StatesNothing origin before form → ((name : List (List ℕ)) × (IsOrigin origin before name × IsName name)) → OriginFact origin before (origin_text form)
+origin_nothing origin before (sets_origin (bare text ∷ [])) h above = (h.0, (h.1, h.1.1.1.name))
+origin_nothing origin before form h above = above
+
+origin_record : (origin : List (List ℕ)) (before : List Entry) (form : Statement) (parts : Parts) → parts_in form ≡ Some parts → ((name : List (List ℕ)) × (IsOrigin origin before name × IsName name)) → OriginFact origin before (origin_text form)
+origin_record origin before (sets_origin items) parts e above = absurd cc
+origin_record origin before form parts e above = above
+
+origin_by : (origin : List (List ℕ)) (before : List Entry) (entry : Entry) → StatesNothing origin before (statement_of entry) ⊎ ((r : Record) × EntryStates origin before entry r) → ((name : List (List ℕ)) × (IsOrigin origin before name × IsName name)) → (name : List (List ℕ)) × (IsOrigin origin (entry ∷ before) name × IsName name)
+origin_by origin before entry (inl n) above = origin_nothing origin before (statement_of entry) n above
+origin_by origin before entry (inr s) above = origin_record origin before (statement_of entry) s.1.head.parts s.1.head.split above
+
+pub origin_is : (origin : List (List ℕ)) (before : List Entry) → IsName origin → AllState origin before → (name : List (List ℕ)) × (IsOrigin origin before name × IsName name)
+origin_is origin [] is states = (origin, (refl, is))
+origin_is origin (entry ∷ before) is states = origin_by origin before entry states.0 (origin_is origin before is states.1)
+
+-- ---- the owner
+
+abbrev pub OwnerChoice : List (List ℕ) → List Entry → Option (List ℕ) → Type 0
+OwnerChoice origin before o = ((name : List (List ℕ)) × (MatchOption o (IsLastOwner origin before name) (λ text. SpellsAfter origin before text name) × IsName name)) ⊎ ((name : List (List ℕ)) → MatchOption o (IsLastOwner origin before name) (λ text. SpellsAfter origin before text name) → ⊥)
+
+owner_nothing : (origin : List (List ℕ)) (before : List Entry) (form : Statement) → StatesNothing origin before form → OwnerChoice origin before None → OwnerChoice origin before (owner_text form)
+owner_nothing origin before (owned owner items) h last = absurd h
+owner_nothing origin before form h last = last
+
+owner_record : (origin : List (List ℕ)) (before : List Entry) (form : Statement) (name : List (List ℕ)) → IsOwner origin before form name → OwnerChoice origin before None → OwnerChoice origin before (owner_text form)
+owner_record origin before (owned (bare text) items) name h last = inl (name, (h, h.1.1.name))
+owner_record origin before (owned (quoted text) items) name h last = absurd h
+owner_record origin before form name h last = last
+
+owner_by : (origin : List (List ℕ)) (before : List Entry) (entry : Entry) → StatesNothing origin before (statement_of entry) ⊎ ((r : Record) × EntryStates origin before entry r) → OwnerChoice origin before None → OwnerChoice origin before (owner_text (statement_of entry))
+owner_by origin before entry (inl n) last = owner_nothing origin before (statement_of entry) n last
+owner_by origin before entry (inr s) last = owner_record origin before (statement_of entry) s.0.owner s.1.head.owner last
+
+pub last_owner : (origin : List (List ℕ)) (before : List Entry) → AllState origin before → OwnerChoice origin before None
+last_owner origin [] states = inr (λ name h. h)
+last_owner origin (entry ∷ before) states = owner_by origin before entry states.0 (last_owner origin before states.1)
+
+abbrev pub NameChoice : List (List ℕ) → List Entry → List ℕ → Type 0
+NameChoice origin before text = ((name : List (List ℕ)) × (SpellsAfter origin before text name × IsName name)) ⊎ ((fault : Fault) × IsNameFaultAfter origin before text fault)
+
+name_by : (origin : List (List ℕ)) (before : List Entry) (text : List ℕ) (above : List (List ℕ)) → IsOrigin origin before above → ((name : List (List ℕ)) × Spells (Some above) text name) ⊎ ((fault : NameFault) × SpellingFault (Some above) text fault) → NameChoice origin before text
+name_by origin before text above under (inl found) = inl (found.0, ((above, (under, found.1)), found.1.name))
+name_by origin before text above under (inr bad) = inr (fault_of bad.0, (above, (under, (bad.0, bad.1, refl))))
+
+pub name_or_fault : Choices → (origin : List (List ℕ)) (before : List Entry) (text : List ℕ) → IsName origin → AllState origin before → AllByRecursion (λ c. c < 256) text → NameChoice origin before text
+name_or_fault choices origin before text is states low =
+    let above = origin_is origin before is states in
+    name_by origin before text above.0 above.1.0 (choices.name above.0 text above.1.1 low)
+
+-- ---- the class
+
+abbrev ClassFact : Option (List ℕ) → Type 0
+ClassFact o = (number : ℕ) × (MatchOption o (number ≡ 1) (λ text. IsClassWord text number) × IsClass number)
+
+class_among_words : (words : List Word) (later : Option (List ℕ)) → AllByRecursion HasValue words → ClassFact later → ClassFact (or_else (class_among words) later)
+class_among_words [] later have fact = fact
+class_among_words (ttl text ∷ words) later have fact = class_among_words words later have.1 fact
+class_among_words (class text ∷ words) later have fact = (have.0.0, (have.0.1.0, have.0.1.1))
+
+class_in_parts : (o : Option Parts) (later : Option (List ℕ)) → ((parts : Parts) → o ≡ Some parts → AllByRecursion HasValue parts.words) → ClassFact later → ClassFact (or_else (option_and_then (λ (parts : Parts). class_among parts.words) o) later)
+class_in_parts None later have fact = fact
+class_in_parts (Some parts) later have fact = class_among_words parts.words later (have parts refl) fact
+
+words_have : (origin : List (List ℕ)) (before : List Entry) (entry : Entry) → StatesNothing origin before (statement_of entry) ⊎ ((r : Record) × EntryStates origin before entry r) → (parts : Parts) → parts_of entry ≡ Some parts → AllByRecursion HasValue parts.words
+words_have origin before entry (inl n) parts e = absurd (nothing_or_parts origin before (statement_of entry) parts n e)
+words_have origin before entry (inr s) parts e =
+    let split : Some s.1.head.parts ≡ Some parts = sym s.1.head.split ∙ e in
+    let same : s.1.head.parts ≡ parts = cc in
+    subst (λ p. AllByRecursion HasValue p.words) same s.1.head.words
+
+class_before : (origin : List (List ℕ)) (before : List Entry) → AllState origin before → ClassFact (latest class_word before)
+class_before origin [] states = (1, (refl, record { short = omega arith; not_zero = λ e. omega arith; not_none = λ e. omega arith; not_any = λ e. omega arith }))
+class_before origin (entry ∷ before) states = class_in_parts (parts_of entry) (latest class_word before) (words_have origin before entry states.0) (class_before origin before states.1)
+
+pub class_is : (origin : List (List ℕ)) (before : List Entry) (entry : Entry) (parts : Parts) → AllState origin before → parts_of entry ≡ Some parts → AllByRecursion HasValue parts.words → (number : ℕ) × (HasClass before entry number × IsClass number)
+class_is origin before entry parts states split words =
+    class_in_parts (parts_of entry) (latest class_word before) (λ other e. let both : Some parts ≡ Some other = sym split ∙ e in let same : parts ≡ other = cc in subst (λ p. AllByRecursion HasValue p.words) same words) (class_before origin before states)
+
+-- ---- the words before the type
+
+-- a class among them is the word of one
+abbrev pub IsKnown : Word → Type 0
+IsKnown (ttl text) = Unit {0}
+IsKnown (class text) = is_class_word text ≡ true
+
+word_known : (a b : Bool) (s t : Option (List ℕ)) (text : List ℕ) (word : Word) → is_class_word text ≡ b → (if a then unless_stated s (ttl text) else if b then unless_stated t (class text) else None) ≡ Some word → IsKnown word
+word_known true b None t text word e h = let same : ttl text ≡ word = cc in subst IsKnown same tt
+word_known false true s None text word e h = let same : class text ≡ word = cc in subst IsKnown same e
+word_known a b s t text word e h = absurd cc
+
+after_known : (words : List Word) (item : RawItem) (word : Word) → word_after words item ≡ Some word → IsKnown word
+after_known words (quoted text) word e = absurd cc
+after_known words (bare text) word e = word_known (begins_with_digit text) (is_class_word text) (ttl_among words) (class_among words) text word refl e
+
+pub record AreGood (parts : Parts) : Type 0 where
+  pub known : AllByRecursion IsKnown parts.words
+  pub low : AreOctetItems parts.rest
+
+good_by : (words : List Word) (item : RawItem) (items : List RawItem) (o : Option Word) → word_after words item ≡ o → AllByRecursion IsKnown words → AreOctetItems (item ∷ items) → ((word : Word) → AllByRecursion IsKnown (words ++ word ∷ []) → AreGood (parts_after (words ++ word ∷ []) items)) → AreGood (parts_by words item items o)
+good_by words item items None e known low goes = record { known = known; low = low }
+good_by words item items (Some word) e known low goes = goes word (AllByRecursion-append IsKnown words (word ∷ []) known (after_known words item word e, tt))
+
+pub parts_good : (items : List RawItem) (words : List Word) → AllByRecursion IsKnown words → AreOctetItems items → AreGood (parts_after words items)
+parts_good [] words known low = record { known = known; low = tt }
+parts_good (item ∷ items) words known low = good_by words item items (word_after words item) refl known low (λ word more. parts_good items (words ++ word ∷ []) more low.1)
+
+abbrev WordChoice : Word → Type 0
+WordChoice word = HasValue word ⊎ ((fault : Fault) × WordFault word fault)
+
+pub ttl_word_by : Lower → (text : List ℕ) → ((n : ℕ) × IsTime text n) ⊎ ((n : ℕ) → IsTime text n → ⊥) → ((seconds : ℕ) × IsTtl text seconds) ⊎ ((seconds : ℕ) → IsTtl text seconds → ⊥)
+ttl_word_by lower text (inr no_time) = inr (λ seconds h. no_time seconds h.time)
+ttl_word_by lower text (inl found) = elim (cases_lt 2147483647 found.0) [
+  | inl over ↦ inr (λ seconds h. omega (arith, lower.time text seconds found.0 h.time found.1, h.short))
+  | inr short ↦ inl (found.0, record { time = found.1; short = short })
+]
+
+ttl_word : (text : List ℕ) → ((seconds : ℕ) × IsTtl text seconds) ⊎ ((seconds : ℕ) → IsTtl text seconds → ⊥) → WordChoice (ttl text)
+ttl_word text (inl found) = inl found
+ttl_word text (inr no_ttl) = inr (BadTtl, (refl, no_ttl))
+
+class_or_not : (n : ℕ) → IsClass n ⊎ (IsClass n → ⊥)
+class_or_not n = elim (cases_lt n 65536) [
+  | inr over ↦ inr (λ h. omega (arith, h.short))
+  | inl short ↦ elim (cases_eq n 0) [
+    | inl is ↦ inr (λ h. h.not_zero is)
+    | inr not_zero ↦ elim (cases_eq n 254) [
+      | inl is ↦ inr (λ h. h.not_none is)
+      | inr not_none ↦ elim (cases_eq n 255) [
+        | inl is ↦ inr (λ h. h.not_any is)
+        | inr not_any ↦ inl (record { short = short; not_zero = not_zero; not_none = not_none; not_any = not_any })
+      ]
+    ]
+  ]
+]
+
+class_word_by : (text : List ℕ) (number : ℕ) → IsClassWord text number → IsClass number ⊎ (IsClass number → ⊥) → WordChoice (class text)
+class_word_by text number is (inl good) = inl (number, (is, good))
+class_word_by text number is (inr bad) = inr (BadClass, (refl, (number, (is, bad))))
+
+word_or_fault : Lower → Choices → (word : Word) → IsKnown word → WordChoice word
+word_or_fault lower choices (ttl text) known = ttl_word text (ttl_word_by lower text (choices.time text))
+word_or_fault lower choices (class text) known = let found = class_word_of text known in class_word_by text found.0 found.1 (class_or_not found.0)
+
+words_by : (word : Word) (words : List Word) → WordChoice word → AllByRecursion HasValue words ⊎ ((fault : Fault) × WordsFault words fault) → AllByRecursion HasValue (word ∷ words) ⊎ ((fault : Fault) × WordsFault (word ∷ words) fault)
+words_by word words (inr bad) others = inr (bad.0, inl bad.1)
+words_by word words (inl has) (inl have) = inl (has, have)
+words_by word words (inl has) (inr bad) = inr (bad.0, inr (has, bad.1))
+
+pub words_or_fault : Lower → Choices → (words : List Word) → AllByRecursion IsKnown words → AllByRecursion HasValue words ⊎ ((fault : Fault) × WordsFault words fault)
+words_or_fault lower choices [] known = inl tt
+words_or_fault lower choices (word ∷ words) known = words_by word words (word_or_fault lower choices word known.0) (words_or_fault lower choices words known.1)
 
 abbrev Choice : (ℕ → Type 0) → Type 0
 Choice P = ((n : ℕ) × P n) ⊎ ((n : ℕ) → P n → ⊥)
@@ -29,24 +194,25 @@ Choice P = ((n : ℕ) × P n) ⊎ ((n : ℕ) → P n → ⊥)
 -- ---- the TTL
 
 -- data without a MINIMUM state none
-pub states_no_minimum : Lower → (origin : List (List ℕ)) (before : List Entry) (entry : Entry) (head : Head) (octets : List ℕ) → HasHead origin before entry head → StatesData origin before head octets → minimum (record { class = head.class; kind = head.kind; octets = octets }) ≡ None → (seconds : ℕ) → StatesMinimum origin before entry seconds → ⊥
-states_no_minimum lower origin before entry head octets has rdata e seconds x =
-    let same : x.head ≡ head = head_once lower origin before entry x.head head x.has has in
-    let texts : x.octets ≡ octets = states_once lower origin before head x.octets octets (subst (λ h. StatesData origin before h x.octets) same x.rdata) rdata in
-    let left : minimum (record { class = x.head.class; kind = x.head.kind; octets = x.octets }) ≡ minimum (record { class = head.class; kind = head.kind; octets = octets }) = rw (same, texts) refl in
-    let clash : Some seconds ≡ None = sym x.field ∙ (left ∙ e) in
-    cc
+module _ (lower : Lower) (origin : List (List ℕ)) (before : List Entry) (entry : Entry) where
+  pub states_no_minimum : (head : Head) (octets : List ℕ) → HasHead origin before entry head → StatesData origin before head octets → minimum (record { class = head.class; kind = head.kind; octets = octets }) ≡ None → (seconds : ℕ) → StatesMinimum origin before entry seconds → ⊥
+  states_no_minimum head octets has rdata e seconds x =
+      let same : x.head ≡ head = head_once lower origin before entry x.head head x.has has in
+      let texts : x.octets ≡ octets = states_once lower origin before head x.octets octets (subst (λ h. StatesData origin before h x.octets) same x.rdata) rdata in
+      let left : minimum (record { class = x.head.class; kind = x.head.kind; octets = x.octets }) ≡ minimum (record { class = head.class; kind = head.kind; octets = octets }) = rw (same, texts) refl in
+      let clash : Some seconds ≡ None = sym x.field ∙ (left ∙ e) in
+      cc
 
-minimum_by : Lower → (origin : List (List ℕ)) (before : List Entry) (entry : Entry) (head : Head) (octets : List ℕ) (found : Option ℕ) → HasHead origin before entry head → StatesData origin before head octets → minimum (record { class = head.class; kind = head.kind; octets = octets }) ≡ found → Choice (StatesMinimum origin before entry)
-minimum_by lower origin before entry head octets (Some seconds) has rdata e = inl (seconds, record { head = head; octets = octets; has = has; rdata = rdata; field = e })
-minimum_by lower origin before entry head octets None has rdata e = inr (states_no_minimum lower origin before entry head octets has rdata e)
+  minimum_by : (head : Head) (octets : List ℕ) (found : Option ℕ) → HasHead origin before entry head → StatesData origin before head octets → minimum (record { class = head.class; kind = head.kind; octets = octets }) ≡ found → Choice (StatesMinimum origin before entry)
+  minimum_by head octets (Some seconds) has rdata e = inl (seconds, record { head = head; octets = octets; has = has; rdata = rdata; field = e })
+  minimum_by head octets None has rdata e = inr (states_no_minimum head octets has rdata e)
 
-minimum_of : Lower → (origin : List (List ℕ)) (before : List Entry) (entry : Entry) (head : Head) (octets : List ℕ) → HasHead origin before entry head → StatesData origin before head octets → Choice (StatesMinimum origin before entry)
-minimum_of lower origin before entry head octets has rdata = minimum_by lower origin before entry head octets (minimum (record { class = head.class; kind = head.kind; octets = octets })) has rdata refl
+  minimum_of : (head : Head) (octets : List ℕ) → HasHead origin before entry head → StatesData origin before head octets → Choice (StatesMinimum origin before entry)
+  minimum_of head octets has rdata = minimum_by head octets (minimum (record { class = head.class; kind = head.kind; octets = octets })) has rdata refl
 
-minimum_in : Lower → (origin : List (List ℕ)) (before : List Entry) (entry : Entry) → StatesNothing origin before (statement_of entry) ⊎ ((r : Record) × EntryStates origin before entry r) → Choice (StatesMinimum origin before entry)
-minimum_in lower origin before entry (inl n) = inr (λ seconds x. nothing_or_parts origin before (statement_of entry) x.has.parts n x.has.split)
-minimum_in lower origin before entry (inr s) = minimum_of lower origin before entry (head_of s.0 s.1.items) s.0.octets s.1.head s.1.rdata
+  minimum_in : StatesNothing origin before (statement_of entry) ⊎ ((r : Record) × EntryStates origin before entry r) → Choice (StatesMinimum origin before entry)
+  minimum_in (inl n) = inr (λ seconds x. nothing_or_parts origin before (statement_of entry) x.has.parts n x.has.split)
+  minimum_in (inr s) = minimum_of (head_of s.0 s.1.items) s.0.octets s.1.head s.1.rdata
 
 pub no_minimum : (origin : List (List ℕ)) (before : List Entry) (entry : Entry) → ((n : ℕ) → StatesMinimum origin before entry n → ⊥) → ((n : ℕ) → IsLastMinimum origin before n → ⊥) → (n : ℕ) → IsLastMinimum origin (entry ∷ before) n → ⊥
 no_minimum origin before entry here earlier n (inl x) = here n x
@@ -65,38 +231,10 @@ ttl_by : (o : Option (List ℕ)) (Last : ℕ → Type 0) → Choice Last → ((t
 ttl_by None Last last times = last
 ttl_by (Some text) Last last times = times text
 
-ttl_or_not : Lower → Choices → (origin : List (List ℕ)) (before : List Entry) (entry : Entry) (head : Head) (octets : List ℕ) → AllState origin before → HasHead origin before entry head → StatesData origin before head octets → Choice (HasTtl origin before entry)
-ttl_or_not lower choices origin before entry head octets states has rdata =
-    ttl_by (stated_ttl before entry) (IsLastMinimum origin (entry ∷ before)) (last_by origin before entry (minimum_of lower origin before entry head octets has rdata) (last_minimum lower origin before states)) choices.time
-
 -- ---- a record, from its last step to its first
 
 abbrev pub Outcome : List (List ℕ) → List Entry → Entry → Type 0
 Outcome origin before entry = StatesNothing origin before (statement_of entry) ⊎ (((r : Record) × EntryStates origin before entry r) ⊎ ((fault : Fault) × EntryFault origin before entry fault))
-
-from_ttl : Choices → (origin : List (List ℕ)) (before : List Entry) (entry : Entry) (head : Head) (octets : List ℕ) → IsName head.owner → IsClass head.class → HasHead origin before entry head → StatesData origin before head octets → Choice (HasTtl origin before entry) → Outcome origin before entry
-from_ttl choices origin before entry head octets name class has rdata (inr no_ttl) = inr (inr (NoTtl, of_ttl head octets has rdata (none no_ttl)))
-from_ttl choices origin before entry head octets name class has rdata (inl found) = elim (cases_lt 2147483647 found.0) [
-  | inl over ↦ inr (inr (BadTtl, of_ttl head octets has rdata (long found.0 found.1 over)))
-  | inr short ↦
-      let r : Record = record { owner = head.owner; class = head.class; kind = head.kind; ttl = found.0; octets = octets } in
-      inr (inl (
-        r,
-        record {
-          items = head.items;
-          head = has;
-          rdata = rdata;
-          ttl = found.1;
-          fits = record { owner = name; ttl = short; rdata = record { class = class; kind = has.kind; octets = choices.stated rdata.above head.class head.kind head.items octets rdata.states } };
-        },
-      ))
-]
-
-from_rdata : Lower → Choices → (origin : List (List ℕ)) (before : List Entry) (entry : Entry) (head : Head) (above : List (List ℕ)) → AllState origin before → IsName head.owner → IsClass head.class → HasHead origin before entry head → IsOrigin origin before above → ((octets : List ℕ) × States above head.class head.kind head.items octets) ⊎ ((fault : Fault) × IsDataFault above head.class head.kind head.items fault) → Outcome origin before entry
-from_rdata lower choices origin before entry head above states name class has under (inr bad) = inr (inr (bad.0, of_rdata head above has under bad.1))
-from_rdata lower choices origin before entry head above states name class has under (inl found) =
-    let rdata : StatesData origin before head found.0 = record { above = above; under = under; states = found.1 } in
-    from_ttl choices origin before entry head found.0 name class has rdata (ttl_or_not lower choices origin before entry head found.0 states has rdata)
 
 abbrev KindChoice : List RawItem → Type 0
 KindChoice rest = ((word : List ℕ) × ((items : List RawItem) × ((n : ℕ) × ((rest ≡ bare word ∷ items) × (AreOctetItems items × (IsKindWord word n × IsKind n)))))) ⊎ ((fault : Fault) × KindFault rest fault)
@@ -109,66 +247,11 @@ kind_or_fault : Choices → (rest : List RawItem) → AreOctetItems rest → Kin
 kind_or_fault choices (bare text ∷ items) low = kind_by text items low.1 (choices.kind text)
 kind_or_fault choices rest low = inr (UnknownType, refl)
 
-from_kind : Lower → Choices → (origin : List (List ℕ)) (before : List Entry) (entry : Entry) (parts : Parts) (owner : List (List ℕ)) → IsName origin → AllState origin before → parts_of entry ≡ Some parts → IsOwner origin before (statement_of entry) owner → IsName owner → AllByRecursion HasValue parts.words → KindChoice parts.rest → Outcome origin before entry
-from_kind lower choices origin before entry parts owner is states split owns name words (inr bad) = inr (inr (bad.0, of_kind owner parts owns split words bad.1))
-from_kind lower choices origin before entry parts owner is states split owns name words (inl found) =
-    let word = found.0 in
-    let items = found.1.0 in
-    let kind = found.1.1.0 in
-    let facts = found.1.1.1 in
-    let number = class_is origin before entry parts states split words in
-    let above = origin_is origin before is states in
-    let head : Head = record { owner = owner; class = number.0; kind = kind; items = items } in
-    let has : HasHead origin before entry head = record { parts = parts; word = word; split = split; owner = owns; words = words; class = number.1.0; rest = facts.0; named = facts.1.1.0; kind = facts.1.1.1 } in
-    from_rdata lower choices origin before entry head above.0 states name number.1.1 has above.1.0 (choices.rdata above.0 number.0 kind items above.1.1 facts.1.0)
-
-from_words : Lower → Choices → (origin : List (List ℕ)) (before : List Entry) (entry : Entry) (parts : Parts) (owner : List (List ℕ)) → IsName origin → AllState origin before → parts_of entry ≡ Some parts → AreOctetItems parts.rest → IsOwner origin before (statement_of entry) owner → IsName owner → AllByRecursion HasValue parts.words ⊎ ((fault : Fault) × WordsFault parts.words fault) → Outcome origin before entry
-from_words lower choices origin before entry parts owner is states split low owns name (inr bad) = inr (inr (bad.0, of_words owner parts owns split bad.1))
-from_words lower choices origin before entry parts owner is states split low owns name (inl words) = from_kind lower choices origin before entry parts owner is states split owns name words (kind_or_fault choices parts.rest low)
-
 abbrev OwnerOutcome : List (List ℕ) → List Entry → Statement → Type 0
 OwnerOutcome origin before form = ((owner : List (List ℕ)) × (IsOwner origin before form owner × IsName owner)) ⊎ ((fault : Fault) × OwnerFault origin before form fault)
 
-from_owner : Lower → Choices → (origin : List (List ℕ)) (before : List Entry) (entry : Entry) (parts : Parts) → IsName origin → AllState origin before → parts_of entry ≡ Some parts → AreGood parts → OwnerOutcome origin before (statement_of entry) → Outcome origin before entry
-from_owner lower choices origin before entry parts is states split good (inr bad) = inr (inr (bad.0, of_owner bad.1))
-from_owner lower choices origin before entry parts is states split good (inl found) = from_words lower choices origin before entry parts found.0 is states split good.low found.1.0 found.1.1 (words_or_fault lower choices parts.words good.known)
-
--- ---- the owner
-
-last_outcome : (origin : List (List ℕ)) (before : List Entry) (items : List RawItem) → OwnerChoice origin before None → OwnerOutcome origin before (unowned items)
-last_outcome origin before items (inl found) = inl found
-last_outcome origin before items (inr no_owner) = inr (NoOwner, (refl, no_owner))
-
-owned_outcome : Choices → (origin : List (List ℕ)) (before : List Entry) (owner : RawItem) (items : List RawItem) → IsName origin → AllState origin before → AreOctetItems (owner ∷ items) → OwnerOutcome origin before (owned owner items)
-owned_outcome choices origin before (bare text) items is states low = name_or_fault choices origin before text is states low.0
-owned_outcome choices origin before (quoted text) items is states low = inr (NoOwner, refl)
-
--- ---- directives
-
 abbrev DirectiveChoice : List (List ℕ) → List Entry → Statement → Type 0
 DirectiveChoice origin before form = StatesNothing origin before form ⊎ ((fault : Fault) × DirectiveFault origin before form fault)
-
-origin_text_by : (origin : List (List ℕ)) (before : List Entry) (text : List ℕ) → NameChoice origin before text → DirectiveChoice origin before (sets_origin (bare text ∷ []))
-origin_text_by origin before text (inl found) = inl (found.0, found.1.0)
-origin_text_by origin before text (inr bad) = inr bad
-
-origin_or_fault : Choices → (origin : List (List ℕ)) (before : List Entry) (items : List RawItem) → IsName origin → AllState origin before → AreOctetItems items → DirectiveChoice origin before (sets_origin items)
-origin_or_fault choices origin before (bare text ∷ []) is states low = origin_text_by origin before text (name_or_fault choices origin before text is states low.0)
-origin_or_fault choices origin before items is states low = inr (BadDirective, refl)
-
-default_by : (origin : List (List ℕ)) (before : List Entry) (text : List ℕ) → ((seconds : ℕ) × IsTtl text seconds) ⊎ ((seconds : ℕ) → IsTtl text seconds → ⊥) → DirectiveChoice origin before (sets_ttl (bare text ∷ []))
-default_by origin before text (inl found) = inl found
-default_by origin before text (inr no_ttl) = inr (BadTtl, (refl, no_ttl))
-
-default_or_fault : Lower → Choices → (origin : List (List ℕ)) (before : List Entry) (items : List RawItem) → DirectiveChoice origin before (sets_ttl items)
-default_or_fault lower choices origin before (bare text ∷ []) = default_by origin before text (ttl_word_by lower text (choices.time text))
-default_or_fault lower choices origin before items = inr (BadDirective, refl)
-
-directive_outcome : (origin : List (List ℕ)) (before : List Entry) (entry : Entry) → DirectiveChoice origin before (statement_of entry) → Outcome origin before entry
-directive_outcome origin before entry (inl n) = inl n
-directive_outcome origin before entry (inr bad) = inr (inr (bad.0, of_directive bad.1))
-
--- ---- the form
 
 -- the items of a form
 abbrev LowForm : Statement → Type 0
@@ -180,16 +263,96 @@ LowForm unknown = Unit {0}
 LowForm (owned owner items) = AreOctetItems (owner ∷ items)
 LowForm (unowned items) = AreOctetItems items
 
-outcome_by : Lower → Choices → (origin : List (List ℕ)) (before : List Entry) (entry : Entry) (form : Statement) → statement_of entry ≡ form → IsName origin → AllState origin before → LowForm form → Outcome origin before entry
-outcome_by lower choices origin before entry no_items e is states low = directive_outcome origin before entry (subst (DirectiveChoice origin before) (sym e) (inl tt))
-outcome_by lower choices origin before entry (sets_origin items) e is states low = directive_outcome origin before entry (subst (DirectiveChoice origin before) (sym e) (origin_or_fault choices origin before items is states low))
-outcome_by lower choices origin before entry (sets_ttl items) e is states low = directive_outcome origin before entry (subst (DirectiveChoice origin before) (sym e) (default_or_fault lower choices origin before items))
-outcome_by lower choices origin before entry includes e is states low = directive_outcome origin before entry (subst (DirectiveChoice origin before) (sym e) (inr (IncludeDirective, refl)))
-outcome_by lower choices origin before entry unknown e is states low = directive_outcome origin before entry (subst (DirectiveChoice origin before) (sym e) (inr (UnknownDirective, refl)))
-outcome_by lower choices origin before entry (owned owner items) e is states low =
-    from_owner lower choices origin before entry (parts_after [] items) is states (ap parts_in e) (parts_good items [] tt low.1) (subst (OwnerOutcome origin before) (sym e) (owned_outcome choices origin before owner items is states low))
-outcome_by lower choices origin before entry (unowned items) e is states low =
-    from_owner lower choices origin before entry (parts_after [] items) is states (ap parts_in e) (parts_good items [] tt low) (subst (OwnerOutcome origin before) (sym e) (last_outcome origin before items (last_owner origin before states)))
+module _ (lower : Lower) (choices : Choices) (origin : List (List ℕ)) (before : List Entry) (entry : Entry) (is : IsName origin) (states : AllState origin before) where
+  from_ttl : (head : Head) (octets : List ℕ) → IsName head.owner → IsClass head.class → HasHead origin before entry head → StatesData origin before head octets → Choice (HasTtl origin before entry) → Outcome origin before entry
+  from_ttl head octets name holds has rdata (inr no_ttl) = inr (inr (NoTtl, of_ttl head octets has rdata (none no_ttl)))
+  from_ttl head octets name holds has rdata (inl found) = elim (cases_lt 2147483647 found.0) [
+    | inl over ↦ inr (inr (BadTtl, of_ttl head octets has rdata (long found.0 found.1 over)))
+    | inr short ↦
+        let r : Record = record { owner = head.owner; class = head.class; kind = head.kind; ttl = found.0; octets = octets } in
+        inr (inl (
+          r,
+          record {
+            items = head.items;
+            head = has;
+            rdata = rdata;
+            ttl = found.1;
+            fits = record { owner = name; ttl = short; rdata = record { class = holds; kind = has.kind; octets = choices.stated rdata.above head.class head.kind head.items octets rdata.states } };
+          },
+        ))
+  ]
+
+  from_rdata : (head : Head) (above : List (List ℕ)) → IsName head.owner → IsClass head.class → HasHead origin before entry head → IsOrigin origin before above → ((octets : List ℕ) × States above head.class head.kind head.items octets) ⊎ ((fault : Fault) × IsDataFault above head.class head.kind head.items fault) → Outcome origin before entry
+  from_rdata head above name holds has under (inr bad) = inr (inr (bad.0, of_rdata head above has under bad.1))
+  from_rdata head above name holds has under (inl found) =
+      let rdata : StatesData origin before head found.0 = record { above = above; under = under; states = found.1 } in
+      from_ttl head found.0 name holds has rdata (ttl_by (stated_ttl before entry) (IsLastMinimum origin (entry ∷ before)) (last_by origin before entry (minimum_of lower origin before entry head found.0 has rdata) (last_minimum lower origin before states)) choices.time)
+
+  from_kind : (parts : Parts) (owner : List (List ℕ)) → parts_of entry ≡ Some parts → IsOwner origin before (statement_of entry) owner → IsName owner → AllByRecursion HasValue parts.words → KindChoice parts.rest → Outcome origin before entry
+  from_kind parts owner split owns name words (inr bad) = inr (inr (bad.0, of_kind owner parts owns split words bad.1))
+  from_kind parts owner split owns name words (inl found) =
+      let word = found.0 in
+      let items = found.1.0 in
+      let kind = found.1.1.0 in
+      let facts = found.1.1.1 in
+      let number = class_is origin before entry parts states split words in
+      let above = origin_is origin before is states in
+      let head : Head = record { owner = owner; class = number.0; kind = kind; items = items } in
+      let has : HasHead origin before entry head = record { parts = parts; word = word; split = split; owner = owns; words = words; class = number.1.0; rest = facts.0; named = facts.1.1.0; kind = facts.1.1.1 } in
+      from_rdata head above.0 name number.1.1 has above.1.0 (choices.rdata above.0 number.0 kind items above.1.1 facts.1.0)
+
+  from_words : (parts : Parts) (owner : List (List ℕ)) → parts_of entry ≡ Some parts → AreOctetItems parts.rest → IsOwner origin before (statement_of entry) owner → IsName owner → AllByRecursion HasValue parts.words ⊎ ((fault : Fault) × WordsFault parts.words fault) → Outcome origin before entry
+  from_words parts owner split low owns name (inr bad) = inr (inr (bad.0, of_words owner parts owns split bad.1))
+  from_words parts owner split low owns name (inl words) = from_kind parts owner split owns name words (kind_or_fault choices parts.rest low)
+
+  from_owner : (parts : Parts) → parts_of entry ≡ Some parts → AreGood parts → OwnerOutcome origin before (statement_of entry) → Outcome origin before entry
+  from_owner parts split good (inr bad) = inr (inr (bad.0, of_owner bad.1))
+  from_owner parts split good (inl found) = from_words parts found.0 split good.low found.1.0 found.1.1 (words_or_fault lower choices parts.words good.known)
+
+  -- ---- the owner
+
+  last_outcome : (items : List RawItem) → OwnerChoice origin before None → OwnerOutcome origin before (unowned items)
+  last_outcome items (inl found) = inl found
+  last_outcome items (inr no_owner) = inr (NoOwner, (refl, no_owner))
+
+  owned_outcome : (owner : RawItem) (items : List RawItem) → AreOctetItems (owner ∷ items) → OwnerOutcome origin before (owned owner items)
+  owned_outcome (bare text) items low = name_or_fault choices origin before text is states low.0
+  owned_outcome (quoted text) items low = inr (NoOwner, refl)
+
+  -- ---- directives
+
+  origin_text_by : (text : List ℕ) → NameChoice origin before text → DirectiveChoice origin before (sets_origin (bare text ∷ []))
+  origin_text_by text (inl found) = inl (found.0, found.1.0)
+  origin_text_by text (inr bad) = inr bad
+
+  origin_or_fault : (items : List RawItem) → AreOctetItems items → DirectiveChoice origin before (sets_origin items)
+  origin_or_fault (bare text ∷ []) low = origin_text_by text (name_or_fault choices origin before text is states low.0)
+  origin_or_fault items low = inr (BadDirective, refl)
+
+  default_by : (text : List ℕ) → ((seconds : ℕ) × IsTtl text seconds) ⊎ ((seconds : ℕ) → IsTtl text seconds → ⊥) → DirectiveChoice origin before (sets_ttl (bare text ∷ []))
+  default_by text (inl found) = inl found
+  default_by text (inr no_ttl) = inr (BadTtl, (refl, no_ttl))
+
+  default_or_fault : (items : List RawItem) → DirectiveChoice origin before (sets_ttl items)
+  default_or_fault (bare text ∷ []) = default_by text (ttl_word_by lower text (choices.time text))
+  default_or_fault items = inr (BadDirective, refl)
+
+  directive_outcome : DirectiveChoice origin before (statement_of entry) → Outcome origin before entry
+  directive_outcome (inl n) = inl n
+  directive_outcome (inr bad) = inr (inr (bad.0, of_directive bad.1))
+
+  -- ---- the form
+
+  outcome_by : (form : Statement) → statement_of entry ≡ form → LowForm form → Outcome origin before entry
+  outcome_by no_items e low = directive_outcome (subst (DirectiveChoice origin before) (sym e) (inl tt))
+  outcome_by (sets_origin items) e low = directive_outcome (subst (DirectiveChoice origin before) (sym e) (origin_or_fault items low))
+  outcome_by (sets_ttl items) e low = directive_outcome (subst (DirectiveChoice origin before) (sym e) (default_or_fault items))
+  outcome_by includes e low = directive_outcome (subst (DirectiveChoice origin before) (sym e) (inr (IncludeDirective, refl)))
+  outcome_by unknown e low = directive_outcome (subst (DirectiveChoice origin before) (sym e) (inr (UnknownDirective, refl)))
+  outcome_by (owned owner items) e low =
+      from_owner (parts_after [] items) (ap parts_in e) (parts_good items [] tt low.1) (subst (OwnerOutcome origin before) (sym e) (owned_outcome owner items low))
+  outcome_by (unowned items) e low =
+      from_owner (parts_after [] items) (ap parts_in e) (parts_good items [] tt low) (subst (OwnerOutcome origin before) (sym e) (last_outcome items (last_owner origin before states)))
 
 low_directive : (item : RawItem) (items : List RawItem) → AreOctetItems items → LowForm (directive item items)
 low_directive (quoted text) items low = tt
@@ -211,4 +374,4 @@ low_form None (item ∷ items) low = low
 low_form (Some c) (item ∷ items) low = low_first (c == 36) (is_blank c) item items low
 
 pub entry_outcome : Lower → Choices → (origin : List (List ℕ)) (before : List Entry) (entry : Entry) → IsName origin → AllState origin before → AreOctetItems entry.items → Outcome origin before entry
-entry_outcome lower choices origin before entry is states low = outcome_by lower choices origin before entry (statement_of entry) refl is states (low_form entry.first entry.items low)
+entry_outcome lower choices origin before entry is states low = outcome_by lower choices origin before entry is states (statement_of entry) refl (low_form entry.first entry.items low)

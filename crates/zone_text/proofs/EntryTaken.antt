@@ -63,8 +63,8 @@ entry_read origin before tokens octets old new none after cut (decides_fault fau
   others = [];
   read = refused fault bad refl ending;
   records = same ∙ sym (append-nil old.decided.placed);
-  state = λ going. absurd (let t : ⊥ = cc in t);
-  line = λ going. absurd (let t : ⊥ = cc in t);
+  state = λ going. absurd cc;
+  line = λ going. absurd cc;
 }
 
 pub takes_entry : (octets : List ℕ) (old new : EndedEntries) → DecidesOctets octets (Line old.line) old.state old.decided new.decided new.state → old.decided.ending ≡ None → IsLineAfter octets old new → ReadsOctets octets old new

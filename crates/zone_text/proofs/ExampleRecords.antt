@@ -1,23 +1,169 @@
--- The SOA of `x.` and the addresses that files spell, for examples.
-use Rattle.std.proofs.Common.{◌≡◌, ℕ, ◌<◌, ◌≤◌, ◌^◌, List, [], ◌∷◌, codes, Some, refl, arith, true, lit<, lit≤}
+-- Names, words, NS records, the SOA of `x.` and addresses that files spell, for examples.
+use Rattle.std.proofs.Common.{◌≡◌, ℕ, ◌<◌, ◌≤◌, ◌^◌, List, [], ◌∷◌, codes, Some, refl, arith, true, lit<, lit≤, false, ◌≢◌, sym, ap, ◌∙◌, subst, inr}
 use Rattle.std.specs.List.{AllByRecursion}
-use Rattle.zone_name.specs.Name.{IsName, labels_of}
-use Rattle.zone_name.specs.Spelling.{Spells, is_digit}
+use Rattle.zone_name.specs.Name.{IsName, labels_of, folded_octet, wire}
+use Rattle.zone_name.specs.Spelling.{Spells, is_digit, plain, at_origin, absolute, relative, SpellingFault, within, empty_label, is_dot}
+use Rattle.zone_name.specs.declared.fault.NameFault.TheVariants.{EmptyLabel}
 use Rattle.zone_rdata.specs.declared.field.Field.TheVariants.{Name, Serial, Time, Octets}
 use Rattle.zone_rdata.specs.Address.{IsOctetNumber}
 use Rattle.zone_rdata.specs.Field.{FieldValue, name, u32_value, fixed, octets_of}
 use Rattle.zone_rdata.specs.Minimum.{minimum}
-use Rattle.zone_rdata.specs.Number.{IsTime, IsDecimal, decimal_value, plain}
+use Rattle.zone_rdata.specs.Number.{IsTime, IsDecimal, decimal_value}
 use Rattle.zone_rdata.specs.Record.{IsRecord}
 use Rattle.zone_rdata.specs.Fields.Address.{of_ipv4}
 use Rattle.zone_rdata.specs.Spelling.{RawItem, bare, States, in_words}
-use Rattle.zone_rdata.specs.Words.{IsKind, IsKindWord, by_mnemonic}
+use Rattle.zone_rdata.specs.Words.{IsKind, IsKindWord, by_mnemonic, IsClass, IsClassWord, by_number, IsWordFault, beyond, for_queries}
+use Rattle.zone_rdata.specs.Number as number
+use Rattle.zone_rdata.specs.declared.fault.Fault.TheVariants.{UnknownType, MetaType}
 use Rattle.zone_text.specs.Entries.{Entry}
-use Rattle.zone_text.specs.Statements.{parts_of, statement_of, Word}
-use Rattle.zone_text.specs.Inherited.{IsOrigin, IsOwner, HasClass}
+use Rattle.zone_text.specs.Statements.{parts_of, statement_of, Word, Parts, begins_with_digit}
+use Rattle.zone_text.specs.Inherited.{IsOrigin, IsOwner, HasClass, IsTtl}
 use Rattle.zone_text.specs.Records.{HasValue, HasHead, HasTtl, EntryStates, StatesMinimum}
 use Rattle.zone_text.specs.ExampleEntries.{x, under, ns, soa, address}
-use Rattle.zone_text.proofs.ExampleFacts.{x_name, n_name, in_class, one_octet, states_server_by}
+use Rattle.zone_text.proofs.ClassWords.{time_first}
+
+pub x_name : IsName x
+x_name = record { each = (record { some = lit< tt; short = lit≤ tt; each = (record { octet = lit< tt; lower = refl }, tt) }, tt); short = lit≤ tt }
+
+pub n_name : IsName (under 110 x)
+n_name = record { each = (record { some = lit< tt; short = lit≤ tt; each = (record { octet = lit< tt; lower = refl }, tt) }, x_name.each); short = lit≤ tt }
+
+pub ax_name : IsName (under 97 x)
+ax_name = record { each = (record { some = lit< tt; short = lit≤ tt; each = (record { octet = lit< tt; lower = refl }, tt) }, x_name.each); short = lit≤ tt }
+
+pub bax_name : IsName (under 98 (under 97 x))
+bax_name = record { each = (record { some = lit< tt; short = lit≤ tt; each = (record { octet = lit< tt; lower = refl }, tt) }, ax_name.each); short = lit≤ tt }
+
+-- `@` is the origin
+pub at_spells : (above : List (List ℕ)) → IsName above → Spells (Some above) (codes "@") above
+at_spells above good = record { written = at_origin refl refl; name = good }
+
+-- a relative name of one octet
+pub one_octet : (c : ℕ) (above : List (List ℕ)) → is_dot c ≡ false → c ≢ 92 → c ≢ 64 → IsName (under (folded_octet c) above) → Spells (Some above) (c ∷ []) (under (folded_octet c) above)
+one_octet c above no_dot no_backslash no_at good = record {
+  written = relative ((plain c ∷ []) ∷ []) above (record { some = lit< tt; each = (record { some = lit< tt; each = ((no_dot, no_backslash), tt) }, tt) }) (λ e. no_at (let first : c ≡ 64 = cc in first)) refl refl refl;
+  name = good;
+}
+
+pub a_spells : Spells (Some x) (codes "a") (under 97 x)
+a_spells = one_octet 97 x refl (omega arith) (omega arith) ax_name
+
+pub b_spells : Spells (Some (under 97 x)) (codes "b") (under 98 (under 97 x))
+b_spells = one_octet 98 (under 97 x) refl (omega arith) (omega arith) bax_name
+
+n_x_spells : (above : List (List ℕ)) → Spells (Some above) (codes "n.x.") (under 110 x)
+n_x_spells above = record {
+  written = absolute ((plain 110 ∷ []) ∷ (plain 120 ∷ []) ∷ []) (record { some = lit< tt; each = (record { some = lit< tt; each = ((refl, omega arith), tt) }, (record { some = lit< tt; each = ((refl, omega arith), tt) }, tt)) }) refl refl;
+  name = n_name;
+}
+
+pub sixty : IsTime (codes "60") 60
+sixty = number.plain (record { some = lit< tt; digits = (refl, (refl, tt)); value = refl })
+
+pub three_hundred : IsTime (codes "300") 300
+three_hundred = number.plain (record { some = lit< tt; digits = (refl, (refl, (refl, tt))); value = refl })
+
+pub is_ns : IsKindWord (codes "NS") 2
+is_ns = by_mnemonic (record { name = codes "NS"; row = refl; same = refl })
+
+pub is_ch : IsClassWord (codes "CH") 3
+is_ch = by_mnemonic (record { name = codes "CH"; row = refl; same = refl })
+
+pub in_class : IsClass 1
+in_class = record { short = lit< tt; not_zero = omega arith; not_none = omega arith; not_any = omega arith }
+
+pub ch_class : IsClass 3
+ch_class = record { short = lit< tt; not_zero = omega arith; not_none = omega arith; not_any = omega arith }
+
+pub ns_kind : IsKind 2
+ns_kind = record { short = lit< tt; stored = refl }
+
+pub states_server : (above : List (List ℕ)) (class : ℕ) (text : List ℕ) → text ≢ codes "\\#" → Spells (Some above) text (under 110 x) → States above class 2 (bare text ∷ []) (wire (under 110 x))
+states_server above class text not_mark spells = record { stated = in_words (Name ∷ []) (name (under 110 x) ∷ []) refl (λ is. let e = is.1 in not_mark (let mark : text ≡ codes "\\#" = cc in mark)) (spells, tt) refl (lit≤ tt) }
+
+pub ns_states : (above : List (List ℕ)) (class : ℕ) → States above class 2 (bare (codes "n.x.") ∷ []) (wire (under 110 x))
+ns_states above class = states_server above class (codes "n.x.") (λ e. absurd cc) (n_x_spells above)
+
+ns_fits : (owner : List (List ℕ)) (class ttl : ℕ) → IsName owner → IsClass class → ttl ≤ 2147483647 → IsRecord (ns owner class ttl)
+unfolding labels_of
+ns_fits owner class ttl good is short = record {
+  owner = good;
+  ttl = short;
+  rdata = record {
+    class = is;
+    kind = ns_kind;
+    octets = record {
+      short = lit≤ tt;
+      each = (lit< tt, (lit< tt, (lit< tt, (lit< tt, (lit< tt, tt)))));
+      value = record { held = (n_name, tt); whole = refl };
+    };
+  };
+}
+
+-- an entry of `NS` and a text for `n.x.`, after words and an owner
+pub states_server_by : (text : List ℕ) (origin : List (List ℕ)) (before : List Entry) (entry : Entry) (owner above : List (List ℕ)) (class ttl : ℕ) (words : List Word) → text ≢ codes "\\#" → Spells (Some above) text (under 110 x) → parts_of entry ≡ Some (record { words = words; rest = bare (codes "NS") ∷ bare text ∷ [] }) → IsOwner origin before (statement_of entry) owner → AllByRecursion HasValue words → HasClass before entry class → IsOrigin origin before above → HasTtl origin before entry ttl → IsName owner → IsClass class → ttl ≤ 2147483647 → EntryStates origin before entry (ns owner class ttl)
+states_server_by text origin before entry owner above class ttl words not_mark spells split owns values has under_it lasts good is short = record {
+  items = bare text ∷ [];
+  head = record {
+    parts = record { words = words; rest = bare (codes "NS") ∷ bare text ∷ [] };
+    word = codes "NS";
+    split = split;
+    owner = owns;
+    words = values;
+    class = has;
+    rest = refl;
+    named = is_ns;
+    kind = ns_kind;
+  };
+  rdata = record { above = above; under = under_it; states = states_server above class text not_mark spells };
+  ttl = lasts;
+  fits = ns_fits owner class ttl good is short;
+}
+
+pub states_ns : (origin : List (List ℕ)) (before : List Entry) (entry : Entry) (owner above : List (List ℕ)) (class ttl : ℕ) (words : List Word) → parts_of entry ≡ Some (record { words = words; rest = bare (codes "NS") ∷ bare (codes "n.x.") ∷ [] }) → IsOwner origin before (statement_of entry) owner → AllByRecursion HasValue words → HasClass before entry class → IsOrigin origin before above → HasTtl origin before entry ttl → IsName owner → IsClass class → ttl ≤ 2147483647 → EntryStates origin before entry (ns owner class ttl)
+states_ns origin before entry owner above class ttl words = states_server_by (codes "n.x.") origin before entry owner above class ttl words (λ e. absurd cc) (n_x_spells above)
+
+pub long_time : IsTime (codes "2147483648") 2147483648
+long_time = number.plain (record { some = lit< tt; digits = (refl, (refl, (refl, (refl, (refl, (refl, (refl, (refl, (refl, (refl, tt)))))))))); value = refl })
+
+-- a time of more than 31 bits is no TTL
+pub too_long : ((text : List ℕ) (a b : ℕ) → IsTime text a → IsTime text b → a ≡ b) → (seconds : ℕ) → IsTtl (codes "2147483648") seconds → ⊥
+too_long once seconds is =
+    let same : seconds ≡ 2147483648 = once (codes "2147483648") seconds 2147483648 is.time long_time in
+    let short : seconds ≤ 2147483647 = is.short in
+    omega arith
+
+-- a word that begins with no digit is no TTL
+pub no_digit : (seconds : ℕ) → IsTtl (codes "x") seconds → ⊥
+no_digit seconds is = let first : begins_with_digit (codes "x") ≡ true = time_first (codes "x") seconds is.time in absurd cc
+
+-- `a..b` has an empty label
+pub empty_label_between : SpellingFault (Some x) (codes "a..b") EmptyLabel
+empty_label_between = within EmptyLabel (empty_label ((plain 97 ∷ []) ∷ []) (codes ".b") (record { labels = (record { some = lit< tt; each = ((refl, omega arith), tt) }, tt); short = (lit≤ tt, tt); octets = tt; room = lit≤ tt; parts = refl }) (inr (codes "b", refl)) (λ e. absurd cc) (λ e. absurd cc))
+
+pub class_zero_word : IsClassWord (codes "CLASS0") 0
+class_zero_word = by_number (record { front = codes "CLASS"; digits = codes "0"; parts = refl; named = refl; number = record { some = lit< tt; digits = (refl, tt); value = refl } })
+
+pub type_65536 : IsWordFault (codes "TYPE65536") UnknownType
+type_65536 = beyond 65536 (by_number (record { front = codes "TYPE"; digits = codes "65536"; parts = refl; named = refl; number = record { some = lit< tt; digits = (refl, (refl, (refl, (refl, (refl, tt))))); value = refl } })) (lit≤ tt)
+
+pub type_41 : IsWordFault (codes "TYPE41") MetaType
+type_41 = for_queries 41 (by_number (record { front = codes "TYPE"; digits = codes "41"; parts = refl; named = refl; number = record { some = lit< tt; digits = (refl, (refl, tt)); value = refl } })) (lit< tt) (λ is. let stored = is.stored in absurd cc)
+
+no_minimum : (class kind : ℕ) (octets : List ℕ) (seconds : ℕ) → kind ≡ 2 → minimum (record { class = class; kind = kind; octets = octets }) ≡ Some seconds → ⊥
+no_minimum class kind octets seconds is field =
+    let at_two : minimum (record { class = class; kind = 2; octets = octets }) ≡ Some seconds = subst (λ (k : ℕ). minimum (record { class = class; kind = k; octets = octets }) ≡ Some seconds) is field in
+    absurd cc
+
+-- an NS record is no SOA
+pub ns_has_no_minimum : ((word : List ℕ) (a b : ℕ) → IsKindWord word a → IsKindWord word b → a ≡ b) → (before : List Entry) (entry : Entry) (words : List Word) (items : List RawItem) (seconds : ℕ) → parts_of entry ≡ Some (record { words = words; rest = bare (codes "NS") ∷ items }) → StatesMinimum x before entry seconds → ⊥
+ns_has_no_minimum once before entry words items seconds split has =
+    let both : Some has.has.parts ≡ Some (record { words = words; rest = bare (codes "NS") ∷ items }) = sym has.has.split ∙ split in
+    let parts : has.has.parts ≡ record { words = words; rest = bare (codes "NS") ∷ items } = cc in
+    let rest : bare has.has.word ∷ has.head.items ≡ bare (codes "NS") ∷ items = sym has.has.rest ∙ ap (λ (p : Parts). p.rest) parts in
+    let word : has.has.word ≡ codes "NS" = cc in
+    let kind : has.head.kind ≡ 2 = once (codes "NS") has.head.kind 2 (subst (λ w. IsKindWord w has.head.kind) word has.has.named) is_ns in
+    no_minimum has.head.class has.head.kind has.octets seconds kind has.field
 
 h_name : IsName (under 104 x)
 h_name = record { each = (record { some = lit< tt; short = lit≤ tt; each = (record { octet = lit< tt; lower = refl }, tt) }, x_name.each); short = lit≤ tt }
@@ -32,10 +178,7 @@ digit : (c n : ℕ) → is_digit c ≡ true → n ≡ decimal_value (c ∷ []) �
 digit c n is value = record { some = lit< tt; digits = (is, tt); value = value }
 
 pub five : IsTime (codes "5") 5
-five = plain (digit 53 5 refl refl)
-
-is_soa : IsKindWord (codes "SOA") 6
-is_soa = by_mnemonic (record { name = codes "SOA"; row = refl; same = refl })
+five = number.plain (digit 53 5 refl refl)
 
 soa_kind : IsKind 6
 soa_kind = record { short = lit< tt; stored = refl }
@@ -49,7 +192,7 @@ soa_values last = name (under 110 x) ∷ name (under 104 x) ∷ u32_value 1 ∷ 
 
 pub soa_states : (text : List ℕ) (last : ℕ) → IsTime text last → last < 2 ^ 32 → States x 1 6 (soa_items text) (octets_of (soa_values last))
 soa_states text last time short = record {
-  stated = in_words (Name ∷ Name ∷ Serial ∷ Time ∷ Time ∷ Time ∷ Time ∷ []) (soa_values last) refl (λ is. let e = is.1 in absurd (let t : ⊥ = cc in t)) (n_spells, (h_spells, ((digit 49 1 refl refl, lit< tt), ((plain (digit 50 2 refl refl), lit< tt), ((plain (digit 51 3 refl refl), lit< tt), ((plain (digit 52 4 refl refl), lit< tt), ((time, short), tt))))))) refl (lit≤ tt);
+  stated = in_words (Name ∷ Name ∷ Serial ∷ Time ∷ Time ∷ Time ∷ Time ∷ []) (soa_values last) refl (λ is. let e = is.1 in absurd cc) (n_spells, (h_spells, ((digit 49 1 refl refl, lit< tt), ((number.plain (digit 50 2 refl refl), lit< tt), ((number.plain (digit 51 3 refl refl), lit< tt), ((number.plain (digit 52 4 refl refl), lit< tt), ((time, short), tt))))))) refl (lit≤ tt);
 }
 
 soa_fits : (ttl : ℕ) → ttl ≤ 2147483647 → IsRecord (soa ttl)
@@ -78,7 +221,7 @@ soa_head text before entry words split owns values has = record {
   words = values;
   class = has;
   rest = refl;
-  named = is_soa;
+  named = by_mnemonic (record { name = codes "SOA"; row = refl; same = refl });
   kind = soa_kind;
 }
 
@@ -112,32 +255,26 @@ minimum_too_long = refl
 
 -- an entry of the items `NS n`
 pub states_ns_below : (before : List Entry) (entry : Entry) (ttl : ℕ) (words : List Word) → parts_of entry ≡ Some (record { words = words; rest = bare (codes "NS") ∷ bare (codes "n") ∷ [] }) → IsOwner x before (statement_of entry) x → AllByRecursion HasValue words → HasClass before entry 1 → IsOrigin x before x → HasTtl x before entry ttl → ttl ≤ 2147483647 → EntryStates x before entry (ns x 1 ttl)
-states_ns_below before entry ttl words split owns values has under_it lasts short = states_server_by (codes "n") x before entry x x 1 ttl words (λ e. absurd (let t : ⊥ = cc in t)) n_spells split owns values has under_it lasts x_name in_class short
+states_ns_below before entry ttl words split owns values has under_it lasts short = states_server_by (codes "n") x before entry x x 1 ttl words (λ e. absurd cc) n_spells split owns values has under_it lasts x_name in_class short
 
 pub sixty_one : IsTime (codes "61") 61
-sixty_one = plain (record { some = lit< tt; digits = (refl, (refl, tt)); value = refl })
-
-ten : IsOctetNumber (codes "10") 10
-ten = record { number = record { some = lit< tt; digits = (refl, (refl, tt)); value = refl }; short = lit≤ tt }
+sixty_one = number.plain (record { some = lit< tt; digits = (refl, (refl, tt)); value = refl })
 
 one_digit : (c n : ℕ) → is_digit c ≡ true → n ≡ decimal_value (c ∷ []) → n ≤ 255 → IsOctetNumber (c ∷ []) n
 one_digit c n is value short = record { number = digit c n is value; short = short }
 
 address_states : States x 1 1 (bare (codes "10.0.0.1") ∷ []) (10 ∷ 0 ∷ 0 ∷ 1 ∷ [])
 address_states = record {
-  stated = in_words (Octets 4 ∷ []) (fixed (10 ∷ 0 ∷ 0 ∷ 1 ∷ []) ∷ []) refl (λ is. let e = is.1 in absurd (let t : ⊥ = cc in t)) (
+  stated = in_words (Octets 4 ∷ []) (fixed (10 ∷ 0 ∷ 0 ∷ 1 ∷ []) ∷ []) refl (λ is. let e = is.1 in absurd cc) (
     of_ipv4 refl (record {
       numbers = codes "10" ∷ codes "0" ∷ codes "0" ∷ codes "1" ∷ [];
       counted = refl;
       parted = refl;
-      each = (ten, (one_digit 48 0 refl refl (lit≤ tt), (one_digit 48 0 refl refl (lit≤ tt), (one_digit 49 1 refl refl (lit≤ tt), tt))));
+      each = ((record { number = record { some = lit< tt; digits = (refl, (refl, tt)); value = refl }; short = lit≤ tt }), (one_digit 48 0 refl refl (lit≤ tt), (one_digit 48 0 refl refl (lit≤ tt), (one_digit 49 1 refl refl (lit≤ tt), tt))));
     }),
     tt,
   ) refl (lit≤ tt);
 }
-
-is_a : IsKindWord (codes "A") 1
-is_a = by_mnemonic (record { name = codes "A"; row = refl; same = refl })
 
 address_kind : IsKind 1
 address_kind = record { short = lit< tt; stored = refl }
@@ -169,7 +306,7 @@ states_address before entry owner ttl words split owns values has under_it lasts
     words = values;
     class = has;
     rest = refl;
-    named = is_a;
+    named = by_mnemonic (record { name = codes "A"; row = refl; same = refl });
     kind = address_kind;
   };
   rdata = record { above = x; under = under_it; states = address_states };

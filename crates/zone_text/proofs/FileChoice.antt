@@ -19,10 +19,9 @@ use Rattle.zone_text.specs.Machine.Lower.{Lower, Choices}
 use Rattle.zone_text.specs.Outcome.{AllState, AreOctetItems}
 use Rattle.zone_text.specs.Tokens.{Token, bare, quoted, token_text, text, Cuts}
 use Rattle.zone_text.proofs.Cuttings.{cut_not_broken, cut_or_broken}
-use Rattle.zone_text.proofs.Ending.{entries_text}
+use Rattle.zone_text.proofs.Left.{entries_text}
 use Rattle.zone_text.proofs.EntryOutcome.{Outcome, entry_outcome}
-use Rattle.zone_text.proofs.Escapes.{break_stays_or_ends}
-use Rattle.zone_text.proofs.ForGood.{ends_not_for_good}
+use Rattle.zone_text.proofs.ForGood.{break_stays_or_ends, ends_not_for_good}
 
 -- ---- the items of entries are octets
 
@@ -74,39 +73,40 @@ next_reading origin after before entry entries states (inr (inl found)) goes =
     (p ∷ rest.0, (rest.1.0, stated (states_one p rest.0 found.1 refl refl rest.1.1)))
 next_reading origin after before entry entries states (inr (inr bad)) goes = ([], (Some (bad.0, Line entry.line), refused bad.0 bad.1 refl refl))
 
-readings : Lower → Choices → (origin : List (List ℕ)) → IsName origin → (after : Ending) (entries before : List Entry) → AllState origin before → AreLowEntries entries → Readings origin after before entries
-readings lower choices origin is after [] before states low = ([], (after, (refl, refl)))
-readings lower choices origin is after (entry ∷ entries) before states low =
-    next_reading origin after before entry entries states (entry_outcome lower choices origin before entry is states low.0) (λ more. readings lower choices origin is after entries (entry ∷ before) more low.1)
+module _ (lower : Lower) (choices : Choices) (origin : List (List ℕ)) where
+  readings : IsName origin → (after : Ending) (entries before : List Entry) → AllState origin before → AreLowEntries entries → Readings origin after before entries
+  readings is after [] before states low = ([], (after, (refl, refl)))
+  readings is after (entry ∷ entries) before states low =
+      next_reading origin after before entry entries states (entry_outcome lower choices origin before entry is states low.0) (λ more. readings is after entries (entry ∷ before) more low.1)
 
-file_by : Lower → Choices → (origin : List (List ℕ)) (octets : List ℕ) → IsName origin → AreLow octets → ((tokens : List Token) × Cuts octets tokens) ⊎ ((tokens : List Token) × (fault : Fault) × Breaks octets tokens fault) → (placed : List Placed) × ((ending : Ending) × FileReads origin octets placed ending)
-file_by lower choices origin octets is low (inl cut) =
-    let found = readings lower choices origin is None (entries_of cut.0) [] tt (low_of cut.0 (subst AreLow cut.1.whole low)) in
-    (found.0, (found.1.0, whole cut.0 cut.1 found.1.1))
-file_by lower choices origin octets is low (inr bad) =
-    let after : Ending = Some (bad.1, Line (open_line bad.0)) in
-    let found = readings lower choices origin is after (ended_entries bad.0) [] tt (low_ended_of bad.0 (AllByRecursion-front _ (text bad.0) bad.2.rest (subst AreLow bad.2.whole low))) in
-    (found.0, (found.1.0, broken bad.0 bad.1 bad.2 found.1.1))
+  file_by : (octets : List ℕ) → IsName origin → AreLow octets → ((tokens : List Token) × Cuts octets tokens) ⊎ ((tokens : List Token) × (fault : Fault) × Breaks octets tokens fault) → (placed : List Placed) × ((ending : Ending) × FileReads origin octets placed ending)
+  file_by octets is low (inl cut) =
+      let found = readings is None (entries_of cut.0) [] tt (low_of cut.0 (subst AreLow cut.1.whole low)) in
+      (found.0, (found.1.0, whole cut.0 cut.1 found.1.1))
+  file_by octets is low (inr bad) =
+      let after : Ending = Some (bad.1, Line (open_line bad.0)) in
+      let found = readings is after (ended_entries bad.0) [] tt (low_ended_of bad.0 (AllByRecursion-front _ (text bad.0) bad.2.rest (subst AreLow bad.2.whole low))) in
+      (found.0, (found.1.0, broken bad.0 bad.1 bad.2 found.1.1))
 
-pub file_reads : Lower → Choices → (origin : List (List ℕ)) (octets : List ℕ) → IsName origin → AllByRecursion (λ c. c < 256) octets → (placed : List Placed) × ((ending : Ending) × FileReads origin octets placed ending)
-file_reads lower choices origin octets is low = file_by lower choices origin octets is low (cut_or_broken octets)
+  pub file_reads : (octets : List ℕ) → IsName origin → AllByRecursion (λ c. c < 256) octets → (placed : List Placed) × ((ending : Ending) × FileReads origin octets placed ending)
+  file_reads octets is low = file_by octets is low (cut_or_broken octets)
 
--- ---- something is decided of a prefix
+  -- ---- something is decided of a prefix
 
-broken_by : Lower → Choices → (origin : List (List ℕ)) (octets : List ℕ) → IsName origin → (tokens : List Token) (fault : Fault) (breaks : Breaks octets tokens fault) → AreLowEntries (ended_entries tokens) → StaysBroken breaks.rest ⊎ BreaksAtEnd breaks.rest → (placed : List Placed) × ((ending : Ending) × FileDecides origin octets placed ending)
-broken_by lower choices origin octets is tokens fault breaks low (inl stays) =
-    let found = readings lower choices origin is (Some (fault, Line (open_line tokens))) (ended_entries tokens) [] tt low in
-    (found.0, (found.1.0, decided tokens fault (record { breaks = breaks; stays = stays }) found.1.1))
-broken_by lower choices origin octets is tokens fault breaks low (inr ends) =
-    let found = readings lower choices origin is None (ended_entries tokens) [] tt low in
-    (found.0, (found.1.0, undecided tokens (inr (fault, breaks)) (ends_not_for_good octets tokens breaks.rest breaks.whole ends) found.1.1))
+  broken_by : (octets : List ℕ) → IsName origin → (tokens : List Token) (fault : Fault) (breaks : Breaks octets tokens fault) → AreLowEntries (ended_entries tokens) → StaysBroken breaks.rest ⊎ BreaksAtEnd breaks.rest → (placed : List Placed) × ((ending : Ending) × FileDecides origin octets placed ending)
+  broken_by octets is tokens fault breaks low (inl stays) =
+      let found = readings is (Some (fault, Line (open_line tokens))) (ended_entries tokens) [] tt low in
+      (found.0, (found.1.0, decided tokens fault (record { breaks = breaks; stays = stays }) found.1.1))
+  broken_by octets is tokens fault breaks low (inr ends) =
+      let found = readings is None (ended_entries tokens) [] tt low in
+      (found.0, (found.1.0, undecided tokens (inr (fault, breaks)) (ends_not_for_good octets tokens breaks.rest breaks.whole ends) found.1.1))
 
-decided_by : Lower → Choices → (origin : List (List ℕ)) (octets : List ℕ) → IsName origin → AreLow octets → ((tokens : List Token) × Cuts octets tokens) ⊎ ((tokens : List Token) × (fault : Fault) × Breaks octets tokens fault) → (placed : List Placed) × ((ending : Ending) × FileDecides origin octets placed ending)
-decided_by lower choices origin octets is low (inl cut) =
-    let found = readings lower choices origin is None (ended_entries cut.0) [] tt (low_ended_of cut.0 (subst AreLow cut.1.whole low)) in
-    (found.0, (found.1.0, undecided cut.0 (inl cut.1) (λ fault good. cut_not_broken octets cut.0 cut.0 fault cut.1 good.breaks) found.1.1))
-decided_by lower choices origin octets is low (inr bad) =
-    broken_by lower choices origin octets is bad.0 bad.1 bad.2 (low_ended_of bad.0 (AllByRecursion-front _ (text bad.0) bad.2.rest (subst AreLow bad.2.whole low))) (break_stays_or_ends octets bad.0 bad.1 bad.2)
+  decided_by : (octets : List ℕ) → IsName origin → AreLow octets → ((tokens : List Token) × Cuts octets tokens) ⊎ ((tokens : List Token) × (fault : Fault) × Breaks octets tokens fault) → (placed : List Placed) × ((ending : Ending) × FileDecides origin octets placed ending)
+  decided_by octets is low (inl cut) =
+      let found = readings is None (ended_entries cut.0) [] tt (low_ended_of cut.0 (subst AreLow cut.1.whole low)) in
+      (found.0, (found.1.0, undecided cut.0 (inl cut.1) (λ fault good. cut_not_broken octets cut.0 cut.0 fault cut.1 good.breaks) found.1.1))
+  decided_by octets is low (inr bad) =
+      broken_by octets is bad.0 bad.1 bad.2 (low_ended_of bad.0 (AllByRecursion-front _ (text bad.0) bad.2.rest (subst AreLow bad.2.whole low))) (break_stays_or_ends octets bad.0 bad.1 bad.2)
 
-pub file_is_decided : Lower → Choices → (origin : List (List ℕ)) (octets : List ℕ) → IsName origin → AllByRecursion (λ c. c < 256) octets → (placed : List Placed) × ((ending : Ending) × FileDecides origin octets placed ending)
-file_is_decided lower choices origin octets is low = decided_by lower choices origin octets is low (cut_or_broken octets)
+  pub file_is_decided : (octets : List ℕ) → IsName origin → AllByRecursion (λ c. c < 256) octets → (placed : List Placed) × ((ending : Ending) × FileDecides origin octets placed ending)
+  file_is_decided octets is low = decided_by octets is low (cut_or_broken octets)

@@ -10,11 +10,8 @@ use Rattle.zone_text.specs.Machine.Lower.{Lower, Once}
 use Rattle.zone_text.proofs.Cuttings.{one_cut, one_break, cut_not_broken}
 use Rattle.zone_text.proofs.Entered.{record_once, fault_once, record_or_fault, nothing_or_record, nothing_or_fault}
 
-same_placed : (p q : Placed) → p.rr ≡ q.rr → p.place ≡ q.place → p ≡ q
-same_placed p q a b = rw (a, b) refl
-
 pub one_more : (p q : Placed) (a b more others : List Placed) → p.rr ≡ q.rr → p.place ≡ q.place → a ≡ p ∷ more → b ≡ q ∷ others → more ≡ others → a ≡ b
-one_more p q a b more others rr place x y rest = let same : p ≡ q = same_placed p q rr place in cc
+one_more p q a b more others rr place x y rest = let same : p ≡ q = (rw (rr, place) refl) in cc
 
 -- the readings of entries
 
@@ -61,7 +58,7 @@ read_states origin after before (entry ∷ entries) placed ending e (stated (sta
     let rest = read_states origin after (entry ∷ before) entries placed ending e xs in (states_none n rest.0, rest.1)
 read_states origin after before (entry ∷ entries) placed ending e (stated (states_one p more r at w xs)) =
     let rest = read_states origin after (entry ∷ before) entries more ending e xs in (states_one p more r at w rest.0, rest.1)
-read_states origin after before (entry ∷ entries) placed ending e (refused fault h u v) = absurd (let t : ⊥ = cc in t)
+read_states origin after before (entry ∷ entries) placed ending e (refused fault h u v) = absurd cc
 
 pub file_states_read : (origin : List (List ℕ)) (octets : List ℕ) (placed : List Placed) → FileStates origin octets placed → FileReads origin octets placed None
 file_states_read origin octets placed x = whole x.tokens x.cut (states_read origin [] (entries_of x.tokens) placed x.each)
@@ -71,7 +68,7 @@ file_reads_state origin octets placed (whole ps cut xs) = record { tokens = ps; 
 file_reads_state origin octets placed (broken ps fault breaks xs) =
     let after : Ending = Some (fault, Line (open_line ps)) in
     let none : after ≡ None = (read_states origin after [] (ended_entries ps) placed None refl xs).1 in
-    absurd (let t : ⊥ = cc in t)
+    absurd cc
 
 -- so a file states one list of records at most
 pub file_once : Lower → (origin : List (List ℕ)) (octets : List ℕ) → Once (List Placed) (FileStates origin octets)

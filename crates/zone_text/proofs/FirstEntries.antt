@@ -12,19 +12,17 @@ use Rattle.zone_rdata.specs.Item as raw
 use Rattle.zone_rdata.specs.Strings.{is_quote}
 use Rattle.zone_text.specs.Entries.{in_front_of, item_of}
 use Rattle.zone_text.specs.Tokens.{Token, blank, opening, closing, line_feed, comment, bare, quoted, token_text, is_blank, ends_item, Cuts, IsToken}
-use Rattle.zone_text.specs.Machine.Cutting.{before_line_feed}
+use Rattle.zone_text.specs.Machine.Cutting.{before_line_feed, from_line_feed}
 use Rattle.zone_text.specs.Machine.ItemLengths.{EndsAt, EndsBefore}
 use Rattle.zone_text.specs.Machine.Kept.{AreKept, Keeps}
 use Rattle.zone_text.specs.Machine.Line.{KeepsItems, IsInside, IsInFront, IsFirstEntry, IsQuoted}
 use Rattle.zone_text.specs.Machine.Feeding.{IsSplitter, ReadsOctets}
 use Rattle.zone_text.specs.Machine.Scan.{IsOneEntry}
 use Rattle.zone_text.specs.declared.splitter.EntrySplitter.{EntrySplitter}
-use Rattle.zone_text.proofs.BlankLines.{comment_front}
-use Rattle.zone_text.proofs.PartTaken.{FollowsOn}
-use Rattle.zone_text.proofs.Cuttings.{cuts, is_cut, one_cut, one_token_more, some_octet}
-use Rattle.zone_text.proofs.FedPieces.{HasFed, fed_more}
+use Rattle.zone_text.proofs.FedPieces.{FollowsOn, HasFed, fed_more}
+use Rattle.zone_text.proofs.Cuttings.{cuts, is_cut, one_cut, one_token_more, shorter}
 use Rattle.zone_text.proofs.Followed.{follow_one}
-use Rattle.zone_text.proofs.Fronts.{Takes, Stops}
+use Rattle.zone_text.proofs.Fronts.{EndsComment, Takes, Stops, comment_dropped, comment_each, comment_ends, comment_whole}
 use Rattle.zone_text.proofs.Kept.{keeps_more, none_kept}
 
 -- ---- plain octets as written ones
@@ -42,19 +40,18 @@ plain_units ends (c ∷ octets) each = let p = or_parts (ends c) (c == 92) each.
 pub blank_in_front : (octets rest : List ℕ) (c : ℕ) → octets ≡ c ∷ rest → is_blank c ≡ true → IsInFront octets [] rest
 blank_in_front octets rest c whole is = record { token = blank c; whole = whole; is = is; ends = tt; inside = tt; stated = refl }
 
-ends_at : (octets : List ℕ) → ((c : ℕ) (rest : List ℕ) → octets ≡ c ∷ rest → c ≡ 10) → EndsAt (λ c. c == 10) octets
+ends_at : (octets : List ℕ) → EndsComment octets → EndsAt (λ c. c == 10) octets
 ends_at [] ends = tt
-ends_at (c ∷ rest) ends = rw (ends c rest refl) refl
+ends_at (c ∷ rest) ends = rw ends refl
 
 pub comment_in_front : (octets after rest : List ℕ) (c n : ℕ) → octets ≡ c ∷ after → c ≡ 59 → n ≡ length (before_line_feed after) → rest ≡ drop n after → IsInFront octets [] rest
 comment_in_front octets after rest c n whole is len back =
-    let front = comment_front after in
-    let left : rest ≡ drop (length (before_line_feed after)) after = back ∙ ap (λ k. drop k after) len in
+    let left : rest ≡ from_line_feed after = back ∙ ap (λ k. drop k after) len ∙ comment_dropped after in
     record {
       token = comment (before_line_feed after);
-      whole = whole ∙ ap (λ d. d ∷ after) is ∙ ap (λ t. 59 ∷ t) (front.0 ∙ ap (λ t. before_line_feed after ++ t) (sym left));
-      is = front.1.0;
-      ends = subst (EndsAt (λ c. c == 10)) (sym left) (ends_at _ front.1.1);
+      whole = whole ∙ ap (λ d. d ∷ after) is ∙ ap (λ t. 59 ∷ t) (comment_whole after ∙ ap (λ t. before_line_feed after ++ t) (sym left));
+      is = comment_each after;
+      ends = subst (EndsAt (λ c. c == 10)) (sym left) (ends_at (from_line_feed after) (comment_ends after));
       inside = tt;
       stated = refl;
     }
@@ -100,9 +97,7 @@ quoted_in_front octets after inside rest c whole is found = record {
 }
 
 pub in_front_shorter : (octets rest : List ℕ) (items : List RawItem) → IsInFront octets items rest → length rest < length octets
-in_front_shorter octets rest items found =
-    let len : length octets ≡ length (token_text found.token) + length rest = ap length found.whole ∙ length-append (token_text found.token) rest in
-    omega (arith, len, some_octet found.token found.is)
+in_front_shorter octets rest items found = shorter octets rest found.token found.is found.whole
 
 -- ---- tokens up to the line feed
 
@@ -173,15 +168,12 @@ pub cut_on : (octets rest left : List ℕ) (kept : List RawItem) → IsCutTo oct
 cut_on octets rest left kept so_far found =
     more_by octets rest left kept kept [] so_far found (subst (λ t. AreKept t kept) (sym (append-nil so_far.so_far)) so_far.are_kept)
 
-line_end : IsOneEntry (10 ∷ []) (line_feed ∷ [])
-line_end = record { cut = record { whole = refl; each = (tt, tt); follow = tt; balanced = refl }; ended = refl }
-
 pub cut_ended : (octets rest after : List ℕ) (raws : List RawItem) (c n : ℕ) → IsCutTo octets rest raws → rest ≡ c ∷ after → c ≡ 10 → n ≡ length octets - length after → IsFirstEntry octets n raws
 cut_ended octets rest after raws c n so_far first is count =
     let fed : List ℕ = 10 ∷ [] in
     let e : rest ≡ fed ++ after = first ∙ ap (λ d. d ∷ after) is in
     let some : 0 < length fed = omega arith in
-    let found = so_far.goes fed after (line_feed ∷ []) e some line_end in
+    let found = so_far.goes fed after (line_feed ∷ []) e some (record { cut = record { whole = refl; each = (tt, tt); follow = tt; balanced = refl }; ended = refl }) in
     let whole : octets ≡ (so_far.front ++ fed) ++ after = so_far.whole ∙ ap (λ t. so_far.front ++ t) e ∙ sym (append_assoc so_far.front fed after) in
     let len : length octets ≡ length (so_far.front ++ fed) + length after = ap length whole ∙ length-append (so_far.front ++ fed) after in
     let last : length (so_far.front ++ fed) ≡ length so_far.front + length fed = length-append so_far.front fed in

@@ -1,5 +1,6 @@
--- What follows from octets fed and records given, part by part.
-use Rattle.std.proofs.Common.{◌≡◌, ℕ, zero, ◌+◌, List, [], ◌∷◌, ◌++◌, length, Some, None, refl, sym, ap, ◌∙◌, subst, arith, append_assoc, length-append, inl}
+-- What is decided of octets by what those before them left, and what follows from octets fed and
+-- records given, part by part.
+use Rattle.std.proofs.Common.{◌≡◌, ℕ, zero, ◌+◌, List, [], ◌∷◌, ◌++◌, length, Some, None, refl, sym, ap, ◌∙◌, subst, arith, append_assoc, length-append, inl, inr}
 use Rattle.std.specs.List.{flat_map}
 use Rattle.std.specs.Prelude.{reverse}
 use Rattle.std.proofs.lemmas.List.{append-nil, flat_map_more, reverse-append}
@@ -17,16 +18,143 @@ use Rattle.zone_text.specs.declared.scan.Step.TheVariants.{On, Ends, LostEscape,
 use Rattle.zone_text.specs.Tokens.{Token, Cuts, text}
 use Rattle.zone_text.specs.Lasting.{BreaksForGood}
 use Rattle.zone_text.specs.ParserState.{IsStateAfter}
-use Rattle.zone_text.specs.Entries.{Entry, cut_from, entry_of, numbered}
-use Rattle.zone_text.specs.FileReads.{ReadEach, FileReads, Ending}
-use Rattle.zone_text.specs.Decided.{FileDecides}
+use Rattle.zone_text.specs.Entries.{Entry, cut_from, entry_of, numbered, Cut, and_last, entries_of, ended_entries, open_line}
+use Rattle.zone_text.specs.FileReads.{ReadEach, FileReads, Ending, whole, broken, stated, refused}
+use Rattle.zone_text.specs.Decided.{FileDecides, AreTokens, decided, undecided}
 use Rattle.zone_text.specs.Machine.Scan.{beginning, further, end_fault_of, IsOneEntry}
 use Rattle.zone_text.specs.Machine.Feeding.{ReadsEntry, ReadsOctets, Follow, ScansTo}
 use Rattle.zone_text.specs.TextSource.{FileLeaves}
-use Rattle.zone_text.proofs.CutAgain.{joined}
-use Rattle.zone_text.proofs.Left.{line_feeds, numbered_then, IsSplit, split, whole_after, cut_more, tokens_more, ended_as_before, one_ended}
-use Rattle.zone_text.proofs.Decisions.{ReadsEnded, line_after, reads_so_far, one_entry_more, break_decided, still_undecided, fault_stays, fault_is_read, whole_lines, last_entry, last_broken}
-use Rattle.zone_text.proofs.Scanned.{goes_on, ends_entry, stays_open, loses_escape, closes_nothing, at_end}
+use Rattle.zone_text.specs.Breaks.{Breaks}
+use Rattle.zone_text.specs.File.{states_none, states_one}
+use Rattle.zone_text.proofs.CutAgain.{joined, AreEnded, again_zero, cut_whole}
+use Rattle.zone_text.proofs.Left.{line_feeds, numbered_then, IsSplit, split, whole_after, cut_more, tokens_more, ended_as_before, one_ended, reads_then, refused_before, reads_after, break_more, for_good_more, none_cut, none_more, ended_entries_first}
+use Rattle.zone_text.proofs.Scanned.{goes_on as scan_goes_on, ends_entry, stays_open, loses_escape, closes_nothing, at_end}
+use Rattle.zone_text.proofs.Cuttings.{cut_or_broken}
+use Rattle.zone_text.proofs.Lasting.{breaks_for_good}
+use Rattle.zone_text.proofs.Decides.{tokens_of, goes_on, ended_on}
+use Rattle.zone_text.proofs.ForGood.{break_stays_or_ends, ends_not_for_good}
+
+-- what is read of ended entries, the first of them on line 1
+abbrev pub ReadsEnded : List (List ℕ) → Ending → List (List Token) → List Placed → Ending → Type 0
+ReadsEnded origin after ended placed ending = ReadEach origin after [] (numbered 1 ended) placed ending
+
+-- the line after ended entries
+abbrev pub line_after : List (List Token) → ℕ
+line_after ended = 1 + line_feeds (flat_map text ended)
+
+-- ---- no fault is decided so far
+
+-- what follows entries without a fault is the end
+no_fault_after : (origin : List (List ℕ)) (after : Ending) (before entries : List Entry) (placed : List Placed) → ReadEach origin after before entries placed None → after ≡ None
+no_fault_after origin after before [] placed read = sym read.1
+no_fault_after origin after before (entry ∷ entries) placed (stated (states_none n read)) = no_fault_after origin after (entry ∷ before) entries placed read
+no_fault_after origin after before (entry ∷ entries) placed (stated (states_one p rest states place e read)) = no_fault_after origin after (entry ∷ before) entries rest read
+no_fault_after origin after before (entry ∷ entries) placed (refused fault h e f) = absurd cc
+
+-- then the entries that were ended state the records
+pub reads_so_far : (origin : List (List ℕ)) (fed : List ℕ) (tokens : List Token) (placed : List Placed) → FileDecides origin fed placed None → AreTokens fed tokens → ReadsEnded origin None (cut_from zero tokens).ended placed None
+reads_so_far origin fed tokens placed (undecided others are none read) is =
+    subst (λ t. ReadsEnded origin None (cut_from zero t).ended placed None) (tokens_of fed others tokens are is) read
+reads_so_far origin fed tokens placed (decided others fault good read) is =
+    absurd (let e : Some (fault, Line (open_line others)) ≡ None = no_fault_after origin (Some (fault, Line (open_line others))) [] (ended_entries others) placed read in let t : ⊥ = cc in t)
+
+-- ---- octets more
+
+-- one entry more is ended
+pub one_entry_more : (origin : List (List ℕ)) (fed more : List ℕ) (ended : List (List Token)) (unfinished : List ℕ) (entry : List Token) (placed others : List Placed) (ending : Ending) → IsSplit fed ended unfinished → Cuts (unfinished ++ more) entry → cut_from zero entry ≡ record { ended = entry ∷ []; open_tokens = [] } → ReadsEnded origin None ended placed None → ReadEach origin None (reverse (numbered 1 ended)) (entry_of (line_after ended) entry ∷ []) others ending → FileDecides origin (fed ++ more) (placed ++ others) ending
+one_entry_more origin fed more ended unfinished entry placed others ending is cut one read next =
+    let tokens : List Token = joined ended ++ entry in
+    let cuts : Cuts (fed ++ more) tokens = cut_more fed more ended unfinished entry is cut in
+    let entries : numbered 1 ended ++ entry_of (line_after ended) entry ∷ [] ≡ ended_entries tokens = sym (ap (numbered 1) (one_ended ended entry is.stays one) ∙ numbered_then 1 ended (entry ∷ [])) in
+    let all : ReadEach origin None [] (numbered 1 ended ++ entry_of (line_after ended) entry ∷ []) (placed ++ others) ending = reads_then origin None [] (numbered 1 ended) (entry_of (line_after ended) entry ∷ []) placed others ending read (subst (λ t. ReadEach origin None t (entry_of (line_after ended) entry ∷ []) others ending) (sym (append-nil (reverse (numbered 1 ended)))) next) in
+    undecided tokens (inl cuts) (none_cut (fed ++ more) tokens cuts) (subst (λ t. ReadEach origin None [] t (placed ++ others) ending) entries all)
+
+-- no entry more is ended, and they break for good
+pub break_decided : (origin : List (List ℕ)) (fed more : List ℕ) (ended : List (List Token)) (unfinished : List ℕ) (tokens : List Token) (fault : Fault) (placed : List Placed) → IsSplit fed ended unfinished → BreaksForGood (unfinished ++ more) tokens fault → (cut_from zero tokens).ended ≡ [] → ReadsEnded origin None ended placed None → FileDecides origin (fed ++ more) placed (Some (fault, Line (line_after ended)))
+break_decided origin fed more ended unfinished tokens fault placed is good none read =
+    let same : ended ≡ (cut_from zero (joined ended ++ tokens)).ended = sym (ended_as_before ended tokens is.stays none) in
+    let found : FileDecides origin (fed ++ more) placed (Some (fault, Line (open_line (joined ended ++ tokens)))) =
+    decided (joined ended ++ tokens) fault (for_good_more fed more ended unfinished tokens fault is good)
+    (reads_after origin (Some (fault, Line (open_line (joined ended ++ tokens)))) [] (ended_entries (joined ended ++ tokens)) placed (subst (λ t. ReadsEnded origin None t placed None) same read)) in
+    subst (λ (t : List (List Token)). FileDecides origin (fed ++ more) placed (Some (fault, Line (line_after t)))) (sym same) found
+
+-- no entry more is ended, and others may come
+pub still_undecided : (origin : List (List ℕ)) (fed more : List ℕ) (ended : List (List Token)) (unfinished : List ℕ) (tokens : List Token) (placed : List Placed) → IsSplit fed ended unfinished → AreTokens (unfinished ++ more) tokens → ((fault : Fault) → BreaksForGood (unfinished ++ more) tokens fault → ⊥) → (cut_from zero tokens).ended ≡ [] → ReadsEnded origin None ended placed None → FileDecides origin (fed ++ more) placed None
+still_undecided origin fed more ended unfinished tokens placed is are never none read =
+    let same : ended ≡ (cut_from zero (joined ended ++ tokens)).ended = sym (ended_as_before ended tokens is.stays none) in
+    undecided (joined ended ++ tokens) (tokens_more fed more ended unfinished tokens is are) (none_more fed more ended unfinished tokens is are never)
+    (subst (λ t. ReadsEnded origin None t placed None) same read)
+
+-- ---- a fault that is decided stays
+
+refused_longer : (origin : List (List ℕ)) (octets : List ℕ) (tokens : List Token) (entries others : List Entry) (placed : List Placed) (found : Fault × Place) → AreTokens octets tokens → ended_entries tokens ≡ entries ++ others → ReadEach origin None [] entries placed (Some found) → FileDecides origin octets placed (Some found)
+refused_longer origin octets tokens entries others placed found (inl cut) e read =
+    undecided tokens (inl cut) (none_cut octets tokens cut) (subst (λ t. ReadEach origin None [] t placed (Some found)) (sym e) (refused_before origin None [] entries others placed found read))
+refused_longer origin octets tokens entries others placed found (inr breaks) e read =
+    elim (break_stays_or_ends octets tokens breaks.0 breaks.1) [
+      | inl stays ↦ decided tokens breaks.0 (record { breaks = breaks.1; stays = stays }) (subst (λ t. ReadEach origin (Some (breaks.0, Line (open_line tokens))) [] t placed (Some found)) (sym e) (refused_before origin (Some (breaks.0, Line (open_line tokens))) [] entries others placed found read))
+      | inr ends ↦ undecided tokens (inr breaks) (ends_not_for_good octets tokens breaks.1.rest breaks.1.whole ends) (subst (λ t. ReadEach origin None [] t placed (Some found)) (sym e) (refused_before origin None [] entries others placed found read))
+    ]
+
+some_tokens : (octets : List ℕ) → (tokens : List Token) × AreTokens octets tokens
+some_tokens octets =
+    elim (cut_or_broken octets) [
+      | inl found ↦ (found.0, inl found.1)
+      | inr found ↦ (found.0, inr (found.1, found.2))
+    ]
+
+pub fault_stays : (origin : List (List ℕ)) (fed more : List ℕ) (placed : List Placed) (found : Fault × Place) → FileDecides origin fed placed (Some found) → FileDecides origin (fed ++ more) placed (Some found)
+fault_stays origin fed more placed found (undecided tokens are none read) =
+    let all = some_tokens (fed ++ more) in
+    let on = ended_on tokens all.0 (goes_on fed more tokens all.0 are all.1) in
+    refused_longer origin (fed ++ more) all.0 (ended_entries tokens) on.0 placed found all.1 on.1 read
+fault_stays origin fed more placed found (decided tokens fault good read) = decided tokens fault (breaks_for_good fed more tokens fault good) read
+
+-- ---- the end of the file
+
+-- the same of a file that ends there
+pub fault_is_read : (origin : List (List ℕ)) (octets : List ℕ) (placed : List Placed) (found : Fault × Place) → FileDecides origin octets placed (Some found) → FileReads origin octets placed (Some found)
+fault_is_read origin octets placed found (decided tokens fault good read) = broken tokens fault good.breaks read
+fault_is_read origin octets placed found (undecided tokens (inr breaks) none read) =
+    broken tokens breaks.0 breaks.1 (subst (λ t. ReadEach origin (Some (breaks.0, Line (open_line tokens))) [] t placed (Some found)) (append-nil (ended_entries tokens)) (refused_before origin (Some (breaks.0, Line (open_line tokens))) [] (ended_entries tokens) [] placed found read))
+fault_is_read origin octets placed found (undecided tokens (inl cut) none read) =
+    let on = ended_entries_first tokens in
+    whole tokens cut (subst (λ t. ReadEach origin None [] t placed (Some found)) (sym on.1) (refused_before origin None [] (ended_entries tokens) on.0 placed found read))
+
+entries_are : (ended : List (List Token)) (tokens : List Token) → AreEnded zero ended → (cut_from zero tokens).ended ≡ [] → entries_of (joined ended ++ tokens) ≡ numbered 1 (and_last ended tokens)
+entries_are ended tokens are none =
+    ap (λ (c : Cut). numbered 1 (and_last c.ended c.open_tokens)) (again_zero ended tokens are)
+    ∙ ap (λ t. numbered 1 (and_last (ended ++ t) (cut_from zero tokens).open_tokens)) none
+    ∙ ap (λ t. numbered 1 (and_last t (cut_from zero tokens).open_tokens)) (append-nil ended)
+    ∙ ap (λ t. numbered 1 (and_last ended t)) (sym (ap (λ t. joined t ++ (cut_from zero tokens).open_tokens) none) ∙ cut_whole zero tokens)
+
+all_tokens : (fed : List ℕ) (ended : List (List Token)) (unfinished : List ℕ) (tokens : List Token) → IsSplit fed ended unfinished → Cuts unfinished tokens → Cuts fed (joined ended ++ tokens)
+all_tokens fed ended unfinished tokens is cut =
+    subst (λ t. Cuts t (joined ended ++ tokens)) (append-nil fed) (cut_more fed [] ended unfinished tokens is (subst (λ t. Cuts t tokens) (sym (append-nil unfinished)) cut))
+
+-- no octets are left
+pub whole_lines : (origin : List (List ℕ)) (fed : List ℕ) (ended : List (List Token)) (placed : List Placed) → IsSplit fed ended [] → ReadsEnded origin None ended placed None → FileReads origin fed placed None
+whole_lines origin fed ended placed is read =
+    let cut : Cuts fed (joined ended ++ []) = all_tokens fed ended [] [] is (record { whole = refl; each = tt; follow = tt; balanced = refl }) in
+    whole (joined ended ++ []) cut (subst (λ t. ReadEach origin None [] t placed None) (sym (entries_are ended [] is.stays refl)) read)
+
+-- some are, and are the last entry
+pub last_entry : (origin : List (List ℕ)) (fed : List ℕ) (ended : List (List Token)) (unfinished : List ℕ) (p : Token) (tokens : List Token) (placed others : List Placed) (ending : Ending) → IsSplit fed ended unfinished → Cuts unfinished (p ∷ tokens) → (cut_from zero (p ∷ tokens)).ended ≡ [] → ReadsEnded origin None ended placed None → ReadEach origin None (reverse (numbered 1 ended)) (entry_of (line_after ended) (p ∷ tokens) ∷ []) others ending → FileReads origin fed (placed ++ others) ending
+last_entry origin fed ended unfinished p tokens placed others ending is cut none read next =
+    let entry : List Token = p ∷ tokens in
+    let entries : numbered 1 ended ++ entry_of (line_after ended) entry ∷ [] ≡ entries_of (joined ended ++ entry) = sym (entries_are ended entry is.stays none ∙ numbered_then 1 ended (entry ∷ [])) in
+    let all : ReadEach origin None [] (numbered 1 ended ++ entry_of (line_after ended) entry ∷ []) (placed ++ others) ending = reads_then origin None [] (numbered 1 ended) (entry_of (line_after ended) entry ∷ []) placed others ending read (subst (λ t. ReadEach origin None t (entry_of (line_after ended) entry ∷ []) others ending) (sym (append-nil (reverse (numbered 1 ended)))) next) in
+    whole (joined ended ++ entry) (all_tokens fed ended unfinished entry is cut) (subst (λ t. ReadEach origin None [] t (placed ++ others) ending) entries all)
+
+-- they break
+pub last_broken : (origin : List (List ℕ)) (fed : List ℕ) (ended : List (List Token)) (unfinished : List ℕ) (tokens : List Token) (fault : Fault) (placed : List Placed) → IsSplit fed ended unfinished → Breaks unfinished tokens fault → (cut_from zero tokens).ended ≡ [] → ReadsEnded origin None ended placed None → FileReads origin fed placed (Some (fault, Line (line_after ended)))
+last_broken origin fed ended unfinished tokens fault placed is breaks none read =
+    let same : ended ≡ (cut_from zero (joined ended ++ tokens)).ended = sym (ended_as_before ended tokens is.stays none) in
+    let all : Breaks fed (joined ended ++ tokens) fault = subst (λ t. Breaks t (joined ended ++ tokens) fault) (append-nil fed) (break_more fed [] ended unfinished tokens fault is (subst (λ t. Breaks t tokens fault) (sym (append-nil unfinished)) breaks)) in
+    let found : FileReads origin fed placed (Some (fault, Line (open_line (joined ended ++ tokens)))) =
+    broken (joined ended ++ tokens) fault all
+    (reads_after origin (Some (fault, Line (open_line (joined ended ++ tokens)))) [] (ended_entries (joined ended ++ tokens)) placed (subst (λ t. ReadsEnded origin None t placed None) same read)) in
+    subst (λ (t : List (List Token)). FileReads origin fed placed (Some (fault, Line (line_after t)))) (sym same) found
 
 -- ---- what is left of the octets fed so far, entry by entry
 
@@ -54,7 +182,7 @@ is_read origin entries unfinished fed given none follow =
 
 pub scans_on : (at : ScanState) (unfinished part : List ℕ) (step : Step) → ScansTo beginning unfinished (On at) → ScansTo at part step → ScansTo beginning (unfinished ++ part) step
 scans_on at unfinished part step before after =
-    goes_on beginning at unfinished part before
+    scan_goes_on beginning at unfinished part before
     ∙ ap (further (length unfinished)) after
     ∙ ap (λ n. record { taken = n; step = step }) (sym (length-append unfinished part))
 
@@ -82,14 +210,6 @@ follow_on origin entries at unfinished part fed given scanned none follow =
 
 -- ---- an entry is ended
 
-reverse_more : (entries : List Entry) (entry : Entry) → reverse (entries ++ entry ∷ []) ≡ entry ∷ reverse entries
-reverse_more entries entry = reverse-append entries (entry ∷ [])
-
--- the entries after one more
-numbered_more : (ended : List (List Token)) (tokens : List Token) → reverse (numbered 1 (ended ++ tokens ∷ [])) ≡ entry_of (line_after ended) tokens ∷ reverse (numbered 1 ended)
-numbered_more ended tokens =
-    ap reverse (numbered_then 1 ended (tokens ∷ [])) ∙ reverse_more (numbered 1 ended) (entry_of (line_after ended) tokens)
-
 line_more : (ended : List (List Token)) (tokens : List Token) → line_after (ended ++ tokens ∷ []) ≡ line_after ended + line_feeds (text tokens)
 line_more ended tokens =
     ap (λ t. 1 + line_feeds t) (sym (flat_map_more text [] ended tokens))
@@ -111,7 +231,7 @@ left_over origin ended old new unfinished part fed given tokens is one read none
         are = inl (cut_more fed part ended unfinished tokens is.parts one.cut);
         whole = octets ∙ ap (λ t. flat_map text t ++ []) (sym all);
       };
-      inherited = subst (λ (t : List Entry). IsStateAfter origin t new.state) (ap (λ n. entry_of n tokens ∷ reverse (numbered 1 ended)) is.line ∙ sym (numbered_more ended tokens) ∙ ap (λ t. reverse (numbered 1 t)) (sym all)) (read.state none);
+      inherited = subst (λ (t : List Entry). IsStateAfter origin t new.state) (ap (λ n. entry_of n tokens ∷ reverse (numbered 1 ended)) is.line ∙ sym (ap reverse (numbered_then 1 ended (tokens ∷ [])) ∙ (reverse-append (numbered 1 ended) ((entry_of (line_after ended) tokens) ∷ []))) ∙ ap (λ t. reverse (numbered 1 t)) (sym all)) (read.state none);
       numbered = read.line none ∙ ap (λ n. n + line_feeds (text tokens)) is.line ∙ sym (line_more ended tokens) ∙ ap line_after (sym all);
     }
 
@@ -144,7 +264,7 @@ follow_break origin old new fault unfinished part fed given tokens good alone no
     let last : Some (fault, Line (line_after ended)) ≡ new.decided.ending = ap (λ n. let e : Ending = Some (fault, Line n) in e) (sym is.line) ∙ sym ending in
     record {
       decided = subst (λ t. FileDecides origin (fed ++ part) (given ++ t) new.decided.ending) (sym records) (subst (λ e. FileDecides origin (fed ++ part) (given ++ old.decided.placed) e) last decided);
-      leave = λ none. absurd (let t : ⊥ = cc in t);
+      leave = λ none. absurd cc;
     }
 
 pub follow_lost_escape : (origin : Labels) (old new : EndedEntries) (unfinished part fed : List ℕ) (given : List Placed) → ScansTo beginning (unfinished ++ part) LostEscape → old.decided.ending ≡ None → new.decided.placed ≡ old.decided.placed → new.decided.ending ≡ Some (BadEscape, Line old.line) → Follow origin old unfinished fed given → Follow origin new [] (fed ++ part) given
@@ -162,7 +282,7 @@ follow_lost_closing origin old new unfinished part fed given scanned none record
 pub follow_fault : (origin : Labels) (entries : EndedEntries) (found : Fault × Place) (unfinished part fed : List ℕ) (given : List Placed) → entries.decided.ending ≡ Some found → Follow origin entries unfinished fed given → Follow origin entries unfinished (fed ++ part) given
 follow_fault origin entries found unfinished part fed given ending follow = record {
   decided = subst (λ e. FileDecides origin (fed ++ part) (given ++ entries.decided.placed) e) (sym ending) (fault_stays origin fed part (given ++ entries.decided.placed) found (subst (λ e. FileDecides origin fed (given ++ entries.decided.placed) e) ending follow.decided));
-  leave = λ none. absurd (let t : ⊥ = cc in t);
+  leave = λ none. absurd cc;
 }
 
 -- ---- the end of the file

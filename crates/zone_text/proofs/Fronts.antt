@@ -1,6 +1,7 @@
 -- The first token of a text: what is read is so, and what is so is read.
-use Rattle.std.proofs.Common.{◌≡◌, ◌≢◌, ℕ, zero, suc, ◌<◌, Bool, true, false, ◌||◌, ◌==◌, if◌then◌else◌, List, [], ◌∷◌, ◌++◌, Option, Some, None, refl, sym, ap, ◌∙◌, subst, arith, append_assoc}
+use Rattle.std.proofs.Common.{◌≡◌, ◌≢◌, ℕ, zero, suc, ◌<◌, Bool, true, false, ◌||◌, ◌==◌, if◌then◌else◌, List, [], ◌∷◌, ◌++◌, length, drop, Option, Some, None, refl, sym, ap, ◌∙◌, subst, arith, append_assoc}
 use Rattle.std.specs.List.{AllByRecursion}
+use Rattle.std.proofs.Math.Seq.{drop-append_seam}
 use Rattle.std.proofs.lemmas.Bool.{or_parts, eqb-true, eqb-false, ne_eqb, both_ways, cond_both}
 use Rattle.std.proofs.lemmas.List.{append-nil}
 use Rattle.zone_name.specs.Spelling.{Written, plain, escaped, decimal, IsBadEscape, written_text, IsUnit}
@@ -10,7 +11,6 @@ use Rattle.zone_rdata.specs.Strings.{is_quote}
 use Rattle.zone_text.specs.Tokens.{Token, blank, opening, closing, line_feed, comment, bare, quoted, token_text, is_blank, ends_item, IsToken}
 use Rattle.zone_text.specs.Breaks.{IsBroken, closes_nothing, no_escape, no_quoted_escape, no_quote, not_closed}
 use Rattle.zone_name.specs.Machine.Units.{Units, units_first}
-use Rattle.zone_rdata.specs.Strings.{is_quote}
 use Rattle.zone_text.specs.Machine.Cutting.{before_line_feed, from_line_feed, Sign, a_blank, a_line_feed, an_opening, a_closing, a_semicolon, a_quote, of_item, sign_of, Front, takes, stops, quoted_front, bare_front, front_by, end_front, front_of}
 use Rattle.zone_name.proofs.Units.{NoUnit, at_end, at_octet, at_backslash, UnitsAre, units_first_are, units_first_only}
 
@@ -21,10 +21,10 @@ abbrev pub EndsComment : List ℕ → Type 0
 EndsComment [] = Unit {0}
 EndsComment (c ∷ rest) = c ≡ 10
 
-abbrev IsComment : List ℕ → Type 0
+abbrev pub IsComment : List ℕ → Type 0
 IsComment octets = AllByRecursion (λ c. c ≢ 10) octets
 
-comment_whole : (octets : List ℕ) → octets ≡ before_line_feed octets ++ from_line_feed octets
+pub comment_whole : (octets : List ℕ) → octets ≡ before_line_feed octets ++ from_line_feed octets
 unfolding before_line_feed from_line_feed
 comment_whole [] = refl
 comment_whole (c ∷ rest) = by (c == 10) (comment_whole rest)
@@ -33,15 +33,19 @@ comment_whole (c ∷ rest) = by (c == 10) (comment_whole rest)
     by true more = refl
     by false more = ap (λ t. c ∷ t) more
 
-comment_each : (octets : List ℕ) → IsComment (before_line_feed octets)
+pub comment_each : (octets : List ℕ) → IsComment (before_line_feed octets)
 unfolding before_line_feed
 comment_each [] = tt
 comment_each (c ∷ rest) = cond_both (c == 10) [] (c ∷ before_line_feed rest) IsComment (λ e. tt) (λ e. (eqb-false c 10 e, comment_each rest))
 
-comment_ends : (octets : List ℕ) → EndsComment (from_line_feed octets)
+pub comment_ends : (octets : List ℕ) → EndsComment (from_line_feed octets)
 unfolding from_line_feed
 comment_ends [] = tt
 comment_ends (c ∷ rest) = cond_both (c == 10) (c ∷ rest) (from_line_feed rest) EndsComment (eqb-true c 10) (λ e. comment_ends rest)
+
+pub comment_dropped : (octets : List ℕ) → drop (length (before_line_feed octets)) octets ≡ from_line_feed octets
+comment_dropped octets =
+    ap (drop (length (before_line_feed octets))) (comment_whole octets) ∙ drop-append_seam (before_line_feed octets) (from_line_feed octets)
 
 comment_only : (octets rest : List ℕ) → IsComment octets → EndsComment rest → (before_line_feed (octets ++ rest) ≡ octets) × (from_line_feed (octets ++ rest) ≡ rest)
 unfolding before_line_feed from_line_feed
@@ -73,9 +77,6 @@ sign_is c =
     cond_both (c == 59) a_semicolon of_item P (eqb-true c 59) λ e5.
     rw (e0, e1, e2, e3, e4, e5) refl
 
-sign_of_blank : (c : ℕ) → is_blank c ≡ true → sign_of c ≡ a_blank
-sign_of_blank c e = rw e refl
-
 sign_of_item : (c : ℕ) → ends_item c ≡ false → sign_of c ≡ of_item
 sign_of_item c e =
     let p5 = or_parts (is_blank c || c == 10 || c == 34 || c == 40 || c == 41) (c == 59) e in
@@ -84,6 +85,26 @@ sign_of_item c e =
     let p2 = or_parts (is_blank c || c == 10) (c == 34) p3.0 in
     let p1 = or_parts (is_blank c) (c == 10) p2.0 in
     rw (p1.0, p1.1, p2.1, p3.1, p4.1, p5.1) refl
+
+-- ---- first octets
+
+-- an octet that begins the token
+abbrev pub Begins : ℕ → Token → Type 0
+Begins c (blank d) = is_blank c ≡ true
+Begins c line_feed = c ≡ 10
+Begins c opening = c ≡ 40
+Begins c closing = c ≡ 41
+Begins c (comment octets) = c ≡ 59
+Begins c (bare units) = ends_item c ≡ false
+Begins c (quoted units) = c ≡ 34
+
+pub begins : (c : ℕ) (octets : List ℕ) (p : Token) (rest : List ℕ) → IsToken p → c ∷ octets ≡ token_text p ++ rest → Begins c p
+begins c octets (blank d) rest is e = let same : c ≡ d = cc in ap is_blank same ∙ is
+begins c octets (bare []) rest is e = absurd (omega (arith, is.0))
+begins c octets (bare (plain d ∷ units)) rest is e = let same : c ≡ d = cc in ap ends_item same ∙ is.1.0.0
+begins c octets (bare (escaped d ∷ units)) rest is e = let same : c ≡ 92 = cc in ap ends_item same
+begins c octets (bare (decimal x y z ∷ units)) rest is e = let same : c ≡ 92 = cc in ap ends_item same
+begins c octets p rest is e = cc
 
 -- ---- the beginning of a text
 
@@ -130,7 +151,7 @@ quoted_is depth c octets units (d ∷ rest) is whole each none =
     (λ e. no_quoted_escape units (d ∷ rest) each (first_octet_is c 34 octets is ∙ ap (λ t. 34 ∷ t) whole) (escape_of e none))
   where
     escape_of : is_quote d ≡ false → NoUnit is_quote (d ∷ rest) → IsBadEscape (d ∷ rest)
-    escape_of e (at_end h) = absurd (cc)
+    escape_of e (at_end h) = absurd cc
     escape_of e (at_octet x more h end) = let same : d ≡ x = cc in absurd (both_ways (is_quote d) e (ap is_quote same ∙ end))
     escape_of e (at_backslash bad) = bad
 
@@ -138,7 +159,7 @@ bare_is : (depth c : ℕ) (octets : List ℕ) (units : List Written) (rest : Lis
 bare_is depth c octets [] rest goes_on whole each none = no_escape (escape_of none)
   where
     escape_of : NoUnit ends_item rest → IsBadEscape (c ∷ octets)
-    escape_of (at_end h) = absurd (cc)
+    escape_of (at_end h) = absurd cc
     escape_of (at_octet x more h end) = let same : c ≡ x = cc in absurd (both_ways (ends_item c) goes_on (ap ends_item same ∙ end))
     escape_of (at_backslash bad) = subst IsBadEscape (sym whole) bad
 bare_is depth c octets (w ∷ units) rest goes_on whole each none = record {
@@ -202,7 +223,7 @@ front_of_quote depth octets units rest whole each none =
     ∙ ap (λ (found : Units). quoted_front found.units found.rest) (units_first_only is_quote octets units rest refl whole each none)
 
 pub front_takes : (depth : ℕ) (p : Token) (rest : List ℕ) → IsToken p → Stops p rest → HasRoom depth p → front_of depth (token_text p ++ rest) ≡ takes p rest
-front_takes depth (blank c) rest is stop room = at_sign depth c rest a_blank (sign_of_blank c is)
+front_takes depth (blank c) rest is stop room = at_sign depth c rest a_blank (rw is refl)
 front_takes depth line_feed rest is stop room = at_sign depth 10 rest a_line_feed refl
 front_takes depth opening rest is stop room = at_sign depth 40 rest an_opening refl
 front_takes zero closing rest is stop room = absurd (omega arith)
@@ -220,15 +241,11 @@ bad_escape_front depth rest bad =
     let P : List ℕ → Type 0 = λ t. front_of depth t ≡ stops (Some BadEscape) in
     subst P (sym bad.1) (front_of_units depth 92 bad.0 [] (92 ∷ bad.0) refl refl tt (at_backslash (subst IsBadEscape bad.1 bad)))
 
-bad_quote_front : (depth : ℕ) (units : List Written) (after : List ℕ) → AllByRecursion (IsUnit is_quote) units → IsBadEscape after → front_of depth (34 ∷ (written_text units ++ after)) ≡ stops (Some BadEscape)
-bad_quote_front depth units after each bad =
-    front_of_quote depth (written_text units ++ after) units after refl each (at_backslash bad) ∙ ap (quoted_front units) bad.1
-
 broken_front : (depth : ℕ) (rest : List ℕ) (fault : Fault) → IsBroken depth rest fault → front_of depth rest ≡ stops (Some fault)
 unfolding front_of
 broken_front depth rest fault (closes_nothing after e whole) = rw (e, whole) refl
 broken_front depth rest fault (no_escape bad) = bad_escape_front depth rest bad
-broken_front depth rest fault (no_quoted_escape units after each whole bad) = rw whole (bad_quote_front depth units after each bad)
+broken_front depth rest fault (no_quoted_escape units after each whole bad) = rw whole (front_of_quote depth (written_text units ++ after) units after refl each (at_backslash bad) ∙ ap (quoted_front units) bad.1)
 broken_front depth rest fault (no_quote units each whole) =
     rw whole (front_of_quote depth (written_text units) units [] (sym (append-nil (written_text units))) each (at_end refl))
 broken_front zero rest fault (not_closed some whole) = absurd (omega arith)

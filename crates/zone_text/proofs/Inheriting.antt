@@ -1,18 +1,19 @@
 -- The parser state is what the look back over the entries finds: one entry more, and the TTL that
 -- a record inherits.
-use Rattle.std.proofs.Common.{◌≡◌, ℕ, List, ◌∷◌, Option, Some, None, MatchOption, inl, inr, refl, sym, ap, ◌∙◌, subst}
+use Rattle.std.proofs.Common.{◌≡◌, ℕ, List, ◌∷◌, Option, Some, None, MatchOption, inl, inr, refl, sym, ap, ◌∙◌, subst, []}
 use Rattle.std.specs.Option.{option_or}
 use Rattle.std.specs.Prelude.{IsSomeAnd, option_and_then}
 use Rattle.zone_name.specs.Common.{Labels}
 use Rattle.zone_rdata.specs.Minimum.{minimum}
 use Rattle.zone_rdata.specs.Number.{IsTime}
+use Rattle.zone_rdata.specs.Item.{RawItem, bare}
 use Rattle.zone_text.specs.ParserState.{IsStateAfter, IsOneOrNone, IsTtlOrNone}
 use Rattle.zone_text.specs.Entries.{Entry}
 use Rattle.zone_text.specs.Statements.{Statement, sets_origin, sets_ttl, statement_of, Parts, parts_in, parts_of, class_among, ttl_among}
-use Rattle.zone_text.specs.Inherited.{IsOrigin, IsLastOwner, IsTtl, SpellsAfter, class_word, default_ttl_text, latest, or_else, origin_text, owner_text, stated_ttl, ttl_text}
-use Rattle.zone_text.specs.Machine.EntryReading.{with_owner}
+use Rattle.zone_text.specs.Inherited.{IsOrigin, IsLastOwner, IsTtl, SpellsAfter, class_word, default_ttl_text, latest, or_else, origin_text, owner_text, stated_ttl, ttl_text, one_bare}
+use Rattle.zone_text.specs.Machine.EntryReading.{with_owner, SetsOrigin, SetsTtl}
 use Rattle.zone_text.specs.Machine.Lower.{Lower}
-use Rattle.zone_text.specs.Records.{Head, HasHead, HasTtl, IsLastMinimum, StatesData, StatesMinimum}
+use Rattle.zone_text.specs.Records.{Head, HasHead, HasTtl, IsLastMinimum, StatesData, StatesMinimum, StatesNothing}
 use Rattle.zone_text.specs.declared.parser_state.ParserState.{ParserState}
 use Rattle.zone_text.proofs.EntryOutcome.{states_no_minimum, no_minimum}
 
@@ -45,10 +46,7 @@ last_minimum origin before entry (Some n) none so_far = inr (none, so_far)
 -- no owner
 owner_by : (origin : Labels) (before : List Entry) (o : Option (List ℕ)) (owner : Option Labels) → o ≡ None → IsOneOrNone (IsLastOwner origin before) owner → IsOneOrNone (λ name. MatchOption o (IsLastOwner origin before name) (λ text. SpellsAfter origin before text name)) owner
 owner_by origin before None owner e so_far = so_far
-owner_by origin before (Some text) owner e so_far = absurd (let clash : ⊥ = cc in clash)
-
-pub same_owner : (origin : Labels) (before : List Entry) (entry : Entry) (form : Statement) (owner : Option Labels) → statement_of entry ≡ form → owner_text form ≡ None → IsOneOrNone (IsLastOwner origin before) owner → IsOneOrNone (IsLastOwner origin (entry ∷ before)) owner
-same_owner origin before entry form owner is none so_far = owner_by origin before (owner_text (statement_of entry)) owner (ap owner_text is ∙ none) so_far
+owner_by origin before (Some text) owner e so_far = absurd cc
 
 -- a directive or a blank entry leaves what it does not set
 pub leaves : (origin : Labels) (before : List Entry) (entry : Entry) (form : Statement) (d : ParserState) (name : Labels) (seconds : Option ℕ) → statement_of entry ≡ form → parts_in form ≡ None → owner_text form ≡ None → IsStateAfter origin before d → IsOrigin origin (entry ∷ before) name → IsTtlOrNone (latest default_ttl_text (entry ∷ before)) seconds → IsStateAfter origin (entry ∷ before) (record { origin = name; owner = d.owner; class = d.class; default_ttl = seconds; last_ttl = d.last_ttl; minimum = d.minimum })
@@ -58,7 +56,7 @@ leaves origin before entry form d name seconds is no_parts no_owner so_far under
     let ttl : ttl_text (statement_of entry) ≡ None = ap (λ (o : Option Parts). option_and_then (λ (parts : Parts). ttl_among parts.words) o) parts in
     record {
       under = under;
-      owner = same_owner origin before entry form d.owner is no_owner so_far.owner;
+      owner = owner_by origin before (owner_text (statement_of entry)) d.owner (ap owner_text is ∙ no_owner) so_far.owner;
       class = rw word (so_far.class);
       default_ttl = default;
       last_ttl = rw ttl (so_far.last_ttl);
@@ -81,8 +79,8 @@ same_default before entry form seconds is none so_far =
 
 -- a record sets neither the origin nor `$TTL`
 no_directive : (form : Statement) (parts : Parts) → parts_in form ≡ Some parts → (origin_text form ≡ None) × (default_ttl_text form ≡ None)
-no_directive (sets_origin items) parts e = absurd (let clash : ⊥ = cc in clash)
-no_directive (sets_ttl items) parts e = absurd (let clash : ⊥ = cc in clash)
+no_directive (sets_origin items) parts e = absurd cc
+no_directive (sets_ttl items) parts e = absurd cc
 no_directive form parts e = (refl, refl)
 
 minimum_by : Lower → (origin : Labels) (before : List Entry) (entry : Entry) (head : Head) (octets : List ℕ) (own carried : Option ℕ) → HasHead origin before entry head → StatesData origin before head octets → minimum (record { class = head.class; kind = head.kind; octets = octets }) ≡ own → IsOneOrNone (IsLastMinimum origin before) carried → IsOneOrNone (IsLastMinimum origin (entry ∷ before)) (option_or own carried)
@@ -141,3 +139,30 @@ none_by (Some text) (Some m) last Last ttl is e n has = let clash : Some m ≡ N
 
 pub has_no_ttl : (origin : Labels) (before : List Entry) (entry : Entry) (stated last : Option ℕ) → IsTtlOrNone (stated_ttl before entry) stated → IsOneOrNone (IsLastMinimum origin (entry ∷ before)) last → option_or stated last ≡ None → (n : ℕ) → HasTtl origin before entry n → ⊥
 has_no_ttl origin before entry stated last ttl is e = none_by (stated_ttl before entry) stated last (IsLastMinimum origin (entry ∷ before)) ttl is e
+
+-- ---- directives that are read
+
+origin_states : (origin : Labels) (before : List Entry) (items : List RawItem) (text : List ℕ) (name : Labels) → one_bare items ≡ Some text → SpellsAfter origin before text name → StatesNothing origin before (sets_origin items)
+origin_states origin before (bare other ∷ []) text name e spells = let same : text ≡ other = cc in (name, subst (λ t. SpellsAfter origin before t name) same spells)
+origin_states origin before items text name e spells = absurd cc
+
+pub origin_set : (origin : Labels) (before : List Entry) (entry : Entry) (d next : ParserState) (items : List RawItem) → IsStateAfter origin before d → statement_of entry ≡ sets_origin items → SetsOrigin items d next → StatesNothing origin before (statement_of entry) × IsStateAfter origin (entry ∷ before) next
+origin_set origin before entry d next items so_far form sets =
+    let spells : SpellsAfter origin before sets.text next.origin = (d.origin, (so_far.under, sets.spelled)) in
+    let text : origin_text (statement_of entry) ≡ Some sets.text = ap origin_text form ∙ sets.item in
+    let under : IsOrigin origin (entry ∷ before) next.origin = rw text spells in (
+      subst (StatesNothing origin before) (sym form) (origin_states origin before items sets.text next.origin sets.item spells),
+      subst (IsStateAfter origin (entry ∷ before)) (sym sets.others) (leaves origin before entry (sets_origin items) d next.origin d.default_ttl form refl refl so_far under (same_default before entry (sets_origin items) d.default_ttl form refl so_far.default_ttl)),
+    )
+
+ttl_states : (origin : Labels) (before : List Entry) (items : List RawItem) (text : List ℕ) (seconds : ℕ) → one_bare items ≡ Some text → IsTtl text seconds → StatesNothing origin before (sets_ttl items)
+ttl_states origin before (bare other ∷ []) text seconds e ttl = let same : text ≡ other = cc in (seconds, subst (λ t. IsTtl t seconds) same ttl)
+ttl_states origin before items text seconds e ttl = absurd cc
+
+pub ttl_set : (origin : Labels) (before : List Entry) (entry : Entry) (d next : ParserState) (items : List RawItem) → IsStateAfter origin before d → statement_of entry ≡ sets_ttl items → SetsTtl items d next → StatesNothing origin before (statement_of entry) × IsStateAfter origin (entry ∷ before) next
+ttl_set origin before entry d next items so_far form sets =
+    let text : default_ttl_text (statement_of entry) ≡ Some sets.text = ap default_ttl_text form ∙ sets.item in
+    let default : IsTtlOrNone (latest default_ttl_text (entry ∷ before)) (Some sets.seconds) = rw text (sets.ttl) in (
+      subst (StatesNothing origin before) (sym form) (ttl_states origin before items sets.text sets.seconds sets.item sets.ttl),
+      subst (IsStateAfter origin (entry ∷ before)) (sym sets.others) (leaves origin before entry (sets_ttl items) d d.origin (Some sets.seconds) form refl refl so_far (same_origin origin before entry (sets_ttl items) d.origin form refl so_far.under) default),
+    )

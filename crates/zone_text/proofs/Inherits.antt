@@ -1,5 +1,5 @@
--- What an entry inherits is one thing at most.
-use Rattle.std.proofs.Common.{◌≡◌, ℕ, List, [], ◌∷◌, Some, inl, inr, refl, sym, ◌∙◌, ap, subst}
+-- What an entry inherits is one thing at most, as is what two steps find one after the other.
+use Rattle.std.proofs.Common.{◌≡◌, ℕ, List, [], ◌∷◌, Some, inl, inr, refl, sym, ◌∙◌, ap, subst, Option, None, MatchOption, Result, Ok, Err, ◌⊎◌}
 use Rattle.zone_name.specs.Spelling.{Spells}
 use Rattle.zone_rdata.specs.Minimum.{minimum}
 use Rattle.zone_rdata.specs.Number.{IsTime}
@@ -9,31 +9,51 @@ use Rattle.zone_text.specs.Entries.{Entry}
 use Rattle.zone_text.specs.Statements.{Statement, owned, unowned, statement_of}
 use Rattle.zone_text.specs.Inherited.{IsOrigin, SpellsAfter, IsLastOwner, IsOwner, HasClass, stated_ttl, latest, origin_text, owner_text, class_word}
 use Rattle.zone_text.specs.Records.{Head, HasHead, StatesData, StatesMinimum, IsLastMinimum, HasTtl}
-use Rattle.zone_text.proofs.Once.{match_once}
 use Rattle.zone_text.specs.Machine.Lower.{Lower, Once}
+
+pub match_once : (A B : Type 0) (o : Option A) (P : B → Type 0) (Q : A → B → Type 0) → Once B P → ((x : A) → Once B (Q x)) → (a b : B) → MatchOption o (P a) (λ x. Q x a) → MatchOption o (P b) (λ x. Q x b) → a ≡ b
+match_once A B None P Q p q a b x y = p a b x y
+match_once A B (Some v) P Q p q a b x y = q v a b x y
+
+-- a first step and the next one, or the fault of the first
+abbrev pub Then : (A B F : Type 0) → (Result A F → Type 0) → (A → Result B F → Type 0) → Result B F → Type 0
+Then A B F First Next r = ((x : A) × (First (Ok x) × Next x r)) ⊎ ((fault : F) × (First (Err fault) × (r ≡ Err fault)))
+
+pub then_once : (A B F : Type 0) (First : Result A F → Type 0) (Next : A → Result B F → Type 0) → Once (Result A F) First → ((x : A) → Once (Result B F) (Next x)) → Once (Result B F) (Then A B F First Next)
+then_once A B F First Next one others a b (inl x) (inl y) =
+    let same : Ok x.0 ≡ Ok y.0 = one (Ok x.0) (Ok y.0) x.1.0 y.1.0 in
+    let at : x.0 ≡ y.0 = cc in
+    others y.0 a b (subst (λ v. Next v a) at x.1.1) y.1.1
+then_once A B F First Next one others a b (inl x) (inr f) = let same : Ok x.0 ≡ Err f.0 = one (Ok x.0) (Err f.0) x.1.0 f.1.0 in absurd cc
+then_once A B F First Next one others a b (inr f) (inl x) = let same : Ok x.0 ≡ Err f.0 = one (Ok x.0) (Err f.0) x.1.0 f.1.0 in absurd cc
+then_once A B F First Next one others a b (inr f) (inr g) = let same : Err f.0 ≡ Err g.0 = one (Err f.0) (Err g.0) f.1.0 g.1.0 in
+    let h : f.0 ≡ g.0 = cc in
+    let refused : F → Result B F = λ x. Err x in
+    f.1.1 ∙ (ap refused h ∙ sym g.1.1)
 
 pub spells_once : Lower → (Above : List (List ℕ) → Type 0) → Once (List (List ℕ)) Above → (text : List ℕ) → Once (List (List ℕ)) (λ name. (above : List (List ℕ)) × (Above above × Spells (Some above) text name))
 spells_once lower Above one text a b x y =
     let same : x.0 ≡ y.0 = one x.0 y.0 x.1.0 y.1.0 in
     lower.name y.0 text a b (subst (λ above. Spells (Some above) text a) same x.1.1) y.1.1
 
-pub origin_once : Lower → (origin : List (List ℕ)) (before : List Entry) → Once (List (List ℕ)) (IsOrigin origin before)
-origin_once lower origin [] a b x y = x ∙ sym y
-origin_once lower origin (entry ∷ before) a b x y =
-    match_once (List ℕ) (List (List ℕ)) (origin_text (statement_of entry)) (IsOrigin origin before) (λ text name. (above : List (List ℕ)) × (IsOrigin origin before above × Spells (Some above) text name)) (origin_once lower origin before) (spells_once lower (IsOrigin origin before) (origin_once lower origin before)) a b x y
+module _ (lower : Lower) (origin : List (List ℕ)) where
+  pub origin_once : (before : List Entry) → Once (List (List ℕ)) (IsOrigin origin before)
+  origin_once [] a b x y = x ∙ sym y
+  origin_once (entry ∷ before) a b x y =
+      match_once (List ℕ) (List (List ℕ)) (origin_text (statement_of entry)) (IsOrigin origin before) (λ text name. (above : List (List ℕ)) × (IsOrigin origin before above × Spells (Some above) text name)) (origin_once before) (spells_once lower (IsOrigin origin before) (origin_once before)) a b x y
 
-pub spells_after_once : Lower → (origin : List (List ℕ)) (before : List Entry) (text : List ℕ) → Once (List (List ℕ)) (SpellsAfter origin before text)
-spells_after_once lower origin before text = spells_once lower (IsOrigin origin before) (origin_once lower origin before) text
+  pub spells_after_once : (before : List Entry) (text : List ℕ) → Once (List (List ℕ)) (SpellsAfter origin before text)
+  spells_after_once before text = spells_once lower (IsOrigin origin before) (origin_once before) text
 
-pub last_owner_once : Lower → (origin : List (List ℕ)) (before : List Entry) → Once (List (List ℕ)) (IsLastOwner origin before)
-last_owner_once lower origin [] a b x y = absurd x
-last_owner_once lower origin (entry ∷ before) a b x y =
-    match_once (List ℕ) (List (List ℕ)) (owner_text (statement_of entry)) (IsLastOwner origin before) (SpellsAfter origin before) (last_owner_once lower origin before) (spells_after_once lower origin before) a b x y
+  pub last_owner_once : (before : List Entry) → Once (List (List ℕ)) (IsLastOwner origin before)
+  last_owner_once [] a b x y = absurd x
+  last_owner_once (entry ∷ before) a b x y =
+      match_once (List ℕ) (List (List ℕ)) (owner_text (statement_of entry)) (IsLastOwner origin before) (SpellsAfter origin before) (last_owner_once before) (spells_after_once before) a b x y
 
-pub owner_once : Lower → (origin : List (List ℕ)) (before : List Entry) (form : Statement) → Once (List (List ℕ)) (IsOwner origin before form)
-owner_once lower origin before (owned (bare text) items) a b x y = spells_after_once lower origin before text a b x y
-owner_once lower origin before (unowned items) a b x y = last_owner_once lower origin before a b x y
-owner_once lower origin before form a b x y = absurd x
+  pub owner_once : (before : List Entry) (form : Statement) → Once (List (List ℕ)) (IsOwner origin before form)
+  owner_once before (owned (bare text) items) a b x y = spells_after_once before text a b x y
+  owner_once before (unowned items) a b x y = last_owner_once before a b x y
+  owner_once before form a b x y = absurd x
 
 pub class_once : Lower → (before : List Entry) (entry : Entry) → Once ℕ (HasClass before entry)
 class_once lower before entry a b x y =
@@ -42,38 +62,39 @@ class_once lower before entry a b x y =
 same_head : (h k : Head) → h.owner ≡ k.owner → h.class ≡ k.class → h.kind ≡ k.kind → h.items ≡ k.items → h ≡ k
 same_head h k a b c d = rw (a, b, c, d) refl
 
-pub head_once : Lower → (origin : List (List ℕ)) (before : List Entry) (entry : Entry) → Once Head (HasHead origin before entry)
-head_once lower origin before entry h k x y =
-    let split : Some x.parts ≡ Some y.parts = sym x.split ∙ y.split in
-    let parts : x.parts ≡ y.parts = cc in
-    let rest : bare x.word ∷ h.items ≡ bare y.word ∷ k.items = sym x.rest ∙ (ap (λ p. p.rest) parts ∙ y.rest) in
-    let word : x.word ≡ y.word = cc in
-    let items : h.items ≡ k.items = cc in
-    same_head h k (owner_once lower origin before (statement_of entry) h.owner k.owner x.owner y.owner)
-    (class_once lower before entry h.class k.class x.class y.class)
-    (lower.kind y.word h.kind k.kind (rw (← word) (x.named)) y.named)
-    items
+module _ (lower : Lower) (origin : List (List ℕ)) where
+  pub head_once : (before : List Entry) (entry : Entry) → Once Head (HasHead origin before entry)
+  head_once before entry h k x y =
+      let split : Some x.parts ≡ Some y.parts = sym x.split ∙ y.split in
+      let parts : x.parts ≡ y.parts = cc in
+      let rest : bare x.word ∷ h.items ≡ bare y.word ∷ k.items = sym x.rest ∙ (ap (λ p. p.rest) parts ∙ y.rest) in
+      let word : x.word ≡ y.word = cc in
+      let items : h.items ≡ k.items = cc in
+      same_head h k (owner_once lower origin before (statement_of entry) h.owner k.owner x.owner y.owner)
+      (class_once lower before entry h.class k.class x.class y.class)
+      (lower.kind y.word h.kind k.kind (rw (← word) (x.named)) y.named)
+      items
 
-pub states_once : Lower → (origin : List (List ℕ)) (before : List Entry) (head : Head) → Once (List ℕ) (StatesData origin before head)
-states_once lower origin before head a b x y =
-    let same : x.above ≡ y.above = origin_once lower origin before x.above y.above x.under y.under in
-    lower.rdata y.above head.class head.kind head.items a b (subst (λ above. States above head.class head.kind head.items a) same x.states) y.states
+  pub states_once : (before : List Entry) (head : Head) → Once (List ℕ) (StatesData origin before head)
+  states_once before head a b x y =
+      let same : x.above ≡ y.above = origin_once lower origin before x.above y.above x.under y.under in
+      lower.rdata y.above head.class head.kind head.items a b (subst (λ above. States above head.class head.kind head.items a) same x.states) y.states
 
-pub minimum_once : Lower → (origin : List (List ℕ)) (before : List Entry) (entry : Entry) → Once ℕ (StatesMinimum origin before entry)
-minimum_once lower origin before entry a b x y =
-    let head : x.head ≡ y.head = head_once lower origin before entry x.head y.head x.has y.has in
-    let octets : x.octets ≡ y.octets = states_once lower origin before y.head x.octets y.octets (subst (λ h. StatesData origin before h x.octets) head x.rdata) y.rdata in
-    let left : minimum (record { class = x.head.class; kind = x.head.kind; octets = x.octets }) ≡ minimum (record { class = y.head.class; kind = y.head.kind; octets = y.octets }) = rw (head, octets) refl in
-    let values : Some a ≡ Some b = sym x.field ∙ (left ∙ y.field) in
-    cc
+  pub minimum_once : (before : List Entry) (entry : Entry) → Once ℕ (StatesMinimum origin before entry)
+  minimum_once before entry a b x y =
+      let head : x.head ≡ y.head = head_once before entry x.head y.head x.has y.has in
+      let octets : x.octets ≡ y.octets = states_once before y.head x.octets y.octets (subst (λ h. StatesData origin before h x.octets) head x.rdata) y.rdata in
+      let left : minimum (record { class = x.head.class; kind = x.head.kind; octets = x.octets }) ≡ minimum (record { class = y.head.class; kind = y.head.kind; octets = y.octets }) = rw (head, octets) refl in
+      let values : Some a ≡ Some b = sym x.field ∙ (left ∙ y.field) in
+      cc
 
-pub last_minimum_once : Lower → (origin : List (List ℕ)) (before : List Entry) → Once ℕ (IsLastMinimum origin before)
-last_minimum_once lower origin [] a b x y = absurd x
-last_minimum_once lower origin (entry ∷ before) a b (inl x) (inl y) = minimum_once lower origin before entry a b x y
-last_minimum_once lower origin (entry ∷ before) a b (inl x) (inr y) = absurd (y.0 a x)
-last_minimum_once lower origin (entry ∷ before) a b (inr x) (inl y) = absurd (x.0 b y)
-last_minimum_once lower origin (entry ∷ before) a b (inr x) (inr y) = last_minimum_once lower origin before a b x.1 y.1
+  pub last_minimum_once : (before : List Entry) → Once ℕ (IsLastMinimum origin before)
+  last_minimum_once [] a b x y = absurd x
+  last_minimum_once (entry ∷ before) a b (inl x) (inl y) = minimum_once before entry a b x y
+  last_minimum_once (entry ∷ before) a b (inl x) (inr y) = absurd (y.0 a x)
+  last_minimum_once (entry ∷ before) a b (inr x) (inl y) = absurd (x.0 b y)
+  last_minimum_once (entry ∷ before) a b (inr x) (inr y) = last_minimum_once before a b x.1 y.1
 
-pub ttl_once : Lower → (origin : List (List ℕ)) (before : List Entry) (entry : Entry) → Once ℕ (HasTtl origin before entry)
-ttl_once lower origin before entry a b x y =
-    match_once (List ℕ) ℕ (stated_ttl before entry) (IsLastMinimum origin (entry ∷ before)) IsTime (last_minimum_once lower origin (entry ∷ before)) lower.time a b x y
+  pub ttl_once : (before : List Entry) (entry : Entry) → Once ℕ (HasTtl origin before entry)
+  ttl_once before entry a b x y =
+      match_once (List ℕ) ℕ (stated_ttl before entry) (IsLastMinimum origin (entry ∷ before)) IsTime (last_minimum_once (entry ∷ before)) lower.time a b x y

@@ -15,53 +15,12 @@ use Rattle.zone_text.specs.Machine.ItemLengths.{EndsBefore, item_len}
 use Rattle.zone_text.specs.Machine.Kept.{AreKept, Keeps}
 use Rattle.zone_text.specs.Machine.Line.{KeepsItems}
 use Rattle.zone_text.specs.Tokens.{Token, blank, opening, closing, line_feed, comment, bare, quoted, token_text, text, is_blank, ends_item, Cuts, IsToken, AllFollow}
-use Rattle.zone_text.proofs.Cuttings.{follow_after}
+use Rattle.zone_text.proofs.Cuttings.{follow_after, shorter}
+use Rattle.zone_text.proofs.Fronts.{Begins, begins}
 use Rattle.zone_text.proofs.Kept.{keeps_more}
 use Rattle.zone_text.proofs.TokenEnds.{bare_ends, quoted_ends, item_len_of, comment_len_of}
 
--- ---- the first octet of a token
-
-abbrev IsFirstOf : Token → ℕ → Type 0
-IsFirstOf (blank d) c = is_blank c ≡ true
-IsFirstOf opening c = c ≡ 40
-IsFirstOf closing c = c ≡ 41
-IsFirstOf line_feed c = c ≡ 10
-IsFirstOf (comment octets) c = c ≡ 59
-IsFirstOf (bare units) c = ends_item c ≡ false
-IsFirstOf (quoted units) c = c ≡ 34
-
-heads : (c d : ℕ) (xs ys : List ℕ) → c ∷ xs ≡ d ∷ ys → c ≡ d
-heads c d xs ys e = cc
-
-bare_first : (units : List Written) (c : ℕ) (after rest : List ℕ) → IsToken (bare units) → c ∷ after ≡ written_text units ++ rest → ends_item c ≡ false
-bare_first [] c after rest is e = absurd (omega (arith, is.0))
-bare_first (plain d ∷ units) c after rest is e = ap ends_item (heads c d _ _ e) ∙ is.1.0.0
-bare_first units c after rest is e = ap ends_item (heads c 92 _ _ e)
-
-token_first : (p : Token) (c : ℕ) (after rest : List ℕ) → IsToken p → c ∷ after ≡ token_text p ++ rest → IsFirstOf p c
-token_first (blank d) c after rest is e = ap is_blank (heads c d _ _ e) ∙ is
-token_first opening c after rest is e = heads c 40 _ _ e
-token_first closing c after rest is e = heads c 41 _ _ e
-token_first line_feed c after rest is e = heads c 10 _ _ e
-token_first (comment octets) c after rest is e = heads c 59 _ _ e
-token_first (bare units) c after rest is e = bare_first units c after rest is e
-token_first (quoted units) c after rest is e = heads c 34 _ _ e
-
-bare_text_some : (units : List Written) (rest : List ℕ) → IsToken (bare units) → [] ≡ written_text units ++ rest → ⊥
-bare_text_some [] rest is e = omega (arith, is.0)
-bare_text_some (plain d ∷ units) rest is e = cc
-bare_text_some (escaped d ∷ units) rest is e = cc
-bare_text_some (decimal x y z ∷ units) rest is e = cc
-
--- a token has octets
-token_some : (p : Token) (rest : List ℕ) → IsToken p → [] ≡ token_text p ++ rest → ⊥
-token_some (bare units) rest is e = bare_text_some units rest is e
-token_some p rest is e = cc
-
 -- ---- the first token by its first octet
-
-tails : (c d : ℕ) (xs ys : List ℕ) → c ∷ xs ≡ d ∷ ys → xs ≡ ys
-tails c d xs ys e = cc
 
 -- an item and what follows the token
 abbrev Front : List RawItem → List ℕ → Token → List ℕ → Type 0
@@ -73,37 +32,37 @@ FrontIs octets raws left = (p : Token) (rest : List ℕ) → IsToken p → EndsB
 
 -- an octet that ends an item and begins neither an item nor a comment
 pub plain_front : (octets after : List ℕ) (c : ℕ) → octets ≡ c ∷ after → c ≢ 34 → c ≢ 59 → ends_item c ≡ true → FrontIs octets [] after
-plain_front octets after c whole no_quote no_comment ends p rest is at e = by p is (sym whole ∙ e) (token_first p c after rest is (sym whole ∙ e))
+plain_front octets after c whole no_quote no_comment ends p rest is at e = by p is (sym whole ∙ e) (begins c after p rest is (sym whole ∙ e))
   where
-    by : (p : Token) → IsToken p → c ∷ after ≡ token_text p ++ rest → IsFirstOf p c → Front [] after p rest
+    by : (p : Token) → IsToken p → c ∷ after ≡ token_text p ++ rest → Begins c p → Front [] after p rest
     by (comment octets) is e first = absurd (no_comment first)
     by (bare units) is e first = absurd (both_ways (ends_item c) first ends)
     by (quoted units) is e first = absurd (no_quote first)
-    by p is e first = (refl, tails _ _ _ _ e)
+    by p is e first = (refl, cc)
 
 no_blank : (c d : ℕ) → c ≡ d → is_blank d ≡ false → is_blank c ≡ true → ⊥
 no_blank c d e not_one is = both_ways (is_blank c) (ap is_blank e ∙ not_one) is
 
 pub comment_front : (octets after left : List ℕ) (c n : ℕ) → octets ≡ c ∷ after → c ≡ 59 → n ≡ length (before_line_feed after) → left ≡ drop n after → FrontIs octets [] left
-comment_front octets after left c n whole is_comment len dropped p rest is at e = by p is at (sym whole ∙ e) (token_first p c after rest is (sym whole ∙ e))
+comment_front octets after left c n whole is_comment len dropped p rest is at e = by p is at (sym whole ∙ e) (begins c after p rest is (sym whole ∙ e))
   where
-    by : (p : Token) → IsToken p → EndsBefore p rest → c ∷ after ≡ token_text p ++ rest → IsFirstOf p c → Front [] left p rest
+    by : (p : Token) → IsToken p → EndsBefore p rest → c ∷ after ≡ token_text p ++ rest → Begins c p → Front [] left p rest
     by (blank d) is at e first = absurd (no_blank c 59 is_comment refl first)
     by (comment octets) is at e first =
-        let text : after ≡ octets ++ rest = tails _ _ _ _ e in
+        let text : after ≡ octets ++ rest = cc in
         let whole_len : n ≡ length octets = len ∙ (ap (λ t. length (before_line_feed t)) text ∙ comment_len_of octets rest is at) in
         (refl, dropped ∙ (rw (whole_len, text) (drop-append_seam octets rest)))
     by (bare units) is at e first = absurd (both_ways (ends_item c) first (ap ends_item is_comment))
     by p is at e first = absurd (omega arith)
 
 pub quoted_front : (octets after inside close left : List ℕ) (c n m : ℕ) → octets ≡ c ∷ after → c ≡ 34 → n ≡ item_len is_quote false after → inside ≡ take n after → close ≡ drop n after → m ≡ min (length close) 1 → left ≡ drop m close → FrontIs octets (raw.quoted inside ∷ []) left
-quoted_front octets after inside close left c n m whole quote len front back one dropped p rest is at e = by p is (sym whole ∙ e) (token_first p c after rest is (sym whole ∙ e))
+quoted_front octets after inside close left c n m whole quote len front back one dropped p rest is at e = by p is (sym whole ∙ e) (begins c after p rest is (sym whole ∙ e))
   where
-    by : (p : Token) → IsToken p → c ∷ after ≡ token_text p ++ rest → IsFirstOf p c → Front (raw.quoted inside ∷ []) left p rest
+    by : (p : Token) → IsToken p → c ∷ after ≡ token_text p ++ rest → Begins c p → Front (raw.quoted inside ∷ []) left p rest
     by (blank d) is e first = absurd (no_blank c 34 quote refl first)
     by (bare units) is e first = absurd (both_ways (ends_item c) first (ap ends_item quote))
     by (quoted units) is e first =
-        let text : after ≡ written_text units ++ 34 ∷ rest = tails _ _ _ _ e ∙ append_assoc (written_text units) (34 ∷ []) rest in
+        let text : after ≡ written_text units ++ 34 ∷ rest = cc (append_assoc (written_text units) (34 ∷ []) rest) in
         let whole_len : n ≡ length (written_text units) = len ∙ (ap (item_len is_quote false) text ∙ item_len_of is_quote units (34 ∷ rest) quoted_ends is refl) in
         let inner : inside ≡ written_text units = front ∙ rw (whole_len, text) (take-append_seam (written_text units) (34 ∷ rest)) in
         let outer : close ≡ 34 ∷ rest = back ∙ rw (whole_len, text) (drop-append_seam (written_text units) (34 ∷ rest)) in
@@ -113,9 +72,9 @@ quoted_front octets after inside close left c n m whole quote len front back one
     by p is e first = absurd (omega arith)
 
 pub bare_front : (octets after item left : List ℕ) (c n : ℕ) → octets ≡ c ∷ after → ends_item c ≡ false → n ≡ item_len ends_item false octets → item ≡ take n octets → left ≡ drop n octets → FrontIs octets (raw.bare item ∷ []) left
-bare_front octets after item left c n whole goes_on len front back p rest is at e = by p is at e (token_first p c after rest is (sym whole ∙ e))
+bare_front octets after item left c n whole goes_on len front back p rest is at e = by p is at e (begins c after p rest is (sym whole ∙ e))
   where
-    by : (p : Token) → IsToken p → EndsBefore p rest → octets ≡ token_text p ++ rest → IsFirstOf p c → Front (raw.bare item ∷ []) left p rest
+    by : (p : Token) → IsToken p → EndsBefore p rest → octets ≡ token_text p ++ rest → Begins c p → Front (raw.bare item ∷ []) left p rest
     by (blank d) is at e first = absurd (both_ways (ends_item c) goes_on (rw first refl))
     by (bare units) is at e first =
         let whole_len : n ≡ length (written_text units) = len ∙ (ap (item_len ends_item false) e ∙ item_len_of ends_item units rest bare_ends is.1 at) in
@@ -142,20 +101,13 @@ bare_takes octets after left c n whole goes_on len within back =
 
 -- a token ends before those after it
 ends_after : (p : Token) (tokens : List Token) → AllByRecursion IsToken tokens → AllFollow (p ∷ tokens) → EndsBefore p (text tokens)
+ends_after (bare units) [] each follow = tt
 ends_after (bare units) (blank c ∷ tokens) each follow = rw (each.0) refl
-ends_after (bare units) (opening ∷ tokens) each follow = refl
-ends_after (bare units) (closing ∷ tokens) each follow = refl
-ends_after (bare units) (line_feed ∷ tokens) each follow = refl
-ends_after (bare units) (comment octets ∷ tokens) each follow = refl
 ends_after (bare units) (bare more ∷ tokens) each follow = absurd follow.0
-ends_after (bare units) (quoted more ∷ tokens) each follow = refl
-ends_after (comment octets) (blank c ∷ tokens) each follow = absurd follow.0
-ends_after (comment octets) (opening ∷ tokens) each follow = absurd follow.0
-ends_after (comment octets) (closing ∷ tokens) each follow = absurd follow.0
+ends_after (bare units) tokens each follow = refl
+ends_after (comment octets) [] each follow = tt
 ends_after (comment octets) (line_feed ∷ tokens) each follow = refl
-ends_after (comment octets) (comment more ∷ tokens) each follow = absurd follow.0
-ends_after (comment octets) (bare more ∷ tokens) each follow = absurd follow.0
-ends_after (comment octets) (quoted more ∷ tokens) each follow = absurd follow.0
+ends_after (comment octets) tokens each follow = absurd follow.0
 ends_after p tokens each follow = tt
 
 -- the tokens that are left, and the items of those before them, of which these are kept
@@ -197,7 +149,7 @@ none_less entry octets left kept some front leaves tokens cuts =
 
 end_by : (so_far : List RawItem) (tokens more : List Token) → [] ≡ text more → AllByRecursion IsToken more → so_far ++ flat_map item_of more ≡ flat_map item_of tokens → so_far ≡ flat_map item_of tokens
 end_by so_far tokens [] whole each items = sym (append-nil so_far) ∙ items
-end_by so_far tokens (p ∷ more) whole each items = absurd (token_some p (text more) each.0 whole)
+end_by so_far tokens (p ∷ more) whole each items = absurd (omega (arith, shorter [] (text more) p each.0 whole))
 
 -- where nothing is left, the items are all
 pub all_taken : (entry rest : List ℕ) (kept : List RawItem) → rest ≡ [] → LeavesItems entry rest kept → KeepsItems entry kept

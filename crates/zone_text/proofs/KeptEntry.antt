@@ -14,7 +14,7 @@ use Rattle.zone_rdata.specs.declared.queue.PendingRecords.{PendingRecords}
 use Rattle.zone_rdata.proofs.LeftOut.{after_item, are_many, at_least, begin_with, fault_of_all, state_none}
 use Rattle.zone_text.specs.Entries.{Entry, entry_of, first_octet, item_of}
 use Rattle.zone_text.specs.EntryFault.{DirectiveFault, EntryFault, KindFault, OwnerFault, WordsFault, of_directive, of_kind, of_owner, of_rdata, of_ttl, of_words}
-use Rattle.zone_text.specs.Statements.{Statement, Parts, Word, begins_with_digit, class, class_among, directive, statement_by, statement_of, includes, is_class_word, owned, parts_after, parts_in, sets_origin, sets_ttl, ttl, ttl_among, unknown, unless_stated, unowned, word_after}
+use Rattle.zone_text.specs.Statements.{Statement, no_items, Parts, Word, begins_with_digit, class, class_among, directive, statement_by, statement_of, includes, is_class_word, owned, parts_after, parts_in, sets_origin, sets_ttl, ttl, ttl_among, unknown, unless_stated, unowned, word_after}
 use Rattle.zone_text.specs.Inherited.{IsOwner, class_word, latest, one_bare, or_else}
 use Rattle.zone_rdata.specs.Words.{IsClassWord}
 use Rattle.zone_text.specs.Machine.EntryReading.{DecidesEntry, decides_fault, decides_none, decides_one}
@@ -25,99 +25,10 @@ use Rattle.zone_text.specs.declared.parser_state.ParserState.{ParserState}
 use Rattle.zone_text.proofs.Kept.{items_written}
 use Rattle.zone_text.proofs.WordsLeft.{class_kept, class_pushed, parts_by, ttl_kept, ttl_pushed}
 
--- ---- forms
-
 -- many items, written ones, and those that are kept
 pub record Long (n : ℕ) (items kept : List RawItem) : Type 0 where
   pub short : AreShortened n items kept
   pub written : AllByRecursion IsWritten items
-
--- two forms of many items each, of which some are kept
-abbrev LongForms : Statement → Statement → Type 0
-LongForms (sets_origin items) (sets_origin kept) = (2 ≤ length items) × (2 ≤ length kept)
-LongForms (sets_ttl items) (sets_ttl kept) = (2 ≤ length items) × (2 ≤ length kept)
-LongForms includes includes = ⊤
-LongForms unknown unknown = ⊤
-LongForms (owned owner items) (owned other kept) = (owner ≡ other) × Long 65551 items kept
-LongForms (unowned items) (unowned kept) = Long 65551 items kept
-LongForms form other = ⊥
-
-word_long : (a b c : Bool) (items kept : List RawItem) → (2 ≤ length items) × (2 ≤ length kept) → LongForms (if a then sets_origin items else if b then sets_ttl items else if c then includes else unknown) (if a then sets_origin kept else if b then sets_ttl kept else if c then includes else unknown)
-word_long false false true items kept many = tt
-word_long false false false items kept many = tt
-word_long a b c items kept many = many
-
-directive_long : (word : RawItem) (items kept : List RawItem) → Long 65551 items kept → LongForms (directive word items) (directive word kept)
-directive_long (quoted text) items kept long = tt
-directive_long (bare text) items kept long =
-    let many = are_many 65551 items kept long.short in
-    word_long (bytes_eq (folded_label text) (codes "$origin")) (bytes_eq (folded_label text) (codes "$ttl")) (bytes_eq (folded_label text) (codes "$include")) items kept (omega (arith, many.0), omega (arith, many.1))
-
-octet_long : (a b : Bool) (item : RawItem) (items kept : List RawItem) → IsWritten item → Long 65551 items kept → LongForms (if a then directive item items else if b then unowned (item ∷ items) else owned item items) (if a then directive item kept else if b then unowned (item ∷ kept) else owned item kept)
-octet_long true b item items kept is long = directive_long item items kept long
-octet_long false true item items kept is long = record { short = after_item 65551 item items kept long.short; written = (is, long.written) }
-octet_long false false item items kept is long = (refl, long)
-
-first_long : (first : Option ℕ) (item : RawItem) (items kept : List RawItem) → IsWritten item → Long 65551 items kept → LongForms (statement_by first (item ∷ items)) (statement_by first (item ∷ kept))
-first_long None item items kept is long = (refl, long)
-first_long (Some c) item items kept is long = octet_long (c == 36) (is_blank c) item items kept is long
-
-forms_long : (first : Option ℕ) (items kept : List RawItem) → Long 65552 items kept → LongForms (statement_by first items) (statement_by first kept)
-forms_long first items kept long =
-    let begin = begin_with 65552 65551 items kept (omega arith) long.short in
-    let written : AllByRecursion IsWritten (begin.item ∷ begin.rest) = subst (AllByRecursion IsWritten) begin.whole long.written in
-    let found = first_long first begin.item begin.rest begin.others written.0 (record { short = begin.short; written = written.1 }) in
-    let half = subst (λ t. LongForms (statement_by first t) (statement_by first (begin.item ∷ begin.others))) (sym begin.whole) found in
-    subst (λ t. LongForms (statement_by first items) (statement_by first t)) (sym begin.are_kept) half
-
-no_one_bare : (items : List RawItem) → 2 ≤ length items → one_bare items ≡ None
-no_one_bare (quoted text ∷ items) many = refl
-no_one_bare (bare text ∷ item ∷ items) many = refl
-no_one_bare items many = absurd (omega (arith, many))
-
-directive_fault : (origin : Labels) (before : List Entry) (form other : Statement) (fault : Fault) → LongForms form other → DirectiveFault origin before other fault → DirectiveFault origin before form fault
-directive_fault origin before (sets_origin items) (sets_origin kept) fault h bad = rw (no_one_bare items h.0) (rw (no_one_bare kept h.1) at bad)
-directive_fault origin before (sets_ttl items) (sets_ttl kept) fault h bad = rw (no_one_bare items h.0) (rw (no_one_bare kept h.1) at bad)
-directive_fault origin before includes includes fault h bad = bad
-directive_fault origin before unknown unknown fault h bad = bad
-directive_fault origin before (owned owner items) (owned other kept) fault h bad = absurd bad
-directive_fault origin before (unowned items) (unowned kept) fault h bad = absurd bad
-directive_fault origin before form other fault h bad = absurd h
-
-owner_fault : (origin : Labels) (before : List Entry) (form other : Statement) (fault : Fault) → LongForms form other → OwnerFault origin before other fault → OwnerFault origin before form fault
-owner_fault origin before (owned (bare text) items) (owned other kept) fault h bad = subst (λ o. OwnerFault origin before (owned o kept) fault) (sym h.0) bad
-owner_fault origin before (owned (quoted text) items) (owned other kept) fault h bad = subst (λ o. OwnerFault origin before (owned o kept) fault) (sym h.0) bad
-owner_fault origin before (unowned items) (unowned kept) fault h bad = bad
-owner_fault origin before (sets_origin items) (sets_origin kept) fault h bad = absurd bad
-owner_fault origin before (sets_ttl items) (sets_ttl kept) fault h bad = absurd bad
-owner_fault origin before includes includes fault h bad = absurd bad
-owner_fault origin before unknown unknown fault h bad = absurd bad
-owner_fault origin before form other fault h bad = absurd h
-
-is_owner : (origin : Labels) (before : List Entry) (form other : Statement) (name : Labels) → LongForms form other → IsOwner origin before other name → IsOwner origin before form name
-is_owner origin before (owned (bare text) items) (owned other kept) name h is = subst (λ o. IsOwner origin before (owned o kept) name) (sym h.0) is
-is_owner origin before (owned (quoted text) items) (owned other kept) name h is = subst (λ o. IsOwner origin before (owned o kept) name) (sym h.0) is
-is_owner origin before (unowned items) (unowned kept) name h is = is
-is_owner origin before (sets_origin items) (sets_origin kept) name h is = absurd is
-is_owner origin before (sets_ttl items) (sets_ttl kept) name h is = absurd is
-is_owner origin before includes includes name h is = absurd is
-is_owner origin before unknown unknown name h is = absurd is
-is_owner origin before form other name h is = absurd h
-
-none_stated : (origin : Labels) (before : List Entry) (form other : Statement) → LongForms form other → StatesNothing origin before other → ⊥
-none_stated origin before (sets_origin items) (sets_origin []) h n = n
-none_stated origin before (sets_origin items) (sets_origin (quoted text ∷ kept)) h n = n
-none_stated origin before (sets_origin items) (sets_origin (bare text ∷ [])) h n = omega (arith, h.1)
-none_stated origin before (sets_origin items) (sets_origin (bare text ∷ item ∷ kept)) h n = n
-none_stated origin before (sets_ttl items) (sets_ttl []) h n = n
-none_stated origin before (sets_ttl items) (sets_ttl (quoted text ∷ kept)) h n = n
-none_stated origin before (sets_ttl items) (sets_ttl (bare text ∷ [])) h n = omega (arith, h.1)
-none_stated origin before (sets_ttl items) (sets_ttl (bare text ∷ item ∷ kept)) h n = n
-none_stated origin before includes includes h n = n
-none_stated origin before unknown unknown h n = n
-none_stated origin before (owned owner items) (owned other kept) h n = n
-none_stated origin before (unowned items) (unowned kept) h n = n
-none_stated origin before form other h n = h
 
 -- ---- parts
 
@@ -169,30 +80,106 @@ parts_long words (item ∷ first) more others many written out =
     (record { short = record { first = item ∷ first; more = more; others = others; whole = refl; are_kept = refl; many = omega (arith, many); out = out }; written = written })
     (λ word e. parts_long (words ++ word ∷ []) first more others (omega (arith, many, free_less words item word e)) written.1 out)
 
-owned_parts : (items kept : List RawItem) → Long 65551 items kept → LongParts (parts_after [] items) (parts_after [] kept)
-unfolding free_one
-owned_parts items kept long =
-    rw (long.short.whole, long.short.are_kept)
-    (parts_long [] long.short.first long.short.more long.short.others (omega (arith, long.short.many)) (subst (AllByRecursion IsWritten) long.short.whole long.written) long.short.out)
-
 -- the parts of all items, and those of the items that are kept
-record FormParts (form : Statement) (other : Parts) : Type 0 where
+record FormParts (split_so : Option Parts) (other : Parts) : Type 0 where
   parts : Parts
-  split : parts_in form ≡ Some parts
+  split : split_so ≡ Some parts
   long : LongParts parts other
 
-form_parts : (form other : Statement) (parts : Parts) → LongForms form other → parts_in other ≡ Some parts → FormParts form parts
-form_parts (owned owner items) (owned other kept) parts h e =
+kept_parts : (items kept : List RawItem) → Long 65551 items kept → (parts : Parts) → Some (parts_after [] kept) ≡ Some parts → FormParts (Some (parts_after [] items)) parts
+unfolding free_one
+kept_parts items kept long parts e =
     let same : parts_after [] kept ≡ parts = cc in
-    record { parts = parts_after [] items; split = refl; long = subst (LongParts (parts_after [] items)) same (owned_parts items kept h.1) }
-form_parts (unowned items) (unowned kept) parts h e =
-    let same : parts_after [] kept ≡ parts = cc in
-    record { parts = parts_after [] items; split = refl; long = subst (LongParts (parts_after [] items)) same (owned_parts items kept h) }
-form_parts (sets_origin items) (sets_origin kept) parts h e = absurd cc
-form_parts (sets_ttl items) (sets_ttl kept) parts h e = absurd cc
-form_parts includes includes parts h e = absurd cc
-form_parts unknown unknown parts h e = absurd cc
-form_parts form other parts h e = absurd h
+    let found : LongParts (parts_after [] items) (parts_after [] kept) = rw (long.short.whole, long.short.are_kept) (parts_long [] long.short.first long.short.more long.short.others (omega (arith, long.short.many)) (subst (AllByRecursion IsWritten) long.short.whole long.written) long.short.out) in
+    record { parts = parts_after [] items; split = refl; long = subst (LongParts (parts_after [] items)) same found }
+
+-- ---- forms
+
+-- what a form shows besides its other items
+abbrev shown : Statement → Statement
+shown (sets_origin items) = sets_origin []
+shown (sets_ttl items) = sets_ttl []
+shown (owned owner items) = owned owner []
+shown (unowned items) = unowned []
+shown form = form
+
+-- a form that has more than one item
+abbrev IsLong : Statement → Type 0
+IsLong no_items = ⊥
+IsLong (sets_origin items) = one_bare items ≡ None
+IsLong (sets_ttl items) = one_bare items ≡ None
+IsLong form = ⊤
+
+-- two such forms, of which the other has the items that are kept
+record LongForms (form other : Statement) : Type 0 where
+  same : shown other ≡ shown form
+  long : IsLong form
+  other_long : IsLong other
+  parts : (parts : Parts) → parts_in other ≡ Some parts → FormParts (parts_in form) parts
+
+no_one_bare : (items : List RawItem) → 2 ≤ length items → one_bare items ≡ None
+no_one_bare (quoted text ∷ items) many = refl
+no_one_bare (bare text ∷ item ∷ items) many = refl
+no_one_bare items many = absurd (omega (arith, many))
+
+word_long : (a b c : Bool) (items kept : List RawItem) → one_bare items ≡ None → one_bare kept ≡ None → LongForms (if a then sets_origin items else if b then sets_ttl items else if c then includes else unknown) (if a then sets_origin kept else if b then sets_ttl kept else if c then includes else unknown)
+word_long false false true items kept many most = record { same = refl; long = tt; other_long = tt; parts = λ p e. absurd cc }
+word_long false false false items kept many most = record { same = refl; long = tt; other_long = tt; parts = λ p e. absurd cc }
+word_long a b c items kept many most = record { same = refl; long = many; other_long = most; parts = λ p e. absurd cc }
+
+directive_long : (word : RawItem) (items kept : List RawItem) → Long 65551 items kept → LongForms (directive word items) (directive word kept)
+directive_long (quoted text) items kept long = record { same = refl; long = tt; other_long = tt; parts = λ p e. absurd cc }
+directive_long (bare text) items kept long =
+    let many = are_many 65551 items kept long.short in
+    word_long _ _ _ items kept (no_one_bare items (omega (arith, many.0))) (no_one_bare kept (omega (arith, many.1)))
+
+octet_long : (a b : Bool) (item : RawItem) (items kept : List RawItem) → IsWritten item → Long 65551 items kept → LongForms (if a then directive item items else if b then unowned (item ∷ items) else owned item items) (if a then directive item kept else if b then unowned (item ∷ kept) else owned item kept)
+octet_long true b item items kept is long = directive_long item items kept long
+octet_long false true item items kept is long = record {
+  same = refl;
+  long = tt;
+  other_long = tt;
+  parts = kept_parts (item ∷ items) (item ∷ kept) (record { short = after_item 65551 item items kept long.short; written = (is, long.written) });
+}
+octet_long false false item items kept is long = record { same = refl; long = tt; other_long = tt; parts = kept_parts items kept long }
+
+first_long : (first : Option ℕ) (item : RawItem) (items kept : List RawItem) → IsWritten item → Long 65551 items kept → LongForms (statement_by first (item ∷ items)) (statement_by first (item ∷ kept))
+first_long None item items kept is long = record { same = refl; long = tt; other_long = tt; parts = kept_parts items kept long }
+first_long (Some c) item items kept is long = octet_long (c == 36) (is_blank c) item items kept is long
+
+forms_long : (first : Option ℕ) (items kept : List RawItem) → Long 65552 items kept → LongForms (statement_by first items) (statement_by first kept)
+forms_long first items kept long =
+    let begin = begin_with 65552 65551 items kept (omega arith) long.short in
+    let written : AllByRecursion IsWritten (begin.item ∷ begin.rest) = subst (AllByRecursion IsWritten) begin.whole long.written in
+    let found = first_long first begin.item begin.rest begin.others written.0 (record { short = begin.short; written = written.1 }) in
+    let half = subst (λ t. LongForms (statement_by first t) (statement_by first (begin.item ∷ begin.others))) (sym begin.whole) found in
+    subst (λ t. LongForms (statement_by first items) (statement_by first t)) (sym begin.are_kept) half
+
+-- ---- what such forms state
+
+module _ (origin : Labels) (before : List Entry) where
+  shown_directive : (fault : Fault) (form : Statement) → IsLong form → DirectiveFault origin before (shown form) fault ≡ DirectiveFault origin before form fault
+  shown_directive fault (sets_origin items) long = rw long refl
+  shown_directive fault (sets_ttl items) long = rw long refl
+  shown_directive fault form long = refl
+
+  shown_owner_fault : (fault : Fault) (form : Statement) → IsLong form → OwnerFault origin before (shown form) fault ≡ OwnerFault origin before form fault
+  shown_owner_fault fault (owned (bare text) items) long = refl
+  shown_owner_fault fault form long = refl
+
+  shown_owner : (name : Labels) (form : Statement) → IsLong form → IsOwner origin before (shown form) name ≡ IsOwner origin before form name
+  shown_owner name (owned (bare text) items) long = refl
+  shown_owner name form long = refl
+
+  none_stated : (form : Statement) → IsLong form → StatesNothing origin before form → ⊥
+  none_stated (sets_origin (bare text ∷ [])) long n = cc
+  none_stated (sets_ttl (bare text ∷ [])) long n = cc
+  none_stated no_items long n = long
+  none_stated form long n = n
+
+-- what a form shows, the other shows
+as_kept : (P : Statement → Type 0) → ((form : Statement) → IsLong form → P (shown form) ≡ P form) → (form other : Statement) → LongForms form other → P other → P form
+as_kept P same form other h p = subst (λ Q. Q) (sym (same other h.other_long) ∙ ap P h.same ∙ same form h.long) p
 
 kind_of_first : (item : RawItem) (items kept : List RawItem) (fault : Fault) → KindFault (item ∷ kept) fault → KindFault (item ∷ items) fault
 kind_of_first (quoted text) items kept fault bad = bad
@@ -220,7 +207,7 @@ record LongHead (origin : Labels) (before : List Entry) (entry : Entry) (head : 
 head_long : (origin : Labels) (before : List Entry) (entry : Entry) (kept : List RawItem) (head : Head) → Long 65552 entry.items kept → HasHead origin before (with_items entry kept) head → LongHead origin before entry head
 head_long origin before entry kept head long has =
     let forms = forms_long entry.first entry.items kept long in
-    let found = form_parts (statement_of entry) (statement_of (with_items entry kept)) has.parts forms has.split in
+    let found = forms.parts has.parts has.split in
     let begin = begin_with 65548 65547 found.parts.rest has.parts.rest (omega arith) found.long.long.short in
     let firsts : begin.item ∷ begin.others ≡ bare has.word ∷ head.items = sym begin.are_kept ∙ has.rest in
     let same : begin.item ≡ bare has.word = cc in
@@ -233,7 +220,7 @@ head_long origin before entry kept head long has =
         parts = found.parts;
         word = has.word;
         split = found.split;
-        owner = is_owner origin before (statement_of entry) (statement_of (with_items entry kept)) head.owner forms has.owner;
+        owner = as_kept _ (shown_owner origin before head.owner) (statement_of entry) _ forms has.owner;
         words = subst (AllByRecursion HasValue) (sym found.long.words) has.words;
         class = subst (λ o. MatchOption (or_else o (latest class_word before)) (head.class ≡ 1) (λ text. IsClassWord text head.class)) classes has.class;
         rest = begin.whole ∙ ap (λ item. item ∷ begin.rest) same;
@@ -244,16 +231,16 @@ head_long origin before entry kept head long has =
     }
 
 fault_kept : (origin : Labels) (before : List Entry) (entry : Entry) (kept : List RawItem) (fault : Fault) → Long 65552 entry.items kept → EntryFault origin before (with_items entry kept) fault → EntryFault origin before entry fault
-fault_kept origin before entry kept fault long (of_directive bad) = of_directive (directive_fault origin before (statement_of entry) _ fault (forms_long entry.first entry.items kept long) bad)
-fault_kept origin before entry kept fault long (of_owner bad) = of_owner (owner_fault origin before (statement_of entry) _ fault (forms_long entry.first entry.items kept long) bad)
+fault_kept origin before entry kept fault long (of_directive bad) = of_directive (as_kept _ (shown_directive origin before fault) (statement_of entry) _ (forms_long entry.first entry.items kept long) bad)
+fault_kept origin before entry kept fault long (of_owner bad) = of_owner (as_kept _ (shown_owner_fault origin before fault) (statement_of entry) _ (forms_long entry.first entry.items kept long) bad)
 fault_kept origin before entry kept fault long (of_words owner parts is split bad) =
     let forms = forms_long entry.first entry.items kept long in
-    let found = form_parts (statement_of entry) _ parts forms split in
-    of_words owner found.parts (is_owner origin before (statement_of entry) _ owner forms is) found.split (subst (λ words. WordsFault words fault) (sym found.long.words) bad)
+    let found = forms.parts parts split in
+    of_words owner found.parts (as_kept _ (shown_owner origin before owner) (statement_of entry) _ forms is) found.split (subst (λ words. WordsFault words fault) (sym found.long.words) bad)
 fault_kept origin before entry kept fault long (of_kind owner parts is split have bad) =
     let forms = forms_long entry.first entry.items kept long in
-    let found = form_parts (statement_of entry) _ parts forms split in
-    of_kind owner found.parts (is_owner origin before (statement_of entry) _ owner forms is) found.split (subst (AllByRecursion HasValue) (sym found.long.words) have) (kind_fault found.parts.rest parts.rest fault found.long.long bad)
+    let found = forms.parts parts split in
+    of_kind owner found.parts (as_kept _ (shown_owner origin before owner) (statement_of entry) _ forms is) found.split (subst (AllByRecursion HasValue) (sym found.long.words) have) (kind_fault found.parts.rest parts.rest fault found.long.long bad)
 fault_kept origin before entry kept fault long (of_rdata head above has under bad) =
     let found = head_long origin before entry kept head long has in
     of_rdata (head_with head found.items) above found.has under (fault_of_all above head.class head.kind found.items head.items fault found.long.written found.long.short bad)
@@ -267,7 +254,7 @@ record_kept origin before entry kept r long states =
     state_none states.rdata.above r.class r.kind found.items states.items r.octets found.long.written found.long.short states.rdata.states
 
 decides_by : (origin : Labels) (before : List Entry) (entry : Entry) (kept : List RawItem) (place : Place) (old new : PendingRecords) (next : ParserState) → Long 65552 entry.items kept → DecidesEntry origin before (with_items entry kept) place old new next → DecidesEntry origin before entry place old new next
-decides_by origin before entry kept place old new next long (decides_none leaves same) = absurd (none_stated origin before (statement_of entry) _ (forms_long entry.first entry.items kept long) leaves.0)
+decides_by origin before entry kept place old new next long (decides_none leaves same) = absurd (none_stated origin before _ (forms_long entry.first entry.items kept long).other_long leaves.0)
 decides_by origin before entry kept place old new next long (decides_one r states are more same) = absurd (record_kept origin before entry kept r long states)
 decides_by origin before entry kept place old new next long (decides_fault fault bad same ending) = decides_fault fault (fault_kept origin before entry kept fault long bad) same ending
 

@@ -1,5 +1,5 @@
 -- What octets leave of a file: the entries that line feeds have ended, and the octets after them.
-use Rattle.std.proofs.Common.{◌≡◌, ℕ, zero, ◌+◌, List, [], ◌∷◌, ◌++◌, ◌==◌, Some, None, refl, sym, ap, ◌∙◌, subst, append_assoc, add_assoc, add-zero, ◌⊎◌, inl, inr}
+use Rattle.std.proofs.Common.{◌≡◌, ℕ, zero, ◌+◌, List, [], ◌∷◌, ◌++◌, ◌==◌, Some, None, refl, sym, ap, ◌∙◌, subst, append_assoc, add_assoc, add-zero, ◌⊎◌, inl, inr, Option}
 use Rattle.std.specs.List.{flat_map, count_by}
 use Rattle.std.specs.Prelude.{reverse}
 use Rattle.std.proofs.lemmas.List.{append-nil, reverse-append}
@@ -12,25 +12,75 @@ use Rattle.zone_rdata.specs.declared.record.Placed.{Placed}
 use Rattle.zone_text.specs.Tokens.{Token, Cuts, token_text, text}
 use Rattle.zone_text.specs.Breaks.{Breaks}
 use Rattle.zone_text.specs.Lasting.{BreaksForGood, StaysBroken, BreaksAtEnd}
-use Rattle.zone_text.specs.Entries.{Cut, Entry, cut_from, entry_of, numbered}
+use Rattle.zone_text.specs.Entries.{Cut, Entry, cut_from, entry_of, numbered, and_last, entries_of, ended_entries}
 use Rattle.zone_text.specs.FileReads.{ReadEach, Ending, stated, refused}
 use Rattle.zone_text.specs.File.{states_none, states_one}
 use Rattle.zone_text.specs.Decided.{AreTokens}
-use Rattle.zone_text.proofs.Cuttings.{cut_not_broken}
-use Rattle.zone_text.proofs.Lasting.{cut_joined, break_joined}
-use Rattle.zone_text.proofs.CutAgain.{joined, AreEnded, cut_ended, again_zero}
+use Rattle.zone_text.specs.Machine.Cutting.{Cutting, cutting}
+use Rattle.zone_text.proofs.Cuttings.{cut_not_broken, IsCut, cutting_is, cutting_only, reads_cut, reads_broken}
+use Rattle.zone_text.proofs.Lasting.{cut_joined, break_joined, IsParted, parted as parted_at, both_cut}
+use Rattle.zone_text.proofs.CutAgain.{joined, AreEnded, cut_ended, again_zero, cut_whole, cut_again, ended_at_zero, numbered_front}
 use Rattle.zone_text.proofs.Decides.{parted}
-use Rattle.zone_text.proofs.Ending.{text_of_entries}
-use Rattle.zone_text.proofs.Escapes.{break_stays_or_ends}
-use Rattle.zone_text.proofs.ForGood.{stays_for_good, ends_not_for_good}
+use Rattle.zone_text.proofs.ForGood.{break_stays_or_ends, stays_for_good, ends_not_for_good}
+
+pub text_of_entries : (entries : List (List Token)) → flat_map text entries ≡ text (joined entries)
+text_of_entries [] = refl
+text_of_entries (entry ∷ entries) = ap (λ t. text entry ++ t) (text_of_entries entries) ∙ sym (flat_map-append token_text entry (joined entries))
+
+and_last_joined : (ended : List (List Token)) (open_tokens : List Token) → joined (and_last ended open_tokens) ≡ joined ended ++ open_tokens
+and_last_joined ended [] = sym (append-nil (joined ended))
+and_last_joined ended (p ∷ open_tokens) =
+    flat_map-append (λ (entry : List Token). entry) ended ((p ∷ open_tokens) ∷ [])
+    ∙ ap (λ t. joined ended ++ t) (append-nil (p ∷ open_tokens))
+
+pub entries_text : (tokens : List Token) → flat_map text (and_last (cut_from zero tokens).ended (cut_from zero tokens).open_tokens) ≡ text tokens
+entries_text tokens =
+    let cut : Cut = cut_from zero tokens in
+    text_of_entries (and_last cut.ended cut.open_tokens)
+    ∙ ap text (and_last_joined cut.ended cut.open_tokens ∙ cut_whole zero tokens)
+
+ended_stay : (octets more : List ℕ) → (others : List (List Token)) × ((cut_from zero (cutting (octets ++ more)).tokens).ended ≡ (cut_from zero (cutting octets).tokens).ended ++ others)
+ended_stay octets more =
+    let tokens : List Token = (cutting octets).tokens in
+    let fault : Option Fault = (cutting octets).broken in
+    let is : IsCut zero octets tokens fault = cutting_is octets in
+    let cut : Cut = cut_from zero tokens in
+    let front : List Token = joined cut.ended in
+    let whole : tokens ≡ front ++ cut.open_tokens = sym (cut_whole zero tokens) in
+    let part : IsParted octets front cut.open_tokens fault = parted_at octets front cut.open_tokens fault (ended_at_zero is.at tokens is.parentheses) (subst (λ (t : List Token). IsCut zero octets t fault) whole is) in
+    let rest : List ℕ = part.rest ++ more in
+    let back : Cutting = cutting rest in
+    let longer : octets ++ more ≡ text front ++ rest = ap (λ t. t ++ more) part.whole ∙ append_assoc (text front) part.rest more in
+    let found : IsCut zero (text front ++ rest) (front ++ back.tokens) back.broken = both_cut (text front) rest front back.tokens back.broken part.front (cut_ended zero tokens).ends (cutting_is rest) in
+    let now : cutting (octets ++ more) ≡ record { tokens = front ++ back.tokens; broken = back.broken } = ap cutting longer ∙ cutting_only (text front ++ rest) (front ++ back.tokens) back.broken found in
+    ((cut_from zero back.tokens).ended, ap (λ (c : Cutting). (cut_from zero c.tokens).ended) now ∙ ap (λ (c : Cut). c.ended) (cut_again tokens back.tokens))
+
+tokens_are : (octets : List ℕ) (tokens : List Token) → AreTokens octets tokens → (cutting octets).tokens ≡ tokens
+tokens_are octets tokens (inl cut) = ap (λ (c : Cutting). c.tokens) (reads_cut octets tokens cut)
+tokens_are octets tokens (inr broken) = ap (λ (c : Cutting). c.tokens) (reads_broken octets tokens broken.0 broken.1)
+
+ended_cutting_stays : (octets more : List ℕ) → (others : List Entry) × (ended_entries (cutting (octets ++ more)).tokens ≡ ended_entries (cutting octets).tokens ++ others)
+ended_cutting_stays octets more =
+    let stay = ended_stay octets more in
+    let lines = numbered_front 1 (cut_from zero (cutting octets).tokens).ended stay.0 in
+    (lines.0, ap (numbered 1) stay.1 ∙ lines.1)
+
+pub ended_entries_stay : (octets more : List ℕ) (tokens later : List Token) → AreTokens octets tokens → AreTokens (octets ++ more) later → (others : List Entry) × (ended_entries later ≡ ended_entries tokens ++ others)
+ended_entries_stay octets more tokens later before after =
+    let stay = ended_cutting_stays octets more in
+    (stay.0, ap ended_entries (sym (tokens_are (octets ++ more) later after)) ∙ stay.1 ∙ ap (λ t. ended_entries t ++ stay.0) (tokens_are octets tokens before))
+
+pub ended_entries_first : (tokens : List Token) → (others : List Entry) × (entries_of tokens ≡ ended_entries tokens ++ others)
+ended_entries_first tokens = by (cut_from zero tokens).ended (cut_from zero tokens).open_tokens
+  where
+    by : (ended : List (List Token)) (open_tokens : List Token) → (others : List Entry) × (numbered 1 (and_last ended open_tokens) ≡ numbered 1 ended ++ others)
+    by ended [] = ([], sym (append-nil (numbered 1 ended)))
+    by ended (p ∷ open_tokens) = numbered_front 1 ended ((p ∷ open_tokens) ∷ [])
 
 -- ---- readings of entries one after the other
 
 abbrev pub line_feeds : List ℕ → ℕ
 line_feeds octets = count_by (λ c. c == 10) octets
-
-more_records : (p : Placed) (placed rest more : List Placed) → placed ≡ p ∷ rest → placed ++ more ≡ p ∷ (rest ++ more)
-more_records p placed rest more e = ap (λ t. t ++ more) e
 
 none_is_some : {A : Type 0} (x : A) → None ≡ Some x → ⊥
 none_is_some x e = cc
@@ -41,28 +91,29 @@ turned entry entries before =
     ap (λ t. t ++ before) (reverse-append (entry ∷ []) entries) ∙ append_assoc (reverse entries) (entry ∷ []) before
 
 -- entries of which none is refused, and others after them
-pub reads_then : (origin : List (List ℕ)) (after : Ending) (before entries more : List Entry) (placed others : List Placed) (ending : Ending) → ReadEach origin None before entries placed None → ReadEach origin after (reverse entries ++ before) more others ending → ReadEach origin after before (entries ++ more) (placed ++ others) ending
-reads_then origin after before [] more placed others ending read next =
-    subst (λ t. ReadEach origin after before more t ending) (ap (λ t. t ++ others) (sym read.0)) next
-reads_then origin after before (entry ∷ entries) more placed others ending (stated (states_none n read)) next =
-    stated (states_none n (reads_then origin after (entry ∷ before) entries more placed others ending read (subst (λ t. ReadEach origin after t more others ending) (turned entry entries before) next)))
-reads_then origin after before (entry ∷ entries) more placed others ending (stated (states_one p rest states place e read)) next =
-    stated (states_one p (rest ++ others) states place (more_records p placed rest others e) (reads_then origin after (entry ∷ before) entries more rest others ending read (subst (λ t. ReadEach origin after t more others ending) (turned entry entries before) next)))
-reads_then origin after before (entry ∷ entries) more placed others ending (refused fault h e f) next = absurd (none_is_some (fault, Line entry.line) f)
+module _ (origin : List (List ℕ)) (after : Ending) where
+  pub reads_then : (before entries more : List Entry) (placed others : List Placed) (ending : Ending) → ReadEach origin None before entries placed None → ReadEach origin after (reverse entries ++ before) more others ending → ReadEach origin after before (entries ++ more) (placed ++ others) ending
+  reads_then before [] more placed others ending read next =
+      subst (λ t. ReadEach origin after before more t ending) (ap (λ t. t ++ others) (sym read.0)) next
+  reads_then before (entry ∷ entries) more placed others ending (stated (states_none n read)) next =
+      stated (states_none n (reads_then (entry ∷ before) entries more placed others ending read (subst (λ t. ReadEach origin after t more others ending) (turned entry entries before) next)))
+  reads_then before (entry ∷ entries) more placed others ending (stated (states_one p rest states place e read)) next =
+      stated (states_one p (rest ++ others) states place (ap (λ t. t ++ others) e) (reads_then (entry ∷ before) entries more rest others ending read (subst (λ t. ReadEach origin after t more others ending) (turned entry entries before) next)))
+  reads_then before (entry ∷ entries) more placed others ending (refused fault h e f) next = absurd (none_is_some (fault, Line entry.line) f)
 
--- entries of which one is refused, whatever follows them
-pub refused_before : (origin : List (List ℕ)) (after : Ending) (before entries more : List Entry) (placed : List Placed) (found : Fault × Place) → ReadEach origin None before entries placed (Some found) → ReadEach origin after before (entries ++ more) placed (Some found)
-refused_before origin after before [] more placed found read = absurd (none_is_some found (sym read.1))
-refused_before origin after before (entry ∷ entries) more placed found (stated (states_none n read)) = stated (states_none n (refused_before origin after (entry ∷ before) entries more placed found read))
-refused_before origin after before (entry ∷ entries) more placed found (stated (states_one p rest states place e read)) = stated (states_one p rest states place e (refused_before origin after (entry ∷ before) entries more rest found read))
-refused_before origin after before (entry ∷ entries) more placed found (refused fault h e f) = refused fault h e f
+  -- entries of which one is refused, whatever follows them
+  pub refused_before : (before entries more : List Entry) (placed : List Placed) (found : Fault × Place) → ReadEach origin None before entries placed (Some found) → ReadEach origin after before (entries ++ more) placed (Some found)
+  refused_before before [] more placed found read = absurd (none_is_some found (sym read.1))
+  refused_before before (entry ∷ entries) more placed found (stated (states_none n read)) = stated (states_none n (refused_before (entry ∷ before) entries more placed found read))
+  refused_before before (entry ∷ entries) more placed found (stated (states_one p rest states place e read)) = stated (states_one p rest states place e (refused_before (entry ∷ before) entries more rest found read))
+  refused_before before (entry ∷ entries) more placed found (refused fault h e f) = refused fault h e f
 
--- the same entries, and what follows them
-pub reads_after : (origin : List (List ℕ)) (after : Ending) (before entries : List Entry) (placed : List Placed) → ReadEach origin None before entries placed None → ReadEach origin after before entries placed after
-reads_after origin after before [] placed read = (read.0, refl)
-reads_after origin after before (entry ∷ entries) placed (stated (states_none n read)) = stated (states_none n (reads_after origin after (entry ∷ before) entries placed read))
-reads_after origin after before (entry ∷ entries) placed (stated (states_one p rest states place e read)) = stated (states_one p rest states place e (reads_after origin after (entry ∷ before) entries rest read))
-reads_after origin after before (entry ∷ entries) placed (refused fault h e f) = absurd (none_is_some (fault, Line entry.line) f)
+  -- the same entries, and what follows them
+  pub reads_after : (before entries : List Entry) (placed : List Placed) → ReadEach origin None before entries placed None → ReadEach origin after before entries placed after
+  reads_after before [] placed read = (read.0, refl)
+  reads_after before (entry ∷ entries) placed (stated (states_none n read)) = stated (states_none n (reads_after (entry ∷ before) entries placed read))
+  reads_after before (entry ∷ entries) placed (stated (states_one p rest states place e read)) = stated (states_one p rest states place e (reads_after (entry ∷ before) entries rest read))
+  reads_after before (entry ∷ entries) placed (refused fault h e f) = absurd (none_is_some (fault, Line entry.line) f)
 
 -- ---- lines
 
@@ -88,39 +139,40 @@ split fed tokens unfinished are rest = record {
 }
 
 -- other octets after them
-longer : (fed more : List ℕ) (ended : List (List Token)) (unfinished : List ℕ) → IsSplit fed ended unfinished → fed ++ more ≡ text (joined ended) ++ (unfinished ++ more)
-longer fed more ended unfinished is = ap (λ t. t ++ more) is.whole ∙ append_assoc (text (joined ended)) unfinished more
+module _ (fed more : List ℕ) (ended : List (List Token)) (unfinished : List ℕ) where
+  longer : IsSplit fed ended unfinished → fed ++ more ≡ text (joined ended) ++ (unfinished ++ more)
+  longer is = ap (λ t. t ++ more) is.whole ∙ append_assoc (text (joined ended)) unfinished more
 
-pub whole_after : (fed more : List ℕ) (ended : List (List Token)) (unfinished : List ℕ) → IsSplit fed ended unfinished → fed ++ more ≡ flat_map text ended ++ (unfinished ++ more)
-whole_after fed more ended unfinished is = longer fed more ended unfinished is ∙ ap (λ t. t ++ (unfinished ++ more)) (sym (text_of_entries ended))
+  pub whole_after : IsSplit fed ended unfinished → fed ++ more ≡ flat_map text ended ++ (unfinished ++ more)
+  whole_after is = longer is ∙ ap (λ t. t ++ (unfinished ++ more)) (sym (text_of_entries ended))
 
-pub cut_more : (fed more : List ℕ) (ended : List (List Token)) (unfinished : List ℕ) (tokens : List Token) → IsSplit fed ended unfinished → Cuts (unfinished ++ more) tokens → Cuts (fed ++ more) (joined ended ++ tokens)
-cut_more fed more ended unfinished tokens is cut =
-    subst (λ t. Cuts t (joined ended ++ tokens)) (sym (longer fed more ended unfinished is)) (cut_joined (text (joined ended)) (unfinished ++ more) (joined ended) tokens is.front is.stays.ends cut)
+  pub cut_more : (tokens : List Token) → IsSplit fed ended unfinished → Cuts (unfinished ++ more) tokens → Cuts (fed ++ more) (joined ended ++ tokens)
+  cut_more tokens is cut =
+      subst (λ t. Cuts t (joined ended ++ tokens)) (sym (longer is)) (cut_joined (text (joined ended)) (unfinished ++ more) (joined ended) tokens is.front is.stays.ends cut)
 
-pub break_more : (fed more : List ℕ) (ended : List (List Token)) (unfinished : List ℕ) (tokens : List Token) (fault : Fault) → IsSplit fed ended unfinished → Breaks (unfinished ++ more) tokens fault → Breaks (fed ++ more) (joined ended ++ tokens) fault
-break_more fed more ended unfinished tokens fault is breaks =
-    subst (λ t. Breaks t (joined ended ++ tokens) fault) (sym (longer fed more ended unfinished is)) (break_joined (text (joined ended)) (unfinished ++ more) (joined ended) tokens fault is.front is.stays.ends breaks)
+  pub break_more : (tokens : List Token) (fault : Fault) → IsSplit fed ended unfinished → Breaks (unfinished ++ more) tokens fault → Breaks (fed ++ more) (joined ended ++ tokens) fault
+  break_more tokens fault is breaks =
+      subst (λ t. Breaks t (joined ended ++ tokens) fault) (sym (longer is)) (break_joined (text (joined ended)) (unfinished ++ more) (joined ended) tokens fault is.front is.stays.ends breaks)
 
-pub tokens_more : (fed more : List ℕ) (ended : List (List Token)) (unfinished : List ℕ) (tokens : List Token) → IsSplit fed ended unfinished → AreTokens (unfinished ++ more) tokens → AreTokens (fed ++ more) (joined ended ++ tokens)
-tokens_more fed more ended unfinished tokens is (inl cut) = inl (cut_more fed more ended unfinished tokens is cut)
-tokens_more fed more ended unfinished tokens is (inr found) = inr (found.0, break_more fed more ended unfinished tokens found.0 is found.1)
+  pub tokens_more : (tokens : List Token) → IsSplit fed ended unfinished → AreTokens (unfinished ++ more) tokens → AreTokens (fed ++ more) (joined ended ++ tokens)
+  tokens_more tokens is (inl cut) = inl (cut_more tokens is cut)
+  tokens_more tokens is (inr found) = inr (found.0, break_more tokens found.0 is found.1)
 
--- what breaks the octets after the ended entries, as the octets so far show, breaks all
-after_tokens : (fed more : List ℕ) (ended : List (List Token)) (unfinished : List ℕ) (tokens : List Token) (rest : List ℕ) → IsSplit fed ended unfinished → unfinished ++ more ≡ text tokens ++ rest → fed ++ more ≡ text (joined ended ++ tokens) ++ rest
-after_tokens fed more ended unfinished tokens rest is e =
-    longer fed more ended unfinished is
-    ∙ ap (λ t. text (joined ended) ++ t) e
-    ∙ sym (append_assoc (text (joined ended)) (text tokens) rest)
-    ∙ ap (λ t. t ++ rest) (sym (flat_map-append token_text (joined ended) tokens))
+  -- what breaks the octets after the ended entries, as the octets so far show, breaks all
+  after_tokens : (tokens : List Token) (rest : List ℕ) → IsSplit fed ended unfinished → unfinished ++ more ≡ text tokens ++ rest → fed ++ more ≡ text (joined ended ++ tokens) ++ rest
+  after_tokens tokens rest is e =
+      longer is
+      ∙ ap (λ t. text (joined ended) ++ t) e
+      ∙ sym (append_assoc (text (joined ended)) (text tokens) rest)
+      ∙ ap (λ t. t ++ rest) (sym (flat_map-append token_text (joined ended) tokens))
 
-pub for_good_more : (fed more : List ℕ) (ended : List (List Token)) (unfinished : List ℕ) (tokens : List Token) (fault : Fault) → IsSplit fed ended unfinished → BreaksForGood (unfinished ++ more) tokens fault → BreaksForGood (fed ++ more) (joined ended ++ tokens) fault
-for_good_more fed more ended unfinished tokens fault is good =
-    stays_for_good (fed ++ more) (joined ended ++ tokens) fault
-    (break_more fed more ended unfinished tokens fault is good.breaks)
-    good.breaks.rest
-    (after_tokens fed more ended unfinished tokens good.breaks.rest is good.breaks.whole)
-    good.stays
+  pub for_good_more : (tokens : List Token) (fault : Fault) → IsSplit fed ended unfinished → BreaksForGood (unfinished ++ more) tokens fault → BreaksForGood (fed ++ more) (joined ended ++ tokens) fault
+  for_good_more tokens fault is good =
+      stays_for_good (fed ++ more) (joined ended ++ tokens) fault
+      (break_more tokens fault is good.breaks)
+      good.breaks.rest
+      (after_tokens tokens good.breaks.rest is good.breaks.whole)
+      good.stays
 
 -- and where nothing does yet, nothing does
 pub none_cut : (octets : List ℕ) (tokens : List Token) → Cuts octets tokens → (fault : Fault) → BreaksForGood octets tokens fault → ⊥

@@ -22,54 +22,55 @@ use Rattle.zone_text.proofs.Inheriting.{has_no_ttl, has_ttl, next_minimum, recor
 
 -- ---- the owner
 
-owned_entry : (origin : Labels) (before : List Entry) (entry : Entry) (d : ParserState) (held : Option Labels) (name : Labels) (owner : RawItem) (items : List RawItem) → statement_of entry ≡ owned owner items → IsStateAfter origin before (with_owner held d) → IsOwner origin before (owned owner items) name → IsRecordEntry origin before entry d name items
-owned_entry origin before entry d held name owner items form so_far owns = record {
-  held = held;
-  state = so_far;
-  owner = subst (λ f. IsOwner origin before f name) (sym form) owns;
-  parts = ap parts_in form;
-}
+module _ (origin : Labels) (before : List Entry) (entry : Entry) where
+  owned_entry : (d : ParserState) (held : Option Labels) (name : Labels) (owner : RawItem) (items : List RawItem) → statement_of entry ≡ owned owner items → IsStateAfter origin before (with_owner held d) → IsOwner origin before (owned owner items) name → IsRecordEntry origin before entry d name items
+  owned_entry d held name owner items form so_far owns = record {
+    held = held;
+    state = so_far;
+    owner = subst (λ f. IsOwner origin before f name) (sym form) owns;
+    parts = ap parts_in form;
+  }
 
-owner_now : (origin : Labels) (before : List Entry) (entry : Entry) (name : Labels) (owner : RawItem) (items : List RawItem) → owner_text (statement_of entry) ≡ owner_text (owned owner items) → IsOwner origin before (owned owner items) name → IsLastOwner origin (entry ∷ before) name
-owner_now origin before entry name (bare text) items e owns = rw e owns
-owner_now origin before entry name (quoted text) items e owns = absurd owns
+  owner_now : (name : Labels) (owner : RawItem) (items : List RawItem) → owner_text (statement_of entry) ≡ owner_text (owned owner items) → IsOwner origin before (owned owner items) name → IsLastOwner origin (entry ∷ before) name
+  owner_now name (bare text) items e owns = rw e owns
+  owner_now name (quoted text) items e owns = absurd owns
 
-owner_stated : (origin : Labels) (before : List Entry) (entry : Entry) (name : Labels) (owner : RawItem) (items : List RawItem) → statement_of entry ≡ owned owner items → IsOwner origin before (owned owner items) name → IsLastOwner origin (entry ∷ before) name
-owner_stated origin before entry name owner items form owns = owner_now origin before entry name owner items (ap owner_text form) owns
+  owner_stated : (name : Labels) (owner : RawItem) (items : List RawItem) → statement_of entry ≡ owned owner items → IsOwner origin before (owned owner items) name → IsLastOwner origin (entry ∷ before) name
+  owner_stated name owner items form owns = owner_now name owner items (ap owner_text form) owns
 
--- an entry states the owner that became the last one
-pub has_stated_owner : (origin : Labels) (before : List Entry) (entry : Entry) (d : ParserState) (name : Labels) (owner : RawItem) (items : List RawItem) → statement_of entry ≡ owned owner items → IsStateAfter origin before d → IsOwner origin before (owned owner items) name → HasOwnerOrNone origin before entry (with_owner (Some name) d) items
-has_stated_owner origin before entry d name owner items form so_far owns = (
-  owned_entry origin before entry (with_owner (Some name) d) d.owner name owner items form so_far owns,
-  owner_stated origin before entry name owner items form owns,
-)
+  -- an entry states the owner that became the last one
+  pub has_stated_owner : (d : ParserState) (name : Labels) (owner : RawItem) (items : List RawItem) → statement_of entry ≡ owned owner items → IsStateAfter origin before d → IsOwner origin before (owned owner items) name → HasOwnerOrNone origin before entry (with_owner (Some name) d) items
+  has_stated_owner d name owner items form so_far owns = (
+    owned_entry (with_owner (Some name) d) d.owner name owner items form so_far owns,
+    owner_stated name owner items form owns,
+  )
 
-pub no_owner : (origin : Labels) (before : List Entry) (entry : Entry) (d : ParserState) (items : List RawItem) → HasOwnerOrNone origin before entry d items → d.owner ≡ None → EntryFault origin before entry NoOwner
-no_owner origin before entry d items has e = subst (λ o. MatchOption o (EntryFault origin before entry NoOwner) (λ name. IsRecordEntry origin before entry d name items × IsLastOwner origin (entry ∷ before) name)) e has
+  pub no_owner : (d : ParserState) (items : List RawItem) → HasOwnerOrNone origin before entry d items → d.owner ≡ None → EntryFault origin before entry NoOwner
+  no_owner d items has e = subst (λ o. MatchOption o (EntryFault origin before entry NoOwner) (λ name. IsRecordEntry origin before entry d name items × IsLastOwner origin (entry ∷ before) name)) e has
 
-pub one_owner : (origin : Labels) (before : List Entry) (entry : Entry) (d : ParserState) (items : List RawItem) (name : Labels) → HasOwnerOrNone origin before entry d items → d.owner ≡ Some name → IsRecordEntry origin before entry d name items × IsLastOwner origin (entry ∷ before) name
-one_owner origin before entry d items name has e = subst (λ o. MatchOption o (EntryFault origin before entry NoOwner) (λ own. IsRecordEntry origin before entry d own items × IsLastOwner origin (entry ∷ before) own)) e has
+  pub one_owner : (d : ParserState) (items : List RawItem) (name : Labels) → HasOwnerOrNone origin before entry d items → d.owner ≡ Some name → IsRecordEntry origin before entry d name items × IsLastOwner origin (entry ∷ before) name
+  one_owner d items name has e = subst (λ o. MatchOption o (EntryFault origin before entry NoOwner) (λ own. IsRecordEntry origin before entry d own items × IsLastOwner origin (entry ∷ before) own)) e has
 
--- ---- data and TTL
+  -- ---- data and TTL
 
-pub rdata_refused : (origin : Labels) (before : List Entry) (entry : Entry) (d : ParserState) (name : Labels) (items : List RawItem) (head : Head) (fault : Fault) → IsRecordEntry origin before entry d name items → HasHead origin before entry head → IsDataFault d.origin head.class head.kind head.items fault → EntryFault origin before entry fault
-rdata_refused origin before entry d name items head fault is has bad = of_rdata head d.origin has is.state.under bad
+  pub rdata_refused : (d : ParserState) (name : Labels) (items : List RawItem) (head : Head) (fault : Fault) → IsRecordEntry origin before entry d name items → HasHead origin before entry head → IsDataFault d.origin head.class head.kind head.items fault → EntryFault origin before entry fault
+  rdata_refused d name items head fault is has bad = of_rdata head d.origin has is.state.under bad
 
-pub read_to : (origin : Labels) (before : List Entry) (entry : Entry) (d : ParserState) (name : Labels) (items : List RawItem) (head : Head) (own : Option ℕ) (rdata : Data) (a stated soa last result found : Option ℕ) → IsRecordEntry origin before entry d name items → HasHead origin before entry head × IsTtlOrNone (ttl_text (statement_of entry)) own → rdata.class ≡ head.class → rdata.kind ≡ head.kind → States d.origin head.class head.kind head.items rdata.octets → a ≡ option_or own d.default_ttl → stated ≡ option_or a d.last_ttl → soa ≡ minimum rdata → last ≡ option_or soa d.minimum → result ≡ option_or stated last → result ≡ found → IsReadTo origin before entry d head own rdata last found
-read_to origin before entry d name items head own rdata a stated soa last result found is has class kind states first second of_soa least third is_found = record {
-  held = is.held;
-  state = is.state;
-  has = has.0;
-  own_ttl = has.1;
-  class = class;
-  kind = kind;
-  states = states;
-  least = least ∙ ap (λ (o : Option ℕ). option_or o d.minimum) of_soa;
-  ttl = sym is_found ∙ (third ∙ ap (λ (o : Option ℕ). option_or o last) (second ∙ ap (λ (o : Option ℕ). option_or o d.last_ttl) first));
-}
+  pub read_to : (d : ParserState) (name : Labels) (items : List RawItem) (head : Head) (own : Option ℕ) (rdata : Data) (a stated soa last result found : Option ℕ) → IsRecordEntry origin before entry d name items → HasHead origin before entry head × IsTtlOrNone (ttl_text (statement_of entry)) own → rdata.class ≡ head.class → rdata.kind ≡ head.kind → States d.origin head.class head.kind head.items rdata.octets → a ≡ option_or own d.default_ttl → stated ≡ option_or a d.last_ttl → soa ≡ minimum rdata → last ≡ option_or soa d.minimum → result ≡ option_or stated last → result ≡ found → IsReadTo origin before entry d head own rdata last found
+  read_to d name items head own rdata a stated soa last result found is has class kind states first second of_soa least third is_found = record {
+    held = is.held;
+    state = is.state;
+    has = has.0;
+    own_ttl = has.1;
+    class = class;
+    kind = kind;
+    states = states;
+    least = least ∙ ap (λ (o : Option ℕ). option_or o d.minimum) of_soa;
+    ttl = sym is_found ∙ (third ∙ ap (λ (o : Option ℕ). option_or o last) (second ∙ ap (λ (o : Option ℕ). option_or o d.last_ttl) first));
+  }
 
-states_data : (origin : Labels) (before : List Entry) (entry : Entry) (d : ParserState) (head : Head) (own : Option ℕ) (rdata : Data) (last found : Option ℕ) → IsReadTo origin before entry d head own rdata last found → StatesData origin before head rdata.octets
-states_data origin before entry d head own rdata last found is = record { above = d.origin; under = is.state.under; states = is.states }
+  states_data : (d : ParserState) (head : Head) (own : Option ℕ) (rdata : Data) (last found : Option ℕ) → IsReadTo origin before entry d head own rdata last found → StatesData origin before head rdata.octets
+  states_data d head own rdata last found is = record { above = d.origin; under = is.state.under; states = is.states }
 
 same_data : (d : Data) (class kind : ℕ) → d.class ≡ class → d.kind ≡ kind → d ≡ record { class = class; kind = kind; octets = d.octets }
 same_data d class kind a b = rw (a, b) refl

@@ -23,8 +23,9 @@ use Rattle.zone_text.specs.Lasting.{IsLostEscape, at_line_end, one_digit, two_di
 use Rattle.zone_text.specs.Machine.Cutting.{depth_past}
 use Rattle.zone_text.specs.Machine.Scan.{on, fed_line, closed, open_step, quoted_step, comment_step, ends_number, escape_step, step_in, step_of, scan_on, scan_of, unclosed, end_fault_of}
 use Rattle.zone_text.specs.Machine.Scan as machine
-use Rattle.zone_text.proofs.Escapes.{malformed_is_bad}
-use Rattle.zone_text.proofs.Fronts.{Takes, first_octet_is}
+use Rattle.zone_text.proofs.Cuttings.{after_bare}
+use Rattle.zone_text.proofs.ForGood.{malformed_is_bad}
+use Rattle.zone_text.proofs.Fronts.{Begins, Takes, begins, first_octet_is}
 use Rattle.zone_text.proofs.Lasting.{begins_backslash}
 
 -- ---- tokens and what is open after them
@@ -59,24 +60,6 @@ pub data Reads (step : Step) : ℕ → List ℕ → Type 0 where
   then_more : (depth : ℕ) (octets : List ℕ) (p : Token) (rest : List ℕ) → Takes depth octets p rest → EndsNone depth p → Reads step (depth_past depth p) rest → Reads step depth octets
 
 -- ---- first octets
-
--- an octet that begins the token
-abbrev Begins : ℕ → Token → Type 0
-Begins c (blank d) = is_blank c ≡ true
-Begins c line_feed = c ≡ 10
-Begins c opening = c ≡ 40
-Begins c closing = c ≡ 41
-Begins c (comment octets) = c ≡ 59
-Begins c (bare units) = ends_item c ≡ false
-Begins c (quoted units) = c ≡ 34
-
-begins : (c : ℕ) (octets : List ℕ) (p : Token) (rest : List ℕ) → IsToken p → c ∷ octets ≡ token_text p ++ rest → Begins c p
-begins c octets (blank d) rest is e = let same : c ≡ d = cc in ap is_blank same ∙ is
-begins c octets (bare []) rest is e = absurd (omega (arith, is.0))
-begins c octets (bare (plain d ∷ units)) rest is e = let same : c ≡ d = cc in ap ends_item same ∙ is.1.0.0
-begins c octets (bare (escaped d ∷ units)) rest is e = let same : c ≡ 92 = cc in ap ends_item same
-begins c octets (bare (decimal x y z ∷ units)) rest is e = let same : c ≡ 92 = cc in ap ends_item same
-begins c octets p rest is e = cc
 
 escape_begins : (step : Step) (octets : List ℕ) → EscapeAt step octets → (more : List ℕ) × (octets ≡ 92 ∷ more)
 escape_begins (On at) octets open_escape = cut_begins open_escape.1
@@ -188,12 +171,7 @@ module _ (step : Step) (depth : ℕ) (w : Written) (is : IsUnit ends_item w) (oc
     stop = front.stop;
     room = tt;
   }) tt more
-  bare_more rest (blank d) front none more = bare_alone (at_octet d rest front.whole (rw front.token refl)) (then_more depth octets (blank d) rest front none more)
-  bare_more rest line_feed front none more = bare_alone (at_octet 10 rest front.whole refl) (then_more depth octets line_feed rest front none more)
-  bare_more rest opening front none more = bare_alone (at_octet 40 rest front.whole refl) (then_more depth octets opening rest front none more)
-  bare_more rest closing front none more = bare_alone (at_octet 41 rest front.whole refl) (then_more depth octets closing rest front none more)
-  bare_more rest (comment others) front none more = bare_alone (at_octet 59 (others ++ rest) front.whole refl) (then_more depth octets (comment others) rest front none more)
-  bare_more rest (quoted units) front none more = bare_alone (at_octet 34 ((written_text units ++ 34 ∷ []) ++ rest) front.whole refl) (then_more depth octets (quoted units) rest front none more)
+  bare_more rest p front none more = bare_alone (subst (NoUnit ends_item) (sym front.whole) (after_bare [] p rest front.token tt)) (then_more depth octets p rest front none more)
 
   push_bare : Reads step depth octets → Reads step depth (text_of w ++ octets)
   push_bare (ends depth octets s d f) = bare_alone (at_octet 10 [] f refl) (ends depth octets s d f)

@@ -24,12 +24,9 @@ stays_open depth c e =
     let p1 = or_parts (c == 10) (c == 34) p2.0 in
     rw (p1.0, p1.1, p2.1, p3.1, p4.1, p5.1) refl
 
-stays_quoted : (depth c : ℕ) → moves Quoted c ≡ false → quoted_step depth c ≡ on Quoted depth
-stays_quoted depth c e = let p = or_parts (c == 34) (c == 92) e in rw (p.0, p.1) refl
-
 stays_in : (mode : Mode) (depth c : ℕ) → moves mode c ≡ false → step_in mode depth c ≡ on mode depth
 stays_in Open depth c e = stays_open depth c e
-stays_in Quoted depth c e = stays_quoted depth c e
+stays_in Quoted depth c e = let p = or_parts (c == 34) (c == 92) e in rw (p.0, p.1) refl
 stays_in Comment depth c e = rw e refl
 stays_in mode depth c e = absurd (both_ways _ e refl)
 

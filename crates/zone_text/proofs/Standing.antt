@@ -14,7 +14,7 @@ use Rattle.zone_text.specs.TextSource.{FileKept, StandsForFile}
 use Rattle.zone_text.specs.FileReads.{FileReads}
 use Rattle.zone_rdata.specs.declared.rr_source.Reading.{Reading}
 use Rattle.zone_text.proofs.Followed.{Reads}
-use Rattle.zone_text.proofs.PartTaken.{FollowsOn}
+use Rattle.zone_text.proofs.FedPieces.{FollowsOn}
 
 pub stands_begun : (origin : Labels) (ended : EndedEntries) (unfinished : List ℕ) → Follow origin ended unfinished [] [] → StandsForFile origin (state_of Open 0 ended unfinished) [] []
 stands_begun origin ended unfinished follow = record {
@@ -23,7 +23,7 @@ stands_begun origin ended unfinished follow = record {
   count = refl;
   decided = λ _. follow.decided;
   leave = λ _. follow.leave;
-  read = λ e. absurd (let t : ⊥ = cc in t);
+  read = λ e. absurd cc;
 }
 
 follow_of : (origin : Labels) (status : FedStatus) (n : ℕ) (ended : EndedEntries) (unfinished fed : List ℕ) (given : List Placed) → is_finished status ≡ false → StandsForFile origin (state_of status n ended unfinished) fed given → Follow origin ended unfinished fed given
@@ -51,8 +51,8 @@ stands_finished origin status n old new unfinished left fed given going reads st
   works = refl;
   octets = stands.octets;
   count = stands.count;
-  decided = λ e. absurd (let t : ⊥ = cc in t);
-  leave = λ e. absurd (let t : ⊥ = cc in t);
+  decided = λ e. absurd cc;
+  leave = λ e. absurd cc;
   read = λ _. reads origin fed given (follow_of origin status n old unfinished fed given going stands);
 }
 

@@ -4,7 +4,7 @@ use Rattle.std.proofs.lemmas.List.Sums.{sum_by-cons}
 use Rattle.zone_text.proofs.ended.line_feeds.Goals as goal
 
 one_more : (b others : Bool) (n : ℕ) → (b || others) ≡ false → (others ≡ false → 1 ≡ n) → 1 ≡ cond b 1 0 + n
-one_more true others n none one = absurd (cc)
+one_more true others n none one = absurd cc
 one_more false others n none one = one none ∙ sym (zero-add n)
 
 one_line : (front : List ℕ) → list_any (λ y. nat_eq y 10) front ≡ false → 1 ≡ count_by (λ c. c == 10) (front ++ 10 ∷ [])

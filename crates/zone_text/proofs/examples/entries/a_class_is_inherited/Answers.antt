@@ -5,7 +5,7 @@ use Rattle.zone_text.specs.ExampleEntries.{x}
 use Rattle.zone_text.specs.FileReads.{whole, stated}
 use Rattle.zone_text.specs.File.{states_one}
 use Rattle.zone_text.proofs.Cuttings.{cut_is_read}
-use Rattle.zone_text.proofs.ExampleFacts.{x_name, at_spells, sixty, ch_class, is_ch, states_ns}
+use Rattle.zone_text.proofs.ExampleRecords.{x_name, at_spells, sixty, ch_class, is_ch, states_ns}
 use Rattle.zone_text.proofs.examples.entries.a_class_is_inherited.Goals as goal
 
 pub returns : goal.returns

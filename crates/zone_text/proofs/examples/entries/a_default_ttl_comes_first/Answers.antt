@@ -5,7 +5,7 @@ use Rattle.zone_text.specs.ExampleEntries.{x}
 use Rattle.zone_text.specs.FileReads.{whole, stated}
 use Rattle.zone_text.specs.File.{states_none, states_one}
 use Rattle.zone_text.proofs.Cuttings.{cut_is_read}
-use Rattle.zone_text.proofs.ExampleFacts.{x_name, at_spells, sixty, three_hundred, in_class, states_ns}
+use Rattle.zone_text.proofs.ExampleRecords.{x_name, at_spells, sixty, three_hundred, in_class, states_ns}
 use Rattle.zone_text.proofs.examples.entries.a_default_ttl_comes_first.Goals as goal
 
 pub returns : goal.returns

@@ -5,8 +5,7 @@ use Rattle.zone_text.specs.ExampleEntries.{x}
 use Rattle.zone_text.specs.FileReads.{whole, stated}
 use Rattle.zone_text.specs.File.{states_none, states_one}
 use Rattle.zone_text.proofs.Cuttings.{cut_is_read}
-use Rattle.zone_text.proofs.ExampleFacts.{x_name, at_spells, sixty, three_hundred}
-use Rattle.zone_text.proofs.ExampleRecords.{states_soa, states_ns_below}
+use Rattle.zone_text.proofs.ExampleRecords.{x_name, at_spells, sixty, three_hundred, states_soa, states_ns_below}
 use Rattle.zone_text.proofs.examples.entries.a_stated_ttl_comes_before_the_minimum.Goals as goal
 
 pub returns : goal.returns

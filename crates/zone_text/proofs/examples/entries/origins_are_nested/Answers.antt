@@ -5,7 +5,7 @@ use Rattle.zone_text.specs.ExampleEntries.{x, under}
 use Rattle.zone_text.specs.FileReads.{whole, stated}
 use Rattle.zone_text.specs.File.{states_none, states_one}
 use Rattle.zone_text.proofs.Cuttings.{cut_is_read}
-use Rattle.zone_text.proofs.ExampleFacts.{bax_name, at_spells, a_spells, b_spells, sixty, in_class, states_ns}
+use Rattle.zone_text.proofs.ExampleRecords.{bax_name, at_spells, a_spells, b_spells, sixty, in_class, states_ns}
 use Rattle.zone_text.proofs.examples.entries.origins_are_nested.Goals as goal
 
 pub returns : goal.returns

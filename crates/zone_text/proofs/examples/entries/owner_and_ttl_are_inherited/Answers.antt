@@ -5,7 +5,7 @@ use Rattle.zone_text.specs.ExampleEntries.{x}
 use Rattle.zone_text.specs.FileReads.{whole, stated}
 use Rattle.zone_text.specs.File.{states_one}
 use Rattle.zone_text.proofs.Cuttings.{cut_is_read}
-use Rattle.zone_text.proofs.ExampleFacts.{x_name, at_spells, sixty, in_class, states_ns}
+use Rattle.zone_text.proofs.ExampleRecords.{x_name, at_spells, sixty, in_class, states_ns}
 use Rattle.zone_text.proofs.examples.entries.owner_and_ttl_are_inherited.Goals as goal
 
 pub returns : goal.returns

@@ -5,8 +5,7 @@ use Rattle.zone_text.specs.ExampleEntries.{x}
 use Rattle.zone_text.specs.FileReads.{whole, stated}
 use Rattle.zone_text.specs.File.{states_one}
 use Rattle.zone_text.proofs.Cuttings.{cut_is_read}
-use Rattle.zone_text.proofs.ExampleFacts.{x_name, at_spells, ns_has_no_minimum}
-use Rattle.zone_text.proofs.ExampleRecords.{five, states_soa, states_ns_below, states_minimum, minimum_five}
+use Rattle.zone_text.proofs.ExampleRecords.{x_name, at_spells, ns_has_no_minimum, five, states_soa, states_ns_below, states_minimum, minimum_five}
 use Rattle.zone_text.proofs.examples.entries.the_minimum_is_the_last_choice.Goals as goal
 
 pub returns : goal.returns

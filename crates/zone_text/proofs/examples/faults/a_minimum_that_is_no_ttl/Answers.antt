@@ -5,8 +5,7 @@ use Rattle.zone_text.specs.ExampleEntries.{x}
 use Rattle.zone_text.specs.EntryFault.{of_ttl, long}
 use Rattle.zone_text.specs.FileReads.{whole, refused}
 use Rattle.zone_text.proofs.Cuttings.{cut_is_read}
-use Rattle.zone_text.proofs.ExampleFacts.{x_name, at_spells, long_time}
-use Rattle.zone_text.proofs.ExampleRecords.{states_minimum, minimum_too_long}
+use Rattle.zone_text.proofs.ExampleRecords.{x_name, at_spells, long_time, states_minimum, minimum_too_long}
 use Rattle.zone_text.proofs.examples.faults.a_minimum_that_is_no_ttl.Goals as goal
 
 pub returns : goal.returns

@@ -5,7 +5,7 @@ use Rattle.zone_text.specs.ExampleEntries.{x}
 use Rattle.zone_text.specs.EntryFault.{of_ttl, none}
 use Rattle.zone_text.specs.FileReads.{whole, refused}
 use Rattle.zone_text.proofs.Cuttings.{cut_is_read}
-use Rattle.zone_text.proofs.ExampleFacts.{x_name, at_spells, is_ns, ns_kind, ns_states, ns_has_no_minimum}
+use Rattle.zone_text.proofs.ExampleRecords.{x_name, at_spells, is_ns, ns_kind, ns_states, ns_has_no_minimum}
 use Rattle.zone_rdata.specs.Spelling.{bare}
 use Rattle.zone_text.proofs.examples.faults.a_record_without_a_ttl.Goals as goal
 

@@ -7,7 +7,7 @@ use Rattle.zone_text.specs.File.{states_one}
 use Rattle.zone_text.specs.FileReads.{stated}
 use Rattle.zone_text.specs.Lasting.{two_digits, after_two_digits, closing_stays, escape_stays, escape_open}
 use Rattle.zone_text.proofs.Cuttings.{broken_is_read}
-use Rattle.zone_text.proofs.ExampleFacts.{x_name, at_spells, sixty, in_class, states_ns}
+use Rattle.zone_text.proofs.ExampleRecords.{x_name, at_spells, sixty, in_class, states_ns}
 use Rattle.zone_text.proofs.ForGood.{stays_for_good, ends_not_for_good}
 use Rattle.zone_text.proofs.examples.faults.decided_breaks.Goals as goal
 

@@ -6,7 +6,7 @@ use Rattle.zone_text.specs.EntryFault.{of_directive}
 use Rattle.zone_text.specs.File.{states_one}
 use Rattle.zone_text.specs.FileReads.{stated, refused}
 use Rattle.zone_text.proofs.Cuttings.{cut_is_read}
-use Rattle.zone_text.proofs.ExampleFacts.{x_name, at_spells, sixty, in_class, states_ns}
+use Rattle.zone_text.proofs.ExampleRecords.{x_name, at_spells, sixty, in_class, states_ns}
 use Rattle.zone_text.specs.Decided.{undecided}
 use Rattle.zone_text.proofs.Cuttings.{cut_not_broken}
 use Rattle.zone_text.proofs.examples.faults.decided_entries.Goals as goal

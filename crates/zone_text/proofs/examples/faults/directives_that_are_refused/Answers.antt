@@ -6,7 +6,7 @@ use Rattle.zone_text.specs.EntryFault.{of_directive}
 use Rattle.zone_text.specs.FileReads.{whole, stated, refused}
 use Rattle.zone_text.specs.File.{states_one}
 use Rattle.zone_text.proofs.Cuttings.{cut_is_read}
-use Rattle.zone_text.proofs.ExampleFacts.{x_name, at_spells, sixty, in_class, states_ns, too_long, no_digit, empty_label_between}
+use Rattle.zone_text.proofs.ExampleRecords.{x_name, at_spells, sixty, in_class, states_ns, too_long, no_digit, empty_label_between}
 use Rattle.zone_name.specs.declared.fault.NameFault.TheVariants.{EmptyLabel}
 use Rattle.zone_text.proofs.examples.faults.directives_that_are_refused.Goals as goal
 

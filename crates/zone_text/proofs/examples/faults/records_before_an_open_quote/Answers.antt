@@ -5,8 +5,7 @@ use Rattle.zone_text.specs.ExampleEntries.{x, under}
 use Rattle.zone_text.specs.FileReads.{broken, stated}
 use Rattle.zone_text.specs.File.{states_one}
 use Rattle.zone_text.proofs.Cuttings.{broken_is_read}
-use Rattle.zone_text.proofs.ExampleFacts.{x_name, ax_name, at_spells, a_spells, sixty}
-use Rattle.zone_text.proofs.ExampleRecords.{sixty_one, states_soa, states_address}
+use Rattle.zone_text.proofs.ExampleRecords.{x_name, ax_name, at_spells, a_spells, sixty, sixty_one, states_soa, states_address}
 use Rattle.zone_text.proofs.examples.faults.records_before_an_open_quote.Goals as goal
 
 pub returns : goal.returns

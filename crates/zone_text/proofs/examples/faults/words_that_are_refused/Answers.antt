@@ -5,7 +5,7 @@ use Rattle.zone_text.specs.ExampleEntries.{x}
 use Rattle.zone_text.specs.EntryFault.{of_words, of_kind}
 use Rattle.zone_text.specs.FileReads.{whole, refused}
 use Rattle.zone_text.proofs.Cuttings.{cut_is_read}
-use Rattle.zone_text.proofs.ExampleFacts.{x_name, at_spells, sixty, too_long, class_zero_word, type_65536, type_41}
+use Rattle.zone_text.proofs.ExampleRecords.{x_name, at_spells, sixty, too_long, class_zero_word, type_65536, type_41}
 use Rattle.zone_text.proofs.examples.faults.words_that_are_refused.Goals as goal
 
 pub returns : goal.returns
