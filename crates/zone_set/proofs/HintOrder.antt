@@ -135,13 +135,6 @@ module _ (base x y : List (List ℕ)) (px : IsName x) (py : IsName y) where
       by Greater Equal e f h = absurd (omega (arith, h, low y py))
       by Greater Greater e f h = absurd (omega (arith, h))
 
--- the order of records is total
-data_total : IsTotalOrder data_cmp
-data_total = then_total (on_total (λ d. d.class) nat_cmp_total) (then_total (on_total (λ d. d.kind) nat_cmp_total) (on_total (λ d. d.octets) nat_list_cmp_total))
-
-pub canonical_total : IsTotalOrder canonical_cmp
-canonical_total = then_total (on_total soa_rank nat_cmp_total) (then_total (on_total (λ r. r.owner) name_cmp-total) (on_total data_of data_total))
-
 -- the hint tells an SOA from all else, and other records by their owners
 by_hints : (b c : Bool) (m n : ℕ) (o p : Ordering) → (m < n → o ≡ Less) → (if b then 0 else m) < (if c then 0 else n) → ordering_then (nat_cmp (if b then 0 else 1) (if c then 0 else 1)) (ordering_then o p) ≡ Less
 by_hints true true m n o p owners h = absurd (omega (arith, h))

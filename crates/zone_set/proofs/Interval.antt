@@ -1,5 +1,5 @@
 -- In the order of names those at or below an apex stand together, and so do the records after an SOA.
-use Rattle.std.proofs.Common.{◌≡◌, ◌≢◌, ℕ, Option, Some, None, Bool, true, false, ◌==◌, if◌then◌else◌, List, [], ◌∷◌, ◌++◌, reverse, Ordering, Less, Equal, Greater, nat_cmp, refl, sym, ap, ◌∙◌, subst, inl, inr, ⊎_elim, append-nil, ne_eqb, eqb-true, eq-eqb}
+use Rattle.std.proofs.Common.{◌≡◌, ◌≢◌, ℕ, Option, Some, None, Bool, true, false, ◌==◌, if◌then◌else◌, List, [], ◌∷◌, ◌++◌, reverse, Ordering, Less, Equal, Greater, nat_cmp, refl, sym, ap, ◌∙◌, subst, inl, inr, ⊎_elim, ne_eqb, eqb-true, eq-eqb}
 use Rattle.std.proofs.lemmas.Cmp.{nat_list_cmp_total, tied_itself}
 use Rattle.std.proofs.lemmas.List.{reverse-reverse, reverse-append}
 use Rattle.std.proofs.lemmas.Map.Lookups.{exact_bytes}
@@ -10,8 +10,8 @@ use Rattle.std.specs.Ordering.{ordering_then, ordering_reverse}
 use Rattle.zone_name.specs.Name.{IsWithin}
 use Rattle.zone_name.specs.Order.{label_cmp, name_cmp}
 use Rattle.zone_rdata.specs.Record.{Record}
-use Rattle.zone_set.proofs.Between.{before_last, Has-append}
-use Rattle.zone_set.proofs.HintOrder.{canonical_total}
+use Rattle.zone_set.proofs.Between.{before_all, Has-append}
+use Rattle.zone_set.proofs.SetOrder.{canonical_total}
 use Rattle.zone_set.proofs.Together.{each_Has, each_from_Has, soa_before}
 use Rattle.zone_set.specs.Order.{canonical_cmp, Ascends}
 use Rattle.zone_rdata.specs.Lent.{record_of}
@@ -96,7 +96,7 @@ module _ (apex : List (List ℕ)) where
           let low : canonical_cmp l s ≡ Less = each_Has (λ t. canonical_cmp l t ≡ Less) rest s known.ascend.1.0 late in
           ⊎_elim
           (λ early.
-          let high : canonical_cmp s m ≡ Less = before_last front [] m s (subst Ascends (ends ∙ sym (append-nil (front ++ m ∷ []))) compatible.ascend) early in
+          let high : canonical_cmp s m ≡ Less = before_all front (m ∷ []) s m (subst Ascends ends compatible.ascend) early (inl refl) in
           between l s m (second_no_soa k l rest known) low high in_l in_m)
           (λ end. ⊎_elim (λ same. subst (λ t. IsWithin t.owner apex) (sym same) in_m) (λ none. absurd none) end)
           ((Has-append front (m ∷ []) s).0 (subst (λ rs. Has rs s) ends has))

@@ -1,12 +1,14 @@
 -- A record that is put among entries: where it is sought, what its neighbours tell, and what is held with it.
 use Rattle.std.proofs.Common.{◌≡◌, ◌≢◌, ℕ, Bool, true, false, List, [], ◌∷◌, ◌++◌, length, map, sym, ap, ◌∙◌, subst, arith}
 use Rattle.std.proofs.lemmas.List.Elements.{All-from_recursion, recursion_from_All}
+use Rattle.std.proofs.lemmas.List.{map-append}
 use Rattle.std.specs.List.{All, AllByRecursion}
+use Rattle.zone_name.proofs.Pushing.{AllByRecursion-back, AllByRecursion-front}
 use Rattle.std.specs.List.Sorted.{IsPartitionedBy}
 use Rattle.std.specs.Ordering.{is_lt}
 use Rattle.zone_rdata.specs.Record.{Record, IsRecord, data_of}
 use Rattle.zone_set.proofs.Adding.{class_of}
-use Rattle.zone_set.proofs.Between.{each_before, map-append, none_before, parted, Parts}
+use Rattle.zone_set.proofs.Between.{each_before, none_before, parted, Parts}
 use Rattle.zone_set.proofs.HintOrder.{hint_orders}
 use Rattle.zone_set.proofs.Storing.{all_with, each_kept, entry_appended, record_appended, records_kept}
 use Rattle.zone_set.specs.Machine.Held.{all_records, entry_record, HasOtherTtl, HoldsEntries, IsComparable, IsEntry, IsPut}
@@ -54,14 +56,10 @@ module _ (base : List (List ℕ)) (octets : List ℕ) (r : Record) where
       record {
         compatible = holds.compatible;
         classes = λ s has. class_of r.class octets es s has;
-        whole = ap (map f) (sym whole) ∙ map-append f r before after;
+        whole = ap (map f) (sym whole) ∙ map-append f before after;
         below = each_before f r before (recursion_from_All (λ e. goes_after e ≡ true) before (low in_order));
         above = none_before f r after (recursion_from_All (λ e. goes_after e ≡ false) after (high in_order));
       }
-
-  left : (before after : List Entry) → AllByRecursion (IsEntry base r.class octets) (before ++ after) → AllByRecursion (IsEntry base r.class octets) before × AllByRecursion (IsEntry base r.class octets) after
-  left [] after each = (tt, each)
-  left (e ∷ before) after each = let more = left before after each.1 in ((each.0, more.0), more.1)
 
   -- the entries and one that was put among them
   module _ (es before after fs : List Entry) (e : Entry) (now : List ℕ) (holds : HoldsEntries base r.class octets es) (parts : before ++ after ≡ es) (whole : IsRecord r) (at : e.at ≡ length octets) (appended : now ≡ octets ++ stored r) (put : fs ≡ before ++ e ∷ after) where
@@ -76,20 +74,19 @@ module _ (base : List (List ℕ)) (octets : List ℕ) (r : Record) where
 
     pub records_put : all_records r.class now fs ≡ map (entry_record r.class octets) before ++ r ∷ map (entry_record r.class octets) after
     records_put =
-        let both = left before after each_old in
         let f = entry_record r.class (octets ++ stored r) in
         ap (λ octs. all_records r.class octs fs) appended
         ∙ ap (map f) put
-        ∙ map-append f r before (e ∷ after)
-        ∙ ap (λ rs. rs ++ f e ∷ map f after) (records_kept r.class octets (stored r) base before both.0)
+        ∙ map-append f before (e ∷ after)
+        ∙ ap (λ rs. rs ++ f e ∷ map f after) (records_kept r.class octets (stored r) base before (AllByRecursion-front (IsEntry base r.class octets) before after each_old))
         ∙ ap (λ s. map (entry_record r.class octets) before ++ s ∷ map f after) (record_appended octets r whole e at)
-        ∙ ap (λ rs. map (entry_record r.class octets) before ++ r ∷ rs) (records_kept r.class octets (stored r) base after both.1)
+        ∙ ap (λ rs. map (entry_record r.class octets) before ++ r ∷ rs) (records_kept r.class octets (stored r) base after (AllByRecursion-back (IsEntry base r.class octets) before after each_old))
 
     pub was_put : Ascends (map (entry_record r.class octets) before ++ r ∷ map (entry_record r.class octets) after) → IsPut (all_records r.class octets es) r true (all_records r.class now fs)
     was_put ascend = (
       map (entry_record r.class octets) before,
       map (entry_record r.class octets) after,
-      ap (map (entry_record r.class octets)) (sym parts) ∙ map-append (entry_record r.class octets) r before after,
+      ap (map (entry_record r.class octets)) (sym parts) ∙ map-append (entry_record r.class octets) before after,
       records_put,
       subst Ascends (sym records_put) ascend,
     )

@@ -1,8 +1,7 @@
 -- What the sets of a zone hold: octets of records, and entries in canonical order that tell where
 -- each record stands in them.
-use Rattle.std.specs.Prelude.{◌≡◌, ◌≢◌, ℕ, ◌-◌, ◌^◌, ◌<◌, min, Bool, true, false, List, [], ◌∷◌, ◌++◌, map, Option, Some, None}
+use Rattle.std.specs.Prelude.{◌≡◌, ◌≢◌, ℕ, ◌-◌, ◌^◌, ◌<◌, min, Bool, true, false, List, [], ◌∷◌, ◌++◌, map}
 use Rattle.std.specs.List.{AllByRecursion}
-use Rattle.std.specs.Option.{IfSome}
 use Rattle.std.specs.declared.cmp.Ordering.TheVariants.{Less}
 use Rattle.zone_name.specs.Name.{IsWithin}
 use Rattle.zone_rdata.specs.Record.{Record, IsRecord}
@@ -19,11 +18,6 @@ entry_record class octets e = record_from class octets e.at
 
 abbrev pub all_records : ℕ → List ℕ → List Entry → List Record
 all_records class octets entries = map (entry_record class octets) entries
-
--- the class, and 0 where none is known yet
-abbrev pub class_or_none : Option ℕ → ℕ
-class_or_none None = 0
-class_or_none (Some class) = class
 
 -- octets of a record stand where the entry says
 pub record IsLinked (class : ℕ) (octets : List ℕ) (e : Entry) : Type 0 where
@@ -50,15 +44,11 @@ pub record HoldsEntries (base : List (List ℕ)) (class : ℕ) (octets : List �
   pub each : AllByRecursion (IsEntry base class octets) entries
   pub compatible : AreCompatible (all_records class octets entries)
 
--- such entries, of which there are none where no class is known, and some where one is; and the
--- octets that their records take in messages, as far as 64 bits count them
-pub record KeepsSets (class : Option ℕ) (base : List (List ℕ)) (octets : List ℕ)
-    (entries : List Entry) (counted : ℕ) : Type 0 where
-  pub holds : HoldsEntries base (class_or_none class) octets entries
-  pub none : class ≡ None → entries ≡ []
-  pub some : IfSome class (λ _. entries ≢ [])
-  pub counts : counted
-      ≡ min (message_octets (all_records (class_or_none class) octets entries)) (2 ^ 64 - 1)
+-- such entries, and the octets that their records take in messages, as far as 64 bits count them
+pub record KeepsSets (class : ℕ) (base : List (List ℕ)) (octets : List ℕ) (entries : List Entry)
+    (counted : ℕ) : Type 0 where
+  pub holds : HoldsEntries base class octets entries
+  pub counts : counted ≡ min (message_octets (all_records class octets entries)) (2 ^ 64 - 1)
 
 -- records of one set whose TTLs differ
 abbrev pub HasOtherTtl : Record → Record → Type 0
