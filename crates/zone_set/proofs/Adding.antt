@@ -9,7 +9,7 @@ use Rattle.zone_set.proofs.Between.{Has-with}
 use Rattle.zone_set.proofs.Inserting.{AreCompatible-with}
 use Rattle.zone_set.proofs.Together.{each_Has, stable_number}
 use Rattle.zone_rdata.specs.declared.record.Placed.{Placed}
-use Rattle.zone_set.specs.Builder.{OtherClass, OtherSoa, OtherTtl, Accepts, Adds, IsRefusedFor, StopsAdd, fault, memory, ttl as by_ttl}
+use Rattle.zone_set.specs.Builder.{OtherClass, OtherSoa, OtherTtl, Accepts, Adds, StopsAdd, fault, memory, ttl as by_ttl}
 use Rattle.zone_set.specs.Machine.Held.{all_records, entry_record, HoldsEntries, IsEntry, IsPut, KeepsSets}
 use Rattle.zone_set.specs.Message.{message_len, message_octets}
 use Rattle.zone_set.specs.Machine.Refusal.{IsRefusal, IsSetRefusal, stop_for}

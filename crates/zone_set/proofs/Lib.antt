@@ -1,7 +1,8 @@
 pub mod Numbers
 pub mod SetOrder
 pub mod LabelKey
-pub mod FirstOctets
+pub mod Digits
+pub mod Within
 pub mod HintOrder
 pub mod HintWalk
 pub mod Together

@@ -1,5 +1,5 @@
 -- A record that is put among entries: where it is sought, what its neighbours tell, and what is held with it.
-use Rattle.std.proofs.Common.{◌≡◌, ◌≢◌, ℕ, Bool, true, false, List, [], ◌∷◌, ◌++◌, length, map, sym, ap, ◌∙◌, subst, arith}
+use Rattle.std.proofs.Common.{◌≡◌, ◌≢◌, ℕ, Bool, true, false, List, [], ◌∷◌, ◌++◌, length, map, sym, ap, ◌∙◌, subst}
 use Rattle.std.proofs.lemmas.List.Elements.{All-from_recursion, recursion_from_All}
 use Rattle.std.proofs.lemmas.List.{map-append}
 use Rattle.std.specs.List.{All, AllByRecursion}
@@ -9,10 +9,10 @@ use Rattle.std.specs.Ordering.{is_lt}
 use Rattle.zone_rdata.specs.Record.{Record, IsRecord, data_of}
 use Rattle.zone_set.proofs.Adding.{class_of}
 use Rattle.zone_set.proofs.Between.{each_before, none_before, parted, Parts}
-use Rattle.zone_set.proofs.HintOrder.{hint_orders}
+use Rattle.zone_set.proofs.HintOrder.{hint_orders, one_hint}
 use Rattle.zone_set.proofs.Storing.{all_with, each_kept, entry_appended, record_appended, records_kept}
 use Rattle.zone_set.specs.Machine.Held.{all_records, entry_record, HasOtherTtl, HoldsEntries, IsComparable, IsEntry, IsPut}
-use Rattle.zone_set.specs.Machine.Hint.{hint}
+use Rattle.zone_set.specs.Machine.Hint.{IsHint}
 use Rattle.zone_set.specs.Machine.Stored.{stored}
 use Rattle.zone_set.specs.Order.{canonical_cmp, Ascends}
 use Rattle.zone_set.specs.Zone.{covered_octets}
@@ -27,22 +27,22 @@ module _ (octets : List ℕ) (h : ℕ) (r : Record) (e : Entry) (comparable : Is
   other_hint_other_record same = differ (comparable.one_set (record { owner = ap (λ s. s.owner) same; kind = ap (λ s. s.kind) same; covers = ap (λ s. covered_octets (data_of s)) same }))
 
 module _ (base : List (List ℕ)) (octets : List ℕ) (r : Record) where
-  comparable : (h : ℕ) → IsRecord r → h ≡ hint base r.owner r.kind → (e : Entry) → IsEntry base r.class octets e → IsComparable octets h r e
+  comparable : (h : ℕ) → IsRecord r → IsHint base r.owner r.kind h → (e : Entry) → IsEntry base r.class octets e → IsComparable octets h r e
   comparable h whole is e entry =
       let s = entry_record r.class octets e in
       record {
         linked = entry.linked;
-        before = λ lt. hint_orders base s r entry.linked.whole.owner whole.owner (omega (arith, lt, is, entry.hinted));
-        after = λ lt. hint_orders base r s whole.owner entry.linked.whole.owner (omega (arith, lt, is, entry.hinted));
-        one_set = λ one. entry.hinted ∙ (λ i. hint base (one.owner i) (one.kind i)) ∙ sym is;
+        before = λ lt. hint_orders base s r e.hint h entry.linked.whole.owner whole.owner entry.hinted is lt;
+        after = λ lt. hint_orders base r s h e.hint whole.owner entry.linked.whole.owner is entry.hinted lt;
+        one_set = λ one. one_hint base r.owner r.kind e.hint h whole.owner (rw (one.owner, one.kind) at entry.hinted) is;
       }
 
-  pub each_comparable : (h : ℕ) → IsRecord r → h ≡ hint base r.owner r.kind → (es : List Entry) → AllByRecursion (IsEntry base r.class octets) es → AllByRecursion (IsComparable octets h r) es
+  pub each_comparable : (h : ℕ) → IsRecord r → IsHint base r.owner r.kind h → (es : List Entry) → AllByRecursion (IsEntry base r.class octets) es → AllByRecursion (IsComparable octets h r) es
   each_comparable h whole is [] each = tt
   each_comparable h whole is (e ∷ es) each = (comparable h whole is e each.0, each_comparable h whole is es each.1)
 
   -- the record may be compared with those of the entries
-  pub all_comparable : (h : ℕ) → IsRecord r → h ≡ hint base r.owner r.kind → (es : List Entry) → AllByRecursion (IsEntry base r.class octets) es → All (IsComparable octets h r) es
+  pub all_comparable : (h : ℕ) → IsRecord r → IsHint base r.owner r.kind h → (es : List Entry) → AllByRecursion (IsEntry base r.class octets) es → All (IsComparable octets h r) es
   all_comparable h whole is es each = All-from_recursion (IsComparable octets h r) es (each_comparable h whole is es each)
 
   abbrev goes_after : Entry → Bool
@@ -66,7 +66,7 @@ module _ (base : List (List ℕ)) (octets : List ℕ) (r : Record) where
     each_old : AllByRecursion (IsEntry base r.class octets) (before ++ after)
     each_old = subst (AllByRecursion (IsEntry base r.class octets)) (sym parts) holds.each
 
-    pub each_put : e.hint ≡ hint base r.owner r.kind → AllByRecursion (IsEntry base r.class now) fs
+    pub each_put : IsHint base r.owner r.kind e.hint → AllByRecursion (IsEntry base r.class now) fs
     each_put hinted =
         subst (λ octs. AllByRecursion (IsEntry base r.class octs) fs) (sym appended)
         (subst (AllByRecursion (IsEntry base r.class (octets ++ stored r))) (sym put)

@@ -1,11 +1,11 @@
 -- What the sets of a zone hold: octets of records, and entries in canonical order that tell where
 -- each record stands in them.
-use Rattle.std.specs.Prelude.{◌≡◌, ◌≢◌, ℕ, ◌-◌, ◌^◌, ◌<◌, min, Bool, true, false, List, [], ◌∷◌, ◌++◌, map}
+use Rattle.std.specs.Prelude.{◌≡◌, ◌≢◌, ℕ, ◌-◌, ◌^◌, ◌<◌, min, Bool, true, false, List, ◌∷◌, ◌++◌, map}
 use Rattle.std.specs.List.{AllByRecursion}
 use Rattle.std.specs.declared.cmp.Ordering.TheVariants.{Less}
 use Rattle.zone_name.specs.Name.{IsWithin}
 use Rattle.zone_rdata.specs.Record.{Record, IsRecord}
-use Rattle.zone_set.specs.Machine.Hint.{hint}
+use Rattle.zone_set.specs.Machine.Hint.{IsHint}
 use Rattle.zone_set.specs.Machine.Stored.{record_from, IsStored}
 use Rattle.zone_set.specs.Message.{message_octets}
 use Rattle.zone_set.specs.Order.{canonical_cmp, Ascends}
@@ -27,8 +27,8 @@ pub record IsLinked (class : ℕ) (octets : List ℕ) (e : Entry) : Type 0 where
 -- and its hint is that of the record
 pub record IsEntry (base : List (List ℕ)) (class : ℕ) (octets : List ℕ) (e : Entry) : Type 0 where
   pub linked : IsLinked class octets e
-  pub hinted : e.hint
-      ≡ hint base (entry_record class octets e).owner (entry_record class octets e).kind
+  pub hinted :
+      IsHint base (entry_record class octets e).owner (entry_record class octets e).kind e.hint
 
 -- an entry that can be compared with a record of a hint: where the hints differ, they decide, and
 -- the records are not of one set
