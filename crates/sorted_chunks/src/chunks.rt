@@ -158,7 +158,7 @@ impl<T: Copy, const LIMIT: usize> SortedChunks<T, LIMIT> {
             return Some(self.chunks[chunk].get(offset));
         }
         if chunk + 1 < self.chunks.len() {
-            return Some(self.chunks[chunk + 1].first());
+            return Some(&self.chunks[chunk + 1].head);
         }
         None
     }
@@ -228,8 +228,8 @@ impl<T: Copy, const LIMIT: usize> SortedChunks<T, LIMIT> {
         ensures taken { OnOk result (self.new ≡ self.old ++ (value ∷ []) ∷ []) }
         ensures unchanged { OnErr result (self.new ≡ self.old) }
     {
-        let chunk = Chunk::new(self.alloc, value, LIMIT / 8 + 1)?;
-        self.chunks.push(chunk)?;
+        let rest = Vec::with_capacity(self.alloc, LIMIT / 8 + 1)?;
+        self.chunks.push(Chunk { head: value, rest })?;
         Ok(())
     }
 
