@@ -4,7 +4,7 @@ use Rattle.std.proofs.lemmas.List.Elements.{All-from_recursion, recursion_from_A
 use Rattle.std.proofs.lemmas.List.{map-append}
 use Rattle.std.specs.List.{All, AllByRecursion}
 use Rattle.zone_name.proofs.Pushing.{AllByRecursion-back, AllByRecursion-front}
-use Rattle.std.specs.List.Sorted.{IsPartitionedBy}
+use Rattle.sorted_chunks.specs.Chunks.{IsParting}
 use Rattle.std.specs.Ordering.{is_lt}
 use Rattle.zone_rdata.specs.Record.{Record, IsRecord, data_of}
 use Rattle.zone_set.proofs.Adding.{class_of}
@@ -49,16 +49,16 @@ module _ (base : List (List ℕ)) (octets : List ℕ) (r : Record) where
   goes_after e = is_lt (canonical_cmp (entry_record r.class octets e) r)
 
   -- what stands before its place and what does not
-  pub parts_at : (es before after : List Entry) → HoldsEntries base r.class octets es → before ++ after ≡ es → (IsPartitionedBy goes_after es → All (λ e. goes_after e ≡ true) before) → (IsPartitionedBy goes_after es → All (λ e. goes_after e ≡ false) after) → Parts (all_records r.class octets es) (map (entry_record r.class octets) before) (map (entry_record r.class octets) after) r
-  parts_at es before after holds whole low high =
+  pub parts_at : (es before after : List Entry) → HoldsEntries base r.class octets es → before ++ after ≡ es → IsParting goes_after es before after → Parts (all_records r.class octets es) (map (entry_record r.class octets) before) (map (entry_record r.class octets) after) r
+  parts_at es before after holds whole parting =
       let f = entry_record r.class octets in
-      let in_order = parted f r es holds.compatible.ascend in
+      let both = parting (parted f r es holds.compatible.ascend) in
       record {
         compatible = holds.compatible;
         classes = λ s has. class_of r.class octets es s has;
         whole = ap (map f) (sym whole) ∙ map-append f before after;
-        below = each_before f r before (recursion_from_All (λ e. goes_after e ≡ true) before (low in_order));
-        above = none_before f r after (recursion_from_All (λ e. goes_after e ≡ false) after (high in_order));
+        below = each_before f r before (recursion_from_All (λ e. goes_after e ≡ true) before both.0);
+        above = none_before f r after (recursion_from_All (λ e. goes_after e ≡ false) after both.1);
       }
 
   -- the entries and one that was put among them

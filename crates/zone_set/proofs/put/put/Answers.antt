@@ -41,7 +41,7 @@ holds : (c : After-copied-first) → HoldsEntries c.args.base.now c.args.rr.now.
 holds c = rw c.as_slice.ensures.value c.requires.holds
 
 parts : (c : After-copied-first) → Parts (all_records c.args.rr.now.class c.as_slice.result.now (joined c.args.entries.now)) (map (record_for c) (first_part c)) (map (record_for c) (last_part c)) (record_of c.args.rr.now)
-parts c = parts_at c.args.base.now c.as_slice.result.now (record_of c.args.rr.now) (joined c.args.entries.now) (first_part c) (last_part c) (holds c) c.place_of-place.ensures.whole c.place_of-place.ensures.before c.place_of-place.ensures.after
+parts c = parts_at c.args.base.now c.as_slice.result.now (record_of c.args.rr.now) (joined c.args.entries.now) (first_part c) (last_part c) (holds c) c.place_of-place.ensures.whole c.place_of-place.ensures.parts
 
 last_is : (c : After-copied-first) → MatchOption c.copied-last.result (first_part c ≡ []) (λ e. (front : List Entry) × (first_part c ≡ front ++ e ∷ []))
 last_is c = copied (first_part c ≡ []) (λ e. (front : List Entry) × (first_part c ≡ front ++ e ∷ [])) c.last_before.result c.copied-last.result c.copied-last.ensures c.last_before.ensures
