@@ -102,13 +102,6 @@ module _ {X : Type 0} where
       parts [] ys all = (tt, all)
       parts (x ∷ xs) ys all = let more = parts xs ys all.1 in ((all.0, more.0), more.1)
 
-  -- the place at the end of the last chunk
-  pub before_end : (cs : List (List X)) (i j : ℕ) → i + 1 ≡ length cs → j ≡ length (get_or cs i []) → before cs (record { chunk = i; offset = j }) ≡ joined cs
-  before_end cs i j last end =
-      sym (append-nil (before cs (record { chunk = i; offset = j })))
-      ∙ ap (λ l. before cs (record { chunk = i; offset = j }) ++ l) (sym (none_after cs i j (omega (arith, end)) (omega (arith, last))))
-      ∙ whole_at cs i j (omega (arith, last))
-
   -- what holds of each element holds of the last
   pub at_last : (P : X → Type 0) (front : List X) (x : X) (xs : List X) → xs ≡ front ++ x ∷ [] → All P xs → P x
   at_last P front x xs is all = by front (recursion_from_All P (front ++ x ∷ []) (subst (All P) is all))
