@@ -81,14 +81,9 @@ module _ {X : Type 0} where
   pub after_end : (cs : List (List X)) (i j : ℕ) → length (get_or cs i []) ≤ j → after cs (record { chunk = i; offset = j }) ≡ joined (drop (i + 1) cs)
   after_end cs i j end = ap (λ l. l ++ joined (drop (i + 1) cs)) (drop_all j (get_or cs i []) end)
 
-  first_filled : (c : List X) (rest : List X) (x : X) → 0 < length c → x ≡ get_or c 0 x → (more : List X) × (c ++ rest ≡ x ∷ more)
-  first_filled [] rest x some is = absurd (omega (arith, some))
-  first_filled (y ∷ c) rest x some is = (c ++ rest, ap (λ z. z ∷ (c ++ rest)) (sym is))
-
-  pub first_of_chunk : (cs : List (List X)) (i j : ℕ) (x : X) → length (get_or cs i []) ≤ j → i + 1 < length cs → 0 < length (get_or cs (i + 1) []) → x ≡ get_or (get_or cs (i + 1) []) 0 x → (rest : List X) × (after cs (record { chunk = i; offset = j }) ≡ x ∷ rest)
-  first_of_chunk cs i j x end within some is =
-      let first = first_filled (get_or cs (i + 1) []) (joined (drop (i + 1 + 1) cs)) x some is in
-      (first.0, after_end cs i j end ∙ ap joined (drop_more cs (i + 1) [] within) ∙ first.1)
+  pub first_of_chunk : (cs : List (List X)) (i j : ℕ) (x : X) (more : List X) → length (get_or cs i []) ≤ j → i + 1 < length cs → x ∷ more ≡ get_or cs (i + 1) [] → (rest : List X) × (after cs (record { chunk = i; offset = j }) ≡ x ∷ rest)
+  first_of_chunk cs i j x more end within is =
+      (more ++ joined (drop (i + 1 + 1) cs), after_end cs i j end ∙ ap joined (drop_more cs (i + 1) [] within) ∙ ap (λ l. l ++ joined (drop (i + 1 + 1) cs)) (sym is))
 
   pub none_after : (cs : List (List X)) (i j : ℕ) → length (get_or cs i []) ≤ j → length cs ≤ i + 1 → after cs (record { chunk = i; offset = j }) ≡ []
   none_after cs i j end past = after_end cs i j end ∙ ap joined (drop_all (i + 1) cs past)
@@ -106,13 +101,6 @@ module _ {X : Type 0} where
       parts : (xs ys : List X) → AllByRecursion P (xs ++ ys) → AllByRecursion P xs × AllByRecursion P ys
       parts [] ys all = (tt, all)
       parts (x ∷ xs) ys all = let more = parts xs ys all.1 in ((all.0, more.0), more.1)
-
-  -- the place at the end of the last chunk
-  pub before_end : (cs : List (List X)) (i j : ℕ) → i + 1 ≡ length cs → j ≡ length (get_or cs i []) → before cs (record { chunk = i; offset = j }) ≡ joined cs
-  before_end cs i j last end =
-      sym (append-nil (before cs (record { chunk = i; offset = j })))
-      ∙ ap (λ l. before cs (record { chunk = i; offset = j }) ++ l) (sym (none_after cs i j (omega (arith, end)) (omega (arith, last))))
-      ∙ whole_at cs i j (omega (arith, last))
 
   -- what holds of each element holds of the last
   pub at_last : (P : X → Type 0) (front : List X) (x : X) (xs : List X) → xs ≡ front ++ x ∷ [] → All P xs → P x

@@ -4,7 +4,8 @@ use Rattle.std.specs.List.{All, AllWithin}
 use Rattle.std.specs.List.Sorted.{IsPartitionedBy}
 use Rattle.std.proofs.lemmas.List.{append_assoc, get_or-append-add, get_or_append_left, get_or-drop, get_or-take, length-append, length-drop, length-take-le, get_or_at, get_or_default, take-append-drop}
 use Rattle.std.proofs.lemmas.List.Elements.{All-append, All-cons, All-drop, All-from_get_or, All-get_or, All-head, All-nil, All-same, All-tail}
-use Rattle.sorted_chunks.specs.Chunks.{after, before, joined, AreChunks, IsChunk}
+use Rattle.sorted_chunks.specs.Chunks.{after, before, joined, AreChunks, IsChunk, IsParting}
+use Rattle.sorted_chunks.specs.Machine.Splits.{SplitsAt}
 use Rattle.sorted_chunks.specs.Starts.{starts}
 use Rattle.sorted_chunks.proofs.Placing.{joined_about, joined-append}
 
@@ -106,36 +107,36 @@ module _ {X : Type 0} (p : X → Bool) where
       let at : n + 0 ≡ n = omega arith in
       ap (starts p) (get_or-drop n cs 0 [] ∙ ap (λ k. get_or cs k []) at) ∙ fails n [] (omega arith) (omega (arith, left)))
 
-  pub after_start : (cs : List (List X)) → joined (drop 0 cs) ≡ after cs (record { chunk = 0; offset = 0 })
-  after_start [] = refl
-  after_start (c ∷ cs) = refl
+  -- no chunk's first element passes, so none does
+  pub parts_none : (limit : ℕ) (cs : List (List X)) (passed : ℕ) → AreChunks limit cs → passed ≡ 0 → SplitsAt (starts p) cs passed → IsParting p (joined cs) (before cs (record { chunk = 0; offset = 0 })) (after cs (record { chunk = 0; offset = 0 }))
+  parts_none limit cs passed all none splits parts =
+      let fails = (splits (chunks_parted limit cs all parts)).1 in
+      (All-nil (λ y. p y ≡ true), All-same (λ y. p y ≡ false) _ _ (sym (start cs)) (fails_from limit cs 0 all parts (λ k d low lt. fails k d (omega arith) lt)))
+    where
+      start : (ds : List (List X)) → joined (drop 0 ds) ≡ after ds (record { chunk = 0; offset = 0 })
+      start [] = refl
+      start (d ∷ ds) = refl
 
-  module _ (limit : ℕ) (cs : List (List X)) (i : ℕ) (x : X) (rest : List X) (chunk : x ∷ rest ≡ get_or cs i []) (within : i < length cs) (parts : IsPartitionedBy p (joined cs)) where
-    about : joined cs ≡ joined (take i cs) ++ (x ∷ (rest ++ joined (drop (i + 1) cs)))
-    about = joined_about cs i within ∙ ap (λ c. joined (take i cs) ++ (c ++ joined (drop (i + 1) cs))) (sym chunk)
-
-    parts_about : IsPartitionedBy p (joined (take i cs) ++ (x ∷ (rest ++ joined (drop (i + 1) cs))))
-    parts_about = subst (λ l. IsPartitionedBy p l) about parts
-
-    pub rest_parted : IsPartitionedBy p rest
-    rest_parted = part_left rest (joined (drop (i + 1) cs)) (part_right (x ∷ []) (rest ++ joined (drop (i + 1) cs)) (part_right (joined (take i cs)) (x ∷ (rest ++ joined (drop (i + 1) cs))) parts_about))
-
-    pub before_passes : (k : ℕ) → p x ≡ true → k ≤ length rest → AllWithin (λ y. p y ≡ true) rest 0 k → All (λ y. p y ≡ true) (before cs (record { chunk = i; offset = k + 1 }))
-    before_passes k first le all =
-        let next : k + 1 ≡ suc k = omega arith in
-        let size : length (take k rest) ≡ k = length-take-le k rest le in
-        let some : All (λ y. p y ≡ true) (take k rest) = All-from_get_or (λ y. p y ≡ true) (take k rest) x (λ n lt. let below : n < k = omega (arith, size) in ap p (get_or-take k rest n x below) ∙ all n x (omega arith) below) in
-        let own : take (k + 1) (get_or cs i []) ≡ x ∷ take k rest = ap (λ c. take (k + 1) c) (sym chunk) ∙ ap (λ n. take n (x ∷ rest)) next in
-        All-append (λ y. p y ≡ true) (joined (take i cs)) (take (k + 1) (get_or cs i []))
-        (passes_before (joined (take i cs)) (rest ++ joined (drop (i + 1) cs)) x parts_about first)
-        (All-same (λ y. p y ≡ true) (take (k + 1) (get_or cs i [])) (x ∷ take k rest) own (All-cons (λ y. p y ≡ true) x (take k rest) first some))
-
-    pub after_fails : (k : ℕ) → AreChunks limit cs → AllWithin (λ c. starts p c ≡ false) cs (i + 1) (length cs) → AllWithin (λ y. p y ≡ false) rest k (length rest) → All (λ y. p y ≡ false) (after cs (record { chunk = i; offset = k + 1 }))
-    after_fails k chunks later all =
-        let next : k + 1 ≡ suc k = omega arith in
-        let size = length-drop k rest in
-        let some : All (λ y. p y ≡ false) (drop k rest) = All-from_get_or (λ y. p y ≡ false) (drop k rest) x (λ n lt. ap p (get_or-drop k rest n x) ∙ all (k + n) x (omega arith) (omega (arith, size))) in
-        let own : drop (k + 1) (get_or cs i []) ≡ drop k rest = ap (λ c. drop (k + 1) c) (sym chunk) ∙ ap (λ n. drop n (x ∷ rest)) next in
-        All-append (λ y. p y ≡ false) (drop (k + 1) (get_or cs i [])) (joined (drop (i + 1) cs))
-        (All-same (λ y. p y ≡ false) (drop (k + 1) (get_or cs i [])) (drop k rest) own some)
-        (fails_from limit cs (i + 1) chunks parts later)
+  -- the last chunk whose first element passes, and where the elements after that which pass end in it
+  pub parts_in : (limit : ℕ) (cs : List (List X)) (i : ℕ) (x : X) (rest : List X) (passed k : ℕ) → AreChunks limit cs → x ∷ rest ≡ get_or cs i [] → i < length cs → passed ≡ i + 1 → SplitsAt (starts p) cs passed → k ≤ length rest → SplitsAt p rest k
+      → IsParting p (joined cs) (before cs (record { chunk = i; offset = k + 1 })) (after cs (record { chunk = i; offset = k + 1 }))
+  parts_in limit cs i x rest passed k all chunk within is splits le splits_rest parts =
+      let front = joined (take i cs) in
+      let back = joined (drop (i + 1) cs) in
+      let about : joined cs ≡ front ++ (x ∷ (rest ++ back)) = joined_about cs i within ∙ ap (λ c. front ++ (c ++ back)) (sym chunk) in
+      let parts_about = subst (λ l. IsPartitionedBy p l) about parts in
+      let chunks = splits (chunks_parted limit cs all parts) in
+      let own = splits_rest (part_left rest back (part_right (x ∷ []) (rest ++ back) (part_right front (x ∷ (rest ++ back)) parts_about))) in
+      let first : p x ≡ true = ap (starts p) chunk ∙ chunks.0 i [] (omega arith) (omega arith) in
+      let next : k + 1 ≡ suc k = omega arith in
+      let front_size : length (take k rest) ≡ k = length-take-le k rest le in
+      let back_size = length-drop k rest in
+      let passes : All (λ y. p y ≡ true) (take k rest) = All-from_get_or (λ y. p y ≡ true) (take k rest) x (λ n lt. let below : n < k = omega (arith, front_size) in ap p (get_or-take k rest n x below) ∙ own.0 n x (omega arith) below) in
+      let fails : All (λ y. p y ≡ false) (drop k rest) = All-from_get_or (λ y. p y ≡ false) (drop k rest) x (λ n lt. ap p (get_or-drop k rest n x) ∙ own.1 (k + n) x (omega arith) (omega (arith, back_size))) in
+      let taken : take (k + 1) (get_or cs i []) ≡ x ∷ take k rest = ap (λ c. take (k + 1) c) (sym chunk) ∙ ap (λ n. take n (x ∷ rest)) next in
+      let dropped : drop (k + 1) (get_or cs i []) ≡ drop k rest = ap (λ c. drop (k + 1) c) (sym chunk) ∙ ap (λ n. drop n (x ∷ rest)) next in (
+        All-append (λ y. p y ≡ true) front (take (k + 1) (get_or cs i [])) (passes_before front (rest ++ back) x parts_about first)
+            (All-same (λ y. p y ≡ true) (take (k + 1) (get_or cs i [])) (x ∷ take k rest) taken (All-cons (λ y. p y ≡ true) x (take k rest) first passes)),
+        All-append (λ y. p y ≡ false) (drop (k + 1) (get_or cs i [])) back (All-same (λ y. p y ≡ false) (drop (k + 1) (get_or cs i [])) (drop k rest) dropped fails)
+            (fails_from limit cs (i + 1) all parts (λ n d low lt. chunks.1 n d (omega arith) lt)),
+      )

@@ -1,6 +1,7 @@
 -- A list that is kept in chunks, and the places in it.
-use Rattle.std.specs.Prelude.{ℕ, ◌+◌, ◌<◌, ◌≤◌, List, [], ◌++◌, length, take, drop, flat_map, slice_index_or}
+use Rattle.std.specs.Prelude.{◌≡◌, ℕ, ◌+◌, ◌<◌, ◌≤◌, Bool, true, false, List, [], ◌++◌, length, take, drop, flat_map, slice_index_or}
 use Rattle.std.specs.List.{All}
+use Rattle.std.specs.List.Sorted.{IsPartitionedBy}
 use Rattle.sorted_chunks.specs.declared.position.Position.{Position}
 
 -- the whole list
@@ -20,6 +21,12 @@ after chunks p = drop p.offset (slice_index_or chunks p.chunk [])
 abbrev pub IsPlace : {X : Type 0} → List (List X) → Position → Type 0
 IsPlace chunks p = (p.chunk ≤ length chunks)
     × (p.offset ≤ length (slice_index_or chunks p.chunk []))
+
+-- where the elements of a list that pass a test stand first, they are before a place, and none of
+-- them after it
+abbrev pub IsParting : {X : Type 0} → (X → Bool) → List X → List X → List X → Type 0
+IsParting p whole before after = IsPartitionedBy p whole
+    → All (λ x. p x ≡ true) before × All (λ x. p x ≡ false) after
 
 -- not empty, and no longer than the limit
 abbrev pub IsChunk : {X : Type 0} → ℕ → List X → Type 0

@@ -1,2 +1,3 @@
 -- What only private functions cite.
 pub mod Halves
+pub mod Splits

@@ -21,30 +21,11 @@ impl<T> Model for Chunk<T> {
 }
 
 impl<T: Copy> Chunk<T> {
-    /// A chunk of one element.
-    ///
-    /// # Errors
-    ///
-    /// `AllocError` where memory is refused.
-    pub(crate) fn new(alloc: Global, head: T, room: usize) -> Result<Self, AllocError>
-        ensures { IfOk result (λ chunk. chunk ≡ head ∷ []) }
-    {
-        let rest = Vec::with_capacity(alloc, room)?;
-        Ok(Chunk { head, rest })
-    }
-
     /// How many elements there are.
     pub(crate) fn len(&self) -> usize
         ensures { result ≡ length self.now }
     {
         self.rest.len() + 1
-    }
-
-    /// The first element.
-    pub(crate) fn first(&self) -> &T
-        ensures { result.now ≡ slice_index_or self.now 0 result.now }
-    {
-        &self.head
     }
 
     /// The element at a place.
@@ -77,7 +58,9 @@ impl<T: Copy> Chunk<T> {
         ensures taken { OnOk result (self.new ≡ insert self.old offset value) }
         ensures unchanged { OnErr result (self.new ≡ self.old) }
     {
-        make_room(&mut self.rest, room)?;
+        if self.rest.len() == self.rest.capacity() {
+            self.rest.reserve_exact(room)?;
+        }
         if offset == 0 {
             self.rest.insert(0, self.head)?;
             self.head = value;
@@ -142,20 +125,6 @@ impl<T: Copy> Chunk<T> {
         };
         Ok((lower, upper))
     }
-}
-
-/// Makes room for `room` more elements where there is none.
-///
-/// # Errors
-///
-/// `AllocError` where memory is refused.
-fn make_room<T>(elements: &mut Vec<T>, room: usize) -> Result<(), AllocError>
-    ensures { elements.new.items ≡ elements.old.items }
-{
-    if elements.len() == elements.capacity() {
-        elements.reserve_exact(room)?;
-    }
-    Ok(())
 }
 
 /// A copy of these elements, with room for `room` more.

@@ -1,6 +1,5 @@
-ghost use Rattle.std.specs.Prelude.{◌≡◌, ◌++◌, ◌∷◌, ◌+◌, ◌-◌, ◌^◌, ◌<◌, ◌≤◌, ◌↔◌, [], List, true, false, All, length, min, slice_index_or, IsTrue, OnOk, OnErr, MatchOption};
-ghost use Rattle.std.specs.List.Sorted.{IsPartitionedBy};
-ghost use Rattle.sorted_chunks.specs.Chunks.{after, before, joined, IsPlace};
+ghost use Rattle.std.specs.Prelude.{◌≡◌, ◌++◌, ◌∷◌, ◌+◌, ◌-◌, ◌^◌, ◌<◌, ◌≤◌, ◌↔◌, [], List, All, length, min, slice_index_or, IsTrue, OnOk, OnErr, MatchOption};
+ghost use Rattle.sorted_chunks.specs.Chunks.{after, before, joined, IsParting, IsPlace};
 
 use crate::chunk::Chunk;
 use crate::iter::Iter;
@@ -72,10 +71,8 @@ impl<T: Copy, const LIMIT: usize> SortedChunks<T, LIMIT> {
         requires { All (S.knows sought.now) (joined self.now) }
         ensures place { IsPlace self.now result }
         ensures whole { before self.now result ++ after self.now result ≡ joined self.now }
-        ensures before { IsPartitionedBy (S.follows sought.now) (joined self.now)
-            → All (λ x. S.follows sought.now x ≡ true) (before self.now result) }
-        ensures after { IsPartitionedBy (S.follows sought.now) (joined self.now)
-            → All (λ x. S.follows sought.now x ≡ false) (after self.now result) }
+        ensures parts { IsParting (S.follows sought.now) (joined self.now)
+            (before self.now result) (after self.now result) }
     {
         // Elements that come in order are placed without a search.
         if let Some(last) = self.last() {
@@ -110,10 +107,8 @@ impl<T: Copy, const LIMIT: usize> SortedChunks<T, LIMIT> {
         requires { All (S.knows sought.now) (joined self.now) }
         ensures place { IsPlace self.now result }
         ensures whole { before self.now result ++ after self.now result ≡ joined self.now }
-        ensures before { IsPartitionedBy (S.follows sought.now) (joined self.now)
-            → All (λ x. S.follows sought.now x ≡ true) (before self.now result) }
-        ensures after { IsPartitionedBy (S.follows sought.now) (joined self.now)
-            → All (λ x. S.follows sought.now x ≡ false) (after self.now result) }
+        ensures parts { IsParting (S.follows sought.now) (joined self.now)
+            (before self.now result) (after self.now result) }
     {
         let passed = count_before(self.chunks.as_slice(), &AmongChunks { sought });
         if passed == 0 {
@@ -158,7 +153,7 @@ impl<T: Copy, const LIMIT: usize> SortedChunks<T, LIMIT> {
             return Some(self.chunks[chunk].get(offset));
         }
         if chunk + 1 < self.chunks.len() {
-            return Some(self.chunks[chunk + 1].first());
+            return Some(&self.chunks[chunk + 1].head);
         }
         None
     }
@@ -228,8 +223,8 @@ impl<T: Copy, const LIMIT: usize> SortedChunks<T, LIMIT> {
         ensures taken { OnOk result (self.new ≡ self.old ++ (value ∷ []) ∷ []) }
         ensures unchanged { OnErr result (self.new ≡ self.old) }
     {
-        let chunk = Chunk::new(self.alloc, value, LIMIT / 8 + 1)?;
-        self.chunks.push(chunk)?;
+        let rest = Vec::with_capacity(self.alloc, LIMIT / 8 + 1)?;
+        self.chunks.push(Chunk { head: value, rest })?;
         Ok(())
     }
 

@@ -1,6 +1,5 @@
-ghost use Rattle.std.specs.Prelude.{◌≡◌, ◌≤◌, true, false, All, length};
-ghost use Rattle.std.specs.List.{AllWithin};
-ghost use Rattle.std.specs.List.Sorted.{IsPartitionedBy};
+ghost use Rattle.std.specs.Prelude.{◌≡◌, ◌≤◌, All, length};
+ghost use Rattle.sorted_chunks.specs.Machine.Splits.{SplitsAt};
 
 use crate::chunk::Chunk;
 
@@ -44,11 +43,7 @@ impl<'a, T, S: Sought<T>> Sought<Chunk<T>> for AmongChunks<'a, S> {
 pub(crate) fn count_before<T, S: Sought<T>>(elements: &[T], sought: &S) -> usize
     requires { All (S.knows sought.now) elements.now }
     ensures bound { result ≤ length elements.now }
-    ensures before { IsPartitionedBy (S.follows sought.now) elements.now
-        → AllWithin (λ x. S.follows sought.now x ≡ true) elements.now 0 result }
-    ensures others { IsPartitionedBy (S.follows sought.now) elements.now
-        → AllWithin (λ x. S.follows sought.now x ≡ false) elements.now result
-        (length elements.now) }
+    ensures parts { SplitsAt (S.follows sought.now) elements.now result }
 {
     let (mut low, mut high) = (0, elements.len());
     while low < high {

@@ -44,36 +44,35 @@ fn a_new_list_is_empty(rt: HostRuntime) -> Result<(), Fail> {
     Ok(())
 }
 
-#[test]
-fn numbers_in_order_fill_chunk_after_chunk(rt: HostRuntime) -> Result<(), Fail> {
-    let numbers = [1, 2, 3, 4, 5, 6, 7, 8, 9];
-    let list = listed(rt.alloc(), &numbers)?;
-    assert_eq!(rt; list.as_slice(), [1, 2, 3, 4, 5, 6, 7, 8, 9].as_slice());
-    Ok(())
-}
+/// Numbers, and the list that they make.
+struct Sorted(&'static [u32], &'static [u32]);
+
+static SORTED: &[Sorted] = &[
+    // In order they fill chunk after chunk.
+    Sorted(&[1, 2, 3, 4, 5, 6, 7, 8, 9], &[1, 2, 3, 4, 5, 6, 7, 8, 9]),
+    // In falling order they split the first chunk.
+    Sorted(&[9, 8, 7, 6, 5, 4, 3, 2, 1], &[1, 2, 3, 4, 5, 6, 7, 8, 9]),
+    // In no order they split chunks in the middle.
+    Sorted(
+        &[50, 10, 90, 30, 70, 20, 80, 40, 60, 45, 44, 43, 42, 41, 95],
+        &[10, 20, 30, 40, 41, 42, 43, 44, 45, 50, 60, 70, 80, 90, 95],
+    ),
+    // At each place of a full chunk one goes into the lower half or the upper.
+    Sorted(&[1, 3, 5, 7, 9, 0], &[0, 1, 3, 5, 7, 9]),
+    Sorted(&[1, 3, 5, 7, 9, 2], &[1, 2, 3, 5, 7, 9]),
+    Sorted(&[1, 3, 5, 7, 9, 4], &[1, 3, 4, 5, 7, 9]),
+    Sorted(&[1, 3, 5, 7, 9, 6], &[1, 3, 5, 6, 7, 9]),
+    Sorted(&[1, 3, 5, 7, 9, 8], &[1, 3, 5, 7, 8, 9]),
+    // Equal ones stand together.
+    Sorted(&[2, 1, 2, 3, 2, 1, 2, 3, 2], &[1, 1, 2, 2, 2, 2, 2, 3, 3]),
+];
 
 #[test]
-fn numbers_in_falling_order_split_the_first_chunk(rt: HostRuntime) -> Result<(), Fail> {
-    let numbers = [9, 8, 7, 6, 5, 4, 3, 2, 1];
-    let list = listed(rt.alloc(), &numbers)?;
-    assert_eq!(rt; list.as_slice(), [1, 2, 3, 4, 5, 6, 7, 8, 9].as_slice());
-    Ok(())
-}
-
-#[test]
-fn numbers_in_no_order_split_chunks_in_the_middle(rt: HostRuntime) -> Result<(), Fail> {
-    let numbers = [50, 10, 90, 30, 70, 20, 80, 40, 60, 45, 44, 43, 42, 41, 95];
-    let list = listed(rt.alloc(), &numbers)?;
-    let wanted = [10, 20, 30, 40, 41, 42, 43, 44, 45, 50, 60, 70, 80, 90, 95];
-    assert_eq!(rt; list.as_slice(), wanted.as_slice());
-    Ok(())
-}
-
-#[test]
-fn equal_numbers_stand_together(rt: HostRuntime) -> Result<(), Fail> {
-    let numbers = [2, 1, 2, 3, 2, 1, 2, 3, 2];
-    let list = listed(rt.alloc(), &numbers)?;
-    assert_eq!(rt; list.as_slice(), [1, 1, 2, 2, 2, 2, 2, 3, 3].as_slice());
+fn lists_of_numbers(rt: HostRuntime) -> Result<(), Fail> {
+    for Sorted(numbers, wanted) in SORTED {
+        let list = listed(rt.alloc(), numbers)?;
+        assert_eq!(rt; list.as_slice(), *wanted);
+    }
     Ok(())
 }
 

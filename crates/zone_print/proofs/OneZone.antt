@@ -15,7 +15,7 @@ use Rattle.zone_set.specs.Refusal.{records_of}
 use Rattle.zone_set.specs.Zone.{Has, SameRecords, Zone, IsZone}
 use Rattle.zone_set.proofs.Together.{each_Has}
 use Rattle.zone_print.specs.Denotes.{Denotes}
-use Rattle.zone_set.proofs.KeyOrder.{both_equal}
+use Rattle.zone_set.proofs.SetOrder.{both_equal}
 
 data_total : IsTotalOrder data_cmp
 data_total = then_total (on_total (λ d. d.class) nat_cmp_total) (then_total (on_total (λ d. d.kind) nat_cmp_total) (on_total (λ d. d.octets) nat_list_cmp_total))

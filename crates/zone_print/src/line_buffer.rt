@@ -112,13 +112,12 @@ impl<'z> LineBuffer<'z> {
 }
 
 /// Makes the text that of the record's owner, where it isn't already the last one's.
-#[tactic(auto, using(zone_set::proofs::KeyOrder::decides_owner))]
 fn hold_owner(text: &mut Vec<u8>, last: &Option<RrRef>, rr: &RrRef) -> Result<(), AllocError>
     requires { IfSome last.now (λ last. text.old.items ≡ name_text last.owner) }
     ensures { OnOk result (text.new.items ≡ name_text rr.now.owner) }
 {
     if let Some(last) = last {
-        if last.owner == rr.owner {
+        if last.owner.is_same(&rr.owner) {
             return Ok(());
         }
     }

@@ -1,24 +1,23 @@
 -- A record and the sets that are held: why it is refused, and what is held with it.
-use Rattle.std.proofs.Common.{◌≡◌, ◌≢◌, ◌⊎◌, ◌↔◌, ℕ, ◌+◌, ◌-◌, ◌^◌, min, Bool, true, false, if◌then◌else◌, List, [], ◌∷◌, ◌++◌, Option, Some, None, refl, sym, ap, ◌∙◌, subst, arith, inl, inr, ⊎_elim}
+use Rattle.std.proofs.Common.{◌≡◌, ◌≢◌, ◌⊎◌, ◌↔◌, ℕ, ◌+◌, ◌-◌, ◌^◌, min, Bool, true, false, IsTrue, not, ◌==◌, eq-eqb, ne_eqb, if◌then◌else◌, List, [], ◌∷◌, ◌++◌, refl, sym, ap, ◌∙◌, subst, arith, inl, inr, ⊎_elim}
 use Rattle.std.proofs.lemmas.List.Sums.{sum_by-cons, sum_by-append}
 use Rattle.std.specs.List.{AllByRecursion}
-use Rattle.std.specs.Prelude.{Result, Ok, Err, IfErr}
+use Rattle.std.specs.Prelude.{Result, Ok, Err, OnErr}
 use Rattle.zone_rdata.specs.Record.{Record, IsRecord}
 use Rattle.zone_rdata.specs.declared.fault.Fault.TheVariants.{ClassMismatch, MultipleSoa, DifferingTtl}
 use Rattle.zone_set.proofs.Between.{Has-with}
 use Rattle.zone_set.proofs.Inserting.{AreCompatible-with}
 use Rattle.zone_set.proofs.Together.{each_Has, stable_number}
 use Rattle.zone_rdata.specs.declared.record.Placed.{Placed}
-use Rattle.zone_set.specs.Builder.{OtherClass, OtherSoa, OtherTtl, Accepts, Adds, IsRefusedFor, StopsAdd, fault, memory, class as by_class, soa as by_soa, ttl as by_ttl}
-use Rattle.zone_set.specs.Machine.Held.{all_records, class_or_none, entry_record, HoldsEntries, IsEntry, IsPut, KeepsSets}
+use Rattle.zone_set.specs.Builder.{OtherClass, OtherSoa, OtherTtl, Accepts, Adds, StopsAdd, fault, memory, ttl as by_ttl}
+use Rattle.zone_set.specs.Machine.Held.{all_records, entry_record, HoldsEntries, IsEntry, IsPut, KeepsSets}
 use Rattle.zone_set.specs.Message.{message_len, message_octets}
-use Rattle.zone_set.specs.Machine.Refusal.{IsOtherClass, IsRefusal, IsSetRefusal, stop_for}
+use Rattle.zone_set.specs.Machine.Refusal.{IsRefusal, IsSetRefusal, stop_for}
 use Rattle.zone_set.specs.declared.entry.Entry.{Entry}
 use Rattle.zone_set.specs.declared.refusal.Refusal.{Refusal}
 use Rattle.zone_set.specs.declared.refusal.Refusal.TheVariants as refusal
 use Rattle.zone_set.specs.Order.{Ascends}
 use Rattle.zone_set.specs.Zone.{Has, AreCompatible}
-use Rattle.std.specs.Option.{IfSome}
 
 -- all records of entries are of the class
 classes : (class : ℕ) (octets : List ℕ) (es : List Entry) → AllByRecursion (λ r. r.class ≡ class) (all_records class octets es)
@@ -28,46 +27,36 @@ classes class octets (e ∷ es) = (refl, classes class octets es)
 pub class_of : (class : ℕ) (octets : List ℕ) (es : List Entry) (s : Record) → Has (all_records class octets es) s → s.class ≡ class
 class_of class octets es s has = each_Has (λ r. r.class ≡ class) (all_records class octets es) s (classes class octets es) has
 
-module _ {base : List (List ℕ)} {octets : List ℕ} {es : List Entry} {counted : ℕ} (r : Record) where
-  pub refused_class : (class : Option ℕ) → KeepsSets class base octets es counted → IsOtherClass class r.class → IsRefusedFor (all_records (class_or_none class) octets es) r ClassMismatch
-  refused_class None keeps other = absurd other
-  refused_class (Some d) keeps other = by es (keeps.some)
-    where
-      by : (fs : List Entry) → (fs ≡ [] → ⊥) → IsRefusedFor (all_records d octets fs) r ClassMismatch
-      by [] some = absurd (some refl)
-      by (f ∷ fs) some = by_class (entry_record d octets f, inl refl, other)
+pub other_class : (class : ℕ) (octets : List ℕ) (es : List Entry) (r : Record) → es ≢ [] → class ≢ r.class → OtherClass (all_records class octets es) r
+other_class class octets [] r some other = absurd (some refl)
+other_class class octets (e ∷ es) r some other = (entry_record class octets e, inl refl, other)
 
-  pub one_class : (class : Option ℕ) → KeepsSets class base octets es counted → (IsOtherClass class r.class → ⊥) → OtherClass (all_records (class_or_none class) octets es) r → ⊥
-  one_class None keeps same (s, has, other) = subst (λ fs. Has (all_records 0 octets fs) s) (keeps.none refl) has
-  one_class (Some d) keeps same (s, has, other) = other (class_of d octets es s has ∙ stable_number d r.class same)
+pub other_class_told : (told : Bool) (class : ℕ) (octets : List ℕ) (es : List Entry) (r : Record) → es ≢ [] → told ≡ not (class == r.class) → IsTrue told ↔ OtherClass (all_records class octets es) r
+other_class_told told class octets es r some is = (
+  λ yes. other_class class octets es r some (λ same. let no_test : true ≡ false = sym yes ∙ is ∙ ap not (eq-eqb class r.class same) in cc),
+  λ other. is ∙ ap not (ne_eqb class r.class (λ same. other.2 (class_of class octets es other.0 other.1 ∙ same))),
+)
 
-  pub refused_soa : (class : Option ℕ) → KeepsSets class base octets es counted → (IsOtherClass class r.class → ⊥) → OtherSoa (all_records (class_or_none class) octets es) r → IsRefusedFor (all_records (class_or_none class) octets es) r MultipleSoa
-  refused_soa class keeps same other = by_soa (one_class class keeps same) other
+-- where no other class is held, the class is the record's, or there is none
+pub one_class : (class : ℕ) (octets : List ℕ) (es : List Entry) (r : Record) → (OtherClass (all_records class octets es) r → ⊥) → (es ≡ []) ⊎ (class ≡ r.class)
+one_class class octets [] r same = inl refl
+one_class class octets (e ∷ es) r same = inr (stable_number class r.class (λ other. same (other_class class octets (e ∷ es) r (λ none. cc) other)))
 
--- with no class known there is nothing, so the records are those of any class that may be
-pub same_records : (class : Option ℕ) (octets : List ℕ) (es : List Entry) (r : Record) → (class ≡ None → es ≡ []) → (IsOtherClass class r.class → ⊥) → all_records r.class octets es ≡ all_records (class_or_none class) octets es
-same_records None octets es r none same = ap (all_records r.class octets) (none refl) ∙ sym (ap (all_records 0 octets) (none refl))
-same_records (Some d) octets es r none same = ap (λ c. all_records c octets es) (sym (stable_number d r.class same))
+pub on_err : {A E P : Type 0} (r : Result A E) → P → OnErr r P
+on_err (Ok _) holds = tt
+on_err (Err _) holds = holds
 
-same_entries : (class : Option ℕ) (base : List (List ℕ)) (octets : List ℕ) (es : List Entry) (r : Record) → (class ≡ None → es ≡ []) → (IsOtherClass class r.class → ⊥) → AllByRecursion (IsEntry base (class_or_none class) octets) es → AllByRecursion (IsEntry base r.class octets) es
-same_entries None base octets es r none same each = subst (AllByRecursion (IsEntry base r.class octets)) (sym (none refl)) tt
-same_entries (Some d) base octets es r none same each = subst (λ c. AllByRecursion (IsEntry base c octets) es) (stable_number d r.class same) each
+-- with no entry, class and base may be any
+same_records : (class other : ℕ) (octets : List ℕ) (es : List Entry) → (es ≡ []) ⊎ (class ≡ other) → all_records other octets es ≡ all_records class octets es
+same_records class other octets [] any = refl
+same_records class other octets (e ∷ es) (inl none) = cc
+same_records class other octets (e ∷ es) (inr same) = ap (λ c. all_records c octets (e ∷ es)) (sym same)
 
-back_entries : (class : Option ℕ) (base : List (List ℕ)) (octets : List ℕ) (es : List Entry) (r : Record) → (class ≡ None → es ≡ []) → (IsOtherClass class r.class → ⊥) → AllByRecursion (IsEntry base r.class octets) es → AllByRecursion (IsEntry base (class_or_none class) octets) es
-back_entries None base octets es r none same each = subst (AllByRecursion (IsEntry base 0 octets)) (sym (none refl)) tt
-back_entries (Some d) base octets es r none same each = subst (λ c. AllByRecursion (IsEntry base c octets) es) (sym (stable_number d r.class same)) each
-
--- where there is no entry, the base may be any name
-rebased : (base name : List (List ℕ)) (class : ℕ) (octets : List ℕ) (es : List Entry) → (es ≡ []) ⊎ (name ≡ base) → AllByRecursion (IsEntry base class octets) es → AllByRecursion (IsEntry name class octets) es
-rebased base name class octets es (inl none) each = subst (AllByRecursion (IsEntry name class octets)) (sym none) tt
-rebased base name class octets es (inr same) each = subst (λ b. AllByRecursion (IsEntry b class octets) es) (sym same) each
-
--- what is held, as a record of the class that it may be sees it
-pub holds_for : {class : Option ℕ} {base : List (List ℕ)} {octets : List ℕ} {es : List Entry} {counted : ℕ} (r : Record) (name : List (List ℕ)) → KeepsSets class base octets es counted → (IsOtherClass class r.class → ⊥) → (es ≡ []) ⊎ (name ≡ base) → HoldsEntries name r.class octets es
-holds_for {class} {base} {octets} {es} r name keeps same any = record {
-  each = rebased base name r.class octets es any (same_entries class base octets es r keeps.none same keeps.holds.each);
-  compatible = subst AreCompatible (sym (same_records class octets es r keeps.none same)) keeps.holds.compatible;
-}
+pub holds_for : {class other : ℕ} {base name : List (List ℕ)} {octets : List ℕ} (es : List Entry) → HoldsEntries base class octets es → (es ≡ []) ⊎ (class ≡ other) → (es ≡ []) ⊎ (name ≡ base) → HoldsEntries name other octets es
+holds_for [] holds any which = record { each = tt; compatible = holds.compatible }
+holds_for (e ∷ es) holds (inl none) which = cc
+holds_for (e ∷ es) holds (inr same) (inl none) = cc
+holds_for (e ∷ es) holds (inr same) (inr is) = rw (is, ← same) holds
 
 -- a record that was put is held beside those before
 pub Adds-put : (old : List Record) (r : Record) (is_new : Bool) (new : List Record) → AreCompatible old → IsPut old r is_new new → Adds old r new
@@ -91,56 +80,44 @@ octets_put old r false new (is, has) = let same : message_octets new ≡ message
 octets_counted : (sum new more octets counted : ℕ) → octets ≡ min sum (2 ^ 64 - 1) → new ≡ sum + more → counted ≡ min (octets + more) (2 ^ 64 - 1) → counted ≡ min new (2 ^ 64 - 1)
 octets_counted sum new more octets counted is is_new is_counted = omega (arith, is, is_new, is_counted)
 
--- a record that nothing speaks against
-pub Accepts-all : (old : List Record) (r : Record) → (OtherClass old r → ⊥) → (OtherSoa old r → ⊥) → (OtherTtl old r → ⊥) → Accepts old r
-Accepts-all old r one_class one_soa one_ttl = record { one_class = one_class; one_soa = one_soa; one_ttl = one_ttl }
-
-module _ {class : Option ℕ} {base : List (List ℕ)} {octets : List ℕ} {es : List Entry} {counted : ℕ} (r : Record) (keeps : KeepsSets class base octets es counted) (same : IsOtherClass class r.class → ⊥) where
+module _ {class : ℕ} {base : List (List ℕ)} {octets : List ℕ} {es : List Entry} {counted : ℕ} (r : Record) (keeps : KeepsSets class base octets es counted) (no_class : OtherClass (all_records class octets es) r → ⊥) (no_soa : OtherSoa (all_records class octets es) r → ⊥) where
   abbrev Old : List Record
-  Old = all_records (class_or_none class) octets es
+  Old = all_records class octets es
 
-  abbrev Seen : List Record
-  Seen = all_records r.class octets es
+  pub seen : all_records r.class octets es ≡ Old
+  seen = same_records class r.class octets es (one_class class octets es r no_class)
 
-  seen : Seen ≡ Old
-  seen = same_records class octets es r keeps.none same
-
-  pub refused_put : (OtherSoa Old r → ⊥) → (e : Refusal) → IsSetRefusal Seen r e → IsRefusal Old r e
-  refused_put one_soa refusal.OtherClass why = absurd why
-  refused_put one_soa refusal.OtherSoa why = absurd why
-  refused_put one_soa refusal.OtherTtl why = by_ttl (one_class r class keeps same) one_soa (subst (λ rs. OtherTtl rs r) seen why)
-  refused_put one_soa refusal.Memory why = tt
+  pub refused_put : (e : Refusal) → IsSetRefusal (all_records r.class octets es) r e → IsRefusal Old r e
+  refused_put refusal.OtherClass why = absurd why
+  refused_put refusal.OtherSoa why = absurd why
+  refused_put refusal.OtherTtl why = by_ttl no_class no_soa (rw seen at why)
+  refused_put refusal.Memory why = tt
 
   -- where memory was refused, the records are as before
-  pub KeepsSets-unchanged : (name : List (List ℕ)) (now : List ℕ) (fs : List Entry) → fs ≡ es → AllByRecursion (IsEntry name r.class now) fs → all_records r.class now fs ≡ all_records r.class octets es → KeepsSets class name now fs counted
-  KeepsSets-unchanged name now fs is each records =
-      let none : class ≡ None → fs ≡ [] = λ e. is ∙ keeps.none e in
-      let view = sym (same_records class now fs r none same) ∙ records ∙ same_records class octets es r keeps.none same in
+  pub KeepsSets-unchanged : (name : List (List ℕ)) (now : List ℕ) (fs : List Entry) → AllByRecursion (IsEntry name r.class now) fs → all_records r.class now fs ≡ all_records r.class octets es → KeepsSets r.class name now fs counted
+  KeepsSets-unchanged name now fs each records =
+      let view : all_records r.class now fs ≡ Old = records ∙ seen in
       record {
-        holds = record { each = back_entries class name now fs r none same each; compatible = subst AreCompatible (sym view) keeps.holds.compatible };
-        none = none;
-        some = subst (λ gs. IfSome class (λ _. gs ≢ [])) (sym is) keeps.some;
-        counts = keeps.counts ∙ ap (λ rs. min (message_octets rs) (2 ^ 64 - 1)) (sym view);
+        holds = record { each = each; compatible = rw view keeps.holds.compatible };
+        counts = rw view keeps.counts;
       }
 
-  module _ (one_soa : OtherSoa Old r → ⊥) (one_ttl : OtherTtl Seen r → ⊥) (whole : IsRecord r) (name : List (List ℕ)) (now : List ℕ) (fs : List Entry) (is_new : Bool) (each : AllByRecursion (IsEntry name r.class now) fs) (told : IsPut Seen r is_new (all_records r.class now fs)) where
+  module _ (one_ttl : OtherTtl (all_records r.class octets es) r → ⊥) (whole : IsRecord r) (name : List (List ℕ)) (now : List ℕ) (fs : List Entry) (is_new : Bool) (each : AllByRecursion (IsEntry name r.class now) fs) (told : IsPut (all_records r.class octets es) r is_new (all_records r.class now fs)) where
     abbrev New : List Record
     New = all_records r.class now fs
 
     was_put : IsPut Old r is_new New
-    was_put = subst (λ olds. IsPut olds r is_new New) seen told
+    was_put = rw seen at told
 
     pub accepted : Accepts Old r
-    accepted = Accepts-all Old r (one_class r class keeps same) one_soa (λ other. one_ttl (subst (λ rs. OtherTtl rs r) (sym seen) other))
+    accepted = record { one_class = no_class; one_soa = no_soa; one_ttl = rw seen at one_ttl }
 
     pub added : Adds Old r New
     added = Adds-put Old r is_new New keeps.holds.compatible was_put
 
-    pub KeepsSets-with : (after : ℕ) → after ≡ min (counted + (if is_new then message_len r else 0)) (2 ^ 64 - 1) → KeepsSets (Some r.class) name now fs after
+    pub KeepsSets-with : (after : ℕ) → after ≡ min (counted + (if is_new then message_len r else 0)) (2 ^ 64 - 1) → KeepsSets r.class name now fs after
     KeepsSets-with after is_after = record {
       holds = record { each = each; compatible = AreCompatible-with Old New r keeps.holds.compatible accepted whole (λ s. (added.same s).0) added.ascend };
-      none = λ e. cc;
-      some = λ e. let has : Has New r = (added.same r).1 (inl refl) in subst (λ gs. Has (all_records r.class now gs) r) e has;
       counts = octets_counted (message_octets Old) (message_octets New) (if is_new then message_len r else 0) counted after keeps.counts (octets_put Old r is_new New was_put) is_after;
     }
 

@@ -1,5 +1,5 @@
 -- From the records held to a zone, or to the least owner outside.
-use Rattle.std.proofs.Common.{◌≡◌, ◌≢◌, ◌⊎◌, ℕ, Bool, true, false, ◌==◌, if◌then◌else◌, List, [], ◌∷◌, ◌++◌, Ordering, Less, Equal, Greater, nat_cmp, refl, sym, ap, ◌∙◌, subst, inl, inr, ⊎_elim, ne_eqb}
+use Rattle.std.proofs.Common.{◌≡◌, ◌≢◌, ℕ, Bool, true, false, ◌==◌, if◌then◌else◌, List, [], ◌∷◌, ◌++◌, Ordering, Less, Equal, Greater, nat_cmp, refl, sym, ap, ◌∙◌, subst, inl, inr, ⊎_elim, ne_eqb}
 use Rattle.std.specs.List.{AllByRecursion}
 use Rattle.std.specs.Ordering.{ordering_then}
 use Rattle.zone_name.specs.Name.{IsWithin}
@@ -8,7 +8,8 @@ use Rattle.zone_rdata.specs.Record.{Record}
 use Rattle.zone_rdata.specs.declared.fault.Fault.TheVariants.{NoSoa, OutOfZone}
 use Rattle.zone_rdata.specs.declared.fault.Place.TheVariants.{Whole}
 use Rattle.zone_rdata.specs.declared.fault.Stop.TheVariants.{Refused}
-use Rattle.zone_set.proofs.KeyOrder.{exact_names}
+use Rattle.zone_name.proofs.Lawful.{name_cmp-exact}
+use Rattle.zone_set.proofs.Between.{Has-append, Ascends-right}
 use Rattle.zone_set.proofs.Together.{each_Has, each_from_Has, soa_first}
 use Rattle.zone_set.specs.Builder.{HasNoSoa, IsLeastOutside, StopsFinish, no_soa, outside}
 use Rattle.zone_set.specs.Machine.Held.{IsFirstOutside}
@@ -65,20 +66,6 @@ IsZone-from_first first others compatible soa within = record {
   within = (IsWithin-itself first.owner, within);
 }
 
--- the records of a list in two parts
-Has-parts : (before : List Record) (f : Record) (after : List Record) (r : Record) → Has (before ++ f ∷ after) r → Has before r ⊎ ((r ≡ f) ⊎ Has after r)
-Has-parts [] f after r has = inr has
-Has-parts (x ∷ before) f after r has =
-    ⊎_elim (λ same. inl (inl same)) (λ more. ⊎_elim (λ h. inl (inr h)) (λ h. inr h) (Has-parts before f after r more)) has
-
-Has-middle : (before : List Record) (f : Record) (after : List Record) → Has (before ++ f ∷ after) f
-Has-middle [] f after = inl refl
-Has-middle (x ∷ before) f after = inr (Has-middle before f after)
-
-less_after : (before : List Record) (f : Record) (after : List Record) (r : Record) → Ascends (before ++ f ∷ after) → Has after r → canonical_cmp f r ≡ Less
-less_after [] f after r ascend has = each_Has (λ s. canonical_cmp f s ≡ Less) after r ascend.0 has
-less_after (x ∷ before) f after r ascend has = less_after before f after r ascend.1 has
-
 -- among records that are no SOA the order is first by owner
 by_owner : (b c : Bool) (o p : Ordering) → b ≡ false → c ≡ false → ordering_then (nat_cmp (if b then 0 else 1) (if c then 0 else 1)) (ordering_then o p) ≡ Less → o ≢ Equal → o ≡ Less
 by_owner true c o p no_b no_c less other = cc
@@ -98,7 +85,7 @@ IsLeastOutside-from_first soa others owner compatible is_soa found = record {
 }
   where
     has_first : Has others found.first
-    has_first = subst (λ rs. Has rs found.first) (sym found.parts) (Has-middle found.before found.first found.others)
+    has_first = subst (λ rs. Has rs found.first) (sym found.parts) ((Has-append found.before (found.first ∷ found.others) found.first).1 (inr (inl refl)))
 
     -- a record outside is no SOA
     not_soa : (r : Record) → Has (soa ∷ others) r → (IsWithin r.owner soa.owner → ⊥) → (r.kind == 6) ≡ false
@@ -109,22 +96,18 @@ IsLeastOutside-from_first soa others owner compatible is_soa found = record {
 
     after : (r : Record) → Has found.others r → (IsWithin r.owner soa.owner → ⊥) → r.owner ≢ owner → name_cmp owner r.owner ≡ Less
     after r has out other =
-        let has_r : Has others r = subst (λ rs. Has rs r) (sym found.parts) (has_after found.before found.first found.others r has) in
-        let less : canonical_cmp found.first r ≡ Less = less_after found.before found.first found.others r (subst Ascends found.parts compatible.ascend.1) has in
+        let has_r : Has others r = subst (λ rs. Has rs r) (sym found.parts) ((Has-append found.before (found.first ∷ found.others) r).1 (inr (inr has))) in
+        let less : canonical_cmp found.first r ≡ Less = each_Has (λ s. canonical_cmp found.first s ≡ Less) found.others r (Ascends-right found.before (found.first ∷ found.others) (subst Ascends found.parts compatible.ascend.1)).0 has in
         subst (λ o. name_cmp o r.owner ≡ Less) found.named
         (by_owner (found.first.kind == 6) (r.kind == 6) (name_cmp found.first.owner r.owner) _ (not_soa found.first (inr has_first) first_out) (not_soa r (inr has_r) out) less
-        (λ e. other (sym (exact_names found.first.owner r.owner e) ∙ found.named)))
-      where
-        has_after : (before : List Record) (f : Record) (rest : List Record) (s : Record) → Has rest s → Has (before ++ f ∷ rest) s
-        has_after [] f rest s h = inr h
-        has_after (x ∷ before) f rest s h = inr (has_after before f rest s h)
+        (λ e. other (sym (name_cmp-exact found.first.owner r.owner e) ∙ found.named)))
 
     least : (r : Record) → Has (soa ∷ others) r → (IsWithin r.owner soa.owner → ⊥) → r.owner ≢ owner → name_cmp owner r.owner ≡ Less
     least r has out other =
         ⊎_elim (λ same. absurd (out (subst (λ s. IsWithin s.owner soa.owner) (sym same) (IsWithin-itself soa.owner))))
         (λ more. ⊎_elim (λ before. absurd (out (each_Has (λ s. IsWithin s.owner soa.owner) found.before r found.inside before)))
         (⊎_elim (λ same. absurd (other (ap (λ s. s.owner) same ∙ found.named))) (λ later. after r later out other))
-        (Has-parts found.before found.first found.others r (subst (λ rs. Has rs r) found.parts more))) has
+        ((Has-append found.before (found.first ∷ found.others) r).0 (subst (λ rs. Has rs r) found.parts more))) has
 
 -- the apex itself is not outside
 IsFirstOutside-others : (soa : Record) (others : List Record) (owner : List (List ℕ)) → IsFirstOutside (soa ∷ others) soa.owner owner → IsFirstOutside others soa.owner owner

@@ -6,9 +6,9 @@ use Rattle.std.proofs.lemmas.List.Concat.{flat_map-append}
 use Rattle.zone_name.specs.Name.{IsLabel, IsName, IsWithin, with_length, wire, labels_of}
 use Rattle.zone_name.proofs.Octets.{labels_of-wire}
 use Rattle.zone_name.proofs.Pushing.{AllByRecursion-front, AllByRecursion-back}
-use Rattle.zone_set.proofs.FirstOctets.{first_octets-bound}
+use Rattle.zone_set.proofs.Digits.{first_digits-bound}
 use Rattle.zone_set.proofs.LabelKey.{owner_low, owner_key-push}
-use Rattle.zone_set.specs.Machine.Hint.{first_octets, IsPutBefore}
+use Rattle.zone_set.specs.Machine.Hint.{first_digits, IsPutBefore}
 use Rattle.zone_set.specs.Machine.LabelKey.{label_key, owner_key}
 
 -- labels before others, and the octets of both
@@ -26,7 +26,7 @@ pub record IsWalked (base owner left : List (List ℕ)) (len key : ℕ) : Type 0
   pub done : List (List ℕ)
   pub parts : owner ≡ done ++ left
   pub counts : len ≡ length (wire left)
-  pub gathers : key ≡ first_octets 7 (owner_key done)
+  pub gathers : key ≡ first_digits 7 (owner_key done)
   pub within : IsWithin owner base → IsWithin left base
 
 pub walked_start : (base owner left : List (List ℕ)) (len : ℕ) → left ≡ owner → len ≡ length (wire owner) → IsWalked base owner left len 0
@@ -51,13 +51,13 @@ module _ (base owner left : List (List ℕ)) (len key : ℕ) (walked : IsWalked 
     parts = walked.parts ∙ ap (λ ls. walked.done ++ ls) cut ∙ sym (append_assoc walked.done (label ∷ []) rest);
     counts = omega (arith, is, walked.counts, ap (λ ls. length (wire ls)) cut, length-wire label rest);
     gathers = put (owner_key walked.done) (owner_low walked.done (AllByRecursion-front IsLabel walked.done left (subst (AllByRecursion IsLabel) walked.parts name.each))) walked.gathers
-        ∙ ap (first_octets 7) (sym (owner_key-push walked.done label));
+        ∙ ap (first_digits 7) (sym (owner_key-push walked.done label));
     within = λ w. let before = walked.within w in within_rest base rest before.0 label (omega (arith, more, walked.counts, ap (λ ls. length (wire ls)) cut)) (sym cut ∙ before.1);
   }
 
-  -- the number takes seven octets
-  pub walked_short : IsName owner → key < 2 ^ 56
-  walked_short name = subst (λ k. k < 2 ^ 56) (sym walked.gathers) (first_octets-bound 7 (owner_key walked.done) (owner_low walked.done (AllByRecursion-front IsLabel walked.done left (subst (AllByRecursion IsLabel) walked.parts name.each))))
+  -- the number takes seven digits
+  pub walked_short : IsName owner → key < 2 ^ 57
+  walked_short name = let most = first_digits-bound 7 (owner_key walked.done) (owner_low walked.done (AllByRecursion-front IsLabel walked.done left (subst (AllByRecursion IsLabel) walked.parts name.each))) in omega (arith, most, walked.gathers)
 
   module _ (last : List ℕ) (name : IsName owner) (base_name : IsName base) (is : last ≡ drop (length (wire owner) - len) (wire owner)) where
     -- the last octets are those of the labels that are left
@@ -67,7 +67,7 @@ module _ (base owner left : List (List ℕ)) (len key : ℕ) (walked : IsWalked 
         is ∙ ap (drop (length (wire owner) - len)) whole
         ∙ drop_at (flat_map with_length walked.done) (wire left) (length (wire owner) - len) (omega (arith, walked.counts, ap length whole, length-append (flat_map with_length walked.done) (wire left)))
 
-    pub walked_found : last ≡ wire base → (front : List (List ℕ)) × (owner ≡ front ++ base) × (key ≡ first_octets 7 (owner_key front))
+    pub walked_found : last ≡ wire base → (front : List (List ℕ)) × (owner ≡ front ++ base) × (key ≡ first_digits 7 (owner_key front))
     walked_found same =
         let each : AllByRecursion IsLabel left = AllByRecursion-back IsLabel walked.done left (subst (AllByRecursion IsLabel) walked.parts name.each) in
         let found : left ≡ base = sym (labels_of-wire left each) ∙ ap labels_of (sym last_octets ∙ same) ∙ labels_of-wire base base_name.each in

@@ -1,7 +1,7 @@
 -- One more record among those that stand together.
 use Rattle.std.proofs.Common.{◌≡◌, ◌⊎◌, List, refl, sym, subst, ⊎_elim}
 use Rattle.zone_rdata.specs.Record.{Record, IsRecord}
-use Rattle.zone_set.proofs.Together.{each_Has, each_from_Has, accepted_class, accepted_ttl, accepted_soa}
+use Rattle.zone_set.proofs.Together.{each_Has, each_from_Has, flipped, accepted_class, accepted_ttl, accepted_soa}
 use Rattle.zone_set.specs.Builder.{Accepts}
 use Rattle.zone_set.specs.Order.{Ascends}
 use Rattle.zone_set.specs.Zone.{Has, InOneSet, AreCompatible}
@@ -24,6 +24,3 @@ AreCompatible-with old new r compatible fits whole same ascend =
       one_ttl = among_both old new r same (λ s t. InOneSet s t → s.ttl ≡ t.ttl) (λ _. refl) (accepted_ttl old r fits) (λ s has one. sym (accepted_ttl old r fits s has (flipped one))) compatible.one_ttl;
       one_soa = among_both old new r same (λ s t. s.kind ≡ 6 → t.kind ≡ 6 → s ≡ t) (λ _ _. refl) (accepted_soa old r fits) (λ s has soa_r soa_s. sym (accepted_soa old r fits s has soa_s soa_r)) compatible.one_soa;
     }
-  where
-    flipped : {s t : Record} → InOneSet s t → InOneSet t s
-    flipped one = record { owner = sym one.owner; kind = sym one.kind; covers = sym one.covers }

@@ -1,58 +1,20 @@
--- In the order of names those at or below an apex stand together, and so do the records after an SOA.
-use Rattle.std.proofs.Common.{◌≡◌, ◌≢◌, ℕ, Option, Some, None, Bool, true, false, ◌==◌, if◌then◌else◌, List, [], ◌∷◌, ◌++◌, reverse, Ordering, Less, Equal, Greater, nat_cmp, refl, sym, ap, ◌∙◌, subst, inl, inr, ⊎_elim, append-nil, ne_eqb, eqb-true, eq-eqb}
-use Rattle.std.proofs.lemmas.Cmp.{nat_list_cmp_total, tied_itself}
-use Rattle.std.proofs.lemmas.List.{reverse-reverse, reverse-append}
-use Rattle.std.proofs.lemmas.Map.Lookups.{exact_bytes}
-use Rattle.std.specs.Cmp.Lexicographic.{slice_cmp}
+-- The records after an SOA whose owners lie at or below an apex stand together.
+use Rattle.std.proofs.Common.{◌≡◌, ◌≢◌, ℕ, Option, Some, None, Bool, true, false, ◌==◌, if◌then◌else◌, List, [], ◌∷◌, ◌++◌, Ordering, Less, Equal, Greater, nat_cmp, refl, sym, ap, ◌∙◌, subst, inl, inr, ⊎_elim, ne_eqb, eqb-true, eq-eqb}
+use Rattle.std.proofs.lemmas.Cmp.{tied_itself}
 use Rattle.std.specs.List.{AllByRecursion}
 use Rattle.std.specs.Option.{IfSome, MatchOption}
-use Rattle.std.specs.Ordering.{ordering_then, ordering_reverse}
+use Rattle.std.specs.Ordering.{ordering_then}
 use Rattle.zone_name.specs.Name.{IsWithin}
-use Rattle.zone_name.specs.Order.{label_cmp, name_cmp}
+use Rattle.zone_name.specs.Order.{name_cmp}
 use Rattle.zone_rdata.specs.Record.{Record}
-use Rattle.zone_set.proofs.Between.{before_last, Has-append}
-use Rattle.zone_set.proofs.HintOrder.{canonical_total}
+use Rattle.zone_set.proofs.Between.{before_all, Has-append}
+use Rattle.zone_set.proofs.SetOrder.{canonical_total}
+use Rattle.zone_set.proofs.Within.{within_between}
 use Rattle.zone_set.proofs.Together.{each_Has, each_from_Has, soa_before}
 use Rattle.zone_set.specs.Order.{canonical_cmp, Ascends}
 use Rattle.zone_rdata.specs.Lent.{record_of}
 use Rattle.zone_set.specs.Zone.{Has, AreCompatible}
 use Rattle.zone_rdata.specs.declared.lent.RrRef.{RrRef}
-
--- labels that begin with others
-abbrev Begins : List (List ℕ) → List (List ℕ) → Type 0
-Begins labels front = (rest : List (List ℕ)) × (labels ≡ front ++ rest)
-
--- what lies between labels that begin so begins so
-begins_between : (front xs ys zs : List (List ℕ)) → Begins xs front → Begins zs front → slice_cmp label_cmp xs ys ≢ Greater → slice_cmp label_cmp ys zs ≢ Greater → Begins ys front
-begins_between [] xs ys zs in_xs in_zs low high = (ys, refl)
-begins_between (x ∷ front) xs [] zs in_xs in_zs low high = absurd (low (ap (λ ls. slice_cmp label_cmp ls []) in_xs.1))
-begins_between (x ∷ front) xs (y ∷ ys) zs in_xs in_zs low high = by (label_cmp x y) refl (begins_between front (front ++ in_xs.0) ys (front ++ in_zs.0) (in_xs.0, refl) (in_zs.0, refl))
-  where
-    low_here : ordering_then (label_cmp x y) (slice_cmp label_cmp (front ++ in_xs.0) ys) ≢ Greater
-    low_here e = low (ap (λ ls. slice_cmp label_cmp ls (y ∷ ys)) in_xs.1 ∙ e)
-
-    high_here : ordering_then (label_cmp y x) (slice_cmp label_cmp ys (front ++ in_zs.0)) ≢ Greater
-    high_here e = high (ap (λ ls. slice_cmp label_cmp (y ∷ ys) ls) in_zs.1 ∙ e)
-
-    back : (o : Ordering) → label_cmp x y ≡ o → label_cmp y x ≡ ordering_reverse o
-    back o is = nat_list_cmp_total.antisymm y x ∙ ap ordering_reverse is
-
-    by : (o : Ordering) → label_cmp x y ≡ o → (slice_cmp label_cmp (front ++ in_xs.0) ys ≢ Greater → slice_cmp label_cmp ys (front ++ in_zs.0) ≢ Greater → Begins ys front) → Begins (y ∷ ys) (x ∷ front)
-    by Less is later = absurd (high_here (ap (λ o. ordering_then o (slice_cmp label_cmp ys (front ++ in_zs.0))) (back Less is)))
-    by Greater is later = absurd (low_here (ap (λ o. ordering_then o (slice_cmp label_cmp (front ++ in_xs.0) ys)) is))
-    by Equal is later =
-        let rest = later (λ e. low_here (ap (λ o. ordering_then o (slice_cmp label_cmp (front ++ in_xs.0) ys)) is ∙ e))
-        (λ e. high_here (ap (λ o. ordering_then o (slice_cmp label_cmp ys (front ++ in_zs.0))) (back Equal is) ∙ e)) in
-        (rest.0, ap (λ l. l ∷ ys) (sym (exact_bytes x y is)) ∙ ap (λ ls. x ∷ ls) rest.1)
-
--- so does a name between two
-pub within_between : (apex a b c : List (List ℕ)) → IsWithin a apex → IsWithin c apex → name_cmp a b ≢ Greater → name_cmp b c ≢ Greater → IsWithin b apex
-within_between apex a b c in_a in_c low high =
-    let found = begins_between (reverse apex) (reverse a) (reverse b) (reverse c) (begins a in_a) (begins c in_c) low high in
-    (reverse found.0, sym (reverse-reverse b) ∙ ap reverse found.1 ∙ reverse-append (reverse apex) found.0 ∙ ap (λ ls. reverse found.0 ++ ls) (reverse-reverse apex))
-  where
-    begins : (ls : List (List ℕ)) → IsWithin ls apex → Begins (reverse ls) (reverse apex)
-    begins ls in_ls = (reverse in_ls.0, ap reverse in_ls.1 ∙ reverse-append in_ls.0 apex)
 
 -- after a record that is no SOA there is none, and the order is by owner
 by_owner : (x y : Bool) (o p : Ordering) → x ≡ false → ordering_then (nat_cmp (if x then 0 else 1) (if y then 0 else 1)) (ordering_then o p) ≡ Less → (y ≡ false) × (o ≢ Greater)
@@ -96,7 +58,7 @@ module _ (apex : List (List ℕ)) where
           let low : canonical_cmp l s ≡ Less = each_Has (λ t. canonical_cmp l t ≡ Less) rest s known.ascend.1.0 late in
           ⊎_elim
           (λ early.
-          let high : canonical_cmp s m ≡ Less = before_last front [] m s (subst Ascends (ends ∙ sym (append-nil (front ++ m ∷ []))) compatible.ascend) early in
+          let high : canonical_cmp s m ≡ Less = before_all front (m ∷ []) s m (subst Ascends ends compatible.ascend) early (inl refl) in
           between l s m (second_no_soa k l rest known) low high in_l in_m)
           (λ end. ⊎_elim (λ same. subst (λ t. IsWithin t.owner apex) (sym same) in_m) (λ none. absurd none) end)
           ((Has-append front (m ∷ []) s).0 (subst (λ rs. Has rs s) ends has))

@@ -1,11 +1,11 @@
 pub mod Numbers
-pub mod KeyOrder
+pub mod SetOrder
 pub mod LabelKey
-pub mod FirstOctets
+pub mod Digits
+pub mod Within
 pub mod HintOrder
 pub mod HintWalk
 pub mod Together
-pub mod Canonical
 pub mod Storing
 pub mod Between
 pub mod Inserting

@@ -1,7 +1,7 @@
 -- Octets that are compared as numbers.
-use Rattle.std.proofs.Common.{length-append, ◌≡◌, ℕ, ◌+◌, ◌*◌, ◌<◌, List, [], ◌∷◌, ◌++◌, length, take, drop, Ordering, Less, Equal, Greater, nat_cmp, refl, sym, subst, ap, ap₂, ◌∙◌, arith}
+use Rattle.std.proofs.Common.{◌≡◌, ℕ, zero, suc, ◌+◌, ◌*◌, ◌<◌, List, [], ◌∷◌, length, take, drop, Ordering, Less, Equal, Greater, nat_cmp, refl, sym, subst, ap, ap₂, ◌∙◌, arith}
 use Rattle.std.proofs.lemmas.Cmp.{ranked}
-use Rattle.std.proofs.lemmas.List.{take-append-drop}
+use Rattle.std.proofs.lemmas.List.{length-take-le}
 use Rattle.std.specs.Cmp.{nat_cmp_is}
 use Rattle.std.specs.Cmp.Lexicographic.{slice_cmp}
 use Rattle.std.specs.Int.{from_be_bytes, w64}
@@ -42,14 +42,13 @@ numbers_compare m n (c ∷ x) (d ∷ y) same p q =
     ∙ ap (λ o. ordering_then o (slice_cmp nat_cmp x y)) (digits_compare m n c d p.0 q.0)
     ∙ then_assoc (nat_cmp m n) (nat_cmp c d) (slice_cmp nat_cmp x y)
 
--- lists of one length and what follows them
-pub fronts_compare : (x y more others : List ℕ) → length x ≡ length y → slice_cmp nat_cmp (x ++ more) (y ++ others) ≡ ordering_then (slice_cmp nat_cmp x y) (slice_cmp nat_cmp more others)
-fronts_compare [] [] more others same = refl
-fronts_compare [] (d ∷ y) more others same = absurd (omega (arith, same))
-fronts_compare (c ∷ x) [] more others same = absurd (omega (arith, same))
-fronts_compare (c ∷ x) (d ∷ y) more others same =
-    ap (ordering_then (nat_cmp c d)) (fronts_compare x y more others (omega (arith, same)))
-    ∙ sym (then_assoc (nat_cmp c d) (slice_cmp nat_cmp x y) (slice_cmp nat_cmp more others))
+-- lists compare by their fronts, and then by what follows
+pub cut_compare : (n : ℕ) (x y : List ℕ) → slice_cmp nat_cmp x y ≡ ordering_then (slice_cmp nat_cmp (take n x) (take n y)) (slice_cmp nat_cmp (drop n x) (drop n y))
+cut_compare zero x y = refl
+cut_compare (suc n) [] [] = refl
+cut_compare (suc n) [] (d ∷ y) = refl
+cut_compare (suc n) (c ∷ x) [] = refl
+cut_compare (suc n) (c ∷ x) (d ∷ y) = ap (ordering_then (nat_cmp c d)) (cut_compare n x y) ∙ sym (then_assoc (nat_cmp c d) _ _)
 
 -- eight octets as the number that they are read as
 number_of_eight : (x : List ℕ) → length x ≡ 8 → from_be_bytes w64 x ≡ number_on 0 x
@@ -83,9 +82,8 @@ then_same m n p same = ap (λ o. ordering_then o p) (sym (nat_cmp_is m n Equal s
 pub eights_first : (m n : ℕ) (a b x y more others : List ℕ) → m ≡ from_be_bytes w64 x → n ≡ from_be_bytes w64 y → AreLow a → AreLow b → (x ≡ take 8 a) × (more ≡ drop 8 a) × (length more + 8 ≡ length a) → (y ≡ take 8 b) × (others ≡ drop 8 b) × (length others + 8 ≡ length b)
     → slice_cmp nat_cmp a b ≡ ordering_then (nat_cmp m n) (slice_cmp nat_cmp more others)
 eights_first m n a b x y more others is_m is_n low high p q =
-    let is_a : x ++ more ≡ a = ap₂ (λ (s t : List ℕ). s ++ t) p.0 p.1 ∙ take-append-drop 8 a in
-    let is_b : y ++ others ≡ b = ap₂ (λ (s t : List ℕ). s ++ t) q.0 q.1 ∙ take-append-drop 8 b in
-    let long_x : length x ≡ 8 = omega (arith, length-append x more, ap length is_a, p.2) in
-    let long_y : length y ≡ 8 = omega (arith, length-append y others, ap length is_b, q.2) in
-    ap₂ (slice_cmp nat_cmp) (sym is_a) (sym is_b) ∙ fronts_compare x y more others (long_x ∙ sym long_y)
-    ∙ ap (λ o. ordering_then o (slice_cmp nat_cmp more others)) (sym (ap₂ nat_cmp is_m is_n ∙ eights_compare x y long_x long_y (subst AreLow (sym p.0) (low_take 8 a low)) (subst AreLow (sym q.0) (low_take 8 b high))))
+    let long_x : length x ≡ 8 = ap length p.0 ∙ length-take-le 8 a (omega (arith, p.2)) in
+    let long_y : length y ≡ 8 = ap length q.0 ∙ length-take-le 8 b (omega (arith, q.2)) in
+    let fronts = eights_compare x y long_x long_y (subst AreLow (sym p.0) (low_take 8 a low)) (subst AreLow (sym q.0) (low_take 8 b high)) in
+    let cut = cut_compare 8 a b in
+    rw (is_m, is_n, fronts, p.0, q.0, p.1, q.1) cut

@@ -1,16 +1,18 @@
 -- A record that is put among entries: where it is sought, what its neighbours tell, and what is held with it.
-use Rattle.std.proofs.Common.{◌≡◌, ◌≢◌, ℕ, Bool, true, false, List, [], ◌∷◌, ◌++◌, length, map, sym, ap, ◌∙◌, subst, arith}
+use Rattle.std.proofs.Common.{◌≡◌, ◌≢◌, ℕ, Bool, true, false, List, [], ◌∷◌, ◌++◌, length, map, sym, ap, ◌∙◌, subst}
 use Rattle.std.proofs.lemmas.List.Elements.{All-from_recursion, recursion_from_All}
+use Rattle.std.proofs.lemmas.List.{map-append}
 use Rattle.std.specs.List.{All, AllByRecursion}
-use Rattle.std.specs.List.Sorted.{IsPartitionedBy}
+use Rattle.zone_name.proofs.Pushing.{AllByRecursion-back, AllByRecursion-front}
+use Rattle.sorted_chunks.specs.Chunks.{IsParting}
 use Rattle.std.specs.Ordering.{is_lt}
 use Rattle.zone_rdata.specs.Record.{Record, IsRecord, data_of}
 use Rattle.zone_set.proofs.Adding.{class_of}
-use Rattle.zone_set.proofs.Between.{each_before, map-append, none_before, parted, Parts}
-use Rattle.zone_set.proofs.HintOrder.{hint_orders}
+use Rattle.zone_set.proofs.Between.{each_before, none_before, parted, Parts}
+use Rattle.zone_set.proofs.HintOrder.{hint_orders, one_hint}
 use Rattle.zone_set.proofs.Storing.{all_with, each_kept, entry_appended, record_appended, records_kept}
 use Rattle.zone_set.specs.Machine.Held.{all_records, entry_record, HasOtherTtl, HoldsEntries, IsComparable, IsEntry, IsPut}
-use Rattle.zone_set.specs.Machine.Hint.{hint}
+use Rattle.zone_set.specs.Machine.Hint.{IsHint}
 use Rattle.zone_set.specs.Machine.Stored.{stored}
 use Rattle.zone_set.specs.Order.{canonical_cmp, Ascends}
 use Rattle.zone_set.specs.Zone.{covered_octets}
@@ -25,50 +27,46 @@ module _ (octets : List ℕ) (h : ℕ) (r : Record) (e : Entry) (comparable : Is
   other_hint_other_record same = differ (comparable.one_set (record { owner = ap (λ s. s.owner) same; kind = ap (λ s. s.kind) same; covers = ap (λ s. covered_octets (data_of s)) same }))
 
 module _ (base : List (List ℕ)) (octets : List ℕ) (r : Record) where
-  comparable : (h : ℕ) → IsRecord r → h ≡ hint base r.owner r.kind → (e : Entry) → IsEntry base r.class octets e → IsComparable octets h r e
+  comparable : (h : ℕ) → IsRecord r → IsHint base r.owner r.kind h → (e : Entry) → IsEntry base r.class octets e → IsComparable octets h r e
   comparable h whole is e entry =
       let s = entry_record r.class octets e in
       record {
         linked = entry.linked;
-        before = λ lt. hint_orders base s r entry.linked.whole.owner whole.owner (omega (arith, lt, is, entry.hinted));
-        after = λ lt. hint_orders base r s whole.owner entry.linked.whole.owner (omega (arith, lt, is, entry.hinted));
-        one_set = λ one. entry.hinted ∙ (λ i. hint base (one.owner i) (one.kind i)) ∙ sym is;
+        before = λ lt. hint_orders base s r e.hint h entry.linked.whole.owner whole.owner entry.hinted is lt;
+        after = λ lt. hint_orders base r s h e.hint whole.owner entry.linked.whole.owner is entry.hinted lt;
+        one_set = λ one. one_hint base r.owner r.kind e.hint h whole.owner (rw (one.owner, one.kind) at entry.hinted) is;
       }
 
-  pub each_comparable : (h : ℕ) → IsRecord r → h ≡ hint base r.owner r.kind → (es : List Entry) → AllByRecursion (IsEntry base r.class octets) es → AllByRecursion (IsComparable octets h r) es
+  pub each_comparable : (h : ℕ) → IsRecord r → IsHint base r.owner r.kind h → (es : List Entry) → AllByRecursion (IsEntry base r.class octets) es → AllByRecursion (IsComparable octets h r) es
   each_comparable h whole is [] each = tt
   each_comparable h whole is (e ∷ es) each = (comparable h whole is e each.0, each_comparable h whole is es each.1)
 
   -- the record may be compared with those of the entries
-  pub all_comparable : (h : ℕ) → IsRecord r → h ≡ hint base r.owner r.kind → (es : List Entry) → AllByRecursion (IsEntry base r.class octets) es → All (IsComparable octets h r) es
+  pub all_comparable : (h : ℕ) → IsRecord r → IsHint base r.owner r.kind h → (es : List Entry) → AllByRecursion (IsEntry base r.class octets) es → All (IsComparable octets h r) es
   all_comparable h whole is es each = All-from_recursion (IsComparable octets h r) es (each_comparable h whole is es each)
 
   abbrev goes_after : Entry → Bool
   goes_after e = is_lt (canonical_cmp (entry_record r.class octets e) r)
 
   -- what stands before its place and what does not
-  pub parts_at : (es before after : List Entry) → HoldsEntries base r.class octets es → before ++ after ≡ es → (IsPartitionedBy goes_after es → All (λ e. goes_after e ≡ true) before) → (IsPartitionedBy goes_after es → All (λ e. goes_after e ≡ false) after) → Parts (all_records r.class octets es) (map (entry_record r.class octets) before) (map (entry_record r.class octets) after) r
-  parts_at es before after holds whole low high =
+  pub parts_at : (es before after : List Entry) → HoldsEntries base r.class octets es → before ++ after ≡ es → IsParting goes_after es before after → Parts (all_records r.class octets es) (map (entry_record r.class octets) before) (map (entry_record r.class octets) after) r
+  parts_at es before after holds whole parting =
       let f = entry_record r.class octets in
-      let in_order = parted f r es holds.compatible.ascend in
+      let both = parting (parted f r es holds.compatible.ascend) in
       record {
         compatible = holds.compatible;
         classes = λ s has. class_of r.class octets es s has;
-        whole = ap (map f) (sym whole) ∙ map-append f r before after;
-        below = each_before f r before (recursion_from_All (λ e. goes_after e ≡ true) before (low in_order));
-        above = none_before f r after (recursion_from_All (λ e. goes_after e ≡ false) after (high in_order));
+        whole = ap (map f) (sym whole) ∙ map-append f before after;
+        below = each_before f r before (recursion_from_All (λ e. goes_after e ≡ true) before both.0);
+        above = none_before f r after (recursion_from_All (λ e. goes_after e ≡ false) after both.1);
       }
-
-  left : (before after : List Entry) → AllByRecursion (IsEntry base r.class octets) (before ++ after) → AllByRecursion (IsEntry base r.class octets) before × AllByRecursion (IsEntry base r.class octets) after
-  left [] after each = (tt, each)
-  left (e ∷ before) after each = let more = left before after each.1 in ((each.0, more.0), more.1)
 
   -- the entries and one that was put among them
   module _ (es before after fs : List Entry) (e : Entry) (now : List ℕ) (holds : HoldsEntries base r.class octets es) (parts : before ++ after ≡ es) (whole : IsRecord r) (at : e.at ≡ length octets) (appended : now ≡ octets ++ stored r) (put : fs ≡ before ++ e ∷ after) where
     each_old : AllByRecursion (IsEntry base r.class octets) (before ++ after)
     each_old = subst (AllByRecursion (IsEntry base r.class octets)) (sym parts) holds.each
 
-    pub each_put : e.hint ≡ hint base r.owner r.kind → AllByRecursion (IsEntry base r.class now) fs
+    pub each_put : IsHint base r.owner r.kind e.hint → AllByRecursion (IsEntry base r.class now) fs
     each_put hinted =
         subst (λ octs. AllByRecursion (IsEntry base r.class octs) fs) (sym appended)
         (subst (AllByRecursion (IsEntry base r.class (octets ++ stored r))) (sym put)
@@ -76,20 +74,19 @@ module _ (base : List (List ℕ)) (octets : List ℕ) (r : Record) where
 
     pub records_put : all_records r.class now fs ≡ map (entry_record r.class octets) before ++ r ∷ map (entry_record r.class octets) after
     records_put =
-        let both = left before after each_old in
         let f = entry_record r.class (octets ++ stored r) in
         ap (λ octs. all_records r.class octs fs) appended
         ∙ ap (map f) put
-        ∙ map-append f r before (e ∷ after)
-        ∙ ap (λ rs. rs ++ f e ∷ map f after) (records_kept r.class octets (stored r) base before both.0)
+        ∙ map-append f before (e ∷ after)
+        ∙ ap (λ rs. rs ++ f e ∷ map f after) (records_kept r.class octets (stored r) base before (AllByRecursion-front (IsEntry base r.class octets) before after each_old))
         ∙ ap (λ s. map (entry_record r.class octets) before ++ s ∷ map f after) (record_appended octets r whole e at)
-        ∙ ap (λ rs. map (entry_record r.class octets) before ++ r ∷ rs) (records_kept r.class octets (stored r) base after both.1)
+        ∙ ap (λ rs. map (entry_record r.class octets) before ++ r ∷ rs) (records_kept r.class octets (stored r) base after (AllByRecursion-back (IsEntry base r.class octets) before after each_old))
 
     pub was_put : Ascends (map (entry_record r.class octets) before ++ r ∷ map (entry_record r.class octets) after) → IsPut (all_records r.class octets es) r true (all_records r.class now fs)
     was_put ascend = (
       map (entry_record r.class octets) before,
       map (entry_record r.class octets) after,
-      ap (map (entry_record r.class octets)) (sym parts) ∙ map-append (entry_record r.class octets) r before after,
+      ap (map (entry_record r.class octets)) (sym parts) ∙ map-append (entry_record r.class octets) before after,
       records_put,
       subst Ascends (sym records_put) ascend,
     )

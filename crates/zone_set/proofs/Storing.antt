@@ -8,7 +8,7 @@ use Rattle.zone_name.specs.Name.{wire, labels_of}
 use Rattle.zone_name.proofs.Octets.{labels_of-wire}
 use Rattle.zone_rdata.specs.Record.{Record, IsRecord}
 use Rattle.zone_set.specs.Machine.Held.{all_records, entry_record, IsEntry, IsLinked}
-use Rattle.zone_set.specs.Machine.Hint.{hint}
+use Rattle.zone_set.specs.Machine.Hint.{IsHint}
 use Rattle.zone_set.specs.Machine.Stored.{record_from, read_record, stored, IsStored}
 use Rattle.zone_set.specs.declared.entry.Entry.{Entry}
 
@@ -57,7 +57,7 @@ module _ (class : ℕ) (octets more : List ℕ) where
     entry_kept : (e : Entry) → IsEntry base class octets e → IsEntry base class (octets ++ more) e
     entry_kept e entry = record {
       linked = linked_kept e entry.linked;
-      hinted = entry.hinted ∙ ap (λ r. hint base r.owner r.kind) (sym (record_kept e entry.linked));
+      hinted = subst (λ r. IsHint base r.owner r.kind e.hint) (sym (record_kept e entry.linked)) entry.hinted;
     }
 
     pub each_kept : (es : List Entry) → AllByRecursion (IsEntry base class octets) es → AllByRecursion (IsEntry base class (octets ++ more)) es
@@ -78,13 +78,13 @@ module _ (octets : List ℕ) (r : Record) (whole : IsRecord r) (e : Entry) (at :
   pub record_appended : entry_record r.class (octets ++ stored r) e ≡ r
   record_appended = ap (read_record r.class) ending ∙ read_stored r [] whole
 
-  pub entry_appended : (base : List (List ℕ)) → e.hint ≡ hint base r.owner r.kind → IsEntry base r.class (octets ++ stored r) e
+  pub entry_appended : (base : List (List ℕ)) → IsHint base r.owner r.kind e.hint → IsEntry base r.class (octets ++ stored r) e
   entry_appended base hinted = record {
     linked = record {
       stands = ([], ending ∙ ap (λ s. stored s ++ []) (sym record_appended));
       whole = subst IsRecord (sym record_appended) whole;
     };
-    hinted = hinted ∙ ap (λ s. hint base s.owner s.kind) (sym record_appended);
+    hinted = subst (λ s. IsHint base s.owner s.kind e.hint) (sym record_appended) hinted;
   }
 
 pub all_with : {X : Type 0} (P : X → Type 0) (before after : List X) (x : X) → AllByRecursion P (before ++ after) → P x → AllByRecursion P (before ++ x ∷ after)

@@ -1,14 +1,14 @@
 -- Records held: membership, sets, and what a refusal excludes.
-use Rattle.std.proofs.Common.{◌≡◌, ◌≢◌, ◌⊎◌, ℕ, Bool, true, false, Decides, ◌==◌, if◌then◌else◌, List, [], ◌∷◌, take, Ordering, Less, nat_cmp, eqb-true, eq-eqb, refl, sym, ap, ◌∙◌, subst, inl, inr, ⊎_elim}
-use Rattle.std.proofs.lemmas.Bool.{cases_eq}
-use Rattle.std.specs.Cmp.Lexicographic.{bytes_decides}
+use Rattle.std.proofs.Common.{◌≡◌, ◌≢◌, ◌⊎◌, ℕ, Bool, true, false, ◌==◌, if◌then◌else◌, List, [], ◌∷◌, take, Ordering, Less, nat_cmp, eqb-true, eq-eqb, refl, sym, ap, ◌∙◌, subst, inl, inr, ⊎_elim}
+use Rattle.std.proofs.lemmas.Cmp.{nat_cmp_total, nat_list_cmp_total}
+use Rattle.std.proofs.lemmas.Map.Lookups.{exact_unsigned, exact_bytes}
 use Rattle.std.specs.List.{AllByRecursion}
-use Rattle.zone_rdata.specs.Record.{Record, data_of}
+use Rattle.zone_rdata.specs.Record.{Record}
 use Rattle.zone_set.specs.Order.{canonical_cmp, Ascends}
 use Rattle.std.specs.Ordering.{ordering_then}
-use Rattle.zone_set.proofs.KeyOrder.{decides_owner}
+use Rattle.zone_name.proofs.Lawful.{name_cmp-exact, name_cmp-total}
+use Rattle.zone_set.proofs.SetOrder.{stable}
 use Rattle.zone_set.specs.Builder.{AreTwoSoas, OtherSoa, Accepts}
-use Rattle.zone_set.specs.Machine.RecordSet.{RecordSet, set_for}
 use Rattle.zone_set.specs.Zone.{Has, InOneSet, AreCompatible}
 
 -- what holds of each record, and of each that is held
@@ -20,29 +20,14 @@ pub each_from_Has : (P : Record → Type 0) (records : List Record) → ((r : Re
 each_from_Has P [] holds = tt
 each_from_Has P (s ∷ records) holds = (holds s (inl refl), each_from_Has P records (λ r has. holds r (inr has)))
 
--- what is not false is true, where a test decides it
-stable : {P : Type 0} (b : Bool) → Decides b P → ((P → ⊥) → ⊥) → P
-stable true decides twice = decides.0 refl
-stable false decides twice = absurd (twice (λ p. let no : false ≡ true = decides.1 p in cc))
-
 pub stable_number : (a b : ℕ) → ((a ≢ b) → ⊥) → a ≡ b
-stable_number a b twice = ⊎_elim (λ e. e) (λ ne. absurd (twice ne)) (cases_eq a b)
-
-pub stable_octets : (a b : List ℕ) → ((a ≢ b) → ⊥) → a ≡ b
-stable_octets a b twice = stable _ (bytes_decides a b) twice
+stable_number = stable nat_cmp_total exact_unsigned
 
 pub stable_owner : (a b : List (List ℕ)) → ((a ≢ b) → ⊥) → a ≡ b
-stable_owner a b twice = stable _ (decides_owner a b) twice
+stable_owner = stable name_cmp-total name_cmp-exact
 
--- the set of a record
-abbrev pub set_at : Record → RecordSet
-set_at r = set_for r.owner (data_of r)
-
-pub key_from_set : (r s : Record) → InOneSet r s → set_at r ≡ set_at s
-key_from_set r s one = λ i. record { owner = one.owner i; kind = one.kind i; covered = one.covers i }
-
-pub set_from_key : (r s : Record) → set_at r ≡ set_at s → InOneSet r s
-set_from_key r s same = record { owner = ap (λ k. k.owner) same; kind = ap (λ k. k.kind) same; covers = ap (λ k. k.covered) same }
+pub flipped : {r s : Record} → InOneSet r s → InOneSet s r
+flipped one = record { owner = cc; kind = cc; covers = cc }
 
 -- records with one owner, type and data are of one set
 pub one_set : (r s : Record) → r.owner ≡ s.owner → r.kind ≡ s.kind → r.octets ≡ s.octets → InOneSet r s
@@ -59,7 +44,7 @@ module _ (held : List Record) (r : Record) (fits : Accepts held r) where
   pub accepted_soa : (s : Record) → Has held s → s.kind ≡ 6 → r.kind ≡ 6 → s ≡ r
   accepted_soa s has soa_s soa_r =
       let owner : s.owner ≡ r.owner = stable_owner _ _ (λ other. fits.one_soa (s, has, (soa_r, soa_s, inl other))) in
-      let octets : s.octets ≡ r.octets = stable_octets _ _ (λ other. fits.one_soa (s, has, (soa_r, soa_s, inr other))) in
+      let octets : s.octets ≡ r.octets = stable nat_list_cmp_total exact_bytes _ _ (λ other. fits.one_soa (s, has, (soa_r, soa_s, inr other))) in
       let kind : s.kind ≡ r.kind = soa_s ∙ sym soa_r in
       let class : s.class ≡ r.class = accepted_class s has in
       let ttl : s.ttl ≡ r.ttl = accepted_ttl s has (one_set s r owner kind octets) in

@@ -1,5 +1,4 @@
 -- What only private functions, invariants and proofs cite.
-pub mod RecordSet
 pub mod LabelKey
 pub mod Hint
 pub mod Stored

@@ -1,26 +1,29 @@
-ghost use Rattle.std.specs.Prelude.{◌≡◌, ◌<◌, ◌++◌, ◌∷◌, ◌^◌, [], take, List, ℕ, IfNone, IfSome};
+ghost use Rattle.std.specs.Prelude.{◌≡◌, ◌<◌, ◌≤◌, ◌++◌, ◌∷◌, ◌^◌, [], take, List, ℕ, IfNone, IfSome};
 ghost use Rattle.zone_name.specs.Name.{IsWithin};
-ghost use Rattle.zone_set.specs.Machine.Hint.{hint, first_octets, IsPutBefore};
-ghost use Rattle.zone_set.specs.Machine.LabelKey.{escaped_octet, label_key, owner_key};
+ghost use Rattle.zone_set.specs.Machine.Hint.{first_digits, IsHint, IsPutBefore};
+ghost use Rattle.zone_set.specs.Machine.LabelKey.{label_key, owner_key};
 
 use std::cmp::Ordering;
 use zone_name::{Name, NameRef};
 use zone_rdata::Kind;
 
 /// The hint of an owner before the base, but for those at or below it.
-const BEFORE: u64 = 1 << 56;
+const BEFORE: u64 = 1 << 57;
 
 /// The least hint of an owner at or below the base.
-const WITHIN: u64 = 2 << 56;
+const WITHIN: u64 = 2 << 57;
 
 /// The hint of an owner after the base, but for those at or below it.
-const AFTER: u64 = 3 << 56;
+const AFTER: u64 = 3 << 57;
+
+/// The highest of seven digits to the base 257.
+const HIGHEST: u64 = 257 * 257 * 257 * 257 * 257 * 257;
 
 /// The hint of a record: a number that is never less than that of a record before it in canonical
 /// order. Most owners of a zone lie below its base, and these the first octets of the labels before
 /// the base's tell apart.
 pub(crate) fn hint_of(base: &Name, owner: &NameRef<'_>, kind: Kind) -> u64
-    ensures { result ≡ hint base.now owner.now kind }
+    ensures { IsHint base.now owner.now kind result }
 {
     if kind.is_soa() {
         return 0;
@@ -34,12 +37,12 @@ pub(crate) fn hint_of(base: &Name, owner: &NameRef<'_>, kind: Kind) -> u64
     }
 }
 
-/// The first seven octets of the key of the labels before the base's. `None`: the owner doesn't lie
+/// The first seven digits of the key of the labels before the base's. `None`: the owner doesn't lie
 /// at or below the base.
 fn front_key(base: &Name, owner: &NameRef<'_>) -> Option<u64>
     ensures within { IfSome result (λ key. (front : List (List ℕ))
-        × (owner.now ≡ front ++ base.now) × (key ≡ first_octets 7 (owner_key front))) }
-    ensures short { IfSome result (λ key. key < 2 ^ 56) }
+        × (owner.now ≡ front ++ base.now) × (key ≡ first_digits 7 (owner_key front))) }
+    ensures short { IfSome result (λ key. key < 2 ^ 57) }
     ensures none { IfNone result (IsWithin owner.now base.now → ⊥) }
 {
     let (octets, ending) = (owner.wire(), base.wire());
@@ -57,14 +60,15 @@ fn front_key(base: &Name, owner: &NameRef<'_>) -> Option<u64>
     if last == ending { Some(key) } else { None }
 }
 
-/// Puts a label and its end before the octets of a number.
+/// Puts a label and its end before the digits of a number.
 fn put_label(label: &[u8], after: u64) -> u64
     ensures { IsPutBefore (label_key label.now) after result }
 {
     let mut left = seven_octets(label);
-    let mut whole = put_octet(0, after);
+    let mut whole = put_digit(0, after);
     while let Some((octet, before)) = left.split_last() {
-        whole = put_escaped(*octet, whole);
+        // An octet counts one more, since the end is 0.
+        whole = put_digit(*octet as u64 + 1, whole);
         left = before;
     }
     whole
@@ -77,20 +81,10 @@ fn seven_octets(label: &[u8]) -> &[u8]
     if label.len() > 7 { &label[..7] } else { label }
 }
 
-/// Puts an octet of a label before the octets of a number.
-fn put_escaped(octet: u8, after: u64) -> u64
-    ensures { IsPutBefore (escaped_octet octet) after result }
+/// Puts a digit before those of a number, of which the last one goes.
+fn put_digit(digit: u64, after: u64) -> u64
+    requires { digit ≤ 256 }
+    ensures { IsPutBefore (digit ∷ []) after result }
 {
-    if octet > 1 {
-        put_octet(octet, after)
-    } else {
-        put_octet(1, put_octet(octet + 1, after))
-    }
-}
-
-/// Puts an octet before the octets of a number, of which the last one goes.
-fn put_octet(octet: u8, after: u64) -> u64
-    ensures { IsPutBefore (octet ∷ []) after result }
-{
-    (octet as u64 * (1 << 48)) + after / 256
+    digit * HIGHEST + after / 257
 }

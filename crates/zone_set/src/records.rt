@@ -7,23 +7,22 @@ use zone_rdata::{Class, RrRef};
 /// The records of a zone that are left, in canonical order.
 #[derive(Drop)]
 pub struct Records<'z> {
-    pub(crate) class: Option<Class>,
+    pub(crate) class: Class,
     pub(crate) octets: &'z [u8],
     pub(crate) entries: Iter<'z, Entry>,
 }
 
 impl<'z> Model for Records<'z> {
-    ghost use Rattle.std.specs.Prelude.{List, [], ◌≡◌, None};
+    ghost use Rattle.std.specs.Prelude.{List};
     ghost use Rattle.std.specs.List.{AllByRecursion};
     ghost use Rattle.zone_rdata.specs.Record.{Record};
-    ghost use Rattle.zone_set.specs.Machine.Held.{all_records, class_or_none, IsLinked};
+    ghost use Rattle.zone_set.specs.Machine.Held.{all_records, IsLinked};
 
     ghost Value = { List Record };
 
-    ghost view = { λ r. all_records (class_or_none r.class) r.octets.now r.entries };
+    ghost view = { λ r. all_records r.class r.octets.now r.entries };
 
-    ghost invariant = { λ r. (r.class ≡ None → r.entries ≡ [])
-        × AllByRecursion (IsLinked (class_or_none r.class) r.octets.now) r.entries };
+    ghost invariant = { λ r. AllByRecursion (IsLinked r.class r.octets.now) r.entries };
 }
 
 impl<'z> Iterator for Records<'z> {
@@ -37,8 +36,7 @@ impl<'z> Iterator for Records<'z> {
     ghost remaining = { item_count (λ s. s) };
 
     fn next(&mut self) -> Option<RrRef<'z>> {
-        let class = self.class?;
         let entry = self.entries.next()?;
-        Some(record_at(class, self.octets, entry.at))
+        Some(record_at(self.class, self.octets, entry.at))
     }
 }

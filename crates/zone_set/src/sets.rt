@@ -3,9 +3,9 @@ ghost use Rattle.std.specs.List.{AllByRecursion};
 ghost use Rattle.sorted_chunks.specs.Chunks.{joined};
 ghost use Rattle.zone_name.specs.Name.{IsWithin};
 ghost use Rattle.zone_rdata.specs.Record.{Record, IsRecord};
-ghost use Rattle.zone_set.specs.Builder.{Accepts, Adds, AreTwoSoas, OtherSoa};
+ghost use Rattle.zone_set.specs.Builder.{Accepts, Adds, AreTwoSoas, OtherClass, OtherSoa};
 ghost use Rattle.zone_set.specs.Machine.Held.{IsFirstOutside};
-ghost use Rattle.zone_set.specs.Machine.Refusal.{IsOtherClass, IsRefusal};
+ghost use Rattle.zone_set.specs.Machine.Refusal.{IsRefusal};
 ghost use Rattle.zone_set.specs.Message.{message_len, message_octets};
 ghost use Rattle.zone_rdata.specs.Lent.{record_of};
 ghost use Rattle.zone_set.specs.Zone.{AreCompatible};
@@ -24,8 +24,8 @@ use zone_rdata::{Class, RrRef};
 /// Records that can stand together. Contracts see them in canonical order.
 #[derive(Drop)]
 pub(crate) struct Sets {
-    /// The class of all records; `None` where there are none.
-    class: Option<Class>,
+    /// The class of all records.
+    class: Class,
     /// The owner of the first record that came, which hints are relative to.
     base: Name,
     /// One copy of each record, in the order in which they came.
@@ -40,11 +40,11 @@ impl Model for Sets {
     ghost use Rattle.std.specs.Prelude.{List};
     ghost use Rattle.sorted_chunks.specs.Chunks.{joined};
     ghost use Rattle.zone_rdata.specs.Record.{Record};
-    ghost use Rattle.zone_set.specs.Machine.Held.{all_records, class_or_none, KeepsSets};
+    ghost use Rattle.zone_set.specs.Machine.Held.{all_records, KeepsSets};
 
     ghost Value = { List Record };
 
-    ghost view = { λ s. all_records (class_or_none s.class) s.octets.items (joined s.entries) };
+    ghost view = { λ s. all_records s.class s.octets.items (joined s.entries) };
 
     ghost invariant = { λ s.
         KeepsSets s.class s.base s.octets.items (joined s.entries) s.message_len };
@@ -55,8 +55,12 @@ impl Sets {
     pub(crate) fn new(alloc: Global) -> Sets
         ensures { result ≡ [] }
     {
+        // With no record it may be any class.
+        let Some(class) = Class::of_number(1) else {
+            unreachable!();
+        };
         Sets {
-            class: None,
+            class,
             base: Name::root(),
             octets: Vec::new(alloc),
             entries: SortedChunks::new(alloc),
@@ -125,9 +129,8 @@ impl Sets {
         ensures { MatchOption result (self.now ≡ [])
             (λ r. (front : List Record) × (self.now ≡ front ++ record_of r ∷ [])) }
     {
-        let class = self.class?;
         let entry = self.entries.last()?;
-        Some(record_at(class, self.octets.as_slice(), entry.at))
+        Some(record_at(self.class, self.octets.as_slice(), entry.at))
     }
 
     /// Takes a record. An equal one is dropped.
@@ -143,17 +146,27 @@ impl Sets {
         ensures refused { IfErr result (IsRefusal self.old (record_of rr.now)) }
         ensures unchanged { OnErr result (self.new ≡ self.old) }
     {
-        if is_other_class(self.class, rr.class) {
+        if self.has_other_class(rr) {
             return Err(Refusal::OtherClass);
         }
         if self.has_other_soa(rr) {
             return Err(Refusal::OtherSoa);
         }
+        self.class = rr.class;
         settle_base(&mut self.base, &self.entries, &rr.owner);
         let is_new = put(&mut self.entries, &mut self.octets, &self.base, rr)?;
-        self.class = Some(rr.class);
         self.message_len = octets_with(self.message_len, rr, is_new);
         Ok(())
+    }
+
+    /// Whether a record of another class is held.
+    fn has_other_class(&self, rr: &RrRef<'_>) -> bool
+        ensures { IsTrue result ↔ OtherClass self.now (record_of rr.now) }
+    {
+        if self.entries.is_empty() {
+            return false;
+        }
+        self.class != rr.class
     }
 
     /// Whether the record is an SOA, and another is held.
@@ -187,16 +200,6 @@ fn settle_base(base: &mut Name, entries: &SortedChunks<Entry, LIMIT>, owner: &Na
 {
     if entries.is_empty() {
         *base = owner.to_name();
-    }
-}
-
-/// Whether a class is held, and it is another.
-fn is_other_class(held: Option<Class>, class: Class) -> bool
-    ensures { IsTrue result ↔ IsOtherClass held class }
-{
-    match held {
-        Some(held) => held != class,
-        None => false,
     }
 }
 

@@ -1,12 +1,11 @@
 -- What the sets of a zone hold: octets of records, and entries in canonical order that tell where
 -- each record stands in them.
-use Rattle.std.specs.Prelude.{◌≡◌, ◌≢◌, ℕ, ◌-◌, ◌^◌, ◌<◌, min, Bool, true, false, List, [], ◌∷◌, ◌++◌, map, Option, Some, None}
+use Rattle.std.specs.Prelude.{◌≡◌, ◌≢◌, ℕ, ◌-◌, ◌^◌, ◌<◌, min, Bool, true, false, List, ◌∷◌, ◌++◌, map}
 use Rattle.std.specs.List.{AllByRecursion}
-use Rattle.std.specs.Option.{IfSome}
 use Rattle.std.specs.declared.cmp.Ordering.TheVariants.{Less}
 use Rattle.zone_name.specs.Name.{IsWithin}
 use Rattle.zone_rdata.specs.Record.{Record, IsRecord}
-use Rattle.zone_set.specs.Machine.Hint.{hint}
+use Rattle.zone_set.specs.Machine.Hint.{IsHint}
 use Rattle.zone_set.specs.Machine.Stored.{record_from, IsStored}
 use Rattle.zone_set.specs.Message.{message_octets}
 use Rattle.zone_set.specs.Order.{canonical_cmp, Ascends}
@@ -20,11 +19,6 @@ entry_record class octets e = record_from class octets e.at
 abbrev pub all_records : ℕ → List ℕ → List Entry → List Record
 all_records class octets entries = map (entry_record class octets) entries
 
--- the class, and 0 where none is known yet
-abbrev pub class_or_none : Option ℕ → ℕ
-class_or_none None = 0
-class_or_none (Some class) = class
-
 -- octets of a record stand where the entry says
 pub record IsLinked (class : ℕ) (octets : List ℕ) (e : Entry) : Type 0 where
   pub stands : IsStored class octets e.at
@@ -33,8 +27,8 @@ pub record IsLinked (class : ℕ) (octets : List ℕ) (e : Entry) : Type 0 where
 -- and its hint is that of the record
 pub record IsEntry (base : List (List ℕ)) (class : ℕ) (octets : List ℕ) (e : Entry) : Type 0 where
   pub linked : IsLinked class octets e
-  pub hinted : e.hint
-      ≡ hint base (entry_record class octets e).owner (entry_record class octets e).kind
+  pub hinted :
+      IsHint base (entry_record class octets e).owner (entry_record class octets e).kind e.hint
 
 -- an entry that can be compared with a record of a hint: where the hints differ, they decide, and
 -- the records are not of one set
@@ -50,15 +44,11 @@ pub record HoldsEntries (base : List (List ℕ)) (class : ℕ) (octets : List �
   pub each : AllByRecursion (IsEntry base class octets) entries
   pub compatible : AreCompatible (all_records class octets entries)
 
--- such entries, of which there are none where no class is known, and some where one is; and the
--- octets that their records take in messages, as far as 64 bits count them
-pub record KeepsSets (class : Option ℕ) (base : List (List ℕ)) (octets : List ℕ)
-    (entries : List Entry) (counted : ℕ) : Type 0 where
-  pub holds : HoldsEntries base (class_or_none class) octets entries
-  pub none : class ≡ None → entries ≡ []
-  pub some : IfSome class (λ _. entries ≢ [])
-  pub counts : counted
-      ≡ min (message_octets (all_records (class_or_none class) octets entries)) (2 ^ 64 - 1)
+-- such entries, and the octets that their records take in messages, as far as 64 bits count them
+pub record KeepsSets (class : ℕ) (base : List (List ℕ)) (octets : List ℕ) (entries : List Entry)
+    (counted : ℕ) : Type 0 where
+  pub holds : HoldsEntries base class octets entries
+  pub counts : counted ≡ min (message_octets (all_records class octets entries)) (2 ^ 64 - 1)
 
 -- records of one set whose TTLs differ
 abbrev pub HasOtherTtl : Record → Record → Type 0

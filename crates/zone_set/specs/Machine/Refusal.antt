@@ -1,5 +1,5 @@
 -- Why the map of sets does not take a record.
-use Rattle.std.specs.Prelude.{◌≢◌, ℕ, List, Option, Some, None, ⊤}
+use Rattle.std.specs.Prelude.{List, ⊤}
 use Rattle.zone_rdata.specs.Record.{Record}
 use Rattle.zone_rdata.specs.declared.fault.Fault.TheVariants.{ClassMismatch, MultipleSoa, DifferingTtl}
 use Rattle.zone_rdata.specs.declared.fault.Place.{Place}
@@ -9,11 +9,6 @@ use Rattle.zone_set.specs.Builder.{IsRefusedFor}
 use Rattle.zone_set.specs.Builder as builder
 use Rattle.zone_set.specs.declared.refusal.Refusal.{Refusal}
 use Rattle.zone_set.specs.declared.refusal.Refusal.TheVariants.{OtherClass, OtherSoa, OtherTtl, Memory}
-
--- a class is known, and it is another
-abbrev pub IsOtherClass : Option ℕ → ℕ → Type 0
-IsOtherClass None class = ⊥
-IsOtherClass (Some held) class = held ≢ class
 
 -- the reason is the first fault, if it is not want of memory
 abbrev pub IsRefusal : List Record → Record → Refusal → Type 0

@@ -135,6 +135,23 @@ static ZONED: &[Zoned] = &[
         b"x. 3600 IN SOA n.x. h.x. 1 2 3 4 5\nb.y. 60 IN NS n.x.\ny. 60 IN NS n.x.\n",
         Err("F43 OutOfZone y. in the input"),
     ),
+    // The first owner is neither the apex nor the least, so owners lie on both sides of it.
+    Zoned(
+        b"m.x. 60 IN NS n.x.\nz.x. 60 IN NS n.x.\nc.a.x. 60 IN NS n.x.\ny.z.x. 60 IN NS n.x.\na.x. 60 IN NS n.x.\nb.m.x. 60 IN NS n.x.\nc.a.x. 60 IN NS n.x.\nx. 60 IN SOA n.x. h.x. 1 2 3 4 5\n",
+        Ok(Whole(
+            b"x. 60 IN SOA n.x. h.x. 1 2 3 4 5\na.x. 60 IN NS n.x.\nc.a.x. 60 IN NS n.x.\nm.x. 60 IN NS n.x.\nb.m.x. 60 IN NS n.x.\nz.x. 60 IN NS n.x.\ny.z.x. 60 IN NS n.x.\n",
+            169,
+            &[
+                Held(6, 60, SOA),
+                Held(2, 60, b"\x01n\x01x\x00"),
+                Held(2, 60, b"\x01n\x01x\x00"),
+                Held(2, 60, b"\x01n\x01x\x00"),
+                Held(2, 60, b"\x01n\x01x\x00"),
+                Held(2, 60, b"\x01n\x01x\x00"),
+                Held(2, 60, b"\x01n\x01x\x00"),
+            ],
+        )),
+    ),
     Zoned(b"", Err("F42 NoSoa in the input")),
 ];
 

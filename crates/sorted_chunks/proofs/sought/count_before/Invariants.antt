@@ -8,8 +8,7 @@ abbrev pub invariant-loop-low : goal.invariant-loop-low
 invariant-loop-low g l = record {
   ordered : l.low ≤ l.high;
   bound : l.high ≤ length l.elements;
-  before : IsPartitionedBy (g.S.Sought.follows l.sought) l.elements → AllWithin (λ x. g.S.Sought.follows l.sought x ≡ true) l.elements 0 l.low;
-  others : IsPartitionedBy (g.S.Sought.follows l.sought) l.elements → AllWithin (λ x. g.S.Sought.follows l.sought x ≡ false) l.elements l.high (length l.elements);
+  parts : IsPartitionedBy (g.S.Sought.follows l.sought) l.elements → AllWithin (λ x. g.S.Sought.follows l.sought x ≡ true) l.elements 0 l.low × AllWithin (λ x. g.S.Sought.follows l.sought x ≡ false) l.elements l.high (length l.elements);
 }
 
 abbrev pub decreases-loop-low : goal.decreases-loop-low

@@ -1,9 +1,5 @@
-use Rattle.std.proofs.Common.{◌∙◌}
 use Rattle.zone_set.proofs.Storing.{each_linked}
 use Rattle.zone_set.proofs.sets.Sets.iter.Goals as goal
 
 pub invariant_of-result : goal.invariant_of-result
-invariant_of-result c = (
-  λ e. c.iter.ensures ∙ c.self.invariant.none e,
-  rw (c.iter.ensures, c.as_slice.ensures.value) (each_linked c.self.inside.base _ _ _ c.self.invariant.holds.each),
-)
+invariant_of-result c = rw (c.iter.ensures, c.as_slice.ensures.value) (each_linked c.self.inside.base _ _ _ c.self.invariant.holds.each)

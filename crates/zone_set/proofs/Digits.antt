@@ -1,0 +1,87 @@
+-- Numbers of first digits: their order, their bound, and digits that are put before others.
+use Rattle.std.proofs.Common.{◌≡◌, ℕ, zero, suc, ◌+◌, ◌*◌, ◌/◌, ◌^◌, ◌<◌, ◌≤◌, List, [], ◌∷◌, ◌++◌, length, take, Ordering, Less, Equal, Greater, nat_cmp, refl, sym, ap, ◌∙◌, subst, arith, append_assoc}
+use Rattle.std.proofs.Math.Nat.{pow-suc, one-le-pow, mul-le-mul_right, mul_assoc}
+use Rattle.std.proofs.lemmas.Cmp.{ranked}
+use Rattle.std.specs.Cmp.Lexicographic.{slice_cmp}
+use Rattle.std.specs.Prelude.{⊤}
+use Rattle.std.specs.Ordering.{ordering_then, MatchOrdering}
+use Rattle.zone_name.specs.Common.{AreOctets}
+use Rattle.zone_name.proofs.Pushing.{AllByRecursion-append, AllByRecursion-back}
+use Rattle.zone_rdata.proofs.FieldLaws.{low_take}
+use Rattle.zone_set.proofs.LabelKey.{label_low}
+use Rattle.zone_set.specs.Machine.Hint.{first_digits, AreDigits, IsPutBefore}
+use Rattle.zone_set.specs.Machine.LabelKey.{label_key}
+
+-- a digit before a number of others is below the next digit before none
+digit_bound : (c p n : ℕ) → c < 257 → n < p → c * p + n < p * 257
+digit_bound c p n low high = let most : c * p ≤ 256 * p = mul-le-mul_right p (omega (arith, low)) in omega (arith, most, high)
+
+-- the number takes n digits at most
+pub first_digits-bound : (n : ℕ) (digits : List ℕ) → AreDigits digits → first_digits n digits < 257 ^ n
+first_digits-bound zero digits low = omega arith
+first_digits-bound (suc n) [] low = one-le-pow (suc n) 257 (omega arith)
+first_digits-bound (suc n) (c ∷ digits) low = subst (λ p. c * 257 ^ n + first_digits n digits < p) (sym (pow-suc 257 n)) (digit_bound c (257 ^ n) (first_digits n digits) low.0 (first_digits-bound n digits low.1))
+
+-- the first digit decides, and then the rest
+digits_less : (c d p m n : ℕ) → m < p → n < p → c * p + m < d * p + n → MatchOrdering (nat_cmp c d) ⊤ (m < n) ⊥
+digits_less c d p m n low high h = by (nat_cmp c d) (ranked c d _ refl)
+  where
+    by : (o : Ordering) → MatchOrdering o (c < d) (c ≡ d) (d < c) → MatchOrdering o ⊤ (m < n) ⊥
+    by Less k = tt
+    by Equal k = let same : c * p ≡ d * p = ap (λ e. e * p) k in omega (arith, same, h)
+    by Greater k = let more : suc d * p ≤ c * p = mul-le-mul_right p k in let next : suc d * p ≡ d * p + p = omega arith in absurd (omega (arith, more, next, h, low, high))
+
+-- a number that is less is that of digits before others
+pub first_digits-less : (n : ℕ) (x y : List ℕ) → AreDigits x → AreDigits y → first_digits n x < first_digits n y → slice_cmp nat_cmp x y ≡ Less
+first_digits-less zero x y low high h = absurd (omega (arith, h))
+first_digits-less (suc n) [] [] low high h = absurd (omega (arith, h))
+first_digits-less (suc n) [] (d ∷ y) low high h = refl
+first_digits-less (suc n) (c ∷ x) [] low high h = absurd (omega (arith, h))
+first_digits-less (suc n) (c ∷ x) (d ∷ y) low high h =
+    by (nat_cmp c d) (digits_less c d (257 ^ n) (first_digits n x) (first_digits n y) (first_digits-bound n x low.1) (first_digits-bound n y high.1) h) (first_digits-less n x y low.1 high.1)
+  where
+    by : (o : Ordering) → MatchOrdering o ⊤ (first_digits n x < first_digits n y) ⊥ → (first_digits n x < first_digits n y → slice_cmp nat_cmp x y ≡ Less) → ordering_then o (slice_cmp nat_cmp x y) ≡ Less
+    by Less k later = refl
+    by Equal k later = later k
+    by Greater k later = absurd k
+
+-- the number of one digit fewer
+shorter_step : (c p n : ℕ) → (c * (p * 257) + n) / 257 ≡ c * p + n / 257
+shorter_step c p n = ap (λ t. (t + n) / 257) (sym (mul_assoc c p 257)) ∙ by (c * p)
+  where
+    by : (q : ℕ) → (q * 257 + n) / 257 ≡ q + n / 257
+    by q = omega arith
+
+first_digits-shorter : (n : ℕ) (digits : List ℕ) → AreDigits digits → first_digits n digits ≡ first_digits (suc n) digits / 257
+first_digits-shorter zero [] low = refl
+first_digits-shorter zero (c ∷ digits) low = omega (arith, low.0)
+first_digits-shorter (suc n) [] low = refl
+first_digits-shorter (suc n) (c ∷ digits) low =
+    ap (λ k. c * 257 ^ n + k) (first_digits-shorter n digits low.1)
+    ∙ sym (shorter_step c (257 ^ n) (first_digits (suc n) digits))
+    ∙ ap (λ p. (c * p + first_digits (suc n) digits) / 257) (sym (pow-suc 257 n))
+
+-- one digit is put before others
+pub put_one : (d after : ℕ) → IsPutBefore (d ∷ []) after (d * 288136807515649 + after / 257)
+put_one d after digits low is = ap (λ k. d * 288136807515649 + k) (ap (λ k. k / 257) is ∙ sym (first_digits-shorter 6 digits low))
+
+-- of a label the first octets count
+label_front : (m n : ℕ) (label x : List ℕ) → m ≤ n → first_digits m (label_key (take n label) ++ x) ≡ first_digits m (label_key label ++ x)
+label_front zero n label x fits = refl
+label_front (suc m) zero label x fits = absurd (omega (arith, fits))
+label_front (suc m) (suc n) [] x fits = refl
+label_front (suc m) (suc n) (c ∷ label) x fits = ap (λ k. (c + 1) * 257 ^ m + k) (label_front m n label x (omega (arith, fits)))
+
+-- the octets of a label are put from the right
+pub put_next : (label left done before : List ℕ) (c m n k : ℕ) → AreOctets label → take 7 label ≡ left ++ done → left ≡ before ++ c ∷ [] → IsPutBefore (label_key done) m n → IsPutBefore ((c + 1) ∷ []) n k
+    → (take 7 label ≡ before ++ c ∷ done) × IsPutBefore (label_key (c ∷ done)) m k
+put_next label left done before c m n k low so_far cut first second =
+    let low_done : AreDigits (label_key done) = label_low done (AllByRecursion-back (λ d. d < 256) left done (subst AreOctets so_far (low_take 7 label low))) in (
+      so_far ∙ ap (λ t. t ++ done) cut ∙ append_assoc before (c ∷ []) done,
+      λ digits each is. second (label_key done ++ digits) (AllByRecursion-append (λ d. d < 257) (label_key done) digits low_done each) (first digits each is),
+    )
+
+-- all of them were put
+pub put_all : (label left done : List ℕ) (m n : ℕ) → take 7 label ≡ left ++ done → length left ≡ 0 → IsPutBefore (label_key done) m n → IsPutBefore (label_key label) m n
+put_all label [] done m n so_far none put digits each is = subst (λ t. IsPutBefore (label_key t) m n) (sym so_far) put digits each is ∙ label_front 7 7 label digits (omega arith)
+put_all label (c ∷ left) done m n so_far none put digits each is = absurd (omega (arith, none))

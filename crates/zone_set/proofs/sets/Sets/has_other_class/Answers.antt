@@ -1,0 +1,12 @@
+use Rattle.std.proofs.Common.{sym, ◌∙◌}
+use Rattle.std.proofs.lemmas.Bool.{false≢true}
+use Rattle.sorted_chunks.specs.Chunks.{joined}
+use Rattle.zone_rdata.specs.Lent.{record_of}
+use Rattle.zone_set.proofs.Adding.{other_class_told}
+use Rattle.zone_set.proofs.sets.Sets.has_other_class.Goals as goal
+
+pub returns : goal.returns
+returns c =
+    rw (← c.self.view_is)
+    (other_class_told c.ne.result c.self.inside.class c.self.inside.octets.items (joined c.self.inside.entries) (record_of c.args.rr.now)
+    (λ none. false≢true (sym c.if-is_empty.false ∙ c.is_empty.ensures.1 none)) c.ne.ensures)
