@@ -1,7 +1,8 @@
 //! Inputs whose reader fails at one of its reads, whatever was read before.
 use crate::form::Form;
-use crate::tests::vectors::{check_inputs, input_of};
-use crate::tests::{Question, check, push_answer, roomy};
+use crate::tests::streams::STREAMS;
+use crate::tests::vectors::{check_files, input_of};
+use crate::tests::{Question, check, check_table, push_answer, roomy};
 use crate::{normalise, normalise_bytes};
 use std::alloc::Global;
 use std::io;
@@ -60,6 +61,11 @@ impl Question for OfFailingReads {
 }
 
 #[test]
-fn inputs_whose_reads_fail(rt: HostRuntime) -> Result<(), Fail> {
-    check_inputs::<OfFailingReads>(rt.alloc())
+fn files_whose_reads_fail(rt: HostRuntime) -> Result<(), Fail> {
+    check_files::<OfFailingReads>(rt.alloc())
+}
+
+#[test]
+fn streams_whose_reads_fail(rt: HostRuntime) -> Result<(), Fail> {
+    check_table::<OfFailingReads>(rt.alloc(), STREAMS)
 }
