@@ -165,12 +165,15 @@ fn push_stop(alloc: Global, out: &mut Vec<u8>, stop: &Stop) -> Result<(), Fail> 
         return Err(Fail::from("memory"));
     }
     let line = explain_line(alloc, stop)?;
-    let (front, _) = line.as_str().split_once(": ").unwrap_or((line.as_str(), ""));
+    let (front, _) = line
+        .as_str()
+        .split_once(": ")
+        .unwrap_or((line.as_str(), ""));
     push_text(out, front)
 }
 
-/// Appends what an input is answered: its canonical text from the next line on, or on this line what
-/// explains the refusal.
+/// Appends what an input is answered: its canonical text from the next line on, or on this line
+/// what explains the refusal.
 ///
 /// # Errors
 ///

@@ -4,8 +4,8 @@ use crate::tests::check_lines;
 use crate::tests::items::Stated;
 use std::test::Fail;
 
-/// Texts that are shortened or written out; the examples of RFC 4291 2.2 and RFC 5952 4, from `::` on;
-/// and what is no address of IPv6, the empty word among it.
+/// Texts that are shortened or written out; the examples of RFC 4291 2.2 and RFC 5952 4, from `::`
+/// on; and what is no address of IPv6, the empty word among it.
 const IPV6: &str = "\
 IN AAAA ::FFFF:10.0.0.1 => ::ffff:a00:1
 IN AAAA 0:0:0:0:0:ffff:a00:1 => ::ffff:a00:1

@@ -78,8 +78,8 @@ fn records_of_answers(rt: HostRuntime) -> Result<(), Fail> {
     check_lines::<InNumbers>(rt.alloc(), ANSWERS)
 }
 
-/// The record that an answer with a name states, by its canonical line and the octets of its data, or
-/// the fault.
+/// The record that an answer with a name states, by its canonical line and the octets of its data,
+/// or the fault.
 struct InWords;
 
 impl Question for InWords {

@@ -44,8 +44,8 @@ fn is_told(alloc: Global, form: Form<'_>, left: &[u8], reads: usize) -> Result<b
     }
 }
 
-/// What is answered where no read fails; where one does, each that gives a piece, and the one at the
-/// end, that is told.
+/// What is answered where no read fails; where one does, each that gives a piece, and the one at
+/// the end, that is told.
 struct OfFailingReads;
 
 impl Question for OfFailingReads {

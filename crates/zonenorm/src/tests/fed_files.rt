@@ -50,7 +50,11 @@ impl Question for Singly {
         let octets = input.octets.as_slice();
         let is_right = is_right_singly::<TextSource>(alloc, &origin, octets, &reading)?;
         check(is_right, "single octets give the same")?;
-        push_answer(alloc, out, normalise_bytes(alloc, Form::File(&origin), octets))
+        push_answer(
+            alloc,
+            out,
+            normalise_bytes(alloc, Form::File(&origin), octets),
+        )
     }
 }
 

@@ -95,7 +95,8 @@ fn a_thousand_owners_are_sorted(rt: HostRuntime) -> Result<(), Fail> {
     check(is_sorted, "owners from the lowest up are sorted")
 }
 
-/// The SOA and lines of addresses from 10.0.0.0 on, so many lines of so many addresses, each a step after the one before.
+/// The SOA and lines of addresses from 10.0.0.0 on, so many lines of so many addresses, each a step
+/// after the one before.
 fn addresses(alloc: Global, count: u64, lines: u64, step: u64) -> Result<Vec<u8>, AllocError> {
     let mut file = Vec::new(alloc);
     file.extend_from_slice(b"x. 60 IN SOA n.x. h.x. 1 2 3 4 5\n")?;

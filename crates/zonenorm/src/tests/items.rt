@@ -59,7 +59,8 @@ fn data_in_buffer(alloc: Global, origin: &str, line: &str) -> Result<Result<Rdat
     judged(read.map_err(Failing::from))
 }
 
-/// The canonical text of the data that a line states under the origin `x.`, or the name of the fault.
+/// The canonical text of the data that a line states under the origin `x.`, or the name of the
+/// fault.
 pub(super) struct Stated;
 
 impl Question for Stated {
@@ -71,8 +72,8 @@ impl Question for Stated {
     }
 }
 
-/// Data in words; data in generic form (RFC 3597 5); words that are missing, left over, malformed or out
-/// of range; and generic form that is malformed, or is no value of its type.
+/// Data in words; data in generic form (RFC 3597 5); words that are missing, left over, malformed
+/// or out of range; and generic form that is malformed, or is no value of its type.
 const DATA: &str = "\
 IN NS \\035 => #.x.
 IN MX 010 M => 10 m.x.
@@ -188,7 +189,10 @@ impl Question for Compared {
         let left = data_of(alloc, "x.", line)??;
         let right = data_of(alloc, "x.", other)??;
         let (ordering, is_same) = (left.cmp(&right), left == right);
-        push_text(out, format!(in alloc; "{ordering:?}, same {is_same}")?.as_str())
+        push_text(
+            out,
+            format!(in alloc; "{ordering:?}, same {is_same}")?.as_str(),
+        )
     }
 }
 

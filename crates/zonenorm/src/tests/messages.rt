@@ -20,7 +20,10 @@ fn push_found(alloc: Global, out: &mut Vec<u8>, message: &[u8], offset: usize) -
         Ok(decoded) => {
             push_hex(alloc, out, decoded.name.wire())?;
             let (end, steps) = (decoded.end, decoded.steps);
-            push_text(out, format!(in alloc; " up to {end} in {steps} steps")?.as_str())
+            push_text(
+                out,
+                format!(in alloc; " up to {end} in {steps} steps")?.as_str(),
+            )
         }
         Err((fault, made)) => {
             push_fault(alloc, out, &fault)?;
@@ -36,7 +39,12 @@ impl Question for InMessage {
     fn answer(alloc: Global, asked: &'static str, out: &mut Vec<u8>) -> Result<(), Fail> {
         let (_, asked) = asked.split_once(": ").ok_or("no offset")?;
         let (offset, digits) = asked.split_once(' ').ok_or("no message")?;
-        push_found(alloc, out, &message_of(alloc, digits)?, offset.parse::<usize>()?)
+        push_found(
+            alloc,
+            out,
+            &message_of(alloc, digits)?,
+            offset.parse::<usize>()?,
+        )
     }
 }
 

@@ -23,8 +23,8 @@ fn set(name: &mut Name, text: &[u8], origin: &[u8]) -> Result<(), NameFault> {
     name.set_from_text(text, Some(&origin))
 }
 
-/// Whether these are the octets of a copy of the name, of another name that becomes it, and of the name
-/// that is lent from their front.
+/// Whether these are the octets of a copy of the name, of another name that becomes it, and of the
+/// name that is lent from their front.
 fn are_its(name: &Name, other: &Name) -> bool {
     let (lent, rest) = NameRef::split_front(name.wire());
     rest.is_empty()
@@ -82,10 +82,15 @@ struct Unspelled;
 impl Question for Unspelled {
     fn answer(alloc: Global, asked: &'static str, out: &mut Vec<u8>) -> Result<(), Fail> {
         let (text, origin) = asked.split_once(" under ").ok_or("no origin")?;
-        let fault = named(text.as_bytes(), origin.as_bytes()).err().ok_or("a name")?;
+        let fault = named(text.as_bytes(), origin.as_bytes())
+            .err()
+            .ok_or("a name")?;
         let mut other = Name::from_text(b"another.name.", None)?;
         let refusal = set(&mut other, text.as_bytes(), origin.as_bytes()).err();
-        check(refusal == Some(fault), "both calls refuse the text for one fault")?;
+        check(
+            refusal == Some(fault),
+            "both calls refuse the text for one fault",
+        )?;
         check(other == Name::root(), "a name that isn't set is the root")?;
         push_text(out, format!(in alloc; "{fault:?}: {fault}.\n")?.as_str())
     }
@@ -120,8 +125,8 @@ fn texts_of_names(rt: HostRuntime) -> Result<(), Fail> {
     check_table::<Unspelled>(rt.alloc(), UNSPELLED)
 }
 
-/// Whether this is the escape that follows a backslash, the octet that it stands for, and what follows
-/// it (RFC 1035 5.1).
+/// Whether this is the escape that follows a backslash, the octet that it stands for, and what
+/// follows it (RFC 1035 5.1).
 fn is_escape(text: &[u8], octet: u8, rest: &[u8]) -> bool {
     escape_at(text) == Some((octet, rest))
 }
@@ -254,8 +259,14 @@ impl Question for Built {
         let mut builder = builder_of(labels)?;
         let fault = builder.push_label(refused.as_bytes()).err().ok_or("taken")?;
         let name = builder.finish();
-        check(has_labels(&name, labels), "the labels are those that were taken")?;
-        check(Name::from_front(name.wire()) == name, "the octets give the name")?;
+        check(
+            has_labels(&name, labels),
+            "the labels are those that were taken",
+        )?;
+        check(
+            Name::from_front(name.wire()) == name,
+            "the octets give the name",
+        )?;
         push_text(out, format!(in alloc; "{fault:?}, ")?.as_str())?;
         push_hex(alloc, out, name.wire())
     }

@@ -4,8 +4,8 @@
 //! wire: `header` with the ID, the flags and the four counts in hexadecimal digits, `question` with
 //! name, type and class, and records as in a master file, with owner, TTL, class, type and data.
 //! `n@12` is the label `n` and a pointer to offset 12 (RFC 1035 4.1.4), `#` begins octets in
-//! hexadecimal digits, and a number in data has 32 bits in an SOA and 16 bits elsewhere. The lengths
-//! of messages (RFC 1035 4.2.2), labels and data are counted here.
+//! hexadecimal digits, and a number in data has 32 bits in an SOA and 16 bits elsewhere. The
+//! lengths of messages (RFC 1035 4.2.2), labels and data are counted here.
 use std::alloc::Global;
 use std::test::Fail;
 

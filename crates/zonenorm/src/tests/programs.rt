@@ -1,9 +1,9 @@
 //! The whole program over readers and writers, from its words to its exit status.
 //!
 //! A row has a name, the words after the program's name, and two inputs, between which `--` stands:
-//! the first line of each says what it is, a broken one ends with an error, and behind it stands the
-//! file, or the stream in notation. The answer is the exit status, what is written on standard output,
-//! and after `--` what is written on standard error.
+//! the first line of each says what it is, a broken one ends with an error, and behind it stands
+//! the file, or the stream in notation. The answer is the exit status, what is written on standard
+//! output, and after `--` what is written on standard error.
 use crate::tests::devices::{BROKEN, Supply};
 use crate::tests::notation::stream_of;
 use crate::tests::orders::ordered;
@@ -36,7 +36,11 @@ fn given(alloc: Global, input: &'static str) -> Result<Supplied, Fail> {
     } else {
         file_of(alloc, text)?
     };
-    let error = if kind.starts_with("broken") { BROKEN } else { None };
+    let error = if kind.starts_with("broken") {
+        BROKEN
+    } else {
+        None
+    };
     Ok(Supplied { octets, error })
 }
 
@@ -60,7 +64,12 @@ impl Question for Program {
     fn answer(alloc: Global, asked: &'static str, out: &mut Vec<u8>) -> Result<(), Fail> {
         let (_, rest) = asked.split_once('\n').ok_or("no words")?;
         let (words, inputs) = rest.split_once('\n').ok_or("no inputs")?;
-        push_ran(alloc, out, words, inputs.split_once("--\n").ok_or("one input")?)
+        push_ran(
+            alloc,
+            out,
+            words,
+            inputs.split_once("--\n").ok_or("one input")?,
+        )
     }
 }
 

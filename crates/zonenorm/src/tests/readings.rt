@@ -46,7 +46,10 @@ fn push_line(alloc: Global, out: &mut Vec<u8>, rr: &Rr) -> Result<(), Fail> {
 pub(super) fn push_numbers(alloc: Global, out: &mut Vec<u8>, rr: &Rr) -> Result<(), Fail> {
     push_hex(alloc, out, rr.owner().wire())?;
     let (ttl, class, kind) = (rr.ttl(), rr.class().number(), rr.kind().number());
-    push_text(out, format!(in alloc; " {ttl} CLASS{class} TYPE{kind} ")?.as_str())?;
+    push_text(
+        out,
+        format!(in alloc; " {ttl} CLASS{class} TYPE{kind} ")?.as_str(),
+    )?;
     push_hex(alloc, out, rr.rdata().octets())
 }
 
@@ -78,7 +81,11 @@ fn push_ending(alloc: Global, out: &mut Vec<u8>, reading: &Reading) -> Result<()
 }
 
 /// Appends what an input is read as, from the next line on: its records, and the fault after them.
-pub(super) fn push_reading(alloc: Global, out: &mut Vec<u8>, reading: &Reading) -> Result<(), Fail> {
+pub(super) fn push_reading(
+    alloc: Global,
+    out: &mut Vec<u8>,
+    reading: &Reading,
+) -> Result<(), Fail> {
     out.push(b'\n')?;
     for placed in reading.placed.iter() {
         push_placed(alloc, out, placed)?;

@@ -1,5 +1,5 @@
-//! What `normalise`, `normalise_bytes`, `explain` and `run` answer to each vector, and to its canonical
-//! text.
+//! What `normalise`, `normalise_bytes`, `explain` and `run` answer to each vector, and to its
+//! canonical text.
 use crate::explain::explain_line;
 use crate::form::Form;
 use crate::order::Order;
@@ -37,11 +37,7 @@ fn line_count(text: &[u8]) -> u64 {
 
 /// What `normalise` writes and answers over a reader. It counts the lines, and writes nothing where
 /// it refuses.
-fn written(
-    alloc: Global,
-    form: Form<'_>,
-    octets: &[u8],
-) -> Result<Result<Vec<u8>, Stop>, Fail> {
+fn written(alloc: Global, form: Form<'_>, octets: &[u8]) -> Result<Result<Vec<u8>, Stop>, Fail> {
     let (mut reader, mut written) = (octets, roomy(alloc)?);
     match normalise(alloc, form, &mut reader, &mut written) {
         Ok(count) => {
@@ -173,8 +169,8 @@ pub(super) fn is_broken<R: Read>(
     Ok(ran_alone(alloc, origin, reader)?.did(4, b"", b"read failed\n"))
 }
 
-/// That runs end so where a reader that gives all at once before that, and one that gives an octet at
-/// a time, fails at once, after half of the input, and in place of its end.
+/// That runs end so where a reader that gives all at once before that, and one that gives an octet
+/// at a time, fails at once, after half of the input, and in place of its end.
 fn check_broken(alloc: Global, origin: &Option<Name>, octets: &[u8]) -> Result<(), Fail> {
     for count in [0, octets.len() / 2, octets.len()] {
         let (left, _) = octets.split_at(count);

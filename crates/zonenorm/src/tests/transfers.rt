@@ -1,5 +1,5 @@
-//! Zone transfers: what is answered to one that is cut short or has an error code, and what is read of
-//! them in pieces.
+//! Zone transfers: what is answered to one that is cut short or has an error code, and what is read
+//! of them in pieces.
 use crate::form::Form;
 use crate::normalise_bytes;
 use crate::tests::notation::{message_of, stream_of};

@@ -33,8 +33,8 @@ pub(super) fn file_of(alloc: Global, text: &str) -> Result<Vec<u8>, AllocError> 
     Ok(octets)
 }
 
-/// The input of a row, which has a name and the origin of a file on its first line, and then the file,
-/// or the stream in notation.
+/// The input of a row, which has a name and the origin of a file on its first line, and then the
+/// file, or the stream in notation.
 pub(super) fn input_of(alloc: Global, asked: &'static str) -> Result<Input, Fail> {
     let (head, text) = asked.split_once('\n').ok_or("no input")?;
     match head.split_once(' ') {

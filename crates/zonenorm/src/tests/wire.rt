@@ -58,7 +58,11 @@ fn data_of_too_many_octets(rt: HostRuntime) -> Result<(), Fail> {
 }
 
 /// The answer of a builder to a part.
-fn pushed(alloc: Global, builder: &mut RdataBuilder, part: &str) -> Result<Result<(), Fault>, Fail> {
+fn pushed(
+    alloc: Global,
+    builder: &mut RdataBuilder,
+    part: &str,
+) -> Result<Result<(), Fault>, Fail> {
     let (word, value) = part.split_once(' ').ok_or("no part")?;
     judged(match word {
         "name" => builder.push_name(&Name::from_text(value.as_bytes(), None)?),
@@ -96,8 +100,8 @@ fn builder_of(alloc: Global, kind: u64) -> Result<RdataBuilder, Fail> {
     Ok(RdataBuilder::in_buffer(buffer, class, kind))
 }
 
-/// What a builder of a type and class IN answers to parts of data, and then the data's octets or the
-/// fault.
+/// What a builder of a type and class IN answers to parts of data, and then the data's octets or
+/// the fault.
 struct Built;
 
 impl Question for Built {

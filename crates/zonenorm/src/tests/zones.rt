@@ -38,8 +38,8 @@ fn lent(alloc: Global, mut reading: Reading) -> Result<Zone, Stop> {
     builder.finish()
 }
 
-/// Appends class and apex of a zone, how many records it has, the octets that they take in messages,
-/// and the length of its text.
+/// Appends class and apex of a zone, how many records it has, the octets that they take in
+/// messages, and the length of its text.
 fn push_head(alloc: Global, out: &mut Vec<u8>, zone: &Zone) -> Result<(), Fail> {
     let class = zone.class().number();
     push_text(out, format!(in alloc; "\nclass {class}, apex ")?.as_str())?;
@@ -91,7 +91,11 @@ struct OfAdded;
 
 impl Question for OfAdded {
     fn answer(alloc: Global, asked: &'static str, out: &mut Vec<u8>) -> Result<(), Fail> {
-        push_made(alloc, out, added(alloc, reading_of(alloc, asked.as_bytes())?))
+        push_made(
+            alloc,
+            out,
+            added(alloc, reading_of(alloc, asked.as_bytes())?),
+        )
     }
 }
 
@@ -100,7 +104,11 @@ struct OfTaken;
 
 impl Question for OfTaken {
     fn answer(alloc: Global, asked: &'static str, out: &mut Vec<u8>) -> Result<(), Fail> {
-        push_made(alloc, out, taken(alloc, reading_of(alloc, asked.as_bytes())?))
+        push_made(
+            alloc,
+            out,
+            taken(alloc, reading_of(alloc, asked.as_bytes())?),
+        )
     }
 }
 
@@ -109,7 +117,11 @@ struct OfLent;
 
 impl Question for OfLent {
     fn answer(alloc: Global, asked: &'static str, out: &mut Vec<u8>) -> Result<(), Fail> {
-        push_made(alloc, out, lent(alloc, reading_of(alloc, asked.as_bytes())?))
+        push_made(
+            alloc,
+            out,
+            lent(alloc, reading_of(alloc, asked.as_bytes())?),
+        )
     }
 }
 
