@@ -243,11 +243,12 @@ fn builder_of(labels: &str) -> Result<NameBuilder, Fail> {
 fn has_labels(name: &Name, labels: &str) -> bool {
     let mut wanted = labels.split('.');
     for label in name.labels() {
-        if wanted.next().map(str::as_bytes) != Some(label) {
-            return false;
+        match wanted.next() {
+            Some(other) if other.as_bytes() == label => {}
+            _ => return false,
         }
     }
-    true
+    wanted.next().unwrap_or("").is_empty()
 }
 
 /// What a builder that took labels answers to one that it refuses, and the octets of the name.

@@ -111,7 +111,10 @@ pub(super) fn ran<F: Read, S: Read>(
 /// What a run does that normalises what a reader gives; its second reader fails.
 fn ran_alone<R: Read>(alloc: Global, origin: &Option<Name>, reader: &mut R) -> Result<Run, Fail> {
     let mut second = Supply::at_once(b"", BROKEN);
-    let origin = origin.as_ref().map(Name::copy);
+    let origin = match origin {
+        Some(origin) => Some(origin.copy()),
+        None => None,
+    };
     ran(alloc, &Order::Normalise(origin), reader, &mut second)
 }
 
@@ -256,7 +259,10 @@ fn is_explanation(
             let accepted = format!(in alloc; "accepted, records: {}\n", line_count(text))?;
             Ok(status == 0 && line == accepted.as_bytes())
         }
-        Err(stop) => Ok(status == 3 && line == refusal_line(alloc, stop)?.as_bytes()),
+        Err(stop) => {
+            let refusal = refusal_line(alloc, stop)?;
+            Ok(status == 3 && line == refusal.as_bytes())
+        }
     }
 }
 
