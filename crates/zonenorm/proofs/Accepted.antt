@@ -1,13 +1,6 @@
 -- Records that were taken were accepted, and what is said of records holds of others that are the
 -- same as a set.
-use Rattle.std.proofs.Common.{List, [], ◌∷◌, ◌++◌, sym, subst, inl, inr, ⊎_elim, append_assoc, append-nil}
-use Rattle.zone_rdata.specs.Record.{Record}
-use Rattle.zone_rdata.specs.declared.fault.Fault.{Fault}
-use Rattle.zone_rdata.specs.declared.fault.Stop.{Stop}
-use Rattle.zone_rdata.specs.declared.record.Placed.{Placed}
-use Rattle.zone_set.specs.Builder.{Accepts, AddsEach, IsRefusedFor, class, soa, ttl, StopsFinish, no_soa, outside}
-use Rattle.zone_set.specs.Refusal.{AllAccepted, records_of}
-use Rattle.zone_set.specs.Zone.{SameRecords}
+use Rattle.zonenorm.proofs.Common.{List, [], ◌∷◌, ◌++◌, sym, subst, inl, inr, ⊎_elim, append_assoc, append-nil, Record, Fault, Stop, Placed, Accepts, AddsEach, IsRefusedFor, class, soa, ttl, StopsFinish, no_soa, outside, AllAccepted, records_of, SameRecords}
 use Rattle.zonenorm.proofs.Deciding.{AllAccepted-push, none_before}
 use Rattle.zonenorm.proofs.Making.{Has-push}
 

@@ -1,11 +1,6 @@
 -- The records that a builder holds after it took records one after another.
-use Rattle.std.proofs.Common.{◌≡◌, List, [], ◌∷◌, ◌++◌, subst, inl, inr, ⊎_elim}
+use Rattle.zonenorm.proofs.Common.{◌≡◌, List, [], ◌∷◌, ◌++◌, subst, inl, inr, ⊎_elim, Record, Placed, Has, SameRecords, AddsEach, records_of}
 use Rattle.std.specs.Prelude.{◌⊎◌, ◌↔◌}
-use Rattle.zone_rdata.specs.Record.{Record}
-use Rattle.zone_rdata.specs.declared.record.Placed.{Placed}
-use Rattle.zone_set.specs.Zone.{Has, SameRecords}
-use Rattle.zone_set.specs.Builder.{AddsEach}
-use Rattle.zone_set.specs.Refusal.{records_of}
 
 -- what is held is what was taken and what was held before
 pub added : (placed : List Placed) (old new : List Record) → AddsEach old placed new → (r : Record) → Has new r ↔ (Has (records_of placed) r ⊎ Has old r)

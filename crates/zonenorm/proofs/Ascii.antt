@@ -1,8 +1,6 @@
 -- The text of a name is ASCII.
-use Rattle.std.proofs.Common.{◌≡◌, ℕ, ◌==◌, ◌<◌, ◌≤◌, List, [], ◌∷◌, ◌++◌, ◌||◌, ◌&&◌, Bool, true, false, if◌then◌else◌, refl, eqb-true, arith}
-use Rattle.std.proofs.lemmas.Bool.{leb-true}
-use Rattle.std.specs.List.{AllByRecursion, flat_map}
-use Rattle.zone_name.specs.Name.{IsFoldedOctet, IsLabel}
+use Rattle.zonenorm.proofs.Common.{◌≡◌, ℕ, ◌<◌, ◌≤◌, List, [], ◌∷◌, ◌++◌, ◌&&◌, Bool, true, false, if◌then◌else◌, refl, eqb-true, arith, leb-true, AllByRecursion, flat_map, IsFoldedOctet, IsLabel}
+use Rattle.std.proofs.Common.{◌==◌, ◌||◌}
 use Rattle.zone_name.specs.Text.{is_special, is_printed, decimal_escape, octet_text, label_text, name_text}
 
 abbrev pub AreAscii : List ℕ → Type 0

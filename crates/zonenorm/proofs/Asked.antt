@@ -1,18 +1,13 @@
 -- From what `clap` found to the order that the words give.
-use Rattle.std.proofs.Common.{◌≡◌, ℕ, Bool, true, false, nat_eq, List, [], sym, ◌∙◌, subst, ap, ap₂, codes, arith, refl, inl, inr}
-use Rattle.std.specs.Cmp.Lexicographic.{pointwise, bytes_decides}
-use Rattle.std.specs.List.{AllByRecursion}
-use Rattle.std.specs.Prelude.{Option, Some, None, Result, Ok, Err, IfOk, IfErr, drop, length, map, take, option_map, slice_index, unwrap_or, ◌⊎◌, ◌||◌, ◌∷◌, ◌-◌}
+use Rattle.zonenorm.proofs.Common.{◌≡◌, ℕ, Bool, true, false, nat_eq, List, [], sym, ◌∙◌, subst, ap, ap₂, codes, arith, refl, inl, inr, pointwise, bytes_decides, AllByRecursion, Option, Some, None, Result, Ok, Err, IfOk, IfErr, drop, take, option_map, slice_index, unwrap_or, ◌||◌, App, Kinds, IsAmong, Row, Text, fault_of, first_of, subcommand_of, subcommand_name_of, subcommand_rows_of, found_of, first_value, rows_of, NothingIs, program_app, Asks, Call, Calls, command_of, arguments_of, Finds, IsLineFault, IsOriginText, Orders}
+use Rattle.std.specs.Prelude.{length, map, ◌⊎◌, ◌∷◌, ◌-◌}
 use Rattle.std.specs.Borrow.{Bor}
-use Rattle.clap.specs.Words.{App, Kinds, IsAmong, Row, Text, fault_of, first_of, subcommand_of, subcommand_name_of, subcommand_rows_of, found_of, first_value, rows_of}
 use Rattle.clap.specs.declared.parser.ArgMatches.{ArgMatches}
 use Rattle.clap.specs.declared.error.kind.ErrorKind.{ErrorKind}
 use Rattle.clap.specs.declared.error.kind.ErrorKind.TheVariants.{OutOfMemory}
 use Rattle.std.proofs.lemmas.List.{take_all}
 use Rattle.clap.proofs.WalkLemmas.{first_value-rows}
-use Rattle.zone_name.specs.Common.{NothingIs}
 use Rattle.zone_name.specs.Spelling.{Spells}
-use Rattle.zonenorm.specs.Order.{program_app, Asks, Call, Calls, command_of, arguments_of, Finds, IsLineFault, IsOriginText, Orders}
 use Rattle.zonenorm.specs.Order as orders
 use Rattle.zonenorm.specs.Machine.Calling.{IsOfCall, IsOfClap}
 use Rattle.zonenorm.specs.declared.order.Order.{Order}
@@ -61,13 +56,11 @@ other_letter t u e other = other (ap (λ (v : Text). slice_index v 0) e)
 
 pub no_normalise : (rows : List Row) → first_of (codes "ORIGIN") rows ≡ None → (call : Call) → command_of call ≡ codes "normalise" → Given rows call → ⊥
 no_normalise rows none (orders.normalise t) e given = let no : None ≡ Some t = sym none ∙ given.0 in cc
-no_normalise rows none (orders.explain t) e given = other_letter (codes "explain") (codes "normalise") e (λ b. absurd (omega arith))
-no_normalise rows none (orders.compare a b d f) e given = other_letter (codes "compare") (codes "normalise") e (λ b. absurd (omega arith))
+no_normalise rows none call e given = other_letter (command_of call) (codes "normalise") e (λ b. absurd (omega arith))
 
 pub no_explain : (rows : List Row) → first_of (codes "ORIGIN") rows ≡ None → (call : Call) → command_of call ≡ codes "explain" → Given rows call → ⊥
-no_explain rows none (orders.normalise t) e given = other_letter (codes "normalise") (codes "explain") e (λ b. absurd (omega arith))
 no_explain rows none (orders.explain t) e given = let no : None ≡ Some t = sym none ∙ given.0 in cc
-no_explain rows none (orders.compare a b d f) e given = other_letter (codes "compare") (codes "explain") e (λ b. absurd (omega arith))
+no_explain rows none call e given = other_letter (command_of call) (codes "explain") e (λ b. absurd (omega arith))
 
 -- one of the texts of a comparison is missing
 pub data Misses (rows : List Row) : Type 0 where
@@ -123,10 +116,9 @@ order_given words call (Ok order) calls asks = (call, calls, asks)
 order_given words call (Err fault) calls asks = tt
 
 pub order_refused : (words : List Text) (call : Call) (r : Result Order LineFault) → Calls words call → IfErr r (IsOfCall call) → IfErr r (IsLineFault words)
-order_refused words call (Ok order) calls bad = tt
 order_refused words call (Err BadOrigin) calls bad = (call, calls, bad)
 order_refused words call (Err (Clap told)) calls bad = absurd bad
-order_refused words call (Err Memory) calls bad = tt
+order_refused words call _ calls bad = tt
 
 pub fault_told : (words : List Text) (fault : LineFault) → IsOfClap fault → ((call : Call) → Calls words call → fault ≡ Memory) → IsLineFault words fault
 fault_told words BadOrigin h memory = absurd h

@@ -1,21 +1,9 @@
 -- What refuses a front of an input refuses all of it.
-use Rattle.std.proofs.Common.{◌≡◌, ℕ, ◌<◌, List, ◌∷◌, ◌++◌, sym, ap, ◌∙◌, subst, append_assoc}
-use Rattle.std.specs.Prelude.{get_or, Option, Some}
-use Rattle.std.specs.List.{AllByRecursion}
-use Rattle.zone_name.specs.Name.{IsName}
-use Rattle.zone_rdata.specs.declared.fault.Fault.{Fault}
-use Rattle.zone_rdata.specs.declared.fault.Place.{Place}
-use Rattle.zone_rdata.specs.declared.record.Placed.{Placed}
+use Rattle.zonenorm.proofs.Common.{◌≡◌, ℕ, ◌<◌, List, ◌∷◌, ◌++◌, sym, ap, ◌∙◌, subst, append_assoc, get_or, Option, Some, AllByRecursion, IsName, Fault, Place, Placed, FileReads, AllAccepted, IsFirstRefused, ReadAs, as_file, as_transfer, input_of, Decides, IsForm, RefusesFront, by_record, by_ending, RefusesRead, RefusesReading, refused, unread}
 use Rattle.zone_text.specs.Decided as file_decides
 use Rattle.zone_text.specs.Decided.{Stays}
-use Rattle.zone_text.specs.FileReads.{FileReads}
-use Rattle.zone_set.specs.Refusal.{AllAccepted, IsFirstRefused}
 use Rattle.zone_wire.specs.Stream.{StreamReads}
 use Rattle.zone_wire.specs.Stream as stream_decides
-use Rattle.zonenorm.specs.Input.{ReadAs, as_file, as_transfer, input_of}
-use Rattle.zonenorm.specs.Machine.Input.{Decides, IsForm}
-use Rattle.zonenorm.specs.Machine.Loading.{RefusesFront, by_record, by_ending, RefusesRead}
-use Rattle.zonenorm.specs.Refusal.{RefusesReading, refused, unread}
 use Rattle.zonenorm.proofs.Inputs.{octet_at}
 
 abbrev Ending : Type 0

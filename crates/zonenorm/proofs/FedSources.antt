@@ -1,20 +1,11 @@
 -- A source of a master file or of a transfer that begins, or goes on, does so as a source of an
 -- input.
-use Rattle.std.proofs.Common.{◌≡◌, List, [], Ok, Err, false, ap, ◌∙◌}
-use Rattle.std.specs.Prelude.{Option, None, Result, OnOk}
-use Rattle.zone_name.specs.Common.{Labels, Octets}
-use Rattle.zone_rdata.specs.FedSource.{Held, SourceState}
-use Rattle.zone_rdata.specs.RrSource.{Pending}
-use Rattle.zone_rdata.specs.declared.fault.Fault.{Fault}
-use Rattle.zone_rdata.specs.declared.fault.Place.{Place}
-use Rattle.zone_rdata.specs.declared.fault.Stop.{Stop}
-use Rattle.zone_rdata.specs.declared.record.Placed.{Placed}
+use Rattle.zonenorm.proofs.Common.{◌≡◌, List, [], false, ap, ◌∙◌, Option, None, Result, OnOk, Labels, Octets, Held, SourceState, Pending, Fault, Place, Stop, Placed, ReadAs, as_file, as_transfer, BeginsAs, nothing_pending}
+use Rattle.std.proofs.Common.{Ok, Err}
 use Rattle.zone_text.specs.Decided.{FileDecides}
 use Rattle.zone_text.specs.TextSource.{FileKept, StandsForFile}
 use Rattle.zone_wire.specs.TransferSource.{StandsForStream, StreamKept}
-use Rattle.zonenorm.specs.Input.{ReadAs, as_file, as_transfer}
 use Rattle.zonenorm.specs.Machine.Fed.{FileLeave, IsFile, IsTransfer, StandsForInput, TransferLeave}
-use Rattle.zonenorm.specs.Machine.Loading.{BeginsAs, nothing_pending}
 
 pending_is : (pending : Pending) → pending.failed ≡ false → pending.records ≡ [] → pending.ending ≡ None → pending ≡ nothing_pending
 pending_is pending works empty whole =

@@ -1,26 +1,6 @@
 -- From what was taken of the octets that a reader gave to what the reader's octets are read as.
-use Rattle.std.proofs.Common.{◌≡◌, ℕ, ◌<◌, ◌≤◌, ◌+◌, true, List, [], ◌∷◌, ◌++◌, length, length-append, refl, sym, ap, ◌∙◌, subst, append-nil, append_assoc, arith, eqb-true}
-use Rattle.std.specs.Prelude.{◌==◌, Option, Some, None, IfSome}
-use Rattle.std.specs.Io.KnownBytes.{Consumes, IsAtEnd}
-use Rattle.std.specs.List.{AllByRecursion}
-use Rattle.zone_name.specs.Common.{Octets}
-use Rattle.zone_rdata.specs.Record.{Record}
-use Rattle.zone_rdata.specs.FedSource.{Held}
-use Rattle.zone_rdata.specs.RrSource.{Pending}
-use Rattle.zone_rdata.specs.declared.fault.Fault.{Fault}
-use Rattle.zone_rdata.specs.declared.fault.Fault.TheVariants.{InputTooLong}
-use Rattle.zone_rdata.specs.declared.fault.Place.{Place}
-use Rattle.zone_rdata.specs.declared.fault.Place.TheVariants.{Whole}
-use Rattle.zone_rdata.specs.declared.fault.Stop.{Stop}
-use Rattle.zone_rdata.specs.declared.fault.Stop.TheVariants.{Refused, Read, Write, Memory}
-use Rattle.zone_rdata.specs.declared.record.Placed.{Placed}
-use Rattle.zone_set.specs.Zone.{Zone}
-use Rattle.zonenorm.specs.Input.{ReadAs, as_file, as_transfer, input_of, input_octets, IsInput}
-use Rattle.zonenorm.specs.Machine.Input.{IsForm}
-use Rattle.zonenorm.specs.Machine.Loading.{all_taken, BeginsAs, IsLoadedOf, ReadsZone, ReadsZoneWithin, RefusesRead}
-use Rattle.zonenorm.specs.Normalise.{IsOfBytes, IsOfReading}
-use Rattle.zonenorm.specs.Refusal.{IfRefused, IsRefusalWithin, too_long, reading}
-use Rattle.zonenorm.specs.Stops.{TellsRead}
+use Rattle.zonenorm.proofs.Common.{◌≡◌, ℕ, ◌<◌, ◌≤◌, ◌+◌, true, List, [], ◌∷◌, ◌++◌, length, length-append, refl, sym, ap, ◌∙◌, subst, append-nil, append_assoc, arith, eqb-true, ◌==◌, Option, Some, None, IfSome, Consumes, IsAtEnd, AllByRecursion, Octets, Record, Held, Pending, Fault, InputTooLong, Place, Whole, Stop, Refused, Read, Write, Memory, Placed, Zone, ReadAs, as_file, as_transfer, input_of, input_octets, IsInput, IsForm, all_taken, BeginsAs, IsLoadedOf, ReadsZone, ReadsZoneWithin, RefusesRead, IsOfBytes, IsOfReading, IfRefused, IsRefusalWithin, too_long, reading, TellsRead}
+use Rattle.std.proofs.KnownBytes.{Consumes-trans}
 
 pub octets_of_input : (form : ReadAs) (octets : Octets) → input_octets (input_of form octets) ≡ octets
 octets_of_input (as_file origin) octets = refl
@@ -37,30 +17,17 @@ within limit form octets z each short reads = record {
 
 pub refused_within : (limit : ℕ) (form : ReadAs) (octets : Octets) (stop : Stop) → length octets ≤ limit → IfRefused stop (RefusesRead (input_of form octets)) → IfRefused stop (IsRefusalWithin limit (input_of form octets))
 refused_within limit form octets (Refused fault place) short refuses = reading refuses.placed refuses.ending fault place (subst (λ os. length os ≤ limit) (sym (octets_of_input form octets)) short) refuses.reads refuses.refuses
-refused_within limit form octets Read short refuses = tt
-refused_within limit form octets Write short refuses = tt
-refused_within limit form octets Memory short refuses = tt
+refused_within limit form octets _ short refuses = tt
 
 pub refused_over : (limit : ℕ) (form : ReadAs) (octets : Octets) → limit < length octets → IsRefusalWithin limit (input_of form octets) InputTooLong Whole
 refused_over limit form octets long = too_long (subst (λ os. limit < length os) (sym (octets_of_input form octets)) long)
 
--- ---- a reader that was read to its end gave all its octets
-
-pub all_given : (P : Octets → Type 0) (old new : Option Octets) (given : Octets) → Consumes old new given → IsAtEnd new → P given → IfSome old P
-all_given P None new given consumed end holds = tt
-all_given P (Some all) None given consumed end holds = absurd consumed
-all_given P (Some all) (Some rest) given consumed end holds = subst P (sym (consumed ∙ ap (λ os. given ++ os) end ∙ append-nil given)) holds
-
--- and one that gave too many has too many
+-- a reader that gave too many octets has too many
 pub too_many : (limit : ℕ) (form : ReadAs) (old new : Option Octets) (given : Octets) → Consumes old new given → limit < length given → IfSome old (λ octets. IsRefusalWithin limit (input_of form octets) InputTooLong Whole)
 too_many limit form None new given consumed long = tt
 too_many limit form (Some all) None given consumed long = absurd consumed
 too_many limit form (Some all) (Some rest) given consumed long =
     refused_over limit form all (subst (λ os. limit < length os) (sym consumed) (rw length-append (omega arith)))
-
-pub if_some : (P Q : Octets → Type 0) (known : Option Octets) → ((octets : Octets) → P octets → Q octets) → IfSome known P → IfSome known Q
-if_some P Q None imply holds = tt
-if_some P Q (Some octets) imply holds = imply octets holds
 
 -- what a source begins with is taken of no octets
 pub begun : {Kept : Type 0} (IsOf : ReadAs → Type 0) (Leave : ReadAs → Octets → Kept → Octets → Type 0) (form : ReadAs) (pending : Pending) (inside : Held Kept) (held : List Record) (refusal : Option (Fault × Place)) → held ≡ [] → refusal ≡ None → BeginsAs IsOf Leave pending inside form → IsLoadedOf IsOf Leave pending inside held refusal form []
@@ -79,33 +46,19 @@ pub record HasFed (Began : ReadAs → Type 0) (Taken : ReadAs → Octets → Typ
   pub fed_few : fed ≤ count
   pub taken : (form : ReadAs) → Began form → Taken form given
 
-pub nothing_consumed : (known : Option Octets) → Consumes known known []
-nothing_consumed None = tt
-nothing_consumed (Some octets) = refl
-
-pub consumed_both : (a b c : Option Octets) (given more : Octets) → Consumes a b given → Consumes b c more → Consumes a c (given ++ more)
-consumed_both None b c given more first next = tt
-consumed_both (Some p) None c given more first next = absurd first
-consumed_both (Some p) (Some q) None given more first next = absurd next
-consumed_both (Some p) (Some q) (Some r) given more first next = first ∙ ap (λ os. given ++ os) next ∙ sym (append_assoc given more r)
-
 pub consumed_none : (a b c : Option Octets) (given more : Octets) → Consumes a b given → Consumes b c more → more ≡ [] → Consumes a c given
-consumed_none a b c given more first next none = subst (Consumes a c) (ap (λ os. given ++ os) none ∙ append-nil given) (consumed_both a b c given more first next)
+consumed_none a b c given more first next none = subst (Consumes a c) (ap (λ os. given ++ os) none ∙ append-nil given) (Consumes-trans a b c given more first next)
 
 -- ---- stops
 
 pub of_reading : (stop : Stop) → IsOfBytes stop → IsOfReading stop
-of_reading (Refused fault place) is = tt
-of_reading Read is = tt
 of_reading Write is = is
-of_reading Memory is = tt
+of_reading _ is = tt
 
 -- what ends the input tells no failed read
 pub tells_no_read : (works failed : Type 0) (stop : Stop) → works → IsOfBytes stop → TellsRead works failed stop
-tells_no_read works failed (Refused fault place) on is = on
 tells_no_read works failed Read on is = absurd is
-tells_no_read works failed Write on is = on
-tells_no_read works failed Memory on is = on
+tells_no_read works failed _ on is = on
 
 pub no_octets : (octets : Octets) → (length octets == 0) ≡ true → octets ≡ []
 no_octets [] none = refl

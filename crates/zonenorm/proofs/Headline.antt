@@ -1,23 +1,10 @@
 -- The parts of the sentence that the program stands for.
-use Rattle.std.proofs.Common.{◌≡◌, ◌↔◌, ◌⊎◌, ℕ, ◌<◌, ◌≤◌, List, length, Option, refl, sym, ap, ◌∙◌, subst, ⊎_elim, arith}
-use Rattle.std.proofs.lemmas.Bool.Decides.{leb_tells}
-use Rattle.std.specs.Io.KnownBytes.{Appends}
-use Rattle.std.specs.List.{AllByRecursion}
-use Rattle.zone_name.specs.Common.{AtMostOneIs, Labels, NothingIs, Octets}
-use Rattle.zone_rdata.specs.declared.fault.Fault.{Fault}
-use Rattle.zone_rdata.specs.declared.fault.Place.{Place}
-use Rattle.zone_set.specs.Zone.{IsZone, Zone}
-use Rattle.zone_print.specs.Canonical.{canon, text_limit}
-use Rattle.zone_print.specs.Denotes.{Denotes}
+use Rattle.zonenorm.proofs.Common.{◌≡◌, ◌↔◌, ◌⊎◌, ℕ, ◌<◌, ◌≤◌, List, length, refl, sym, ap, ◌∙◌, subst, ⊎_elim, arith, leb_tells, Appends, AllByRecursion, AtMostOneIs, Labels, NothingIs, Octets, Fault, Place, IsZone, Zone, canon, text_limit, Denotes, Verdict, Compares, DifferFirstAt, IsVerdictOnTexts, line_at, file, Input, InputDenotes, IsInput, Normalises, NormalisesTo, IsRefusal, IsRefused}
+use Rattle.std.proofs.Common.{Option}
 use Rattle.zone_wire.specs.Name.{Found, IsNameAt}
 use Rattle.zone_wire.specs.Walk.{Visit, IsWalk}
-use Rattle.zonenorm.specs.declared.compare.Verdict.{Verdict}
 use Rattle.zonenorm.specs.declared.compare.Verdict.TheVariants.{Different, Same}
-use Rattle.zonenorm.specs.Compare.{Compares, DifferFirstAt, IsVerdictOnTexts, line_at}
 use Rattle.zonenorm.specs.Headline.{DenoteOne, DenotesOnly, IsBoundedWalk, NormalisesOnlyTo}
-use Rattle.zonenorm.specs.Input.{file, Input, InputDenotes, IsInput}
-use Rattle.zonenorm.specs.Normalise.{Normalises, NormalisesTo}
-use Rattle.zonenorm.specs.Refusal.{IsRefusal, IsRefused}
 
 abbrev OneZone : Type 0
 OneZone = (input : Input) → AtMostOneIs (InputDenotes input)

@@ -1,26 +1,9 @@
 -- From readings to inputs.
-use Rattle.std.proofs.Common.{◌≡◌, ◌⊎◌, ◌↔◌, ℕ, zero, suc, ◌≤◌, ◌<◌, lit<, List, [], ◌∷◌, length, refl, sym, subst, inl, inr, ⊎_elim, arith}
-use Rattle.std.specs.Prelude.{get_or, Option, Some, None}
-use Rattle.std.proofs.lemmas.Bool.Decides.{leb_tells}
-use Rattle.std.specs.List.{AllByRecursion}
-use Rattle.zone_name.specs.Name.{IsName}
-use Rattle.zone_rdata.specs.Record.{IsRecord}
-use Rattle.zone_rdata.specs.declared.fault.Fault.{Fault}
-use Rattle.zone_rdata.specs.declared.fault.Fault.TheVariants.{InputTooLong}
-use Rattle.zone_rdata.specs.declared.fault.Place.{Place}
-use Rattle.zone_rdata.specs.declared.fault.Place.TheVariants.{Whole}
-use Rattle.zone_rdata.specs.declared.record.Placed.{Placed}
+use Rattle.zonenorm.proofs.Common.{◌≡◌, ◌⊎◌, ◌↔◌, ℕ, zero, suc, ◌≤◌, ◌<◌, lit<, List, [], ◌∷◌, length, refl, sym, subst, inl, inr, ⊎_elim, arith, get_or, Option, Some, None, leb_tells, AllByRecursion, IsName, IsRecord, Fault, InputTooLong, Place, Whole, Placed, FileReads, records_of, Zone, IsZone, SameRecords, text_limit, Input, file, transfer, input_octets, IsInput, InputStates, InputReads, InputDenotes, MakesZone, RefusesReading, IsRefusal, too_long, reading}
 use Rattle.zone_text.specs.Entries.{Entry, entries_of}
 use Rattle.zone_text.specs.File.{FileStates, EntriesState, states_none, states_one}
-use Rattle.zone_text.specs.FileReads.{FileReads}
-use Rattle.zone_set.specs.Refusal.{records_of}
-use Rattle.zone_set.specs.Zone.{Zone, IsZone, SameRecords}
-use Rattle.zone_print.specs.Canonical.{text_limit}
 use Rattle.zone_wire.specs.Stream.{StreamReads}
 use Rattle.zone_wire.specs.Transfer.{StreamStates}
-use Rattle.zonenorm.specs.Input.{Input, file, transfer, input_octets, IsInput, InputStates, InputReads, InputDenotes}
-use Rattle.zone_print.specs.Denotes.{MakesZone}
-use Rattle.zonenorm.specs.Refusal.{RefusesReading, IsRefusal, too_long, reading}
 
 -- what a file states are records
 each_fits : (origin : List (List ℕ)) (before entries : List Entry) (placed : List Placed) → EntriesState origin before entries placed → AllByRecursion IsRecord (records_of placed)

@@ -1,27 +1,10 @@
 -- Records of which each may stand with all before it have one ascending list, and that is a zone's
 -- or lacks what a zone needs.
-use Rattle.std.proofs.Common.{◌≡◌, ◌≢◌, ◌⊎◌, ◌↔◌, ℕ, List, [], ◌∷◌, ◌++◌, length, Some, None, Ordering, Less, Equal, Greater, refl, sym, ap, ◌∙◌, subst, inl, inr, ⊎_elim, append_assoc, append-nil}
-use Rattle.std.proofs.lemmas.Bool.{cases_eq}
-use Rattle.std.proofs.lemmas.Bool.Decides.{leb_tells}
+use Rattle.zonenorm.proofs.Common.{◌≡◌, ◌≢◌, ◌⊎◌, ◌↔◌, ℕ, List, [], ◌∷◌, ◌++◌, length, Ordering, Less, Equal, Greater, refl, sym, ap, ◌∙◌, subst, inl, inr, ⊎_elim, append_assoc, append-nil, cases_eq, leb_tells, AllByRecursion, IsWithin, name_cmp, Record, IsRecord, data_of, Fault, NoSoa, OutOfZone, ZoneTooLarge, Place, Whole, Placed, Accepts, Adds, no_soa, outside, AllAccepted, records_of, Has, SameRecords, AreCompatible, Zone, IsZone, canon, text_limit, MakesZone, RefusesReading, refused, unread, unfinished, too_large, accepted_ttl, one_set, each_Has, each_from_Has}
+use Rattle.std.proofs.Common.{Some, None}
 use Rattle.std.specs.Cmp.{IsTotalOrder}
-use Rattle.std.specs.List.{AllByRecursion}
 use Rattle.std.specs.Ordering.{ordering_reverse}
-use Rattle.zone_name.specs.Name.{IsWithin}
-use Rattle.zone_name.specs.Order.{name_cmp}
-use Rattle.zone_rdata.specs.Record.{Record, IsRecord, data_of}
-use Rattle.zone_rdata.specs.declared.fault.Fault.{Fault}
-use Rattle.zone_rdata.specs.declared.fault.Fault.TheVariants.{NoSoa, OutOfZone, ZoneTooLarge}
-use Rattle.zone_rdata.specs.declared.fault.Place.{Place}
-use Rattle.zone_rdata.specs.declared.fault.Place.TheVariants.{Whole}
-use Rattle.zone_rdata.specs.declared.record.Placed.{Placed}
-use Rattle.zone_set.specs.Builder.{Accepts, Adds, no_soa, outside}
 use Rattle.zone_set.specs.Order.{canonical_cmp, Ascends}
-use Rattle.zone_set.specs.Refusal.{AllAccepted, records_of}
-use Rattle.zone_set.specs.Zone.{Has, SameRecords, AreCompatible, Zone, IsZone}
-use Rattle.zone_print.specs.Canonical.{canon, text_limit}
-use Rattle.zone_print.specs.Denotes.{MakesZone}
-use Rattle.zonenorm.specs.Refusal.{RefusesReading, refused, unread, unfinished, too_large}
-use Rattle.zone_set.proofs.Together.{accepted_ttl, one_set, each_Has, each_from_Has}
 use Rattle.zonenorm.proofs.Parting.{all_class, all_ttl, all_soa}
 use Rattle.zonenorm.proofs.Deciding.{Settled, not_settled, same_owner, is_within, some_or_none, one_or_all}
 

@@ -1,16 +1,8 @@
 -- No line that people are told has a line feed.
-use Rattle.std.proofs.Common.{ℕ, List, ◌++◌, codes, refl, arith}
-use Rattle.std.specs.Prelude.{IsTrue, decimal}
+use Rattle.zonenorm.proofs.Common.{ℕ, List, ◌++◌, codes, refl, arith, IsTrue, decimal, Fault, Place, Line, Message, Whole, Stop, Refused, Read, Write, Memory, argument_of, place_words, records_line, refusal_line, row_of, stop_line, verdict_line, Verdict}
 use Rattle.zone_print.specs.Laws.{HasNoFeed}
 use Rattle.zone_print.proofs.Feeds.{has_no_feed, high, none_append, none_decimal, none_name, none_tested}
-use Rattle.zone_rdata.specs.declared.fault.Fault.{Fault}
 use Rattle.zone_rdata.specs.declared.fault.Fault.TheVariants as faults
-use Rattle.zone_rdata.specs.declared.fault.Place.{Place}
-use Rattle.zone_rdata.specs.declared.fault.Place.TheVariants.{Line, Message, Whole}
-use Rattle.zone_rdata.specs.declared.fault.Stop.{Stop}
-use Rattle.zone_rdata.specs.declared.fault.Stop.TheVariants.{Refused, Read, Write, Memory}
-use Rattle.zonenorm.specs.Telling.{argument_of, place_words, records_line, refusal_line, row_of, stop_line, verdict_line}
-use Rattle.zonenorm.specs.declared.compare.Verdict.{Verdict}
 use Rattle.zonenorm.specs.declared.compare.Verdict.TheVariants.{Same, Different}
 
 -- ---- the parts of the line of a refusal

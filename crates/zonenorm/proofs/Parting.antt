@@ -1,12 +1,6 @@
 -- Lists parted at one of their records, and records of which each may stand with all before it.
-use Rattle.std.proofs.Common.{◌≡◌, ℕ, Decides, nat_eq, List, [], ◌∷◌, ◌++◌, refl, sym, ap, ap₂, ◌∙◌, subst, inl, inr, ⊎_elim}
-use Rattle.std.specs.Cmp.Lexicographic.{pointwise, pointwise_decides, bytes_decides}
-use Rattle.zone_rdata.specs.Record.{Record}
-use Rattle.zone_rdata.specs.declared.record.Placed.{Placed}
-use Rattle.zone_set.specs.Builder.{Accepts}
-use Rattle.zone_set.specs.Refusal.{AllAccepted, records_of}
-use Rattle.zone_set.specs.Zone.{Has, InOneSet}
-use Rattle.zone_set.proofs.Together.{accepted_class, accepted_soa, accepted_ttl}
+use Rattle.zonenorm.proofs.Common.{◌≡◌, ℕ, nat_eq, List, [], ◌∷◌, ◌++◌, refl, sym, ap, ap₂, ◌∙◌, subst, inl, inr, ⊎_elim, pointwise, pointwise_decides, bytes_decides, Record, Placed, Accepts, AllAccepted, records_of, Has, InOneSet, accepted_class, accepted_soa, accepted_ttl}
+use Rattle.std.proofs.Common.{Decides}
 
 -- two partings of one list: at one place, or one of them before the other
 pub data Partings (before before' : List Placed) (p q : Placed) : Type 0 where

@@ -1,24 +1,8 @@
 -- A reading is refused for one fault at one place, and no zone has the records of a refused one.
-use Rattle.std.proofs.Common.{◌≡◌, ℕ, ◌≤◌, List, [], ◌∷◌, ◌++◌, length, Option, Some, None, Less, refl, sym, ap, ◌∙◌, subst, inl, inr, ⊎_elim, arith}
+use Rattle.zonenorm.proofs.Common.{◌≡◌, ℕ, ◌≤◌, List, [], ◌∷◌, ◌++◌, length, Less, refl, sym, ap, ◌∙◌, subst, inl, inr, ⊎_elim, arith, IsWithin, name_cmp, Record, Fault, OutOfZone, Place, Whole, Stop, Refused, Placed, Accepts, IsRefusedFor, class, soa, ttl, HasNoSoa, IsLeastOutside, StopsFinish, no_soa, outside, AllAccepted, IsFirstRefused, records_of, Has, SameRecords, Zone, IsZone, canon, text_limit, MakesZone, RefusesReading, refused, unread, unfinished, too_large, stable_owner, each_Has}
+use Rattle.std.proofs.Common.{Option, Some, None}
 use Rattle.std.specs.Cmp.{IsTotalOrder}
 use Rattle.std.specs.Ordering.{ordering_reverse}
-use Rattle.zone_name.specs.Name.{IsWithin}
-use Rattle.zone_name.specs.Order.{name_cmp}
-use Rattle.zone_rdata.specs.Record.{Record}
-use Rattle.zone_rdata.specs.declared.fault.Fault.{Fault}
-use Rattle.zone_rdata.specs.declared.fault.Fault.TheVariants.{OutOfZone}
-use Rattle.zone_rdata.specs.declared.fault.Place.{Place}
-use Rattle.zone_rdata.specs.declared.fault.Place.TheVariants.{Whole}
-use Rattle.zone_rdata.specs.declared.fault.Stop.{Stop}
-use Rattle.zone_rdata.specs.declared.fault.Stop.TheVariants.{Refused}
-use Rattle.zone_rdata.specs.declared.record.Placed.{Placed}
-use Rattle.zone_set.specs.Builder.{Accepts, IsRefusedFor, class, soa, ttl, HasNoSoa, IsLeastOutside, StopsFinish, no_soa, outside}
-use Rattle.zone_set.specs.Refusal.{AllAccepted, IsFirstRefused, records_of}
-use Rattle.zone_set.specs.Zone.{Has, SameRecords, Zone, IsZone}
-use Rattle.zone_print.specs.Canonical.{canon, text_limit}
-use Rattle.zone_print.specs.Denotes.{MakesZone}
-use Rattle.zonenorm.specs.Refusal.{RefusesReading, refused, unread, unfinished, too_large}
-use Rattle.zone_set.proofs.Together.{stable_owner, each_Has}
 use Rattle.zonenorm.proofs.Parting.{Partings, same, first, second, two_partings, Has-part, all_soa}
 
 -- ---- the first record that is refused

@@ -1,43 +1,22 @@
 -- From what an order's call answers, and what is told of it, to what a run leaves.
-use Rattle.std.proofs.Common.{◌≡◌, ◌-◌, ◌^◌, ◌++◌, ℕ, List, [], length, min, refl, subst, ap, Global}
-use Rattle.std.specs.Prelude.{Option, Some, None, IfOk, IfSome, OnErr, Result, Ok, Err, String, string_bytes}
-use Rattle.std.specs.Io.KnownBytes.{IsAtEnd}
-use Rattle.zone_rdata.specs.declared.fault.Fault.{Fault}
-use Rattle.zone_rdata.specs.declared.fault.Place.{Place}
-use Rattle.zone_rdata.specs.declared.fault.Stop.{Stop}
-use Rattle.zone_rdata.specs.declared.fault.Stop.TheVariants.{Refused, Read, Write, Memory}
-use Rattle.zone_print.specs.Canonical.{text_limit}
-use Rattle.zone_print.specs.Writing.{IsFailedWrite, TellsWrite}
-use Rattle.zone_set.specs.Zone.{Zone}
-use Rattle.zonenorm.specs.Compare.{Compares, ReadsWholeTo, StopsCompare, TellsReadOf}
+use Rattle.zonenorm.proofs.Common.{◌≡◌, ◌-◌, ◌^◌, ◌++◌, ℕ, List, [], length, min, refl, subst, ap, Global, Option, Some, None, IfOk, IfSome, OnErr, Result, Ok, Err, String, string_bytes, IsAtEnd, Fault, Place, Stop, Refused, Read, Write, Memory, text_limit, IsFailedWrite, TellsWrite, Zone, Compares, ReadsWholeTo, StopsCompare, TellsReadOf, InputDenotes, ReadAs, input_of, explained, told, unexplained, untold, IsReported, TellsVerdict, Normalises, ReadsWhole, IfRefused, IsRefusal, read_as_with, AreCompared, Device, Devices, IsLeft, IsStopped, Runs, StopsNormalise, TellsLine, TellsRead, records_line, refusal_line, stop_line, verdict_line, which_words, WritesLine, WritesPartOfLine, Verdict}
 use Rattle.zonenorm.specs.Explain.{accepted, refused, Explains, IsExplanation, StopsExplain}
-use Rattle.zonenorm.specs.Input.{InputDenotes, ReadAs, input_of}
-use Rattle.zonenorm.specs.Machine.Telling.{explained, told, unexplained, untold, IsReported, TellsVerdict}
-use Rattle.zonenorm.specs.Normalise.{Normalises, ReadsWhole}
-use Rattle.zonenorm.specs.Refusal.{IfRefused, IsRefusal}
-use Rattle.zonenorm.specs.Run.{read_as_with, AreCompared, Device, Devices, IsLeft, IsStopped, Runs, StopsNormalise, TellsLine}
 use Rattle.zonenorm.specs.Run as runs
-use Rattle.zonenorm.specs.Stops.{TellsRead}
-use Rattle.zonenorm.specs.Telling.{records_line, refusal_line, stop_line, verdict_line, which_words, WritesLine, WritesPartOfLine}
 use Rattle.zonenorm.proofs.Telling.{told_as}
-use Rattle.zonenorm.specs.declared.compare.Verdict.{Verdict}
 use Rattle.zonenorm.specs.declared.compare.Which.{Which}
 use Rattle.zonenorm.specs.declared.order.Order.{Order}
 use Rattle.zonenorm.specs.declared.order.Order.TheVariants.{Normalise, Explain, Compare}
 use Rattle.zonenorm.specs.declared.order.Source.{Source}
+use Rattle.std.proofs.lemmas.Option.{IfSome_then}
 
 abbrev Known : Type 0
 Known = Option (List ℕ)
-
-if_known : (known : Known) (P Q : List ℕ → Type 0) → ((octets : List ℕ) → P octets → Q octets) → IfSome known P → IfSome known Q
-if_known None P Q then h = tt
-if_known (Some octets) P Q then h = then octets h
 
 -- ---- explaining
 
 module _ (form : ReadAs) (known : Known) where
   pub on_records : (z : Zone) (count : ℕ) → IfSome known (λ octets. InputDenotes (input_of form octets) z) → count ≡ min (length z.records) (2 ^ 64 - 1) → IsExplanation form known (records_line count) 0
-  on_records z count h counted = accepted count (if_known known (λ octets. InputDenotes (input_of form octets) z) _ (λ octets d. (z, d, counted)) h)
+  on_records z count h counted = accepted count (IfSome_then known h (λ octets d. (z, d, counted)))
 
   pub on_refusal : (stop : Stop) (fault : Fault) (place : Place) → stop ≡ Refused fault place → IfSome known (λ octets. IfRefused stop (IsRefusal (input_of form octets))) → IsExplanation form known (refusal_line fault place) 3
   on_refusal stop fault place is h = refused fault place (subst (λ (s : Stop). IfSome known (λ octets. IfRefused s (IsRefusal (input_of form octets)))) is h)
@@ -48,10 +27,8 @@ module _ (form : ReadAs) (known old new : Known) where
   explains line text status is same wrote = (line, is, subst (λ (t : List ℕ). WritesLine t old new) same wrote)
 
   pub explains_part : (failed : Type 0) (stop : Stop) (line text : List ℕ) (status : ℕ) → IsFailedWrite failed stop → IsExplanation form known line status → text ≡ line → WritesPartOfLine text old new → StopsExplain form known old new stop
-  explains_part failed (Refused fault place) line text status never is same part = absurd never
-  explains_part failed Read line text status never is same part = absurd never
   explains_part failed Write line text status of_writer is same part = (line, status, is, subst (λ (t : List ℕ). WritesPartOfLine t old new) same part)
-  explains_part failed Memory line text status never is same part = absurd never
+  explains_part failed _ line text status never is same part = absurd never
 
 -- ---- what stopped a run is told
 
@@ -71,10 +48,8 @@ refusal_told words errors fault place (Err e) answer is line_told memory_told = 
 
 -- a verdict whose line was not written whole is told as a failed write
 pub not_told : (verdict : Verdict) (output errors : Device) (stop : Stop) (answer : ℕ) → WritesPartOfLine (verdict_line verdict) output.old output.new → IsFailedWrite output.failed stop → IsReported [] errors stop answer → TellsVerdict verdict output errors answer
-not_told verdict output errors (Refused fault place) answer part never report = absurd never
-not_told verdict output errors Read answer part never report = absurd never
 not_told verdict output errors Write answer part failed (explained _ _ line) = untold answer part failed line
-not_told verdict output errors Memory answer part never report = absurd never
+not_told verdict output errors _ answer part never report = absurd never
 
 -- octets of the form are an input with the origin
 module _ (origin : Option (List (List ℕ))) (form : ReadAs) (is : form ≡ read_as_with origin) (d : Devices) where

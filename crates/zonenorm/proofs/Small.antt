@@ -1,15 +1,7 @@
 -- Records of short lists that are accepted, and names of one label that lie outside an apex of one
 -- label.
-use Rattle.std.proofs.Common.{◌≡◌, ◌≢◌, ℕ, List, [], ◌∷◌}
-use Rattle.std.specs.List.{AllByRecursion}
-use Rattle.zone_name.specs.Name.{IsWithin}
-use Rattle.zone_rdata.specs.Record.{Record}
-use Rattle.zone_rdata.specs.declared.record.Placed.{Placed}
-use Rattle.zone_set.specs.Builder.{OtherClass, OtherSoa, Accepts}
-use Rattle.zone_set.specs.Refusal.{AllAccepted}
-use Rattle.zone_set.specs.Zone.{InOneSet}
+use Rattle.zonenorm.proofs.Common.{◌≡◌, ◌≢◌, ℕ, List, [], ◌∷◌, AllByRecursion, IsWithin, Record, Placed, OtherClass, OtherSoa, Accepts, AllAccepted, InOneSet, each_Has}
 use Rattle.zonenorm.proofs.Deciding.{AllAccepted-push, none_before}
-use Rattle.zone_set.proofs.Together.{each_Has}
 
 pub no_other_class : (held : List Record) (r : Record) → AllByRecursion (λ s. s.class ≡ r.class) held → OtherClass held r → ⊥
 no_other_class held r each (s, has, other) = other (each_Has (λ t. t.class ≡ r.class) held s each has)

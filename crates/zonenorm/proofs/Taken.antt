@@ -1,28 +1,8 @@
 -- What is taken of an input that a source is fed.
-use Rattle.std.proofs.Common.{◌≡◌, ◌<◌, true, false, List, [], ◌∷◌, ◌++◌, refl, sym, ap, ◌∙◌, subst, append_assoc, append-nil}
-use Rattle.std.specs.Prelude.{Option, Some, None, is_some, Result, Ok, Err, IfOk}
-use Rattle.std.specs.List.{AllByRecursion}
-use Rattle.zone_name.specs.Common.{Octets}
-use Rattle.zone_rdata.specs.Record.{Record}
+use Rattle.zonenorm.proofs.Common.{◌≡◌, ◌<◌, true, false, List, [], ◌∷◌, ◌++◌, refl, sym, ap, ◌∙◌, subst, append_assoc, append-nil, Option, Some, None, is_some, Result, Ok, Err, IfOk, AllByRecursion, Octets, Record, Held, Pending, Fault, NoSoa, OutOfZone, Place, Whole, Stop, Refused, Read, Write, Memory, Placed, AddsEach, IsRefusedFor, leaves, TakesAll, StopsTaking, failure, memory, StopsFinish, no_soa, outside, IsFirstRefused, records_of, Zone, IsZone, ReadAs, input_of, InputReads, Decides, IsForm, IsLoaded, all_taken, front_refuses, nothing_pending, RefusesFront, by_record, by_ending, ReadsZone, RefusesRead, IsOfBytes, RefusesReading, refused, unread, unfinished, IfRefused}
 use Rattle.zone_rdata.proofs.FedSources.{stands_given}
-use Rattle.zone_rdata.specs.FedSource.{Held}
-use Rattle.zone_rdata.specs.RrSource.{Pending}
-use Rattle.zone_rdata.specs.declared.fault.Fault.{Fault}
-use Rattle.zone_rdata.specs.declared.fault.Fault.TheVariants.{NoSoa, OutOfZone}
-use Rattle.zone_rdata.specs.declared.fault.Place.{Place}
-use Rattle.zone_rdata.specs.declared.fault.Place.TheVariants.{Whole}
-use Rattle.zone_rdata.specs.declared.fault.Stop.{Stop}
-use Rattle.zone_rdata.specs.declared.fault.Stop.TheVariants.{Refused, Read, Write, Memory}
-use Rattle.zone_rdata.specs.declared.record.Placed.{Placed}
-use Rattle.zone_set.specs.Builder.{AddsEach, IsRefusedFor, leaves, TakesAll, StopsTaking, failure, memory, refused as refused_record, ending as ending_fault, StopsFinish, no_soa, outside}
-use Rattle.zone_set.specs.Refusal.{IsFirstRefused, records_of}
-use Rattle.zone_set.specs.Zone.{Zone, IsZone}
-use Rattle.zonenorm.specs.Input.{ReadAs, input_of, InputReads}
+use Rattle.zone_set.specs.Builder.{refused as refused_record, ending as ending_fault}
 use Rattle.zonenorm.specs.Machine.Fed.{StandsForInput}
-use Rattle.zonenorm.specs.Machine.Input.{Decides, IsForm}
-use Rattle.zonenorm.specs.Machine.Loading.{IsLoaded, all_taken, front_refuses, nothing_pending, RefusesFront, by_record, by_ending, ReadsZone, RefusesRead}
-use Rattle.zonenorm.specs.Normalise.{IsOfBytes}
-use Rattle.zonenorm.specs.Refusal.{RefusesReading, refused, unread, unfinished, IfRefused}
 use Rattle.zonenorm.proofs.Accepted.{IsRefusedFor-same, StopsFinish-same, taken_accepted}
 use Rattle.zonenorm.proofs.Added.{added_all, AddsEach-append}
 
@@ -43,17 +23,14 @@ module _ (given : List Placed) (held : List Record) (pending : Pending) (each : 
       }
 
   pub front_refused : (new : List Record) (rest : Pending) (stop : Stop) → StopsTaking held pending new rest stop → IfRefused stop (RefusesFront (given ++ pending.records) pending.ending)
-  front_refused new rest _ (failure fails same kept) = tt
-  front_refused new rest _ (memory taken others p works parts more left) = tt
   front_refused new rest _ (refused_record taken others p f works parts more left why) = by_record f p.place (first_refused taken others p new f parts more why)
   front_refused new rest _ (ending_fault e works is more left) = by_ending e.0 e.1 (taken_accepted (given ++ pending.records) new (AddsEach-append [] held new given pending.records each more)) is
+  front_refused new rest _ _ = tt
 
 -- taking records stops for no failed read and no failed write
 pub loading_is_of_bytes : (old new : List Record) (pending rest : Pending) (stop : Stop) → StopsTaking old pending new rest stop → IsOfBytes stop
 loading_is_of_bytes old new pending rest _ (failure fails same kept) = tt
-loading_is_of_bytes old new pending rest _ (memory taken others p works parts more left) = tt
-loading_is_of_bytes old new pending rest _ (refused_record taken others p f works parts more left why) = tt
-loading_is_of_bytes old new pending rest _ (ending_fault e works is more left) = tt
+loading_is_of_bytes old new pending rest _ _ = tt
 
 not_both : {e : Fault × Place} → Some e ≡ None → ⊥
 not_both same = cc
@@ -134,9 +111,7 @@ module _ {Kept : Type 0} (IsOf : ReadAs → Type 0) (Leave : ReadAs → Octets �
       reads = (kept given stands).stands.read ended;
       refuses = front_reading (given ++ p1.records) p1.ending fault place refuses;
     }
-    refused_with given stands Read refuses = tt
-    refused_with given stands Write refuses = tt
-    refused_with given stands Memory refuses = tt
+    refused_with given stands _ refuses = tt
 
     pub loading_refused : (new : List Record) (rest : Pending) (stop : Stop) → StopsTaking held p1 new rest stop → IsLoaded (Stands p0 b0) form p0 held refusal octets → IfRefused stop (RefusesRead (input_of form octets))
     loading_refused new rest stop stops (front_refuses front more placed ending f at is parts decided refuses) = absurd (not_both (sym is ∙ none))

@@ -1,14 +1,6 @@
 -- Lines that are written piece by piece.
-use Rattle.std.proofs.Common.{◌≡◌, ℕ, List, ◌++◌, sym, ap, ◌∙◌, append_assoc, subst}
-use Rattle.std.specs.Prelude.{Option, Result, Ok, Err, OnErr, OnOk}
-use Rattle.std.specs.Io.KnownBytes.{Appends}
-use Rattle.std.proofs.KnownBytes.{Appends-trans}
+use Rattle.zonenorm.proofs.Common.{◌≡◌, ℕ, List, ◌++◌, sym, ap, ◌∙◌, append_assoc, subst, Option, Result, Ok, Err, OnErr, OnOk, Appends, Appends-trans, AppendsPart, IsFailedWrite, Stop, Refused, Read, Write, Memory, Device, TellsLine, WritesLine, WritesPartOfLine}
 use Rattle.zone_print.proofs.Front.{some_more}
-use Rattle.zone_print.specs.Writing.{AppendsPart, IsFailedWrite}
-use Rattle.zone_rdata.specs.declared.fault.Stop.{Stop}
-use Rattle.zone_rdata.specs.declared.fault.Stop.TheVariants.{Refused, Read, Write, Memory}
-use Rattle.zonenorm.specs.Run.{Device, TellsLine}
-use Rattle.zonenorm.specs.Telling.{WritesLine, WritesPartOfLine}
 
 -- a part of the front of a text is a part of the text
 pub part_first : (old new : Option (List ℕ)) (piece front back : List ℕ) → piece ≡ front → AppendsPart old new piece → AppendsPart old new (front ++ back)
@@ -49,7 +41,5 @@ told_as text line status other answer writer is same h =
 
 -- a write that failed
 pub failed_write : (failed : Type 0) (stop : Stop) → IsFailedWrite failed stop → failed
-failed_write failed (Refused fault place) never = absurd never
-failed_write failed Read never = absurd never
 failed_write failed Write h = h
-failed_write failed Memory never = absurd never
+failed_write failed _ never = absurd never

@@ -1,21 +1,6 @@
 -- From the zone that an input is read as to the canonical text that is written of it.
-use Rattle.std.proofs.Common.{◌≡◌, ℕ, ◌<◌, ◌≤◌, ◌-◌, ◌^◌, List, length, min, refl, inl, inr, Vec, Global}
-use Rattle.std.specs.Prelude.{Option, None, Result, Ok, Err, IfOk, OnOk}
-use Rattle.std.specs.Io.KnownBytes.{Appends}
-use Rattle.zone_name.specs.Common.{Octets}
-use Rattle.zone_rdata.specs.declared.fault.Fault.TheVariants.{ZoneTooLarge}
-use Rattle.zone_rdata.specs.declared.fault.Place.TheVariants.{Whole}
-use Rattle.zone_rdata.specs.declared.fault.Stop.{Stop}
-use Rattle.zone_rdata.specs.declared.record.Placed.{Placed}
-use Rattle.zone_set.specs.Zone.{Zone}
-use Rattle.zone_print.specs.Canonical.{canon, text_limit}
-use Rattle.zone_print.specs.Writing.{StopsPush, StopsWrite}
+use Rattle.zonenorm.proofs.Common.{◌≡◌, ℕ, ◌<◌, ◌≤◌, ◌-◌, ◌^◌, List, length, min, refl, inl, inr, Vec, Global, Option, None, Result, Ok, Err, IfOk, OnOk, Appends, Octets, ZoneTooLarge, Whole, Stop, Placed, Zone, canon, text_limit, StopsPush, StopsWrite, Input, IsInput, InputDenotes, InputReads, InputStates, ReadsZoneWithin, IsOfBytes, Normalises, NormalisesTo, WritesNothing, WritesPrefix, IfRefused, IsRefusal, reading, too_large, TellsRead}
 use Rattle.zone_print.specs.Writing as printing
-use Rattle.zonenorm.specs.Input.{Input, IsInput, InputDenotes, InputReads, InputStates}
-use Rattle.zonenorm.specs.Machine.Loading.{ReadsZoneWithin}
-use Rattle.zonenorm.specs.Normalise.{IsOfBytes, Normalises, NormalisesTo, WritesNothing, WritesPrefix}
-use Rattle.zonenorm.specs.Refusal.{IfRefused, IsRefusal, reading, too_large}
-use Rattle.zonenorm.specs.Stops.{TellsRead}
 
 abbrev ReadIsStated : Type 0
 ReadIsStated = (input : Input) (placed : List Placed) → IsInput input → InputReads input placed None → InputStates input placed
@@ -33,8 +18,7 @@ module _ (input : Input) (z : Zone) (reads : ReadsZoneWithin text_limit input z)
 
   pub refused_writing : (old new : Option Octets) (stop : Stop) → StopsWrite text_limit (canon z) old new stop → IfRefused stop (IsRefusal input)
   refused_writing old new _ (printing.large long kept) = large long
-  refused_writing old new _ (printing.memory short front) = tt
-  refused_writing old new _ (printing.write short front) = tt
+  refused_writing old new _ _ = tt
 
   pub front_written : ReadIsStated → IsInput input → (old new : Option Octets) (stop : Stop) → StopsWrite text_limit (canon z) old new stop → WritesPrefix input old new
   front_written stated is old new _ (printing.large long kept) = inl kept
@@ -43,8 +27,7 @@ module _ (input : Input) (z : Zone) (reads : ReadsZoneWithin text_limit input z)
 
 pub nothing_written : (limit : ℕ) (text : Octets) (old new : Option Octets) (stop : Stop) → StopsWrite limit text old new stop → WritesNothing stop old new
 nothing_written limit text old new _ (printing.large long kept) = kept
-nothing_written limit text old new _ (printing.memory short front) = tt
-nothing_written limit text old new _ (printing.write short front) = tt
+nothing_written limit text old new _ _ = tt
 
 pub normalises : (input : Input) (z : Zone) → ReadsZoneWithin text_limit input z → ReadIsStated → IsInput input → (old new : Option Octets) (count : ℕ) → Appends old new (canon z) → length (canon z) ≤ text_limit → count ≡ min (length z.records) (2 ^ 64 - 1) → Normalises input old new count
 normalises input z reads stated is old new count written short counted = record { zone = z; denotes = denotes_zone input z reads stated is short; written = written; counted = counted }
@@ -56,8 +39,7 @@ normalises_to input z reads stated is (Err stop) same short = tt
 -- what stops the printing tells no failed read
 pub prints_no_read : (works failed : Type 0) (limit : ℕ) (text : Octets) (old new : Option Octets) (stop : Stop) → works → StopsWrite limit text old new stop → TellsRead works failed stop
 prints_no_read works failed limit text old new _ on (printing.large long kept) = on
-prints_no_read works failed limit text old new _ on (printing.memory short front) = on
-prints_no_read works failed limit text old new _ on (printing.write short front) = on
+prints_no_read works failed limit text old new _ on _ = on
 
 -- printing a text stops for no failed read and no failed write
 pub pushing_is_of_bytes : (limit : ℕ) (text : Octets) (stop : Stop) → StopsPush limit text stop → IsOfBytes stop

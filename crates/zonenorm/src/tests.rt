@@ -34,7 +34,7 @@ mod wire;
 mod words;
 mod zones;
 
-/// A row of a table: what is asked, and the answer that it must get.
+/// A row of a table of few: what is asked, and the answer that it must get.
 trait Case {
     /// Whether the answer is the one that is wanted.
     ///
@@ -58,21 +58,69 @@ fn check_rows<C: Case>(alloc: Global, cases: &[C]) -> Result<(), Fail> {
     Ok(())
 }
 
-/// A row that has a name.
-trait Named: Case {
-    fn name(&self) -> &'static str;
+/// What is asked of the rows of a table, which is one text.
+trait Question {
+    /// Appends the answer to what a row asks, in the words of the table.
+    ///
+    /// # Errors
+    ///
+    /// What no row speaks of, want of memory among it.
+    fn answer(alloc: Global, asked: &'static str, out: &mut Vec<u8>) -> Result<(), Fail>;
 }
 
-/// That each row gets the answer that is wanted.
+/// That this is the answer to what a row asks.
 ///
 /// # Errors
 ///
-/// The name of the first row that gets another.
-fn check_named<C: Named>(alloc: Global, cases: &[C]) -> Result<(), Fail> {
-    for case in cases {
-        if !case.is_right(alloc)? {
-            return Err(Fail::new(format_args!("{} gets another answer", case.name())));
+/// What was asked, where the answer is another.
+fn check_answer<Q: Question>(alloc: Global, row: (&'static str, &str)) -> Result<(), Fail> {
+    let (asked, wanted) = row;
+    let mut answer = roomy(alloc)?;
+    Q::answer(alloc, asked, &mut answer)?;
+    if answer.as_slice() == wanted.as_bytes() {
+        return Ok(());
+    }
+    Err(Fail::new(format_args!("another answer: {asked}")))
+}
+
+/// That each line of a table gets the answer that stands behind its ` => `.
+///
+/// # Errors
+///
+/// The first that gets another.
+fn check_lines<Q: Question>(alloc: Global, table: &'static str) -> Result<(), Fail> {
+    for line in table.lines() {
+        check_answer::<Q>(alloc, line.split_once(" => ").ok_or(line)?)?;
+    }
+    Ok(())
+}
+
+/// That each row of a table gets the answer that stands behind its `=>`. `== ` stands before each
+/// row.
+///
+/// # Errors
+///
+/// The first that gets another.
+fn check_table<Q: Question>(alloc: Global, table: &'static str) -> Result<(), Fail> {
+    for row in table.split("== ") {
+        // Nothing stands before the first row.
+        if !row.is_empty() {
+            check_answer::<Q>(alloc, row.split_once("=>").ok_or(row)?)?;
         }
+    }
+    Ok(())
+}
+
+/// Appends a text.
+fn push_text(out: &mut Vec<u8>, text: &str) -> Result<(), Fail> {
+    Ok(out.extend_from_slice(text.as_bytes())?)
+}
+
+/// Appends `#` and octets in hexadecimal digits.
+fn push_hex(alloc: Global, out: &mut Vec<u8>, octets: &[u8]) -> Result<(), Fail> {
+    out.push(b'#')?;
+    for octet in octets {
+        push_text(out, format!(in alloc; "{octet:02x}")?.as_str())?;
     }
     Ok(())
 }
@@ -89,14 +137,9 @@ fn check(is_right: bool, wanted: &'static str) -> Result<(), Fail> {
     Err(Fail::new(format_args!("not so: {wanted}")))
 }
 
-/// The name of a fault.
-fn fault_name(alloc: Global, fault: &Fault) -> Result<String, AllocError> {
-    format!(in alloc; "{fault:?}")
-}
-
-/// Whether a fault has this name.
-fn is_fault(alloc: Global, fault: &Fault, name: &str) -> Result<bool, Fail> {
-    Ok(fault_name(alloc, fault)?.as_str() == name)
+/// Appends the name of a fault.
+fn push_fault(alloc: Global, out: &mut Vec<u8>, fault: &Fault) -> Result<(), Fail> {
+    push_text(out, format!(in alloc; "{fault:?}")?.as_str())
 }
 
 /// An answer or its fault.
@@ -112,30 +155,55 @@ fn judged<T>(answer: Result<T, Failing>) -> Result<Result<T, Fault>, Fail> {
     }
 }
 
-/// Whether the line that explains a stop has this before its colon: number, name, argument and
-/// place.
+/// Appends the line that explains a stop, up to the colon: number, name, argument and place.
 ///
 /// # Errors
 ///
 /// Want of memory, also where that is the stop.
-fn is_explained(alloc: Global, stop: &Stop, front: &str) -> Result<bool, Fail> {
+fn push_stop(alloc: Global, out: &mut Vec<u8>, stop: &Stop) -> Result<(), Fail> {
     if matches!(stop, Stop::Memory) {
         return Err(Fail::from("memory"));
     }
     let line = explain_line(alloc, stop)?;
-    Ok(
-        line.as_str()
-            .strip_prefix(front)
-            .is_some_and(|rest| rest.starts_with(": ")),
-    )
+    let (front, _) = line
+        .as_str()
+        .split_once(": ")
+        .unwrap_or((line.as_str(), ""));
+    push_text(out, front)
+}
+
+/// Appends what an input is answered: its canonical text from the next line on, or on this line
+/// what explains the refusal.
+///
+/// # Errors
+///
+/// Want of memory, also where that is the answer.
+fn push_answer(
+    alloc: Global,
+    out: &mut Vec<u8>,
+    answered: Result<Vec<u8>, Stop>,
+) -> Result<(), Fail> {
+    match answered {
+        Ok(text) => {
+            out.push(b'\n')?;
+            Ok(out.extend_from_slice(&text)?)
+        }
+        Err(stop) => {
+            out.push(b' ')?;
+            push_stop(alloc, out, &stop)?;
+            Ok(out.push(b'\n')?)
+        }
+    }
 }
 
 /// Whether octets are refused, by a stop that is explained so.
 fn is_refused(alloc: Global, form: Form<'_>, octets: &[u8], front: &str) -> Result<bool, Fail> {
+    let mut told = roomy(alloc)?;
     match normalise_bytes(alloc, form, octets).err() {
-        Some(stop) => is_explained(alloc, &stop, front),
-        None => Ok(false),
+        Some(stop) => push_stop(alloc, &mut told, &stop)?,
+        None => return Ok(false),
     }
+    Ok(told.as_slice() == front.as_bytes())
 }
 
 /// Nothing, unless a run told want of memory.

@@ -1,49 +1,21 @@
 //! Records of messages (RFC 1035 4.1.3).
-use crate::tests::notation::{message_of, push_counted, push_number};
-use crate::tests::{Case, check_rows, is_fault, judged};
+use crate::tests::notation::message_of;
+use crate::tests::readings::{line_of, push_numbers};
+use crate::tests::{Question, check_lines, judged, push_fault, push_hex};
 use std::alloc::Global;
 use std::test::Fail;
 use zone_rdata::{Fault, Rr};
 use zone_wire::Message;
 
-/// Class, type, TTL and data of an answer of `x.`, whose data stands at offset 71 of a message; and
-/// the TTL and the octets of the data of the record that it states, or its fault.
-struct Answer(
-    u16,
-    u16,
-    u32,
-    &'static [u8],
-    Result<(u32, &'static [u8]), &'static str>,
-);
-
-impl Answer {
-    /// The message: the SOA, the answer, and the SOA again.
-    fn message(&self, alloc: Global) -> Result<Vec<u8>, Fail> {
-        let mut message = message_of(alloc, "header 1 8400 1 3 0 0; QUESTION; OPENING; @12")?;
-        self.push(&mut message)?;
-        message.extend_from_slice(&message_of(alloc, "CLOSING")?)?;
-        Ok(message)
-    }
-
-    /// Appends what follows the owner.
-    fn push(&self, message: &mut Vec<u8>) -> Result<(), Fail> {
-        push_number(message, self.1)?;
-        push_number(message, self.0)?;
-        message.extend_from_slice(&self.2.to_be_bytes())?;
-        push_counted(message, self.3)
-    }
-
-    /// Whether this is the record.
-    fn is(&self, rr: &Rr, ttl: u32, octets: &[u8]) -> bool {
-        rr.owner().wire() == b"\x01x\0".as_slice()
-            && rr.class().number() == self.0
-            && rr.kind().number() == self.1
-            && rr.ttl() == ttl
-            && rr.rdata().octets() == octets
-    }
+/// A message of the SOA, an answer that stands at offset 59, and the SOA again.
+fn message_with(alloc: Global, answer: &'static str) -> Result<Vec<u8>, Fail> {
+    let mut message = message_of(alloc, "header 1 8400 1 3 0 0; QUESTION; OPENING")?;
+    message.extend_from_slice(&message_of(alloc, answer)?)?;
+    message.extend_from_slice(&message_of(alloc, "CLOSING")?)?;
+    Ok(message)
 }
 
-/// The record that the second answer of a message states.
+/// The record that the answer at offset 59 of a message states.
 fn record_of(alloc: Global, octets: &[u8]) -> Result<Result<Rr, Fault>, Fail> {
     let message = match Message::parse(octets) {
         Ok(message) => message,
@@ -52,74 +24,90 @@ fn record_of(alloc: Global, octets: &[u8]) -> Result<Result<Rr, Fault>, Fail> {
     let mut answers = message.answers();
     answers.next().ok_or("the SOA")?;
     let answer = answers.next().ok_or("an answer")?;
+    if answer.offset() != 59 {
+        return Err(Fail::from("the answer stands elsewhere"));
+    }
     judged(answer.to_rr(alloc))
 }
 
-impl Case for Answer {
-    fn is_right(&self, alloc: Global) -> Result<bool, Fail> {
-        match (record_of(alloc, &self.message(alloc)?)?, self.4) {
-            (Ok(rr), Ok((ttl, octets))) => Ok(self.is(&rr, ttl, octets)),
-            (Err(fault), Err(name)) => is_fault(alloc, &fault, name),
-            _ => Ok(false),
+/// The record that an answer states, in numbers, or the fault.
+struct InNumbers;
+
+impl Question for InNumbers {
+    fn answer(alloc: Global, asked: &'static str, out: &mut Vec<u8>) -> Result<(), Fail> {
+        match record_of(alloc, &message_with(alloc, asked)?)? {
+            Ok(rr) => push_numbers(alloc, out, &rr),
+            Err(fault) => push_fault(alloc, out, &fault),
         }
     }
 }
 
-static ANSWERS: &[Answer] = &[
-    Answer(1, 2, 3600, b"\xc0\x1f", Ok((3600, b"\x01n\x01x\0"))),
-    Answer(1, 2, 3600, b"\xc0\x3b", Ok((3600, b"\x01x\0"))),
-    Answer(1, 2, 2147487248, b"\xc0\x1f", Ok((0, b"\x01n\x01x\0"))),
-    Answer(
-        1,
-        2,
-        2147483647,
-        b"\xc0\x1f",
-        Ok((2147483647, b"\x01n\x01x\0")),
-    ),
-    Answer(255, 2, 3600, b"\xc0\x1f", Err("BadClass")),
-    Answer(1, 41, 3600, b"\xc0\x1f", Err("MetaType")),
-    Answer(1, 17, 3600, b"\xc0\x1f", Err("CompressibleType")),
-    Answer(1, 2, 3600, b"\xc0\x47", Err("BadPointer")),
-    Answer(255, 41, 3600, b"", Err("BadClass")),
-    Answer(1, 2, 60, b"\x01A\xc0\x0c", Ok((60, b"\x01a\x01x\0"))),
-    Answer(1, 2, 60, b"\xc0\x0c\0", Err("BadRdata")),
-    Answer(1, 2, 60, b"", Err("BadRdata")),
-    Answer(1, 2, 60, b"\x40", Err("ReservedLabel")),
-    Answer(1, 1, 60, b"\x0a\0\0\x01", Ok((60, b"\x0a\0\0\x01"))),
-    Answer(1, 1, 60, b"\x0a\0\0\x01\0", Err("BadRdata")),
-    Answer(1, 1, 60, b"\x0a\0\0", Err("BadRdata")),
-    Answer(3, 1, 60, b"\x0a\0\0", Ok((60, b"\x0a\0\0"))),
-    Answer(1, 15, 60, b"\x01\x02\xc0\x0c", Ok((60, b"\x01\x02\x01x\0"))),
-    Answer(1, 15, 60, b"\x01", Err("BadRdata")),
-    Answer(1, 16, 60, b"\x03aB\xff\0", Ok((60, b"\x03aB\xff\0"))),
-    Answer(1, 16, 60, b"", Err("BadRdata")),
-    Answer(1, 16, 60, b"\0\x02a", Err("BadRdata")),
-    Answer(
-        1,
-        33,
-        60,
-        b"\0\0\0\x05\x13\xc4\xc0\x1f",
-        Ok((60, b"\0\0\0\x05\x13\xc4\x01n\x01x\0")),
-    ),
-    Answer(
-        1,
-        35,
-        60,
-        b"\0\x64\0\x0a\x01U\0\0\xc0\x1f",
-        Ok((60, b"\0\x64\0\x0a\x01U\0\0\x01n\x01x\0")),
-    ),
-    Answer(
-        1,
-        35,
-        60,
-        b"\0\x64\0\x0a\x01U\0\x05\xc0\x0c",
-        Err("BadRdata"),
-    ),
-    Answer(1, 731, 60, b"", Ok((60, b""))),
-    Answer(1, 731, 60, b"\xc0\x0c", Ok((60, b"\xc0\x0c"))),
-];
+/// Answers in notation, whose data stands at offset 71.
+const ANSWERS: &str = "\
+@12 3600 CLASS1 TYPE2 #c01f => #017800 3600 CLASS1 TYPE2 #016e017800
+@12 3600 CLASS1 TYPE2 #c03b => #017800 3600 CLASS1 TYPE2 #017800
+@12 2147487248 CLASS1 TYPE2 #c01f => #017800 0 CLASS1 TYPE2 #016e017800
+@12 2147483647 CLASS1 TYPE2 #c01f => #017800 2147483647 CLASS1 TYPE2 #016e017800
+@12 3600 CLASS255 TYPE2 #c01f => BadClass
+@12 3600 CLASS1 TYPE41 #c01f => MetaType
+@12 3600 CLASS1 TYPE17 #c01f => CompressibleType
+@12 3600 CLASS1 TYPE2 #c047 => BadPointer
+@12 3600 CLASS255 TYPE41 # => BadClass
+@12 60 CLASS1 TYPE2 #0141c00c => #017800 60 CLASS1 TYPE2 #0161017800
+@12 60 CLASS1 TYPE2 #c00c00 => BadRdata
+@12 60 CLASS1 TYPE2 # => BadRdata
+@12 60 CLASS1 TYPE2 #40 => ReservedLabel
+@12 60 CLASS1 TYPE1 #0a000001 => #017800 60 CLASS1 TYPE1 #0a000001
+@12 60 CLASS1 TYPE1 #0a00000100 => BadRdata
+@12 60 CLASS1 TYPE1 #0a0000 => BadRdata
+@12 60 CLASS3 TYPE1 #0a0000 => #017800 60 CLASS3 TYPE1 #0a0000
+@12 60 CLASS1 TYPE15 #0102c00c => #017800 60 CLASS1 TYPE15 #0102017800
+@12 60 CLASS1 TYPE15 #01 => BadRdata
+@12 60 CLASS1 TYPE16 #036142ff00 => #017800 60 CLASS1 TYPE16 #036142ff00
+@12 60 CLASS1 TYPE16 # => BadRdata
+@12 60 CLASS1 TYPE16 #000261 => BadRdata
+@12 60 CLASS1 TYPE33 #0000000513c4c01f => #017800 60 CLASS1 TYPE33 #0000000513c4016e017800
+@12 60 CLASS1 TYPE35 #0064000a01550000c01f => #017800 60 CLASS1 TYPE35 #0064000a01550000016e017800
+@12 60 CLASS1 TYPE35 #0064000a01550005c00c => BadRdata
+@12 60 CLASS1 TYPE731 # => #017800 60 CLASS1 TYPE731 #
+@12 60 CLASS1 TYPE731 #c00c => #017800 60 CLASS1 TYPE731 #c00c
+";
 
 #[test]
 fn records_of_answers(rt: HostRuntime) -> Result<(), Fail> {
-    check_rows(rt.alloc(), ANSWERS)
+    check_lines::<InNumbers>(rt.alloc(), ANSWERS)
+}
+
+/// The record that an answer with a name states, by its canonical line and the octets of its data,
+/// or the fault.
+struct InWords;
+
+impl Question for InWords {
+    fn answer(alloc: Global, asked: &'static str, out: &mut Vec<u8>) -> Result<(), Fail> {
+        let (_, answer) = asked.split_once(": ").ok_or("no answer")?;
+        match record_of(alloc, &message_with(alloc, answer)?)? {
+            Ok(rr) => {
+                out.extend_from_slice(&line_of(alloc, &rr)?)?;
+                out.push(b' ')?;
+                push_hex(alloc, out, rr.rdata().octets())
+            }
+            Err(fault) => push_fault(alloc, out, &fault),
+        }
+    }
+}
+
+/// Answers in notation.
+const STATED: &str = "\
+name_server_answer_is_read: SERVER => x. 3600 IN NS n.x. #016e017800
+answer_of_class_255: @12 3600 CLASS255 NS @31 => BadClass
+answer_of_type_41: @12 3600 IN OPT @31 => MetaType
+answer_of_type_17: @12 3600 IN TYPE17 @31 => CompressibleType
+answer_data_that_points_to_itself: @12 3600 IN NS @71 => BadPointer
+answer_data_that_points_to_an_owner: @12 3600 IN NS @59 => x. 3600 IN NS x. #017800
+answer_ttl_with_its_top_bit_set: @12 2147487248 IN NS @31 => x. 0 IN NS n.x. #016e017800
+";
+
+#[test]
+fn answers_state_records(rt: HostRuntime) -> Result<(), Fail> {
+    check_lines::<InWords>(rt.alloc(), STATED)
 }

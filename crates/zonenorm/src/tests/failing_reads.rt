@@ -1,10 +1,9 @@
 //! Inputs whose reader fails at one of its reads, whatever was read before.
 use crate::form::Form;
-use crate::normalise;
-use crate::tests::notation::stream_of;
-use crate::tests::roomy;
 use crate::tests::streams::STREAMS;
-use crate::tests::vectors::{Question, Vector, check_files, check_table};
+use crate::tests::vectors::{check_files, input_of};
+use crate::tests::{Question, check, check_table, push_answer, roomy};
+use crate::{normalise, normalise_bytes};
 use std::alloc::Global;
 use std::io;
 use std::io::{ErrorKind, Read};
@@ -36,30 +35,28 @@ impl Read for FailingOnce<'_> {
     }
 }
 
-/// Whether the octets are answered by a failed read, and nothing is written, whichever read fails:
-/// each that gives a piece, and the one at the end.
-fn is_told_at_each_read(alloc: Global, form: Form<'_>, octets: &[u8]) -> Result<bool, Fail> {
-    for reads in 0..=octets.len().div_ceil(EACH) {
-        let mut reader = FailingOnce {
-            left: octets,
-            reads,
-        };
-        let mut written = roomy(alloc)?;
-        match normalise(alloc, form, &mut reader, &mut written) {
-            Err(Stop::Read) if written.is_empty() => {}
-            Err(Stop::Memory) => return Err(Fail::from("memory")),
-            _ => return Ok(false),
-        }
+/// Whether the octets are answered by a failed read, the one after so many, and nothing is written.
+fn is_told(alloc: Global, form: Form<'_>, left: &[u8], reads: usize) -> Result<bool, Fail> {
+    let mut written = roomy(alloc)?;
+    match normalise(alloc, form, &mut FailingOnce { left, reads }, &mut written) {
+        Err(Stop::Memory) => Err(Fail::from("memory")),
+        answer => Ok(matches!(answer, Err(Stop::Read)) && written.is_empty()),
     }
-    Ok(true)
 }
 
-/// What is answered to a file of which one read fails.
+/// What is answered where no read fails; where one does, each that gives a piece, and the one at
+/// the end, that is told.
 struct OfFailingReads;
 
 impl Question for OfFailingReads {
-    fn is_answered(alloc: Global, vector: &Vector) -> Result<bool, Fail> {
-        is_told_at_each_read(alloc, Form::File(&vector.origin()?), vector.file())
+    fn answer(alloc: Global, asked: &'static str, out: &mut Vec<u8>) -> Result<(), Fail> {
+        let input = input_of(alloc, asked)?;
+        let form = Form::with_origin(&input.origin);
+        for reads in 0..=input.octets.len().div_ceil(EACH) {
+            let is_told = is_told(alloc, form, &input.octets, reads)?;
+            check(is_told, "a failed read is told")?;
+        }
+        push_answer(alloc, out, normalise_bytes(alloc, form, &input.octets))
     }
 }
 
@@ -68,16 +65,7 @@ fn files_whose_reads_fail(rt: HostRuntime) -> Result<(), Fail> {
     check_files::<OfFailingReads>(rt.alloc())
 }
 
-/// What is answered to a stream of which one read fails.
-struct OfFailingStreams;
-
-impl Question for OfFailingStreams {
-    fn is_answered(alloc: Global, vector: &Vector) -> Result<bool, Fail> {
-        is_told_at_each_read(alloc, Form::Transfer, &stream_of(alloc, vector.input)?)
-    }
-}
-
 #[test]
 fn streams_whose_reads_fail(rt: HostRuntime) -> Result<(), Fail> {
-    check_table::<OfFailingStreams>(rt.alloc(), STREAMS)
+    check_table::<OfFailingReads>(rt.alloc(), STREAMS)
 }

@@ -1,8 +1,7 @@
 //! Record data: from a line of words to its text, its octets and its order (RFC 1035 3.3, RFC 3597,
 //! RFC 4034 6.3).
-use crate::tests::{Case, check_rows, is_fault, judged};
+use crate::tests::{Question, check_lines, judged, push_fault, push_hex, push_text};
 use std::alloc::Global;
-use std::cmp::Ordering;
 use std::test::Fail;
 use zone_name::Name;
 use zone_rdata::{Class, Failing, Fault, Item, Kind, Rdata};
@@ -60,233 +59,153 @@ fn data_in_buffer(alloc: Global, origin: &str, line: &str) -> Result<Result<Rdat
     judged(read.map_err(Failing::from))
 }
 
-/// The canonical text of data.
-fn text_of(alloc: Global, data: &Rdata) -> Result<Vec<u8>, Fail> {
-    let mut text = Vec::new(alloc);
-    data.push_text(&mut text)?;
-    Ok(text)
-}
+/// The canonical text of the data that a line states under the origin `x.`, or the name of the
+/// fault.
+pub(super) struct Stated;
 
-/// A line, and the text of the data that it states under the origin `x.`, or the fault.
-pub(super) struct Stated(
-    pub(super) &'static str,
-    pub(super) Result<&'static str, &'static str>,
-);
-
-impl Case for Stated {
-    fn is_right(&self, alloc: Global) -> Result<bool, Fail> {
-        match (data_of(alloc, "x.", self.0)?, self.1) {
-            (Ok(data), Ok(text)) => Ok(text_of(alloc, &data)?.as_slice() == text.as_bytes()),
-            (Err(fault), Err(name)) => is_fault(alloc, &fault, name),
-            _ => Ok(false),
+impl Question for Stated {
+    fn answer(alloc: Global, asked: &'static str, out: &mut Vec<u8>) -> Result<(), Fail> {
+        match data_of(alloc, "x.", asked)? {
+            Ok(data) => Ok(data.push_text(out)?),
+            Err(fault) => push_fault(alloc, out, &fault),
         }
     }
 }
 
-/// Data in words.
-static WORDS: &[Stated] = &[
-    Stated("IN NS \\035", Ok("#.x.")),
-    Stated("IN MX 010 M", Ok("10 m.x.")),
-    Stated(
-        "IN SOA n h 4294967295 2 3 4 5",
-        Ok("n.x. h.x. 4294967295 2 3 4 5"),
-    ),
-    Stated(
-        "IN SOA n h 1 1h30m 1W1s 2d 5",
-        Ok("n.x. h.x. 1 5400 604801 172800 5"),
-    ),
-    Stated("IN TXT \"ab\"", Ok("\"ab\"")),
-    Stated("IN TXT \"a\" \"b\"", Ok("\"a\" \"b\"")),
-    Stated("IN TXT a b", Ok("\"a\" \"b\"")),
-    Stated("IN TXT A", Ok("\"A\"")),
-    Stated("IN TXT \\035", Ok("\"#\"")),
-    Stated("IN TXT \"\\#\" 2 0161", Ok("\"#\" \"2\" \"0161\"")),
-    Stated("IN SRV 00 05 5060 H", Ok("0 5 5060 h.x.")),
-    Stated("CH SRV 00 05 5060 H", Ok("0 5 5060 h.x.")),
-    Stated("IN NAPTR 1 2 u s r N", Ok("1 2 \"u\" \"s\" \"r\" n.x.")),
-    Stated("IN NAPTR 1 2 U s r n", Ok("1 2 \"U\" \"s\" \"r\" n.x.")),
-    Stated(
-        "IN NAPTR 100 10 u \"E2U+sip\" \"!^.*$!sip:a@x!\" .",
-        Ok("100 10 \"u\" \"E2U+sip\" \"!^.*$!sip:a@x!\" ."),
-    ),
-];
-
-/// Data in generic form (RFC 3597 5).
-static GENERIC: &[Stated] = &[
-    Stated("IN A \\# 4 0a00 0001", Ok("10.0.0.1")),
-    Stated("CH A \\# 4 0a00 0001", Ok("\\# 4 0a000001")),
-    Stated("IN NS \\# 5 014e015800", Ok("n.x.")),
-    Stated("IN TXT \\# 2 0161", Ok("\"a\"")),
-    Stated(
-        "IN AAAA \\# 16 20010db8000000000000000000000001",
-        Ok("2001:db8::1"),
-    ),
-    Stated("IN SRV \\# 11 0000000513c40148017800", Ok("0 5 5060 h.x.")),
-    Stated(
-        "IN NAPTR \\# 30 0064000a0175074532552b7369700e215e2e2a24217369703a6140782100",
-        Ok("100 10 \"u\" \"E2U+sip\" \"!^.*$!sip:a@x!\" ."),
-    ),
-    Stated("IN TYPE257 \\# 2 0000", Ok("\\# 2 0000")),
-    Stated(
-        "CLASS32 TYPE731 \\# 6 abcd ef 01 23 45",
-        Ok("\\# 6 abcdef012345"),
-    ),
-    Stated("CLASS32 TYPE731 \\# 0", Ok("\\# 0")),
-];
-
-/// Words that are missing, left over, malformed or out of range.
-static BAD_WORDS: &[Stated] = &[
-    Stated("IN NS", Err("BadRdata")),
-    Stated("IN NS \"a\"", Err("BadRdata")),
-    Stated("IN NS a..b", Err("EmptyLabel")),
-    Stated("IN MX 65536 m", Err("BadNumber")),
-    Stated("IN SOA a b 4294967296", Err("BadNumber")),
-    Stated("IN SOA n h 1h 2 3 4 5", Err("BadNumber")),
-    Stated("IN SOA n h 4294967296 2 3 4 5", Err("BadNumber")),
-    Stated("IN SOA n h 1 2 3 4", Err("BadRdata")),
-    Stated("IN TXT", Err("BadRdata")),
-    Stated(
-        "IN TXT \"aaaaaaaaaaaaaaaaaaaaaaaaaaaaaaaaaaaaaaaaaaaaaaaaaaaaaaaaaaaaaaaaaaaaaaaaaaaaaaaaaaaaaaaaaaaaaaaaaaaaaaaaaaaaaaaaaaaaaaaaaaaaaaaaaaaaaaaaaaaaaaaaaaaaaaaaaaaaaaaaaaaaaaaaaaaaaaaaaaaaaaaaaaaaaaaaaaaaaaaaaaaaaaaaaaaaaaaaaaaaaaaaaaaaaaaaaaaaaaaaaaaaaaaaaaaaaaaa\"",
-        Err("StringTooLong"),
-    ),
-    Stated("IN SRV 0 5 65536 h", Err("BadNumber")),
-    Stated("IN SRV 0 5 5060", Err("BadRdata")),
-    Stated("IN NAPTR 100 10 u \"E2U+sip\" .", Err("BadRdata")),
-    Stated("IN NAPTR \"1\" 2 \"\" \"\" \"\" .", Err("BadRdata")),
-    Stated(
-        "IN NAPTR 1 2 \"aaaaaaaaaaaaaaaaaaaaaaaaaaaaaaaaaaaaaaaaaaaaaaaaaaaaaaaaaaaaaaaaaaaaaaaaaaaaaaaaaaaaaaaaaaaaaaaaaaaaaaaaaaaaaaaaaaaaaaaaaaaaaaaaaaaaaaaaaaaaaaaaaaaaaaaaaaaaaaaaaaaaaaaaaaaaaaaaaaaaaaaaaaaaaaaaaaaaaaaaaaaaaaaaaaaaaaaaaaaaaaaaaaaaaaaaaaaaaaaaaaaaaaaaaaaaaaaa\" \"\" \"\" .",
-        Err("StringTooLong"),
-    ),
-];
-
-/// Data in generic form that is malformed, or is no value of its type.
-static BAD_GENERIC: &[Stated] = &[
-    Stated("IN NS \\#", Err("BadGeneric")),
-    Stated("IN A \\# 3 0A0000", Err("BadRdata")),
-    Stated("IN A \\# 4 0A0000", Err("BadGeneric")),
-    Stated("IN SRV \\# 2 0000", Err("BadRdata")),
-    Stated("CH A 10.0.0.1", Err("BadGeneric")),
-    Stated("IN TYPE731", Err("BadGeneric")),
-    Stated("IN TYPE731 00", Err("BadGeneric")),
-    Stated("IN TYPE731 \\#", Err("BadGeneric")),
-    Stated("IN TYPE731 \\# 65536 0", Err("RdataTooLong")),
-    Stated("IN TYPE731 \\# 2 000 0", Err("BadGeneric")),
-    Stated("IN TYPE731 \\# 1 \"00\"", Err("BadGeneric")),
-];
+/// Data in words; data in generic form (RFC 3597 5); words that are missing, left over, malformed
+/// or out of range; and generic form that is malformed, or is no value of its type.
+const DATA: &str = "\
+IN NS \\035 => #.x.
+IN MX 010 M => 10 m.x.
+IN SOA n h 4294967295 2 3 4 5 => n.x. h.x. 4294967295 2 3 4 5
+IN SOA n h 1 1h30m 1W1s 2d 5 => n.x. h.x. 1 5400 604801 172800 5
+IN TXT \"ab\" => \"ab\"
+IN TXT \"a\" \"b\" => \"a\" \"b\"
+IN TXT a b => \"a\" \"b\"
+IN TXT A => \"A\"
+IN TXT \\035 => \"#\"
+IN TXT \"\\#\" 2 0161 => \"#\" \"2\" \"0161\"
+IN SRV 00 05 5060 H => 0 5 5060 h.x.
+CH SRV 00 05 5060 H => 0 5 5060 h.x.
+IN NAPTR 1 2 u s r N => 1 2 \"u\" \"s\" \"r\" n.x.
+IN NAPTR 1 2 U s r n => 1 2 \"U\" \"s\" \"r\" n.x.
+IN NAPTR 100 10 u \"E2U+sip\" \"!^.*$!sip:a@x!\" . => 100 10 \"u\" \"E2U+sip\" \"!^.*$!sip:a@x!\" .
+IN A \\# 4 0a00 0001 => 10.0.0.1
+CH A \\# 4 0a00 0001 => \\# 4 0a000001
+IN NS \\# 5 014e015800 => n.x.
+IN TXT \\# 2 0161 => \"a\"
+IN AAAA \\# 16 20010db8000000000000000000000001 => 2001:db8::1
+IN SRV \\# 11 0000000513c40148017800 => 0 5 5060 h.x.
+IN NAPTR \\# 30 0064000a0175074532552b7369700e215e2e2a24217369703a6140782100 => 100 10 \"u\" \"E2U+sip\" \"!^.*$!sip:a@x!\" .
+IN TYPE257 \\# 2 0000 => \\# 2 0000
+CLASS32 TYPE731 \\# 6 abcd ef 01 23 45 => \\# 6 abcdef012345
+CLASS32 TYPE731 \\# 0 => \\# 0
+IN NS => BadRdata
+IN NS \"a\" => BadRdata
+IN NS a..b => EmptyLabel
+IN MX 65536 m => BadNumber
+IN SOA a b 4294967296 => BadNumber
+IN SOA n h 1h 2 3 4 5 => BadNumber
+IN SOA n h 4294967296 2 3 4 5 => BadNumber
+IN SOA n h 1 2 3 4 => BadRdata
+IN TXT => BadRdata
+IN TXT \"aaaaaaaaaaaaaaaaaaaaaaaaaaaaaaaaaaaaaaaaaaaaaaaaaaaaaaaaaaaaaaaaaaaaaaaaaaaaaaaaaaaaaaaaaaaaaaaaaaaaaaaaaaaaaaaaaaaaaaaaaaaaaaaaaaaaaaaaaaaaaaaaaaaaaaaaaaaaaaaaaaaaaaaaaaaaaaaaaaaaaaaaaaaaaaaaaaaaaaaaaaaaaaaaaaaaaaaaaaaaaaaaaaaaaaaaaaaaaaaaaaaaaaaaaaaaaaaa\" => StringTooLong
+IN SRV 0 5 65536 h => BadNumber
+IN SRV 0 5 5060 => BadRdata
+IN NAPTR 100 10 u \"E2U+sip\" . => BadRdata
+IN NAPTR \"1\" 2 \"\" \"\" \"\" . => BadRdata
+IN NAPTR 1 2 \"aaaaaaaaaaaaaaaaaaaaaaaaaaaaaaaaaaaaaaaaaaaaaaaaaaaaaaaaaaaaaaaaaaaaaaaaaaaaaaaaaaaaaaaaaaaaaaaaaaaaaaaaaaaaaaaaaaaaaaaaaaaaaaaaaaaaaaaaaaaaaaaaaaaaaaaaaaaaaaaaaaaaaaaaaaaaaaaaaaaaaaaaaaaaaaaaaaaaaaaaaaaaaaaaaaaaaaaaaaaaaaaaaaaaaaaaaaaaaaaaaaaaaaaaaaaaaaaa\" \"\" \"\" . => StringTooLong
+IN NS \\# => BadGeneric
+IN A \\# 3 0A0000 => BadRdata
+IN A \\# 4 0A0000 => BadGeneric
+IN SRV \\# 2 0000 => BadRdata
+CH A 10.0.0.1 => BadGeneric
+IN TYPE731 => BadGeneric
+IN TYPE731 00 => BadGeneric
+IN TYPE731 \\# => BadGeneric
+IN TYPE731 \\# 65536 0 => RdataTooLong
+IN TYPE731 \\# 2 000 0 => BadGeneric
+IN TYPE731 \\# 1 \"00\" => BadGeneric
+";
 
 #[test]
 fn data_of_lines(rt: HostRuntime) -> Result<(), Fail> {
-    check_rows(rt.alloc(), WORDS)?;
-    check_rows(rt.alloc(), GENERIC)?;
-    check_rows(rt.alloc(), BAD_WORDS)?;
-    check_rows(rt.alloc(), BAD_GENERIC)
+    check_lines::<Stated>(rt.alloc(), DATA)
 }
 
-/// A line of class IN, and the text, octets and MINIMUM of the data that it states under an origin.
-struct Held {
-    origin: &'static str,
-    line: &'static str,
-    text: &'static str,
-    octets: &'static [u8],
-    minimum: Option<u32>,
+/// Appends the text, octets, class and MINIMUM of data, and whether it is of an SOA.
+fn push_data(alloc: Global, out: &mut Vec<u8>, data: &Rdata) -> Result<(), Fail> {
+    data.push_text(out)?;
+    out.push(b' ')?;
+    push_hex(alloc, out, data.octets())?;
+    let class = data.class().number();
+    let minimum = data.soa_minimum();
+    let is_soa = data.kind().is_soa();
+    let words = format!(in alloc; " class {class}, minimum {minimum:?}, SOA {is_soa}")?;
+    push_text(out, words.as_str())
 }
 
-impl Held {
-    /// Whether this is the data.
-    fn is(&self, alloc: Global, data: &Rdata) -> Result<bool, Fail> {
-        Ok(
-            text_of(alloc, data)?.as_slice() == self.text.as_bytes()
-                && data.octets() == self.octets
-                && data.soa_minimum() == self.minimum
-                && data.kind().is_soa() == self.minimum.is_some()
-                && data.class().number() == 1,
+/// The data that a line states under an origin, which stands before it.
+struct Held;
+
+impl Question for Held {
+    fn answer(alloc: Global, asked: &'static str, out: &mut Vec<u8>) -> Result<(), Fail> {
+        let (origin, line) = asked.split_once(' ').ok_or("no origin")?;
+        push_data(alloc, out, &data_of(alloc, origin, line)??)
+    }
+}
+
+/// The same, read into a buffer that was used before.
+struct HeldInBuffer;
+
+impl Question for HeldInBuffer {
+    fn answer(alloc: Global, asked: &'static str, out: &mut Vec<u8>) -> Result<(), Fail> {
+        let (origin, line) = asked.split_once(' ').ok_or("no origin")?;
+        push_data(alloc, out, &data_in_buffer(alloc, origin, line)??)
+    }
+}
+
+/// An origin and a line, and the data.
+const HELD: &str = "\
+example. IN SOA Ns1 host.master. 0002024 2h 3600 1209600 4294967295 => ns1.example. host.master. 2024 7200 3600 1209600 4294967295 #036e7331076578616d706c650004686f7374066d617374657200000007e800001c2000000e1000127500ffffffff class 1, minimum Some(4294967295), SOA true
+x. IN A 010.000.00.001 => 10.0.0.1 #0a000001 class 1, minimum None, SOA false
+x. IN AAAA 2001:db8::1 => 2001:db8::1 #20010db8000000000000000000000001 class 1, minimum None, SOA false
+x. IN AAAA ::1.2.3.4 => ::102:304 #00000000000000000000000001020304 class 1, minimum None, SOA false
+x. IN TXT aaaaaaaaaaaaaaaaaaaaaaaaaaaaaaaaaaaaaaaaaaaaaaaaaaaaaaaaaaaaaaaaaaaaaaaaaaaaaaaaaaaaaaaaaaaaaaaaaaaaaaaaaaaaaaaaaaaaaaaaaaaaaaaaaaaaaaaaaaaaaaaaaaaaaaaaaaaaaaaaaaaaaaaaaaaaaaaaaaaaaaaaaaaaaaaaaaaaaaaaaaaaaaaaaaaaaaaaaaaaaaaaaaaaaaaaaaaaaaaaaaaaaaaaaaaaaaa => \"aaaaaaaaaaaaaaaaaaaaaaaaaaaaaaaaaaaaaaaaaaaaaaaaaaaaaaaaaaaaaaaaaaaaaaaaaaaaaaaaaaaaaaaaaaaaaaaaaaaaaaaaaaaaaaaaaaaaaaaaaaaaaaaaaaaaaaaaaaaaaaaaaaaaaaaaaaaaaaaaaaaaaaaaaaaaaaaaaaaaaaaaaaaaaaaaaaaaaaaaaaaaaaaaaaaaaaaaaaaaaaaaaaaaaaaaaaaaaaaaaaaaaaaaaaaaaaa\" #ff616161616161616161616161616161616161616161616161616161616161616161616161616161616161616161616161616161616161616161616161616161616161616161616161616161616161616161616161616161616161616161616161616161616161616161616161616161616161616161616161616161616161616161616161616161616161616161616161616161616161616161616161616161616161616161616161616161616161616161616161616161616161616161616161616161616161616161616161616161616161616161616161616161616161616161616161616161616161616161616161616161616161616161616161616161 class 1, minimum None, SOA false
+";
+
+#[test]
+fn data_as_it_is_held(rt: HostRuntime) -> Result<(), Fail> {
+    check_lines::<Held>(rt.alloc(), HELD)?;
+    check_lines::<HeldInBuffer>(rt.alloc(), HELD)
+}
+
+/// The order of the data of two lines, and whether they are the same.
+struct Compared;
+
+impl Question for Compared {
+    fn answer(alloc: Global, asked: &'static str, out: &mut Vec<u8>) -> Result<(), Fail> {
+        let (line, other) = asked.split_once(" and ").ok_or("no other line")?;
+        let left = data_of(alloc, "x.", line)??;
+        let right = data_of(alloc, "x.", other)??;
+        let (ordering, is_same) = (left.cmp(&right), left == right);
+        push_text(
+            out,
+            format!(in alloc; "{ordering:?}, same {is_same}")?.as_str(),
         )
     }
 }
 
-impl Case for Held {
-    fn is_right(&self, alloc: Global) -> Result<bool, Fail> {
-        let data = data_of(alloc, self.origin, self.line)??;
-        let read = data_in_buffer(alloc, self.origin, self.line)??;
-        Ok(self.is(alloc, &data)? && self.is(alloc, &read)?)
-    }
-}
-
-static HELD: &[Held] = &[
-    Held {
-        origin: "example.",
-        line: "IN SOA Ns1 host.master. 0002024 2h 3600 1209600 4294967295",
-        text: "ns1.example. host.master. 2024 7200 3600 1209600 4294967295",
-        octets: b"\x03ns1\x07example\0\x04host\x06master\0\0\0\x07\xe8\0\0\x1c\x20\0\0\x0e\x10\0\x12\x75\0\xff\xff\xff\xff",
-        minimum: Some(4294967295),
-    },
-    Held {
-        origin: "x.",
-        line: "IN A 010.000.00.001",
-        text: "10.0.0.1",
-        octets: b"\x0a\0\0\x01",
-        minimum: None,
-    },
-    Held {
-        origin: "x.",
-        line: "IN AAAA 2001:db8::1",
-        text: "2001:db8::1",
-        octets: b"\x20\x01\x0d\xb8\0\0\0\0\0\0\0\0\0\0\0\x01",
-        minimum: None,
-    },
-    Held {
-        origin: "x.",
-        line: "IN AAAA ::1.2.3.4",
-        text: "::102:304",
-        octets: b"\0\0\0\0\0\0\0\0\0\0\0\0\x01\x02\x03\x04",
-        minimum: None,
-    },
-    Held {
-        origin: "x.",
-        line: "IN TXT aaaaaaaaaaaaaaaaaaaaaaaaaaaaaaaaaaaaaaaaaaaaaaaaaaaaaaaaaaaaaaaaaaaaaaaaaaaaaaaaaaaaaaaaaaaaaaaaaaaaaaaaaaaaaaaaaaaaaaaaaaaaaaaaaaaaaaaaaaaaaaaaaaaaaaaaaaaaaaaaaaaaaaaaaaaaaaaaaaaaaaaaaaaaaaaaaaaaaaaaaaaaaaaaaaaaaaaaaaaaaaaaaaaaaaaaaaaaaaaaaaaaaaaaaaaaaaa",
-        text: "\"aaaaaaaaaaaaaaaaaaaaaaaaaaaaaaaaaaaaaaaaaaaaaaaaaaaaaaaaaaaaaaaaaaaaaaaaaaaaaaaaaaaaaaaaaaaaaaaaaaaaaaaaaaaaaaaaaaaaaaaaaaaaaaaaaaaaaaaaaaaaaaaaaaaaaaaaaaaaaaaaaaaaaaaaaaaaaaaaaaaaaaaaaaaaaaaaaaaaaaaaaaaaaaaaaaaaaaaaaaaaaaaaaaaaaaaaaaaaaaaaaaaaaaaaaaaaaaa\"",
-        octets: b"\xffaaaaaaaaaaaaaaaaaaaaaaaaaaaaaaaaaaaaaaaaaaaaaaaaaaaaaaaaaaaaaaaaaaaaaaaaaaaaaaaaaaaaaaaaaaaaaaaaaaaaaaaaaaaaaaaaaaaaaaaaaaaaaaaaaaaaaaaaaaaaaaaaaaaaaaaaaaaaaaaaaaaaaaaaaaaaaaaaaaaaaaaaaaaaaaaaaaaaaaaaaaaaaaaaaaaaaaaaaaaaaaaaaaaaaaaaaaaaaaaaaaaaaaaaaaaaaaa",
-        minimum: None,
-    },
-];
-
-#[test]
-fn data_as_it_is_held(rt: HostRuntime) -> Result<(), Fail> {
-    check_rows(rt.alloc(), HELD)
-}
-
-/// The order of the data of two lines.
-struct Compared(&'static str, &'static str, Ordering);
-
-impl Case for Compared {
-    fn is_right(&self, alloc: Global) -> Result<bool, Fail> {
-        let left = data_of(alloc, "x.", self.0)??;
-        let right = data_of(alloc, "x.", self.1)??;
-        Ok(left.cmp(&right) == self.2 && (left == right) == (self.2 == Ordering::Equal))
-    }
-}
-
-static COMPARED: &[Compared] = &[
-    Compared("IN NS A.", "IN NS b.", Ordering::Less),
-    Compared("IN NS b.", "IN NS B.", Ordering::Equal),
-    Compared(
-        "IN SRV 00 05 5060 H",
-        "IN SRV \\# 11 0000000513c40148017800",
-        Ordering::Equal,
-    ),
-    Compared(
-        "IN SRV \\# 9 0000000513c4014800",
-        "IN SRV \\# 9 0000000513c4016800",
-        Ordering::Equal,
-    ),
-    Compared(
-        "IN NAPTR 100 10 u \"E2U+sip\" \"!^.*$!sip:a@x!\" .",
-        "IN NAPTR \\# 30 0064000a0175074532552b7369700e215e2e2a24217369703a6140782100",
-        Ordering::Equal,
-    ),
-];
+/// Two lines, and how they compare.
+const COMPARED: &str = "\
+IN NS A. and IN NS b. => Less, same false
+IN NS b. and IN NS B. => Equal, same true
+IN SRV 00 05 5060 H and IN SRV \\# 11 0000000513c40148017800 => Equal, same true
+IN SRV \\# 9 0000000513c4014800 and IN SRV \\# 9 0000000513c4016800 => Equal, same true
+IN NAPTR 100 10 u \"E2U+sip\" \"!^.*$!sip:a@x!\" . and IN NAPTR \\# 30 0064000a0175074532552b7369700e215e2e2a24217369703a6140782100 => Equal, same true
+";
 
 #[test]
 fn data_in_order(rt: HostRuntime) -> Result<(), Fail> {
-    check_rows(rt.alloc(), COMPARED)
+    check_lines::<Compared>(rt.alloc(), COMPARED)
 }

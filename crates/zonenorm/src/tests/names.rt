@@ -1,5 +1,5 @@
 //! Names: read from text, built, compared and printed (RFC 1035, RFC 4034, RFC 4343).
-use crate::tests::{Case, check, check_rows};
+use crate::tests::{Question, check, check_lines, check_table, push_hex, push_text};
 use std::alloc::Global;
 use std::cmp::Ordering;
 use std::test::Fail;
@@ -23,234 +23,173 @@ fn set(name: &mut Name, text: &[u8], origin: &[u8]) -> Result<(), NameFault> {
     name.set_from_text(text, Some(&origin))
 }
 
-/// A name of 255 octets, the most that a name has.
-const LONGEST_TEXT: &[u8] =
-    b"aaaaaaaaaaaaaaaaaaaaaaaaaaaaaaaaaaaaaaaaaaaaaaaaaaaaaaaaaaaaaaa.aaaaaaaaaaaaaaaaaaaaaaaaaaaaaaaaaaaaaaaaaaaaaaaaaaaaaaaaaaaaaaa.aaaaaaaaaaaaaaaaaaaaaaaaaaaaaaaaaaaaaaaaaaaaaaaaaaaaaaaaaaaaaaa.aaaaaaaaaaaaaaaaaaaaaaaaaaaaaaaaaaaaaaaaaaaaaaaaaaaaaaaaaaaaa.";
-
-/// The octets of that name.
-const LONGEST_OCTETS: &[u8] =
-    b"\x3faaaaaaaaaaaaaaaaaaaaaaaaaaaaaaaaaaaaaaaaaaaaaaaaaaaaaaaaaaaaaaa\x3faaaaaaaaaaaaaaaaaaaaaaaaaaaaaaaaaaaaaaaaaaaaaaaaaaaaaaaaaaaaaaa\x3faaaaaaaaaaaaaaaaaaaaaaaaaaaaaaaaaaaaaaaaaaaaaaaaaaaaaaaaaaaaaaa\x3daaaaaaaaaaaaaaaaaaaaaaaaaaaaaaaaaaaaaaaaaaaaaaaaaaaaaaaaaaaaa\x00";
-
-/// A text that spells a name under an origin, the name's octets and its canonical spelling.
-struct Spelled {
-    text: &'static [u8],
-    origin: &'static [u8],
-    octets: &'static [u8],
-    spelling: &'static [u8],
+/// Whether these are the octets of a copy of the name, of another name that becomes it, and of the
+/// name that is lent from their front.
+fn are_its(name: &Name, other: &Name) -> bool {
+    let (lent, rest) = NameRef::split_front(name.wire());
+    rest.is_empty()
+        && lent.wire() == name.wire()
+        && name.copy().wire() == name.wire()
+        && other.wire() == name.wire()
 }
 
-impl Spelled {
-    /// Whether another name becomes this one.
-    fn is_set(&self) -> Result<bool, Fail> {
-        let mut name = Name::from_text(b"another.name.", None)?;
-        set(&mut name, self.text, self.origin)?;
-        Ok(name.wire() == self.octets)
-    }
+/// The name that a text spells under an origin: its octets and its canonical spelling.
+struct Spelled;
 
-    /// Whether the name is lent from the front of its octets and printed as it is spelled.
-    fn is_lent(&self, alloc: Global, name: &Name) -> Result<bool, Fail> {
-        let (lent, rest) = NameRef::split_front(name.wire());
-        let mut spelling = Vec::new(alloc);
-        lent.print(&mut spelling)?;
-        let is_spelled = spelling.as_slice() == self.spelling;
-        Ok(is_spelled && rest.is_empty() && lent.wire() == self.octets)
+impl Question for Spelled {
+    fn answer(alloc: Global, asked: &'static str, out: &mut Vec<u8>) -> Result<(), Fail> {
+        let (text, origin) = asked.split_once(" under ").ok_or("no origin")?;
+        let name = named(text.as_bytes(), origin.as_bytes())?;
+        let mut other = Name::from_text(b"another.name.", None)?;
+        set(&mut other, text.as_bytes(), origin.as_bytes())?;
+        check(are_its(&name, &other), "the octets are those of the name")?;
+        push_hex(alloc, out, name.wire())?;
+        out.push(b' ')?;
+        Ok(name.push_text(out)?)
     }
 }
 
-impl Case for Spelled {
-    fn is_right(&self, alloc: Global) -> Result<bool, Fail> {
-        let name = named(self.text, self.origin)?;
-        let mut spelling = Vec::new(alloc);
-        name.push_text(&mut spelling)?;
-        Ok(
-            name.wire() == self.octets
-                && name.copy().wire() == self.octets
-                && spelling.as_slice() == self.spelling
-                && self.is_set()?
-                && self.is_lent(alloc, &name)?,
-        )
+/// The same, printed as it is lent.
+struct Lent;
+
+impl Question for Lent {
+    fn answer(alloc: Global, asked: &'static str, out: &mut Vec<u8>) -> Result<(), Fail> {
+        let (text, origin) = asked.split_once(" under ").ok_or("no origin")?;
+        let name = named(text.as_bytes(), origin.as_bytes())?;
+        let (lent, _) = NameRef::split_front(name.wire());
+        push_hex(alloc, out, lent.wire())?;
+        out.push(b' ')?;
+        Ok(lent.print(out)?)
     }
 }
 
-static SPELLED: &[Spelled] = &[
-    Spelled {
-        text: LONGEST_TEXT,
-        origin: b"",
-        octets: LONGEST_OCTETS,
-        spelling: LONGEST_TEXT,
-    },
-    Spelled {
-        text: b"\\@",
-        origin: b"x.",
-        octets: b"\x01\x40\x01x\x00",
-        spelling: b"\\@.x.",
-    },
-    Spelled {
-        text: b".",
-        origin: b"",
-        octets: b"\x00",
-        spelling: b".",
-    },
-    Spelled {
-        text: b"@",
-        origin: b"x.",
-        octets: b"\x01x\x00",
-        spelling: b"x.",
-    },
-    Spelled {
-        text: b"a",
-        origin: b"x.",
-        octets: b"\x01a\x01x\x00",
-        spelling: b"a.x.",
-    },
-    Spelled {
-        text: b"A.X.",
-        origin: b"",
-        octets: b"\x01a\x01x\x00",
-        spelling: b"a.x.",
-    },
-    Spelled {
-        text: b"\\065.",
-        origin: b"",
-        octets: b"\x01a\x00",
-        spelling: b"a.",
-    },
-    Spelled {
-        text: b"a\\046b",
-        origin: b"x.",
-        octets: b"\x03a.b\x01x\x00",
-        spelling: b"a\\.b.x.",
-    },
-    Spelled {
-        text: b"\\034\\036\\040\\041\\046\\059\\064\\092\\032\\000\\127\\255\\033\\126.",
-        origin: b"",
-        octets: b"\x0e\"$().;@\\ \x00\x7f\xff!~\x00",
-        spelling: b"\\\"\\$\\(\\)\\.\\;\\@\\\\\\032\\000\\127\\255!~.",
-    },
-];
+/// Texts under an origin, or none; the first has 255 octets, the most that a name has.
+const SPELLED: &str = "\
+aaaaaaaaaaaaaaaaaaaaaaaaaaaaaaaaaaaaaaaaaaaaaaaaaaaaaaaaaaaaaaa.aaaaaaaaaaaaaaaaaaaaaaaaaaaaaaaaaaaaaaaaaaaaaaaaaaaaaaaaaaaaaaa.aaaaaaaaaaaaaaaaaaaaaaaaaaaaaaaaaaaaaaaaaaaaaaaaaaaaaaaaaaaaaaa.aaaaaaaaaaaaaaaaaaaaaaaaaaaaaaaaaaaaaaaaaaaaaaaaaaaaaaaaaaaaa. under  => #3f6161616161616161616161616161616161616161616161616161616161616161616161616161616161616161616161616161616161616161616161616161613f6161616161616161616161616161616161616161616161616161616161616161616161616161616161616161616161616161616161616161616161616161613f6161616161616161616161616161616161616161616161616161616161616161616161616161616161616161616161616161616161616161616161616161613d6161616161616161616161616161616161616161616161616161616161616161616161616161616161616161616161616161616161616161616161616100 aaaaaaaaaaaaaaaaaaaaaaaaaaaaaaaaaaaaaaaaaaaaaaaaaaaaaaaaaaaaaaa.aaaaaaaaaaaaaaaaaaaaaaaaaaaaaaaaaaaaaaaaaaaaaaaaaaaaaaaaaaaaaaa.aaaaaaaaaaaaaaaaaaaaaaaaaaaaaaaaaaaaaaaaaaaaaaaaaaaaaaaaaaaaaaa.aaaaaaaaaaaaaaaaaaaaaaaaaaaaaaaaaaaaaaaaaaaaaaaaaaaaaaaaaaaaa.
+\\@ under x. => #0140017800 \\@.x.
+. under  => #00 .
+@ under x. => #017800 x.
+a under x. => #0161017800 a.x.
+A.X. under  => #0161017800 a.x.
+\\065. under  => #016100 a.
+a\\046b under x. => #03612e62017800 a\\.b.x.
+\\034\\036\\040\\041\\046\\059\\064\\092\\032\\000\\127\\255\\033\\126. under  => #0e222428292e3b405c20007fff217e00 \\\"\\$\\(\\)\\.\\;\\@\\\\\\032\\000\\127\\255!~.
+";
 
-/// A text that spells no name under an origin, and the fault.
-struct Unspelled(&'static [u8], &'static [u8], NameFault);
+/// The fault of a text that spells no name under an origin, and how it is shown.
+struct Unspelled;
 
-impl Case for Unspelled {
-    fn is_right(&self, _alloc: Global) -> Result<bool, Fail> {
-        let mut name = Name::from_text(b"another.name.", None)?;
-        let refusal = set(&mut name, self.0, self.1).err();
-        let is_refused = named(self.0, self.1).err() == Some(self.2);
-        Ok(is_refused && refusal == Some(self.2) && name == Name::root())
+impl Question for Unspelled {
+    fn answer(alloc: Global, asked: &'static str, out: &mut Vec<u8>) -> Result<(), Fail> {
+        let (text, origin) = asked.split_once(" under ").ok_or("no origin")?;
+        let fault = named(text.as_bytes(), origin.as_bytes())
+            .err()
+            .ok_or("a name")?;
+        let mut other = Name::from_text(b"another.name.", None)?;
+        let refusal = set(&mut other, text.as_bytes(), origin.as_bytes()).err();
+        check(
+            refusal == Some(fault),
+            "both calls refuse the text for one fault",
+        )?;
+        check(other == Name::root(), "a name that isn't set is the root")?;
+        push_text(out, format!(in alloc; "{fault:?}: {fault}.\n")?.as_str())
     }
 }
 
-static UNSPELLED: &[Unspelled] = &[
-    Unspelled(
-        b"aaaaaaaaaaaaaaaaaaaaaaaaaaaaaaaaaaaaaaaaaaaaaaaaaaaaaaaaaaaaaaa.aaaaaaaaaaaaaaaaaaaaaaaaaaaaaaaaaaaaaaaaaaaaaaaaaaaaaaaaaaaaaaa.aaaaaaaaaaaaaaaaaaaaaaaaaaaaaaaaaaaaaaaaaaaaaaaaaaaaaaaaaaaaaaa.aaaaaaaaaaaaaaaaaaaaaaaaaaaaaaaaaaaaaaaaaaaaaaaaaaaaaaaaaaaaaa.",
-        b"",
-        NameFault::NameTooLong,
-    ),
-    Unspelled(
-        b"aaaaaaaaaaaaaaaaaaaaaaaaaaaaaaaaaaaaaaaaaaaaaaaaaaaaaaaaaaaaaaaa.",
-        b"",
-        NameFault::LabelTooLong,
-    ),
-    Unspelled(b"a..b.", b"", NameFault::EmptyLabel),
-    Unspelled(b"a", b"", NameFault::RelativeName),
-    Unspelled(b"a..\\9", b"", NameFault::EmptyLabel),
-    Unspelled(b"a\\9", b"", NameFault::BadEscape),
-    Unspelled(b"a\\256", b"", NameFault::BadEscape),
-    Unspelled(b"", b"", NameFault::EmptyLabel),
-    Unspelled(b"@", b"", NameFault::RelativeName),
-    Unspelled(
-        b"aaaaaaaaaaaaaaaaaaaaaaaaaaaaaaaaaaaaaaaaaaaaaaaaaaaaaaaaaaaaaaa.aaaaaaaaaaaaaaaaaaaaaaaaaaaaaaaaaaaaaaaaaaaaaaaaaaaaaaaaaaaaaaa.aaaaaaaaaaaaaaaaaaaaaaaaaaaaaaaaaaaaaaaaaaaaaaaaaaaaaaaaaaaaaaa.aaaaaaaaaaaaaaaaaaaaaaaaaaaaaaaaaaaaaaaaaaaaaaaaaaaaaaaaaaaaaaa",
-        b"",
-        NameFault::RelativeName,
-    ),
-    Unspelled(
-        b"aaaaaaaaaaaaaaaaaaaaaaaaaaaaaaaaaaaaaaaaaaaaaaaaaaaaaaaaaaaaaaa.aaaaaaaaaaaaaaaaaaaaaaaaaaaaaaaaaaaaaaaaaaaaaaaaaaaaaaaaaaaaaaa.aaaaaaaaaaaaaaaaaaaaaaaaaaaaaaaaaaaaaaaaaaaaaaaaaaaaaaaaaaaaaaa.aaaaaaaaaaaaaaaaaaaaaaaaaaaaaaaaaaaaaaaaaaaaaaaaaaaaaaaaaaaaaaa",
-        b"x.",
-        NameFault::NameTooLong,
-    ),
-    Unspelled(
-        b"aaaaaaaaaaaaaaaaaaaaaaaaaaaaaaaaaaaaaaaaaaaaaaaaaaaaaaaaaaaaaaa.aaaaaaaaaaaaaaaaaaaaaaaaaaaaaaaaaaaaaaaaaaaaaaaaaaaaaaaaaaaaaaa.aaaaaaaaaaaaaaaaaaaaaaaaaaaaaaaaaaaaaaaaaaaaaaaaaaaaaaaaaaaaaaa.aaaaaaaaaaaaaaaaaaaaaaaaaaaaaaaaaaaaaaaaaaaaaaaaaaaaaaaaaaaaa",
-        b"x.",
-        NameFault::NameTooLong,
-    ),
-    Unspelled(b"a\\", b"", NameFault::BadEscape),
-    Unspelled(b"a\\\n.", b"", NameFault::BadEscape),
-    Unspelled(b"a\\\r.", b"", NameFault::BadEscape),
-    Unspelled(b"..", b"", NameFault::EmptyLabel),
-    Unspelled(b".a", b"x.", NameFault::EmptyLabel),
-];
+/// Texts under an origin, or none, some with a line feed or a carriage return.
+const UNSPELLED: &str = "\
+== aaaaaaaaaaaaaaaaaaaaaaaaaaaaaaaaaaaaaaaaaaaaaaaaaaaaaaaaaaaaaaa.aaaaaaaaaaaaaaaaaaaaaaaaaaaaaaaaaaaaaaaaaaaaaaaaaaaaaaaaaaaaaaa.aaaaaaaaaaaaaaaaaaaaaaaaaaaaaaaaaaaaaaaaaaaaaaaaaaaaaaaaaaaaaaa.aaaaaaaaaaaaaaaaaaaaaaaaaaaaaaaaaaaaaaaaaaaaaaaaaaaaaaaaaaaaaa. under =>NameTooLong: a name has more than 255 octets.
+== aaaaaaaaaaaaaaaaaaaaaaaaaaaaaaaaaaaaaaaaaaaaaaaaaaaaaaaaaaaaaaaa. under =>LabelTooLong: a label has more than 63 octets.
+== a..b. under =>EmptyLabel: a label is empty.
+== a under =>RelativeName: a relative name has no origin.
+== a..\\9 under =>EmptyLabel: a label is empty.
+== a\\9 under =>BadEscape: a backslash escape is malformed.
+== a\\256 under =>BadEscape: a backslash escape is malformed.
+==  under =>EmptyLabel: a label is empty.
+== @ under =>RelativeName: a relative name has no origin.
+== aaaaaaaaaaaaaaaaaaaaaaaaaaaaaaaaaaaaaaaaaaaaaaaaaaaaaaaaaaaaaaa.aaaaaaaaaaaaaaaaaaaaaaaaaaaaaaaaaaaaaaaaaaaaaaaaaaaaaaaaaaaaaaa.aaaaaaaaaaaaaaaaaaaaaaaaaaaaaaaaaaaaaaaaaaaaaaaaaaaaaaaaaaaaaaa.aaaaaaaaaaaaaaaaaaaaaaaaaaaaaaaaaaaaaaaaaaaaaaaaaaaaaaaaaaaaaaa under =>RelativeName: a relative name has no origin.
+== aaaaaaaaaaaaaaaaaaaaaaaaaaaaaaaaaaaaaaaaaaaaaaaaaaaaaaaaaaaaaaa.aaaaaaaaaaaaaaaaaaaaaaaaaaaaaaaaaaaaaaaaaaaaaaaaaaaaaaaaaaaaaaa.aaaaaaaaaaaaaaaaaaaaaaaaaaaaaaaaaaaaaaaaaaaaaaaaaaaaaaaaaaaaaaa.aaaaaaaaaaaaaaaaaaaaaaaaaaaaaaaaaaaaaaaaaaaaaaaaaaaaaaaaaaaaaaa under x.=>NameTooLong: a name has more than 255 octets.
+== aaaaaaaaaaaaaaaaaaaaaaaaaaaaaaaaaaaaaaaaaaaaaaaaaaaaaaaaaaaaaaa.aaaaaaaaaaaaaaaaaaaaaaaaaaaaaaaaaaaaaaaaaaaaaaaaaaaaaaaaaaaaaaa.aaaaaaaaaaaaaaaaaaaaaaaaaaaaaaaaaaaaaaaaaaaaaaaaaaaaaaaaaaaaaaa.aaaaaaaaaaaaaaaaaaaaaaaaaaaaaaaaaaaaaaaaaaaaaaaaaaaaaaaaaaaaa under x.=>NameTooLong: a name has more than 255 octets.
+== a\\ under =>BadEscape: a backslash escape is malformed.
+== a\\
+. under =>BadEscape: a backslash escape is malformed.
+== a\\\r. under =>BadEscape: a backslash escape is malformed.
+== .. under =>EmptyLabel: a label is empty.
+== .a under x.=>EmptyLabel: a label is empty.
+";
 
 #[test]
 fn texts_of_names(rt: HostRuntime) -> Result<(), Fail> {
-    check_rows(rt.alloc(), SPELLED)?;
-    check_rows(rt.alloc(), UNSPELLED)
+    check_lines::<Spelled>(rt.alloc(), SPELLED)?;
+    check_lines::<Lent>(rt.alloc(), SPELLED)?;
+    check_table::<Unspelled>(rt.alloc(), UNSPELLED)
 }
 
-/// What follows a backslash, the octet that its escape stands for, and what follows the escape (RFC
-/// 1035 5.1).
-struct Escaped(&'static [u8], u8, &'static [u8]);
+/// Whether this is the escape that follows a backslash, the octet that it stands for, and what
+/// follows it (RFC 1035 5.1).
+fn is_escape(text: &[u8], octet: u8, rest: &[u8]) -> bool {
+    escape_at(text) == Some((octet, rest))
+}
 
-impl Case for Escaped {
-    fn is_right(&self, _alloc: Global) -> Result<bool, Fail> {
-        let (octet, rest) = escape_at(self.0).ok_or("no escape")?;
-        Ok(octet == self.1 && rest == self.2)
+#[test]
+fn escapes_stand_for_octets(rt: HostRuntime) -> Result<(), Fail> {
+    let are_escapes = is_escape(b".b", b'.', b"b") && is_escape(b"046b", b'.', b"b");
+    check(are_escapes, "both escapes are full stops")
+}
+
+/// Appends yes or no.
+fn push_truth(alloc: Global, out: &mut Vec<u8>, is_so: bool) -> Result<(), Fail> {
+    push_text(out, format!(in alloc; "{is_so}")?.as_str())
+}
+
+/// Whether a name is within the zone of an apex.
+struct Within;
+
+impl Question for Within {
+    fn answer(alloc: Global, asked: &'static str, out: &mut Vec<u8>) -> Result<(), Fail> {
+        let (text, apex) = asked.split_once(" in ").ok_or("no apex")?;
+        let (name, apex) = (named(text.as_bytes(), b"")?, named(apex.as_bytes(), b"")?);
+        push_truth(alloc, out, name.is_within(&apex))
     }
 }
 
-static ESCAPED: &[Escaped] = &[Escaped(b".b", b'.', b"b"), Escaped(b"046b", b'.', b"b")];
+/// Names and apexes.
+const WITHIN: &str = "\
+b.y. in x. => false
+x. in x. => true
+x. in . => true
+ax. in x. => false
+a.x. in x. => true
+. in x. => false
+";
 
-/// A name, an apex, and whether the name is within that zone.
-struct Within(&'static [u8], &'static [u8], bool);
+/// Whether two names are the same (RFC 4343).
+struct Same;
 
-impl Case for Within {
-    fn is_right(&self, _alloc: Global) -> Result<bool, Fail> {
-        let name = named(self.0, b"")?;
-        let apex = named(self.1, b"")?;
-        Ok(name.is_within(&apex) == self.2)
-    }
-}
-
-static WITHIN: &[Within] = &[
-    Within(b"b.y.", b"x.", false),
-    Within(b"x.", b"x.", true),
-    Within(b"x.", b".", true),
-    Within(b"ax.", b"x.", false),
-    Within(b"a.x.", b"x.", true),
-    Within(b".", b"x.", false),
-];
-
-/// Two names, and whether they are the same (RFC 4343).
-struct Same(&'static [u8], &'static [u8], bool);
-
-impl Case for Same {
-    fn is_right(&self, _alloc: Global) -> Result<bool, Fail> {
-        let name = named(self.0, b"")?;
-        let other = named(self.1, b"")?;
+impl Question for Same {
+    fn answer(alloc: Global, asked: &'static str, out: &mut Vec<u8>) -> Result<(), Fail> {
+        let (text, other) = asked.split_once(" and ").ok_or("no other")?;
+        let (name, other) = (named(text.as_bytes(), b"")?, named(other.as_bytes(), b"")?);
         let (name, _) = NameRef::split_front(name.wire());
         let (other, _) = NameRef::split_front(other.wire());
-        Ok(name.is_same(&other) == self.2)
+        push_truth(alloc, out, name.is_same(&other))
     }
 }
 
-static SAME: &[Same] = &[
-    Same(b"Example.", b"eXAMPLE.", true),
-    Same(b"\\097.example.", b"A.Example.", true),
-    Same(b".", b".", true),
-    Same(b"example.", b".", false),
-    Same(b"a.example.", b"b.example.", false),
-    Same(b"a.b.example.", b"a\\.b.example.", false),
-];
+/// Two names each.
+const SAME: &str = "\
+Example. and eXAMPLE. => true
+\\097.example. and A.Example. => true
+. and . => true
+example. and . => false
+a.example. and b.example. => false
+a.b.example. and a\\.b.example. => false
+";
 
 #[test]
-fn escapes_and_names_within(rt: HostRuntime) -> Result<(), Fail> {
-    check_rows(rt.alloc(), ESCAPED)?;
-    check_rows(rt.alloc(), WITHIN)
-}
-
-#[test]
-fn names_are_the_same(rt: HostRuntime) -> Result<(), Fail> {
-    check_rows(rt.alloc(), SAME)
+fn names_are_compared(rt: HostRuntime) -> Result<(), Fail> {
+    check_lines::<Within>(rt.alloc(), WITHIN)?;
+    check_lines::<Same>(rt.alloc(), SAME)
 }
 
 /// The example of RFC 4034 6.1, in order.
@@ -289,101 +228,65 @@ fn names_are_ordered(rt: HostRuntime) -> Result<(), Fail> {
     Ok(())
 }
 
-/// A label of 63 octets, the most that a label has.
-const LONGEST_LABEL: &[u8] = b"aaaaaaaaaaaaaaaaaaaaaaaaaaaaaaaaaaaaaaaaaaaaaaaaaaaaaaaaaaaaaaa";
-
-/// Labels that a builder takes, one that it refuses then, the fault, and the octets of the name.
-struct Built {
-    labels: &'static [&'static [u8]],
-    refused: &'static [u8],
-    fault: NameFault,
-    octets: &'static [u8],
-}
-
-impl Case for Built {
-    fn is_right(&self, _alloc: Global) -> Result<bool, Fail> {
-        let mut builder = NameBuilder::new();
-        for label in self.labels {
-            builder.push_label(label)?;
+/// A builder that took labels, of which none is empty.
+fn builder_of(labels: &str) -> Result<NameBuilder, Fail> {
+    let mut builder = NameBuilder::new();
+    for label in labels.split('.') {
+        if !label.is_empty() {
+            builder.push_label(label.as_bytes())?;
         }
-        let refusal = builder.push_label(self.refused).err();
-        let name = builder.finish();
-        Ok(
-            refusal == Some(self.fault)
-                && name.wire() == self.octets
-                && has_labels(&name, self.labels)
-                && Name::from_front(name.wire()) == name,
-        )
     }
+    Ok(builder)
 }
 
-/// Whether these are the labels of the name.
-fn has_labels(name: &Name, labels: &[&[u8]]) -> bool {
-    let mut wanted = labels.iter();
+/// Whether the name has these labels.
+fn has_labels(name: &Name, labels: &str) -> bool {
+    let mut wanted = labels.split('.');
     for label in name.labels() {
-        if wanted.next() != Some(&label) {
-            return false;
+        match wanted.next() {
+            Some(other) if other.as_bytes() == label => {}
+            _ => return false,
         }
     }
-    wanted.next().is_none()
+    wanted.next().unwrap_or("").is_empty()
 }
 
-static BUILT: &[Built] = &[
-    Built {
-        labels: &[],
-        refused: b"",
-        fault: NameFault::EmptyLabel,
-        octets: b"\x00",
-    },
-    Built {
-        labels: &[],
-        refused: b"aaaaaaaaaaaaaaaaaaaaaaaaaaaaaaaaaaaaaaaaaaaaaaaaaaaaaaaaaaaaaaaa",
-        fault: NameFault::LabelTooLong,
-        octets: b"\x00",
-    },
-    Built {
-        labels: &[
-            LONGEST_LABEL,
-            LONGEST_LABEL,
-            LONGEST_LABEL,
-            b"aaaaaaaaaaaaaaaaaaaaaaaaaaaaaaaaaaaaaaaaaaaaaaaaaaaaaaaaaaaaa",
-        ],
-        refused: b"a",
-        fault: NameFault::NameTooLong,
-        octets: LONGEST_OCTETS,
-    },
-];
+/// What a builder that took labels answers to one that it refuses, and the octets of the name.
+struct Built;
+
+impl Question for Built {
+    fn answer(alloc: Global, asked: &'static str, out: &mut Vec<u8>) -> Result<(), Fail> {
+        let (labels, refused) = asked.split_once(" and ").ok_or("no label")?;
+        let mut builder = builder_of(labels)?;
+        let fault = builder.push_label(refused.as_bytes()).err().ok_or("taken")?;
+        let name = builder.finish();
+        check(
+            has_labels(&name, labels),
+            "the labels are those that were taken",
+        )?;
+        check(
+            Name::from_front(name.wire()) == name,
+            "the octets give the name",
+        )?;
+        push_text(out, format!(in alloc; "{fault:?}, ")?.as_str())?;
+        push_hex(alloc, out, name.wire())
+    }
+}
+
+/// Labels, and one that is refused; the longest label has 63 octets, the most that one has.
+const BUILT: &str = "\
+aaaaaaaaaaaaaaaaaaaaaaaaaaaaaaaaaaaaaaaaaaaaaaaaaaaaaaaaaaaaaaa.aaaaaaaaaaaaaaaaaaaaaaaaaaaaaaaaaaaaaaaaaaaaaaaaaaaaaaaaaaaaaaa.aaaaaaaaaaaaaaaaaaaaaaaaaaaaaaaaaaaaaaaaaaaaaaaaaaaaaaaaaaaaaaa.aaaaaaaaaaaaaaaaaaaaaaaaaaaaaaaaaaaaaaaaaaaaaaaaaaaaaaaaaaaaa and a => NameTooLong, #3f6161616161616161616161616161616161616161616161616161616161616161616161616161616161616161616161616161616161616161616161616161613f6161616161616161616161616161616161616161616161616161616161616161616161616161616161616161616161616161616161616161616161616161613f6161616161616161616161616161616161616161616161616161616161616161616161616161616161616161616161616161616161616161616161616161613d6161616161616161616161616161616161616161616161616161616161616161616161616161616161616161616161616161616161616161616161616100
+ and  => EmptyLabel, #00
+ and aaaaaaaaaaaaaaaaaaaaaaaaaaaaaaaaaaaaaaaaaaaaaaaaaaaaaaaaaaaaaaaa => LabelTooLong, #00
+";
 
 #[test]
 fn names_are_built(rt: HostRuntime) -> Result<(), Fail> {
-    check_rows(rt.alloc(), BUILT)?;
+    check_lines::<Built>(rt.alloc(), BUILT)?;
     check(
         Name::root().wire() == b"\x00".as_slice(),
         "the root is one octet 0",
     )
-}
-
-/// A fault, and how it is shown.
-struct Shown(NameFault, &'static str);
-
-impl Case for Shown {
-    fn is_right(&self, alloc: Global) -> Result<bool, Fail> {
-        let fault = self.0;
-        Ok(format!(in alloc; "{fault}")?.as_str() == self.1)
-    }
-}
-
-static SHOWN: &[Shown] = &[
-    Shown(NameFault::EmptyLabel, "a label is empty"),
-    Shown(NameFault::LabelTooLong, "a label has more than 63 octets"),
-    Shown(NameFault::NameTooLong, "a name has more than 255 octets"),
-    Shown(NameFault::BadEscape, "a backslash escape is malformed"),
-    Shown(NameFault::RelativeName, "a relative name has no origin"),
-];
-
-#[test]
-fn faults_of_names_are_shown(rt: HostRuntime) -> Result<(), Fail> {
-    check_rows(rt.alloc(), SHOWN)
 }
 
 #[test]

@@ -4,8 +4,8 @@
 //! wire: `header` with the ID, the flags and the four counts in hexadecimal digits, `question` with
 //! name, type and class, and records as in a master file, with owner, TTL, class, type and data.
 //! `n@12` is the label `n` and a pointer to offset 12 (RFC 1035 4.1.4), `#` begins octets in
-//! hexadecimal digits, and a number in data has 32 bits in an SOA and 16 bits elsewhere. The lengths
-//! of messages (RFC 1035 4.2.2), labels and data are counted here.
+//! hexadecimal digits, and a number in data has 32 bits in an SOA and 16 bits elsewhere. The
+//! lengths of messages (RFC 1035 4.2.2), labels and data are counted here.
 use std::alloc::Global;
 use std::test::Fail;
 
@@ -82,13 +82,20 @@ fn push_octets(out: &mut Vec<u8>, digits: &str) -> Result<(), Fail> {
     Ok(())
 }
 
+/// The octets of hexadecimal digits.
+pub(super) fn octets_of(alloc: Global, digits: &str) -> Result<Vec<u8>, Fail> {
+    let mut octets = Vec::new(alloc);
+    push_octets(&mut octets, digits)?;
+    Ok(octets)
+}
+
 /// Appends a number of 16 bits.
-pub(super) fn push_number(out: &mut Vec<u8>, number: u16) -> Result<(), Fail> {
+fn push_number(out: &mut Vec<u8>, number: u16) -> Result<(), Fail> {
     Ok(out.extend_from_slice(&number.to_be_bytes())?)
 }
 
 /// Appends octets after their number.
-pub(super) fn push_counted(out: &mut Vec<u8>, octets: &[u8]) -> Result<(), Fail> {
+fn push_counted(out: &mut Vec<u8>, octets: &[u8]) -> Result<(), Fail> {
     push_number(out, u16::try_from(octets.len())?)?;
     Ok(out.extend_from_slice(octets)?)
 }

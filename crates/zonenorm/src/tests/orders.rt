@@ -1,132 +1,110 @@
 //! Command lines.
 use crate::order::{LineFault, Order, order_of};
-use crate::tests::{Case, check_rows};
+use crate::tests::{Question, check_lines, push_text};
 use std::alloc::{AllocError, Global};
 use std::test::Fail;
 use zone_name::Name;
 
-/// The text of an origin, none for a transfer.
-type Origin = Option<&'static [u8]>;
-
-/// What a command line gives.
-#[derive(Clone, Copy)]
-enum Given {
-    Normalise(Origin),
-    Explain(Origin),
-    /// The origins and paths of a comparison.
-    Compare(Origin, &'static str, Origin, &'static str),
-    BadOrigin,
-    Clap,
-}
-
-/// The words after the program's name, and what they give.
-struct Line(&'static [&'static str], Given);
-
-fn words_of(alloc: Global, words: &[&str]) -> Result<Vec<String>, AllocError> {
-    let mut all = Vec::new(alloc);
-    for word in words {
-        all.push(String::from_str(alloc, word)?)?;
+/// The words of a line, in which a blank stands between two. An empty line has none.
+fn words_of(alloc: Global, line: &str) -> Result<Vec<String>, AllocError> {
+    let mut words = Vec::new(alloc);
+    if !line.is_empty() {
+        for word in line.split(' ') {
+            words.push(String::from_str(alloc, word)?)?;
+        }
     }
-    Ok(all)
+    Ok(words)
 }
 
-/// The order that words give.
-pub(super) fn ordered(alloc: Global, words: &[&str]) -> Result<Order, Fail> {
-    match order_of(alloc, &words_of(alloc, words)?) {
+/// The order that a line gives.
+pub(super) fn ordered(alloc: Global, line: &str) -> Result<Order, Fail> {
+    match order_of(alloc, &words_of(alloc, line)?) {
         Ok(order) => Ok(order),
         Err(LineFault::Memory) => Err(Fail::from("memory")),
         Err(_) => Err(Fail::from("no order")),
     }
 }
 
-/// Whether a fault is the wanted one, with its status and text.
-fn is_told(fault: &LineFault, given: Given) -> bool {
-    let is_so = match (fault, given) {
-        (LineFault::BadOrigin, Given::BadOrigin) => {
-            fault.text() == "F46 BadOrigin: an origin is an absolute name or the word transfer"
-        }
-        (LineFault::Clap(_), Given::Clap) => !fault.text().is_empty(),
-        _ => false,
-    };
-    is_so && fault.status() == 2
+/// Appends a word, the origin of an input, which a transfer has none of, and a path.
+fn push_input(
+    out: &mut Vec<u8>,
+    word: &str,
+    origin: &Option<Name>,
+    path: &str,
+) -> Result<(), Fail> {
+    push_text(out, word)?;
+    match origin {
+        Some(name) => name.push_text(out)?,
+        None => push_text(out, "transfer")?,
+    }
+    push_text(out, path)
 }
 
-/// Whether an origin is the one of this text.
-fn is_origin(alloc: Global, origin: &Option<Name>, wanted: Origin) -> Result<bool, AllocError> {
-    match (origin, wanted) {
-        (Some(name), Some(text)) => {
-            let mut spelling = Vec::new(alloc);
-            name.push_text(&mut spelling)?;
-            Ok(spelling.as_slice() == text)
+/// Appends an order as its line may be written, but for the blank before a path.
+fn push_order(out: &mut Vec<u8>, order: &Order) -> Result<(), Fail> {
+    match order {
+        Order::Normalise(origin) => push_input(out, "normalise ", origin, ""),
+        Order::Explain(origin) => push_input(out, "explain ", origin, ""),
+        Order::Compare(first, second) => {
+            push_input(out, "compare ", &first.origin, first.path.as_str())?;
+            push_input(out, " ", &second.origin, second.path.as_str())
         }
-        (None, None) => Ok(true),
-        _ => Ok(false),
     }
 }
 
-/// Whether an order is the wanted one.
-fn is_ordered(alloc: Global, order: &Order, given: Given) -> Result<bool, AllocError> {
-    match (order, given) {
-        (Order::Normalise(origin), Given::Normalise(wanted))
-        | (Order::Explain(origin), Given::Explain(wanted)) => is_origin(alloc, origin, wanted),
-        (Order::Compare(first, second), Given::Compare(one, path, other, other_path)) => Ok(
-            is_origin(alloc, &first.origin, one)?
-                && first.path.as_str() == path
-                && is_origin(alloc, &second.origin, other)?
-                && second.path.as_str() == other_path,
-        ),
-        _ => Ok(false),
+/// Appends the status and the text of a fault. What `clap` tells is any text.
+fn push_refusal(alloc: Global, out: &mut Vec<u8>, fault: &LineFault) -> Result<(), Fail> {
+    let status = fault.status();
+    push_text(out, format!(in alloc; "{status} ")?.as_str())?;
+    match fault {
+        LineFault::Clap(text) if !text.is_empty() => push_text(out, "clap"),
+        _ => push_text(out, fault.text()),
     }
 }
 
-impl Case for Line {
-    fn is_right(&self, alloc: Global) -> Result<bool, Fail> {
-        match order_of(alloc, &words_of(alloc, self.0)?) {
-            Ok(order) => Ok(is_ordered(alloc, &order, self.1)?),
+/// What a line gives: an order, or the status and the text of its fault.
+struct Given;
+
+impl Question for Given {
+    fn answer(alloc: Global, asked: &'static str, out: &mut Vec<u8>) -> Result<(), Fail> {
+        match order_of(alloc, &words_of(alloc, asked)?) {
+            Ok(order) => push_order(out, &order),
             Err(LineFault::Memory) => Err(Fail::from("memory")),
-            Err(fault) => Ok(is_told(&fault, self.1)),
+            Err(fault) => push_refusal(alloc, out, &fault),
         }
     }
 }
 
-static LINES: &[Line] = &[
-    Line(&["normalise", "X."], Given::Normalise(Some(b"x."))),
-    Line(&["normalise", "."], Given::Normalise(Some(b"."))),
-    Line(
-        &["normalise", "transfer."],
-        Given::Normalise(Some(b"transfer.")),
-    ),
-    Line(&["normalise", "\\-a."], Given::Normalise(Some(b"-a."))),
-    Line(&["normalise", "transfer"], Given::Normalise(None)),
-    Line(&["explain", "."], Given::Explain(Some(b"."))),
-    Line(&["explain", "transfer"], Given::Explain(None)),
-    Line(
-        &["compare", "X.", "p", "transfer", "q"],
-        Given::Compare(Some(b"x."), "p", None, "q"),
-    ),
-    Line(
-        &["compare", "transfer", "q", "X.", "p"],
-        Given::Compare(None, "q", Some(b"x."), "p"),
-    ),
-    Line(&["normalise", "x"], Given::BadOrigin),
-    Line(&["normalise", "@"], Given::BadOrigin),
-    Line(&["normalise", "a.."], Given::BadOrigin),
-    Line(&["normalise", "Transfer"], Given::BadOrigin),
-    Line(&["normalise", ""], Given::BadOrigin),
-    Line(&["explain", "@"], Given::BadOrigin),
-    Line(&["compare", "x", "p", "y.", "q"], Given::BadOrigin),
-    Line(&["compare", "x.", "p", "y", "q"], Given::BadOrigin),
-    Line(&[], Given::Clap),
-    Line(&["sort", "x."], Given::Clap),
-    Line(&["normalise"], Given::Clap),
-    Line(&["normalise", "x.", "y."], Given::Clap),
-    Line(&["compare", "x.", "p", "y."], Given::Clap),
-    Line(&["compare", "x", "p", "y."], Given::Clap),
-    Line(&["--help"], Given::Clap),
-    Line(&["normalise", "-a."], Given::Clap),
-];
+/// The words after the program's name, and what they give.
+const LINES: &str = "\
+normalise X. => normalise x.
+normalise . => normalise .
+normalise transfer. => normalise transfer.
+normalise \\-a. => normalise -a.
+normalise transfer => normalise transfer
+explain . => explain .
+explain transfer => explain transfer
+compare X. p transfer q => compare x.p transferq
+compare transfer q X. p => compare transferq x.p
+normalise x => 2 F46 BadOrigin: an origin is an absolute name or the word transfer
+normalise @ => 2 F46 BadOrigin: an origin is an absolute name or the word transfer
+normalise a.. => 2 F46 BadOrigin: an origin is an absolute name or the word transfer
+normalise Transfer => 2 F46 BadOrigin: an origin is an absolute name or the word transfer
+normalise  => 2 F46 BadOrigin: an origin is an absolute name or the word transfer
+explain @ => 2 F46 BadOrigin: an origin is an absolute name or the word transfer
+compare x p y. q => 2 F46 BadOrigin: an origin is an absolute name or the word transfer
+compare x. p y q => 2 F46 BadOrigin: an origin is an absolute name or the word transfer
+ => 2 clap
+sort x. => 2 clap
+normalise => 2 clap
+normalise x. y. => 2 clap
+compare x. p y. => 2 clap
+compare x p y. => 2 clap
+--help => 2 clap
+normalise -a. => 2 clap
+";
 
 #[test]
 fn command_lines(rt: HostRuntime) -> Result<(), Fail> {
-    check_rows(rt.alloc(), LINES)
+    check_lines::<Given>(rt.alloc(), LINES)
 }

@@ -1,5 +1,5 @@
 //! Inputs that are fed in pieces: however they are cut, the same records and the same fault.
-use crate::tests::{fault_name, is_fault};
+use crate::tests::{push_fault, roomy};
 use std::alloc::Global;
 use std::test::Fail;
 use zone_name::Name;
@@ -65,6 +65,14 @@ fn is_same_record(left: &Rr, right: &RrRef<'_>) -> bool {
         && left.rdata().octets() == right.rdata.octets()
 }
 
+/// Whether two faults have one name and argument.
+fn is_same_fault(alloc: Global, left: &Fault, right: &Fault) -> Result<bool, Fail> {
+    let (mut name, mut other) = (roomy(alloc)?, roomy(alloc)?);
+    push_fault(alloc, &mut name, left)?;
+    push_fault(alloc, &mut other, right)?;
+    Ok(name.as_slice() == other.as_slice())
+}
+
 /// What a source gives, against the records and the fault that it should give.
 #[derive(Drop)]
 struct Taken<'r> {
@@ -95,11 +103,8 @@ impl<'r> Taken<'r> {
         let Some((wanted, at)) = &self.wanted.ending else {
             return Ok(false);
         };
-        Ok(
-            self.count == self.wanted.placed.len()
-                && *at == place
-                && is_fault(alloc, fault, fault_name(alloc, wanted)?.as_str())?,
-        )
+        let is_there = *at == place && self.count == self.wanted.placed.len();
+        Ok(is_there && is_same_fault(alloc, fault, wanted)?)
     }
 
     /// Whether what the source has decided is what it should give. Every second record is lent.

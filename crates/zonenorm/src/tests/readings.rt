@@ -1,11 +1,8 @@
 //! Records as they are read, by their canonical lines.
-use crate::tests::is_explained;
+use crate::tests::{check, push_hex, push_stop, push_text};
 use std::alloc::Global;
 use std::test::Fail;
 use zone_rdata::{Place, Placed, Reading, Rr, Stop};
-
-/// A record's canonical line, without its line feed, and where the record stands.
-pub(super) struct Given(pub(super) &'static [u8], pub(super) Place);
 
 /// Appends TTL and class of a record, with a blank before and after each.
 fn push_ttl_and_class(alloc: Global, rr: &Rr, line: &mut Vec<u8>) -> Result<(), Fail> {
@@ -34,44 +31,65 @@ pub(super) fn zeros_line(alloc: Global) -> Result<Vec<u8>, Fail> {
     Ok(line)
 }
 
-/// Whether this is that record, which stands there.
-pub(super) fn is_zeros(alloc: Global, placed: &Placed, place: Place) -> Result<bool, Fail> {
-    let line = line_of(alloc, &placed.rr)?;
-    Ok(placed.place == place && line.as_slice() == zeros_line(alloc)?.as_slice())
-}
-
-impl Given {
-    /// Whether this is the record.
-    pub(super) fn is(&self, alloc: Global, placed: &Placed) -> Result<bool, Fail> {
-        let line = line_of(alloc, &placed.rr)?;
-        Ok(placed.place == self.1 && line.as_slice() == self.0)
+/// Appends a record's canonical line; a long one is that record's, and is called zeros.
+fn push_line(alloc: Global, out: &mut Vec<u8>, rr: &Rr) -> Result<(), Fail> {
+    let line = line_of(alloc, rr)?;
+    if line.len() < 1000 {
+        return Ok(out.extend_from_slice(&line)?);
     }
+    let is_zeros = line.as_slice() == zeros_line(alloc)?.as_slice();
+    check(is_zeros, "a long record has octets 0 alone")?;
+    push_text(out, "zeros")
 }
 
-/// Whether these are the records of a reading in order.
-fn are_given(alloc: Global, reading: &Reading, given: &[Given]) -> Result<bool, Fail> {
-    for (placed, wanted) in reading.placed.iter().zip(given) {
-        if !wanted.is(alloc, placed)? {
-            return Ok(false);
-        }
-    }
-    Ok(reading.placed.len() == given.len())
+/// Appends a record in numbers: owner, TTL, class, type and data.
+pub(super) fn push_numbers(alloc: Global, out: &mut Vec<u8>, rr: &Rr) -> Result<(), Fail> {
+    push_hex(alloc, out, rr.owner().wire())?;
+    let (ttl, class, kind) = (rr.ttl(), rr.class().number(), rr.kind().number());
+    push_text(
+        out,
+        format!(in alloc; " {ttl} CLASS{class} TYPE{kind} ")?.as_str(),
+    )?;
+    push_hex(alloc, out, rr.rdata().octets())
 }
 
-/// Whether this is what an input is read as: its records, and number, name and place of the fault
-/// after them.
-pub(super) fn is_read(
-    alloc: Global,
-    reading: &Reading,
-    given: &[Given],
-    ending: Option<&str>,
-) -> Result<bool, Fail> {
-    let is_ended = match (&reading.ending, ending) {
-        (None, None) => true,
-        (Some((fault, place)), Some(front)) => {
-            is_explained(alloc, &Stop::Refused(fault.copy(), *place), front)?
+/// Appends a place, with a blank before it.
+pub(super) fn push_place(alloc: Global, out: &mut Vec<u8>, place: Place) -> Result<(), Fail> {
+    let words = match place {
+        Place::Line(line) => format!(in alloc; " at line {line}")?,
+        Place::Message(number, offset) => {
+            format!(in alloc; " at message {number} offset {offset}")?
         }
-        _ => false,
+        Place::Whole => format!(in alloc; " in the input")?,
     };
-    Ok(is_ended && are_given(alloc, reading, given)?)
+    push_text(out, words.as_str())
+}
+
+/// Appends a record's canonical line and its place.
+pub(super) fn push_placed(alloc: Global, out: &mut Vec<u8>, placed: &Placed) -> Result<(), Fail> {
+    push_line(alloc, out, &placed.rr)?;
+    push_place(alloc, out, placed.place)
+}
+
+/// Appends how a reading ends: what explains the fault, in a line, or nothing.
+fn push_ending(alloc: Global, out: &mut Vec<u8>, reading: &Reading) -> Result<(), Fail> {
+    if let Some((fault, place)) = &reading.ending {
+        push_stop(alloc, out, &Stop::Refused(fault.copy(), *place))?;
+        out.push(b'\n')?;
+    }
+    Ok(())
+}
+
+/// Appends what an input is read as, from the next line on: its records, and the fault after them.
+pub(super) fn push_reading(
+    alloc: Global,
+    out: &mut Vec<u8>,
+    reading: &Reading,
+) -> Result<(), Fail> {
+    out.push(b'\n')?;
+    for placed in reading.placed.iter() {
+        push_placed(alloc, out, placed)?;
+        out.push(b'\n')?;
+    }
+    push_ending(alloc, out, reading)
 }

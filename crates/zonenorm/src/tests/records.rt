@@ -108,7 +108,8 @@ fn queue_of_four(alloc: Global) -> Result<PendingRecords, Fail> {
     Ok(pending)
 }
 
-/// Whether a queue lends its first record, and the octets of that are used again once it is skipped.
+/// Whether a queue lends its first record, and the octets of that are used again once it is
+/// skipped.
 ///
 /// # Errors
 ///

@@ -1,138 +1,134 @@
 //! Calls of a source that is fed, and what each answers.
-use crate::tests::is_explained;
-use crate::tests::notation::{message_of, stream_of};
+//!
+//! A row has a name and an origin on its first line, and then a call a line, behind ` => ` its
+//! answer. The calls `feed`, `octets`, `frame`, `front` and `greatest` feed a piece: a text in
+//! which `|` is a line feed; octets in hexadecimal digits; a stream in notation, and all of one but
+//! its last octet; and the greatest message but its last octet.
+use crate::tests::notation::{message_of, octets_of, stream_of};
 use crate::tests::pieces::Fed;
-use crate::tests::readings::{Given, is_zeros};
+use crate::tests::readings::push_placed;
+use crate::tests::{push_stop, push_text, roomy};
 use std::alloc::Global;
-use std::ops::Range;
 use std::test::Fail;
 use zone_name::Name;
-use zone_rdata::{Place, Stop};
 
-/// A call of a source, and its answer.
-pub(super) enum Step {
-    /// A piece is fed.
-    Feed(&'static [u8]),
-    /// The octets of a stream in notation are fed, from one offset up to another.
-    Part(&'static str, usize, usize),
-    /// A message in notation is fed, filled up to so many octets with octets 0.
-    Filled(&'static str, usize),
-    /// The next record is given.
-    Gives(Given),
-    /// The next record is that of type 731 in the greatest message.
-    GivesZeros(Place),
-    /// Nothing is decided, or nothing is left.
-    Waits,
-    /// The fault is given: number, name, argument and place.
-    Refuses(&'static str),
-    /// So many octets are kept.
-    Undecided(usize),
-    /// So many octets were fed.
-    Fed(u64),
-    /// Whether the input has ended.
-    IsFinished(bool),
-    /// The input ends.
-    Finish,
+/// A message of 65535 octets in its frame, up to the octets of its last record's data, which are
+/// 65464.
+pub(super) const GREATEST: &str =
+    "#ffff; header 1 8400 1 2 0 0; QUESTION; OPENING; #c00c02db000100000e10ffb8";
+
+/// The octets of a text in which `|` is a line feed.
+fn lines_of(alloc: Global, text: &str) -> Result<Vec<u8>, Fail> {
+    let mut octets = Vec::new(alloc);
+    for octet in text.bytes() {
+        octets.push(if octet == b'|' { b'\n' } else { octet })?;
+    }
+    Ok(octets)
 }
 
-/// Calls of a source under an origin.
-pub(super) struct Script {
-    pub(super) name: &'static str,
-    pub(super) origin: &'static [u8],
-    pub(super) steps: &'static [Step],
+/// A stream in notation but its last octet.
+fn front_of(alloc: Global, lines: &'static str) -> Result<Vec<u8>, Fail> {
+    let mut stream = stream_of(alloc, lines)?;
+    stream.pop().ok_or("no octet")?;
+    Ok(stream)
 }
 
-/// Whether the source gives what the step says.
-fn gives<S: Fed>(alloc: Global, source: &mut S, step: &Step) -> Result<bool, Fail> {
-    match (source.next(), step) {
-        (Err(Stop::Memory), _) => Err(Fail::from("memory")),
-        (Ok(Some(placed)), Step::Gives(given)) => given.is(alloc, &placed),
-        (Ok(Some(placed)), Step::GivesZeros(place)) => is_zeros(alloc, &placed, *place),
-        (Ok(None), Step::Waits) => Ok(true),
-        (Err(stop), Step::Refuses(front)) => is_explained(alloc, &stop, front),
-        _ => Ok(false),
+/// The greatest message in its frame, whose data is octets 0, but its last octet.
+fn greatest(alloc: Global) -> Result<Vec<u8>, Fail> {
+    let mut octets = message_of(alloc, GREATEST)?;
+    octets.resize(65_536, 0)?;
+    Ok(octets)
+}
+
+/// The piece that a call feeds.
+fn piece_of(alloc: Global, call: &'static str) -> Result<Vec<u8>, Fail> {
+    match call.split_once(' ') {
+        Some(("feed", text)) => lines_of(alloc, text),
+        Some(("octets", digits)) => octets_of(alloc, digits),
+        Some(("frame", lines)) => stream_of(alloc, lines),
+        Some(("front", lines)) => front_of(alloc, lines),
+        _ => greatest(alloc),
     }
 }
 
-/// Feeds octets of a stream in notation, from one offset up to another.
-fn feed_part<S: Fed>(
+/// Appends the next record and its place, or the fault, or that nothing is decided or left.
+fn push_next<S: Fed>(alloc: Global, out: &mut Vec<u8>, source: &mut S) -> Result<(), Fail> {
+    match source.next() {
+        Ok(Some(placed)) => push_placed(alloc, out, &placed),
+        Ok(None) => push_text(out, "nothing"),
+        Err(stop) => push_stop(alloc, out, &stop),
+    }
+}
+
+/// Appends how many octets are kept or were fed, or whether the input has ended.
+fn push_state<S: Fed>(
     alloc: Global,
-    source: &mut S,
-    lines: &'static str,
-    range: Range<usize>,
+    out: &mut Vec<u8>,
+    source: &S,
+    call: &str,
 ) -> Result<(), Fail> {
-    let octets = stream_of(alloc, lines)?;
-    source.hand(octets.get(range).ok_or("no such part")?)
+    let (kept, fed, is_finished) = source.state();
+    let words = match call {
+        "kept" => format!(in alloc; "{kept}")?,
+        "fed" => format!(in alloc; "{fed}")?,
+        _ => format!(in alloc; "{is_finished}")?,
+    };
+    push_text(out, words.as_str())
 }
 
-/// Feeds a message in notation that is filled up with octets 0.
-fn feed_filled<S: Fed>(
+/// Makes a call of a source, and appends the answer that it has.
+fn push_called<S: Fed>(
     alloc: Global,
+    out: &mut Vec<u8>,
     source: &mut S,
-    parts: &'static str,
-    count: usize,
+    call: &'static str,
 ) -> Result<(), Fail> {
-    let mut octets = message_of(alloc, parts)?;
-    octets.resize(count, 0)?;
-    source.hand(&octets)
-}
-
-/// Feeds what the step says, or ends the input.
-fn feed<S: Fed>(alloc: Global, source: &mut S, step: &Step) -> Result<(), Fail> {
-    match step {
-        Step::Feed(piece) => source.hand(piece),
-        Step::Part(lines, from, to) => feed_part(alloc, source, lines, *from..*to),
-        Step::Filled(parts, count) => feed_filled(alloc, source, parts, *count),
-        _ => source.end(),
+    match call {
+        "next" => push_next(alloc, out, source),
+        "kept" | "fed" | "finished" => push_state(alloc, out, source, call),
+        "finish" => source.end(),
+        _ => source.hand(&piece_of(alloc, call)?),
     }
 }
 
-/// Whether the source is in the state that the step says.
-fn is_in_state<S: Fed>(source: &S, step: &Step) -> bool {
-    let (undecided, fed, is_finished) = source.state();
-    match step {
-        Step::Undecided(count) => undecided == *count,
-        Step::Fed(count) => fed == *count,
-        Step::IsFinished(wanted) => is_finished == *wanted,
-        _ => false,
+/// That a call is answered as its line says.
+fn check_call<S: Fed>(alloc: Global, source: &mut S, line: &'static str) -> Result<(), Fail> {
+    let (call, wanted) = line.split_once(" => ").unwrap_or((line, ""));
+    let mut answer = roomy(alloc)?;
+    push_called(alloc, &mut answer, source, call)?;
+    if answer.as_slice() == wanted.as_bytes() {
+        return Ok(());
     }
-}
-
-/// Whether the call is answered as the step says.
-fn is_answered<S: Fed>(alloc: Global, source: &mut S, step: &Step) -> Result<bool, Fail> {
-    match step {
-        Step::Feed(_) | Step::Part(..) | Step::Filled(..) | Step::Finish => {
-            feed(alloc, source, step)?;
-            Ok(true)
-        }
-        Step::Undecided(_) | Step::Fed(_) | Step::IsFinished(_) => Ok(is_in_state(source, step)),
-        _ => gives(alloc, source, step),
-    }
+    Err(Fail::new(format_args!("another answer: {line}")))
 }
 
 /// That each call of a script is answered as it says.
 ///
 /// # Errors
 ///
-/// The script's name and the index of the first call that is answered otherwise.
-fn check_script<S: Fed>(alloc: Global, script: &Script) -> Result<(), Fail> {
-    let mut source = S::begin(alloc, &Name::from_text(script.origin, None)?);
-    for (at, step) in script.steps.iter().enumerate() {
-        if !is_answered(alloc, &mut source, step)? {
-            return Err(Fail::new(format_args!("{}: call {at} is answered otherwise", script.name)));
+/// The first call that is answered otherwise.
+fn check_script<S: Fed>(alloc: Global, script: &'static str) -> Result<(), Fail> {
+    let (head, calls) = script.split_once('\n').ok_or(script)?;
+    let (_, origin) = head.split_once(' ').ok_or("no origin")?;
+    let mut source = S::begin(alloc, &Name::from_text(origin.as_bytes(), None)?);
+    for line in calls.split('\n') {
+        if !line.is_empty() {
+            check_call(alloc, &mut source, line)?;
         }
     }
     Ok(())
 }
 
-/// That each call of each script is answered as it says.
+/// That each call of each script is answered as it says. `== ` stands before each script.
 ///
 /// # Errors
 ///
-/// The name of the first script that isn't, and the index of the call.
-pub(super) fn check_scripts<S: Fed>(alloc: Global, scripts: &[Script]) -> Result<(), Fail> {
-    for script in scripts {
-        check_script::<S>(alloc, script)?;
+/// The first call that is answered otherwise.
+pub(super) fn check_scripts<S: Fed>(alloc: Global, scripts: &'static str) -> Result<(), Fail> {
+    for script in scripts.split("== ") {
+        if !script.is_empty() {
+            check_script::<S>(alloc, script)?;
+        }
     }
     Ok(())
 }

@@ -10,10 +10,6 @@ header 1 8400 1 2 0 1; QUESTION; OPENING; SERVER; . 0 CLASS1232 OPT
 header 1 8400 0 3 0 0; n.x. 3600 IN A #0a000001; @14 3600 IN NS @12; @14 3600 IN SOA @12 h@14 1 2 3 4 5
 ";
 
-/// The small transfer with another serial in its closing SOA.
-pub(super) const OTHER_SERIAL: &str =
-    "header 1 8400 1 3 0 0; QUESTION; OPENING; SERVER; @12 3600 IN SOA @31 @35 2 2 3 4 5";
-
 /// Rows as of master files, with streams in the place of files.
 pub(super) const STREAMS: &str = "\
 == small_transfer_gives_two_lines

@@ -1,5 +1,9 @@
-//! Test vectors of whole master files, and what is asked of each.
-use std::alloc::Global;
+//! Test vectors of whole inputs: rows of which the answer is the canonical text from the line after
+//! `=>` on, or on that line what explains the refusal.
+use crate::tests::notation::stream_of;
+use crate::tests::streams::STREAMS;
+use crate::tests::{Question, check_table};
+use std::alloc::{AllocError, Global};
 use std::test::Fail;
 use zone_name::Name;
 
@@ -15,95 +19,34 @@ mod services;
 mod sets;
 mod short_files;
 
-/// What a file is to be answered.
+/// An input: the octets of a master file and its origin, or those of a stream.
 #[derive(Drop)]
-pub(super) enum Answer {
-    /// Its canonical text.
-    Text(&'static [u8]),
-    /// The line that explains its refusal, up to the colon: number, name, argument and place.
-    Refused(&'static str),
+pub(super) struct Input {
+    pub(super) origin: Option<Name>,
+    pub(super) octets: Vec<u8>,
 }
 
-/// A master file and its origin, or a stream in notation, and the answer that it must get.
-#[derive(Drop)]
-pub(super) struct Vector {
-    pub(super) name: &'static str,
-    origin: &'static str,
-    pub(super) input: &'static str,
-    pub(super) answer: Answer,
+/// The octets of a text.
+pub(super) fn file_of(alloc: Global, text: &str) -> Result<Vec<u8>, AllocError> {
+    let mut octets = Vec::new(alloc);
+    octets.extend_from_slice(text.as_bytes())?;
+    Ok(octets)
 }
 
-impl Vector {
-    /// The origin of the file.
-    ///
-    /// # Errors
-    ///
-    /// That it is no absolute name.
-    pub(super) fn origin(&self) -> Result<Name, Fail> {
-        Ok(Name::from_text(self.origin.as_bytes(), None)?)
+/// The input of a row, which has a name and the origin of a file on its first line, and then the
+/// file, or the stream in notation.
+pub(super) fn input_of(alloc: Global, asked: &'static str) -> Result<Input, Fail> {
+    let (head, text) = asked.split_once('\n').ok_or("no input")?;
+    match head.split_once(' ') {
+        Some((_, origin)) => Ok(Input {
+            origin: Some(Name::from_text(origin.as_bytes(), None)?),
+            octets: file_of(alloc, text)?,
+        }),
+        None => Ok(Input {
+            origin: None,
+            octets: stream_of(alloc, text)?,
+        }),
     }
-
-    /// The octets of the file.
-    pub(super) fn file(&self) -> &'static [u8] {
-        self.input.as_bytes()
-    }
-}
-
-/// What is asked of each vector.
-pub(super) trait Question {
-    /// Whether the vector gets its answer.
-    ///
-    /// # Errors
-    ///
-    /// What the vector doesn't speak of, want of memory among it.
-    fn is_answered(alloc: Global, vector: &Vector) -> Result<bool, Fail>;
-}
-
-/// The vector of a row, which has a name on its first line, and the origin of a file; then the input;
-/// and after `=>` the canonical text from the next line on, or on that line what explains the
-/// refusal.
-fn vector_of(row: &'static str) -> Option<Vector> {
-    let (head, rest) = row.split_once('\n')?;
-    let (name, origin) = head.split_once(' ').unwrap_or((head, "."));
-    let (input, answer) = rest.split_once("=>")?;
-    let answer = match answer.strip_prefix('\n') {
-        Some(text) => Answer::Text(text.as_bytes()),
-        None => Answer::Refused(answer.trim()),
-    };
-    Some(Vector {
-        name,
-        origin,
-        input,
-        answer,
-    })
-}
-
-/// That the vector of a row gets its answer.
-///
-/// # Errors
-///
-/// Its name, where it gets another.
-fn check_row<Q: Question>(alloc: Global, row: &'static str) -> Result<(), Fail> {
-    let vector = vector_of(row).ok_or(row)?;
-    if Q::is_answered(alloc, &vector)? {
-        return Ok(());
-    }
-    Err(Fail::new(format_args!("{} gets another answer", vector.name)))
-}
-
-/// That each vector of a table gets its answer. `== ` stands before each row.
-///
-/// # Errors
-///
-/// The name of the first that gets another.
-pub(super) fn check_table<Q: Question>(alloc: Global, table: &'static str) -> Result<(), Fail> {
-    for row in table.split("== ") {
-        // Nothing stands before the first row.
-        if !row.is_empty() {
-            check_row::<Q>(alloc, row)?;
-        }
-    }
-    Ok(())
 }
 
 /// The tables of master files.
@@ -125,10 +68,20 @@ static TABLES: &[&str] = &[
 ///
 /// # Errors
 ///
-/// The name of the first that gets another.
+/// The first that gets another.
 pub(super) fn check_files<Q: Question>(alloc: Global) -> Result<(), Fail> {
     for table in TABLES {
         check_table::<Q>(alloc, table)?;
     }
     Ok(())
+}
+
+/// That each master file and each stream gets its answer.
+///
+/// # Errors
+///
+/// The first that gets another.
+pub(super) fn check_inputs<Q: Question>(alloc: Global) -> Result<(), Fail> {
+    check_files::<Q>(alloc)?;
+    check_table::<Q>(alloc, STREAMS)
 }

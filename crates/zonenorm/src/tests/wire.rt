@@ -1,57 +1,49 @@
 //! Uncompressed octets of data, and data that is built part by part (RFC 1035 3.3, RFC 3597 4).
-use crate::tests::{Case, check, check_rows, is_fault, judged};
+use crate::tests::notation::octets_of;
+use crate::tests::{Question, check, check_lines, judged, push_fault, push_hex, push_text};
 use std::alloc::Global;
 use std::test::Fail;
 use zone_name::Name;
 use zone_rdata::{Class, Fault, Kind, Rdata, RdataBuilder};
 
-/// A type, octets of class IN, and the data's octets and MINIMUM, or the fault.
-struct Wired(
-    u64,
-    &'static [u8],
-    Result<(&'static [u8], Option<u32>), &'static str>,
-);
+/// What octets of a type and class IN are read as: the data's octets and MINIMUM, or the fault.
+struct Wired;
 
 fn data_of(alloc: Global, kind: u64, octets: &[u8]) -> Result<Result<Rdata, Fault>, Fail> {
     let (class, kind) = (Class::from_number(1)?, Kind::from_number(kind)?);
     judged(Rdata::from_wire(alloc, class, kind, octets))
 }
 
-impl Case for Wired {
-    fn is_right(&self, alloc: Global) -> Result<bool, Fail> {
-        match (data_of(alloc, self.0, self.1)?, self.2) {
-            (Ok(data), Ok((octets, minimum))) => {
-                Ok(data.octets() == octets && data.soa_minimum() == minimum)
-            }
-            (Err(fault), Err(name)) => is_fault(alloc, &fault, name),
-            _ => Ok(false),
+/// Appends the octets and MINIMUM of data.
+fn push_read(alloc: Global, out: &mut Vec<u8>, data: &Rdata) -> Result<(), Fail> {
+    push_hex(alloc, out, data.octets())?;
+    let minimum = data.soa_minimum();
+    push_text(out, format!(in alloc; ", minimum {minimum:?}")?.as_str())
+}
+
+impl Question for Wired {
+    fn answer(alloc: Global, asked: &'static str, out: &mut Vec<u8>) -> Result<(), Fail> {
+        let (kind, digits) = asked.split_once(' ').ok_or("no type")?;
+        match data_of(alloc, kind.parse::<u64>()?, &octets_of(alloc, digits)?)? {
+            Ok(data) => push_read(alloc, out, &data),
+            Err(fault) => push_fault(alloc, out, &fault),
         }
     }
 }
 
-static WIRED: &[Wired] = &[
-    Wired(
-        15,
-        b"\x00\x0a\x01M\x01x\x00",
-        Ok((b"\x00\x0a\x01m\x01x\x00", None)),
-    ),
-    Wired(2, b"\x01n\x01x\x00", Ok((b"\x01n\x01x\x00", None))),
-    Wired(2, b"\xc0\x0c", Err("BadRdata")),
-    Wired(33, b"\xc0\x1f", Err("BadRdata")),
-    Wired(731, b"", Ok((b"", None))),
-    Wired(
-        6,
-        b"\x01n\x01x\x00\x01h\x01x\x00\0\0\0\x01\0\0\0\x02\0\0\0\x03\0\0\0\x04\0\0\0\x05",
-        Ok((
-            b"\x01n\x01x\x00\x01h\x01x\x00\0\0\0\x01\0\0\0\x02\0\0\0\x03\0\0\0\x04\0\0\0\x05",
-            Some(5),
-        )),
-    ),
-];
+/// A type and octets, and what they are read as.
+const WIRED: &str = "\
+15 000a014d017800 => #000a016d017800, minimum None
+2 016e017800 => #016e017800, minimum None
+2 c00c => BadRdata
+33 c01f => BadRdata
+731  => #, minimum None
+6 016e01780001680178000000000100000002000000030000000400000005 => #016e01780001680178000000000100000002000000030000000400000005, minimum Some(5)
+";
 
 #[test]
 fn data_of_octets(rt: HostRuntime) -> Result<(), Fail> {
-    check_rows(rt.alloc(), WIRED)
+    check_lines::<Wired>(rt.alloc(), WIRED)
 }
 
 #[test]
@@ -65,45 +57,39 @@ fn data_of_too_many_octets(rt: HostRuntime) -> Result<(), Fail> {
     )
 }
 
-/// A part of data.
-enum Part {
-    Name(&'static [u8]),
-    U16(u16),
-    U32(u32),
-    Octets(&'static [u8]),
-    String(&'static [u8]),
-}
-
 /// The answer of a builder to a part.
-fn pushed(builder: &mut RdataBuilder, part: &Part) -> Result<Result<(), Fault>, Fail> {
-    judged(match part {
-        Part::Name(text) => builder.push_name(&Name::from_text(text, None)?),
-        Part::U16(number) => builder.push_u16(*number),
-        Part::U32(number) => builder.push_u32(*number),
-        Part::Octets(octets) => builder.push_octets(octets),
-        Part::String(octets) => builder.push_string(octets),
+fn pushed(
+    alloc: Global,
+    builder: &mut RdataBuilder,
+    part: &str,
+) -> Result<Result<(), Fault>, Fail> {
+    let (word, value) = part.split_once(' ').ok_or("no part")?;
+    judged(match word {
+        "name" => builder.push_name(&Name::from_text(value.as_bytes(), None)?),
+        "u16" => builder.push_u16(value.parse::<u16>()?),
+        "u32" => builder.push_u32(value.parse::<u32>()?),
+        "octets" => builder.push_octets(&octets_of(alloc, value)?),
+        _ => builder.push_string(value.as_bytes()),
     })
 }
 
-/// A part, and the fault for which it is refused, if it is.
-struct Step(Part, Option<&'static str>);
-
-/// A type, parts of data of class IN, and the data's octets, or the fault.
-struct Built(u64, &'static [Step], Result<&'static [u8], &'static str>);
-
-/// Whether the builder answers each part as it should.
-fn are_pushed(alloc: Global, builder: &mut RdataBuilder, steps: &[Step]) -> Result<bool, Fail> {
-    for Step(part, refusal) in steps {
-        let is_right = match (pushed(builder, part)?, refusal) {
-            (Ok(()), None) => true,
-            (Err(fault), Some(name)) => is_fault(alloc, &fault, name)?,
-            _ => false,
-        };
-        if !is_right {
-            return Ok(false);
+/// Hands the parts to the builder, and appends the answer to each.
+fn push_parts(
+    alloc: Global,
+    builder: &mut RdataBuilder,
+    parts: &str,
+    out: &mut Vec<u8>,
+) -> Result<(), Fail> {
+    for part in parts.split("; ") {
+        if !part.is_empty() {
+            match pushed(alloc, builder, part)? {
+                Ok(()) => push_text(out, "ok")?,
+                Err(fault) => push_fault(alloc, out, &fault)?,
+            }
+            push_text(out, "; ")?;
         }
     }
-    Ok(true)
+    Ok(())
 }
 
 /// A builder of data of this type and class IN, in a buffer that was used before.
@@ -114,84 +100,34 @@ fn builder_of(alloc: Global, kind: u64) -> Result<RdataBuilder, Fail> {
     Ok(RdataBuilder::in_buffer(buffer, class, kind))
 }
 
-/// Whether the builder ends in data of these octets, or in the fault.
-fn is_finished(
-    alloc: Global,
-    builder: RdataBuilder,
-    wanted: Result<&[u8], &str>,
-) -> Result<bool, Fail> {
-    match (builder.finish(), wanted) {
-        (Ok(data), Ok(octets)) => Ok(data.octets() == octets),
-        (Err(fault), Err(name)) => is_fault(alloc, &fault, name),
-        _ => Ok(false),
+/// What a builder of a type and class IN answers to parts of data, and then the data's octets or
+/// the fault.
+struct Built;
+
+impl Question for Built {
+    fn answer(alloc: Global, asked: &'static str, out: &mut Vec<u8>) -> Result<(), Fail> {
+        let (kind, parts) = asked.split_once(": ").ok_or("no type")?;
+        let mut builder = builder_of(alloc, kind.parse::<u64>()?)?;
+        push_parts(alloc, &mut builder, parts, out)?;
+        match builder.finish() {
+            Ok(data) => push_hex(alloc, out, data.octets()),
+            Err(fault) => push_fault(alloc, out, &fault),
+        }
     }
 }
 
-impl Case for Built {
-    fn is_right(&self, alloc: Global) -> Result<bool, Fail> {
-        let mut builder = builder_of(alloc, self.0)?;
-        let are_pushed = are_pushed(alloc, &mut builder, self.1)?;
-        Ok(are_pushed && is_finished(alloc, builder, self.2)?)
-    }
-}
-
-/// More letters than a character-string has octets.
-const LETTERS: &[u8] =
-    b"aaaaaaaaaaaaaaaaaaaaaaaaaaaaaaaaaaaaaaaaaaaaaaaaaaaaaaaaaaaaaaaaaaaaaaaaaaaaaaaaaaaaaaaaaaaaaaaaaaaaaaaaaaaaaaaaaaaaaaaaaaaaaaaaaaaaaaaaaaaaaaaaaaaaaaaaaaaaaaaaaaaaaaaaaaaaaaaaaaaaaaaaaaaaaaaaaaaaaaaaaaaaaaaaaaaaaaaaaaaaaaaaaaaaaaaaaaaaaaaaaaaaaaaaaaaaaaaa";
-
-static BUILT: &[Built] = &[
-    Built(
-        15,
-        &[
-            Step(Part::Name(b"M.x."), Some("BadRdata")),
-            Step(Part::U16(10), None),
-            Step(Part::Name(b"M.x."), None),
-        ],
-        Ok(b"\x00\x0a\x01m\x01x\x00"),
-    ),
-    Built(15, &[Step(Part::U16(10), None)], Err("BadRdata")),
-    Built(
-        16,
-        &[
-            Step(Part::String(LETTERS), Some("StringTooLong")),
-            Step(Part::String(b"a"), None),
-            Step(Part::String(b""), None),
-        ],
-        Ok(b"\x01a\x00"),
-    ),
-    Built(16, &[], Err("BadRdata")),
-    Built(
-        1,
-        &[
-            Step(Part::Octets(b"\x0a\0\0"), Some("BadRdata")),
-            Step(Part::Octets(b"\x0a\0\0\x01"), None),
-        ],
-        Ok(b"\x0a\0\0\x01"),
-    ),
-    Built(
-        731,
-        &[
-            Step(Part::Octets(b""), None),
-            Step(Part::Octets(b""), Some("BadRdata")),
-        ],
-        Ok(b""),
-    ),
-    Built(
-        6,
-        &[
-            Step(Part::Name(b"n.x."), None),
-            Step(Part::Name(b"n.x."), None),
-            Step(Part::U32(1), None),
-            Step(Part::U32(2), None),
-            Step(Part::U32(3), None),
-            Step(Part::U32(4), None),
-            Step(Part::U32(5), None),
-        ],
-        Ok(b"\x01n\x01x\x00\x01n\x01x\x00\0\0\0\x01\0\0\0\x02\0\0\0\x03\0\0\0\x04\0\0\0\x05"),
-    ),
-];
+/// A type and its parts, one of them a string of 256 octets, and the answers.
+const BUILT: &str = "\
+15: name M.x.; u16 10; name M.x. => BadRdata; ok; ok; #000a016d017800
+15: u16 10 => ok; BadRdata
+16: string aaaaaaaaaaaaaaaaaaaaaaaaaaaaaaaaaaaaaaaaaaaaaaaaaaaaaaaaaaaaaaaaaaaaaaaaaaaaaaaaaaaaaaaaaaaaaaaaaaaaaaaaaaaaaaaaaaaaaaaaaaaaaaaaaaaaaaaaaaaaaaaaaaaaaaaaaaaaaaaaaaaaaaaaaaaaaaaaaaaaaaaaaaaaaaaaaaaaaaaaaaaaaaaaaaaaaaaaaaaaaaaaaaaaaaaaaaaaaaaaaaaaaaaaaaaaaaaa; string a; string  => StringTooLong; ok; ok; #016100
+16:  => BadRdata
+1: octets 0a0000; octets 0a000001 => BadRdata; ok; #0a000001
+731: octets ; octets  => ok; BadRdata; #
+6: name n.x.; name n.x.; u32 1; u32 2; u32 3; u32 4; u32 5 => ok; ok; ok; ok; ok; ok; ok; #016e017800016e0178000000000100000002000000030000000400000005
+";
 
 #[test]
 fn data_of_parts(rt: HostRuntime) -> Result<(), Fail> {
-    check_rows(rt.alloc(), BUILT)
+    check_lines::<Built>(rt.alloc(), BUILT)
 }

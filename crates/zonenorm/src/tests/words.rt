@@ -1,130 +1,122 @@
 //! Words and numbers of classes and types, times, and layouts (RFC 1035 3.2, RFC 3597 5).
-use crate::tests::{Case, check_rows, is_fault};
+use crate::tests::{Case, Question, check_lines, check_rows, push_fault, push_text};
 use std::alloc::Global;
 use std::test::Fail;
 use zone_rdata::{Class, Fault, Field, Kind, layout_of, seconds_of};
 
-/// What a class or a type is read from.
-#[derive(Clone, Copy)]
-enum Asked {
-    Word(&'static [u8]),
-    Number(u64),
-}
+/// What a word or a number is read as: the number and the word of a class, none, or the fault.
+struct ReadClass;
 
-/// What is read as a class: its number and its word, nothing, or the fault.
-struct ReadClass(Asked, Result<Option<(u16, &'static [u8])>, &'static str>);
-
-fn class_of(asked: Asked) -> Result<Option<Class>, Fault> {
-    match asked {
-        Asked::Word(word) => Class::from_word(word),
-        Asked::Number(number) => Ok(Some(Class::from_number(number)?)),
+fn class_of(asked: &str) -> Result<Option<Class>, Fault> {
+    match asked.parse::<u64>() {
+        Ok(number) => Ok(Some(Class::from_number(number)?)),
+        Err(_) => Class::from_word(asked.as_bytes()),
     }
 }
 
-/// Whether this is the word of a class.
-fn is_class_word(alloc: Global, class: Class, text: &[u8]) -> Result<bool, Fail> {
-    let mut word = Vec::new(alloc);
-    class.push_word(&mut word)?;
-    Ok(word.as_slice() == text)
+/// Appends the number and the word of a class.
+fn push_class(alloc: Global, out: &mut Vec<u8>, class: Class) -> Result<(), Fail> {
+    let number = class.number();
+    push_text(out, format!(in alloc; "{number} ")?.as_str())?;
+    Ok(class.push_word(out)?)
 }
 
-impl Case for ReadClass {
-    fn is_right(&self, alloc: Global) -> Result<bool, Fail> {
-        match (class_of(self.0), self.1) {
-            (Ok(Some(class)), Ok(Some((number, text)))) => {
-                Ok(class.number() == number && is_class_word(alloc, class, text)?)
-            }
-            (Ok(None), Ok(None)) => Ok(true),
-            (Err(fault), Err(name)) => is_fault(alloc, &fault, name),
-            _ => Ok(false),
+impl Question for ReadClass {
+    fn answer(alloc: Global, asked: &'static str, out: &mut Vec<u8>) -> Result<(), Fail> {
+        match class_of(asked) {
+            Ok(Some(class)) => push_class(alloc, out, class),
+            Ok(None) => push_text(out, "no class"),
+            Err(fault) => push_fault(alloc, out, &fault),
         }
     }
 }
 
-static CLASSES: &[ReadClass] = &[
-    ReadClass(Asked::Word(b"In"), Ok(Some((1, b"IN")))),
-    ReadClass(Asked::Word(b"in"), Ok(Some((1, b"IN")))),
-    ReadClass(Asked::Word(b"class0032"), Ok(Some((32, b"CLASS32")))),
-    ReadClass(Asked::Word(b"CLASS"), Ok(None)),
-    ReadClass(Asked::Word(b"CLASS0"), Err("BadClass")),
-    ReadClass(Asked::Word(b"CLASS254"), Err("BadClass")),
-    ReadClass(Asked::Word(b"CLASS65536"), Err("BadClass")),
-    ReadClass(Asked::Word(b"CLASS65537"), Err("BadClass")),
-    ReadClass(Asked::Number(255), Err("BadClass")),
-];
+/// Words and numbers, and what they are read as.
+const CLASSES: &str = "\
+In => 1 IN
+in => 1 IN
+class0032 => 32 CLASS32
+CLASS => no class
+CLASS0 => BadClass
+CLASS254 => BadClass
+CLASS65536 => BadClass
+CLASS65537 => BadClass
+255 => BadClass
+";
 
-/// What is read as a type: its number and its word in a class, or the fault.
-struct ReadKind(Asked, u64, Result<(u16, &'static [u8]), &'static str>);
+/// What a word or a number is read as: the number of a type and its word in a class, or the fault.
+struct ReadKind;
 
-fn kind_of(asked: Asked) -> Result<Kind, Fault> {
-    match asked {
-        Asked::Word(word) => Kind::from_word(word),
-        Asked::Number(number) => Kind::from_number(number),
+fn kind_of(asked: &str) -> Result<Kind, Fault> {
+    match asked.parse::<u64>() {
+        Ok(number) => Kind::from_number(number),
+        Err(_) => Kind::from_word(asked.as_bytes()),
     }
 }
 
-/// Whether this is the word of a type in a class.
-fn is_kind_word(alloc: Global, kind: Kind, class: Class, text: &[u8]) -> Result<bool, Fail> {
-    let mut word = Vec::new(alloc);
-    kind.push_word(class, &mut word)?;
-    Ok(word.as_slice() == text)
+/// Appends the number of a type, its word in a class, and whether it is that of an SOA.
+fn push_kind(alloc: Global, out: &mut Vec<u8>, kind: Kind, class: Class) -> Result<(), Fail> {
+    let (number, is_soa) = (kind.number(), kind.is_soa());
+    push_text(out, format!(in alloc; "{number} ")?.as_str())?;
+    kind.push_word(class, out)?;
+    push_text(out, format!(in alloc; ", SOA {is_soa}")?.as_str())
 }
 
-impl Case for ReadKind {
-    fn is_right(&self, alloc: Global) -> Result<bool, Fail> {
-        let class = Class::from_number(self.1)?;
-        match (kind_of(self.0), self.2) {
-            (Ok(kind), Ok((number, text))) => {
-                let is_numbered = kind.number() == number && kind.is_soa() == (number == 6);
-                Ok(is_numbered && is_kind_word(alloc, kind, class, text)?)
-            }
-            (Err(fault), Err(name)) => is_fault(alloc, &fault, name),
-            _ => Ok(false),
+impl Question for ReadKind {
+    fn answer(alloc: Global, asked: &'static str, out: &mut Vec<u8>) -> Result<(), Fail> {
+        let (asked, class) = asked.split_once(" in ").ok_or("no class")?;
+        let class = Class::from_number(class.parse::<u64>()?)?;
+        match kind_of(asked) {
+            Ok(kind) => push_kind(alloc, out, kind, class),
+            Err(fault) => push_fault(alloc, out, &fault),
         }
     }
 }
 
-static KINDS: &[ReadKind] = &[
-    ReadKind(Asked::Word(b"sOa"), 1, Ok((6, b"SOA"))),
-    ReadKind(Asked::Word(b"SOA"), 1, Ok((6, b"SOA"))),
-    ReadKind(Asked::Word(b"ns"), 1, Ok((2, b"NS"))),
-    ReadKind(Asked::Word(b"TYPE1"), 1, Ok((1, b"A"))),
-    ReadKind(Asked::Word(b"TYPE1"), 3, Ok((1, b"TYPE1"))),
-    ReadKind(Asked::Word(b"TYPE257"), 1, Ok((257, b"TYPE257"))),
-    ReadKind(Asked::Word(b"type65535"), 32, Ok((65535, b"TYPE65535"))),
-    ReadKind(Asked::Word(b"CAA"), 1, Err("UnknownType")),
-    ReadKind(Asked::Word(b"caa"), 1, Err("UnknownType")),
-    ReadKind(Asked::Word(b"TYPE65536"), 1, Err("UnknownType")),
-    ReadKind(Asked::Word(b"TYPE41"), 1, Err("MetaType")),
-    ReadKind(Asked::Number(41), 1, Err("MetaType")),
-    ReadKind(Asked::Number(0), 1, Err("MetaType")),
-];
+/// Words and numbers with the number of a class, and what they are read as.
+const KINDS: &str = "\
+sOa in 1 => 6 SOA, SOA true
+SOA in 1 => 6 SOA, SOA true
+ns in 1 => 2 NS, SOA false
+TYPE1 in 1 => 1 A, SOA false
+TYPE1 in 3 => 1 TYPE1, SOA false
+TYPE257 in 1 => 257 TYPE257, SOA false
+type65535 in 32 => 65535 TYPE65535, SOA false
+CAA in 1 => UnknownType
+caa in 1 => UnknownType
+TYPE65536 in 1 => UnknownType
+TYPE41 in 1 => MetaType
+41 in 1 => MetaType
+0 in 1 => MetaType
+";
 
 #[test]
 fn classes_and_types(rt: HostRuntime) -> Result<(), Fail> {
-    check_rows(rt.alloc(), CLASSES)?;
-    check_rows(rt.alloc(), KINDS)
+    check_lines::<ReadClass>(rt.alloc(), CLASSES)?;
+    check_lines::<ReadKind>(rt.alloc(), KINDS)
 }
 
-/// A text, and the seconds that it says as a time.
-struct Time(&'static [u8], Option<u64>);
+/// The seconds that a text says as a time.
+struct Time;
 
-impl Case for Time {
-    fn is_right(&self, _alloc: Global) -> Result<bool, Fail> {
-        Ok(seconds_of(self.0) == self.1)
+impl Question for Time {
+    fn answer(alloc: Global, asked: &'static str, out: &mut Vec<u8>) -> Result<(), Fail> {
+        let seconds = seconds_of(asked.as_bytes());
+        push_text(out, format!(in alloc; "{seconds:?}")?.as_str())
     }
 }
 
-static TIMES: &[Time] = &[
-    Time(b"1h30M", Some(5400)),
-    Time(b"1W1s", Some(604801)),
-    Time(b"0000h1w", Some(604800)),
-    Time(b"007", Some(7)),
-    Time(b"1h30", None),
-    Time(b"", None),
-    Time(b"99999999999", Some(4294967296)),
-    Time(b"99999999999999999999w", Some(4294967296)),
-];
+/// Texts, the empty one among them.
+const TIMES: &str = "\
+1h30M => Some(5400)
+1W1s => Some(604801)
+0000h1w => Some(604800)
+007 => Some(7)
+1h30 => None
+ => None
+99999999999 => Some(4294967296)
+99999999999999999999w => Some(4294967296)
+";
 
 /// A field of the layout of SOA data in class IN.
 struct SoaField(usize, Option<Field>);
@@ -145,6 +137,6 @@ static SOA_FIELDS: &[SoaField] = &[
 
 #[test]
 fn times_and_fields(rt: HostRuntime) -> Result<(), Fail> {
-    check_rows(rt.alloc(), TIMES)?;
+    check_lines::<Time>(rt.alloc(), TIMES)?;
     check_rows(rt.alloc(), SOA_FIELDS)
 }

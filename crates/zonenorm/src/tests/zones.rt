@@ -1,6 +1,6 @@
 //! Records that make a zone, its records in order and its text (RFC 1035 5.2, RFC 2181 5, RFC 4034
 //! 6).
-use crate::tests::{Case, check, check_rows, is_explained, roomy};
+use crate::tests::{Question, check, check_table, push_hex, push_stop, push_text};
 use std::alloc::Global;
 use std::test::Fail;
 use zone_name::Name;
@@ -38,126 +38,153 @@ fn lent(alloc: Global, mut reading: Reading) -> Result<Zone, Stop> {
     builder.finish()
 }
 
-/// A record of the owner `x.` in class IN: its type, its TTL and its octets.
-struct Held(u16, u32, &'static [u8]);
-
-/// A zone of the apex `x.` in class IN: its canonical text, the octets that its records take in
-/// messages (RFC 1035 3.2.1: 13 besides the data, with an owner of three), and its records.
-struct Whole(&'static [u8], u64, &'static [Held]);
-
-impl Whole {
-    /// Whether this is the zone.
-    fn is(&self, alloc: Global, zone: &Zone) -> Result<bool, Fail> {
-        let is_of_x = zone.class().number() == 1 && zone.apex().wire() == b"\x01x\x00".as_slice();
-        let has_lengths = zone.message_len() == self.1 && zone.len() == self.2.len() as u64;
-        Ok(is_of_x && has_lengths && has_records(zone, self.2) && self.is_text(alloc, zone)?)
-    }
-
-    /// Whether the zone has this text, which is appended, written and counted.
-    fn is_text(&self, alloc: Global, zone: &Zone) -> Result<bool, Fail> {
-        let mut written = roomy(alloc)?;
-        write_zone(alloc, zone, &mut written)?;
-        Ok(
-            written.as_slice() == self.0
-                && push_zone(alloc, zone)?.as_slice() == self.0
-                && canon_len(zone) == self.0.len() as u64
-                && text_fits(zone),
-        )
-    }
+/// Appends class and apex of a zone, how many records it has, the octets that they take in
+/// messages, and the length of its text.
+fn push_head(alloc: Global, out: &mut Vec<u8>, zone: &Zone) -> Result<(), Fail> {
+    let class = zone.class().number();
+    push_text(out, format!(in alloc; "\nclass {class}, apex ")?.as_str())?;
+    push_hex(alloc, out, zone.apex().wire())?;
+    let (count, octets, length) = (zone.len(), zone.message_len(), canon_len(zone));
+    let words = format!(in alloc; ", records {count} in {octets} octets, text of {length}\n")?;
+    push_text(out, words.as_str())
 }
 
-/// Whether these are the records of the zone, in order.
-fn has_records(zone: &Zone, records: &[Held]) -> bool {
-    let mut wanted = records.iter();
+/// Appends type, TTL and data of each record of a zone.
+fn push_records(alloc: Global, out: &mut Vec<u8>, zone: &Zone) -> Result<(), Fail> {
     for rr in zone.records() {
-        match wanted.next() {
-            Some(Held(kind, ttl, octets))
-                if rr.kind.number() == *kind && rr.ttl == *ttl && rr.rdata.octets() == *octets => {}
-            _ => return false,
+        let (kind, ttl) = (rr.kind.number(), rr.ttl);
+        push_text(out, format!(in alloc; "TYPE{kind} {ttl} ")?.as_str())?;
+        push_hex(alloc, out, rr.rdata.octets())?;
+        out.push(b'\n')?;
+    }
+    Ok(())
+}
+
+/// Appends the text of a zone, which is written as it is appended.
+fn push_zone_text(alloc: Global, out: &mut Vec<u8>, zone: &Zone) -> Result<(), Fail> {
+    let text = push_zone(alloc, zone)?;
+    check(text_fits(zone), "the text fits")?;
+    let before = out.len();
+    write_zone(alloc, zone, out)?;
+    let is_same = out.get(before..) == Some(text.as_slice());
+    check(is_same, "the text is written as it is appended")
+}
+
+/// Appends a zone, or what explains its refusal.
+fn push_made(alloc: Global, out: &mut Vec<u8>, made: Result<Zone, Stop>) -> Result<(), Fail> {
+    match made {
+        Ok(zone) => {
+            push_head(alloc, out, &zone)?;
+            push_records(alloc, out, &zone)?;
+            push_zone_text(alloc, out, &zone)
+        }
+        Err(stop) => {
+            out.push(b' ')?;
+            push_stop(alloc, out, &stop)?;
+            Ok(out.push(b'\n')?)
         }
     }
-    wanted.next().is_none()
 }
 
-/// A file under the origin `x.`, and its zone, or fault and place of its refusal.
-struct Zoned(&'static [u8], Result<Whole, &'static str>);
+/// The zone of records that are added one by one.
+struct OfAdded;
 
-/// Whether the answer is the wanted one.
-fn is_wanted(
-    alloc: Global,
-    answer: Result<Zone, Stop>,
-    wanted: &Result<Whole, &'static str>,
-) -> Result<bool, Fail> {
-    match (answer, wanted) {
-        (Ok(zone), Ok(whole)) => whole.is(alloc, &zone),
-        (Err(Stop::Memory), _) => Err(Fail::from("memory")),
-        (Err(stop), Err(front)) => Ok(is_explained(alloc, &stop, front)?),
-        _ => Ok(false),
-    }
-}
-
-impl Case for Zoned {
-    fn is_right(&self, alloc: Global) -> Result<bool, Fail> {
-        Ok(
-            is_wanted(alloc, added(alloc, reading_of(alloc, self.0)?), &self.1)?
-                && is_wanted(alloc, taken(alloc, reading_of(alloc, self.0)?), &self.1)?
-                && is_wanted(alloc, lent(alloc, reading_of(alloc, self.0)?), &self.1)?,
+impl Question for OfAdded {
+    fn answer(alloc: Global, asked: &'static str, out: &mut Vec<u8>) -> Result<(), Fail> {
+        push_made(
+            alloc,
+            out,
+            added(alloc, reading_of(alloc, asked.as_bytes())?),
         )
     }
 }
 
-/// The octets of `n.x. h.x. 1 2 3 4 5`.
-const SOA: &[u8] =
-    b"\x01n\x01x\x00\x01h\x01x\x00\0\0\0\x01\0\0\0\x02\0\0\0\x03\0\0\0\x04\0\0\0\x05";
+/// The zone of records that are taken.
+struct OfTaken;
 
-static ZONED: &[Zoned] = &[
-    Zoned(
-        b"x. 3600 IN NS n.x.\nx. 3600 IN SOA n.x. h.x. 1 2 3 4 5\n",
-        Ok(Whole(
-            b"x. 3600 IN SOA n.x. h.x. 1 2 3 4 5\nx. 3600 IN NS n.x.\n",
-            61,
-            &[Held(6, 3600, SOA), Held(2, 3600, b"\x01n\x01x\x00")],
-        )),
-    ),
-    Zoned(
-        b"x. 3600 IN SOA n.x. h.x. 1 2 3 4 5\nx. 3600 IN NS n.x.\nx. 3600 IN NS n.x.\n",
-        Ok(Whole(
-            b"x. 3600 IN SOA n.x. h.x. 1 2 3 4 5\nx. 3600 IN NS n.x.\n",
-            61,
-            &[Held(6, 3600, SOA), Held(2, 3600, b"\x01n\x01x\x00")],
-        )),
-    ),
-    Zoned(
-        b"x. 3600 IN SOA n.x. h.x. 1 2 3 4 5\nx. 3600 IN NS n.x.\nx. 60 IN NS m.x.\n",
-        Err("F41 DifferingTtl at line 3"),
-    ),
-    Zoned(
-        b"x. 3600 IN SOA n.x. h.x. 1 2 3 4 5\nb.y. 60 IN NS n.x.\ny. 60 IN NS n.x.\n",
-        Err("F43 OutOfZone y. in the input"),
-    ),
-    // The first owner is neither the apex nor the least, so owners lie on both sides of it.
-    Zoned(
-        b"m.x. 60 IN NS n.x.\nz.x. 60 IN NS n.x.\nc.a.x. 60 IN NS n.x.\ny.z.x. 60 IN NS n.x.\na.x. 60 IN NS n.x.\nb.m.x. 60 IN NS n.x.\nc.a.x. 60 IN NS n.x.\nx. 60 IN SOA n.x. h.x. 1 2 3 4 5\n",
-        Ok(Whole(
-            b"x. 60 IN SOA n.x. h.x. 1 2 3 4 5\na.x. 60 IN NS n.x.\nc.a.x. 60 IN NS n.x.\nm.x. 60 IN NS n.x.\nb.m.x. 60 IN NS n.x.\nz.x. 60 IN NS n.x.\ny.z.x. 60 IN NS n.x.\n",
-            169,
-            &[
-                Held(6, 60, SOA),
-                Held(2, 60, b"\x01n\x01x\x00"),
-                Held(2, 60, b"\x01n\x01x\x00"),
-                Held(2, 60, b"\x01n\x01x\x00"),
-                Held(2, 60, b"\x01n\x01x\x00"),
-                Held(2, 60, b"\x01n\x01x\x00"),
-                Held(2, 60, b"\x01n\x01x\x00"),
-            ],
-        )),
-    ),
-    Zoned(b"", Err("F42 NoSoa in the input")),
-];
+impl Question for OfTaken {
+    fn answer(alloc: Global, asked: &'static str, out: &mut Vec<u8>) -> Result<(), Fail> {
+        push_made(
+            alloc,
+            out,
+            taken(alloc, reading_of(alloc, asked.as_bytes())?),
+        )
+    }
+}
+
+/// The zone of records that are lent.
+struct OfLent;
+
+impl Question for OfLent {
+    fn answer(alloc: Global, asked: &'static str, out: &mut Vec<u8>) -> Result<(), Fail> {
+        push_made(
+            alloc,
+            out,
+            lent(alloc, reading_of(alloc, asked.as_bytes())?),
+        )
+    }
+}
+
+/// Files under the origin `x.`, and their zones. A record takes 13 octets in a message besides the
+/// data, with an owner of three (RFC 1035 3.2.1).
+const ZONED: &str = "\
+== x. 3600 IN NS n.x.
+x. 3600 IN SOA n.x. h.x. 1 2 3 4 5
+=>
+class 1, apex #017800, records 2 in 61 octets, text of 54
+TYPE6 3600 #016e01780001680178000000000100000002000000030000000400000005
+TYPE2 3600 #016e017800
+x. 3600 IN SOA n.x. h.x. 1 2 3 4 5
+x. 3600 IN NS n.x.
+== x. 3600 IN SOA n.x. h.x. 1 2 3 4 5
+x. 3600 IN NS n.x.
+x. 3600 IN NS n.x.
+=>
+class 1, apex #017800, records 2 in 61 octets, text of 54
+TYPE6 3600 #016e01780001680178000000000100000002000000030000000400000005
+TYPE2 3600 #016e017800
+x. 3600 IN SOA n.x. h.x. 1 2 3 4 5
+x. 3600 IN NS n.x.
+== x. 3600 IN SOA n.x. h.x. 1 2 3 4 5
+x. 3600 IN NS n.x.
+x. 60 IN NS m.x.
+=> F41 DifferingTtl at line 3
+== x. 3600 IN SOA n.x. h.x. 1 2 3 4 5
+b.y. 60 IN NS n.x.
+y. 60 IN NS n.x.
+=> F43 OutOfZone y. in the input
+== m.x. 60 IN NS n.x.
+z.x. 60 IN NS n.x.
+c.a.x. 60 IN NS n.x.
+y.z.x. 60 IN NS n.x.
+a.x. 60 IN NS n.x.
+b.m.x. 60 IN NS n.x.
+c.a.x. 60 IN NS n.x.
+x. 60 IN SOA n.x. h.x. 1 2 3 4 5
+=>
+class 1, apex #017800, records 7 in 169 octets, text of 153
+TYPE6 60 #016e01780001680178000000000100000002000000030000000400000005
+TYPE2 60 #016e017800
+TYPE2 60 #016e017800
+TYPE2 60 #016e017800
+TYPE2 60 #016e017800
+TYPE2 60 #016e017800
+TYPE2 60 #016e017800
+x. 60 IN SOA n.x. h.x. 1 2 3 4 5
+a.x. 60 IN NS n.x.
+c.a.x. 60 IN NS n.x.
+m.x. 60 IN NS n.x.
+b.m.x. 60 IN NS n.x.
+z.x. 60 IN NS n.x.
+y.z.x. 60 IN NS n.x.
+== => F42 NoSoa in the input
+";
 
 #[test]
 fn zones_of_files(rt: HostRuntime) -> Result<(), Fail> {
-    check_rows(rt.alloc(), ZONED)
+    check_table::<OfAdded>(rt.alloc(), ZONED)?;
+    check_table::<OfTaken>(rt.alloc(), ZONED)?;
+    check_table::<OfLent>(rt.alloc(), ZONED)
 }
 
 /// Whether this is `x. 60 IN NS m.x.`.

@@ -1,8 +1,5 @@
-use Rattle.std.proofs.Common.{ap, ap₂, codes, true, ◌≡◌, ◌∙◌}
-use Rattle.clap.specs.Words.{App, Rule, app_of, new_app, rule_of, with_rule, with_subcommand}
-use Rattle.clap.specs.Simple.{app_of_fields}
+use Rattle.zonenorm.proofs.Common.{ap, ap₂, codes, true, ◌≡◌, ◌∙◌, App, Rule, app_of, new_app, rule_of, with_rule, with_subcommand, app_of_fields, argument, compare_app}
 use Rattle.clap.specs.declared.builder.Arg.{Arg}
-use Rattle.zonenorm.specs.Order.{argument, compare_app}
 use Rattle.zonenorm.proofs.Asked.{stays_local}
 use Rattle.zonenorm.proofs.command.compare.Goals as goal
 

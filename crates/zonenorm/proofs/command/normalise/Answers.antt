@@ -1,7 +1,4 @@
-use Rattle.std.proofs.Common.{rules, ap, ap₂, codes, ◌≡◌, ◌∙◌}
-use Rattle.clap.specs.Words.{App, app_of, new_app, rule_of, with_rule, with_subcommand}
-use Rattle.clap.specs.Simple.{app_of_fields}
-use Rattle.zonenorm.specs.Order.{argument, normalise_app}
+use Rattle.zonenorm.proofs.Common.{rules, ap, ap₂, codes, ◌≡◌, ◌∙◌, App, app_of, new_app, rule_of, with_rule, with_subcommand, app_of_fields, argument, normalise_app}
 use Rattle.zonenorm.proofs.command.normalise.Goals as goal
 
 pub returns : goal.returns

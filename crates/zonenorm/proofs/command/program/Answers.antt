@@ -1,7 +1,4 @@
-use Rattle.std.proofs.Common.{ap, true, ◌≡◌, ◌∙◌}
-use Rattle.clap.specs.Words.{App, app_of, with_subcommand}
-use Rattle.clap.specs.Simple.{app_of_fields}
-use Rattle.zonenorm.specs.Order.{bare_app, normalise_app, explain_app, compare_app}
+use Rattle.zonenorm.proofs.Common.{ap, true, ◌≡◌, ◌∙◌, App, app_of, with_subcommand, app_of_fields, bare_app, normalise_app, explain_app, compare_app}
 use Rattle.zonenorm.proofs.command.program.Goals as goal
 
 pub returns : goal.returns

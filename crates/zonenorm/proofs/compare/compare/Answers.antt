@@ -1,5 +1,4 @@
-use Rattle.std.proofs.KnownBytes.{Keeps-refl}
-use Rattle.zonenorm.specs.Compare.{by_first, by_second}
+use Rattle.zonenorm.proofs.Common.{Keeps-refl, by_first, by_second}
 use Rattle.zonenorm.proofs.Compared.{compares_zones, is_accepted}
 use Rattle.zonenorm.proofs.compare.compare.Goals as goal
 

@@ -1,5 +1,4 @@
-use Rattle.std.proofs.Common.{rules, ◌≤◌, ◌+◌, length, ◌∙◌}
-use Rattle.zone_print.specs.Canonical.{canon}
+use Rattle.zonenorm.proofs.Common.{rules, ◌≤◌, ◌+◌, length, ◌∙◌, canon}
 use Rattle.zonenorm.proofs.Compared.{walked_nothing, walked_more, walked_few, ends_first, ends_second, other_record}
 use Rattle.zonenorm.proofs.compare.first_difference.Goals as goal
 

@@ -1,7 +1,6 @@
-use Rattle.std.proofs.Common.{◌≤◌, ◌<◌, length, refl, arith}
-use Rattle.std.proofs.lemmas.Bool.{false≢true}
-use Rattle.zone_print.specs.Canonical.{canon, text_limit}
-use Rattle.zonenorm.proofs.Feeding.{if_some, is_input}
+use Rattle.zonenorm.proofs.Common.{◌≤◌, ◌<◌, length, refl, arith, false≢true, canon, text_limit}
+use Rattle.std.proofs.lemmas.Option.{IfSome_then}
+use Rattle.zonenorm.proofs.Feeding.{is_input}
 use Rattle.zonenorm.proofs.Written.{denotes_zone, large}
 use Rattle.zonenorm.proofs.engine.accepted_zone.Goals as goal
 
@@ -9,9 +8,9 @@ pub returns-then-not-text_fits-clause-fault : goal.returns-then-not-text_fits-cl
 returns-then-not-text_fits-clause-fault g c =
     let never : length (canon c.in_ok-stated.stated) ≤ text_limit → ⊥ = λ short. false≢true (c.if-not-text_fits.ensures.1 short) in
     let long : text_limit < length (canon c.in_ok-stated.stated) = omega (arith, never) in
-    if_some _ _ _ (λ octets reads. large _ _ reads long) c.in_ok-stated.ensures.zone
+    IfSome_then _ c.in_ok-stated.ensures.zone (λ octets reads. large _ _ reads long)
 
 pub returns-clause-zone : goal.returns-clause-zone
 returns-clause-zone g c =
     let short : length (canon c.in_ok-stated.stated) ≤ text_limit = c.if-not-text_fits.ensures.0 refl in
-    if_some _ _ _ (λ octets reads. denotes_zone _ _ reads c.what_is_read_is_stated.ensures (is_input _ octets c.in_ok-stated.ensures.form reads.each) short) c.in_ok-stated.ensures.zone
+    IfSome_then _ c.in_ok-stated.ensures.zone (λ octets reads. denotes_zone _ _ reads c.what_is_read_is_stated.ensures (is_input _ octets c.in_ok-stated.ensures.form reads.each) short)

@@ -1,5 +1,6 @@
 use Rattle.std.proofs.lemmas.Result.{err_from_is_err_and}
-use Rattle.zonenorm.proofs.Feeding.{if_some, is_input}
+use Rattle.std.proofs.lemmas.Option.{IfSome_then}
+use Rattle.zonenorm.proofs.Feeding.{is_input}
 use Rattle.zonenorm.proofs.Written.{normalises, refused_writing, front_written, nothing_written, prints_no_read}
 use Rattle.zonenorm.proofs.engine.normalise.Goals as goal
 
@@ -11,16 +12,16 @@ returns-in_err-write_zone-clause-refused g c =
 pub returns-in_err-write_zone-clause-front : goal.returns-in_err-write_zone-clause-front
 returns-in_err-write_zone-clause-front g c =
     let p = err_from_is_err_and c.from_residual-in_err-write_zone.result c.from_residual-in_err-write_zone.ensures.1 in
-    rw p.1 (if_some _ _ _ (λ octets reads. front_written _ _ reads c.what_is_read_is_stated.ensures (is_input _ octets c.in_ok-zone.ensures.form reads.each) _ _ _ c.in_err-write_zone.ensures.stopped) c.in_ok-zone.ensures.zone)
+    rw p.1 (IfSome_then _ c.in_ok-zone.ensures.zone (λ octets reads. front_written _ _ reads c.what_is_read_is_stated.ensures (is_input _ octets c.in_ok-zone.ensures.form reads.each) _ _ _ c.in_err-write_zone.ensures.stopped))
 
 pub returns-in_err-write_zone-clause-fault : goal.returns-in_err-write_zone-clause-fault
 returns-in_err-write_zone-clause-fault g c =
     let p = err_from_is_err_and c.from_residual-in_err-write_zone.result c.from_residual-in_err-write_zone.ensures.1 in
-    rw (p.1, p.2) (if_some _ _ _ (λ octets reads. refused_writing _ _ reads _ _ _ c.in_err-write_zone.ensures.stopped) c.in_ok-zone.ensures.zone)
+    rw (p.1, p.2) (IfSome_then _ c.in_ok-zone.ensures.zone (λ octets reads. refused_writing _ _ reads _ _ _ c.in_err-write_zone.ensures.stopped))
 
 pub returns-clause-accepted : goal.returns-clause-accepted
 returns-clause-accepted g c =
-    if_some _ _ _ (λ octets reads. normalises _ _ reads c.what_is_read_is_stated.ensures (is_input _ octets c.in_ok-zone.ensures.form reads.each) _ _ _ c.in_ok-write_zone.ensures.text c.in_ok-write_zone.ensures.short c.len.ensures) c.in_ok-zone.ensures.zone
+    IfSome_then _ c.in_ok-zone.ensures.zone (λ octets reads. normalises _ _ reads c.what_is_read_is_stated.ensures (is_input _ octets c.in_ok-zone.ensures.form reads.each) _ _ _ c.in_ok-write_zone.ensures.text c.in_ok-write_zone.ensures.short c.len.ensures)
 
 pub returns-in_err-write_zone-clause-failed : goal.returns-in_err-write_zone-clause-failed
 returns-in_err-write_zone-clause-failed g c =

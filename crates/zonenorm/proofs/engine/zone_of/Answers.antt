@@ -1,6 +1,5 @@
 -- Each source begins with nothing, as a source of its form.
-use Rattle.std.proofs.lemmas.Result.{MatchResult-weaker}
-use Rattle.zonenorm.specs.Input.{as_file, as_transfer}
+use Rattle.zonenorm.proofs.Common.{MatchResult-weaker, as_file, as_transfer}
 use Rattle.zonenorm.proofs.FedSources.{file_begins, transfer_begins}
 use Rattle.zonenorm.proofs.engine.zone_of.Goals as goal
 

@@ -1,6 +1,6 @@
-use Rattle.std.proofs.Common.{refl}
 use Rattle.std.specs.Fmt.{digits}
 use Rattle.zone_name.specs.Name.{labels_of}
+use Rattle.zonenorm.proofs.Common.{refl}
 use Rattle.zonenorm.proofs.examples.a_canonical_text.Goals as goal
 
 pub returns : goal.returns

@@ -1,7 +1,4 @@
-use Rattle.std.proofs.Common.{codes, subst}
-use Rattle.zonenorm.specs.Examples.{a_x, x, example_zone}
-use Rattle.zonenorm.specs.Input.{file, InputDenotes}
-use Rattle.zonenorm.specs.Normalise.{NormalisesTo}
+use Rattle.zonenorm.proofs.Common.{codes, subst, a_x, x, example_zone, file, InputDenotes, NormalisesTo}
 use Rattle.zonenorm.proofs.examples.a_canonical_text_read_back.Goals as goal
 
 pub returns-clause-same_origin : goal.returns-clause-same_origin

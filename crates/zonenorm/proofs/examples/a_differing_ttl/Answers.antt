@@ -1,7 +1,4 @@
-use Rattle.std.proofs.Common.{◌≡◌, [], ◌∷◌, refl, inl, inr, arith}
-use Rattle.zone_rdata.specs.declared.fault.Place.TheVariants.{Line}
-use Rattle.zone_set.specs.Builder.{ttl}
-use Rattle.zonenorm.specs.Examples.{a_x, soa_of, address_of}
+use Rattle.zonenorm.proofs.Common.{◌≡◌, [], ◌∷◌, refl, inl, inr, arith, Line, ttl, a_x, soa_of, address_of}
 use Rattle.zonenorm.proofs.Small.{fits, all_of_two, no_other_class, no_other_soa}
 use Rattle.zonenorm.proofs.examples.a_differing_ttl.Goals as goal
 

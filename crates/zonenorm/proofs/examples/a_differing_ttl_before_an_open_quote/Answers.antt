@@ -1,9 +1,4 @@
-use Rattle.std.proofs.Common.{◌≡◌, [], ◌∷◌, refl, inl, inr, arith}
-use Rattle.zone_rdata.specs.declared.fault.Fault.TheVariants.{DifferingTtl}
-use Rattle.zone_rdata.specs.declared.fault.Place.TheVariants.{Line}
-use Rattle.zone_set.specs.Builder.{ttl}
-use Rattle.zonenorm.specs.Examples.{a_x, soa_of, address_of}
-use Rattle.zonenorm.specs.Refusal.{refused}
+use Rattle.zonenorm.proofs.Common.{◌≡◌, [], ◌∷◌, refl, inl, inr, arith, DifferingTtl, Line, ttl, a_x, soa_of, address_of, refused}
 use Rattle.zonenorm.proofs.Small.{fits, all_of_two, no_other_class, no_other_soa}
 use Rattle.zonenorm.proofs.examples.a_differing_ttl_before_an_open_quote.Goals as goal
 

@@ -1,13 +1,7 @@
-use Rattle.std.proofs.Common.{◌≡◌, ◌≤◌, [], codes, length, refl, sym, ◌∙◌, inl, arith, lit≤}
 use Rattle.std.specs.Fmt.{digits}
 use Rattle.zone_name.specs.Name.{labels_of}
-use Rattle.zone_print.specs.Canonical.{canon, text_limit}
-use Rattle.zone_set.specs.Zone.{Has, IsZone}
-use Rattle.zone_rdata.specs.Record.{Record, IsRecord}
-use Rattle.std.specs.List.{AllByRecursion}
-use Rattle.zonenorm.specs.Examples.{x, soa_of, example_zone}
+use Rattle.zonenorm.proofs.Common.{◌≡◌, ◌≤◌, [], codes, length, refl, sym, ◌∙◌, inl, arith, lit≤, canon, text_limit, Has, IsZone, Record, IsRecord, AllByRecursion, x, soa_of, example_zone, each_Has}
 use Rattle.zonenorm.proofs.Inputs.{file_fits}
-use Rattle.zone_set.proofs.Together.{each_Has}
 use Rattle.zonenorm.proofs.examples.a_file_and_its_zone.Goals as goal
 
 is_zone : AllByRecursion IsRecord (example_zone 5).records → IsZone (example_zone 5)

@@ -1,8 +1,4 @@
-use Rattle.std.proofs.Common.{lit≤}
-use Rattle.std.specs.Prelude.{Some}
-use Rattle.zone_rdata.specs.declared.fault.Fault.TheVariants.{DifferingTtl, UnclosedQuote}
-use Rattle.zone_rdata.specs.declared.fault.Place.TheVariants.{Line}
-use Rattle.zonenorm.specs.Refusal.{reading}
+use Rattle.zonenorm.proofs.Common.{lit≤, Some, DifferingTtl, UnclosedQuote, Line, reading}
 use Rattle.zonenorm.proofs.examples.a_file_with_a_differing_ttl.Goals as goal
 
 pub returns : goal.returns

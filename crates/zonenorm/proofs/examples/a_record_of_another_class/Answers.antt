@@ -1,7 +1,4 @@
-use Rattle.std.proofs.Common.{◌≡◌, [], ◌∷◌, refl, inl, arith}
-use Rattle.zone_rdata.specs.declared.fault.Place.TheVariants.{Line}
-use Rattle.zone_set.specs.Builder.{class}
-use Rattle.zonenorm.specs.Examples.{soa_of}
+use Rattle.zonenorm.proofs.Common.{◌≡◌, [], ◌∷◌, refl, inl, arith, Line, class, soa_of}
 use Rattle.zonenorm.proofs.Small.{all_of_one}
 use Rattle.zonenorm.proofs.examples.a_record_of_another_class.Goals as goal
 

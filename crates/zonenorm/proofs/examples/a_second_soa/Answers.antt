@@ -1,7 +1,4 @@
-use Rattle.std.proofs.Common.{◌≢◌, ℕ, [], ◌∷◌, refl, inl, inr, arith}
-use Rattle.zone_rdata.specs.declared.fault.Place.TheVariants.{Line}
-use Rattle.zone_set.specs.Builder.{soa}
-use Rattle.zonenorm.specs.Examples.{soa_of}
+use Rattle.zonenorm.proofs.Common.{◌≢◌, ℕ, [], ◌∷◌, refl, inl, inr, arith, Line, soa, soa_of}
 use Rattle.zonenorm.proofs.Small.{all_of_one, no_other_class}
 use Rattle.zonenorm.proofs.examples.a_second_soa.Goals as goal
 

@@ -1,10 +1,5 @@
-use Rattle.std.proofs.Common.{[], refl, arith}
-use Rattle.std.specs.Prelude.{None}
-use Rattle.zone_rdata.specs.declared.fault.Fault.TheVariants.{NoSoa}
-use Rattle.zone_rdata.specs.declared.fault.Place.TheVariants.{Whole}
+use Rattle.zonenorm.proofs.Common.{[], refl, arith, None, NoSoa, Whole, no_soa, unfinished, reading}
 use Rattle.zone_text.specs.FileReads.{whole as by_whole}
-use Rattle.zone_set.specs.Builder.{no_soa}
-use Rattle.zonenorm.specs.Refusal.{unfinished, reading}
 use Rattle.zonenorm.proofs.Deciding.{none_before}
 use Rattle.zonenorm.proofs.examples.an_empty_input.Goals as goal
 

@@ -1,10 +1,6 @@
-use Rattle.std.proofs.Common.{[], ◌∷◌, refl, arith}
-use Rattle.std.specs.Prelude.{Some}
-use Rattle.zone_rdata.specs.declared.fault.Fault.TheVariants.{UnclosedQuote}
-use Rattle.zone_rdata.specs.declared.fault.Place.TheVariants.{Line}
+use Rattle.zonenorm.proofs.Common.{[], ◌∷◌, refl, arith, Some, UnclosedQuote, Line, unread, reading}
 use Rattle.zone_text.specs.Breaks.{no_quote}
 use Rattle.zone_text.specs.FileReads.{broken as by_broken}
-use Rattle.zonenorm.specs.Refusal.{unread, reading}
 use Rattle.zonenorm.proofs.Deciding.{none_before}
 use Rattle.zonenorm.proofs.examples.an_input_of_an_open_quote.Goals as goal
 

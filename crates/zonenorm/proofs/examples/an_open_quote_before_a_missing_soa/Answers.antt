@@ -1,7 +1,4 @@
-use Rattle.std.proofs.Common.{refl}
-use Rattle.zone_rdata.specs.declared.fault.Fault.TheVariants.{UnclosedQuote}
-use Rattle.zone_rdata.specs.declared.fault.Place.TheVariants.{Line}
-use Rattle.zonenorm.specs.Refusal.{unread}
+use Rattle.zonenorm.proofs.Common.{refl, UnclosedQuote, Line, unread}
 use Rattle.zonenorm.proofs.Small.{all_of_one}
 use Rattle.zonenorm.proofs.examples.an_open_quote_before_a_missing_soa.Goals as goal
 

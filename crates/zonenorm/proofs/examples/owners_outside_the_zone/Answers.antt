@@ -1,11 +1,4 @@
-use Rattle.std.proofs.Common.{◌≡◌, ◌≢◌, ℕ, List, [], ◌∷◌, codes, refl, ap, sym, subst, inl, inr, ⊎_elim, arith, Less}
-use Rattle.zone_name.specs.Name.{IsWithin}
-use Rattle.zone_name.specs.Order.{name_cmp}
-use Rattle.zone_rdata.specs.declared.fault.Fault.TheVariants.{OutOfZone}
-use Rattle.zone_rdata.specs.declared.fault.Place.TheVariants.{Whole}
-use Rattle.zone_set.specs.Builder.{outside}
-use Rattle.zonenorm.specs.Examples.{top, under, x, soa_of, server_of}
-use Rattle.zonenorm.specs.Refusal.{unfinished}
+use Rattle.zonenorm.proofs.Common.{◌≡◌, ◌≢◌, ℕ, List, [], ◌∷◌, codes, refl, ap, sym, subst, inl, inr, ⊎_elim, arith, Less, IsWithin, name_cmp, OutOfZone, Whole, outside, top, under, x, soa_of, server_of, unfinished}
 use Rattle.zonenorm.proofs.Small.{fits, all_of_three, outside_of}
 use Rattle.zonenorm.proofs.examples.owners_outside_the_zone.Goals as goal
 

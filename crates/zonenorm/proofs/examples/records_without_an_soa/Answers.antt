@@ -1,9 +1,4 @@
-use Rattle.std.proofs.Common.{◌≡◌, codes, refl, ap, sym, ◌∙◌, ⊎_elim, arith}
-use Rattle.zone_rdata.specs.declared.fault.Fault.TheVariants.{NoSoa}
-use Rattle.zone_rdata.specs.declared.fault.Place.TheVariants.{Whole}
-use Rattle.zone_set.specs.Builder.{no_soa}
-use Rattle.zonenorm.specs.Examples.{top, server_of}
-use Rattle.zonenorm.specs.Refusal.{unfinished}
+use Rattle.zonenorm.proofs.Common.{◌≡◌, codes, refl, ap, sym, ◌∙◌, ⊎_elim, arith, NoSoa, Whole, no_soa, top, server_of, unfinished}
 use Rattle.zonenorm.proofs.Small.{fits, all_of_two}
 use Rattle.zonenorm.proofs.examples.records_without_an_soa.Goals as goal
 

@@ -1,6 +1,4 @@
-use Rattle.std.proofs.Common.{List, ap, codes, ℕ, ◌++◌, ◌∙◌}
-use Rattle.std.proofs.lemmas.Result.{err_from_is_err_and}
-use Rattle.zonenorm.specs.Telling.{records_line, refusal_line}
+use Rattle.zonenorm.proofs.Common.{List, ap, codes, ℕ, ◌++◌, ◌∙◌, err_from_is_err_and, records_line, refusal_line}
 use Rattle.zonenorm.proofs.Running.{explains, explains_part, on_records, on_refusal}
 use Rattle.zonenorm.proofs.explain.explain.Goals as goal
 

@@ -1,17 +1,14 @@
-use Rattle.std.proofs.Common.{rules, refl, sym, ◌∙◌, ◌<◌, ◌≤◌, ◌+◌, ◌++◌, [], length, length-append, arith}
-use Rattle.std.proofs.lemmas.Result.{MatchResult-weaker}
-use Rattle.zonenorm.specs.Input.{input_of}
-use Rattle.zonenorm.specs.Machine.Loading.{ReadsZoneWithin}
-use Rattle.zonenorm.specs.Refusal.{IfRefused, IsRefusalWithin}
+use Rattle.zonenorm.proofs.Common.{rules, refl, sym, ◌∙◌, ◌<◌, ◌≤◌, ◌+◌, ◌++◌, [], length, length-append, arith, MatchResult-weaker, input_of, ReadsZoneWithin, IfRefused, IsRefusalWithin}
 use Rattle.zone_name.proofs.Pushing.{AllByRecursion-append}
-use Rattle.zonenorm.proofs.Feeding.{begun, within, refused_within, all_given, too_many, nothing_consumed, consumed_both, consumed_none, of_reading, tells_no_read, no_octets}
+use Rattle.std.proofs.KnownBytes.{Consumes-nil, Consumes-trans, Consumes-whole}
+use Rattle.zonenorm.proofs.Feeding.{begun, within, refused_within, too_many, consumed_none, of_reading, tells_no_read, no_octets}
 use Rattle.zonenorm.proofs.input.read_in_pieces.Goals as goal
 
 pub loop-count-init : goal.loop-count-init
 loop-count-init g c = record {
   fed = record {
     given = [];
-    consumed = nothing_consumed _;
+    consumed = Consumes-nil _;
     counted = refl;
     each = tt;
     few = search rules;
@@ -28,7 +25,7 @@ returns-then-is_empty-clause-zone g c =
     let nothing = no_octets _ (sym c.is_empty.ensures ∙ c.if-is_empty.true) in
     let short : length fed.given ≤ c.args.limit = rw fed.counted (omega arith) in
     MatchResult-weaker c.finish.result c.finish.ensures.zone (λ z reads form begins.
-    all_given (λ octets. ReadsZoneWithin c.args.limit (input_of form octets) z) _ _ fed.given (consumed_none _ _ _ _ _ fed.consumed c.in_ok-given.ensures.taken nothing) (c.in_ok-given.ensures.end nothing)
+    Consumes-whole _ _ fed.given (λ octets. ReadsZoneWithin c.args.limit (input_of form octets) z) (consumed_none _ _ _ _ _ fed.consumed c.in_ok-given.ensures.taken nothing) (c.in_ok-given.ensures.end nothing)
     (within c.args.limit form fed.given z fed.each short (reads form fed.given (fed.taken form begins)))) (λ stop h. h)
 
 pub returns-then-is_empty-clause-fault : goal.returns-then-is_empty-clause-fault
@@ -37,7 +34,7 @@ returns-then-is_empty-clause-fault g c =
     let nothing = no_octets _ (sym c.is_empty.ensures ∙ c.if-is_empty.true) in
     let short : length fed.given ≤ c.args.limit = rw fed.counted (omega arith) in
     MatchResult-weaker c.finish.result c.finish.ensures.fault (λ z h. h) (λ stop refuses form is begins.
-    all_given (λ octets. IfRefused stop (IsRefusalWithin c.args.limit (input_of form octets))) _ _ fed.given (consumed_none _ _ _ _ _ fed.consumed c.in_ok-given.ensures.taken nothing) (c.in_ok-given.ensures.end nothing)
+    Consumes-whole _ _ fed.given (λ octets. IfRefused stop (IsRefusalWithin c.args.limit (input_of form octets))) (consumed_none _ _ _ _ _ fed.consumed c.in_ok-given.ensures.taken nothing) (c.in_ok-given.ensures.end nothing)
     (refused_within c.args.limit form fed.given stop short (refuses form fed.given is fed.each (fed.taken form begins))))
 
 pub returns-then-is_empty-clause-stopped : goal.returns-then-is_empty-clause-stopped
@@ -56,7 +53,7 @@ pub returns-in_err-take-clause-few : goal.returns-in_err-take-clause-few
 returns-in_err-take-clause-few g c =
     let fed = c.loop-count.invariant.fed in
     let more : c.loop-count.count + length c.in_ok-given.given.now ≤ c.args.limit + 1 = search rules in
-    (fed.given ++ c.in_ok-given.given.now, rw length-append (rw fed.counted more), consumed_both _ _ _ _ _ fed.consumed c.in_ok-given.ensures.taken)
+    (fed.given ++ c.in_ok-given.given.now, rw length-append (rw fed.counted more), Consumes-trans _ _ _ _ _ fed.consumed c.in_ok-given.ensures.taken)
 
 pub loop-count-preserved : goal.loop-count-preserved
 loop-count-preserved g c =
@@ -64,7 +61,7 @@ loop-count-preserved g c =
     record {
       fed = record {
         given = fed.given ++ c.in_ok-given.given.now;
-        consumed = consumed_both _ _ _ _ _ fed.consumed c.in_ok-given.ensures.taken;
+        consumed = Consumes-trans _ _ _ _ _ fed.consumed c.in_ok-given.ensures.taken;
         counted = rw length-append (rw fed.counted refl);
         each = AllByRecursion-append (λ c. c < 256) fed.given c.in_ok-given.given.now fed.each c.take.ensures.octets;
         few = search rules;

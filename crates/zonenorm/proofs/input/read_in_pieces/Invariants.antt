@@ -1,5 +1,4 @@
-use Rattle.std.proofs.Common.{◌≡◌, ◌-◌, ◌+◌, false}
-use Rattle.zonenorm.specs.Machine.Loading.{BeginsAs, IsLoadedOf}
+use Rattle.zonenorm.proofs.Common.{◌≡◌, ◌-◌, ◌+◌, false, BeginsAs, IsLoadedOf}
 use Rattle.zonenorm.proofs.Feeding.{HasFed}
 use Rattle.zonenorm.proofs.input.read_in_pieces.Given as goal
 

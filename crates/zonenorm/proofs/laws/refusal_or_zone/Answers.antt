@@ -1,5 +1,4 @@
-use Rattle.std.specs.Prelude.{None}
-use Rattle.zonenorm.specs.Input.{file, transfer}
+use Rattle.zonenorm.proofs.Common.{None, file, transfer}
 use Rattle.zonenorm.proofs.Inputs.{file_fits, placed_fit, of_both_forms, Outcome, refusal_or_zone}
 use Rattle.zonenorm.proofs.laws.refusal_or_zone.Goals as goal
 

@@ -1,5 +1,4 @@
-use Rattle.std.proofs.Common.{[], ◌∷◌, ◌++◌, refl}
-use Rattle.zone_print.specs.Writing.{AppendsPart}
+use Rattle.zonenorm.proofs.Common.{[], ◌∷◌, ◌++◌, refl, AppendsPart}
 use Rattle.zonenorm.proofs.Telling.{both_written, on_any_err, on_err, part_as, part_first, part_then}
 use Rattle.zonenorm.proofs.line.write_line.Goals as goal
 

@@ -1,6 +1,4 @@
-use Rattle.std.proofs.Common.{◌∙◌, ap, codes, sym}
-use Rattle.std.specs.Prelude.{Some}
-use Rattle.clap.specs.Words.{Text, found_of, rows_of}
+use Rattle.zonenorm.proofs.Common.{◌∙◌, ap, codes, sym, Some, Text, found_of, rows_of}
 use Rattle.zonenorm.proofs.Asked.{entered, text_found, no_text_found, not_found, no_normalise, no_explain, no_compare, first_origin, first_path, second_origin, second_path}
 use Rattle.zonenorm.proofs.order.call_of.Goals as goal
 

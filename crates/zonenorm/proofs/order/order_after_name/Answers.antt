@@ -1,7 +1,4 @@
-use Rattle.std.proofs.Common.{subst, Global, List}
-use Rattle.std.specs.Prelude.{IfErr, string_bytes}
-use Rattle.clap.specs.Words.{Text}
-use Rattle.zonenorm.specs.Order.{IsLineFault}
+use Rattle.zonenorm.proofs.Common.{subst, Global, List, IfErr, string_bytes, Text, IsLineFault}
 use Rattle.zonenorm.proofs.Asked.{map_after}
 use Rattle.zonenorm.proofs.order.order_after_name.Goals as goal
 

@@ -1,5 +1,4 @@
-use Rattle.zone_rdata.specs.declared.fault.Stop.TheVariants.{Read, Write, Memory}
-use Rattle.zonenorm.specs.Machine.Telling.{explained}
+use Rattle.zonenorm.proofs.Common.{Read, Write, Memory, explained}
 use Rattle.zonenorm.proofs.Running.{refusal_told}
 use Rattle.zonenorm.proofs.run.report.Goals as goal
 

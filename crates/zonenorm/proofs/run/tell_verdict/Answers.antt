@@ -1,5 +1,4 @@
-use Rattle.std.proofs.KnownBytes.{Keeps-refl}
-use Rattle.zonenorm.specs.Machine.Telling.{told}
+use Rattle.zonenorm.proofs.Common.{Keeps-refl, told}
 use Rattle.zonenorm.proofs.Running.{not_told}
 use Rattle.zonenorm.proofs.run.tell_verdict.Goals as goal
 

@@ -1,5 +1,4 @@
-use Rattle.std.proofs.Common.{sym, ◌∙◌, refl, subst}
-use Rattle.zone_set.specs.Builder.{StopsTaking}
+use Rattle.zonenorm.proofs.Common.{sym, ◌∙◌, refl, subst, StopsTaking}
 use Rattle.zonenorm.proofs.Taken.{is_none_of, some_of, taken_after, taken_more, taken_refused}
 use Rattle.zonenorm.proofs.loader.ZoneLoader.take.Goals as goal
 

@@ -1,0 +1,47 @@
+-- What most proofs of this crate name, from below it and from its definitions.
+pub use Rattle.clap.specs.Simple.{app_of_fields}
+pub use Rattle.clap.specs.Words.{App, IsAmong, Kinds, Row, Rule, Text, app_of, fault_of, first_of, first_value, found_of, new_app, rows_of, rule_of, subcommand_name_of, subcommand_of, subcommand_rows_of, with_rule, with_subcommand}
+pub use Rattle.std.proofs.Common.{Bool, Equal, Global, Greater, Less, List, Ordering, Vec, [], ap, append-nil, append_assoc, ap₂, arith, codes, eqb-true, false, if◌then◌else◌, inl, inr, length, length-append, lit<, lit≤, map, min, nat_eq, refl, rules, subst, suc, sym, true, zero, ℕ, ⊎_elim, ◌&&◌, ◌++◌, ◌+◌, ◌-◌, ◌<◌, ◌^◌, ◌↔◌, ◌∙◌, ◌∷◌, ◌≡◌, ◌≢◌, ◌≤◌, ◌⊎◌}
+pub use Rattle.std.proofs.KnownBytes.{Appends-trans, Keeps-refl}
+pub use Rattle.std.proofs.lemmas.Bool.{cases_eq, false≢true, leb-true, ne_eqb}
+pub use Rattle.std.proofs.lemmas.Bool.Decides.{leb_tells}
+pub use Rattle.std.proofs.lemmas.Result.{MatchResult-weaker, err_from_is_err_and}
+pub use Rattle.std.specs.Cmp.Lexicographic.{bytes_decides, pointwise, pointwise_decides}
+pub use Rattle.std.specs.Fmt.{digits}
+pub use Rattle.std.specs.Io.KnownBytes.{Appends, Consumes, IsAtEnd}
+pub use Rattle.std.specs.List.{AllByRecursion, flat_map}
+pub use Rattle.std.specs.Prelude.{Err, IfErr, IfOk, IfSome, IsTrue, None, Ok, OnErr, OnOk, Option, Result, Some, String, decimal, drop, get_or, is_some, option_map, slice_get, slice_index, string_bytes, take, unwrap_or, ◌==◌, ◌||◌}
+pub use Rattle.zone_name.specs.Common.{AtMostOneIs, Labels, NothingIs, Octets}
+pub use Rattle.zone_name.specs.Name.{IsFoldedOctet, IsLabel, IsName, IsWithin, labels_of}
+pub use Rattle.zone_name.specs.Order.{name_cmp}
+pub use Rattle.zone_print.specs.Canonical.{canon, line, lines, text_limit}
+pub use Rattle.zone_print.specs.Denotes.{Denotes, MakesZone}
+pub use Rattle.zone_print.specs.Writing.{AppendsPart, IsFailedWrite, StopsPush, StopsWrite, TellsWrite}
+pub use Rattle.zone_rdata.specs.FedSource.{Held, SourceState}
+pub use Rattle.zone_rdata.specs.Record.{IsRecord, Record, data_of}
+pub use Rattle.zone_rdata.specs.RrSource.{Pending}
+pub use Rattle.zone_rdata.specs.declared.fault.Fault.{Fault}
+pub use Rattle.zone_rdata.specs.declared.fault.Fault.TheVariants.{ClassMismatch, DifferingTtl, InputTooLong, MultipleSoa, NoSoa, OutOfZone, UnclosedQuote, ZoneTooLarge}
+pub use Rattle.zone_rdata.specs.declared.fault.Place.{Place}
+pub use Rattle.zone_rdata.specs.declared.fault.Place.TheVariants.{Line, Message, Whole}
+pub use Rattle.zone_rdata.specs.declared.fault.Stop.{Stop}
+pub use Rattle.zone_rdata.specs.declared.fault.Stop.TheVariants.{Memory, Read, Refused, Write}
+pub use Rattle.zone_rdata.specs.declared.record.Placed.{Placed}
+pub use Rattle.zone_set.proofs.Together.{accepted_class, accepted_soa, accepted_ttl, each_Has, each_from_Has, one_set, stable_owner}
+pub use Rattle.zone_set.specs.Builder.{Accepts, Adds, AddsEach, AreTwoSoas, HasNoSoa, IsLeastOutside, IsRefusedFor, OtherClass, OtherSoa, OtherTtl, StopsFinish, StopsTaking, TakesAll, class, failure, leaves, memory, no_soa, outside, soa, ttl}
+pub use Rattle.zone_set.specs.Refusal.{AllAccepted, IsFirstRefused, records_of}
+pub use Rattle.zone_set.specs.Zone.{AreCompatible, Has, InOneSet, IsZone, SameRecords, Zone, covered_octets}
+pub use Rattle.zone_text.specs.FileReads.{FileReads}
+pub use Rattle.zonenorm.specs.Compare.{Compares, DifferFirstAt, IsAccepted, IsVerdictOnTexts, ReadsWholeTo, StopsCompare, TellsReadOf, by_first, by_second, line_at, lines_of}
+pub use Rattle.zonenorm.specs.Examples.{a_x, address_of, example_zone, server_of, soa_of, top, under, x}
+pub use Rattle.zonenorm.specs.Input.{Input, InputDenotes, InputReads, InputStates, IsInput, ReadAs, as_file, as_transfer, file, input_octets, input_of, transfer}
+pub use Rattle.zonenorm.specs.Machine.Input.{Decides, IsForm}
+pub use Rattle.zonenorm.specs.Machine.Loading.{BeginsAs, IsLoaded, IsLoadedOf, ReadsZone, ReadsZoneWithin, RefusesFront, RefusesRead, all_taken, by_ending, by_record, front_refuses, nothing_pending}
+pub use Rattle.zonenorm.specs.Machine.Telling.{IsReported, TellsVerdict, explained, told, unexplained, untold}
+pub use Rattle.zonenorm.specs.Normalise.{IsOfBytes, IsOfReading, Normalises, NormalisesTo, ReadsWhole, WritesNothing, WritesPrefix}
+pub use Rattle.zonenorm.specs.Order.{Asks, Call, Calls, Finds, IsLineFault, IsOriginText, Orders, argument, arguments_of, bare_app, command_of, compare_app, explain_app, normalise_app, program_app}
+pub use Rattle.zonenorm.specs.Refusal.{IfRefused, IsRefusal, IsRefusalWithin, IsRefused, RefusesReading, reading, refused, too_large, too_long, unfinished, unread}
+pub use Rattle.zonenorm.specs.Run.{AreCompared, Device, Devices, IsLeft, IsStopped, Runs, StopsNormalise, TellsLine, read_as_with}
+pub use Rattle.zonenorm.specs.Stops.{TellsRead}
+pub use Rattle.zonenorm.specs.Telling.{WritesLine, WritesPartOfLine, argument_of, place_words, records_line, refusal_line, row_of, stop_line, verdict_line, which_words}
+pub use Rattle.zonenorm.specs.declared.compare.Verdict.{Verdict}
