@@ -1,6 +1,7 @@
 -- What a source holds at the beginning of a file and at that of an entry.
-use Rattle.std.proofs.Common.{◌≡◌, ℕ, ◌≤◌, List, [], ◌∷◌, length, ◌==◌, Bool, true, false, Option, Some, None, refl, sym, ◌∙◌, arith, inl}
+use Rattle.std.proofs.Common.{◌≡◌, ℕ, ◌≤◌, List, [], ◌∷◌, length, ◌==◌, Bool, true, false, Option, Some, None, refl, sym, ◌∙◌, arith, inl, rules}
 use Rattle.std.specs.Option.{is_some}
+use Rattle.std.proofs.lemmas.Grind.{common_steps}
 use Rattle.std.proofs.lemmas.Bool.{eqb-true, eqb-false}
 use Rattle.zone_name.specs.Common.{Labels}
 use Rattle.zone_text.specs.declared.ended.EndedEntries.{EndedEntries}
@@ -15,12 +16,10 @@ use Rattle.zone_text.proofs.Left.{none_cut}
 
 -- octets of which there is none, or one
 pub none_left : (octets : List ℕ) (n : ℕ) (empty : Bool) → n ≡ length octets → empty ≡ (n == 0) → empty ≡ true → octets ≡ []
-none_left [] n empty len is none_is = refl
-none_left (c ∷ octets) n empty len is none_is = absurd (omega (arith, len, eqb-true n 0 (sym is ∙ none_is)))
+none_left octets n empty len is none_is = grind (arith, common_steps)
 
 pub some_left : (octets : List ℕ) (n : ℕ) (empty : Bool) → n ≡ length octets → empty ≡ (n == 0) → empty ≡ false → octets ≡ [] → ⊥
-some_left [] n empty len is some_is none = eqb-false n 0 (sym is ∙ some_is) len
-some_left (c ∷ octets) n empty len is some_is none = cc
+some_left octets n empty len is some_is none = cc
 
 -- a fault that is decided
 pub some_found : {A : Type 0} (o : Option A) → is_some o ≡ true → (x : A) × (o ≡ Some x)
@@ -37,11 +36,7 @@ unfolding scan_of
 scans_nothing at unfinished begins none = rw (begins, none) refl
 
 pub nothing_taken : (ended : EndedEntries) (at : ScanState) (unfinished : List ℕ) → at ≡ beginning → unfinished ≡ [] → 1 ≤ ended.line → IsSplitter ended at unfinished
-nothing_taken ended at unfinished begins none line = record {
-  state = scans_nothing at unfinished begins none;
-  dropped = λ _ _. none;
-  line = line;
-}
+nothing_taken ended at unfinished begins none line = search (rules, scans_nothing)
 
 pub no_tokens : Cuts [] []
 no_tokens = record { whole = refl; each = tt; follow = tt; balanced = refl }

@@ -1,8 +1,9 @@
 -- Lines without items: what is cut of them, and what follows from octets with such lines after them.
-use Rattle.std.proofs.Common.{◌≡◌, ◌≢◌, ℕ, suc, ◌+◌, ◌≤◌, List, [], ◌∷◌, ◌++◌, ◌==◌, if◌then◌else◌, ◌<◌, length, drop, None, refl, sym, ap, ◌∙◌, subst, arith, append_assoc, length-append}
+use Rattle.std.proofs.Common.{◌≡◌, ◌≢◌, ℕ, suc, ◌+◌, ◌≤◌, List, [], ◌∷◌, ◌++◌, ◌==◌, if◌then◌else◌, ◌<◌, length, drop, None, refl, sym, ap, ◌∙◌, subst, arith, append_assoc, length-append, rules}
 use Rattle.std.specs.List.{AllByRecursion, flat_map}
 use Rattle.std.proofs.lemmas.Bool.{ne_eqb}
 use Rattle.std.proofs.lemmas.List.{append-nil}
+use Rattle.std.proofs.lemmas.Grind.{common_steps}
 use Rattle.std.proofs.lemmas.List.Sums.{sum_by-cons}
 use Rattle.zone_name.specs.Common.{Labels}
 use Rattle.zone_text.specs.ParserState.{IsStateAfter}
@@ -63,17 +64,16 @@ fed_alone = record {
 }
 
 one_further : (n : ℕ) → further 1 (record { taken = n; step = Ends }) ≡ record { taken = suc n; step = Ends }
-one_further n = let e : 1 + n ≡ suc n = omega arith in ap (λ k. let f : Scanned = record { taken = k; step = Ends } in f) e
+one_further n = search rules
 
 in_comment : (octets : List ℕ) → AllByRecursion (λ c. c ≢ 10) octets → ScansTo (record { mode = Comment; depth = 0 }) (octets ++ 10 ∷ []) Ends
 unfolding scan_of
 in_comment [] each = refl
-in_comment (c ∷ octets) each =
-    rw (ne_eqb c 10 each.0) (ap (further 1) (in_comment octets each.1) ∙ one_further (length (octets ++ 10 ∷ [])))
+in_comment (c ∷ octets) each = search (rules, ne_eqb, one_further, in_comment octets each.1)
 
 comment_scanned : (octets : List ℕ) → AllByRecursion (λ c. c ≢ 10) octets → ScansTo beginning (59 ∷ octets ++ 10 ∷ []) Ends
 unfolding scan_of
-comment_scanned octets each = ap (further 1) (in_comment octets each) ∙ one_further (length (octets ++ 10 ∷ []))
+comment_scanned octets each = search (rules, in_comment, one_further)
 
 one_fed : (octets : List ℕ) → AllByRecursion (λ c. c ≢ 10) octets → 1 ≡ line_feeds (octets ++ 10 ∷ [])
 one_fed [] each = refl
@@ -102,11 +102,7 @@ with_line line ended = record { decided = ended.decided; state = ended.state; li
 
 -- an entry without items states nothing and leaves the state as it is
 states_nothing : (origin : Labels) (before : List Entry) (entry : Entry) (old : EndedEntries) → entry.items ≡ [] → IsStateAfter origin before old.state → LeavesNoRecord origin before entry old.state
-states_nothing origin before entry old none are =
-    let form : statement_of entry ≡ no_items = ap (statement_by entry.first) none in (
-      rw form tt,
-      leaves origin before entry no_items old.state old.state.origin old.state.default_ttl form refl refl are (same_origin origin before entry no_items old.state.origin form refl are.under) (same_default before entry no_items old.state.default_ttl form refl are.default_ttl),
-    )
+states_nothing origin before entry old none are = search rules
 
 empty_read : (octets : List ℕ) (old : EndedEntries) → IsEmpty octets → old.decided.ending ≡ None → ReadsOctets octets old (with_line (old.line + 1) old)
 empty_read octets old is none =
@@ -116,8 +112,7 @@ empty_read octets old is none =
     (lines_after octets old (with_line (old.line + 1) old) 1 is.count is.some refl)
 
 empty_follows : (octets : List ℕ) (old : EndedEntries) → IsEmpty octets → old.decided.ending ≡ None → FollowsOn old [] (with_line (old.line + 1) old) [] octets
-empty_follows octets old is none origin fed given follow =
-    follow_entry origin old (with_line (old.line + 1) old) [] octets fed given is.scanned none (empty_read octets old is none) follow
+empty_follows octets old is none origin fed given follow = search (rules, follow_entry, empty_read)
 
 -- lines at the front of octets
 pub record TakesLines (octets rest : List ℕ) (n : ℕ) : Type 0 where
@@ -126,13 +121,7 @@ pub record TakesLines (octets rest : List ℕ) (n : ℕ) : Type 0 where
   pub follow : (old : EndedEntries) → old.decided.ending ≡ None → FollowsOn old [] (with_line (old.line + n) old) [] front
 
 takes_none : (octets : List ℕ) → TakesLines octets octets 0
-takes_none octets = record {
-  front = [];
-  whole = refl;
-  follow = λ old none origin fed given follow.
-      let same : old.line ≡ old.line + 0 = omega arith in
-      subst (λ k. Follow origin (with_line k old) [] (fed ++ []) given) same (subst (λ t. Follow origin old [] t given) (sym (append-nil fed)) follow);
-}
+takes_none octets = search rules
 
 takes_more : (octets line rest more : List ℕ) (n : ℕ) → TakesLines octets line n → line ≡ more ++ rest → IsEmpty more → TakesLines octets rest (n + 1)
 takes_more octets line rest more n so_far cut is = record {
@@ -145,7 +134,7 @@ takes_more octets line rest more n so_far cut is = record {
 }
 
 takes_line : (octets line rest : List ℕ) (n : ℕ) → TakesLines octets line n → IsBlankLine line rest → TakesLines octets rest (n + 1)
-takes_line octets line rest n so_far (fed_line e) = takes_more octets line rest (10 ∷ []) n so_far e fed_alone
+takes_line octets line rest n so_far (fed_line e) = search (rules, takes_more, fed_alone)
 takes_line octets line rest n so_far (commented after e is) =
     takes_more octets line rest (59 ∷ is.comment ++ 10 ∷ []) n so_far (e ∙ ap (λ t. 59 ∷ t) (is.whole ∙ sym (append_assoc is.comment (10 ∷ []) rest))) (comment_alone is.comment is.inside)
 
@@ -155,18 +144,14 @@ takes_lines octets _ _ (one_line_more line rest n before is) = takes_line octets
 
 -- lines after lines
 pub lines_joined : (octets middle rest : List ℕ) (n more : ℕ) → AreBlankLines octets middle n → AreBlankLines middle rest more → AreBlankLines octets rest (n + more)
-lines_joined octets middle _ n _ before no_lines = let same : n ≡ n + 0 = omega arith in subst (AreBlankLines octets middle) same before
+lines_joined octets middle _ n _ before no_lines = search rules
 lines_joined octets middle _ n _ before (one_line_more line rest more others is) =
     let same : n + more + 1 ≡ n + (more + 1) = omega arith in
     subst (AreBlankLines octets rest) same (one_line_more line rest (n + more) (lines_joined octets middle line n more before others) is)
 
 -- a line has an octet at least
 pub line_shorter : (line rest : List ℕ) → IsBlankLine line rest → length rest < length line
-line_shorter line rest (fed_line e) = let len = ap length e in omega (arith, len)
-line_shorter line rest (commented after e is) =
-    let whole : length line ≡ length (59 ∷ after) = ap length e in
-    let inside : length after ≡ length is.comment + length (10 ∷ rest) = ap length is.whole ∙ length-append is.comment (10 ∷ rest) in
-    omega (arith, whole, inside)
+line_shorter line rest h = grind (arith, common_steps)
 
 -- ---- lines at the front of a piece
 

@@ -1,5 +1,5 @@
 -- The words of classes among items, and the digits with which a time begins.
-use Rattle.std.proofs.Common.{◌&&◌, bytes_eq, ◌≡◌, ℕ, ◌<◌, List, [], ◌∷◌, ◌++◌, length, take, drop, codes, Bool, true, false, not, Option, None, Some, refl, sym, ap, ◌∙◌, arith, append_assoc, inl, inr}
+use Rattle.std.proofs.Common.{◌&&◌, bytes_eq, ◌≡◌, ℕ, ◌<◌, List, [], ◌∷◌, ◌++◌, length, take, drop, codes, Bool, true, false, not, Option, None, Some, refl, sym, ap, ◌∙◌, arith, append_assoc, inl, inr, rules}
 use Rattle.std.specs.List.{AllByRecursion, flat_map}
 use Rattle.std.specs.Prelude.{is_some}
 use Rattle.std.proofs.Math.Bool.{or-true}
@@ -40,13 +40,11 @@ digit_folded : (c : ℕ) → is_digit (folded_octet c) ≡ is_digit c
 digit_folded c = grind (arith, nat_tests)
 
 first_folded : (word : List ℕ) → begins_with_digit (folded_label word) ≡ begins_with_digit word
-first_folded [] = refl
-first_folded (c ∷ word) = digit_folded c
+first_folded word = search rules
 
 -- and begins with no digit
 pub class_word_first : (word : List ℕ) (n : ℕ) → IsClassWord word n → begins_with_digit word ≡ false
-class_word_first word n (by_mnemonic is) =
-    sym (first_folded word) ∙ ap begins_with_digit is.same ∙ not-true _ (each_mnemonic (λ _ name. not (begins_with_digit (folded_label name))) classes refl n is.name is.row)
+class_word_first word n (by_mnemonic is) = search rules
 class_word_first word n (by_number is) = sym (first_folded word) ∙ (rw (is.parts, map-append, is.named) refl)
 
 digits_first : (text rest : List ℕ) → 0 < length text → AllByRecursion (λ c. is_digit c ≡ true) text → begins_with_digit (text ++ rest) ≡ true
@@ -55,16 +53,14 @@ digits_first (c ∷ text) rest some each = each.0
 
 groups_first : (groups : List Group) → 0 < length groups → AllByRecursion IsTimeGroup groups → begins_with_digit (flat_map group_text groups) ≡ true
 groups_first [] some each = absurd (omega arith)
-groups_first (g ∷ groups) some each = rw (append_assoc) (digits_first g.digits (g.letter ∷ [] ++ flat_map group_text groups) each.0.some each.0.each)
+groups_first (g ∷ groups) some each = search (rules, append_assoc, digits_first)
 
 decimal_first : (text : List ℕ) (n : ℕ) → IsDecimal text n → begins_with_digit text ≡ true
-decimal_first [] n is = absurd (let h = is.some in omega arith)
-decimal_first (c ∷ text) n is = is.digits.0
+decimal_first text n is = search rules
 
 -- a time begins with a digit
 pub time_first : (text : List ℕ) (n : ℕ) → IsTime text n → begins_with_digit text ≡ true
-time_first text n (plain is) = decimal_first text n is
-time_first text n (grouped groups some each e value) = rw e (groups_first groups some each)
+time_first text n h = search (rules, decimal_first, groups_first)
 
 -- what is taken for a class word is one
 

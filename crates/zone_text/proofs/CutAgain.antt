@@ -1,5 +1,6 @@
 -- The entries that line feeds have ended, cut out of their tokens again, whatever follows them.
-use Rattle.std.proofs.Common.{◌≡◌, ℕ, zero, suc, ◌+◌, ◌<◌, List, [], ◌∷◌, ◌++◌, length, ◌==◌, Some, refl, ap, ◌∙◌, arith, append_assoc}
+use Rattle.std.proofs.Common.{◌≡◌, ℕ, zero, suc, ◌+◌, ◌<◌, List, [], ◌∷◌, ◌++◌, length, ◌==◌, Some, refl, ap, ◌∙◌, arith, append_assoc, rules}
+use Rattle.std.proofs.lemmas.Grind.{common_steps}
 use Rattle.std.specs.List.{flat_map, AllByRecursion, count_by}
 use Rattle.zone_text.specs.Tokens.{Token, blank, opening, closing, line_feed, comment, bare, quoted, text, depth_after}
 use Rattle.zone_text.specs.Lasting.{EndInLineFeed}
@@ -11,14 +12,13 @@ joined entries = flat_map (λ (e : List Token). e) entries
 -- ---- the ended entries and the open tokens are all tokens
 
 front_whole : (p : Token) (ended : List (List Token)) (others tokens : List Token) → joined ended ++ others ≡ tokens → joined (in_front p ended others).ended ++ (in_front p ended others).open_tokens ≡ p ∷ tokens
-front_whole p [] others tokens e = ap (λ t. p ∷ t) e
-front_whole p (entry ∷ ended) others tokens e = ap (λ t. p ∷ t) e
+front_whole p ended others tokens e = search rules
 
 pub cut_whole : (depth : ℕ) (tokens : List Token) → joined (cut_from depth tokens).ended ++ (cut_from depth tokens).open_tokens ≡ tokens
 cut_whole depth [] = refl
 cut_whole zero (line_feed ∷ tokens) = ap (λ t. line_feed ∷ t) (cut_whole zero tokens)
 cut_whole depth (opening ∷ tokens) = front_whole opening (cut_from (suc depth) tokens).ended _ _ (cut_whole (suc depth) tokens)
-cut_whole (suc depth) (closing ∷ tokens) = front_whole closing (cut_from depth tokens).ended _ _ (cut_whole depth tokens)
+cut_whole (suc depth) (closing ∷ tokens) = search (rules, front_whole, cut_whole depth tokens)
 cut_whole depth (p ∷ tokens) = front_whole p (cut_from depth tokens).ended _ _ (cut_whole depth tokens)
 
 -- ---- ended entries: cut again with more after them they are the first, they end in a line feed,
@@ -50,25 +50,20 @@ none_ended : (depth : ℕ) → AreEnded depth []
 none_ended depth = record { each = tt; ends = tt; again = λ entry rest more e. absurd cc }
 
 line_after : (tokens : List Token) → EndInLineFeed tokens → EndInLineFeed (line_feed ∷ tokens)
-line_after [] ends = tt
-line_after (p ∷ tokens) ends = ends
+line_after tokens ends = search rules
 
 pub again_zero : (ended : List (List Token)) (more : List Token) → AreEnded zero ended → cut_from zero (joined ended ++ more) ≡ record { ended = ended ++ (cut_from zero more).ended; open_tokens = (cut_from zero more).open_tokens }
 again_zero [] more are = refl
 again_zero (entry ∷ ended) more are = are.again entry ended more refl
 
 line_ended : (ended : List (List Token)) → AreEnded zero ended → AreEnded zero ((line_feed ∷ []) ∷ ended)
-line_ended ended are = record {
-  each = (omega arith, are.each);
-  ends = line_after (joined ended) are.ends;
-  again = λ entry rest more e. ap ending_one (again_zero ended more are);
-}
+line_ended ended are = search (rules, line_after, again_zero)
 
 pub cut_ended : (depth : ℕ) (tokens : List Token) → AreEnded depth (cut_from depth tokens).ended
 cut_ended depth [] = none_ended depth
-cut_ended zero (line_feed ∷ tokens) = line_ended (cut_from zero tokens).ended (cut_ended zero tokens)
+cut_ended zero (line_feed ∷ tokens) = search (rules, line_ended, cut_ended zero tokens)
 cut_ended depth (opening ∷ tokens) = front_ended depth (suc depth) opening (cut_from (suc depth) tokens).ended _ (λ ps. refl) (cut_ended (suc depth) tokens)
-cut_ended (suc depth) (closing ∷ tokens) = front_ended (suc depth) depth closing (cut_from depth tokens).ended _ (λ ps. refl) (cut_ended depth tokens)
+cut_ended (suc depth) (closing ∷ tokens) = search (rules, front_ended, cut_ended depth tokens)
 cut_ended depth (p ∷ tokens) = front_ended depth depth p (cut_from depth tokens).ended _ (λ ps. refl) (cut_ended depth tokens)
 
 -- the ended entries of tokens are the first where others follow them
@@ -90,17 +85,16 @@ ended_depth depth last [] d entry rest e = absurd cc
 ended_depth zero last (line_feed ∷ tokens) d entry rest e = depth_zero (cut_from zero tokens).ended (ended_depth zero last tokens d)
 ended_depth depth last (opening ∷ tokens) d entry rest e = front_depth depth (suc depth) opening (cut_from (suc depth) tokens).ended (cut_from (suc depth) tokens).open_tokens (λ ps. refl) (ended_depth (suc depth) last tokens d) entry rest e
 ended_depth zero last (closing ∷ tokens) d entry rest e = absurd cc
-ended_depth (suc depth) last (closing ∷ tokens) d entry rest e = front_depth (suc depth) depth closing (cut_from depth tokens).ended (cut_from depth tokens).open_tokens (λ ps. refl) (ended_depth depth last tokens d) entry rest e
+ended_depth (suc depth) last (closing ∷ tokens) d entry rest e = search (rules, front_depth, ended_depth depth last tokens d)
 ended_depth depth last (p ∷ tokens) d entry rest e = front_depth depth depth p (cut_from depth tokens).ended (cut_from depth tokens).open_tokens (λ ps. refl) (ended_depth depth last tokens d) entry rest e
 
 pub ended_at_zero : (last : ℕ) (tokens : List Token) → depth_after zero tokens ≡ Some last → depth_after zero (joined (cut_from zero tokens).ended) ≡ Some zero
-ended_at_zero last tokens d = depth_zero (cut_from zero tokens).ended (ended_depth zero last tokens d)
+ended_at_zero last tokens d = search (rules, depth_zero, ended_depth)
 
 -- ---- their lines
 
 pub and_last_after : (ended more : List (List Token)) (others : List Token) → and_last (ended ++ more) others ≡ ended ++ and_last more others
-and_last_after ended more [] = refl
-and_last_after ended more (p ∷ others) = append_assoc ended more ((p ∷ others) ∷ [])
+and_last_after ended more others = grind (arith, common_steps)
 
 -- entries with others after them have the lines that they have by themselves
 pub numbered_front : (line : ℕ) (ended more : List (List Token)) → (others : List Entry) × (numbered line (ended ++ more) ≡ numbered line ended ++ others)

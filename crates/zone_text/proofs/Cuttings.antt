@@ -1,7 +1,8 @@
 -- The whole text: the cutting and what it says, both ways.
-use Rattle.std.proofs.Common.{◌≡◌, ℕ, zero, suc, ◌-◌, ◌<◌, List, [], ◌∷◌, ◌++◌, length, Option, Some, None, refl, sym, ap, ◌∙◌, subst, arith, append_assoc, length-append, ◌⊎◌, inl, inr}
+use Rattle.std.proofs.Common.{◌≡◌, ℕ, zero, suc, ◌-◌, ◌<◌, List, [], ◌∷◌, ◌++◌, length, Option, Some, None, refl, sym, ap, ◌∙◌, subst, arith, append_assoc, length-append, ◌⊎◌, inl, inr, rules}
 use Rattle.std.specs.List.{AllByRecursion}
 use Rattle.std.proofs.lemmas.Bool.{both_ways}
+use Rattle.std.proofs.lemmas.Grind.{common_steps}
 use Rattle.std.proofs.lemmas.List.{append-nil}
 use Rattle.zone_name.specs.Spelling.{Written, plain, text_of, written_text}
 use Rattle.zone_rdata.specs.declared.fault.Fault.{Fault}
@@ -16,13 +17,7 @@ use Rattle.zone_text.proofs.Fronts.{EndsComment, Stops, HasRoom, Takes, Ends, Is
 -- a written octet stands at the beginning
 unit_stands : (units : List Written) (rest : List ℕ) → IsToken (bare units) → NoUnit ends_item (written_text units ++ rest) → ⊥
 unit_stands [] rest is none = omega (arith, is.0)
-unit_stands (w ∷ units) rest is none =
-    let P : List ℕ → Type 0 = NoUnit ends_item in
-    let found = first_of_unit ends_item w (written_text units ++ rest) refl is.1.0 in
-    let lost = first_of_none ends_item (text_of w ++ (written_text units ++ rest)) refl (subst P (append_assoc (text_of w) (written_text units) rest) none) in
-    let first : Written × List ℕ = (w, written_text units ++ rest) in
-    let some_is_none : Some first ≡ None = sym found ∙ lost in
-    cc
+unit_stands (w ∷ units) rest is none = grind (arith, common_steps)
 
 -- a bare item begins with no line feed
 no_line_feed : (units : List Written) (rest : List ℕ) → IsToken (bare units) → EndsComment (written_text units ++ rest) → ⊥
@@ -55,8 +50,7 @@ after_bare units (bare more) rest is may = absurd may
 after_bare units (quoted more) rest is may = at_octet 34 ((written_text more ++ 34 ∷ []) ++ rest) refl refl
 
 comment_passed : (octets : List ℕ) (q : Token) (rest : List ℕ) → MayFollow (comment octets) q → EndsComment (token_text q ++ rest)
-comment_passed octets line_feed rest may = refl
-comment_passed octets q rest may = absurd may
+comment_passed octets q rest may = search rules
 
 next_stops : (p q : Token) (rest : List ℕ) → IsToken q → MayFollow p q → Stops p (token_text q ++ rest)
 next_stops (comment octets) q rest is may = comment_passed octets q rest may
@@ -68,21 +62,16 @@ next_stops p q rest is may = tt
 ends_bare : (depth : ℕ) (rest : List ℕ) (fault : Fault) → IsBroken depth rest fault → NoUnit ends_item rest
 ends_bare depth rest fault (closes_nothing after e whole) = at_octet 41 after whole refl
 ends_bare depth rest fault (no_escape bad) = at_backslash bad
-ends_bare depth rest fault (no_quoted_escape units after each whole bad) = at_octet 34 (written_text units ++ after) whole refl
+ends_bare depth rest fault (no_quoted_escape units after each whole bad) = search (rules, at_octet)
 ends_bare depth rest fault (no_quote units each whole) = at_octet 34 (written_text units) whole refl
 ends_bare depth rest fault (not_closed some whole) = at_end whole
 
 -- what breaks a text begins with no line feed
 breaks_no_line_feed : (depth c : ℕ) (rest : List ℕ) (fault : Fault) → IsBroken depth (c ∷ rest) fault → c ≡ 10 → ⊥
-breaks_no_line_feed depth c rest fault (closes_nothing after e whole) is = let same : c ≡ 41 = cc in omega arith
-breaks_no_line_feed depth c rest fault (no_escape bad) is = let e : c ∷ rest ≡ 92 ∷ bad.0 = bad.1 in let same : c ≡ 92 = cc in omega arith
-breaks_no_line_feed depth c rest fault (no_quoted_escape units after each whole bad) is = let same : c ≡ 34 = cc in omega arith
-breaks_no_line_feed depth c rest fault (no_quote units each whole) is = let same : c ≡ 34 = cc in omega arith
-breaks_no_line_feed depth c rest fault (not_closed some whole) is = cc
+breaks_no_line_feed depth c rest fault h is = search rules
 
 ends_comment : (depth : ℕ) (rest : List ℕ) (fault : Fault) → IsBroken depth rest fault → EndsComment rest → rest ≡ []
-ends_comment depth [] fault broken ends = refl
-ends_comment depth (c ∷ rest) fault broken ends = absurd (breaks_no_line_feed depth c rest fault broken ends)
+ends_comment depth rest fault broken ends = search rules
 
 stops_at_end : (p : Token) (depth : ℕ) (rest : List ℕ) (fault : Option Fault) → Ends depth rest fault → MayEndBefore (p ∷ []) rest → Stops p rest
 stops_at_end (comment octets) depth rest fault ends last = subst EndsComment (sym last) tt
@@ -91,21 +80,15 @@ stops_at_end (bare units) depth rest (Some fault) ends last = ends_bare depth re
 stops_at_end p depth rest fault ends last = tt
 
 ends_at_stop : (p : Token) (depth : ℕ) (rest : List ℕ) (fault : Option Fault) → Ends depth rest fault → Stops p rest → MayEndBefore (p ∷ []) rest
-ends_at_stop (comment octets) depth rest None ends stop = ends.1
-ends_at_stop (comment octets) depth rest (Some fault) ends stop = ends_comment depth rest fault ends stop
-ends_at_stop p depth rest fault ends stop = tt
+ends_at_stop p depth rest fault ends stop = search rules
 
 -- ---- depths
 
 pub depth_on : (depth : ℕ) (p : Token) (tokens : List Token) → HasRoom depth p → depth_after depth (p ∷ tokens) ≡ depth_after (depth_past depth p) tokens
-depth_on zero closing tokens room = absurd (omega arith)
-depth_on (suc depth) closing tokens room = let e : depth ≡ suc depth - 1 = omega arith in ap (λ d. depth_after d tokens) e
-depth_on depth p tokens room = refl
+depth_on depth p tokens room = search rules
 
 pub room_of : (depth at : ℕ) (p : Token) (tokens : List Token) → depth_after depth (p ∷ tokens) ≡ Some at → HasRoom depth p
-room_of zero at closing tokens e = absurd (let none_is_some : None ≡ Some at = e in cc)
-room_of (suc depth) at closing tokens e = omega arith
-room_of depth at p tokens e = tt
+room_of depth at p tokens e = search rules
 
 -- ---- the whole text
 
@@ -121,36 +104,23 @@ pub record IsCut (depth : ℕ) (octets : List ℕ) (tokens : List Token) (fault 
   pub ends : Ends at rest fault
 
 pub no_token : (depth : ℕ) (octets : List ℕ) (fault : Option Fault) → Ends depth octets fault → IsCut depth octets [] fault
-no_token depth octets fault ends = record {
-  rest = octets;
-  at = depth;
-  whole = refl;
-  each = tt;
-  follow = tt;
-  last = tt;
-  parentheses = refl;
-  ends = ends;
-}
+no_token depth octets fault ends = search rules
 
 pub text_on : (octets rest after : List ℕ) (p : Token) (tokens : List Token) → octets ≡ token_text p ++ rest → rest ≡ text tokens ++ after → octets ≡ text (p ∷ tokens) ++ after
-text_on octets rest after p tokens e more = e ∙ ap (λ t. token_text p ++ t) more ∙ sym (append_assoc (token_text p) (text tokens) after)
+text_on octets rest after p tokens e more = grind (arith, common_steps)
 
 follow_on : (p : Token) (tokens : List Token) (rest after : List ℕ) → Stops p rest → rest ≡ text tokens ++ after → AllByRecursion IsToken tokens → AllFollow tokens → AllFollow (p ∷ tokens)
-follow_on p [] rest after stop whole each follow = tt
-follow_on p (q ∷ tokens) rest after stop whole each follow =
-    (follows p q (text tokens ++ after) each.0 (subst (Stops p) (whole ∙ append_assoc (token_text q) (text tokens) after) stop), follow)
+follow_on p tokens rest after stop whole each follow = search (rules, follows, append_assoc)
 
 -- only the last token matters
 pub last_same : (p q : Token) (tokens : List Token) (after : List ℕ) → MayEndBefore (p ∷ q ∷ tokens) after ≡ MayEndBefore (q ∷ tokens) after
-last_same (blank c) q tokens after = refl
-last_same p q tokens after = refl
+last_same p q tokens after = cc
 
 pub last_in_front : (p q : Token) (tokens : List Token) (after : List ℕ) → MayEndBefore (q ∷ tokens) after → MayEndBefore (p ∷ q ∷ tokens) after
 last_in_front p q tokens after last = subst (λ P. P) (sym (last_same p q tokens after)) last
 
 last_on : (p : Token) (tokens : List Token) (depth : ℕ) (rest after : List ℕ) (fault : Option Fault) → Stops p rest → rest ≡ text tokens ++ after → Ends depth after fault → MayEndBefore tokens after → MayEndBefore (p ∷ tokens) after
-last_on p [] depth rest after fault stop whole ends last = ends_at_stop p depth after fault ends (subst (Stops p) whole stop)
-last_on p (q ∷ tokens) depth rest after fault stop whole ends last = last_in_front p q tokens after last
+last_on p tokens depth rest after fault stop whole ends last = search rules
 
 pub one_token_more : (depth : ℕ) (octets rest : List ℕ) (p : Token) (tokens : List Token) (fault : Option Fault) → Takes depth octets p rest → IsCut (depth_past depth p) rest tokens fault → IsCut depth octets (p ∷ tokens) fault
 one_token_more depth octets rest p tokens fault front more = record {
@@ -166,16 +136,14 @@ one_token_more depth octets rest p tokens fault front more = record {
 
 some_octet : (p : Token) → IsToken p → 0 < length (token_text p)
 some_octet (bare []) is = absurd (omega (arith, is.0))
-some_octet (bare (w ∷ units)) is = omega (arith, text_of-some w, length-append (text_of w) (written_text units))
+some_octet (bare (w ∷ units)) is = search rules
 some_octet p is = omega arith
 
 pub shorter : (octets rest : List ℕ) (p : Token) → IsToken p → octets ≡ token_text p ++ rest → length rest < length octets
-shorter octets rest p is e = omega (arith, ap length e, length-append (token_text p) rest, some_octet p is)
+shorter octets rest p is e = search (rules, length-append, some_octet)
 
 cut_by_front : (depth : ℕ) (octets : List ℕ) (go_on : ℕ → List ℕ → Cutting) (front : Front) → IsFront depth octets front → ((at : ℕ) (rest : List ℕ) → length rest < length octets → IsCut at rest (go_on at rest).tokens (go_on at rest).broken) → IsCut depth octets (cut_on go_on depth front).tokens (cut_on go_on depth front).broken
-cut_by_front depth octets go_on (stops fault) is more = no_token depth octets fault is
-cut_by_front depth octets go_on (takes p rest) is more =
-    one_token_more depth octets rest p (go_on (depth_past depth p) rest).tokens (go_on (depth_past depth p) rest).broken is (more (depth_past depth p) rest (shorter octets rest p is.token is.whole))
+cut_by_front depth octets go_on front is more = search (rules, no_token, one_token_more, shorter)
 
 cut_is : (n depth : ℕ) (octets : List ℕ) → length octets < n → IsCut depth octets (cut_by n depth octets).tokens (cut_by n depth octets).broken
 unfolding cut_by
@@ -184,26 +152,18 @@ cut_is (suc n) depth octets enough = cut_by_front depth octets (cut_by n) (front
 
 -- what follows a token ends it
 stop_of : (p : Token) (tokens : List Token) (depth : ℕ) (after : List ℕ) (fault : Option Fault) → AllByRecursion IsToken tokens → AllFollow (p ∷ tokens) → MayEndBefore (p ∷ tokens) after → Ends depth after fault → Stops p (text tokens ++ after)
-stop_of p [] depth after fault each follow last ends = stops_at_end p depth after fault ends last
-stop_of p (q ∷ tokens) depth after fault each follow last ends =
-    subst (Stops p) (sym (append_assoc (token_text q) (text tokens) after)) (next_stops p q (text tokens ++ after) each.0 follow.0)
+stop_of p tokens depth after fault each follow last ends = search (rules, stops_at_end, append_assoc, next_stops)
 
 pub follow_after : (p : Token) (tokens : List Token) → AllFollow (p ∷ tokens) → AllFollow tokens
-follow_after p [] follow = tt
-follow_after p (q ∷ tokens) follow = follow.1
+follow_after p tokens follow = search rules
 
 pub last_after : (p : Token) (tokens : List Token) (after : List ℕ) → MayEndBefore (p ∷ tokens) after → MayEndBefore tokens after
-last_after p [] after last = tt
-last_after p (q ∷ tokens) after last = subst (λ P. P) (last_same p q tokens after) last
+last_after p tokens after last = search rules
 
 cut_only : (tokens : List Token) (n depth : ℕ) (octets : List ℕ) (fault : Option Fault) → length octets < n → IsCut depth octets tokens fault → cut_by n depth octets ≡ record { tokens = tokens; broken = fault }
 unfolding cut_by
 cut_only tokens zero depth octets fault enough is = absurd (omega arith)
-cut_only [] (suc n) depth octets fault enough is =
-    let some : Some is.at ≡ Some depth = sym is.parentheses in
-    let same : is.at ≡ depth = cc in
-    let at_depth : Ends depth is.rest fault = subst (λ d. Ends d is.rest fault) same is.ends in
-    ap (cut_on (cut_by n) depth) (front_stops depth octets fault (subst (λ t. Ends depth t fault) (sym is.whole) at_depth))
+cut_only [] (suc n) depth octets fault enough is = search (rules, front_stops)
 cut_only (p ∷ tokens) (suc n) depth octets fault enough is =
     let rest : List ℕ = text tokens ++ is.rest in
     let room : HasRoom depth p = room_of depth is.at p tokens is.parentheses in
@@ -231,7 +191,7 @@ cutting_is octets = cut_is (suc (length octets)) zero octets (omega arith)
 
 pub cutting_only : (octets : List ℕ) (tokens : List Token) (fault : Option Fault) → IsCut zero octets tokens fault → cutting octets ≡ record { tokens = tokens; broken = fault }
 unfolding cutting
-cutting_only octets tokens fault is = cut_only tokens (suc (length octets)) zero octets fault (omega arith) is
+cutting_only octets tokens fault is = search (rules, cut_only)
 
 -- ---- cut or broken
 
@@ -241,54 +201,22 @@ last_of_whole (p ∷ q ∷ tokens) = last_in_front p q tokens [] (last_of_whole 
 last_of_whole tokens = tt
 
 pub is_cut : (octets : List ℕ) (tokens : List Token) → Cuts octets tokens → IsCut zero octets tokens None
-is_cut octets tokens cut = record {
-  rest = [];
-  at = zero;
-  whole = cut.whole ∙ sym (append-nil (text tokens));
-  each = cut.each;
-  follow = cut.follow;
-  last = last_of_whole tokens;
-  parentheses = cut.balanced;
-  ends = (refl, refl);
-}
+is_cut octets tokens cut = search (rules, append-nil, last_of_whole)
 
 pub cuts : (octets : List ℕ) (tokens : List Token) → IsCut zero octets tokens None → Cuts octets tokens
-cuts octets tokens is = record {
-  whole = is.whole ∙ (ap (λ t. text tokens ++ t) is.ends.1 ∙ append-nil (text tokens));
-  each = is.each;
-  follow = is.follow;
-  balanced = is.parentheses ∙ ap Some is.ends.0;
-}
+cuts octets tokens is = search rules
 
 pub is_broken : (octets : List ℕ) (tokens : List Token) (fault : Fault) → Breaks octets tokens fault → IsCut zero octets tokens (Some fault)
-is_broken octets tokens fault breaks = record {
-  rest = breaks.rest;
-  at = breaks.depth;
-  whole = breaks.whole;
-  each = breaks.each;
-  follow = breaks.follow;
-  last = breaks.last;
-  parentheses = breaks.parentheses;
-  ends = breaks.broken;
-}
+is_broken octets tokens fault breaks = search rules
 
 pub breaks : (octets : List ℕ) (tokens : List Token) (fault : Fault) → IsCut zero octets tokens (Some fault) → Breaks octets tokens fault
-breaks octets tokens fault is = record {
-  rest = is.rest;
-  depth = is.at;
-  whole = is.whole;
-  each = is.each;
-  follow = is.follow;
-  last = is.last;
-  parentheses = is.parentheses;
-  broken = is.ends;
-}
+breaks octets tokens fault is = search rules
 
 pub reads_cut : (octets : List ℕ) (tokens : List Token) → Cuts octets tokens → cutting octets ≡ record { tokens = tokens; broken = None }
 reads_cut octets tokens cut = cutting_only octets tokens None (is_cut octets tokens cut)
 
 pub reads_broken : (octets : List ℕ) (tokens : List Token) (fault : Fault) → Breaks octets tokens fault → cutting octets ≡ record { tokens = tokens; broken = Some fault }
-reads_broken octets tokens fault broken = cutting_only octets tokens (Some fault) (is_broken octets tokens fault broken)
+reads_broken octets tokens fault broken = search (rules, cutting_only, is_broken)
 
 pub cut_is_read : (octets : List ℕ) (tokens : List Token) → cutting octets ≡ record { tokens = tokens; broken = None } → Cuts octets tokens
 cut_is_read octets tokens e =

@@ -1,5 +1,5 @@
 -- What is decided of a prefix, and the octets that it leaves, are one thing.
-use Rattle.std.proofs.Common.{◌≡◌, ◌↔◌, ℕ, zero, List, [], ◌++◌, None, sym, ap, ◌∙◌, subst, inl, inr}
+use Rattle.std.proofs.Common.{◌≡◌, ◌↔◌, ℕ, zero, List, [], ◌++◌, None, sym, ap, ◌∙◌, subst, inl, inr, rules}
 use Rattle.std.specs.List.{flat_map}
 use Rattle.std.proofs.lemmas.List.{append-nil, append_cancel_left}
 use Rattle.zone_rdata.specs.declared.record.Placed.{Placed}
@@ -50,12 +50,7 @@ pub cut_after_all : (tokens more : List Token) → (cut_from zero tokens).open_t
 cut_after_all tokens more none = ap (λ p. cut_from zero (p ++ more)) (sym (cut_whole zero tokens) ∙ ap (λ t. joined (cut_from zero tokens).ended ++ t) none ∙ append-nil (joined (cut_from zero tokens).ended)) ∙ cut_again tokens more
 
 pub ended_on_after : (tokens more : List Token) → (cut_from zero tokens).open_tokens ≡ [] → ended_entries (tokens ++ more) ≡ ended_entries tokens ++ numbered (open_line tokens) (cut_from zero more).ended
-ended_on_after tokens more none =
-    ap (λ (c : Cut). numbered 1 c.ended) (cut_after_all tokens more none)
-    ∙ numbered_then 1 (cut_from zero tokens).ended (cut_from zero more).ended
+ended_on_after tokens more none = search (rules, cut_after_all, numbered_then)
 
 pub entries_on_after : (tokens more : List Token) → (cut_from zero tokens).open_tokens ≡ [] → entries_of (tokens ++ more) ≡ ended_entries tokens ++ numbered (open_line tokens) (and_last (cut_from zero more).ended (cut_from zero more).open_tokens)
-entries_on_after tokens more none =
-    ap (λ (c : Cut). numbered 1 (and_last c.ended c.open_tokens)) (cut_after_all tokens more none)
-    ∙ ap (numbered 1) (and_last_after (cut_from zero tokens).ended (cut_from zero more).ended (cut_from zero more).open_tokens)
-    ∙ numbered_then 1 (cut_from zero tokens).ended (and_last (cut_from zero more).ended (cut_from zero more).open_tokens)
+entries_on_after tokens more none = search (rules, cut_after_all, and_last_after, numbered_then)

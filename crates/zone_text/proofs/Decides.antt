@@ -1,5 +1,5 @@
 -- What is decided of a prefix stays, whatever octets follow it.
-use Rattle.std.proofs.Common.{◌≡◌, ℕ, zero, List, [], ◌∷◌, ◌++◌, Some, None, inl, inr, sym, ◌∙◌, ap, subst, append_assoc}
+use Rattle.std.proofs.Common.{◌≡◌, ℕ, zero, List, [], ◌∷◌, ◌++◌, Some, None, inl, inr, sym, ◌∙◌, ap, subst, append_assoc, rules}
 use Rattle.std.proofs.lemmas.List.{append-nil}
 use Rattle.zone_rdata.specs.declared.fault.Fault.{Fault}
 use Rattle.zone_rdata.specs.declared.fault.Place.TheVariants.{Line}
@@ -21,16 +21,10 @@ use Rattle.zone_text.proofs.Files.{reads_once, one_more}
 -- ---- the readings of entries and of the same with others after them
 
 one_front : (p q : Placed) (a b more others rest : List Placed) → p.rr ≡ q.rr → p.place ≡ q.place → a ≡ p ∷ more → b ≡ q ∷ others → others ≡ more ++ rest → b ≡ a ++ rest
-one_front p q a b more others rest rr place x y e =
-    let left : a ++ rest ≡ p ∷ (more ++ rest) = ap (λ t. t ++ rest) x in
-    one_more q p b (a ++ rest) others (more ++ rest) (sym rr) (sym place) y left e
+one_front p q a b more others rest rr place x y e = search rules
 
 stays_on : (p q : Placed) (a b more others : List Placed) (e f : Ending) → p.rr ≡ q.rr → p.place ≡ q.place → a ≡ p ∷ more → b ≡ q ∷ others → Stays more e others f → Stays a e b f
-stays_on p q a b more others e f rr place x y stays = record {
-  others = stays.others;
-  first = one_front p q a b more others stays.others rr place x y stays.first;
-  fault = λ found is. let rest = stays.fault found is in (one_more q p b a others more (sym rr) (sym place) y x rest.0, rest.1);
-}
+stays_on p q a b more others e f rr place x y stays = search rules
 
 pub reads_on : Lower → (origin : List (List ℕ)) (after : Ending) (before entries others : List Entry) (a b : List Placed) (e f : Ending) → ReadEach origin None before entries a e → ReadEach origin after before (entries ++ others) b f → Stays a e b f
 reads_on lower origin after before [] others a b e f x y = record {
@@ -83,8 +77,8 @@ GoesOn tokens all = (others : List Token) × (all ≡ joined (cut_from zero toke
 
 pub tokens_of : (octets : List ℕ) (all other : List Token) → AreTokens octets all → AreTokens octets other → all ≡ other
 tokens_of octets all other (inl x) (inl y) = one_cut octets all other x y
-tokens_of octets all other (inl x) (inr (fault, y)) = absurd (cut_not_broken octets all other fault x y)
-tokens_of octets all other (inr (fault, x)) (inl y) = absurd (cut_not_broken octets other all fault y x)
+tokens_of octets all other (inl x) (inr (fault, y)) = search (rules, cut_not_broken)
+tokens_of octets all other (inr (fault, x)) (inl y) = search (rules, cut_not_broken)
 tokens_of octets all other (inr (fault, x)) (inr (another, y)) = (one_break octets all other fault another x y).0
 
 joined_tokens : (front rest : List ℕ) (tokens : List Token) → Cuts front (joined (cut_from zero tokens).ended) → (others : List Token) × AreTokens (front ++ rest) (joined (cut_from zero tokens).ended ++ others)
@@ -116,7 +110,7 @@ entries_on tokens all (others, e) =
 
 -- the same reading stays
 same_stays : (a b : List Placed) (e f : Ending) → (a ≡ b) × (e ≡ f) → Stays a e b f
-same_stays a b e f same = record { others = []; first = sym same.0 ∙ sym (append-nil a); fault = λ found is. (sym same.0, sym same.1) }
+same_stays a b e f same = search rules
 
 pub broken_once : Lower → (origin : List (List ℕ)) (octets : List ℕ) (tokens all : List Token) (fault other : Fault) (a b : List Placed) (e f : Ending) → Breaks octets tokens fault → Breaks octets all other → ReadEach origin (Some (fault, Line (open_line tokens))) [] (ended_entries tokens) a e → ReadEach origin (Some (other, Line (open_line all))) [] (ended_entries all) b f → (a ≡ b) × (e ≡ f)
 broken_once lower origin octets tokens all fault other a b e f x y xs ys =

@@ -1,5 +1,5 @@
 -- An entry states a record, states nothing or has a fault: one of the three at most, and each once.
-use Rattle.std.proofs.Common.{◌≡◌, ℕ, List, [], ◌∷◌, Option, Some, None, Ok, Err, ◌⊎◌, inl, inr, refl, sym, ◌∙◌, subst, ◌≤◌, Result, ap, arith}
+use Rattle.std.proofs.Common.{◌≡◌, ℕ, List, [], ◌∷◌, Option, Some, None, Ok, Err, ◌⊎◌, inl, inr, refl, sym, ◌∙◌, subst, ◌≤◌, Result, ap, arith, rules}
 use Rattle.std.specs.List.{AllByRecursion}
 use Rattle.zone_name.specs.Spelling.{SpellingFault}
 use Rattle.zone_rdata.specs.Record.{Record}
@@ -73,8 +73,8 @@ word_or_fault lower (class text) f x y =
 words_fault_once : Lower → (words : List Word) → Once Fault (WordsFault words)
 words_fault_once lower [] f g x y = absurd x
 words_fault_once lower (word ∷ words) f g (inl x) (inl y) = word_fault_once word f g x y
-words_fault_once lower (word ∷ words) f g (inl x) (inr y) = absurd (word_or_fault lower word f y.0 x)
-words_fault_once lower (word ∷ words) f g (inr x) (inl y) = absurd (word_or_fault lower word g x.0 y)
+words_fault_once lower (word ∷ words) f g (inl x) (inr y) = search (rules, word_or_fault)
+words_fault_once lower (word ∷ words) f g (inr x) (inl y) = search (rules, word_or_fault)
 words_fault_once lower (word ∷ words) f g (inr x) (inr y) = words_fault_once lower words f g x.1 y.1
 
 words_or_fault : Lower → (words : List Word) (fault : Fault) → AllByRecursion HasValue words → WordsFault words fault → ⊥
@@ -137,10 +137,7 @@ found_once lower origin before entry k (a, xs) (b, ys) x y =
     cc
 
 refused_once : Lower → (origin : List (List ℕ)) (before : List Entry) (entry : Entry) (k : KindAnd) → Once Fault (Refused origin before entry k)
-refused_once lower origin before entry k f g x y =
-    let above : x.above ≡ y.above = origin_once lower origin before x.above y.above x.under y.under in
-    let number : x.number ≡ y.number = class_once lower before entry x.number y.number x.class y.class in
-    lower.rdata_fault y.above y.number k.0 k.1 f g (rw (← above, ← number) (x.first)) y.first
+refused_once lower origin before entry k f g x y = search (rules, origin_once, class_once)
 
 found_or_refused : Lower → (origin : List (List ℕ)) (before : List Entry) (entry : Entry) (k : KindAnd) (d : ℕ × List ℕ) (fault : Fault) → Found origin before entry k d → Refused origin before entry k fault → ⊥
 found_or_refused lower origin before entry k d f x y =
@@ -170,11 +167,7 @@ ttl_fault_once lower origin before entry f g x y = both f g x y
     both f g (long n has over) y = of_long g n has y
 
 ttl_or_fault : Lower → (origin : List (List ℕ)) (before : List Entry) (entry : Entry) (n : ℕ) (fault : Fault) → HasGoodTtl origin before entry n → TtlFault origin before entry fault → ⊥
-ttl_or_fault lower origin before entry n f x (none missing) = missing n x.has
-ttl_or_fault lower origin before entry n f x (long m has over) =
-    let same : n ≡ m = ttl_once lower origin before entry n m x.has has in
-    let short : n ≤ 2147483647 = x.short in
-    absurd (omega arith)
+ttl_or_fault lower origin before entry n f x h = search (rules, ttl_once)
 
 -- a record entry, step by step: owner, words, type, data, TTL
 
@@ -223,9 +216,7 @@ owner_fault_parts origin before form fault h = absurd h
 
 faulty_steps : (origin : List (List ℕ)) (before : List Entry) (entry : Entry) (fault : Fault) → EntryFault origin before entry fault → DirectiveFault origin before (statement_of entry) fault ⊎ FaultySteps origin before entry fault
 faulty_steps origin before entry fault (of_directive h) = inl h
-faulty_steps origin before entry fault (of_owner h) =
-    let has = owner_fault_parts origin before (statement_of entry) fault h in
-    inr (record { parts = has.0; split = has.1; steps = inr (fault, (h, refl)) })
+faulty_steps origin before entry fault (of_owner h) = search (rules, owner_fault_parts)
 faulty_steps origin before entry fault (of_words owner parts is split h) =
     inr (record { parts = parts; split = split; steps = inl (owner, (is, inr (fault, (h, refl)))) })
 faulty_steps origin before entry fault (of_kind owner parts is split words h) =
@@ -239,7 +230,7 @@ faulty_steps origin before entry fault (of_ttl head octets has states h) =
 
 item_fault_once : Lower → (origin : List (List ℕ)) (before : List Entry) (o : Option (List ℕ)) → Once Fault (OriginFault origin before o)
 item_fault_once lower origin before None f g x y = x ∙ sym y
-item_fault_once lower origin before (Some text) f g x y = name_fault_once lower origin before text f g x y
+item_fault_once lower origin before (Some text) f g x y = search (rules, name_fault_once)
 
 default_fault_once : (o : Option (List ℕ)) → Once Fault (DefaultTtlFault o)
 default_fault_once None f g x y = x ∙ sym y
@@ -254,15 +245,10 @@ directive_fault_once lower origin before form f g x y = absurd x
 
 -- a directive has no parts of a record
 directive_or_record : (origin : List (List ℕ)) (before : List Entry) (form : Statement) (fault : Fault) (parts : Parts) → DirectiveFault origin before form fault → parts_in form ≡ Some parts → ⊥
-directive_or_record origin before no_items fault parts x split = x
-directive_or_record origin before (owned owner items) fault parts x split = x
-directive_or_record origin before (unowned items) fault parts x split = x
-directive_or_record origin before form fault parts x split = cc
+directive_or_record origin before form fault parts x split = search rules
 
 pub nothing_or_parts : (origin : List (List ℕ)) (before : List Entry) (form : Statement) (parts : Parts) → StatesNothing origin before form → parts_in form ≡ Some parts → ⊥
-nothing_or_parts origin before (owned owner items) parts x split = x
-nothing_or_parts origin before (unowned items) parts x split = x
-nothing_or_parts origin before form parts x split = cc
+nothing_or_parts origin before form parts x split = search rules
 
 nothing_or_directive : Lower → (origin : List (List ℕ)) (before : List Entry) (form : Statement) (fault : Fault) → StatesNothing origin before form → DirectiveFault origin before form fault → ⊥
 nothing_or_directive lower origin before (sets_origin (bare text ∷ [])) fault x y = name_or_fault lower origin before text x.0 fault x.1 y
@@ -289,13 +275,13 @@ steps_once lower origin before entry f g x y =
     cc
 
 either_once : Lower → (origin : List (List ℕ)) (before : List Entry) (entry : Entry) (f g : Fault) → DirectiveFault origin before (statement_of entry) f ⊎ FaultySteps origin before entry f → DirectiveFault origin before (statement_of entry) g ⊎ FaultySteps origin before entry g → f ≡ g
-either_once lower origin before entry f g (inl x) (inl y) = directive_fault_once lower origin before (statement_of entry) f g x y
-either_once lower origin before entry f g (inl x) (inr y) = absurd (directive_or_record origin before (statement_of entry) f y.parts x y.split)
-either_once lower origin before entry f g (inr x) (inl y) = absurd (directive_or_record origin before (statement_of entry) g x.parts y x.split)
-either_once lower origin before entry f g (inr x) (inr y) = steps_once lower origin before entry f g x y
+either_once lower origin before entry f g (inl x) (inl y) = search (rules, directive_fault_once)
+either_once lower origin before entry f g (inl x) (inr y) = search rules
+either_once lower origin before entry f g (inr x) (inl y) = search rules
+either_once lower origin before entry f g (inr x) (inr y) = search (rules, steps_once)
 
 pub fault_once : Lower → (origin : List (List ℕ)) (before : List Entry) (entry : Entry) → Once Fault (EntryFault origin before entry)
-fault_once lower origin before entry f g x y = either_once lower origin before entry f g (faulty_steps origin before entry f x) (faulty_steps origin before entry g y)
+fault_once lower origin before entry f g x y = search (rules, either_once, faulty_steps)
 
 record_or_steps : Lower → (origin : List (List ℕ)) (before : List Entry) (entry : Entry) (r : Record) (fault : Fault) → EntryStates origin before entry r → DirectiveFault origin before (statement_of entry) fault ⊎ FaultySteps origin before entry fault → ⊥
 record_or_steps lower origin before entry r f x (inl y) = directive_or_record origin before (statement_of entry) f x.head.parts y x.head.split
@@ -309,11 +295,10 @@ pub record_or_fault : Lower → (origin : List (List ℕ)) (before : List Entry)
 record_or_fault lower origin before entry r f x y = record_or_steps lower origin before entry r f x (faulty_steps origin before entry f y)
 
 pub nothing_or_record : (origin : List (List ℕ)) (before : List Entry) (entry : Entry) (r : Record) → StatesNothing origin before (statement_of entry) → EntryStates origin before entry r → ⊥
-nothing_or_record origin before entry r x y = nothing_or_parts origin before (statement_of entry) y.head.parts x y.head.split
+nothing_or_record origin before entry r x y = search rules
 
 nothing_or_steps : Lower → (origin : List (List ℕ)) (before : List Entry) (entry : Entry) (fault : Fault) → StatesNothing origin before (statement_of entry) → DirectiveFault origin before (statement_of entry) fault ⊎ FaultySteps origin before entry fault → ⊥
-nothing_or_steps lower origin before entry f x (inl y) = nothing_or_directive lower origin before (statement_of entry) f x y
-nothing_or_steps lower origin before entry f x (inr y) = nothing_or_parts origin before (statement_of entry) y.parts x y.split
+nothing_or_steps lower origin before entry f x h = search (rules, nothing_or_directive, nothing_or_parts)
 
 pub nothing_or_fault : Lower → (origin : List (List ℕ)) (before : List Entry) (entry : Entry) (fault : Fault) → StatesNothing origin before (statement_of entry) → EntryFault origin before entry fault → ⊥
-nothing_or_fault lower origin before entry f x y = nothing_or_steps lower origin before entry f x (faulty_steps origin before entry f y)
+nothing_or_fault lower origin before entry f x y = search (rules, nothing_or_steps, faulty_steps)

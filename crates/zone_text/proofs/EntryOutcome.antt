@@ -1,6 +1,6 @@
 -- An entry after others that state nothing or a record has an outcome: nothing, a record or a first
 -- fault.
-use Rattle.std.proofs.Common.{◌≡◌, ℕ, ◌==◌, Bool, true, false, if◌then◌else◌, List, [], ◌∷◌, Option, Some, None, MatchOption, ◌⊎◌, inl, inr, refl, sym, ◌∙◌, ap, subst, ◌<◌, ◌++◌, arith}
+use Rattle.std.proofs.Common.{◌≡◌, ℕ, ◌==◌, Bool, true, false, if◌then◌else◌, List, [], ◌∷◌, Option, Some, None, MatchOption, ◌⊎◌, inl, inr, refl, sym, ◌∙◌, ap, subst, ◌<◌, ◌++◌, arith, rules}
 use Rattle.std.specs.List.{AllByRecursion}
 use Rattle.std.proofs.lemmas.Bool.{cases_lt, cases_eq}
 use Rattle.std.specs.Prelude.{option_and_then}
@@ -36,16 +36,14 @@ abbrev OriginFact : List (List ℕ) → List Entry → Option (List ℕ) → Typ
 OriginFact origin before o = (name : List (List ℕ)) × (MatchOption o (IsOrigin origin before name) (λ text. SpellsAfter origin before text name) × IsName name)
 
 origin_nothing : (origin : List (List ℕ)) (before : List Entry) (form : Statement) → StatesNothing origin before form → ((name : List (List ℕ)) × (IsOrigin origin before name × IsName name)) → OriginFact origin before (origin_text form)
-origin_nothing origin before (sets_origin (bare text ∷ [])) h above = (h.0, (h.1, h.1.1.1.name))
-origin_nothing origin before form h above = above
+origin_nothing origin before form h above = search rules
 
 origin_record : (origin : List (List ℕ)) (before : List Entry) (form : Statement) (parts : Parts) → parts_in form ≡ Some parts → ((name : List (List ℕ)) × (IsOrigin origin before name × IsName name)) → OriginFact origin before (origin_text form)
-origin_record origin before (sets_origin items) parts e above = absurd cc
-origin_record origin before form parts e above = above
+origin_record origin before form parts e above = search rules
 
 origin_by : (origin : List (List ℕ)) (before : List Entry) (entry : Entry) → StatesNothing origin before (statement_of entry) ⊎ ((r : Record) × EntryStates origin before entry r) → ((name : List (List ℕ)) × (IsOrigin origin before name × IsName name)) → (name : List (List ℕ)) × (IsOrigin origin (entry ∷ before) name × IsName name)
-origin_by origin before entry (inl n) above = origin_nothing origin before (statement_of entry) n above
-origin_by origin before entry (inr s) above = origin_record origin before (statement_of entry) s.1.head.parts s.1.head.split above
+origin_by origin before entry (inl n) above = search rules
+origin_by origin before entry (inr s) above = search rules
 
 pub origin_is : (origin : List (List ℕ)) (before : List Entry) → IsName origin → AllState origin before → (name : List (List ℕ)) × (IsOrigin origin before name × IsName name)
 origin_is origin [] is states = (origin, (refl, is))
@@ -57,17 +55,14 @@ abbrev pub OwnerChoice : List (List ℕ) → List Entry → Option (List ℕ) �
 OwnerChoice origin before o = ((name : List (List ℕ)) × (MatchOption o (IsLastOwner origin before name) (λ text. SpellsAfter origin before text name) × IsName name)) ⊎ ((name : List (List ℕ)) → MatchOption o (IsLastOwner origin before name) (λ text. SpellsAfter origin before text name) → ⊥)
 
 owner_nothing : (origin : List (List ℕ)) (before : List Entry) (form : Statement) → StatesNothing origin before form → OwnerChoice origin before None → OwnerChoice origin before (owner_text form)
-owner_nothing origin before (owned owner items) h last = absurd h
-owner_nothing origin before form h last = last
+owner_nothing origin before form h last = search rules
 
 owner_record : (origin : List (List ℕ)) (before : List Entry) (form : Statement) (name : List (List ℕ)) → IsOwner origin before form name → OwnerChoice origin before None → OwnerChoice origin before (owner_text form)
-owner_record origin before (owned (bare text) items) name h last = inl (name, (h, h.1.1.name))
-owner_record origin before (owned (quoted text) items) name h last = absurd h
-owner_record origin before form name h last = last
+owner_record origin before form name h last = search rules
 
 owner_by : (origin : List (List ℕ)) (before : List Entry) (entry : Entry) → StatesNothing origin before (statement_of entry) ⊎ ((r : Record) × EntryStates origin before entry r) → OwnerChoice origin before None → OwnerChoice origin before (owner_text (statement_of entry))
 owner_by origin before entry (inl n) last = owner_nothing origin before (statement_of entry) n last
-owner_by origin before entry (inr s) last = owner_record origin before (statement_of entry) s.0.owner s.1.head.owner last
+owner_by origin before entry (inr s) last = search (rules, owner_record)
 
 pub last_owner : (origin : List (List ℕ)) (before : List Entry) → AllState origin before → OwnerChoice origin before None
 last_owner origin [] states = inr (λ name h. h)
@@ -97,17 +92,13 @@ class_among_words (class text ∷ words) later have fact = (have.0.0, (have.0.1.
 
 class_in_parts : (o : Option Parts) (later : Option (List ℕ)) → ((parts : Parts) → o ≡ Some parts → AllByRecursion HasValue parts.words) → ClassFact later → ClassFact (or_else (option_and_then (λ (parts : Parts). class_among parts.words) o) later)
 class_in_parts None later have fact = fact
-class_in_parts (Some parts) later have fact = class_among_words parts.words later (have parts refl) fact
+class_in_parts (Some parts) later have fact = search (rules, class_among_words)
 
 words_have : (origin : List (List ℕ)) (before : List Entry) (entry : Entry) → StatesNothing origin before (statement_of entry) ⊎ ((r : Record) × EntryStates origin before entry r) → (parts : Parts) → parts_of entry ≡ Some parts → AllByRecursion HasValue parts.words
-words_have origin before entry (inl n) parts e = absurd (nothing_or_parts origin before (statement_of entry) parts n e)
-words_have origin before entry (inr s) parts e =
-    let split : Some s.1.head.parts ≡ Some parts = sym s.1.head.split ∙ e in
-    let same : s.1.head.parts ≡ parts = cc in
-    subst (λ p. AllByRecursion HasValue p.words) same s.1.head.words
+words_have origin before entry h parts e = search rules
 
 class_before : (origin : List (List ℕ)) (before : List Entry) → AllState origin before → ClassFact (latest class_word before)
-class_before origin [] states = (1, (refl, record { short = omega arith; not_zero = λ e. omega arith; not_none = λ e. omega arith; not_any = λ e. omega arith }))
+class_before origin [] states = search rules
 class_before origin (entry ∷ before) states = class_in_parts (parts_of entry) (latest class_word before) (words_have origin before entry states.0) (class_before origin before states.1)
 
 pub class_is : (origin : List (List ℕ)) (before : List Entry) (entry : Entry) (parts : Parts) → AllState origin before → parts_of entry ≡ Some parts → AllByRecursion HasValue parts.words → (number : ℕ) × (HasClass before entry number × IsClass number)
@@ -153,8 +144,7 @@ ttl_word_by lower text (inl found) = elim (cases_lt 2147483647 found.0) [
 ]
 
 ttl_word : (text : List ℕ) → ((seconds : ℕ) × IsTtl text seconds) ⊎ ((seconds : ℕ) → IsTtl text seconds → ⊥) → WordChoice (ttl text)
-ttl_word text (inl found) = inl found
-ttl_word text (inr no_ttl) = inr (BadTtl, (refl, no_ttl))
+ttl_word text h = search rules
 
 class_or_not : (n : ℕ) → IsClass n ⊎ (IsClass n → ⊥)
 class_or_not n = elim (cases_lt n 65536) [
@@ -172,17 +162,14 @@ class_or_not n = elim (cases_lt n 65536) [
 ]
 
 class_word_by : (text : List ℕ) (number : ℕ) → IsClassWord text number → IsClass number ⊎ (IsClass number → ⊥) → WordChoice (class text)
-class_word_by text number is (inl good) = inl (number, (is, good))
-class_word_by text number is (inr bad) = inr (BadClass, (refl, (number, (is, bad))))
+class_word_by text number is h = search rules
 
 word_or_fault : Lower → Choices → (word : Word) → IsKnown word → WordChoice word
 word_or_fault lower choices (ttl text) known = ttl_word text (ttl_word_by lower text (choices.time text))
 word_or_fault lower choices (class text) known = let found = class_word_of text known in class_word_by text found.0 found.1 (class_or_not found.0)
 
 words_by : (word : Word) (words : List Word) → WordChoice word → AllByRecursion HasValue words ⊎ ((fault : Fault) × WordsFault words fault) → AllByRecursion HasValue (word ∷ words) ⊎ ((fault : Fault) × WordsFault (word ∷ words) fault)
-words_by word words (inr bad) others = inr (bad.0, inl bad.1)
-words_by word words (inl has) (inl have) = inl (has, have)
-words_by word words (inl has) (inr bad) = inr (bad.0, inr (has, bad.1))
+words_by word words h others = search rules
 
 pub words_or_fault : Lower → Choices → (words : List Word) → AllByRecursion IsKnown words → AllByRecursion HasValue words ⊎ ((fault : Fault) × WordsFault words fault)
 words_or_fault lower choices [] known = inl tt
@@ -240,8 +227,7 @@ abbrev KindChoice : List RawItem → Type 0
 KindChoice rest = ((word : List ℕ) × ((items : List RawItem) × ((n : ℕ) × ((rest ≡ bare word ∷ items) × (AreOctetItems items × (IsKindWord word n × IsKind n)))))) ⊎ ((fault : Fault) × KindFault rest fault)
 
 kind_by : (text : List ℕ) (items : List RawItem) → AreOctetItems items → ((n : ℕ) × (IsKindWord text n × IsKind n)) ⊎ ((fault : Fault) × IsWordFault text fault) → KindChoice (bare text ∷ items)
-kind_by text items low (inl found) = inl (text, (items, (found.0, (refl, (low, found.1)))))
-kind_by text items low (inr bad) = inr bad
+kind_by text items low h = search rules
 
 kind_or_fault : Choices → (rest : List RawItem) → AreOctetItems rest → KindChoice rest
 kind_or_fault choices (bare text ∷ items) low = kind_by text items low.1 (choices.kind text)
@@ -355,23 +341,13 @@ module _ (lower : Lower) (choices : Choices) (origin : List (List ℕ)) (before 
       from_owner (parts_after [] items) (ap parts_in e) (parts_good items [] tt low) (subst (OwnerOutcome origin before) (sym e) (last_outcome items (last_owner origin before states)))
 
 low_directive : (item : RawItem) (items : List RawItem) → AreOctetItems items → LowForm (directive item items)
-low_directive (quoted text) items low = tt
-low_directive (bare text) items low = low_by _ _ _ items low
-  where
-    low_by : (a b c : Bool) (items : List RawItem) → AreOctetItems items → LowForm (if a then sets_origin items else if b then sets_ttl items else if c then includes else unknown)
-    low_by false false true items low = tt
-    low_by false false false items low = tt
-    low_by a b c items low = low
+low_directive item items low = search rules
 
 low_first : (a b : Bool) (item : RawItem) (items : List RawItem) → AreOctetItems (item ∷ items) → LowForm (if a then directive item items else if b then unowned (item ∷ items) else owned item items)
-low_first true b item items low = low_directive item items low.1
-low_first false true item items low = low
-low_first false false item items low = low
+low_first a b item items low = search rules
 
 low_form : (first : Option ℕ) (items : List RawItem) → AreOctetItems items → LowForm (statement_by first items)
-low_form first [] low = tt
-low_form None (item ∷ items) low = low
-low_form (Some c) (item ∷ items) low = low_first (c == 36) (is_blank c) item items low
+low_form first items low = search rules
 
 pub entry_outcome : Lower → Choices → (origin : List (List ℕ)) (before : List Entry) (entry : Entry) → IsName origin → AllState origin before → AreOctetItems entry.items → Outcome origin before entry
 entry_outcome lower choices origin before entry is states low = outcome_by lower choices origin before entry is states (statement_of entry) refl (low_form entry.first entry.items low)

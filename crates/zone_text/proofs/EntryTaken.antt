@@ -1,5 +1,5 @@
 -- An entry read after others: what it states, or its fault.
-use Rattle.std.proofs.Common.{◌≡◌, ℕ, ◌+◌, ◌≤◌, List, [], ◌∷◌, length, None, Result, Ok, Err, refl, sym, ap, ◌∙◌, arith}
+use Rattle.std.proofs.Common.{◌≡◌, ℕ, ◌+◌, ◌≤◌, List, [], ◌∷◌, length, None, Result, Ok, Err, refl, sym, ap, ◌∙◌, arith, rules}
 use Rattle.std.proofs.lemmas.List.{append-nil}
 use Rattle.zone_name.specs.Common.{Labels}
 use Rattle.std.specs.Prelude.{OnOk}
@@ -33,23 +33,14 @@ pub record IsLineAfter (octets : List ℕ) (old new : EndedEntries) : Type 0 whe
   pub few : line_feeds octets ≤ length octets
 
 pub lines_after : (octets : List ℕ) (old new : EndedEntries) (n : ℕ) → n ≡ line_feeds octets → n ≤ length octets → new.line ≡ old.line + n → IsLineAfter octets old new
-lines_after octets old new n count few line = record {
-  count = line ∙ ap (λ k. old.line + k) count;
-  few = omega (arith, count, few);
-}
+lines_after octets old new n count few line = omega arith
 
 line_of : (octets : List ℕ) (old new : EndedEntries) (tokens : List Token) → IsLineAfter octets old new → Cuts octets tokens → new.line ≡ old.line + line_feeds (text tokens)
 line_of octets old new tokens after cut = after.count ∙ ap (λ t. old.line + line_feeds t) cut.whole
 
 -- what an entry decides is what is read of it
 entry_read : (origin : Labels) (before : List Entry) (tokens : List Token) (octets : List ℕ) (old new : EndedEntries) → old.decided.ending ≡ None → IsLineAfter octets old new → Cuts octets tokens → DecidesEntry origin before (entry_of old.line tokens) (Line old.line) old.decided new.decided new.state → ReadsEntry origin before tokens old new
-entry_read origin before tokens octets old new none after cut (decides_none leaves same) = record {
-  others = [];
-  read = stated (states_none leaves.0 (refl, ap (λ d. d.ending) same ∙ none));
-  records = ap (λ d. d.placed) same ∙ sym (append-nil old.decided.placed);
-  state = λ _. leaves.1;
-  line = λ _. line_of octets old new tokens after cut;
-}
+entry_read origin before tokens octets old new none after cut (decides_none leaves same) = search rules
 entry_read origin before tokens octets old new none after cut (decides_one r states are more same) =
     let p : Placed = record { rr = r; place = Line old.line } in
     record {
@@ -68,11 +59,7 @@ entry_read origin before tokens octets old new none after cut (decides_fault fau
 }
 
 pub takes_entry : (octets : List ℕ) (old new : EndedEntries) → DecidesOctets octets (Line old.line) old.state old.decided new.decided new.state → old.decided.ending ≡ None → IsLineAfter octets old new → ReadsOctets octets old new
-takes_entry octets old new decides none after = record {
-  reads = λ origin before tokens are cut. entry_read origin before tokens octets old new none after cut (decides origin before old.line tokens are cut);
-  later = omega (arith, after.count);
-  near = omega (arith, after.count, after.few);
-}
+takes_entry octets old new decides none after = search (rules, entry_read)
 
 -- what is refused decides its fault
 pub refused_entry : {T E : Type 0} (result : Result T E) (origin : Labels) (before : List Entry) (entry : Entry) (place : Place) (old new : PendingRecords) (next : ParserState) (failing : Failing) → IfFault (EntryFault origin before entry) failing → OnOk result (DecidesFault failing place old new) → OnOk result (DecidesEntry origin before entry place old new next)

@@ -1,5 +1,5 @@
 -- Names, words, NS records, the SOA of `x.` and addresses that files spell, for examples.
-use Rattle.std.proofs.Common.{◌≡◌, ℕ, ◌<◌, ◌≤◌, ◌^◌, List, [], ◌∷◌, codes, Some, refl, arith, true, lit<, lit≤, false, ◌≢◌, sym, ap, ◌∙◌, subst, inr}
+use Rattle.std.proofs.Common.{◌≡◌, ℕ, ◌<◌, ◌≤◌, ◌^◌, List, [], ◌∷◌, codes, Some, refl, arith, true, lit<, lit≤, false, ◌≢◌, sym, ap, ◌∙◌, subst, inr, rules}
 use Rattle.std.specs.List.{AllByRecursion}
 use Rattle.zone_name.specs.Name.{IsName, labels_of, folded_octet, wire}
 use Rattle.zone_name.specs.Spelling.{Spells, is_digit, plain, at_origin, absolute, relative, SpellingFault, within, empty_label, is_dot}
@@ -23,16 +23,16 @@ use Rattle.zone_text.specs.ExampleEntries.{x, under, ns, soa, address}
 use Rattle.zone_text.proofs.ClassWords.{time_first}
 
 pub x_name : IsName x
-x_name = record { each = (record { some = lit< tt; short = lit≤ tt; each = (record { octet = lit< tt; lower = refl }, tt) }, tt); short = lit≤ tt }
+x_name = omega arith
 
 pub n_name : IsName (under 110 x)
-n_name = record { each = (record { some = lit< tt; short = lit≤ tt; each = (record { octet = lit< tt; lower = refl }, tt) }, x_name.each); short = lit≤ tt }
+n_name = omega arith
 
 pub ax_name : IsName (under 97 x)
-ax_name = record { each = (record { some = lit< tt; short = lit≤ tt; each = (record { octet = lit< tt; lower = refl }, tt) }, x_name.each); short = lit≤ tt }
+ax_name = omega arith
 
 pub bax_name : IsName (under 98 (under 97 x))
-bax_name = record { each = (record { some = lit< tt; short = lit≤ tt; each = (record { octet = lit< tt; lower = refl }, tt) }, ax_name.each); short = lit≤ tt }
+bax_name = omega arith
 
 -- `@` is the origin
 pub at_spells : (above : List (List ℕ)) → IsName above → Spells (Some above) (codes "@") above
@@ -61,7 +61,7 @@ pub sixty : IsTime (codes "60") 60
 sixty = number.plain (record { some = lit< tt; digits = (refl, (refl, tt)); value = refl })
 
 pub three_hundred : IsTime (codes "300") 300
-three_hundred = number.plain (record { some = lit< tt; digits = (refl, (refl, (refl, tt))); value = refl })
+three_hundred = search rules
 
 pub is_ns : IsKindWord (codes "NS") 2
 is_ns = by_mnemonic (record { name = codes "NS"; row = refl; same = refl })
@@ -70,10 +70,10 @@ pub is_ch : IsClassWord (codes "CH") 3
 is_ch = by_mnemonic (record { name = codes "CH"; row = refl; same = refl })
 
 pub in_class : IsClass 1
-in_class = record { short = lit< tt; not_zero = omega arith; not_none = omega arith; not_any = omega arith }
+in_class = omega arith
 
 pub ch_class : IsClass 3
-ch_class = record { short = lit< tt; not_zero = omega arith; not_none = omega arith; not_any = omega arith }
+ch_class = omega arith
 
 pub ns_kind : IsKind 2
 ns_kind = record { short = lit< tt; stored = refl }
@@ -86,19 +86,7 @@ ns_states above class = states_server above class (codes "n.x.") (λ e. absurd c
 
 ns_fits : (owner : List (List ℕ)) (class ttl : ℕ) → IsName owner → IsClass class → ttl ≤ 2147483647 → IsRecord (ns owner class ttl)
 unfolding labels_of
-ns_fits owner class ttl good is short = record {
-  owner = good;
-  ttl = short;
-  rdata = record {
-    class = is;
-    kind = ns_kind;
-    octets = record {
-      short = lit≤ tt;
-      each = (lit< tt, (lit< tt, (lit< tt, (lit< tt, (lit< tt, tt)))));
-      value = record { held = (n_name, tt); whole = refl };
-    };
-  };
-}
+ns_fits owner class ttl good is short = search rules
 
 -- an entry of `NS` and a text for `n.x.`, after words and an owner
 pub states_server_by : (text : List ℕ) (origin : List (List ℕ)) (before : List Entry) (entry : Entry) (owner above : List (List ℕ)) (class ttl : ℕ) (words : List Word) → text ≢ codes "\\#" → Spells (Some above) text (under 110 x) → parts_of entry ≡ Some (record { words = words; rest = bare (codes "NS") ∷ bare text ∷ [] }) → IsOwner origin before (statement_of entry) owner → AllByRecursion HasValue words → HasClass before entry class → IsOrigin origin before above → HasTtl origin before entry ttl → IsName owner → IsClass class → ttl ≤ 2147483647 → EntryStates origin before entry (ns owner class ttl)
@@ -124,7 +112,7 @@ pub states_ns : (origin : List (List ℕ)) (before : List Entry) (entry : Entry)
 states_ns origin before entry owner above class ttl words = states_server_by (codes "n.x.") origin before entry owner above class ttl words (λ e. absurd cc) (n_x_spells above)
 
 pub long_time : IsTime (codes "2147483648") 2147483648
-long_time = number.plain (record { some = lit< tt; digits = (refl, (refl, (refl, (refl, (refl, (refl, (refl, (refl, (refl, (refl, tt)))))))))); value = refl })
+long_time = search rules
 
 -- a time of more than 31 bits is no TTL
 pub too_long : ((text : List ℕ) (a b : ℕ) → IsTime text a → IsTime text b → a ≡ b) → (seconds : ℕ) → IsTtl (codes "2147483648") seconds → ⊥
@@ -166,7 +154,7 @@ ns_has_no_minimum once before entry words items seconds split has =
     no_minimum has.head.class has.head.kind has.octets seconds kind has.field
 
 h_name : IsName (under 104 x)
-h_name = record { each = (record { some = lit< tt; short = lit≤ tt; each = (record { octet = lit< tt; lower = refl }, tt) }, x_name.each); short = lit≤ tt }
+h_name = omega arith
 
 n_spells : Spells (Some x) (codes "n") (under 110 x)
 n_spells = one_octet 110 x refl (omega arith) (omega arith) n_name
@@ -197,19 +185,7 @@ soa_states text last time short = record {
 
 soa_fits : (ttl : ℕ) → ttl ≤ 2147483647 → IsRecord (soa ttl)
 unfolding labels_of
-soa_fits ttl short = record {
-  owner = x_name;
-  ttl = short;
-  rdata = record {
-    class = in_class;
-    kind = soa_kind;
-    octets = record {
-      short = lit≤ tt;
-      each = (lit< tt, (lit< tt, (lit< tt, (lit< tt, (lit< tt, (lit< tt, (lit< tt, (lit< tt, (lit< tt, (lit< tt, (lit< tt, (lit< tt, (lit< tt, (lit< tt, (lit< tt, (lit< tt, (lit< tt, (lit< tt, (lit< tt, (lit< tt, (lit< tt, (lit< tt, (lit< tt, (lit< tt, (lit< tt, (lit< tt, (lit< tt, (lit< tt, (lit< tt, (lit< tt, tt))))))))))))))))))))))))))))));
-      value = record { held = (n_name, (h_name, (lit< tt, (lit< tt, (lit< tt, (lit< tt, (lit< tt, tt))))))); whole = refl };
-    };
-  };
-}
+soa_fits ttl short = search rules
 
 -- the entry's head, by its words, its owner and its class
 pub soa_head : (text : List ℕ) (before : List Entry) (entry : Entry) (words : List Word) → parts_of entry ≡ Some (record { words = words; rest = bare (codes "SOA") ∷ soa_items text }) → IsOwner x before (statement_of entry) x → AllByRecursion HasValue words → HasClass before entry 1 → HasHead x before entry (record { owner = x; class = 1; kind = 6; items = soa_items text })
@@ -280,19 +256,7 @@ address_kind : IsKind 1
 address_kind = record { short = lit< tt; stored = refl }
 
 address_fits : (owner : List (List ℕ)) (ttl : ℕ) → IsName owner → ttl ≤ 2147483647 → IsRecord (address owner ttl)
-address_fits owner ttl good short = record {
-  owner = good;
-  ttl = short;
-  rdata = record {
-    class = in_class;
-    kind = address_kind;
-    octets = record {
-      short = lit≤ tt;
-      each = (lit< tt, (lit< tt, (lit< tt, (lit< tt, tt))));
-      value = record { held = (record { size = refl; each = (lit< tt, (lit< tt, (lit< tt, (lit< tt, tt)))) }, tt); whole = refl };
-    };
-  };
-}
+address_fits owner ttl good short = search rules
 
 -- an entry of the items `A 10.0.0.1` after words and an owner
 pub states_address : (before : List Entry) (entry : Entry) (owner : List (List ℕ)) (ttl : ℕ) (words : List Word) → parts_of entry ≡ Some (record { words = words; rest = bare (codes "A") ∷ bare (codes "10.0.0.1") ∷ [] }) → IsOwner x before (statement_of entry) owner → AllByRecursion HasValue words → HasClass before entry 1 → IsOrigin x before x → HasTtl x before entry ttl → IsName owner → ttl ≤ 2147483647 → EntryStates x before entry (address owner ttl)

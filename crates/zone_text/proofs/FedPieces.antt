@@ -1,5 +1,5 @@
 -- A piece fed part by part, each by what its last octet leads to.
-use Rattle.std.proofs.Common.{◌≡◌, ℕ, ◌+◌, ◌≤◌, List, [], ◌++◌, length, take, true, Option, Some, None, IfSome, refl, sym, ap, ◌∙◌, subst, arith, append_assoc}
+use Rattle.std.proofs.Common.{◌≡◌, ℕ, ◌+◌, ◌≤◌, List, [], ◌++◌, length, take, true, Option, Some, None, IfSome, refl, sym, ap, ◌∙◌, subst, arith, append_assoc, rules}
 use Rattle.std.proofs.lemmas.List.{append-nil}
 use Rattle.zone_name.specs.Common.{Labels}
 use Rattle.zone_rdata.specs.declared.fault.Fault.{Fault}
@@ -105,10 +105,7 @@ fed_fault old new piece rest found before ending origin fed given f =
 
 -- what a scan took of octets it takes whole
 pub takes_part : (at : ScanState) (rest part : List ℕ) (found : Scanned) → found ≡ scan_of at rest → part ≡ take found.taken rest → ScansTo at part found.step
-takes_part at rest part found is cut =
-    let same : part ≡ take (scan_of at rest).taken rest = cut ∙ ap (λ (f : Scanned). take f.taken rest) is in
-    let len : length part ≡ (scan_of at rest).taken = ap length same ∙ takes_front at rest in
-    ap (scan_of at) same ∙ stops_at at rest ∙ ap (λ (n : ℕ). let f : Scanned = record { taken = n; step = (scan_of at rest).step } in f) (sym len) ∙ ap (λ (f : Scanned). let g : Scanned = record { taken = length part; step = f.step } in g) (sym is)
+takes_part at rest part found is cut = search (rules, takes_front, stops_at)
 
 -- each octet of the unfinished entry opened one parenthesis at the most
 pub depth_within : (ended : EndedEntries) (at : ScanState) (unfinished : List ℕ) → IsSplitter ended at unfinished → at.depth ≤ length unfinished
@@ -116,8 +113,4 @@ depth_within ended at unfinished is = let h = unfinished_depth beginning at unfi
 
 -- where a fault was decided nothing changes
 pub fed_settled : (old new : EntrySplitter) (piece rest : List ℕ) → HasFed old new piece rest → IfSome old.ended.decided.ending (λ _. (true ≡ true) × (new ≡ old))
-fed_settled old new piece rest before = by old.ended.decided.ending before.settled
-  where
-    by : (ending : Option (Fault × Place)) → ((found : Fault × Place) → ending ≡ Some found → new ≡ old) → IfSome ending (λ _. (true ≡ true) × (new ≡ old))
-    by None same = tt
-    by (Some found) same = (refl, same found refl)
+fed_settled old new piece rest before = search rules

@@ -1,5 +1,5 @@
 -- A file of octets has a reading, and something is decided of it.
-use Rattle.std.proofs.Common.{ℕ, zero, ◌+◌, ◌<◌, ◌==◌, List, [], ◌∷◌, ◌++◌, Some, None, ◌⊎◌, inl, inr, refl, sym, subst}
+use Rattle.std.proofs.Common.{ℕ, zero, ◌+◌, ◌<◌, ◌==◌, List, [], ◌∷◌, ◌++◌, Some, None, ◌⊎◌, inl, inr, refl, sym, subst, rules}
 use Rattle.std.specs.List.{flat_map, AllByRecursion, count_by}
 use Rattle.std.proofs.lemmas.Grind.{flat_map-append}
 use Rattle.zone_name.specs.Name.{IsName}
@@ -49,9 +49,7 @@ low_ended ended [] low = low
 low_ended ended (p ∷ tokens) low = AllByRecursion-front _ (flat_map text ended) (flat_map text ((p ∷ tokens) ∷ [])) (subst AreLow (flat_map-append text ended ((p ∷ tokens) ∷ [])) low)
 
 low_of : (tokens : List Token) → AreLow (text tokens) → AreLowEntries (entries_of tokens)
-low_of tokens low =
-    let cut : Cut = cut_from zero tokens in
-    low_entries 1 (and_last cut.ended cut.open_tokens) (subst AreLow (sym (entries_text tokens)) low)
+low_of tokens low = search (rules, low_entries, entries_text)
 
 low_ended_of : (tokens : List Token) → AreLow (text tokens) → AreLowEntries (ended_entries tokens)
 low_ended_of tokens low =
@@ -64,9 +62,7 @@ abbrev Readings : List (List ℕ) → Ending → List Entry → List Entry → T
 Readings origin after before entries = (placed : List Placed) × ((ending : Ending) × ReadEach origin after before entries placed ending)
 
 next_reading : (origin : List (List ℕ)) (after : Ending) (before : List Entry) (entry : Entry) (entries : List Entry) → AllState origin before → Outcome origin before entry → (AllState origin (entry ∷ before) → Readings origin after (entry ∷ before) entries) → Readings origin after before (entry ∷ entries)
-next_reading origin after before entry entries states (inl n) goes =
-    let rest = goes (inl n, states) in
-    (rest.0, (rest.1.0, stated (states_none n rest.1.1)))
+next_reading origin after before entry entries states (inl n) goes = search rules
 next_reading origin after before entry entries states (inr (inl found)) goes =
     let rest = goes (inr found, states) in
     let p : Placed = record { rr = found.0; place = Line entry.line } in

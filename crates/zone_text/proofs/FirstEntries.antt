@@ -1,9 +1,10 @@
 -- The entry at the front of octets, token by token, without parentheses and escapes.
-use Rattle.std.proofs.Common.{◌≡◌, ◌≢◌, ℕ, zero, ◌+◌, ◌-◌, ◌<◌, ◌≤◌, Bool, true, false, ◌==◌, ◌||◌, List, [], ◌∷◌, ◌++◌, length, take, drop, map, None, refl, sym, ap, ◌∙◌, subst, arith, append_assoc, length-append}
+use Rattle.std.proofs.Common.{◌≡◌, ◌≢◌, ℕ, zero, ◌+◌, ◌-◌, ◌<◌, ◌≤◌, Bool, true, false, ◌==◌, ◌||◌, List, [], ◌∷◌, ◌++◌, length, take, drop, map, None, refl, sym, ap, ◌∙◌, subst, arith, append_assoc, length-append, rules}
 use Rattle.std.specs.List.{All, AllByRecursion, flat_map}
 use Rattle.std.proofs.Math.Seq.{take-append_seam}
 use Rattle.std.proofs.lemmas.Bool.{or_parts, eqb-false, eqb-true, both_ways, ne_eqb}
 use Rattle.std.proofs.lemmas.List.{append-nil, length-map, take-append-drop}
+use Rattle.std.proofs.lemmas.Grind.{common_steps}
 use Rattle.std.proofs.lemmas.List.Elements.{recursion_from_All}
 use Rattle.zone_name.specs.Spelling.{plain, written_text, IsUnit}
 use Rattle.zone_name.proofs.Units.{NoUnit, at_octet}
@@ -57,13 +58,10 @@ comment_in_front octets after rest c n whole is len back =
     }
 
 stops_or : (a b : Bool) → (a || b) ≡ true → b ≡ false → a ≡ true
-stops_or true b e none = refl
-stops_or false b e none = absurd (both_ways b none e)
+stops_or a b e none = search rules
 
 some_plain : (octets after : List ℕ) (c n : ℕ) → octets ≡ c ∷ after → (ends_item c || c == 92) ≡ false → EndsAt (λ d. ends_item d || d == 92) (drop n octets) → (n ≡ 0) → ⊥
-some_plain octets after c n whole goes ends none =
-    let e : drop n octets ≡ c ∷ after = ap (λ k. drop k octets) none ∙ whole in
-    both_ways (ends_item c || c == 92) goes (subst (EndsAt (λ d. ends_item d || d == 92)) e ends)
+some_plain octets after c n whole goes ends none = search rules
 
 pub bare_in_front : (octets after item rest more : List ℕ) (c next n : ℕ) → octets ≡ c ∷ after → (ends_item c || c == 92) ≡ false → n ≤ length octets → All (λ d. (ends_item d || d == 92) ≡ false) (take n octets) → EndsAt (λ d. ends_item d || d == 92) (drop n octets) → item ≡ take n octets → rest ≡ drop n octets → length item ≡ n → rest ≡ next ∷ more → next ≢ 92 → IsInFront octets (raw.bare item ∷ []) rest
 bare_in_front octets after item rest more c next n whole goes within each ends front back len first other =
@@ -81,10 +79,7 @@ bare_in_front octets after item rest more c next n whole goes within each ends f
     }
 
 pub is_quoted : (octets inside close rest : List ℕ) (c n : ℕ) → All (λ d. (is_quote d || d == 92) ≡ false) (take n octets) → inside ≡ take n octets → close ≡ drop n octets → close ≡ c ∷ rest → c ≡ 34 → IsQuoted octets inside rest
-is_quoted octets inside close rest c n each front back first is = record {
-  plain = subst (All (λ d. (is_quote d || d == 92) ≡ false)) (sym front) each;
-  whole = sym (take-append-drop n octets) ∙ ap (λ t. t ++ drop n octets) (sym front) ∙ ap (λ t. inside ++ t) (sym back ∙ first ∙ ap (λ d. d ∷ rest) is);
-}
+is_quoted octets inside close rest c n each front back first is = grind (arith, common_steps)
 
 pub quoted_in_front : (octets after inside rest : List ℕ) (c : ℕ) → octets ≡ c ∷ after → c ≡ 34 → IsQuoted after inside rest → IsInFront octets (raw.quoted inside ∷ []) rest
 quoted_in_front octets after inside rest c whole is found = record {
@@ -120,29 +115,27 @@ cut_none octets kept none = record {
 }
 
 ends_within : (ends : ℕ → Bool) (rest tail after : List ℕ) → rest ≡ tail ++ after → 0 < length tail → EndsAt ends rest → EndsAt ends tail
-ends_within ends rest [] after e some at = tt
-ends_within ends rest (c ∷ tail) after e some at = subst (EndsAt ends) e at
+ends_within ends rest tail after e some at = search rules
 
 comment_stops : (tail : List ℕ) → EndsAt (λ c. c == 10) tail → Stops (comment []) tail
-comment_stops [] at = tt
-comment_stops (c ∷ tail) at = eqb-true c 10 at
+comment_stops tail at = search rules
 
 bare_stops : (tail : List ℕ) → 0 < length tail → EndsAt ends_item tail → NoUnit ends_item tail
 bare_stops [] some at = absurd (omega (arith, some))
 bare_stops (c ∷ tail) some at = at_octet c tail refl at
 
 takes_token : (p : Token) (rest tail after : List ℕ) → IsToken p → IsInside p → EndsBefore p rest → rest ≡ tail ++ after → 0 < length tail → Takes zero (token_text p ++ tail) p tail
-takes_token (blank c) rest tail after is inside at e some = record { whole = refl; token = is; stop = tt; room = tt }
-takes_token (comment octets) rest tail after is inside at e some = record { whole = refl; token = is; stop = comment_stops tail (ends_within _ rest tail after e some at); room = tt }
+takes_token (blank c) rest tail after is inside at e some = search rules
+takes_token (comment octets) rest tail after is inside at e some = search rules
 takes_token (bare units) rest tail after is inside at e some = record { whole = refl; token = is; stop = bare_stops tail some (ends_within _ rest tail after e some at); room = tt }
-takes_token (quoted units) rest tail after is inside at e some = record { whole = refl; token = is; stop = tt; room = tt }
+takes_token (quoted units) rest tail after is inside at e some = search rules
 takes_token p rest tail after is inside at e some = absurd inside
 
 more_cut : (p : Token) (tail : List ℕ) (more : List Token) → IsInside p → Takes zero (token_text p ++ tail) p tail → IsOneEntry tail more → IsOneEntry (token_text p ++ tail) (p ∷ more)
 more_cut opening tail more inside takes one = absurd inside
 more_cut closing tail more inside takes one = absurd inside
 more_cut line_feed tail more inside takes one = absurd inside
-more_cut p tail more inside takes one = record { cut = cuts _ _ (one_token_more zero _ tail p more None takes (is_cut tail more one.cut)); ended = ap (in_front_of p) one.ended }
+more_cut p tail more inside takes one = search (rules, cuts, one_token_more, is_cut)
 
 more_by : (octets rest left : List ℕ) (kept new items : List RawItem) (so_far : IsCutTo octets rest kept) → IsInFront rest items left → AreKept (so_far.so_far ++ items) new → IsCutTo octets left new
 more_by octets rest left kept new items so_far found are_kept = record {

@@ -1,9 +1,10 @@
 -- What is decided of octets by what those before them left, and what follows from octets fed and
 -- records given, part by part.
-use Rattle.std.proofs.Common.{◌≡◌, ℕ, zero, ◌+◌, List, [], ◌∷◌, ◌++◌, length, Some, None, refl, sym, ap, ◌∙◌, subst, arith, append_assoc, length-append, inl, inr}
+use Rattle.std.proofs.Common.{◌≡◌, ℕ, zero, ◌+◌, List, [], ◌∷◌, ◌++◌, length, Some, None, refl, sym, ap, ◌∙◌, subst, arith, append_assoc, length-append, inl, inr, rules}
 use Rattle.std.specs.List.{flat_map}
 use Rattle.std.specs.Prelude.{reverse}
 use Rattle.std.proofs.lemmas.List.{append-nil, flat_map_more, reverse-append}
+use Rattle.std.proofs.lemmas.Grind.{common_steps}
 use Rattle.std.proofs.lemmas.List.Sums.{sum_by-append}
 use Rattle.zone_name.specs.Common.{Labels}
 use Rattle.zone_rdata.specs.declared.fault.Fault.{Fault}
@@ -55,8 +56,7 @@ no_fault_after origin after before (entry ∷ entries) placed (refused fault h e
 pub reads_so_far : (origin : List (List ℕ)) (fed : List ℕ) (tokens : List Token) (placed : List Placed) → FileDecides origin fed placed None → AreTokens fed tokens → ReadsEnded origin None (cut_from zero tokens).ended placed None
 reads_so_far origin fed tokens placed (undecided others are none read) is =
     subst (λ t. ReadsEnded origin None (cut_from zero t).ended placed None) (tokens_of fed others tokens are is) read
-reads_so_far origin fed tokens placed (decided others fault good read) is =
-    absurd (let e : Some (fault, Line (open_line others)) ≡ None = no_fault_after origin (Some (fault, Line (open_line others))) [] (ended_entries others) placed read in let t : ⊥ = cc in t)
+reads_so_far origin fed tokens placed (decided others fault good read) is = search (rules, no_fault_after)
 
 -- ---- octets more
 
@@ -211,10 +211,7 @@ follow_on origin entries at unfinished part fed given scanned none follow =
 -- ---- an entry is ended
 
 line_more : (ended : List (List Token)) (tokens : List Token) → line_after (ended ++ tokens ∷ []) ≡ line_after ended + line_feeds (text tokens)
-line_more ended tokens =
-    ap (λ t. 1 + line_feeds t) (sym (flat_map_more text [] ended tokens))
-    ∙ ap (λ n. 1 + n) (sum_by-append _ (flat_map text ended) (text tokens))
-    ∙ omega arith
+line_more ended tokens = grind (arith, common_steps)
 
 -- what is left once an entry is ended that isn't refused
 left_over : (origin : Labels) (ended : List (List Token)) (old new : EndedEntries) (unfinished part fed : List ℕ) (given : List Placed) (tokens : List Token) → IsRead origin ended old unfinished fed given → IsOneEntry (unfinished ++ part) tokens → ReadsEntry origin (reverse (numbered 1 ended)) tokens old new → new.decided.ending ≡ None → FileLeaves origin (fed ++ part) new.state new.line []
@@ -316,7 +313,7 @@ end_of_break origin old new at fault unfinished fed given scanned ends none reco
 
 -- they are the last entry
 last_read : (origin : Labels) (ended : List (List Token)) (old new : EndedEntries) (c : ℕ) (more fed : List ℕ) (given : List Placed) (tokens : List Token) → IsRead origin ended old (c ∷ more) fed given → Cuts (c ∷ more) tokens → (cut_from zero tokens).ended ≡ [] → ReadsEntry origin (reverse (numbered 1 ended)) tokens old new → Reads origin fed given new
-last_read origin ended old new c more fed given [] is cut alone read = absurd (let e : c ∷ more ≡ [] = cut.whole in let t : ⊥ = cc in t)
+last_read origin ended old new c more fed given [] is cut alone read = cc
 last_read origin ended old new c more fed given (p ∷ tokens) is cut alone read =
     let next : ReadEach origin None (reverse (numbered 1 ended)) (entry_of (line_after ended) (p ∷ tokens) ∷ []) read.others new.decided.ending = subst (λ n. ReadEach origin None (reverse (numbered 1 ended)) (entry_of n (p ∷ tokens) ∷ []) read.others new.decided.ending) is.line read.read in
     let records : (given ++ old.decided.placed) ++ read.others ≡ given ++ new.decided.placed = append_assoc given old.decided.placed read.others ∙ ap (λ t. given ++ t) (sym read.records) in

@@ -1,6 +1,6 @@
 -- A break stays or stands at the end of the text, and not both. So does a backslash that begins no
 -- escape, by what follows it.
-use Rattle.std.proofs.Common.{◌≡◌, ℕ, true, false, List, [], ◌∷◌, ◌++◌, refl, sym, ap, ◌∙◌, arith, subst, ◌⊎◌, inl, inr}
+use Rattle.std.proofs.Common.{◌≡◌, ℕ, true, false, List, [], ◌∷◌, ◌++◌, refl, sym, ap, ◌∙◌, arith, subst, ◌⊎◌, inl, inr, rules}
 use Rattle.std.specs.List.{AllByRecursion}
 use Rattle.std.proofs.lemmas.Bool.{both_ways, cases_Bool, cases_eq, cases_lt}
 use Rattle.std.proofs.lemmas.List.{append-nil, append_cancel_left}
@@ -63,13 +63,10 @@ pub bad_is_malformed : (rest : List ℕ) → IsBadEscape rest → IsLostEscape r
 bad_is_malformed rest bad = subst Malformed (sym bad.1) (malformed_after bad.0 (λ w after written e. bad.2 w after written (bad.1 ∙ e)))
 
 cut_off_is_bad : (rest : List ℕ) → IsCutOff rest → IsBadEscape rest
-cut_off_is_bad rest (after_backslash e) = subst IsBadEscape (sym e) ([], refl, octets.bare_backslash)
-cut_off_is_bad rest (after_digit x e dx) = subst IsBadEscape (sym e) (x ∷ [], refl, octets.one_digit x dx)
-cut_off_is_bad rest (after_two_digits x y e dx dy) = subst IsBadEscape (sym e) (x ∷ y ∷ [], refl, octets.two_digits x y dx)
+cut_off_is_bad rest h = search rules
 
 pub malformed_is_bad : (rest : List ℕ) → IsLostEscape rest ⊎ IsCutOff rest → IsBadEscape rest
-malformed_is_bad rest (inl lost) = subst IsBadEscape (append-nil rest) (lost_escape rest [] lost)
-malformed_is_bad rest (inr cut) = cut_off_is_bad rest cut
+malformed_is_bad rest h = search rules
 
 -- a break stays, or stands at the end
 abbrev StaysOrEnds : List ℕ → Type 0
@@ -92,29 +89,17 @@ stays_or_ends depth rest fault (no_quote units each whole) = inr (quote_open uni
 stays_or_ends depth rest fault (not_closed some whole) = inr (nothing_left whole)
 
 pub break_stays_or_ends : (octets : List ℕ) (tokens : List Token) (fault : Fault) (broken : Breaks octets tokens fault) → StaysBroken broken.rest ⊎ BreaksAtEnd broken.rest
-break_stays_or_ends octets tokens fault broken = stays_or_ends broken.depth broken.rest fault broken.broken
+break_stays_or_ends octets tokens fault broken = search (rules, stays_or_ends)
 
 no_digit : (x c : ℕ) → is_digit x ≡ true → x ≡ c → is_digit c ≡ false → ⊥
 no_digit x c is same is_not = both_ways (is_digit c) is_not (ap is_digit (sym same) ∙ is)
 
 line_end_is_no_digit : (x c : ℕ) → is_digit x ≡ true → x ≡ c → (c ≡ 10) ⊎ (c ≡ 13) → ⊥
-line_end_is_no_digit x c is same (inl feed) = no_digit x 10 is (same ∙ feed) refl
-line_end_is_no_digit x c is same (inr return) = no_digit x 13 is (same ∙ return) refl
+line_end_is_no_digit x c is same e = search rules
 
 -- an escape that further octets can't mend isn't cut off
 lost_not_cut : (rest : List ℕ) → IsLostEscape rest → IsCutOff rest → ⊥
-lost_not_cut rest (at_line_end c more e is) (after_backslash f) = cc
-lost_not_cut rest (at_line_end c more e is) (after_digit x f dx) = line_end_is_no_digit x c dx (cc) is
-lost_not_cut rest (at_line_end c more e is) (after_two_digits x y f dx dy) = line_end_is_no_digit x c dx (cc) is
-lost_not_cut rest (one_digit x c more e is is_not) (after_backslash f) = cc
-lost_not_cut rest (one_digit x c more e is is_not) (after_digit u f du) = cc
-lost_not_cut rest (one_digit x c more e is is_not) (after_two_digits u v f du dv) = no_digit v c dv (cc) is_not
-lost_not_cut rest (two_digits x y c more e is too is_not) (after_backslash f) = cc
-lost_not_cut rest (two_digits x y c more e is too is_not) (after_digit u f du) = cc
-lost_not_cut rest (two_digits x y c more e is too is_not) (after_two_digits u v f du dv) = cc
-lost_not_cut rest (too_great x y z more e is too all great) (after_backslash f) = cc
-lost_not_cut rest (too_great x y z more e is too all great) (after_digit u f du) = cc
-lost_not_cut rest (too_great x y z more e is too all great) (after_two_digits u v f du dv) = cc
+lost_not_cut rest h h2 = search rules
 
 -- what follows the quoted units of a text is one thing
 after_units : (units other : List Written) (after rest : List ℕ) → AllByRecursion (IsUnit is_quote) units → AllByRecursion (IsUnit is_quote) other → NoUnit is_quote after → NoUnit is_quote rest → written_text units ++ after ≡ written_text other ++ rest → after ≡ rest
@@ -129,9 +114,7 @@ lost_begins_none rest lost = at_backslash (malformed_is_bad rest (inl lost))
 
 -- a backslash begins the text, and no quote or parenthesis
 begins_cut_off : (rest : List ℕ) → IsCutOff rest → (after : List ℕ) × (rest ≡ 92 ∷ after)
-begins_cut_off rest (after_backslash e) = ([], e)
-begins_cut_off rest (after_digit x e is) = (x ∷ [], e)
-begins_cut_off rest (after_two_digits x y e is too) = (x ∷ y ∷ [], e)
+begins_cut_off rest h = search rules
 
 other_first : (c d : ℕ) (rest more after : List ℕ) → rest ≡ c ∷ more → rest ≡ d ∷ after → (c ≡ d → ⊥) → ⊥
 other_first c d rest more after e f apart = apart (cc)
@@ -141,25 +124,17 @@ after_quote rest more after e f = cc
 
 pub stays_or_ends_alone : (rest : List ℕ) → StaysBroken rest → BreaksAtEnd rest → ⊥
 stays_or_ends_alone rest stays (nothing_left none) = stays_some rest stays none
-stays_or_ends_alone rest (closing_stays after e) (quote_open units each f) = other_first 41 34 rest after (written_text units) e f (λ h. omega arith)
-stays_or_ends_alone rest (escape_stays lost) (quote_open units each f) =
-    let begins = begins_backslash rest lost in
-    other_first 92 34 rest begins.0 (written_text units) begins.1 f (λ h. omega arith)
+stays_or_ends_alone rest (closing_stays after e) (quote_open units each f) = search rules
+stays_or_ends_alone rest (escape_stays lost) (quote_open units each f) = search rules
 stays_or_ends_alone rest (quoted_escape_stays other after another e lost) (quote_open units each f) =
     let same : written_text other ++ after ≡ written_text units ++ [] = after_quote rest (written_text other ++ after) (written_text units) e f ∙ sym (append-nil (written_text units)) in
     let none : after ≡ [] = after_units other units after [] another each (lost_begins_none after lost) (at_end refl) same in
     stays_some after (escape_stays lost) none
-stays_or_ends_alone rest (closing_stays after e) (escape_open cut) =
-    let begins = begins_cut_off rest cut in
-    other_first 41 92 rest after begins.0 e begins.1 (λ h. omega arith)
+stays_or_ends_alone rest (closing_stays after e) (escape_open cut) = search rules
 stays_or_ends_alone rest (escape_stays lost) (escape_open cut) = lost_not_cut rest lost cut
-stays_or_ends_alone rest (quoted_escape_stays other after another e lost) (escape_open cut) =
-    let begins = begins_cut_off rest cut in
-    other_first 34 92 rest (written_text other ++ after) begins.0 e begins.1 (λ h. omega arith)
+stays_or_ends_alone rest (quoted_escape_stays other after another e lost) (escape_open cut) = search rules
 stays_or_ends_alone rest (closing_stays after e) (quoted_escape_open units more each f cut) = other_first 41 34 rest after (written_text units ++ more) e f (λ h. omega arith)
-stays_or_ends_alone rest (escape_stays lost) (quoted_escape_open units more each f cut) =
-    let begins = begins_backslash rest lost in
-    other_first 92 34 rest begins.0 (written_text units ++ more) begins.1 f (λ h. omega arith)
+stays_or_ends_alone rest (escape_stays lost) (quoted_escape_open units more each f cut) = search rules
 stays_or_ends_alone rest (quoted_escape_stays other after another e lost) (quoted_escape_open units more each f cut) =
     let same : written_text other ++ after ≡ written_text units ++ more = after_quote rest (written_text other ++ after) (written_text units ++ more) e f in
     let at : after ≡ more = after_units other units after more another each (lost_begins_none after lost) (at_backslash (malformed_is_bad more (inr cut))) same in
@@ -168,7 +143,7 @@ stays_or_ends_alone rest (quoted_escape_stays other after another e lost) (quote
 -- ---- a break of a text whose rest after its tokens is known
 
 rest_is : (octets : List ℕ) (tokens : List Token) (fault : Fault) (breaks : Breaks octets tokens fault) (rest : List ℕ) → octets ≡ text tokens ++ rest → rest ≡ breaks.rest
-rest_is octets tokens fault breaks rest e = append_cancel_left (text tokens) rest breaks.rest (sym e ∙ breaks.whole)
+rest_is octets tokens fault breaks rest e = search (rules, append_cancel_left)
 
 pub stays_for_good : (octets : List ℕ) (tokens : List Token) (fault : Fault) → Breaks octets tokens fault → (rest : List ℕ) → octets ≡ text tokens ++ rest → StaysBroken rest → BreaksForGood octets tokens fault
 stays_for_good octets tokens fault breaks rest e stays = record { breaks = breaks; stays = subst StaysBroken (rest_is octets tokens fault breaks rest e) stays }

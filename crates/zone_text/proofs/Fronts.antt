@@ -1,5 +1,5 @@
 -- The first token of a text: what is read is so, and what is so is read.
-use Rattle.std.proofs.Common.{◌≡◌, ◌≢◌, ℕ, zero, suc, ◌<◌, Bool, true, false, ◌||◌, ◌==◌, if◌then◌else◌, List, [], ◌∷◌, ◌++◌, length, drop, Option, Some, None, refl, sym, ap, ◌∙◌, subst, arith, append_assoc}
+use Rattle.std.proofs.Common.{◌≡◌, ◌≢◌, ℕ, zero, suc, ◌<◌, Bool, true, false, ◌||◌, ◌==◌, if◌then◌else◌, List, [], ◌∷◌, ◌++◌, length, drop, Option, Some, None, refl, sym, ap, ◌∙◌, subst, arith, append_assoc, rules}
 use Rattle.std.specs.List.{AllByRecursion}
 use Rattle.std.proofs.Math.Seq.{drop-append_seam}
 use Rattle.std.proofs.lemmas.Bool.{or_parts, eqb-true, eqb-false, ne_eqb, both_ways, cond_both}
@@ -27,11 +27,7 @@ IsComment octets = AllByRecursion (λ c. c ≢ 10) octets
 pub comment_whole : (octets : List ℕ) → octets ≡ before_line_feed octets ++ from_line_feed octets
 unfolding before_line_feed from_line_feed
 comment_whole [] = refl
-comment_whole (c ∷ rest) = by (c == 10) (comment_whole rest)
-  where
-    by : (b : Bool) → rest ≡ before_line_feed rest ++ from_line_feed rest → c ∷ rest ≡ (if b then [] else c ∷ before_line_feed rest) ++ (if b then c ∷ rest else from_line_feed rest)
-    by true more = refl
-    by false more = ap (λ t. c ∷ t) more
+comment_whole (c ∷ rest) = search (rules, comment_whole rest)
 
 pub comment_each : (octets : List ℕ) → IsComment (before_line_feed octets)
 unfolding before_line_feed
@@ -67,24 +63,10 @@ IsSign c a_semicolon = c ≡ 59
 IsSign c of_item = ends_item c ≡ false
 
 sign_is : (c : ℕ) → IsSign c (sign_of c)
-sign_is c =
-    let P : Sign → Type 0 = IsSign c in
-    cond_both (is_blank c) a_blank _ P (λ e. e) λ e0.
-    cond_both (c == 10) a_line_feed _ P (eqb-true c 10) λ e1.
-    cond_both (c == 34) a_quote _ P (eqb-true c 34) λ e2.
-    cond_both (c == 40) an_opening _ P (eqb-true c 40) λ e3.
-    cond_both (c == 41) a_closing _ P (eqb-true c 41) λ e4.
-    cond_both (c == 59) a_semicolon of_item P (eqb-true c 59) λ e5.
-    rw (e0, e1, e2, e3, e4, e5) refl
+sign_is c = search rules
 
 sign_of_item : (c : ℕ) → ends_item c ≡ false → sign_of c ≡ of_item
-sign_of_item c e =
-    let p5 = or_parts (is_blank c || c == 10 || c == 34 || c == 40 || c == 41) (c == 59) e in
-    let p4 = or_parts (is_blank c || c == 10 || c == 34 || c == 40) (c == 41) p5.0 in
-    let p3 = or_parts (is_blank c || c == 10 || c == 34) (c == 40) p4.0 in
-    let p2 = or_parts (is_blank c || c == 10) (c == 34) p3.0 in
-    let p1 = or_parts (is_blank c) (c == 10) p2.0 in
-    rw (p1.0, p1.1, p2.1, p3.1, p4.1, p5.1) refl
+sign_of_item c e = search rules
 
 -- ---- first octets
 
@@ -101,9 +83,9 @@ Begins c (quoted units) = c ≡ 34
 pub begins : (c : ℕ) (octets : List ℕ) (p : Token) (rest : List ℕ) → IsToken p → c ∷ octets ≡ token_text p ++ rest → Begins c p
 begins c octets (blank d) rest is e = let same : c ≡ d = cc in ap is_blank same ∙ is
 begins c octets (bare []) rest is e = absurd (omega (arith, is.0))
-begins c octets (bare (plain d ∷ units)) rest is e = let same : c ≡ d = cc in ap ends_item same ∙ is.1.0.0
+begins c octets (bare (plain d ∷ units)) rest is e = cc
 begins c octets (bare (escaped d ∷ units)) rest is e = let same : c ≡ 92 = cc in ap ends_item same
-begins c octets (bare (decimal x y z ∷ units)) rest is e = let same : c ≡ 92 = cc in ap ends_item same
+begins c octets (bare (decimal x y z ∷ units)) rest is e = cc
 begins c octets p rest is e = cc
 
 -- ---- the beginning of a text
@@ -162,25 +144,15 @@ bare_is depth c octets [] rest goes_on whole each none = no_escape (escape_of no
     escape_of (at_end h) = absurd cc
     escape_of (at_octet x more h end) = let same : c ≡ x = cc in absurd (both_ways (ends_item c) goes_on (ap ends_item same ∙ end))
     escape_of (at_backslash bad) = subst IsBadEscape (sym whole) bad
-bare_is depth c octets (w ∷ units) rest goes_on whole each none = record {
-  whole = whole;
-  token = (omega arith, each);
-  stop = none;
-  room = tt;
-}
+bare_is depth c octets (w ∷ units) rest goes_on whole each none = search rules
 
 front_by_sign : (depth c : ℕ) (rest : List ℕ) (sign : Sign) → IsSign c sign → IsFront depth (c ∷ rest) (front_by depth c rest sign)
 front_by_sign depth c rest a_blank is = record { whole = refl; token = is; stop = tt; room = tt }
-front_by_sign depth c rest a_line_feed is = record { whole = first_octet_is c 10 rest is; token = tt; stop = tt; room = tt }
-front_by_sign depth c rest an_opening is = record { whole = first_octet_is c 40 rest is; token = tt; stop = tt; room = tt }
+front_by_sign depth c rest a_line_feed is = search rules
+front_by_sign depth c rest an_opening is = search rules
 front_by_sign zero c rest a_closing is = closes_nothing rest refl (first_octet_is c 41 rest is)
-front_by_sign (suc depth) c rest a_closing is = record { whole = first_octet_is c 41 rest is; token = tt; stop = tt; room = omega arith }
-front_by_sign depth c rest a_semicolon is = record {
-  whole = first_octet_is c 59 rest is ∙ ap (λ t. 59 ∷ t) (comment_whole rest);
-  token = comment_each rest;
-  stop = comment_ends rest;
-  room = tt;
-}
+front_by_sign (suc depth) c rest a_closing is = search rules
+front_by_sign depth c rest a_semicolon is = grind (arith, first_octet_is, comment_whole, comment_each, comment_ends)
 front_by_sign depth c rest a_quote is =
     let found : UnitsAre is_quote rest (units_first is_quote rest) = units_first_are is_quote rest in
     quoted_is depth c rest (units_first is_quote rest).units (units_first is_quote rest).rest is found.whole found.each found.none
@@ -195,8 +167,7 @@ end_is (suc depth) = not_closed (omega arith) refl
 -- what is read at the beginning is so
 pub front_is : (depth : ℕ) (octets : List ℕ) → IsFront depth octets (front_of depth octets)
 unfolding front_of
-front_is depth [] = end_is depth
-front_is depth (c ∷ rest) = front_by_sign depth c rest (sign_of c) (sign_is c)
+front_is depth octets = search (rules, end_is, front_by_sign, sign_is)
 
 -- ---- what is so is read
 
@@ -253,5 +224,4 @@ broken_front (suc depth) rest fault (not_closed some whole) = rw whole refl
 
 pub front_stops : (depth : ℕ) (octets : List ℕ) (fault : Option Fault) → Ends depth octets fault → front_of depth octets ≡ stops fault
 unfolding front_of
-front_stops depth octets None ends = rw (ends.0, ends.1) refl
-front_stops depth octets (Some fault) ends = broken_front depth octets fault ends
+front_stops depth octets fault ends = search (rules, broken_front)

@@ -1,5 +1,5 @@
 -- What a record states before its data, where the state is known.
-use Rattle.std.proofs.Common.{◌≡◌, ℕ, List, [], ◌∷◌, drop, map, Option, Some, None, MatchOption, refl, sym, ap, ◌∙◌, subst}
+use Rattle.std.proofs.Common.{◌≡◌, ℕ, List, [], ◌∷◌, drop, map, Option, Some, None, MatchOption, refl, sym, ap, ◌∙◌, subst, rules}
 use Rattle.std.specs.Prelude.{IsSomeAnd, unwrap_or, option_and_then}
 use Rattle.std.proofs.lemmas.List.{drop-map}
 use Rattle.zone_name.specs.Common.{Labels}
@@ -27,12 +27,11 @@ kind_refused origin before entry d name items after values fault is are bad =
     of_kind name (parts_after [] items) is.owner is.parts are.words.each (subst (λ rest. KindFault rest fault) (sym are.rest) bad)
 
 no_bare : (after : List RawItem) → ((text : List ℕ) (rest : List RawItem) → after ≡ bare text ∷ rest → ⊥) → KindFault after UnknownType
-no_bare (bare text ∷ rest) none = absurd (none text rest refl)
-no_bare after none = refl
+no_bare after none = search rules
 
 -- nothing bare stands at the type's place
 pub kind_missing : (origin : Labels) (before : List Entry) (entry : Entry) (d : ParserState) (name : Labels) (items after : List RawItem) (values : Words) → IsRecordEntry origin before entry d name items → AreWordsOf (parts_after [] items) values after → ((text : List ℕ) (rest : List RawItem) → after ≡ bare text ∷ rest → ⊥) → EntryFault origin before entry UnknownType
-kind_missing origin before entry d name items after values is are none = kind_refused origin before entry d name items after values UnknownType is are (no_bare after none)
+kind_missing origin before entry d name items after values is are none = search (rules, kind_refused, no_bare)
 
 -- the word at the type's place is none of a type
 pub kind_unknown : (origin : Labels) (before : List Entry) (entry : Entry) (d : ParserState) (name : Labels) (items after more : List RawItem) (values : Words) (word : List ℕ) (fault : Fault) → IsRecordEntry origin before entry d name items → AreWordsOf (parts_after [] items) values after → after ≡ bare word ∷ more → IsWordFault word fault → EntryFault origin before entry fault
@@ -41,27 +40,13 @@ kind_unknown origin before entry d name items after more values word fault is ar
 
 -- the class stated last, in the entry or before it
 class_last : (o earlier : Option (List ℕ)) (v : Option ℕ) (inherited number : ℕ) → MatchOption o (v ≡ None) (λ word. IsSomeAnd v (IsClassWord word)) → MatchOption earlier (inherited ≡ 1) (λ word. IsClassWord word inherited) → number ≡ unwrap_or v inherited → MatchOption (or_else o earlier) (number ≡ 1) (λ word. IsClassWord word number)
-class_last None earlier v inherited number none carried e =
-    let same : number ≡ inherited = e ∙ ap (λ (o : Option ℕ). unwrap_or o inherited) none in
-    rw same carried
-class_last (Some word) earlier None inherited number own carried e = absurd own
-class_last (Some word) earlier (Some n) inherited number own carried e = rw e own
+class_last o earlier v inherited number none carried e = search rules
 
 pub has_head : (origin : Labels) (before : List Entry) (entry : Entry) (d : ParserState) (name : Labels) (items after more : List RawItem) (values : Words) (word : List ℕ) (class kind : ℕ) → IsRecordEntry origin before entry d name items → AreWordsOf (parts_after [] items) values after → after ≡ bare word ∷ more → IsKindWord word kind → IsKind kind → class ≡ unwrap_or values.class d.class → HasHead origin before entry (record { owner = name; class = class; kind = kind; items = more })
-has_head origin before entry d name items after more values word class kind is are front named good e = record {
-  parts = parts_after [] items;
-  word = word;
-  split = is.parts;
-  owner = is.owner;
-  words = are.words.each;
-  class = let own : class_word (statement_of entry) ≡ class_among (parts_after [] items).words = ap (λ (o : Option Parts). option_and_then (λ (parts : Parts). class_among parts.words) o) is.parts in rw own (class_last (class_among (parts_after [] items).words) (latest class_word before) values.class d.class class are.words.class is.state.class e);
-  rest = are.rest ∙ front;
-  named = named;
-  kind = good;
-}
+has_head origin before entry d name items after more values word class kind is are front named good e = search rules
 
 pub has_own_ttl : (origin : Labels) (before : List Entry) (entry : Entry) (d : ParserState) (name : Labels) (items after : List RawItem) (values : Words) → IsRecordEntry origin before entry d name items → AreWordsOf (parts_after [] items) values after → IsTtlOrNone (ttl_text (statement_of entry)) values.ttl
-has_own_ttl origin before entry d name items after values is are = subst (λ o. IsTtlOrNone (option_and_then (λ (parts : Parts). ttl_among parts.words) o) values.ttl) (sym is.parts) are.words.ttl
+has_own_ttl origin before entry d name items after values is are = search rules
 
 pub after_words : (items rest : List Item) (n : ℕ) (more : List RawItem) → rest ≡ drop n items → map raw rest ≡ more → drop n (map raw items) ≡ more
 after_words items rest n more back e = drop-map raw n items ∙ (ap (map raw) (sym back) ∙ e)

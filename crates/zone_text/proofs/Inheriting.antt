@@ -1,6 +1,6 @@
 -- The parser state is what the look back over the entries finds: one entry more, and the TTL that
 -- a record inherits.
-use Rattle.std.proofs.Common.{◌≡◌, ℕ, List, ◌∷◌, Option, Some, None, MatchOption, inl, inr, refl, sym, ap, ◌∙◌, subst, []}
+use Rattle.std.proofs.Common.{◌≡◌, ℕ, List, ◌∷◌, Option, Some, None, MatchOption, inl, inr, refl, sym, ap, ◌∙◌, subst, [], rules}
 use Rattle.std.specs.Option.{option_or}
 use Rattle.std.specs.Prelude.{IsSomeAnd, option_and_then}
 use Rattle.zone_name.specs.Common.{Labels}
@@ -21,23 +21,19 @@ use Rattle.zone_text.proofs.EntryOutcome.{states_no_minimum, no_minimum}
 
 -- what is carried so far is that of the latest text, and an entry with a text replaces it
 pub carried_on : (V : Type 0) (Other : V → Type 0) (Is : List ℕ → V → Type 0) (stated earlier : Option (List ℕ)) (carried next : V) → MatchOption earlier (Other carried) (λ text. Is text carried) → MatchOption stated (next ≡ carried) (λ text. Is text next) → MatchOption (or_else stated earlier) (Other next) (λ text. Is text next)
-carried_on V Other Is None earlier carried next so_far same = subst (λ v. MatchOption earlier (Other v) (λ text. Is text v)) (sym same) so_far
-carried_on V Other Is (Some text) earlier carried next so_far is = is
+carried_on V Other Is stated earlier carried next so_far same = search rules
 
 -- a TTL or else another
 replaces : (o : Option (List ℕ)) (own other : Option ℕ) → IsTtlOrNone o own → MatchOption o (option_or own other ≡ other) (λ text. IsSomeAnd (option_or own other) (IsTtl text))
-replaces None own other none = ap (λ (v : Option ℕ). option_or v other) none
-replaces (Some text) None other is = absurd is
-replaces (Some text) (Some n) other is = is
+replaces o own other none = search rules
 
 pub ttl_or_else : (stated earlier : Option (List ℕ)) (own carried : Option ℕ) → IsTtlOrNone stated own → IsTtlOrNone earlier carried → IsTtlOrNone (or_else stated earlier) (option_or own carried)
-ttl_or_else stated earlier own carried is so_far =
-    carried_on (Option ℕ) (λ v. v ≡ None) (λ text v. IsSomeAnd v (IsTtl text)) stated earlier carried (option_or own carried) so_far (replaces stated own carried is)
+ttl_or_else stated earlier own carried is so_far = search rules
 
 -- ---- an entry that is no record
 
 no_word : (origin : Labels) (before : List Entry) (entry : Entry) → parts_of entry ≡ None → (seconds : ℕ) → StatesMinimum origin before entry seconds → ⊥
-no_word origin before entry none seconds states = let clash : Some states.has.parts ≡ None = sym states.has.split ∙ none in cc
+no_word origin before entry none seconds states = cc
 
 last_minimum : (origin : Labels) (before : List Entry) (entry : Entry) (carried : Option ℕ) → ((seconds : ℕ) → StatesMinimum origin before entry seconds → ⊥) → IsOneOrNone (IsLastMinimum origin before) carried → IsOneOrNone (IsLastMinimum origin (entry ∷ before)) carried
 last_minimum origin before entry None none so_far = no_minimum origin before entry none so_far
@@ -65,15 +61,11 @@ leaves origin before entry form d name seconds is no_parts no_owner so_far under
 
 -- no `$ORIGIN`
 pub same_origin : (origin : Labels) (before : List Entry) (entry : Entry) (form : Statement) (name : Labels) → statement_of entry ≡ form → origin_text form ≡ None → IsOrigin origin before name → IsOrigin origin (entry ∷ before) name
-same_origin origin before entry form name is none so_far =
-    let no_text : origin_text (statement_of entry) ≡ None = ap origin_text is ∙ none in
-    rw no_text so_far
+same_origin origin before entry form name is none so_far = search rules
 
 -- no `$TTL`
 pub same_default : (before : List Entry) (entry : Entry) (form : Statement) (seconds : Option ℕ) → statement_of entry ≡ form → default_ttl_text form ≡ None → IsTtlOrNone (latest default_ttl_text before) seconds → IsTtlOrNone (latest default_ttl_text (entry ∷ before)) seconds
-same_default before entry form seconds is none so_far =
-    let no_text : default_ttl_text (statement_of entry) ≡ None = ap default_ttl_text is ∙ none in
-    rw no_text so_far
+same_default before entry form seconds is none so_far = search rules
 
 -- ---- a record
 
@@ -84,9 +76,8 @@ no_directive (sets_ttl items) parts e = absurd cc
 no_directive form parts e = (refl, refl)
 
 minimum_by : Lower → (origin : Labels) (before : List Entry) (entry : Entry) (head : Head) (octets : List ℕ) (own carried : Option ℕ) → HasHead origin before entry head → StatesData origin before head octets → minimum (record { class = head.class; kind = head.kind; octets = octets }) ≡ own → IsOneOrNone (IsLastMinimum origin before) carried → IsOneOrNone (IsLastMinimum origin (entry ∷ before)) (option_or own carried)
-minimum_by lower origin before entry head octets (Some n) carried has rdata e so_far = inl (record { head = head; octets = octets; has = has; rdata = rdata; field = e })
-minimum_by lower origin before entry head octets None carried has rdata e so_far =
-    last_minimum origin before entry carried (states_no_minimum lower origin before entry head octets has rdata e) so_far
+minimum_by lower origin before entry head octets (Some n) carried has rdata e so_far = search rules
+minimum_by lower origin before entry head octets None carried has rdata e so_far = search (rules, last_minimum, states_no_minimum)
 
 -- the MINIMUM of the latest SOA, which may be the record
 pub next_minimum : Lower → (origin : Labels) (before : List Entry) (entry : Entry) (head : Head) (octets : List ℕ) (own carried : Option ℕ) → HasHead origin before entry head → StatesData origin before head octets → own ≡ minimum (record { class = head.class; kind = head.kind; octets = octets }) → IsOneOrNone (IsLastMinimum origin before) carried → IsOneOrNone (IsLastMinimum origin (entry ∷ before)) (option_or own carried)
@@ -94,37 +85,20 @@ next_minimum lower origin before entry head octets own carried has rdata e so_fa
 
 -- what a record leaves, its owner aside
 pub record_leaves : (origin : Labels) (before : List Entry) (entry : Entry) (d next : ParserState) (head : Head) (own : Option ℕ) (owner : Option Labels) → IsStateAfter origin before d → HasHead origin before entry head → IsTtlOrNone (ttl_text (statement_of entry)) own → next.origin ≡ d.origin → next.class ≡ head.class → next.default_ttl ≡ d.default_ttl → next.last_ttl ≡ option_or own d.last_ttl → IsOneOrNone (IsLastMinimum origin (entry ∷ before)) next.minimum → IsOneOrNone (IsLastOwner origin (entry ∷ before)) owner → IsStateAfter origin (entry ∷ before) (with_owner owner next)
-record_leaves origin before entry d next head own owner so_far has own_ttl same_above class_is same_ttl last_is minimum_is owner_is =
-    let none = no_directive (statement_of entry) has.parts has.split in
-    record {
-      under = rw same_above (same_origin origin before entry (statement_of entry) d.origin refl none.0 so_far.under);
-      owner = owner_is;
-      class = rw class_is (has.class);
-      default_ttl = rw same_ttl (same_default before entry (statement_of entry) d.default_ttl refl none.1 so_far.default_ttl);
-      last_ttl = rw last_is (ttl_or_else (ttl_text (statement_of entry)) (latest ttl_text before) own d.last_ttl own_ttl so_far.last_ttl);
-      minimum = minimum_is;
-    }
+record_leaves origin before entry d next head own owner so_far has own_ttl same_above class_is same_ttl last_is minimum_is owner_is = search rules
 
 -- ---- the TTL of a record
 
 or_else_of_three : (a b c : Option (List ℕ)) → or_else (or_else a b) c ≡ or_else a (or_else b c)
-or_else_of_three None b c = refl
-or_else_of_three (Some text) b c = refl
+or_else_of_three a b c = search rules
 
 -- the TTL that is stated for a record, by itself or before it
 pub ttl_stated : (origin : Labels) (before : List Entry) (entry : Entry) (d : ParserState) (own : Option ℕ) → IsStateAfter origin before d → IsTtlOrNone (ttl_text (statement_of entry)) own → IsTtlOrNone (stated_ttl before entry) (option_or (option_or own d.default_ttl) d.last_ttl)
-ttl_stated origin before entry d own so_far own_ttl =
-    subst (λ o. IsTtlOrNone o (option_or (option_or own d.default_ttl) d.last_ttl)) (or_else_of_three (ttl_text (statement_of entry)) (latest default_ttl_text before) (latest ttl_text before))
-    (ttl_or_else (or_else (ttl_text (statement_of entry)) (latest default_ttl_text before)) (latest ttl_text before) (option_or own d.default_ttl) d.last_ttl
-    (ttl_or_else (ttl_text (statement_of entry)) (latest default_ttl_text before) own d.default_ttl own_ttl so_far.default_ttl)
-    so_far.last_ttl)
+ttl_stated origin before entry d own so_far own_ttl = search rules
 
 has_by : (o : Option (List ℕ)) (stated last : Option ℕ) (n : ℕ) (Last : ℕ → Type 0) → IsTtlOrNone o stated → IsOneOrNone Last last → option_or stated last ≡ Some n → MatchOption o (Last n) (λ text. IsTime text n)
-has_by None stated None n Last none is e = absurd (let clash : None ≡ Some n = ap (λ (v : Option ℕ). option_or v None) (sym none) ∙ e in let never : ⊥ = cc in never)
-has_by None stated (Some m) n Last none is e =
-    let same : Some m ≡ Some n = ap (λ (v : Option ℕ). option_or v (Some m)) (sym none) ∙ e in
-    let at : m ≡ n = cc in
-    subst Last at is
+has_by None stated None n Last none is e = cc
+has_by None stated (Some m) n Last none is e = search rules
 has_by (Some text) None last n Last ttl is e = absurd ttl
 has_by (Some text) (Some m) last n Last ttl is e = let at : m ≡ n = cc in subst (IsTime text) at ttl.time
 
@@ -132,13 +106,10 @@ pub has_ttl : (origin : Labels) (before : List Entry) (entry : Entry) (stated la
 has_ttl origin before entry stated last n ttl is e = has_by (stated_ttl before entry) stated last n (IsLastMinimum origin (entry ∷ before)) ttl is e
 
 none_by : (o : Option (List ℕ)) (stated last : Option ℕ) (Last : ℕ → Type 0) → IsTtlOrNone o stated → IsOneOrNone Last last → option_or stated last ≡ None → (n : ℕ) → MatchOption o (Last n) (λ text. IsTime text n) → ⊥
-none_by None stated None Last none is e n has = is n has
-none_by None stated (Some m) Last none is e n has = let clash : Some m ≡ None = ap (λ (v : Option ℕ). option_or v (Some m)) (sym none) ∙ e in cc
-none_by (Some text) None last Last ttl is e n has = ttl
-none_by (Some text) (Some m) last Last ttl is e n has = let clash : Some m ≡ None = e in cc
+none_by o stated last Last none is e n has = search rules
 
 pub has_no_ttl : (origin : Labels) (before : List Entry) (entry : Entry) (stated last : Option ℕ) → IsTtlOrNone (stated_ttl before entry) stated → IsOneOrNone (IsLastMinimum origin (entry ∷ before)) last → option_or stated last ≡ None → (n : ℕ) → HasTtl origin before entry n → ⊥
-has_no_ttl origin before entry stated last ttl is e = none_by (stated_ttl before entry) stated last (IsLastMinimum origin (entry ∷ before)) ttl is e
+has_no_ttl origin before entry stated last ttl is e = search rules
 
 -- ---- directives that are read
 

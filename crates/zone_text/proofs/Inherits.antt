@@ -1,5 +1,5 @@
 -- What an entry inherits is one thing at most, as is what two steps find one after the other.
-use Rattle.std.proofs.Common.{◌≡◌, ℕ, List, [], ◌∷◌, Some, inl, inr, refl, sym, ◌∙◌, ap, subst, Option, None, MatchOption, Result, Ok, Err, ◌⊎◌}
+use Rattle.std.proofs.Common.{◌≡◌, ℕ, List, [], ◌∷◌, Some, inl, inr, refl, sym, ◌∙◌, ap, subst, Option, None, MatchOption, Result, Ok, Err, ◌⊎◌, rules}
 use Rattle.zone_name.specs.Spelling.{Spells}
 use Rattle.zone_rdata.specs.Minimum.{minimum}
 use Rattle.zone_rdata.specs.Number.{IsTime}
@@ -12,8 +12,7 @@ use Rattle.zone_text.specs.Records.{Head, HasHead, StatesData, StatesMinimum, Is
 use Rattle.zone_text.specs.Machine.Lower.{Lower, Once}
 
 pub match_once : (A B : Type 0) (o : Option A) (P : B → Type 0) (Q : A → B → Type 0) → Once B P → ((x : A) → Once B (Q x)) → (a b : B) → MatchOption o (P a) (λ x. Q x a) → MatchOption o (P b) (λ x. Q x b) → a ≡ b
-match_once A B None P Q p q a b x y = p a b x y
-match_once A B (Some v) P Q p q a b x y = q v a b x y
+match_once A B o P Q p q a b x y = search rules
 
 -- a first step and the next one, or the fault of the first
 abbrev pub Then : (A B F : Type 0) → (Result A F → Type 0) → (A → Result B F → Type 0) → Result B F → Type 0

@@ -1,6 +1,6 @@
 -- The items of tokens, gathered from the left: the first token of a text, and the items of those
 -- after it.
-use Rattle.std.proofs.Common.{◌≡◌, ◌≢◌, ℕ, suc, ◌-◌, ◌<◌, ◌≤◌, min, if◌then◌else◌, Bool, true, false, ◌==◌, List, [], ◌∷◌, ◌++◌, length, take, drop, refl, sym, ap, ◌∙◌, subst, arith, append_assoc}
+use Rattle.std.proofs.Common.{◌≡◌, ◌≢◌, ℕ, suc, ◌-◌, ◌<◌, ◌≤◌, min, if◌then◌else◌, Bool, true, false, ◌==◌, List, [], ◌∷◌, ◌++◌, length, take, drop, refl, sym, ap, ◌∙◌, subst, arith, append_assoc, rules}
 use Rattle.std.specs.List.{flat_map, AllByRecursion}
 use Rattle.std.proofs.Math.Seq.{take-append_seam, drop-append_seam}
 use Rattle.std.proofs.lemmas.Bool.{both_ways}
@@ -85,11 +85,7 @@ bare_front octets after item left c n whole goes_on len front back p rest is at 
 -- an octet that begins a bare item is taken
 some_octets : (octets after : List ℕ) (c n : ℕ) → octets ≡ c ∷ after → ends_item c ≡ false → n ≡ item_len ends_item false octets → 0 < n
 unfolding item_len
-some_octets octets after c n whole goes_on len = rw (len, whole, goes_on) (by (c == 92) _ _)
-  where
-    by : (b : Bool) (x y : ℕ) → 0 < (if b then suc x else suc y)
-    by true x y = omega arith
-    by false x y = omega arith
+some_octets octets after c n whole goes_on len = search rules
 
 pub bare_takes : (octets after left : List ℕ) (c n : ℕ) → octets ≡ c ∷ after → ends_item c ≡ false → n ≡ item_len ends_item false octets → n ≤ length octets → left ≡ drop n octets → length left < length octets
 bare_takes octets after left c n whole goes_on len within back =
@@ -125,17 +121,7 @@ LeavesItems entry rest kept = (tokens : List Token) → Cuts entry tokens → Is
 
 left_by : (octets left : List ℕ) (kept new item : List RawItem) (tokens more : List Token) (so_far : List RawItem) → 0 < length octets → FrontIs octets item left → ((p : Token) → IsToken p → item ≡ item_of p → AreKept (so_far ++ item) new) → octets ≡ text more → AllByRecursion IsToken more → AllFollow more → so_far ++ flat_map item_of more ≡ flat_map item_of tokens → IsLeft left new tokens
 left_by octets left kept new item tokens [] so_far some front keeps whole each follow items = absurd (let none : length octets ≡ 0 = ap length whole in omega arith)
-left_by octets left kept new item tokens (p ∷ more) so_far some front keeps whole each follow items =
-    let found = front p (text more) each.0 (ends_after p more each.1 follow) whole in
-    record {
-      more = more;
-      whole = found.1;
-      each = each.1;
-      follow = follow_after p more follow;
-      so_far = so_far ++ item;
-      are_kept = keeps p each.0 found.0;
-      items = rw (append_assoc, found.0) items;
-    }
+left_by octets left kept new item tokens (p ∷ more) so_far some front keeps whole each follow items = search (rules, ends_after, follow_after, append_assoc)
 
 pub one_less : (entry octets left : List ℕ) (kept new : List RawItem) (item : RawItem) → 0 < length octets → FrontIs octets (item ∷ []) left → Keeps item kept new → LeavesItems entry octets kept → LeavesItems entry left new
 one_less entry octets left kept new item some front keeps leaves tokens cuts =
@@ -153,6 +139,4 @@ end_by so_far tokens (p ∷ more) whole each items = absurd (omega (arith, short
 
 -- where nothing is left, the items are all
 pub all_taken : (entry rest : List ℕ) (kept : List RawItem) → rest ≡ [] → LeavesItems entry rest kept → KeepsItems entry kept
-all_taken entry rest kept e leaves tokens cuts =
-    let before = leaves tokens cuts in
-    subst (λ t. AreKept t kept) (end_by before.so_far tokens before.more (sym e ∙ before.whole) before.each before.items) before.are_kept
+all_taken entry rest kept e leaves tokens cuts = search (rules, end_by)

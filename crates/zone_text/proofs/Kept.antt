@@ -1,5 +1,5 @@
 -- The items that are kept of an entry, one by one.
-use Rattle.std.proofs.Common.{◌≡◌, ℕ, ◌<◌, ◌≤◌, Bool, List, [], ◌∷◌, ◌++◌, length, inl, inr, refl, sym, ap, ◌∙◌, subst, arith, length-append}
+use Rattle.std.proofs.Common.{◌≡◌, ℕ, ◌<◌, ◌≤◌, Bool, List, [], ◌∷◌, ◌++◌, length, inl, inr, refl, sym, ap, ◌∙◌, subst, arith, length-append, rules}
 use Rattle.std.specs.List.{flat_map, AllByRecursion}
 use Rattle.std.proofs.lemmas.List.{append-nil}
 use Rattle.zone_name.specs.Spelling.{Written, plain, escaped, decimal, text_of, octet_of, written_text, written_octets, IsUnit, no_octet}
@@ -20,17 +20,14 @@ abbrev Low : List ℕ → Type 0
 Low octets = AllByRecursion (λ c. c < 256) octets
 
 unit_anywhere : (out : ℕ → Bool) (w : Written) → IsUnit out w → IsUnit no_octet w
-unit_anywhere out (plain c) is = (refl, is.1)
-unit_anywhere out w is = is
+unit_anywhere out w is = search rules
 
 units_anywhere : (out : ℕ → Bool) (units : List Written) → AllByRecursion (IsUnit out) units → AllByRecursion (IsUnit no_octet) units
 units_anywhere out [] each = tt
 units_anywhere out (w ∷ units) each = (unit_anywhere out w each.0, units_anywhere out units each.1)
 
 octet_low : (out : ℕ → Bool) (w : Written) → IsUnit out w → Low (text_of w) → octet_of w < 256
-octet_low out (plain c) is low = low.0
-octet_low out (escaped c) is low = low.1.0
-octet_low out (decimal x y z) is low = omega (arith, is.3)
+octet_low out w is low = search rules
 
 octets_low : (out : ℕ → Bool) (units : List Written) → AllByRecursion (IsUnit out) units → Low (written_text units) → Low (written_octets units)
 octets_low out [] each low = tt
@@ -66,16 +63,14 @@ short_spells p item is e short = absurd cc
 
 bare_written : (units : List Written) → 0 < length units → 0 < length (written_text units)
 bare_written [] some = absurd (omega (arith, some))
-bare_written (w ∷ units) some = omega (arith, text_of-some w, length-append (text_of w) (written_text units))
+bare_written (w ∷ units) some = search rules
 
 token_written : (p : Token) → IsToken p → AllByRecursion IsWritten (item_of p)
-token_written (bare units) is = (bare_written units is.0, tt)
-token_written (quoted units) is = (tt, tt)
-token_written p is = tt
+token_written p is = search (rules, bare_written)
 
 pub items_written : (tokens : List Token) → AllByRecursion IsToken tokens → AllByRecursion IsWritten (flat_map item_of tokens)
 items_written [] each = tt
-items_written (p ∷ tokens) each = AllByRecursion-append IsWritten (item_of p) (flat_map item_of tokens) (token_written p each.0) (items_written tokens each.1)
+items_written (p ∷ tokens) each = search (rules, token_written, items_written tokens each.1)
 
 -- ---- one item more
 
@@ -84,7 +79,7 @@ none_kept = inl refl
 
 -- an item of a token comes after those kept, or is left out
 pub keeps_more : (p : Token) (items kept new : List RawItem) (item : RawItem) → IsToken p → item ∷ [] ≡ item_of p → AreKept items kept → Keeps item kept new → AreKept (items ++ item ∷ []) new
-keeps_more p items kept new item is e (inl all) (inl more) = inl (more ∙ ap (λ t. t ++ item ∷ []) all)
+keeps_more p items kept new item is e (inl all) (inl more) = search rules
 keeps_more p items kept new item is e (inl all) (inr less) =
     let spells = short_spells p item is e less.2 in
     inr (record {
@@ -96,7 +91,7 @@ keeps_more p items kept new item is e (inl all) (inr less) =
       many = less.1;
       out = inr (spells.0, spells.1, refl);
     })
-keeps_more p items kept new item is e (inr short) (inl more) = inr (rw more (one_kept _ items kept item short))
+keeps_more p items kept new item is e (inr short) (inl more) = search (rules, one_kept)
 keeps_more p items kept new item is e (inr short) (inr less) =
     let spells = short_spells p item is e less.2 in
     inr (rw (less.0) (one_left_out _ items kept item spells.0 spells.1 short))

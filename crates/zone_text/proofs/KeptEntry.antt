@@ -1,6 +1,6 @@
 -- An entry of very many items has the fault that it has where some that spell strings are left out,
 -- and states nothing.
-use Rattle.std.proofs.Common.{◌≡◌, ℕ, ◌+◌, ◌≤◌, Bool, true, false, if◌then◌else◌, ◌==◌, List, [], ◌∷◌, ◌++◌, length, Option, Some, None, MatchOption, Result, Ok, Err, inl, inr, refl, sym, ap, ◌∙◌, subst, arith}
+use Rattle.std.proofs.Common.{◌≡◌, ℕ, ◌+◌, ◌≤◌, Bool, true, false, if◌then◌else◌, ◌==◌, List, [], ◌∷◌, ◌++◌, length, Option, Some, None, MatchOption, Result, Ok, Err, inl, inr, refl, sym, ap, ◌∙◌, subst, arith, rules}
 use Rattle.std.specs.List.{AllByRecursion, flat_map}
 use Rattle.std.specs.Prelude.{bytes_eq, codes, is_some, OnOk, ⊤}
 use Rattle.zone_name.specs.Common.{Labels}
@@ -45,33 +45,24 @@ abbrev free : List Word → ℕ
 free words = free_one (ttl_among words) + free_one (class_among words)
 
 stated_none : (o : Option (List ℕ)) (word found : Word) → unless_stated o word ≡ Some found → (o ≡ None) × (word ≡ found)
-stated_none None word found e = (refl, cc)
-stated_none (Some text) word found e = absurd cc
+stated_none o word found e = search rules
 
 ttl_less : (words : List Word) (text : List ℕ) (word : Word) → unless_stated (ttl_among words) (ttl text) ≡ Some word → free (words ++ word ∷ []) + 1 ≡ free words
 unfolding free_one
-ttl_less words text word e =
-    let parts = stated_none (ttl_among words) (ttl text) word e in
-    rw (sym parts.1, ttl_pushed words text (ap is_some parts.0), class_kept words text, parts.0) (omega arith)
+ttl_less words text word e = search (rules, stated_none, ttl_pushed, class_kept)
 
 class_less : (words : List Word) (text : List ℕ) (word : Word) → unless_stated (class_among words) (class text) ≡ Some word → free (words ++ word ∷ []) + 1 ≡ free words
 unfolding free_one
-class_less words text word e =
-    let parts = stated_none (class_among words) (class text) word e in
-    rw (sym parts.1, class_pushed words text (ap is_some parts.0), ttl_kept words text, parts.0) (omega arith)
+class_less words text word e = search (rules, stated_none, class_pushed, ttl_kept)
 
 bare_less : (a b : Bool) (words : List Word) (text : List ℕ) (word : Word) → (if a then unless_stated (ttl_among words) (ttl text) else if b then unless_stated (class_among words) (class text) else None) ≡ Some word → free (words ++ word ∷ []) + 1 ≡ free words
-bare_less true b words text word e = ttl_less words text word e
-bare_less false true words text word e = class_less words text word e
-bare_less false false words text word e = absurd cc
+bare_less a b words text word e = search (rules, ttl_less, class_less)
 
 free_less : (words : List Word) (item : RawItem) (word : Word) → word_after words item ≡ Some word → free (words ++ word ∷ []) + 1 ≡ free words
-free_less words (quoted text) word e = absurd cc
-free_less words (bare text) word e = bare_less (begins_with_digit text) (is_class_word text) words text word e
+free_less words item word e = search (rules, bare_less)
 
 part_long : (words : List Word) (item : RawItem) (items kept : List RawItem) (o : Option Word) → word_after words item ≡ o → Long 65548 (item ∷ items) (item ∷ kept) → ((word : Word) → word_after words item ≡ Some word → LongParts (parts_after (words ++ word ∷ []) items) (parts_after (words ++ word ∷ []) kept)) → LongParts (parts_by words item items o) (parts_by words item kept o)
-part_long words item items kept None e long more = record { words = refl; long = long }
-part_long words item items kept (Some word) e long more = more word e
+part_long words item items kept o e long more = search rules
 
 parts_long : (words : List Word) (first more others : List RawItem) → 65548 + free words ≤ length first → AllByRecursion IsWritten (first ++ more) → LeavesOut more others → LongParts (parts_after words (first ++ more)) (parts_after words (first ++ others))
 parts_long words [] more others many written out = absurd (omega (arith, many))
@@ -118,9 +109,7 @@ record LongForms (form other : Statement) : Type 0 where
   parts : (parts : Parts) → parts_in other ≡ Some parts → FormParts (parts_in form) parts
 
 no_one_bare : (items : List RawItem) → 2 ≤ length items → one_bare items ≡ None
-no_one_bare (quoted text ∷ items) many = refl
-no_one_bare (bare text ∷ item ∷ items) many = refl
-no_one_bare items many = absurd (omega (arith, many))
+no_one_bare items many = search rules
 
 word_long : (a b c : Bool) (items kept : List RawItem) → one_bare items ≡ None → one_bare kept ≡ None → LongForms (if a then sets_origin items else if b then sets_ttl items else if c then includes else unknown) (if a then sets_origin kept else if b then sets_ttl kept else if c then includes else unknown)
 word_long false false true items kept many most = record { same = refl; long = tt; other_long = tt; parts = λ p e. absurd cc }
@@ -182,8 +171,7 @@ as_kept : (P : Statement → Type 0) → ((form : Statement) → IsLong form →
 as_kept P same form other h p = subst (λ Q. Q) (sym (same other h.other_long) ∙ ap P h.same ∙ same form h.long) p
 
 kind_of_first : (item : RawItem) (items kept : List RawItem) (fault : Fault) → KindFault (item ∷ kept) fault → KindFault (item ∷ items) fault
-kind_of_first (quoted text) items kept fault bad = bad
-kind_of_first (bare text) items kept fault bad = bad
+kind_of_first item items kept fault bad = search rules
 
 kind_fault : (items kept : List RawItem) (fault : Fault) → Long 65548 items kept → KindFault kept fault → KindFault items fault
 kind_fault items kept fault long bad =

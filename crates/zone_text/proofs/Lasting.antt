@@ -1,5 +1,5 @@
 -- What is settled of a text by its front.
-use Rattle.std.proofs.Common.{◌≡◌, ℕ, zero, ◌≤◌, false, List, [], ◌∷◌, ◌++◌, length, Option, Some, None, refl, sym, ap, ◌∙◌, subst, arith, append_assoc, ◌⊎◌, inl, inr}
+use Rattle.std.proofs.Common.{◌≡◌, ℕ, zero, ◌≤◌, false, List, [], ◌∷◌, ◌++◌, length, Option, Some, None, refl, sym, ap, ◌∙◌, subst, arith, append_assoc, ◌⊎◌, inl, inr, rules}
 use Rattle.std.proofs.lemmas.List.{append-nil}
 use Rattle.std.proofs.lemmas.List.Concat.{flat_map-append}
 use Rattle.zone_name.specs.Spelling.{Written, plain, escaped, decimal, text_of, octet_of, IsEscape, IsBadEscape, is_digit, written_text}
@@ -16,20 +16,17 @@ use Rattle.zone_text.proofs.Cuttings.{IsCut, is_cut, cuts, is_broken, breaks, la
 -- ---- tokens after tokens
 
 line_feed_then : (more : List Token) → AllFollow more → AllFollow (line_feed ∷ more)
-line_feed_then [] follow = tt
-line_feed_then (p ∷ more) follow = (tt, follow)
+line_feed_then more follow = search rules
 
 ends_after : (p q : Token) (tokens : List Token) → EndInLineFeed (p ∷ q ∷ tokens) → EndInLineFeed (q ∷ tokens)
-ends_after (blank c) q tokens ends = ends
-ends_after p q tokens ends = ends
+ends_after p q tokens ends = search rules
 
 the_line_feed : (p : Token) → EndInLineFeed (p ∷ []) → p ≡ line_feed
-the_line_feed line_feed ends = refl
-the_line_feed p ends = absurd ends
+the_line_feed p ends = search rules
 
 follow_append : (tokens more : List Token) → AllFollow tokens → EndInLineFeed tokens → AllFollow more → AllFollow (tokens ++ more)
 follow_append [] more follow ends others = others
-follow_append (p ∷ []) more follow ends others = subst (λ q. AllFollow (q ∷ more)) (sym (the_line_feed p ends)) (line_feed_then more others)
+follow_append (p ∷ []) more follow ends others = search rules
 follow_append (p ∷ q ∷ tokens) more follow ends others = (follow.0, follow_append (q ∷ tokens) more follow.1 (ends_after p q tokens ends) others)
 
 follow_front : (tokens more : List Token) → AllFollow (tokens ++ more) → AllFollow tokens
@@ -45,12 +42,11 @@ last_back [] more rest last = last
 last_back (p ∷ tokens) more rest last = last_back tokens more rest (last_after p (tokens ++ more) rest last)
 
 last_line_feed : (more : List Token) (rest : List ℕ) → MayEndBefore more rest → MayEndBefore (line_feed ∷ more) rest
-last_line_feed [] rest last = tt
-last_line_feed (q ∷ more) rest last = last
+last_line_feed more rest last = search rules
 
 last_append : (tokens more : List Token) (rest : List ℕ) → EndInLineFeed tokens → MayEndBefore more rest → MayEndBefore (tokens ++ more) rest
 last_append [] more rest ends last = last
-last_append (p ∷ []) more rest ends last = subst (λ q. MayEndBefore (q ∷ more) rest) (sym (the_line_feed p ends)) (last_line_feed more rest last)
+last_append (p ∷ []) more rest ends last = search rules
 last_append (p ∷ q ∷ tokens) more rest ends last = last_in_front p q (tokens ++ more) rest (last_append (q ∷ tokens) more rest (ends_after p q tokens ends) last)
 
 depth_append : (depth at : ℕ) (tokens more : List Token) → depth_after depth tokens ≡ Some at → depth_after depth (tokens ++ more) ≡ depth_after at more
@@ -74,10 +70,10 @@ both_cut front rest tokens more fault cut ends others = record {
 }
 
 pub cut_joined : (front rest : List ℕ) (tokens more : List Token) → Cuts front tokens → EndInLineFeed tokens → Cuts rest more → Cuts (front ++ rest) (tokens ++ more)
-cut_joined front rest tokens more cut ends others = cuts (front ++ rest) (tokens ++ more) (both_cut front rest tokens more None cut ends (is_cut rest more others))
+cut_joined front rest tokens more cut ends others = search (rules, cuts, both_cut, is_cut)
 
 pub break_joined : (front rest : List ℕ) (tokens more : List Token) (fault : Fault) → Cuts front tokens → EndInLineFeed tokens → Breaks rest more fault → Breaks (front ++ rest) (tokens ++ more) fault
-break_joined front rest tokens more fault cut ends others = breaks (front ++ rest) (tokens ++ more) fault (both_cut front rest tokens more (Some fault) cut ends (is_broken rest more fault others))
+break_joined front rest tokens more fault cut ends others = search (rules, breaks, both_cut, is_broken)
 
 -- the text after tokens
 pub record IsParted (octets : List ℕ) (tokens more : List Token) (fault : Option Fault) : Type 0 where
@@ -121,33 +117,14 @@ break_parted octets tokens more fault balanced broken =
 -- ---- a break that stays
 
 line_end_is_no_digit : (c : ℕ) → (c ≡ 10) ⊎ (c ≡ 13) → is_digit c ≡ false
-line_end_is_no_digit c (inl e) = rw e refl
-line_end_is_no_digit c (inr e) = rw e refl
+line_end_is_no_digit c e = search rules
 
 -- no written octet begins such a text, nor one that it begins
 begins_none : (rest more after : List ℕ) (w : Written) → IsLostEscape rest → IsEscape w → rest ++ more ≡ text_of w ++ after → ⊥
-begins_none rest more after (escaped d) (at_line_end c others e (inl feed)) written h = written.1 (cc (ap (λ t. t ++ more) e))
-begins_none rest more after (escaped d) (at_line_end c others e (inr return)) written h = written.2 (cc (ap (λ t. t ++ more) e))
-begins_none rest more after (decimal x y z) (at_line_end c others e is) written h = cc (ap (λ t. t ++ more) e, line_end_is_no_digit c is, written.0)
-begins_none rest more after (decimal u v w) (one_digit x c others e is is_not) written h = cc (ap (λ t. t ++ more) e, written.1)
-begins_none rest more after (decimal u v w) (two_digits x y c others e is is_one is_not) written h = cc (ap (λ t. t ++ more) e, written.2)
-begins_none rest more after (escaped d) (one_digit x c others e is is_not) written h = cc (ap (λ t. t ++ more) e, written.0)
-begins_none rest more after (escaped d) (two_digits x y c others e is is_one is_not) written h = cc (ap (λ t. t ++ more) e, written.0)
-begins_none rest more after (escaped d) (too_great x y z others e is is_one is_too great) written h = cc (ap (λ t. t ++ more) e, written.0)
-begins_none rest more after (decimal u v w) (too_great x y z others e is is_one is_too great) written h =
-    let r : rest ++ more ≡ 92 ∷ x ∷ y ∷ z ∷ (others ++ more) = ap (λ t. t ++ more) e in
-    let one : u ≡ x = cc in
-    let two : v ≡ y = cc in
-    let three : w ≡ z = cc in
-    let few : octet_of (decimal u v w) ≤ 255 = written.3 in
-    omega arith
-begins_none rest more after (plain d) _ written h = absurd written
+begins_none rest more after w h2 written h = search rules
 
 pub begins_backslash : (rest : List ℕ) → IsLostEscape rest → (after : List ℕ) × (rest ≡ 92 ∷ after)
-begins_backslash rest (at_line_end c others e is) = (c ∷ others, e)
-begins_backslash rest (one_digit x c others e is is_not) = (x ∷ c ∷ others, e)
-begins_backslash rest (two_digits x y c others e is is_one is_not) = (x ∷ y ∷ c ∷ others, e)
-begins_backslash rest (too_great x y z others e is is_one is_too great) = (x ∷ y ∷ z ∷ others, e)
+begins_backslash rest h = search rules
 
 pub lost_escape : (rest more : List ℕ) → IsLostEscape rest → IsBadEscape (rest ++ more)
 lost_escape rest more lost =
@@ -165,11 +142,7 @@ first_octets c d rest after e = cc
 
 -- a `)` breaks at depth zero alone
 at_depth_zero : (depth : ℕ) (rest after : List ℕ) (fault : Fault) → rest ≡ 41 ∷ after → IsBroken depth rest fault → depth ≡ 0
-at_depth_zero depth rest after fault e (closes_nothing others zero_is whole) = zero_is
-at_depth_zero depth rest after fault e (no_escape bad) = absurd (omega (arith, first_octets 41 92 after bad.0 (sym e ∙ bad.1)))
-at_depth_zero depth rest after fault e (no_quoted_escape units others each whole bad) = absurd (omega (arith, first_octets 41 34 after (written_text units ++ others) (sym e ∙ whole)))
-at_depth_zero depth rest after fault e (no_quote units each whole) = absurd (omega (arith, first_octets 41 34 after (written_text units) (sym e ∙ whole)))
-at_depth_zero depth rest after fault e (not_closed some whole) = absurd (omega (arith, ap length (sym e ∙ whole)))
+at_depth_zero depth rest after fault e h = search rules
 
 broken_more : (depth : ℕ) (rest more : List ℕ) (fault : Fault) → StaysBroken rest → IsBroken depth rest fault → IsBroken depth (rest ++ more) fault
 broken_more depth rest more fault (closing_stays after e) broken =
@@ -200,9 +173,7 @@ stays_more rest more (quoted_escape_stays units after each whole lost) =
     quoted_escape_stays units (after ++ more) each (ap (λ t. t ++ more) whole ∙ ap (λ t. 34 ∷ t) (append_assoc (written_text units) after more)) (lost_more after more lost)
 
 pub stays_some : (rest : List ℕ) → StaysBroken rest → rest ≡ [] → ⊥
-stays_some rest (closing_stays after e) none = cc
-stays_some rest (escape_stays lost) none = let begins : rest ≡ 92 ∷ (begins_backslash rest lost).0 = (begins_backslash rest lost).1 in cc
-stays_some rest (quoted_escape_stays units after each whole lost) none = cc
+stays_some rest h none = search rules
 
 -- no comment is the last token before what breaks a text as it stands
 last_before : (tokens : List Token) (rest after : List ℕ) → (rest ≡ [] → ⊥) → MayEndBefore tokens rest → MayEndBefore tokens after

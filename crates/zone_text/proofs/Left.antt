@@ -1,9 +1,10 @@
 -- What octets leave of a file: the entries that line feeds have ended, and the octets after them.
-use Rattle.std.proofs.Common.{◌≡◌, ℕ, zero, ◌+◌, List, [], ◌∷◌, ◌++◌, ◌==◌, Some, None, refl, sym, ap, ◌∙◌, subst, append_assoc, add_assoc, add-zero, ◌⊎◌, inl, inr, Option}
+use Rattle.std.proofs.Common.{◌≡◌, ℕ, zero, ◌+◌, List, [], ◌∷◌, ◌++◌, ◌==◌, Some, None, refl, sym, ap, ◌∙◌, subst, append_assoc, add_assoc, add-zero, ◌⊎◌, inl, inr, Option, rules, arith}
 use Rattle.std.specs.List.{flat_map, count_by}
 use Rattle.std.specs.Prelude.{reverse}
 use Rattle.std.proofs.lemmas.List.{append-nil, reverse-append}
 use Rattle.std.proofs.lemmas.List.Concat.{flat_map-append}
+use Rattle.std.proofs.lemmas.Grind.{common_steps}
 use Rattle.std.proofs.lemmas.List.Sums.{sum_by-append}
 use Rattle.zone_rdata.specs.declared.fault.Fault.{Fault}
 use Rattle.zone_rdata.specs.declared.fault.Place.{Place}
@@ -25,19 +26,13 @@ use Rattle.zone_text.proofs.ForGood.{break_stays_or_ends, stays_for_good, ends_n
 
 pub text_of_entries : (entries : List (List Token)) → flat_map text entries ≡ text (joined entries)
 text_of_entries [] = refl
-text_of_entries (entry ∷ entries) = ap (λ t. text entry ++ t) (text_of_entries entries) ∙ sym (flat_map-append token_text entry (joined entries))
+text_of_entries (entry ∷ entries) = search (rules, flat_map-append, joined, text_of_entries entries)
 
 and_last_joined : (ended : List (List Token)) (open_tokens : List Token) → joined (and_last ended open_tokens) ≡ joined ended ++ open_tokens
-and_last_joined ended [] = sym (append-nil (joined ended))
-and_last_joined ended (p ∷ open_tokens) =
-    flat_map-append (λ (entry : List Token). entry) ended ((p ∷ open_tokens) ∷ [])
-    ∙ ap (λ t. joined ended ++ t) (append-nil (p ∷ open_tokens))
+and_last_joined ended open_tokens = grind (arith, common_steps)
 
 pub entries_text : (tokens : List Token) → flat_map text (and_last (cut_from zero tokens).ended (cut_from zero tokens).open_tokens) ≡ text tokens
-entries_text tokens =
-    let cut : Cut = cut_from zero tokens in
-    text_of_entries (and_last cut.ended cut.open_tokens)
-    ∙ ap text (and_last_joined cut.ended cut.open_tokens ∙ cut_whole zero tokens)
+entries_text tokens = search (rules, text_of_entries, and_last_joined, cut_whole)
 
 ended_stay : (octets more : List ℕ) → (others : List (List Token)) × ((cut_from zero (cutting (octets ++ more)).tokens).ended ≡ (cut_from zero (cutting octets).tokens).ended ++ others)
 ended_stay octets more =
@@ -87,8 +82,7 @@ none_is_some x e = cc
 
 -- the entries before, the latest first, with one more
 pub turned : (entry : Entry) (entries before : List Entry) → reverse (entry ∷ entries) ++ before ≡ reverse entries ++ (entry ∷ before)
-turned entry entries before =
-    ap (λ t. t ++ before) (reverse-append (entry ∷ []) entries) ∙ append_assoc (reverse entries) (entry ∷ []) before
+turned entry entries before = grind (arith, common_steps)
 
 -- entries of which none is refused, and others after them
 module _ (origin : List (List ℕ)) (after : Ending) where
@@ -119,9 +113,7 @@ module _ (origin : List (List ℕ)) (after : Ending) where
 
 pub numbered_then : (line : ℕ) (entries more : List (List Token)) → numbered line (entries ++ more) ≡ numbered line entries ++ numbered (line + line_feeds (flat_map text entries)) more
 numbered_then line [] more = rw (add-zero) refl
-numbered_then line (first ∷ entries) more =
-    ap (λ t. entry_of line first ∷ t) (numbered_then (line + line_feeds (text first)) entries more)
-    ∙ ap (λ n. entry_of line first ∷ (numbered (line + line_feeds (text first)) entries ++ numbered n more)) (add_assoc line (line_feeds (text first)) (line_feeds (flat_map text entries)) ∙ ap (λ n. line + n) (sym (sum_by-append _ (text first) (flat_map text entries))))
+numbered_then line (first ∷ entries) more = search (rules, add_assoc, sum_by-append, numbered_then (line + line_feeds (text first)) entries more)
 
 -- ---- the tokens of octets, their ended entries, and the octets after these
 
@@ -180,12 +172,10 @@ none_cut octets tokens cut fault good = cut_not_broken octets tokens tokens faul
 
 none_broken : (fed more : List ℕ) (ended : List (List Token)) (unfinished : List ℕ) (tokens : List Token) (fault : Fault) (breaks : Breaks (unfinished ++ more) tokens fault) → IsSplit fed ended unfinished → ((other : Fault) → BreaksForGood (unfinished ++ more) tokens other → ⊥) → StaysBroken breaks.rest ⊎ BreaksAtEnd breaks.rest → (other : Fault) → BreaksForGood (fed ++ more) (joined ended ++ tokens) other → ⊥
 none_broken fed more ended unfinished tokens fault breaks is none (inl stays) other good = none fault (record { breaks = breaks; stays = stays })
-none_broken fed more ended unfinished tokens fault breaks is none (inr ends) other good =
-    ends_not_for_good (fed ++ more) (joined ended ++ tokens) breaks.rest (after_tokens fed more ended unfinished tokens breaks.rest is breaks.whole) ends other good
+none_broken fed more ended unfinished tokens fault breaks is none (inr ends) other good = search (rules, ends_not_for_good, joined, after_tokens)
 
 pub none_more : (fed more : List ℕ) (ended : List (List Token)) (unfinished : List ℕ) (tokens : List Token) → IsSplit fed ended unfinished → AreTokens (unfinished ++ more) tokens → ((fault : Fault) → BreaksForGood (unfinished ++ more) tokens fault → ⊥) → (fault : Fault) → BreaksForGood (fed ++ more) (joined ended ++ tokens) fault → ⊥
-none_more fed more ended unfinished tokens is (inl cut) none fault good =
-    none_cut (fed ++ more) (joined ended ++ tokens) (cut_more fed more ended unfinished tokens is cut) fault good
+none_more fed more ended unfinished tokens is (inl cut) none fault good = search (rules, none_cut, joined, cut_more)
 none_more fed more ended unfinished tokens is (inr found) none fault good =
     none_broken fed more ended unfinished tokens found.0 found.1 is none (break_stays_or_ends (unfinished ++ more) tokens found.0 found.1) fault good
 
@@ -193,10 +183,8 @@ none_more fed more ended unfinished tokens is (inr found) none fault good =
 
 -- no entry more
 pub ended_as_before : (ended : List (List Token)) (more : List Token) → AreEnded zero ended → (cut_from zero more).ended ≡ [] → (cut_from zero (joined ended ++ more)).ended ≡ ended
-ended_as_before ended more are none =
-    ap (λ (c : Cut). c.ended) (again_zero ended more are) ∙ ap (λ t. ended ++ t) none ∙ append-nil ended
+ended_as_before ended more are none = search (rules, again_zero, append-nil)
 
 -- one entry more
 pub one_ended : (ended : List (List Token)) (entry : List Token) → AreEnded zero ended → cut_from zero entry ≡ record { ended = entry ∷ []; open_tokens = [] } → (cut_from zero (joined ended ++ entry)).ended ≡ ended ++ entry ∷ []
-one_ended ended entry are one =
-    ap (λ (c : Cut). c.ended) (again_zero ended entry are) ∙ ap (λ (c : Cut). ended ++ c.ended) one
+one_ended ended entry are one = search (rules, again_zero)

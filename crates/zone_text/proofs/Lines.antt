@@ -1,7 +1,8 @@
 -- Lines of items, and entries that state every part of a record.
-use Rattle.std.proofs.Common.{◌≡◌, ◌≢◌, ℕ, zero, List, [], ◌∷◌, ◌++◌, true, false, ◌==◌, Option, Some, None, refl, ap, ◌∙◌, cond, arith}
+use Rattle.std.proofs.Common.{◌≡◌, ◌≢◌, ℕ, zero, List, [], ◌∷◌, ◌++◌, true, false, ◌==◌, Option, Some, None, refl, ap, ◌∙◌, cond, arith, rules}
 use Rattle.std.specs.Prelude.{IfSome}
 use Rattle.std.specs.List.{flat_map, AllByRecursion}
+use Rattle.std.proofs.lemmas.Grind.{common_steps}
 use Rattle.std.proofs.lemmas.Bool.Decides.{nat_tests}
 use Rattle.zone_name.specs.Common.{Labels}
 use Rattle.zone_rdata.specs.Record.{Record}
@@ -20,9 +21,7 @@ use Rattle.zone_text.proofs.WordsLeft.{next_part}
 -- ---- the line of items
 
 token_of : (item : Token) → IsItem item → IsToken item
-token_of (bare units) is = is
-token_of (quoted units) is = is
-token_of item is = absurd is
+token_of item is = search rules
 
 each_token : (items : List Token) → AllByRecursion IsItem items → AllByRecursion IsToken (line_of items)
 each_token [] are = (tt, tt)
@@ -30,13 +29,10 @@ each_token (item ∷ []) are = (token_of item are.0, (tt, tt))
 each_token (item ∷ next ∷ items) are = (token_of item are.0, (refl, each_token (next ∷ items) are.1))
 
 item_passed : (item : Token) → IsItem item → MayFollow item (blank 32) × MayFollow item line_feed
-item_passed (bare units) is = (tt, tt)
-item_passed (quoted units) is = (tt, tt)
-item_passed item is = absurd is
+item_passed item is = search rules
 
 after_blank : (tokens : List Token) → AllFollow tokens → AllFollow (blank 32 ∷ tokens)
-after_blank [] follow = tt
-after_blank (p ∷ tokens) follow = (tt, follow)
+after_blank tokens follow = search rules
 
 all_follow : (items : List Token) → AllByRecursion IsItem items → AllFollow (line_of items)
 all_follow [] are = tt
@@ -44,9 +40,7 @@ all_follow (item ∷ []) are = ((item_passed item are.0).1, tt)
 all_follow (item ∷ next ∷ items) are = ((item_passed item are.0).0, after_blank (line_of (next ∷ items)) (all_follow (next ∷ items) are.1))
 
 item_depth : (item : Token) (tokens : List Token) → IsItem item → depth_after zero (item ∷ tokens) ≡ depth_after zero tokens
-item_depth (bare units) tokens is = refl
-item_depth (quoted units) tokens is = refl
-item_depth item tokens is = absurd is
+item_depth item tokens is = search rules
 
 line_depth : (items : List Token) → AllByRecursion IsItem items → depth_after zero (line_of items) ≡ Some zero
 line_depth [] are = refl
@@ -54,25 +48,21 @@ line_depth (item ∷ []) are = item_depth item (line_feed ∷ []) are.0
 line_depth (item ∷ next ∷ items) are = item_depth item (blank 32 ∷ line_of (next ∷ items)) are.0 ∙ line_depth (next ∷ items) are.1
 
 pub line_cut : (items : List Token) → AllByRecursion IsItem items → Cuts (text (line_of items)) (line_of items)
-line_cut items are = record { whole = refl; each = each_token items are; follow = all_follow items are; balanced = line_depth items are }
+line_cut items are = search (rules, each_token, all_follow, line_depth)
 
 item_front : (item : Token) (tokens : List Token) → IsItem item → cut_from zero (item ∷ tokens) ≡ in_front_of item (cut_from zero tokens)
-item_front (bare units) tokens is = refl
-item_front (quoted units) tokens is = refl
-item_front item tokens is = absurd is
+item_front item tokens is = search rules
 
 pub line_ended : (items : List Token) → AllByRecursion IsItem items → cut_from zero (line_of items) ≡ record { ended = line_of items ∷ []; open_tokens = [] }
 line_ended [] are = refl
 line_ended (item ∷ []) are = item_front item (line_feed ∷ []) are.0
-line_ended (item ∷ next ∷ items) are =
-    item_front item (blank 32 ∷ line_of (next ∷ items)) are.0
-    ∙ ap (λ (c : Cut). in_front_of item (in_front_of (blank 32) c)) (line_ended (next ∷ items) are.1)
+line_ended (item ∷ next ∷ items) are = search (rules, item_front, line_ended (next ∷ items) are.1)
 
 pub line_entry : (items : List Token) → AllByRecursion IsItem items → entries_of (line_of items) ≡ entry_of 1 (line_of items) ∷ []
-line_entry items are = ap (λ (c : Cut). numbered 1 (and_last c.ended c.open_tokens)) (line_ended items are)
+line_entry items are = search (rules, line_ended)
 
 pub line_items : (items : List Token) → flat_map item_of (line_of items) ≡ flat_map item_of items
-line_items (item ∷ next ∷ items) = ap (λ (raws : List RawItem). item_of item ++ raws) (line_items (next ∷ items))
+line_items (item ∷ next ∷ items) = search (rules, line_items (next ∷ items))
 line_items items = refl
 
 -- ---- the entry that states every part
@@ -81,22 +71,14 @@ not_equal : (a b : ℕ) → (a ≢ b) → (a == b) ≡ false
 not_equal a b other = grind (arith, nat_tests)
 
 owned_form : (first : Option ℕ) (item : RawItem) (items : List RawItem) → IfSome first (λ c. (is_blank c ≡ false) × (c ≢ 36)) → statement_by first (item ∷ items) ≡ owned item items
-owned_form None item items plain = refl
-owned_form (Some c) item items plain = rw (not_equal c 36 plain.1, plain.0) refl
+owned_form first item items plain = search rules
 
 -- after a TTL and a class stands no further word
 no_third : (ttl_word class_word word : List ℕ) → word_after (ttl ttl_word ∷ class class_word ∷ []) (raw.bare word) ≡ None
-no_third ttl_word class_word word =
-    elim (begins_with_digit word) as (λ b. cond {A = Option Word} b None (cond {A = Option Word} (is_class_word word) None None) ≡ None) [
-      | true ↦ refl
-      | false ↦ elim (is_class_word word) as (λ b. cond {A = Option Word} b None None ≡ None) [ true ↦ refl | false ↦ refl ]
-    ]
+no_third ttl_word class_word word = grind (arith, common_steps)
 
 whole_parts : (ttl_word class_word kind_word : List ℕ) (items : List RawItem) → begins_with_digit ttl_word ≡ true → begins_with_digit class_word ≡ false → is_class_word class_word ≡ true → parts_after [] (raw.bare ttl_word ∷ raw.bare class_word ∷ raw.bare kind_word ∷ items) ≡ record { words = ttl ttl_word ∷ class class_word ∷ []; rest = raw.bare kind_word ∷ items }
-whole_parts ttl_word class_word kind_word items is_ttl no_ttl is_class =
-    next_part [] (raw.bare ttl_word) (raw.bare class_word ∷ raw.bare kind_word ∷ items) (Some (ttl ttl_word)) (rw is_ttl refl)
-    ∙ (next_part (ttl ttl_word ∷ []) (raw.bare class_word) (raw.bare kind_word ∷ items) (Some (class class_word)) (rw (no_ttl, is_class) refl)
-    ∙ next_part (ttl ttl_word ∷ class class_word ∷ []) (raw.bare kind_word) items None (no_third ttl_word class_word kind_word))
+whole_parts ttl_word class_word kind_word items is_ttl no_ttl is_class = grind (arith, common_steps)
 
 -- the form of the entry is that of a record with its owner
 pub whole_form : (entry : Entry) (r : Record) (s : StatesWhole entry r) → statement_of entry ≡ owned (raw.bare s.owner_text) (raw.bare s.ttl_text ∷ raw.bare s.class_word ∷ raw.bare s.kind_word ∷ s.items)
@@ -127,4 +109,4 @@ whole_stated origin above before entry r under s =
 
 -- an entry that states every part of a record sets no origin
 pub whole_leaves_origin : (origin above : Labels) (before : List Entry) (entry : Entry) (r : Record) → IsOrigin origin before above → StatesWhole entry r → IsOrigin origin (entry ∷ before) above
-whole_leaves_origin origin above before entry r under s = same_origin origin before entry _ above (whole_form entry r s) refl under
+whole_leaves_origin origin above before entry r under s = search rules

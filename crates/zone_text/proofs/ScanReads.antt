@@ -1,5 +1,5 @@
 -- The tokens of octets as a scan leaves them: one after another, and what is open at the end.
-use Rattle.std.proofs.Common.{◌≡◌, ◌≢◌, ℕ, suc, ◌+◌, ◌-◌, true, false, ◌||◌, ◌==◌, nat_le, List, [], ◌∷◌, ◌++◌, take, Option, Some, refl, sym, ap, ◌∙◌, subst, arith, append_assoc, inl, inr}
+use Rattle.std.proofs.Common.{◌≡◌, ◌≢◌, ℕ, suc, ◌+◌, ◌-◌, true, false, ◌||◌, ◌==◌, nat_le, List, [], ◌∷◌, ◌++◌, take, Option, Some, refl, sym, ap, ◌∙◌, subst, arith, append_assoc, inl, inr, rules}
 use Rattle.std.specs.List.{AllByRecursion}
 use Rattle.std.proofs.lemmas.Bool.{cond_both, cases_Bool, and_parts, and_cases, or_cases, or_parts, eqb-true, eqb-false, leb-true, leb-false}
 use Rattle.std.proofs.lemmas.List.{append-nil}
@@ -62,32 +62,16 @@ pub data Reads (step : Step) : ℕ → List ℕ → Type 0 where
 -- ---- first octets
 
 escape_begins : (step : Step) (octets : List ℕ) → EscapeAt step octets → (more : List ℕ) × (octets ≡ 92 ∷ more)
-escape_begins (On at) octets open_escape = cut_begins open_escape.1
-  where
-    cut_begins : IsCutOff octets → (more : List ℕ) × (octets ≡ 92 ∷ more)
-    cut_begins (after_backslash e) = ([], e)
-    cut_begins (after_digit x e dx) = (x ∷ [], e)
-    cut_begins (after_two_digits x y e dx dy) = (x ∷ y ∷ [], e)
-escape_begins LostEscape octets lost = begins_backslash octets lost
-escape_begins step octets open_escape = absurd open_escape
+escape_begins step octets open_escape = search rules
 
 pub escape_is_bad : (step : Step) (octets : List ℕ) → EscapeAt step octets → IsBadEscape octets
-escape_is_bad (On at) octets open_escape = malformed_is_bad octets (inr open_escape.1)
-escape_is_bad LostEscape octets lost = malformed_is_bad octets (inl lost)
-escape_is_bad step octets open_escape = absurd open_escape
+escape_is_bad step octets open_escape = search rules
 
 no_escape_begins : (step : Step) (c : ℕ) (octets text : List ℕ) → text ≡ c ∷ octets → c ≢ 92 → EscapeAt step text → ⊥
-no_escape_begins step c octets text e other open_escape =
-    let found = escape_begins step text open_escape in
-    let both : c ∷ octets ≡ 92 ∷ found.0 = sym e ∙ found.1 in
-    let same : c ≡ 92 = cc in
-    other same
+no_escape_begins step c octets text e other open_escape = search rules
 
 others_begin : (c d : ℕ) (octets more text : List ℕ) → text ≡ c ∷ octets → text ≡ d ∷ more → c ≢ d → ⊥
-others_begin c d octets more text e f other =
-    let both : c ∷ octets ≡ d ∷ more = sym e ∙ f in
-    let same : c ≡ d = cc in
-    other same
+others_begin c d octets more text e f other = search rules
 
 none_begins : (c : ℕ) (octets text : List ℕ) → text ≡ c ∷ octets → text ≡ [] → ⊥
 none_begins c octets text e f = let both : c ∷ octets ≡ [] = sym e ∙ f in cc
@@ -111,17 +95,17 @@ module _ (step : Step) (depth : ℕ) (w : Written) (is : IsUnit is_quote w) (oct
         stop = tt;
         room = tt;
       }) tt more
-  quoted_more rest (blank d) front none more = absurd (let no : false ≡ true = begins 34 octets (blank d) rest front.token (sym e ∙ front.whole) in cc)
+  quoted_more rest (blank d) front none more = cc
   quoted_more rest (bare units) front none more = absurd (let no : true ≡ false = begins 34 octets (bare units) rest front.token (sym e ∙ front.whole) in cc)
-  quoted_more rest p front none more = absurd (omega (arith, begins 34 octets p rest front.token (sym e ∙ front.whole)))
+  quoted_more rest p front none more = search rules
 
   push_quoted : Reads step depth text → Reads step depth (34 ∷ (text_of w ++ octets))
-  push_quoted (ends depth text s d f) = absurd (others_begin 34 10 octets [] text e f (λ h. omega arith))
-  push_quoted (closes depth text s d f) = absurd (others_begin 34 41 octets [] text e f (λ h. omega arith))
+  push_quoted (ends depth text s d f) = cc
+  push_quoted (closes depth text s d f) = search rules
   push_quoted (runs_out depth text ran f) = absurd (none_begins 34 octets text e f)
   push_quoted (in_quote depth text units ran each f) =
       in_quote depth (34 ∷ (text_of w ++ octets)) (w ∷ units) ran (is, each) (ap (λ t. 34 ∷ (text_of w ++ t)) (rest_after 34 octets (written_text units) text e f))
-  push_quoted (in_escape depth text open_escape) = absurd (no_escape_begins step 34 octets text e (λ h. omega arith) open_escape)
+  push_quoted (in_escape depth text open_escape) = search rules
   push_quoted (in_quoted_escape depth text units after each f open_escape) =
       in_quoted_escape depth (34 ∷ (text_of w ++ octets)) (w ∷ units) after (is, each) (
       ap (λ t. 34 ∷ (text_of w ++ t)) (rest_after 34 octets (written_text units ++ after) text e f)
@@ -140,18 +124,12 @@ module _ (step : Step) (depth c : ℕ) (is : c ≢ 10) (octets text : List ℕ) 
         stop = front.stop;
         room = tt;
       }) tt more
-  comment_more rest (blank d) front none more = absurd (let no : false ≡ true = begins 59 octets (blank d) rest front.token (sym e ∙ front.whole) in cc)
+  comment_more rest (blank d) front none more = cc
   comment_more rest (bare units) front none more = absurd (let no : true ≡ false = begins 59 octets (bare units) rest front.token (sym e ∙ front.whole) in cc)
-  comment_more rest p front none more = absurd (omega (arith, begins 59 octets p rest front.token (sym e ∙ front.whole)))
+  comment_more rest p front none more = search rules
 
   push_comment : Reads step depth text → Reads step depth (59 ∷ c ∷ octets)
-  push_comment (ends depth text s d f) = absurd (others_begin 59 10 octets [] text e f (λ h. omega arith))
-  push_comment (closes depth text s d f) = absurd (others_begin 59 41 octets [] text e f (λ h. omega arith))
-  push_comment (runs_out depth text ran f) = absurd (none_begins 59 octets text e f)
-  push_comment (in_quote depth text units ran each f) = absurd (others_begin 59 34 octets (written_text units) text e f (λ h. omega arith))
-  push_comment (in_escape depth text open_escape) = absurd (no_escape_begins step 59 octets text e (λ h. omega arith) open_escape)
-  push_comment (in_quoted_escape depth text units after each f open_escape) = absurd (others_begin 59 34 octets (written_text units ++ after) text e f (λ h. omega arith))
-  push_comment (then_more depth text p rest front none more) = comment_more rest p front none more
+  push_comment h = search (rules, others_begin, none_begins, no_escape_begins, comment_more)
 
 -- ---- a unit of a bare item more
 
@@ -308,30 +286,23 @@ ends_comment : (step : Step) (depth c : ℕ) (octets : List ℕ) → c ≡ 10 �
 ends_comment step depth c octets e more = then_more depth (59 ∷ c ∷ octets) (comment []) (c ∷ octets) (record { whole = refl; token = tt; stop = e; room = tt }) tt more
 
 comment_line : (depth c : ℕ) → c ≡ 10 → (step : Step) → OneMore Open depth c step → OneMore Comment depth c step
-comment_line depth c e (On next) open_more = (open_more.0, λ octets step more. ends_comment step depth c octets e (open_more.1 octets step more))
-comment_line depth c e step open_more = ends_comment step depth c [] e open_more
+comment_line depth c e step open_more = search (rules, ends_comment)
 
 one_comment : (depth c : ℕ) → OneMore Comment depth c (comment_step depth c)
-one_comment depth c = cond_both (c == 10) (fed_line depth) (on Comment depth) (OneMore Comment depth c)
-    (λ e. comment_line depth c (eqb-true c 10 e) (fed_line depth) (open_line depth c (eqb-true c 10 e)))
-    (λ e. (tt, λ octets step more. push_comment step depth c (eqb-false c 10 e) octets (59 ∷ octets) refl more))
+one_comment depth c = search (rules, cond_both, comment_line, eqb-true, open_line, push_comment, eqb-false)
 
 one_escaped : (depth c : ℕ) (escape : Escape) (after : AfterBackslash) → EscapeBy escape c after → OneMore (Escaped escape) depth c (escape_step (λ e. Escaped e) Open depth after)
-one_escaped depth c escape (Inside next) by = (by.0, λ octets step more. subst (Reads step depth) (sym (by.1 octets)) more)
-one_escaped depth c escape Whole by = (tt, λ octets step more. subst (Reads step depth) (sym (by.2 octets)) (push_bare step depth by.0 (unit_of_escape ends_item by.0 by.1) octets more))
+one_escaped depth c escape (Inside next) by = search rules
+one_escaped depth c escape Whole by = search (rules, push_bare, unit_of_escape)
 one_escaped depth c escape Lost by = in_escape depth (escape_text escape (c ∷ [])) by
 
 one_quoted_escaped : (depth c : ℕ) (escape : Escape) (after : AfterBackslash) → EscapeBy escape c after → OneMore (QuotedEscaped escape) depth c (escape_step (λ e. QuotedEscaped e) Quoted depth after)
-one_quoted_escaped depth c escape (Inside next) by = (by.0, λ octets step more. subst (λ t. Reads step depth (34 ∷ t)) (sym (by.1 octets)) more)
-one_quoted_escaped depth c escape Whole by = (tt, λ octets step more. subst (λ t. Reads step depth (34 ∷ t)) (sym (by.2 octets)) (push_quoted step depth by.0 (unit_of_escape is_quote by.0 by.1) octets (34 ∷ octets) refl more))
+one_quoted_escaped depth c escape (Inside next) by = search rules
+one_quoted_escaped depth c escape Whole by = search (rules, push_quoted, unit_of_escape)
 one_quoted_escaped depth c escape Lost by = in_quoted_escape depth (34 ∷ escape_text escape (c ∷ [])) [] (escape_text escape (c ∷ [])) tt refl by
 
 one_more : (mode : Mode) (depth c : ℕ) → HoldsDigits mode → OneMore mode depth c (step_in mode depth c)
-one_more Open depth c digits = one_open depth c
-one_more Quoted depth c digits = one_quoted depth c
-one_more Comment depth c digits = one_comment depth c
-one_more (Escaped escape) depth c digits = one_escaped depth c escape (machine.after_backslash escape c) (escape_by escape c digits)
-one_more (QuotedEscaped escape) depth c digits = one_quoted_escaped depth c escape (machine.after_backslash escape c) (escape_by escape c digits)
+one_more mode depth c digits = search (rules, one_open, one_quoted, one_comment, one_escaped, escape_by, one_quoted_escaped)
 
 -- ---- no octet
 
@@ -350,11 +321,7 @@ none_more (QuotedEscaped escape) depth digits = in_quoted_escape depth (34 ∷ e
 -- ---- all octets of a scan
 
 reads_by : (at : ScanState) (c : ℕ) (rest : List ℕ) (step : Step) → OneMore at.mode at.depth c step → ((next : ScanState) → HoldsDigits next.mode → Reads (scan_of next rest).step next.depth (opened next.mode (take (scan_of next rest).taken rest))) → let found : Scanned = scan_on (λ next. scan_of next rest) step in Reads found.step at.depth (opened at.mode (take found.taken (c ∷ rest)))
-reads_by at c rest (On next) one more =
-    let n : ℕ = (scan_of next rest).taken in
-    let same : suc n ≡ 1 + n = omega arith in
-    subst (λ m. Reads (scan_of next rest).step at.depth (opened at.mode (take m (c ∷ rest)))) same (one.1 (take n rest) (scan_of next rest).step (more next one.0))
-reads_by at c rest step one more = one
+reads_by at c rest step one more = search rules
 
 pub reads : (octets : List ℕ) (at : ScanState) → HoldsDigits at.mode → Reads (scan_of at octets).step at.depth (opened at.mode (take (scan_of at octets).taken octets))
 unfolding scan_of

@@ -1,6 +1,7 @@
 -- One octet of a scan, and how answers of scans are joined.
-use Rattle.std.proofs.Common.{◌≡◌, ℕ, suc, Bool, ◌+◌, ◌-◌, ◌<◌, ◌≤◌, List, length, drop, get_or, false, ◌==◌, ◌||◌, refl, sym, ap, ◌∙◌, subst, arith, drop-cons}
+use Rattle.std.proofs.Common.{◌≡◌, ℕ, suc, Bool, ◌+◌, ◌-◌, ◌<◌, ◌≤◌, List, length, drop, get_or, false, ◌==◌, ◌||◌, refl, sym, ap, ◌∙◌, subst, arith, drop-cons, rules}
 use Rattle.std.proofs.Math.Seq.{drop-length}
+use Rattle.std.proofs.lemmas.Grind.{common_steps}
 use Rattle.std.proofs.lemmas.Bool.{cond_both, or_parts, both_ways}
 use Rattle.zone_text.specs.declared.scan.AfterBackslash.{AfterBackslash}
 use Rattle.zone_text.specs.declared.scan.AfterBackslash.TheVariants.{Lost}
@@ -16,13 +17,7 @@ use Rattle.zone_text.specs.Machine.Scan.{on, moves, fed_line, closed, open_step,
 -- ---- an octet that leaves the state as it is
 
 stays_open : (depth c : ℕ) → moves Open c ≡ false → open_step depth c ≡ on Open depth
-stays_open depth c e =
-    let p5 = or_parts (c == 10 || c == 34 || c == 40 || c == 41 || c == 59) (c == 92) e in
-    let p4 = or_parts (c == 10 || c == 34 || c == 40 || c == 41) (c == 59) p5.0 in
-    let p3 = or_parts (c == 10 || c == 34 || c == 40) (c == 41) p4.0 in
-    let p2 = or_parts (c == 10 || c == 34) (c == 40) p3.0 in
-    let p1 = or_parts (c == 10) (c == 34) p2.0 in
-    rw (p1.0, p1.1, p2.1, p3.1, p4.1, p5.1) refl
+stays_open depth c e = search rules
 
 stays_in : (mode : Mode) (depth c : ℕ) → moves mode c ≡ false → step_in mode depth c ≡ on mode depth
 stays_in Open depth c e = stays_open depth c e
@@ -36,23 +31,18 @@ stays at c e = stays_in at.mode at.depth c e
 -- ---- answers joined
 
 pub further_on : (n m : ℕ) (found : Scanned) → further n (further m found) ≡ further (n + m) found
-further_on n m found = let e : n + (m + found.taken) ≡ n + m + found.taken = omega arith in ap (λ t. record { taken = t; step = found.step }) e
+further_on n m found = search rules
 
 pub further_none : (found : Scanned) → further 0 found ≡ found
-further_none found = let e : 0 + found.taken ≡ found.taken = omega arith in ap (λ t. record { taken = t; step = found.step }) e
+further_none found = search rules
 
 at_octet : (at : ScanState) (octets : List ℕ) (i : ℕ) → i < length octets → scan_of at (drop i octets) ≡ scan_on (λ next. scan_of next (drop (i + 1) octets)) (step_of at (get_or octets i 0))
 unfolding scan_of
-at_octet at octets i in_range =
-    ap (scan_of at) (drop-cons octets i 0 in_range)
-    ∙ ap (λ n. scan_on (λ next. scan_of next (drop n octets)) (step_of at (get_or octets i 0))) (let e : suc i ≡ i + 1 = omega arith in e)
+at_octet at octets i in_range = grind (arith, common_steps)
 
 -- one octet more, and the scan goes on
 pub one_on : (start at next : ScanState) (octets : List ℕ) (i : ℕ) → i < length octets → step_of at (get_or octets i 0) ≡ On next → scan_of start octets ≡ further i (scan_of at (drop i octets)) → scan_of start octets ≡ further (i + 1) (scan_of next (drop (i + 1) octets))
-one_on start at next octets i in_range e before =
-    before
-    ∙ ap (further i) (at_octet at octets i in_range ∙ ap (scan_on (λ s. scan_of s (drop (i + 1) octets))) e)
-    ∙ further_on i 1 (scan_of next (drop (i + 1) octets))
+one_on start at next octets i in_range e before = search (rules, at_octet, further_on)
 
 -- and the depth grows by one at the most
 
@@ -63,40 +53,25 @@ Rises depth LostEscape = Unit {0}
 Rises depth ClosesNothing = Unit {0}
 
 rises_fed : (depth : ℕ) → Rises depth (fed_line depth)
-rises_fed depth = cond_both (depth == 0) Ends (on Open depth) (Rises depth) (λ e. tt) (λ e. omega arith)
+rises_fed depth = search rules
 
 rises_closed : (depth : ℕ) → Rises depth (closed depth)
-rises_closed depth = cond_both (depth == 0) ClosesNothing (on Open (depth - 1)) (Rises depth) (λ e. tt) (λ e. omega arith)
+rises_closed depth = search rules
 
 rises_open : (depth c : ℕ) → Rises depth (open_step depth c)
-rises_open depth c =
-    let P : Step → Type 0 = Rises depth in
-    cond_both (c == 10) (fed_line depth) _ P (λ e. rises_fed depth) λ e.
-    cond_both (c == 34) (on Quoted depth) _ P (λ e. omega arith) λ e.
-    cond_both (c == 40) (on Open (depth + 1)) _ P (λ e. omega arith) λ e.
-    cond_both (c == 41) (closed depth) _ P (λ e. rises_closed depth) λ e.
-    cond_both (c == 59) (on Comment depth) _ P (λ e. omega arith) λ e.
-    cond_both (c == 92) _ (on Open depth) P (λ e. omega arith) λ e. omega arith
+rises_open depth c = search rules
 
 rises_quoted : (depth c : ℕ) → Rises depth (quoted_step depth c)
-rises_quoted depth c =
-    let P : Step → Type 0 = Rises depth in
-    cond_both (c == 34) (on Open depth) _ P (λ e. omega arith) λ e.
-    cond_both (c == 92) _ (on Quoted depth) P (λ e. omega arith) λ e. omega arith
+rises_quoted depth c = search rules
 
 rises_comment : (depth c : ℕ) → Rises depth (comment_step depth c)
-rises_comment depth c = cond_both (c == 10) (fed_line depth) (on Comment depth) (Rises depth) (λ e. rises_fed depth) (λ e. omega arith)
+rises_comment depth c = search rules
 
 rises_escape : (inside : Escape → Mode) (outside : Mode) (depth : ℕ) (after : AfterBackslash) → Rises depth (escape_step inside outside depth after)
-rises_escape inside outside depth Lost = tt
-rises_escape inside outside depth after = omega arith
+rises_escape inside outside depth after = search rules
 
 rises_in : (mode : Mode) (depth c : ℕ) → Rises depth (step_in mode depth c)
-rises_in Open depth c = rises_open depth c
-rises_in Quoted depth c = rises_quoted depth c
-rises_in Comment depth c = rises_comment depth c
-rises_in (Escaped escape) depth c = rises_escape (λ e. Escaped e) Open depth (after_backslash escape c)
-rises_in (QuotedEscaped escape) depth c = rises_escape (λ e. QuotedEscaped e) Quoted depth (after_backslash escape c)
+rises_in mode depth c = search rules
 
 pub rises : (at next : ScanState) (c : ℕ) → step_of at c ≡ On next → next.depth ≤ at.depth + 1
 rises at next c e = subst (Rises at.depth) e (rises_in at.mode at.depth c)
@@ -104,20 +79,14 @@ rises at next c e = subst (Rises at.depth) e (rises_in at.mode at.depth c)
 -- ---- where the scan stops
 
 last_step : (go_on : ScanState → Scanned) (step : Step) → ((next : ScanState) → step ≡ On next → ⊥) → scan_on go_on step ≡ record { taken = 1; step = step }
-last_step go_on (On next) last = absurd (last next refl)
-last_step go_on step last = refl
+last_step go_on step last = search rules
 
 pub one_stops : (start at : ScanState) (step : Step) (octets : List ℕ) (i : ℕ) → i < length octets → step ≡ step_of at (get_or octets i 0) → ((next : ScanState) → step ≡ On next → ⊥) → scan_of start octets ≡ further i (scan_of at (drop i octets)) → record { taken = i + 1; step = step } ≡ scan_of start octets
-one_stops start at step octets i in_range e last before =
-    sym (
-    before
-    ∙ ap (further i) (at_octet at octets i in_range ∙ ap (scan_on (λ s. scan_of s (drop (i + 1) octets))) (sym e) ∙ last_step (λ s. scan_of s (drop (i + 1) octets)) step last)
-    )
+one_stops start at step octets i in_range e last before = search (rules, at_octet, last_step)
 
 pub all_taken : (start at : ScanState) (octets : List ℕ) (i : ℕ) → i ≡ length octets → scan_of start octets ≡ further i (scan_of at (drop i octets)) → record { taken = length octets; step = On at } ≡ scan_of start octets
 unfolding scan_of
-all_taken start at octets i e before =
-    sym (before ∙ ap (λ t. further i (scan_of at t)) (ap (λ n. drop n octets) e ∙ drop-length octets) ∙ (let n : i + 0 ≡ length octets = omega arith in ap (λ t. record { taken = t; step = On at }) n))
+all_taken start at octets i e before = grind (arith, common_steps)
 
 -- ---- octets that leave an open state as it is
 

@@ -1,6 +1,6 @@
 -- What a scan says of the octets that it took: where it goes on and stops, and the tokens that they
 -- are.
-use Rattle.std.proofs.Common.{◌≡◌, ℕ, zero, suc, ◌+◌, ◌≤◌, List, [], ◌∷◌, ◌++◌, length, take, Option, Some, None, refl, sym, ap, ◌∙◌, subst, arith, inl, inr, ◌≢◌, ◌-◌, ◌==◌}
+use Rattle.std.proofs.Common.{◌≡◌, ℕ, zero, suc, ◌+◌, ◌≤◌, List, [], ◌∷◌, ◌++◌, length, take, Option, Some, None, refl, sym, ap, ◌∙◌, subst, arith, inl, inr, ◌≢◌, ◌-◌, ◌==◌, rules}
 use Rattle.std.proofs.Math.Seq.{take-length}
 use Rattle.std.proofs.lemmas.List.{length-take}
 use Rattle.std.specs.Prelude.{MatchOption}
@@ -57,31 +57,19 @@ pub record IsRead (step : Step) (depth : ℕ) (octets : List ℕ) : Type 0 where
 -- ---- entries
 
 in_entry : (step : Step) (p : Token) (tokens : List Token) → in_front_of p (entry_by step tokens) ≡ entry_by step (p ∷ tokens)
-in_entry (On at) p tokens = refl
-in_entry step p tokens = refl
+in_entry step p tokens = search rules
 
 token_on : (depth : ℕ) (p : Token) (tokens : List Token) → HasRoom depth p → EndsNone depth p → cut_from depth (p ∷ tokens) ≡ in_front_of p (cut_from (depth_past depth p) tokens)
-token_on zero line_feed tokens room none = absurd (none refl)
-token_on zero closing tokens room none = absurd (omega arith)
-token_on (suc depth) closing tokens room none = let e : depth ≡ suc depth - 1 = omega arith in ap (λ d. in_front_of closing (cut_from d tokens)) e
-token_on depth p tokens room none = refl
+token_on depth p tokens room none = search rules
 
 no_entry : (depth : ℕ) → cut_from depth [] ≡ record { ended = []; open_tokens = [] }
-no_entry zero = refl
-no_entry (suc depth) = refl
+no_entry depth = cc
 
 -- ---- what is read
 
 -- no token
 stop_read : (step : Step) (depth : ℕ) (octets : List ℕ) → EndsAt depth octets (fault_of step) → Left step octets → entry_by step [] ≡ record { ended = []; open_tokens = [] } → IsRead step depth octets
-stop_read step depth octets stop left e = record {
-  tokens = [];
-  rest = octets;
-  whole = refl;
-  left = left;
-  cut = no_token depth octets (fault_of step) stop;
-  entries = no_entry depth ∙ sym e;
-}
+stop_read step depth octets stop left e = search (rules, no_token, no_entry)
 
 line_read : (octets : List ℕ) → octets ≡ 10 ∷ [] → IsRead Ends zero octets
 line_read octets e = record {
@@ -94,7 +82,7 @@ line_read octets e = record {
 }
 
 at_depth : (step last : Step) (depth : ℕ) (octets : List ℕ) → step ≡ last → depth ≡ 0 → IsRead last zero octets → IsRead step depth octets
-at_depth step last depth octets e d read = subst (λ s. IsRead s depth octets) (sym e) (subst (λ n. IsRead last n octets) (sym d) read)
+at_depth step last depth octets e d read = search rules
 
 unclosed_ends : (depth : ℕ) (octets : List ℕ) → octets ≡ [] → EndsAt depth octets (unclosed depth)
 unclosed_ends depth octets e = cond_both (depth == 0) None (Some UnbalancedParenthesis) (EndsAt depth octets)
@@ -122,9 +110,9 @@ token_read step depth octets p rest front none more = record {
 }
 
 pub is_read : (step : Step) (depth : ℕ) (octets : List ℕ) → Reads step depth octets → IsRead step depth octets
-is_read step _ _ (ends depth octets e d f) = at_depth step Ends depth octets e d (line_read octets f)
+is_read step _ _ (ends depth octets e d f) = search (rules, at_depth, line_read)
 is_read step _ _ (closes depth octets e d f) = at_depth step ClosesNothing depth octets e d (stop_read ClosesNothing zero octets (closes_none [] refl f) (closing_stays [] f) refl)
-is_read step _ _ (runs_out depth octets ran f) = out_read step (unclosed depth) depth octets ran (unclosed_ends depth octets f) (nothing_left f)
+is_read step _ _ (runs_out depth octets ran f) = search (rules, out_read, unclosed_ends)
 is_read step _ _ (in_quote depth octets units ran each f) = out_read step (Some UnclosedQuote) depth octets ran (no_quote units each f) (quote_open units each f)
 is_read step _ _ (in_escape depth octets open_escape) =
     escape_read step depth octets octets open_escape (no_escape (escape_is_bad step octets open_escape)) escape_open escape_stays
@@ -145,7 +133,7 @@ module _ (at : ScanState) (rest b : List ℕ) where
 -- a scan that doesn't stop goes on after the octets
 pub step_goes_on : (start at : ScanState) (a b : List ℕ) → (scan_of start a).step ≡ On at → scan_of start (a ++ b) ≡ further (length a) (scan_of at b)
 unfolding scan_of
-step_goes_on start at [] b e = let same : start ≡ at = cc in ap (λ s. scan_of s b) same ∙ sym (further_none (scan_of at b))
+step_goes_on start at [] b e = search rules
 step_goes_on start at (c ∷ rest) b e = go_on_by at rest b (step_of start c) (λ next more. step_goes_on next at rest b more) e
 
 pub goes_on : (start at : ScanState) (a b : List ℕ) → scan_of start a ≡ record { taken = length a; step = On at } → scan_of start (a ++ b) ≡ further (length a) (scan_of at b)
@@ -153,13 +141,7 @@ goes_on start at a b e = step_goes_on start at a b (ap (λ (found : Scanned). fo
 
 front_by : (start : ScanState) (c : ℕ) (rest : List ℕ) (step : Step) → step_of start c ≡ step → ((next : ScanState) → scan_of next (take (scan_of next rest).taken rest) ≡ scan_of next rest) → scan_of start (take (scan_on (λ next. scan_of next rest) step).taken (c ∷ rest)) ≡ scan_on (λ next. scan_of next rest) step
 unfolding scan_of
-front_by start c rest (On next) e more =
-    let n : ℕ = (scan_of next rest).taken in
-    let same : 1 + n ≡ suc n = omega arith in
-    ap (λ m. scan_of start (take m (c ∷ rest))) same
-    ∙ ap (scan_on (λ s. scan_of s (take n rest))) e
-    ∙ ap (further 1) (more next)
-front_by start c rest step e more = ap (scan_on (λ s. scan_of s [])) e
+front_by start c rest step e more = search rules
 
 -- the octets that it took give the same answer by themselves
 pub stops_at : (start : ScanState) (octets : List ℕ) → scan_of start (take (scan_of start octets).taken octets) ≡ scan_of start octets
@@ -168,8 +150,7 @@ stops_at start [] = refl
 stops_at start (c ∷ rest) = front_by start c rest (step_of start c) refl (λ next. stops_at next rest)
 
 within_by : (rest : List ℕ) (step : Step) → ((next : ScanState) → (scan_of next rest).taken ≤ length rest) → (scan_on (λ next. scan_of next rest) step).taken ≤ suc (length rest)
-within_by rest (On next) more = omega (arith, more next)
-within_by rest step more = omega arith
+within_by rest step more = search rules
 
 pub taken_within : (start : ScanState) (octets : List ℕ) → (scan_of start octets).taken ≤ length octets
 unfolding scan_of
@@ -187,7 +168,7 @@ depth_by start at c rest step same more e = absurd cc
 -- each octet opens one parenthesis at the most
 pub unfinished_depth : (start at : ScanState) (octets : List ℕ) → (scan_of start octets).step ≡ On at → at.depth ≤ start.depth + length octets
 unfolding scan_of
-unfinished_depth start at [] e = let same : start ≡ at = cc in omega (arith, ap (λ (s : ScanState). s.depth) same)
+unfinished_depth start at [] e = search rules
 unfinished_depth start at (c ∷ rest) e = depth_by start at c rest (step_of start c) refl (λ next more. unfinished_depth next at rest more) e
 
 -- ---- the tokens of octets that a scan took whole
@@ -207,8 +188,7 @@ ends_entry octets e =
     (read.tokens, record { cut = cuts octets read.tokens read.cut; ended = read.entries })
 
 are_tokens : (octets : List ℕ) (tokens : List Token) (fault : Option Fault) → IsCut zero octets tokens fault → AreTokens octets tokens
-are_tokens octets tokens None is = inl (cuts octets tokens is)
-are_tokens octets tokens (Some fault) is = inr (fault, breaks octets tokens fault is)
+are_tokens octets tokens fault is = search rules
 
 pub stays_open : (octets : List ℕ) (at : ScanState) → scan_of beginning octets ≡ record { taken = length octets; step = On at } → (tokens : List Token) × AreTokens octets tokens × ((cut_from zero tokens).ended ≡ []) × ((fault : Fault) → BreaksForGood octets tokens fault → ⊥)
 stays_open octets at e =
@@ -230,8 +210,7 @@ abbrev AtEnd : List ℕ → Option Fault → Type 0
 AtEnd octets fault = MatchOption fault ((tokens : List Token) × Cuts octets tokens × ((cut_from zero tokens).ended ≡ [])) (λ found. (tokens : List Token) × Breaks octets tokens found × ((cut_from zero tokens).ended ≡ []))
 
 end_by : (octets : List ℕ) (tokens : List Token) (fault : Option Fault) → IsCut zero octets tokens fault → (cut_from zero tokens).ended ≡ [] → AtEnd octets fault
-end_by octets tokens None is none = (tokens, cuts octets tokens is, none)
-end_by octets tokens (Some fault) is none = (tokens, breaks octets tokens fault is, none)
+end_by octets tokens fault is none = search rules
 
 pub at_end : (octets : List ℕ) (at : ScanState) → scan_of beginning octets ≡ record { taken = length octets; step = On at } → MatchOption (end_fault_of at) ((tokens : List Token) × Cuts octets tokens × ((cut_from zero tokens).ended ≡ [])) (λ fault. (tokens : List Token) × Breaks octets tokens fault × ((cut_from zero tokens).ended ≡ []))
 at_end octets at e =

@@ -1,5 +1,5 @@
 -- What a source stands for.
-use Rattle.std.proofs.Common.{◌≡◌, ℕ, ◌+◌, List, [], ◌++◌, length, true, false, Option, Some, None, IfSome, refl, ap, ◌∙◌, arith, length-append, lit<}
+use Rattle.std.proofs.Common.{◌≡◌, ℕ, ◌+◌, List, [], ◌++◌, length, true, false, Option, Some, None, IfSome, refl, ap, ◌∙◌, arith, length-append, lit<, rules}
 use Rattle.std.proofs.lemmas.Bool.{both_ways}
 use Rattle.zone_name.specs.Common.{Labels}
 use Rattle.zone_rdata.proofs.Bytes.{Bytes, bytes_append}
@@ -58,11 +58,7 @@ stands_finished origin status n old new unfinished left fed given going reads st
 
 -- once a fault is decided pieces are counted alone
 pub counts_alone : (status : FedStatus) (n more k : ℕ) (old new : EntrySplitter) → more ≡ n + k → IfSome old.ended.decided.ending (λ _. (true ≡ true) × (new ≡ old)) → IfSome old.ended.decided.ending (λ _. (true ≡ true) × (state_of status more new.ended new.unfinished.items ≡ counted k (state_of status n old.ended old.unfinished.items)))
-counts_alone status n more k old new count settled = by old.ended.decided.ending settled
-  where
-    by : {A : Type 0} (ending : Option A) → IfSome ending (λ _. (true ≡ true) × (new ≡ old)) → IfSome ending (λ _. (true ≡ true) × (state_of status more new.ended new.unfinished.items ≡ counted k (state_of status n old.ended old.unfinished.items)))
-    by None same = tt
-    by (Some found) same = (refl, ap (λ (s : EntrySplitter). state_of status more s.ended s.unfinished.items) same.1 ∙ ap (λ m. state_of status m old.ended old.unfinished.items) count)
+counts_alone status n more k old new count settled = search rules
 
 -- ---- the whole file
 

@@ -1,5 +1,5 @@
 -- Items that stand as they are printed are the items of one line.
-use Rattle.std.proofs.Common.{◌≡◌, ◌≢◌, ℕ, ◌<◌, true, false, List, [], ◌∷◌, ◌++◌, length, map, refl, sym, ap, ap₂, ◌∙◌, subst, arith, append_assoc}
+use Rattle.std.proofs.Common.{◌≡◌, ◌≢◌, ℕ, ◌<◌, true, false, List, [], ◌∷◌, ◌++◌, length, map, refl, sym, ap, ap₂, ◌∙◌, subst, arith, append_assoc, rules}
 use Rattle.std.specs.Prelude.{IfSome}
 use Rattle.std.specs.List.{flat_map, AllByRecursion, join_with_byte}
 use Rattle.std.proofs.lemmas.Bool.{both_ways, not-false}
@@ -20,8 +20,7 @@ bare_goes_on : (c : ℕ) → is_bare c ≡ true → ends_item c ≡ false
 bare_goes_on c is = grind (arith, nat_tests)
 
 unit_goes_on : (w : Written) → IsUnit not_bare w → IsUnit ends_item w
-unit_goes_on (plain c) is = (bare_goes_on c (not-false (is_bare c) is.0), is.1)
-unit_goes_on w is = is
+unit_goes_on w is = search rules
 
 units_go_on : (units : List Written) → AllByRecursion (IsUnit not_bare) units → AllByRecursion (IsUnit ends_item) units
 units_go_on [] each = tt
@@ -62,15 +61,13 @@ are_for (item ∷ items) stand = ((token_of item stand.0).is, are_for items stan
 items_for : (items : List RawItem) (stand : AllByRecursion IsPrintedItem items) → flat_map item_of (tokens_for items stand) ≡ items
 unfolding tokens_for
 items_for [] stand = refl
-items_for (item ∷ items) stand = ap₂ (λ (xs ys : List RawItem). xs ++ ys) (token_of item stand.0).same (items_for items stand.1)
+items_for (item ∷ items) stand = search (rules, token_of, items_for items stand.1)
 
 line_for : (items : List RawItem) (stand : AllByRecursion IsPrintedItem items) → text (line_of (tokens_for items stand)) ≡ join_with_byte 32 (map written_item items) ++ 10 ∷ []
 unfolding tokens_for
 line_for [] stand = refl
 line_for (item ∷ []) stand = ap (λ t. t ++ 10 ∷ []) (token_of item stand.0).written
-line_for (item ∷ next ∷ items) stand =
-    ap₂ (λ (s t : List ℕ). s ++ 32 ∷ t) (token_of item stand.0).written (line_for (next ∷ items) stand.1)
-    ∙ sym (append_assoc (written_item item) (32 ∷ join_with_byte 32 (map written_item (next ∷ items))) (10 ∷ []))
+line_for (item ∷ next ∷ items) stand = search (rules, token_of, append_assoc, line_for (next ∷ items) stand.1)
 
 -- the tokens whose line is written with the items
 pub record TokensOf (items : List RawItem) : Type 0 where
@@ -92,13 +89,11 @@ bare_begins : (c : ℕ) → is_bare c ≡ true → BeginsOwner c
 bare_begins c is = (grind (arith, nat_tests), λ e. both_ways (is_bare c) (ap is_bare e) is)
 
 unit_begins : (w : Written) (rest : List ℕ) → IsUnit not_bare w → IfSome (first_octet (text_of w ++ rest)) BeginsOwner
-unit_begins (plain c) rest is = bare_begins c (not-false (is_bare c) is.0)
-unit_begins w rest is = (refl, λ e. omega arith)
+unit_begins w rest is = search rules
 
 units_begin : (units : List Written) (rest : List ℕ) → 0 < length units → AllByRecursion (IsUnit not_bare) units → IfSome (first_octet (written_text units ++ rest)) BeginsOwner
 units_begin [] rest some each = absurd (omega arith)
-units_begin (w ∷ units) rest some each =
-    subst (λ t. IfSome (first_octet t) BeginsOwner) (sym (append_assoc (text_of w) (written_text units) rest)) (unit_begins w (written_text units ++ rest) each.0)
+units_begin (w ∷ units) rest some each = search rules
 
 pub text_begins : (octets rest : List ℕ) → StandsBare octets → IfSome (first_octet (octets ++ rest)) BeginsOwner
-text_begins octets rest stands = subst (λ t. IfSome (first_octet (t ++ rest)) BeginsOwner) (sym stands.parts) (units_begin stands.units rest stands.some stands.each)
+text_begins octets rest stands = search (rules, units_begin)

@@ -1,8 +1,9 @@
 -- How far the first token of a text goes.
-use Rattle.std.proofs.Common.{◌≡◌, ◌≢◌, ℕ, suc, ◌+◌, ◌-◌, ◌<◌, ◌≤◌, min, Bool, true, false, ◌==◌, ◌||◌, List, [], ◌∷◌, ◌++◌, length, get_or, drop, refl, sym, ap, ◌∙◌, subst, arith, add-one, drop-cons, drop_of_length-le}
+use Rattle.std.proofs.Common.{◌≡◌, ◌≢◌, ℕ, suc, ◌+◌, ◌-◌, ◌<◌, ◌≤◌, min, Bool, true, false, ◌==◌, ◌||◌, List, [], ◌∷◌, ◌++◌, length, get_or, drop, refl, sym, ap, ◌∙◌, subst, arith, add-one, drop-cons, drop_of_length-le, rules}
 use Rattle.std.specs.List.{AllByRecursion}
 use Rattle.std.proofs.lemmas.Bool.{ne_eqb, both_ways}
 use Rattle.std.proofs.lemmas.Bool.Decides.{nat_tests}
+use Rattle.std.proofs.lemmas.Grind.{common_steps}
 use Rattle.std.proofs.lemmas.List.{length-drop, drop-drop}
 use Rattle.zone_name.specs.Spelling.{Written, plain, escaped, decimal, written_text, IsUnit, is_digit}
 use Rattle.zone_rdata.specs.Strings.{is_quote}
@@ -30,14 +31,11 @@ no_backslash c digit = ne_eqb c 92 (λ e. both_ways (is_digit c) (ap is_digit e)
 pub item_len_of : (ends : ℕ → Bool) (units : List Written) (rest : List ℕ) → EndsPlainly ends → AllByRecursion (IsUnit ends) units → EndsAt ends rest → item_len ends false (written_text units ++ rest) ≡ length (written_text units)
 unfolding item_len
 item_len_of ends [] [] plainly each at = refl
-item_len_of ends [] (c ∷ rest) plainly each at =
-    rw (ne_eqb c 92 (λ e. both_ways (ends c) (ap ends e ∙ plainly.backslash) at), at) refl
+item_len_of ends [] (c ∷ rest) plainly each at = search rules
 item_len_of ends (plain c ∷ units) rest plainly each at =
     rw (ne_eqb c 92 each.0.1, each.0.0) (ap suc (item_len_of ends units rest plainly each.1 at))
 item_len_of ends (escaped c ∷ units) rest plainly each at = ap (λ n. suc (suc n)) (item_len_of ends units rest plainly each.1 at)
-item_len_of ends (decimal x y z ∷ units) rest plainly each at =
-    rw (no_backslash y each.0.1, plainly.digits y each.0.1, no_backslash z each.0.2, plainly.digits z each.0.2)
-    (ap (λ n. suc (suc (suc (suc n)))) (item_len_of ends units rest plainly each.1 at))
+item_len_of ends (decimal x y z ∷ units) rest plainly each at = search (rules, no_backslash, item_len_of ends units rest plainly each.1 at)
 
 -- ---- comments
 
@@ -53,16 +51,12 @@ first_at : (text : List ℕ) (i : ℕ) → i < length text → drop i text ≡ g
 first_at text i less = rw (add-one, drop-cons text i 0) refl
 
 neither : (a b : Bool) → (a || b) ≡ false → (a ≡ false) × (b ≡ false)
-neither false false _ = (refl, refl)
-neither a b none = absurd (both_ways true none refl)
+neither a b none = search rules
 
 -- an octet that neither ends the item nor is a backslash goes on
 pub plain_on : (ends : ℕ → Bool) (text : List ℕ) (i : ℕ) → i < length text → (ends (get_or text i 0) || get_or text i 0 == 92) ≡ false → ItemReaches ends text i → ItemReaches ends text (i + 1)
 unfolding item_len
-plain_on ends text i less goes so_far =
-    let neither_is = neither (ends (get_or text i 0)) (get_or text i 0 == 92) goes in
-    let next : item_len ends false (drop i text) ≡ suc (item_len ends false (drop (i + 1) text)) = rw (first_at text i less, neither_is.1, neither_is.0) refl in
-    omega arith
+plain_on ends text i less goes so_far = grind (arith, common_steps)
 
 pub plain_stops : (stops : ℕ → Bool) (text : List ℕ) (i : ℕ) → i < length text → stops (get_or text i 0) ≡ true → EndsAt stops (drop i text)
 plain_stops stops text i less at = rw (first_at text i less) at
@@ -74,14 +68,11 @@ pub end_stops : (stops : ℕ → Bool) (text : List ℕ) (i : ℕ) → length te
 end_stops stops text i over = rw (nothing_left text i over) tt
 
 pub all_reached : (ends : ℕ → Bool) (text : List ℕ) (i : ℕ) → length text ≤ i → i ≤ length text → ItemReaches ends text i → ItemReaches ends text (length text)
-all_reached ends text i over within so_far = let same : i ≡ length text = omega arith in subst (ItemReaches ends text) same so_far
+all_reached ends text i over within so_far = search rules
 
 -- one way after another
 pub reach_on : (ends : ℕ → Bool) (text : List ℕ) (i m : ℕ) → ItemReaches ends text i → ItemReaches ends (drop i text) m → ItemReaches ends text (i + m)
-reach_on ends text i m so_far next =
-    let same : drop m (drop i text) ≡ drop (i + m) text = drop-drop m i text in
-    let more : item_len ends false (drop i text) ≡ m + item_len ends false (drop (i + m) text) = rw (sym same) next in
-    omega arith
+reach_on ends text i m so_far next = grind (arith, common_steps)
 
 pub stops_on : (stops : ℕ → Bool) (text : List ℕ) (i m : ℕ) → EndsAt stops (drop m (drop i text)) → EndsAt stops (drop (i + m) text)
 stops_on stops text i m at = subst (EndsAt stops) (drop-drop m i text) at
@@ -89,16 +80,7 @@ stops_on stops text i m at = subst (EndsAt stops) (drop-drop m i text) at
 -- an escape of a backslash and any octet, or of a backslash at the end
 one_escape : (ends : ℕ → Bool) (octets after : List ℕ) (m : ℕ) → octets ≡ 92 ∷ after → m ≡ min (length octets) 2 → ItemReaches ends octets m
 unfolding item_len
-one_escape ends octets [] m whole taken =
-    let len : length octets ≡ 1 = ap length whole in
-    let one : m ≡ 1 = omega arith in
-    rw (one, whole) refl
-one_escape ends octets (x ∷ after) m whole taken =
-    let len : length octets ≡ suc (suc (length after)) = ap length whole in
-    let two : m ≡ 2 = omega arith in
-    let all : item_len ends false octets ≡ suc (suc (item_len ends false after)) = rw whole refl in
-    let left : item_len ends false (drop m octets) ≡ item_len ends false after = rw (two, whole) refl in
-    omega arith
+one_escape ends octets after m whole taken = grind (arith, common_steps)
 
 pub escape_on : (ends : ℕ → Bool) (text : List ℕ) (i m : ℕ) → i < length text → get_or text i 0 ≡ 92 → m ≡ min (length text - i) 2 → ItemReaches ends text i → ItemReaches ends text (i + m)
 escape_on ends text i m less is taken so_far =
@@ -108,35 +90,19 @@ escape_on ends text i m less is taken so_far =
 -- the item ends where something stops it that is no backslash
 last_at : (ends : ℕ → Bool) (octets : List ℕ) → EndsAt (λ c. ends c || c == 92) octets → (0 < length octets → get_or octets 0 0 ≢ 92) → item_len ends false octets ≡ 0
 unfolding item_len
-last_at ends [] at other = refl
-last_at ends (c ∷ rest) at other =
-    let differs : (c == 92) ≡ false = ne_eqb c 92 (other (omega arith)) in
-    let ended : ends c ≡ true = by (ends c) (c == 92) differs at in
-    rw (differs, ended) refl
-  where
-    by : (a b : Bool) → b ≡ false → (a || b) ≡ true → a ≡ true
-    by true b differs stopped = refl
-    by false b differs stopped = absurd (both_ways b differs stopped)
+last_at ends octets at other = search rules
 
 pub len_reached : (ends : ℕ → Bool) (text : List ℕ) (i : ℕ) → EndsAt (λ c. ends c || c == 92) (drop i text) → (i < length text → get_or text i 0 ≢ 92) → ItemReaches ends text i → i ≡ item_len ends false text
-len_reached ends text i at other so_far =
-    let none : item_len ends false (drop i text) ≡ 0 = last_at ends (drop i text) at (λ some. let less : i < length text = (let len = length-drop i text in omega arith) in λ e. other less (ap (λ t. get_or t 0 0) (sym (first_at text i less)) ∙ e)) in
-    omega arith
+len_reached ends text i at other so_far = search (rules, last_at, length-drop, get_or, first_at)
 
 pub comment_goes_on : (text : List ℕ) (i n : ℕ) → i < length text → get_or text i 0 ≢ 10 → n ≡ i + length (before_line_feed (drop i text)) → n ≡ i + 1 + length (before_line_feed (drop (i + 1) text))
 unfolding before_line_feed
-comment_goes_on text i n less other so_far =
-    let next : length (before_line_feed (drop i text)) ≡ suc (length (before_line_feed (drop (i + 1) text))) = rw (first_at text i less, ne_eqb (get_or text i 0) 10 other) refl in
-    omega arith
+comment_goes_on text i n less other so_far = grind (arith, common_steps)
 
 pub comment_ends : (text : List ℕ) (i n : ℕ) → i < length text → get_or text i 0 ≡ 10 → n ≡ i + length (before_line_feed (drop i text)) → i ≡ n
 unfolding before_line_feed
-comment_ends text i n less is so_far =
-    let next : length (before_line_feed (drop i text)) ≡ 0 = rw (first_at text i less, is) refl in
-    omega arith
+comment_ends text i n less is so_far = grind (arith, common_steps)
 
 pub comment_whole : (text : List ℕ) (i n : ℕ) → length text ≤ i → i ≤ length text → n ≡ i + length (before_line_feed (drop i text)) → length text ≡ n
 unfolding before_line_feed
-comment_whole text i n over within so_far =
-    let none : length (before_line_feed (drop i text)) ≡ 0 = rw (nothing_left text i over) refl in
-    omega arith
+comment_whole text i n over within so_far = grind (arith, common_steps)

@@ -1,5 +1,5 @@
 -- The words before a record's type, read from the left.
-use Rattle.std.proofs.Common.{◌≡◌, ℕ, ◌+◌, ◌<◌, Bool, true, false, List, [], ◌∷◌, ◌++◌, length, get_or, drop, map, Option, Some, None, MatchOption, inl, inr, refl, sym, ap, ◌∙◌, subst, append_assoc, add-one, drop-cons}
+use Rattle.std.proofs.Common.{◌≡◌, ℕ, ◌+◌, ◌<◌, Bool, true, false, List, [], ◌∷◌, ◌++◌, length, get_or, drop, map, Option, Some, None, MatchOption, inl, inr, refl, sym, ap, ◌∙◌, subst, append_assoc, add-one, drop-cons, rules}
 use Rattle.std.specs.List.{AllByRecursion}
 use Rattle.std.specs.Prelude.{is_some, IsSomeAnd}
 use Rattle.std.proofs.lemmas.List.{append-nil, drop-map}
@@ -21,21 +21,16 @@ use Rattle.zone_text.proofs.ClassWords.{class_word_of, class_word_known}
 
 -- a value is there where its text is
 stated_too : (o : Option (List ℕ)) (v : Option ℕ) (Is : List ℕ → ℕ → Type 0) → MatchOption o (v ≡ None) (λ text. IsSomeAnd v (Is text)) → is_some o ≡ is_some v
-stated_too None v Is h = ap is_some (sym h)
-stated_too (Some text) None Is h = absurd h
-stated_too (Some text) (Some n) Is h = refl
+stated_too o v Is h = search rules
 
 unstated : (o : Option (List ℕ)) (word : Word) → is_some o ≡ false → unless_stated o word ≡ Some word
-unstated None word e = refl
-unstated (Some text) word e = absurd (let clash : ⊥ = cc in clash)
+unstated o word e = search rules
 
 ttl_word : (words : List Word) (v : Words) (text : List ℕ) → HaveValues words v → begins_with_digit text ≡ true → is_some v.ttl ≡ false → word_after words (bare text) ≡ Some (ttl text)
-ttl_word words v text have digit none =
-    rw digit (unstated (ttl_among words) (ttl text) (stated_too (ttl_among words) v.ttl IsTtl have.ttl ∙ none))
+ttl_word words v text have digit none = search rules
 
 class_after : (words : List Word) (v : Words) (text : List ℕ) → HaveValues words v → begins_with_digit text ≡ false → is_some v.class ≡ false → is_class_word text ≡ true → word_after words (bare text) ≡ Some (class text)
-class_after words v text have no_digit none is =
-    rw (no_digit, is) (unstated (class_among words) (class text) (stated_too (class_among words) v.class IsClassWord have.class ∙ none))
+class_after words v text have no_digit none is = search rules
 
 -- ---- one word more
 
@@ -115,24 +110,14 @@ parts_are parts words v rest have e = rw e (record { words = have; rest = refl }
 
 -- the next item is no word
 pub read_to : (items rest more : List RawItem) (v : Words) (item : RawItem) → ReadsWords items v rest → rest ≡ item ∷ more → ((words : List Word) → HaveValues words v → word_after words item ≡ None) → AreWordsOf (parts_after [] items) v rest
-read_to items rest more v item reads front none =
-    parts_are _ reads.words v rest reads.have (
-    reads.parts ∙ (ap (parts_after reads.words) front ∙ (next_part reads.words item more None (none reads.words reads.have) ∙ ap (λ t. record { words = reads.words; rest = t }) (sym front)))
-    )
+read_to items rest more v item reads front none = search rules
 
 some_of : (P : Word → Type 0) (o : Option Word) → IsSomeAnd o P → (word : Word) × ((o ≡ Some word) × P word)
-some_of P None h = absurd h
-some_of P (Some word) h = (word, (refl, h))
+some_of P o h = search rules
 
 -- the next item is a word
 pub read_on : (items rest more : List RawItem) (v next : Words) (item : RawItem) → ReadsWords items v rest → rest ≡ item ∷ more → ((words : List Word) → HaveValues words v → IsSomeAnd (word_after words item) (λ word. HaveValues (words ++ word ∷ []) next)) → ReadsWords items next more
-read_on items rest more v next item reads front some =
-    let found = some_of (NextHas reads.words next) (word_after reads.words item) (some reads.words reads.have) in
-    record {
-      words = reads.words ++ found.0 ∷ [];
-      have = found.1.1;
-      parts = reads.parts ∙ (ap (parts_after reads.words) front ∙ next_part reads.words item more (Some found.0) found.1.0);
-    }
+read_on items rest more v next item reads front some = search (rules, some_of, next_part)
 
 -- whatever follows words, they stand before it
 abbrev Extends : List RawItem → Type 0
@@ -168,6 +153,4 @@ read_fault items rest more v item fault reads front some =
 
 -- the item at an index is the first of those from there on
 pub item_at : (items : List Item) (i : ℕ) (d x : Item) → i < length items → get_or items i d ≡ x → drop i (map raw items) ≡ raw x ∷ drop (i + 1) (map raw items)
-item_at items i d x less is =
-    let first : drop i items ≡ x ∷ drop (i + 1) items = rw (add-one, drop-cons items i d, is) refl in
-    drop-map raw i items ∙ (ap (map raw) first ∙ ap (λ t. raw x ∷ t) (sym (drop-map raw (i + 1) items)))
+item_at items i d x less is = search (rules, add-one, drop-cons, drop-map)
