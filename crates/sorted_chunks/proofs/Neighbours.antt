@@ -85,9 +85,6 @@ module _ {X : Type 0} where
   first_of_chunk cs i j x more end within is =
       (more ++ joined (drop (i + 1 + 1) cs), after_end cs i j end ∙ ap joined (drop_more cs (i + 1) [] within) ∙ ap (λ l. l ++ joined (drop (i + 1 + 1) cs)) (sym is))
 
-  pub none_after : (cs : List (List X)) (i j : ℕ) → length (get_or cs i []) ≤ j → length cs ≤ i + 1 → after cs (record { chunk = i; offset = j }) ≡ []
-  none_after cs i j end past = after_end cs i j end ∙ ap joined (drop_all (i + 1) cs past)
-
   pub before_all : (cs : List (List X)) → before cs (record { chunk = length cs; offset = 0 }) ≡ joined cs
   before_all cs = append-nil (joined (take (length cs) cs)) ∙ ap joined (take_all (length cs) cs (omega arith))
 

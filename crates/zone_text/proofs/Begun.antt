@@ -1,8 +1,7 @@
 -- What a source holds at the beginning of a file and at that of an entry.
-use Rattle.std.proofs.Common.{◌≡◌, ℕ, ◌≤◌, List, [], ◌∷◌, length, ◌==◌, Bool, true, false, Option, Some, None, refl, sym, ◌∙◌, arith, inl, rules}
+use Rattle.std.proofs.Common.{◌≡◌, ℕ, ◌≤◌, List, [], length, ◌==◌, Bool, true, false, Option, Some, None, refl, sym, arith, inl, rules}
 use Rattle.std.specs.Option.{is_some}
 use Rattle.std.proofs.lemmas.Grind.{common_steps}
-use Rattle.std.proofs.lemmas.Bool.{eqb-true, eqb-false}
 use Rattle.zone_name.specs.Common.{Labels}
 use Rattle.zone_text.specs.declared.ended.EndedEntries.{EndedEntries}
 use Rattle.zone_text.specs.declared.scan.ScanState.{ScanState}

@@ -2,13 +2,11 @@
 use Rattle.std.proofs.Common.{◌≡◌, ◌≢◌, ℕ, suc, ◌+◌, ◌≤◌, List, [], ◌∷◌, ◌++◌, ◌==◌, if◌then◌else◌, ◌<◌, length, drop, None, refl, sym, ap, ◌∙◌, subst, arith, append_assoc, length-append, rules}
 use Rattle.std.specs.List.{AllByRecursion, flat_map}
 use Rattle.std.proofs.lemmas.Bool.{ne_eqb}
-use Rattle.std.proofs.lemmas.List.{append-nil}
 use Rattle.std.proofs.lemmas.Grind.{common_steps}
 use Rattle.std.proofs.lemmas.List.Sums.{sum_by-cons}
 use Rattle.zone_name.specs.Common.{Labels}
 use Rattle.zone_text.specs.ParserState.{IsStateAfter}
 use Rattle.zone_text.specs.Entries.{Entry, entry_of, item_of}
-use Rattle.zone_text.specs.Statements.{no_items, statement_by, statement_of}
 use Rattle.zone_text.specs.Tokens.{Token, comment, line_feed, Cuts}
 use Rattle.zone_text.specs.Machine.Blank.{AreBlankLines, IsBlankLine, IsComment, line_feed as fed_line, commented, no_lines, one_line_more}
 use Rattle.zone_text.specs.Machine.Cutting.{before_line_feed, from_line_feed}
@@ -18,13 +16,11 @@ use Rattle.zone_text.specs.Machine.Scan.{beginning, further, scan_of}
 use Rattle.zone_text.specs.declared.ended.EndedEntries.{EndedEntries}
 use Rattle.zone_text.specs.declared.splitter.EntrySplitter.{EntrySplitter}
 use Rattle.zone_text.specs.declared.scan.Mode.TheVariants.{Comment}
-use Rattle.zone_text.specs.declared.scan.Scanned.{Scanned}
 use Rattle.zone_text.specs.declared.scan.Step.TheVariants.{Ends}
 use Rattle.zone_text.proofs.Cuttings.{one_cut}
 use Rattle.zone_text.proofs.EntryTaken.{lines_after, takes_entry}
 use Rattle.zone_text.proofs.Followed.{follow_entry}
 use Rattle.zone_text.proofs.Fronts.{EndsComment, comment_dropped, comment_each, comment_ends, comment_whole}
-use Rattle.zone_text.proofs.Inheriting.{leaves, same_default, same_origin}
 use Rattle.zone_text.proofs.Left.{line_feeds}
 use Rattle.zone_text.proofs.FedPieces.{HasFed, fed_more, FollowsOn}
 

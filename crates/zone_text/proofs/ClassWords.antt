@@ -1,20 +1,19 @@
 -- The words of classes among items, and the digits with which a time begins.
-use Rattle.std.proofs.Common.{◌&&◌, bytes_eq, ◌≡◌, ℕ, ◌<◌, List, [], ◌∷◌, ◌++◌, length, take, drop, codes, Bool, true, false, not, Option, None, Some, refl, sym, ap, ◌∙◌, arith, append_assoc, inl, inr, rules}
+use Rattle.std.proofs.Common.{◌&&◌, bytes_eq, ◌≡◌, ℕ, ◌<◌, List, [], ◌∷◌, ◌++◌, length, take, drop, codes, Bool, true, false, Option, None, Some, refl, sym, ap, ◌∙◌, arith, append_assoc, inl, inr, rules}
 use Rattle.std.specs.List.{AllByRecursion, flat_map}
 use Rattle.std.specs.Prelude.{is_some}
 use Rattle.std.proofs.Math.Bool.{or-true}
 use Rattle.std.proofs.Math.Seq.{drop-append_seam}
-use Rattle.std.proofs.lemmas.Bool.Decides.{nat_tests}
-use Rattle.std.proofs.lemmas.Bool.{or_cases, not-true}
+use Rattle.std.proofs.lemmas.Bool.{or_cases}
 use Rattle.std.proofs.lemmas.Slice.Eq.{bytes_eq-Decides}
 use Rattle.std.proofs.lemmas.List.{map-append, length-map, take-append-drop, take-map}
 use Rattle.zone_name.specs.Name.{folded_octet, folded_label}
 use Rattle.zone_name.specs.Spelling.{is_digit}
-use Rattle.zone_rdata.specs.Number.{decimal_value, IsDecimal, IsTime, plain, grouped, Group, IsTimeGroup, group_text}
+use Rattle.zone_rdata.specs.Number.{decimal_value, IsDecimal, IsTime, Group, IsTimeGroup, group_text}
 use Rattle.zone_rdata.specs.Table.{classes, number_among}
 use Rattle.zone_rdata.specs.Words.{IsNumbered, IsClassWord, by_mnemonic, by_number}
 use Rattle.zone_rdata.proofs.OneWord.{class_number}
-use Rattle.zone_rdata.proofs.Tables.{each_mnemonic, number_is}
+use Rattle.zone_rdata.proofs.Tables.{number_is}
 use Rattle.zone_text.specs.Statements.{begins_with_digit, are_digits, is_class_word}
 
 all_digits : (text : List ℕ) → 0 < length text → AllByRecursion (λ c. is_digit c ≡ true) text → are_digits text ≡ true
@@ -34,10 +33,6 @@ numbered_word word n is =
 pub class_word_known : (word : List ℕ) (n : ℕ) → IsClassWord word n → is_class_word word ≡ true
 class_word_known word n (by_mnemonic is) = rw (class_number word n is) refl
 class_word_known word n (by_number is) = numbered_word word n is
-
--- the first octet is a digit or none, in any case
-digit_folded : (c : ℕ) → is_digit (folded_octet c) ≡ is_digit c
-digit_folded c = grind (arith, nat_tests)
 
 first_folded : (word : List ℕ) → begins_with_digit (folded_label word) ≡ begins_with_digit word
 first_folded word = search rules

@@ -1,15 +1,15 @@
 -- The whole text: the cutting and what it says, both ways.
-use Rattle.std.proofs.Common.{◌≡◌, ℕ, zero, suc, ◌-◌, ◌<◌, List, [], ◌∷◌, ◌++◌, length, Option, Some, None, refl, sym, ap, ◌∙◌, subst, arith, append_assoc, length-append, ◌⊎◌, inl, inr, rules}
+use Rattle.std.proofs.Common.{◌≡◌, ℕ, zero, suc, ◌<◌, List, [], ◌∷◌, ◌++◌, length, Option, Some, None, refl, sym, ap, ◌∙◌, subst, arith, append_assoc, length-append, ◌⊎◌, inl, inr, rules}
 use Rattle.std.specs.List.{AllByRecursion}
 use Rattle.std.proofs.lemmas.Bool.{both_ways}
 use Rattle.std.proofs.lemmas.Grind.{common_steps}
 use Rattle.std.proofs.lemmas.List.{append-nil}
-use Rattle.zone_name.specs.Spelling.{Written, plain, text_of, written_text}
+use Rattle.zone_name.specs.Spelling.{Written, plain, written_text}
 use Rattle.zone_rdata.specs.declared.fault.Fault.{Fault}
 use Rattle.zone_text.specs.Tokens.{Token, blank, opening, closing, line_feed, comment, bare, quoted, token_text, text, is_blank, ends_item, IsToken, MayFollow, AllFollow, depth_after, Cuts}
 use Rattle.zone_text.specs.Breaks.{IsBroken, closes_nothing, no_escape, no_quoted_escape, no_quote, not_closed, MayEndBefore, Breaks}
-use Rattle.zone_text.specs.Machine.Cutting.{Front, takes, stops, front_of, depth_past, Cutting, cut_on, cut_by, cutting}
-use Rattle.zone_name.proofs.Units.{NoUnit, at_end, at_octet, at_backslash, first_of_unit, first_of_none, text_of-some}
+use Rattle.zone_text.specs.Machine.Cutting.{Front, takes, front_of, depth_past, Cutting, cut_on, cut_by, cutting}
+use Rattle.zone_name.proofs.Units.{NoUnit, at_end, at_octet, at_backslash}
 use Rattle.zone_text.proofs.Fronts.{EndsComment, Stops, HasRoom, Takes, Ends, IsFront, front_is, front_takes, front_stops}
 
 -- ---- which token may follow which, by the octets
@@ -66,10 +66,6 @@ ends_bare depth rest fault (no_quoted_escape units after each whole bad) = searc
 ends_bare depth rest fault (no_quote units each whole) = at_octet 34 (written_text units) whole refl
 ends_bare depth rest fault (not_closed some whole) = at_end whole
 
--- what breaks a text begins with no line feed
-breaks_no_line_feed : (depth c : ℕ) (rest : List ℕ) (fault : Fault) → IsBroken depth (c ∷ rest) fault → c ≡ 10 → ⊥
-breaks_no_line_feed depth c rest fault h is = search rules
-
 ends_comment : (depth : ℕ) (rest : List ℕ) (fault : Fault) → IsBroken depth rest fault → EndsComment rest → rest ≡ []
 ends_comment depth rest fault broken ends = search rules
 
@@ -78,9 +74,6 @@ stops_at_end (comment octets) depth rest fault ends last = subst EndsComment (sy
 stops_at_end (bare units) depth rest None ends last = at_end ends.1
 stops_at_end (bare units) depth rest (Some fault) ends last = ends_bare depth rest fault ends
 stops_at_end p depth rest fault ends last = tt
-
-ends_at_stop : (p : Token) (depth : ℕ) (rest : List ℕ) (fault : Option Fault) → Ends depth rest fault → Stops p rest → MayEndBefore (p ∷ []) rest
-ends_at_stop p depth rest fault ends stop = search rules
 
 -- ---- depths
 

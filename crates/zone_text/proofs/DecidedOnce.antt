@@ -4,7 +4,7 @@ use Rattle.std.specs.List.{flat_map}
 use Rattle.std.proofs.lemmas.List.{append-nil, append_cancel_left}
 use Rattle.zone_rdata.specs.declared.record.Placed.{Placed}
 use Rattle.zone_text.specs.Decided.{FileDecides, decided, undecided}
-use Rattle.zone_text.specs.Entries.{Cut, and_last, cut_from, ended_entries, entries_of, numbered, open_line}
+use Rattle.zone_text.specs.Entries.{and_last, cut_from, ended_entries, entries_of, numbered, open_line}
 use Rattle.zone_text.specs.FileReads.{ReadEach, Ending}
 use Rattle.zone_text.specs.Lasting.{BreaksForGood}
 use Rattle.zone_text.specs.Machine.Lower.{Lower}

@@ -16,12 +16,9 @@ use Rattle.zone_text.proofs.Cuttings.{one_cut, one_break, cut_not_broken, cut_or
 use Rattle.zone_text.proofs.Lasting.{cut_joined, break_joined, cut_parted, break_parted, breaks_for_good}
 use Rattle.zone_text.proofs.CutAgain.{joined, cut_whole, cut_ended, cut_again, ended_at_zero, and_last_after, numbered_front}
 use Rattle.zone_text.proofs.Entered.{record_once, fault_once, record_or_fault, nothing_or_record, nothing_or_fault}
-use Rattle.zone_text.proofs.Files.{reads_once, one_more}
+use Rattle.zone_text.proofs.Files.{reads_once}
 
 -- ---- the readings of entries and of the same with others after them
-
-one_front : (p q : Placed) (a b more others rest : List Placed) → p.rr ≡ q.rr → p.place ≡ q.place → a ≡ p ∷ more → b ≡ q ∷ others → others ≡ more ++ rest → b ≡ a ++ rest
-one_front p q a b more others rest rr place x y e = search rules
 
 stays_on : (p q : Placed) (a b more others : List Placed) (e f : Ending) → p.rr ≡ q.rr → p.place ≡ q.place → a ≡ p ∷ more → b ≡ q ∷ others → Stays more e others f → Stays a e b f
 stays_on p q a b more others e f rr place x y stays = search rules

@@ -1,5 +1,5 @@
 -- An entry states a record, states nothing or has a fault: one of the three at most, and each once.
-use Rattle.std.proofs.Common.{◌≡◌, ℕ, List, [], ◌∷◌, Option, Some, None, Ok, Err, ◌⊎◌, inl, inr, refl, sym, ◌∙◌, subst, ◌≤◌, Result, ap, arith, rules}
+use Rattle.std.proofs.Common.{◌≡◌, ℕ, List, [], ◌∷◌, Option, Some, None, Ok, Err, ◌⊎◌, inl, inr, refl, sym, ◌∙◌, subst, ◌≤◌, Result, ap, rules}
 use Rattle.std.specs.List.{AllByRecursion}
 use Rattle.zone_name.specs.Spelling.{SpellingFault}
 use Rattle.zone_rdata.specs.Record.{Record}

@@ -1,6 +1,6 @@
 -- An entry after others that state nothing or a record has an outcome: nothing, a record or a first
 -- fault.
-use Rattle.std.proofs.Common.{◌≡◌, ℕ, ◌==◌, Bool, true, false, if◌then◌else◌, List, [], ◌∷◌, Option, Some, None, MatchOption, ◌⊎◌, inl, inr, refl, sym, ◌∙◌, ap, subst, ◌<◌, ◌++◌, arith, rules}
+use Rattle.std.proofs.Common.{◌≡◌, ℕ, Bool, true, false, if◌then◌else◌, List, [], ◌∷◌, Option, Some, None, MatchOption, ◌⊎◌, inl, inr, refl, sym, ◌∙◌, ap, subst, ◌<◌, ◌++◌, arith, rules}
 use Rattle.std.specs.List.{AllByRecursion}
 use Rattle.std.proofs.lemmas.Bool.{cases_lt, cases_eq}
 use Rattle.std.specs.Prelude.{option_and_then}
@@ -15,16 +15,15 @@ use Rattle.zone_rdata.specs.Record.{Record}
 use Rattle.zone_rdata.specs.Spelling.{RawItem, bare, quoted, States}
 use Rattle.zone_rdata.specs.Words.{IsClass, IsKind, IsKindWord, IsWordFault, IsClassWord}
 use Rattle.zone_rdata.specs.declared.fault.Fault.{Fault}
-use Rattle.zone_rdata.specs.declared.fault.Fault.TheVariants.{IncludeDirective, UnknownDirective, BadDirective, NoOwner, NoTtl, BadTtl, UnknownType, BadClass}
+use Rattle.zone_rdata.specs.declared.fault.Fault.TheVariants.{IncludeDirective, UnknownDirective, BadDirective, NoOwner, NoTtl, BadTtl, UnknownType}
 use Rattle.zone_rdata.specs.Fault.{fault_of}
 use Rattle.zone_text.specs.Entries.{Entry}
 use Rattle.zone_text.specs.EntryFault.{DirectiveFault, OwnerFault, WordsFault, KindFault, none, long, EntryFault, of_directive, of_owner, of_words, of_kind, of_rdata, of_ttl, IsNameFaultAfter, WordFault}
-use Rattle.zone_text.specs.Statements.{Statement, no_items, sets_origin, sets_ttl, includes, unknown, owned, unowned, statement_of, statement_by, directive, Parts, parts_of, parts_in, parts_after, Word, ttl, class, class_among, word_after, begins_with_digit, is_class_word, ttl_among, unless_stated}
-use Rattle.zone_text.specs.Inherited.{IsOrigin, IsOwner, stated_ttl, IsTtl, SpellsAfter, IsLastOwner, HasClass, or_else, latest, origin_text, owner_text, class_word}
+use Rattle.zone_text.specs.Statements.{Statement, no_items, sets_origin, sets_ttl, includes, unknown, owned, unowned, statement_of, statement_by, Parts, parts_of, parts_in, parts_after, Word, ttl, class, class_among, word_after, begins_with_digit, is_class_word, ttl_among, unless_stated}
+use Rattle.zone_text.specs.Inherited.{IsOrigin, IsOwner, stated_ttl, IsTtl, SpellsAfter, IsLastOwner, HasClass, or_else, latest, owner_text, class_word}
 use Rattle.zone_text.specs.Machine.Lower.{Lower, Choices}
 use Rattle.zone_text.specs.Outcome.{AllState, AreOctetItems}
 use Rattle.zone_text.specs.Records.{HasValue, Head, HasHead, head_of, StatesData, StatesMinimum, IsLastMinimum, HasTtl, EntryStates, StatesNothing}
-use Rattle.zone_text.specs.Tokens.{is_blank}
 use Rattle.zone_text.proofs.Entered.{nothing_or_parts}
 use Rattle.zone_text.proofs.Inherits.{head_once, states_once}
 use Rattle.zone_text.proofs.ClassWords.{class_word_of}
@@ -34,12 +33,6 @@ use Rattle.zone_text.proofs.WordsLeft.{parts_by}
 
 abbrev OriginFact : List (List ℕ) → List Entry → Option (List ℕ) → Type 0
 OriginFact origin before o = (name : List (List ℕ)) × (MatchOption o (IsOrigin origin before name) (λ text. SpellsAfter origin before text name) × IsName name)
-
-origin_nothing : (origin : List (List ℕ)) (before : List Entry) (form : Statement) → StatesNothing origin before form → ((name : List (List ℕ)) × (IsOrigin origin before name × IsName name)) → OriginFact origin before (origin_text form)
-origin_nothing origin before form h above = search rules
-
-origin_record : (origin : List (List ℕ)) (before : List Entry) (form : Statement) (parts : Parts) → parts_in form ≡ Some parts → ((name : List (List ℕ)) × (IsOrigin origin before name × IsName name)) → OriginFact origin before (origin_text form)
-origin_record origin before form parts e above = search rules
 
 origin_by : (origin : List (List ℕ)) (before : List Entry) (entry : Entry) → StatesNothing origin before (statement_of entry) ⊎ ((r : Record) × EntryStates origin before entry r) → ((name : List (List ℕ)) × (IsOrigin origin before name × IsName name)) → (name : List (List ℕ)) × (IsOrigin origin (entry ∷ before) name × IsName name)
 origin_by origin before entry (inl n) above = search rules
@@ -339,12 +332,6 @@ module _ (lower : Lower) (choices : Choices) (origin : List (List ℕ)) (before 
       from_owner (parts_after [] items) (ap parts_in e) (parts_good items [] tt low.1) (subst (OwnerOutcome origin before) (sym e) (owned_outcome owner items low))
   outcome_by (unowned items) e low =
       from_owner (parts_after [] items) (ap parts_in e) (parts_good items [] tt low) (subst (OwnerOutcome origin before) (sym e) (last_outcome items (last_owner origin before states)))
-
-low_directive : (item : RawItem) (items : List RawItem) → AreOctetItems items → LowForm (directive item items)
-low_directive item items low = search rules
-
-low_first : (a b : Bool) (item : RawItem) (items : List RawItem) → AreOctetItems (item ∷ items) → LowForm (if a then directive item items else if b then unowned (item ∷ items) else owned item items)
-low_first a b item items low = search rules
 
 low_form : (first : Option ℕ) (items : List RawItem) → AreOctetItems items → LowForm (statement_by first items)
 low_form first items low = search rules

@@ -15,7 +15,7 @@ use Rattle.zone_text.specs.declared.ended.EndedEntries.{EndedEntries}
 use Rattle.zone_text.specs.Entries.{Entry, entry_of}
 use Rattle.zone_text.specs.ParserState.{IsStateAfter}
 use Rattle.zone_text.specs.EntryFault.{EntryFault}
-use Rattle.zone_text.specs.File.{states_none, states_one}
+use Rattle.zone_text.specs.File.{states_one}
 use Rattle.zone_text.specs.FileReads.{stated, refused}
 use Rattle.zone_text.specs.Machine.EntryReading.{DecidesEntry, DecidesFault, decides_fault, decides_none, decides_one}
 use Rattle.zone_text.specs.Machine.Feeding.{ReadsEntry, ReadsOctets}

@@ -13,7 +13,7 @@ use Rattle.zone_text.specs.Breaks.{Breaks}
 use Rattle.zone_text.specs.Decided.{FileDecides, decided, undecided}
 use Rattle.zone_text.specs.Entries.{Entry, Cut, and_last, cut_from, item_of, numbered, entries_of, ended_entries, open_line}
 use Rattle.zone_text.specs.FileReads.{ReadEach, FileReads, whole, broken, Ending, stated, refused}
-use Rattle.zone_text.specs.File.{states_none, states_one}
+use Rattle.zone_text.specs.File.{states_one}
 use Rattle.zone_text.specs.Lasting.{StaysBroken, BreaksAtEnd}
 use Rattle.zone_text.specs.Machine.Lower.{Lower, Choices}
 use Rattle.zone_text.specs.Outcome.{AllState, AreOctetItems}

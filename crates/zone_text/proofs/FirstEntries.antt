@@ -2,7 +2,7 @@
 use Rattle.std.proofs.Common.{◌≡◌, ◌≢◌, ℕ, zero, ◌+◌, ◌-◌, ◌<◌, ◌≤◌, Bool, true, false, ◌==◌, ◌||◌, List, [], ◌∷◌, ◌++◌, length, take, drop, map, None, refl, sym, ap, ◌∙◌, subst, arith, append_assoc, length-append, rules}
 use Rattle.std.specs.List.{All, AllByRecursion, flat_map}
 use Rattle.std.proofs.Math.Seq.{take-append_seam}
-use Rattle.std.proofs.lemmas.Bool.{or_parts, eqb-false, eqb-true, both_ways, ne_eqb}
+use Rattle.std.proofs.lemmas.Bool.{or_parts, eqb-false, ne_eqb}
 use Rattle.std.proofs.lemmas.List.{append-nil, length-map, take-append-drop}
 use Rattle.std.proofs.lemmas.Grind.{common_steps}
 use Rattle.std.proofs.lemmas.List.Elements.{recursion_from_All}
@@ -11,7 +11,7 @@ use Rattle.zone_name.proofs.Units.{NoUnit, at_octet}
 use Rattle.zone_rdata.specs.Item.{RawItem}
 use Rattle.zone_rdata.specs.Item as raw
 use Rattle.zone_rdata.specs.Strings.{is_quote}
-use Rattle.zone_text.specs.Entries.{in_front_of, item_of}
+use Rattle.zone_text.specs.Entries.{item_of}
 use Rattle.zone_text.specs.Tokens.{Token, blank, opening, closing, line_feed, comment, bare, quoted, token_text, is_blank, ends_item, Cuts, IsToken}
 use Rattle.zone_text.specs.Machine.Cutting.{before_line_feed, from_line_feed}
 use Rattle.zone_text.specs.Machine.ItemLengths.{EndsAt, EndsBefore}
@@ -23,7 +23,7 @@ use Rattle.zone_text.specs.declared.splitter.EntrySplitter.{EntrySplitter}
 use Rattle.zone_text.proofs.FedPieces.{FollowsOn, HasFed, fed_more}
 use Rattle.zone_text.proofs.Cuttings.{cuts, is_cut, one_cut, one_token_more, shorter}
 use Rattle.zone_text.proofs.Followed.{follow_one}
-use Rattle.zone_text.proofs.Fronts.{EndsComment, Takes, Stops, comment_dropped, comment_each, comment_ends, comment_whole}
+use Rattle.zone_text.proofs.Fronts.{EndsComment, Takes, comment_dropped, comment_each, comment_ends, comment_whole}
 use Rattle.zone_text.proofs.Kept.{keeps_more, none_kept}
 
 -- ---- plain octets as written ones
@@ -116,9 +116,6 @@ cut_none octets kept none = record {
 
 ends_within : (ends : ℕ → Bool) (rest tail after : List ℕ) → rest ≡ tail ++ after → 0 < length tail → EndsAt ends rest → EndsAt ends tail
 ends_within ends rest tail after e some at = search rules
-
-comment_stops : (tail : List ℕ) → EndsAt (λ c. c == 10) tail → Stops (comment []) tail
-comment_stops tail at = search rules
 
 bare_stops : (tail : List ℕ) → 0 < length tail → EndsAt ends_item tail → NoUnit ends_item tail
 bare_stops [] some at = absurd (omega (arith, some))

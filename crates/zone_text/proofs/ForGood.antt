@@ -7,13 +7,12 @@ use Rattle.std.proofs.lemmas.List.{append-nil, append_cancel_left}
 use Rattle.zone_name.specs.Spelling.{Written, is_digit, written_text, IsUnit, escaped, decimal, text_of, octet_of, IsEscape, IsBadEscape}
 use Rattle.zone_name.specs.Machine.Units.{Units}
 use Rattle.zone_name.proofs.Units.{NoUnit, at_end, at_backslash, units_first_only}
-use Rattle.zone_name.proofs.Units as octets
 use Rattle.zone_rdata.specs.declared.fault.Fault.{Fault}
 use Rattle.zone_rdata.specs.Strings.{is_quote}
 use Rattle.zone_text.specs.Breaks.{Breaks, IsBroken, closes_nothing, no_escape, no_quoted_escape, no_quote, not_closed}
 use Rattle.zone_text.specs.Lasting.{IsLostEscape, at_line_end, one_digit, two_digits, too_great, IsCutOff, after_backslash, after_digit, after_two_digits, StaysBroken, closing_stays, escape_stays, quoted_escape_stays, BreaksAtEnd, nothing_left, quote_open, escape_open, quoted_escape_open, BreaksForGood}
 use Rattle.zone_text.specs.Tokens.{Token, text}
-use Rattle.zone_text.proofs.Lasting.{begins_backslash, stays_some, lost_escape}
+use Rattle.zone_text.proofs.Lasting.{stays_some}
 
 -- what is malformed is lost or cut off
 abbrev Malformed : List ℕ → Type 0
@@ -62,9 +61,6 @@ malformed_after (x ∷ more) none = elim (cases_Bool (is_digit x)) as (λ s. Mal
 pub bad_is_malformed : (rest : List ℕ) → IsBadEscape rest → IsLostEscape rest ⊎ IsCutOff rest
 bad_is_malformed rest bad = subst Malformed (sym bad.1) (malformed_after bad.0 (λ w after written e. bad.2 w after written (bad.1 ∙ e)))
 
-cut_off_is_bad : (rest : List ℕ) → IsCutOff rest → IsBadEscape rest
-cut_off_is_bad rest h = search rules
-
 pub malformed_is_bad : (rest : List ℕ) → IsLostEscape rest ⊎ IsCutOff rest → IsBadEscape rest
 malformed_is_bad rest h = search rules
 
@@ -111,10 +107,6 @@ after_units units other after rest each another none no_more e =
 
 lost_begins_none : (rest : List ℕ) → IsLostEscape rest → NoUnit is_quote rest
 lost_begins_none rest lost = at_backslash (malformed_is_bad rest (inl lost))
-
--- a backslash begins the text, and no quote or parenthesis
-begins_cut_off : (rest : List ℕ) → IsCutOff rest → (after : List ℕ) × (rest ≡ 92 ∷ after)
-begins_cut_off rest h = search rules
 
 other_first : (c d : ℕ) (rest more after : List ℕ) → rest ≡ c ∷ more → rest ≡ d ∷ after → (c ≡ d → ⊥) → ⊥
 other_first c d rest more after e f apart = apart (cc)

@@ -1,18 +1,18 @@
 -- What a record states before its data, where the state is known.
-use Rattle.std.proofs.Common.{◌≡◌, ℕ, List, [], ◌∷◌, drop, map, Option, Some, None, MatchOption, refl, sym, ap, ◌∙◌, subst, rules}
-use Rattle.std.specs.Prelude.{IsSomeAnd, unwrap_or, option_and_then}
+use Rattle.std.proofs.Common.{◌≡◌, ℕ, List, [], ◌∷◌, drop, map, sym, ap, ◌∙◌, subst, rules}
+use Rattle.std.specs.Prelude.{unwrap_or}
 use Rattle.std.proofs.lemmas.List.{drop-map}
 use Rattle.zone_name.specs.Common.{Labels}
 use Rattle.zone_rdata.specs.Item.{RawItem, bare, raw}
-use Rattle.zone_rdata.specs.Words.{IsClassWord, IsKind, IsKindWord, IsWordFault}
+use Rattle.zone_rdata.specs.Words.{IsKind, IsKindWord, IsWordFault}
 use Rattle.zone_rdata.specs.declared.fault.Fault.{Fault}
 use Rattle.zone_rdata.specs.declared.fault.Fault.TheVariants.{UnknownType}
 use Rattle.zone_rdata.specs.declared.item.Item.{Item}
 use Rattle.zone_text.specs.ParserState.{IsTtlOrNone}
 use Rattle.zone_text.specs.Entries.{Entry}
 use Rattle.zone_text.specs.EntryFault.{EntryFault, of_words, of_kind, WordsFault, KindFault}
-use Rattle.zone_text.specs.Statements.{parts_after, class_among, statement_of, Parts, ttl_among}
-use Rattle.zone_text.specs.Inherited.{class_word, latest, or_else, ttl_text}
+use Rattle.zone_text.specs.Statements.{parts_after, statement_of}
+use Rattle.zone_text.specs.Inherited.{ttl_text}
 use Rattle.zone_text.specs.Machine.EntryReading.{IsRecordEntry}
 use Rattle.zone_text.specs.Machine.WordValues.{AreWordsOf}
 use Rattle.zone_text.specs.Records.{HasHead}
@@ -37,10 +37,6 @@ kind_missing origin before entry d name items after values is are none = search 
 pub kind_unknown : (origin : Labels) (before : List Entry) (entry : Entry) (d : ParserState) (name : Labels) (items after more : List RawItem) (values : Words) (word : List ℕ) (fault : Fault) → IsRecordEntry origin before entry d name items → AreWordsOf (parts_after [] items) values after → after ≡ bare word ∷ more → IsWordFault word fault → EntryFault origin before entry fault
 kind_unknown origin before entry d name items after more values word fault is are front bad =
     kind_refused origin before entry d name items after values fault is are (subst (λ rest. KindFault rest fault) (sym front) bad)
-
--- the class stated last, in the entry or before it
-class_last : (o earlier : Option (List ℕ)) (v : Option ℕ) (inherited number : ℕ) → MatchOption o (v ≡ None) (λ word. IsSomeAnd v (IsClassWord word)) → MatchOption earlier (inherited ≡ 1) (λ word. IsClassWord word inherited) → number ≡ unwrap_or v inherited → MatchOption (or_else o earlier) (number ≡ 1) (λ word. IsClassWord word number)
-class_last o earlier v inherited number none carried e = search rules
 
 pub has_head : (origin : Labels) (before : List Entry) (entry : Entry) (d : ParserState) (name : Labels) (items after more : List RawItem) (values : Words) (word : List ℕ) (class kind : ℕ) → IsRecordEntry origin before entry d name items → AreWordsOf (parts_after [] items) values after → after ≡ bare word ∷ more → IsKindWord word kind → IsKind kind → class ≡ unwrap_or values.class d.class → HasHead origin before entry (record { owner = name; class = class; kind = kind; items = more })
 has_head origin before entry d name items after more values word class kind is are front named good e = search rules

@@ -1,8 +1,8 @@
 -- The parser state is what the look back over the entries finds: one entry more, and the TTL that
 -- a record inherits.
-use Rattle.std.proofs.Common.{◌≡◌, ℕ, List, ◌∷◌, Option, Some, None, MatchOption, inl, inr, refl, sym, ap, ◌∙◌, subst, [], rules}
+use Rattle.std.proofs.Common.{◌≡◌, ℕ, List, ◌∷◌, Option, Some, None, MatchOption, inr, refl, sym, ap, ◌∙◌, subst, [], rules}
 use Rattle.std.specs.Option.{option_or}
-use Rattle.std.specs.Prelude.{IsSomeAnd, option_and_then}
+use Rattle.std.specs.Prelude.{option_and_then}
 use Rattle.zone_name.specs.Common.{Labels}
 use Rattle.zone_rdata.specs.Minimum.{minimum}
 use Rattle.zone_rdata.specs.Number.{IsTime}
@@ -10,7 +10,7 @@ use Rattle.zone_rdata.specs.Item.{RawItem, bare}
 use Rattle.zone_text.specs.ParserState.{IsStateAfter, IsOneOrNone, IsTtlOrNone}
 use Rattle.zone_text.specs.Entries.{Entry}
 use Rattle.zone_text.specs.Statements.{Statement, sets_origin, sets_ttl, statement_of, Parts, parts_in, parts_of, class_among, ttl_among}
-use Rattle.zone_text.specs.Inherited.{IsOrigin, IsLastOwner, IsTtl, SpellsAfter, class_word, default_ttl_text, latest, or_else, origin_text, owner_text, stated_ttl, ttl_text, one_bare}
+use Rattle.zone_text.specs.Inherited.{IsOrigin, IsLastOwner, IsTtl, SpellsAfter, class_word, default_ttl_text, latest, origin_text, owner_text, stated_ttl, ttl_text, one_bare}
 use Rattle.zone_text.specs.Machine.EntryReading.{with_owner, SetsOrigin, SetsTtl}
 use Rattle.zone_text.specs.Machine.Lower.{Lower}
 use Rattle.zone_text.specs.Records.{Head, HasHead, HasTtl, IsLastMinimum, StatesData, StatesMinimum, StatesNothing}
@@ -18,17 +18,6 @@ use Rattle.zone_text.specs.declared.parser_state.ParserState.{ParserState}
 use Rattle.zone_text.proofs.EntryOutcome.{states_no_minimum, no_minimum}
 
 -- ---- one entry more
-
--- what is carried so far is that of the latest text, and an entry with a text replaces it
-pub carried_on : (V : Type 0) (Other : V → Type 0) (Is : List ℕ → V → Type 0) (stated earlier : Option (List ℕ)) (carried next : V) → MatchOption earlier (Other carried) (λ text. Is text carried) → MatchOption stated (next ≡ carried) (λ text. Is text next) → MatchOption (or_else stated earlier) (Other next) (λ text. Is text next)
-carried_on V Other Is stated earlier carried next so_far same = search rules
-
--- a TTL or else another
-replaces : (o : Option (List ℕ)) (own other : Option ℕ) → IsTtlOrNone o own → MatchOption o (option_or own other ≡ other) (λ text. IsSomeAnd (option_or own other) (IsTtl text))
-replaces o own other none = search rules
-
-pub ttl_or_else : (stated earlier : Option (List ℕ)) (own carried : Option ℕ) → IsTtlOrNone stated own → IsTtlOrNone earlier carried → IsTtlOrNone (or_else stated earlier) (option_or own carried)
-ttl_or_else stated earlier own carried is so_far = search rules
 
 -- ---- an entry that is no record
 
@@ -69,12 +58,6 @@ same_default before entry form seconds is none so_far = search rules
 
 -- ---- a record
 
--- a record sets neither the origin nor `$TTL`
-no_directive : (form : Statement) (parts : Parts) → parts_in form ≡ Some parts → (origin_text form ≡ None) × (default_ttl_text form ≡ None)
-no_directive (sets_origin items) parts e = absurd cc
-no_directive (sets_ttl items) parts e = absurd cc
-no_directive form parts e = (refl, refl)
-
 minimum_by : Lower → (origin : Labels) (before : List Entry) (entry : Entry) (head : Head) (octets : List ℕ) (own carried : Option ℕ) → HasHead origin before entry head → StatesData origin before head octets → minimum (record { class = head.class; kind = head.kind; octets = octets }) ≡ own → IsOneOrNone (IsLastMinimum origin before) carried → IsOneOrNone (IsLastMinimum origin (entry ∷ before)) (option_or own carried)
 minimum_by lower origin before entry head octets (Some n) carried has rdata e so_far = search rules
 minimum_by lower origin before entry head octets None carried has rdata e so_far = search (rules, last_minimum, states_no_minimum)
@@ -88,9 +71,6 @@ pub record_leaves : (origin : Labels) (before : List Entry) (entry : Entry) (d n
 record_leaves origin before entry d next head own owner so_far has own_ttl same_above class_is same_ttl last_is minimum_is owner_is = search rules
 
 -- ---- the TTL of a record
-
-or_else_of_three : (a b c : Option (List ℕ)) → or_else (or_else a b) c ≡ or_else a (or_else b c)
-or_else_of_three a b c = search rules
 
 -- the TTL that is stated for a record, by itself or before it
 pub ttl_stated : (origin : Labels) (before : List Entry) (entry : Entry) (d : ParserState) (own : Option ℕ) → IsStateAfter origin before d → IsTtlOrNone (ttl_text (statement_of entry)) own → IsTtlOrNone (stated_ttl before entry) (option_or (option_or own d.default_ttl) d.last_ttl)

@@ -2,11 +2,10 @@
 use Rattle.std.proofs.Common.{◌≡◌, ℕ, ◌<◌, ◌≤◌, Bool, List, [], ◌∷◌, ◌++◌, length, inl, inr, refl, sym, ap, ◌∙◌, subst, arith, length-append, rules}
 use Rattle.std.specs.List.{flat_map, AllByRecursion}
 use Rattle.std.proofs.lemmas.List.{append-nil}
-use Rattle.zone_name.specs.Spelling.{Written, plain, escaped, decimal, text_of, octet_of, written_text, written_octets, IsUnit, no_octet}
-use Rattle.zone_name.proofs.Pushing.{AllByRecursion-append, AllByRecursion-front, AllByRecursion-back}
+use Rattle.zone_name.specs.Spelling.{Written, text_of, octet_of, written_text, written_octets, IsUnit, no_octet}
+use Rattle.zone_name.proofs.Pushing.{AllByRecursion-front, AllByRecursion-back}
 use Rattle.zone_name.proofs.Units.{text_of-some}
 use Rattle.zone_rdata.specs.Item.{RawItem}
-use Rattle.zone_rdata.specs.Item as raw
 use Rattle.zone_rdata.specs.Machine.LeftOut.{IsWritten}
 use Rattle.zone_rdata.specs.Strings.{SpellsString, item_text}
 use Rattle.zone_rdata.proofs.LeftOut.{one_kept, one_left_out}

@@ -2,9 +2,8 @@
 -- and states nothing.
 use Rattle.std.proofs.Common.{◌≡◌, ℕ, ◌+◌, ◌≤◌, Bool, true, false, if◌then◌else◌, ◌==◌, List, [], ◌∷◌, ◌++◌, length, Option, Some, None, MatchOption, Result, Ok, Err, inl, inr, refl, sym, ap, ◌∙◌, subst, arith, rules}
 use Rattle.std.specs.List.{AllByRecursion, flat_map}
-use Rattle.std.specs.Prelude.{bytes_eq, codes, is_some, OnOk, ⊤}
+use Rattle.std.specs.Prelude.{OnOk, ⊤}
 use Rattle.zone_name.specs.Common.{Labels}
-use Rattle.zone_name.specs.Name.{folded_label}
 use Rattle.zone_rdata.specs.Item.{RawItem, bare, quoted}
 use Rattle.zone_rdata.specs.Machine.LeftOut.{AreShortened, IsWritten, LeavesOut}
 use Rattle.zone_rdata.specs.Record.{Record}
@@ -14,7 +13,7 @@ use Rattle.zone_rdata.specs.declared.queue.PendingRecords.{PendingRecords}
 use Rattle.zone_rdata.proofs.LeftOut.{after_item, are_many, at_least, begin_with, fault_of_all, state_none}
 use Rattle.zone_text.specs.Entries.{Entry, entry_of, first_octet, item_of}
 use Rattle.zone_text.specs.EntryFault.{DirectiveFault, EntryFault, KindFault, OwnerFault, WordsFault, of_directive, of_kind, of_owner, of_rdata, of_ttl, of_words}
-use Rattle.zone_text.specs.Statements.{Statement, no_items, Parts, Word, begins_with_digit, class, class_among, directive, statement_by, statement_of, includes, is_class_word, owned, parts_after, parts_in, sets_origin, sets_ttl, ttl, ttl_among, unknown, unless_stated, unowned, word_after}
+use Rattle.zone_text.specs.Statements.{Statement, no_items, Parts, Word, class, class_among, directive, statement_by, statement_of, includes, owned, parts_after, parts_in, sets_origin, sets_ttl, ttl, ttl_among, unknown, unless_stated, unowned, word_after}
 use Rattle.zone_text.specs.Inherited.{IsOwner, class_word, latest, one_bare, or_else}
 use Rattle.zone_rdata.specs.Words.{IsClassWord}
 use Rattle.zone_text.specs.Machine.EntryReading.{DecidesEntry, decides_fault, decides_none, decides_one}

@@ -1,13 +1,13 @@
 -- What is settled of a text by its front.
-use Rattle.std.proofs.Common.{◌≡◌, ℕ, zero, ◌≤◌, false, List, [], ◌∷◌, ◌++◌, length, Option, Some, None, refl, sym, ap, ◌∙◌, subst, arith, append_assoc, ◌⊎◌, inl, inr, rules}
+use Rattle.std.proofs.Common.{◌≡◌, ℕ, zero, false, List, [], ◌∷◌, ◌++◌, Option, Some, None, refl, sym, ap, ◌∙◌, subst, append_assoc, ◌⊎◌, rules}
 use Rattle.std.proofs.lemmas.List.{append-nil}
 use Rattle.std.proofs.lemmas.List.Concat.{flat_map-append}
-use Rattle.zone_name.specs.Spelling.{Written, plain, escaped, decimal, text_of, octet_of, IsEscape, IsBadEscape, is_digit, written_text}
+use Rattle.zone_name.specs.Spelling.{Written, text_of, IsEscape, IsBadEscape, is_digit, written_text}
 use Rattle.zone_rdata.specs.declared.fault.Fault.{Fault}
 use Rattle.zone_rdata.specs.declared.fault.Fault.TheVariants.{BadEscape, UnbalancedParenthesis}
 use Rattle.zone_name.proofs.Pushing.{AllByRecursion-append, AllByRecursion-front, AllByRecursion-back}
-use Rattle.zone_text.specs.Tokens.{Token, blank, line_feed, comment, token_text, text, IsToken, AllFollow, depth_after, Cuts}
-use Rattle.zone_text.specs.Breaks.{IsBroken, closes_nothing, no_escape, no_quoted_escape, no_quote, not_closed, MayEndBefore, Breaks}
+use Rattle.zone_text.specs.Tokens.{Token, comment, token_text, text, IsToken, AllFollow, depth_after, Cuts}
+use Rattle.zone_text.specs.Breaks.{IsBroken, closes_nothing, no_escape, no_quoted_escape, MayEndBefore, Breaks}
 use Rattle.zone_text.specs.Lasting.{EndInLineFeed, IsLostEscape, at_line_end, one_digit, two_digits, too_great, StaysBroken, closing_stays, escape_stays, quoted_escape_stays, BreaksForGood}
 use Rattle.zone_text.specs.Machine.Cutting.{stops, depth_past}
 use Rattle.zone_text.proofs.Fronts.{front_stops}
@@ -15,14 +15,8 @@ use Rattle.zone_text.proofs.Cuttings.{IsCut, is_cut, cuts, is_broken, breaks, la
 
 -- ---- tokens after tokens
 
-line_feed_then : (more : List Token) → AllFollow more → AllFollow (line_feed ∷ more)
-line_feed_then more follow = search rules
-
 ends_after : (p q : Token) (tokens : List Token) → EndInLineFeed (p ∷ q ∷ tokens) → EndInLineFeed (q ∷ tokens)
 ends_after p q tokens ends = search rules
-
-the_line_feed : (p : Token) → EndInLineFeed (p ∷ []) → p ≡ line_feed
-the_line_feed p ends = search rules
 
 follow_append : (tokens more : List Token) → AllFollow tokens → EndInLineFeed tokens → AllFollow more → AllFollow (tokens ++ more)
 follow_append [] more follow ends others = others
@@ -40,9 +34,6 @@ follow_back (p ∷ tokens) more follow = follow_back tokens more (follow_after p
 last_back : (tokens more : List Token) (rest : List ℕ) → MayEndBefore (tokens ++ more) rest → MayEndBefore more rest
 last_back [] more rest last = last
 last_back (p ∷ tokens) more rest last = last_back tokens more rest (last_after p (tokens ++ more) rest last)
-
-last_line_feed : (more : List Token) (rest : List ℕ) → MayEndBefore more rest → MayEndBefore (line_feed ∷ more) rest
-last_line_feed more rest last = search rules
 
 last_append : (tokens more : List Token) (rest : List ℕ) → EndInLineFeed tokens → MayEndBefore more rest → MayEndBefore (tokens ++ more) rest
 last_append [] more rest ends last = last
@@ -136,9 +127,6 @@ one_fault depth rest fault other broken as_well = by fault other (sym (front_sto
   where
     by : (f g : Fault) → stops (Some f) ≡ stops (Some g) → f ≡ g
     by f g e = cc
-
-first_octets : (c d : ℕ) (rest after : List ℕ) → c ∷ rest ≡ d ∷ after → c ≡ d
-first_octets c d rest after e = cc
 
 -- a `)` breaks at depth zero alone
 at_depth_zero : (depth : ℕ) (rest after : List ℕ) (fault : Fault) → rest ≡ 41 ∷ after → IsBroken depth rest fault → depth ≡ 0

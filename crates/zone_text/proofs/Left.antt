@@ -2,7 +2,7 @@
 use Rattle.std.proofs.Common.{◌≡◌, ℕ, zero, ◌+◌, List, [], ◌∷◌, ◌++◌, ◌==◌, Some, None, refl, sym, ap, ◌∙◌, subst, append_assoc, add_assoc, add-zero, ◌⊎◌, inl, inr, Option, rules, arith}
 use Rattle.std.specs.List.{flat_map, count_by}
 use Rattle.std.specs.Prelude.{reverse}
-use Rattle.std.proofs.lemmas.List.{append-nil, reverse-append}
+use Rattle.std.proofs.lemmas.List.{append-nil}
 use Rattle.std.proofs.lemmas.List.Concat.{flat_map-append}
 use Rattle.std.proofs.lemmas.Grind.{common_steps}
 use Rattle.std.proofs.lemmas.List.Sums.{sum_by-append}
@@ -13,7 +13,7 @@ use Rattle.zone_rdata.specs.declared.record.Placed.{Placed}
 use Rattle.zone_text.specs.Tokens.{Token, Cuts, token_text, text}
 use Rattle.zone_text.specs.Breaks.{Breaks}
 use Rattle.zone_text.specs.Lasting.{BreaksForGood, StaysBroken, BreaksAtEnd}
-use Rattle.zone_text.specs.Entries.{Cut, Entry, cut_from, entry_of, numbered, and_last, entries_of, ended_entries}
+use Rattle.zone_text.specs.Entries.{Cut, Entry, cut_from, numbered, and_last, entries_of, ended_entries}
 use Rattle.zone_text.specs.FileReads.{ReadEach, Ending, stated, refused}
 use Rattle.zone_text.specs.File.{states_none, states_one}
 use Rattle.zone_text.specs.Decided.{AreTokens}

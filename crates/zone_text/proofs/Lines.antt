@@ -1,22 +1,19 @@
 -- Lines of items, and entries that state every part of a record.
-use Rattle.std.proofs.Common.{◌≡◌, ◌≢◌, ℕ, zero, List, [], ◌∷◌, ◌++◌, true, false, ◌==◌, Option, Some, None, refl, ap, ◌∙◌, cond, arith, rules}
+use Rattle.std.proofs.Common.{◌≡◌, ◌≢◌, ℕ, zero, List, [], ◌∷◌, true, false, Option, Some, refl, ◌∙◌, arith, rules}
 use Rattle.std.specs.Prelude.{IfSome}
 use Rattle.std.specs.List.{flat_map, AllByRecursion}
 use Rattle.std.proofs.lemmas.Grind.{common_steps}
-use Rattle.std.proofs.lemmas.Bool.Decides.{nat_tests}
 use Rattle.zone_name.specs.Common.{Labels}
 use Rattle.zone_rdata.specs.Record.{Record}
 use Rattle.zone_rdata.specs.Spelling.{RawItem}
 use Rattle.zone_rdata.specs.Spelling as raw
-use Rattle.zone_text.specs.Entries.{Cut, in_front_of, cut_from, and_last, Entry, entry_of, numbered, entries_of, item_of}
-use Rattle.zone_text.specs.Statements.{statement_by, statement_of, owned, Word, ttl, class, word_after, Parts, parts_after, parts_of, begins_with_digit, is_class_word}
+use Rattle.zone_text.specs.Entries.{in_front_of, cut_from, Entry, entry_of, entries_of, item_of}
+use Rattle.zone_text.specs.Statements.{statement_by, statement_of, owned, ttl, class, Parts, parts_after, parts_of, begins_with_digit, is_class_word}
 use Rattle.zone_text.specs.Inherited.{IsOrigin}
 use Rattle.zone_text.specs.Line.{IsItem, line_of, StatesWhole}
-use Rattle.zone_text.specs.Tokens.{Token, blank, line_feed, bare, quoted, text, is_blank, IsToken, MayFollow, AllFollow, depth_after, Cuts}
+use Rattle.zone_text.specs.Tokens.{Token, blank, line_feed, text, is_blank, IsToken, MayFollow, AllFollow, depth_after, Cuts}
 use Rattle.zone_text.specs.Records.{EntryStates}
-use Rattle.zone_text.proofs.Inheriting.{same_origin}
 use Rattle.zone_text.proofs.ClassWords.{time_first, class_word_first, class_word_known}
-use Rattle.zone_text.proofs.WordsLeft.{next_part}
 
 -- ---- the line of items
 
@@ -67,15 +64,8 @@ line_items items = refl
 
 -- ---- the entry that states every part
 
-not_equal : (a b : ℕ) → (a ≢ b) → (a == b) ≡ false
-not_equal a b other = grind (arith, nat_tests)
-
 owned_form : (first : Option ℕ) (item : RawItem) (items : List RawItem) → IfSome first (λ c. (is_blank c ≡ false) × (c ≢ 36)) → statement_by first (item ∷ items) ≡ owned item items
 owned_form first item items plain = search rules
-
--- after a TTL and a class stands no further word
-no_third : (ttl_word class_word word : List ℕ) → word_after (ttl ttl_word ∷ class class_word ∷ []) (raw.bare word) ≡ None
-no_third ttl_word class_word word = grind (arith, common_steps)
 
 whole_parts : (ttl_word class_word kind_word : List ℕ) (items : List RawItem) → begins_with_digit ttl_word ≡ true → begins_with_digit class_word ≡ false → is_class_word class_word ≡ true → parts_after [] (raw.bare ttl_word ∷ raw.bare class_word ∷ raw.bare kind_word ∷ items) ≡ record { words = ttl ttl_word ∷ class class_word ∷ []; rest = raw.bare kind_word ∷ items }
 whole_parts ttl_word class_word kind_word items is_ttl no_ttl is_class = grind (arith, common_steps)

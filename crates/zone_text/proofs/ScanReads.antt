@@ -18,15 +18,13 @@ use Rattle.zone_text.specs.declared.scan.Scanned.{Scanned}
 use Rattle.zone_text.specs.declared.scan.ScanState.{ScanState}
 use Rattle.zone_text.specs.declared.scan.Step.{Step}
 use Rattle.zone_text.specs.declared.scan.Step.TheVariants.{On, Ends, LostEscape, ClosesNothing}
-use Rattle.zone_text.specs.Tokens.{Token, blank, opening, closing, line_feed, comment, bare, quoted, token_text, is_blank, ends_item, IsToken}
+use Rattle.zone_text.specs.Tokens.{Token, blank, opening, closing, line_feed, comment, bare, quoted, is_blank, ends_item}
 use Rattle.zone_text.specs.Lasting.{IsLostEscape, at_line_end, one_digit, two_digits, too_great, IsCutOff, after_backslash, after_digit, after_two_digits}
 use Rattle.zone_text.specs.Machine.Cutting.{depth_past}
 use Rattle.zone_text.specs.Machine.Scan.{on, fed_line, closed, open_step, quoted_step, comment_step, ends_number, escape_step, step_in, step_of, scan_on, scan_of, unclosed, end_fault_of}
 use Rattle.zone_text.specs.Machine.Scan as machine
 use Rattle.zone_text.proofs.Cuttings.{after_bare}
-use Rattle.zone_text.proofs.ForGood.{malformed_is_bad}
-use Rattle.zone_text.proofs.Fronts.{Begins, Takes, begins, first_octet_is}
-use Rattle.zone_text.proofs.Lasting.{begins_backslash}
+use Rattle.zone_text.proofs.Fronts.{Takes, begins, first_octet_is}
 
 -- ---- tokens and what is open after them
 
@@ -60,9 +58,6 @@ pub data Reads (step : Step) : ℕ → List ℕ → Type 0 where
   then_more : (depth : ℕ) (octets : List ℕ) (p : Token) (rest : List ℕ) → Takes depth octets p rest → EndsNone depth p → Reads step (depth_past depth p) rest → Reads step depth octets
 
 -- ---- first octets
-
-escape_begins : (step : Step) (octets : List ℕ) → EscapeAt step octets → (more : List ℕ) × (octets ≡ 92 ∷ more)
-escape_begins step octets open_escape = search rules
 
 pub escape_is_bad : (step : Step) (octets : List ℕ) → EscapeAt step octets → IsBadEscape octets
 escape_is_bad step octets open_escape = search rules

@@ -1,18 +1,14 @@
 -- One octet of a scan, and how answers of scans are joined.
-use Rattle.std.proofs.Common.{◌≡◌, ℕ, suc, Bool, ◌+◌, ◌-◌, ◌<◌, ◌≤◌, List, length, drop, get_or, false, ◌==◌, ◌||◌, refl, sym, ap, ◌∙◌, subst, arith, drop-cons, rules}
-use Rattle.std.proofs.Math.Seq.{drop-length}
+use Rattle.std.proofs.Common.{◌≡◌, ℕ, Bool, ◌+◌, ◌-◌, ◌<◌, ◌≤◌, List, length, drop, get_or, false, ◌==◌, ◌||◌, refl, sym, ◌∙◌, subst, arith, rules}
 use Rattle.std.proofs.lemmas.Grind.{common_steps}
-use Rattle.std.proofs.lemmas.Bool.{cond_both, or_parts, both_ways}
-use Rattle.zone_text.specs.declared.scan.AfterBackslash.{AfterBackslash}
-use Rattle.zone_text.specs.declared.scan.AfterBackslash.TheVariants.{Lost}
-use Rattle.zone_text.specs.declared.scan.Escape.{Escape}
+use Rattle.std.proofs.lemmas.Bool.{or_parts, both_ways}
 use Rattle.zone_text.specs.declared.scan.Mode.{Mode}
-use Rattle.zone_text.specs.declared.scan.Mode.TheVariants.{Open, Quoted, Comment, Escaped, QuotedEscaped}
+use Rattle.zone_text.specs.declared.scan.Mode.TheVariants.{Open, Quoted, Comment}
 use Rattle.zone_text.specs.declared.scan.Scanned.{Scanned}
 use Rattle.zone_text.specs.declared.scan.ScanState.{ScanState}
 use Rattle.zone_text.specs.declared.scan.Step.{Step}
 use Rattle.zone_text.specs.declared.scan.Step.TheVariants.{On, Ends, LostEscape, ClosesNothing}
-use Rattle.zone_text.specs.Machine.Scan.{on, moves, fed_line, closed, open_step, quoted_step, comment_step, after_backslash, escape_step, step_in, step_of, further, scan_on, scan_of, open_at, AreQuiet}
+use Rattle.zone_text.specs.Machine.Scan.{on, moves, open_step, step_in, step_of, further, scan_on, scan_of, open_at, AreQuiet}
 
 -- ---- an octet that leaves the state as it is
 
@@ -33,9 +29,6 @@ stays at c e = stays_in at.mode at.depth c e
 pub further_on : (n m : ℕ) (found : Scanned) → further n (further m found) ≡ further (n + m) found
 further_on n m found = search rules
 
-pub further_none : (found : Scanned) → further 0 found ≡ found
-further_none found = search rules
-
 at_octet : (at : ScanState) (octets : List ℕ) (i : ℕ) → i < length octets → scan_of at (drop i octets) ≡ scan_on (λ next. scan_of next (drop (i + 1) octets)) (step_of at (get_or octets i 0))
 unfolding scan_of
 at_octet at octets i in_range = grind (arith, common_steps)
@@ -51,24 +44,6 @@ Rises depth (On next) = next.depth ≤ depth + 1
 Rises depth Ends = Unit {0}
 Rises depth LostEscape = Unit {0}
 Rises depth ClosesNothing = Unit {0}
-
-rises_fed : (depth : ℕ) → Rises depth (fed_line depth)
-rises_fed depth = search rules
-
-rises_closed : (depth : ℕ) → Rises depth (closed depth)
-rises_closed depth = search rules
-
-rises_open : (depth c : ℕ) → Rises depth (open_step depth c)
-rises_open depth c = search rules
-
-rises_quoted : (depth c : ℕ) → Rises depth (quoted_step depth c)
-rises_quoted depth c = search rules
-
-rises_comment : (depth c : ℕ) → Rises depth (comment_step depth c)
-rises_comment depth c = search rules
-
-rises_escape : (inside : Escape → Mode) (outside : Mode) (depth : ℕ) (after : AfterBackslash) → Rises depth (escape_step inside outside depth after)
-rises_escape inside outside depth after = search rules
 
 rises_in : (mode : Mode) (depth c : ℕ) → Rises depth (step_in mode depth c)
 rises_in mode depth c = search rules

@@ -1,6 +1,6 @@
 -- What a scan says of the octets that it took: where it goes on and stops, and the tokens that they
 -- are.
-use Rattle.std.proofs.Common.{◌≡◌, ℕ, zero, suc, ◌+◌, ◌≤◌, List, [], ◌∷◌, ◌++◌, length, take, Option, Some, None, refl, sym, ap, ◌∙◌, subst, arith, inl, inr, ◌≢◌, ◌-◌, ◌==◌, rules}
+use Rattle.std.proofs.Common.{◌≡◌, ℕ, zero, suc, ◌+◌, ◌≤◌, List, [], ◌∷◌, ◌++◌, length, take, Option, Some, None, refl, sym, ap, ◌∙◌, subst, arith, ◌≢◌, ◌==◌, rules}
 use Rattle.std.proofs.Math.Seq.{take-length}
 use Rattle.std.proofs.lemmas.List.{length-take}
 use Rattle.std.specs.Prelude.{MatchOption}
@@ -11,9 +11,9 @@ use Rattle.zone_text.specs.declared.scan.Scanned.{Scanned}
 use Rattle.zone_text.specs.declared.scan.ScanState.{ScanState}
 use Rattle.zone_text.specs.declared.scan.Step.{Step}
 use Rattle.zone_text.specs.declared.scan.Step.TheVariants.{On, Ends, LostEscape, ClosesNothing}
-use Rattle.zone_text.specs.Tokens.{Token, Cuts, closing, line_feed, text}
+use Rattle.zone_text.specs.Tokens.{Token, Cuts, line_feed, text}
 use Rattle.zone_text.specs.Breaks.{Breaks, IsBroken, closes_nothing as closes_none, no_escape, no_quoted_escape, no_quote, not_closed}
-use Rattle.zone_text.specs.Lasting.{BreaksForGood, IsLostEscape, IsCutOff, StaysBroken, closing_stays, escape_stays, quoted_escape_stays, BreaksAtEnd, nothing_left, quote_open, escape_open, quoted_escape_open}
+use Rattle.zone_text.specs.Lasting.{BreaksForGood, IsLostEscape, IsCutOff, StaysBroken, closing_stays, escape_stays, quoted_escape_stays, BreaksAtEnd, quote_open, escape_open, quoted_escape_open}
 use Rattle.zone_text.specs.Entries.{Cut, cut_from, in_front_of}
 use Rattle.zone_text.specs.Decided.{AreTokens}
 use Rattle.zone_text.specs.Machine.Scan.{beginning, step_of, further, scan_on, scan_of, end_fault_of, IsOneEntry, unclosed}
@@ -21,7 +21,7 @@ use Rattle.zone_text.specs.Machine.Cutting.{depth_past}
 use Rattle.zone_text.proofs.Cuttings.{IsCut, cuts, breaks, no_token, one_token_more, text_on}
 use Rattle.zone_text.proofs.ForGood.{stays_for_good, ends_not_for_good}
 use Rattle.zone_text.proofs.ScanReads.{Reads, reads, EscapeAt, RanOut, EndsNone, ends, closes, runs_out, in_quote, in_escape, in_quoted_escape, then_more, escape_is_bad}
-use Rattle.zone_text.proofs.ScanSteps.{further_on, further_none, rises}
+use Rattle.zone_text.proofs.ScanSteps.{further_on, rises}
 use Rattle.zone_text.proofs.Fronts.{HasRoom, Takes, Ends as EndsAt}
 
 -- ---- what the last step says

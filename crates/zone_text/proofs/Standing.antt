@@ -1,5 +1,5 @@
 -- What a source stands for.
-use Rattle.std.proofs.Common.{◌≡◌, ℕ, ◌+◌, List, [], ◌++◌, length, true, false, Option, Some, None, IfSome, refl, ap, ◌∙◌, arith, length-append, lit<, rules}
+use Rattle.std.proofs.Common.{◌≡◌, ℕ, ◌+◌, List, [], ◌++◌, length, true, false, IfSome, refl, arith, length-append, lit<, rules}
 use Rattle.std.proofs.lemmas.Bool.{both_ways}
 use Rattle.zone_name.specs.Common.{Labels}
 use Rattle.zone_rdata.proofs.Bytes.{Bytes, bytes_append}

@@ -1,11 +1,9 @@
 -- Items that stand as they are printed are the items of one line.
-use Rattle.std.proofs.Common.{◌≡◌, ◌≢◌, ℕ, ◌<◌, true, false, List, [], ◌∷◌, ◌++◌, length, map, refl, sym, ap, ap₂, ◌∙◌, subst, arith, append_assoc, rules}
+use Rattle.std.proofs.Common.{◌≡◌, ◌≢◌, ℕ, ◌<◌, false, List, [], ◌∷◌, ◌++◌, length, map, refl, sym, ap, arith, append_assoc, rules}
 use Rattle.std.specs.Prelude.{IfSome}
 use Rattle.std.specs.List.{flat_map, AllByRecursion, join_with_byte}
-use Rattle.std.proofs.lemmas.Bool.{both_ways, not-false}
-use Rattle.std.proofs.lemmas.Bool.Decides.{nat_tests}
-use Rattle.zone_name.specs.Spelling.{Written, plain, text_of, IsUnit, written_text}
-use Rattle.zone_name.proofs.Bare.{StandsBare, is_bare, not_bare}
+use Rattle.zone_name.specs.Spelling.{Written, text_of, IsUnit, written_text}
+use Rattle.zone_name.proofs.Bare.{StandsBare, not_bare}
 use Rattle.zone_rdata.specs.Spelling.{RawItem}
 use Rattle.zone_rdata.specs.Spelling as raw
 use Rattle.zone_rdata.specs.Text.{written_item}
@@ -15,9 +13,6 @@ use Rattle.zone_text.specs.Line.{IsItem, line_of}
 use Rattle.zone_text.specs.Tokens.{Token, bare, quoted, text, token_text, is_blank, ends_item}
 
 -- ---- an item
-
-bare_goes_on : (c : ℕ) → is_bare c ≡ true → ends_item c ≡ false
-bare_goes_on c is = grind (arith, nat_tests)
 
 unit_goes_on : (w : Written) → IsUnit not_bare w → IsUnit ends_item w
 unit_goes_on w is = search rules
@@ -84,9 +79,6 @@ tokens_of items stand = record { tokens = tokens_for items stand; each = are_for
 -- an octet with which an entry begins that has an owner of its own
 abbrev pub BeginsOwner : ℕ → Type 0
 BeginsOwner c = (is_blank c ≡ false) × (c ≢ 36)
-
-bare_begins : (c : ℕ) → is_bare c ≡ true → BeginsOwner c
-bare_begins c is = (grind (arith, nat_tests), λ e. both_ways (is_bare c) (ap is_bare e) is)
 
 unit_begins : (w : Written) (rest : List ℕ) → IsUnit not_bare w → IfSome (first_octet (text_of w ++ rest)) BeginsOwner
 unit_begins w rest is = search rules

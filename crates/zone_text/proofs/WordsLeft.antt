@@ -10,7 +10,7 @@ use Rattle.zone_rdata.specs.Words.{IsClass, IsClassWord}
 use Rattle.zone_rdata.specs.declared.fault.Fault.{Fault}
 use Rattle.zone_rdata.specs.declared.item.Item.{Item}
 use Rattle.zone_text.specs.EntryFault.{WordFault, WordsFault}
-use Rattle.zone_text.specs.Statements.{Word, ttl, class, ttl_among, class_among, Parts, parts_after, word_after, unless_stated, begins_with_digit, is_class_word}
+use Rattle.zone_text.specs.Statements.{Word, ttl, class, ttl_among, class_among, Parts, parts_after, word_after, begins_with_digit, is_class_word}
 use Rattle.zone_text.specs.Inherited.{IsTtl}
 use Rattle.zone_text.specs.Machine.WordValues.{HaveValues, AreWordsOf}
 use Rattle.zone_text.specs.Records.{HasValue}
@@ -22,9 +22,6 @@ use Rattle.zone_text.proofs.ClassWords.{class_word_of, class_word_known}
 -- a value is there where its text is
 stated_too : (o : Option (List ℕ)) (v : Option ℕ) (Is : List ℕ → ℕ → Type 0) → MatchOption o (v ≡ None) (λ text. IsSomeAnd v (Is text)) → is_some o ≡ is_some v
 stated_too o v Is h = search rules
-
-unstated : (o : Option (List ℕ)) (word : Word) → is_some o ≡ false → unless_stated o word ≡ Some word
-unstated o word e = search rules
 
 ttl_word : (words : List Word) (v : Words) (text : List ℕ) → HaveValues words v → begins_with_digit text ≡ true → is_some v.ttl ≡ false → word_after words (bare text) ≡ Some (ttl text)
 ttl_word words v text have digit none = search rules
@@ -104,9 +101,6 @@ pub record ReadsWords (items : List RawItem) (values : Words) (rest : List RawIt
   pub words : List Word
   pub have : HaveValues words values
   pub parts : parts_after [] items ≡ parts_after words rest
-
-parts_are : (parts : Parts) (words : List Word) (v : Words) (rest : List RawItem) → HaveValues words v → parts ≡ record { words = words; rest = rest } → AreWordsOf parts v rest
-parts_are parts words v rest have e = rw e (record { words = have; rest = refl })
 
 -- the next item is no word
 pub read_to : (items rest more : List RawItem) (v : Words) (item : RawItem) → ReadsWords items v rest → rest ≡ item ∷ more → ((words : List Word) → HaveValues words v → word_after words item ≡ None) → AreWordsOf (parts_after [] items) v rest
