@@ -1,4 +1,4 @@
-ghost use Rattle.std.specs.Prelude.{◌≡◌, ◌+◌, ◌^◌, ◌≤◌, ◌<◌, false, [], length, IfOk, IfErr, OnOk};
+ghost use Rattle.std.specs.Prelude.{◌≡◌, ◌+◌, ◌^◌, ◌≤◌, ◌<◌, false, [], length, IfOk, IfErr, OnOk, replicate};
 ghost use Rattle.std.specs.Io.KnownBytes.{Consumes, IsAtEnd, Keeps};
 ghost use Rattle.zonenorm.specs.Machine.Loading.{BeginsAs, ReadsKnown, RefusesKnown};
 ghost use Rattle.zonenorm.specs.Normalise.{ConsumesAtMost, IsOfReading, ReadsWhole};
@@ -53,7 +53,8 @@ pub(crate) fn read_zone<S: FedSource, R: OctetReader>(
 
 /// So many zero octets. The length is a parameter, so that no proof counts up to it.
 fn zeros(alloc: Global, len: usize) -> Result<Vec<u8>, AllocError>
-    ensures { IfOk result (λ octets. length octets.items ≡ len) }
+    ensures zeros { IfOk result (λ octets. octets.items ≡ replicate len 0) }
+    ensures len { IfOk result (λ octets. length octets.items ≡ len) }
 {
     vec![in alloc; 0u8; len]
 }
