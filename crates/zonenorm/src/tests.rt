@@ -83,7 +83,7 @@ fn check_answer<Q: Question>(alloc: Global, row: (&'static str, &str)) -> Result
     Err(Fail::new(format_args!("another answer: {asked}")))
 }
 
-/// That each line of a table gets the answer that stands behind its ` => `.
+/// That each line of a table gets the answer that stands after its ` => `.
 ///
 /// # Errors
 ///
@@ -95,7 +95,7 @@ fn check_lines<Q: Question>(alloc: Global, table: &'static str) -> Result<(), Fa
     Ok(())
 }
 
-/// That each row of a table gets the answer that stands behind its `=>`. `== ` stands before each
+/// That each row of a table gets the answer that stands after its `=>`. `== ` stands before each
 /// row.
 ///
 /// # Errors

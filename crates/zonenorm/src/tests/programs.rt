@@ -1,7 +1,7 @@
 //! The whole program over readers and writers, from its words to its exit status.
 //!
 //! A row has a name, the words after the program's name, and two inputs, between which `--` stands:
-//! the first line of each says what it is, a broken one ends with an error, and behind it stands
+//! the first line of each says what it is, a broken one ends with an error, and after it stands
 //! the file, or the stream in notation. The answer is the exit status, what is written on standard
 //! output, and after `--` what is written on standard error.
 use crate::tests::devices::{BROKEN, Supply};
@@ -362,28 +362,6 @@ header 1 8400 0 3 0 0; n.x. 3600 IN A #0a000001; @14 3600 IN NS @12; @14 3600 IN
 => 1
 different at line 3
 --
-== program_compares_a_refused_first_file
-compare x. e x. p
-file
---
-file
-$TTL 1h
-@ SOA N h 1 2 3 4 5
-  NS n
-=> 3
---
-first: F42 NoSoa in the input: the zone has no SOA record
-== program_compares_a_refused_second_file
-compare x. p x. e
-file
-$TTL 1h
-@ SOA N h 1 2 3 4 5
-  NS n
---
-file
-=> 3
---
-second: F42 NoSoa in the input: the zone has no SOA record
 == program_cannot_open_the_first_file
 compare x. missing x. p
 broken file

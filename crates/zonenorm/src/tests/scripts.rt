@@ -1,6 +1,6 @@
 //! Calls of a source that is fed, and what each answers.
 //!
-//! A row has a name and an origin on its first line, and then a call a line, behind ` => ` its
+//! A row has a name and an origin on its first line, and then a call a line, after ` => ` its
 //! answer. The calls `feed`, `octets`, `frame`, `front` and `greatest` feed a piece: a text in
 //! which `|` is a line feed; octets in hexadecimal digits; a stream in notation, and all of one but
 //! its last octet; and the greatest message but its last octet.
