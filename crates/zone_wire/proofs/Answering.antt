@@ -17,7 +17,7 @@ pub differ : (a b : ℕ) → a ≢ b → nat_eq a b ≡ false
 differ a b h = grind (arith, nat_tests)
 
 pub holds_data : (n : ℕ) → IsClass n → is_no_class n ≡ false
-holds_data n is = or_from (n == 0 || n == 254) (n == 255) (or_from (n == 0) (n == 254) (differ n 0 is.not_zero) (differ n 254 is.not_none)) (differ n 255 is.not_any)
+holds_data n is = grind arith
 
 pub none_of : (kind : ℕ) (kinds : List ℕ) → AllByRecursion (λ k. kind ≢ k) kinds → list_any (nat_eq kind) kinds ≡ false
 none_of kind [] each = refl
@@ -40,9 +40,7 @@ OpensWith zone (opening ∷ placed) = opening.rr ≡ zone
 
 -- what the questions for a zone and its records fix is the zone
 pub zone_agrees : (zone : Record) (questions : List QuestionAt) (placed : List Placed) (name : List (List ℕ)) (class : ℕ) → AllByRecursion (AsksFor zone) questions → OpensWith zone placed → name ≡ zone.owner → class ≡ zone.class → AgreeWith (zone_of questions placed) name class
-zone_agrees zone (q ∷ questions) placed name class ask opens n c = (n ∙ sym ask.0.name, c ∙ sym ask.0.class)
-zone_agrees zone [] (opening ∷ placed) name class ask opens n c = (n ∙ ap (λ (r : Record). r.owner) (sym opens), c ∙ ap (λ (r : Record). r.class) (sym opens))
-zone_agrees zone [] [] name class ask opens n c = tt
+zone_agrees zone questions placed name class ask opens n c = grind arith
 
 abbrev pub is_soa : Placed → Bool
 is_soa p = p.rr.kind == 6
@@ -57,6 +55,4 @@ InOrder zone before [] = ⊤
 InOrder zone before (p ∷ placed) = Follows zone before p × InOrder zone (before ++ p ∷ []) placed
 
 pub follows_comes : (zone : Record) (questions : List QuestionAt) (before : List Placed) (p : Placed) → AllByRecursion (AsksFor zone) questions → Follows zone before p → ComesAfter questions before p.rr
-follows_comes zone questions [] p ask follows =
-    (ap (λ (r : Record). r.kind) follows.0 ∙ follows.1, zone_agrees zone questions [] p.rr.owner p.rr.class ask tt (ap (λ (r : Record). r.owner) follows.0) (ap (λ (r : Record). r.class) follows.0))
-follows_comes zone questions (opening ∷ others) p ask follows = follows
+follows_comes zone questions before p ask follows = grind arith

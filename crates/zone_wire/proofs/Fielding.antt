@@ -1,4 +1,5 @@
 -- The data of a record is read as the values that stand there.
+use Rattle.std.proofs.lemmas.Grind.{common_steps}
 use Rattle.std.proofs.Common.{◌≡◌, ℕ, zero, suc, ◌+◌, ◌-◌, ◌≤◌, ◌^◌, ◌<◌, List, [], ◌∷◌, length, refl, ap, sym, ◌∙◌, arith, nat_lt, nat_eq, get_or-drop}
 use Rattle.std.specs.Prelude.{get_or, slice_index, take, drop, Option, Some, None, MatchOption, Result, Ok}
 use Rattle.std.specs.Int.{w16, w32, to_be_bytes, from_be_bytes}
@@ -29,21 +30,14 @@ use Rattle.zone_wire.proofs.Walking.{name_walks}
 
 -- a part of octets that is a text
 pub part_text : (octets : List ℕ) (start end : ℕ) (text : List ℕ) → start ≤ end → end ≤ length octets → octets_between octets start end ≡ text → end ≡ start + length text
-part_text octets start end text order inside e =
-    let len : length (octets_between octets start end) ≡ end - start = length-take-le (end - start) (drop start octets) (omega (arith, length-drop start octets)) in
-    let same : length (octets_between octets start end) ≡ length text = ap length e in
-    omega arith
+part_text octets start end text order inside e = grind (arith, common_steps)
 
 pub name_reads : (end : ℕ) (found : Found) (o : Outcome) → o ≡ named found → found.end ≤ end → name_before end o ≡ Ok (name found.labels, found.end)
 name_reads end found o e h = ap (name_before end) e ∙ cond-true _ _ _ (le-leb _ _ h)
 
 -- a value of this many octets
 sized_reads : (octets : List ℕ) (end start next : ℕ) (field : Field) (v : FieldValue) (size : ℕ) → length (field_octets v) ≡ size → field_at field (field_octets v) ≡ v → next ≤ end → end ≤ length octets → (start ≤ next) × (octets_between octets start next ≡ field_octets v) → sized_before octets end start field size ≡ Ok (v, next)
-sized_reads octets end start next field v size len back before within stands =
-    let past : start + size ≡ next = omega (arith, part_text octets start next (field_octets v) stands.0 (omega arith) stands.1) in
-    let value : field_at field (octets_between octets start (start + size)) ≡ v = ap (λ n. field_at field (octets_between octets start n)) past ∙ ap (field_at field) stands.1 ∙ back in
-    let fits : start + size ≤ end = omega arith in
-    cond-true _ _ _ (le-leb (start + size) end fits) ∙ ap (λ (x : FieldValue). Ok (x, start + size)) value ∙ ap (λ n. Ok (v, n)) past
+sized_reads octets end start next field v size len back before within stands = grind (arith, part_text)
 
 long_back : (n : ℕ) → n < 2 ^ 32 → u32_value (from_be_bytes w32 (take 4 (to_be_bytes w32 n))) ≡ u32_value n
 long_back n h = ap u32_value (from_be_bytes-to_be_bytes_4 n h)
@@ -53,12 +47,7 @@ two_back n h = ap u16_value (from_be_bytes-to_be_bytes_2 n h)
 
 -- the first octet of a part
 pub part_first : (octets : List ℕ) (start past : ℕ) → start < past → get_or (octets_between octets start past) 0 0 ≡ slice_index octets start
-part_first octets start past h = first (past - start) (drop start octets) (omega arith) ∙ get_or-drop start octets 0 0 ∙ ap (slice_index octets) (omega arith)
-  where
-    first : (n : ℕ) (xs : List ℕ) → 0 < n → get_or (take n xs) 0 0 ≡ get_or xs 0 0
-    first zero xs some = absurd (omega arith)
-    first (suc n) [] some = refl
-    first (suc n) (x ∷ xs) some = refl
+part_first octets start past h = grind (arith, common_steps)
 
 pub strings_read : (octets : List ℕ) (end : ℕ) (many : List (List ℕ)) → AreStrings many → octets ≡ flat_map with_length many → strings_before end octets ≡ Ok (strings many, end)
 strings_read octets end many are is =
@@ -69,11 +58,7 @@ strings_read octets end many are is =
     ∙ ap (λ (m : List (List ℕ)). Ok (strings m, end)) cut
 
 string_size : (octets : List ℕ) (start next : ℕ) (text : List ℕ) → next ≤ length octets → (start ≤ next) × (octets_between octets start next ≡ with_length text) → suc (length text) ≡ 1 + slice_index octets start
-string_size octets start next text within stands =
-    let first : get_or (octets_between octets start next) 0 0 ≡ length text = ap (λ x. get_or x 0 0) stands.1 in
-    let past : next ≡ start + length (with_length text) = part_text octets start next (with_length text) stands.0 within stands.1 in
-    let same : slice_index octets start ≡ length text = sym (part_first octets start next (omega (arith, past))) ∙ first in
-    omega (arith, same)
+string_size octets start next text within stands = grind (arith, part_first)
 
 -- the value of a field, where strings go on to the end
 pub value_reads : (octets : List ℕ) (end start next : ℕ) (field : Field) (v : FieldValue) → (field ≡ Strings → next ≡ end) → Holds field v → next ≤ end → end ≤ length octets → IsValueAt octets start next v → value_at octets end start field ≡ Ok (v, next)
@@ -102,8 +87,7 @@ values_read octets end within (f ∷ g ∷ fields) (v ∷ values) start last h s
     ∙ and_then_ok (values_at octets end s.0 (g ∷ fields)) values _ (values_read octets end within (g ∷ fields) values s.0 last.1 h.1 s.3)
 
 layout_reads : (octets : List ℕ) (start end : ℕ) (canonical : List ℕ) (o : Option (List Field)) → ((fields : List Field) → o ≡ Some fields → StringsLast fields) → end ≤ length octets → MatchOption o (canonical ≡ octets_between octets start end) (λ fields. AreFieldsAt octets start end fields canonical) → (let r : Result (List ℕ) Fault = elim o [ None ↦ Ok (octets_between octets start end) | Some fields ↦ and_then (values_at octets end start fields) (λ values. Ok (octets_of values)) ] in r) ≡ Ok canonical
-layout_reads octets start end canonical None last within is = ap Ok (sym is)
-layout_reads octets start end canonical (Some fields) last within is = and_then_ok (values_at octets end start fields) is.values _ (values_read octets end within fields is.values start (last fields refl) is.held is.stand) ∙ ap Ok (sym is.whole)
+layout_reads octets start end canonical o last within is = grind (arith, values_read)
 
 -- the data of a record
 pub data_reads : (octets : List ℕ) (a : RecordAt) (canonical : List ℕ) → a.end ≤ length octets → IsDataAt octets a canonical → data_at octets a ≡ Ok canonical

@@ -24,8 +24,7 @@ give_in_order zone number octets questions before (a ∷ answers) (p ∷ placed)
     states is.0 is.1 (follows_comes zone questions before p ask order.0) (give_in_order zone number octets questions (before ++ p ∷ []) answers placed ask is.2 order.1)
 
 first_id : (id : ℕ) (before : List StatedMessage) (s : Sections) → AllByRecursion (λ (p : StatedMessage). p.sections.id ≡ id) before → s.id ≡ id → HasFirstId before s
-first_id id [] s each e = tt
-first_id id (first ∷ before) s each e = e ∙ sym each.0
+first_id id before s each e = grind arith
 
 asks_in : (zone : Record) (before : List QuestionAt) (placed : List Placed) (questions : List QuestionAt) → AllByRecursion (AsksFor zone) before → OpensWith zone placed → AllByRecursion (AsksFor zone) questions → AllByRecursion (AsksIn (zone_of before placed)) questions
 asks_in zone before placed [] asked opens ask = tt
@@ -34,10 +33,7 @@ asks_in zone before placed (q ∷ questions) asked opens ask =
 
 -- a message of a transfer after others
 stated_is_read : (id : ℕ) (zone : Record) (number : ℕ) (before : List StatedMessage) (p : StatedMessage) → number ≡ length before + 1 → IsStatedMessage id zone number p → AllByRecursion (λ (q : StatedMessage). q.sections.id ≡ id) before → AllByRecursion (AsksFor zone) (asked_in before) → OpensWith zone (placed_in before) → InOrder zone (placed_in before) p.placed → IsReadAfter before p
-stated_is_read id zone number before p count is ids asked opens order = record {
-  message = record { message = is.message; same_id = first_id id before p.sections ids is.same_id; asks = asks_in zone (asked_in before) (placed_in before) p.sections.questions asked opens is.questions };
-  gives = give_in_order zone (length before + 1) p.octets (asked_in before ++ p.sections.questions) (placed_in before) p.sections.answers p.placed (all_append (AsksFor zone) (asked_in before) p.sections.questions asked is.questions) (subst (λ n. AnswersState n p.octets p.sections.answers p.placed) count is.answers) order;
-}
+stated_is_read id zone number before p count is ids asked opens order = grind (arith, first_id, asks_in, asked_in, placed_in, give_in_order, all_append)
 
 parts_are_read : (id : ℕ) (zone : Record) (parts before : List StatedMessage) (number : ℕ) → number ≡ length before + 1 → AreStatedMessages id zone number parts → AllByRecursion (λ (q : StatedMessage). q.sections.id ≡ id) before → AllByRecursion (AsksFor zone) (asked_in before) → OpensWith zone (placed_in before) → InOrder zone (placed_in before) (placed_in parts) → ReadAfter before (octets_in parts) (placed_in parts) None
 parts_are_read id zone [] before number count are ids asked opens order = whole

@@ -5,7 +5,7 @@ use Rattle.zone_wire.specs.Name.{Found}
 use Rattle.zone_wire.proofs.Walking.{one_name}
 
 pub one_part : {X : Type 0} {octets : List ℕ} {by : Found → X} {end_of : X → ℕ} (offset : ℕ) (x y : X) → IsPartAt octets by end_of offset x → IsPartAt octets by end_of offset y → x ≡ y
-one_part {octets = octets} {by = by} offset x y is too = is.stands ∙ ap by (one_name octets offset is.found too.found is.name too.name) ∙ sym too.stands
+one_part {octets = octets} {by = by} offset x y is too = grind (arith, one_name)
 
 pub one_list : {X : Type 0} (Is : ℕ → X → Type 0) (end_of : X → ℕ) → ((offset : ℕ) (x y : X) → Is offset x → Is offset y → x ≡ y) → (xs ys : List X) (offset end past : ℕ) → length xs ≡ length ys → AreAt Is end_of offset xs end → AreAt Is end_of offset ys past → (xs ≡ ys) × (end ≡ past)
 one_list Is end_of one [] [] offset end past e are too = (refl, sym are ∙ too)
@@ -18,8 +18,7 @@ one_list Is end_of one (x ∷ xs) (y ∷ ys) offset end past e are too =
 
 -- sections are what their parts are
 same_sections : (s t : Sections) → s.id ≡ t.id → s.questions ≡ t.questions → s.answers ≡ t.answers → s.additional ≡ t.additional → s ≡ t
-same_sections s t id questions answers additional =
-    ap (λ x. record s { id = x }) id ∙ ap (λ x. record s { id = t.id; questions = x }) questions ∙ ap (λ x. record t { answers = x; additional = s.additional }) answers ∙ ap (λ x. record t { additional = x }) additional
+same_sections s t id questions answers additional = grind arith
 
 pub one_message : (octets : List ℕ) (s t : Sections) → IsMessage octets s → IsMessage octets t → s ≡ t
 one_message octets s t is too =

@@ -101,11 +101,10 @@ data_not_both octets a f canonical within is has = row_not_both octets a.end wit
 
 -- an answer by itself
 pub own_one : (octets : List ℕ) (a : RecordAt) (f g : Fault) → a.end ≤ length octets → OwnFault octets a f → OwnFault octets a g → f ≡ g
-own_one octets a f g within = unless_one (λ _ _. unless_one (λ _ _. unless_one (λ x y. data_one octets a x y within)))
+own_one octets a f g within = search (arith, unless_one, data_one)
 
 pub own_not_both : (octets : List ℕ) (a : RecordAt) (f : Fault) (r : Record) → a.end ≤ length octets → OwnFault octets a f → AnswerStates octets a r → ⊥
-own_not_both octets a f r within is s =
-    data_not_both octets a f r.octets within (unless_holds s.readable (unless_holds (subst IsKind s.kind s.fits.rdata.kind) (unless_holds (subst IsClass s.class s.fits.rdata.class) is))) s.rdata
+own_not_both octets a f r within is s = grind (arith, data_not_both, unless_holds)
 
 -- a record after others
 order_one : (questions : List QuestionAt) (before : List Placed) (r : Record) (f g : Fault) → OrderFault questions before r f → OrderFault questions before r g → f ≡ g
@@ -113,8 +112,7 @@ order_one questions [] r f g = unless_one (λ _ _. unless_one (λ _ _ no. absurd
 order_one questions (opening ∷ others) r f g = unless_one (λ _ _. unless_one (λ _ _ no. absurd no))
 
 order_not_both : (questions : List QuestionAt) (before : List Placed) (r : Record) (f : Fault) → ComesAfter questions before r → OrderFault questions before r f → ⊥
-order_not_both questions [] r f comes is = unless_holds comes.1 (unless_holds comes.0 is)
-order_not_both questions (opening ∷ others) r f comes is = unless_holds comes.1 (unless_holds comes.0 is)
+order_not_both questions before r f comes is = grind arith
 
 -- an answer after others
 module _ (octets : List ℕ) (questions : List QuestionAt) (before : List Placed) (a : RecordAt) (within : a.end ≤ length octets) where

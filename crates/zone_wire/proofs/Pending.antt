@@ -41,13 +41,11 @@ one_more_is octets count offset s some r is end e =
 
 -- the record after this name, where a record stands
 pub record_of_name : (octets : List ℕ) (offset : ℕ) (r : RecordAt) → IsRecordAt octets offset r → (found : Found) → IsNameAt octets offset found → IsRecordAt octets offset (record_by octets offset found)
-record_of_name octets offset r is found name =
-    let same : r ≡ record_by octets offset found = is.stands ∙ ap (record_by octets offset) (one_name octets offset is.found found is.name name) in
-    subst (IsRecordAt octets offset) same is
+record_of_name octets offset r is found name = grind (arith, one_name)
 
 -- the answers of a message that was parsed
 pub answers_stand : (octets : List ℕ) (answers : ℕ) → IsParsed octets answers → HasRecordsFrom octets (u16_at octets 6) answers
-answers_stand octets answers is = record { records = (parsed octets).sections.answers; past = is.past; stand = is.begin; counted = is.message.answer_count }
+answers_stand octets answers is = grind arith
 
 pub answers_shown : (octets : List ℕ) (answers : ℕ) → IsParsed octets answers → raw_from octets (u16_at octets 6) answers ≡ map (raw_at octets) (parsed octets).sections.answers
 unfolding answers_stand
@@ -68,6 +66,4 @@ has_one_question octets s is some = by s.questions is.question_count is.question
     by (q ∷ other ∷ questions) count are = absurd (omega (arith, count, is.header.counts.0))
 
 pub question_of_name : (octets : List ℕ) (questions : List QuestionAt) (h : HasOneQuestion octets questions) (found : Found) → IsNameAt octets 12 found → (questions ≡ question_by octets found ∷ []) × IsQuestionAt octets 12 (question_by octets found)
-question_of_name octets questions h found name =
-    let same : h.only ≡ question_by octets found = h.is.stands ∙ ap (question_by octets) (one_name octets 12 h.is.found found h.is.name name) in
-    (h.alone ∙ ap (λ q. q ∷ []) same, subst (IsQuestionAt octets 12) same h.is)
+question_of_name octets questions h found name = grind (arith, one_name)

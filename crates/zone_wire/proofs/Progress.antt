@@ -74,7 +74,7 @@ not_soa p = not (p.rr.kind == 6)
 -- after it each record but the closing SOA is
 gains_after : (questions : List QuestionAt) (placed : List Placed) (p : Placed) (old new : Transfer) → Among questions placed old → is_some old.opening ≡ true → new.opening ≡ old.opening → new.zone ≡ old.zone → new.id ≡ old.id
     → new.closed ≡ (old.closed || list_any is_soa (p ∷ [])) → new.decided.placed ≡ old.decided.placed ++ filter not_soa (p ∷ []) → Gains (p ∷ []) questions placed old new
-gains_after questions [] p old new among some opening zone id closed items = let has = some_of old.opening some in let is = among.opening in let e = has.1 in cc
+gains_after questions [] p old new among some opening zone id closed items = cc
 gains_after questions (first ∷ others) p old new among some opening zone id closed items = record {
   among = record {
     zone = ap zone_held zone ∙ among.zone ∙ zone_kept questions first others (p ∷ []);
@@ -106,7 +106,7 @@ other_gains questions placed rr offset old mid new among some other mid_is new_i
 
 -- a record that is no SOA stands after the opening one, while the transfer isn't closed
 pub stands_after : (questions : List QuestionAt) (placed : List Placed) (rr : Record) (t : Transfer) → Among questions placed t → is_some t.opening ≡ true → t.closed ≡ false → (rr.kind ≡ 6 → ⊥) → ComesAfter questions placed rr
-stands_after questions [] rr t among some going other = let has = some_of t.opening some in let is = among.opening in let e = has.1 in cc
+stands_after questions [] rr t among some going other = cc
 stands_after questions (opening ∷ placed) rr t among some going other = (sym among.closed ∙ going, λ soa. absurd (other soa))
 
 -- none does once it is

@@ -48,10 +48,6 @@ records_equal r s e =
 pub agree_parts : (name other : List (List ℕ)) (class last : ℕ) → (same_name name other && class == last) ≡ true → (name ≡ other) × (class ≡ last)
 agree_parts name other class last e = let p = and_parts (same_name name other) (class == last) e in (names_equal name other p.0, eqb-true _ _ p.1)
 
-pub agreed : (test : Bool) (fault : Fault) → (if test then None else Some fault) ≡ None → test ≡ true
-agreed true fault e = refl
-agreed false fault e = cc
-
 kept_record : (r s : Record) (fault : Option Fault) → (let x : Result Record Fault = elim fault [ Some f ↦ Err f | None ↦ Ok r ] in x) ≡ Ok s → (fault ≡ None) × (r ≡ s)
 kept_record r s None e = (refl, ok_same r s e)
 kept_record r s (Some f) e = cc

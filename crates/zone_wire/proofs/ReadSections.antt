@@ -20,21 +20,17 @@ pub record Leads {X Y E : Type 0} (r : Result X E) (next : X → Result Y E) (y 
   pub goes_on : next first ≡ Ok y
 
 pub leads : {X Y E : Type 0} (r : Result X E) (next : X → Result Y E) (y : Y) → and_then r next ≡ Ok y → Leads r next y
-leads (Ok x) next y e = record { first = x; is = refl; goes_on = e }
-leads (Err fault) next y e = cc
+leads r next y e = grind arith
 
 -- a test that is passed
 pub passes : {X E : Type 0} (test : Bool) (x y : X) (fault : E) → (if test then Ok x else Err fault) ≡ Ok y → (test ≡ true) × (x ≡ y)
-passes true x y fault e = (refl, ok_same x y e)
-passes false x y fault e = cc
+passes test x y fault e = grind arith
 
 pub passes_on : {X E : Type 0} (test : Bool) (fault : E) (rest : Result X E) (x : X) → (if test then Err fault else rest) ≡ Ok x → (test ≡ false) × (rest ≡ Ok x)
-passes_on true fault rest x e = cc
-passes_on false fault rest x e = (refl, e)
+passes_on test fault rest x e = grind arith
 
 pub no_fault : (test : Bool) (fault : Fault) (rest : Option Fault) → (if test then Some fault else rest) ≡ None → (test ≡ false) × (rest ≡ None)
-no_fault true fault rest e = cc
-no_fault false fault rest e = (refl, e)
+no_fault test fault rest e = grind arith
 
 pub response_of : (octets : List ℕ) → slice_index octets 2 / 8 ≡ 16 → IsResponse octets
 response_of octets e = (omega (arith, e), omega (arith, e))
@@ -69,14 +65,13 @@ pub question_shows : (octets : List ℕ) → ((k : ℕ) → get_or octets k 0 < 
 question_shows octets = part_shows octets (question_by octets) (λ (q : QuestionAt). q.end)
 
 pub record_shows : (octets : List ℕ) → ((k : ℕ) → get_or octets k 0 < 256) → (offset : ℕ) (r : RecordAt) → record_at octets offset ≡ Ok r → IsRecordAt octets offset r
-record_shows octets each offset = part_shows octets (record_by octets offset) (λ (r : RecordAt). r.end) each offset
+record_shows octets each offset = grind (arith, part_shows)
 
 pub at_offset_shows : {X : Type 0} (offset : ℕ) (r : Result X Fault) (x : X) → at_offset offset r ≡ Ok x → r ≡ Ok x
-at_offset_shows offset (Ok y) x e = ap Ok (ok_same y x e)
-at_offset_shows offset (Err fault) x e = cc
+at_offset_shows offset r x e = grind arith
 
 pub each_shows : {X : Type 0} (read : ℕ → Result X Fault) (end_of : X → ℕ) (Is : ℕ → X → Type 0) → ((offset : ℕ) (x : X) → read offset ≡ Ok x → Is offset x) → (count offset : ℕ) (run : List X × ℕ) → each_from read end_of count offset ≡ Ok run → (length run.0 ≡ count) × AreAt Is end_of offset run.0 run.1
-each_shows {X} read end_of Is shows zero offset run e = subst (λ (x : List X × ℕ). (length x.0 ≡ zero) × AreAt Is end_of offset x.0 x.1) (ok_same _ _ e) (refl, refl)
+each_shows {X} read end_of Is shows zero offset run e = grind arith
 each_shows {X} read end_of Is shows (suc count) offset run e =
     let one = leads (at_offset offset (read offset)) _ run e in
     let rest = leads (each_from read end_of count (end_of one.first)) _ run one.goes_on in
@@ -85,8 +80,7 @@ each_shows {X} read end_of Is shows (suc count) offset run e =
     subst (λ (x : List X × ℕ). (length x.0 ≡ suc count) × AreAt Is end_of offset x.0 x.1) (ok_same _ _ rest.goes_on) (ap suc others.0, (here, others.1))
 
 opened : (octets : List ℕ) (s : Sections) (fault : Option Fault) → unless_faulted fault (after_header octets) ≡ Ok s → (fault ≡ None) × (after_header octets ≡ Ok s)
-opened octets s None e = (refl, e)
-opened octets s (Some f) e = cc
+opened octets s fault e = grind arith
 
 after_shows : (octets : List ℕ) (s : Sections) → ((k : ℕ) → get_or octets k 0 < 256) → HasHeader octets → after_header octets ≡ Ok s → IsMessage octets s
 after_shows octets s each header e =

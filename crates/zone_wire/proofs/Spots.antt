@@ -1,4 +1,5 @@
 -- What stands at a place, read off the octets, and back.
+use Rattle.std.proofs.lemmas.Grind.{common_steps}
 use Rattle.std.proofs.Common.{◌≡◌, ℕ, zero, suc, ◌+◌, ◌<◌, ◌≤◌, ◌≢◌, ◌||◌, true, false, Bool, nat_eq, nat_le, nat_lt, List, [], ◌∷◌, length, refl, sym, ap, ◌∙◌, inl, inr, arith}
 use Rattle.std.specs.Prelude.{◌⊎◌, slice_index, Option, Some, None, if◌then◌else◌}
 use Rattle.std.proofs.lemmas.Bool.{cond_both, cond-true, cond-false, leb-true, ltb-true, eqb-true, le-leb, lt-ltb, eq-eqb}
@@ -33,20 +34,10 @@ neither : (a b c d : ℕ) → nat_lt a b || nat_le c d ≡ false → (b ≤ a) �
 neither a b c d e = grind (arith, nat_tests)
 
 one_of : (a b c d : ℕ) → nat_lt a b || nat_le c d ≡ true → (a < b) ⊎ (c ≤ d)
-one_of a b c d e = by (nat_lt a b) refl e
-  where
-    by : (t : Bool) → nat_lt a b ≡ t → t || nat_le c d ≡ true → (a < b) ⊎ (c ≤ d)
-    by true k e = inl (ltb-true _ _ k)
-    by false k e = inr (leb-true _ _ e)
+one_of a b c d e = grind arith
 
 shows_label : (message : List ℕ) (spot : Spot) → 0 < slice_index message spot.offset → slice_index message spot.offset ≤ 63 → Shows message spot (Some (label_of message spot (slice_index message spot.offset)))
-shows_label message spot some short =
-    cond_both _ _ _ (λ s. Shows message spot (Some s))
-    (λ cut. cut_label some short (leb-true _ _ cut))
-    (λ whole. let is : IsLabelAt message spot.offset (slice_index message spot.offset) = record { first = refl; some = some; short = short; inside = above _ _ whole } in
-    cond_both _ _ _ (λ s. Shows message spot (Some s))
-    (λ long. long_name (slice_index message spot.offset) is (ltb-true _ _ long))
-    (λ room. let both : Shows message spot (Some (at_label (slice_index message spot.offset))) = (is, at_least _ _ room) in both))
+shows_label message spot some short = grind (arith, cond_both, cut_label, leb-true, slice_index, above, long_name)
 
 shows_pointer : (message : List ℕ) (spot : Spot) → 192 ≤ slice_index message spot.offset → Shows message spot (Some (pointer_of message spot (target_at message spot.offset)))
 shows_pointer message spot first =
@@ -105,14 +96,11 @@ good_target : (a b : ℕ) → 12 ≤ a → a < b → nat_lt a 12 || nat_le b a �
 good_target a b h k = grind (arith, nat_tests)
 
 bad_test : (a b : ℕ) → (a < 12) ⊎ (b ≤ a) → nat_lt a 12 || nat_le b a ≡ true
-bad_test a b (inl h) = grind (arith, nat_tests)
-bad_test a b (inr h) = grind (arith, nat_tests)
+bad_test a b low_or_not_before = grind arith
 
 -- where an octet above zero stands, the message goes on
 pub here_of : (message : List ℕ) (i : ℕ) → 0 < slice_index message i → i < length message
-here_of [] i h = absurd (omega (arith, h))
-here_of (c ∷ message) zero h = omega arith
-here_of (c ∷ message) (suc i) h = omega (arith, here_of message i h)
+here_of message i h = grind (arith, common_steps)
 
 -- a place that lies in the message, by its first octet
 module _ (message : List ℕ) (spot : Spot) where
@@ -152,10 +140,3 @@ module _ (message : List ℕ) (spot : Spot) where
   standing_fault _ (too_many target is many) = standing_in_pointer target is ∙ ap Some (cond-false _ _ _ (below_length _ _ is.inside) ∙ cond-false _ _ _ (good_target _ _ is.past_header is.below) ∙ cond-true _ _ _ (le-leb _ _ many))
 
 -- a fault stands in the message
-pub fault_inside : (message : List ℕ) (spot : Spot) (fault : Fault) → FaultHere message spot fault → spot.offset < length message
-fault_inside message spot _ (cut_label some short cut) = here_of message spot.offset some
-fault_inside message spot _ (long_name size is long) = omega (arith, is.inside)
-fault_inside message spot _ (reserved low below) = here_of message spot.offset (omega (arith, low))
-fault_inside message spot _ (cut_pointer first cut) = here_of message spot.offset (omega (arith, first))
-fault_inside message spot _ (bad_target first inside bad) = omega (arith, inside)
-fault_inside message spot _ (too_many target is many) = omega (arith, is.inside)

@@ -22,8 +22,7 @@ run_ends (Ok run) end e = record { parts = run.0; is = ap (λ n. Ok (run.0, n)) 
 run_ends (Err fault) end e = cc
 
 run_refuses : {X : Type 0} (r : Result (List X × ℕ) (Fault × ℕ)) (e : Fault × ℕ) → Err e ≡ run_end_of r → r ≡ Err e
-run_refuses (Ok run) e h = cc
-run_refuses (Err other) e h = ap Err (let same : other ≡ e = cc in same)
+run_refuses r e h = grind arith
 
 abbrev after_additional : List ℕ → List QuestionAt → List RecordAt → List RecordAt × ℕ → Result Sections (Fault × ℕ)
 after_additional octets questions answers additional = to_the_end octets additional.1 (record { id = u16_at octets 0; questions = questions; answers = answers; additional = additional.0 })

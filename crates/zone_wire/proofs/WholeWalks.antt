@@ -16,10 +16,10 @@ record IsEnough (n : ℕ) (spot : Spot) : Type 0 where
   enough : 512 ≤ spot.octets + 2 * spot.pointers + 2 * n
 
 enough_label : {message : List ℕ} {n : ℕ} {spot : Spot} {size : ℕ} → IsEnough (suc n) spot → Shows message spot (Some (at_label size)) → IsEnough n (past_label spot size)
-enough_label is shows = record { short = omega (arith, shows.1); few = is.few; enough = omega (arith, is.enough, shows.0.some) }
+enough_label is shows = omega arith
 
 enough_pointer : {message : List ℕ} {n : ℕ} {spot : Spot} {target : ℕ} → IsEnough (suc n) spot → Shows message spot (Some (at_pointer target)) → IsEnough n (past_pointer spot target)
-enough_pointer is shows = record { short = is.short; few = omega (arith, shows.1); enough = omega (arith, is.enough) }
+enough_pointer is shows = omega arith
 
 -- a walk from a spot on is the one that is computed
 same : {message : List ℕ} (n : ℕ) {spot : Spot} {visits : List Visit} → Walks message spot visits → IsEnough n spot → visits ≡ walk_by n message spot
