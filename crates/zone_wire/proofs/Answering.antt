@@ -1,4 +1,5 @@
 -- The answer of a message is read as the record that it states, and in the order of a transfer.
+use Rattle.std.proofs.Common.{rules}
 use Rattle.std.proofs.Common.{◌≡◌, ◌≢◌, ℕ, List, [], ◌∷◌, ◌++◌, refl, ap, sym, ◌∙◌, Bool, true, false, nat_eq, arith}
 use Rattle.std.specs.Prelude.{◌==◌, ◌&&◌, ◌||◌, ⊤}
 use Rattle.std.specs.List.{AllByRecursion, list_any}
@@ -29,8 +30,8 @@ names_same n m e = (pointwise_decides bytes_decides n m).1 e
 pub records_same : (r s : Record) → r ≡ s → same_record r s ≡ true
 records_same r s e =
     let place : (same_name s.owner s.owner && s.class == s.class) ≡ true = and_from (same_name s.owner s.owner) (s.class == s.class) (names_same s.owner s.owner refl) (eq-eqb s.class s.class refl) in
-    let head : (same_name s.owner s.owner && s.class == s.class && s.kind == s.kind && s.ttl == s.ttl) ≡ true = and_from (same_name s.owner s.owner && s.class == s.class && s.kind == s.kind) (s.ttl == s.ttl) (and_from (same_name s.owner s.owner && s.class == s.class) (s.kind == s.kind) place (eq-eqb s.kind s.kind refl)) (eq-eqb s.ttl s.ttl refl) in
-    let own : same_record s s ≡ true = and_from (same_name s.owner s.owner && s.class == s.class && s.kind == s.kind && s.ttl == s.ttl) (pointwise nat_eq s.octets s.octets) head ((bytes_decides s.octets s.octets).1 refl) in
+    let head : (same_name s.owner s.owner && s.class == s.class && s.kind == s.kind && s.ttl == s.ttl) ≡ true = search rules in
+    let own : same_record s s ≡ true = search rules in
     ap (λ x. same_record x s) e ∙ own
 
 -- records, if there are any, begin with the zone's SOA

@@ -1,5 +1,6 @@
 -- A walk that is carried on from place to place: the walk from the start is what was met so far and
 -- the walk from here.
+use Rattle.std.proofs.Common.{rules}
 use Rattle.std.proofs.lemmas.Grind.{common_steps}
 use Rattle.std.proofs.Common.{◌≡◌, ℕ, zero, suc, ◌+◌, ◌-◌, ◌*◌, ◌<◌, ◌≤◌, List, [], ◌∷◌, ◌++◌, length, refl, ap, sym, ◌∙◌, subst, arith, length-append, append_assoc}
 use Rattle.std.specs.Prelude.{Option, Some, None, take, drop}
@@ -48,9 +49,6 @@ octets_of-push labels l = grind (arith, common_steps)
 carried-label : (labels : List (List ℕ)) (end : Option ℕ) (steps pointers : ℕ) (l : List ℕ) (o : Outcome) → carried labels end steps pointers (after_label l o) ≡ carried (labels ++ l ∷ []) end (steps + 1) pointers o
 carried-label labels end steps pointers l o = grind (arith, common_steps)
 
-carried-pointer : (labels : List (List ℕ)) (end : Option ℕ) (steps pointers here : ℕ) (o : Outcome) → carried labels end steps pointers (after_pointer here o) ≡ carried labels (Some (unwrap_or end here)) (steps + 1) (pointers + 1) o
-carried-pointer labels end steps pointers here o = grind arith
-
 -- what a carried walk leads to whose next place is this
 record Reaches (message : List ℕ) (offset : ℕ) (spot : Spot) (labels : List (List ℕ)) (end : Option ℕ) (steps : ℕ) (standing : Option Standing) : Type 0 where
   after : ℕ
@@ -70,30 +68,14 @@ carries_label {message} {offset} {spot} {labels} {end} {steps} size c e =
     let r = reaches (Some (at_label size)) c e in
     let shows : Shows message spot (Some (at_label size)) = subst (Shows message spot) e (standing_shows message spot) in
     let l = label_at message spot.offset size in
-    record {
-      few = omega (arith, c.few, shows.0.some);
-      pointers = c.pointers;
-      short = omega (arith, shows.1);
-      octets = omega (arith, c.octets, octets_of-push labels l, label_octets-label message spot.offset size shows.0.inside);
-      left = r.after;
-      enough = omega (arith, r.enough);
-      whole = r.whole ∙ carried-label labels end steps spot.pointers l (outcome_by r.after message (past_label spot size));
-    }
+    search (rules, octets_of-push, label_octets-label, carried-label, outcome_by)
 
 -- where a pointer leads
 pub carries_pointer : {message : List ℕ} {offset : ℕ} {spot : Spot} {labels : List (List ℕ)} {end : Option ℕ} {steps : ℕ} (target : ℕ) → Carries message offset spot labels end steps → standing_in message spot ≡ Some (at_pointer target) → Carries message offset (past_pointer spot target) labels (Some (unwrap_or end (spot.offset + 2))) (steps + 1)
 carries_pointer {message} {offset} {spot} {labels} {end} {steps} target c e =
     let r = reaches (Some (at_pointer target)) c e in
     let shows : Shows message spot (Some (at_pointer target)) = subst (Shows message spot) e (standing_shows message spot) in
-    record {
-      few = omega (arith, c.few);
-      pointers = omega (arith, shows.1);
-      short = c.short;
-      octets = c.octets;
-      left = r.after;
-      enough = omega (arith, r.enough);
-      whole = r.whole ∙ carried-pointer labels end steps spot.pointers (spot.offset + 2) (outcome_by r.after message (past_pointer spot target));
-    }
+    search rules
 
 -- at the root
 pub carries_root : {message : List ℕ} {offset : ℕ} {spot : Spot} {labels : List (List ℕ)} {end : Option ℕ} {steps : ℕ} → Carries message offset spot labels end steps → standing_in message spot ≡ Some at_root → outcome message (walk message offset) ≡ named (record { labels = labels; end = unwrap_or end (spot.offset + 1); steps = steps + 1; pointers = spot.pointers })

@@ -23,16 +23,7 @@ ended_inside message offset each (refused fault steps) e end ends = cc
 pub name_ends_inside : (message : List ℕ) (offset : ℕ) → ((k : ℕ) → get_or message k 0 < 256) → (end : ℕ) → Ok end ≡ name_end_of (outcome message (walk message offset)) → end ≤ length message
 name_ends_inside message offset each end ends = grind (arith, ended_inside)
 
-pub inside_refused : {X : Type 0} (octets : List ℕ) (by : Found → X) (end_of : X → ℕ) (o : Outcome) (fault : Fault) → Err fault ≡ name_end_of o → Err fault ≡ part_end_of end_of (inside octets by end_of o)
-inside_refused octets by end_of o fault e = grind arith
-
 -- a part whose end is this far after that of its name
-pub inside_ends : {X : Type 0} (octets : List ℕ) (by : Found → X) (end_of : X → ℕ) (past : ℕ → ℕ) → ((found : Found) → end_of (by found) ≡ past found.end) → (o : Outcome) (end : ℕ) → Ok end ≡ name_end_of o → past end ≤ length octets → Ok (past end) ≡ part_end_of end_of (inside octets by end_of o)
-inside_ends octets by end_of past ends o end e h = grind arith
-
-pub inside_short : {X : Type 0} (octets : List ℕ) (by : Found → X) (end_of : X → ℕ) (past : ℕ → ℕ) → ((found : Found) → end_of (by found) ≡ past found.end) → (o : Outcome) (end : ℕ) → Ok end ≡ name_end_of o → length octets < past end → Err ShortMessage ≡ part_end_of end_of (inside octets by end_of o)
-inside_short octets by end_of past ends o end e h = grind arith
-
 -- the offset after a record whose name ends here
 abbrev pub past_record : List ℕ → ℕ → ℕ
 past_record octets end = end + 10 + u16_at octets (end + 8)

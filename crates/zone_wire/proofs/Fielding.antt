@@ -1,4 +1,5 @@
 -- The data of a record is read as the values that stand there.
+use Rattle.std.proofs.Common.{rules}
 use Rattle.std.proofs.lemmas.Grind.{common_steps}
 use Rattle.std.proofs.Common.{◌≡◌, ℕ, zero, suc, ◌+◌, ◌-◌, ◌≤◌, ◌^◌, ◌<◌, List, [], ◌∷◌, length, refl, ap, sym, ◌∙◌, arith, nat_lt, nat_eq, get_or-drop}
 use Rattle.std.specs.Prelude.{get_or, slice_index, take, drop, Option, Some, None, MatchOption, Result, Ok}
@@ -51,10 +52,10 @@ part_first octets start past h = grind (arith, common_steps)
 
 pub strings_read : (octets : List ℕ) (end : ℕ) (many : List (List ℕ)) → AreStrings many → octets ≡ flat_map with_length many → strings_before end octets ≡ Ok (strings many, end)
 strings_read octets end many are is =
-    let cut : strings_of octets ≡ many = ap strings_of is ∙ strings_back many in
-    let some : 0 < length octets = omega (arith, are.some, length-frames many, ap length is) in
-    let whole : flat_map with_length (strings_of octets) ≡ octets = ap (flat_map with_length) cut ∙ sym is in
-    cond-true _ _ _ (and_from (nat_lt 0 (length octets)) (pointwise nat_eq (flat_map with_length (strings_of octets)) octets) (lt-ltb 0 (length octets) some) ((bytes_decides (flat_map with_length (strings_of octets)) octets).1 whole))
+    let cut : strings_of octets ≡ many = cc (strings_back many) in
+    let some : 0 < length octets = omega (arith, length-frames many, ap length is) in
+    let whole : flat_map with_length (strings_of octets) ≡ octets = cc in
+    cond-true _ _ _ (and_from (nat_lt 0 (length octets)) (pointwise nat_eq (flat_map with_length (strings_of octets)) octets) (lt-ltb 0 (length octets) some) (search rules))
     ∙ ap (λ (m : List (List ℕ)). Ok (strings m, end)) cut
 
 string_size : (octets : List ℕ) (start next : ℕ) (text : List ℕ) → next ≤ length octets → (start ≤ next) × (octets_between octets start next ≡ with_length text) → suc (length text) ≡ 1 + slice_index octets start

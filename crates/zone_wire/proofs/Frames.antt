@@ -1,4 +1,5 @@
 -- A stream is cut into frames in one way.
+use Rattle.std.proofs.Common.{rules}
 use Rattle.std.proofs.lemmas.Grind.{common_steps}
 use Rattle.std.proofs.Common.{◌≡◌, ℕ, zero, suc, ◌+◌, ◌*◌, ◌/◌, ◌%◌, ◌<◌, ◌≤◌, nat_lt, Bool, true, false, List, [], ◌∷◌, ◌++◌, length, refl, ap, sym, ◌∙◌, arith, length-append, append_assoc, get_or-drop, lit<}
 use Rattle.std.specs.Prelude.{get_or, take, drop}
@@ -28,9 +29,9 @@ pub frames_extend : (ms ns : List (List ℕ)) (r s more : List ℕ) → length s
 frames_extend [] ns r s more cut e = (ns, refl)
 frames_extend (m ∷ ms) [] r s more cut e = grind (arith, common_steps)
 frames_extend (m ∷ ms) (n ∷ ns) r s more cut e =
-    let one = frame_unique m n (flat_map frame ms ++ (r ++ more)) (flat_map frame ns ++ s) (sym (append_assoc (frame m) (flat_map frame ms) (r ++ more)) ∙ e ∙ append_assoc (frame n) (flat_map frame ns) s) in
+    let one = frame_unique m n (flat_map frame ms ++ (r ++ more)) (flat_map frame ns ++ s) (grind (arith, append_assoc)) in
     let rest = frames_extend ms ns r s more cut one.1 in
-    (rest.0, ap (λ x. x ∷ ns) (sym one.0) ∙ ap (λ xs. m ∷ xs) rest.1)
+    (rest.0, cc)
 
 pub framed_extends : (stream more : List ℕ) (ms ns : List (List ℕ)) (r s : List ℕ) → IsFramed stream ms r → IsFramed (stream ++ more) ns s → (after : List (List ℕ)) × (ns ≡ ms ++ after)
 framed_extends stream more ms ns r s is longer = grind (arith, frames_extend, append_assoc, flat_map, frame)
@@ -49,11 +50,11 @@ framed_after high low more h l fits next =
     let len : length octets ≡ size = length-take-le size more fits in
     let high_is : high ≡ length octets / 256 = omega arith in
     let low_is : low ≡ length octets % 256 = omega arith in
-    let body : more ≡ (octets ++ flat_map frame next.messages) ++ next.rest = sym (take-append-drop size more) ∙ ap (λ x. octets ++ x) next.framed.whole ∙ sym (append_assoc octets (flat_map frame next.messages) next.rest) in
+    let body : more ≡ (octets ++ flat_map frame next.messages) ++ next.rest = grind (arith, take-append-drop, append_assoc) in
     record {
       messages = octets ∷ next.messages;
       rest = next.rest;
-      framed = record { whole = ap (λ x. x ∷ low ∷ more) high_is ∙ ap (λ x. (length octets / 256) ∷ x ∷ more) low_is ∙ ap (λ x. (length octets / 256) ∷ (length octets % 256) ∷ x) body; short = (omega arith, next.framed.short); cut = next.framed.cut };
+      framed = search rules;
     }
 
 cut_off : (stream : List ℕ) → length stream < 2 + u16_at stream 0 → Framing stream

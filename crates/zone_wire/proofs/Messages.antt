@@ -1,4 +1,5 @@
 -- At most one reading of a message.
+use Rattle.std.proofs.Common.{rules}
 use Rattle.std.proofs.Common.{◌≡◌, ℕ, List, [], ◌∷◌, length, refl, ap, sym, ◌∙◌, subst, arith}
 use Rattle.zone_wire.specs.Message.{Sections, IsPartAt, IsQuestionAt, IsRecordAt, AreAt, AreRecordsAt, IsMessage}
 use Rattle.zone_wire.specs.Name.{Found}
@@ -22,7 +23,7 @@ same_sections s t id questions answers additional = grind arith
 
 pub one_message : (octets : List ℕ) (s t : Sections) → IsMessage octets s → IsMessage octets t → s ≡ t
 one_message octets s t is too =
-    let questions = one_list (IsQuestionAt octets) (λ q. q.end) one_part s.questions t.questions 12 is.past_questions too.past_questions (is.question_count ∙ sym too.question_count) is.questions too.questions in
-    let answers = one_list (IsRecordAt octets) (λ r. r.end) (λ o x y. one_part o x y) s.answers t.answers is.past_questions is.past_answers too.past_answers (is.answer_count ∙ sym too.answer_count) is.answers (subst (λ (x : ℕ). AreRecordsAt octets x t.answers too.past_answers) (sym questions.1) too.answers) in
-    let additional = one_list (IsRecordAt octets) (λ r. r.end) (λ o x y. one_part o x y) s.additional t.additional is.past_answers (length octets) (length octets) (is.additional_count ∙ sym too.additional_count) is.additional (subst (λ (x : ℕ). AreRecordsAt octets x t.additional (length octets)) (sym answers.1) too.additional) in
-    same_sections s t (is.id ∙ sym too.id) questions.0 answers.0 additional.0
+    let questions = one_list (IsQuestionAt octets) (λ q. q.end) one_part s.questions t.questions 12 is.past_questions too.past_questions (cc) is.questions too.questions in
+    let answers = one_list (IsRecordAt octets) (λ r. r.end) (λ o x y. one_part o x y) s.answers t.answers is.past_questions is.past_answers too.past_answers (cc) is.answers (search rules) in
+    let additional = one_list (IsRecordAt octets) (λ r. r.end) (λ o x y. one_part o x y) s.additional t.additional is.past_answers (length octets) (length octets) (cc) is.additional (search rules) in
+    grind (arith, same_sections)

@@ -1,5 +1,6 @@
 -- The question and the answers of a message that was parsed, and the answers that are still to
 -- come.
+use Rattle.std.proofs.Common.{rules}
 use Rattle.std.proofs.Common.{◌≡◌, ℕ, ◌-◌, List, [], ◌∷◌, length, refl, ap, sym, ◌∙◌, subst, arith}
 use Rattle.std.specs.Prelude.{map}
 use Rattle.zone_wire.specs.Message.{u16_at, QuestionAt, question_by, IsQuestionAt, AreQuestionsAt, RecordAt, record_by, IsRecordAt, AreRecordsAt, Sections, IsMessage}
@@ -13,7 +14,7 @@ use Rattle.zone_wire.proofs.Walking.{one_name}
 
 -- records that stand somewhere are read there
 pub stand_read : (octets : List ℕ) (count offset : ℕ) (s : HasRecordsFrom octets count offset) → raw_from octets count offset ≡ map (raw_at octets) s.records
-stand_read octets count offset s = ap (λ r. map (raw_at octets) (records_or_none r)) (each_reads (record_at octets) (λ r. r.end) (IsRecordAt octets) (λ o x. part_reads o x) s.records count offset s.past s.counted s.stand)
+stand_read octets count offset s = cc (each_reads (record_at octets) (λ r. r.end) (IsRecordAt octets) (λ o x. part_reads o x) s.records count offset s.past s.counted s.stand)
 
 -- the first of them, and the others
 pub record OneMore (octets : List ℕ) (count offset : ℕ) : Type 0 where
@@ -36,8 +37,8 @@ pub one_more_is : (octets : List ℕ) (count offset : ℕ) → HasRecordsFrom oc
 one_more_is octets count offset s some r is end e =
     let more = one_more octets count offset s some in
     let same : more.first ≡ r = one_part offset more.first r more.is is in
-    let there : more.first.end ≡ end = ap (λ (x : RecordAt). x.end) same ∙ e in
-    (subst (HasRecordsFrom octets (count - 1)) there more.rest, more.shown ∙ ap (λ (x : RecordAt). raw_at octets x ∷ raw_from octets (count - 1) more.first.end) same ∙ ap (λ n. raw_at octets r ∷ raw_from octets (count - 1) n) there)
+    let there : more.first.end ≡ end = cc in
+    (search rules, cc)
 
 -- the record after this name, where a record stands
 pub record_of_name : (octets : List ℕ) (offset : ℕ) (r : RecordAt) → IsRecordAt octets offset r → (found : Found) → IsNameAt octets offset found → IsRecordAt octets offset (record_by octets offset found)

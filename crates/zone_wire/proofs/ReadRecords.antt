@@ -45,7 +45,7 @@ none_strings : (fields : List Field) → unstrung fields ≡ true → AllByRecur
 none_strings [] e = tt
 none_strings (field ∷ fields) e =
     let both = and_parts (not (is_strings field)) (unstrung fields) e in
-    (λ same. false≢true (sym (not-true (is_strings field) both.0) ∙ ap is_strings same), none_strings fields both.1)
+    (λ same. cc, none_strings fields both.1)
 
 alone : (fields : List Field) → strings_alone fields ≡ true → fields ≡ Strings ∷ []
 alone fields e = grind arith

@@ -1,4 +1,5 @@
 -- What is read as the sections of a message are its sections.
+use Rattle.std.proofs.Common.{rules}
 use Rattle.std.proofs.Common.{◌≡◌, ℕ, zero, suc, ◌/◌, arith, ◌<◌, ◌≤◌, List, length, refl, ap, sym, subst, Bool, true, false, nat_le}
 use Rattle.std.specs.Prelude.{get_or, slice_index, ◌==◌, Option, Some, None, Result, Ok, Err, if◌then◌else◌}
 use Rattle.std.proofs.lemmas.Bool.{and_parts, leb-true, ltb-false, eqb-true, not-false}
@@ -75,9 +76,9 @@ each_shows {X} read end_of Is shows zero offset run e = grind arith
 each_shows {X} read end_of Is shows (suc count) offset run e =
     let one = leads (at_offset offset (read offset)) _ run e in
     let rest = leads (each_from read end_of count (end_of one.first)) _ run one.goes_on in
-    let here : Is offset one.first = shows offset one.first (at_offset_shows offset (read offset) one.first one.is) in
+    let here : Is offset one.first = search rules in
     let others = each_shows read end_of Is shows count (end_of one.first) rest.first rest.is in
-    subst (λ (x : List X × ℕ). (length x.0 ≡ suc count) × AreAt Is end_of offset x.0 x.1) (ok_same _ _ rest.goes_on) (ap suc others.0, (here, others.1))
+    search rules
 
 opened : (octets : List ℕ) (s : Sections) (fault : Option Fault) → unless_faulted fault (after_header octets) ≡ Ok s → (fault ≡ None) × (after_header octets ≡ Ok s)
 opened octets s fault e = grind arith
@@ -92,18 +93,7 @@ after_shows octets s each header e =
     let additional = each_shows (record_at octets) (λ (x : RecordAt). x.end) (IsRecordAt octets) (record_shows octets each) (u16_at octets 10) a.first.1 d.first d.is in
     let last = passes (d.first.1 == length octets) _ s _ d.goes_on in
     let end : d.first.1 ≡ length octets = eqb-true _ _ last.0 in
-    subst (IsMessage octets) last.1 (record {
-      header = header;
-      id = refl;
-      question_count = questions.0;
-      answer_count = answers.0;
-      additional_count = additional.0;
-      past_questions = q.first.1;
-      past_answers = a.first.1;
-      questions = questions.1;
-      answers = answers.1;
-      additional = subst (λ n. AreAt (IsRecordAt octets) (λ (x : RecordAt). x.end) a.first.1 d.first.0 n) end additional.1;
-    })
+    subst (IsMessage octets) last.1 (search rules)
 
 -- what is read as sections is a message
 pub sections_shown : (octets : List ℕ) (s : Sections) → ((k : ℕ) → get_or octets k 0 < 256) → sections_of octets ≡ Ok s → IsMessage octets s

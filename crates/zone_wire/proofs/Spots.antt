@@ -1,4 +1,5 @@
 -- What stands at a place, read off the octets, and back.
+use Rattle.std.proofs.Common.{rules}
 use Rattle.std.proofs.lemmas.Grind.{common_steps}
 use Rattle.std.proofs.Common.{◌≡◌, ℕ, zero, suc, ◌+◌, ◌<◌, ◌≤◌, ◌≢◌, ◌||◌, true, false, Bool, nat_eq, nat_le, nat_lt, List, [], ◌∷◌, length, refl, sym, ap, ◌∙◌, inl, inr, arith}
 use Rattle.std.specs.Prelude.{◌⊎◌, slice_index, Option, Some, None, if◌then◌else◌}
@@ -48,7 +49,7 @@ shows_pointer message spot first =
     (λ bad. bad_target first (above _ _ whole) (one_of _ _ _ _ bad))
     (λ good.
     let both = neither target 12 spot.bound target good in
-    let is : IsPointerAt message spot.offset spot.bound target = record { inside = above _ _ whole; first = first; leads = refl; past_header = both.0; below = both.1 } in
+    let is : IsPointerAt message spot.offset spot.bound target = search rules in
     cond_both (nat_le 128 spot.pointers) (at_fault TooManyPointers) (at_pointer target) (λ s. Shows message spot (Some s))
     (λ many. too_many target is (leb-true _ _ many))
     (λ few. let shows : Shows message spot (Some (at_pointer target)) = (is, above _ _ few) in shows)))
@@ -115,10 +116,10 @@ module _ (message : List ℕ) (spot : Spot) where
       cond-false _ _ _ (below_length _ _ (here_of message spot.offset (omega (arith, h)))) ∙ ap Some (cond-false _ _ _ first.0 ∙ cond-false _ _ _ first.1 ∙ cond-false _ _ _ first.2)
 
   standing_in_label : (size : ℕ) → IsLabelAt message spot.offset size → standing_in message spot ≡ Some (label_of message spot size)
-  standing_in_label size is = standing_short (rw is.first is.some) (rw is.first is.short) ∙ ap (λ n. Some (label_of message spot n)) is.first
+  standing_in_label size is = cc (standing_short (rw is.first is.some) (rw is.first is.short))
 
   standing_in_pointer : (target : ℕ) → IsPointerAt message spot.offset spot.bound target → standing_in message spot ≡ Some (pointer_of message spot target)
-  standing_in_pointer target is = standing_high is.first ∙ ap (λ n. Some (pointer_of message spot n)) (sym is.leads)
+  standing_in_pointer target is = cc (standing_high is.first)
 
   -- a label that lies in the message and has room in its name
   pub standing_label : (size : ℕ) → IsLabelAt message spot.offset size → spot.octets + size + 2 ≤ 255 → standing_in message spot ≡ Some (at_label size)
@@ -126,7 +127,7 @@ module _ (message : List ℕ) (spot : Spot) where
 
   -- a pointer that leads below its bound
   pub standing_pointer : (target : ℕ) → IsPointerAt message spot.offset spot.bound target → spot.pointers < 128 → standing_in message spot ≡ Some (at_pointer target)
-  standing_pointer target is few = standing_in_pointer target is ∙ ap Some (cond-false _ _ _ (below_length _ _ is.inside) ∙ cond-false _ _ _ (good_target _ _ is.past_header is.below) ∙ cond-false _ _ _ (below_length _ _ few))
+  standing_pointer target is few = standing_in_pointer target is ∙ ap Some (grind (arith, cond-false, below_length, good_target))
 
   pub standing_fault : (fault : Fault) → FaultHere message spot fault → standing_in message spot ≡ Some (at_fault fault)
   unfolding standing_in

@@ -58,11 +58,11 @@ at_walks {message} (label offset bound size labels end steps pointers here rest)
     let spot : Spot = record { offset = offset; bound = bound; pointers = before; octets = octets } in
     let this = label_at message offset size in
     let room : octets + 1 + size + label_octets labels + 1 ≤ 255 = omega (arith, label_octets-more this labels, label_octets-label message offset size here.inside) in
-    outcome_step message n spot (Some (at_label size)) (standing_label message spot size here (omega arith)) ∙ ap (after_label this) (at_walks rest n before (octets + 1 + size) (omega arith) few room)
+    cc (outcome_step message n spot (Some (at_label size)) (standing_label message spot size here (omega arith)), at_walks rest n before (octets + 1 + size) (omega arith) few room)
 at_walks (pointer offset bound target labels end steps pointers here rest) zero before octets enough few short = absurd (omega arith)
 at_walks {message} (pointer offset bound target labels end steps pointers here rest) (suc n) before octets enough few short =
     let spot : Spot = record { offset = offset; bound = bound; pointers = before; octets = octets } in
-    outcome_step message n spot (Some (at_pointer target)) (standing_pointer message spot target here (omega arith)) ∙ ap (after_pointer (offset + 2)) (at_walks rest n (before + 1) octets (omega arith) (omega arith) short)
+    cc (outcome_step message n spot (Some (at_pointer target)) (standing_pointer message spot target here (omega arith)), at_walks rest n (before + 1) octets (omega arith) (omega arith) short)
 
 -- the steps are the labels, the pointers and the root
 pub at_steps : {message : List ℕ} {offset bound : ℕ} {labels : List (List ℕ)} {end steps pointers : ℕ} → At message offset bound labels end steps pointers → steps ≡ length labels + pointers + 1

@@ -28,11 +28,9 @@ same {message} (suc n) (outside spot past) is = walk_step n message spot None (s
 same {message} (suc n) (to_root spot here first) is = walk_step n message spot (Some at_root) (standing_root message spot here first)
 same {message} (suc n) (to_fault spot fault here) is = walk_step n message spot (Some (at_fault fault)) (standing_fault message spot fault here)
 same {message} (suc n) (over_label spot size visits here room rest) is =
-    ap (λ (vs : List Visit). visit spot (at_label size) ∷ vs) (same n rest (enough_label {message = message} is (here, room)))
-    ∙ walk_step n message spot (Some (at_label size)) (standing_label message spot size here room)
+    cc (same n rest (enough_label {message = message} is (here, room)), walk_step n message spot (Some (at_label size)) (standing_label message spot size here room))
 same {message} (suc n) (by_pointer spot target visits here few rest) is =
-    ap (λ (vs : List Visit). visit spot (at_pointer target) ∷ vs) (same n rest (enough_pointer {message = message} is (here, few)))
-    ∙ walk_step n message spot (Some (at_pointer target)) (standing_pointer message spot target here few)
+    cc (same n rest (enough_pointer {message = message} is (here, few)), walk_step n message spot (Some (at_pointer target)) (standing_pointer message spot target here few))
 
 module _ (message : List ℕ) where
   abbrev WalksBy : ℕ → Type 0
