@@ -1,16 +1,5 @@
 -- The records of a transfer stand in order, and those but the closing SOA are handed on.
-use Rattle.std.proofs.Common.{arith}
-use Rattle.std.proofs.Common.{rules}
-use Rattle.std.proofs.Common.{◌≡◌, ◌≢◌, ℕ, ◌+◌, ◌≤◌, List, [], ◌∷◌, ◌++◌, length, refl, ap, sym, ◌∙◌, subst, Bool, true, false, append_assoc}
-use Rattle.std.specs.Prelude.{map, ◌==◌, ◌||◌, not}
-use Rattle.std.specs.List.{flat_map, filter, AllByRecursion, list_any}
-use Rattle.std.proofs.lemmas.Bool.{cond-true, cond-false, eq-eqb, or_from}
-use Rattle.std.proofs.lemmas.List.{append-nil}
-use Rattle.std.proofs.lemmas.List.Elements.{filter-append}
-use Rattle.zone_rdata.specs.Record.{Record}
-use Rattle.zone_rdata.specs.declared.record.Placed.{Placed}
-use Rattle.zone_wire.specs.Answers.{handed_on}
-use Rattle.zone_wire.specs.Transfer.{StatedMessage, AreStatedMessages, frame}
+use Rattle.zone_wire.proofs.Common.{AllByRecursion, AreStatedMessages, Bool, List, Placed, Record, StatedMessage, [], ap, append-nil, append_assoc, arith, cond-false, cond-true, eq-eqb, false, filter, filter-append, flat_map, frame, handed_on, length, list_any, map, not, or_from, refl, rules, subst, sym, true, ℕ, ◌++◌, ◌+◌, ◌==◌, ◌||◌, ◌∙◌, ◌∷◌, ◌≡◌, ◌≢◌, ◌≤◌}
 use Rattle.zone_wire.proofs.Answering.{OpensWith, is_soa, InOrder, differ}
 
 pub all_append : {X : Type 0} (P : X → Type 0) (xs ys : List X) → AllByRecursion P xs → AllByRecursion P ys → AllByRecursion P (xs ++ ys)

@@ -1,22 +1,6 @@
 -- The faults of answers are those at which their records stop being read.
-use Rattle.std.proofs.Common.{◌≡◌, ◌≢◌, ℕ, ◌+◌, ◌<◌, ◌≤◌, List, [], ◌∷◌, length, refl, ap, sym, subst, Bool, true, false, nat_eq, inl, inr, arith}
-use Rattle.std.specs.Prelude.{◌==◌, ◌&&◌, not, Option, Some, None, Result, Ok, Err, if◌then◌else◌}
-use Rattle.std.specs.List.{list_any}
-use Rattle.std.proofs.lemmas.Bool.{and_parts, and_from, and_cases, eqb-true, eq-eqb, not-true, not-false, false_from_ne_true}
-use Rattle.zone_rdata.proofs.Bytes.{Bytes}
-use Rattle.zone_rdata.specs.Record.{Record}
-use Rattle.zone_rdata.specs.Words.{IsClass, IsKind, is_meta}
-use Rattle.zone_rdata.specs.declared.fault.Fault.{Fault}
-use Rattle.zone_rdata.specs.declared.fault.Fault.TheVariants.{BadClass, MetaType, CompressibleType, AfterClosing, NoOpeningSoa, BadQuestion, SoaMismatch}
-use Rattle.zone_rdata.specs.declared.record.Placed.{Placed}
+use Rattle.zone_wire.proofs.Common.{AfterClosing, AgreeWith, AnswerStates, BadClass, BadQuestion, Bool, Bytes, ComesAfter, CompressibleType, Err, Fault, IsClass, IsKind, IsRecordAt, List, MetaType, NoFault, NoOpeningSoa, None, Ok, Option, OrderFault, OwnFault, Placed, QuestionAt, Record, RecordAt, Result, SoaMismatch, Some, Unless, ZoneAsked, [], agrees, and_cases, and_from, and_parts, ap, arith, compressible, data_at, eq-eqb, eqb-true, fails, false, false_from_ne_true, if◌then◌else◌, inl, inr, is_meta, is_no_class, length, list_any, nat_eq, not, not-false, not-true, order_fault, own_record, refl, same_name, same_record, subst, sym, true, ttl_of, u16_at, zone_of, ℕ, ◌&&◌, ◌+◌, ◌<◌, ◌==◌, ◌∷◌, ◌≡◌, ◌≢◌, ◌≤◌}
 use Rattle.zone_rdata.proofs.Layouts.{held_data, stringless_short}
-use Rattle.zone_wire.specs.AnswerFault.{OwnFault, OrderFault}
-use Rattle.zone_wire.specs.Answers.{ZoneAsked, zone_of, AgreeWith, ComesAfter}
-use Rattle.zone_wire.specs.Machine.Answers.{same_name, same_record, is_no_class, own_record, agrees, order_fault}
-use Rattle.zone_wire.specs.Machine.Data.{data_at}
-use Rattle.zone_wire.specs.Message.{u16_at, QuestionAt, RecordAt, IsRecordAt}
-use Rattle.zone_wire.specs.Transfer.{ttl_of, compressible, AnswerStates}
-use Rattle.zone_wire.specs.Unless.{Unless, fails, NoFault}
 use Rattle.zone_wire.proofs.Answering.{holds_data, none_of, names_same, records_same}
 use Rattle.zone_wire.proofs.DataFaults.{data_faults}
 use Rattle.zone_wire.proofs.Conditions.{option_unless, result_unless}

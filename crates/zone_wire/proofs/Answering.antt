@@ -1,18 +1,5 @@
 -- The answer of a message is read as the record that it states, and in the order of a transfer.
-use Rattle.std.proofs.Common.{rules}
-use Rattle.std.proofs.Common.{◌≡◌, ◌≢◌, ℕ, List, [], ◌∷◌, ◌++◌, refl, ap, sym, ◌∙◌, Bool, true, false, nat_eq, arith}
-use Rattle.std.specs.Prelude.{◌==◌, ◌&&◌, ◌||◌, ⊤}
-use Rattle.std.specs.List.{AllByRecursion, list_any}
-use Rattle.std.specs.Cmp.Lexicographic.{pointwise, pointwise_decides, bytes_decides}
-use Rattle.std.proofs.lemmas.Bool.{eq-eqb, and_from, or_from}
-use Rattle.std.proofs.lemmas.Bool.Decides.{nat_tests}
-use Rattle.zone_rdata.specs.Record.{Record}
-use Rattle.zone_rdata.specs.Words.{IsClass}
-use Rattle.zone_rdata.specs.declared.record.Placed.{Placed}
-use Rattle.zone_wire.specs.Machine.Answers.{same_name, same_record, is_no_class}
-use Rattle.zone_wire.specs.Answers.{zone_of, AgreeWith, ComesAfter}
-use Rattle.zone_wire.specs.Message.{QuestionAt}
-use Rattle.zone_wire.specs.Transfer.{AsksFor}
+use Rattle.zone_wire.proofs.Common.{AgreeWith, AllByRecursion, AsksFor, Bool, ComesAfter, IsClass, List, Placed, QuestionAt, Record, [], and_from, ap, arith, bytes_decides, eq-eqb, false, is_no_class, list_any, nat_eq, nat_tests, or_from, pointwise, pointwise_decides, refl, rules, same_name, same_record, sym, true, zone_of, ℕ, ⊤, ◌&&◌, ◌++◌, ◌==◌, ◌||◌, ◌∙◌, ◌∷◌, ◌≡◌, ◌≢◌}
 
 pub differ : (a b : ℕ) → a ≢ b → nat_eq a b ≡ false
 differ a b h = grind (arith, nat_tests)

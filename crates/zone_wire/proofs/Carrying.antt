@@ -1,23 +1,9 @@
 -- A walk that is carried on from place to place: the walk from the start is what was met so far and
 -- the walk from here.
-use Rattle.std.proofs.Common.{rules}
-use Rattle.std.proofs.lemmas.Grind.{common_steps}
-use Rattle.std.proofs.Common.{◌≡◌, ℕ, zero, suc, ◌+◌, ◌-◌, ◌*◌, ◌<◌, ◌≤◌, List, [], ◌∷◌, ◌++◌, length, refl, ap, sym, ◌∙◌, subst, arith, length-append, append_assoc}
-use Rattle.std.specs.Prelude.{Option, Some, None, take, drop}
-use Rattle.std.specs.Option.{unwrap_or}
-use Rattle.std.specs.List.{flat_map}
-use Rattle.std.proofs.lemmas.List.{append-nil, length-take-le, length-drop}
-use Rattle.std.proofs.lemmas.List.Concat.{flat_map-append}
-use Rattle.zone_name.specs.Name.{with_length, wire}
+use Rattle.zone_wire.proofs.Common.{Fault, List, None, Option, Outcome, ShortMessage, Some, Spot, Standing, [], after_label, after_pointer, ap, append-nil, append_assoc, arith, at_fault, at_label, at_pointer, at_root, common_steps, drop, flat_map, flat_map-append, label_at, length, length-append, length-drop, length-take-le, named, outcome, outset, past_label, past_pointer, refl, refused, rules, standing_in, subst, suc, sym, take, unwrap_or, walk, wire, with_length, zero, ℕ, ◌*◌, ◌++◌, ◌+◌, ◌-◌, ◌<◌, ◌∙◌, ◌∷◌, ◌≡◌, ◌≤◌}
 use Rattle.zone_name.specs.Spelling.{IsLabelFault}
 use Rattle.zone_name.specs.declared.fault.NameFault.{NameFault}
 use Rattle.zone_name.specs.declared.fault.NameFault.TheVariants.{EmptyLabel, LabelTooLong, NameTooLong, BadEscape, RelativeName}
-use Rattle.zone_wire.specs.Name.{label_at}
-use Rattle.zone_wire.specs.Walk.{Spot, Standing, at_root, at_label, at_pointer, at_fault, outset, past_label, past_pointer}
-use Rattle.zone_wire.specs.Machine.Walk.{standing_in, walk}
-use Rattle.zone_wire.specs.Machine.Finding.{Outcome, named, refused, outcome, after_label, after_pointer}
-use Rattle.zone_rdata.specs.declared.fault.Fault.{Fault}
-use Rattle.zone_rdata.specs.declared.fault.Fault.TheVariants.{ShortMessage}
 use Rattle.zone_wire.proofs.Spots.{Shows, standing_shows}
 use Rattle.zone_wire.proofs.Walking.{outcome_by, outcome_at, outcome_step, label_octets, label_octets-label, label_octets-more, wire-octets}
 

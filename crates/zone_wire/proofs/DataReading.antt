@@ -1,29 +1,6 @@
 -- The data of a record is read into a builder.
-use Rattle.std.proofs.Common.{◌≡◌, ◌≢◌, ℕ, zero, suc, ◌+◌, ◌-◌, ◌*◌, ◌<◌, ◌≤◌, List, [], ◌∷◌, ◌++◌, length, drop, get_or, refl, sym, ap, ◌∙◌, subst, arith, false, inl, inr, append_assoc, length-append}
-use Rattle.std.specs.Prelude.{slice_get, ◌==◌, if◌then◌else◌, Option, Some, None, Result, Ok, Err}
-use Rattle.std.specs.List.{flat_map, AllByRecursion}
-use Rattle.std.specs.Option.{option_or}
-use Rattle.std.proofs.lemmas.Bool.{eq-eqb, cond-true, cond-false}
-use Rattle.std.proofs.lemmas.Bool.Decides.{nat_tests}
-use Rattle.std.proofs.lemmas.List.{drop_all, length-take, append-nil}
-use Rattle.std.proofs.lemmas.List.Concat.{flat_map-append}
-use Rattle.zone_name.specs.Name.{with_length}
-use Rattle.zone_rdata.specs.declared.fault.Fault.{Fault}
-use Rattle.zone_rdata.specs.declared.fault.Fault.TheVariants.{BadRdata}
-use Rattle.zone_rdata.specs.declared.field.Field.{Field}
-use Rattle.zone_rdata.specs.declared.field.Field.TheVariants.{Strings}
-use Rattle.zone_rdata.specs.Builder.{Built, IsNext, IsWhole, ends_with_strings, part_at, Pushes, IsPushFault, misplaced, long_string, too_long}
-use Rattle.zone_rdata.specs.Field.{FieldValue, name, u32_value, u16_value, fixed, string, strings, field_octets, octets_of, Suits, Holds, HoldEach}
-use Rattle.zone_rdata.specs.Layout.{IsSized, layout}
-use Rattle.zone_rdata.proofs.Building.{octets_push}
-use Rattle.zone_rdata.proofs.Tables.{table_row}
+use Rattle.zone_wire.proofs.Common.{AllByRecursion, Awaits, AwaitsStrings, BadRdata, Built, Err, Fault, Field, FieldValue, HoldEach, Holds, IsNext, IsPushFault, IsRead, IsReadyFor, IsRecordAt, IsSized, IsWhole, List, None, Ok, Option, Pushes, PutsValue, PutsValues, RawRecord, RecordAt, Result, Some, Strings, Suits, [], and_then, ap, append-nil, append_assoc, arith, cond-false, cond-true, data_at, drop, drop_all, ends_with_strings, eq-eqb, false, field_octets, fixed, flat_map, flat_map-append, get_or, if◌then◌else◌, inl, inr, layout, length, length-append, length-take, long_string, misplaced, name, nat_tests, octets_between, octets_of, octets_push, option_or, part_at, parts_for, put_after, refl, slice_get, string, strings, subst, suc, sym, table_row, too_long, u16_at, u16_value, u32_value, value_at, values_at, with_length, zero, ℕ, ◌*◌, ◌++◌, ◌+◌, ◌-◌, ◌<◌, ◌==◌, ◌∙◌, ◌∷◌, ◌≡◌, ◌≢◌, ◌≤◌}
 use Rattle.zone_rdata.proofs.AnyField.{field_short}
-use Rattle.zone_wire.specs.Machine.Data.{value_at, values_at, data_at}
-use Rattle.zone_wire.specs.Machine.DataReading.{parts_for, put_after, Awaits, AwaitsStrings, IsReadyFor, IsRead, PutsValue, PutsValues}
-use Rattle.zone_wire.specs.Machine.Sections.{and_then}
-use Rattle.zone_wire.specs.Message.{u16_at, IsRecordAt, RecordAt}
-use Rattle.zone_wire.specs.Transfer.{octets_between}
-use Rattle.zone_wire.specs.View.{RawRecord}
 use Rattle.zone_wire.proofs.ReadFields.{value_shows, values_show}
 use Rattle.zone_wire.proofs.MessageFaults.{and_then_err}
 use Rattle.zone_wire.proofs.ReadRecords.{IsRow, each_row}

@@ -1,16 +1,5 @@
 -- Where names, questions and records of a message end, and the first fault before that.
-use Rattle.std.proofs.Common.{◌≡◌, ℕ, suc, ◌+◌, ◌-◌, ◌<◌, ◌≤◌, List, ◌∷◌, length, refl, ap, sym, ◌∙◌, subst, arith, false, nat_le}
-use Rattle.std.specs.Prelude.{get_or, Result, Ok, Err}
-use Rattle.std.proofs.lemmas.Bool.{cond-true, cond-false, le-leb}
-use Rattle.std.proofs.lemmas.Bool.Decides.{nat_tests}
-use Rattle.zone_rdata.specs.declared.fault.Fault.{Fault}
-use Rattle.zone_rdata.specs.declared.fault.Fault.TheVariants.{ShortMessage}
-use Rattle.zone_wire.specs.Message.{u16_at}
-use Rattle.zone_wire.specs.Name.{Found}
-use Rattle.zone_wire.specs.Machine.Finding.{Outcome, named, refused, outcome}
-use Rattle.zone_wire.specs.Machine.Parsing.{name_end_of, part_end_of, run_end_of}
-use Rattle.zone_wire.specs.Machine.Sections.{and_then, at_offset, inside, record_at, each_from, records_from}
-use Rattle.zone_wire.specs.Machine.Walk.{walk}
+use Rattle.zone_wire.proofs.Common.{Err, Fault, Found, List, Ok, Outcome, Result, ShortMessage, and_then, ap, arith, at_offset, cond-false, cond-true, each_from, false, get_or, inside, le-leb, length, name_end_of, named, nat_le, nat_tests, outcome, part_end_of, record_at, records_from, refl, refused, run_end_of, subst, suc, sym, u16_at, walk, ℕ, ◌+◌, ◌-◌, ◌<◌, ◌∙◌, ◌∷◌, ◌≡◌, ◌≤◌}
 use Rattle.zone_wire.proofs.Walking.{walk_names, name_bounds}
 
 ended_inside : (message : List ℕ) (offset : ℕ) → ((k : ℕ) → get_or message k 0 < 256) → (o : Outcome) → outcome message (walk message offset) ≡ o → (end : ℕ) → Ok end ≡ name_end_of o → end ≤ length message

@@ -1,27 +1,5 @@
 -- The values of fields are read in a message: parts of its octets, numbers, and names.
-use Rattle.std.proofs.lemmas.Grind.{common_steps}
-use Rattle.std.proofs.Common.{◌≡◌, ℕ, zero, suc, ◌+◌, ◌-◌, ◌<◌, ◌≤◌, List, [], ◌∷◌, ◌++◌, length, take, drop, get_or, refl, sym, ap, ◌∙◌, subst, arith, Bool, true, false, nat_le, inl, inr, length-append}
-use Rattle.std.specs.Prelude.{slice_index, if◌then◌else◌, ◌⊎◌, Some, Result, Ok, Err}
-use Rattle.std.specs.Int.{w16, w32, from_be_bytes}
-use Rattle.std.proofs.lemmas.Bool.{cond-true, cond-false, le-leb, lt-leb, leb-false}
-use Rattle.std.proofs.lemmas.List.{take_all, take-append-drop, drop-take, drop-drop, drop_more, length-take-le, length-drop, get_or-take, get_or-drop}
-use Rattle.zone_rdata.specs.declared.fault.Fault.{Fault}
-use Rattle.zone_rdata.specs.declared.fault.Fault.TheVariants.{BadRdata}
-use Rattle.zone_rdata.specs.declared.field.Field.{Field}
-use Rattle.zone_rdata.specs.declared.field.Field.TheVariants.{Name, Serial, Time, U16, Octets, OneString}
-use Rattle.zone_rdata.specs.Builder.{Built, FitsString, Pushes, IsPushFault, misplaced, long_string, too_long}
-use Rattle.zone_rdata.specs.Field.{FieldValue, name, u32_value, u16_value, fixed, string, field_octets, octets_of, Suits, field_at}
-use Rattle.zone_rdata.specs.Fields.OneString.{string_at}
-use Rattle.zone_rdata.specs.Layout.{IsSized}
-use Rattle.zone_rdata.proofs.Building.{octets_push}
-use Rattle.zone_wire.specs.Machine.Data.{name_before, sized_before, value_at}
-use Rattle.zone_wire.specs.Machine.DataReading.{parts_for, put_after, Awaits, IsReadyFor, PutsValue}
-use Rattle.zone_wire.specs.Machine.Finding.{outcome}
-use Rattle.zone_wire.specs.Walk.{NameFault}
-use Rattle.zone_wire.specs.Machine.Walk.{walk}
-use Rattle.zone_wire.specs.Message.{u16_at, u32_at}
-use Rattle.zone_wire.specs.Name.{Found, IsNameAt}
-use Rattle.zone_wire.specs.Transfer.{octets_between}
+use Rattle.zone_wire.proofs.Common.{Awaits, BadRdata, Bool, Built, Err, Fault, Field, FieldValue, FitsString, Found, IsNameAt, IsPushFault, IsReadyFor, IsSized, List, Name, NameFault, Octets, Ok, OneString, Pushes, PutsValue, Result, Serial, Some, Suits, Time, U16, [], ap, arith, common_steps, cond-false, cond-true, drop, drop-drop, drop-take, drop_more, false, field_at, field_octets, fixed, from_be_bytes, get_or, get_or-drop, get_or-take, if◌then◌else◌, inl, inr, le-leb, leb-false, length, length-append, length-drop, length-take-le, long_string, lt-leb, misplaced, name, name_before, nat_le, octets_between, octets_of, octets_push, outcome, parts_for, put_after, refl, sized_before, slice_index, string, string_at, subst, suc, sym, take, take-append-drop, take_all, too_long, true, u16_at, u16_value, u32_at, u32_value, value_at, w16, w32, walk, zero, ℕ, ◌++◌, ◌+◌, ◌-◌, ◌<◌, ◌∙◌, ◌∷◌, ◌≡◌, ◌≤◌, ◌⊎◌}
 use Rattle.zone_wire.proofs.Fielding.{name_reads}
 use Rattle.zone_wire.proofs.MessageFaults.{name_refuses}
 use Rattle.zone_wire.proofs.Walking.{name_walks}

@@ -1,31 +1,7 @@
 -- The data of a record is read as the values that stand there.
-use Rattle.std.proofs.Common.{rules}
-use Rattle.std.proofs.lemmas.Grind.{common_steps}
-use Rattle.std.proofs.Common.{◌≡◌, ℕ, zero, suc, ◌+◌, ◌-◌, ◌≤◌, ◌^◌, ◌<◌, List, [], ◌∷◌, length, refl, ap, sym, ◌∙◌, arith, nat_lt, nat_eq, get_or-drop}
-use Rattle.std.specs.Prelude.{get_or, slice_index, take, drop, Option, Some, None, MatchOption, Result, Ok}
-use Rattle.std.specs.Int.{w16, w32, to_be_bytes, from_be_bytes}
-use Rattle.std.specs.Cmp.Lexicographic.{pointwise, bytes_decides}
-use Rattle.std.specs.List.{flat_map}
-use Rattle.std.proofs.lemmas.Bool.{cond-true, le-leb, lt-ltb, eq-eqb, and_from}
-use Rattle.std.proofs.lemmas.List.{take_all, length-take-le, length-drop}
-use Rattle.std.proofs.lemmas.Nat.{from_be_bytes-to_be_bytes_2, from_be_bytes-to_be_bytes_4}
-use Rattle.zone_name.specs.Name.{with_length}
-use Rattle.zone_rdata.specs.Field.{FieldValue, name, u32_value, u16_value, fixed, string, strings, field_octets, octets_of, Holds, HoldEach, field_at}
-use Rattle.zone_rdata.specs.Fields.Strings.{AreStrings, strings_of}
-use Rattle.zone_rdata.specs.Layout.{layout, StringsLast}
-use Rattle.zone_rdata.specs.declared.fault.Fault.{Fault}
-use Rattle.zone_rdata.specs.declared.field.Field.{Field}
-use Rattle.zone_rdata.specs.declared.field.Field.TheVariants.{Name, Serial, Time, U16, Octets, OneString, Strings}
+use Rattle.zone_wire.proofs.Common.{AreFieldsAt, AreStrings, AreValuesAt, Fault, Field, FieldValue, Found, HoldEach, Holds, IsDataAt, IsValueAt, List, MatchOption, Name, None, Octets, Ok, OneString, Option, Outcome, RecordAt, Result, Serial, Some, Strings, StringsLast, Time, U16, [], and_from, and_then, ap, arith, bytes_decides, common_steps, cond-true, data_at, drop, eq-eqb, field_at, field_octets, fixed, flat_map, from_be_bytes, from_be_bytes-to_be_bytes_2, from_be_bytes-to_be_bytes_4, get_or, get_or-drop, layout, le-leb, length, length-drop, length-take-le, lt-ltb, name, name_before, named, nat_eq, nat_lt, octets_between, octets_of, outcome, pointwise, refl, rules, sized_before, slice_index, string, strings, strings_before, strings_of, suc, sym, table_row, take, take_all, to_be_bytes, u16_value, u32_value, value_at, values_at, w16, w32, walk, with_length, zero, ℕ, ◌+◌, ◌-◌, ◌<◌, ◌^◌, ◌∙◌, ◌∷◌, ◌≡◌, ◌≤◌}
 use Rattle.zone_name.proofs.Octets.{length-frames}
 use Rattle.zone_rdata.proofs.StringFields.{strings_back}
-use Rattle.zone_rdata.proofs.Tables.{table_row}
-use Rattle.zone_wire.specs.Machine.Data.{name_before, sized_before, strings_before, value_at, values_at, data_at}
-use Rattle.zone_wire.specs.Message.{RecordAt}
-use Rattle.zone_wire.specs.Name.{Found}
-use Rattle.zone_wire.specs.Machine.Finding.{Outcome, named, outcome}
-use Rattle.zone_wire.specs.Machine.Sections.{and_then}
-use Rattle.zone_wire.specs.Transfer.{octets_between, IsValueAt, AreValuesAt, AreFieldsAt, IsDataAt}
-use Rattle.zone_wire.specs.Machine.Walk.{walk}
 use Rattle.zone_wire.proofs.Sectioning.{and_then_ok}
 use Rattle.zone_wire.proofs.Walking.{name_walks}
 

@@ -1,14 +1,5 @@
 -- A stream is cut into frames in one way.
-use Rattle.std.proofs.Common.{rules}
-use Rattle.std.proofs.lemmas.Grind.{common_steps}
-use Rattle.std.proofs.Common.{◌≡◌, ℕ, zero, suc, ◌+◌, ◌*◌, ◌/◌, ◌%◌, ◌<◌, ◌≤◌, nat_lt, Bool, true, false, List, [], ◌∷◌, ◌++◌, length, refl, ap, sym, ◌∙◌, arith, length-append, append_assoc, get_or-drop, lit<}
-use Rattle.std.specs.Prelude.{get_or, take, drop}
-use Rattle.std.specs.List.{flat_map}
-use Rattle.std.proofs.lemmas.Bool.{ltb-true, ltb-false}
-use Rattle.std.proofs.lemmas.List.{length-take-le, length-drop, take-append-drop}
-use Rattle.zone_wire.specs.Message.{u16_at}
-use Rattle.zone_wire.specs.Frames.{IsFramed}
-use Rattle.zone_wire.specs.Transfer.{frame}
+use Rattle.zone_wire.proofs.Common.{Bool, IsFramed, List, [], ap, append_assoc, arith, common_steps, drop, false, flat_map, frame, get_or, get_or-drop, length, length-append, length-drop, length-take-le, lit<, ltb-false, ltb-true, nat_lt, refl, rules, suc, sym, take, take-append-drop, true, u16_at, zero, ℕ, ◌%◌, ◌*◌, ◌++◌, ◌+◌, ◌/◌, ◌<◌, ◌∙◌, ◌∷◌, ◌≡◌, ◌≤◌}
 use Rattle.zone_wire.proofs.Transfers.{frame_unique}
 
 -- octets that begin with a whole frame aren't cut off in one

@@ -1,16 +1,5 @@
 -- A transfer is read as its records.
-use Rattle.std.proofs.Common.{◌≡◌, ℕ, ◌+◌, List, [], ◌∷◌, ◌++◌, length, refl, ap, sym, ◌∙◌, subst, true, arith, length-append, lit<}
-use Rattle.std.specs.Prelude.{None}
-use Rattle.std.specs.List.{flat_map, AllByRecursion, list_any}
-use Rattle.std.proofs.lemmas.Bool.{cond-true, eq-eqb, or_left, or_right}
-use Rattle.std.proofs.lemmas.List.{append-nil}
-use Rattle.zone_rdata.specs.Record.{Record}
-use Rattle.zone_rdata.specs.declared.record.Placed.{Placed}
-use Rattle.zone_wire.specs.AnswerFault.{AnswersGive, no_more, states}
-use Rattle.zone_wire.specs.Answers.{zone_of, is_closed, handed_on}
-use Rattle.zone_wire.specs.Message.{QuestionAt, RecordAt, Sections}
-use Rattle.zone_wire.specs.Stream.{octets_in, asked_in, placed_in, HasFirstId, AsksIn, IsReadAfter, ReadAfter, whole, reads, StreamReads}
-use Rattle.zone_wire.specs.Transfer.{StatedMessage, IsStatedMessage, AreStatedMessages, AsksFor, AnswersState, frame, StreamStates}
+use Rattle.zone_wire.proofs.Common.{AllByRecursion, AnswersGive, AnswersState, AreStatedMessages, AsksFor, AsksIn, HasFirstId, IsReadAfter, IsStatedMessage, List, None, Placed, QuestionAt, ReadAfter, Record, RecordAt, Sections, StatedMessage, StreamReads, StreamStates, [], ap, append-nil, arith, asked_in, cond-true, eq-eqb, flat_map, frame, handed_on, is_closed, length, length-append, list_any, lit<, no_more, octets_in, or_left, or_right, placed_in, reads, refl, states, subst, sym, true, whole, zone_of, ℕ, ◌++◌, ◌+◌, ◌∙◌, ◌∷◌, ◌≡◌}
 use Rattle.zone_wire.proofs.Accepting.{all_append, in_order_parts, opens_more, any_append, rest_in_order, framed_parts, short_parts, handed_transfer}
 use Rattle.zone_wire.proofs.Answering.{OpensWith, zone_agrees, is_soa, InOrder, follows_comes}
 use Rattle.zone_wire.proofs.GivenMessages.{placed_grow, asked_grow}

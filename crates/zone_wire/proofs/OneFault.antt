@@ -1,23 +1,5 @@
 -- Data and answers have one first fault, and none where they have a value.
-use Rattle.std.proofs.Common.{◌≡◌, ℕ, ◌<◌, ◌≤◌, List, [], ◌∷◌, length, refl, ap, sym, ◌∙◌, subst, inl, inr, arith}
-use Rattle.std.specs.Prelude.{Option, Some, None, MatchOption}
-use Rattle.zone_rdata.specs.Field.{FieldValue, name, HoldEach}
-use Rattle.zone_rdata.specs.Layout.{layout, StringsLast}
-use Rattle.zone_rdata.specs.Record.{Record}
-use Rattle.zone_rdata.specs.Words.{IsClass, IsKind}
-use Rattle.zone_rdata.specs.declared.fault.Fault.{Fault}
-use Rattle.zone_rdata.specs.declared.fault.Fault.TheVariants.{BadRdata}
-use Rattle.zone_rdata.specs.declared.field.Field.{Field}
-use Rattle.zone_rdata.specs.declared.field.Field.TheVariants.{Name, Serial, Time, U16, Octets, OneString, Strings}
-use Rattle.zone_rdata.specs.declared.record.Placed.{Placed}
-use Rattle.zone_rdata.proofs.Tables.{table_row}
-use Rattle.zone_wire.specs.AnswerFault.{OwnFault, OrderFault, AnswerFault}
-use Rattle.zone_wire.specs.Answers.{ComesAfter}
-use Rattle.zone_wire.specs.DataFault.{IsFieldAt, FieldFault, FieldsFault, DataFault}
-use Rattle.zone_wire.specs.Message.{QuestionAt, RecordAt}
-use Rattle.zone_wire.specs.Name.{Found, IsNameAt}
-use Rattle.zone_wire.specs.Transfer.{octets_between, AreValuesAt, AreFieldsAt, IsDataAt, AnswerStates}
-use Rattle.zone_wire.specs.Walk.{NameFault}
+use Rattle.zone_wire.proofs.Common.{AnswerFault, AnswerStates, AreFieldsAt, AreValuesAt, BadRdata, ComesAfter, DataFault, Fault, Field, FieldFault, FieldValue, FieldsFault, Found, HoldEach, IsClass, IsDataAt, IsFieldAt, IsKind, IsNameAt, List, MatchOption, Name, NameFault, None, Octets, OneString, Option, OrderFault, OwnFault, Placed, QuestionAt, Record, RecordAt, Serial, Some, Strings, StringsLast, Time, U16, [], ap, arith, inl, inr, layout, length, name, octets_between, refl, subst, sym, table_row, ℕ, ◌<◌, ◌∙◌, ◌∷◌, ◌≡◌, ◌≤◌}
 use Rattle.zone_wire.proofs.Conditions.{unless_one, unless_holds}
 use Rattle.zone_wire.proofs.Fielding.{value_reads}
 use Rattle.zone_wire.proofs.MessageFaults.{name_one, name_not_both}

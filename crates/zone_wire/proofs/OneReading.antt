@@ -1,19 +1,6 @@
 -- Messages are read in one way, and more messages only go on.
-use Rattle.std.proofs.lemmas.Grind.{common_steps}
-use Rattle.std.proofs.Common.{◌≡◌, ℕ, ◌+◌, ◌≤◌, List, [], ◌∷◌, ◌++◌, length, refl, ap, sym, ◌∙◌, subst, inl, inr, arith, append_assoc, length-append}
-use Rattle.std.specs.Prelude.{Option, Some, None}
-use Rattle.std.specs.List.{AllByRecursion}
-use Rattle.std.proofs.lemmas.List.{append-nil}
-use Rattle.zone_rdata.specs.declared.fault.Fault.{Fault}
-use Rattle.zone_rdata.specs.declared.fault.Fault.TheVariants.{IdMismatch, BadQuestion}
-use Rattle.zone_rdata.specs.declared.fault.Place.{Place}
-use Rattle.zone_rdata.specs.declared.fault.Place.TheVariants.{Message}
-use Rattle.zone_rdata.specs.declared.record.Placed.{Placed}
-use Rattle.zone_wire.specs.AnswerFault.{AnswersGive, no_more, states, refused}
-use Rattle.zone_wire.specs.Message.{QuestionAt, RecordAt, Sections, IsMessage}
-use Rattle.zone_wire.specs.Stream.{HasFirstId, AskAfter, GiveAfter, IsReadAfter, FaultAfter, ReadAfter, whole, reads, stops}
-use Rattle.zone_wire.specs.Transfer.{StatedMessage}
-use Rattle.zone_wire.specs.Unless.{Unless}
+use Rattle.zone_wire.proofs.Common.{AllByRecursion, AnswersGive, AskAfter, BadQuestion, Fault, FaultAfter, GiveAfter, HasFirstId, IdMismatch, IsMessage, IsReadAfter, List, Message, None, Option, Place, Placed, QuestionAt, ReadAfter, RecordAt, Sections, Some, StatedMessage, Unless, [], ap, append-nil, append_assoc, arith, common_steps, inl, inr, length, length-append, no_more, reads, refl, states, stops, subst, sym, whole, ℕ, ◌++◌, ◌+◌, ◌∙◌, ◌∷◌, ◌≡◌, ◌≤◌}
+use Rattle.zone_wire.specs.AnswerFault.{refused}
 use Rattle.zone_wire.proofs.Conditions.{unless_one, unless_holds}
 use Rattle.zone_wire.proofs.GivenAnswers.{IsInMessage, each_stands}
 use Rattle.zone_wire.proofs.MessageFaults.{some_same, one_fault, never_both}

@@ -1,13 +1,6 @@
 -- The question and the answers of a message that was parsed, and the answers that are still to
 -- come.
-use Rattle.std.proofs.Common.{rules}
-use Rattle.std.proofs.Common.{◌≡◌, ℕ, ◌-◌, List, [], ◌∷◌, length, refl, ap, sym, ◌∙◌, subst, arith}
-use Rattle.std.specs.Prelude.{map}
-use Rattle.zone_wire.specs.Message.{u16_at, QuestionAt, question_by, IsQuestionAt, AreQuestionsAt, RecordAt, record_by, IsRecordAt, AreRecordsAt, Sections, IsMessage}
-use Rattle.zone_wire.specs.Name.{Found, IsNameAt}
-use Rattle.zone_wire.specs.Machine.Parsing.{parsed, IsParsed, raw_from, records_or_none, HasRecordsFrom}
-use Rattle.zone_wire.specs.Machine.Sections.{record_at}
-use Rattle.zone_wire.specs.View.{raw_at}
+use Rattle.zone_wire.proofs.Common.{AreQuestionsAt, AreRecordsAt, Found, HasRecordsFrom, IsMessage, IsNameAt, IsParsed, IsQuestionAt, IsRecordAt, List, QuestionAt, RecordAt, Sections, [], ap, arith, length, map, parsed, question_by, raw_at, raw_from, record_at, record_by, records_or_none, refl, rules, subst, sym, u16_at, ℕ, ◌-◌, ◌∙◌, ◌∷◌, ◌≡◌}
 use Rattle.zone_wire.proofs.Messages.{one_part}
 use Rattle.zone_wire.proofs.Sectioning.{part_reads, each_reads}
 use Rattle.zone_wire.proofs.Walking.{one_name}

@@ -1,33 +1,8 @@
 -- What is read as the data of a record is its data.
-use Rattle.std.proofs.Common.{rules}
-use Rattle.std.proofs.Common.{◌≡◌, ℕ, zero, suc, ◌+◌, ◌-◌, ◌≤◌, ◌^◌, ◌<◌, List, [], ◌∷◌, length, refl, ap, sym, ◌∙◌, subst, nat_le, nat_lt, nat_eq, arith}
-use Rattle.std.specs.Prelude.{get_or, slice_index, take, drop, ◌==◌, ◌&&◌, Option, Some, None, MatchOption, Result, Ok}
-use Rattle.std.specs.Int.{w16, w32, to_be_bytes, from_be_bytes}
-use Rattle.std.specs.Cmp.Lexicographic.{pointwise, bytes_decides}
-use Rattle.std.specs.List.{flat_map, AllByRecursion}
-use Rattle.std.proofs.lemmas.Bool.{and_parts, leb-true, ltb-true, eqb-true}
-use Rattle.std.proofs.lemmas.List.{take_all, length-take, length-take-le, length-drop}
-use Rattle.std.proofs.lemmas.Nat.{be_bytes_2, be_bytes_4}
-use Rattle.zone_name.specs.Name.{with_length}
-use Rattle.zone_rdata.specs.Field.{FieldValue, octets_of, Holds, HoldEach, field_at}
-use Rattle.zone_rdata.specs.Fields.OneString.{string_at}
-use Rattle.zone_rdata.specs.Fields.Strings.{strings_by, strings_of}
-use Rattle.zone_rdata.specs.Layout.{layout}
-use Rattle.zone_rdata.specs.Strings.{IsString}
-use Rattle.zone_rdata.specs.declared.fault.Fault.{Fault}
-use Rattle.zone_rdata.proofs.Lists.{bytes_each}
-use Rattle.zone_rdata.specs.declared.field.Field.{Field}
-use Rattle.zone_rdata.specs.declared.field.Field.TheVariants.{Name, Serial, Time, U16, Octets, OneString, Strings}
-use Rattle.zone_wire.specs.Machine.Data.{name_before, sized_before, strings_before, value_at, values_at, data_at}
-use Rattle.zone_wire.specs.Message.{RecordAt}
-use Rattle.zone_wire.specs.Machine.Finding.{Outcome, named, refused, outcome}
-use Rattle.zone_wire.specs.Machine.Sections.{and_then}
-use Rattle.zone_wire.specs.Transfer.{octets_between, IsValueAt, AreValuesAt, AreFieldsAt, IsDataAt}
-use Rattle.zone_wire.specs.Machine.Walk.{walk}
+use Rattle.zone_wire.proofs.Common.{AllByRecursion, AreFieldsAt, AreValuesAt, Fault, Field, FieldValue, HoldEach, Holds, IsDataAt, IsString, IsValueAt, List, MatchOption, Name, None, Octets, Ok, OneString, Option, Outcome, RecordAt, Result, Serial, Some, Strings, Time, U16, [], and_parts, and_then, ap, arith, be_bytes_2, be_bytes_4, bytes_decides, bytes_each, data_at, drop, eqb-true, field_at, flat_map, from_be_bytes, get_or, layout, leb-true, length, length-drop, length-take, length-take-le, ltb-true, name_before, named, nat_eq, nat_le, nat_lt, octets_between, octets_of, outcome, pointwise, refl, refused, rules, sized_before, slice_index, some_frames, string_at, strings_before, strings_by, strings_of, subst, suc, sym, take, take_all, to_be_bytes, value_at, values_at, w16, w32, walk, with_length, zero, ℕ, ◌&&◌, ◌+◌, ◌-◌, ◌<◌, ◌==◌, ◌^◌, ◌∙◌, ◌∷◌, ◌≡◌, ◌≤◌}
 use Rattle.zone_wire.proofs.Fielding.{part_first}
 use Rattle.zone_wire.proofs.ReadSections.{ok_same, leads, passes}
 use Rattle.zone_wire.proofs.Walking.{walk_names, take_each, drop_each}
-use Rattle.zone_rdata.proofs.Fields.Strings.{some_frames}
 
 abbrev Shown : List ℕ → ℕ → ℕ → Field → FieldValue × ℕ → Type 0
 Shown octets end start field v = Holds field v.0 × (v.1 ≤ end) × IsValueAt octets start v.1 v.0

@@ -1,29 +1,6 @@
 -- The record that an answer states is one.
-use Rattle.std.proofs.lemmas.Grind.{common_steps}
-use Rattle.std.proofs.Common.{◌≡◌, ◌≢◌, ℕ, ◌+◌, ◌-◌, ◌≤◌, ◌<◌, List, [], ◌∷◌, length, refl, ap, sym, ◌∙◌, subst, Bool, true, false, not, nat_lt, nat_eq, inl, inr, arith}
-use Rattle.std.specs.Prelude.{drop, ◌==◌, ◌||◌, ◌⊎◌, Option, Some, None, MatchOption, Ok, if◌then◌else◌, ⊤}
-use Rattle.std.specs.List.{AllByRecursion, filter, list_all, list_any}
-use Rattle.std.proofs.lemmas.Bool.{and_parts, or_cases, or_parts, not-true, false≢true, ltb-false}
-use Rattle.std.proofs.lemmas.List.{append-nil, length-take, length-drop}
-use Rattle.zone_rdata.proofs.Bytes.{Bytes}
-use Rattle.zone_name.specs.Name.{IsName}
-use Rattle.zone_rdata.specs.Field.{FieldValue, strings, field_octets, octets_of, Holds, HoldEach}
-use Rattle.zone_rdata.specs.Layout.{layout, AreLaidOut, IsData}
-use Rattle.zone_rdata.specs.Record.{Record, IsRecord}
-use Rattle.zone_rdata.specs.Field.{is_strings}
-use Rattle.zone_rdata.specs.Words.{is_meta}
-use Rattle.zone_rdata.specs.declared.fault.Fault.TheVariants.{BadClass, MetaType, CompressibleType}
-use Rattle.zone_rdata.specs.declared.field.Field.{Field}
-use Rattle.zone_rdata.specs.declared.field.Field.TheVariants.{Strings}
-use Rattle.zone_rdata.specs.declared.record.Placed.{Placed}
-use Rattle.zone_rdata.proofs.Tables.{each_layout}
-use Rattle.zone_wire.specs.Machine.Answers.{is_no_class, own_record}
-use Rattle.zone_wire.specs.Machine.Data.{data_at}
-use Rattle.zone_wire.specs.Message.{u16_at, RecordAt, IsRecordAt}
-use Rattle.zone_wire.specs.Answers.{handed_on}
-use Rattle.zone_wire.specs.Transfer.{octets_between, IsValueAt, AreValuesAt, AreFieldsAt, ttl_of, compressible}
+use Rattle.zone_wire.proofs.Common.{AllByRecursion, AreFieldsAt, AreLaidOut, AreValuesAt, BadClass, Bool, Bytes, CompressibleType, Field, FieldValue, HoldEach, Holds, IsData, IsName, IsRecord, IsRecordAt, IsValueAt, List, MatchOption, MetaType, None, Ok, Option, Placed, Record, RecordAt, Some, Strings, [], and_parts, ap, append-nil, arith, bytes_each, common_steps, compressible, data_at, drop, each_layout, false, false≢true, field_octets, filter, handed_on, if◌then◌else◌, inl, inr, is_meta, is_no_class, is_strings, layout, length, length-drop, length-take, list_all, list_any, ltb-false, nat_eq, nat_lt, not, not-true, octets_between, octets_of, or_cases, or_parts, own_record, refl, strings, subst, sym, true, ttl_of, u16_at, ℕ, ⊤, ◌+◌, ◌-◌, ◌<◌, ◌==◌, ◌||◌, ◌∙◌, ◌∷◌, ◌≡◌, ◌≢◌, ◌≤◌, ◌⊎◌}
 use Rattle.zone_wire.proofs.Spots.{unequal}
-use Rattle.zone_rdata.proofs.Lists.{bytes_each}
 use Rattle.zone_wire.proofs.ReadFields.{data_shown}
 use Rattle.zone_wire.proofs.ReadSections.{ok_same, leads, passes_on}
 use Rattle.zone_wire.proofs.Walking.{take_each, drop_each}

@@ -1,14 +1,5 @@
 -- What is read as the sections of a message are its sections.
-use Rattle.std.proofs.Common.{rules}
-use Rattle.std.proofs.Common.{◌≡◌, ℕ, zero, suc, ◌/◌, arith, ◌<◌, ◌≤◌, List, length, refl, ap, sym, subst, Bool, true, false, nat_le}
-use Rattle.std.specs.Prelude.{get_or, slice_index, ◌==◌, Option, Some, None, Result, Ok, Err, if◌then◌else◌}
-use Rattle.std.proofs.lemmas.Bool.{and_parts, leb-true, ltb-false, eqb-true, not-false}
-use Rattle.zone_rdata.specs.declared.fault.Fault.{Fault}
-use Rattle.zone_wire.specs.Message.{u16_at, IsResponse, HasHeader, IsPartAt, QuestionAt, question_by, IsQuestionAt, RecordAt, record_by, IsRecordAt, AreAt, Sections, IsMessage}
-use Rattle.zone_wire.specs.Name.{Found}
-use Rattle.zone_wire.specs.Machine.Finding.{Outcome, named, refused, outcome}
-use Rattle.zone_wire.specs.Machine.Sections.{and_then, at_offset, header_fault, inside, question_at, record_at, each_from, questions_from, records_from, after_header, unless_faulted, sections_of}
-use Rattle.zone_wire.specs.Machine.Walk.{walk}
+use Rattle.zone_wire.proofs.Common.{AreAt, Bool, Err, Fault, Found, HasHeader, IsMessage, IsPartAt, IsQuestionAt, IsRecordAt, IsResponse, List, None, Ok, Option, Outcome, QuestionAt, RecordAt, Result, Sections, Some, after_header, and_parts, and_then, ap, arith, at_offset, each_from, eqb-true, false, get_or, header_fault, if◌then◌else◌, inside, leb-true, length, ltb-false, named, nat_le, not-false, outcome, question_at, question_by, questions_from, record_at, record_by, records_from, refl, refused, rules, sections_of, slice_index, subst, suc, sym, true, u16_at, unless_faulted, walk, zero, ℕ, ◌/◌, ◌<◌, ◌==◌, ◌≡◌, ◌≤◌}
 use Rattle.zone_wire.proofs.Walking.{walk_names}
 
 pub ok_same : {X E : Type 0} (x y : X) → (let r : Result X E = Ok x in r) ≡ Ok y → x ≡ y

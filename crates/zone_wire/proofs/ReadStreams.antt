@@ -1,20 +1,6 @@
 -- A stream that is read without a fault is a transfer.
-use Rattle.std.proofs.Common.{◌≡◌, ◌≢◌, ℕ, suc, ◌+◌, ◌≤◌, List, [], ◌∷◌, ◌++◌, length, refl, ap, sym, ◌∙◌, subst, Bool, true, false, arith, append_assoc, length-append}
-use Rattle.std.specs.Prelude.{◌||◌, Option, Some, None, if◌then◌else◌, ⊤}
-use Rattle.std.specs.List.{flat_map, AllByRecursion, list_any}
-use Rattle.std.specs.Option.{option_or}
-use Rattle.std.proofs.lemmas.Bool.{eqb-true, eq-eqb, or_parts}
-use Rattle.std.proofs.lemmas.List.{append-nil}
-use Rattle.zone_rdata.proofs.Bytes.{Bytes, back_bytes, front_bytes}
-use Rattle.zone_rdata.specs.Record.{Record}
-use Rattle.zone_rdata.specs.declared.fault.Fault.{Fault}
-use Rattle.zone_rdata.specs.declared.fault.Place.{Place}
-use Rattle.zone_rdata.specs.declared.record.Placed.{Placed}
-use Rattle.zone_wire.specs.AnswerFault.{AnswersGive, no_more, states, refused}
-use Rattle.zone_wire.specs.Answers.{ZoneAsked, zone_of, handed_on, is_closed, ComesAfter}
-use Rattle.zone_wire.specs.Message.{QuestionAt, RecordAt}
-use Rattle.zone_wire.specs.Stream.{octets_in, asked_in, placed_in, AsksIn, IsReadAfter, AreRead, ReadAfter, whole, reads, stops, end_fault, StreamReads}
-use Rattle.zone_wire.specs.Transfer.{StatedMessage, AreStatedMessages, AsksFor, AnswersState, frame, StreamStates}
+use Rattle.zone_wire.proofs.Common.{AllByRecursion, AnswersGive, AnswersState, AreRead, AreStatedMessages, AsksFor, AsksIn, Bool, Bytes, ComesAfter, Fault, IsReadAfter, List, None, Option, Place, Placed, QuestionAt, ReadAfter, Record, RecordAt, Some, StatedMessage, StreamReads, StreamStates, ZoneAsked, [], ap, append-nil, append_assoc, arith, asked_in, back_bytes, end_fault, eq-eqb, eqb-true, false, flat_map, frame, front_bytes, handed_on, if◌then◌else◌, is_closed, length, length-append, list_any, no_more, octets_in, option_or, or_parts, placed_in, reads, refl, states, stops, subst, suc, sym, true, whole, zone_of, ℕ, ⊤, ◌++◌, ◌+◌, ◌||◌, ◌∙◌, ◌∷◌, ◌≡◌, ◌≢◌, ◌≤◌}
+use Rattle.zone_wire.specs.AnswerFault.{refused}
 use Rattle.zone_wire.proofs.Accepting.{all_append, any_append, framed_parts, handed_transfer}
 use Rattle.zone_wire.proofs.Answering.{is_soa}
 use Rattle.zone_wire.proofs.GivenMessages.{placed_grow, asked_grow}

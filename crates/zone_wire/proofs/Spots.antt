@@ -1,15 +1,5 @@
 -- What stands at a place, read off the octets, and back.
-use Rattle.std.proofs.Common.{rules}
-use Rattle.std.proofs.lemmas.Grind.{common_steps}
-use Rattle.std.proofs.Common.{◌≡◌, ℕ, zero, suc, ◌+◌, ◌<◌, ◌≤◌, ◌≢◌, ◌||◌, true, false, Bool, nat_eq, nat_le, nat_lt, List, [], ◌∷◌, length, refl, sym, ap, ◌∙◌, inl, inr, arith}
-use Rattle.std.specs.Prelude.{◌⊎◌, slice_index, Option, Some, None, if◌then◌else◌}
-use Rattle.std.proofs.lemmas.Bool.{cond_both, cond-true, cond-false, leb-true, ltb-true, eqb-true, le-leb, lt-ltb, eq-eqb}
-use Rattle.std.proofs.lemmas.Bool.Decides.{nat_tests}
-use Rattle.zone_wire.specs.Name.{target_at, IsLabelAt, IsPointerAt}
-use Rattle.zone_wire.specs.Walk.{Spot, Standing, at_root, at_label, at_pointer, at_fault, FaultHere, cut_label, long_name, reserved, cut_pointer, bad_target, too_many}
-use Rattle.zone_wire.specs.Machine.Walk.{label_of, pointer_of, standing_in}
-use Rattle.zone_rdata.specs.declared.fault.Fault.{Fault}
-use Rattle.zone_rdata.specs.declared.fault.Fault.TheVariants.{BadPointer, TooManyPointers}
+use Rattle.zone_wire.proofs.Common.{BadPointer, Bool, Fault, FaultHere, IsLabelAt, IsPointerAt, List, None, Option, Some, Spot, Standing, TooManyPointers, [], ap, arith, at_fault, at_label, at_pointer, at_root, bad_target, common_steps, cond-false, cond-true, cond_both, cut_label, cut_pointer, eq-eqb, eqb-true, false, if◌then◌else◌, inl, inr, label_of, le-leb, leb-true, length, long_name, lt-ltb, ltb-true, nat_eq, nat_le, nat_lt, nat_tests, pointer_of, refl, reserved, rules, slice_index, standing_in, suc, sym, target_at, too_many, true, zero, ℕ, ◌+◌, ◌<◌, ◌||◌, ◌∙◌, ◌∷◌, ◌≡◌, ◌≢◌, ◌≤◌, ◌⊎◌}
 
 -- what the octets at a place are, by what stands there
 abbrev pub Shows : List ℕ → Spot → Option Standing → Type 0

@@ -1,28 +1,6 @@
 -- Strings are read in a message one after another, and pushed to a builder.
-use Rattle.std.proofs.lemmas.Grind.{common_steps}
-use Rattle.std.proofs.Common.{◌≡◌, ℕ, suc, ◌+◌, ◌-◌, ◌<◌, ◌≤◌, List, [], ◌∷◌, ◌++◌, length, take, drop, map, get_or, refl, sym, ap, ◌∙◌, subst, arith, Bool, true, false, nat_lt, nat_eq, append_assoc, length-append}
-use Rattle.std.specs.Prelude.{slice_index, ◌&&◌, Some, Ok, Err}
-use Rattle.std.specs.Cmp.Lexicographic.{pointwise, bytes_decides}
-use Rattle.std.specs.List.{flat_map, AllByRecursion}
-use Rattle.std.proofs.lemmas.Bool.{cond-false, ltb-true, and_parts}
-use Rattle.std.proofs.lemmas.List.{append-nil, map-append}
-use Rattle.std.proofs.lemmas.List.Concat.{flat_map-append}
-use Rattle.zone_name.specs.Name.{with_length}
-use Rattle.zone_rdata.specs.declared.fault.Fault.{Fault}
-use Rattle.zone_rdata.specs.declared.fault.Fault.TheVariants.{BadRdata}
-use Rattle.zone_rdata.specs.declared.field.Field.TheVariants.{OneString, Strings}
-use Rattle.zone_rdata.specs.Builder.{Built, IsNext}
-use Rattle.zone_rdata.specs.Field.{FieldValue, string, strings, field_octets, octets_of, Suits, Holds}
-use Rattle.zone_rdata.specs.Fields.Strings.{AreStrings, strings_of}
+use Rattle.zone_wire.proofs.Common.{AllByRecursion, AllByRecursion-append, AreStrings, Awaits, AwaitsStrings, BadRdata, Bool, Built, Err, Fault, FieldValue, Framed, Holds, IsNext, IsString, IsValueAt, List, Ok, OneString, PutsValue, Some, Strings, Suits, [], and_parts, ap, append-nil, append_assoc, arith, bytes_decides, bytes_each, common_steps, cond-false, drop, false, field_octets, flat_map, flat_map-append, framed_short, get_or, layout, length, length-append, ltb-true, map, map-append, nat_eq, nat_lt, octets_between, octets_of, parts_for, pointwise, put_after, refl, slice_index, some_frames, string, strings, strings_before, strings_of, subst, suc, sym, take, true, value_at, with_length, ℕ, ◌&&◌, ◌++◌, ◌+◌, ◌-◌, ◌<◌, ◌∙◌, ◌∷◌, ◌≡◌, ◌≤◌}
 use Rattle.zone_rdata.specs.Machine.Fronts.{AreWithLengths}
-use Rattle.zone_rdata.specs.Layout.{layout}
-use Rattle.zone_rdata.specs.Strings.{IsString}
-use Rattle.zone_rdata.proofs.Fields.Strings.{Framed, framed_short, some_frames}
-use Rattle.zone_name.proofs.Pushing.{AllByRecursion-append}
-use Rattle.zone_rdata.proofs.Lists.{bytes_each}
-use Rattle.zone_wire.specs.Machine.Data.{strings_before, value_at}
-use Rattle.zone_wire.specs.Machine.DataReading.{parts_for, put_after, Awaits, AwaitsStrings, PutsValue}
-use Rattle.zone_wire.specs.Transfer.{octets_between, IsValueAt}
 use Rattle.zone_wire.proofs.Fielding.{strings_read}
 use Rattle.zone_wire.proofs.ReadFields.{part_bytes, strings_each, value_shows}
 use Rattle.zone_wire.proofs.FieldReading.{between_first, between_join, part_len, sized_fails, string_sized}

@@ -1,9 +1,5 @@
 -- At most one list of records of a stream.
-use Rattle.std.proofs.Common.{◌≡◌, ℕ, ◌/◌, ◌%◌, ◌≤◌, List, [], ◌∷◌, ◌++◌, length, refl, ap, sym, ◌∙◌, arith}
-use Rattle.zone_rdata.specs.Record.{Record}
-use Rattle.zone_rdata.specs.declared.record.Placed.{Placed}
-use Rattle.zone_wire.specs.Message.{RecordAt}
-use Rattle.zone_wire.specs.Transfer.{IsDataAt, AnswerStates, frame}
+use Rattle.zone_wire.proofs.Common.{AnswerStates, IsDataAt, List, Placed, Record, RecordAt, [], ap, arith, frame, length, refl, sym, ℕ, ◌%◌, ◌++◌, ◌/◌, ◌∙◌, ◌∷◌, ◌≡◌, ◌≤◌}
 use Rattle.zone_wire.proofs.Fielding.{data_reads}
 
 -- two lists, each with more after it, where the first are as long

@@ -1,11 +1,6 @@
 -- How many labels and pointers a walk has, and where they stand.
-use Rattle.std.proofs.lemmas.Grind.{common_steps}
-use Rattle.std.proofs.Common.{◌≡◌, ℕ, zero, suc, ◌+◌, ◌*◌, ◌≤◌, ◌||◌, true, Option, Some, None, List, [], ◌∷◌, refl, arith, lit≤}
-use Rattle.std.specs.Prelude.{if◌then◌else◌}
+use Rattle.zone_wire.proofs.Common.{LeadToLast, List, None, Option, Some, Spot, Standing, Visit, [], arith, at_fault, at_label, at_pointer, at_root, common_steps, if◌then◌else◌, is_label, is_pointer, labels_in, lit≤, outset, past_label, past_pointer, pointers_in, refl, standing_in, suc, true, visit, walk, walk_by, walk_on, zero, ℕ, ◌*◌, ◌+◌, ◌||◌, ◌∷◌, ◌≡◌, ◌≤◌}
 use Rattle.std.proofs.lemmas.List.Sums.{sum_by-cons}
-use Rattle.zone_wire.specs.Visits.{is_label, is_pointer, labels_in, pointers_in, LeadToLast}
-use Rattle.zone_wire.specs.Walk.{Standing, at_root, at_label, at_pointer, at_fault, Spot, Visit, visit, outset, past_label, past_pointer}
-use Rattle.zone_wire.specs.Machine.Walk.{standing_in, walk_on, walk_by, walk}
 use Rattle.zone_wire.proofs.Spots.{Shows, standing_shows}
 
 -- each label takes two octets or more of the 254 that labels can have

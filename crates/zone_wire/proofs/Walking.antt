@@ -1,18 +1,6 @@
 -- The walk and the relation of names agree.
-use Rattle.std.proofs.lemmas.Grind.{common_steps}
-use Rattle.std.proofs.Common.{◌≡◌, ℕ, zero, suc, ◌+◌, ◌*◌, ◌<◌, ◌≤◌, List, [], ◌∷◌, length, refl, ap, sym, ◌∙◌, subst, arith, length-append, get_or-drop, lit<, lit≤}
-use Rattle.std.specs.Prelude.{take, drop, get_or, Option, Some, None}
-use Rattle.std.specs.List.{flat_map, AllByRecursion}
-use Rattle.std.proofs.lemmas.List.{length-map, length-take-le, length-drop}
-use Rattle.zone_name.specs.Name.{IsLabel, folded_octet, with_length, wire}
-use Rattle.zone_wire.specs.Name.{At, root, label, pointer, Found, IsNameAt, label_at}
-use Rattle.zone_wire.specs.Walk.{Spot, Standing, at_root, at_label, at_pointer, at_fault, Visit, ending, visit, outset, past_label, past_pointer}
-use Rattle.zone_wire.specs.Machine.Walk.{standing_in, walk_on, walk_by, walk}
-use Rattle.zone_wire.specs.Machine.Finding.{Outcome, named, refused, outcome, after_label, after_pointer}
-use Rattle.zone_rdata.specs.declared.fault.Fault.TheVariants.{ShortMessage}
+use Rattle.zone_wire.proofs.Common.{AllByRecursion, At, Found, IsLabel, IsLabel-folded, IsNameAt, List, None, Option, Outcome, ShortMessage, Some, Spot, Standing, Visit, [], after_label, after_pointer, ap, arith, at_fault, at_label, at_pointer, at_root, bytes_each, common_steps, drop, ending, flat_map, folded_octet, get_or, get_or-drop, label, label_at, length, length-append, length-drop, length-map, length-take-le, lit<, lit≤, named, outcome, outset, past_label, past_pointer, pointer, refl, refused, root, standing_in, subst, suc, sym, take, visit, walk, walk_by, walk_on, wire, with_length, zero, ℕ, ◌*◌, ◌+◌, ◌<◌, ◌∙◌, ◌∷◌, ◌≡◌, ◌≤◌}
 use Rattle.zone_wire.proofs.Spots.{Shows, standing_shows, standing_root, standing_label, standing_pointer}
-use Rattle.zone_name.proofs.Pushing.{IsLabel-folded}
-use Rattle.zone_rdata.proofs.Lists.{bytes_each}
 
 -- what n places from a spot on lead to
 unfoldable pub outcome_by : ℕ → List ℕ → Spot → Outcome

@@ -1,8 +1,5 @@
 -- The walk is the one list of places that is a walk.
-use Rattle.std.proofs.Common.{◌≡◌, ℕ, zero, suc, ◌+◌, ◌*◌, ◌≤◌, List, ◌∷◌, refl, ap, sym, ◌∙◌, subst, arith, lit≤}
-use Rattle.std.specs.Prelude.{Option, Some, None}
-use Rattle.zone_wire.specs.Walk.{Spot, Standing, at_root, at_label, at_pointer, at_fault, Visit, outset, past_label, past_pointer, visit, Walks, outside, to_root, to_fault, over_label, by_pointer, IsWalk}
-use Rattle.zone_wire.specs.Machine.Walk.{standing_in, walk_on, walk_by, walk}
+use Rattle.zone_wire.proofs.Common.{IsWalk, List, None, Option, Some, Spot, Standing, Visit, Walks, ap, arith, at_fault, at_label, at_pointer, at_root, by_pointer, lit≤, outset, outside, over_label, past_label, past_pointer, refl, standing_in, subst, suc, sym, to_fault, to_root, visit, walk, walk_by, walk_on, zero, ℕ, ◌*◌, ◌+◌, ◌∙◌, ◌∷◌, ◌≡◌, ◌≤◌}
 use Rattle.zone_wire.proofs.Spots.{Shows, standing_shows, standing_outside, standing_root, standing_label, standing_pointer, standing_fault}
 
 walk_step : (n : ℕ) (message : List ℕ) (spot : Spot) (standing : Option Standing) → standing_in message spot ≡ standing → walk_on (walk_by n message) spot standing ≡ walk_by (suc n) message spot

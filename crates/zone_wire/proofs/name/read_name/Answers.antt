@@ -1,8 +1,4 @@
-use Rattle.std.proofs.Common.{rules}
-use Rattle.std.proofs.Common.{◌≡◌, ◌+◌, ◌-◌, ap, sym, ◌∙◌, arith, Err}
-use Rattle.zone_wire.specs.Machine.Finding.{refused}
-use Rattle.zone_rdata.specs.Cause.{fault_for}
-use Rattle.zone_rdata.specs.declared.fault.Fault.TheVariants.{ShortMessage}
+use Rattle.zone_wire.proofs.Common.{Err, ShortMessage, ap, arith, fault_for, refused, rules, sym, ◌+◌, ◌-◌, ◌∙◌, ◌≡◌}
 use Rattle.zone_wire.proofs.Carrying.{carries_start, carries_outside, carries_bad, carries_root, carries_label, carries_pointer, root_inside, label_shows, pointer_shows, push_fits, part_length}
 use Rattle.zone_wire.proofs.name.read_name.Goals as goal
 

@@ -1,8 +1,4 @@
-use Rattle.std.proofs.Common.{rules}
-use Rattle.std.proofs.Common.{◌+◌, refl, arith}
-use Rattle.std.proofs.lemmas.Result.{err_from_is_err_and}
-use Rattle.zone_rdata.specs.Cause.{fault_for}
-use Rattle.zone_wire.specs.Message.{question_by}
+use Rattle.zone_wire.proofs.Common.{arith, err_from_is_err_and, fault_for, question_by, refl, rules, ◌+◌}
 use Rattle.zone_wire.proofs.Ends.{name_ends_inside}
 use Rattle.zone_wire.proofs.structure.question_end.Goals as goal
 

@@ -1,8 +1,4 @@
-use Rattle.std.proofs.Common.{rules}
-use Rattle.std.proofs.Common.{refl, arith}
-use Rattle.std.proofs.lemmas.Result.{err_from_is_err_and}
-use Rattle.zone_rdata.specs.Cause.{fault_for}
-use Rattle.zone_wire.specs.Message.{record_by}
+use Rattle.zone_wire.proofs.Common.{arith, err_from_is_err_and, fault_for, record_by, refl, rules}
 use Rattle.zone_wire.proofs.Ends.{name_ends_inside, past_record}
 use Rattle.zone_wire.proofs.structure.record_end.Goals as goal
 

@@ -1,7 +1,4 @@
-use Rattle.std.proofs.Common.{sym, ◌∙◌, ap, arith}
-use Rattle.zone_wire.specs.Machine.Parsing.{run_end_of}
-use Rattle.zone_wire.specs.Machine.Sections.{records_from}
-use Rattle.zone_rdata.specs.Cause.{fault_for}
+use Rattle.zone_wire.proofs.Common.{ap, arith, fault_for, records_from, run_end_of, sym, ◌∙◌}
 use Rattle.zone_wire.proofs.Ends.{records_go_on, records_refused, records_end_here}
 use Rattle.zone_wire.proofs.structure.records_end.Goals as goal
 

@@ -1,8 +1,4 @@
-use Rattle.std.proofs.Common.{rules}
-use Rattle.std.proofs.Common.{[], ap, sym, ◌++◌, ◌∷◌, arith}
-use Rattle.zone_wire.specs.Machine.Parsing.{name_end_of}
-use Rattle.zone_rdata.specs.Cause.{fault_for}
-use Rattle.zone_wire.specs.Name.{label_at}
+use Rattle.zone_wire.proofs.Common.{[], ap, arith, fault_for, label_at, name_end_of, rules, sym, ◌++◌, ◌∷◌}
 use Rattle.zone_wire.proofs.Carrying.{carries_start, carries_outside, carries_bad, carries_root, carries_label, carries_pointer, root_inside, label_shows, pointer_shows}
 use Rattle.zone_wire.proofs.structure.walk_to_root.Goals as goal
 

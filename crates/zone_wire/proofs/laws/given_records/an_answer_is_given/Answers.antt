@@ -1,5 +1,4 @@
-use Rattle.std.proofs.Common.{rules}
-use Rattle.zone_rdata.proofs.FedSources.{stands_record, stands_none, stands_stop}
+use Rattle.zone_wire.proofs.Common.{rules, stands_none, stands_record, stands_stop}
 use Rattle.zone_wire.proofs.laws.given_records.an_answer_is_given.Goals as goal
 
 pub returns : goal.returns

@@ -1,4 +1,4 @@
-use Rattle.std.proofs.Common.{rules}
+use Rattle.zone_wire.proofs.Common.{rules}
 use Rattle.zone_wire.proofs.Pending.{answers_stand, answers_shown}
 use Rattle.zone_wire.proofs.message.Message.answers.Goals as goal
 
