@@ -1,13 +1,12 @@
 -- The faults of answers are those at which their records stop being read.
-use Rattle.zone_wire.proofs.Common.{AfterClosing, AgreeWith, AnswerStates, BadClass, BadQuestion, Bool, Bytes, ComesAfter, CompressibleType, Err, Fault, IsClass, IsKind, IsRecordAt, List, MetaType, NoFault, NoOpeningSoa, None, Ok, Option, OrderFault, OwnFault, Placed, QuestionAt, Record, RecordAt, Result, SoaMismatch, Some, Unless, ZoneAsked, [], agrees, and_cases, and_from, and_parts, ap, arith, compressible, data_at, eq-eqb, eqb-true, fails, false, false_from_ne_true, if◌then◌else◌, inl, inr, is_meta, is_no_class, length, list_any, nat_eq, not, not-false, not-true, order_fault, own_record, refl, same_name, same_record, subst, sym, true, ttl_of, u16_at, zone_of, ℕ, ◌&&◌, ◌+◌, ◌<◌, ◌==◌, ◌∷◌, ◌≡◌, ◌≢◌, ◌≤◌}
+use Rattle.zone_wire.proofs.Common.{AgreeWith, AnswerStates, BadClass, BadQuestion, Bool, Bytes, ComesAfter, CompressibleType, Err, Fault, IsClass, IsKind, IsRecordAt, List, MetaType, NoFault, NoOpeningSoa, None, Ok, Option, OrderFault, OwnFault, Placed, QuestionAt, Record, RecordAt, Result, Some, Unless, ZoneAsked, [], agrees, and_cases, arith, compressible, data_at, eq-eqb, fails, false, if◌then◌else◌, inl, inr, is_meta, is_no_class, length, list_any, nat_eq, not, not-false, order_fault, own_record, refl, same_record, subst, true, ttl_of, zone_of, ℕ, ◌&&◌, ◌<◌, ◌==◌, ◌∷◌, ◌≡◌, ◌≢◌, ◌≤◌}
 use Rattle.zone_rdata.proofs.Layouts.{held_data, stringless_short}
 use Rattle.zone_wire.proofs.Answering.{holds_data, none_of, names_same, records_same}
 use Rattle.zone_wire.proofs.DataFaults.{data_faults}
 use Rattle.zone_wire.proofs.Conditions.{option_unless, result_unless}
 use Rattle.zone_wire.proofs.MessageFaults.{some_same, stops, same_by}
 use Rattle.zone_wire.proofs.ReadAnswers.{each_other, record_shown, agree_parts, records_equal}
-use Rattle.zone_wire.proofs.ReadRecords.{no_class_parts, record_fits}
-use Rattle.zone_wire.proofs.ReadSections.{no_fault}
+use Rattle.zone_wire.proofs.ReadRecords.{record_fits}
 use Rattle.zone_wire.proofs.Sectioning.{not_other}
 
 -- class and type take two octets

@@ -1,11 +1,11 @@
 -- A walk that is carried on from place to place: the walk from the start is what was met so far and
 -- the walk from here.
-use Rattle.zone_wire.proofs.Common.{Fault, List, None, Option, Outcome, ShortMessage, Some, Spot, Standing, [], after_label, after_pointer, ap, append-nil, append_assoc, arith, at_fault, at_label, at_pointer, at_root, common_steps, drop, flat_map, flat_map-append, label_at, length, length-append, length-drop, length-take-le, named, outcome, outset, past_label, past_pointer, refl, refused, rules, standing_in, subst, suc, sym, take, unwrap_or, walk, wire, with_length, zero, ℕ, ◌*◌, ◌++◌, ◌+◌, ◌-◌, ◌<◌, ◌∙◌, ◌∷◌, ◌≡◌, ◌≤◌}
+use Rattle.zone_wire.proofs.Common.{Fault, List, None, Option, Outcome, ShortMessage, Some, Spot, Standing, [], after_label, ap, append-nil, arith, at_fault, at_label, at_pointer, at_root, common_steps, drop, label_at, length, named, outcome, outset, past_label, past_pointer, refl, refused, rules, standing_in, subst, suc, sym, take, unwrap_or, walk, wire, zero, ℕ, ◌*◌, ◌++◌, ◌+◌, ◌-◌, ◌<◌, ◌∙◌, ◌∷◌, ◌≡◌, ◌≤◌}
 use Rattle.zone_name.specs.Spelling.{IsLabelFault}
 use Rattle.zone_name.specs.declared.fault.NameFault.{NameFault}
-use Rattle.zone_name.specs.declared.fault.NameFault.TheVariants.{EmptyLabel, LabelTooLong, NameTooLong, BadEscape, RelativeName}
+use Rattle.zone_name.specs.declared.fault.NameFault.TheVariants.{EmptyLabel, LabelTooLong, NameTooLong}
 use Rattle.zone_wire.proofs.Spots.{Shows, standing_shows}
-use Rattle.zone_wire.proofs.Walking.{outcome_by, outcome_at, outcome_step, label_octets, label_octets-label, label_octets-more, wire-octets}
+use Rattle.zone_wire.proofs.Walking.{outcome_by, outcome_at, outcome_step, label_octets, label_octets-label}
 
 -- what was met so far, and then what the rest leads to
 abbrev pub carried : List (List ℕ) → Option ℕ → ℕ → ℕ → Outcome → Outcome

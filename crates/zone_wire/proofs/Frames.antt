@@ -1,5 +1,5 @@
 -- A stream is cut into frames in one way.
-use Rattle.zone_wire.proofs.Common.{Bool, IsFramed, List, [], ap, append_assoc, arith, common_steps, drop, false, flat_map, frame, get_or, get_or-drop, length, length-append, length-drop, length-take-le, lit<, ltb-false, ltb-true, nat_lt, refl, rules, suc, sym, take, take-append-drop, true, u16_at, zero, ℕ, ◌%◌, ◌*◌, ◌++◌, ◌+◌, ◌/◌, ◌<◌, ◌∙◌, ◌∷◌, ◌≡◌, ◌≤◌}
+use Rattle.zone_wire.proofs.Common.{Bool, IsFramed, List, [], ap, append_assoc, arith, common_steps, drop, flat_map, frame, get_or, get_or-drop, length, length-drop, length-take-le, lit<, nat_lt, refl, rules, suc, sym, take, take-append-drop, u16_at, zero, ℕ, ◌%◌, ◌*◌, ◌++◌, ◌+◌, ◌/◌, ◌<◌, ◌∙◌, ◌∷◌, ◌≡◌, ◌≤◌}
 use Rattle.zone_wire.proofs.Transfers.{frame_unique}
 
 -- octets that begin with a whole frame aren't cut off in one

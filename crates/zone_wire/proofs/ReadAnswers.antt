@@ -1,5 +1,5 @@
 -- Answers that are read without a fault state their records, in the order of a transfer.
-use Rattle.zone_wire.proofs.Common.{AllByRecursion, AnswerStates, BadClass, Bool, CompressibleType, Err, Fault, IsRecord, List, MetaType, None, Ok, Option, Placed, QuestionAt, Record, RecordAt, Result, Some, [], and_parts, answer_record, ap, bytes_decides, compressible, data_at, eqb-true, false, get_or, if◌then◌else◌, is_meta, is_no_class, length, list_any, nat_eq, or_parts, order_fault, own_record, pointwise, pointwise_decides, refl, same_name, same_record, subst, true, ttl_of, ℕ, ◌&&◌, ◌<◌, ◌==◌, ◌∙◌, ◌∷◌, ◌≡◌, ◌≢◌, ◌≤◌}
+use Rattle.zone_wire.proofs.Common.{AllByRecursion, AnswerStates, BadClass, CompressibleType, Err, Fault, IsRecord, List, MetaType, None, Ok, Option, Placed, QuestionAt, Record, RecordAt, Result, Some, [], and_parts, answer_record, ap, bytes_decides, compressible, data_at, eqb-true, false, get_or, is_meta, is_no_class, length, list_any, nat_eq, or_parts, order_fault, own_record, pointwise, pointwise_decides, refl, same_name, same_record, subst, true, ttl_of, ℕ, ◌&&◌, ◌<◌, ◌==◌, ◌∙◌, ◌∷◌, ◌≡◌, ◌≢◌, ◌≤◌}
 use Rattle.zone_wire.proofs.ReadFields.{data_shown}
 use Rattle.zone_wire.proofs.ReadSections.{ok_same, leads, passes_on}
 use Rattle.zone_wire.proofs.Transfers.{equal_parts}

@@ -1,5 +1,5 @@
 -- What is read as the sections of a message are its sections.
-use Rattle.zone_wire.proofs.Common.{AreAt, Bool, Err, Fault, Found, HasHeader, IsMessage, IsPartAt, IsQuestionAt, IsRecordAt, IsResponse, List, None, Ok, Option, Outcome, QuestionAt, RecordAt, Result, Sections, Some, after_header, and_parts, and_then, ap, arith, at_offset, each_from, eqb-true, false, get_or, header_fault, if◌then◌else◌, inside, leb-true, length, ltb-false, named, nat_le, not-false, outcome, question_at, question_by, questions_from, record_at, record_by, records_from, refl, refused, rules, sections_of, slice_index, subst, suc, sym, true, u16_at, unless_faulted, walk, zero, ℕ, ◌/◌, ◌<◌, ◌==◌, ◌≡◌, ◌≤◌}
+use Rattle.zone_wire.proofs.Common.{AreAt, Bool, Err, Fault, Found, HasHeader, IsMessage, IsPartAt, IsQuestionAt, IsRecordAt, IsResponse, List, None, Ok, Option, Outcome, QuestionAt, RecordAt, Result, Sections, Some, after_header, and_parts, and_then, arith, at_offset, each_from, eqb-true, false, get_or, header_fault, if◌then◌else◌, inside, leb-true, length, ltb-false, named, nat_le, not-false, outcome, question_at, question_by, questions_from, record_at, records_from, refl, refused, rules, sections_of, slice_index, subst, suc, sym, true, u16_at, unless_faulted, walk, zero, ℕ, ◌/◌, ◌<◌, ◌==◌, ◌≡◌, ◌≤◌}
 use Rattle.zone_wire.proofs.Walking.{walk_names}
 
 pub ok_same : {X E : Type 0} (x y : X) → (let r : Result X E = Ok x in r) ≡ Ok y → x ≡ y

@@ -1,5 +1,5 @@
 -- What stands at a place, read off the octets, and back.
-use Rattle.zone_wire.proofs.Common.{BadPointer, Bool, Fault, FaultHere, IsLabelAt, IsPointerAt, List, None, Option, Some, Spot, Standing, TooManyPointers, [], ap, arith, at_fault, at_label, at_pointer, at_root, bad_target, common_steps, cond-false, cond-true, cond_both, cut_label, cut_pointer, eq-eqb, eqb-true, false, if◌then◌else◌, inl, inr, label_of, le-leb, leb-true, length, long_name, lt-ltb, ltb-true, nat_eq, nat_le, nat_lt, nat_tests, pointer_of, refl, reserved, rules, slice_index, standing_in, suc, sym, target_at, too_many, true, zero, ℕ, ◌+◌, ◌<◌, ◌||◌, ◌∙◌, ◌∷◌, ◌≡◌, ◌≢◌, ◌≤◌, ◌⊎◌}
+use Rattle.zone_wire.proofs.Common.{BadPointer, Fault, FaultHere, IsLabelAt, IsPointerAt, List, None, Option, Some, Spot, Standing, TooManyPointers, ap, arith, at_fault, at_label, at_pointer, at_root, bad_target, common_steps, cond-false, cond-true, cond_both, cut_label, cut_pointer, eq-eqb, eqb-true, false, if◌then◌else◌, label_of, le-leb, leb-true, length, long_name, lt-ltb, ltb-true, nat_eq, nat_le, nat_lt, nat_tests, pointer_of, reserved, rules, slice_index, standing_in, target_at, too_many, true, ℕ, ◌+◌, ◌<◌, ◌||◌, ◌∙◌, ◌≡◌, ◌≢◌, ◌≤◌, ◌⊎◌}
 
 -- what the octets at a place are, by what stands there
 abbrev pub Shows : List ℕ → Spot → Option Standing → Type 0

@@ -1,6 +1,5 @@
 -- How many labels and pointers a walk has, and where they stand.
-use Rattle.zone_wire.proofs.Common.{LeadToLast, List, None, Option, Some, Spot, Standing, Visit, [], arith, at_fault, at_label, at_pointer, at_root, common_steps, if◌then◌else◌, is_label, is_pointer, labels_in, lit≤, outset, past_label, past_pointer, pointers_in, refl, standing_in, suc, true, visit, walk, walk_by, walk_on, zero, ℕ, ◌*◌, ◌+◌, ◌||◌, ◌∷◌, ◌≡◌, ◌≤◌}
-use Rattle.std.proofs.lemmas.List.Sums.{sum_by-cons}
+use Rattle.zone_wire.proofs.Common.{LeadToLast, List, Option, Spot, Standing, arith, common_steps, labels_in, lit≤, outset, pointers_in, standing_in, suc, walk, walk_by, walk_on, zero, ℕ, ◌*◌, ◌+◌, ◌≤◌}
 use Rattle.zone_wire.proofs.Spots.{Shows, standing_shows}
 
 -- each label takes two octets or more of the 254 that labels can have

@@ -1,5 +1,5 @@
 -- The walk and the relation of names agree.
-use Rattle.zone_wire.proofs.Common.{AllByRecursion, At, Found, IsLabel, IsLabel-folded, IsNameAt, List, None, Option, Outcome, ShortMessage, Some, Spot, Standing, Visit, [], after_label, after_pointer, ap, arith, at_fault, at_label, at_pointer, at_root, bytes_each, common_steps, drop, ending, flat_map, folded_octet, get_or, get_or-drop, label, label_at, length, length-append, length-drop, length-map, length-take-le, lit<, lit≤, named, outcome, outset, past_label, past_pointer, pointer, refl, refused, root, standing_in, subst, suc, sym, take, visit, walk, walk_by, walk_on, wire, with_length, zero, ℕ, ◌*◌, ◌+◌, ◌<◌, ◌∙◌, ◌∷◌, ◌≡◌, ◌≤◌}
+use Rattle.zone_wire.proofs.Common.{AllByRecursion, At, Found, IsLabel, IsLabel-folded, IsNameAt, List, None, Option, Outcome, ShortMessage, Some, Spot, Standing, Visit, [], after_label, after_pointer, ap, arith, at_fault, at_label, at_pointer, at_root, bytes_each, common_steps, drop, ending, flat_map, get_or, get_or-drop, label, label_at, length, length-append, length-drop, length-take-le, lit≤, named, outcome, outset, past_label, past_pointer, pointer, refl, refused, root, standing_in, subst, suc, sym, take, visit, walk, walk_by, walk_on, wire, with_length, zero, ℕ, ◌*◌, ◌+◌, ◌<◌, ◌∙◌, ◌∷◌, ◌≡◌, ◌≤◌}
 use Rattle.zone_wire.proofs.Spots.{Shows, standing_shows, standing_root, standing_label, standing_pointer}
 
 -- what n places from a spot on lead to

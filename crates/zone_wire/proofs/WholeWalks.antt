@@ -1,5 +1,5 @@
 -- The walk is the one list of places that is a walk.
-use Rattle.zone_wire.proofs.Common.{IsWalk, List, None, Option, Some, Spot, Standing, Visit, Walks, ap, arith, at_fault, at_label, at_pointer, at_root, by_pointer, lit≤, outset, outside, over_label, past_label, past_pointer, refl, standing_in, subst, suc, sym, to_fault, to_root, visit, walk, walk_by, walk_on, zero, ℕ, ◌*◌, ◌+◌, ◌∙◌, ◌∷◌, ◌≡◌, ◌≤◌}
+use Rattle.zone_wire.proofs.Common.{IsWalk, List, None, Option, Some, Spot, Standing, Visit, Walks, ap, arith, at_fault, at_label, at_pointer, at_root, by_pointer, lit≤, outset, outside, over_label, past_label, past_pointer, refl, standing_in, subst, suc, sym, to_fault, to_root, walk, walk_by, walk_on, zero, ℕ, ◌*◌, ◌+◌, ◌≡◌, ◌≤◌}
 use Rattle.zone_wire.proofs.Spots.{Shows, standing_shows, standing_outside, standing_root, standing_label, standing_pointer, standing_fault}
 
 walk_step : (n : ℕ) (message : List ℕ) (spot : Spot) (standing : Option Standing) → standing_in message spot ≡ standing → walk_on (walk_by n message) spot standing ≡ walk_by (suc n) message spot

@@ -1,4 +1,4 @@
-use Rattle.zone_wire.proofs.Common.{arith, err_from_is_err_and, fault_for, question_by, refl, rules, ◌+◌}
+use Rattle.zone_wire.proofs.Common.{arith, err_from_is_err_and, rules}
 use Rattle.zone_wire.proofs.Ends.{name_ends_inside}
 use Rattle.zone_wire.proofs.structure.question_end.Goals as goal
 

@@ -1,4 +1,4 @@
-use Rattle.zone_wire.proofs.Common.{ap, arith, fault_for, records_from, run_end_of, sym, ◌∙◌}
+use Rattle.zone_wire.proofs.Common.{ap, arith, records_from, run_end_of, sym, ◌∙◌}
 use Rattle.zone_wire.proofs.Ends.{records_go_on, records_refused, records_end_here}
 use Rattle.zone_wire.proofs.structure.records_end.Goals as goal
 
