@@ -1,16 +1,5 @@
 -- What a source holds at the beginning of a file and at that of an entry.
-use Rattle.std.proofs.Common.{◌≡◌, ℕ, ◌≤◌, List, [], length, ◌==◌, Bool, true, false, Option, Some, None, refl, sym, arith, inl, rules}
-use Rattle.std.specs.Option.{is_some}
-use Rattle.std.proofs.lemmas.Grind.{common_steps}
-use Rattle.zone_name.specs.Common.{Labels}
-use Rattle.zone_text.specs.declared.ended.EndedEntries.{EndedEntries}
-use Rattle.zone_text.specs.declared.scan.ScanState.{ScanState}
-use Rattle.zone_text.specs.declared.scan.Step.TheVariants.{On}
-use Rattle.zone_text.specs.Decided.{FileDecides, undecided}
-use Rattle.zone_text.specs.ParserState.{IsStateAfter}
-use Rattle.zone_text.specs.Machine.Feeding.{Follow, IsSplitter, ScansTo}
-use Rattle.zone_text.specs.Machine.Scan.{beginning, scan_of}
-use Rattle.zone_text.specs.Tokens.{Cuts}
+use Rattle.zone_text.proofs.Common.{Bool, Cuts, EndedEntries, FileDecides, Follow, IsSplitter, IsStateAfter, Labels, List, None, On, Option, ScanState, ScansTo, Some, [], arith, beginning, common_steps, false, inl, is_some, length, refl, rules, scan_of, sym, true, undecided, ℕ, ◌==◌, ◌≡◌, ◌≤◌}
 use Rattle.zone_text.proofs.Left.{none_cut}
 
 -- octets of which there is none, or one

@@ -1,22 +1,6 @@
 -- Lines without items: what is cut of them, and what follows from octets with such lines after them.
-use Rattle.std.proofs.Common.{◌≡◌, ◌≢◌, ℕ, suc, ◌+◌, ◌≤◌, List, [], ◌∷◌, ◌++◌, ◌==◌, if◌then◌else◌, ◌<◌, length, drop, None, refl, sym, ap, ◌∙◌, subst, arith, append_assoc, length-append, rules}
-use Rattle.std.specs.List.{AllByRecursion, flat_map}
-use Rattle.std.proofs.lemmas.Bool.{ne_eqb}
-use Rattle.std.proofs.lemmas.Grind.{common_steps}
-use Rattle.std.proofs.lemmas.List.Sums.{sum_by-cons}
-use Rattle.zone_name.specs.Common.{Labels}
-use Rattle.zone_text.specs.ParserState.{IsStateAfter}
-use Rattle.zone_text.specs.Entries.{Entry, entry_of, item_of}
-use Rattle.zone_text.specs.Tokens.{Token, comment, line_feed, Cuts}
-use Rattle.zone_text.specs.Machine.Blank.{AreBlankLines, IsBlankLine, IsComment, line_feed as fed_line, commented, no_lines, one_line_more}
-use Rattle.zone_text.specs.Machine.Cutting.{before_line_feed, from_line_feed}
-use Rattle.zone_text.specs.Machine.EntryReading.{LeavesNoRecord, decides_none}
-use Rattle.zone_text.specs.Machine.Feeding.{Follow, IsSplitter, ReadsOctets, ScansTo}
-use Rattle.zone_text.specs.Machine.Scan.{beginning, further, scan_of}
-use Rattle.zone_text.specs.declared.ended.EndedEntries.{EndedEntries}
-use Rattle.zone_text.specs.declared.splitter.EntrySplitter.{EntrySplitter}
-use Rattle.zone_text.specs.declared.scan.Mode.TheVariants.{Comment}
-use Rattle.zone_text.specs.declared.scan.Step.TheVariants.{Ends}
+use Rattle.zone_text.proofs.Common.{AllByRecursion, AreBlankLines, Comment, Cuts, EndedEntries, Ends, Entry, EntrySplitter, Follow, IsBlankLine, IsComment, IsSplitter, IsStateAfter, Labels, LeavesNoRecord, List, None, ReadsOctets, ScansTo, Token, [], ap, append_assoc, arith, before_line_feed, beginning, comment, commented, common_steps, decides_none, drop, entry_of, flat_map, from_line_feed, further, if◌then◌else◌, item_of, length, length-append, line_feed, ne_eqb, no_lines, one_line_more, refl, rules, scan_of, subst, suc, sum_by-cons, sym, ℕ, ◌++◌, ◌+◌, ◌<◌, ◌==◌, ◌∙◌, ◌∷◌, ◌≡◌, ◌≢◌, ◌≤◌}
+use Rattle.zone_text.specs.Machine.Blank.{line_feed as fed_line}
 use Rattle.zone_text.proofs.Cuttings.{one_cut}
 use Rattle.zone_text.proofs.EntryTaken.{lines_after, takes_entry}
 use Rattle.zone_text.proofs.Followed.{follow_entry}

@@ -1,20 +1,9 @@
 -- The words of classes among items, and the digits with which a time begins.
-use Rattle.std.proofs.Common.{◌&&◌, bytes_eq, ◌≡◌, ℕ, ◌<◌, List, [], ◌∷◌, ◌++◌, length, take, drop, codes, Bool, true, false, Option, None, Some, refl, sym, ap, ◌∙◌, arith, append_assoc, inl, inr, rules}
-use Rattle.std.specs.List.{AllByRecursion, flat_map}
-use Rattle.std.specs.Prelude.{is_some}
+use Rattle.zone_text.proofs.Common.{AllByRecursion, Bool, Group, IsClassWord, IsDecimal, IsNumbered, IsTime, IsTimeGroup, List, None, Option, Some, [], ap, append_assoc, are_digits, arith, begins_with_digit, by_mnemonic, by_number, bytes_eq, bytes_eq-Decides, codes, decimal_value, drop, drop-append_seam, false, flat_map, folded_label, folded_octet, group_text, inl, inr, is_class_word, is_digit, is_some, length, length-map, map-append, or_cases, refl, rules, sym, take, take-append-drop, take-map, true, ℕ, ◌&&◌, ◌++◌, ◌<◌, ◌∙◌, ◌∷◌, ◌≡◌}
 use Rattle.std.proofs.Math.Bool.{or-true}
-use Rattle.std.proofs.Math.Seq.{drop-append_seam}
-use Rattle.std.proofs.lemmas.Bool.{or_cases}
-use Rattle.std.proofs.lemmas.Slice.Eq.{bytes_eq-Decides}
-use Rattle.std.proofs.lemmas.List.{map-append, length-map, take-append-drop, take-map}
-use Rattle.zone_name.specs.Name.{folded_octet, folded_label}
-use Rattle.zone_name.specs.Spelling.{is_digit}
-use Rattle.zone_rdata.specs.Number.{decimal_value, IsDecimal, IsTime, Group, IsTimeGroup, group_text}
 use Rattle.zone_rdata.specs.Table.{classes, number_among}
-use Rattle.zone_rdata.specs.Words.{IsNumbered, IsClassWord, by_mnemonic, by_number}
 use Rattle.zone_rdata.proofs.OneWord.{class_number}
 use Rattle.zone_rdata.proofs.Tables.{number_is}
-use Rattle.zone_text.specs.Statements.{begins_with_digit, are_digits, is_class_word}
 
 all_digits : (text : List ℕ) → 0 < length text → AllByRecursion (λ c. is_digit c ≡ true) text → are_digits text ≡ true
 all_digits [] some each = absurd (omega arith)

@@ -1,10 +1,5 @@
 -- The entries that line feeds have ended, cut out of their tokens again, whatever follows them.
-use Rattle.std.proofs.Common.{◌≡◌, ℕ, zero, suc, ◌+◌, ◌<◌, List, [], ◌∷◌, ◌++◌, length, ◌==◌, Some, refl, ap, ◌∙◌, arith, rules}
-use Rattle.std.proofs.lemmas.Grind.{common_steps}
-use Rattle.std.specs.List.{flat_map, AllByRecursion, count_by}
-use Rattle.zone_text.specs.Tokens.{Token, blank, opening, closing, line_feed, text, depth_after}
-use Rattle.zone_text.specs.Lasting.{EndInLineFeed}
-use Rattle.zone_text.specs.Entries.{Entry, entry_of, in_front, in_front_of, cut_from, and_last, numbered}
+use Rattle.zone_text.proofs.Common.{AllByRecursion, EndInLineFeed, Entry, List, Some, Token, [], and_last, ap, arith, blank, closing, common_steps, count_by, cut_from, depth_after, entry_of, flat_map, in_front, in_front_of, length, line_feed, numbered, opening, refl, rules, suc, text, zero, ℕ, ◌++◌, ◌+◌, ◌<◌, ◌==◌, ◌∙◌, ◌∷◌, ◌≡◌}
 
 abbrev pub joined : List (List Token) → List Token
 joined entries = flat_map (λ (e : List Token). e) entries

@@ -1,15 +1,5 @@
 -- The whole text: the cutting and what it says, both ways.
-use Rattle.std.proofs.Common.{◌≡◌, ℕ, zero, suc, ◌<◌, List, [], ◌∷◌, ◌++◌, length, Option, Some, None, refl, sym, ap, ◌∙◌, subst, arith, append_assoc, length-append, ◌⊎◌, inl, inr, rules}
-use Rattle.std.specs.List.{AllByRecursion}
-use Rattle.std.proofs.lemmas.Bool.{both_ways}
-use Rattle.std.proofs.lemmas.Grind.{common_steps}
-use Rattle.std.proofs.lemmas.List.{append-nil}
-use Rattle.zone_name.specs.Spelling.{Written, plain, written_text}
-use Rattle.zone_rdata.specs.declared.fault.Fault.{Fault}
-use Rattle.zone_text.specs.Tokens.{Token, blank, opening, closing, line_feed, comment, bare, quoted, token_text, text, is_blank, ends_item, IsToken, MayFollow, AllFollow, depth_after, Cuts}
-use Rattle.zone_text.specs.Breaks.{IsBroken, closes_nothing, no_escape, no_quoted_escape, no_quote, not_closed, MayEndBefore, Breaks}
-use Rattle.zone_text.specs.Machine.Cutting.{Front, takes, front_of, depth_past, Cutting, cut_on, cut_by, cutting}
-use Rattle.zone_name.proofs.Units.{NoUnit, at_end, at_octet, at_backslash}
+use Rattle.zone_text.proofs.Common.{AllByRecursion, AllFollow, Breaks, Cuts, Cutting, Fault, Front, IsBroken, IsToken, List, MayEndBefore, MayFollow, NoUnit, None, Option, Some, Token, Written, [], ap, append-nil, append_assoc, arith, at_backslash, at_end, at_octet, bare, blank, both_ways, closes_nothing, closing, comment, common_steps, cut_by, cut_on, cutting, depth_after, depth_past, ends_item, front_of, inl, inr, is_blank, length, length-append, line_feed, no_escape, no_quote, no_quoted_escape, not_closed, opening, plain, quoted, refl, rules, subst, suc, sym, takes, text, token_text, written_text, zero, ℕ, ◌++◌, ◌<◌, ◌∙◌, ◌∷◌, ◌≡◌, ◌⊎◌}
 use Rattle.zone_text.proofs.Fronts.{EndsComment, Stops, HasRoom, Takes, Ends, IsFront, front_is, front_takes, front_stops}
 
 -- ---- which token may follow which, by the octets

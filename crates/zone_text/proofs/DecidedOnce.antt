@@ -1,15 +1,5 @@
 -- What is decided of a prefix, and the octets that it leaves, are one thing.
-use Rattle.std.proofs.Common.{◌≡◌, ◌↔◌, ℕ, zero, List, [], ◌++◌, None, sym, ap, ◌∙◌, subst, inl, inr, rules}
-use Rattle.std.specs.List.{flat_map}
-use Rattle.std.proofs.lemmas.List.{append-nil, append_cancel_left}
-use Rattle.zone_rdata.specs.declared.record.Placed.{Placed}
-use Rattle.zone_text.specs.Decided.{FileDecides, decided, undecided}
-use Rattle.zone_text.specs.Entries.{and_last, cut_from, ended_entries, entries_of, numbered, open_line}
-use Rattle.zone_text.specs.FileReads.{ReadEach, Ending}
-use Rattle.zone_text.specs.Lasting.{BreaksForGood}
-use Rattle.zone_text.specs.Machine.Lower.{Lower}
-use Rattle.zone_text.specs.Tokens.{Token, text}
-use Rattle.zone_text.specs.TextSource.{AreUnfinished}
+use Rattle.zone_text.proofs.Common.{AreUnfinished, BreaksForGood, Ending, FileDecides, List, Lower, None, Placed, ReadEach, Token, [], and_last, ap, append-nil, append_cancel_left, cut_from, decided, ended_entries, entries_of, flat_map, inl, inr, numbered, open_line, rules, subst, sym, text, undecided, zero, ℕ, ◌++◌, ◌↔◌, ◌∙◌, ◌≡◌}
 use Rattle.zone_text.proofs.Begun.{no_tokens, nothing_decided}
 use Rattle.zone_text.proofs.CutAgain.{joined, cut_again, cut_whole, and_last_after}
 use Rattle.zone_text.proofs.Cuttings.{cut_not_broken}

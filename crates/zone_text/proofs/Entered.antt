@@ -1,20 +1,6 @@
 -- An entry states a record, states nothing or has a fault: one of the three at most, and each once.
-use Rattle.std.proofs.Common.{◌≡◌, ℕ, List, [], ◌∷◌, Option, Some, None, Ok, Err, ◌⊎◌, inl, inr, refl, sym, ◌∙◌, subst, ◌≤◌, Result, ap, rules}
-use Rattle.std.specs.List.{AllByRecursion}
-use Rattle.zone_name.specs.Spelling.{SpellingFault}
-use Rattle.zone_rdata.specs.Record.{Record}
-use Rattle.zone_rdata.specs.Spelling.{bare, RawItem, quoted, States}
-use Rattle.zone_rdata.specs.declared.fault.Fault.{Fault}
-use Rattle.zone_rdata.specs.DataFault.{IsDataFault}
-use Rattle.zone_rdata.specs.Fault.{fault_of}
-use Rattle.zone_rdata.specs.Words.{IsClass, IsKind, IsKindWord}
-use Rattle.zone_rdata.specs.declared.fault.Fault.TheVariants.{NoTtl, BadTtl}
-use Rattle.zone_text.specs.Entries.{Entry}
-use Rattle.zone_text.specs.Statements.{Statement, no_items, sets_origin, sets_ttl, includes, unknown, owned, unowned, statement_of, Parts, parts_of, parts_in, parts_after, Word, ttl, class}
-use Rattle.zone_text.specs.Inherited.{one_bare, IsOrigin, SpellsAfter, IsOwner, HasClass}
-use Rattle.zone_text.specs.Records.{EntryStates, StatesNothing, HasValue, HasTtl}
-use Rattle.zone_text.specs.EntryFault.{OriginFault, DefaultTtlFault, DirectiveFault, OwnerFault, EntryFault, of_directive, of_owner, of_words, of_kind, of_rdata, of_ttl, IsNameFaultAfter, WordFault, WordsFault, KindFault, TtlFault, none, long}
-use Rattle.zone_text.specs.Machine.Lower.{Lower, Once}
+use Rattle.zone_text.proofs.Common.{AllByRecursion, BadTtl, DefaultTtlFault, DirectiveFault, Entry, EntryFault, EntryStates, Err, Fault, HasClass, HasTtl, HasValue, IsClass, IsDataFault, IsKind, IsKindWord, IsNameFaultAfter, IsOrigin, IsOwner, KindFault, List, Lower, NoTtl, None, Ok, Once, Option, OriginFault, OwnerFault, Parts, Record, Result, Some, SpellingFault, SpellsAfter, Statement, States, StatesNothing, TtlFault, Word, WordFault, WordsFault, [], ap, class, fault_of, includes, inl, inr, long, no_items, none, of_directive, of_kind, of_owner, of_rdata, of_ttl, of_words, one_bare, owned, parts_after, parts_in, parts_of, refl, rules, sets_origin, sets_ttl, statement_of, subst, sym, ttl, unknown, unowned, ℕ, ◌∙◌, ◌∷◌, ◌≡◌, ◌≤◌, ◌⊎◌}
+use Rattle.zone_rdata.specs.Spelling.{bare, RawItem, quoted}
 use Rattle.zone_text.proofs.Inherits.{Then, then_once, origin_once, owner_once, class_once, ttl_once}
 
 abbrev pub Outcome : Type 0 → Type 0

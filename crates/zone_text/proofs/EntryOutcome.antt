@@ -1,29 +1,8 @@
 -- An entry after others that state nothing or a record has an outcome: nothing, a record or a first
 -- fault.
-use Rattle.std.proofs.Common.{◌≡◌, ℕ, Bool, true, false, if◌then◌else◌, List, [], ◌∷◌, Option, Some, None, MatchOption, ◌⊎◌, inl, inr, refl, sym, ◌∙◌, ap, subst, ◌<◌, ◌++◌, arith, rules}
-use Rattle.std.specs.List.{AllByRecursion}
-use Rattle.std.proofs.lemmas.Bool.{cases_lt, cases_eq}
-use Rattle.std.specs.Prelude.{option_and_then}
-use Rattle.zone_name.specs.Name.{IsName}
-use Rattle.zone_name.proofs.Pushing.{AllByRecursion-append}
-use Rattle.zone_name.specs.Spelling.{Spells, SpellingFault}
+use Rattle.zone_text.proofs.Common.{AllByRecursion, AllByRecursion-append, AllState, AreOctetItems, BadDirective, BadTtl, Bool, Choices, DirectiveFault, Entry, EntryFault, EntryStates, Fault, HasClass, HasHead, HasTtl, HasValue, Head, IncludeDirective, IsClass, IsClassWord, IsDataFault, IsKind, IsKindWord, IsLastMinimum, IsLastOwner, IsName, IsNameFaultAfter, IsOrigin, IsOwner, IsTime, IsTtl, IsWordFault, KindFault, List, Lower, MatchOption, NoOwner, NoTtl, None, Option, OwnerFault, Parts, Record, Some, SpellingFault, Spells, SpellsAfter, Statement, States, StatesData, StatesMinimum, StatesNothing, UnknownDirective, UnknownType, Word, WordFault, WordsFault, [], ap, arith, begins_with_digit, cases_eq, cases_lt, class, class_among, class_word, false, fault_of, head_of, if◌then◌else◌, includes, inl, inr, is_class_word, latest, long, minimum, no_items, none, of_directive, of_kind, of_owner, of_rdata, of_ttl, of_words, option_and_then, or_else, owned, owner_text, parts_after, parts_in, parts_of, refl, rules, sets_origin, sets_ttl, stated_ttl, statement_by, statement_of, subst, sym, true, ttl, ttl_among, unknown, unless_stated, unowned, word_after, ℕ, ◌++◌, ◌<◌, ◌∙◌, ◌∷◌, ◌≡◌, ◌⊎◌}
 use Rattle.zone_name.specs.declared.fault.NameFault.{NameFault}
-use Rattle.zone_rdata.specs.DataFault.{IsDataFault}
-use Rattle.zone_rdata.specs.Minimum.{minimum}
-use Rattle.zone_rdata.specs.Number.{IsTime}
-use Rattle.zone_rdata.specs.Record.{Record}
-use Rattle.zone_rdata.specs.Spelling.{RawItem, bare, quoted, States}
-use Rattle.zone_rdata.specs.Words.{IsClass, IsKind, IsKindWord, IsWordFault, IsClassWord}
-use Rattle.zone_rdata.specs.declared.fault.Fault.{Fault}
-use Rattle.zone_rdata.specs.declared.fault.Fault.TheVariants.{IncludeDirective, UnknownDirective, BadDirective, NoOwner, NoTtl, BadTtl, UnknownType}
-use Rattle.zone_rdata.specs.Fault.{fault_of}
-use Rattle.zone_text.specs.Entries.{Entry}
-use Rattle.zone_text.specs.EntryFault.{DirectiveFault, OwnerFault, WordsFault, KindFault, none, long, EntryFault, of_directive, of_owner, of_words, of_kind, of_rdata, of_ttl, IsNameFaultAfter, WordFault}
-use Rattle.zone_text.specs.Statements.{Statement, no_items, sets_origin, sets_ttl, includes, unknown, owned, unowned, statement_of, statement_by, Parts, parts_of, parts_in, parts_after, Word, ttl, class, class_among, word_after, begins_with_digit, is_class_word, ttl_among, unless_stated}
-use Rattle.zone_text.specs.Inherited.{IsOrigin, IsOwner, stated_ttl, IsTtl, SpellsAfter, IsLastOwner, HasClass, or_else, latest, owner_text, class_word}
-use Rattle.zone_text.specs.Machine.Lower.{Lower, Choices}
-use Rattle.zone_text.specs.Outcome.{AllState, AreOctetItems}
-use Rattle.zone_text.specs.Records.{HasValue, Head, HasHead, head_of, StatesData, StatesMinimum, IsLastMinimum, HasTtl, EntryStates, StatesNothing}
+use Rattle.zone_rdata.specs.Spelling.{RawItem, bare, quoted}
 use Rattle.zone_text.proofs.Entered.{nothing_or_parts}
 use Rattle.zone_text.proofs.Inherits.{head_once, states_once}
 use Rattle.zone_text.proofs.ClassWords.{class_word_of}

@@ -1,25 +1,7 @@
 -- An entry read after others: what it states, or its fault.
-use Rattle.std.proofs.Common.{◌≡◌, ℕ, ◌+◌, ◌≤◌, List, [], ◌∷◌, length, None, Result, Ok, Err, refl, sym, ap, ◌∙◌, arith, rules}
-use Rattle.std.proofs.lemmas.List.{append-nil}
-use Rattle.zone_name.specs.Common.{Labels}
-use Rattle.std.specs.Prelude.{OnOk}
-use Rattle.zone_rdata.specs.Fault.{IfFault}
+use Rattle.zone_text.proofs.Common.{Cuts, DecidesEntry, DecidesFault, EndedEntries, Entry, EntryFault, Err, IfFault, IsStateAfter, Labels, Line, List, None, Ok, OnOk, ParserState, PendingRecords, Place, Placed, ReadsEntry, ReadsOctets, Result, Token, [], ap, append-nil, arith, decides_fault, decides_none, decides_one, entry_of, length, refl, refused, rules, stated, states_one, sym, text, ℕ, ◌+◌, ◌∙◌, ◌∷◌, ◌≡◌, ◌≤◌}
 use Rattle.zone_rdata.specs.declared.fault.Failing.{Failing}
 use Rattle.zone_rdata.specs.declared.fault.Failing.TheVariants as failings
-use Rattle.zone_rdata.specs.declared.fault.Place.{Place}
-use Rattle.zone_rdata.specs.declared.fault.Place.TheVariants.{Line}
-use Rattle.zone_rdata.specs.declared.record.Placed.{Placed}
-use Rattle.zone_rdata.specs.declared.queue.PendingRecords.{PendingRecords}
-use Rattle.zone_text.specs.declared.parser_state.ParserState.{ParserState}
-use Rattle.zone_text.specs.declared.ended.EndedEntries.{EndedEntries}
-use Rattle.zone_text.specs.Entries.{Entry, entry_of}
-use Rattle.zone_text.specs.ParserState.{IsStateAfter}
-use Rattle.zone_text.specs.EntryFault.{EntryFault}
-use Rattle.zone_text.specs.File.{states_one}
-use Rattle.zone_text.specs.FileReads.{stated, refused}
-use Rattle.zone_text.specs.Machine.EntryReading.{DecidesEntry, DecidesFault, decides_fault, decides_none, decides_one}
-use Rattle.zone_text.specs.Machine.Feeding.{ReadsEntry, ReadsOctets}
-use Rattle.zone_text.specs.Tokens.{Token, Cuts, text}
 use Rattle.zone_text.proofs.Left.{line_feeds}
 
 -- what octets decide as the entry after others, whatever these are

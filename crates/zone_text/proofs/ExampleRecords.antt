@@ -1,25 +1,11 @@
 -- Names, words, NS records, the SOA of `x.` and addresses that files spell, for examples.
-use Rattle.std.proofs.Common.{◌≡◌, ℕ, ◌<◌, ◌≤◌, ◌^◌, List, [], ◌∷◌, codes, Some, refl, arith, true, lit<, lit≤, false, ◌≢◌, sym, ap, ◌∙◌, subst, inr, rules}
-use Rattle.std.specs.List.{AllByRecursion}
-use Rattle.zone_name.specs.Name.{IsName, labels_of, folded_octet, wire}
-use Rattle.zone_name.specs.Spelling.{Spells, is_digit, plain, at_origin, absolute, relative, SpellingFault, within, empty_label, is_dot}
-use Rattle.zone_name.specs.declared.fault.NameFault.TheVariants.{EmptyLabel}
+use Rattle.zone_text.proofs.Common.{AllByRecursion, EmptyLabel, Entry, EntryStates, HasClass, HasHead, HasTtl, HasValue, IsClass, IsClassWord, IsDecimal, IsKind, IsKindWord, IsName, IsOrigin, IsOwner, IsRecord, IsTime, IsTtl, IsWordFault, List, MetaType, Parts, Some, SpellingFault, Spells, States, StatesMinimum, UnknownType, Word, [], absolute, address, ap, arith, at_origin, begins_with_digit, beyond, by_mnemonic, by_number, codes, decimal_value, empty_label, false, folded_octet, for_queries, in_words, inr, is_digit, is_dot, labels_of, lit<, lit≤, minimum, ns, parts_of, plain, refl, relative, rules, soa, statement_of, subst, sym, true, under, wire, within, x, ℕ, ◌<◌, ◌^◌, ◌∙◌, ◌∷◌, ◌≡◌, ◌≢◌, ◌≤◌}
 use Rattle.zone_rdata.specs.declared.field.Field.TheVariants.{Name, Serial, Time, Octets}
 use Rattle.zone_rdata.specs.Address.{IsOctetNumber}
 use Rattle.zone_rdata.specs.Field.{FieldValue, name, u32_value, fixed, octets_of}
-use Rattle.zone_rdata.specs.Minimum.{minimum}
-use Rattle.zone_rdata.specs.Number.{IsTime, IsDecimal, decimal_value}
-use Rattle.zone_rdata.specs.Record.{IsRecord}
 use Rattle.zone_rdata.specs.Fields.Address.{of_ipv4}
-use Rattle.zone_rdata.specs.Spelling.{RawItem, bare, States, in_words}
-use Rattle.zone_rdata.specs.Words.{IsKind, IsKindWord, by_mnemonic, IsClass, IsClassWord, by_number, IsWordFault, beyond, for_queries}
+use Rattle.zone_rdata.specs.Spelling.{RawItem, bare}
 use Rattle.zone_rdata.specs.Number as number
-use Rattle.zone_rdata.specs.declared.fault.Fault.TheVariants.{UnknownType, MetaType}
-use Rattle.zone_text.specs.Entries.{Entry}
-use Rattle.zone_text.specs.Statements.{parts_of, statement_of, Word, Parts, begins_with_digit}
-use Rattle.zone_text.specs.Inherited.{IsOrigin, IsOwner, HasClass, IsTtl}
-use Rattle.zone_text.specs.Records.{HasValue, HasHead, HasTtl, EntryStates, StatesMinimum}
-use Rattle.zone_text.specs.ExampleEntries.{x, under, ns, soa, address}
 use Rattle.zone_text.proofs.ClassWords.{time_first}
 
 pub x_name : IsName x

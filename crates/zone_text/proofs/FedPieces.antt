@@ -1,20 +1,5 @@
 -- A piece fed part by part, each by what its last octet leads to.
-use Rattle.std.proofs.Common.{◌≡◌, ℕ, ◌+◌, ◌≤◌, List, [], ◌++◌, length, take, true, Some, None, IfSome, sym, ap, ◌∙◌, subst, arith, append_assoc, rules}
-use Rattle.std.proofs.lemmas.List.{append-nil}
-use Rattle.zone_name.specs.Common.{Labels}
-use Rattle.zone_rdata.specs.declared.fault.Fault.{Fault}
-use Rattle.zone_rdata.specs.declared.fault.Place.{Place}
-use Rattle.zone_rdata.specs.declared.fault.Fault.TheVariants.{BadEscape, UnbalancedParenthesis}
-use Rattle.zone_rdata.specs.declared.fault.Place.TheVariants.{Line}
-use Rattle.zone_rdata.specs.declared.record.Placed.{Placed}
-use Rattle.zone_text.specs.declared.ended.EndedEntries.{EndedEntries}
-use Rattle.zone_text.specs.declared.splitter.EntrySplitter.{EntrySplitter}
-use Rattle.zone_text.specs.declared.scan.Scanned.{Scanned}
-use Rattle.zone_text.specs.declared.scan.ScanState.{ScanState}
-use Rattle.zone_text.specs.Machine.Feeding.{Follow, IsSplitter, ScansTo, ReadsOctets}
-use Rattle.zone_text.specs.Machine.Scan.{beginning, scan_of}
-use Rattle.zone_text.specs.declared.scan.Step.{Step}
-use Rattle.zone_text.specs.declared.scan.Step.TheVariants.{On, Ends, LostEscape, ClosesNothing}
+use Rattle.zone_text.proofs.Common.{BadEscape, ClosesNothing, EndedEntries, Ends, EntrySplitter, Fault, Follow, IfSome, IsSplitter, Labels, Line, List, LostEscape, None, On, Place, Placed, ReadsOctets, ScanState, Scanned, ScansTo, Some, Step, UnbalancedParenthesis, [], ap, append-nil, append_assoc, arith, beginning, length, rules, scan_of, subst, sym, take, true, ℕ, ◌++◌, ◌+◌, ◌∙◌, ◌≡◌, ◌≤◌}
 use Rattle.zone_text.proofs.Followed.{follow_fault, scans_on, follow_on, follow_entry, follow_lost_escape, follow_lost_closing}
 use Rattle.zone_text.proofs.Scanned.{stops_at, takes_front, unfinished_depth}
 use Rattle.zone_text.proofs.Begun.{nothing_taken}

@@ -1,23 +1,6 @@
 -- A file of octets has a reading, and something is decided of it.
-use Rattle.std.proofs.Common.{ℕ, zero, ◌+◌, ◌<◌, ◌==◌, List, [], ◌∷◌, ◌++◌, Some, None, ◌⊎◌, inl, inr, refl, sym, subst, rules}
-use Rattle.std.specs.List.{flat_map, AllByRecursion, count_by}
-use Rattle.std.proofs.lemmas.Grind.{flat_map-append}
-use Rattle.zone_name.specs.Name.{IsName}
-use Rattle.zone_name.proofs.Pushing.{AllByRecursion-front, AllByRecursion-back}
+use Rattle.zone_text.proofs.Common.{AllByRecursion, AllByRecursion-back, AllByRecursion-front, AllState, AreOctetItems, Breaks, BreaksAtEnd, Choices, Cut, Cuts, Ending, Entry, Fault, FileDecides, FileReads, IsName, Line, List, Lower, None, Placed, ReadEach, Some, StaysBroken, Token, [], and_last, bare, broken, count_by, cut_from, decided, ended_entries, entries_of, flat_map, flat_map-append, inl, inr, item_of, numbered, open_line, quoted, refl, refused, rules, stated, states_one, subst, sym, text, token_text, undecided, whole, written_text, zero, ℕ, ◌++◌, ◌+◌, ◌<◌, ◌==◌, ◌∷◌, ◌⊎◌}
 use Rattle.zone_rdata.specs.Spelling.{RawItem}
-use Rattle.zone_rdata.specs.declared.fault.Fault.{Fault}
-use Rattle.zone_rdata.specs.declared.fault.Place.TheVariants.{Line}
-use Rattle.zone_rdata.specs.declared.record.Placed.{Placed}
-use Rattle.zone_name.specs.Spelling.{written_text}
-use Rattle.zone_text.specs.Breaks.{Breaks}
-use Rattle.zone_text.specs.Decided.{FileDecides, decided, undecided}
-use Rattle.zone_text.specs.Entries.{Entry, Cut, and_last, cut_from, item_of, numbered, entries_of, ended_entries, open_line}
-use Rattle.zone_text.specs.FileReads.{ReadEach, FileReads, whole, broken, Ending, stated, refused}
-use Rattle.zone_text.specs.File.{states_one}
-use Rattle.zone_text.specs.Lasting.{StaysBroken, BreaksAtEnd}
-use Rattle.zone_text.specs.Machine.Lower.{Lower, Choices}
-use Rattle.zone_text.specs.Outcome.{AllState, AreOctetItems}
-use Rattle.zone_text.specs.Tokens.{Token, bare, quoted, token_text, text, Cuts}
 use Rattle.zone_text.proofs.Cuttings.{cut_not_broken, cut_or_broken}
 use Rattle.zone_text.proofs.Left.{entries_text}
 use Rattle.zone_text.proofs.EntryOutcome.{Outcome, entry_outcome}

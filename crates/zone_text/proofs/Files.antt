@@ -1,12 +1,5 @@
 -- A file states one list of records at most, and has one reading at most; the two agree.
-use Rattle.std.proofs.Common.{◌≡◌, ℕ, List, [], ◌∷◌, Some, None, refl, sym, ◌∙◌, ap, subst}
-use Rattle.zone_rdata.specs.declared.fault.Fault.{Fault}
-use Rattle.zone_rdata.specs.declared.fault.Place.TheVariants.{Line}
-use Rattle.zone_rdata.specs.declared.record.Placed.{Placed}
-use Rattle.zone_text.specs.Entries.{Entry, entries_of, ended_entries, open_line}
-use Rattle.zone_text.specs.File.{EntriesState, FileStates, states_none, states_one}
-use Rattle.zone_text.specs.FileReads.{ReadEach, FileReads, whole, broken, Ending, stated, refused}
-use Rattle.zone_text.specs.Machine.Lower.{Lower, Once}
+use Rattle.zone_text.proofs.Common.{Ending, EntriesState, Entry, Fault, FileReads, FileStates, Line, List, Lower, None, Once, Placed, ReadEach, Some, [], ap, broken, ended_entries, entries_of, open_line, refl, refused, stated, states_none, states_one, subst, sym, whole, ℕ, ◌∙◌, ◌∷◌, ◌≡◌}
 use Rattle.zone_text.proofs.Cuttings.{one_cut, one_break, cut_not_broken}
 use Rattle.zone_text.proofs.Entered.{record_once, fault_once, record_or_fault, nothing_or_record, nothing_or_fault}
 

@@ -1,25 +1,6 @@
 -- The entry at the front of octets, token by token, without parentheses and escapes.
-use Rattle.std.proofs.Common.{◌≡◌, ◌≢◌, ℕ, zero, ◌+◌, ◌-◌, ◌<◌, ◌≤◌, Bool, true, false, ◌==◌, ◌||◌, List, [], ◌∷◌, ◌++◌, length, take, drop, map, None, refl, sym, ap, ◌∙◌, subst, arith, append_assoc, length-append, rules}
-use Rattle.std.specs.List.{All, AllByRecursion, flat_map}
-use Rattle.std.proofs.Math.Seq.{take-append_seam}
-use Rattle.std.proofs.lemmas.Bool.{or_parts, eqb-false, ne_eqb}
-use Rattle.std.proofs.lemmas.List.{append-nil, length-map, take-append-drop}
-use Rattle.std.proofs.lemmas.Grind.{common_steps}
-use Rattle.std.proofs.lemmas.List.Elements.{recursion_from_All}
-use Rattle.zone_name.specs.Spelling.{plain, written_text, IsUnit}
-use Rattle.zone_name.proofs.Units.{NoUnit, at_octet}
-use Rattle.zone_rdata.specs.Item.{RawItem}
+use Rattle.zone_text.proofs.Common.{All, AllByRecursion, AreKept, Bool, Cuts, EndsAt, EndsBefore, EntrySplitter, IsFirstEntry, IsInFront, IsInside, IsOneEntry, IsQuoted, IsSplitter, IsToken, IsUnit, Keeps, KeepsItems, List, NoUnit, None, RawItem, ReadsOctets, Token, [], ap, append-nil, append_assoc, arith, at_octet, bare, before_line_feed, blank, closing, comment, common_steps, drop, ends_item, eqb-false, false, flat_map, from_line_feed, is_blank, is_quote, item_of, length, length-append, length-map, line_feed, map, ne_eqb, opening, or_parts, plain, quoted, recursion_from_All, refl, rules, subst, sym, take, take-append-drop, take-append_seam, token_text, true, written_text, zero, ℕ, ◌++◌, ◌+◌, ◌-◌, ◌<◌, ◌==◌, ◌||◌, ◌∙◌, ◌∷◌, ◌≡◌, ◌≢◌, ◌≤◌}
 use Rattle.zone_rdata.specs.Item as raw
-use Rattle.zone_rdata.specs.Strings.{is_quote}
-use Rattle.zone_text.specs.Entries.{item_of}
-use Rattle.zone_text.specs.Tokens.{Token, blank, opening, closing, line_feed, comment, bare, quoted, token_text, is_blank, ends_item, Cuts, IsToken}
-use Rattle.zone_text.specs.Machine.Cutting.{before_line_feed, from_line_feed}
-use Rattle.zone_text.specs.Machine.ItemLengths.{EndsAt, EndsBefore}
-use Rattle.zone_text.specs.Machine.Kept.{AreKept, Keeps}
-use Rattle.zone_text.specs.Machine.Line.{KeepsItems, IsInside, IsInFront, IsFirstEntry, IsQuoted}
-use Rattle.zone_text.specs.Machine.Feeding.{IsSplitter, ReadsOctets}
-use Rattle.zone_text.specs.Machine.Scan.{IsOneEntry}
-use Rattle.zone_text.specs.declared.splitter.EntrySplitter.{EntrySplitter}
 use Rattle.zone_text.proofs.FedPieces.{FollowsOn, HasFed, fed_more}
 use Rattle.zone_text.proofs.Cuttings.{cuts, is_cut, one_cut, one_token_more, shorter}
 use Rattle.zone_text.proofs.Followed.{follow_one}

@@ -1,31 +1,6 @@
 -- What is decided of octets by what those before them left, and what follows from octets fed and
 -- records given, part by part.
-use Rattle.std.proofs.Common.{◌≡◌, ℕ, zero, ◌+◌, List, [], ◌∷◌, ◌++◌, length, Some, None, refl, sym, ap, ◌∙◌, subst, arith, append_assoc, length-append, inl, inr, rules}
-use Rattle.std.specs.List.{flat_map}
-use Rattle.std.specs.Prelude.{reverse}
-use Rattle.std.proofs.lemmas.List.{append-nil, flat_map_more, reverse-append}
-use Rattle.std.proofs.lemmas.Grind.{common_steps}
-use Rattle.zone_name.specs.Common.{Labels}
-use Rattle.zone_rdata.specs.declared.fault.Fault.{Fault}
-use Rattle.zone_rdata.specs.declared.fault.Fault.TheVariants.{BadEscape, UnbalancedParenthesis}
-use Rattle.zone_rdata.specs.declared.fault.Place.{Place}
-use Rattle.zone_rdata.specs.declared.fault.Place.TheVariants.{Line}
-use Rattle.zone_rdata.specs.declared.record.Placed.{Placed}
-use Rattle.zone_text.specs.declared.ended.EndedEntries.{EndedEntries}
-use Rattle.zone_text.specs.declared.scan.ScanState.{ScanState}
-use Rattle.zone_text.specs.declared.scan.Step.{Step}
-use Rattle.zone_text.specs.declared.scan.Step.TheVariants.{On, Ends, LostEscape, ClosesNothing}
-use Rattle.zone_text.specs.Tokens.{Token, Cuts, text}
-use Rattle.zone_text.specs.Lasting.{BreaksForGood}
-use Rattle.zone_text.specs.ParserState.{IsStateAfter}
-use Rattle.zone_text.specs.Entries.{Entry, cut_from, entry_of, numbered, Cut, and_last, entries_of, ended_entries, open_line}
-use Rattle.zone_text.specs.FileReads.{ReadEach, FileReads, Ending, whole, broken, stated, refused}
-use Rattle.zone_text.specs.Decided.{FileDecides, AreTokens, decided, undecided}
-use Rattle.zone_text.specs.Machine.Scan.{beginning, further, end_fault_of, IsOneEntry}
-use Rattle.zone_text.specs.Machine.Feeding.{ReadsEntry, ReadsOctets, Follow, ScansTo}
-use Rattle.zone_text.specs.TextSource.{FileLeaves}
-use Rattle.zone_text.specs.Breaks.{Breaks}
-use Rattle.zone_text.specs.File.{states_none, states_one}
+use Rattle.zone_text.proofs.Common.{AreTokens, BadEscape, Breaks, BreaksForGood, ClosesNothing, Cut, Cuts, EndedEntries, Ending, Ends, Entry, Fault, FileDecides, FileLeaves, FileReads, Follow, IsOneEntry, IsStateAfter, Labels, Line, List, LostEscape, None, On, Place, Placed, ReadEach, ReadsEntry, ReadsOctets, ScanState, ScansTo, Some, Step, Token, UnbalancedParenthesis, [], and_last, ap, append-nil, append_assoc, arith, beginning, broken, common_steps, cut_from, decided, end_fault_of, ended_entries, entries_of, entry_of, flat_map, flat_map_more, further, inl, inr, length, length-append, numbered, open_line, refl, refused, reverse, reverse-append, rules, stated, states_none, states_one, subst, sym, text, undecided, whole, zero, ℕ, ◌++◌, ◌+◌, ◌∙◌, ◌∷◌, ◌≡◌}
 use Rattle.zone_text.proofs.CutAgain.{joined, AreEnded, again_zero, cut_whole}
 use Rattle.zone_text.proofs.Left.{line_feeds, numbered_then, IsSplit, split, whole_after, cut_more, tokens_more, ended_as_before, one_ended, reads_then, refused_before, reads_after, break_more, for_good_more, none_cut, none_more, ended_entries_first}
 use Rattle.zone_text.proofs.Scanned.{goes_on as scan_goes_on, ends_entry, stays_open, loses_escape, closes_nothing, at_end}

@@ -1,17 +1,6 @@
 -- A break stays or stands at the end of the text, and not both. So does a backslash that begins no
 -- escape, by what follows it.
-use Rattle.std.proofs.Common.{◌≡◌, ℕ, true, false, List, [], ◌∷◌, ◌++◌, refl, sym, ap, ◌∙◌, arith, subst, ◌⊎◌, inl, inr, rules}
-use Rattle.std.specs.List.{AllByRecursion}
-use Rattle.std.proofs.lemmas.Bool.{both_ways, cases_Bool, cases_eq, cases_lt}
-use Rattle.std.proofs.lemmas.List.{append-nil, append_cancel_left}
-use Rattle.zone_name.specs.Spelling.{Written, is_digit, written_text, IsUnit, escaped, decimal, text_of, octet_of, IsEscape, IsBadEscape}
-use Rattle.zone_name.specs.Machine.Units.{Units}
-use Rattle.zone_name.proofs.Units.{NoUnit, at_end, at_backslash, units_first_only}
-use Rattle.zone_rdata.specs.declared.fault.Fault.{Fault}
-use Rattle.zone_rdata.specs.Strings.{is_quote}
-use Rattle.zone_text.specs.Breaks.{Breaks, IsBroken, closes_nothing, no_escape, no_quoted_escape, no_quote, not_closed}
-use Rattle.zone_text.specs.Lasting.{IsLostEscape, at_line_end, one_digit, two_digits, too_great, IsCutOff, after_backslash, after_digit, after_two_digits, StaysBroken, closing_stays, escape_stays, quoted_escape_stays, BreaksAtEnd, nothing_left, quote_open, escape_open, quoted_escape_open, BreaksForGood}
-use Rattle.zone_text.specs.Tokens.{Token, text}
+use Rattle.zone_text.proofs.Common.{AllByRecursion, Breaks, BreaksAtEnd, BreaksForGood, Fault, IsBadEscape, IsBroken, IsCutOff, IsEscape, IsLostEscape, IsUnit, List, NoUnit, StaysBroken, Token, Units, Written, [], after_backslash, after_digit, after_two_digits, ap, append-nil, append_cancel_left, arith, at_backslash, at_end, at_line_end, both_ways, cases_Bool, cases_eq, cases_lt, closes_nothing, closing_stays, decimal, escape_open, escape_stays, escaped, false, inl, inr, is_digit, is_quote, no_escape, no_quote, no_quoted_escape, not_closed, nothing_left, octet_of, one_digit, quote_open, quoted_escape_open, quoted_escape_stays, refl, rules, subst, sym, text, text_of, too_great, true, two_digits, units_first_only, written_text, ℕ, ◌++◌, ◌∙◌, ◌∷◌, ◌≡◌, ◌⊎◌}
 use Rattle.zone_text.proofs.Lasting.{stays_some}
 
 -- what is malformed is lost or cut off

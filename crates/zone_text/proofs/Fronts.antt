@@ -1,18 +1,5 @@
 -- The first token of a text: what is read is so, and what is so is read.
-use Rattle.std.proofs.Common.{◌≡◌, ◌≢◌, ℕ, zero, suc, ◌<◌, true, false, ◌==◌, List, [], ◌∷◌, ◌++◌, length, drop, Option, Some, None, refl, sym, ap, ◌∙◌, subst, arith, append_assoc, rules}
-use Rattle.std.specs.List.{AllByRecursion}
-use Rattle.std.proofs.Math.Seq.{drop-append_seam}
-use Rattle.std.proofs.lemmas.Bool.{eqb-true, eqb-false, ne_eqb, both_ways, cond_both}
-use Rattle.std.proofs.lemmas.List.{append-nil}
-use Rattle.zone_name.specs.Spelling.{Written, plain, escaped, decimal, IsBadEscape, written_text, IsUnit}
-use Rattle.zone_rdata.specs.declared.fault.Fault.{Fault}
-use Rattle.zone_rdata.specs.declared.fault.Fault.TheVariants.{BadEscape}
-use Rattle.zone_rdata.specs.Strings.{is_quote}
-use Rattle.zone_text.specs.Tokens.{Token, blank, opening, closing, line_feed, comment, bare, quoted, token_text, is_blank, ends_item, IsToken}
-use Rattle.zone_text.specs.Breaks.{IsBroken, closes_nothing, no_escape, no_quoted_escape, no_quote, not_closed}
-use Rattle.zone_name.specs.Machine.Units.{Units, units_first}
-use Rattle.zone_text.specs.Machine.Cutting.{before_line_feed, from_line_feed, Sign, a_blank, a_line_feed, an_opening, a_closing, a_semicolon, a_quote, of_item, sign_of, Front, takes, stops, quoted_front, bare_front, front_by, end_front, front_of}
-use Rattle.zone_name.proofs.Units.{NoUnit, at_end, at_octet, at_backslash, UnitsAre, units_first_are, units_first_only}
+use Rattle.zone_text.proofs.Common.{AllByRecursion, BadEscape, Fault, Front, IsBadEscape, IsBroken, IsToken, IsUnit, List, NoUnit, None, Option, Sign, Some, Token, Units, UnitsAre, Written, [], a_blank, a_closing, a_line_feed, a_quote, a_semicolon, an_opening, ap, append-nil, append_assoc, arith, at_backslash, at_end, at_octet, bare, bare_front, before_line_feed, blank, both_ways, closes_nothing, closing, comment, cond_both, decimal, drop, drop-append_seam, end_front, ends_item, eqb-false, eqb-true, escaped, false, from_line_feed, front_by, front_of, is_blank, is_quote, length, line_feed, ne_eqb, no_escape, no_quote, no_quoted_escape, not_closed, of_item, opening, plain, quoted, quoted_front, refl, rules, sign_of, stops, subst, suc, sym, takes, token_text, true, units_first, units_first_are, units_first_only, written_text, zero, ℕ, ◌++◌, ◌<◌, ◌==◌, ◌∙◌, ◌∷◌, ◌≡◌, ◌≢◌}
 
 -- ---- comments
 

@@ -1,23 +1,6 @@
 -- What a record states before its data, where the state is known.
-use Rattle.std.proofs.Common.{◌≡◌, ℕ, List, [], ◌∷◌, drop, map, sym, ap, ◌∙◌, subst, rules}
-use Rattle.std.specs.Prelude.{unwrap_or}
-use Rattle.std.proofs.lemmas.List.{drop-map}
-use Rattle.zone_name.specs.Common.{Labels}
-use Rattle.zone_rdata.specs.Item.{RawItem, bare, raw}
-use Rattle.zone_rdata.specs.Words.{IsKind, IsKindWord, IsWordFault}
-use Rattle.zone_rdata.specs.declared.fault.Fault.{Fault}
-use Rattle.zone_rdata.specs.declared.fault.Fault.TheVariants.{UnknownType}
-use Rattle.zone_rdata.specs.declared.item.Item.{Item}
-use Rattle.zone_text.specs.ParserState.{IsTtlOrNone}
-use Rattle.zone_text.specs.Entries.{Entry}
-use Rattle.zone_text.specs.EntryFault.{EntryFault, of_words, of_kind, WordsFault, KindFault}
-use Rattle.zone_text.specs.Statements.{parts_after, statement_of}
-use Rattle.zone_text.specs.Inherited.{ttl_text}
-use Rattle.zone_text.specs.Machine.EntryReading.{IsRecordEntry}
-use Rattle.zone_text.specs.Machine.WordValues.{AreWordsOf}
-use Rattle.zone_text.specs.Records.{HasHead}
-use Rattle.zone_text.specs.declared.parser_state.ParserState.{ParserState}
-use Rattle.zone_text.specs.declared.words.Words.{Words}
+use Rattle.zone_text.proofs.Common.{AreWordsOf, Entry, EntryFault, Fault, HasHead, IsKind, IsKindWord, IsRecordEntry, IsTtlOrNone, IsWordFault, Item, KindFault, Labels, List, ParserState, RawItem, UnknownType, Words, WordsFault, [], ap, drop, drop-map, map, of_kind, of_words, parts_after, raw, rules, statement_of, subst, sym, ttl_text, unwrap_or, ℕ, ◌∙◌, ◌∷◌, ◌≡◌}
+use Rattle.zone_rdata.specs.Item.{bare}
 
 pub words_refused : (origin : Labels) (before : List Entry) (entry : Entry) (d : ParserState) (name : Labels) (items : List RawItem) (fault : Fault) → IsRecordEntry origin before entry d name items → WordsFault (parts_after [] items).words fault → EntryFault origin before entry fault
 words_refused origin before entry d name items fault is bad = of_words name (parts_after [] items) is.owner is.parts bad

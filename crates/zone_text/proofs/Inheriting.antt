@@ -1,20 +1,7 @@
 -- The parser state is what the look back over the entries finds: one entry more, and the TTL that
 -- a record inherits.
-use Rattle.std.proofs.Common.{◌≡◌, ℕ, List, ◌∷◌, Option, Some, None, MatchOption, inr, refl, sym, ap, ◌∙◌, subst, [], rules}
-use Rattle.std.specs.Option.{option_or}
-use Rattle.std.specs.Prelude.{option_and_then}
-use Rattle.zone_name.specs.Common.{Labels}
-use Rattle.zone_rdata.specs.Minimum.{minimum}
-use Rattle.zone_rdata.specs.Number.{IsTime}
-use Rattle.zone_rdata.specs.Item.{RawItem, bare}
-use Rattle.zone_text.specs.ParserState.{IsStateAfter, IsOneOrNone, IsTtlOrNone}
-use Rattle.zone_text.specs.Entries.{Entry}
-use Rattle.zone_text.specs.Statements.{Statement, sets_origin, sets_ttl, statement_of, Parts, parts_in, parts_of, class_among, ttl_among}
-use Rattle.zone_text.specs.Inherited.{IsOrigin, IsLastOwner, IsTtl, SpellsAfter, class_word, default_ttl_text, latest, origin_text, owner_text, stated_ttl, ttl_text, one_bare}
-use Rattle.zone_text.specs.Machine.EntryReading.{with_owner, SetsOrigin, SetsTtl}
-use Rattle.zone_text.specs.Machine.Lower.{Lower}
-use Rattle.zone_text.specs.Records.{Head, HasHead, HasTtl, IsLastMinimum, StatesData, StatesMinimum, StatesNothing}
-use Rattle.zone_text.specs.declared.parser_state.ParserState.{ParserState}
+use Rattle.zone_text.proofs.Common.{Entry, HasHead, HasTtl, Head, IsLastMinimum, IsLastOwner, IsOneOrNone, IsOrigin, IsStateAfter, IsTime, IsTtl, IsTtlOrNone, Labels, List, Lower, MatchOption, None, Option, ParserState, Parts, RawItem, SetsOrigin, SetsTtl, Some, SpellsAfter, Statement, StatesData, StatesMinimum, StatesNothing, [], ap, class_among, class_word, default_ttl_text, inr, latest, minimum, one_bare, option_and_then, option_or, origin_text, owner_text, parts_in, parts_of, refl, rules, sets_origin, sets_ttl, stated_ttl, statement_of, subst, sym, ttl_among, ttl_text, with_owner, ℕ, ◌∙◌, ◌∷◌, ◌≡◌}
+use Rattle.zone_rdata.specs.Item.{bare}
 use Rattle.zone_text.proofs.EntryOutcome.{states_no_minimum, no_minimum}
 
 -- ---- one entry more

@@ -1,15 +1,6 @@
 -- What an entry inherits is one thing at most, as is what two steps find one after the other.
-use Rattle.std.proofs.Common.{◌≡◌, ℕ, List, [], ◌∷◌, Some, inl, inr, refl, sym, ◌∙◌, ap, subst, Option, MatchOption, Result, Ok, Err, ◌⊎◌, rules}
-use Rattle.zone_name.specs.Spelling.{Spells}
-use Rattle.zone_rdata.specs.Minimum.{minimum}
-use Rattle.zone_rdata.specs.Number.{IsTime}
-use Rattle.zone_rdata.specs.Spelling.{bare, States}
-use Rattle.zone_rdata.specs.Words.{IsClassWord}
-use Rattle.zone_text.specs.Entries.{Entry}
-use Rattle.zone_text.specs.Statements.{Statement, owned, unowned, statement_of}
-use Rattle.zone_text.specs.Inherited.{IsOrigin, SpellsAfter, IsLastOwner, IsOwner, HasClass, stated_ttl, latest, origin_text, owner_text, class_word}
-use Rattle.zone_text.specs.Records.{Head, HasHead, StatesData, StatesMinimum, IsLastMinimum, HasTtl}
-use Rattle.zone_text.specs.Machine.Lower.{Lower, Once}
+use Rattle.zone_text.proofs.Common.{Entry, Err, HasClass, HasHead, HasTtl, Head, IsClassWord, IsLastMinimum, IsLastOwner, IsOrigin, IsOwner, IsTime, List, Lower, MatchOption, Ok, Once, Option, Result, Some, Spells, SpellsAfter, Statement, States, StatesData, StatesMinimum, [], ap, class_word, inl, inr, latest, minimum, origin_text, owned, owner_text, refl, rules, stated_ttl, statement_of, subst, sym, unowned, ℕ, ◌∙◌, ◌∷◌, ◌≡◌, ◌⊎◌}
+use Rattle.zone_rdata.specs.Spelling.{bare}
 
 pub match_once : (A B : Type 0) (o : Option A) (P : B → Type 0) (Q : A → B → Type 0) → Once B P → ((x : A) → Once B (Q x)) → (a b : B) → MatchOption o (P a) (λ x. Q x a) → MatchOption o (P b) (λ x. Q x b) → a ≡ b
 match_once A B o P Q p q a b x y = search rules

@@ -1,20 +1,7 @@
 -- The items of tokens, gathered from the left: the first token of a text, and the items of those
 -- after it.
-use Rattle.std.proofs.Common.{◌≡◌, ◌≢◌, ℕ, suc, ◌-◌, ◌<◌, ◌≤◌, min, true, false, List, [], ◌∷◌, ◌++◌, length, take, drop, refl, sym, ap, ◌∙◌, subst, arith, append_assoc, rules}
-use Rattle.std.specs.List.{flat_map, AllByRecursion}
-use Rattle.std.proofs.Math.Seq.{take-append_seam, drop-append_seam}
-use Rattle.std.proofs.lemmas.Bool.{both_ways}
-use Rattle.std.proofs.lemmas.List.{append-nil, length-drop}
-use Rattle.zone_name.specs.Spelling.{written_text}
-use Rattle.zone_rdata.specs.Item.{RawItem}
+use Rattle.zone_text.proofs.Common.{AllByRecursion, AllFollow, AreKept, Cuts, EndsBefore, IsToken, Keeps, KeepsItems, List, RawItem, Token, [], ap, append-nil, append_assoc, arith, bare, before_line_feed, blank, both_ways, comment, drop, drop-append_seam, ends_item, false, flat_map, is_blank, is_quote, item_len, item_of, length, length-drop, line_feed, min, quoted, refl, rules, subst, suc, sym, take, take-append_seam, text, token_text, true, written_text, ℕ, ◌++◌, ◌-◌, ◌<◌, ◌∙◌, ◌∷◌, ◌≡◌, ◌≢◌, ◌≤◌}
 use Rattle.zone_rdata.specs.Item as raw
-use Rattle.zone_rdata.specs.Strings.{is_quote}
-use Rattle.zone_text.specs.Entries.{item_of}
-use Rattle.zone_text.specs.Machine.Cutting.{before_line_feed}
-use Rattle.zone_text.specs.Machine.ItemLengths.{EndsBefore, item_len}
-use Rattle.zone_text.specs.Machine.Kept.{AreKept, Keeps}
-use Rattle.zone_text.specs.Machine.Line.{KeepsItems}
-use Rattle.zone_text.specs.Tokens.{Token, blank, line_feed, comment, bare, quoted, token_text, text, is_blank, ends_item, Cuts, IsToken, AllFollow}
 use Rattle.zone_text.proofs.Cuttings.{follow_after, shorter}
 use Rattle.zone_text.proofs.Fronts.{Begins, begins}
 use Rattle.zone_text.proofs.Kept.{keeps_more}

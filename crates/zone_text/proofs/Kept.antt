@@ -1,17 +1,5 @@
 -- The items that are kept of an entry, one by one.
-use Rattle.std.proofs.Common.{◌≡◌, ℕ, ◌<◌, ◌≤◌, Bool, List, [], ◌∷◌, ◌++◌, length, inl, inr, refl, sym, ap, ◌∙◌, subst, arith, length-append, rules}
-use Rattle.std.specs.List.{flat_map, AllByRecursion}
-use Rattle.std.proofs.lemmas.List.{append-nil}
-use Rattle.zone_name.specs.Spelling.{Written, text_of, octet_of, written_text, written_octets, IsUnit, no_octet}
-use Rattle.zone_name.proofs.Pushing.{AllByRecursion-front, AllByRecursion-back}
-use Rattle.zone_name.proofs.Units.{text_of-some}
-use Rattle.zone_rdata.specs.Item.{RawItem}
-use Rattle.zone_rdata.specs.Machine.LeftOut.{IsWritten}
-use Rattle.zone_rdata.specs.Strings.{SpellsString, item_text}
-use Rattle.zone_rdata.proofs.LeftOut.{one_kept, one_left_out}
-use Rattle.zone_text.specs.Entries.{item_of}
-use Rattle.zone_text.specs.Machine.Kept.{AreKept, IsShort, Keeps}
-use Rattle.zone_text.specs.Tokens.{Token, bare, quoted, IsToken}
+use Rattle.zone_text.proofs.Common.{AllByRecursion, AllByRecursion-back, AllByRecursion-front, AreKept, Bool, IsShort, IsToken, IsUnit, IsWritten, Keeps, List, RawItem, SpellsString, Token, Written, [], ap, append-nil, arith, bare, flat_map, inl, inr, item_of, item_text, length, length-append, no_octet, octet_of, one_kept, one_left_out, quoted, refl, rules, subst, sym, text_of, text_of-some, written_octets, written_text, ℕ, ◌++◌, ◌<◌, ◌∙◌, ◌∷◌, ◌≡◌, ◌≤◌}
 
 -- ---- an item of a token
 

@@ -1,26 +1,7 @@
 -- An entry of very many items has the fault that it has where some that spell strings are left out,
 -- and states nothing.
-use Rattle.std.proofs.Common.{◌≡◌, ℕ, ◌+◌, ◌≤◌, Bool, true, false, if◌then◌else◌, ◌==◌, List, [], ◌∷◌, ◌++◌, length, Option, Some, None, MatchOption, Result, Ok, Err, inl, inr, refl, sym, ap, ◌∙◌, subst, arith, rules}
-use Rattle.std.specs.List.{AllByRecursion, flat_map}
-use Rattle.std.specs.Prelude.{OnOk, ⊤}
-use Rattle.zone_name.specs.Common.{Labels}
-use Rattle.zone_rdata.specs.Item.{RawItem, bare, quoted}
-use Rattle.zone_rdata.specs.Machine.LeftOut.{AreShortened, IsWritten, LeavesOut}
-use Rattle.zone_rdata.specs.Record.{Record}
-use Rattle.zone_rdata.specs.declared.fault.Fault.{Fault}
-use Rattle.zone_rdata.specs.declared.fault.Place.{Place}
-use Rattle.zone_rdata.specs.declared.queue.PendingRecords.{PendingRecords}
-use Rattle.zone_rdata.proofs.LeftOut.{after_item, are_many, at_least, begin_with, fault_of_all, state_none}
-use Rattle.zone_text.specs.Entries.{Entry, entry_of, first_octet, item_of}
-use Rattle.zone_text.specs.EntryFault.{DirectiveFault, EntryFault, KindFault, OwnerFault, WordsFault, of_directive, of_kind, of_owner, of_rdata, of_ttl, of_words}
-use Rattle.zone_text.specs.Statements.{Statement, no_items, Parts, Word, class, class_among, directive, statement_by, statement_of, includes, owned, parts_after, parts_in, sets_origin, sets_ttl, ttl, ttl_among, unknown, unless_stated, unowned, word_after}
-use Rattle.zone_text.specs.Inherited.{IsOwner, class_word, latest, one_bare, or_else}
-use Rattle.zone_rdata.specs.Words.{IsClassWord}
-use Rattle.zone_text.specs.Machine.EntryReading.{DecidesEntry, decides_fault, decides_none, decides_one}
-use Rattle.zone_text.specs.Machine.Kept.{AreKept}
-use Rattle.zone_text.specs.Tokens.{Cuts, Token, is_blank}
-use Rattle.zone_text.specs.Records.{HasHead, HasValue, Head, StatesNothing, EntryStates, head_of}
-use Rattle.zone_text.specs.declared.parser_state.ParserState.{ParserState}
+use Rattle.zone_text.proofs.Common.{AllByRecursion, AreKept, AreShortened, Bool, Cuts, DecidesEntry, DirectiveFault, Entry, EntryFault, EntryStates, Err, Fault, HasHead, HasValue, Head, IsClassWord, IsOwner, IsWritten, KindFault, Labels, LeavesOut, List, MatchOption, None, Ok, OnOk, Option, OwnerFault, ParserState, Parts, PendingRecords, Place, RawItem, Record, Result, Some, Statement, StatesNothing, Token, Word, WordsFault, [], after_item, ap, are_many, arith, at_least, begin_with, class, class_among, class_word, decides_fault, decides_none, decides_one, directive, entry_of, false, fault_of_all, first_octet, flat_map, head_of, if◌then◌else◌, includes, inl, inr, is_blank, item_of, latest, length, no_items, of_directive, of_kind, of_owner, of_rdata, of_ttl, of_words, one_bare, or_else, owned, parts_after, parts_in, refl, rules, sets_origin, sets_ttl, state_none, statement_by, statement_of, subst, sym, true, ttl, ttl_among, unknown, unless_stated, unowned, word_after, ℕ, ⊤, ◌++◌, ◌+◌, ◌==◌, ◌∙◌, ◌∷◌, ◌≡◌, ◌≤◌}
+use Rattle.zone_rdata.specs.Item.{bare, quoted}
 use Rattle.zone_text.proofs.Kept.{items_written}
 use Rattle.zone_text.proofs.WordsLeft.{class_kept, class_pushed, parts_by, ttl_kept, ttl_pushed}
 

@@ -1,15 +1,5 @@
 -- What is settled of a text by its front.
-use Rattle.std.proofs.Common.{◌≡◌, ℕ, zero, false, List, [], ◌∷◌, ◌++◌, Option, Some, None, refl, sym, ap, ◌∙◌, subst, append_assoc, ◌⊎◌, rules}
-use Rattle.std.proofs.lemmas.List.{append-nil}
-use Rattle.std.proofs.lemmas.List.Concat.{flat_map-append}
-use Rattle.zone_name.specs.Spelling.{Written, text_of, IsEscape, IsBadEscape, is_digit, written_text}
-use Rattle.zone_rdata.specs.declared.fault.Fault.{Fault}
-use Rattle.zone_rdata.specs.declared.fault.Fault.TheVariants.{BadEscape, UnbalancedParenthesis}
-use Rattle.zone_name.proofs.Pushing.{AllByRecursion-append, AllByRecursion-front, AllByRecursion-back}
-use Rattle.zone_text.specs.Tokens.{Token, comment, token_text, text, IsToken, AllFollow, depth_after, Cuts}
-use Rattle.zone_text.specs.Breaks.{IsBroken, closes_nothing, no_escape, no_quoted_escape, MayEndBefore, Breaks}
-use Rattle.zone_text.specs.Lasting.{EndInLineFeed, IsLostEscape, at_line_end, one_digit, two_digits, too_great, StaysBroken, closing_stays, escape_stays, quoted_escape_stays, BreaksForGood}
-use Rattle.zone_text.specs.Machine.Cutting.{stops, depth_past}
+use Rattle.zone_text.proofs.Common.{AllByRecursion-append, AllByRecursion-back, AllByRecursion-front, AllFollow, BadEscape, Breaks, BreaksForGood, Cuts, EndInLineFeed, Fault, IsBadEscape, IsBroken, IsEscape, IsLostEscape, IsToken, List, MayEndBefore, None, Option, Some, StaysBroken, Token, UnbalancedParenthesis, Written, [], ap, append-nil, append_assoc, at_line_end, closes_nothing, closing_stays, comment, depth_after, depth_past, escape_stays, false, flat_map-append, is_digit, no_escape, no_quoted_escape, one_digit, quoted_escape_stays, refl, rules, stops, subst, sym, text, text_of, token_text, too_great, two_digits, written_text, zero, ℕ, ◌++◌, ◌∙◌, ◌∷◌, ◌≡◌, ◌⊎◌}
 use Rattle.zone_text.proofs.Fronts.{front_stops}
 use Rattle.zone_text.proofs.Cuttings.{IsCut, is_cut, cuts, is_broken, breaks, last_after, last_in_front, follow_after, depth_on, room_of}
 

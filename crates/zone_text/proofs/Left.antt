@@ -1,23 +1,5 @@
 -- What octets leave of a file: the entries that line feeds have ended, and the octets after them.
-use Rattle.std.proofs.Common.{◌≡◌, ℕ, zero, ◌+◌, List, [], ◌∷◌, ◌++◌, ◌==◌, Some, None, refl, sym, ap, ◌∙◌, subst, append_assoc, add_assoc, add-zero, ◌⊎◌, inl, inr, Option, rules, arith}
-use Rattle.std.specs.List.{flat_map, count_by}
-use Rattle.std.specs.Prelude.{reverse}
-use Rattle.std.proofs.lemmas.List.{append-nil}
-use Rattle.std.proofs.lemmas.List.Concat.{flat_map-append}
-use Rattle.std.proofs.lemmas.Grind.{common_steps}
-use Rattle.std.proofs.lemmas.List.Sums.{sum_by-append}
-use Rattle.zone_rdata.specs.declared.fault.Fault.{Fault}
-use Rattle.zone_rdata.specs.declared.fault.Place.{Place}
-use Rattle.zone_rdata.specs.declared.fault.Place.TheVariants.{Line}
-use Rattle.zone_rdata.specs.declared.record.Placed.{Placed}
-use Rattle.zone_text.specs.Tokens.{Token, Cuts, token_text, text}
-use Rattle.zone_text.specs.Breaks.{Breaks}
-use Rattle.zone_text.specs.Lasting.{BreaksForGood, StaysBroken, BreaksAtEnd}
-use Rattle.zone_text.specs.Entries.{Cut, Entry, cut_from, numbered, and_last, entries_of, ended_entries}
-use Rattle.zone_text.specs.FileReads.{ReadEach, Ending, stated, refused}
-use Rattle.zone_text.specs.File.{states_none, states_one}
-use Rattle.zone_text.specs.Decided.{AreTokens}
-use Rattle.zone_text.specs.Machine.Cutting.{Cutting, cutting}
+use Rattle.zone_text.proofs.Common.{AreTokens, Breaks, BreaksAtEnd, BreaksForGood, Cut, Cuts, Cutting, Ending, Entry, Fault, Line, List, None, Option, Place, Placed, ReadEach, Some, StaysBroken, Token, [], add-zero, add_assoc, and_last, ap, append-nil, append_assoc, arith, common_steps, count_by, cut_from, cutting, ended_entries, entries_of, flat_map, flat_map-append, inl, inr, numbered, refl, refused, reverse, rules, stated, states_none, states_one, subst, sum_by-append, sym, text, token_text, zero, ℕ, ◌++◌, ◌+◌, ◌==◌, ◌∙◌, ◌∷◌, ◌≡◌, ◌⊎◌}
 use Rattle.zone_text.proofs.Cuttings.{cut_not_broken, IsCut, cutting_is, cutting_only, reads_cut, reads_broken}
 use Rattle.zone_text.proofs.Lasting.{cut_joined, break_joined, IsParted, parted as parted_at, both_cut}
 use Rattle.zone_text.proofs.CutAgain.{joined, AreEnded, cut_ended, again_zero, cut_whole, cut_again, ended_at_zero, numbered_front}

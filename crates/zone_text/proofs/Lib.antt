@@ -1,3 +1,4 @@
+pub mod Common
 pub mod ClassWords
 pub mod Inherits
 pub mod Entered

@@ -1,18 +1,7 @@
 -- Lines of items, and entries that state every part of a record.
-use Rattle.std.proofs.Common.{◌≡◌, ◌≢◌, ℕ, zero, List, [], ◌∷◌, true, false, Option, Some, refl, ◌∙◌, arith, rules}
-use Rattle.std.specs.Prelude.{IfSome}
-use Rattle.std.specs.List.{flat_map, AllByRecursion}
-use Rattle.std.proofs.lemmas.Grind.{common_steps}
-use Rattle.zone_name.specs.Common.{Labels}
-use Rattle.zone_rdata.specs.Record.{Record}
+use Rattle.zone_text.proofs.Common.{AllByRecursion, AllFollow, Cuts, Entry, EntryStates, IfSome, IsItem, IsOrigin, IsToken, Labels, List, MayFollow, Option, Parts, Record, Some, StatesWhole, Token, [], arith, begins_with_digit, blank, class, common_steps, cut_from, depth_after, entries_of, entry_of, false, flat_map, in_front_of, is_blank, is_class_word, item_of, line_feed, line_of, owned, parts_after, parts_of, refl, rules, statement_by, statement_of, text, true, ttl, zero, ℕ, ◌∙◌, ◌∷◌, ◌≡◌, ◌≢◌}
 use Rattle.zone_rdata.specs.Spelling.{RawItem}
 use Rattle.zone_rdata.specs.Spelling as raw
-use Rattle.zone_text.specs.Entries.{in_front_of, cut_from, Entry, entry_of, entries_of, item_of}
-use Rattle.zone_text.specs.Statements.{statement_by, statement_of, owned, ttl, class, Parts, parts_after, parts_of, begins_with_digit, is_class_word}
-use Rattle.zone_text.specs.Inherited.{IsOrigin}
-use Rattle.zone_text.specs.Line.{IsItem, line_of, StatesWhole}
-use Rattle.zone_text.specs.Tokens.{Token, blank, line_feed, text, is_blank, IsToken, MayFollow, AllFollow, depth_after, Cuts}
-use Rattle.zone_text.specs.Records.{EntryStates}
 use Rattle.zone_text.proofs.ClassWords.{time_first, class_word_first, class_word_known}
 
 -- ---- the line of items

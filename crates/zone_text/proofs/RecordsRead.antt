@@ -1,23 +1,6 @@
 -- A record entry whose parts are read in a known state: what it states, or why it is refused.
-use Rattle.std.proofs.Common.{◌≡◌, ℕ, ◌<◌, List, ◌∷◌, Option, Some, None, MatchOption, refl, sym, ap, ◌∙◌, subst}
-use Rattle.std.specs.Option.{option_or}
-use Rattle.zone_name.specs.Common.{Labels}
-use Rattle.zone_rdata.specs.DataFault.{IsDataFault}
-use Rattle.zone_rdata.specs.Item.{RawItem, bare, quoted}
-use Rattle.zone_rdata.specs.Minimum.{minimum}
-use Rattle.zone_rdata.specs.Record.{Data, Record, IsRecord}
-use Rattle.zone_rdata.specs.Spelling.{States}
-use Rattle.zone_rdata.specs.declared.fault.Fault.{Fault}
-use Rattle.zone_rdata.specs.declared.fault.Fault.TheVariants.{NoOwner, NoTtl, BadTtl}
-use Rattle.zone_text.specs.ParserState.{IsStateAfter, IsOneOrNone, IsTtlOrNone}
-use Rattle.zone_text.specs.Entries.{Entry}
-use Rattle.zone_text.specs.EntryFault.{EntryFault, of_rdata, of_ttl, none, long}
-use Rattle.zone_text.specs.Statements.{owned, statement_of, parts_in}
-use Rattle.zone_text.specs.Inherited.{IsLastOwner, IsOwner, owner_text, ttl_text}
-use Rattle.zone_text.specs.Machine.EntryReading.{HasOwnerOrNone, IsReadTo, IsRecordEntry, with_owner}
-use Rattle.zone_text.specs.Machine.Lower.{Lower}
-use Rattle.zone_text.specs.Records.{Head, HasHead, HasTtl, IsLastMinimum, StatesData, EntryStates}
-use Rattle.zone_text.specs.declared.parser_state.ParserState.{ParserState}
+use Rattle.zone_text.proofs.Common.{BadTtl, Data, Entry, EntryFault, EntryStates, Fault, HasHead, HasOwnerOrNone, HasTtl, Head, IsDataFault, IsLastMinimum, IsLastOwner, IsOneOrNone, IsOwner, IsReadTo, IsRecord, IsRecordEntry, IsStateAfter, IsTtlOrNone, Labels, List, Lower, MatchOption, NoOwner, NoTtl, None, Option, ParserState, RawItem, Record, Some, States, StatesData, ap, long, minimum, none, of_rdata, of_ttl, option_or, owned, owner_text, parts_in, refl, statement_of, subst, sym, ttl_text, with_owner, ℕ, ◌<◌, ◌∙◌, ◌∷◌, ◌≡◌}
+use Rattle.zone_rdata.specs.Item.{bare, quoted}
 use Rattle.zone_text.proofs.Inheriting.{has_no_ttl, has_ttl, next_minimum, record_leaves, ttl_stated}
 
 -- ---- the owner

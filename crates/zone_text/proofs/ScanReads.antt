@@ -1,27 +1,9 @@
 -- The tokens of octets as a scan leaves them: one after another, and what is open at the end.
-use Rattle.std.proofs.Common.{◌≡◌, ◌≢◌, ℕ, suc, ◌+◌, ◌-◌, true, false, ◌||◌, ◌==◌, nat_le, List, [], ◌∷◌, ◌++◌, take, Option, Some, refl, sym, ap, ◌∙◌, subst, arith, append_assoc, inl, inr, rules}
-use Rattle.std.specs.List.{AllByRecursion}
-use Rattle.std.proofs.lemmas.Bool.{cond_both, cases_Bool, and_parts, and_cases, or_cases, or_parts, eqb-true, eqb-false, leb-true, leb-false}
-use Rattle.std.proofs.lemmas.List.{append-nil}
-use Rattle.zone_name.specs.Spelling.{Written, plain, escaped, decimal, text_of, octet_of, IsEscape, IsBadEscape, is_digit, written_text, IsUnit}
-use Rattle.zone_name.proofs.Units.{NoUnit, at_end, at_octet, at_backslash, unit_of_escape}
-use Rattle.zone_rdata.specs.declared.fault.Fault.{Fault}
-use Rattle.zone_rdata.specs.declared.fault.Fault.TheVariants.{BadEscape, UnclosedQuote}
-use Rattle.zone_rdata.specs.Strings.{is_quote}
+use Rattle.zone_text.proofs.Common.{AllByRecursion, BadEscape, ClosesNothing, Comment, Ends, Escaped, Fault, IsBadEscape, IsCutOff, IsEscape, IsLostEscape, IsUnit, List, LostEscape, Mode, NoUnit, On, Open, Option, Quoted, QuotedEscaped, ScanState, Scanned, Some, Step, Token, UnclosedQuote, Written, [], after_backslash, after_digit, after_two_digits, and_cases, and_parts, ap, append-nil, append_assoc, arith, at_backslash, at_end, at_line_end, at_octet, bare, blank, cases_Bool, closed, closing, comment, comment_step, cond_both, decimal, depth_past, end_fault_of, ends_item, ends_number, eqb-false, eqb-true, escape_step, escaped, false, fed_line, inl, inr, is_blank, is_digit, is_quote, leb-false, leb-true, line_feed, nat_le, octet_of, on, one_digit, open_step, opening, or_cases, or_parts, plain, quoted, quoted_step, refl, rules, scan_of, scan_on, step_in, step_of, subst, suc, sym, take, text_of, too_great, true, two_digits, unclosed, unit_of_escape, written_text, ℕ, ◌++◌, ◌+◌, ◌-◌, ◌==◌, ◌||◌, ◌∙◌, ◌∷◌, ◌≡◌, ◌≢◌}
 use Rattle.zone_text.specs.declared.scan.AfterBackslash.{AfterBackslash}
 use Rattle.zone_text.specs.declared.scan.AfterBackslash.TheVariants.{Inside, Whole, Lost}
 use Rattle.zone_text.specs.declared.scan.Escape.{Escape}
 use Rattle.zone_text.specs.declared.scan.Escape.TheVariants.{Begun, One, Two}
-use Rattle.zone_text.specs.declared.scan.Mode.{Mode}
-use Rattle.zone_text.specs.declared.scan.Mode.TheVariants.{Open, Quoted, Comment, Escaped, QuotedEscaped}
-use Rattle.zone_text.specs.declared.scan.Scanned.{Scanned}
-use Rattle.zone_text.specs.declared.scan.ScanState.{ScanState}
-use Rattle.zone_text.specs.declared.scan.Step.{Step}
-use Rattle.zone_text.specs.declared.scan.Step.TheVariants.{On, Ends, LostEscape, ClosesNothing}
-use Rattle.zone_text.specs.Tokens.{Token, blank, opening, closing, line_feed, comment, bare, quoted, is_blank, ends_item}
-use Rattle.zone_text.specs.Lasting.{IsLostEscape, at_line_end, one_digit, two_digits, too_great, IsCutOff, after_backslash, after_digit, after_two_digits}
-use Rattle.zone_text.specs.Machine.Cutting.{depth_past}
-use Rattle.zone_text.specs.Machine.Scan.{on, fed_line, closed, open_step, quoted_step, comment_step, ends_number, escape_step, step_in, step_of, scan_on, scan_of, unclosed, end_fault_of}
 use Rattle.zone_text.specs.Machine.Scan as machine
 use Rattle.zone_text.proofs.Cuttings.{after_bare}
 use Rattle.zone_text.proofs.Fronts.{Takes, begins, first_octet_is}

@@ -1,14 +1,5 @@
 -- One octet of a scan, and how answers of scans are joined.
-use Rattle.std.proofs.Common.{◌≡◌, ℕ, Bool, ◌+◌, ◌-◌, ◌<◌, ◌≤◌, List, length, drop, get_or, false, ◌==◌, ◌||◌, refl, sym, ◌∙◌, subst, arith, rules}
-use Rattle.std.proofs.lemmas.Grind.{common_steps}
-use Rattle.std.proofs.lemmas.Bool.{or_parts, both_ways}
-use Rattle.zone_text.specs.declared.scan.Mode.{Mode}
-use Rattle.zone_text.specs.declared.scan.Mode.TheVariants.{Open, Quoted, Comment}
-use Rattle.zone_text.specs.declared.scan.Scanned.{Scanned}
-use Rattle.zone_text.specs.declared.scan.ScanState.{ScanState}
-use Rattle.zone_text.specs.declared.scan.Step.{Step}
-use Rattle.zone_text.specs.declared.scan.Step.TheVariants.{On, Ends, LostEscape, ClosesNothing}
-use Rattle.zone_text.specs.Machine.Scan.{on, moves, open_step, step_in, step_of, further, scan_on, scan_of, open_at, AreQuiet}
+use Rattle.zone_text.proofs.Common.{AreQuiet, Bool, ClosesNothing, Comment, Ends, List, LostEscape, Mode, On, Open, Quoted, ScanState, Scanned, Step, arith, both_ways, common_steps, drop, false, further, get_or, length, moves, on, open_at, open_step, or_parts, refl, rules, scan_of, scan_on, step_in, step_of, subst, sym, ℕ, ◌+◌, ◌-◌, ◌<◌, ◌==◌, ◌||◌, ◌∙◌, ◌≡◌, ◌≤◌}
 
 -- ---- an octet that leaves the state as it is
 

@@ -1,23 +1,7 @@
 -- What a scan says of the octets that it took: where it goes on and stops, and the tokens that they
 -- are.
-use Rattle.std.proofs.Common.{◌≡◌, ℕ, zero, suc, ◌+◌, ◌≤◌, List, [], ◌∷◌, ◌++◌, length, take, Option, Some, None, refl, sym, ap, ◌∙◌, subst, arith, ◌≢◌, ◌==◌, rules}
-use Rattle.std.proofs.Math.Seq.{take-length}
-use Rattle.std.proofs.lemmas.List.{length-take}
-use Rattle.std.specs.Prelude.{MatchOption}
-use Rattle.std.proofs.lemmas.Bool.{cond_both, eqb-true, eqb-false}
-use Rattle.zone_rdata.specs.declared.fault.Fault.{Fault}
-use Rattle.zone_rdata.specs.declared.fault.Fault.TheVariants.{BadEscape, UnbalancedParenthesis, UnclosedQuote}
-use Rattle.zone_text.specs.declared.scan.Scanned.{Scanned}
-use Rattle.zone_text.specs.declared.scan.ScanState.{ScanState}
-use Rattle.zone_text.specs.declared.scan.Step.{Step}
-use Rattle.zone_text.specs.declared.scan.Step.TheVariants.{On, Ends, LostEscape, ClosesNothing}
-use Rattle.zone_text.specs.Tokens.{Token, Cuts, line_feed, text}
-use Rattle.zone_text.specs.Breaks.{Breaks, IsBroken, closes_nothing as closes_none, no_escape, no_quoted_escape, no_quote, not_closed}
-use Rattle.zone_text.specs.Lasting.{BreaksForGood, IsLostEscape, IsCutOff, StaysBroken, closing_stays, escape_stays, quoted_escape_stays, BreaksAtEnd, quote_open, escape_open, quoted_escape_open}
-use Rattle.zone_text.specs.Entries.{Cut, cut_from, in_front_of}
-use Rattle.zone_text.specs.Decided.{AreTokens}
-use Rattle.zone_text.specs.Machine.Scan.{beginning, step_of, further, scan_on, scan_of, end_fault_of, IsOneEntry, unclosed}
-use Rattle.zone_text.specs.Machine.Cutting.{depth_past}
+use Rattle.zone_text.proofs.Common.{AreTokens, BadEscape, Breaks, BreaksAtEnd, BreaksForGood, ClosesNothing, Cut, Cuts, Ends, Fault, IsBroken, IsCutOff, IsLostEscape, IsOneEntry, List, LostEscape, MatchOption, None, On, Option, ScanState, Scanned, Some, StaysBroken, Step, Token, UnbalancedParenthesis, UnclosedQuote, [], ap, arith, beginning, closing_stays, cond_both, cut_from, depth_past, end_fault_of, eqb-false, eqb-true, escape_open, escape_stays, further, in_front_of, length, length-take, line_feed, no_escape, no_quote, no_quoted_escape, not_closed, quote_open, quoted_escape_open, quoted_escape_stays, refl, rules, scan_of, scan_on, step_of, subst, suc, sym, take, take-length, text, unclosed, zero, ℕ, ◌++◌, ◌+◌, ◌==◌, ◌∙◌, ◌∷◌, ◌≡◌, ◌≢◌, ◌≤◌}
+use Rattle.zone_text.specs.Breaks.{closes_nothing as closes_none}
 use Rattle.zone_text.proofs.Cuttings.{IsCut, cuts, breaks, no_token, one_token_more, text_on}
 use Rattle.zone_text.proofs.ForGood.{stays_for_good, ends_not_for_good}
 use Rattle.zone_text.proofs.ScanReads.{Reads, reads, EscapeAt, RanOut, EndsNone, ends, closes, runs_out, in_quote, in_escape, in_quoted_escape, then_more, escape_is_bad}

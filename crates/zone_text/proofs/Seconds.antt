@@ -1,8 +1,6 @@
 -- A time that is not cut off is itself.
-use Rattle.std.proofs.Common.{◌≡◌, ℕ, List, ◌<◌, ◌≤◌, min, subst, arith}
-use Rattle.zone_rdata.specs.Number.{IsTime}
+use Rattle.zone_text.proofs.Common.{IsTime, IsTtl, List, arith, min, subst, ℕ, ◌<◌, ◌≡◌, ◌≤◌}
 use Rattle.zone_rdata.proofs.TimeLaws.{one_time}
-use Rattle.zone_text.specs.Inherited.{IsTtl}
 
 pub time_within : (text : List ℕ) (n : ℕ) → ((m : ℕ) × (IsTime text m × (n ≡ min 4294967296 m))) → n ≤ 2147483647 → IsTime text n
 time_within text n found few =

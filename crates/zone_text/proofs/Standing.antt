@@ -1,17 +1,8 @@
 -- What a source stands for.
-use Rattle.std.proofs.Common.{◌≡◌, ℕ, ◌+◌, List, [], ◌++◌, length, true, false, IfSome, refl, arith, length-append, lit<, rules}
-use Rattle.std.proofs.lemmas.Bool.{both_ways}
-use Rattle.zone_name.specs.Common.{Labels}
+use Rattle.zone_text.proofs.Common.{EndedEntries, EntrySplitter, FileKept, FileReads, Follow, IfSome, Labels, List, Placed, SourceState, StandsForFile, [], arith, both_ways, counted, false, is_finished, length, length-append, lit<, refl, rules, state_of, true, ℕ, ◌++◌, ◌+◌, ◌≡◌}
 use Rattle.zone_rdata.proofs.Bytes.{Bytes, bytes_append}
-use Rattle.zone_rdata.specs.FedSource.{counted, is_finished, SourceState}
 use Rattle.zone_rdata.specs.declared.fed.FedStatus.{FedStatus}
 use Rattle.zone_rdata.specs.declared.fed.FedStatus.TheVariants.{Open, Finished}
-use Rattle.zone_rdata.specs.declared.record.Placed.{Placed}
-use Rattle.zone_text.specs.declared.ended.EndedEntries.{EndedEntries}
-use Rattle.zone_text.specs.declared.splitter.EntrySplitter.{EntrySplitter}
-use Rattle.zone_text.specs.Machine.Feeding.{Follow, state_of}
-use Rattle.zone_text.specs.TextSource.{FileKept, StandsForFile}
-use Rattle.zone_text.specs.FileReads.{FileReads}
 use Rattle.zone_rdata.specs.declared.rr_source.Reading.{Reading}
 use Rattle.zone_text.proofs.Followed.{Reads}
 use Rattle.zone_text.proofs.FedPieces.{FollowsOn}

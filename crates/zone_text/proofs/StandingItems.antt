@@ -1,16 +1,10 @@
 -- Items that stand as they are printed are the items of one line.
-use Rattle.std.proofs.Common.{◌≡◌, ◌≢◌, ℕ, ◌<◌, false, List, [], ◌∷◌, ◌++◌, length, map, refl, sym, ap, arith, append_assoc, rules}
-use Rattle.std.specs.Prelude.{IfSome}
-use Rattle.std.specs.List.{flat_map, AllByRecursion, join_with_byte}
-use Rattle.zone_name.specs.Spelling.{Written, text_of, IsUnit, written_text}
+use Rattle.zone_text.proofs.Common.{AllByRecursion, IfSome, IsItem, IsUnit, List, Token, Written, [], ap, append_assoc, arith, bare, ends_item, false, first_octet, flat_map, is_blank, item_of, join_with_byte, length, line_of, map, quoted, refl, rules, sym, text, text_of, token_text, written_text, ℕ, ◌++◌, ◌<◌, ◌∷◌, ◌≡◌, ◌≢◌}
 use Rattle.zone_name.proofs.Bare.{StandsBare, not_bare}
 use Rattle.zone_rdata.specs.Spelling.{RawItem}
 use Rattle.zone_rdata.specs.Spelling as raw
 use Rattle.zone_rdata.specs.Text.{written_item}
 use Rattle.zone_rdata.proofs.Standing.{IsPrintedItem}
-use Rattle.zone_text.specs.Entries.{first_octet, item_of}
-use Rattle.zone_text.specs.Line.{IsItem, line_of}
-use Rattle.zone_text.specs.Tokens.{Token, bare, quoted, text, token_text, is_blank, ends_item}
 
 -- ---- an item
 

@@ -1,15 +1,6 @@
 -- How far the first token of a text goes.
-use Rattle.std.proofs.Common.{◌≡◌, ◌≢◌, ℕ, suc, ◌+◌, ◌-◌, ◌<◌, ◌≤◌, min, Bool, true, false, ◌==◌, ◌||◌, List, [], ◌∷◌, ◌++◌, length, get_or, drop, refl, sym, ap, ◌∙◌, subst, arith, add-one, drop-cons, drop_of_length-le, rules}
-use Rattle.std.specs.List.{AllByRecursion}
-use Rattle.std.proofs.lemmas.Bool.{ne_eqb, both_ways}
+use Rattle.zone_text.proofs.Common.{AllByRecursion, Bool, EndsAt, IsUnit, ItemReaches, List, Written, [], add-one, ap, arith, before_line_feed, both_ways, common_steps, decimal, drop, drop-cons, drop-drop, drop_of_length-le, ends_item, escaped, false, get_or, is_digit, is_quote, item_len, length, length-drop, min, ne_eqb, plain, refl, rules, subst, suc, sym, true, written_text, ℕ, ◌++◌, ◌+◌, ◌-◌, ◌<◌, ◌==◌, ◌||◌, ◌∙◌, ◌∷◌, ◌≡◌, ◌≢◌, ◌≤◌}
 use Rattle.std.proofs.lemmas.Bool.Decides.{nat_tests}
-use Rattle.std.proofs.lemmas.Grind.{common_steps}
-use Rattle.std.proofs.lemmas.List.{length-drop, drop-drop}
-use Rattle.zone_name.specs.Spelling.{Written, plain, escaped, decimal, written_text, IsUnit, is_digit}
-use Rattle.zone_rdata.specs.Strings.{is_quote}
-use Rattle.zone_text.specs.Machine.Cutting.{before_line_feed}
-use Rattle.zone_text.specs.Machine.ItemLengths.{item_len, EndsAt, ItemReaches}
-use Rattle.zone_text.specs.Tokens.{ends_item}
 
 -- ---- items
 

@@ -1,20 +1,6 @@
 -- The words before a record's type, read from the left.
-use Rattle.std.proofs.Common.{◌≡◌, ℕ, ◌+◌, ◌<◌, Bool, true, false, List, [], ◌∷◌, ◌++◌, length, get_or, drop, map, Option, Some, None, MatchOption, inl, inr, refl, sym, ap, ◌∙◌, subst, append_assoc, add-one, drop-cons, rules}
-use Rattle.std.specs.List.{AllByRecursion}
-use Rattle.std.specs.Prelude.{is_some, IsSomeAnd}
-use Rattle.std.proofs.lemmas.List.{append-nil, drop-map}
-use Rattle.zone_name.specs.Common.{NothingIs}
-use Rattle.zone_name.proofs.Pushing.{AllByRecursion-append}
-use Rattle.zone_rdata.specs.Item.{RawItem, bare, raw}
-use Rattle.zone_rdata.specs.Words.{IsClass, IsClassWord}
-use Rattle.zone_rdata.specs.declared.fault.Fault.{Fault}
-use Rattle.zone_rdata.specs.declared.item.Item.{Item}
-use Rattle.zone_text.specs.EntryFault.{WordFault, WordsFault}
-use Rattle.zone_text.specs.Statements.{Word, ttl, class, ttl_among, class_among, Parts, parts_after, word_after, begins_with_digit, is_class_word}
-use Rattle.zone_text.specs.Inherited.{IsTtl}
-use Rattle.zone_text.specs.Machine.WordValues.{HaveValues, AreWordsOf}
-use Rattle.zone_text.specs.Records.{HasValue}
-use Rattle.zone_text.specs.declared.words.Words.{Words}
+use Rattle.zone_text.proofs.Common.{AllByRecursion, AllByRecursion-append, AreWordsOf, Bool, Fault, HasValue, HaveValues, IsClass, IsClassWord, IsSomeAnd, IsTtl, Item, List, MatchOption, None, NothingIs, Option, Parts, RawItem, Some, Word, WordFault, Words, WordsFault, [], add-one, ap, append-nil, append_assoc, begins_with_digit, class, class_among, drop, drop-cons, drop-map, false, get_or, inl, inr, is_class_word, is_some, length, map, parts_after, raw, refl, rules, subst, sym, true, ttl, ttl_among, word_after, ℕ, ◌++◌, ◌+◌, ◌<◌, ◌∙◌, ◌∷◌, ◌≡◌}
+use Rattle.zone_rdata.specs.Item.{bare}
 use Rattle.zone_text.proofs.ClassWords.{class_word_of, class_word_known}
 
 -- ---- whether a word was stated before

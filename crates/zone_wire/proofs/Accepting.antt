@@ -1,14 +1,5 @@
 -- The records of a transfer stand in order, and those but the closing SOA are handed on.
-use Rattle.std.proofs.Common.{◌≡◌, ◌≢◌, ℕ, ◌+◌, ◌≤◌, List, [], ◌∷◌, ◌++◌, length, refl, ap, sym, ◌∙◌, subst, Bool, true, false, append_assoc}
-use Rattle.std.specs.Prelude.{map, ◌==◌, ◌||◌, not}
-use Rattle.std.specs.List.{flat_map, filter, AllByRecursion, list_any}
-use Rattle.std.proofs.lemmas.Bool.{cond-true, cond-false, eq-eqb, or_from}
-use Rattle.std.proofs.lemmas.List.{append-nil}
-use Rattle.std.proofs.lemmas.List.Elements.{filter-append}
-use Rattle.zone_rdata.specs.Record.{Record}
-use Rattle.zone_rdata.specs.declared.record.Placed.{Placed}
-use Rattle.zone_wire.specs.Answers.{handed_on}
-use Rattle.zone_wire.specs.Transfer.{StatedMessage, AreStatedMessages, frame}
+use Rattle.zone_wire.proofs.Common.{AllByRecursion, AreStatedMessages, Bool, List, Placed, Record, StatedMessage, [], ap, append-nil, append_assoc, arith, cond-true, false, filter, filter-append, flat_map, frame, handed_on, length, list_any, map, not, or_from, refl, rules, subst, true, ℕ, ◌++◌, ◌+◌, ◌==◌, ◌||◌, ◌∙◌, ◌∷◌, ◌≡◌, ◌≢◌, ◌≤◌}
 use Rattle.zone_wire.proofs.Answering.{OpensWith, is_soa, InOrder, differ}
 
 pub all_append : {X : Type 0} (P : X → Type 0) (xs ys : List X) → AllByRecursion P xs → AllByRecursion P ys → AllByRecursion P (xs ++ ys)
@@ -17,7 +8,7 @@ all_append P (x ∷ xs) ys each also = (each.0, all_append P xs ys each.1 also)
 
 -- records in order, in two parts
 pub in_order_parts : (zone : Record) (before xs ys : List Placed) → InOrder zone before (xs ++ ys) → InOrder zone before xs × InOrder zone (before ++ xs) ys
-in_order_parts zone before [] ys order = (tt, subst (λ (b : List Placed). InOrder zone b ys) (sym (append-nil before)) order)
+in_order_parts zone before [] ys order = search rules
 in_order_parts zone before (x ∷ xs) ys order =
     let rest = in_order_parts zone (before ++ x ∷ []) xs ys order.1 in
     ((order.0, rest.0), subst (λ (b : List Placed). InOrder zone b ys) (append_assoc before (x ∷ []) xs) rest.1)
@@ -42,7 +33,7 @@ any_append (x ∷ xs) ys = ap (λ b. is_soa x || b) (any_append xs ys) ∙ or_as
 pub rest_in_order : (zone : Record) (opening closing : Placed) (done others : List Placed) → closing.rr ≡ opening.rr → list_any is_soa done ≡ false → AllByRecursion (λ (p : Placed). p.rr.kind ≢ 6) others → InOrder zone (opening ∷ done) (others ++ closing ∷ [])
 rest_in_order zone opening closing done [] same none each = ((none, λ kind. same), tt)
 rest_in_order zone opening closing done (p ∷ others) same none each =
-    ((none, λ kind. absurd (each.0 kind)), rest_in_order zone opening closing (done ++ p ∷ []) others same (any_append done (p ∷ []) ∙ or_from (list_any is_soa done) (list_any is_soa (p ∷ [])) none (or_from (is_soa p) false (differ p.rr.kind 6 each.0) refl)) each.1)
+    (search rules, rest_in_order zone opening closing (done ++ p ∷ []) others same (grind (arith, any_append, or_from, is_soa, differ)) each.1)
 
 others_kept : (others : List Placed) → AllByRecursion (λ (p : Placed). p.rr.kind ≢ 6) others → filter (λ (p : Placed). not (p.rr.kind == 6)) others ≡ others
 others_kept [] each = refl
@@ -59,5 +50,5 @@ short_parts id zone number (p ∷ parts) are = (are.0.short, short_parts id zone
 pub handed_transfer : (opening : Placed) (others : List Placed) (closing : Placed) → AllByRecursion (λ (p : Placed). p.rr.kind ≢ 6) others → closing.rr.kind ≡ 6 → handed_on (opening ∷ (others ++ closing ∷ [])) ≡ opening ∷ others
 handed_transfer opening others closing each soa =
     let test = λ (p : Placed). not (p.rr.kind == 6) in
-    let none : filter test (closing ∷ []) ≡ [] = cond-false (test closing) _ _ (ap not (eq-eqb closing.rr.kind 6 soa)) in
-    ap (λ x. opening ∷ x) (filter-append test others (closing ∷ []) ∙ ap (λ x. x ++ filter test (closing ∷ [])) (others_kept others each) ∙ ap (λ x. others ++ x) none ∙ append-nil others)
+    let none : filter test (closing ∷ []) ≡ [] = cc in
+    grind (arith, filter-append, others_kept, append-nil)

@@ -1,17 +1,6 @@
 -- A message is judged by itself, and by what messages before it that are alike have in common.
-use Rattle.std.proofs.Common.{◌≡◌, ℕ, ◌+◌, List, [], ◌∷◌, ◌++◌, length, refl, ap, sym, ◌∙◌, subst, inl, inr, append_assoc, length-append}
-use Rattle.std.specs.Prelude.{◌||◌, Option, Some, None}
-use Rattle.std.specs.List.{AllByRecursion, list_any}
-use Rattle.std.proofs.lemmas.List.{append-nil}
-use Rattle.zone_rdata.specs.Record.{Record}
-use Rattle.zone_rdata.specs.declared.fault.Fault.{Fault}
-use Rattle.zone_rdata.specs.declared.record.Placed.{Placed}
-use Rattle.zone_wire.specs.AnswerFault.{OrderFault, AnswersGive, no_more, states, refused}
-use Rattle.zone_wire.specs.Answers.{ZoneAsked, zone_of, AgreeWith, is_closed, ComesAfter}
-use Rattle.zone_wire.specs.Message.{QuestionAt, RecordAt, Sections}
-use Rattle.zone_wire.specs.Stream.{asked_in, placed_in, HasFirstId, AsksIn, AskAfter, GiveAfter, IsReadAfter, FaultAfter}
-use Rattle.zone_wire.specs.Transfer.{StatedMessage}
-use Rattle.zone_wire.specs.TransferSource.{StreamKept, first_id, opening_of, AreAlike}
+use Rattle.zone_wire.proofs.Common.{AgreeWith, AllByRecursion, AnswersGive, AreAlike, AskAfter, AsksIn, ComesAfter, Fault, FaultAfter, GiveAfter, HasFirstId, IsReadAfter, List, None, Option, OrderFault, Placed, QuestionAt, Record, RecordAt, Sections, Some, StatedMessage, StreamKept, ZoneAsked, [], ap, append-nil, append_assoc, asked_in, first_id, inl, inr, is_closed, length, length-append, list_any, no_more, opening_of, placed_in, refl, states, subst, sym, zone_of, ℕ, ◌++◌, ◌+◌, ◌||◌, ◌∙◌, ◌∷◌, ◌≡◌}
+use Rattle.zone_wire.specs.AnswerFault.{refused}
 use Rattle.zone_wire.proofs.Accepting.{any_append}
 use Rattle.zone_wire.proofs.Answering.{is_soa}
 use Rattle.zone_wire.proofs.Conditions.{unless_same}

@@ -1,39 +1,20 @@
 -- The faults of answers are those at which their records stop being read.
-use Rattle.std.proofs.Common.{◌≡◌, ◌≢◌, ℕ, ◌+◌, ◌<◌, ◌≤◌, List, [], ◌∷◌, length, refl, ap, sym, subst, Bool, true, false, nat_eq, inl, inr, arith}
-use Rattle.std.specs.Prelude.{◌==◌, ◌&&◌, not, Option, Some, None, Result, Ok, Err, if◌then◌else◌}
-use Rattle.std.specs.List.{list_any}
-use Rattle.std.proofs.lemmas.Bool.{and_parts, and_from, and_cases, eqb-true, eq-eqb, not-true, not-false, false_from_ne_true}
-use Rattle.zone_rdata.proofs.Bytes.{Bytes}
-use Rattle.zone_rdata.specs.Record.{Record}
-use Rattle.zone_rdata.specs.Words.{IsClass, IsKind, is_meta}
-use Rattle.zone_rdata.specs.declared.fault.Fault.{Fault}
-use Rattle.zone_rdata.specs.declared.fault.Fault.TheVariants.{BadClass, MetaType, CompressibleType, AfterClosing, NoOpeningSoa, BadQuestion, SoaMismatch}
-use Rattle.zone_rdata.specs.declared.record.Placed.{Placed}
+use Rattle.zone_wire.proofs.Common.{AgreeWith, AnswerStates, BadClass, BadQuestion, Bool, Bytes, ComesAfter, CompressibleType, Err, Fault, IsClass, IsKind, IsRecordAt, List, MetaType, NoFault, NoOpeningSoa, None, Ok, Option, OrderFault, OwnFault, Placed, QuestionAt, Record, RecordAt, Result, Some, Unless, ZoneAsked, [], agrees, and_cases, arith, compressible, data_at, eq-eqb, fails, false, if◌then◌else◌, inl, inr, is_meta, is_no_class, length, list_any, nat_eq, not, not-false, order_fault, own_record, refl, same_record, subst, true, ttl_of, zone_of, ℕ, ◌&&◌, ◌<◌, ◌==◌, ◌∷◌, ◌≡◌, ◌≢◌, ◌≤◌}
 use Rattle.zone_rdata.proofs.Layouts.{held_data, stringless_short}
-use Rattle.zone_wire.specs.AnswerFault.{OwnFault, OrderFault}
-use Rattle.zone_wire.specs.Answers.{ZoneAsked, zone_of, AgreeWith, ComesAfter}
-use Rattle.zone_wire.specs.Machine.Answers.{same_name, same_record, is_no_class, own_record, agrees, order_fault}
-use Rattle.zone_wire.specs.Machine.Data.{data_at}
-use Rattle.zone_wire.specs.Message.{u16_at, QuestionAt, RecordAt, IsRecordAt}
-use Rattle.zone_wire.specs.Transfer.{ttl_of, compressible, AnswerStates}
-use Rattle.zone_wire.specs.Unless.{Unless, fails, NoFault}
 use Rattle.zone_wire.proofs.Answering.{holds_data, none_of, names_same, records_same}
 use Rattle.zone_wire.proofs.DataFaults.{data_faults}
 use Rattle.zone_wire.proofs.Conditions.{option_unless, result_unless}
 use Rattle.zone_wire.proofs.MessageFaults.{some_same, stops, same_by}
-use Rattle.zone_wire.proofs.ReadAnswers.{each_other, record_shown, agree_parts, records_equal, agreed}
-use Rattle.zone_wire.proofs.ReadRecords.{no_class_parts, record_fits}
-use Rattle.zone_wire.proofs.ReadSections.{no_fault}
+use Rattle.zone_wire.proofs.ReadAnswers.{each_other, record_shown, agree_parts, records_equal}
+use Rattle.zone_wire.proofs.ReadRecords.{record_fits}
 use Rattle.zone_wire.proofs.Sectioning.{not_other}
 
 -- class and type take two octets
 pub record_words : (octets : List ℕ) (offset : ℕ) (a : RecordAt) → Bytes octets → IsRecordAt octets offset a → (a.class < 65536) × (a.kind < 65536)
-record_words octets offset a each is =
-    let word : (n : ℕ) → u16_at octets n < 65536 = λ n. omega (arith, each n, each (n + 1)) in
-    (subst (λ n. n < 65536) (sym (ap (λ (x : RecordAt). x.class) is.stands)) (word (is.found.end + 2)), subst (λ n. n < 65536) (sym (ap (λ (x : RecordAt). x.kind) is.stands)) (word is.found.end))
+record_words octets offset a each is = grind arith
 
 class_by : (n : ℕ) → n < 65536 → is_no_class n ≡ false → IsClass n
-class_by n few e = let parts = no_class_parts n e in record { short = few; not_zero = parts.0; not_none = parts.1; not_any = parts.2 }
+class_by n few e = grind arith
 
 abbrev record_with : RecordAt → List ℕ → Result Record Fault
 record_with a canonical = Ok (record { owner = a.owner; class = a.class; kind = a.kind; ttl = ttl_of a.ttl; octets = canonical })
@@ -63,7 +44,7 @@ agrees_by (Some zone) name class e = agree_parts name zone.name class zone.class
 
 pub agrees_true : (zone : Option ZoneAsked) (name : List (List ℕ)) (class : ℕ) → AgreeWith zone name class → agrees zone name class ≡ true
 agrees_true None name class is = refl
-agrees_true (Some zone) name class is = and_from (same_name name zone.name) (class == zone.class) (names_same name zone.name is.0) (eq-eqb class zone.class is.1)
+agrees_true (Some zone) name class is = grind (arith, names_same)
 
 pub disagrees : (zone : Option ZoneAsked) (name : List (List ℕ)) (class : ℕ) → agrees zone name class ≡ false → AgreeWith zone name class → ⊥
 disagrees zone name class e is = let yes = agrees_true zone name class is in cc
@@ -76,7 +57,7 @@ abbrev other_soa_test : Record → Placed → Bool
 other_soa_test r opening = r.kind == 6 && not (same_record r opening.rr)
 
 other_records : (r s : Record) → not (same_record r s) ≡ true → r ≢ s
-other_records r s e same = let yes = records_same r s same in let no : same_record r s ≡ false = not-true _ e in cc
+other_records r s e same = grind (arith, records_same)
 
 kept_soa : (r : Record) (opening : Placed) → other_soa_test r opening ≡ false → r.kind ≡ 6 → r ≡ opening.rr
 kept_soa r opening e kind = elim (and_cases (r.kind == 6) (not (same_record r opening.rr)) e) [
@@ -85,7 +66,7 @@ kept_soa r opening e kind = elim (and_cases (r.kind == 6) (not (same_record r op
 ]
 
 other_soa_false : (r : Record) (opening : Placed) → (r.kind ≡ 6 → r ≡ opening.rr) → other_soa_test r opening ≡ false
-other_soa_false r opening same = false_from_ne_true (other_soa_test r opening) (λ t. let parts = and_parts (r.kind == 6) (not (same_record r opening.rr)) t in other_records r opening.rr parts.1 (same (eqb-true _ _ parts.0)))
+other_soa_false r opening same = grind (arith, other_records)
 
 -- a record after others is refused with its first fault
 pub order_faults : (questions : List QuestionAt) (before : List Placed) (r : Record) (fault : Fault) → order_fault questions before r ≡ Some fault → OrderFault questions before r fault
@@ -93,15 +74,9 @@ order_faults questions [] r fault e =
     option_unless (not (r.kind == 6)) NoOpeningSoa _ fault (not_other r.kind 6) (same_by r.kind 6) (λ _ h.
     let last = last_test (agrees (zone_of questions []) r.owner r.class) BadQuestion fault h in
     subst (Unless (AgreeWith (zone_of questions []) r.owner r.class) BadQuestion NoFault) last.1 (fails (disagrees (zone_of questions []) r.owner r.class last.0))) e
-order_faults questions (opening ∷ others) r fault e =
-    option_unless (list_any (λ p. p.rr.kind == 6) others) AfterClosing _ fault (λ h. h) (λ h. h)
-    (λ _. option_unless (other_soa_test r opening) SoaMismatch None fault (other_soa_false r opening) (kept_soa r opening) (λ _ h. cc)) e
+order_faults questions (opening ∷ others) r fault e = grind (arith, option_unless, list_any, other_soa_false, kept_soa)
 
 -- a record that isn't refused stands after others
 pub order_stands : (questions : List QuestionAt) (before : List Placed) (r : Record) → order_fault questions before r ≡ None → ComesAfter questions before r
-order_stands questions [] r e =
-    let h = no_fault (not (r.kind == 6)) NoOpeningSoa _ e in
-    (same_by _ _ h.0, agrees_by (zone_of questions []) r.owner r.class (agreed _ BadQuestion h.1))
-order_stands questions (opening ∷ others) r e =
-    let h = no_fault (list_any (λ p. p.rr.kind == 6) others) AfterClosing _ e in
-    (h.0, kept_soa r opening (no_fault (other_soa_test r opening) SoaMismatch None h.1).0)
+order_stands questions [] r e = grind (arith, agrees_by)
+order_stands questions (opening ∷ others) r e = grind (arith, kept_soa)

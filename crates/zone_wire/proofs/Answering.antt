@@ -1,23 +1,11 @@
 -- The answer of a message is read as the record that it states, and in the order of a transfer.
-use Rattle.std.proofs.Common.{◌≡◌, ◌≢◌, ℕ, List, [], ◌∷◌, ◌++◌, refl, ap, sym, ◌∙◌, Bool, true, false, nat_eq, arith}
-use Rattle.std.specs.Prelude.{◌==◌, ◌&&◌, ◌||◌, ⊤}
-use Rattle.std.specs.List.{AllByRecursion, list_any}
-use Rattle.std.specs.Cmp.Lexicographic.{pointwise, pointwise_decides, bytes_decides}
-use Rattle.std.proofs.lemmas.Bool.{eq-eqb, and_from, or_from}
-use Rattle.std.proofs.lemmas.Bool.Decides.{nat_tests}
-use Rattle.zone_rdata.specs.Record.{Record}
-use Rattle.zone_rdata.specs.Words.{IsClass}
-use Rattle.zone_rdata.specs.declared.record.Placed.{Placed}
-use Rattle.zone_wire.specs.Machine.Answers.{same_name, same_record, is_no_class}
-use Rattle.zone_wire.specs.Answers.{zone_of, AgreeWith, ComesAfter}
-use Rattle.zone_wire.specs.Message.{QuestionAt}
-use Rattle.zone_wire.specs.Transfer.{AsksFor}
+use Rattle.zone_wire.proofs.Common.{AgreeWith, AllByRecursion, AsksFor, Bool, ComesAfter, IsClass, List, Placed, QuestionAt, Record, [], and_from, ap, arith, bytes_decides, eq-eqb, false, is_no_class, list_any, nat_eq, nat_tests, or_from, pointwise_decides, refl, rules, same_name, same_record, true, zone_of, ℕ, ⊤, ◌&&◌, ◌++◌, ◌==◌, ◌∙◌, ◌∷◌, ◌≡◌, ◌≢◌}
 
 pub differ : (a b : ℕ) → a ≢ b → nat_eq a b ≡ false
 differ a b h = grind (arith, nat_tests)
 
 pub holds_data : (n : ℕ) → IsClass n → is_no_class n ≡ false
-holds_data n is = or_from (n == 0 || n == 254) (n == 255) (or_from (n == 0) (n == 254) (differ n 0 is.not_zero) (differ n 254 is.not_none)) (differ n 255 is.not_any)
+holds_data n is = grind arith
 
 pub none_of : (kind : ℕ) (kinds : List ℕ) → AllByRecursion (λ k. kind ≢ k) kinds → list_any (nat_eq kind) kinds ≡ false
 none_of kind [] each = refl
@@ -29,8 +17,8 @@ names_same n m e = (pointwise_decides bytes_decides n m).1 e
 pub records_same : (r s : Record) → r ≡ s → same_record r s ≡ true
 records_same r s e =
     let place : (same_name s.owner s.owner && s.class == s.class) ≡ true = and_from (same_name s.owner s.owner) (s.class == s.class) (names_same s.owner s.owner refl) (eq-eqb s.class s.class refl) in
-    let head : (same_name s.owner s.owner && s.class == s.class && s.kind == s.kind && s.ttl == s.ttl) ≡ true = and_from (same_name s.owner s.owner && s.class == s.class && s.kind == s.kind) (s.ttl == s.ttl) (and_from (same_name s.owner s.owner && s.class == s.class) (s.kind == s.kind) place (eq-eqb s.kind s.kind refl)) (eq-eqb s.ttl s.ttl refl) in
-    let own : same_record s s ≡ true = and_from (same_name s.owner s.owner && s.class == s.class && s.kind == s.kind && s.ttl == s.ttl) (pointwise nat_eq s.octets s.octets) head ((bytes_decides s.octets s.octets).1 refl) in
+    let head : (same_name s.owner s.owner && s.class == s.class && s.kind == s.kind && s.ttl == s.ttl) ≡ true = search rules in
+    let own : same_record s s ≡ true = search rules in
     ap (λ x. same_record x s) e ∙ own
 
 -- records, if there are any, begin with the zone's SOA
@@ -40,9 +28,7 @@ OpensWith zone (opening ∷ placed) = opening.rr ≡ zone
 
 -- what the questions for a zone and its records fix is the zone
 pub zone_agrees : (zone : Record) (questions : List QuestionAt) (placed : List Placed) (name : List (List ℕ)) (class : ℕ) → AllByRecursion (AsksFor zone) questions → OpensWith zone placed → name ≡ zone.owner → class ≡ zone.class → AgreeWith (zone_of questions placed) name class
-zone_agrees zone (q ∷ questions) placed name class ask opens n c = (n ∙ sym ask.0.name, c ∙ sym ask.0.class)
-zone_agrees zone [] (opening ∷ placed) name class ask opens n c = (n ∙ ap (λ (r : Record). r.owner) (sym opens), c ∙ ap (λ (r : Record). r.class) (sym opens))
-zone_agrees zone [] [] name class ask opens n c = tt
+zone_agrees zone questions placed name class ask opens n c = grind arith
 
 abbrev pub is_soa : Placed → Bool
 is_soa p = p.rr.kind == 6
@@ -57,6 +43,4 @@ InOrder zone before [] = ⊤
 InOrder zone before (p ∷ placed) = Follows zone before p × InOrder zone (before ++ p ∷ []) placed
 
 pub follows_comes : (zone : Record) (questions : List QuestionAt) (before : List Placed) (p : Placed) → AllByRecursion (AsksFor zone) questions → Follows zone before p → ComesAfter questions before p.rr
-follows_comes zone questions [] p ask follows =
-    (ap (λ (r : Record). r.kind) follows.0 ∙ follows.1, zone_agrees zone questions [] p.rr.owner p.rr.class ask tt (ap (λ (r : Record). r.owner) follows.0) (ap (λ (r : Record). r.class) follows.0))
-follows_comes zone questions (opening ∷ others) p ask follows = follows
+follows_comes zone questions before p ask follows = grind arith

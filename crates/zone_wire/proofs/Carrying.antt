@@ -1,23 +1,11 @@
 -- A walk that is carried on from place to place: the walk from the start is what was met so far and
 -- the walk from here.
-use Rattle.std.proofs.Common.{◌≡◌, ℕ, zero, suc, ◌+◌, ◌-◌, ◌*◌, ◌<◌, ◌≤◌, List, [], ◌∷◌, ◌++◌, length, refl, ap, sym, ◌∙◌, subst, arith, length-append, append_assoc}
-use Rattle.std.specs.Prelude.{Option, Some, None, take, drop}
-use Rattle.std.specs.Option.{unwrap_or}
-use Rattle.std.specs.List.{flat_map}
-use Rattle.std.proofs.lemmas.List.{append-nil, length-take-le, length-drop}
-use Rattle.std.proofs.lemmas.List.Concat.{flat_map-append}
-use Rattle.zone_name.specs.Name.{with_length, wire}
+use Rattle.zone_wire.proofs.Common.{Fault, List, None, Option, Outcome, ShortMessage, Some, Spot, Standing, [], after_label, ap, append-nil, arith, at_fault, at_label, at_pointer, at_root, common_steps, drop, label_at, length, named, outcome, outset, past_label, past_pointer, refl, refused, rules, standing_in, subst, suc, sym, take, unwrap_or, walk, wire, zero, ℕ, ◌*◌, ◌++◌, ◌+◌, ◌-◌, ◌<◌, ◌∙◌, ◌∷◌, ◌≡◌, ◌≤◌}
 use Rattle.zone_name.specs.Spelling.{IsLabelFault}
 use Rattle.zone_name.specs.declared.fault.NameFault.{NameFault}
-use Rattle.zone_name.specs.declared.fault.NameFault.TheVariants.{EmptyLabel, LabelTooLong, NameTooLong, BadEscape, RelativeName}
-use Rattle.zone_wire.specs.Name.{label_at}
-use Rattle.zone_wire.specs.Walk.{Spot, Standing, at_root, at_label, at_pointer, at_fault, outset, past_label, past_pointer}
-use Rattle.zone_wire.specs.Machine.Walk.{standing_in, walk}
-use Rattle.zone_wire.specs.Machine.Finding.{Outcome, named, refused, outcome, after_label, after_pointer}
-use Rattle.zone_rdata.specs.declared.fault.Fault.{Fault}
-use Rattle.zone_rdata.specs.declared.fault.Fault.TheVariants.{ShortMessage}
+use Rattle.zone_name.specs.declared.fault.NameFault.TheVariants.{EmptyLabel, LabelTooLong, NameTooLong}
 use Rattle.zone_wire.proofs.Spots.{Shows, standing_shows}
-use Rattle.zone_wire.proofs.Walking.{outcome_by, outcome_at, outcome_step, label_octets, label_octets-label, label_octets-more, wire-octets}
+use Rattle.zone_wire.proofs.Walking.{outcome_by, outcome_at, outcome_step, label_octets, label_octets-label}
 
 -- what was met so far, and then what the rest leads to
 abbrev pub carried : List (List ℕ) → Option ℕ → ℕ → ℕ → Outcome → Outcome
@@ -34,8 +22,7 @@ pub record Carries (message : List ℕ) (offset : ℕ) (spot : Spot) (labels : L
   pub whole : outcome message (walk message offset) ≡ carried labels end steps spot.pointers (outcome_by left message spot)
 
 carried-none : (o : Outcome) → carried [] None 0 0 o ≡ o
-carried-none (named found) = grind arith
-carried-none (refused fault places) = grind arith
+carried-none o = grind arith
 
 -- the start
 pub carries_start : (message : List ℕ) (offset : ℕ) → Carries message offset (outset offset) [] None 0
@@ -43,25 +30,10 @@ unfolding walk outcome_by
 carries_start message offset = record { few = omega arith; pointers = omega arith; short = omega arith; octets = refl; left = 256; enough = refl; whole = sym (carried-none (outcome message (walk message offset))) }
 
 octets_of-push : (labels : List (List ℕ)) (l : List ℕ) → label_octets (labels ++ l ∷ []) ≡ label_octets labels + 1 + length l
-octets_of-push labels l = ap length (flat_map-append with_length labels (l ∷ [])) ∙ length-append (flat_map with_length labels) (flat_map with_length (l ∷ [])) ∙ omega (arith, label_octets-more l [])
+octets_of-push labels l = grind (arith, common_steps)
 
 carried-label : (labels : List (List ℕ)) (end : Option ℕ) (steps pointers : ℕ) (l : List ℕ) (o : Outcome) → carried labels end steps pointers (after_label l o) ≡ carried (labels ++ l ∷ []) end (steps + 1) pointers o
-carried-label labels end steps pointers l (named found) =
-    let front : labels ++ (l ∷ found.labels) ≡ (labels ++ l ∷ []) ++ found.labels = sym (append_assoc labels (l ∷ []) found.labels) in
-    let count : steps + suc found.steps ≡ steps + 1 + found.steps = omega arith in
-    cc
-carried-label labels end steps pointers l (refused fault places) =
-    let count : steps + suc places ≡ steps + 1 + places = omega arith in
-    cc
-
-carried-pointer : (labels : List (List ℕ)) (end : Option ℕ) (steps pointers here : ℕ) (o : Outcome) → carried labels end steps pointers (after_pointer here o) ≡ carried labels (Some (unwrap_or end here)) (steps + 1) (pointers + 1) o
-carried-pointer labels end steps pointers here (named found) =
-    let count : steps + suc found.steps ≡ steps + 1 + found.steps = omega arith in
-    let leads : pointers + suc found.pointers ≡ pointers + 1 + found.pointers = omega arith in
-    cc
-carried-pointer labels end steps pointers here (refused fault places) =
-    let count : steps + suc places ≡ steps + 1 + places = omega arith in
-    cc
+carried-label labels end steps pointers l o = grind (arith, common_steps)
 
 -- what a carried walk leads to whose next place is this
 record Reaches (message : List ℕ) (offset : ℕ) (spot : Spot) (labels : List (List ℕ)) (end : Option ℕ) (steps : ℕ) (standing : Option Standing) : Type 0 where
@@ -70,11 +42,11 @@ record Reaches (message : List ℕ) (offset : ℕ) (spot : Spot) (labels : List 
   whole : outcome message (walk message offset) ≡ carried labels end steps spot.pointers (outcome_at message after spot standing)
 
 reaches_by : (message : List ℕ) (offset : ℕ) (spot : Spot) (labels : List (List ℕ)) (end : Option ℕ) (steps : ℕ) (standing : Option Standing) (left : ℕ) → steps + left ≡ 256 → steps ≤ 255 → outcome message (walk message offset) ≡ carried labels end steps spot.pointers (outcome_by left message spot) → standing_in message spot ≡ standing → Reaches message offset spot labels end steps standing
-reaches_by message offset spot labels end steps standing zero enough few whole e = absurd (omega arith)
-reaches_by message offset spot labels end steps standing (suc after) enough few whole e = record { after = after; enough = enough; whole = whole ∙ ap (carried labels end steps spot.pointers) (outcome_step message after spot standing e) }
+reaches_by message offset spot labels end steps standing zero enough few whole e = grind arith
+reaches_by message offset spot labels end steps standing (suc after) enough few whole e = grind (arith, outcome_step)
 
 reaches : {message : List ℕ} {offset : ℕ} {spot : Spot} {labels : List (List ℕ)} {end : Option ℕ} {steps : ℕ} (standing : Option Standing) → Carries message offset spot labels end steps → standing_in message spot ≡ standing → Reaches message offset spot labels end steps standing
-reaches {message} {offset} {spot} {labels} {end} {steps} standing c e = reaches_by message offset spot labels end steps standing c.left c.enough (omega (arith, c.few, c.short, c.pointers)) c.whole e
+reaches {message} {offset} {spot} {labels} {end} {steps} standing c e = grind (arith, reaches_by)
 
 -- after a label
 pub carries_label : {message : List ℕ} {offset : ℕ} {spot : Spot} {labels : List (List ℕ)} {end : Option ℕ} {steps : ℕ} (size : ℕ) → Carries message offset spot labels end steps → standing_in message spot ≡ Some (at_label size) → Carries message offset (past_label spot size) (labels ++ label_at message spot.offset size ∷ []) end (steps + 1)
@@ -82,30 +54,14 @@ carries_label {message} {offset} {spot} {labels} {end} {steps} size c e =
     let r = reaches (Some (at_label size)) c e in
     let shows : Shows message spot (Some (at_label size)) = subst (Shows message spot) e (standing_shows message spot) in
     let l = label_at message spot.offset size in
-    record {
-      few = omega (arith, c.few, shows.0.some);
-      pointers = c.pointers;
-      short = omega (arith, shows.1);
-      octets = omega (arith, c.octets, octets_of-push labels l, label_octets-label message spot.offset size shows.0.inside);
-      left = r.after;
-      enough = omega (arith, r.enough);
-      whole = r.whole ∙ carried-label labels end steps spot.pointers l (outcome_by r.after message (past_label spot size));
-    }
+    search (rules, octets_of-push, label_octets-label, carried-label, outcome_by)
 
 -- where a pointer leads
 pub carries_pointer : {message : List ℕ} {offset : ℕ} {spot : Spot} {labels : List (List ℕ)} {end : Option ℕ} {steps : ℕ} (target : ℕ) → Carries message offset spot labels end steps → standing_in message spot ≡ Some (at_pointer target) → Carries message offset (past_pointer spot target) labels (Some (unwrap_or end (spot.offset + 2))) (steps + 1)
 carries_pointer {message} {offset} {spot} {labels} {end} {steps} target c e =
     let r = reaches (Some (at_pointer target)) c e in
     let shows : Shows message spot (Some (at_pointer target)) = subst (Shows message spot) e (standing_shows message spot) in
-    record {
-      few = omega (arith, c.few);
-      pointers = omega (arith, shows.1);
-      short = c.short;
-      octets = c.octets;
-      left = r.after;
-      enough = omega (arith, r.enough);
-      whole = r.whole ∙ carried-pointer labels end steps spot.pointers (spot.offset + 2) (outcome_by r.after message (past_pointer spot target));
-    }
+    search rules
 
 -- at the root
 pub carries_root : {message : List ℕ} {offset : ℕ} {spot : Spot} {labels : List (List ℕ)} {end : Option ℕ} {steps : ℕ} → Carries message offset spot labels end steps → standing_in message spot ≡ Some at_root → outcome message (walk message offset) ≡ named (record { labels = labels; end = unwrap_or end (spot.offset + 1); steps = steps + 1; pointers = spot.pointers })
@@ -134,14 +90,8 @@ pointer_shows message spot target e = subst (Shows message spot) e (standing_sho
 
 -- a label that fits a name is pushed
 pub push_fits : (fault : NameFault) (octets : List ℕ) (labels : List (List ℕ)) → IsLabelFault fault → (fault ≡ EmptyLabel → length octets ≡ 0) → (fault ≡ LabelTooLong → 63 < length octets) → (fault ≡ NameTooLong → 255 < length (wire (labels ++ octets ∷ []))) → 0 < length octets → length octets ≤ 63 → label_octets labels + length octets + 2 ≤ 255 → ⊥
-push_fits EmptyLabel octets labels is empty long too_long some short room = omega (arith, empty refl)
-push_fits LabelTooLong octets labels is empty long too_long some short room = omega (arith, long refl)
-push_fits NameTooLong octets labels is empty long too_long some short room = omega (arith, too_long refl, wire-octets (labels ++ octets ∷ []), octets_of-push labels octets)
-push_fits BadEscape octets labels is empty long too_long some short room = is
-push_fits RelativeName octets labels is empty long too_long some short room = is
+push_fits fault octets labels is empty long too_long some short room = grind (arith, common_steps)
 
 -- the octets of a label, as a part of the message
 pub part_length : (message : List ℕ) (offset size : ℕ) → offset + size < length message → length (take (offset + 1 + size - (offset + 1)) (drop (offset + 1) message)) ≡ size
-part_length message offset size h =
-    let n : offset + 1 + size - (offset + 1) ≡ size = omega arith in
-    ap (λ k. length (take k (drop (offset + 1) message))) n ∙ length-take-le size (drop (offset + 1) message) (omega (arith, length-drop (offset + 1) message))
+part_length message offset size h = grind (arith, common_steps)

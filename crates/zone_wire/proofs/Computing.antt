@@ -1,23 +1,5 @@
 -- Names and walks that compute.
-use Rattle.std.proofs.Common.{◌≡◌, ℕ, zero, suc, ◌+◌, ◌<◌, ◌≤◌, ◌++◌, length, nat_le, Bool, true, ◌&&◌, nat_lt, List, [], ◌∷◌, lit<, refl, subst}
-use Rattle.std.specs.Prelude.{get_or, Option}
-use Rattle.std.specs.List.{flat_map, list_all}
-use Rattle.std.specs.Option.{option_or}
-use Rattle.std.proofs.lemmas.Bool.{and_parts, ltb-true, leb-true}
-use Rattle.zone_rdata.specs.declared.fault.Fault.{Fault}
-use Rattle.zone_rdata.specs.declared.fault.Place.{Place}
-use Rattle.zone_wire.specs.Machine.Answers.{Answered}
-use Rattle.zone_wire.specs.Message.{u16_at}
-use Rattle.zone_wire.specs.Machine.Stream.{stream_records}
-use Rattle.zone_wire.specs.Answers.{handed_on}
-use Rattle.zone_wire.specs.Stream.{end_fault, StreamReads}
-use Rattle.zone_wire.specs.Frames.{IsFramed}
-use Rattle.zone_wire.specs.Transfer.{frame}
-use Rattle.zone_wire.specs.Name.{Found, IsNameAt}
-use Rattle.zone_wire.specs.Machine.Finding.{named, outcome}
-use Rattle.zone_wire.specs.Walk.{ending}
-use Rattle.zone_wire.specs.Machine.Walk.{walk}
-use Rattle.zone_wire.specs.Examples.{after_zeros, WalkEnds}
+use Rattle.zone_wire.proofs.Common.{Answered, Bool, Fault, Found, IsFramed, IsNameAt, List, Option, Place, StreamReads, WalkEnds, [], after_zeros, and_parts, end_fault, ending, flat_map, frame, get_or, handed_on, leb-true, length, list_all, lit<, ltb-true, named, nat_le, nat_lt, option_or, outcome, refl, stream_records, subst, suc, true, u16_at, walk, zero, ℕ, ◌&&◌, ◌++◌, ◌+◌, ◌<◌, ◌∷◌, ◌≡◌, ◌≤◌}
 use Rattle.zone_wire.proofs.Conditions.{all_by}
 use Rattle.zone_wire.proofs.GivenStreams.{stream_decides}
 use Rattle.zone_wire.proofs.Walking.{walk_names}

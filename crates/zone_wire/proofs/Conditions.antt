@@ -1,9 +1,5 @@
 -- Conditions in an order, and the tests that decide them.
-use Rattle.std.proofs.Common.{◌≡◌, List, [], ◌∷◌, refl, subst, Bool, true, false}
-use Rattle.std.specs.Prelude.{Option, Some, Result, Err, if◌then◌else◌}
-use Rattle.std.specs.List.{AllByRecursion, list_all}
-use Rattle.std.proofs.lemmas.Bool.{and_parts, and_from}
-use Rattle.zone_wire.specs.Unless.{Unless, fails, holds}
+use Rattle.zone_wire.proofs.Common.{AllByRecursion, Bool, Err, List, Option, Result, Some, Unless, [], and_from, and_parts, fails, false, holds, if◌then◌else◌, list_all, refl, subst, true, ◌∷◌, ◌≡◌}
 
 -- conditions have one first fault
 pub unless_one : {E Holds : Type 0} {next : E → Type 0} {first e f : E} → ((a b : E) → next a → next b → a ≡ b) → Unless Holds first next e → Unless Holds first next f → e ≡ f

@@ -1,24 +1,5 @@
 -- The faults of a record's data are those at which its fields stop being read.
-use Rattle.std.proofs.Common.{◌≡◌, ℕ, ◌+◌, ◌<◌, ◌≤◌, List, [], ◌∷◌, length, refl, ap, sym, ◌∙◌, subst, true, nat_le, nat_lt, nat_eq, inl, inr}
-use Rattle.std.specs.Prelude.{get_or, slice_index, ◌==◌, ◌&&◌, Option, Some, None, MatchOption, Result, Ok, Err}
-use Rattle.std.specs.Cmp.Lexicographic.{pointwise}
-use Rattle.std.specs.List.{flat_map}
-use Rattle.std.proofs.lemmas.Bool.{leb-false, eq-eqb}
-use Rattle.zone_name.specs.Name.{with_length}
-use Rattle.zone_rdata.specs.Field.{FieldValue, name, strings, field_at, octets_of}
-use Rattle.zone_rdata.specs.Fields.Strings.{strings_of}
-use Rattle.zone_rdata.specs.Layout.{layout}
-use Rattle.zone_rdata.specs.declared.fault.Fault.{Fault}
-use Rattle.zone_rdata.specs.declared.fault.Fault.TheVariants.{BadRdata}
-use Rattle.zone_rdata.specs.declared.field.Field.{Field}
-use Rattle.zone_rdata.specs.declared.field.Field.TheVariants.{Name, Serial, Time, U16, Octets, OneString, Strings}
-use Rattle.zone_wire.specs.DataFault.{IsFieldAt, FieldFault, FieldsFault, DataFault}
-use Rattle.zone_wire.specs.Machine.Data.{name_before, sized_before, strings_before, value_at, values_at, data_at}
-use Rattle.zone_wire.specs.Machine.Finding.{Outcome, named, refused, outcome}
-use Rattle.zone_wire.specs.Machine.Sections.{and_then}
-use Rattle.zone_wire.specs.Machine.Walk.{walk}
-use Rattle.zone_wire.specs.Message.{RecordAt}
-use Rattle.zone_wire.specs.Transfer.{octets_between}
+use Rattle.zone_wire.proofs.Common.{BadRdata, DataFault, Err, Fault, Field, FieldFault, FieldValue, FieldsFault, IsFieldAt, List, MatchOption, Name, None, Octets, Ok, OneString, Option, Outcome, RecordAt, Result, Serial, Some, Strings, Time, U16, [], and_then, ap, data_at, eq-eqb, field_at, flat_map, get_or, inl, inr, layout, leb-false, length, name, name_before, named, nat_eq, nat_le, nat_lt, octets_between, octets_of, outcome, pointwise, refl, refused, sized_before, slice_index, strings, strings_before, strings_of, subst, sym, true, value_at, values_at, walk, with_length, ℕ, ◌&&◌, ◌+◌, ◌<◌, ◌==◌, ◌∙◌, ◌∷◌, ◌≡◌, ◌≤◌}
 use Rattle.zone_wire.proofs.Fielding.{value_reads}
 use Rattle.zone_wire.proofs.MessageFaults.{err_same, fails_test, stops, name_refused}
 use Rattle.zone_wire.proofs.ReadFields.{value_shows}

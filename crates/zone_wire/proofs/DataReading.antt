@@ -1,29 +1,6 @@
 -- The data of a record is read into a builder.
-use Rattle.std.proofs.Common.{◌≡◌, ◌≢◌, ℕ, zero, suc, ◌+◌, ◌-◌, ◌*◌, ◌<◌, ◌≤◌, List, [], ◌∷◌, ◌++◌, length, drop, get_or, refl, sym, ap, ◌∙◌, subst, arith, false, inl, inr, append_assoc, length-append}
-use Rattle.std.specs.Prelude.{slice_get, ◌==◌, if◌then◌else◌, Option, Some, None, Result, Ok, Err}
-use Rattle.std.specs.List.{flat_map, AllByRecursion}
-use Rattle.std.specs.Option.{option_or}
-use Rattle.std.proofs.lemmas.Bool.{eq-eqb, cond-true, cond-false}
-use Rattle.std.proofs.lemmas.Bool.Decides.{nat_tests}
-use Rattle.std.proofs.lemmas.List.{drop_all, length-take, append-nil}
-use Rattle.std.proofs.lemmas.List.Concat.{flat_map-append}
-use Rattle.zone_name.specs.Name.{with_length}
-use Rattle.zone_rdata.specs.declared.fault.Fault.{Fault}
-use Rattle.zone_rdata.specs.declared.fault.Fault.TheVariants.{BadRdata}
-use Rattle.zone_rdata.specs.declared.field.Field.{Field}
-use Rattle.zone_rdata.specs.declared.field.Field.TheVariants.{Strings}
-use Rattle.zone_rdata.specs.Builder.{Built, IsNext, IsWhole, ends_with_strings, part_at, Pushes, IsPushFault, misplaced, long_string, too_long}
-use Rattle.zone_rdata.specs.Field.{FieldValue, name, u32_value, u16_value, fixed, string, strings, field_octets, octets_of, Suits, Holds, HoldEach}
-use Rattle.zone_rdata.specs.Layout.{IsSized, layout}
-use Rattle.zone_rdata.proofs.Building.{octets_push}
-use Rattle.zone_rdata.proofs.Tables.{table_row}
+use Rattle.zone_wire.proofs.Common.{AllByRecursion, Awaits, AwaitsStrings, BadRdata, Built, Err, Fault, Field, FieldValue, HoldEach, Holds, IsNext, IsPushFault, IsRead, IsReadyFor, IsRecordAt, IsSized, IsWhole, List, None, Ok, Option, Pushes, PutsValue, PutsValues, RawRecord, RecordAt, Result, Some, Strings, Suits, [], and_then, ap, append-nil, append_assoc, arith, cond-false, cond-true, data_at, drop, drop_all, ends_with_strings, eq-eqb, false, field_octets, fixed, flat_map, flat_map-append, get_or, if◌then◌else◌, inl, inr, layout, length, length-append, length-take, long_string, misplaced, name, nat_tests, octets_between, octets_of, octets_push, option_or, part_at, parts_for, put_after, refl, slice_get, strings, subst, suc, sym, table_row, too_long, u16_value, u32_value, value_at, values_at, zero, ℕ, ◌*◌, ◌++◌, ◌+◌, ◌-◌, ◌<◌, ◌==◌, ◌∙◌, ◌∷◌, ◌≡◌, ◌≢◌, ◌≤◌}
 use Rattle.zone_rdata.proofs.AnyField.{field_short}
-use Rattle.zone_wire.specs.Machine.Data.{value_at, values_at, data_at}
-use Rattle.zone_wire.specs.Machine.DataReading.{parts_for, put_after, Awaits, AwaitsStrings, IsReadyFor, IsRead, PutsValue, PutsValues}
-use Rattle.zone_wire.specs.Machine.Sections.{and_then}
-use Rattle.zone_wire.specs.Message.{u16_at, IsRecordAt, RecordAt}
-use Rattle.zone_wire.specs.Transfer.{octets_between}
-use Rattle.zone_wire.specs.View.{RawRecord}
 use Rattle.zone_wire.proofs.ReadFields.{value_shows, values_show}
 use Rattle.zone_wire.proofs.MessageFaults.{and_then_err}
 use Rattle.zone_wire.proofs.ReadRecords.{IsRow, each_row}
@@ -53,8 +30,7 @@ within_fields (f ∷ fields) zero field e = omega arith
 within_fields (f ∷ fields) (suc i) field e = let h = within_fields fields i field e in omega arith
 
 only_strings : (i : ℕ) (field : Field) → slice_get (Strings ∷ []) i ≡ Some field → (i ≡ 0) × (field ≡ Strings)
-only_strings zero field e = (refl, cc)
-only_strings (suc i) field e = absurd (let t : ⊥ = cc in t)
+only_strings i field e = grind arith
 
 -- the values of the fields before a place were put
 pub record HaveValues (octets : List ℕ) (end start : ℕ) (fields : List Field) (old now : Built) (count place : ℕ) : Type 0 where
@@ -68,17 +44,13 @@ pub record HaveValues (octets : List ℕ) (end start : ℕ) (fields : List Field
   pub inside : place ≤ end
 
 plain_ready : (octets : List ℕ) (end start : ℕ) (b : Built) (field : Field) → field ≢ Strings → Awaits octets end start b field → IsReadyFor octets end start b field
-plain_ready octets end start b Strings other w = absurd (other refl)
-plain_ready octets end start b field other w = w
+plain_ready octets end start b field other w = grind arith
 
 strings_next : (n : ℕ) → part_at (Strings ∷ []) n ≡ Some Strings
-strings_next zero = refl
-strings_next (suc n) = refl
+strings_next n = grind arith
 
 plain_parts : (field : Field) (value : FieldValue) → field ≢ Strings → Holds field value → parts_for value ≡ value ∷ []
-plain_parts Strings value other held = absurd (other refl)
-plain_parts field (strings many) other held = absurd held
-plain_parts field value other held = refl
+plain_parts field value other held = grind arith
 
 module _ (octets : List ℕ) (each : (k : ℕ) → get_or octets k 0 < 256) (end start : ℕ) (within : end ≤ length octets) (fields : List Field) (old : Built) (laid : layout old.class old.kind ≡ Some fields) (new : old.parts ≡ []) where
   own_parts : (now : Built) (count place : ℕ) (h : HaveValues octets end start fields old now count place) → now.parts ≡ flat_map parts_for h.values
@@ -186,10 +158,7 @@ module _ (octets : List ℕ) (each : (k : ℕ) → get_or octets k 0 < 256) (end
 -- ---- the data of a record
 -- its length is a number of 16 bits
 pub data_short : (octets : List ℕ) (offset : ℕ) (a : RecordAt) → ((k : ℕ) → get_or octets k 0 < 256) → IsRecordAt octets offset a → (a.start ≤ a.end) × (a.end ≤ a.start + 65535)
-data_short octets offset a each is =
-    let start : a.start ≡ is.found.end + 10 = ap (λ (x : RecordAt). x.start) is.stands in
-    let end : a.end ≡ is.found.end + 10 + u16_at octets (is.found.end + 8) = ap (λ (x : RecordAt). x.end) is.stands in
-    (omega (arith, start, end), omega (arith, start, end, each (is.found.end + 8), each (is.found.end + 8 + 1)))
+data_short octets offset a each is = grind arith
 
 -- the data of a record whose values are read
 laid_data : (octets : List ℕ) (a : RecordAt) (fields : List Field) → layout a.class a.kind ≡ Some fields → data_at octets a ≡ and_then (values_at octets a.end a.start fields) (λ values. Ok (octets_of values))
@@ -201,12 +170,7 @@ unfolding data_at
 opaque_data octets a e = ap (λ (o : Option (List Field)). let r : Result (List ℕ) Fault = elim o [ None ↦ Ok (octets_between octets a.start a.end) | Some fs ↦ and_then (values_at octets a.end a.start fs) (λ values. Ok (octets_of values)) ] in r) e
 
 part_octets : (v : FieldValue) → octets_of (parts_for v) ≡ field_octets v
-part_octets (strings many) = octets_of_strings many
-part_octets (name labels) = append-nil (field_octets (name labels))
-part_octets (u32_value n) = append-nil (field_octets (u32_value n))
-part_octets (u16_value n) = append-nil (field_octets (u16_value n))
-part_octets (fixed octets) = append-nil octets
-part_octets (string text) = append-nil (with_length text)
+part_octets v = grind (arith, octets_of_strings, append-nil, field_octets, name, u32_value, u16_value)
 
 all_octets : (values : List FieldValue) → octets_of (flat_map parts_for values) ≡ octets_of values
 all_octets [] = refl

@@ -1,16 +1,5 @@
 -- Where names, questions and records of a message end, and the first fault before that.
-use Rattle.std.proofs.Common.{◌≡◌, ℕ, suc, ◌+◌, ◌-◌, ◌<◌, ◌≤◌, List, ◌∷◌, length, refl, ap, sym, ◌∙◌, subst, arith, false, nat_le}
-use Rattle.std.specs.Prelude.{get_or, Result, Ok, Err}
-use Rattle.std.proofs.lemmas.Bool.{cond-true, cond-false, le-leb}
-use Rattle.std.proofs.lemmas.Bool.Decides.{nat_tests}
-use Rattle.zone_rdata.specs.declared.fault.Fault.{Fault}
-use Rattle.zone_rdata.specs.declared.fault.Fault.TheVariants.{ShortMessage}
-use Rattle.zone_wire.specs.Message.{u16_at}
-use Rattle.zone_wire.specs.Name.{Found}
-use Rattle.zone_wire.specs.Machine.Finding.{Outcome, named, refused, outcome}
-use Rattle.zone_wire.specs.Machine.Parsing.{name_end_of, part_end_of, run_end_of}
-use Rattle.zone_wire.specs.Machine.Sections.{and_then, at_offset, inside, record_at, each_from, records_from}
-use Rattle.zone_wire.specs.Machine.Walk.{walk}
+use Rattle.zone_wire.proofs.Common.{Err, Fault, List, Ok, Outcome, Result, and_then, ap, arith, get_or, length, name_end_of, named, outcome, part_end_of, record_at, records_from, refused, run_end_of, subst, sym, u16_at, walk, ℕ, ◌+◌, ◌-◌, ◌<◌, ◌∷◌, ◌≡◌, ◌≤◌}
 use Rattle.zone_wire.proofs.Walking.{walk_names, name_bounds}
 
 ended_inside : (message : List ℕ) (offset : ℕ) → ((k : ℕ) → get_or message k 0 < 256) → (o : Outcome) → outcome message (walk message offset) ≡ o → (end : ℕ) → Ok end ≡ name_end_of o → end ≤ length message
@@ -21,65 +10,23 @@ ended_inside message offset each (refused fault steps) e end ends = cc
 
 -- a name ends inside its message
 pub name_ends_inside : (message : List ℕ) (offset : ℕ) → ((k : ℕ) → get_or message k 0 < 256) → (end : ℕ) → Ok end ≡ name_end_of (outcome message (walk message offset)) → end ≤ length message
-name_ends_inside message offset each end ends = ended_inside message offset each (outcome message (walk message offset)) refl end ends
-
-not_inside : (a b : ℕ) → b < a → nat_le a b ≡ false
-not_inside a b h = grind (arith, nat_tests)
-
-pub inside_refused : {X : Type 0} (octets : List ℕ) (by : Found → X) (end_of : X → ℕ) (o : Outcome) (fault : Fault) → Err fault ≡ name_end_of o → Err fault ≡ part_end_of end_of (inside octets by end_of o)
-inside_refused octets by end_of (refused other steps) fault e = e
-inside_refused octets by end_of (named found) fault e = cc
+name_ends_inside message offset each end ends = grind (arith, ended_inside)
 
 -- a part whose end is this far after that of its name
-pub inside_ends : {X : Type 0} (octets : List ℕ) (by : Found → X) (end_of : X → ℕ) (past : ℕ → ℕ) → ((found : Found) → end_of (by found) ≡ past found.end) → (o : Outcome) (end : ℕ) → Ok end ≡ name_end_of o → past end ≤ length octets → Ok (past end) ≡ part_end_of end_of (inside octets by end_of o)
-inside_ends octets by end_of past ends (named found) end e h =
-    let same : end ≡ found.end = cc in
-    let there : past end ≡ end_of (by found) = ap past same ∙ sym (ends found) in
-    ap Ok there ∙ sym (ap (part_end_of end_of) (cond-true _ _ _ (le-leb _ _ (subst (λ n. n ≤ length octets) there h))))
-inside_ends octets by end_of past ends (refused fault steps) end e h = cc
-
-pub inside_short : {X : Type 0} (octets : List ℕ) (by : Found → X) (end_of : X → ℕ) (past : ℕ → ℕ) → ((found : Found) → end_of (by found) ≡ past found.end) → (o : Outcome) (end : ℕ) → Ok end ≡ name_end_of o → length octets < past end → Err ShortMessage ≡ part_end_of end_of (inside octets by end_of o)
-inside_short octets by end_of past ends (named found) end e h =
-    let same : end ≡ found.end = cc in
-    let there : past end ≡ end_of (by found) = ap past same ∙ sym (ends found) in
-    sym (ap (part_end_of end_of) (cond-false _ _ _ (not_inside _ _ (subst (λ n. length octets < n) there h))))
-inside_short octets by end_of past ends (refused fault steps) end e h = cc
-
 -- the offset after a record whose name ends here
 abbrev pub past_record : List ℕ → ℕ → ℕ
 past_record octets end = end + 10 + u16_at octets (end + 8)
 
 same_end : {X : Type 0} (x : X) (r : Result (List X × ℕ) (Fault × ℕ)) → run_end_of (and_then r (λ others. Ok (x ∷ others.0, others.1))) ≡ run_end_of r
-same_end x (Ok run) = refl
-same_end x (Err e) = refl
+same_end x r = grind arith
 
 -- parts, by the end of the first
-pub run_goes_on : {X : Type 0} (read : ℕ → Result X Fault) (end_of : X → ℕ) (count offset next : ℕ) → Ok next ≡ part_end_of end_of (read offset) → run_end_of (each_from read end_of (suc count) offset) ≡ run_end_of (each_from read end_of count next)
-run_goes_on {X} read end_of count offset next ends = by (read offset) ends
-  where
-    by : (first : Result X Fault) → Ok next ≡ part_end_of end_of first → run_end_of (and_then (at_offset offset first) (λ x. and_then (each_from read end_of count (end_of x)) (λ others. Ok (x ∷ others.0, others.1)))) ≡ run_end_of (each_from read end_of count next)
-    by (Ok x) e =
-        let same : next ≡ end_of x = cc in
-        same_end x (each_from read end_of count (end_of x)) ∙ ap (λ n. run_end_of (each_from read end_of count n)) (sym same)
-    by (Err fault) e = cc
-
-pub run_refused : {X : Type 0} (read : ℕ → Result X Fault) (end_of : X → ℕ) (count offset : ℕ) (fault : Fault) → Err fault ≡ part_end_of end_of (read offset) → Err (fault, offset) ≡ run_end_of (each_from read end_of (suc count) offset)
-run_refused {X} read end_of count offset fault e = by (read offset) e
-  where
-    by : (first : Result X Fault) → Err fault ≡ part_end_of end_of first → Err (fault, offset) ≡ run_end_of (and_then (at_offset offset first) (λ x. and_then (each_from read end_of count (end_of x)) (λ others. Ok (x ∷ others.0, others.1))))
-    by (Ok x) e = cc
-    by (Err other) e = ap (λ f. Err (f, offset)) (let same : fault ≡ other = cc in same)
-
 -- one more of so many records
 pub records_go_on : (octets : List ℕ) (count done offset next : ℕ) → done < count → Ok next ≡ part_end_of (λ r. r.end) (record_at octets offset) → run_end_of (records_from octets (count - done) offset) ≡ run_end_of (records_from octets (count - (done + 1)) next)
-records_go_on octets count done offset next h e =
-    let left : count - done ≡ suc (count - (done + 1)) = omega arith in
-    ap (λ n. run_end_of (records_from octets n offset)) left ∙ run_goes_on (record_at octets) (λ r. r.end) (count - (done + 1)) offset next e
+records_go_on octets count done offset next h e = grind arith
 
 pub records_refused : (octets : List ℕ) (count done offset : ℕ) (fault : Fault) → done < count → Err fault ≡ part_end_of (λ r. r.end) (record_at octets offset) → Err (fault, offset) ≡ run_end_of (records_from octets (count - done) offset)
-records_refused octets count done offset fault h e =
-    let left : count - done ≡ suc (count - (done + 1)) = omega arith in
-    run_refused (record_at octets) (λ r. r.end) (count - (done + 1)) offset fault e ∙ ap (λ n. run_end_of (records_from octets n offset)) (sym left)
+records_refused octets count done offset fault h e = grind arith
 
 pub records_end_here : (octets : List ℕ) (left offset : ℕ) → left ≡ 0 → run_end_of (records_from octets left offset) ≡ Ok offset
 records_end_here octets left offset e = ap (λ n. run_end_of (records_from octets n offset)) e

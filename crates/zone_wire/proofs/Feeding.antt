@@ -1,27 +1,9 @@
 -- What is decided of a stream by one frame more, by octets that end inside a frame, and by the
 -- stream's end.
-use Rattle.std.proofs.Common.{◌≡◌, ℕ, ◌+◌, ◌-◌, ◌*◌, ◌/◌, ◌%◌, ◌<◌, ◌≤◌, List, [], ◌∷◌, ◌++◌, length, refl, ap, sym, ◌∙◌, subst, false, arith, append_assoc, length-append}
-use Rattle.std.specs.Prelude.{take, drop, Option, Some, None, IfSome, MatchOption}
-use Rattle.std.specs.List.{flat_map}
-use Rattle.std.proofs.lemmas.List.{append-nil, length-map, map-append, length-take-le, length-drop, take-append-drop}
-use Rattle.zone_rdata.proofs.Bytes.{Bytes, bytes_append}
+use Rattle.zone_wire.proofs.Common.{AreRead, Bytes, Fault, Finished, Follow, Going, IfSome, IsAfter, IsCut, IsFramed, IsReadAfter, List, MatchOption, Message, None, Option, Place, Placed, ReadAfter, ReadsNext, Some, StandsForStream, StatedMessage, StopsIn, StreamDecides, StreamKept, StreamLeaves, StreamReads, TakesWhole, Transfer, [], ap, append-nil, append_assoc, arith, bytes_append, drop, end_fault, false, flat_map, frame, handed_on, is_closed, length, length-append, length-drop, length-map, length-take-le, map-append, octets_in, placed_in, refl, stops, subst, sym, take, take-append-drop, u16_at, zone_held, ℕ, ◌%◌, ◌*◌, ◌++◌, ◌+◌, ◌-◌, ◌/◌, ◌<◌, ◌∙◌, ◌∷◌, ◌≡◌, ◌≤◌}
 use Rattle.zone_rdata.specs.FedSource.{is_failed, is_finished, SourceState}
-use Rattle.zone_rdata.specs.declared.fault.Fault.{Fault}
-use Rattle.zone_rdata.specs.declared.fault.Place.{Place}
-use Rattle.zone_rdata.specs.declared.fault.Place.TheVariants.{Message}
 use Rattle.zone_rdata.specs.declared.fed.FedStatus.{FedStatus}
-use Rattle.zone_rdata.specs.declared.fed.FedStatus.TheVariants.{Finished}
-use Rattle.zone_rdata.specs.declared.record.Placed.{Placed}
-use Rattle.zone_wire.specs.Answers.{handed_on, is_closed}
-use Rattle.zone_wire.specs.Frames.{IsFramed}
-use Rattle.zone_wire.specs.Machine.Feeding.{IsCut, Going, Follow}
-use Rattle.zone_wire.specs.Machine.Transferring.{zone_held, IsAfter, ReadsNext, TakesWhole, StopsIn}
-use Rattle.zone_wire.specs.Message.{u16_at}
-use Rattle.zone_wire.specs.TransferSource.{StandsForStream, StreamKept, StreamLeaves}
-use Rattle.zone_wire.specs.Stream.{octets_in, placed_in, IsReadAfter, AreRead, ReadAfter, stops, end_fault, StreamDecides, StreamReads}
-use Rattle.zone_wire.specs.Transfer.{StatedMessage, frame}
 use Rattle.zone_wire.specs.declared.framer.Framer.{Framer}
-use Rattle.zone_wire.specs.declared.transfer.Transfer.{Transfer}
 use Rattle.zone_wire.proofs.FrameLaws.{frames_join, frame_is}
 use Rattle.zone_wire.proofs.GivenMessages.{reads_all, reads_up_to}
 use Rattle.zone_wire.proofs.Streams.{one_decision, fault_stays, fault_is_read, some_decision, some_reading}

@@ -1,36 +1,15 @@
 -- The values of fields are read in a message: parts of its octets, numbers, and names.
-use Rattle.std.proofs.Common.{◌≡◌, ℕ, zero, suc, ◌+◌, ◌-◌, ◌<◌, ◌≤◌, List, [], ◌∷◌, ◌++◌, length, take, drop, get_or, refl, sym, ap, ◌∙◌, subst, arith, Bool, true, false, nat_le, inl, inr, length-append}
-use Rattle.std.specs.Prelude.{slice_index, if◌then◌else◌, ◌⊎◌, Some, Result, Ok, Err}
-use Rattle.std.specs.Int.{w16, w32, from_be_bytes}
-use Rattle.std.proofs.lemmas.Bool.{cond-true, cond-false, le-leb, lt-leb, leb-false}
-use Rattle.std.proofs.lemmas.List.{take_all, take-append-drop, drop-take, drop-drop, drop_more, length-take-le, length-drop, get_or-take, get_or-drop}
-use Rattle.zone_rdata.specs.declared.fault.Fault.{Fault}
-use Rattle.zone_rdata.specs.declared.fault.Fault.TheVariants.{BadRdata}
-use Rattle.zone_rdata.specs.declared.field.Field.{Field}
-use Rattle.zone_rdata.specs.declared.field.Field.TheVariants.{Name, Serial, Time, U16, Octets, OneString}
-use Rattle.zone_rdata.specs.Builder.{Built, FitsString, Pushes, IsPushFault, misplaced, long_string, too_long}
-use Rattle.zone_rdata.specs.Field.{FieldValue, name, u32_value, u16_value, fixed, string, field_octets, octets_of, Suits, field_at}
-use Rattle.zone_rdata.specs.Fields.OneString.{string_at}
-use Rattle.zone_rdata.specs.Layout.{IsSized}
-use Rattle.zone_rdata.proofs.Building.{octets_push}
-use Rattle.zone_wire.specs.Machine.Data.{name_before, sized_before, value_at}
-use Rattle.zone_wire.specs.Machine.DataReading.{parts_for, put_after, Awaits, IsReadyFor, PutsValue}
-use Rattle.zone_wire.specs.Machine.Finding.{outcome}
-use Rattle.zone_wire.specs.Walk.{NameFault}
-use Rattle.zone_wire.specs.Machine.Walk.{walk}
-use Rattle.zone_wire.specs.Message.{u16_at, u32_at}
-use Rattle.zone_wire.specs.Name.{Found, IsNameAt}
-use Rattle.zone_wire.specs.Transfer.{octets_between}
+use Rattle.zone_wire.proofs.Common.{Awaits, BadRdata, Built, Err, Fault, Field, FieldValue, FitsString, Found, IsNameAt, IsPushFault, IsReadyFor, IsSized, List, Name, NameFault, Octets, Ok, OneString, Pushes, PutsValue, Serial, Some, Suits, Time, U16, [], ap, arith, common_steps, cond-false, drop, drop-drop, drop-take, drop_more, field_at, field_octets, fixed, get_or, inl, inr, length, length-append, long_string, lt-leb, misplaced, name, name_before, octets_between, octets_of, octets_push, outcome, parts_for, refl, sized_before, slice_index, string, string_at, subst, suc, sym, take, take-append-drop, take_all, too_long, u16_at, u16_value, u32_at, u32_value, value_at, walk, zero, ℕ, ◌++◌, ◌+◌, ◌-◌, ◌<◌, ◌∙◌, ◌∷◌, ◌≡◌, ◌≤◌, ◌⊎◌}
 use Rattle.zone_wire.proofs.Fielding.{name_reads}
 use Rattle.zone_wire.proofs.MessageFaults.{name_refuses}
 use Rattle.zone_wire.proofs.Walking.{name_walks}
 
 -- ---- parts of octets
 part_get : (octets : List ℕ) (start past k i : ℕ) → i ≡ start + k → i < past → get_or (octets_between octets start past) k 0 ≡ get_or octets i 0
-part_get octets start past k i at h = get_or-take (past - start) (drop start octets) k 0 (omega arith) ∙ get_or-drop start octets k 0 ∙ ap (λ n. get_or octets n 0) (sym at)
+part_get octets start past k i at h = grind (arith, common_steps)
 
 pub part_len : (octets : List ℕ) (start past : ℕ) → past ≤ length octets → length (octets_between octets start past) ≡ past - start
-part_len octets start past within = length-take-le (past - start) (drop start octets) (omega (arith, length-drop start octets))
+part_len octets start past within = grind (arith, common_steps)
 
 -- a part is cut in two
 pub between_join : (octets : List ℕ) (start mid end : ℕ) → start ≤ mid → mid ≤ end → octets_between octets start end ≡ octets_between octets start mid ++ octets_between octets mid end
@@ -52,9 +31,7 @@ between_join octets start mid end before after =
 
 -- the octets from an offset on by the first of them
 pub between_first : (octets : List ℕ) (start past : ℕ) → start < past → start < length octets → octets_between octets start past ≡ get_or octets start 0 ∷ octets_between octets (start + 1) past
-between_first octets start past some inside =
-    let n : past - start ≡ suc (past - (start + 1)) = omega arith in
-    ap (λ k. take k (drop start octets)) n ∙ ap (take (suc (past - (start + 1)))) (drop_more octets start 0 inside)
+between_first octets start past some inside = grind (arith, drop_more)
 
 -- ---- fields of so many octets
 abbrev pub IsSizedAt : List ℕ → ℕ → ℕ → Field → ℕ → Type 0
@@ -77,74 +54,50 @@ unfolding value_at
 string_sized octets end start = refl
 
 pub sized_bad : (octets : List ℕ) (end start size : ℕ) (field : Field) → IsSizedAt octets end start field size → end < start + size → value_at octets end start field ≡ Err BadRdata
-sized_bad octets end start size field is over = is ∙ cond-false _ _ _ (lt-leb (start + size) end over)
+sized_bad octets end start size field is over = grind arith
 
 pub sized_refused : (octets : List ℕ) (end start size : ℕ) (field : Field) (fault : Fault) → IsSizedAt octets end start field size → (fault ≡ BadRdata) × (end < start + size) → value_at octets end start field ≡ Err fault
-sized_refused octets end start size field fault is bad = sized_bad octets end start size field is bad.1 ∙ ap Err (sym bad.0)
+sized_refused octets end start size field fault is bad = grind arith
 
 sized_ok : (octets : List ℕ) (end start size past : ℕ) (field : Field) (value : FieldValue) → IsSizedAt octets end start field size → past ≡ start + size → past ≤ end → field_at field (octets_between octets start past) ≡ value → value_at octets end start field ≡ Ok (value, past)
-sized_ok octets end start size past field value is at inside same =
-    is ∙ cond-true _ _ _ (le-leb (start + size) end (omega arith))
-    ∙ ap (λ n. Ok (field_at field (octets_between octets start n), n)) (sym at) ∙ ap (λ v. Ok (v, past)) same
+sized_ok octets end start size past field value is at inside same = grind arith
 
 pub sized_fails : (octets : List ℕ) (end start size : ℕ) (field : Field) (fault : Fault) → sized_before octets end start field size ≡ Err fault → (fault ≡ BadRdata) × (end < start + size)
-sized_fails octets end start size field fault e = by (nat_le (start + size) end) refl e
-  where
-    by : (t : Bool) → nat_le (start + size) end ≡ t → (let r : Result (FieldValue × ℕ) Fault = if t then Ok (field_at field (octets_between octets start (start + size)), start + size) else Err BadRdata in r) ≡ Err fault → (fault ≡ BadRdata) × (end < start + size)
-    by true is bad = absurd (let t : ⊥ = cc in t)
-    by false is bad = (cc, leb-false (start + size) end is)
+sized_fails octets end start size field fault e = grind arith
 
 -- a part that is pushed is the value that stands there
 pub puts_sized : (octets : List ℕ) (end start size past : ℕ) (field : Field) (value : FieldValue) (old new : Built) → IsSizedAt octets end start field size → past ≡ start + size → past ≤ end → field_at field (octets_between octets start past) ≡ value → parts_for value ≡ value ∷ [] → Pushes old value new → PutsValue octets end start field old new past
-puts_sized octets end start size past field value old new is at inside same one pushed = record {
-  value = value;
-  read = sized_ok octets end start size past field value is at inside same;
-  put = pushed.made ∙ ap (put_after old) (sym one);
-  past = omega arith;
-  inside = inside;
-}
+puts_sized octets end start size past field value old new is at inside same one pushed = grind arith
 
 -- a part that is awaited isn't refused
 pub unrefused : (octets : List ℕ) (end start past : ℕ) (b : Built) (field : Field) (value : FieldValue) → Awaits octets end start b field → Suits (Some field) value → FitsString value → value_at octets end start field ≡ Ok (value, past) → (fault : Fault) → IsPushFault b value fault → ⊥
-unrefused octets end start past b field value w suits fits read _ (misplaced wrong) = wrong (w.next value suits)
+unrefused octets end start past b field value w suits fits read _ (misplaced wrong) = grind arith
 unrefused octets end start past b field value w suits fits read _ (long_string next long) = long fits
 unrefused octets end start past b field value w suits fits read _ (too_long next f over) =
     let room = w.room value past read in
     omega (arith, room, over, ap length (octets_push b.parts value), length-append (octets_of b.parts) (field_octets value))
 
 pub unrefused_sized : (octets : List ℕ) (end start size past : ℕ) (b : Built) (field : Field) (value : FieldValue) → Awaits octets end start b field → Suits (Some field) value → FitsString value → IsSizedAt octets end start field size → past ≡ start + size → past ≤ end → field_at field (octets_between octets start past) ≡ value → (fault : Fault) → IsPushFault b value fault → ⊥
-unrefused_sized octets end start size past b field value w suits fits is at inside same =
-    unrefused octets end start past b field value w suits fits (sized_ok octets end start size past field value is at inside same)
+unrefused_sized octets end start size past b field value w suits fits is at inside same = grind (arith, unrefused)
 
 pub two_value : (octets : List ℕ) (start past n : ℕ) → past ≡ start + 2 → past ≤ length octets → n ≡ u16_at octets start → field_at U16 (octets_between octets start past) ≡ u16_value n
-two_value octets start past n at within is =
-    let bs : List ℕ = octets_between octets start past in
-    let whole : take 2 bs ≡ bs = take_all 2 bs (omega (arith, part_len octets start past within)) in
-    let number : from_be_bytes w16 bs ≡ n = omega (arith, is, part_get octets start past 0 start (omega arith) (omega arith), part_get octets start past 1 (start + 1) refl (omega arith)) in
-    ap u16_value (ap (from_be_bytes w16) whole ∙ number)
+two_value octets start past n at within is = grind (arith, part_get)
 
 pub long_value : (octets : List ℕ) (start past n : ℕ) → past ≡ start + 4 → past ≤ length octets → n ≡ u32_at octets start → field_at Serial (octets_between octets start past) ≡ u32_value n
-long_value octets start past n at within is =
-    let bs : List ℕ = octets_between octets start past in
-    let whole : take 4 bs ≡ bs = take_all 4 bs (omega (arith, part_len octets start past within)) in
-    let number : from_be_bytes w32 bs ≡ n = omega (arith, is, part_get octets start past 0 start (omega arith) (omega arith), part_get octets start past 1 (start + 1) refl (omega arith), part_get octets start past 2 (start + 2) refl (omega arith), part_get octets start past 3 (start + 2 + 1) (omega arith) (omega arith)) in
-    ap u32_value (ap (from_be_bytes w32) whole ∙ number)
+long_value octets start past n at within is = grind (arith, part_get)
 
 pub fixed_value : (octets : List ℕ) (start size past : ℕ) → past ≡ start + size → past ≤ length octets → field_at (Octets size) (octets_between octets start past) ≡ fixed (octets_between octets start past)
-fixed_value octets start size past at within = ap fixed (take_all size (octets_between octets start past) (omega (arith, part_len octets start past within)))
+fixed_value octets start size past at within = grind (arith, common_steps)
 
 -- the string after its length
 pub string_value : (octets : List ℕ) (start past : ℕ) → past ≡ start + (1 + slice_index octets start) → past ≤ length octets → field_at OneString (octets_between octets start past) ≡ string (octets_between octets (start + 1) past)
-string_value octets start past at within =
-    let text : List ℕ = octets_between octets (start + 1) past in
-    ap (λ bs. string (string_at bs)) (between_first octets start past (omega arith) (omega arith))
-    ∙ ap string (take_all (get_or octets start 0) text (omega (arith, part_len octets (start + 1) past within)))
+string_value octets start past at within = grind (arith, common_steps, octets_between, string, string_at, between_first, take_all, get_or)
 
 pub string_short : (octets : List ℕ) (start past : ℕ) → past ≡ start + (1 + slice_index octets start) → past ≤ length octets → slice_index octets start < 256 → length (octets_between octets (start + 1) past) ≤ 255
-string_short octets start past at within low = omega (arith, part_len octets (start + 1) past within)
+string_short octets start past at within low = grind (arith, part_len)
 
 pub fixed_suits : (octets : List ℕ) (start size past : ℕ) → past ≡ start + size → past ≤ length octets → IsSized (Octets size) → Suits (Some (Octets size)) (fixed (octets_between octets start past))
-fixed_suits octets start size past at within sized = (omega (arith, part_len octets start past within), omega (arith, sized))
+fixed_suits octets start size past at within sized = grind (arith, part_len)
 
 -- ---- numbers of 32 bits, serials and times alike
 long_same : (octets : List ℕ) (end start : ℕ) (field : Field) → (field ≡ Serial) ⊎ (field ≡ Time) → value_at octets end start field ≡ value_at octets end start Serial
@@ -153,8 +106,7 @@ long_same octets end start field (inl is) = ap (value_at octets end start) is
 long_same octets end start field (inr is) = ap (value_at octets end start) is
 
 long_suits : (part : FieldValue) → Suits (Some Serial) part → Suits (Some Time) part
-long_suits (u32_value n) s = tt
-long_suits part s = absurd s
+long_suits part s = grind arith
 
 pub long_ready : (octets : List ℕ) (end start : ℕ) (b : Built) (field : Field) → (field ≡ Serial) ⊎ (field ≡ Time) → IsReadyFor octets end start b field → Awaits octets end start b Serial
 long_ready octets end start b field (inl is) ready = subst (IsReadyFor octets end start b) is ready

@@ -1,49 +1,20 @@
 -- The data of a record is read as the values that stand there.
-use Rattle.std.proofs.Common.{◌≡◌, ℕ, zero, suc, ◌+◌, ◌-◌, ◌≤◌, ◌^◌, ◌<◌, List, [], ◌∷◌, length, refl, ap, sym, ◌∙◌, arith, nat_lt, nat_eq, get_or-drop}
-use Rattle.std.specs.Prelude.{get_or, slice_index, take, drop, Option, Some, None, MatchOption, Result, Ok}
-use Rattle.std.specs.Int.{w16, w32, to_be_bytes, from_be_bytes}
-use Rattle.std.specs.Cmp.Lexicographic.{pointwise, bytes_decides}
-use Rattle.std.specs.List.{flat_map}
-use Rattle.std.proofs.lemmas.Bool.{cond-true, le-leb, lt-ltb, eq-eqb, and_from}
-use Rattle.std.proofs.lemmas.List.{take_all, length-take-le, length-drop}
-use Rattle.std.proofs.lemmas.Nat.{from_be_bytes-to_be_bytes_2, from_be_bytes-to_be_bytes_4}
-use Rattle.zone_name.specs.Name.{with_length}
-use Rattle.zone_rdata.specs.Field.{FieldValue, name, u32_value, u16_value, fixed, string, strings, field_octets, octets_of, Holds, HoldEach, field_at}
-use Rattle.zone_rdata.specs.Fields.Strings.{AreStrings, strings_of}
-use Rattle.zone_rdata.specs.Layout.{layout, StringsLast}
-use Rattle.zone_rdata.specs.declared.fault.Fault.{Fault}
-use Rattle.zone_rdata.specs.declared.field.Field.{Field}
-use Rattle.zone_rdata.specs.declared.field.Field.TheVariants.{Name, Serial, Time, U16, Octets, OneString, Strings}
+use Rattle.zone_wire.proofs.Common.{AreFieldsAt, AreStrings, AreValuesAt, Fault, Field, FieldValue, Found, HoldEach, Holds, IsDataAt, IsValueAt, List, MatchOption, Name, None, Octets, Ok, OneString, Option, Outcome, RecordAt, Result, Serial, Some, Strings, StringsLast, Time, U16, [], and_from, and_then, ap, arith, common_steps, cond-true, data_at, eq-eqb, field_at, field_octets, fixed, flat_map, from_be_bytes, from_be_bytes-to_be_bytes_2, from_be_bytes-to_be_bytes_4, get_or, layout, le-leb, length, lt-ltb, name, name_before, named, nat_eq, nat_lt, octets_between, octets_of, outcome, pointwise, refl, rules, sized_before, slice_index, string, strings, strings_before, strings_of, suc, sym, table_row, take, take_all, to_be_bytes, u16_value, u32_value, value_at, values_at, w16, w32, walk, with_length, ℕ, ◌+◌, ◌<◌, ◌^◌, ◌∙◌, ◌∷◌, ◌≡◌, ◌≤◌}
 use Rattle.zone_name.proofs.Octets.{length-frames}
 use Rattle.zone_rdata.proofs.StringFields.{strings_back}
-use Rattle.zone_rdata.proofs.Tables.{table_row}
-use Rattle.zone_wire.specs.Machine.Data.{name_before, sized_before, strings_before, value_at, values_at, data_at}
-use Rattle.zone_wire.specs.Message.{RecordAt}
-use Rattle.zone_wire.specs.Name.{Found}
-use Rattle.zone_wire.specs.Machine.Finding.{Outcome, named, outcome}
-use Rattle.zone_wire.specs.Machine.Sections.{and_then}
-use Rattle.zone_wire.specs.Transfer.{octets_between, IsValueAt, AreValuesAt, AreFieldsAt, IsDataAt}
-use Rattle.zone_wire.specs.Machine.Walk.{walk}
 use Rattle.zone_wire.proofs.Sectioning.{and_then_ok}
 use Rattle.zone_wire.proofs.Walking.{name_walks}
 
 -- a part of octets that is a text
 pub part_text : (octets : List ℕ) (start end : ℕ) (text : List ℕ) → start ≤ end → end ≤ length octets → octets_between octets start end ≡ text → end ≡ start + length text
-part_text octets start end text order inside e =
-    let len : length (octets_between octets start end) ≡ end - start = length-take-le (end - start) (drop start octets) (omega (arith, length-drop start octets)) in
-    let same : length (octets_between octets start end) ≡ length text = ap length e in
-    omega arith
+part_text octets start end text order inside e = grind (arith, common_steps)
 
 pub name_reads : (end : ℕ) (found : Found) (o : Outcome) → o ≡ named found → found.end ≤ end → name_before end o ≡ Ok (name found.labels, found.end)
 name_reads end found o e h = ap (name_before end) e ∙ cond-true _ _ _ (le-leb _ _ h)
 
 -- a value of this many octets
 sized_reads : (octets : List ℕ) (end start next : ℕ) (field : Field) (v : FieldValue) (size : ℕ) → length (field_octets v) ≡ size → field_at field (field_octets v) ≡ v → next ≤ end → end ≤ length octets → (start ≤ next) × (octets_between octets start next ≡ field_octets v) → sized_before octets end start field size ≡ Ok (v, next)
-sized_reads octets end start next field v size len back before within stands =
-    let past : start + size ≡ next = omega (arith, part_text octets start next (field_octets v) stands.0 (omega arith) stands.1) in
-    let value : field_at field (octets_between octets start (start + size)) ≡ v = ap (λ n. field_at field (octets_between octets start n)) past ∙ ap (field_at field) stands.1 ∙ back in
-    let fits : start + size ≤ end = omega arith in
-    cond-true _ _ _ (le-leb (start + size) end fits) ∙ ap (λ (x : FieldValue). Ok (x, start + size)) value ∙ ap (λ n. Ok (v, n)) past
+sized_reads octets end start next field v size len back before within stands = grind (arith, part_text)
 
 long_back : (n : ℕ) → n < 2 ^ 32 → u32_value (from_be_bytes w32 (take 4 (to_be_bytes w32 n))) ≡ u32_value n
 long_back n h = ap u32_value (from_be_bytes-to_be_bytes_4 n h)
@@ -53,27 +24,18 @@ two_back n h = ap u16_value (from_be_bytes-to_be_bytes_2 n h)
 
 -- the first octet of a part
 pub part_first : (octets : List ℕ) (start past : ℕ) → start < past → get_or (octets_between octets start past) 0 0 ≡ slice_index octets start
-part_first octets start past h = first (past - start) (drop start octets) (omega arith) ∙ get_or-drop start octets 0 0 ∙ ap (slice_index octets) (omega arith)
-  where
-    first : (n : ℕ) (xs : List ℕ) → 0 < n → get_or (take n xs) 0 0 ≡ get_or xs 0 0
-    first zero xs some = absurd (omega arith)
-    first (suc n) [] some = refl
-    first (suc n) (x ∷ xs) some = refl
+part_first octets start past h = grind (arith, common_steps)
 
 pub strings_read : (octets : List ℕ) (end : ℕ) (many : List (List ℕ)) → AreStrings many → octets ≡ flat_map with_length many → strings_before end octets ≡ Ok (strings many, end)
 strings_read octets end many are is =
-    let cut : strings_of octets ≡ many = ap strings_of is ∙ strings_back many in
-    let some : 0 < length octets = omega (arith, are.some, length-frames many, ap length is) in
-    let whole : flat_map with_length (strings_of octets) ≡ octets = ap (flat_map with_length) cut ∙ sym is in
-    cond-true _ _ _ (and_from (nat_lt 0 (length octets)) (pointwise nat_eq (flat_map with_length (strings_of octets)) octets) (lt-ltb 0 (length octets) some) ((bytes_decides (flat_map with_length (strings_of octets)) octets).1 whole))
+    let cut : strings_of octets ≡ many = cc (strings_back many) in
+    let some : 0 < length octets = omega (arith, length-frames many, ap length is) in
+    let whole : flat_map with_length (strings_of octets) ≡ octets = cc in
+    cond-true _ _ _ (and_from (nat_lt 0 (length octets)) (pointwise nat_eq (flat_map with_length (strings_of octets)) octets) (lt-ltb 0 (length octets) some) (search rules))
     ∙ ap (λ (m : List (List ℕ)). Ok (strings m, end)) cut
 
 string_size : (octets : List ℕ) (start next : ℕ) (text : List ℕ) → next ≤ length octets → (start ≤ next) × (octets_between octets start next ≡ with_length text) → suc (length text) ≡ 1 + slice_index octets start
-string_size octets start next text within stands =
-    let first : get_or (octets_between octets start next) 0 0 ≡ length text = ap (λ x. get_or x 0 0) stands.1 in
-    let past : next ≡ start + length (with_length text) = part_text octets start next (with_length text) stands.0 within stands.1 in
-    let same : slice_index octets start ≡ length text = sym (part_first octets start next (omega (arith, past))) ∙ first in
-    omega (arith, same)
+string_size octets start next text within stands = grind (arith, part_first)
 
 -- the value of a field, where strings go on to the end
 pub value_reads : (octets : List ℕ) (end start next : ℕ) (field : Field) (v : FieldValue) → (field ≡ Strings → next ≡ end) → Holds field v → next ≤ end → end ≤ length octets → IsValueAt octets start next v → value_at octets end start field ≡ Ok (v, next)
@@ -102,8 +64,7 @@ values_read octets end within (f ∷ g ∷ fields) (v ∷ values) start last h s
     ∙ and_then_ok (values_at octets end s.0 (g ∷ fields)) values _ (values_read octets end within (g ∷ fields) values s.0 last.1 h.1 s.3)
 
 layout_reads : (octets : List ℕ) (start end : ℕ) (canonical : List ℕ) (o : Option (List Field)) → ((fields : List Field) → o ≡ Some fields → StringsLast fields) → end ≤ length octets → MatchOption o (canonical ≡ octets_between octets start end) (λ fields. AreFieldsAt octets start end fields canonical) → (let r : Result (List ℕ) Fault = elim o [ None ↦ Ok (octets_between octets start end) | Some fields ↦ and_then (values_at octets end start fields) (λ values. Ok (octets_of values)) ] in r) ≡ Ok canonical
-layout_reads octets start end canonical None last within is = ap Ok (sym is)
-layout_reads octets start end canonical (Some fields) last within is = and_then_ok (values_at octets end start fields) is.values _ (values_read octets end within fields is.values start (last fields refl) is.held is.stand) ∙ ap Ok (sym is.whole)
+layout_reads octets start end canonical o last within is = grind (arith, values_read)
 
 -- the data of a record
 pub data_reads : (octets : List ℕ) (a : RecordAt) (canonical : List ℕ) → a.end ≤ length octets → IsDataAt octets a canonical → data_at octets a ≡ Ok canonical

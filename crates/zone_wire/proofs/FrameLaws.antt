@@ -1,19 +1,5 @@
 -- Frame by frame.
-use Rattle.std.proofs.Common.{◌≡◌, ℕ, ◌+◌, ◌≤◌, List, [], ◌∷◌, ◌++◌, length, refl, ap, sym, ◌∙◌, subst, inl, inr, append_assoc, lit<}
-use Rattle.std.specs.Prelude.{Some, None, Result, Ok, Err}
-use Rattle.std.specs.List.{flat_map}
-use Rattle.std.proofs.lemmas.List.{append-nil}
-use Rattle.std.proofs.lemmas.List.Concat.{flat_map-append}
-use Rattle.zone_rdata.proofs.Bytes.{Bytes}
-use Rattle.zone_name.specs.Common.{EitherIs, IsVerdict}
-use Rattle.zone_rdata.specs.declared.fault.Fault.{Fault}
-use Rattle.zone_rdata.specs.declared.fault.Place.TheVariants.{Message}
-use Rattle.zone_rdata.specs.declared.record.Placed.{Placed}
-use Rattle.zone_wire.specs.Answers.{handed_on}
-use Rattle.zone_wire.specs.Frames.{IsFramed}
-use Rattle.zone_wire.specs.Machine.Stream.{next_message}
-use Rattle.zone_wire.specs.Stream.{octets_in, placed_in, IsReadAfter, AreRead, FaultAfter, ReadAfter, whole, reads, stops, StreamDecides}
-use Rattle.zone_wire.specs.Transfer.{StatedMessage, frame}
+use Rattle.zone_wire.proofs.Common.{AreRead, Bytes, EitherIs, Err, Fault, FaultAfter, IsFramed, IsReadAfter, IsVerdict, List, Message, None, Ok, Placed, ReadAfter, Result, Some, StatedMessage, StreamDecides, [], ap, append-nil, append_assoc, flat_map, flat_map-append, frame, handed_on, inl, inr, length, lit<, next_message, octets_in, placed_in, reads, refl, stops, subst, sym, whole, ℕ, ◌++◌, ◌+◌, ◌∙◌, ◌∷◌, ◌≡◌, ◌≤◌}
 use Rattle.zone_wire.proofs.Accepting.{all_append}
 use Rattle.zone_wire.proofs.GivenMessages.{reads_up_to, Judged, judged}
 use Rattle.zone_wire.proofs.OneReading.{fault_one, one_read, read_not_refused}

@@ -1,44 +1,31 @@
 -- A stream is cut into frames in one way.
-use Rattle.std.proofs.Common.{◌≡◌, ℕ, zero, suc, ◌+◌, ◌*◌, ◌/◌, ◌%◌, ◌<◌, ◌≤◌, nat_lt, Bool, true, false, List, [], ◌∷◌, ◌++◌, length, refl, ap, sym, ◌∙◌, arith, length-append, append_assoc, get_or-drop, lit<}
-use Rattle.std.specs.Prelude.{get_or, take, drop}
-use Rattle.std.specs.List.{flat_map}
-use Rattle.std.proofs.lemmas.Bool.{ltb-true, ltb-false}
-use Rattle.std.proofs.lemmas.List.{length-take-le, length-drop, take-append-drop}
-use Rattle.zone_wire.specs.Message.{u16_at}
-use Rattle.zone_wire.specs.Frames.{IsFramed}
-use Rattle.zone_wire.specs.Transfer.{frame}
+use Rattle.zone_wire.proofs.Common.{Bool, IsFramed, List, [], ap, append_assoc, arith, common_steps, drop, flat_map, frame, get_or, get_or-drop, length, length-drop, length-take-le, lit<, nat_lt, refl, rules, suc, sym, take, take-append-drop, u16_at, zero, ℕ, ◌%◌, ◌*◌, ◌++◌, ◌+◌, ◌/◌, ◌<◌, ◌∙◌, ◌∷◌, ◌≡◌, ◌≤◌}
 use Rattle.zone_wire.proofs.Transfers.{frame_unique}
 
 -- octets that begin with a whole frame aren't cut off in one
-pub whole_frame : (octets more rest : List ℕ) → rest ≡ frame octets ++ more → length rest < 2 + u16_at rest 0 → ⊥
-whole_frame octets more rest e cut =
-    let count : u16_at rest 0 ≡ length octets / 256 * 256 + length octets % 256 = ap (λ x. u16_at x 0) e in
-    omega (arith, ap length e, length-append octets more, count)
-
 pub frames_unique : (ms ns : List (List ℕ)) (r s : List ℕ) → length r < 2 + u16_at r 0 → length s < 2 + u16_at s 0 → flat_map frame ms ++ r ≡ flat_map frame ns ++ s → (ms ≡ ns) × (r ≡ s)
 frames_unique [] [] r s cut end e = (refl, e)
-frames_unique [] (n ∷ ns) r s cut end e = absurd (whole_frame n (flat_map frame ns ++ s) r (e ∙ append_assoc (frame n) (flat_map frame ns) s) cut)
-frames_unique (m ∷ ms) [] r s cut end e = absurd (whole_frame m (flat_map frame ms ++ r) s (sym e ∙ append_assoc (frame m) (flat_map frame ms) r) end)
+frames_unique [] (n ∷ ns) r s cut end e = grind (arith, common_steps)
+frames_unique (m ∷ ms) [] r s cut end e = grind (arith, common_steps)
 frames_unique (m ∷ ms) (n ∷ ns) r s cut end e =
     let one = frame_unique m n (flat_map frame ms ++ r) (flat_map frame ns ++ s) (sym (append_assoc (frame m) (flat_map frame ms) r) ∙ e ∙ append_assoc (frame n) (flat_map frame ns) s) in
     let rest = frames_unique ms ns r s cut end one.1 in
     (ap (λ x. x ∷ ms) one.0 ∙ ap (λ xs. n ∷ xs) rest.0, rest.1)
 
 pub framed_unique : (stream : List ℕ) (ms ns : List (List ℕ)) (r s : List ℕ) → IsFramed stream ms r → IsFramed stream ns s → (ms ≡ ns) × (r ≡ s)
-framed_unique stream ms ns r s is too = frames_unique ms ns r s is.cut too.cut (sym is.whole ∙ too.whole)
+framed_unique stream ms ns r s is too = grind (arith, frames_unique)
 
 -- the frames of a longer stream begin with those of a stream
 pub frames_extend : (ms ns : List (List ℕ)) (r s more : List ℕ) → length s < 2 + u16_at s 0 → flat_map frame ms ++ (r ++ more) ≡ flat_map frame ns ++ s → (after : List (List ℕ)) × (ns ≡ ms ++ after)
 frames_extend [] ns r s more cut e = (ns, refl)
-frames_extend (m ∷ ms) [] r s more cut e = absurd (whole_frame m (flat_map frame ms ++ (r ++ more)) s (sym e ∙ append_assoc (frame m) (flat_map frame ms) (r ++ more)) cut)
+frames_extend (m ∷ ms) [] r s more cut e = grind (arith, common_steps)
 frames_extend (m ∷ ms) (n ∷ ns) r s more cut e =
-    let one = frame_unique m n (flat_map frame ms ++ (r ++ more)) (flat_map frame ns ++ s) (sym (append_assoc (frame m) (flat_map frame ms) (r ++ more)) ∙ e ∙ append_assoc (frame n) (flat_map frame ns) s) in
+    let one = frame_unique m n (flat_map frame ms ++ (r ++ more)) (flat_map frame ns ++ s) (grind (arith, append_assoc)) in
     let rest = frames_extend ms ns r s more cut one.1 in
-    (rest.0, ap (λ x. x ∷ ns) (sym one.0) ∙ ap (λ xs. m ∷ xs) rest.1)
+    (rest.0, cc)
 
 pub framed_extends : (stream more : List ℕ) (ms ns : List (List ℕ)) (r s : List ℕ) → IsFramed stream ms r → IsFramed (stream ++ more) ns s → (after : List (List ℕ)) × (ns ≡ ms ++ after)
-framed_extends stream more ms ns r s is longer =
-    frames_extend ms ns r s more longer.cut (sym (append_assoc (flat_map frame ms) r more) ∙ ap (λ x. x ++ more) (sym is.whole) ∙ longer.whole)
+framed_extends stream more ms ns r s is longer = grind (arith, frames_extend, append_assoc, flat_map, frame)
 
 -- frames of a stream, and a rest
 pub record Framing (stream : List ℕ) : Type 0 where
@@ -54,19 +41,18 @@ framed_after high low more h l fits next =
     let len : length octets ≡ size = length-take-le size more fits in
     let high_is : high ≡ length octets / 256 = omega arith in
     let low_is : low ≡ length octets % 256 = omega arith in
-    let body : more ≡ (octets ++ flat_map frame next.messages) ++ next.rest = sym (take-append-drop size more) ∙ ap (λ x. octets ++ x) next.framed.whole ∙ sym (append_assoc octets (flat_map frame next.messages) next.rest) in
+    let body : more ≡ (octets ++ flat_map frame next.messages) ++ next.rest = grind (arith, take-append-drop, append_assoc) in
     record {
       messages = octets ∷ next.messages;
       rest = next.rest;
-      framed = record { whole = ap (λ x. x ∷ low ∷ more) high_is ∙ ap (λ x. (length octets / 256) ∷ x ∷ more) low_is ∙ ap (λ x. (length octets / 256) ∷ (length octets % 256) ∷ x) body; short = (omega arith, next.framed.short); cut = next.framed.cut };
+      framed = search rules;
     }
 
 cut_off : (stream : List ℕ) → length stream < 2 + u16_at stream 0 → Framing stream
-cut_off stream h = record { messages = []; rest = stream; framed = record { whole = refl; short = tt; cut = h } }
+cut_off stream h = grind arith
 
 below_or_not : {X : Type 0} (a b : ℕ) (test : Bool) → nat_lt a b ≡ test → (a < b → X) → (b ≤ a → X) → X
-below_or_not a b true e f g = f (ltb-true a b e)
-below_or_not a b false e f g = g (ltb-false a b e)
+below_or_not a b test e f g = grind arith
 
 -- each stream of octets is cut into frames
 frames_by : (n : ℕ) (stream : List ℕ) → length stream ≤ n → ((i : ℕ) → get_or stream i 0 < 256) → Framing stream

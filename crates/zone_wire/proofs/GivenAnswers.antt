@@ -1,17 +1,6 @@
 -- The records of a message's answers up to the first that has a fault are those that are read.
-use Rattle.std.proofs.Common.{◌≡◌, ℕ, ◌≤◌, List, [], ◌∷◌, ◌++◌, length, refl, ap, inl, inr}
-use Rattle.std.specs.Prelude.{Option, Some, None, Result, Ok, Err}
-use Rattle.std.specs.List.{AllByRecursion}
-use Rattle.zone_rdata.proofs.Bytes.{Bytes}
-use Rattle.zone_rdata.specs.Record.{Record}
-use Rattle.zone_rdata.specs.declared.fault.Fault.{Fault}
-use Rattle.zone_rdata.specs.declared.fault.Place.TheVariants.{Message}
-use Rattle.zone_rdata.specs.declared.record.Placed.{Placed}
-use Rattle.zone_wire.specs.AnswerFault.{AnswerFault, AnswersGive, no_more, states, refused}
-use Rattle.zone_wire.specs.Answers.{ComesAfter}
-use Rattle.zone_wire.specs.Machine.Answers.{own_record, order_fault, answer_record, before_others, answers_of}
-use Rattle.zone_wire.specs.Message.{QuestionAt, RecordAt, IsRecordAt, AreRecordsAt}
-use Rattle.zone_wire.specs.Transfer.{AnswerStates}
+use Rattle.zone_wire.proofs.Common.{AllByRecursion, AnswerFault, AnswerStates, AnswersGive, AreRecordsAt, Bytes, ComesAfter, Err, Fault, IsRecordAt, List, Message, None, Ok, Option, Placed, QuestionAt, Record, RecordAt, Result, Some, [], answer_record, answers_of, ap, before_others, inl, inr, length, no_more, order_fault, own_record, refl, states, ℕ, ◌++◌, ◌∷◌, ◌≡◌, ◌≤◌}
+use Rattle.zone_wire.specs.AnswerFault.{refused}
 use Rattle.zone_wire.proofs.AnswerFaults.{own_faults, own_states, order_faults, order_stands}
 use Rattle.zone_wire.proofs.MessageFaults.{err_same, stops}
 use Rattle.zone_wire.proofs.ReadAnswers.{answer_shown}

@@ -1,23 +1,5 @@
 -- The records of messages up to the first fault are those that are read.
-use Rattle.std.proofs.Common.{◌≡◌, ℕ, ◌+◌, ◌≤◌, List, [], ◌∷◌, ◌++◌, length, refl, ap, sym, ◌∙◌, subst, Bool, true, false, inl, inr, append_assoc}
-use Rattle.std.specs.Prelude.{◌==◌, Option, Some, None, Result, Ok, Err, if◌then◌else◌}
-use Rattle.std.specs.List.{AllByRecursion, list_all}
-use Rattle.std.proofs.lemmas.Bool.{and_parts, and_from, eqb-true, eq-eqb}
-use Rattle.std.proofs.lemmas.List.{append-nil}
-use Rattle.std.proofs.lemmas.List.Concat.{flat_map-append}
-use Rattle.zone_rdata.proofs.Bytes.{Bytes}
-use Rattle.zone_rdata.specs.declared.fault.Fault.{Fault}
-use Rattle.zone_rdata.specs.declared.fault.Place.{Place}
-use Rattle.zone_rdata.specs.declared.fault.Place.TheVariants.{Message}
-use Rattle.zone_rdata.specs.declared.record.Placed.{Placed}
-use Rattle.zone_wire.specs.Answers.{ZoneAsked, zone_of}
-use Rattle.zone_wire.specs.Machine.Answers.{agrees, Answered}
-use Rattle.zone_wire.specs.Machine.Sections.{sections_of}
-use Rattle.zone_wire.specs.Machine.Stream.{has_first_id, asks_for, of_answers, of_sections, next_message, stream_records}
-use Rattle.zone_wire.specs.Message.{QuestionAt, Sections}
-use Rattle.zone_wire.specs.Stream.{octets_in, asked_in, placed_in, HasFirstId, AsksIn, IsMessageAfter, GiveAfter, IsReadAfter, AreRead, FaultAfter, ReadAfter, whole, reads, stops}
-use Rattle.zone_wire.specs.Transfer.{StatedMessage}
-use Rattle.zone_wire.specs.Unless.{fails, holds}
+use Rattle.zone_wire.proofs.Common.{AllByRecursion, Answered, AreRead, AsksIn, Bool, Bytes, Err, Fault, FaultAfter, GiveAfter, HasFirstId, IsMessageAfter, IsReadAfter, List, Message, None, Ok, Option, Place, Placed, QuestionAt, ReadAfter, Result, Sections, Some, StatedMessage, ZoneAsked, [], agrees, and_from, and_parts, ap, append-nil, append_assoc, asked_in, asks_for, eq-eqb, eqb-true, fails, false, flat_map-append, has_first_id, holds, if◌then◌else◌, inl, inr, length, list_all, next_message, octets_in, of_answers, of_sections, placed_in, reads, refl, sections_of, stops, stream_records, subst, sym, true, whole, zone_of, ℕ, ◌++◌, ◌+◌, ◌==◌, ◌∙◌, ◌∷◌, ◌≡◌, ◌≤◌}
 use Rattle.zone_wire.proofs.AnswerFaults.{agrees_by, agrees_true}
 use Rattle.zone_wire.proofs.Conditions.{all_by, all_pass}
 use Rattle.zone_wire.proofs.GivenAnswers.{each_stands, answers_give}

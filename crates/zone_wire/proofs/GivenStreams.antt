@@ -1,19 +1,6 @@
 -- What a stream is read as is what is found in it, and records.
-use Rattle.std.proofs.Common.{ℕ, List, [], refl, sym, subst, inl, inr}
-use Rattle.std.specs.Prelude.{Option}
-use Rattle.std.specs.List.{flat_map, AllByRecursion}
-use Rattle.zone_rdata.proofs.Bytes.{Bytes, front_bytes}
-use Rattle.zone_rdata.specs.Record.{IsRecord}
-use Rattle.zone_rdata.specs.declared.fault.Fault.{Fault}
-use Rattle.zone_rdata.specs.declared.fault.Place.{Place}
-use Rattle.zone_rdata.specs.declared.record.Placed.{Placed}
-use Rattle.zone_wire.specs.AnswerFault.{AnswersGive, no_more, states, refused}
-use Rattle.zone_wire.specs.Answers.{handed_on}
-use Rattle.zone_wire.specs.Frames.{IsFramed}
-use Rattle.zone_wire.specs.Machine.Stream.{stream_records}
-use Rattle.zone_wire.specs.Message.{QuestionAt, RecordAt}
-use Rattle.zone_wire.specs.Stream.{FaultAfter, ReadAfter, whole, reads, stops, StreamReads, StreamDecides}
-use Rattle.zone_wire.specs.Transfer.{StatedMessage, frame}
+use Rattle.zone_wire.proofs.Common.{AllByRecursion, AnswersGive, Bytes, Fault, FaultAfter, IsFramed, IsRecord, List, Option, Place, Placed, QuestionAt, ReadAfter, RecordAt, StatedMessage, StreamDecides, StreamReads, [], flat_map, frame, front_bytes, handed_on, inl, inr, no_more, reads, refl, states, stops, stream_records, subst, sym, whole, ℕ}
+use Rattle.zone_wire.specs.AnswerFault.{refused}
 use Rattle.zone_wire.proofs.Accepting.{all_append}
 use Rattle.zone_wire.proofs.Conditions.{unless_each}
 use Rattle.zone_wire.proofs.GivenMessages.{records_show}

@@ -1,16 +1,5 @@
 -- A transfer is read as its records.
-use Rattle.std.proofs.Common.{◌≡◌, ℕ, ◌+◌, List, [], ◌∷◌, ◌++◌, length, refl, ap, sym, ◌∙◌, subst, true, arith, length-append, lit<}
-use Rattle.std.specs.Prelude.{None}
-use Rattle.std.specs.List.{flat_map, AllByRecursion, list_any}
-use Rattle.std.proofs.lemmas.Bool.{cond-true, eq-eqb, or_left, or_right}
-use Rattle.std.proofs.lemmas.List.{append-nil}
-use Rattle.zone_rdata.specs.Record.{Record}
-use Rattle.zone_rdata.specs.declared.record.Placed.{Placed}
-use Rattle.zone_wire.specs.AnswerFault.{AnswersGive, no_more, states}
-use Rattle.zone_wire.specs.Answers.{zone_of, is_closed, handed_on}
-use Rattle.zone_wire.specs.Message.{QuestionAt, RecordAt, Sections}
-use Rattle.zone_wire.specs.Stream.{octets_in, asked_in, placed_in, HasFirstId, AsksIn, IsReadAfter, ReadAfter, whole, reads, StreamReads}
-use Rattle.zone_wire.specs.Transfer.{StatedMessage, IsStatedMessage, AreStatedMessages, AsksFor, AnswersState, frame, StreamStates}
+use Rattle.zone_wire.proofs.Common.{AllByRecursion, AnswersGive, AnswersState, AreStatedMessages, AsksFor, AsksIn, HasFirstId, IsReadAfter, IsStatedMessage, List, None, Placed, QuestionAt, ReadAfter, Record, RecordAt, Sections, StatedMessage, StreamReads, StreamStates, [], ap, append-nil, arith, asked_in, cond-true, eq-eqb, flat_map, frame, handed_on, is_closed, length, length-append, list_any, lit<, no_more, octets_in, or_left, or_right, placed_in, reads, refl, states, subst, sym, true, whole, zone_of, ℕ, ◌++◌, ◌+◌, ◌∙◌, ◌∷◌, ◌≡◌}
 use Rattle.zone_wire.proofs.Accepting.{all_append, in_order_parts, opens_more, any_append, rest_in_order, framed_parts, short_parts, handed_transfer}
 use Rattle.zone_wire.proofs.Answering.{OpensWith, zone_agrees, is_soa, InOrder, follows_comes}
 use Rattle.zone_wire.proofs.GivenMessages.{placed_grow, asked_grow}
@@ -24,8 +13,7 @@ give_in_order zone number octets questions before (a ∷ answers) (p ∷ placed)
     states is.0 is.1 (follows_comes zone questions before p ask order.0) (give_in_order zone number octets questions (before ++ p ∷ []) answers placed ask is.2 order.1)
 
 first_id : (id : ℕ) (before : List StatedMessage) (s : Sections) → AllByRecursion (λ (p : StatedMessage). p.sections.id ≡ id) before → s.id ≡ id → HasFirstId before s
-first_id id [] s each e = tt
-first_id id (first ∷ before) s each e = e ∙ sym each.0
+first_id id before s each e = grind arith
 
 asks_in : (zone : Record) (before : List QuestionAt) (placed : List Placed) (questions : List QuestionAt) → AllByRecursion (AsksFor zone) before → OpensWith zone placed → AllByRecursion (AsksFor zone) questions → AllByRecursion (AsksIn (zone_of before placed)) questions
 asks_in zone before placed [] asked opens ask = tt
@@ -34,10 +22,7 @@ asks_in zone before placed (q ∷ questions) asked opens ask =
 
 -- a message of a transfer after others
 stated_is_read : (id : ℕ) (zone : Record) (number : ℕ) (before : List StatedMessage) (p : StatedMessage) → number ≡ length before + 1 → IsStatedMessage id zone number p → AllByRecursion (λ (q : StatedMessage). q.sections.id ≡ id) before → AllByRecursion (AsksFor zone) (asked_in before) → OpensWith zone (placed_in before) → InOrder zone (placed_in before) p.placed → IsReadAfter before p
-stated_is_read id zone number before p count is ids asked opens order = record {
-  message = record { message = is.message; same_id = first_id id before p.sections ids is.same_id; asks = asks_in zone (asked_in before) (placed_in before) p.sections.questions asked opens is.questions };
-  gives = give_in_order zone (length before + 1) p.octets (asked_in before ++ p.sections.questions) (placed_in before) p.sections.answers p.placed (all_append (AsksFor zone) (asked_in before) p.sections.questions asked is.questions) (subst (λ n. AnswersState n p.octets p.sections.answers p.placed) count is.answers) order;
-}
+stated_is_read id zone number before p count is ids asked opens order = grind (arith, first_id, asks_in, asked_in, placed_in, give_in_order, all_append)
 
 parts_are_read : (id : ℕ) (zone : Record) (parts before : List StatedMessage) (number : ℕ) → number ≡ length before + 1 → AreStatedMessages id zone number parts → AllByRecursion (λ (q : StatedMessage). q.sections.id ≡ id) before → AllByRecursion (AsksFor zone) (asked_in before) → OpensWith zone (placed_in before) → InOrder zone (placed_in before) (placed_in parts) → ReadAfter before (octets_in parts) (placed_in parts) None
 parts_are_read id zone [] before number count are ids asked opens order = whole

@@ -3,6 +3,7 @@ pub mod AlikeMessages
 pub mod AnswerFaults
 pub mod Answering
 pub mod Carrying
+pub mod Common
 pub mod Computing
 pub mod Conditions
 pub mod DataFaults

@@ -1,18 +1,5 @@
 -- The faults of messages are those at which the sections of a message stop being read.
-use Rattle.std.proofs.Common.{◌≡◌, ℕ, zero, suc, ◌<◌, List, [], ◌∷◌, length, refl, ap, sym, ◌∙◌, subst, Bool, true, false, nat_le, inl, inr, arith}
-use Rattle.std.specs.Prelude.{get_or, ◌==◌, ◌&&◌, ◌⊎◌, not, Option, Some, None, Result, Ok, Err, if◌then◌else◌}
-use Rattle.std.proofs.lemmas.Bool.{and_parts, and_from, leb-true, le-leb, ltb-false, le-ltb, eqb-true, eq-eqb, not-false}
-use Rattle.zone_name.specs.Common.{IsVerdict}
-use Rattle.zone_rdata.specs.declared.fault.Fault.{Fault}
-use Rattle.zone_rdata.specs.declared.fault.Fault.TheVariants.{ShortMessage, TrailingOctets}
-use Rattle.zone_wire.specs.Machine.Finding.{Outcome, named, refused, outcome}
-use Rattle.zone_wire.specs.Machine.Sections.{and_then, header_fault, inside, question_at, record_at, at_offset, each_from, questions_from, records_from, to_the_end, after_header, unless_faulted, sections_of}
-use Rattle.zone_wire.specs.Walk.{ending, NameFault}
-use Rattle.zone_wire.specs.Machine.Walk.{walk}
-use Rattle.zone_wire.specs.Message.{qdcount_of, ancount_of, arcount_of, nscount_of, HasCounts, IsPartAt, question_by, QuestionAt, IsQuestionAt, record_by, RecordAt, IsRecordAt, AreAt, Sections, IsMessage}
-use Rattle.zone_wire.specs.MessageFault.{PartFault, FaultIn, MessageFault}
-use Rattle.zone_wire.specs.Name.{Found, IsNameAt}
-use Rattle.zone_wire.specs.Unless.{Unless, fails, holds, NoFault}
+use Rattle.zone_wire.proofs.Common.{AreAt, Bool, Err, Fault, FaultIn, Found, HasCounts, IsMessage, IsNameAt, IsPartAt, IsQuestionAt, IsRecordAt, IsVerdict, List, MessageFault, NameFault, NoFault, None, Ok, Option, Outcome, PartFault, QuestionAt, RecordAt, Result, Sections, ShortMessage, Some, TrailingOctets, Unless, [], after_header, ancount_of, and_from, and_parts, and_then, ap, arcount_of, arith, at_offset, each_from, ending, eq-eqb, eqb-true, fails, false, get_or, header_fault, holds, if◌then◌else◌, inl, inr, inside, le-leb, le-ltb, leb-true, length, ltb-false, named, nat_le, not, not-false, nscount_of, outcome, qdcount_of, question_at, question_by, questions_from, record_at, record_by, records_from, refl, refused, sections_of, subst, suc, sym, to_the_end, true, unless_faulted, walk, zero, ℕ, ◌&&◌, ◌<◌, ◌==◌, ◌∙◌, ◌∷◌, ◌≡◌, ◌⊎◌}
 use Rattle.zone_wire.proofs.Conditions.{unless_one, unless_holds}
 use Rattle.zone_wire.proofs.Messages.{one_part, one_message}
 use Rattle.zone_wire.proofs.ReadSections.{each_shows, question_shows, record_shows, response_of, sections_shown, at_offset_shows}

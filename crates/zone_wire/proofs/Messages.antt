@@ -1,11 +1,9 @@
 -- At most one reading of a message.
-use Rattle.std.proofs.Common.{◌≡◌, ℕ, List, [], ◌∷◌, length, refl, ap, sym, ◌∙◌, subst, arith}
-use Rattle.zone_wire.specs.Message.{Sections, IsPartAt, IsQuestionAt, IsRecordAt, AreAt, AreRecordsAt, IsMessage}
-use Rattle.zone_wire.specs.Name.{Found}
+use Rattle.zone_wire.proofs.Common.{AreAt, Found, IsMessage, IsPartAt, IsQuestionAt, IsRecordAt, List, Sections, [], ap, arith, length, refl, rules, subst, sym, ℕ, ◌∙◌, ◌∷◌, ◌≡◌}
 use Rattle.zone_wire.proofs.Walking.{one_name}
 
 pub one_part : {X : Type 0} {octets : List ℕ} {by : Found → X} {end_of : X → ℕ} (offset : ℕ) (x y : X) → IsPartAt octets by end_of offset x → IsPartAt octets by end_of offset y → x ≡ y
-one_part {octets = octets} {by = by} offset x y is too = is.stands ∙ ap by (one_name octets offset is.found too.found is.name too.name) ∙ sym too.stands
+one_part {octets = octets} {by = by} offset x y is too = grind (arith, one_name)
 
 pub one_list : {X : Type 0} (Is : ℕ → X → Type 0) (end_of : X → ℕ) → ((offset : ℕ) (x y : X) → Is offset x → Is offset y → x ≡ y) → (xs ys : List X) (offset end past : ℕ) → length xs ≡ length ys → AreAt Is end_of offset xs end → AreAt Is end_of offset ys past → (xs ≡ ys) × (end ≡ past)
 one_list Is end_of one [] [] offset end past e are too = (refl, sym are ∙ too)
@@ -18,12 +16,11 @@ one_list Is end_of one (x ∷ xs) (y ∷ ys) offset end past e are too =
 
 -- sections are what their parts are
 same_sections : (s t : Sections) → s.id ≡ t.id → s.questions ≡ t.questions → s.answers ≡ t.answers → s.additional ≡ t.additional → s ≡ t
-same_sections s t id questions answers additional =
-    ap (λ x. record s { id = x }) id ∙ ap (λ x. record s { id = t.id; questions = x }) questions ∙ ap (λ x. record t { answers = x; additional = s.additional }) answers ∙ ap (λ x. record t { additional = x }) additional
+same_sections s t id questions answers additional = grind arith
 
 pub one_message : (octets : List ℕ) (s t : Sections) → IsMessage octets s → IsMessage octets t → s ≡ t
 one_message octets s t is too =
-    let questions = one_list (IsQuestionAt octets) (λ q. q.end) one_part s.questions t.questions 12 is.past_questions too.past_questions (is.question_count ∙ sym too.question_count) is.questions too.questions in
-    let answers = one_list (IsRecordAt octets) (λ r. r.end) (λ o x y. one_part o x y) s.answers t.answers is.past_questions is.past_answers too.past_answers (is.answer_count ∙ sym too.answer_count) is.answers (subst (λ (x : ℕ). AreRecordsAt octets x t.answers too.past_answers) (sym questions.1) too.answers) in
-    let additional = one_list (IsRecordAt octets) (λ r. r.end) (λ o x y. one_part o x y) s.additional t.additional is.past_answers (length octets) (length octets) (is.additional_count ∙ sym too.additional_count) is.additional (subst (λ (x : ℕ). AreRecordsAt octets x t.additional (length octets)) (sym answers.1) too.additional) in
-    same_sections s t (is.id ∙ sym too.id) questions.0 answers.0 additional.0
+    let questions = one_list (IsQuestionAt octets) (λ q. q.end) one_part s.questions t.questions 12 is.past_questions too.past_questions (cc) is.questions too.questions in
+    let answers = one_list (IsRecordAt octets) (λ r. r.end) (λ o x y. one_part o x y) s.answers t.answers is.past_questions is.past_answers too.past_answers (cc) is.answers (search rules) in
+    let additional = one_list (IsRecordAt octets) (λ r. r.end) (λ o x y. one_part o x y) s.additional t.additional is.past_answers (length octets) (length octets) (cc) is.additional (search rules) in
+    grind (arith, same_sections)

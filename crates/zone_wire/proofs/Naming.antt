@@ -1,11 +1,5 @@
 -- What a result of the walk says of the name.
-use Rattle.std.proofs.Common.{◌≡◌, ℕ, ◌<◌, ◌≤◌, List, length, refl, sym, subst}
-use Rattle.std.specs.Prelude.{get_or, Result, Ok, Err, IfOk, IfErr, IsOk, MatchResult}
-use Rattle.zone_wire.specs.Name.{Found, IsNameAt, found_by}
-use Rattle.zone_wire.specs.Walk.{Visit, IsWalk, NameFault}
-use Rattle.zone_wire.specs.Machine.Walk.{walk}
-use Rattle.zone_wire.specs.Machine.Finding.{Outcome, refused, outcome, Says}
-use Rattle.zone_rdata.specs.declared.fault.Fault.{Fault}
+use Rattle.zone_wire.proofs.Common.{Err, Fault, Found, IfErr, IfOk, IsNameAt, IsOk, IsWalk, List, MatchResult, NameFault, Ok, Outcome, Result, Says, Visit, found_by, get_or, length, outcome, refl, refused, subst, sym, walk, ℕ, ◌<◌, ◌≡◌, ◌≤◌}
 use Rattle.zone_wire.specs.declared.name.Decoded.{Decoded}
 use Rattle.zone_wire.proofs.MessageFaults.{name_refused}
 use Rattle.zone_wire.proofs.WalkLaws.{of_walk}

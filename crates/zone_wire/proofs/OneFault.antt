@@ -1,23 +1,5 @@
 -- Data and answers have one first fault, and none where they have a value.
-use Rattle.std.proofs.Common.{◌≡◌, ℕ, ◌<◌, ◌≤◌, List, [], ◌∷◌, length, refl, ap, sym, ◌∙◌, subst, inl, inr, arith}
-use Rattle.std.specs.Prelude.{Option, Some, None, MatchOption}
-use Rattle.zone_rdata.specs.Field.{FieldValue, name, HoldEach}
-use Rattle.zone_rdata.specs.Layout.{layout, StringsLast}
-use Rattle.zone_rdata.specs.Record.{Record}
-use Rattle.zone_rdata.specs.Words.{IsClass, IsKind}
-use Rattle.zone_rdata.specs.declared.fault.Fault.{Fault}
-use Rattle.zone_rdata.specs.declared.fault.Fault.TheVariants.{BadRdata}
-use Rattle.zone_rdata.specs.declared.field.Field.{Field}
-use Rattle.zone_rdata.specs.declared.field.Field.TheVariants.{Name, Serial, Time, U16, Octets, OneString, Strings}
-use Rattle.zone_rdata.specs.declared.record.Placed.{Placed}
-use Rattle.zone_rdata.proofs.Tables.{table_row}
-use Rattle.zone_wire.specs.AnswerFault.{OwnFault, OrderFault, AnswerFault}
-use Rattle.zone_wire.specs.Answers.{ComesAfter}
-use Rattle.zone_wire.specs.DataFault.{IsFieldAt, FieldFault, FieldsFault, DataFault}
-use Rattle.zone_wire.specs.Message.{QuestionAt, RecordAt}
-use Rattle.zone_wire.specs.Name.{Found, IsNameAt}
-use Rattle.zone_wire.specs.Transfer.{octets_between, AreValuesAt, AreFieldsAt, IsDataAt, AnswerStates}
-use Rattle.zone_wire.specs.Walk.{NameFault}
+use Rattle.zone_wire.proofs.Common.{AnswerFault, AnswerStates, AreFieldsAt, AreValuesAt, BadRdata, ComesAfter, DataFault, Fault, Field, FieldFault, FieldValue, FieldsFault, Found, HoldEach, IsDataAt, IsFieldAt, IsNameAt, List, MatchOption, Name, NameFault, None, Octets, OneString, Option, OrderFault, OwnFault, Placed, QuestionAt, Record, RecordAt, Serial, Some, Strings, StringsLast, Time, U16, [], ap, arith, inl, inr, layout, length, name, octets_between, refl, subst, sym, table_row, ℕ, ◌<◌, ◌∙◌, ◌∷◌, ◌≡◌, ◌≤◌}
 use Rattle.zone_wire.proofs.Conditions.{unless_one, unless_holds}
 use Rattle.zone_wire.proofs.Fielding.{value_reads}
 use Rattle.zone_wire.proofs.MessageFaults.{name_one, name_not_both}
@@ -101,11 +83,10 @@ data_not_both octets a f canonical within is has = row_not_both octets a.end wit
 
 -- an answer by itself
 pub own_one : (octets : List ℕ) (a : RecordAt) (f g : Fault) → a.end ≤ length octets → OwnFault octets a f → OwnFault octets a g → f ≡ g
-own_one octets a f g within = unless_one (λ _ _. unless_one (λ _ _. unless_one (λ x y. data_one octets a x y within)))
+own_one octets a f g within = search (arith, unless_one, data_one)
 
 pub own_not_both : (octets : List ℕ) (a : RecordAt) (f : Fault) (r : Record) → a.end ≤ length octets → OwnFault octets a f → AnswerStates octets a r → ⊥
-own_not_both octets a f r within is s =
-    data_not_both octets a f r.octets within (unless_holds s.readable (unless_holds (subst IsKind s.kind s.fits.rdata.kind) (unless_holds (subst IsClass s.class s.fits.rdata.class) is))) s.rdata
+own_not_both octets a f r within is s = grind (arith, data_not_both, unless_holds)
 
 -- a record after others
 order_one : (questions : List QuestionAt) (before : List Placed) (r : Record) (f g : Fault) → OrderFault questions before r f → OrderFault questions before r g → f ≡ g
@@ -113,8 +94,7 @@ order_one questions [] r f g = unless_one (λ _ _. unless_one (λ _ _ no. absurd
 order_one questions (opening ∷ others) r f g = unless_one (λ _ _. unless_one (λ _ _ no. absurd no))
 
 order_not_both : (questions : List QuestionAt) (before : List Placed) (r : Record) (f : Fault) → ComesAfter questions before r → OrderFault questions before r f → ⊥
-order_not_both questions [] r f comes is = unless_holds comes.1 (unless_holds comes.0 is)
-order_not_both questions (opening ∷ others) r f comes is = unless_holds comes.1 (unless_holds comes.0 is)
+order_not_both questions before r f comes is = grind arith
 
 -- an answer after others
 module _ (octets : List ℕ) (questions : List QuestionAt) (before : List Placed) (a : RecordAt) (within : a.end ≤ length octets) where

@@ -1,18 +1,6 @@
 -- Messages are read in one way, and more messages only go on.
-use Rattle.std.proofs.Common.{◌≡◌, ℕ, ◌+◌, ◌≤◌, List, [], ◌∷◌, ◌++◌, length, refl, ap, sym, ◌∙◌, subst, inl, inr, arith, append_assoc, length-append}
-use Rattle.std.specs.Prelude.{Option, Some, None}
-use Rattle.std.specs.List.{AllByRecursion}
-use Rattle.std.proofs.lemmas.List.{append-nil}
-use Rattle.zone_rdata.specs.declared.fault.Fault.{Fault}
-use Rattle.zone_rdata.specs.declared.fault.Fault.TheVariants.{IdMismatch, BadQuestion}
-use Rattle.zone_rdata.specs.declared.fault.Place.{Place}
-use Rattle.zone_rdata.specs.declared.fault.Place.TheVariants.{Message}
-use Rattle.zone_rdata.specs.declared.record.Placed.{Placed}
-use Rattle.zone_wire.specs.AnswerFault.{AnswersGive, no_more, states, refused}
-use Rattle.zone_wire.specs.Message.{QuestionAt, RecordAt, Sections, IsMessage}
-use Rattle.zone_wire.specs.Stream.{HasFirstId, AskAfter, GiveAfter, IsReadAfter, FaultAfter, ReadAfter, whole, reads, stops}
-use Rattle.zone_wire.specs.Transfer.{StatedMessage}
-use Rattle.zone_wire.specs.Unless.{Unless}
+use Rattle.zone_wire.proofs.Common.{AllByRecursion, AnswersGive, AskAfter, BadQuestion, Fault, FaultAfter, GiveAfter, HasFirstId, IdMismatch, IsMessage, IsReadAfter, List, Message, None, Option, Place, Placed, QuestionAt, ReadAfter, RecordAt, Sections, Some, StatedMessage, Unless, [], ap, append-nil, append_assoc, arith, common_steps, inl, inr, length, length-append, no_more, reads, refl, states, stops, subst, sym, whole, ℕ, ◌++◌, ◌+◌, ◌∙◌, ◌∷◌, ◌≡◌, ◌≤◌}
+use Rattle.zone_wire.specs.AnswerFault.{refused}
 use Rattle.zone_wire.proofs.Conditions.{unless_one, unless_holds}
 use Rattle.zone_wire.proofs.GivenAnswers.{IsInMessage, each_stands}
 use Rattle.zone_wire.proofs.MessageFaults.{some_same, one_fault, never_both}
@@ -27,15 +15,15 @@ give_one number octets questions (a ∷ answers) before placed other stop late a
     let same : p ≡ q = placed_same p q (record_unique octets a p.rr q.rr at.0.1.inside is too) (place ∙ sym there) in
     let one = give_one number octets questions answers (before ++ q ∷ []) xs ys stop late at.1 (subst (λ r. AnswersGive number octets questions (before ++ r ∷ []) answers xs stop) same rest) others in
     (ap (λ r. r ∷ xs) same ∙ ap (λ x. q ∷ x) one.0, one.1)
-give_one number octets questions (a ∷ answers) before placed other stop late at (states {p = p} is place comes rest) (refused {fault = f} fault) = absurd (answer_not_both octets questions before a at.0.1.inside f p.rr fault is comes)
-give_one number octets questions (a ∷ answers) before placed other stop late at (refused {fault = f} fault) (states {p = p} is place comes rest) = absurd (answer_not_both octets questions before a at.0.1.inside f p.rr fault is comes)
+give_one number octets questions (a ∷ answers) before placed other stop late at (states {p = p} is place comes rest) (refused {fault = f} fault) = search (arith, answer_not_both)
+give_one number octets questions (a ∷ answers) before placed other stop late at (refused {fault = f} fault) (states {p = p} is place comes rest) = search (arith, answer_not_both)
 give_one number octets questions (a ∷ answers) before placed other stop late at (refused {fault = f} is) (refused {fault = g} too) = (refl, ap (λ x. Some (x, a.offset)) (answer_one octets questions before a at.0.1.inside f g is too))
 
 abbrev Stopped : Type 0
 Stopped = List Placed × Fault × ℕ
 
 same_stop : (e f : Stopped) → e.0 ≡ f.0 → (let x : Fault × ℕ = (e.1, e.2) in x) ≡ (f.1, f.2) → e ≡ f
-same_stop e f first same = ap (λ x. (x, e.1, e.2)) first ∙ ap (λ (x : Fault × ℕ). (f.0, x.0, x.1)) same
+same_stop e f first same = grind arith
 
 module _ (before : List StatedMessage) (octets : List ℕ) where
   give_after : (s : Sections) (placed other : List Placed) (stop late : Option (Fault × ℕ)) → IsMessage octets s → GiveAfter before octets s placed stop → GiveAfter before octets s other late → (placed ≡ other) × (stop ≡ late)
@@ -63,7 +51,7 @@ read_not_refused before p e is (inr fault) =
     cc
 
 same_part : (p q : StatedMessage) → p.octets ≡ q.octets → p.sections ≡ q.sections → p.placed ≡ q.placed → p ≡ q
-same_part p q octets sections placed = ap (λ x. record p { octets = x }) octets ∙ ap (λ x. record p { octets = q.octets; sections = x }) sections ∙ ap (λ x. record q { placed = x }) placed
+same_part p q octets sections placed = grind arith
 
 pub one_read : (before : List StatedMessage) (p q : StatedMessage) → p.octets ≡ q.octets → IsReadAfter before p → IsReadAfter before q → p ≡ q
 one_read before p q e is too =
@@ -80,7 +68,7 @@ pub record GoesOn (placed : List Placed) (ending : Option (Fault × Place)) (oth
 
 -- more messages go on
 pub read_goes_on : (messages after all : List (List ℕ)) (before : List StatedMessage) (placed other : List Placed) (ending late : Option (Fault × Place)) → all ≡ messages ++ after → ReadAfter before messages placed ending → ReadAfter before all other late → GoesOn placed ending other late
-read_goes_on messages after all before placed other ending late e whole too = record { more = other; goes_on = refl; stays = λ f h. cc }
+read_goes_on messages after all before placed other ending late e whole too = grind arith
 read_goes_on messages after all before placed other ending late e (reads is rest) whole = cc
 read_goes_on messages after all before placed other ending late e (reads {p = p} {messages = ms} {placed = xs} is rest) (reads {p = q} {messages = ns} {placed = ys} too others) =
     let octets : p.octets ≡ q.octets = cc in
@@ -107,13 +95,10 @@ read_goes_on messages after all before placed other ending late e (stops {octets
     record { more = []; goes_on = records ∙ sym (append-nil placed); stays = λ k h. (records, ap (λ (x : Stopped). Some (x.1, Message (length before + 1) x.2)) (sym same) ∙ h) }
 
 ending_one : (ending late : Option (Fault × Place)) → ((e : Fault × Place) → ending ≡ Some e → late ≡ Some e) → ((e : Fault × Place) → late ≡ Some e → ending ≡ Some e) → ending ≡ late
-ending_one None None f g = refl
-ending_one (Some e) late f g = sym (f e refl)
-ending_one None (Some e) f g = g e refl
+ending_one ending late f g = grind arith
 
 no_others : (placed other more : List Placed) → other ≡ placed ++ more → length other ≤ length placed → placed ≡ other
-no_others placed other [] e few = sym (e ∙ append-nil placed)
-no_others placed other (p ∷ more) e few = absurd (omega (arith, ap length e, few, length-append placed (p ∷ more)))
+no_others placed other more e few = grind (arith, common_steps)
 
 -- messages are read in one way
 pub one_way : (messages : List (List ℕ)) (placed other : List Placed) (ending late : Option (Fault × Place)) → ReadAfter [] messages placed ending → ReadAfter [] messages other late → (placed ≡ other) × (ending ≡ late)

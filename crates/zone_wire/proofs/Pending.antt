@@ -1,19 +1,13 @@
 -- The question and the answers of a message that was parsed, and the answers that are still to
 -- come.
-use Rattle.std.proofs.Common.{◌≡◌, ℕ, ◌-◌, List, [], ◌∷◌, length, refl, ap, sym, ◌∙◌, subst, arith}
-use Rattle.std.specs.Prelude.{map}
-use Rattle.zone_wire.specs.Message.{u16_at, QuestionAt, question_by, IsQuestionAt, AreQuestionsAt, RecordAt, record_by, IsRecordAt, AreRecordsAt, Sections, IsMessage}
-use Rattle.zone_wire.specs.Name.{Found, IsNameAt}
-use Rattle.zone_wire.specs.Machine.Parsing.{parsed, IsParsed, raw_from, records_or_none, HasRecordsFrom}
-use Rattle.zone_wire.specs.Machine.Sections.{record_at}
-use Rattle.zone_wire.specs.View.{raw_at}
+use Rattle.zone_wire.proofs.Common.{AreQuestionsAt, AreRecordsAt, Found, HasRecordsFrom, IsMessage, IsNameAt, IsParsed, IsQuestionAt, IsRecordAt, List, QuestionAt, RecordAt, Sections, [], ap, arith, length, map, parsed, question_by, raw_at, raw_from, record_at, record_by, refl, rules, sym, u16_at, ℕ, ◌-◌, ◌∙◌, ◌∷◌, ◌≡◌}
 use Rattle.zone_wire.proofs.Messages.{one_part}
 use Rattle.zone_wire.proofs.Sectioning.{part_reads, each_reads}
 use Rattle.zone_wire.proofs.Walking.{one_name}
 
 -- records that stand somewhere are read there
 pub stand_read : (octets : List ℕ) (count offset : ℕ) (s : HasRecordsFrom octets count offset) → raw_from octets count offset ≡ map (raw_at octets) s.records
-stand_read octets count offset s = ap (λ r. map (raw_at octets) (records_or_none r)) (each_reads (record_at octets) (λ r. r.end) (IsRecordAt octets) (λ o x. part_reads o x) s.records count offset s.past s.counted s.stand)
+stand_read octets count offset s = cc (each_reads (record_at octets) (λ r. r.end) (IsRecordAt octets) (λ o x. part_reads o x) s.records count offset s.past s.counted s.stand)
 
 -- the first of them, and the others
 pub record OneMore (octets : List ℕ) (count offset : ℕ) : Type 0 where
@@ -36,18 +30,16 @@ pub one_more_is : (octets : List ℕ) (count offset : ℕ) → HasRecordsFrom oc
 one_more_is octets count offset s some r is end e =
     let more = one_more octets count offset s some in
     let same : more.first ≡ r = one_part offset more.first r more.is is in
-    let there : more.first.end ≡ end = ap (λ (x : RecordAt). x.end) same ∙ e in
-    (subst (HasRecordsFrom octets (count - 1)) there more.rest, more.shown ∙ ap (λ (x : RecordAt). raw_at octets x ∷ raw_from octets (count - 1) more.first.end) same ∙ ap (λ n. raw_at octets r ∷ raw_from octets (count - 1) n) there)
+    let there : more.first.end ≡ end = cc in
+    (search rules, cc)
 
 -- the record after this name, where a record stands
 pub record_of_name : (octets : List ℕ) (offset : ℕ) (r : RecordAt) → IsRecordAt octets offset r → (found : Found) → IsNameAt octets offset found → IsRecordAt octets offset (record_by octets offset found)
-record_of_name octets offset r is found name =
-    let same : r ≡ record_by octets offset found = is.stands ∙ ap (record_by octets offset) (one_name octets offset is.found found is.name name) in
-    subst (IsRecordAt octets offset) same is
+record_of_name octets offset r is found name = grind (arith, one_name)
 
 -- the answers of a message that was parsed
 pub answers_stand : (octets : List ℕ) (answers : ℕ) → IsParsed octets answers → HasRecordsFrom octets (u16_at octets 6) answers
-answers_stand octets answers is = record { records = (parsed octets).sections.answers; past = is.past; stand = is.begin; counted = is.message.answer_count }
+answers_stand octets answers is = grind arith
 
 pub answers_shown : (octets : List ℕ) (answers : ℕ) → IsParsed octets answers → raw_from octets (u16_at octets 6) answers ≡ map (raw_at octets) (parsed octets).sections.answers
 unfolding answers_stand
@@ -68,6 +60,4 @@ has_one_question octets s is some = by s.questions is.question_count is.question
     by (q ∷ other ∷ questions) count are = absurd (omega (arith, count, is.header.counts.0))
 
 pub question_of_name : (octets : List ℕ) (questions : List QuestionAt) (h : HasOneQuestion octets questions) (found : Found) → IsNameAt octets 12 found → (questions ≡ question_by octets found ∷ []) × IsQuestionAt octets 12 (question_by octets found)
-question_of_name octets questions h found name =
-    let same : h.only ≡ question_by octets found = h.is.stands ∙ ap (question_by octets) (one_name octets 12 h.is.found found h.is.name name) in
-    (h.alone ∙ ap (λ q. q ∷ []) same, subst (IsQuestionAt octets 12) same h.is)
+question_of_name octets questions h found name = grind (arith, one_name)

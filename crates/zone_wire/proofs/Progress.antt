@@ -1,32 +1,7 @@
 -- Answers and messages that are read one after another.
-use Rattle.std.proofs.Common.{◌≡◌, ℕ, ◌+◌, List, [], ◌∷◌, ◌++◌, length, refl, ap, sym, ◌∙◌, subst, Bool, true, false, append_assoc, length-append, inl, inr}
-use Rattle.std.specs.Prelude.{map, reverse, nat_eq, is_some, ◌==◌, ◌||◌, not, Option, Some, None, MatchOption, Result, Ok, Err, ⊤}
-use Rattle.std.specs.Cmp.Lexicographic.{pointwise}
-use Rattle.std.specs.List.{AllByRecursion, filter, list_any}
-use Rattle.std.proofs.lemmas.Bool.{cond-true, cond-false, eq-eqb, or_left, or_right}
-use Rattle.std.proofs.lemmas.List.{append-nil, reverse-reverse}
-use Rattle.std.proofs.lemmas.List.Elements.{filter-append}
-use Rattle.zone_rdata.specs.Record.{Record}
-use Rattle.zone_rdata.specs.Fault.{IfFault}
-use Rattle.zone_rdata.specs.declared.fault.Failing.{Failing}
+use Rattle.zone_wire.proofs.Common.{AfterClosing, AgreeWith, AllByRecursion, Among, AnswerFault, AnswersGive, AskAfter, AsksIn, Bool, ComesAfter, Err, Failing, Fault, Gains, Hands, HasFirstId, HeadFault, IfFault, IfNoMemory, IsAfter, IsMessage, List, MatchOption, Message, MessageFault, None, Ok, Option, OrderFault, Placed, Question, QuestionAt, RawRecord, ReadsNext, Record, RecordAt, Result, Sections, Some, StatedMessage, StopsIn, Takes, TakesEach, TakesHead, TakesMessage, TakesMessageUpTo, TakesUpTo, TakesWhole, Transfer, ZoneAsked, [], ap, append-nil, append_assoc, asked, asked_in, cond-false, cond-true, eq-eqb, fails, false, filter, filter-append, first_id, handed_on, holds, inl, inr, is_some, length, length-append, list_any, map, nat_eq, no_more, not, or_left, or_right, other_id, other_zone, placed_in, pointwise, raw_at, refl, reverse, reverse-reverse, same_name, states, subst, sym, true, zone_held, zone_of, zone_with, ℕ, ⊤, ◌++◌, ◌+◌, ◌==◌, ◌||◌, ◌∙◌, ◌∷◌, ◌≡◌}
 use Rattle.zone_rdata.specs.declared.fault.Failing.TheVariants as failings
-use Rattle.zone_rdata.specs.declared.fault.Fault.{Fault}
-use Rattle.zone_rdata.specs.declared.fault.Fault.TheVariants.{AfterClosing}
-use Rattle.zone_rdata.specs.declared.fault.Place.TheVariants.{Message}
-use Rattle.zone_rdata.specs.declared.record.Placed.{Placed}
-use Rattle.zone_wire.specs.AnswerFault.{OrderFault, AnswerFault, AnswersGive, no_more, states, refused}
-use Rattle.zone_wire.specs.Answers.{ZoneAsked, zone_of, AgreeWith, handed_on, ComesAfter}
-use Rattle.zone_wire.specs.Machine.Transferring.{Among, IsAfter, Gains, Hands, Takes, TakesUpTo, TakesHead, HeadFault, other_id, other_zone, TakesWhole, StopsIn, IfNoMemory, TakesEach, TakesMessageUpTo, TakesMessage, ReadsNext, zone_held, zone_with}
-use Rattle.zone_wire.specs.Message.{QuestionAt, RecordAt, Sections, IsMessage}
-use Rattle.zone_wire.specs.MessageFault.{MessageFault}
-use Rattle.zone_wire.specs.Stream.{asked_in, placed_in, HasFirstId, AsksIn, AskAfter}
-use Rattle.zone_wire.specs.Transfer.{StatedMessage}
-use Rattle.zone_wire.specs.TransferSource.{first_id}
-use Rattle.zone_wire.specs.Unless.{fails, holds}
-use Rattle.zone_wire.specs.View.{RawRecord, raw_at, asked}
-use Rattle.zone_wire.specs.declared.message.Question.{Question}
-use Rattle.zone_wire.specs.Machine.Answers.{same_name}
-use Rattle.zone_wire.specs.declared.transfer.Transfer.{Transfer}
+use Rattle.zone_wire.specs.AnswerFault.{refused}
 use Rattle.zone_wire.proofs.Accepting.{any_append}
 use Rattle.zone_wire.proofs.Answering.{is_soa, differ, names_same}
 use Rattle.zone_wire.proofs.GivenMessages.{asked_grow, placed_grow}
@@ -74,7 +49,7 @@ not_soa p = not (p.rr.kind == 6)
 -- after it each record but the closing SOA is
 gains_after : (questions : List QuestionAt) (placed : List Placed) (p : Placed) (old new : Transfer) → Among questions placed old → is_some old.opening ≡ true → new.opening ≡ old.opening → new.zone ≡ old.zone → new.id ≡ old.id
     → new.closed ≡ (old.closed || list_any is_soa (p ∷ [])) → new.decided.placed ≡ old.decided.placed ++ filter not_soa (p ∷ []) → Gains (p ∷ []) questions placed old new
-gains_after questions [] p old new among some opening zone id closed items = let has = some_of old.opening some in let is = among.opening in let e = has.1 in cc
+gains_after questions [] p old new among some opening zone id closed items = cc
 gains_after questions (first ∷ others) p old new among some opening zone id closed items = record {
   among = record {
     zone = ap zone_held zone ∙ among.zone ∙ zone_kept questions first others (p ∷ []);
@@ -106,7 +81,7 @@ other_gains questions placed rr offset old mid new among some other mid_is new_i
 
 -- a record that is no SOA stands after the opening one, while the transfer isn't closed
 pub stands_after : (questions : List QuestionAt) (placed : List Placed) (rr : Record) (t : Transfer) → Among questions placed t → is_some t.opening ≡ true → t.closed ≡ false → (rr.kind ≡ 6 → ⊥) → ComesAfter questions placed rr
-stands_after questions [] rr t among some going other = let has = some_of t.opening some in let is = among.opening in let e = has.1 in cc
+stands_after questions [] rr t among some going other = cc
 stands_after questions (opening ∷ placed) rr t among some going other = (sym among.closed ∙ going, λ soa. absurd (other soa))
 
 -- none does once it is

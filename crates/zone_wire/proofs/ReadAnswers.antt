@@ -1,18 +1,5 @@
 -- Answers that are read without a fault state their records, in the order of a transfer.
-use Rattle.std.proofs.Common.{◌≡◌, ◌≢◌, ℕ, ◌≤◌, ◌<◌, List, [], ◌∷◌, length, refl, ap, ◌∙◌, subst, Bool, true, false, nat_eq}
-use Rattle.std.specs.Prelude.{get_or, ◌==◌, ◌&&◌, Option, Some, None, Result, Ok, Err, if◌then◌else◌}
-use Rattle.std.specs.List.{AllByRecursion, list_any}
-use Rattle.std.specs.Cmp.Lexicographic.{pointwise, pointwise_decides, bytes_decides}
-use Rattle.std.proofs.lemmas.Bool.{and_parts, or_parts, eqb-true}
-use Rattle.zone_rdata.specs.Record.{Record, IsRecord}
-use Rattle.zone_rdata.specs.Words.{is_meta}
-use Rattle.zone_rdata.specs.declared.fault.Fault.{Fault}
-use Rattle.zone_rdata.specs.declared.fault.Fault.TheVariants.{BadClass, MetaType, CompressibleType}
-use Rattle.zone_rdata.specs.declared.record.Placed.{Placed}
-use Rattle.zone_wire.specs.Machine.Answers.{same_name, same_record, is_no_class, own_record, order_fault, answer_record}
-use Rattle.zone_wire.specs.Machine.Data.{data_at}
-use Rattle.zone_wire.specs.Message.{QuestionAt, RecordAt}
-use Rattle.zone_wire.specs.Transfer.{ttl_of, compressible, AnswerStates}
+use Rattle.zone_wire.proofs.Common.{AllByRecursion, AnswerStates, BadClass, CompressibleType, Err, Fault, IsRecord, List, MetaType, None, Ok, Option, Placed, QuestionAt, Record, RecordAt, Result, Some, [], and_parts, answer_record, ap, bytes_decides, compressible, data_at, eqb-true, false, get_or, is_meta, is_no_class, length, list_any, nat_eq, or_parts, order_fault, own_record, pointwise, pointwise_decides, refl, same_name, same_record, subst, true, ttl_of, ℕ, ◌&&◌, ◌<◌, ◌==◌, ◌∙◌, ◌∷◌, ◌≡◌, ◌≢◌, ◌≤◌}
 use Rattle.zone_wire.proofs.ReadFields.{data_shown}
 use Rattle.zone_wire.proofs.ReadSections.{ok_same, leads, passes_on}
 use Rattle.zone_wire.proofs.Transfers.{equal_parts}
@@ -47,10 +34,6 @@ records_equal r s e =
 -- a name and class that agree with the zone
 pub agree_parts : (name other : List (List ℕ)) (class last : ℕ) → (same_name name other && class == last) ≡ true → (name ≡ other) × (class ≡ last)
 agree_parts name other class last e = let p = and_parts (same_name name other) (class == last) e in (names_equal name other p.0, eqb-true _ _ p.1)
-
-pub agreed : (test : Bool) (fault : Fault) → (if test then None else Some fault) ≡ None → test ≡ true
-agreed true fault e = refl
-agreed false fault e = cc
 
 kept_record : (r s : Record) (fault : Option Fault) → (let x : Result Record Fault = elim fault [ Some f ↦ Err f | None ↦ Ok r ] in x) ≡ Ok s → (fault ≡ None) × (r ≡ s)
 kept_record r s None e = (refl, ok_same r s e)

@@ -1,32 +1,8 @@
 -- What is read as the data of a record is its data.
-use Rattle.std.proofs.Common.{◌≡◌, ℕ, zero, suc, ◌+◌, ◌-◌, ◌≤◌, ◌^◌, ◌<◌, List, [], ◌∷◌, length, refl, ap, sym, ◌∙◌, subst, nat_le, nat_lt, nat_eq, arith}
-use Rattle.std.specs.Prelude.{get_or, slice_index, take, drop, ◌==◌, ◌&&◌, Option, Some, None, MatchOption, Result, Ok}
-use Rattle.std.specs.Int.{w16, w32, to_be_bytes, from_be_bytes}
-use Rattle.std.specs.Cmp.Lexicographic.{pointwise, bytes_decides}
-use Rattle.std.specs.List.{flat_map, AllByRecursion}
-use Rattle.std.proofs.lemmas.Bool.{and_parts, leb-true, ltb-true, eqb-true}
-use Rattle.std.proofs.lemmas.List.{take_all, length-take, length-take-le, length-drop}
-use Rattle.std.proofs.lemmas.Nat.{be_bytes_2, be_bytes_4}
-use Rattle.zone_name.specs.Name.{with_length}
-use Rattle.zone_rdata.specs.Field.{FieldValue, octets_of, Holds, HoldEach, field_at}
-use Rattle.zone_rdata.specs.Fields.OneString.{string_at}
-use Rattle.zone_rdata.specs.Fields.Strings.{strings_by, strings_of}
-use Rattle.zone_rdata.specs.Layout.{layout}
-use Rattle.zone_rdata.specs.Strings.{IsString}
-use Rattle.zone_rdata.specs.declared.fault.Fault.{Fault}
-use Rattle.zone_rdata.proofs.Lists.{bytes_each}
-use Rattle.zone_rdata.specs.declared.field.Field.{Field}
-use Rattle.zone_rdata.specs.declared.field.Field.TheVariants.{Name, Serial, Time, U16, Octets, OneString, Strings}
-use Rattle.zone_wire.specs.Machine.Data.{name_before, sized_before, strings_before, value_at, values_at, data_at}
-use Rattle.zone_wire.specs.Message.{RecordAt}
-use Rattle.zone_wire.specs.Machine.Finding.{Outcome, named, refused, outcome}
-use Rattle.zone_wire.specs.Machine.Sections.{and_then}
-use Rattle.zone_wire.specs.Transfer.{octets_between, IsValueAt, AreValuesAt, AreFieldsAt, IsDataAt}
-use Rattle.zone_wire.specs.Machine.Walk.{walk}
+use Rattle.zone_wire.proofs.Common.{AllByRecursion, AreFieldsAt, AreValuesAt, Fault, Field, FieldValue, HoldEach, Holds, IsDataAt, IsString, IsValueAt, List, MatchOption, Name, None, Octets, Ok, OneString, Option, Outcome, RecordAt, Result, Serial, Some, Strings, Time, U16, [], and_parts, and_then, ap, arith, be_bytes_2, be_bytes_4, bytes_each, data_at, drop, field_at, flat_map, from_be_bytes, get_or, layout, leb-true, length, length-drop, length-take, length-take-le, ltb-true, name_before, named, nat_eq, nat_le, nat_lt, octets_between, octets_of, outcome, pointwise, refl, refused, rules, sized_before, slice_index, some_frames, string_at, strings_before, strings_by, strings_of, subst, suc, sym, take, take_all, to_be_bytes, value_at, values_at, w16, w32, walk, with_length, zero, ℕ, ◌&&◌, ◌+◌, ◌-◌, ◌<◌, ◌==◌, ◌^◌, ◌∙◌, ◌∷◌, ◌≡◌, ◌≤◌}
 use Rattle.zone_wire.proofs.Fielding.{part_first}
 use Rattle.zone_wire.proofs.ReadSections.{ok_same, leads, passes}
 use Rattle.zone_wire.proofs.Walking.{walk_names, take_each, drop_each}
-use Rattle.zone_rdata.proofs.Fields.Strings.{some_frames}
 
 abbrev Shown : List ℕ → ℕ → ℕ → Field → FieldValue × ℕ → Type 0
 Shown octets end start field v = Holds field v.0 × (v.1 ≤ end) × IsValueAt octets start v.1 v.0
@@ -60,7 +36,7 @@ module _ (octets : List ℕ) (each : (k : ℕ) → get_or octets k 0 < 256) (end
   part_size : (start size : ℕ) → start + size ≤ end → length (octets_between octets start (start + size)) ≡ size
   part_size start size fits =
       let n : start + size - start ≡ size = omega arith in
-      ap (λ k. length (take k (drop start octets))) n ∙ length-take-le size (drop start octets) (omega (arith, within, length-drop start octets))
+      grind (arith, length-take-le, length-drop)
 
   long_short : (bs : List ℕ) → ((k : ℕ) → get_or bs k 0 < 256) → from_be_bytes w32 bs < 2 ^ 32
   long_short bs small = omega (arith, small 0, small 1, small 2, small 3)
@@ -72,13 +48,13 @@ module _ (octets : List ℕ) (each : (k : ℕ) → get_or octets k 0 < 256) (end
   long_stands start fits =
       let bs = octets_between octets start (start + 4) in
       let len : length bs ≡ 4 = part_size start 4 fits in
-      (omega arith, sym (be_bytes_4 bs (from_be_bytes w32 (take 4 bs)) len (part_bytes start (start + 4)) (ap (from_be_bytes w32) (take_all 4 bs (omega (arith, len))))))
+      (omega arith, grind (arith, be_bytes_4, part_bytes, take_all))
 
   two_stands : (start : ℕ) → start + 2 ≤ end → (start ≤ start + 2) × (octets_between octets start (start + 2) ≡ to_be_bytes w16 (from_be_bytes w16 (take 2 (octets_between octets start (start + 2)))))
   two_stands start fits =
       let bs = octets_between octets start (start + 2) in
       let len : length bs ≡ 2 = part_size start 2 fits in
-      (omega arith, sym (be_bytes_2 bs (from_be_bytes w16 (take 2 bs)) len (part_bytes start (start + 2)) (ap (from_be_bytes w16) (take_all 2 bs (omega (arith, len))))))
+      (omega arith, grind (arith, be_bytes_2, part_bytes, take_all))
 
   -- octets of a fixed number
   fixed_shows : (start n : ℕ) → start + n ≤ end → Shown octets end start (Octets n) (field_at (Octets n) (octets_between octets start (start + n)), start + n)
@@ -86,7 +62,7 @@ module _ (octets : List ℕ) (each : (k : ℕ) → get_or octets k 0 < 256) (end
       let bs = octets_between octets start (start + n) in
       let len : length bs ≡ n = part_size start n fits in
       let whole : take n bs ≡ bs = take_all n bs (omega (arith, len)) in
-      (record { size = ap length whole ∙ len; each = bytes_each (take n bs) (take_each n bs (part_bytes start (start + n))) }, fits, (omega arith, sym whole))
+      grind (arith, bytes_each, take_each, part_bytes)
 
   -- a string after its length
   string_shows : (start : ℕ) → start + (1 + slice_index octets start) ≤ end → Shown octets end start OneString (field_at OneString (octets_between octets start (start + (1 + slice_index octets start))), start + (1 + slice_index octets start))
@@ -102,7 +78,7 @@ module _ (octets : List ℕ) (each : (k : ℕ) → get_or octets k 0 < 256) (end
           let same : length rest ≡ c = omega (arith, len, first) in
           let whole : take c rest ≡ rest = take_all c rest (omega (arith, same)) in
           let text : length (take c rest) ≡ c = ap length whole ∙ same in
-          (record { short = omega (arith, text, small 0); each = bytes_each (take c rest) (take_each c rest (λ k. small (suc k))) }, ap (λ x. x ∷ rest) (sym text) ∙ ap (λ x. length (take c rest) ∷ x) (sym whole))
+          (record { short = omega (arith, text, small 0); each = bytes_each (take c rest) (take_each c rest (λ k. small (suc k))) }, cc)
 
   -- strings up to the end
   strings_show : (start : ℕ) (v : FieldValue × ℕ) → strings_before end (octets_between octets start end) ≡ Ok v → Shown octets end start Strings v
@@ -111,9 +87,9 @@ module _ (octets : List ℕ) (each : (k : ℕ) → get_or octets k 0 < 256) (end
       let p = passes (nat_lt 0 (length bs) && pointwise nat_eq (flat_map with_length (strings_of bs)) bs) _ v _ e in
       let b = and_parts (nat_lt 0 (length bs)) (pointwise nat_eq (flat_map with_length (strings_of bs)) bs) p.0 in
       let some : 0 < length bs = ltb-true 0 (length bs) b.0 in
-      let whole : flat_map with_length (strings_of bs) ≡ bs = (bytes_decides (flat_map with_length (strings_of bs)) bs).0 b.1 in
-      let order : start ≤ end = omega (arith, some, length-take (end - start) (drop start octets)) in
-      subst (Shown octets end start Strings) p.1 (record { some = some_frames (strings_of bs) (omega (arith, some, ap length whole)); each = strings_each bs (part_bytes start end) }, omega arith, (order, sym whole))
+      let whole : flat_map with_length (strings_of bs) ≡ bs = search rules in
+      let order : start ≤ end = omega (arith, length-take (end - start) (drop start octets)) in
+      subst (Shown octets end start Strings) p.1 (record { some = some_frames (strings_of bs) (omega (arith, ap length whole)); each = strings_each bs (part_bytes start end) }, omega arith, (order, sym whole))
 
   -- what is read for a field stands there
   pub value_shows : (start : ℕ) (field : Field) (v : FieldValue × ℕ) → value_at octets end start field ≡ Ok v → Shown octets end start field v
@@ -127,22 +103,20 @@ module _ (octets : List ℕ) (each : (k : ℕ) → get_or octets k 0 < 256) (end
   value_shows start U16 v e = sized_shows start 2 U16 v (λ fits. (two_short _ (take_each 2 _ (part_bytes start (start + 2))), fits, two_stands start fits)) e
 
   pub values_show : (fields : List Field) (start : ℕ) (values : List FieldValue) → values_at octets end start fields ≡ Ok values → HoldEach fields values × AreValuesAt octets start end values
-  values_show [] start values e =
-      let p = passes (start == end) [] values _ e in
-      subst (λ (vs : List FieldValue). HoldEach [] vs × AreValuesAt octets start end vs) p.1 (tt, eqb-true start end p.0)
+  values_show [] start values e = let p = passes (start == end) [] values _ e in search rules
   values_show (f ∷ fields) start values e =
       let one = leads (value_at octets end start f) _ values e in
       let rest = leads (values_at octets end one.first.1 fields) _ values one.goes_on in
       let here = value_shows start f one.first one.is in
       let others = values_show fields one.first.1 rest.first rest.is in
-      subst (λ (vs : List FieldValue). HoldEach (f ∷ fields) vs × AreValuesAt octets start end vs) (ok_same _ _ rest.goes_on) ((here.0, others.0), (one.first.1, here.1, here.2, others.1))
+      search rules
 
   layout_shows : (start : ℕ) (canonical : List ℕ) (o : Option (List Field)) → (let r : Result (List ℕ) Fault = elim o [ None ↦ Ok (octets_between octets start end) | Some fields ↦ and_then (values_at octets end start fields) (λ values. Ok (octets_of values)) ] in r) ≡ Ok canonical → MatchOption o (canonical ≡ octets_between octets start end) (λ fields. AreFieldsAt octets start end fields canonical)
   layout_shows start canonical None e = sym (ok_same _ _ e)
   layout_shows start canonical (Some fields) e =
       let l = leads (values_at octets end start fields) _ canonical e in
       let values = values_show fields start l.first l.is in
-      record { values = l.first; held = values.0; stand = values.1; whole = sym (ok_same _ _ l.goes_on) }
+      search rules
 
 pub data_shown : (octets : List ℕ) (a : RecordAt) (canonical : List ℕ) → ((k : ℕ) → get_or octets k 0 < 256) → a.end ≤ length octets → data_at octets a ≡ Ok canonical → IsDataAt octets a canonical
 unfolding data_at

@@ -1,28 +1,5 @@
 -- The record that an answer states is one.
-use Rattle.std.proofs.Common.{◌≡◌, ◌≢◌, ℕ, ◌+◌, ◌-◌, ◌≤◌, ◌<◌, List, [], ◌∷◌, length, refl, ap, sym, ◌∙◌, subst, Bool, true, false, not, nat_lt, nat_eq, inl, inr, arith}
-use Rattle.std.specs.Prelude.{drop, ◌==◌, ◌||◌, ◌⊎◌, Option, Some, None, MatchOption, Ok, if◌then◌else◌, ⊤}
-use Rattle.std.specs.List.{AllByRecursion, filter, list_all, list_any}
-use Rattle.std.proofs.lemmas.Bool.{and_parts, or_cases, or_parts, not-true, false≢true, ltb-false}
-use Rattle.std.proofs.lemmas.List.{append-nil, length-take, length-drop}
-use Rattle.zone_rdata.proofs.Bytes.{Bytes}
-use Rattle.zone_name.specs.Name.{IsName}
-use Rattle.zone_rdata.specs.Field.{FieldValue, strings, field_octets, octets_of, Holds, HoldEach}
-use Rattle.zone_rdata.specs.Layout.{layout, AreLaidOut, IsData}
-use Rattle.zone_rdata.specs.Record.{Record, IsRecord}
-use Rattle.zone_rdata.specs.Field.{is_strings}
-use Rattle.zone_rdata.specs.Words.{is_meta}
-use Rattle.zone_rdata.specs.declared.fault.Fault.TheVariants.{BadClass, MetaType, CompressibleType}
-use Rattle.zone_rdata.specs.declared.field.Field.{Field}
-use Rattle.zone_rdata.specs.declared.field.Field.TheVariants.{Strings}
-use Rattle.zone_rdata.specs.declared.record.Placed.{Placed}
-use Rattle.zone_rdata.proofs.Tables.{each_layout}
-use Rattle.zone_wire.specs.Machine.Answers.{is_no_class, own_record}
-use Rattle.zone_wire.specs.Machine.Data.{data_at}
-use Rattle.zone_wire.specs.Message.{u16_at, RecordAt, IsRecordAt}
-use Rattle.zone_wire.specs.Answers.{handed_on}
-use Rattle.zone_wire.specs.Transfer.{octets_between, IsValueAt, AreValuesAt, AreFieldsAt, ttl_of, compressible}
-use Rattle.zone_wire.proofs.Spots.{unequal}
-use Rattle.zone_rdata.proofs.Lists.{bytes_each}
+use Rattle.zone_wire.proofs.Common.{AllByRecursion, AreFieldsAt, AreLaidOut, AreValuesAt, BadClass, Bool, Bytes, CompressibleType, Field, FieldValue, HoldEach, IsData, IsName, IsRecord, IsRecordAt, List, MatchOption, MetaType, None, Ok, Option, Placed, Record, RecordAt, Some, Strings, [], and_parts, ap, arith, bytes_each, common_steps, compressible, data_at, drop, false, filter, handed_on, if◌then◌else◌, inl, inr, is_meta, is_no_class, is_strings, layout, length, list_all, list_any, nat_eq, not, octets_between, octets_of, own_record, refl, subst, sym, true, ttl_of, u16_at, ℕ, ⊤, ◌+◌, ◌<◌, ◌||◌, ◌∷◌, ◌≡◌, ◌≢◌, ◌≤◌, ◌⊎◌}
 use Rattle.zone_wire.proofs.ReadFields.{data_shown}
 use Rattle.zone_wire.proofs.ReadSections.{ok_same, leads, passes_on}
 use Rattle.zone_wire.proofs.Walking.{take_each, drop_each}
@@ -44,49 +21,29 @@ none_strings : (fields : List Field) → unstrung fields ≡ true → AllByRecur
 none_strings [] e = tt
 none_strings (field ∷ fields) e =
     let both = and_parts (not (is_strings field)) (unstrung fields) e in
-    (λ same. false≢true (sym (not-true (is_strings field) both.0) ∙ ap is_strings same), none_strings fields both.1)
+    (λ same. cc, none_strings fields both.1)
 
 alone : (fields : List Field) → strings_alone fields ≡ true → fields ≡ Strings ∷ []
-alone [] e = absurd (let t : ⊥ = cc in t)
-alone (Strings ∷ []) e = refl
-alone (field ∷ []) e = absurd (let t : ⊥ = cc in t)
-alone (field ∷ other ∷ fields) e = absurd (let t : ⊥ = cc in t)
+alone fields e = grind arith
 
 row_of : (fields : List Field) → (unstrung fields || strings_alone fields) ≡ true → IsRow (Some fields)
-row_of fields e = elim (or_cases (unstrung fields) (strings_alone fields) e) [ inl none ↦ inl (none_strings fields none) | inr only ↦ inr (alone fields only) ]
-
-row_by : (laid : Option (List Field)) → ((fields : List Field) → laid ≡ Some fields → (unstrung fields || strings_alone fields) ≡ true) → IsRow laid
-row_by None each = tt
-row_by (Some fields) each = row_of fields (each fields refl)
+row_of fields e = grind (arith, none_strings)
 
 pub each_row : (class kind : ℕ) → IsRow (layout class kind)
-each_row class kind = row_by (layout class kind) (each_layout (λ fields. unstrung fields || strings_alone fields) refl class kind)
+each_row class kind = grind arith
 
 part_short : (octets : List ℕ) (start end : ℕ) → length (octets_between octets start end) ≤ length octets
-part_short octets start end = omega (arith, length-take (end - start) (drop start octets), length-drop start octets)
+part_short octets start end = grind (arith, common_steps)
 
 -- strings take as many octets as in the message
-held_strings_short : (octets : List ℕ) (start end : ℕ) (value : FieldValue) → Holds Strings value → IsValueAt octets start end value → length (field_octets value) ≤ length octets
-held_strings_short octets start end (strings many) held stands = omega (arith, part_short octets start end, ap length stands.1)
-held_strings_short octets start end value held stands = absurd held
-
 strings_short : (octets : List ℕ) (start end : ℕ) (values : List FieldValue) → HoldEach (Strings ∷ []) values → AreValuesAt octets start end values → length (octets_of values) ≤ length octets
-strings_short octets start end [] held stand = absurd held
-strings_short octets start end (v ∷ []) held stand = omega (arith, held_strings_short octets start stand.0 v held.0 stand.2, ap length (append-nil (field_octets v)))
-strings_short octets start end (v ∷ w ∷ values) held stand = absurd held.1
+strings_short octets start end values held stand = grind (arith, common_steps)
 
 pub no_class_parts : (n : ℕ) → is_no_class n ≡ false → (n ≢ 0) × (n ≢ 254) × (n ≢ 255)
-no_class_parts n e =
-    let last = or_parts (n == 0 || n == 254) (n == 255) e in
-    let others = or_parts (n == 0) (n == 254) last.0 in
-    (unequal n 0 others.0, unequal n 254 others.1, unequal n 255 last.1)
+no_class_parts n e = grind arith
 
 ttl_short : (n : ℕ) → ttl_of n ≤ 2147483647
-ttl_short n = by (nat_lt 2147483647 n) refl
-  where
-    by : (test : Bool) → nat_lt 2147483647 n ≡ test → (if test then 0 else n) ≤ 2147483647
-    by true e = omega arith
-    by false e = ltb-false 2147483647 n e
+ttl_short n = grind arith
 
 abbrev Fit : List Placed → Type 0
 Fit placed = AllByRecursion (λ (p : Placed). IsRecord p.rr) placed
@@ -100,8 +57,7 @@ filter_fit test (p ∷ placed) fits = by (test p) (filter_fit test placed fits.1
     by false rest = rest
 
 pub handed_fit : (placed : List Placed) → Fit placed → Fit (handed_on placed)
-handed_fit [] fits = tt
-handed_fit (opening ∷ others) fits = (fits.0, filter_fit _ others fits.1)
+handed_fit placed fits = grind (arith, filter_fit)
 
 -- values that the fields of a layout hold are data, where their octets are few enough
 abbrev HeldAreData : Type 0

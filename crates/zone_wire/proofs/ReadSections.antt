@@ -1,13 +1,5 @@
 -- What is read as the sections of a message are its sections.
-use Rattle.std.proofs.Common.{◌≡◌, ℕ, zero, suc, ◌/◌, arith, ◌<◌, ◌≤◌, List, length, refl, ap, sym, subst, Bool, true, false, nat_le}
-use Rattle.std.specs.Prelude.{get_or, slice_index, ◌==◌, Option, Some, None, Result, Ok, Err, if◌then◌else◌}
-use Rattle.std.proofs.lemmas.Bool.{and_parts, leb-true, ltb-false, eqb-true, not-false}
-use Rattle.zone_rdata.specs.declared.fault.Fault.{Fault}
-use Rattle.zone_wire.specs.Message.{u16_at, IsResponse, HasHeader, IsPartAt, QuestionAt, question_by, IsQuestionAt, RecordAt, record_by, IsRecordAt, AreAt, Sections, IsMessage}
-use Rattle.zone_wire.specs.Name.{Found}
-use Rattle.zone_wire.specs.Machine.Finding.{Outcome, named, refused, outcome}
-use Rattle.zone_wire.specs.Machine.Sections.{and_then, at_offset, header_fault, inside, question_at, record_at, each_from, questions_from, records_from, after_header, unless_faulted, sections_of}
-use Rattle.zone_wire.specs.Machine.Walk.{walk}
+use Rattle.zone_wire.proofs.Common.{AreAt, Bool, Err, Fault, Found, HasHeader, IsMessage, IsPartAt, IsQuestionAt, IsRecordAt, IsResponse, List, None, Ok, Option, Outcome, QuestionAt, RecordAt, Result, Sections, Some, after_header, and_parts, and_then, arith, at_offset, each_from, eqb-true, false, get_or, header_fault, if◌then◌else◌, inside, leb-true, length, ltb-false, named, nat_le, not-false, outcome, question_at, question_by, questions_from, record_at, records_from, refl, refused, rules, sections_of, slice_index, subst, suc, sym, true, u16_at, unless_faulted, walk, zero, ℕ, ◌/◌, ◌<◌, ◌==◌, ◌≡◌, ◌≤◌}
 use Rattle.zone_wire.proofs.Walking.{walk_names}
 
 pub ok_same : {X E : Type 0} (x y : X) → (let r : Result X E = Ok x in r) ≡ Ok y → x ≡ y
@@ -20,21 +12,17 @@ pub record Leads {X Y E : Type 0} (r : Result X E) (next : X → Result Y E) (y 
   pub goes_on : next first ≡ Ok y
 
 pub leads : {X Y E : Type 0} (r : Result X E) (next : X → Result Y E) (y : Y) → and_then r next ≡ Ok y → Leads r next y
-leads (Ok x) next y e = record { first = x; is = refl; goes_on = e }
-leads (Err fault) next y e = cc
+leads r next y e = grind arith
 
 -- a test that is passed
 pub passes : {X E : Type 0} (test : Bool) (x y : X) (fault : E) → (if test then Ok x else Err fault) ≡ Ok y → (test ≡ true) × (x ≡ y)
-passes true x y fault e = (refl, ok_same x y e)
-passes false x y fault e = cc
+passes test x y fault e = grind arith
 
 pub passes_on : {X E : Type 0} (test : Bool) (fault : E) (rest : Result X E) (x : X) → (if test then Err fault else rest) ≡ Ok x → (test ≡ false) × (rest ≡ Ok x)
-passes_on true fault rest x e = cc
-passes_on false fault rest x e = (refl, e)
+passes_on test fault rest x e = grind arith
 
 pub no_fault : (test : Bool) (fault : Fault) (rest : Option Fault) → (if test then Some fault else rest) ≡ None → (test ≡ false) × (rest ≡ None)
-no_fault true fault rest e = cc
-no_fault false fault rest e = (refl, e)
+no_fault test fault rest e = grind arith
 
 pub response_of : (octets : List ℕ) → slice_index octets 2 / 8 ≡ 16 → IsResponse octets
 response_of octets e = (omega (arith, e), omega (arith, e))
@@ -69,24 +57,22 @@ pub question_shows : (octets : List ℕ) → ((k : ℕ) → get_or octets k 0 < 
 question_shows octets = part_shows octets (question_by octets) (λ (q : QuestionAt). q.end)
 
 pub record_shows : (octets : List ℕ) → ((k : ℕ) → get_or octets k 0 < 256) → (offset : ℕ) (r : RecordAt) → record_at octets offset ≡ Ok r → IsRecordAt octets offset r
-record_shows octets each offset = part_shows octets (record_by octets offset) (λ (r : RecordAt). r.end) each offset
+record_shows octets each offset = grind (arith, part_shows)
 
 pub at_offset_shows : {X : Type 0} (offset : ℕ) (r : Result X Fault) (x : X) → at_offset offset r ≡ Ok x → r ≡ Ok x
-at_offset_shows offset (Ok y) x e = ap Ok (ok_same y x e)
-at_offset_shows offset (Err fault) x e = cc
+at_offset_shows offset r x e = grind arith
 
 pub each_shows : {X : Type 0} (read : ℕ → Result X Fault) (end_of : X → ℕ) (Is : ℕ → X → Type 0) → ((offset : ℕ) (x : X) → read offset ≡ Ok x → Is offset x) → (count offset : ℕ) (run : List X × ℕ) → each_from read end_of count offset ≡ Ok run → (length run.0 ≡ count) × AreAt Is end_of offset run.0 run.1
-each_shows {X} read end_of Is shows zero offset run e = subst (λ (x : List X × ℕ). (length x.0 ≡ zero) × AreAt Is end_of offset x.0 x.1) (ok_same _ _ e) (refl, refl)
+each_shows {X} read end_of Is shows zero offset run e = grind arith
 each_shows {X} read end_of Is shows (suc count) offset run e =
     let one = leads (at_offset offset (read offset)) _ run e in
     let rest = leads (each_from read end_of count (end_of one.first)) _ run one.goes_on in
-    let here : Is offset one.first = shows offset one.first (at_offset_shows offset (read offset) one.first one.is) in
+    let here : Is offset one.first = search rules in
     let others = each_shows read end_of Is shows count (end_of one.first) rest.first rest.is in
-    subst (λ (x : List X × ℕ). (length x.0 ≡ suc count) × AreAt Is end_of offset x.0 x.1) (ok_same _ _ rest.goes_on) (ap suc others.0, (here, others.1))
+    search rules
 
 opened : (octets : List ℕ) (s : Sections) (fault : Option Fault) → unless_faulted fault (after_header octets) ≡ Ok s → (fault ≡ None) × (after_header octets ≡ Ok s)
-opened octets s None e = (refl, e)
-opened octets s (Some f) e = cc
+opened octets s fault e = grind arith
 
 after_shows : (octets : List ℕ) (s : Sections) → ((k : ℕ) → get_or octets k 0 < 256) → HasHeader octets → after_header octets ≡ Ok s → IsMessage octets s
 after_shows octets s each header e =
@@ -98,18 +84,7 @@ after_shows octets s each header e =
     let additional = each_shows (record_at octets) (λ (x : RecordAt). x.end) (IsRecordAt octets) (record_shows octets each) (u16_at octets 10) a.first.1 d.first d.is in
     let last = passes (d.first.1 == length octets) _ s _ d.goes_on in
     let end : d.first.1 ≡ length octets = eqb-true _ _ last.0 in
-    subst (IsMessage octets) last.1 (record {
-      header = header;
-      id = refl;
-      question_count = questions.0;
-      answer_count = answers.0;
-      additional_count = additional.0;
-      past_questions = q.first.1;
-      past_answers = a.first.1;
-      questions = questions.1;
-      answers = answers.1;
-      additional = subst (λ n. AreAt (IsRecordAt octets) (λ (x : RecordAt). x.end) a.first.1 d.first.0 n) end additional.1;
-    })
+    subst (IsMessage octets) last.1 (search rules)
 
 -- what is read as sections is a message
 pub sections_shown : (octets : List ℕ) (s : Sections) → ((k : ℕ) → get_or octets k 0 < 256) → sections_of octets ≡ Ok s → IsMessage octets s

@@ -1,20 +1,6 @@
 -- A stream that is read without a fault is a transfer.
-use Rattle.std.proofs.Common.{◌≡◌, ◌≢◌, ℕ, suc, ◌+◌, ◌≤◌, List, [], ◌∷◌, ◌++◌, length, refl, ap, sym, ◌∙◌, subst, Bool, true, false, arith, append_assoc, length-append}
-use Rattle.std.specs.Prelude.{◌||◌, Option, Some, None, if◌then◌else◌, ⊤}
-use Rattle.std.specs.List.{flat_map, AllByRecursion, list_any}
-use Rattle.std.specs.Option.{option_or}
-use Rattle.std.proofs.lemmas.Bool.{eqb-true, eq-eqb, or_parts}
-use Rattle.std.proofs.lemmas.List.{append-nil}
-use Rattle.zone_rdata.proofs.Bytes.{Bytes, back_bytes, front_bytes}
-use Rattle.zone_rdata.specs.Record.{Record}
-use Rattle.zone_rdata.specs.declared.fault.Fault.{Fault}
-use Rattle.zone_rdata.specs.declared.fault.Place.{Place}
-use Rattle.zone_rdata.specs.declared.record.Placed.{Placed}
-use Rattle.zone_wire.specs.AnswerFault.{AnswersGive, no_more, states, refused}
-use Rattle.zone_wire.specs.Answers.{ZoneAsked, zone_of, handed_on, is_closed, ComesAfter}
-use Rattle.zone_wire.specs.Message.{QuestionAt, RecordAt}
-use Rattle.zone_wire.specs.Stream.{octets_in, asked_in, placed_in, AsksIn, IsReadAfter, AreRead, ReadAfter, whole, reads, stops, end_fault, StreamReads}
-use Rattle.zone_wire.specs.Transfer.{StatedMessage, AreStatedMessages, AsksFor, AnswersState, frame, StreamStates}
+use Rattle.zone_wire.proofs.Common.{AllByRecursion, AnswersGive, AnswersState, AreRead, AreStatedMessages, AsksFor, AsksIn, Bool, Bytes, ComesAfter, Fault, IsReadAfter, List, None, Option, Place, Placed, QuestionAt, ReadAfter, Record, RecordAt, Some, StatedMessage, StreamReads, StreamStates, ZoneAsked, [], ap, append-nil, append_assoc, arith, asked_in, back_bytes, end_fault, eq-eqb, eqb-true, false, flat_map, frame, front_bytes, handed_on, is_closed, length, length-append, list_any, no_more, octets_in, option_or, placed_in, reads, refl, states, stops, subst, suc, sym, true, whole, zone_of, ℕ, ⊤, ◌++◌, ◌+◌, ◌||◌, ◌∙◌, ◌∷◌, ◌≡◌, ◌≢◌, ◌≤◌}
+use Rattle.zone_wire.specs.AnswerFault.{refused}
 use Rattle.zone_wire.proofs.Accepting.{all_append, any_append, framed_parts, handed_transfer}
 use Rattle.zone_wire.proofs.Answering.{is_soa}
 use Rattle.zone_wire.proofs.GivenMessages.{placed_grow, asked_grow}
@@ -43,30 +29,23 @@ record OfZone (zone : ZoneAsked) (questions : List QuestionAt) (placed : List Pl
 abbrev OfOneZone : List QuestionAt → List Placed → Type 0
 OfOneZone questions placed = (zone : ZoneAsked) × OfZone zone questions placed
 
-asks_too : (q : QuestionAt) (name : List (List ℕ)) (class : ℕ) (zone : ZoneAsked) → AsksIn (Some (record { name = name; class = class })) q → name ≡ zone.name → class ≡ zone.class → AsksIn (Some zone) q
-asks_too q name class zone ask n c = record { kind = ask.kind; agrees = (ask.agrees.0 ∙ n, ask.agrees.1 ∙ c) }
-
 one_question : (questions : List QuestionAt) (placed : List Placed) (q : QuestionAt) → AsksIn (zone_of questions placed) q → OfOneZone questions placed → OfOneZone (questions ++ q ∷ []) placed
 one_question [] [] q ask of = (record { name = q.name; class = q.class }, record { asked = (record { kind = ask.kind; agrees = (refl, refl) }, tt); opens = tt })
-one_question [] (opening ∷ placed) q ask of = (of.0, record { asked = (asks_too q opening.rr.owner opening.rr.class of.0 ask of.1.opens.0 of.1.opens.1, tt); opens = of.1.opens })
-one_question (first ∷ questions) placed q ask of =
-    let agrees = of.1.asked.0.agrees in
-    (of.0, record { asked = all_append (AsksIn (Some of.0)) (first ∷ questions) (q ∷ []) of.1.asked (asks_too q first.name first.class of.0 ask agrees.0 agrees.1, tt); opens = of.1.opens })
+one_question [] (opening ∷ placed) q ask of = grind arith
+one_question (first ∷ questions) placed q ask of = grind (arith, all_append)
 
 -- at most one question
 questions_in_zone : (questions : List QuestionAt) (placed : List Placed) (asked : List QuestionAt) → length asked ≤ 1 → AllByRecursion (AsksIn (zone_of questions placed)) asked → OfOneZone questions placed → OfOneZone (questions ++ asked) placed
-questions_in_zone questions placed [] few ask of = subst (λ qs. OfOneZone qs placed) (sym (append-nil questions)) of
+questions_in_zone questions placed [] few ask of = grind (arith, append-nil)
 questions_in_zone questions placed (q ∷ []) few ask of = one_question questions placed q ask.0 of
 questions_in_zone questions placed (q ∷ r ∷ asked) few ask of = absurd (omega (arith, few))
 
 records_in_zone : {number : ℕ} {octets : List ℕ} {answers : List RecordAt} {placed : List Placed} {stop : Option (Fault × ℕ)} (questions : List QuestionAt) (before : List Placed) → AnswersGive number octets questions before answers placed stop → OfOneZone questions before → OfOneZone questions (before ++ placed)
-records_in_zone questions (opening ∷ before) give of = (of.0, record { asked = of.1.asked; opens = of.1.opens })
+records_in_zone questions (opening ∷ before) give of = grind arith
 records_in_zone questions [] no_more of = of
 records_in_zone questions [] (refused fault) of = of
 records_in_zone [] [] (states {p = p} is place comes rest) of = (record { name = p.rr.owner; class = p.rr.class }, record { asked = tt; opens = (refl, refl) })
-records_in_zone (q ∷ questions) [] (states is place comes rest) of =
-    let agrees = of.1.asked.0.agrees in
-    (of.0, record { asked = of.1.asked; opens = (comes.1.0 ∙ agrees.0, comes.1.1 ∙ agrees.1) })
+records_in_zone (q ∷ questions) [] (states is place comes rest) of = grind arith
 
 -- records that come one after another, whatever the questions
 abbrev Orders : List Placed → List Placed → Type 0
@@ -88,15 +67,10 @@ OfOneId before = (id : ℕ) × AllByRecursion (λ (p : StatedMessage). p.section
 
 id_more : (before : List StatedMessage) (p : StatedMessage) → IsReadAfter before p → OfOneId before → OfOneId (before ++ p ∷ [])
 id_more [] p is of = (p.sections.id, (refl, tt))
-id_more (first ∷ before) p is of = (of.0, all_append (λ (q : StatedMessage). q.sections.id ≡ of.0) (first ∷ before) (p ∷ []) of.1 (is.message.same_id ∙ of.1.0, tt))
+id_more (first ∷ before) p is of = grind (arith, all_append)
 
 zone_more : (before : List StatedMessage) (p : StatedMessage) → IsReadAfter before p → OfOneZone (asked_in before) (placed_in before) → OfOneZone (asked_in (before ++ p ∷ [])) (placed_in (before ++ p ∷ []))
-zone_more before p is of =
-    let m = is.message in
-    let few : length p.sections.questions ≤ 1 = omega (arith, m.message.question_count, m.message.header.counts.0) in
-    let questions = asked_in before ++ p.sections.questions in
-    let zone = records_in_zone questions (placed_in before) is.gives (questions_in_zone (asked_in before) (placed_in before) p.sections.questions few m.asks of) in
-    rw (asked_grow before p) at (rw (placed_grow before p) at zone)
+zone_more before p is of = grind (arith, asked_in, records_in_zone, placed_in, questions_in_zone, asked_grow, placed_grow)
 
 -- messages that are read are of one ID and one zone, and their records in order
 record AreAccepted (before parts : List StatedMessage) : Type 0 where
@@ -105,7 +79,7 @@ record AreAccepted (before parts : List StatedMessage) : Type 0 where
   order : Orders (placed_in before) (placed_in parts)
 
 accepted : (parts before : List StatedMessage) → AreRead before parts → OfOneId before → OfOneZone (asked_in before) (placed_in before) → AreAccepted before parts
-accepted [] before are id zone = record { one_id = subst OfOneId (sym (append-nil before)) id; one_zone = subst (λ b. OfOneZone (asked_in b) (placed_in b)) (sym (append-nil before)) zone; order = tt }
+accepted [] before are id zone = grind (arith, append-nil)
 accepted (p ∷ parts) before are id zone =
     let rest = accepted parts (before ++ p ∷ []) are.1 (id_more before p are.0 id) (zone_more before p are.0 zone) in
     let along = append_assoc before (p ∷ []) parts in
@@ -128,10 +102,7 @@ no_soa p e same = let yes : is_soa p ≡ true = eq-eqb p.rr.kind 6 same in cc
 
 closes_by : (opening : Placed) (done : List Placed) (p : Placed) (rest : List Placed) (soa : Bool) → is_soa p ≡ soa → Orders (opening ∷ done) (p ∷ rest) → (is_soa p || list_any is_soa rest) ≡ true → (Orders (opening ∷ (done ++ p ∷ [])) rest → list_any is_soa rest ≡ true → Closes opening rest) → Closes opening (p ∷ rest)
 closes_by opening done p [] true e order some more = record { others = []; closing = p; is = refl; none = tt; same = order.0.1.1 (eqb-true _ _ e) }
-closes_by opening done p (q ∷ rest) true e order some more =
-    let parts = or_parts (list_any is_soa done) (is_soa p || false) (sym (any_append done (p ∷ [])) ∙ order.1.0.1.0) in
-    let none : is_soa p ≡ false = (or_parts (is_soa p) false parts.1).0 in
-    cc
+closes_by opening done p (q ∷ rest) true e order some more = grind (arith, any_append)
 closes_by opening done p rest false e order some more =
     let c = more order.1 (second (is_soa p) (list_any is_soa rest) e some) in
     record { others = p ∷ c.others; closing = c.closing; is = ap (λ x. p ∷ x) c.is; none = (no_soa p e, c.none); same = c.same }
@@ -153,17 +124,10 @@ record AreWhole (all : List Placed) : Type 0 where
   closed : Closes opening rest
 
 are_whole : (all : List Placed) → Orders [] all → is_closed all ≡ true → AreWhole all
-are_whole [] order closed = cc
-are_whole (opening ∷ rest) order closed = record { opening = opening; soa = order.0.1.0; rest = rest; is = refl; closed = closes opening [] rest order.1 closed }
+are_whole all order closed = grind (arith, closes)
 
 ended : (number : ℕ) (placed : List Placed) (fault : Option (Fault × Place)) (rest : List ℕ) → None ≡ option_or fault (end_fault number placed rest) → (fault ≡ None) × (rest ≡ []) × (is_closed placed ≡ true)
-ended number placed (Some f) rest e = cc
-ended number placed None (c ∷ rest) e = cc
-ended number placed None [] e = (refl, refl, closed (is_closed placed) _ e)
-  where
-    closed : (test : Bool) (f : Fault × Place) → None ≡ (if test then None else Some f) → test ≡ true
-    closed true f h = refl
-    closed false f h = cc
+ended number placed fault rest e = grind arith
 
 pub message_bytes : (messages : List (List ℕ)) → Bytes (flat_map frame messages) → AllByRecursion Bytes messages
 message_bytes [] each = tt

@@ -1,24 +1,6 @@
 -- An answer is read as the record that it states, or has its first fault.
-use Rattle.std.proofs.Common.{◌≡◌, ℕ, List, refl, ap, sym, ◌∙◌, subst, Bool, true, false}
-use Rattle.std.specs.Prelude.{IfOk, IfErr, IsErr, Result, Ok, Err, IsTrue, ◌↔◌}
-use Rattle.zone_rdata.proofs.Bytes.{Bytes}
-use Rattle.zone_rdata.specs.declared.fault.Failing.{Failing}
+use Rattle.zone_wire.proofs.Common.{AnswerStates, BadClass, Bool, Built, Bytes, CompressibleType, Data, DataFault, Err, Failing, Fault, IfErr, IfFault, IfOk, IsClass, IsDataAt, IsErr, IsKind, IsRead, IsReadable, IsRecord, IsRecordAt, IsTrue, List, MetaType, Ok, OwnFault, RawRecord, Record, RecordAt, Result, ap, data_at, fails, false, holds, octets_of, refl, subst, sym, true, ttl_of, ℕ, ◌↔◌, ◌∙◌, ◌≡◌}
 use Rattle.zone_rdata.specs.declared.fault.Failing.TheVariants as failings
-use Rattle.zone_rdata.specs.declared.fault.Fault.{Fault}
-use Rattle.zone_rdata.specs.declared.fault.Fault.TheVariants.{BadClass, MetaType, CompressibleType}
-use Rattle.zone_rdata.specs.Builder.{Built}
-use Rattle.zone_rdata.specs.Fault.{IfFault}
-use Rattle.zone_rdata.specs.Field.{octets_of}
-use Rattle.zone_rdata.specs.Record.{Record, Data, IsRecord}
-use Rattle.zone_rdata.specs.Words.{IsClass, IsKind}
-use Rattle.zone_wire.specs.AnswerFault.{OwnFault}
-use Rattle.zone_wire.specs.DataFault.{DataFault}
-use Rattle.zone_wire.specs.Machine.Data.{data_at}
-use Rattle.zone_wire.specs.Machine.DataReading.{IsRead}
-use Rattle.zone_wire.specs.Message.{RecordAt, IsRecordAt}
-use Rattle.zone_wire.specs.Transfer.{IsDataAt, IsReadable, AnswerStates, ttl_of}
-use Rattle.zone_wire.specs.Unless.{fails, holds}
-use Rattle.zone_wire.specs.View.{RawRecord}
 use Rattle.zone_wire.proofs.DataFaults.{data_faults}
 use Rattle.zone_wire.proofs.OneFault.{own_not_both}
 use Rattle.zone_wire.proofs.ReadFields.{data_shown}

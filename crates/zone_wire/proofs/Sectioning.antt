@@ -1,13 +1,5 @@
 -- The sections of a message are read.
-use Rattle.std.proofs.Common.{◌≡◌, ℕ, ◌/◌, arith, ◌≤◌, List, [], ◌∷◌, length, refl, ap, sym, ◌∙◌, subst, false, nat_le}
-use Rattle.std.specs.Prelude.{slice_index, ◌==◌, not, Option, Some, None, Result, Ok}
-use Rattle.std.proofs.lemmas.Bool.{cond-true, cond-false, le-leb, le-ltb, eq-eqb, and_from}
-use Rattle.zone_rdata.specs.declared.fault.Fault.{Fault}
-use Rattle.zone_wire.specs.Message.{u16_at, IsResponse, HasHeader, IsPartAt, IsQuestionAt, IsRecordAt, AreAt, Sections, IsMessage}
-use Rattle.zone_wire.specs.Name.{Found}
-use Rattle.zone_wire.specs.Machine.Finding.{outcome}
-use Rattle.zone_wire.specs.Machine.Sections.{and_then, at_offset, header_fault, inside, question_at, record_at, each_from, after_header, unless_faulted, sections_of}
-use Rattle.zone_wire.specs.Machine.Walk.{walk}
+use Rattle.zone_wire.proofs.Common.{AreAt, Fault, Found, HasHeader, IsMessage, IsPartAt, IsQuestionAt, IsRecordAt, IsResponse, List, None, Ok, Option, Result, Sections, [], after_header, and_from, and_then, ap, arith, at_offset, cond-false, cond-true, each_from, eq-eqb, false, header_fault, inside, le-leb, le-ltb, length, nat_le, not, outcome, question_at, record_at, refl, sections_of, slice_index, subst, sym, u16_at, unless_faulted, walk, ℕ, ◌/◌, ◌==◌, ◌∙◌, ◌∷◌, ◌≡◌}
 use Rattle.zone_wire.proofs.Walking.{name_walks}
 
 pub and_then_ok : {X Y E : Type 0} (r : Result X E) (x : X) (next : X → Result Y E) → r ≡ Ok x → and_then r next ≡ next x
@@ -27,8 +19,7 @@ header_reads octets is =
     ∙ cond-false _ _ _ (not_other _ _ is.no_error) ∙ cond-false _ _ _ (ap not (and_from (nat_le (u16_at octets 4) 1) (u16_at octets 8 == 0) (le-leb _ _ is.counts.0) (eq-eqb _ _ is.counts.1)))
 
 pub part_reads : {X : Type 0} {octets : List ℕ} {by : Found → X} {end_of : X → ℕ} (offset : ℕ) (x : X) → IsPartAt octets by end_of offset x → inside octets by end_of (outcome octets (walk octets offset)) ≡ Ok x
-part_reads {octets = octets} {by = by} {end_of = end_of} offset x is =
-    ap (inside octets by end_of) (name_walks octets offset is.found is.name) ∙ cond-true _ _ _ (le-leb _ _ (subst (λ y. end_of y ≤ length octets) is.stands is.inside)) ∙ ap Ok (sym is.stands)
+part_reads {octets = octets} {by = by} {end_of = end_of} offset x is = grind (arith, name_walks)
 
 pub each_reads : {X : Type 0} (read : ℕ → Result X Fault) (end_of : X → ℕ) (Is : ℕ → X → Type 0) → ((offset : ℕ) (x : X) → Is offset x → read offset ≡ Ok x) → (xs : List X) (count offset past : ℕ) → length xs ≡ count → AreAt Is end_of offset xs past → each_from read end_of count offset ≡ Ok (xs, past)
 each_reads {X} read end_of Is reads xs count offset past size are = subst (λ n. each_from read end_of n offset ≡ Ok (xs, past)) size (by xs offset are)
@@ -40,8 +31,7 @@ each_reads {X} read end_of Is reads xs count offset past size are = subst (λ n.
         ∙ and_then_ok (each_from read end_of (length parts) (end_of x)) (parts, past) _ (by parts (end_of x) at.1)
 
 pub opens : (octets : List ℕ) (fault : Option Fault) → fault ≡ None → unless_faulted fault (after_header octets) ≡ after_header octets
-opens octets None e = refl
-opens octets (Some f) e = cc
+opens octets fault e = cc
 
 -- a message is read as its sections
 pub sections_read : (octets : List ℕ) (s : Sections) → IsMessage octets s → sections_of octets ≡ Ok s

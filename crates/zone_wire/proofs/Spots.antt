@@ -1,13 +1,5 @@
 -- What stands at a place, read off the octets, and back.
-use Rattle.std.proofs.Common.{◌≡◌, ℕ, zero, suc, ◌+◌, ◌<◌, ◌≤◌, ◌≢◌, ◌||◌, true, false, Bool, nat_eq, nat_le, nat_lt, List, [], ◌∷◌, length, refl, sym, ap, ◌∙◌, inl, inr, arith}
-use Rattle.std.specs.Prelude.{◌⊎◌, slice_index, Option, Some, None, if◌then◌else◌}
-use Rattle.std.proofs.lemmas.Bool.{cond_both, cond-true, cond-false, leb-true, ltb-true, eqb-true, le-leb, lt-ltb, eq-eqb}
-use Rattle.std.proofs.lemmas.Bool.Decides.{nat_tests}
-use Rattle.zone_wire.specs.Name.{target_at, IsLabelAt, IsPointerAt}
-use Rattle.zone_wire.specs.Walk.{Spot, Standing, at_root, at_label, at_pointer, at_fault, FaultHere, cut_label, long_name, reserved, cut_pointer, bad_target, too_many}
-use Rattle.zone_wire.specs.Machine.Walk.{label_of, pointer_of, standing_in}
-use Rattle.zone_rdata.specs.declared.fault.Fault.{Fault}
-use Rattle.zone_rdata.specs.declared.fault.Fault.TheVariants.{BadPointer, TooManyPointers}
+use Rattle.zone_wire.proofs.Common.{BadPointer, Fault, FaultHere, IsLabelAt, IsPointerAt, List, None, Option, Some, Spot, Standing, TooManyPointers, ap, arith, at_fault, at_label, at_pointer, at_root, bad_target, common_steps, cond-false, cond-true, cond_both, cut_label, cut_pointer, eq-eqb, eqb-true, false, if◌then◌else◌, label_of, le-leb, leb-true, length, long_name, lt-ltb, ltb-true, nat_eq, nat_le, nat_lt, nat_tests, pointer_of, reserved, rules, slice_index, standing_in, target_at, too_many, true, ℕ, ◌+◌, ◌<◌, ◌||◌, ◌∙◌, ◌≡◌, ◌≢◌, ◌≤◌, ◌⊎◌}
 
 -- what the octets at a place are, by what stands there
 abbrev pub Shows : List ℕ → Spot → Option Standing → Type 0
@@ -33,20 +25,10 @@ neither : (a b c d : ℕ) → nat_lt a b || nat_le c d ≡ false → (b ≤ a) �
 neither a b c d e = grind (arith, nat_tests)
 
 one_of : (a b c d : ℕ) → nat_lt a b || nat_le c d ≡ true → (a < b) ⊎ (c ≤ d)
-one_of a b c d e = by (nat_lt a b) refl e
-  where
-    by : (t : Bool) → nat_lt a b ≡ t → t || nat_le c d ≡ true → (a < b) ⊎ (c ≤ d)
-    by true k e = inl (ltb-true _ _ k)
-    by false k e = inr (leb-true _ _ e)
+one_of a b c d e = grind arith
 
 shows_label : (message : List ℕ) (spot : Spot) → 0 < slice_index message spot.offset → slice_index message spot.offset ≤ 63 → Shows message spot (Some (label_of message spot (slice_index message spot.offset)))
-shows_label message spot some short =
-    cond_both _ _ _ (λ s. Shows message spot (Some s))
-    (λ cut. cut_label some short (leb-true _ _ cut))
-    (λ whole. let is : IsLabelAt message spot.offset (slice_index message spot.offset) = record { first = refl; some = some; short = short; inside = above _ _ whole } in
-    cond_both _ _ _ (λ s. Shows message spot (Some s))
-    (λ long. long_name (slice_index message spot.offset) is (ltb-true _ _ long))
-    (λ room. let both : Shows message spot (Some (at_label (slice_index message spot.offset))) = (is, at_least _ _ room) in both))
+shows_label message spot some short = grind (arith, cond_both, cut_label, leb-true, slice_index, above, long_name)
 
 shows_pointer : (message : List ℕ) (spot : Spot) → 192 ≤ slice_index message spot.offset → Shows message spot (Some (pointer_of message spot (target_at message spot.offset)))
 shows_pointer message spot first =
@@ -57,7 +39,7 @@ shows_pointer message spot first =
     (λ bad. bad_target first (above _ _ whole) (one_of _ _ _ _ bad))
     (λ good.
     let both = neither target 12 spot.bound target good in
-    let is : IsPointerAt message spot.offset spot.bound target = record { inside = above _ _ whole; first = first; leads = refl; past_header = both.0; below = both.1 } in
+    let is : IsPointerAt message spot.offset spot.bound target = search rules in
     cond_both (nat_le 128 spot.pointers) (at_fault TooManyPointers) (at_pointer target) (λ s. Shows message spot (Some s))
     (λ many. too_many target is (leb-true _ _ many))
     (λ few. let shows : Shows message spot (Some (at_pointer target)) = (is, above _ _ few) in shows)))
@@ -105,14 +87,11 @@ good_target : (a b : ℕ) → 12 ≤ a → a < b → nat_lt a 12 || nat_le b a �
 good_target a b h k = grind (arith, nat_tests)
 
 bad_test : (a b : ℕ) → (a < 12) ⊎ (b ≤ a) → nat_lt a 12 || nat_le b a ≡ true
-bad_test a b (inl h) = grind (arith, nat_tests)
-bad_test a b (inr h) = grind (arith, nat_tests)
+bad_test a b low_or_not_before = grind arith
 
 -- where an octet above zero stands, the message goes on
 pub here_of : (message : List ℕ) (i : ℕ) → 0 < slice_index message i → i < length message
-here_of [] i h = absurd (omega (arith, h))
-here_of (c ∷ message) zero h = omega arith
-here_of (c ∷ message) (suc i) h = omega (arith, here_of message i h)
+here_of message i h = grind (arith, common_steps)
 
 -- a place that lies in the message, by its first octet
 module _ (message : List ℕ) (spot : Spot) where
@@ -127,10 +106,10 @@ module _ (message : List ℕ) (spot : Spot) where
       cond-false _ _ _ (below_length _ _ (here_of message spot.offset (omega (arith, h)))) ∙ ap Some (cond-false _ _ _ first.0 ∙ cond-false _ _ _ first.1 ∙ cond-false _ _ _ first.2)
 
   standing_in_label : (size : ℕ) → IsLabelAt message spot.offset size → standing_in message spot ≡ Some (label_of message spot size)
-  standing_in_label size is = standing_short (rw is.first is.some) (rw is.first is.short) ∙ ap (λ n. Some (label_of message spot n)) is.first
+  standing_in_label size is = cc (standing_short (rw is.first is.some) (rw is.first is.short))
 
   standing_in_pointer : (target : ℕ) → IsPointerAt message spot.offset spot.bound target → standing_in message spot ≡ Some (pointer_of message spot target)
-  standing_in_pointer target is = standing_high is.first ∙ ap (λ n. Some (pointer_of message spot n)) (sym is.leads)
+  standing_in_pointer target is = cc (standing_high is.first)
 
   -- a label that lies in the message and has room in its name
   pub standing_label : (size : ℕ) → IsLabelAt message spot.offset size → spot.octets + size + 2 ≤ 255 → standing_in message spot ≡ Some (at_label size)
@@ -138,7 +117,7 @@ module _ (message : List ℕ) (spot : Spot) where
 
   -- a pointer that leads below its bound
   pub standing_pointer : (target : ℕ) → IsPointerAt message spot.offset spot.bound target → spot.pointers < 128 → standing_in message spot ≡ Some (at_pointer target)
-  standing_pointer target is few = standing_in_pointer target is ∙ ap Some (cond-false _ _ _ (below_length _ _ is.inside) ∙ cond-false _ _ _ (good_target _ _ is.past_header is.below) ∙ cond-false _ _ _ (below_length _ _ few))
+  standing_pointer target is few = standing_in_pointer target is ∙ ap Some (grind (arith, cond-false, below_length, good_target))
 
   pub standing_fault : (fault : Fault) → FaultHere message spot fault → standing_in message spot ≡ Some (at_fault fault)
   unfolding standing_in
@@ -152,10 +131,3 @@ module _ (message : List ℕ) (spot : Spot) where
   standing_fault _ (too_many target is many) = standing_in_pointer target is ∙ ap Some (cond-false _ _ _ (below_length _ _ is.inside) ∙ cond-false _ _ _ (good_target _ _ is.past_header is.below) ∙ cond-true _ _ _ (le-leb _ _ many))
 
 -- a fault stands in the message
-pub fault_inside : (message : List ℕ) (spot : Spot) (fault : Fault) → FaultHere message spot fault → spot.offset < length message
-fault_inside message spot _ (cut_label some short cut) = here_of message spot.offset some
-fault_inside message spot _ (long_name size is long) = omega (arith, is.inside)
-fault_inside message spot _ (reserved low below) = here_of message spot.offset (omega (arith, low))
-fault_inside message spot _ (cut_pointer first cut) = here_of message spot.offset (omega (arith, first))
-fault_inside message spot _ (bad_target first inside bad) = omega (arith, inside)
-fault_inside message spot _ (too_many target is many) = omega (arith, is.inside)

@@ -1,15 +1,5 @@
 -- A stream is read in one way, and what is decided for its beginning stays.
-use Rattle.std.proofs.Common.{◌≡◌, ℕ, ◌+◌, ◌<◌, List, [], ◌∷◌, ◌++◌, length, refl, ap, sym, ◌∙◌, subst}
-use Rattle.std.specs.Prelude.{get_or, ◌==◌, not, Option, Some}
-use Rattle.std.specs.List.{filter}
-use Rattle.std.specs.Option.{option_or}
-use Rattle.std.proofs.lemmas.List.Elements.{filter-append}
-use Rattle.zone_rdata.specs.declared.fault.Fault.{Fault}
-use Rattle.zone_rdata.specs.declared.fault.Place.{Place}
-use Rattle.zone_rdata.specs.declared.record.Placed.{Placed}
-use Rattle.zone_wire.specs.Answers.{handed_on}
-use Rattle.zone_wire.specs.Frames.{IsFramed}
-use Rattle.zone_wire.specs.Stream.{ReadAfter, end_fault, StreamReads, StreamDecides}
+use Rattle.zone_wire.proofs.Common.{Fault, IsFramed, List, Option, Place, Placed, ReadAfter, Some, StreamDecides, StreamReads, [], ap, end_fault, filter, filter-append, get_or, handed_on, length, not, option_or, refl, subst, sym, ℕ, ◌++◌, ◌+◌, ◌<◌, ◌==◌, ◌∙◌, ◌∷◌, ◌≡◌}
 use Rattle.zone_wire.proofs.Frames.{framed_unique, framed_extends, framing}
 use Rattle.zone_wire.proofs.GivenStreams.{stream_decides}
 use Rattle.zone_wire.proofs.OneReading.{GoesOn, read_goes_on, one_way}

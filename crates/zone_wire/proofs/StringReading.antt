@@ -1,27 +1,6 @@
 -- Strings are read in a message one after another, and pushed to a builder.
-use Rattle.std.proofs.Common.{◌≡◌, ℕ, suc, ◌+◌, ◌-◌, ◌<◌, ◌≤◌, List, [], ◌∷◌, ◌++◌, length, take, drop, map, get_or, refl, sym, ap, ◌∙◌, subst, arith, Bool, true, false, nat_lt, nat_eq, append_assoc, length-append}
-use Rattle.std.specs.Prelude.{slice_index, ◌&&◌, Some, Ok, Err}
-use Rattle.std.specs.Cmp.Lexicographic.{pointwise, bytes_decides}
-use Rattle.std.specs.List.{flat_map, AllByRecursion}
-use Rattle.std.proofs.lemmas.Bool.{cond-false, ltb-true, and_parts}
-use Rattle.std.proofs.lemmas.List.{append-nil, map-append}
-use Rattle.std.proofs.lemmas.List.Concat.{flat_map-append}
-use Rattle.zone_name.specs.Name.{with_length}
-use Rattle.zone_rdata.specs.declared.fault.Fault.{Fault}
-use Rattle.zone_rdata.specs.declared.fault.Fault.TheVariants.{BadRdata}
-use Rattle.zone_rdata.specs.declared.field.Field.TheVariants.{OneString, Strings}
-use Rattle.zone_rdata.specs.Builder.{Built, IsNext}
-use Rattle.zone_rdata.specs.Field.{FieldValue, string, strings, field_octets, octets_of, Suits, Holds}
-use Rattle.zone_rdata.specs.Fields.Strings.{AreStrings, strings_of}
+use Rattle.zone_wire.proofs.Common.{AllByRecursion, AllByRecursion-append, AreStrings, Awaits, AwaitsStrings, BadRdata, Bool, Built, Err, Fault, FieldValue, Framed, Holds, IsNext, IsString, IsValueAt, List, Ok, OneString, PutsValue, Some, Strings, Suits, [], and_parts, ap, append-nil, append_assoc, arith, bytes_decides, bytes_each, common_steps, cond-false, false, field_octets, flat_map, flat_map-append, framed_short, get_or, layout, length, length-append, ltb-true, map, map-append, nat_eq, nat_lt, octets_between, octets_of, parts_for, pointwise, put_after, refl, slice_index, some_frames, string, strings, strings_before, strings_of, subst, sym, true, value_at, with_length, ℕ, ◌&&◌, ◌++◌, ◌+◌, ◌-◌, ◌<◌, ◌∙◌, ◌∷◌, ◌≡◌, ◌≤◌}
 use Rattle.zone_rdata.specs.Machine.Fronts.{AreWithLengths}
-use Rattle.zone_rdata.specs.Layout.{layout}
-use Rattle.zone_rdata.specs.Strings.{IsString}
-use Rattle.zone_rdata.proofs.Fields.Strings.{Framed, framed_short, some_frames}
-use Rattle.zone_name.proofs.Pushing.{AllByRecursion-append}
-use Rattle.zone_rdata.proofs.Lists.{bytes_each}
-use Rattle.zone_wire.specs.Machine.Data.{strings_before, value_at}
-use Rattle.zone_wire.specs.Machine.DataReading.{parts_for, put_after, Awaits, AwaitsStrings, PutsValue}
-use Rattle.zone_wire.specs.Transfer.{octets_between, IsValueAt}
 use Rattle.zone_wire.proofs.Fielding.{strings_read}
 use Rattle.zone_wire.proofs.ReadFields.{part_bytes, strings_each, value_shows}
 use Rattle.zone_wire.proofs.FieldReading.{between_first, between_join, part_len, sized_fails, string_sized}
@@ -36,11 +15,8 @@ pub record HavePut (octets : List ℕ) (end start : ℕ) (old now : Built) (plac
   pub past : start ≤ place
   pub inside : place ≤ end
 
-pub put_none : (b : Built) → b ≡ put_after b []
-put_none b = ap (λ (ps : List FieldValue). let v : Built = record b { parts = ps } in v) (sym (append-nil b.parts))
-
 nothing_between : (octets : List ℕ) (start : ℕ) → octets_between octets start start ≡ []
-nothing_between octets start = ap (λ n. take n (drop start octets)) (let e : start - start ≡ 0 = omega arith in e)
+nothing_between octets start = grind arith
 
 pub octets_of_strings : (many : List (List ℕ)) → octets_of (map string many) ≡ flat_map with_length many
 octets_of_strings [] = refl
@@ -51,16 +27,13 @@ put_parts : (old now : Built) (parts : List FieldValue) → now ≡ put_after ol
 put_parts old now parts e P h = subst P (sym e) h
 
 pub length-strings : (many : List (List ℕ)) → length (map string many) ≡ length many
-length-strings [] = refl
-length-strings (text ∷ many) = ap suc (length-strings many)
+length-strings many = grind (arith, common_steps)
 
 string_suits : (part : FieldValue) → Suits (Some OneString) part → Suits (Some Strings) part
-string_suits (string text) s = tt
-string_suits part s = absurd s
+string_suits part s = grind arith
 
 string_stands : (octets : List ℕ) (start past : ℕ) (v : FieldValue) → Holds OneString v → IsValueAt octets start past v → (text : List ℕ) × (v ≡ string text) × IsString text × (start ≤ past) × (octets_between octets start past ≡ with_length text)
-string_stands octets start past (string text) held stands = (text, refl, held, stands.0, stands.1)
-string_stands octets start past v held stands = absurd held
+string_stands octets start past v held stands = grind arith
 
 module _ (octets : List ℕ) (each : (k : ℕ) → get_or octets k 0 < 256) (end start : ℕ) (within : end ≤ length octets) where
   string_room : (old now : Built) (place past : ℕ) (v : FieldValue) → AwaitsStrings end start old → HavePut octets end start old now place → value_at octets end place OneString ≡ Ok (v, past) → length (octets_of now.parts) + length (field_octets v) ≤ 65535

@@ -1,13 +1,5 @@
 -- The sections of a message by where each of them ends.
-use Rattle.std.proofs.Common.{◌≡◌, ◌≢◌, ℕ, ◌<◌, List, length, ap, sym, ◌∙◌, subst, arith, false}
-use Rattle.std.specs.Prelude.{get_or, ◌==◌, Option, Some, None, Result, Ok, Err}
-use Rattle.std.proofs.lemmas.Bool.{cond-true, cond-false, eq-eqb}
-use Rattle.std.proofs.lemmas.Bool.Decides.{nat_tests}
-use Rattle.zone_rdata.specs.declared.fault.Fault.{Fault}
-use Rattle.zone_rdata.specs.declared.fault.Fault.TheVariants.{TrailingOctets}
-use Rattle.zone_wire.specs.Message.{u16_at, HasHeader, QuestionAt, RecordAt, IsRecordAt, AreRecordsAt, Sections, IsMessage}
-use Rattle.zone_wire.specs.Machine.Parsing.{IsParsed, parsed, sections_or_none, run_end_of}
-use Rattle.zone_wire.specs.Machine.Sections.{and_then, header_fault, record_at, questions_from, records_from, to_the_end, after_header, unless_faulted, sections_of}
+use Rattle.zone_wire.proofs.Common.{AreRecordsAt, Err, Fault, HasHeader, IsMessage, IsParsed, IsRecordAt, List, None, Ok, Option, QuestionAt, RecordAt, Result, Sections, Some, TrailingOctets, after_header, and_then, ap, arith, cond-false, cond-true, eq-eqb, false, get_or, header_fault, length, nat_tests, parsed, questions_from, record_at, records_from, run_end_of, sections_of, sections_or_none, subst, sym, to_the_end, u16_at, unless_faulted, ℕ, ◌<◌, ◌==◌, ◌∙◌, ◌≡◌, ◌≢◌}
 use Rattle.zone_wire.proofs.MessageFaults.{and_then_err}
 use Rattle.zone_wire.proofs.ReadSections.{header_shows, record_shows, each_shows, sections_shown}
 use Rattle.zone_wire.proofs.Sectioning.{and_then_ok, opens}
@@ -22,8 +14,7 @@ run_ends (Ok run) end e = record { parts = run.0; is = ap (λ n. Ok (run.0, n)) 
 run_ends (Err fault) end e = cc
 
 run_refuses : {X : Type 0} (r : Result (List X × ℕ) (Fault × ℕ)) (e : Fault × ℕ) → Err e ≡ run_end_of r → r ≡ Err e
-run_refuses (Ok run) e h = cc
-run_refuses (Err other) e h = ap Err (let same : other ≡ e = cc in same)
+run_refuses r e h = grind arith
 
 abbrev after_additional : List ℕ → List QuestionAt → List RecordAt → List RecordAt × ℕ → Result Sections (Fault × ℕ)
 after_additional octets questions answers additional = to_the_end octets additional.1 (record { id = u16_at octets 0; questions = questions; answers = answers; additional = additional.0 })

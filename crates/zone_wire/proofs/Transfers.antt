@@ -1,9 +1,5 @@
 -- At most one list of records of a stream.
-use Rattle.std.proofs.Common.{◌≡◌, ℕ, ◌/◌, ◌%◌, ◌≤◌, List, [], ◌∷◌, ◌++◌, length, refl, ap, sym, ◌∙◌, arith}
-use Rattle.zone_rdata.specs.Record.{Record}
-use Rattle.zone_rdata.specs.declared.record.Placed.{Placed}
-use Rattle.zone_wire.specs.Message.{RecordAt}
-use Rattle.zone_wire.specs.Transfer.{IsDataAt, AnswerStates, frame}
+use Rattle.zone_wire.proofs.Common.{AnswerStates, IsDataAt, List, Placed, Record, RecordAt, [], ap, arith, frame, length, refl, ℕ, ◌++◌, ◌∙◌, ◌∷◌, ◌≡◌, ◌≤◌}
 use Rattle.zone_wire.proofs.Fielding.{data_reads}
 
 -- two lists, each with more after it, where the first are as long
@@ -20,25 +16,18 @@ front_unique (x ∷ a) (y ∷ b) c d len e =
 
 -- a frame at the beginning of a stream
 pub frame_unique : (a b c d : List ℕ) → frame a ++ c ≡ frame b ++ d → (a ≡ b) × (c ≡ d)
-frame_unique a b c d e =
-    let high : length a / 256 ≡ length b / 256 = cc in
-    let low : length a % 256 ≡ length b % 256 = cc in
-    let rest : a ++ c ≡ b ++ d = cc in
-    let len : length a ≡ length b = omega arith in
-    front_unique a b c d len rest
+frame_unique a b c d e = grind (arith, front_unique)
 
 pub placed_same : (p q : Placed) → p.rr ≡ q.rr → p.place ≡ q.place → p ≡ q
 placed_same p q rr place = ap (λ x. record p { rr = x }) rr ∙ ap (λ x. record q { place = x }) place
 
 -- records that agree in each part
 pub equal_parts : (r t : Record) → r.owner ≡ t.owner → r.class ≡ t.class → r.kind ≡ t.kind → r.ttl ≡ t.ttl → r.octets ≡ t.octets → r ≡ t
-equal_parts r t owner class kind ttl octets =
-    ap (λ x. record r { owner = x }) owner ∙ ap (λ x. record r { owner = t.owner; class = x }) class ∙ ap (λ x. record r { owner = t.owner; class = t.class; kind = x }) kind ∙ ap (λ x. record t { ttl = x; octets = r.octets }) ttl ∙ ap (λ x. record t { octets = x }) octets
+equal_parts r t owner class kind ttl octets = grind arith
 
 -- the data of a record
 one_data : (octets : List ℕ) (a : RecordAt) (c d : List ℕ) → a.end ≤ length octets → IsDataAt octets a c → IsDataAt octets a d → c ≡ d
-one_data octets a c d inside is too = let e = data_reads octets a c inside is in let k = data_reads octets a d inside too in cc
+one_data octets a c d inside is too = grind (arith, data_reads)
 
 pub record_unique : (octets : List ℕ) (a : RecordAt) (r t : Record) → a.end ≤ length octets → AnswerStates octets a r → AnswerStates octets a t → r ≡ t
-record_unique octets a r t inside x y =
-    equal_parts r t (x.owner ∙ sym y.owner) (x.class ∙ sym y.class) (x.kind ∙ sym y.kind) (x.ttl ∙ sym y.ttl) (one_data octets a r.octets t.octets inside x.rdata y.rdata)
+record_unique octets a r t inside x y = grind (arith, one_data)

@@ -1,11 +1,5 @@
 -- What holds of the walk that is computed holds of each list that is a walk.
-use Rattle.std.proofs.Common.{◌≡◌, ℕ, ◌<◌, List, length, refl, ap, sym, ◌∙◌, subst, inl, inr}
-use Rattle.std.specs.Prelude.{get_or, None}
-use Rattle.zone_name.specs.Common.{EitherIs, IsVerdict}
-use Rattle.zone_wire.specs.Machine.Finding.{Outcome, named, refused, outcome}
-use Rattle.zone_wire.specs.Walk.{Visit, ending, IsWalk, NameFault}
-use Rattle.zone_wire.specs.Machine.Walk.{walk}
-use Rattle.zone_wire.specs.Name.{Found, IsNameAt}
+use Rattle.zone_wire.proofs.Common.{EitherIs, Found, IsNameAt, IsVerdict, IsWalk, List, NameFault, None, Outcome, Visit, ap, ending, get_or, inl, inr, length, named, outcome, refl, refused, subst, sym, walk, ℕ, ◌<◌, ◌∙◌, ◌≡◌}
 use Rattle.zone_wire.proofs.MessageFaults.{name_refused, name_one, name_not_both}
 use Rattle.zone_wire.proofs.Walking.{name_measures, one_name, walk_gives_name, walk_names}
 use Rattle.zone_wire.proofs.WholeWalks.{is_walk, walk_is}

@@ -1,17 +1,6 @@
 -- The walk and the relation of names agree.
-use Rattle.std.proofs.Common.{◌≡◌, ℕ, zero, suc, ◌+◌, ◌*◌, ◌<◌, ◌≤◌, List, [], ◌∷◌, length, refl, ap, sym, ◌∙◌, subst, arith, length-append, get_or-drop, lit<, lit≤}
-use Rattle.std.specs.Prelude.{take, drop, get_or, Option, Some, None}
-use Rattle.std.specs.List.{flat_map, AllByRecursion}
-use Rattle.std.proofs.lemmas.List.{length-map, length-take-le, length-drop}
-use Rattle.zone_name.specs.Name.{IsLabel, folded_octet, with_length, wire}
-use Rattle.zone_wire.specs.Name.{At, root, label, pointer, Found, IsNameAt, label_at}
-use Rattle.zone_wire.specs.Walk.{Spot, Standing, at_root, at_label, at_pointer, at_fault, Visit, ending, visit, outset, past_label, past_pointer}
-use Rattle.zone_wire.specs.Machine.Walk.{standing_in, walk_on, walk_by, walk}
-use Rattle.zone_wire.specs.Machine.Finding.{Outcome, named, refused, outcome, after_label, after_pointer}
-use Rattle.zone_rdata.specs.declared.fault.Fault.TheVariants.{ShortMessage}
-use Rattle.zone_wire.proofs.Spots.{Shows, standing_shows, standing_root, standing_label, standing_pointer, fault_inside}
-use Rattle.zone_name.proofs.Pushing.{IsLabel-folded}
-use Rattle.zone_rdata.proofs.Lists.{bytes_each}
+use Rattle.zone_wire.proofs.Common.{AllByRecursion, At, Found, IsLabel, IsLabel-folded, IsNameAt, List, None, Option, Outcome, ShortMessage, Some, Spot, Standing, Visit, [], after_label, after_pointer, ap, arith, at_fault, at_label, at_pointer, at_root, bytes_each, common_steps, drop, ending, flat_map, get_or, get_or-drop, label, label_at, length, length-append, length-drop, length-take-le, lit≤, named, outcome, outset, past_label, past_pointer, pointer, refl, refused, root, standing_in, subst, suc, sym, take, visit, walk, walk_by, walk_on, wire, with_length, zero, ℕ, ◌*◌, ◌+◌, ◌<◌, ◌∙◌, ◌∷◌, ◌≡◌, ◌≤◌}
+use Rattle.zone_wire.proofs.Spots.{Shows, standing_shows, standing_root, standing_label, standing_pointer}
 
 -- what n places from a spot on lead to
 unfoldable pub outcome_by : ℕ → List ℕ → Spot → Outcome
@@ -43,10 +32,10 @@ abbrev pub label_octets : List (List ℕ) → ℕ
 label_octets labels = length (flat_map with_length labels)
 
 pub label_octets-label : (message : List ℕ) (offset size : ℕ) → offset + size < length message → length (label_at message offset size) ≡ size
-label_octets-label message offset size h = length-map (take size (drop (offset + 1) message)) folded_octet ∙ length-take-le size (drop (offset + 1) message) (omega (arith, length-drop (offset + 1) message))
+label_octets-label message offset size h = grind (arith, common_steps)
 
 pub label_octets-more : (l : List ℕ) (labels : List (List ℕ)) → label_octets (l ∷ labels) ≡ length l + 1 + label_octets labels
-label_octets-more l labels = omega (arith, length-append (with_length l) (flat_map with_length labels))
+label_octets-more l labels = grind (arith, common_steps)
 
 -- a name of the relation is what its walk finds
 pub at_walks : {message : List ℕ} {offset bound : ℕ} {labels : List (List ℕ)} {end steps pointers : ℕ} → At message offset bound labels end steps pointers → (n before octets : ℕ) → steps ≤ n → before + pointers ≤ 128 → octets + label_octets labels + 1 ≤ 255 → outcome_by n message (record { offset = offset; bound = bound; pointers = before; octets = octets }) ≡ named (record { labels = labels; end = end; steps = steps; pointers = pointers })
@@ -57,11 +46,11 @@ at_walks {message} (label offset bound size labels end steps pointers here rest)
     let spot : Spot = record { offset = offset; bound = bound; pointers = before; octets = octets } in
     let this = label_at message offset size in
     let room : octets + 1 + size + label_octets labels + 1 ≤ 255 = omega (arith, label_octets-more this labels, label_octets-label message offset size here.inside) in
-    outcome_step message n spot (Some (at_label size)) (standing_label message spot size here (omega arith)) ∙ ap (after_label this) (at_walks rest n before (octets + 1 + size) (omega arith) few room)
+    cc (outcome_step message n spot (Some (at_label size)) (standing_label message spot size here (omega arith)), at_walks rest n before (octets + 1 + size) (omega arith) few room)
 at_walks (pointer offset bound target labels end steps pointers here rest) zero before octets enough few short = absurd (omega arith)
 at_walks {message} (pointer offset bound target labels end steps pointers here rest) (suc n) before octets enough few short =
     let spot : Spot = record { offset = offset; bound = bound; pointers = before; octets = octets } in
-    outcome_step message n spot (Some (at_pointer target)) (standing_pointer message spot target here (omega arith)) ∙ ap (after_pointer (offset + 2)) (at_walks rest n (before + 1) octets (omega arith) (omega arith) short)
+    cc (outcome_step message n spot (Some (at_pointer target)) (standing_pointer message spot target here (omega arith)), at_walks rest n (before + 1) octets (omega arith) (omega arith) short)
 
 -- the steps are the labels, the pointers and the root
 pub at_steps : {message : List ℕ} {offset bound : ℕ} {labels : List (List ℕ)} {end steps pointers : ℕ} → At message offset bound labels end steps pointers → steps ≡ length labels + pointers + 1
@@ -81,7 +70,7 @@ at_octets (pointer offset bound target labels end steps pointers here rest) = at
 pub at_ends : {message : List ℕ} {offset bound : ℕ} {labels : List (List ℕ)} {end steps pointers : ℕ} → At message offset bound labels end steps pointers → (offset < end) × (end ≤ length message)
 at_ends (root offset bound inside first) = (omega arith, omega arith)
 at_ends (label offset bound size labels end steps pointers here rest) = (omega (arith, (at_ends rest).0), (at_ends rest).1)
-at_ends (pointer offset bound target labels end steps pointers here rest) = (omega arith, omega (arith, here.inside))
+at_ends (pointer offset bound target labels end steps pointers here rest) = omega arith
 
 pub wire-octets : (labels : List (List ℕ)) → length (wire labels) ≡ label_octets labels + 1
 wire-octets labels = length-append (flat_map with_length labels) (0 ∷ [])
@@ -94,10 +83,7 @@ pub record IsBounded (message : List ℕ) (offset : ℕ) (found : Found) : Type 
   pub end : found.end ≤ length message
 
 pub name_bounds : (message : List ℕ) (offset : ℕ) (found : Found) → IsNameAt message offset found → IsBounded message offset found
-name_bounds message offset found is =
-    let short : label_octets found.labels + 1 ≤ 255 = rw wire-octets at is.name.short in
-    let few : length found.labels ≤ 127 = omega (arith, at_octets is.at) in
-    record { labels = few; steps = omega (arith, at_steps is.at, is.few); short = short; start = (at_ends is.at).0; end = (at_ends is.at).1 }
+name_bounds message offset found is = grind (arith, wire-octets, at_octets, at_steps, at_ends)
 
 -- what is a name is found
 pub name_walks : (message : List ℕ) (offset : ℕ) (found : Found) → IsNameAt message offset found → outcome message (walk message offset) ≡ named found
@@ -123,8 +109,7 @@ record LeadsAfterLabel (front : List ℕ) (rest : Outcome) (found : Found) : Typ
   whole : record others { labels = front ∷ others.labels; steps = suc others.steps } ≡ found
 
 after_label_leads : (front : List ℕ) (rest : Outcome) (found : Found) → after_label front rest ≡ named found → LeadsAfterLabel front rest found
-after_label_leads front (named others) found e = record { others = others; rest_is = refl; whole = cc }
-after_label_leads front (refused fault steps) found e = cc
+after_label_leads front rest found e = grind arith
 
 -- a name of which a pointer is the first step
 record LeadsAfterPointer (end : ℕ) (rest : Outcome) (found : Found) : Type 0 where
@@ -133,8 +118,7 @@ record LeadsAfterPointer (end : ℕ) (rest : Outcome) (found : Found) : Type 0 w
   whole : record others { end = end; steps = suc others.steps; pointers = suc others.pointers } ≡ found
 
 after_pointer_leads : (end : ℕ) (rest : Outcome) (found : Found) → after_pointer end rest ≡ named found → LeadsAfterPointer end rest found
-after_pointer_leads end (named others) found e = record { others = others; rest_is = refl; whole = cc }
-after_pointer_leads end (refused fault steps) found e = cc
+after_pointer_leads end rest found e = grind arith
 
 -- where what n places lead to is found
 abbrev pub FindsBy : ℕ → List ℕ → Type 0
@@ -142,9 +126,7 @@ FindsBy n message = (spot : Spot) (found : Found) → spot.octets + 1 ≤ 255 �
 
 found_at : (message : List ℕ) (n : ℕ) (spot : Spot) (standing : Option Standing) (found : Found) → Shows message spot standing → spot.octets + 1 ≤ 255 → spot.pointers ≤ 128 → FindsBy n message → outcome_at message n spot standing ≡ named found → Finds message spot found
 found_at message n spot None found shows short few finds e = cc
-found_at message n spot (Some at_root) found shows short few finds e =
-    let same : record { labels = []; end = spot.offset + 1; steps = 1; pointers = 0 } ≡ found = cc in
-    subst (Finds message spot) same (record { at = root spot.offset spot.bound shows.0 shows.1; few = omega arith; short = omega arith })
+found_at message n spot (Some at_root) found shows short few finds e = grind (arith, root)
 found_at message n spot (Some (at_label size)) found shows short few finds e =
     let front = label_at message spot.offset size in
     let leads = after_label_leads front (outcome_by n message (past_label spot size)) found e in
@@ -173,10 +155,7 @@ pub drop_each : (n : ℕ) (octets : List ℕ) → ((k : ℕ) → get_or octets k
 drop_each n octets each k = rw get_or-drop (each (n + k))
 
 pub take_each : (n : ℕ) (octets : List ℕ) → ((k : ℕ) → get_or octets k 0 < 256) → (k : ℕ) → get_or (take n octets) k 0 < 256
-take_each zero octets each k = lit< tt
-take_each (suc n) [] each k = lit< tt
-take_each (suc n) (c ∷ octets) each zero = each 0
-take_each (suc n) (c ∷ octets) each (suc k) = take_each n octets (λ i. each (suc i)) k
+take_each n octets each k = grind (arith, common_steps)
 
 is_label : (message : List ℕ) (offset size : ℕ) → ((k : ℕ) → get_or message k 0 < 256) → 0 < size → size ≤ 63 → offset + size < length message → IsLabel (label_at message offset size)
 is_label message offset size each some short inside =
@@ -225,18 +204,10 @@ measures zero message spot = (refl, refl)
 measures (suc n) message spot = subst (λ o. Measures o (walk_by (suc n) message spot)) (sym (outcome_step message n spot (standing_in message spot) refl)) (measures_at message n spot (standing_in message spot) (λ next. measures n message next))
 
 walk_on_length : (n : ℕ) (message : List ℕ) (spot : Spot) (standing : Option Standing) → ((next : Spot) → length (walk_by n message next) ≤ n) → length (walk_on (walk_by n message) spot standing) ≤ suc n
-walk_on_length n message spot None each = omega arith
-walk_on_length n message spot (Some at_root) each = omega arith
-walk_on_length n message spot (Some (at_label size)) each = omega (arith, each (past_label spot size))
-walk_on_length n message spot (Some (at_pointer target)) each = omega (arith, each (past_pointer spot target))
-walk_on_length n message spot (Some (at_fault fault)) each = omega arith
+walk_on_length n message spot standing each = grind arith
 
 walk_on_inside : (n : ℕ) (message : List ℕ) (spot : Spot) (standing : Option Standing) → Shows message spot standing → ((next : Spot) → AllByRecursion (λ v. v.offset < length message) (walk_by n message next)) → AllByRecursion (λ v. v.offset < length message) (walk_on (walk_by n message) spot standing)
-walk_on_inside n message spot None shows each = tt
-walk_on_inside n message spot (Some at_root) shows each = (shows.0, tt)
-walk_on_inside n message spot (Some (at_label size)) shows each = (omega (arith, shows.0.inside), each (past_label spot size))
-walk_on_inside n message spot (Some (at_pointer target)) shows each = (omega (arith, shows.0.inside), each (past_pointer spot target))
-walk_on_inside n message spot (Some (at_fault fault)) shows each = (fault_inside message spot fault shows, tt)
+walk_on_inside n message spot standing shows each = grind (arith, common_steps)
 
 -- n places or fewer
 pub walk_length : (n : ℕ) (message : List ℕ) (spot : Spot) → length (walk_by n message spot) ≤ n

@@ -1,8 +1,5 @@
 -- The walk is the one list of places that is a walk.
-use Rattle.std.proofs.Common.{◌≡◌, ℕ, zero, suc, ◌+◌, ◌*◌, ◌≤◌, List, ◌∷◌, refl, ap, sym, ◌∙◌, subst, arith, lit≤}
-use Rattle.std.specs.Prelude.{Option, Some, None}
-use Rattle.zone_wire.specs.Walk.{Spot, Standing, at_root, at_label, at_pointer, at_fault, Visit, outset, past_label, past_pointer, visit, Walks, outside, to_root, to_fault, over_label, by_pointer, IsWalk}
-use Rattle.zone_wire.specs.Machine.Walk.{standing_in, walk_on, walk_by, walk}
+use Rattle.zone_wire.proofs.Common.{IsWalk, List, None, Option, Some, Spot, Standing, Visit, Walks, ap, arith, at_fault, at_label, at_pointer, at_root, by_pointer, lit≤, outset, outside, over_label, past_label, past_pointer, refl, standing_in, subst, suc, sym, to_fault, to_root, walk, walk_by, walk_on, zero, ℕ, ◌*◌, ◌+◌, ◌≡◌, ◌≤◌}
 use Rattle.zone_wire.proofs.Spots.{Shows, standing_shows, standing_outside, standing_root, standing_label, standing_pointer, standing_fault}
 
 walk_step : (n : ℕ) (message : List ℕ) (spot : Spot) (standing : Option Standing) → standing_in message spot ≡ standing → walk_on (walk_by n message) spot standing ≡ walk_by (suc n) message spot
@@ -16,10 +13,10 @@ record IsEnough (n : ℕ) (spot : Spot) : Type 0 where
   enough : 512 ≤ spot.octets + 2 * spot.pointers + 2 * n
 
 enough_label : {message : List ℕ} {n : ℕ} {spot : Spot} {size : ℕ} → IsEnough (suc n) spot → Shows message spot (Some (at_label size)) → IsEnough n (past_label spot size)
-enough_label is shows = record { short = omega (arith, shows.1); few = is.few; enough = omega (arith, is.enough, shows.0.some) }
+enough_label is shows = omega arith
 
 enough_pointer : {message : List ℕ} {n : ℕ} {spot : Spot} {target : ℕ} → IsEnough (suc n) spot → Shows message spot (Some (at_pointer target)) → IsEnough n (past_pointer spot target)
-enough_pointer is shows = record { short = is.short; few = omega (arith, shows.1); enough = omega (arith, is.enough) }
+enough_pointer is shows = omega arith
 
 -- a walk from a spot on is the one that is computed
 same : {message : List ℕ} (n : ℕ) {spot : Spot} {visits : List Visit} → Walks message spot visits → IsEnough n spot → visits ≡ walk_by n message spot
@@ -28,11 +25,9 @@ same {message} (suc n) (outside spot past) is = walk_step n message spot None (s
 same {message} (suc n) (to_root spot here first) is = walk_step n message spot (Some at_root) (standing_root message spot here first)
 same {message} (suc n) (to_fault spot fault here) is = walk_step n message spot (Some (at_fault fault)) (standing_fault message spot fault here)
 same {message} (suc n) (over_label spot size visits here room rest) is =
-    ap (λ (vs : List Visit). visit spot (at_label size) ∷ vs) (same n rest (enough_label {message = message} is (here, room)))
-    ∙ walk_step n message spot (Some (at_label size)) (standing_label message spot size here room)
+    cc (same n rest (enough_label {message = message} is (here, room)), walk_step n message spot (Some (at_label size)) (standing_label message spot size here room))
 same {message} (suc n) (by_pointer spot target visits here few rest) is =
-    ap (λ (vs : List Visit). visit spot (at_pointer target) ∷ vs) (same n rest (enough_pointer {message = message} is (here, few)))
-    ∙ walk_step n message spot (Some (at_pointer target)) (standing_pointer message spot target here few)
+    cc (same n rest (enough_pointer {message = message} is (here, few)), walk_step n message spot (Some (at_pointer target)) (standing_pointer message spot target here few))
 
 module _ (message : List ℕ) where
   abbrev WalksBy : ℕ → Type 0

@@ -1,5 +1,4 @@
-use Rattle.std.proofs.Common.{◌∙◌, ap, ◌∷◌, ◌≡◌, List, ℕ, Option, Some, None, IfSome, Bor}
-use Rattle.zone_text.specs.Machine.Blank.{IsBlankLine, IsComment, commented}
+use Rattle.zone_text.proofs.Common.{Bor, IfSome, IsBlankLine, IsComment, List, None, Option, Some, ap, commented, ℕ, ◌∙◌, ◌∷◌, ◌≡◌}
 use Rattle.zone_text.proofs.blank.after_comment_line.Goals as goal
 
 if_commented : (octets after : List ℕ) (found : Option (Bor (List ℕ))) → octets ≡ 59 ∷ after → IfSome found (λ rest. IsComment after rest.now) → IfSome found (λ rest. IsBlankLine octets rest.now)

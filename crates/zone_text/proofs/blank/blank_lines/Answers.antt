@@ -1,5 +1,4 @@
-use Rattle.std.proofs.Common.{arith, ◌+◌}
-use Rattle.zone_text.specs.Machine.Blank.{one_line_more}
+use Rattle.zone_text.proofs.Common.{arith, one_line_more, ◌+◌}
 use Rattle.zone_text.proofs.BlankLines.{line_shorter, lines_joined}
 use Rattle.zone_text.proofs.blank.blank_lines.Goals as goal
 

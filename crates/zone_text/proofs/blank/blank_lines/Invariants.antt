@@ -1,5 +1,4 @@
-use Rattle.std.proofs.Common.{◌≤◌, ◌+◌, length}
-use Rattle.zone_text.specs.Machine.Blank.{AreBlankLines}
+use Rattle.zone_text.proofs.Common.{AreBlankLines, length, ◌+◌, ◌≤◌}
 use Rattle.zone_text.proofs.blank.blank_lines.Given as goal
 
 abbrev pub invariant-loop-after : goal.invariant-loop-after

@@ -1,5 +1,5 @@
-use Rattle.std.proofs.Common.{◌∙◌, ◌∷◌, ap, arith, length}
-use Rattle.zone_text.specs.Machine.Blank.{line_feed, no_lines, one_line_more}
+use Rattle.zone_text.proofs.Common.{ap, arith, length, no_lines, one_line_more, ◌∙◌, ◌∷◌}
+use Rattle.zone_text.specs.Machine.Blank.{line_feed}
 use Rattle.zone_text.proofs.blank.empty_lines.Goals as goal
 
 pub loop-after-init : goal.loop-after-init

@@ -1,6 +1,4 @@
-use Rattle.std.proofs.Common.{◌≡◌, ◌==◌, ◌+◌, ◌||◌, ℕ, Bool, true, false, cond, List, [], ◌∷◌, ◌++◌, nat_eq, refl, sym, ap, ◌∙◌, zero-add}
-use Rattle.std.specs.List.{count_by, list_any}
-use Rattle.std.proofs.lemmas.List.Sums.{sum_by-cons}
+use Rattle.zone_text.proofs.Common.{Bool, List, [], ap, cond, count_by, false, list_any, nat_eq, refl, sum_by-cons, sym, true, zero-add, ℕ, ◌++◌, ◌+◌, ◌==◌, ◌||◌, ◌∙◌, ◌∷◌, ◌≡◌}
 use Rattle.zone_text.proofs.ended.line_feeds.Goals as goal
 
 one_more : (b others : Bool) (n : ℕ) → (b || others) ≡ false → (others ≡ false → 1 ≡ n) → 1 ≡ cond b 1 0 + n

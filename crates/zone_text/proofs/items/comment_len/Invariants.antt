@@ -1,5 +1,4 @@
-use Rattle.std.proofs.Common.{◌≡◌, ◌+◌, drop, length}
-use Rattle.zone_text.specs.Machine.Cutting.{before_line_feed}
+use Rattle.zone_text.proofs.Common.{before_line_feed, drop, length, ◌+◌, ◌≡◌}
 use Rattle.zone_text.proofs.items.comment_len.Given as goal
 
 abbrev pub invariant-loop-index : goal.invariant-loop-index

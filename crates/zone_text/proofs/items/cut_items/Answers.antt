@@ -1,4 +1,4 @@
-use Rattle.std.proofs.Common.{◌<◌, length, arith}
+use Rattle.zone_text.proofs.Common.{arith, length, ◌<◌}
 use Rattle.zone_text.proofs.ItemsLeft.{one_less, none_less, all_taken}
 use Rattle.zone_text.proofs.items.cut_items.Goals as goal
 

@@ -1,5 +1,4 @@
-use Rattle.std.proofs.Common.{length, map}
-use Rattle.zone_rdata.specs.Item.{raw}
+use Rattle.zone_text.proofs.Common.{length, map, raw}
 use Rattle.zone_text.proofs.ItemsLeft.{LeavesItems}
 use Rattle.zone_text.proofs.items.cut_items.Given as goal
 

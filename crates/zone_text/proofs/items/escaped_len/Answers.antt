@@ -1,6 +1,4 @@
-use Rattle.std.proofs.Common.{length, ◌+◌, ◌-◌, ◌≡◌, ap, ◌∙◌, arith}
-use Rattle.std.proofs.lemmas.List.{length-drop}
-use Rattle.zone_text.specs.Machine.ItemLengths.{ItemReaches, ends_within, stops_within}
+use Rattle.zone_text.proofs.Common.{ItemReaches, ap, arith, ends_within, length, length-drop, stops_within, ◌+◌, ◌-◌, ◌∙◌, ◌≡◌}
 use Rattle.zone_text.proofs.TokenEnds.{escape_on, reach_on, stops_on, len_reached}
 use Rattle.zone_text.proofs.items.escaped_len.Goals as goal
 

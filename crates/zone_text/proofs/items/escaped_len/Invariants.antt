@@ -1,5 +1,4 @@
-use Rattle.std.proofs.Common.{◌≤◌, ◌-◌, drop, length}
-use Rattle.zone_text.specs.Machine.ItemLengths.{EndsAt, ItemReaches, ends_within, stops_within}
+use Rattle.zone_text.proofs.Common.{EndsAt, ItemReaches, drop, ends_within, length, stops_within, ◌-◌, ◌≤◌}
 use Rattle.zone_text.proofs.items.escaped_len.Given as goal
 
 abbrev pub invariant-loop-len : goal.invariant-loop-len

@@ -1,5 +1,4 @@
-use Rattle.std.proofs.Common.{arith}
-use Rattle.zone_text.specs.Machine.ItemLengths.{ends_within}
+use Rattle.zone_text.proofs.Common.{arith, ends_within}
 use Rattle.zone_text.proofs.TokenEnds.{len_reached}
 use Rattle.zone_text.proofs.items.item_len.Goals as goal
 use Rattle.zone_text.proofs.items.item_len.Goals.{else-plain-text-via-then-plain-text+else-text-plain-eq92, else-plain-text-via-else-plain-text}

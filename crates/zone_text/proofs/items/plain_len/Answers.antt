@@ -1,7 +1,4 @@
-use Rattle.std.proofs.Common.{◌≡◌, false, subst, take, sym, ◌∙◌, length, arith}
-use Rattle.std.specs.List.{All}
-use Rattle.std.proofs.lemmas.List.Elements.{All-more}
-use Rattle.zone_text.specs.Machine.ItemLengths.{ends_within, stops_within}
+use Rattle.zone_text.proofs.Common.{All, All-more, arith, ends_within, false, length, stops_within, subst, sym, take, ◌∙◌, ◌≡◌}
 use Rattle.zone_text.proofs.TokenEnds.{plain_on, plain_stops, end_stops, all_reached}
 use Rattle.zone_text.proofs.items.plain_len.Goals as goal
 

@@ -1,6 +1,4 @@
-use Rattle.std.proofs.Common.{◌≡◌, take, false}
-use Rattle.std.specs.List.{All}
-use Rattle.zone_text.specs.Machine.ItemLengths.{ItemReaches, ends_within, stops_within}
+use Rattle.zone_text.proofs.Common.{All, ItemReaches, ends_within, false, stops_within, take, ◌≡◌}
 use Rattle.zone_text.proofs.items.plain_len.Given as goal
 
 abbrev pub invariant-loop-index : goal.invariant-loop-index

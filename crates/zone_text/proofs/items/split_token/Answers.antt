@@ -1,6 +1,4 @@
-use Rattle.std.proofs.Common.{sym, ◌∙◌, ◌≡◌, true, false}
-use Rattle.std.proofs.lemmas.Bool.{not-true, not-false}
-use Rattle.zone_text.specs.Tokens.{ends_item}
+use Rattle.zone_text.proofs.Common.{ends_item, false, not-false, not-true, sym, true, ◌∙◌, ◌≡◌}
 use Rattle.zone_text.proofs.ItemsLeft.{plain_front, comment_front, quoted_front, bare_front, bare_takes}
 use Rattle.zone_text.proofs.items.split_token.Goals as goal
 

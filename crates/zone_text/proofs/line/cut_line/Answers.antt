@@ -1,5 +1,4 @@
-use Rattle.std.proofs.Common.{map, refl, ap}
-use Rattle.zone_rdata.specs.Item.{raw}
+use Rattle.zone_text.proofs.Common.{ap, map, raw, refl}
 use Rattle.zone_text.proofs.FirstEntries.{cut_ended, cut_more, cut_none, cut_on, in_front_shorter}
 use Rattle.zone_text.proofs.line.cut_line.Goals as goal
 

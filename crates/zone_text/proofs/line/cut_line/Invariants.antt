@@ -1,5 +1,4 @@
-use Rattle.std.proofs.Common.{length, map}
-use Rattle.zone_rdata.specs.Item.{raw}
+use Rattle.zone_text.proofs.Common.{length, map, raw}
 use Rattle.zone_text.proofs.FirstEntries.{IsCutTo}
 use Rattle.zone_text.proofs.line.cut_line.Given as goal
 

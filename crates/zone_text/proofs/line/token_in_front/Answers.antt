@@ -1,4 +1,4 @@
-use Rattle.std.proofs.Common.{sym, ◌∙◌}
+use Rattle.zone_text.proofs.Common.{sym, ◌∙◌}
 use Rattle.zone_text.proofs.FirstEntries.{bare_in_front, blank_in_front, comment_in_front, quoted_in_front}
 use Rattle.zone_text.proofs.line.token_in_front.Goals as goal
 

@@ -1,6 +1,4 @@
-use Rattle.std.proofs.Common.{◌≡◌, ℕ, List, Bool, true, false, bytes_eq, sym, refl, ◌∙◌}
-use Rattle.std.proofs.lemmas.Slice.Eq.{bytes_eq-Decides}
-use Rattle.zone_name.specs.Name.{folded_label}
+use Rattle.zone_text.proofs.Common.{Bool, List, bytes_eq, bytes_eq-Decides, false, folded_label, refl, sym, true, ℕ, ◌∙◌, ◌≡◌}
 use Rattle.zone_rdata.proofs.Words.{same_word}
 use Rattle.zone_text.proofs.parsed.is_word.Goals as goal
 

@@ -1,4 +1,4 @@
-use Rattle.std.proofs.Common.{◌≡◌, Result, Ok, Err, OnOk, is_ok, []}
+use Rattle.zone_text.proofs.Common.{Err, Ok, OnOk, Result, [], is_ok, ◌≡◌}
 use Rattle.zone_text.proofs.Standing.{reads_whole}
 use Rattle.zone_text.proofs.reader.read_file.Goals as goal
 

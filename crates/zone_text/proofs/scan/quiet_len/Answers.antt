@@ -1,4 +1,4 @@
-use Rattle.std.proofs.Common.{arith}
+use Rattle.zone_text.proofs.Common.{arith}
 use Rattle.zone_text.proofs.ScanSteps.{four_on}
 use Rattle.zone_text.proofs.scan.quiet_len.Goals as goal
 

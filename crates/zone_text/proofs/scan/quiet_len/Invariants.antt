@@ -1,5 +1,4 @@
-use Rattle.std.proofs.Common.{◌≤◌, ◌-◌, length}
-use Rattle.zone_text.specs.Machine.Scan.{AreQuiet}
+use Rattle.zone_text.proofs.Common.{AreQuiet, length, ◌-◌, ◌≤◌}
 use Rattle.zone_text.proofs.scan.quiet_len.Given as goal
 
 abbrev pub invariant-loop-len : goal.invariant-loop-len

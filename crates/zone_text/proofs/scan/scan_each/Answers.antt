@@ -1,4 +1,4 @@
-use Rattle.std.proofs.Common.{sym, ◌∙◌, arith}
+use Rattle.zone_text.proofs.Common.{arith, sym, ◌∙◌}
 use Rattle.zone_text.proofs.ScanSteps.{stays, one_on, rises, one_stops, all_taken}
 use Rattle.zone_text.proofs.scan.scan_each.Goals as goal
 

@@ -1,5 +1,4 @@
-use Rattle.std.proofs.Common.{◌≡◌, ◌+◌, ◌≤◌, drop}
-use Rattle.zone_text.specs.Machine.Scan.{further, scan_of}
+use Rattle.zone_text.proofs.Common.{drop, further, scan_of, ◌+◌, ◌≡◌, ◌≤◌}
 use Rattle.zone_text.proofs.scan.scan_each.Given as goal
 
 abbrev pub invariant-loop-index : goal.invariant-loop-index

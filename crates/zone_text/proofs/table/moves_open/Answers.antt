@@ -1,8 +1,4 @@
-use Rattle.std.proofs.Common.{false, get_or, refl}
-use Rattle.std.proofs.lemmas.Bool.{agree_below_at}
-use Rattle.zone_text.specs.Machine.Scan.{moves}
-use Rattle.zone_text.specs.declared.scan.Mode.TheVariants.{Open}
-use Rattle.zone_text.specs.declared.table.TheConstants.{MOVES_OPEN}
+use Rattle.zone_text.proofs.Common.{MOVES_OPEN, Open, agree_below_at, false, get_or, moves, refl}
 use Rattle.zone_text.proofs.table.moves_open.Goals as goal
 
 pub returns : goal.returns

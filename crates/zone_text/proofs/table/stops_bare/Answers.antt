@@ -1,7 +1,4 @@
-use Rattle.std.proofs.Common.{false, get_or, refl}
-use Rattle.std.proofs.lemmas.Bool.{agree_below_at}
-use Rattle.zone_text.specs.Machine.ItemLengths.{stops_bare}
-use Rattle.zone_text.specs.declared.table.TheConstants.{STOPS_BARE}
+use Rattle.zone_text.proofs.Common.{STOPS_BARE, agree_below_at, false, get_or, refl, stops_bare}
 use Rattle.zone_text.proofs.table.stops_bare.Goals as goal
 
 pub returns : goal.returns

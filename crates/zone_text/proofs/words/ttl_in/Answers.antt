@@ -1,4 +1,4 @@
-use Rattle.std.proofs.Common.{◌≤◌, arith}
+use Rattle.zone_text.proofs.Common.{arith, ◌≤◌}
 use Rattle.zone_text.proofs.Seconds.{time_within, time_over}
 use Rattle.zone_text.proofs.words.ttl_in.Goals as goal
 use Rattle.zone_text.proofs.words.ttl_in.Goals.{in_default-via-in-Some+else-seconds-from, in_default-via-in_default}

@@ -1,5 +1,4 @@
-use Rattle.std.proofs.lemmas.Result.{err_from_is_err_and}
-use Rattle.std.proofs.Common.{refl}
+use Rattle.zone_text.proofs.Common.{err_from_is_err_and, refl}
 use Rattle.zone_text.proofs.WordsLeft.{read_to, read_on, read_fault, item_at}
 use Rattle.zone_text.proofs.words.words_of.Goals as goal
 

@@ -1,5 +1,4 @@
-use Rattle.std.proofs.Common.{drop, map}
-use Rattle.zone_rdata.specs.Item.{raw}
+use Rattle.zone_text.proofs.Common.{drop, map, raw}
 use Rattle.zone_text.proofs.WordsLeft.{ReadsWords}
 use Rattle.zone_text.proofs.words.words_of.Given as goal
 

@@ -1,4 +1,4 @@
-use Rattle.std.proofs.Common.{arith}
+use Rattle.zone_wire.proofs.Common.{arith}
 use Rattle.zone_wire.proofs.Pending.{record_of_name}
 use Rattle.zone_wire.proofs.Walking.{walk_names, name_walks, name_bounds}
 use Rattle.zone_wire.proofs.answers.record_at.Goals as goal

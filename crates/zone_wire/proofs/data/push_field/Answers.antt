@@ -1,5 +1,4 @@
-use Rattle.std.proofs.lemmas.Result.{IfOk-weaker}
-use Rattle.zone_rdata.proofs.Failings.{IfErr-fault}
+use Rattle.zone_wire.proofs.Common.{IfErr-fault, IfOk-weaker}
 use Rattle.zone_wire.proofs.FieldReading.{long_ready, long_puts, long_fails}
 use Rattle.zone_wire.proofs.data.push_field.Goals as goal
 

@@ -1,6 +1,4 @@
-use Rattle.std.proofs.Common.{sym, ◌∙◌, arith}
-use Rattle.zone_rdata.specs.Layout.{fields_of}
-use Rattle.zone_rdata.proofs.Failings.{if_fault_passed}
+use Rattle.zone_wire.proofs.Common.{arith, fields_of, if_fault_passed, sym, ◌∙◌}
 use Rattle.zone_wire.proofs.DataReading.{field_ready, field_put, field_bad, all_values}
 use Rattle.zone_wire.proofs.data.push_fields.Goals as goal
 

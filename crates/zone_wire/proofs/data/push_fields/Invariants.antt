@@ -1,5 +1,4 @@
-use Rattle.std.proofs.Common.{◌-◌, length}
-use Rattle.zone_rdata.specs.Layout.{fields_of}
+use Rattle.zone_wire.proofs.Common.{fields_of, length, ◌-◌}
 use Rattle.zone_wire.proofs.DataReading.{HaveValues}
 use Rattle.zone_wire.proofs.data.push_fields.Given as goal
 

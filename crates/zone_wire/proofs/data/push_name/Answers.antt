@@ -1,8 +1,4 @@
-use Rattle.std.proofs.Common.{◌≡◌, arith, Ok}
-use Rattle.zone_rdata.specs.declared.field.Field.TheVariants.{Name}
-use Rattle.zone_rdata.specs.Field.{name}
-use Rattle.zone_rdata.proofs.Failings.{if_fault_passed}
-use Rattle.zone_wire.specs.Machine.Data.{value_at}
+use Rattle.zone_wire.proofs.Common.{Name, Ok, arith, if_fault_passed, name, value_at, ◌≡◌}
 use Rattle.zone_wire.proofs.FieldReading.{name_read, name_over, name_faulty, unrefused}
 use Rattle.zone_wire.proofs.MessageFaults.{name_refused}
 use Rattle.zone_wire.proofs.Walking.{walk_names, name_bounds}

@@ -1,8 +1,4 @@
-use Rattle.std.proofs.Common.{refl, arith}
-use Rattle.zone_rdata.specs.declared.field.Field.TheVariants.{Octets}
-use Rattle.zone_rdata.specs.Field.{fixed}
-use Rattle.zone_wire.specs.Transfer.{octets_between}
-use Rattle.zone_rdata.proofs.Failings.{fault_answered, if_fault_passed}
+use Rattle.zone_wire.proofs.Common.{Octets, arith, fault_answered, fixed, if_fault_passed, octets_between, refl}
 use Rattle.zone_wire.proofs.FieldReading.{fixed_sized, sized_refused, unrefused_sized, fixed_value, fixed_suits, puts_sized}
 use Rattle.zone_wire.proofs.data.push_octets.Goals as goal
 

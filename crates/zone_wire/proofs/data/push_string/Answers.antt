@@ -1,9 +1,4 @@
-use Rattle.std.proofs.Common.{refl, arith}
-use Rattle.zone_rdata.specs.declared.field.Field.TheVariants.{OneString}
-use Rattle.zone_rdata.specs.Field.{string}
-use Rattle.zone_wire.specs.Transfer.{octets_between}
-use Rattle.std.specs.Prelude.{slice_index, ◌+◌}
-use Rattle.zone_rdata.proofs.Failings.{fault_answered, if_fault_passed}
+use Rattle.zone_wire.proofs.Common.{OneString, arith, fault_answered, if_fault_passed, octets_between, refl, slice_index, string, ◌+◌}
 use Rattle.zone_wire.proofs.FieldReading.{string_sized, sized_bad, sized_refused, unrefused_sized, string_value, string_short, puts_sized}
 use Rattle.zone_wire.proofs.data.push_string.Goals as goal
 

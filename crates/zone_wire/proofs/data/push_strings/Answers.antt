@@ -1,5 +1,4 @@
-use Rattle.std.proofs.Common.{arith}
-use Rattle.zone_rdata.proofs.Failings.{if_fault_passed}
+use Rattle.zone_wire.proofs.Common.{arith, if_fault_passed}
 use Rattle.zone_wire.proofs.StringReading.{next_string, string_put, string_past, all_put, string_missing, string_bad}
 use Rattle.zone_wire.proofs.data.push_strings.Goals as goal
 

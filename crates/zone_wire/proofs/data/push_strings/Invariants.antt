@@ -1,4 +1,4 @@
-use Rattle.std.proofs.Common.{◌-◌}
+use Rattle.zone_wire.proofs.Common.{◌-◌}
 use Rattle.zone_wire.proofs.StringReading.{HavePut}
 use Rattle.zone_wire.proofs.data.push_strings.Given as goal
 

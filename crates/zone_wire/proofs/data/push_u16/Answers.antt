@@ -1,7 +1,4 @@
-use Rattle.std.proofs.Common.{refl, arith}
-use Rattle.zone_rdata.specs.declared.field.Field.TheVariants.{U16}
-use Rattle.zone_rdata.specs.Field.{u16_value}
-use Rattle.zone_rdata.proofs.Failings.{fault_answered, if_fault_passed}
+use Rattle.zone_wire.proofs.Common.{U16, arith, fault_answered, if_fault_passed, refl, u16_value}
 use Rattle.zone_wire.proofs.FieldReading.{two_sized, sized_refused, unrefused_sized, two_value, puts_sized}
 use Rattle.zone_wire.proofs.data.push_u16.Goals as goal
 

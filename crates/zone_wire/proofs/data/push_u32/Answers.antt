@@ -1,7 +1,4 @@
-use Rattle.std.proofs.Common.{refl, arith}
-use Rattle.zone_rdata.specs.declared.field.Field.TheVariants.{Serial}
-use Rattle.zone_rdata.specs.Field.{u32_value}
-use Rattle.zone_rdata.proofs.Failings.{fault_answered, if_fault_passed}
+use Rattle.zone_wire.proofs.Common.{Serial, arith, fault_answered, if_fault_passed, refl, u32_value}
 use Rattle.zone_wire.proofs.FieldReading.{serial_sized, sized_refused, unrefused_sized, long_value, puts_sized}
 use Rattle.zone_wire.proofs.data.push_u32.Goals as goal
 

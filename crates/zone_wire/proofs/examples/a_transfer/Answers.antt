@@ -1,13 +1,4 @@
-use Rattle.std.proofs.Common.{[], ◌∷◌, refl}
-use Rattle.zone_rdata.specs.Fields.Strings.{strings_of}
-use Rattle.zone_wire.specs.Machine.Answers.{own_record, answer_record}
-use Rattle.zone_wire.specs.Machine.Data.{value_at, data_at}
-use Rattle.zone_wire.specs.Examples.{soa_message, placed_soa}
-use Rattle.zone_wire.specs.Machine.Finding.{outcome}
-use Rattle.zone_wire.specs.Machine.Sections.{header_fault, sections_of}
-use Rattle.zone_wire.specs.Machine.Stream.{next_message, stream_records}
-use Rattle.zone_wire.specs.Transfer.{frame}
-use Rattle.zone_wire.specs.Machine.Walk.{standing_in, walk_by, walk}
+use Rattle.zone_wire.proofs.Common.{[], answer_record, data_at, frame, header_fault, next_message, outcome, own_record, placed_soa, refl, sections_of, soa_message, standing_in, stream_records, strings_of, value_at, walk, walk_by, ◌∷◌}
 use Rattle.zone_wire.proofs.Computing.{octets_below, reads}
 use Rattle.zone_wire.proofs.examples.a_transfer.Goals as goal
 

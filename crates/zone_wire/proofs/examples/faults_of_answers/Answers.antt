@@ -1,12 +1,4 @@
-use Rattle.std.proofs.Common.{[], ◌∷◌, ◌++◌, refl}
-use Rattle.zone_rdata.specs.Fields.Strings.{strings_of}
-use Rattle.zone_wire.specs.Machine.Answers.{own_record, answer_record}
-use Rattle.zone_wire.specs.Machine.Data.{value_at, data_at}
-use Rattle.zone_wire.specs.Examples.{answer_header, question_x, opening_x, server_x, record_x, closing_x, message_with, small_body, small_message}
-use Rattle.zone_wire.specs.Machine.Finding.{outcome}
-use Rattle.zone_wire.specs.Machine.Sections.{header_fault, sections_of}
-use Rattle.zone_wire.specs.Machine.Stream.{next_message, stream_records}
-use Rattle.zone_wire.specs.Machine.Walk.{standing_in, walk_by, walk}
+use Rattle.zone_wire.proofs.Common.{[], answer_header, answer_record, closing_x, data_at, header_fault, message_with, next_message, opening_x, outcome, own_record, question_x, record_x, refl, sections_of, server_x, small_body, small_message, standing_in, stream_records, strings_of, value_at, walk, walk_by, ◌++◌, ◌∷◌}
 use Rattle.zone_wire.proofs.Computing.{reads}
 use Rattle.zone_wire.proofs.examples.faults_of_answers.Goals as goal
 

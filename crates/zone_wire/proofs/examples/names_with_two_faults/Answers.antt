@@ -1,6 +1,4 @@
-use Rattle.std.proofs.Common.{refl}
-use Rattle.zone_wire.specs.Walk.{ending}
-use Rattle.zone_wire.specs.Machine.Walk.{standing_in, walk_by, walk}
+use Rattle.zone_wire.proofs.Common.{ending, refl, standing_in, walk, walk_by}
 use Rattle.zone_wire.proofs.Computing.{walk_computes}
 use Rattle.zone_wire.proofs.examples.names_with_two_faults.Goals as goal
 

@@ -1,6 +1,4 @@
-use Rattle.std.proofs.Common.{refl}
-use Rattle.zone_wire.specs.Machine.Finding.{outcome}
-use Rattle.zone_wire.specs.Machine.Walk.{standing_in, walk_by, walk}
+use Rattle.zone_wire.proofs.Common.{outcome, refl, standing_in, walk, walk_by}
 use Rattle.zone_wire.proofs.Computing.{name_computes}
 use Rattle.zone_wire.proofs.examples.the_root.Goals as goal
 

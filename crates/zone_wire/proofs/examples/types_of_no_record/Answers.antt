@@ -1,12 +1,4 @@
-use Rattle.std.proofs.Common.{ℕ, List, [], ◌∷◌, refl}
-use Rattle.zone_rdata.specs.Fields.Strings.{strings_of}
-use Rattle.zone_wire.specs.Machine.Answers.{own_record, answer_record}
-use Rattle.zone_wire.specs.Machine.Data.{value_at, data_at}
-use Rattle.zone_wire.specs.Examples.{record_x, ends_with}
-use Rattle.zone_wire.specs.Machine.Finding.{outcome}
-use Rattle.zone_wire.specs.Machine.Sections.{header_fault, sections_of}
-use Rattle.zone_wire.specs.Machine.Stream.{next_message, stream_records}
-use Rattle.zone_wire.specs.Machine.Walk.{standing_in, walk_by, walk}
+use Rattle.zone_wire.proofs.Common.{List, [], answer_record, data_at, ends_with, header_fault, next_message, outcome, own_record, record_x, refl, sections_of, standing_in, stream_records, strings_of, value_at, walk, walk_by, ℕ, ◌∷◌}
 use Rattle.zone_wire.proofs.Computing.{reads}
 use Rattle.zone_wire.proofs.examples.types_of_no_record.Goals as goal
 

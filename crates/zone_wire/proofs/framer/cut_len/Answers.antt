@@ -1,4 +1,4 @@
-use Rattle.std.proofs.Common.{arith}
+use Rattle.zone_wire.proofs.Common.{arith}
 use Rattle.zone_wire.proofs.framer.cut_len.Goals as goal
 
 pub returns-clause-few : goal.returns-clause-few

@@ -1,5 +1,4 @@
-use Rattle.std.proofs.Common.{ap, sym, ◌∙◌, arith}
-use Rattle.zone_wire.specs.Transfer.{frame}
+use Rattle.zone_wire.proofs.Common.{ap, arith, frame, sym, ◌∙◌}
 use Rattle.zone_wire.proofs.Feeding.{framed_whole, rest_taken}
 use Rattle.zone_wire.proofs.framer.message_of.Goals as goal
 

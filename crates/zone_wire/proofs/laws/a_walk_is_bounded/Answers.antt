@@ -1,6 +1,4 @@
-use Rattle.std.proofs.Common.{◌≤◌, ◌<◌, length}
-use Rattle.std.specs.List.{AllByRecursion}
-use Rattle.zone_wire.specs.Visits.{labels_in, pointers_in, LeadToLast}
+use Rattle.zone_wire.proofs.Common.{AllByRecursion, LeadToLast, labels_in, length, pointers_in, ◌<◌, ◌≤◌}
 use Rattle.zone_wire.proofs.Visits.{few_labels, few_pointers, walk_leads}
 use Rattle.zone_wire.proofs.WalkLaws.{of_walk}
 use Rattle.zone_wire.proofs.Walking.{walk_is_short, walk_lies_inside}

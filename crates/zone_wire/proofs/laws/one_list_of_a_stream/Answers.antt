@@ -1,4 +1,4 @@
-use Rattle.std.specs.Prelude.{None}
+use Rattle.zone_wire.proofs.Common.{None}
 use Rattle.zone_wire.proofs.GivenTransfers.{transfer_reads}
 use Rattle.zone_wire.proofs.Streams.{one_reading}
 use Rattle.zone_wire.proofs.laws.one_list_of_a_stream.Goals as goal

@@ -1,10 +1,4 @@
-use Rattle.std.proofs.Common.{◌≡◌, ℕ, List, refl, inl, inr}
-use Rattle.std.specs.Prelude.{Result, Ok, Err}
-use Rattle.zone_name.specs.Common.{EitherIs}
-use Rattle.zone_rdata.specs.declared.fault.Fault.{Fault}
-use Rattle.zone_wire.specs.DataFault.{DataFault}
-use Rattle.zone_wire.specs.Machine.Data.{data_at}
-use Rattle.zone_wire.specs.Transfer.{IsDataAt}
+use Rattle.zone_wire.proofs.Common.{DataFault, EitherIs, Err, Fault, IsDataAt, List, Ok, Result, data_at, inl, inr, refl, ℕ, ◌≡◌}
 use Rattle.zone_wire.proofs.DataFaults.{data_faults}
 use Rattle.zone_wire.proofs.Fielding.{data_reads}
 use Rattle.zone_wire.proofs.OneFault.{data_one, data_not_both}

@@ -1,4 +1,4 @@
-use Rattle.std.proofs.Common.{arith}
+use Rattle.zone_wire.proofs.Common.{arith}
 use Rattle.zone_wire.proofs.Naming.{says_found, says_only, says_within, says_fault, says_places, says_few}
 use Rattle.zone_wire.proofs.name.name_at.Goals as goal
 

@@ -1,7 +1,4 @@
-use Rattle.std.proofs.Common.{◌≡◌, ◌+◌, ◌-◌, ap, sym, ◌∙◌, arith, Err}
-use Rattle.zone_wire.specs.Machine.Finding.{refused}
-use Rattle.zone_rdata.specs.Cause.{fault_for}
-use Rattle.zone_rdata.specs.declared.fault.Fault.TheVariants.{ShortMessage}
+use Rattle.zone_wire.proofs.Common.{Err, ShortMessage, ap, arith, fault_for, refused, rules, sym, ◌+◌, ◌-◌, ◌∙◌, ◌≡◌}
 use Rattle.zone_wire.proofs.Carrying.{carries_start, carries_outside, carries_bad, carries_root, carries_label, carries_pointer, root_inside, label_shows, pointer_shows, push_fits, part_length}
 use Rattle.zone_wire.proofs.name.read_name.Goals as goal
 
@@ -12,7 +9,7 @@ pub look_at-requires-clause-octets : goal.look_at-requires-clause-octets
 look_at-requires-clause-octets c = let h = c.places.invariant in omega (arith, h.short)
 
 pub look_at-requires-clause-ticks : goal.look_at-requires-clause-ticks
-look_at-requires-clause-ticks c = let h = c.places.invariant in omega (arith, h.few, h.short, h.pointers)
+look_at-requires-clause-ticks c = let h = c.places.invariant in omega arith
 
 pub returns-in-Outside : goal.returns-in-Outside
 returns-in-Outside c = carries_outside c.places.invariant (sym c.in-Outside.ensures.place) ∙ ap (refused ShortMessage) (omega (arith, c.count.ensures, c.in-Outside.ensures.ticks))
@@ -65,4 +62,4 @@ past_pointer-spot-requires c = (pointer_shows _ _ c.in-Pointer.target (sym c.in-
 pub places-preserved : goal.places-preserved
 places-preserved c =
     let next = carries_pointer c.in-Pointer.target c.places.invariant (sym c.in-Pointer.ensures.place) in
-    rw (c.past_pointer-spot.ensures, c.unwrap_or-in-Pointer.ensures, c.in-Pointer.ensures.ticks) next
+    search rules

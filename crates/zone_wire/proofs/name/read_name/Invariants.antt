@@ -1,5 +1,4 @@
-use Rattle.std.proofs.Common.{◌-◌}
-use Rattle.zone_wire.specs.Machine.Spot.{spot_of}
+use Rattle.zone_wire.proofs.Common.{spot_of, ◌-◌}
 use Rattle.zone_wire.proofs.Carrying.{Carries}
 use Rattle.zone_wire.proofs.name.read_name.Given as goal
 

@@ -1,4 +1,4 @@
-use Rattle.std.proofs.Common.{arith}
+use Rattle.zone_wire.proofs.Common.{arith}
 use Rattle.zone_wire.proofs.octets.are_octets.Goals as goal
 
 pub returns : goal.returns

@@ -1,6 +1,4 @@
-use Rattle.std.proofs.Common.{arith}
-use Rattle.std.proofs.lemmas.Result.{err_from_is_err_and}
-use Rattle.zone_rdata.specs.Cause.{fault_for}
+use Rattle.zone_wire.proofs.Common.{arith, err_from_is_err_and, fault_for}
 use Rattle.zone_wire.proofs.Structures.{header_refused, has_header, questions_refused, answers_refused, additional_refused, trailing, parses}
 use Rattle.zone_wire.proofs.structure.answers_start.Goals as goal
 

@@ -1,18 +1,15 @@
-use Rattle.std.proofs.Common.{◌+◌, refl, arith}
-use Rattle.std.proofs.lemmas.Result.{err_from_is_err_and}
-use Rattle.zone_rdata.specs.Cause.{fault_for}
-use Rattle.zone_wire.specs.Message.{question_by}
-use Rattle.zone_wire.proofs.Ends.{name_ends_inside, inside_refused, inside_ends, inside_short}
+use Rattle.zone_wire.proofs.Common.{arith, err_from_is_err_and, rules}
+use Rattle.zone_wire.proofs.Ends.{name_ends_inside}
 use Rattle.zone_wire.proofs.structure.question_end.Goals as goal
 
 pub returns-in_err-end : goal.returns-in_err-end
-returns-in_err-end c = let p = err_from_is_err_and c.from_residual.result c.from_residual.ensures.1 in rw (p.1, p.2) (inside_refused c.args.message.now (question_by c.args.message.now) (λ q. q.end) _ (fault_for c.in_err-end.field-0.0) c.in_err-end.ensures)
+returns-in_err-end c = let p = err_from_is_err_and c.from_residual.result c.from_residual.ensures.1 in search rules
 
 pub overflow_sub-message : goal.overflow_sub-message
 overflow_sub-message c = name_ends_inside c.args.message.now c.args.offset (λ i. omega (arith, c.type_inv.message i)) c.in_ok-end.end c.in_ok-end.ensures
 
 pub returns-then-message-end-lt4 : goal.returns-then-message-end-lt4
-returns-then-message-end-lt4 c = inside_short c.args.message.now (question_by c.args.message.now) (λ q. q.end) (λ n. n + 4) (λ found. refl) _ c.in_ok-end.end c.in_ok-end.ensures (omega (arith, c.if-message-end-lt4.true))
+returns-then-message-end-lt4 c = search rules
 
 pub returns : goal.returns
-returns c = inside_ends c.args.message.now (question_by c.args.message.now) (λ q. q.end) (λ n. n + 4) (λ found. refl) _ c.in_ok-end.end c.in_ok-end.ensures (omega (arith, c.if-message-end-lt4.false, name_ends_inside c.args.message.now c.args.offset (λ i. omega (arith, c.type_inv.message i)) c.in_ok-end.end c.in_ok-end.ensures))
+returns c = search rules

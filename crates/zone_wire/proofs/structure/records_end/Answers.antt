@@ -1,7 +1,4 @@
-use Rattle.std.proofs.Common.{sym, ◌∙◌, ap, arith}
-use Rattle.zone_wire.specs.Machine.Parsing.{run_end_of}
-use Rattle.zone_wire.specs.Machine.Sections.{records_from}
-use Rattle.zone_rdata.specs.Cause.{fault_for}
+use Rattle.zone_wire.proofs.Common.{ap, arith, records_from, run_end_of, sym, ◌∙◌}
 use Rattle.zone_wire.proofs.Ends.{records_go_on, records_refused, records_end_here}
 use Rattle.zone_wire.proofs.structure.records_end.Goals as goal
 
@@ -9,10 +6,10 @@ pub loop-init : goal.loop-init
 loop-init c = ap (λ n. run_end_of (records_from c.args.message.now n c.args.offset)) (omega arith)
 
 pub returns-in-Err : goal.returns-in-Err
-returns-in-Err c = records_refused c.args.message.now c.args.count c.loop.counter c.loop.end (fault_for c.in-Err.cause) c.loop-test.true c.in-Err.ensures ∙ sym c.loop.invariant
+returns-in-Err c = grind (arith, records_refused)
 
 pub loop-preserved : goal.loop-preserved
-loop-preserved c = c.loop.invariant ∙ records_go_on c.args.message.now c.args.count c.loop.counter c.loop.end c.in-Ok.next c.loop-test.true c.in-Ok.ensures
+loop-preserved c = grind (arith, records_go_on)
 
 pub returns : goal.returns
 returns c = sym (c.loop.invariant ∙ records_end_here _ _ _ (omega (arith, c.loop-test.false)))

@@ -1,6 +1,4 @@
-use Rattle.std.proofs.Common.{◌≡◌, ◌-◌}
-use Rattle.zone_wire.specs.Machine.Parsing.{run_end_of}
-use Rattle.zone_wire.specs.Machine.Sections.{records_from}
+use Rattle.zone_wire.proofs.Common.{records_from, run_end_of, ◌-◌, ◌≡◌}
 use Rattle.zone_wire.proofs.structure.records_end.Given as goal
 
 abbrev pub invariant-loop : goal.invariant-loop

@@ -1,7 +1,4 @@
-use Rattle.std.proofs.Common.{[], ap, sym, ◌++◌, ◌∷◌, arith}
-use Rattle.zone_wire.specs.Machine.Parsing.{name_end_of}
-use Rattle.zone_rdata.specs.Cause.{fault_for}
-use Rattle.zone_wire.specs.Name.{label_at}
+use Rattle.zone_wire.proofs.Common.{[], ap, arith, fault_for, label_at, name_end_of, rules, sym}
 use Rattle.zone_wire.proofs.Carrying.{carries_start, carries_outside, carries_bad, carries_root, carries_label, carries_pointer, root_inside, label_shows, pointer_shows}
 use Rattle.zone_wire.proofs.structure.walk_to_root.Goals as goal
 
@@ -12,7 +9,7 @@ pub look_at-requires-clause-octets : goal.look_at-requires-clause-octets
 look_at-requires-clause-octets c = let h = c.places.invariant.1 in omega (arith, h.short)
 
 pub look_at-requires-clause-ticks : goal.look_at-requires-clause-ticks
-look_at-requires-clause-ticks c = let h = c.places.invariant.1 in omega (arith, h.few, h.short, h.pointers)
+look_at-requires-clause-ticks c = let h = c.places.invariant.1 in omega arith
 
 pub returns-in-Outside : goal.returns-in-Outside
 returns-in-Outside c = sym (ap name_end_of (carries_outside c.places.invariant.1 (sym c.in-Outside.ensures.place)))
@@ -36,7 +33,7 @@ pub places-preserved-in-Label : goal.places-preserved-in-Label
 places-preserved-in-Label c =
     let label = label_at c.args.message.now c.places.spot.offset c.in-Label.size in
     let next = carries_label c.in-Label.size c.places.invariant.1 (sym c.in-Label.ensures.place) in
-    rw (c.past_label-spot.ensures, c.in-Label.ensures.ticks) (c.places.invariant.0 ++ label ∷ [], next)
+    search rules
 
 pub overflow_add-spot-in-Pointer : goal.overflow_add-spot-in-Pointer
 overflow_add-spot-in-Pointer c = let h = pointer_shows _ _ c.in-Pointer.target (sym c.in-Pointer.ensures.place) in omega (arith, h.0.inside)
@@ -47,4 +44,4 @@ past_pointer-spot-requires c = (pointer_shows _ _ c.in-Pointer.target (sym c.in-
 pub places-preserved : goal.places-preserved
 places-preserved c =
     let next = carries_pointer c.in-Pointer.target c.places.invariant.1 (sym c.in-Pointer.ensures.place) in
-    rw (c.past_pointer-spot.ensures, c.unwrap_or-in-Pointer.ensures, c.in-Pointer.ensures.ticks) (c.places.invariant.0, next)
+    search rules

@@ -1,5 +1,4 @@
-use Rattle.std.proofs.Common.{ℕ, List, ◌-◌}
-use Rattle.zone_wire.specs.Machine.Spot.{spot_of}
+use Rattle.zone_wire.proofs.Common.{List, spot_of, ℕ, ◌-◌}
 use Rattle.zone_wire.proofs.Carrying.{Carries}
 use Rattle.zone_wire.proofs.structure.walk_to_root.Given as goal
 

@@ -1,4 +1,4 @@
-use Rattle.std.proofs.Common.{◌∙◌}
+use Rattle.zone_wire.proofs.Common.{◌∙◌}
 use Rattle.zone_wire.proofs.Progress.{reversed_same}
 use Rattle.zone_wire.proofs.transfer.is_same_name.Goals as goal
 

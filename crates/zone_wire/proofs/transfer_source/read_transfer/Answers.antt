@@ -1,4 +1,4 @@
-use Rattle.std.proofs.Common.{[]}
+use Rattle.zone_wire.proofs.Common.{[]}
 use Rattle.zone_wire.proofs.transfer_source.read_transfer.Goals as goal
 
 pub returns : goal.returns

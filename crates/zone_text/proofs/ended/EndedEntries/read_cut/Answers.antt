@@ -1,4 +1,4 @@
-use Rattle.std.proofs.Common.{refl}
+use Rattle.zone_text.proofs.Common.{refl}
 use Rattle.zone_text.proofs.EntryTaken.{lines_after, takes_entry}
 use Rattle.zone_text.proofs.ended.EndedEntries.read_cut.Goals as goal
 

@@ -1,9 +1,4 @@
-use Rattle.std.proofs.Common.{refl, lit≤}
-use Rattle.zone_name.specs.Machine.Units.{units_by, units_first}
-use Rattle.zone_text.specs.Machine.Cutting.{before_line_feed, from_line_feed, front_of, cut_by, cutting}
-use Rattle.zone_text.specs.ExampleEntries.{x, under}
-use Rattle.zone_text.specs.FileReads.{whole, stated}
-use Rattle.zone_text.specs.File.{states_none, states_one}
+use Rattle.zone_text.proofs.Common.{before_line_feed, cut_by, cutting, from_line_feed, front_of, lit≤, refl, stated, states_none, states_one, under, units_by, units_first, whole, x}
 use Rattle.zone_text.proofs.Cuttings.{cut_is_read}
 use Rattle.zone_text.proofs.ExampleRecords.{x_name, at_spells, a_spells, sixty, in_class, states_ns}
 use Rattle.zone_text.proofs.examples.entries.an_owner_keeps_its_origin.Goals as goal

@@ -1,9 +1,4 @@
-use Rattle.std.proofs.Common.{[], codes, refl, lit<, lit≤, inl, inr}
-use Rattle.zone_name.specs.Machine.Units.{units_by, units_first}
-use Rattle.zone_text.specs.Machine.Cutting.{before_line_feed, from_line_feed, front_of, cut_by, cutting}
-use Rattle.zone_text.specs.ExampleEntries.{x}
-use Rattle.zone_text.specs.FileReads.{whole, stated}
-use Rattle.zone_text.specs.File.{states_one}
+use Rattle.zone_text.proofs.Common.{[], before_line_feed, codes, cut_by, cutting, from_line_feed, front_of, inl, inr, lit<, lit≤, refl, stated, states_one, units_by, units_first, whole, x}
 use Rattle.zone_text.proofs.Cuttings.{cut_is_read}
 use Rattle.zone_text.proofs.ExampleRecords.{x_name, at_spells, ns_has_no_minimum, five, states_soa, states_ns_below, states_minimum, minimum_five}
 use Rattle.zone_text.proofs.examples.entries.the_minimum_is_the_last_choice.Goals as goal

@@ -1,4 +1,4 @@
-use Rattle.std.proofs.Common.{refl}
+use Rattle.zone_text.proofs.Common.{refl}
 use Rattle.zone_text.proofs.examples.entries.words_before_the_type.Goals as goal
 
 pub returns : goal.returns

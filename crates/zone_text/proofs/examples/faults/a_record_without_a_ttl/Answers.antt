@@ -1,9 +1,4 @@
-use Rattle.std.proofs.Common.{◌∷◌, [], codes, refl, inl, inr}
-use Rattle.zone_name.specs.Machine.Units.{units_by, units_first}
-use Rattle.zone_text.specs.Machine.Cutting.{before_line_feed, from_line_feed, front_of, cut_by, cutting}
-use Rattle.zone_text.specs.ExampleEntries.{x}
-use Rattle.zone_text.specs.EntryFault.{of_ttl, none}
-use Rattle.zone_text.specs.FileReads.{whole, refused}
+use Rattle.zone_text.proofs.Common.{[], before_line_feed, codes, cut_by, cutting, from_line_feed, front_of, inl, inr, none, of_ttl, refl, refused, units_by, units_first, whole, x, ◌∷◌}
 use Rattle.zone_text.proofs.Cuttings.{cut_is_read}
 use Rattle.zone_text.proofs.ExampleRecords.{x_name, at_spells, is_ns, ns_kind, ns_states, ns_has_no_minimum}
 use Rattle.zone_rdata.specs.Spelling.{bare}

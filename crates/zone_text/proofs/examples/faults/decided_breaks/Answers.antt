@@ -1,11 +1,4 @@
-use Rattle.std.proofs.Common.{refl, lit≤, inr}
-use Rattle.zone_name.specs.Machine.Units.{units_by, units_first}
-use Rattle.zone_text.specs.Machine.Cutting.{before_line_feed, from_line_feed, front_of, cut_by, cutting}
-use Rattle.zone_text.specs.Decided.{decided, undecided}
-use Rattle.zone_text.specs.ExampleEntries.{x}
-use Rattle.zone_text.specs.File.{states_one}
-use Rattle.zone_text.specs.FileReads.{stated}
-use Rattle.zone_text.specs.Lasting.{two_digits, after_two_digits, closing_stays, escape_stays, escape_open}
+use Rattle.zone_text.proofs.Common.{after_two_digits, before_line_feed, closing_stays, cut_by, cutting, decided, escape_open, escape_stays, from_line_feed, front_of, inr, lit≤, refl, stated, states_one, two_digits, undecided, units_by, units_first, x}
 use Rattle.zone_text.proofs.Cuttings.{broken_is_read}
 use Rattle.zone_text.proofs.ExampleRecords.{x_name, at_spells, sixty, in_class, states_ns}
 use Rattle.zone_text.proofs.ForGood.{stays_for_good, ends_not_for_good}

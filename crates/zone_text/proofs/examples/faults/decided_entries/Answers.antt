@@ -1,13 +1,6 @@
-use Rattle.std.proofs.Common.{refl, lit≤, inl}
-use Rattle.zone_name.specs.Machine.Units.{units_by, units_first}
-use Rattle.zone_text.specs.Machine.Cutting.{before_line_feed, from_line_feed, front_of, cut_by, cutting}
-use Rattle.zone_text.specs.ExampleEntries.{x}
-use Rattle.zone_text.specs.EntryFault.{of_directive}
-use Rattle.zone_text.specs.File.{states_one}
-use Rattle.zone_text.specs.FileReads.{stated, refused}
+use Rattle.zone_text.proofs.Common.{before_line_feed, cut_by, cutting, from_line_feed, front_of, inl, lit≤, of_directive, refl, refused, stated, states_one, undecided, units_by, units_first, x}
 use Rattle.zone_text.proofs.Cuttings.{cut_is_read}
 use Rattle.zone_text.proofs.ExampleRecords.{x_name, at_spells, sixty, in_class, states_ns}
-use Rattle.zone_text.specs.Decided.{undecided}
 use Rattle.zone_text.proofs.Cuttings.{cut_not_broken}
 use Rattle.zone_text.proofs.examples.faults.decided_entries.Goals as goal
 

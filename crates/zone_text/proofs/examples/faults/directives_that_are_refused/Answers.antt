@@ -1,13 +1,6 @@
-use Rattle.std.proofs.Common.{refl, lit≤}
-use Rattle.zone_name.specs.Machine.Units.{units_by, units_first}
-use Rattle.zone_text.specs.Machine.Cutting.{before_line_feed, from_line_feed, front_of, cut_by, cutting}
-use Rattle.zone_text.specs.ExampleEntries.{x}
-use Rattle.zone_text.specs.EntryFault.{of_directive}
-use Rattle.zone_text.specs.FileReads.{whole, stated, refused}
-use Rattle.zone_text.specs.File.{states_one}
+use Rattle.zone_text.proofs.Common.{EmptyLabel, before_line_feed, cut_by, cutting, from_line_feed, front_of, lit≤, of_directive, refl, refused, stated, states_one, units_by, units_first, whole, x}
 use Rattle.zone_text.proofs.Cuttings.{cut_is_read}
 use Rattle.zone_text.proofs.ExampleRecords.{x_name, at_spells, sixty, in_class, states_ns, too_long, no_digit, empty_label_between}
-use Rattle.zone_name.specs.declared.fault.NameFault.TheVariants.{EmptyLabel}
 use Rattle.zone_text.proofs.examples.faults.directives_that_are_refused.Goals as goal
 
 pub returns : goal.returns

@@ -1,9 +1,4 @@
-use Rattle.std.proofs.Common.{refl, lit≤, inl}
-use Rattle.zone_name.specs.Machine.Units.{units_by, units_first}
-use Rattle.zone_text.specs.Machine.Cutting.{before_line_feed, from_line_feed, front_of, cut_by, cutting}
-use Rattle.zone_text.specs.ExampleEntries.{x}
-use Rattle.zone_text.specs.EntryFault.{of_words, of_kind}
-use Rattle.zone_text.specs.FileReads.{whole, refused}
+use Rattle.zone_text.proofs.Common.{before_line_feed, cut_by, cutting, from_line_feed, front_of, inl, lit≤, of_kind, of_words, refl, refused, units_by, units_first, whole, x}
 use Rattle.zone_text.proofs.Cuttings.{cut_is_read}
 use Rattle.zone_text.proofs.ExampleRecords.{x_name, at_spells, sixty, too_long, class_zero_word, type_65536, type_41}
 use Rattle.zone_text.proofs.examples.faults.words_that_are_refused.Goals as goal

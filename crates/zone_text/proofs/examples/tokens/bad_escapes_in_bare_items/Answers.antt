@@ -1,6 +1,4 @@
-use Rattle.std.proofs.Common.{refl}
-use Rattle.zone_name.specs.Machine.Units.{units_by, units_first}
-use Rattle.zone_text.specs.Machine.Cutting.{before_line_feed, from_line_feed, front_of, cut_by, cutting}
+use Rattle.zone_text.proofs.Common.{before_line_feed, cut_by, cutting, from_line_feed, front_of, refl, units_by, units_first}
 use Rattle.zone_text.proofs.Cuttings.{broken_is_read}
 use Rattle.zone_text.proofs.examples.tokens.bad_escapes_in_bare_items.Goals as goal
 

@@ -1,4 +1,4 @@
-use Rattle.std.proofs.Common.{Some}
+use Rattle.zone_text.proofs.Common.{Some}
 use Rattle.zone_text.proofs.laws.entry.lower_choices.Goals as goal
 
 pub returns : goal.returns

@@ -1,4 +1,4 @@
-use Rattle.zone_rdata.proofs.FedSources.{stands_record, stands_none, stands_stop}
+use Rattle.zone_text.proofs.Common.{stands_none, stands_record, stands_stop}
 use Rattle.zone_text.proofs.laws.given_records.an_answer_is_given.Goals as goal
 
 pub returns : goal.returns

@@ -1,4 +1,4 @@
-use Rattle.zone_rdata.proofs.FedSources.{stands_given}
+use Rattle.zone_text.proofs.Common.{stands_given}
 use Rattle.zone_text.proofs.laws.given_records.what_is_given_was_given.Goals as goal
 
 pub returns : goal.returns

@@ -1,7 +1,5 @@
-use Rattle.std.proofs.Common.{map, refl}
-use Rattle.std.proofs.lemmas.Result.{err_from_is_err_and}
+use Rattle.zone_text.proofs.Common.{err_from_is_err_and, map, raw, refl}
 use Rattle.zone_rdata.proofs.Failings.{IfFault-weaker}
-use Rattle.zone_rdata.specs.Item.{raw}
 use Rattle.zone_text.proofs.RecordsRead.{read_to, rdata_refused, no_ttl}
 use Rattle.zone_text.proofs.parser_state.ParserState.contents_of.Goals as goal
 

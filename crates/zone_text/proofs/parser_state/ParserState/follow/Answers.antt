@@ -1,6 +1,4 @@
-use Rattle.std.proofs.Common.{ap, ◌∙◌}
-use Rattle.std.proofs.lemmas.Result.{on_ok_weaker}
-use Rattle.zone_text.specs.Machine.Parsed.{directive_in}
+use Rattle.zone_text.proofs.Common.{ap, directive_in, on_ok_weaker, ◌∙◌}
 use Rattle.zone_text.proofs.Inheriting.{origin_set, ttl_set}
 use Rattle.zone_text.proofs.parser_state.ParserState.follow.Goals as goal
 

@@ -1,5 +1,4 @@
-use Rattle.std.proofs.Common.{refl, sym, ◌∙◌}
-use Rattle.std.proofs.lemmas.Result.{err_from_is_err_and}
+use Rattle.zone_text.proofs.Common.{err_from_is_err_and, refl, sym, ◌∙◌}
 use Rattle.zone_text.proofs.Heads.{words_refused, kind_missing, kind_unknown, has_head, has_own_ttl, after_words}
 use Rattle.zone_text.proofs.parser_state.ParserState.head_of.Goals as goal
 

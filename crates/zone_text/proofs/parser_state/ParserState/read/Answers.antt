@@ -1,4 +1,4 @@
-use Rattle.std.proofs.Common.{sym}
+use Rattle.zone_text.proofs.Common.{sym}
 use Rattle.zone_text.proofs.KeptEntry.{entry_kept}
 use Rattle.zone_text.proofs.parser_state.ParserState.read.Goals as goal
 

@@ -1,7 +1,4 @@
-use Rattle.std.proofs.Common.{map, refl, subst, sym}
-use Rattle.zone_rdata.specs.Item.{raw}
-use Rattle.zone_text.specs.EntryFault.{of_owner}
-use Rattle.zone_text.specs.Machine.EntryReading.{HasOwnerOrNone}
+use Rattle.zone_text.proofs.Common.{HasOwnerOrNone, map, of_owner, raw, refl, subst, sym}
 use Rattle.zone_text.proofs.EntryTaken.{refused_entry}
 use Rattle.zone_text.proofs.RecordsRead.{has_stated_owner}
 use Rattle.zone_text.proofs.parser_state.ParserState.read_owned.Goals as goal

@@ -1,5 +1,4 @@
-use Rattle.std.proofs.Common.{ap, ◌∙◌}
-use Rattle.zone_text.specs.Machine.Parsed.{statement_in}
+use Rattle.zone_text.proofs.Common.{ap, statement_in, ◌∙◌}
 use Rattle.zone_text.proofs.EntryTaken.{refused_entry}
 use Rattle.zone_text.proofs.parser_state.ParserState.read_parsed.Goals as goal
 

@@ -1,9 +1,4 @@
-use Rattle.std.proofs.Common.{refl, sym, ap, arith, ◌∙◌, subst, ◌∷◌}
-use Rattle.zone_name.specs.Common.{Labels}
-use Rattle.zone_rdata.specs.Record.{Record}
-use Rattle.zone_text.specs.ParserState.{IsOneOrNone}
-use Rattle.zone_text.specs.Inherited.{IsLastOwner}
-use Rattle.zone_text.specs.Machine.EntryReading.{decides_one}
+use Rattle.zone_text.proofs.Common.{IsLastOwner, IsOneOrNone, Labels, Record, ap, arith, decides_one, refl, subst, sym, ◌∙◌, ◌∷◌}
 use Rattle.zone_text.proofs.EntryTaken.{refused_entry}
 use Rattle.zone_text.proofs.RecordsRead.{long_ttl, no_owner, one_owner, record_left, states_record}
 use Rattle.zone_text.proofs.parser_state.ParserState.read_record.Goals as goal

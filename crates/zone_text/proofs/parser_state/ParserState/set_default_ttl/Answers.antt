@@ -1,4 +1,4 @@
-use Rattle.std.proofs.Common.{refl}
+use Rattle.zone_text.proofs.Common.{refl}
 use Rattle.zone_text.proofs.parser_state.ParserState.set_default_ttl.Goals as goal
 
 pub returns-clause-found : goal.returns-clause-found

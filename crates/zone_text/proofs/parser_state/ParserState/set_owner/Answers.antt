@@ -1,5 +1,4 @@
-use Rattle.std.proofs.Common.{refl}
-use Rattle.std.proofs.lemmas.Result.{on_ok_weaker}
+use Rattle.zone_text.proofs.Common.{on_ok_weaker, refl}
 use Rattle.zone_text.proofs.parser_state.ParserState.set_owner.Goals as goal
 
 pub returns-in-Some-clause-found : goal.returns-in-Some-clause-found

@@ -1,4 +1,4 @@
-use Rattle.std.proofs.Common.{sym, ◌∙◌}
+use Rattle.zone_text.proofs.Common.{sym, ◌∙◌}
 use Rattle.zone_text.proofs.Begun.{none_left, some_left}
 use Rattle.zone_text.proofs.Followed.{end_of_break, end_of_lines, end_of_some}
 use Rattle.zone_text.proofs.splitter.EntrySplitter.end_last.Goals as goal

@@ -1,5 +1,4 @@
-use Rattle.std.proofs.Common.{◌≡◌, ◌==◌, ◌+◌, ℕ, List, [], length, true, false, refl, sym, ap, ◌∙◌, arith}
-use Rattle.std.proofs.lemmas.List.{take-append-drop}
+use Rattle.zone_text.proofs.Common.{List, [], ap, arith, false, length, refl, sym, take-append-drop, true, ℕ, ◌+◌, ◌==◌, ◌∙◌, ◌≡◌}
 use Rattle.zone_text.proofs.BlankLines.{fed_lines}
 use Rattle.zone_text.proofs.FirstEntries.{keeps_items, fed_entry}
 use Rattle.zone_text.proofs.Begun.{none_found, none_left, some_found}

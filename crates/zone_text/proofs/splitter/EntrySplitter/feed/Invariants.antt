@@ -1,4 +1,4 @@
-use Rattle.std.proofs.Common.{◌≡◌, [], length}
+use Rattle.zone_text.proofs.Common.{[], length, ◌≡◌}
 use Rattle.zone_text.proofs.FedPieces.{HasFed}
 use Rattle.zone_text.proofs.splitter.EntrySplitter.feed.Given as goal
 

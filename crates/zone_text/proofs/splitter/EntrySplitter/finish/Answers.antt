@@ -1,10 +1,8 @@
-use Rattle.std.proofs.Common.{◌≤◌, sym, subst, arith}
+use Rattle.zone_text.proofs.Common.{EndedEntries, EntrySplitter, arith, subst, sym, ◌≤◌}
 use Rattle.zone_text.proofs.Begun.{nothing_taken, some_found}
 use Rattle.zone_text.proofs.Followed.{end_of_fault, Reads}
 use Rattle.zone_text.proofs.splitter.EntrySplitter.finish.Goals as goal
 use Rattle.zone_text.proofs.splitter.EntrySplitter.finish.Goals.{then-is_none+in_ok-end_last, else-is_none}
-use Rattle.zone_text.specs.declared.ended.EndedEntries.{EndedEntries}
-use Rattle.zone_text.specs.declared.splitter.EntrySplitter.{EntrySplitter}
 
 pub returns-clause-is : goal.returns-clause-is
 returns-clause-is c =

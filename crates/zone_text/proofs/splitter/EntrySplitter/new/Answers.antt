@@ -1,4 +1,4 @@
-use Rattle.std.proofs.Common.{◌≤◌, arith}
+use Rattle.zone_text.proofs.Common.{arith, ◌≤◌}
 use Rattle.zone_text.proofs.Begun.{nothing_taken, nothing_follows}
 use Rattle.zone_text.proofs.splitter.EntrySplitter.new.Goals as goal
 

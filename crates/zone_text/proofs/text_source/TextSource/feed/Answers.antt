@@ -1,9 +1,6 @@
-use Rattle.std.proofs.Common.{◌≡◌, ◌+◌, true, false, arith, IfSome, length, refl, sym, subst}
+use Rattle.zone_text.proofs.Common.{FileKept, IfSome, SourceState, StandsForFile, arith, counted, false, length, refl, state_of, subst, sym, true, ◌+◌, ◌≡◌}
 use Rattle.zone_text.proofs.Standing.{stands_more, counts_alone}
 use Rattle.zone_text.proofs.text_source.TextSource.feed.Goals as goal
-use Rattle.zone_text.specs.Machine.Feeding.{state_of}
-use Rattle.zone_rdata.specs.FedSource.{counted, SourceState}
-use Rattle.zone_text.specs.TextSource.{FileKept, StandsForFile}
 
 pub returns-in-Ok-clause-stands : goal.returns-in-Ok-clause-stands
 returns-in-Ok-clause-stands c origin fed given stands =

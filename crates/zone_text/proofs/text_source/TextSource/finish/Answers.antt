@@ -1,8 +1,6 @@
-use Rattle.std.proofs.Common.{◌≡◌, false, sym, subst}
+use Rattle.zone_text.proofs.Common.{FileKept, SourceState, StandsForFile, false, subst, sym, ◌≡◌}
 use Rattle.zone_text.proofs.Standing.{stands_finished}
 use Rattle.zone_text.proofs.text_source.TextSource.finish.Goals as goal
-use Rattle.zone_rdata.specs.FedSource.{SourceState}
-use Rattle.zone_text.specs.TextSource.{FileKept, StandsForFile}
 
 pub returns-in-Ok-clause-stands : goal.returns-in-Ok-clause-stands
 returns-in-Ok-clause-stands c origin fed given stands =

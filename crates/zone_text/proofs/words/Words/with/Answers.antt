@@ -1,5 +1,4 @@
-use Rattle.std.proofs.Common.{refl, sym, ◌∙◌}
-use Rattle.std.proofs.lemmas.Result.{err_from_is_err_and}
+use Rattle.zone_text.proofs.Common.{err_from_is_err_and, refl, sym, ◌∙◌}
 use Rattle.zone_text.proofs.WordsLeft.{takes_ttl, takes_class, refuses_class, no_word}
 use Rattle.zone_text.proofs.words.Words.with.Goals as goal
 

@@ -1,5 +1,4 @@
-use Rattle.std.proofs.Common.{◌∷◌, ◌-◌, ap, sym, ◌∙◌, arith, rules}
-use Rattle.zone_wire.specs.Machine.Parsing.{raw_from}
+use Rattle.zone_wire.proofs.Common.{ap, arith, raw_from, rules, sym, ◌-◌, ◌∙◌, ◌∷◌}
 use Rattle.zone_wire.proofs.Pending.{one_more, one_more_is}
 use Rattle.zone_wire.proofs.answers.AnswersIterator.next.Goals as goal
 

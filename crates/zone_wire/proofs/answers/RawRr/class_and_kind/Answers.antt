@@ -1,6 +1,4 @@
-use Rattle.std.proofs.Common.{ap, ◌∙◌, subst}
-use Rattle.zone_rdata.specs.Words.{IsClass, IsKind}
-use Rattle.zone_wire.specs.View.{RawRecord}
+use Rattle.zone_wire.proofs.Common.{IsClass, IsKind, RawRecord, ap, subst, ◌∙◌}
 use Rattle.zone_wire.proofs.RecordReading.{class_fault, kind_fault, unread_fault}
 use Rattle.zone_wire.proofs.answers.RawRr.class_and_kind.Goals as goal
 

@@ -1,6 +1,4 @@
-use Rattle.std.proofs.lemmas.Result.{on_ok_weaker}
-use Rattle.zone_rdata.specs.Layout.{fields_of}
-use Rattle.zone_rdata.proofs.Failings.{IfErr-fault}
+use Rattle.zone_wire.proofs.Common.{IfErr-fault, fields_of, on_ok_weaker}
 use Rattle.zone_wire.proofs.DataReading.{data_short, laid_read, laid_refused, opaque_read, opaque_taken}
 use Rattle.zone_wire.proofs.answers.RawRr.push_data.Goals as goal
 

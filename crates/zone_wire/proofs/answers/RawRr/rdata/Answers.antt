@@ -1,6 +1,4 @@
-use Rattle.std.proofs.Common.{ap}
-use Rattle.zone_rdata.specs.Record.{Data}
-use Rattle.zone_rdata.proofs.Failings.{if_fault_passed}
+use Rattle.zone_wire.proofs.Common.{Data, ap, if_fault_passed}
 use Rattle.zone_wire.proofs.RecordReading.{data_is_refused, data_is_read}
 use Rattle.zone_wire.proofs.answers.RawRr.rdata.Goals as goal
 

@@ -1,6 +1,4 @@
-use Rattle.std.proofs.Common.{rules, Ok}
-use Rattle.zone_rdata.proofs.Failings.{if_fault_passed, fault_answered}
-use Rattle.zone_wire.specs.Transfer.{AnswerStates}
+use Rattle.zone_wire.proofs.Common.{AnswerStates, Ok, fault_answered, if_fault_passed, rules}
 use Rattle.zone_wire.proofs.RecordReading.{only_failing, only_answer, own_data}
 use Rattle.zone_wire.proofs.answers.RawRr.read.Goals as goal
 

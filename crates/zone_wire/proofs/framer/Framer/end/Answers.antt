@@ -1,10 +1,4 @@
-use Rattle.std.proofs.Common.{◌≡◌, ◌≢◌, List, [], ◌∷◌, ℕ, Some, vec_len, length, true, refl, ap, sym, ◌∙◌, arith}
-use Rattle.std.specs.Prelude.{◌==◌}
-use Rattle.std.proofs.lemmas.Bool.{cond-true, cond-false, eq-eqb, eqb-true}
-use Rattle.zone_rdata.specs.declared.fault.Fault.TheVariants.{ShortFrame}
-use Rattle.zone_rdata.specs.declared.fault.Place.TheVariants.{Message}
-use Rattle.zone_rdata.specs.declared.record.Placed.{Placed}
-use Rattle.zone_wire.specs.Stream.{end_fault}
+use Rattle.zone_wire.proofs.Common.{List, Message, Placed, ShortFrame, Some, [], ap, arith, cond-false, cond-true, end_fault, eq-eqb, eqb-true, length, refl, sym, true, vec_len, ℕ, ◌==◌, ◌∙◌, ◌∷◌, ◌≡◌, ◌≢◌}
 use Rattle.zone_wire.proofs.Feeding.{empty_of}
 use Rattle.zone_wire.proofs.framer.Framer.end.Goals as goal
 

@@ -1,7 +1,4 @@
-use Rattle.std.proofs.Common.{◌≡◌, ◌++◌, None, true, false, ap, sym, ◌∙◌, subst, arith, append_assoc, length}
-use Rattle.std.specs.Prelude.{is_some}
-use Rattle.zone_rdata.proofs.Bytes.{Bytes, back_bytes}
-use Rattle.zone_wire.specs.Machine.Feeding.{Follow}
+use Rattle.zone_wire.proofs.Common.{Bytes, Follow, None, ap, append_assoc, arith, back_bytes, false, is_some, length, subst, sym, true, ◌++◌, ◌∙◌, ◌≡◌}
 use Rattle.zone_wire.proofs.Feeding.{FedSoFar, after_fault, fed_more, rest_taken}
 use Rattle.zone_wire.proofs.Progress.{none_of}
 use Rattle.zone_wire.proofs.framer.Framer.feed.Goals as goal

@@ -1,4 +1,4 @@
-use Rattle.std.proofs.Common.{◌≡◌, [], length}
+use Rattle.zone_wire.proofs.Common.{[], length, ◌≡◌}
 use Rattle.zone_wire.proofs.Feeding.{FedSoFar}
 use Rattle.zone_wire.proofs.framer.Framer.feed.Given as goal
 

@@ -1,6 +1,4 @@
-use Rattle.std.proofs.Common.{◌≡◌, ◌++◌, true, false, ap, sym, subst}
-use Rattle.std.specs.Prelude.{is_some}
-use Rattle.zone_wire.specs.Stream.{StreamReads}
+use Rattle.zone_wire.proofs.Common.{StreamReads, ap, false, is_some, subst, sym, true, ◌++◌, ◌≡◌}
 use Rattle.zone_wire.proofs.Feeding.{finishes, ends_after_fault}
 use Rattle.zone_wire.proofs.Progress.{none_of}
 use Rattle.zone_wire.proofs.framer.Framer.finish.Goals as goal

@@ -1,7 +1,4 @@
-use Rattle.std.proofs.Common.{◌≡◌, ◌++◌, vec_len, [], take, ap, sym, ◌∙◌, subst, arith}
-use Rattle.std.proofs.lemmas.Bool.{eqb-true}
-use Rattle.zone_wire.specs.Machine.Feeding.{Follow, IsCut}
-use Rattle.zone_wire.specs.Transfer.{frame}
+use Rattle.zone_wire.proofs.Common.{Follow, IsCut, [], ap, arith, eqb-true, frame, subst, sym, take, vec_len, ◌++◌, ◌∙◌, ◌≡◌}
 use Rattle.zone_wire.proofs.Feeding.{all_taken, empty_of, inside_frame, one_frame}
 use Rattle.zone_wire.proofs.Walking.{take_each}
 use Rattle.zone_wire.proofs.framer.Framer.take_front.Goals as goal

@@ -1,11 +1,4 @@
-use Rattle.std.proofs.Common.{◌≡◌, refl, inl, inr}
-use Rattle.std.specs.Prelude.{Result, Ok, Err}
-use Rattle.zone_name.specs.Common.{EitherIs}
-use Rattle.zone_rdata.specs.Record.{Record}
-use Rattle.zone_rdata.specs.declared.fault.Fault.{Fault}
-use Rattle.zone_wire.specs.AnswerFault.{OwnFault}
-use Rattle.zone_wire.specs.Machine.Answers.{own_record}
-use Rattle.zone_wire.specs.Transfer.{AnswerStates}
+use Rattle.zone_wire.proofs.Common.{AnswerStates, EitherIs, Err, Fault, Ok, OwnFault, Record, Result, inl, inr, own_record, refl, ◌≡◌}
 use Rattle.zone_wire.proofs.AnswerFaults.{own_faults, own_states}
 use Rattle.zone_wire.proofs.OneFault.{own_one, own_not_both}
 use Rattle.zone_wire.proofs.Transfers.{record_unique}

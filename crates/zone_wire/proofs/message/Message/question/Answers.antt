@@ -1,8 +1,4 @@
-use Rattle.std.proofs.Common.{◌≡◌, ap, arith}
-use Rattle.std.specs.Prelude.{map}
-use Rattle.zone_wire.specs.Message.{u16_at}
-use Rattle.zone_wire.specs.Name.{found_by}
-use Rattle.zone_wire.specs.View.{asked}
+use Rattle.zone_wire.proofs.Common.{ap, arith, asked, found_by, map, u16_at, ◌≡◌}
 use Rattle.zone_wire.proofs.Pending.{has_one_question, question_of_name}
 use Rattle.zone_wire.proofs.message.Message.question.Goals as goal
 

@@ -1,6 +1,4 @@
-use Rattle.std.proofs.Common.{arith}
-use Rattle.std.proofs.lemmas.Result.{err_from_is_err_and}
-use Rattle.zone_rdata.specs.Cause.{fault_for}
+use Rattle.zone_wire.proofs.Common.{arith, err_from_is_err_and, fault_for}
 use Rattle.zone_wire.proofs.MessageFaults.{sections_fault}
 use Rattle.zone_wire.proofs.Sectioning.{sections_read}
 use Rattle.zone_wire.proofs.message.Message.read.Goals as goal

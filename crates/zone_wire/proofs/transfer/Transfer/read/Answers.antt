@@ -1,5 +1,4 @@
-use Rattle.std.proofs.Common.{◌+◌, refl}
-use Rattle.std.proofs.lemmas.Result.{on_ok_weaker}
+use Rattle.zone_wire.proofs.Common.{on_ok_weaker, refl, ◌+◌}
 use Rattle.zone_wire.proofs.Progress.{stopped_next}
 use Rattle.zone_wire.proofs.transfer.Transfer.read.Goals as goal
 

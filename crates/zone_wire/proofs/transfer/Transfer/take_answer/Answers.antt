@@ -1,6 +1,4 @@
-use Rattle.std.proofs.Common.{◌≡◌, ◌∙◌, sym, refl, inl, inr}
-use Rattle.zone_rdata.specs.Record.{IsRecord, record_with}
-use Rattle.zone_rdata.proofs.Failings.{fault_answered, if_fault_passed}
+use Rattle.zone_wire.proofs.Common.{IsRecord, fault_answered, if_fault_passed, inl, inr, record_with, refl, sym, ◌∙◌, ◌≡◌}
 use Rattle.zone_wire.proofs.Progress.{other_gains, stands_after, closed_after}
 use Rattle.zone_wire.proofs.RecordReading.{own_data, stated}
 use Rattle.zone_wire.proofs.transfer.Transfer.take_answer.Goals as goal

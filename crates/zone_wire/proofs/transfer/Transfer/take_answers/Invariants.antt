@@ -1,4 +1,4 @@
-use Rattle.std.proofs.Common.{length}
+use Rattle.zone_wire.proofs.Common.{length}
 use Rattle.zone_wire.proofs.Progress.{Pending}
 use Rattle.zone_wire.proofs.transfer.Transfer.take_answers.Given as goal
 

@@ -1,9 +1,4 @@
-use Rattle.std.proofs.Common.{◌≡◌, ◌+◌, Option, Some, true, ap, sym, ◌∙◌, subst, refl}
-use Rattle.std.specs.Prelude.{MatchOption, ⊤}
-use Rattle.zone_wire.specs.Answers.{ZoneAsked}
-use Rattle.zone_wire.specs.Machine.Answers.{agrees}
-use Rattle.zone_wire.specs.declared.message.Question.{Question}
-use Rattle.zone_wire.specs.Machine.Transferring.{other_id, other_zone, zone_held}
+use Rattle.zone_wire.proofs.Common.{MatchOption, Option, Question, Some, ZoneAsked, agrees, ap, other_id, other_zone, refl, subst, sym, true, zone_held, ⊤, ◌+◌, ◌∙◌, ◌≡◌}
 use Rattle.zone_wire.proofs.AnswerFaults.{agrees_by, agrees_true}
 use Rattle.zone_wire.proofs.Progress.{has_first_id, no_first_id, asked_one, asks_other, takes_one, takes_none}
 use Rattle.zone_wire.proofs.transfer.Transfer.take_head.Goals as goal

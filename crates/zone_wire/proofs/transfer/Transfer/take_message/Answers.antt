@@ -1,7 +1,4 @@
-use Rattle.std.proofs.Common.{◌++◌, subst}
-use Rattle.zone_rdata.specs.Cause.{fault_for}
-use Rattle.zone_wire.specs.Machine.Transferring.{TakesEach}
-use Rattle.zone_wire.specs.Stream.{asked_in, placed_in}
+use Rattle.zone_wire.proofs.Common.{TakesEach, asked_in, fault_for, placed_in, subst, ◌++◌}
 use Rattle.zone_wire.proofs.Progress.{stops_in_structure, stops_in_head, message_taken}
 use Rattle.zone_wire.proofs.transfer.Transfer.take_message.Goals as goal
 

@@ -1,6 +1,4 @@
-use Rattle.std.proofs.Common.{◌≡◌, ◌++◌, ◌∷◌, [], ap, sym, ◌∙◌, refl, Some}
-use Rattle.zone_rdata.specs.Record.{record_with}
-use Rattle.zone_wire.specs.Machine.Transferring.{zone_held, zone_with}
+use Rattle.zone_wire.proofs.Common.{Some, [], ap, record_with, refl, sym, zone_held, zone_with, ◌++◌, ◌∙◌, ◌∷◌, ◌≡◌}
 use Rattle.zone_wire.proofs.Progress.{here_at, closing_gains, opening_gains, other_gains}
 use Rattle.zone_wire.proofs.transfer.Transfer.take_record.Goals as goal
 use Rattle.zone_wire.proofs.transfer.Transfer.take_record.Goals.{then-is_none+in-Ok, else-is_none+else-is_soa}

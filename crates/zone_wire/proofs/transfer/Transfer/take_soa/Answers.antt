@@ -1,5 +1,4 @@
-use Rattle.std.proofs.Common.{sym, inr}
-use Rattle.zone_rdata.specs.Cause.{fault_for}
+use Rattle.zone_wire.proofs.Common.{fault_for, inr, sym}
 use Rattle.zone_wire.proofs.AnswerFaults.{order_faults, order_stands}
 use Rattle.zone_wire.proofs.transfer.Transfer.take_soa.Goals as goal
 

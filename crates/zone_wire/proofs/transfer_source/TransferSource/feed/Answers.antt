@@ -1,5 +1,4 @@
-use Rattle.std.proofs.Common.{◌++◌, ap, sym, ◌∙◌, subst, arith, length-append}
-use Rattle.zone_wire.specs.TransferSource.{StandsForStream}
+use Rattle.zone_wire.proofs.Common.{StandsForStream, ap, arith, length-append, subst, sym, ◌++◌, ◌∙◌}
 use Rattle.zone_wire.proofs.Feeding.{stands_follow, follow_stands}
 use Rattle.zone_wire.proofs.transfer_source.TransferSource.feed.Goals as goal
 

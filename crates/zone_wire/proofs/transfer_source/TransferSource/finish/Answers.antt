@@ -1,5 +1,4 @@
-use Rattle.std.proofs.Common.{ap, sym, ◌∙◌, subst}
-use Rattle.zone_wire.specs.TransferSource.{StandsForStream}
+use Rattle.zone_wire.proofs.Common.{StandsForStream, ap, subst, sym, ◌∙◌}
 use Rattle.zone_wire.proofs.Feeding.{stands_follow, finished_stands}
 use Rattle.zone_wire.proofs.transfer_source.TransferSource.finish.Goals as goal
 

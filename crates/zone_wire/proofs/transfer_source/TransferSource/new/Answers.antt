@@ -1,5 +1,4 @@
-use Rattle.std.proofs.Common.{[], refl}
-use Rattle.zone_rdata.specs.declared.fed.FedStatus.TheVariants.{Open}
+use Rattle.zone_wire.proofs.Common.{Open, [], refl}
 use Rattle.zone_wire.proofs.Feeding.{follow_stands}
 use Rattle.zone_wire.proofs.transfer_source.TransferSource.new.Goals as goal
 

@@ -1,0 +1,84 @@
+-- The names that proofs here cite most: of definitions, and of std.
+pub use Rattle.std.proofs.Common.{Bool, Bor, Err, IfSome, List, MatchOption, None, Ok, Option, Result, Some, [], add-one, add-zero, add_assoc, ap, append_assoc, arith, bytes_eq, codes, cond, drop, drop-cons, drop_of_length-le, false, get_or, if◌then◌else◌, inl, inr, is_ok, length, length-append, lit<, lit≤, map, min, nat_eq, nat_le, refl, rules, subst, suc, sym, take, true, zero, zero-add, ℕ, ◌&&◌, ◌++◌, ◌+◌, ◌-◌, ◌<◌, ◌==◌, ◌^◌, ◌||◌, ◌↔◌, ◌∙◌, ◌∷◌, ◌≡◌, ◌≢◌, ◌≤◌, ◌⊎◌}
+pub use Rattle.std.proofs.Math.Seq.{drop-append_seam, take-append_seam, take-length}
+pub use Rattle.std.proofs.lemmas.Bool.{agree_below_at, and_cases, and_parts, both_ways, cases_Bool, cases_eq, cases_lt, cond_both, eqb-false, eqb-true, leb-false, leb-true, ne_eqb, not-false, not-true, or_cases, or_parts}
+pub use Rattle.std.proofs.lemmas.Grind.{common_steps}
+pub use Rattle.std.proofs.lemmas.List.{append-nil, append_cancel_left, drop-drop, drop-map, flat_map_more, length-drop, length-map, length-take, map-append, reverse-append, take-append-drop, take-map}
+pub use Rattle.std.proofs.lemmas.List.Concat.{flat_map-append}
+pub use Rattle.std.proofs.lemmas.List.Elements.{All-more, recursion_from_All}
+pub use Rattle.std.proofs.lemmas.List.Sums.{sum_by-append, sum_by-cons}
+pub use Rattle.std.proofs.lemmas.Result.{err_from_is_err_and, on_ok_weaker}
+pub use Rattle.std.proofs.lemmas.Slice.Eq.{bytes_eq-Decides}
+pub use Rattle.std.specs.List.{All, AllByRecursion, count_by, flat_map, join_with_byte, list_any}
+pub use Rattle.std.specs.Option.{option_or}
+pub use Rattle.std.specs.Prelude.{IsSomeAnd, OnOk, is_some, option_and_then, reverse, unwrap_or, ⊤}
+pub use Rattle.zone_name.proofs.Pushing.{AllByRecursion-append, AllByRecursion-back, AllByRecursion-front}
+pub use Rattle.zone_name.proofs.Units.{NoUnit, UnitsAre, at_backslash, at_end, at_octet, text_of-some, unit_of_escape, units_first_are, units_first_only}
+pub use Rattle.zone_name.specs.Common.{Labels, NothingIs}
+pub use Rattle.zone_name.specs.Machine.Units.{Units}
+unfoldable pub use Rattle.zone_name.specs.Machine.Units.{units_by, units_first}
+pub use Rattle.zone_name.specs.Name.{IsName, folded_label, folded_octet, wire}
+unfoldable pub use Rattle.zone_name.specs.Name.{labels_of}
+pub use Rattle.zone_name.specs.Spelling.{IsBadEscape, IsEscape, IsUnit, SpellingFault, Spells, Written, absolute, at_origin, decimal, empty_label, escaped, is_digit, is_dot, no_octet, octet_of, plain, relative, text_of, within, written_octets, written_text}
+pub use Rattle.zone_name.specs.declared.fault.NameFault.TheVariants.{EmptyLabel}
+pub use Rattle.zone_rdata.proofs.FedSources.{stands_given, stands_none, stands_record, stands_stop}
+pub use Rattle.zone_rdata.proofs.LeftOut.{after_item, are_many, at_least, begin_with, fault_of_all, one_kept, one_left_out, state_none}
+pub use Rattle.zone_rdata.specs.DataFault.{IsDataFault}
+pub use Rattle.zone_rdata.specs.Fault.{IfFault, fault_of}
+pub use Rattle.zone_rdata.specs.FedSource.{SourceState, counted, is_finished}
+pub use Rattle.zone_rdata.specs.Item.{RawItem, raw}
+pub use Rattle.zone_rdata.specs.Machine.LeftOut.{AreShortened, IsWritten, LeavesOut}
+pub use Rattle.zone_rdata.specs.Minimum.{minimum}
+pub use Rattle.zone_rdata.specs.Number.{Group, IsDecimal, IsTime, IsTimeGroup, decimal_value, group_text}
+pub use Rattle.zone_rdata.specs.Record.{Data, IsRecord, Record}
+pub use Rattle.zone_rdata.specs.Spelling.{States, in_words}
+pub use Rattle.zone_rdata.specs.Strings.{SpellsString, is_quote, item_text}
+pub use Rattle.zone_rdata.specs.Words.{IsClass, IsClassWord, IsKind, IsKindWord, IsNumbered, IsWordFault, beyond, by_mnemonic, by_number, for_queries}
+pub use Rattle.zone_rdata.specs.declared.fault.Fault.{Fault}
+pub use Rattle.zone_rdata.specs.declared.fault.Fault.TheVariants.{BadDirective, BadEscape, BadTtl, IncludeDirective, MetaType, NoOwner, NoTtl, UnbalancedParenthesis, UnclosedQuote, UnknownDirective, UnknownType}
+pub use Rattle.zone_rdata.specs.declared.fault.Place.{Place}
+pub use Rattle.zone_rdata.specs.declared.fault.Place.TheVariants.{Line}
+pub use Rattle.zone_rdata.specs.declared.item.Item.{Item}
+pub use Rattle.zone_rdata.specs.declared.queue.PendingRecords.{PendingRecords}
+pub use Rattle.zone_rdata.specs.declared.record.Placed.{Placed}
+pub use Rattle.zone_text.specs.Breaks.{Breaks, IsBroken, MayEndBefore, closes_nothing, no_escape, no_quote, no_quoted_escape, not_closed}
+pub use Rattle.zone_text.specs.Decided.{AreTokens, FileDecides, Stays, decided, undecided}
+pub use Rattle.zone_text.specs.Entries.{Cut, Entry, and_last, cut_from, ended_entries, entries_of, entry_of, first_octet, in_front, in_front_of, item_of, numbered, open_line}
+pub use Rattle.zone_text.specs.EntryFault.{DefaultTtlFault, DirectiveFault, EntryFault, IsNameFaultAfter, KindFault, OriginFault, OwnerFault, TtlFault, WordFault, WordsFault, long, none, of_directive, of_kind, of_owner, of_rdata, of_ttl, of_words}
+pub use Rattle.zone_text.specs.ExampleEntries.{address, ns, soa, under, x}
+pub use Rattle.zone_text.specs.File.{EntriesState, FileStates, states_none, states_one}
+pub use Rattle.zone_text.specs.FileReads.{Ending, FileReads, ReadEach, broken, refused, stated, whole}
+pub use Rattle.zone_text.specs.Inherited.{HasClass, IsLastOwner, IsOrigin, IsOwner, IsTtl, SpellsAfter, class_word, default_ttl_text, latest, one_bare, or_else, origin_text, owner_text, stated_ttl, ttl_text}
+pub use Rattle.zone_text.specs.Lasting.{BreaksAtEnd, BreaksForGood, EndInLineFeed, IsCutOff, IsLostEscape, StaysBroken, after_backslash, after_digit, after_two_digits, at_line_end, closing_stays, escape_open, escape_stays, nothing_left, one_digit, quote_open, quoted_escape_open, quoted_escape_stays, too_great, two_digits}
+pub use Rattle.zone_text.specs.Line.{IsItem, StatesWhole, line_of}
+pub use Rattle.zone_text.specs.Machine.Blank.{AreBlankLines, IsBlankLine, IsComment, commented, no_lines, one_line_more}
+pub use Rattle.zone_text.specs.Machine.Cutting.{Cutting, Front, Sign, a_blank, a_closing, a_line_feed, a_quote, a_semicolon, an_opening, bare_front, cut_on, depth_past, end_front, front_by, of_item, quoted_front, sign_of, stops, takes}
+unfoldable pub use Rattle.zone_text.specs.Machine.Cutting.{before_line_feed, cut_by, cutting, from_line_feed, front_of}
+pub use Rattle.zone_text.specs.Machine.EntryReading.{DecidesEntry, DecidesFault, HasOwnerOrNone, IsReadTo, IsRecordEntry, LeavesNoRecord, SetsOrigin, SetsTtl, decides_fault, decides_none, decides_one, with_owner}
+pub use Rattle.zone_text.specs.Machine.Feeding.{Follow, IsSplitter, ReadsEntry, ReadsOctets, ScansTo, state_of}
+pub use Rattle.zone_text.specs.Machine.ItemLengths.{EndsAt, EndsBefore, ItemReaches, ends_within, stops_bare, stops_within}
+unfoldable pub use Rattle.zone_text.specs.Machine.ItemLengths.{item_len}
+pub use Rattle.zone_text.specs.Machine.Kept.{AreKept, IsShort, Keeps}
+pub use Rattle.zone_text.specs.Machine.Line.{IsFirstEntry, IsInFront, IsInside, IsQuoted, KeepsItems}
+pub use Rattle.zone_text.specs.Machine.Lower.{Choices, Lower, Once}
+pub use Rattle.zone_text.specs.Machine.Parsed.{directive_in, statement_in}
+pub use Rattle.zone_text.specs.Machine.Scan.{AreQuiet, IsOneEntry, beginning, closed, comment_step, end_fault_of, ends_number, escape_step, fed_line, further, moves, on, open_at, open_step, quoted_step, scan_on, step_in, step_of, unclosed}
+unfoldable pub use Rattle.zone_text.specs.Machine.Scan.{scan_of}
+pub use Rattle.zone_text.specs.Machine.WordValues.{AreWordsOf, HaveValues}
+pub use Rattle.zone_text.specs.Outcome.{AllState, AreOctetItems}
+pub use Rattle.zone_text.specs.ParserState.{IsOneOrNone, IsStateAfter, IsTtlOrNone}
+pub use Rattle.zone_text.specs.Records.{EntryStates, HasHead, HasTtl, HasValue, Head, IsLastMinimum, StatesData, StatesMinimum, StatesNothing, head_of}
+pub use Rattle.zone_text.specs.Statements.{Parts, Statement, Word, are_digits, begins_with_digit, class, class_among, directive, includes, is_class_word, no_items, owned, parts_after, parts_in, parts_of, sets_origin, sets_ttl, statement_by, statement_of, ttl, ttl_among, unknown, unless_stated, unowned, word_after}
+pub use Rattle.zone_text.specs.TextSource.{AreUnfinished, FileKept, FileLeaves, StandsForFile}
+pub use Rattle.zone_text.specs.Tokens.{AllFollow, Cuts, IsToken, MayFollow, Token, bare, blank, closing, comment, depth_after, ends_item, is_blank, line_feed, opening, quoted, text, token_text}
+pub use Rattle.zone_text.specs.declared.ended.EndedEntries.{EndedEntries}
+pub use Rattle.zone_text.specs.declared.parser_state.ParserState.{ParserState}
+pub use Rattle.zone_text.specs.declared.scan.Mode.{Mode}
+pub use Rattle.zone_text.specs.declared.scan.Mode.TheVariants.{Comment, Escaped, Open, Quoted, QuotedEscaped}
+pub use Rattle.zone_text.specs.declared.scan.ScanState.{ScanState}
+pub use Rattle.zone_text.specs.declared.scan.Scanned.{Scanned}
+pub use Rattle.zone_text.specs.declared.scan.Step.{Step}
+pub use Rattle.zone_text.specs.declared.scan.Step.TheVariants.{ClosesNothing, Ends, LostEscape, On}
+pub use Rattle.zone_text.specs.declared.splitter.EntrySplitter.{EntrySplitter}
+pub use Rattle.zone_text.specs.declared.table.TheConstants.{MOVES_OPEN, STOPS_BARE}
+pub use Rattle.zone_text.specs.declared.words.Words.{Words}
