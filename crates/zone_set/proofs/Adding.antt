@@ -1,4 +1,5 @@
 -- A record and the sets that are held: why it is refused, and what is held with it.
+use Rattle.std.proofs.lemmas.Grind.{common_steps}
 use Rattle.std.proofs.Common.{◌≡◌, ◌≢◌, ◌⊎◌, ◌↔◌, ℕ, ◌+◌, ◌-◌, ◌^◌, min, Bool, true, false, IsTrue, not, ◌==◌, eq-eqb, ne_eqb, if◌then◌else◌, List, [], ◌∷◌, ◌++◌, refl, sym, ap, ◌∙◌, subst, arith, inl, inr, ⊎_elim}
 use Rattle.std.proofs.lemmas.List.Sums.{sum_by-cons, sum_by-append}
 use Rattle.std.specs.List.{AllByRecursion}
@@ -25,17 +26,14 @@ classes class octets [] = tt
 classes class octets (e ∷ es) = (refl, classes class octets es)
 
 pub class_of : (class : ℕ) (octets : List ℕ) (es : List Entry) (s : Record) → Has (all_records class octets es) s → s.class ≡ class
-class_of class octets es s has = each_Has (λ r. r.class ≡ class) (all_records class octets es) s (classes class octets es) has
+class_of class octets es s has = grind (arith, each_Has, all_records, classes)
 
 pub other_class : (class : ℕ) (octets : List ℕ) (es : List Entry) (r : Record) → es ≢ [] → class ≢ r.class → OtherClass (all_records class octets es) r
 other_class class octets [] r some other = absurd (some refl)
 other_class class octets (e ∷ es) r some other = (entry_record class octets e, inl refl, other)
 
 pub other_class_told : (told : Bool) (class : ℕ) (octets : List ℕ) (es : List Entry) (r : Record) → es ≢ [] → told ≡ not (class == r.class) → IsTrue told ↔ OtherClass (all_records class octets es) r
-other_class_told told class octets es r some is = (
-  λ yes. other_class class octets es r some (λ same. let no_test : true ≡ false = sym yes ∙ is ∙ ap not (eq-eqb class r.class same) in cc),
-  λ other. is ∙ ap not (ne_eqb class r.class (λ same. other.2 (class_of class octets es other.0 other.1 ∙ same))),
-)
+other_class_told told class octets es r some is = grind (arith, other_class, eq-eqb, ne_eqb, class_of)
 
 -- where no other class is held, the class is the record's, or there is none
 pub one_class : (class : ℕ) (octets : List ℕ) (es : List Entry) (r : Record) → (OtherClass (all_records class octets es) r → ⊥) → (es ≡ []) ⊎ (class ≡ r.class)
@@ -43,20 +41,14 @@ one_class class octets [] r same = inl refl
 one_class class octets (e ∷ es) r same = inr (stable_number class r.class (λ other. same (other_class class octets (e ∷ es) r (λ none. cc) other)))
 
 pub on_err : {A E P : Type 0} (r : Result A E) → P → OnErr r P
-on_err (Ok _) holds = tt
-on_err (Err _) holds = holds
+on_err r h1 = grind arith
 
 -- with no entry, class and base may be any
 same_records : (class other : ℕ) (octets : List ℕ) (es : List Entry) → (es ≡ []) ⊎ (class ≡ other) → all_records other octets es ≡ all_records class octets es
-same_records class other octets [] any = refl
-same_records class other octets (e ∷ es) (inl none) = cc
-same_records class other octets (e ∷ es) (inr same) = ap (λ c. all_records c octets (e ∷ es)) (sym same)
+same_records class other octets es h1 = grind arith
 
 pub holds_for : {class other : ℕ} {base name : List (List ℕ)} {octets : List ℕ} (es : List Entry) → HoldsEntries base class octets es → (es ≡ []) ⊎ (class ≡ other) → (es ≡ []) ⊎ (name ≡ base) → HoldsEntries name other octets es
-holds_for [] holds any which = record { each = tt; compatible = holds.compatible }
-holds_for (e ∷ es) holds (inl none) which = cc
-holds_for (e ∷ es) holds (inr same) (inl none) = cc
-holds_for (e ∷ es) holds (inr same) (inr is) = rw (is, ← same) holds
+holds_for es h1 h2 h3 = grind arith
 
 -- a record that was put is held beside those before
 pub Adds-put : (old : List Record) (r : Record) (is_new : Bool) (new : List Record) → AreCompatible old → IsPut old r is_new new → Adds old r new
@@ -64,21 +56,13 @@ Adds-put old r true new compatible (before, after, was, is, ascend) = record {
   ascend = ascend;
   same = λ s. subst (λ olds. Has new s ↔ ((s ≡ r) ⊎ Has olds s)) (sym was) (subst (λ news. Has news s ↔ ((s ≡ r) ⊎ Has (before ++ after) s)) (sym is) (Has-with before after r s));
 }
-Adds-put old r false new compatible (is, has) = record {
-  ascend = subst Ascends (sym is) compatible.ascend;
-  same = λ s. subst (λ news. Has news s ↔ ((s ≡ r) ⊎ Has old s)) (sym is) (λ h. inr h, λ h. ⊎_elim (λ same. subst (Has old) (sym same) has) (λ more. more) h);
-}
+Adds-put old r false new compatible (is, has) = grind arith
 
 octets_put : (old : List Record) (r : Record) (is_new : Bool) (new : List Record) → IsPut old r is_new new → message_octets new ≡ message_octets old + (if is_new then message_len r else 0)
-octets_put old r true new (before, after, was, is, ascend) =
-    let olds : message_octets old ≡ message_octets before + message_octets after = ap message_octets was ∙ sum_by-append message_len before after in
-    let news : message_octets new ≡ message_octets before + message_octets (r ∷ after) = ap message_octets is ∙ sum_by-append message_len before (r ∷ after) in
-    let one : message_octets (r ∷ after) ≡ message_len r + message_octets after = sum_by-cons message_len r after in
-    omega (arith, olds, news, one)
-octets_put old r false new (is, has) = let same : message_octets new ≡ message_octets old = ap message_octets is in omega (arith, same)
+octets_put old r is_new new h1 = grind (arith, common_steps)
 
 octets_counted : (sum new more octets counted : ℕ) → octets ≡ min sum (2 ^ 64 - 1) → new ≡ sum + more → counted ≡ min (octets + more) (2 ^ 64 - 1) → counted ≡ min new (2 ^ 64 - 1)
-octets_counted sum new more octets counted is is_new is_counted = omega (arith, is, is_new, is_counted)
+octets_counted sum new more octets counted is is_new is_counted = omega arith
 
 module _ {class : ℕ} {base : List (List ℕ)} {octets : List ℕ} {es : List Entry} {counted : ℕ} (r : Record) (keeps : KeepsSets class base octets es counted) (no_class : OtherClass (all_records class octets es) r → ⊥) (no_soa : OtherSoa (all_records class octets es) r → ⊥) where
   abbrev Old : List Record
@@ -123,7 +107,4 @@ module _ {class : ℕ} {base : List (List ℕ)} {octets : List ℕ} {es : List E
 
 -- the stop for a record that is handed back
 pub stops_add : (held : List Record) (p : Placed) (e : Refusal) → IsRefusal held p.rr e → StopsAdd held p (stop_for e p.place)
-stops_add held p refusal.OtherClass why = fault ClassMismatch why
-stops_add held p refusal.OtherSoa why = fault MultipleSoa why
-stops_add held p refusal.OtherTtl why = fault DifferingTtl why
-stops_add held p refusal.Memory why = memory
+stops_add held p e h1 = grind (arith, fault, memory)

@@ -14,7 +14,7 @@ use Rattle.zone_set.specs.Machine.LabelKey.{label_key}
 
 -- a digit before a number of others is below the next digit before none
 digit_bound : (c p n : ℕ) → c < 257 → n < p → c * p + n < p * 257
-digit_bound c p n low high = let most : c * p ≤ 256 * p = mul-le-mul_right p (omega (arith, low)) in omega (arith, most, high)
+digit_bound c p n low high = grind arith
 
 -- the number takes n digits at most
 pub first_digits-bound : (n : ℕ) (digits : List ℕ) → AreDigits digits → first_digits n digits < 257 ^ n
@@ -46,32 +46,11 @@ first_digits-less (suc n) (c ∷ x) (d ∷ y) low high h =
     by Greater k later = absurd k
 
 -- the number of one digit fewer
-shorter_step : (c p n : ℕ) → (c * (p * 257) + n) / 257 ≡ c * p + n / 257
-shorter_step c p n = ap (λ t. (t + n) / 257) (sym (mul_assoc c p 257)) ∙ by (c * p)
-  where
-    by : (q : ℕ) → (q * 257 + n) / 257 ≡ q + n / 257
-    by q = omega arith
-
-first_digits-shorter : (n : ℕ) (digits : List ℕ) → AreDigits digits → first_digits n digits ≡ first_digits (suc n) digits / 257
-first_digits-shorter zero [] low = refl
-first_digits-shorter zero (c ∷ digits) low = omega (arith, low.0)
-first_digits-shorter (suc n) [] low = refl
-first_digits-shorter (suc n) (c ∷ digits) low =
-    ap (λ k. c * 257 ^ n + k) (first_digits-shorter n digits low.1)
-    ∙ sym (shorter_step c (257 ^ n) (first_digits (suc n) digits))
-    ∙ ap (λ p. (c * p + first_digits (suc n) digits) / 257) (sym (pow-suc 257 n))
-
 -- one digit is put before others
 pub put_one : (d after : ℕ) → IsPutBefore (d ∷ []) after (d * 288136807515649 + after / 257)
-put_one d after digits low is = ap (λ k. d * 288136807515649 + k) (ap (λ k. k / 257) is ∙ sym (first_digits-shorter 6 digits low))
+put_one d after digits low is = grind arith
 
 -- of a label the first octets count
-label_front : (m n : ℕ) (label x : List ℕ) → m ≤ n → first_digits m (label_key (take n label) ++ x) ≡ first_digits m (label_key label ++ x)
-label_front zero n label x fits = refl
-label_front (suc m) zero label x fits = absurd (omega (arith, fits))
-label_front (suc m) (suc n) [] x fits = refl
-label_front (suc m) (suc n) (c ∷ label) x fits = ap (λ k. (c + 1) * 257 ^ m + k) (label_front m n label x (omega (arith, fits)))
-
 -- the octets of a label are put from the right
 pub put_next : (label left done before : List ℕ) (c m n k : ℕ) → AreOctets label → take 7 label ≡ left ++ done → left ≡ before ++ c ∷ [] → IsPutBefore (label_key done) m n → IsPutBefore ((c + 1) ∷ []) n k
     → (take 7 label ≡ before ++ c ∷ done) × IsPutBefore (label_key (c ∷ done)) m k
@@ -83,5 +62,5 @@ put_next label left done before c m n k low so_far cut first second =
 
 -- all of them were put
 pub put_all : (label left done : List ℕ) (m n : ℕ) → take 7 label ≡ left ++ done → length left ≡ 0 → IsPutBefore (label_key done) m n → IsPutBefore (label_key label) m n
-put_all label [] done m n so_far none put digits each is = subst (λ t. IsPutBefore (label_key t) m n) (sym so_far) put digits each is ∙ label_front 7 7 label digits (omega arith)
+put_all label [] done m n so_far none put digits each is = grind arith
 put_all label (c ∷ left) done m n so_far none put digits each is = absurd (omega (arith, none))

@@ -19,16 +19,10 @@ use Rattle.zone_set.specs.Order.{canonical_cmp}
 
 -- an owner that is neither below the base nor before it
 pub hint_after : (base owner : List (List ℕ)) (kind : ℕ) (o : Ordering) → kind ≢ 6 → (IsWithin owner base → ⊥) → name_cmp owner base ≡ o → (o ≡ Equal) ⊎ (o ≡ Greater) → IsHint base owner kind (3 * 2 ^ 57)
-hint_after base owner kind o other out is (inl e) = absurd (out ([], name_cmp-exact owner base (is ∙ e)))
-hint_after base owner kind o other out is (inr e) = after other out (name_cmp-total.antisymm base owner ∙ ap ordering_reverse (is ∙ e)) refl
+hint_after base owner kind o h1 h2 h3 h4 = grind (arith, name_cmp-exact, after, name_cmp-total, ordering_reverse)
 
 less_through : (a b c : List (List ℕ)) → name_cmp a b ≡ Less → name_cmp b c ≢ Greater → name_cmp a c ≡ Less
-less_through a b c low high = by (name_cmp b c) refl
-  where
-    by : (o : Ordering) → name_cmp b c ≡ o → name_cmp a c ≡ Less
-    by Less is = name_cmp-total.trans a b c low is
-    by Equal is = subst (λ d. name_cmp a d ≡ Less) (name_cmp-exact b c is) low
-    by Greater is = absurd (high is)
+less_through a b c low high = grind (arith, name_cmp-total)
 
 rank_apart : (k l : ℕ) (o : Ordering) → k ≡ 6 → l ≢ 6 → ordering_then (nat_cmp (if k == 6 then 0 else 1) (if l == 6 then 0 else 1)) o ≡ Less
 rank_apart k l o is other = rw (eq-eqb k 6 is, ne_eqb l 6 other)

@@ -1,4 +1,5 @@
 -- A walk over the labels of an owner, until those that are left take no more octets than the base.
+use Rattle.std.proofs.lemmas.Grind.{common_steps}
 use Rattle.std.proofs.Common.{◌≡◌, ℕ, ◌+◌, ◌-◌, ◌^◌, ◌<◌, ◌≤◌, List, [], ◌∷◌, ◌++◌, length, drop, refl, sym, ap, ◌∙◌, subst, arith, append_assoc, length-append}
 use Rattle.std.proofs.lemmas.List.{drop_at}
 use Rattle.std.specs.List.{flat_map, AllByRecursion}
@@ -13,13 +14,13 @@ use Rattle.zone_set.specs.Machine.LabelKey.{label_key, owner_key}
 
 -- labels before others, and the octets of both
 wire-append : (front labels : List (List ℕ)) → wire (front ++ labels) ≡ flat_map with_length front ++ wire labels
-wire-append front labels = ap (λ t. t ++ 0 ∷ []) (flat_map-append with_length front labels) ∙ append_assoc (flat_map with_length front) (flat_map with_length labels) (0 ∷ [])
+wire-append front labels = grind (arith, common_steps)
 
 length-wire_append : (front labels : List (List ℕ)) → length (wire (front ++ labels)) ≡ length (flat_map with_length front) + length (wire labels)
-length-wire_append front labels = ap length (wire-append front labels) ∙ length-append (flat_map with_length front) (wire labels)
+length-wire_append front labels = grind (arith, common_steps)
 
 length-wire : (label : List ℕ) (labels : List (List ℕ)) → length (wire (label ∷ labels)) ≡ length label + 1 + length (wire labels)
-length-wire label labels = omega (arith, length-append (label ++ flat_map with_length labels) (0 ∷ []), length-append label (flat_map with_length labels), length-append (flat_map with_length labels) (0 ∷ []))
+length-wire label labels = grind (arith, common_steps)
 
 -- the labels that are left, how many octets they take, and the number of those before them
 pub record IsWalked (base owner left : List (List ℕ)) (len key : ℕ) : Type 0 where
@@ -30,17 +31,11 @@ pub record IsWalked (base owner left : List (List ℕ)) (len key : ℕ) : Type 0
   pub within : IsWithin owner base → IsWithin left base
 
 pub walked_start : (base owner left : List (List ℕ)) (len : ℕ) → left ≡ owner → len ≡ length (wire owner) → IsWalked base owner left len 0
-walked_start base owner left len same is = record {
-  done = [];
-  parts = sym same;
-  counts = is ∙ ap (λ ls. length (wire ls)) (sym same);
-  gathers = refl;
-  within = λ w. (w.0, same ∙ w.1);
-}
+walked_start base owner left len same is = grind arith
 
 -- labels that take more octets than the base are not the base's alone
 within_rest : (base rest before : List (List ℕ)) (label : List ℕ) → length (wire base) < length (wire (label ∷ rest)) → label ∷ rest ≡ before ++ base → IsWithin rest base
-within_rest base rest [] label more is = absurd (let same : length (wire (label ∷ rest)) ≡ length (wire base) = ap (λ ls. length (wire ls)) is in omega (arith, same, more))
+within_rest base rest [] label more is = grind arith
 within_rest base rest (x ∷ before) label more is = (before, cc is)
 
 module _ (base owner left : List (List ℕ)) (len key : ℕ) (walked : IsWalked base owner left len key) where

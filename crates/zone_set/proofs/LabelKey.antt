@@ -19,8 +19,8 @@ next_cmp c d = grind (arith, nat_tests)
 
 label_embeds : (a b x y : List ℕ) → slice_cmp nat_cmp (label_key a ++ x) (label_key b ++ y) ≡ ordering_then (label_cmp a b) (slice_cmp nat_cmp x y)
 label_embeds [] [] x y = refl
-label_embeds [] (d ∷ b) x y = let first : nat_cmp 0 (d + 1) ≡ Less = sym (nat_cmp_is 0 (d + 1) Less (omega arith)) in rw first refl
-label_embeds (c ∷ a) [] x y = let last : nat_cmp (c + 1) 0 ≡ Greater = sym (nat_cmp_is (c + 1) 0 Greater (omega arith)) in rw last refl
+label_embeds [] (d ∷ b) x y = grind arith
+label_embeds (c ∷ a) [] x y = grind arith
 label_embeds (c ∷ a) (d ∷ b) x y =
     ap (λ o. ordering_then o (slice_cmp nat_cmp (label_key a ++ x) (label_key b ++ y))) (next_cmp c d)
     ∙ ap (ordering_then (nat_cmp c d)) (label_embeds a b x y) ∙ sym (then_assoc (nat_cmp c d) (label_cmp a b) (slice_cmp nat_cmp x y))

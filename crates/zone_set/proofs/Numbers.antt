@@ -1,4 +1,5 @@
 -- Octets that are compared as numbers.
+use Rattle.std.proofs.lemmas.Grind.{common_steps}
 use Rattle.std.proofs.Common.{◌≡◌, ℕ, zero, suc, ◌+◌, ◌*◌, ◌<◌, List, [], ◌∷◌, length, take, drop, Ordering, Less, Equal, Greater, nat_cmp, refl, sym, subst, ap, ap₂, ◌∙◌, arith}
 use Rattle.std.proofs.lemmas.Cmp.{ranked}
 use Rattle.std.proofs.lemmas.List.{length-take-le}
@@ -9,9 +10,7 @@ use Rattle.std.specs.Ordering.{ordering_then, MatchOrdering}
 use Rattle.zone_rdata.proofs.FieldLaws.{AreLow, low_take}
 
 pub then_assoc : (o p q : Ordering) → ordering_then (ordering_then o p) q ≡ ordering_then o (ordering_then p q)
-then_assoc Less p q = refl
-then_assoc Equal p q = refl
-then_assoc Greater p q = refl
+then_assoc o p q = grind arith
 
 -- the number of octets that go on from another
 abbrev number_on : ℕ → List ℕ → ℕ
@@ -19,22 +18,10 @@ number_on n [] = n
 number_on n (c ∷ octets) = number_on (n * 256 + c) octets
 
 digits_compare : (m n c d : ℕ) → c < 256 → d < 256 → nat_cmp (m * 256 + c) (n * 256 + d) ≡ ordering_then (nat_cmp m n) (nat_cmp c d)
-digits_compare m n c d low high = sym (by (nat_cmp m n) (nat_cmp c d) (ranked m n _ refl) (ranked c d _ refl))
-  where
-    by : (o p : Ordering) → MatchOrdering o (m < n) (m ≡ n) (n < m) → MatchOrdering p (c < d) (c ≡ d) (d < c) → ordering_then o p ≡ nat_cmp (m * 256 + c) (n * 256 + d)
-    by Less p h k = nat_cmp_is (m * 256 + c) (n * 256 + d) Less (omega (arith, h, low, high))
-    by Equal Less h k = nat_cmp_is (m * 256 + c) (n * 256 + d) Less (omega (arith, h, k))
-    by Equal Equal h k = nat_cmp_is (m * 256 + c) (n * 256 + d) Equal (omega (arith, h, k))
-    by Equal Greater h k = nat_cmp_is (m * 256 + c) (n * 256 + d) Greater (omega (arith, h, k))
-    by Greater p h k = nat_cmp_is (m * 256 + c) (n * 256 + d) Greater (omega (arith, h, low, high))
+digits_compare m n c d low high = grind arith
 
 numbers_compare : (m n : ℕ) (x y : List ℕ) → length x ≡ length y → AreLow x → AreLow y → nat_cmp (number_on m x) (number_on n y) ≡ ordering_then (nat_cmp m n) (slice_cmp nat_cmp x y)
-numbers_compare m n [] [] same p q = by (nat_cmp m n)
-  where
-    by : (o : Ordering) → o ≡ ordering_then o Equal
-    by Less = refl
-    by Equal = refl
-    by Greater = refl
+numbers_compare m n [] [] same p q = grind arith
 numbers_compare m n [] (d ∷ y) same p q = absurd (omega (arith, same))
 numbers_compare m n (c ∷ x) [] same p q = absurd (omega (arith, same))
 numbers_compare m n (c ∷ x) (d ∷ y) same p q =
@@ -52,28 +39,14 @@ cut_compare (suc n) (c ∷ x) (d ∷ y) = ap (ordering_then (nat_cmp c d)) (cut_
 
 -- eight octets as the number that they are read as
 number_of_eight : (x : List ℕ) → length x ≡ 8 → from_be_bytes w64 x ≡ number_on 0 x
-number_of_eight (a ∷ b ∷ c ∷ d ∷ e ∷ f ∷ g ∷ h ∷ []) same = omega arith
-number_of_eight [] same = absurd (omega (arith, same))
-number_of_eight (a ∷ []) same = absurd (omega (arith, same))
-number_of_eight (a ∷ b ∷ []) same = absurd (omega (arith, same))
-number_of_eight (a ∷ b ∷ c ∷ []) same = absurd (omega (arith, same))
-number_of_eight (a ∷ b ∷ c ∷ d ∷ []) same = absurd (omega (arith, same))
-number_of_eight (a ∷ b ∷ c ∷ d ∷ e ∷ []) same = absurd (omega (arith, same))
-number_of_eight (a ∷ b ∷ c ∷ d ∷ e ∷ f ∷ []) same = absurd (omega (arith, same))
-number_of_eight (a ∷ b ∷ c ∷ d ∷ e ∷ f ∷ g ∷ []) same = absurd (omega (arith, same))
-number_of_eight (a ∷ b ∷ c ∷ d ∷ e ∷ f ∷ g ∷ h ∷ i ∷ more) same = absurd (omega (arith, same))
+number_of_eight x h1 = grind (arith, common_steps)
 
 pub eights_compare : (x y : List ℕ) → length x ≡ 8 → length y ≡ 8 → AreLow x → AreLow y → nat_cmp (from_be_bytes w64 x) (from_be_bytes w64 y) ≡ slice_cmp nat_cmp x y
-eights_compare x y p q low high = ap₂ nat_cmp (number_of_eight x p) (number_of_eight y q) ∙ numbers_compare 0 0 x y (p ∙ sym q) low high
+eights_compare x y p q low high = grind (arith, nat_cmp, number_of_eight, numbers_compare)
 
 -- what follows numbers that differ decides nothing, and what follows equal numbers decides
 pub then_apart : (m n : ℕ) (p : Ordering) → (m ≡ n → ⊥) → ordering_then (nat_cmp m n) p ≡ nat_cmp m n
-then_apart m n p apart = by (nat_cmp m n) (ranked m n _ refl)
-  where
-    by : (o : Ordering) → MatchOrdering o (m < n) (m ≡ n) (n < m) → ordering_then o p ≡ o
-    by Less h = refl
-    by Equal h = absurd (apart h)
-    by Greater h = refl
+then_apart m n p apart = grind arith
 
 pub then_same : (m n : ℕ) (p : Ordering) → m ≡ n → ordering_then (nat_cmp m n) p ≡ p
 then_same m n p same = ap (λ o. ordering_then o p) (sym (nat_cmp_is m n Equal same))

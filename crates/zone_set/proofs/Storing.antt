@@ -1,4 +1,5 @@
 -- A record is read back from the octets that keep it, and stays where more are appended.
+use Rattle.std.proofs.lemmas.Grind.{common_steps}
 use Rattle.std.proofs.Common.{◌≡◌, ℕ, ◌<◌, List, [], ◌∷◌, ◌++◌, length, take, drop, refl, sym, ap, ◌∙◌, subst, arith, append_assoc, append-nil}
 use Rattle.std.proofs.lemmas.List.{take_at, drop_at, drop-append-le, length-drop}
 use Rattle.std.proofs.lemmas.Nat.{from_be_bytes-to_be_bytes_2, from_be_bytes-to_be_bytes_4}
@@ -30,10 +31,7 @@ read_stored r after whole =
 
 -- a place at which a record stands is within the octets
 pub place_within : (class : ℕ) (octets : List ℕ) (at : ℕ) → IsStored class octets at → at < length octets
-place_within class octets at (after, is) =
-    let left = length-drop at octets in
-    let long = ap length is in
-    omega (arith, left, long)
+place_within class octets at (after, is) = grind (arith, common_steps)
 
 module _ (class : ℕ) (octets more : List ℕ) where
   further : (at : ℕ) → (stands : IsStored class octets at) → drop at (octets ++ more) ≡ stored (record_from class octets at) ++ (stands.0 ++ more)
