@@ -45,12 +45,10 @@ first_digits-less (suc n) (c ∷ x) (d ∷ y) low high h =
     by Equal k later = later k
     by Greater k later = absurd k
 
--- the number of one digit fewer
 -- one digit is put before others
 pub put_one : (d after : ℕ) → IsPutBefore (d ∷ []) after (d * 288136807515649 + after / 257)
 put_one d after digits low is = grind arith
 
--- of a label the first octets count
 -- the octets of a label are put from the right
 pub put_next : (label left done before : List ℕ) (c m n k : ℕ) → AreOctets label → take 7 label ≡ left ++ done → left ≡ before ++ c ∷ [] → IsPutBefore (label_key done) m n → IsPutBefore ((c + 1) ∷ []) n k
     → (take 7 label ≡ before ++ c ∷ done) × IsPutBefore (label_key (c ∷ done)) m k

@@ -2,7 +2,7 @@
 use Rattle.zone_wire.proofs.Common.{Bool, IsFramed, List, [], ap, append_assoc, arith, common_steps, drop, flat_map, frame, get_or, get_or-drop, length, length-drop, length-take-le, lit<, nat_lt, refl, rules, suc, sym, take, take-append-drop, u16_at, zero, ℕ, ◌%◌, ◌*◌, ◌++◌, ◌+◌, ◌/◌, ◌<◌, ◌∙◌, ◌∷◌, ◌≡◌, ◌≤◌}
 use Rattle.zone_wire.proofs.Transfers.{frame_unique}
 
--- octets that begin with a whole frame aren't cut off in one
+-- octets are cut into frames in one way, if what is left holds no whole one
 pub frames_unique : (ms ns : List (List ℕ)) (r s : List ℕ) → length r < 2 + u16_at r 0 → length s < 2 + u16_at s 0 → flat_map frame ms ++ r ≡ flat_map frame ns ++ s → (ms ≡ ns) × (r ≡ s)
 frames_unique [] [] r s cut end e = (refl, e)
 frames_unique [] (n ∷ ns) r s cut end e = grind (arith, common_steps)

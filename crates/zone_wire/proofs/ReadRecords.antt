@@ -35,7 +35,7 @@ each_row class kind = grind arith
 part_short : (octets : List ℕ) (start end : ℕ) → length (octets_between octets start end) ≤ length octets
 part_short octets start end = grind (arith, common_steps)
 
--- strings take as many octets as in the message
+-- strings take no more octets than the message
 strings_short : (octets : List ℕ) (start end : ℕ) (values : List FieldValue) → HoldEach (Strings ∷ []) values → AreValuesAt octets start end values → length (octets_of values) ≤ length octets
 strings_short octets start end values held stand = grind (arith, common_steps)
 

@@ -129,5 +129,3 @@ module _ (message : List ℕ) (spot : Spot) where
   standing_fault _ (cut_pointer first cut) = standing_high first ∙ ap Some (cond-true _ _ _ (le-leb _ _ cut))
   standing_fault _ (bad_target first inside bad) = standing_high first ∙ ap Some (cond-false _ _ _ (below_length _ _ inside) ∙ cond-true _ _ _ (bad_test _ _ bad))
   standing_fault _ (too_many target is many) = standing_in_pointer target is ∙ ap Some (cond-false _ _ _ (below_length _ _ is.inside) ∙ cond-false _ _ _ (good_target _ _ is.past_header is.below) ∙ cond-true _ _ _ (le-leb _ _ many))
-
--- a fault stands in the message
