@@ -41,14 +41,14 @@ one_class class octets [] r same = inl refl
 one_class class octets (e ∷ es) r same = inr (stable_number class r.class (λ other. same (other_class class octets (e ∷ es) r (λ none. cc) other)))
 
 pub on_err : {A E P : Type 0} (r : Result A E) → P → OnErr r P
-on_err r h1 = grind arith
+on_err r holds = grind arith
 
 -- with no entry, class and base may be any
 same_records : (class other : ℕ) (octets : List ℕ) (es : List Entry) → (es ≡ []) ⊎ (class ≡ other) → all_records other octets es ≡ all_records class octets es
-same_records class other octets es h1 = grind arith
+same_records class other octets es any = grind arith
 
 pub holds_for : {class other : ℕ} {base name : List (List ℕ)} {octets : List ℕ} (es : List Entry) → HoldsEntries base class octets es → (es ≡ []) ⊎ (class ≡ other) → (es ≡ []) ⊎ (name ≡ base) → HoldsEntries name other octets es
-holds_for es h1 h2 h3 = grind arith
+holds_for es holds any which = grind arith
 
 -- a record that was put is held beside those before
 pub Adds-put : (old : List Record) (r : Record) (is_new : Bool) (new : List Record) → AreCompatible old → IsPut old r is_new new → Adds old r new
@@ -59,7 +59,7 @@ Adds-put old r true new compatible (before, after, was, is, ascend) = record {
 Adds-put old r false new compatible (is, has) = grind arith
 
 octets_put : (old : List Record) (r : Record) (is_new : Bool) (new : List Record) → IsPut old r is_new new → message_octets new ≡ message_octets old + (if is_new then message_len r else 0)
-octets_put old r is_new new h1 = grind (arith, common_steps)
+octets_put old r is_new new put = grind (arith, common_steps)
 
 octets_counted : (sum new more octets counted : ℕ) → octets ≡ min sum (2 ^ 64 - 1) → new ≡ sum + more → counted ≡ min (octets + more) (2 ^ 64 - 1) → counted ≡ min new (2 ^ 64 - 1)
 octets_counted sum new more octets counted is is_new is_counted = omega arith
@@ -107,4 +107,4 @@ module _ {class : ℕ} {base : List (List ℕ)} {octets : List ℕ} {es : List E
 
 -- the stop for a record that is handed back
 pub stops_add : (held : List Record) (p : Placed) (e : Refusal) → IsRefusal held p.rr e → StopsAdd held p (stop_for e p.place)
-stops_add held p e h1 = grind (arith, fault, memory)
+stops_add held p e why = grind (arith, fault, memory)

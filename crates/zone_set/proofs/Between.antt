@@ -19,7 +19,7 @@ use Rattle.zone_set.specs.Order.{canonical_cmp, Ascends}
 use Rattle.zone_set.specs.Zone.{Has, AreCompatible, InOneSet}
 
 is_less : (o : Ordering) → is_lt o ≡ true → o ≡ Less
-is_less o h1 = grind arith
+is_less o less = grind arith
 
 -- what is not before is not after the other way round
 not_after : (r s : Record) → is_lt (canonical_cmp s r) ≡ false → canonical_cmp r s ≢ Greater
@@ -92,7 +92,7 @@ pub record Parts (old before after : List Record) (r : Record) : Type 0 where
 
 -- the same of a copy of what was lent
 pub copied : {X : Type 0} (P : Type 0) (Q : X → Type 0) (lent : Option (Bor X)) (copy : Option X) → copy ≡ option_copied lent → MatchOption lent P (λ x. Q x.now) → MatchOption copy P Q
-copied P Q lent copy h1 h2 = grind arith
+copied P Q lent copy is found = grind arith
 
 module _ {X : Type 0} (P : X → Type 0) where
   pub last_has : (before : List X) → AllByRecursion P before → (last : Option X) → MatchOption last (before ≡ []) (λ e. (front : List X) × (before ≡ front ++ e ∷ [])) → IfSome last P
@@ -201,7 +201,7 @@ module _ {X : Type 0} (f : X → Record) {old : List Record} (before after : Lis
 
 -- what a test that is true tells of a neighbour
 pub told_by : {X : Type 0} (f : X → Record) (old : List Record) (side : List X) (r : Record) (P : X → Type 0) (near : Option X) → MatchOption near (side ≡ []) (IsNeighbour f old side r) → (b : Bool) → MatchOption near (b ≡ false) (λ e. IsTrue b ↔ P e) → b ≡ true → (e : X) × Has old (f e) × P e
-told_by f old side r P near h1 b h2 h3 = grind arith
+told_by f old side r P near neighbour test told is = grind arith
 
 -- hints that differ tell which record is before the other
 pub hints_tell : (m n : ℕ) (r s : Record) → m ≢ n → (m < n → canonical_cmp r s ≡ Less) → (n < m → canonical_cmp s r ≡ Less) → nat_lt m n ≡ is_lt (canonical_cmp r s)

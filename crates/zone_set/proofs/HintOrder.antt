@@ -19,7 +19,7 @@ use Rattle.zone_set.specs.Order.{canonical_cmp}
 
 -- an owner that is neither below the base nor before it
 pub hint_after : (base owner : List (List ℕ)) (kind : ℕ) (o : Ordering) → kind ≢ 6 → (IsWithin owner base → ⊥) → name_cmp owner base ≡ o → (o ≡ Equal) ⊎ (o ≡ Greater) → IsHint base owner kind (3 * 2 ^ 57)
-hint_after base owner kind o h1 h2 h3 h4 = grind (arith, name_cmp-exact, after, name_cmp-total, ordering_reverse)
+hint_after base owner kind o other out is apart = grind (arith, name_cmp-exact, after, name_cmp-total, ordering_reverse)
 
 less_through : (a b c : List (List ℕ)) → name_cmp a b ≡ Less → name_cmp b c ≢ Greater → name_cmp a c ≡ Less
 less_through a b c low high = grind (arith, name_cmp-total)

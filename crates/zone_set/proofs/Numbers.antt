@@ -39,7 +39,7 @@ cut_compare (suc n) (c ∷ x) (d ∷ y) = ap (ordering_then (nat_cmp c d)) (cut_
 
 -- eight octets as the number that they are read as
 number_of_eight : (x : List ℕ) → length x ≡ 8 → from_be_bytes w64 x ≡ number_on 0 x
-number_of_eight x h1 = grind (arith, common_steps)
+number_of_eight x eight = grind (arith, common_steps)
 
 pub eights_compare : (x y : List ℕ) → length x ≡ 8 → length y ≡ 8 → AreLow x → AreLow y → nat_cmp (from_be_bytes w64 x) (from_be_bytes w64 y) ≡ slice_cmp nat_cmp x y
 eights_compare x y p q low high = grind (arith, nat_cmp, number_of_eight, numbers_compare)

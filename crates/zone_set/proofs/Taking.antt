@@ -16,10 +16,10 @@ AddsEach-push old mid (q ∷ taken) p new each fits adds = (each.0, each.1, each
 
 -- what is left after an answer, where a source works
 after_parts : (failed : Bool) (records : List Placed) (ending : Option (Fault × Place)) → failed ≡ false → after (record { failed = failed; records = records; ending = ending }) ≡ record { failed = failed; records = others records; ending = ending }
-after_parts failed records ending h1 = cc
+after_parts failed records ending parts = cc
 
 after_failed : (failed : Bool) (records : List Placed) (ending : Option (Fault × Place)) → failed ≡ true → after (record { failed = failed; records = records; ending = ending }) ≡ record { failed = failed; records = records; ending = ending }
-after_failed failed records ending h1 = cc
+after_failed failed records ending is_failed = cc
 
 -- an answer with a record: it was the first
 first_parts : (failed : Bool) (records : List Placed) (ending : Option (Fault × Place)) (p : Placed) → answer_of (record { failed = failed; records = records; ending = ending }) ≡ Ok (Some p) → (failed ≡ false) × (records ≡ p ∷ others records)
