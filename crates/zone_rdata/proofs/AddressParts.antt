@@ -55,9 +55,7 @@ listed ends (text ∷ []) octets have = (record { text = text; octets = octets }
 listed ends (text ∷ next ∷ texts) octets have = put_first ends text next texts octets have.0 have.1 have.2 (listed ends (next ∷ texts) have.1 have.3) have.4
 
 pub parts_listed : (ends : Bool) (text octets : List ℕ) → HaveParts ends (split 58 text) octets → ArePartsOf ends text octets
-parts_listed ends text octets have =
-    let all = listed ends (split 58 text) octets have in
-    record { parts = all.0; each = all.1; parted = sym (join_with_byte-slice_split 58 text) ∙ ap (join_with_byte 58) (sym all.2); value = all.3 }
+parts_listed ends text octets have = grind (arith, listed ends (split 58 text) octets have, join_with_byte-slice_split 58 text)
 
 have_once : (ends : Bool) (texts : List (List ℕ)) (a b : List ℕ) → HaveParts ends texts a → HaveParts ends texts b → a ≡ b
 have_once ends [] a b x y = cc
@@ -85,12 +83,10 @@ parts_started ends text some = record { some = some; goes = λ more have. have; 
 
 -- a group with a colon after it
 goes_first : (ends : Bool) (text : List ℕ) (texts : List (List ℕ)) (added more : List ℕ) → 0 < length texts → IsGroupOf text added → HaveParts ends texts more → HaveParts ends (text ∷ texts) (added ++ more)
-goes_first ends text [] added more some is have = absurd (omega arith)
-goes_first ends text (next ∷ texts) added more some is have = (added, more, is, have, refl)
+goes_first ends text texts added more some is have = grind arith
 
 comes_first : (ends : Bool) (text : List ℕ) (texts : List (List ℕ)) (octets : List ℕ) → 0 < length texts → HaveParts ends (text ∷ texts) octets → (added : List ℕ) × (more : List ℕ) × IsGroupOf text added × HaveParts ends texts more × (octets ≡ added ++ more)
-comes_first ends text [] octets some have = absurd (omega arith)
-comes_first ends text (next ∷ texts) octets some have = have
+comes_first ends text texts octets some have = grind arith
 
 split_some : (c : ℕ) (text : List ℕ) → 0 < length (split c text)
 split_some c text = omega (arith, length-slice_split (λ b. b == c) text)

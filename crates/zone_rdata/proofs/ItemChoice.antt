@@ -71,7 +71,4 @@ outcome_by names origin is class kind items low (inr unmarked) = words_or_fault 
 
 -- ---- data of a class and type
 pub data-or_fault : NameOrFault → (origin : Labels) (class kind : ℕ) (items : List RawItem) → IsName origin → AreLowItems items → ((octets : List ℕ) × States origin class kind items octets) ⊎ ((fault : Fault) × IsDataFault origin class kind items fault)
-data-or_fault names origin class kind items is low = elim (outcome_by names origin is class kind items low (marked_or_not items)) [
-  | inl found ↦ inl (found.0, record { stated = found.1 })
-  | inr bad ↦ inr (bad.0, record { first = bad.1 })
-]
+data-or_fault names origin class kind items is low = grind (arith, outcome_by names origin is class kind items low (marked_or_not items))

@@ -51,25 +51,10 @@ octet_or_not : (c : ℕ) → Decided (IsFoldedOctet c)
 octet_or_not c = grind (arith, cases_lt, low, cases_eq)
 
 label_or_not : (label : List ℕ) → Decided (IsLabel label)
-label_or_not label = elim (each_or_not IsFoldedOctet octet_or_not label) [
-  | inr none ↦ inr (λ h. none h.each)
-  | inl each ↦ elim (cases_lt 63 (length label)) [
-    | inl long ↦ inr (λ h. omega (arith, h.short))
-    | inr short ↦ elim (cases_lt 0 (length label)) [
-      | inl some ↦ inl (record { some = some; short = short; each = each })
-      | inr empty ↦ inr (λ h. omega (arith, h.some))
-    ]
-  ]
-]
+label_or_not label = grind (arith, each_or_not IsFoldedOctet octet_or_not label, cases_lt 63 (length label), cases_lt 0 (length label))
 
 labels_or_not : (labels : Labels) → Decided (IsName labels)
-labels_or_not labels = elim (each_or_not IsLabel label_or_not labels) [
-  | inr none ↦ inr (λ h. none h.each)
-  | inl each ↦ elim (cases_lt 255 (length (wire labels))) [
-    | inl long ↦ inr (λ h. omega (arith, h.short))
-    | inr short ↦ inl (record { each = each; short = short })
-  ]
-]
+labels_or_not labels = grind (arith, each_or_not IsLabel label_or_not labels, cases_lt 255 (length (wire labels)))
 
 -- ---- octets begin with a name or not
 abbrev SentChoice : List ℕ → Type 0
