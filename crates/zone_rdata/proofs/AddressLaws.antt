@@ -1,6 +1,5 @@
 -- What is printed for an address is read back, and is of the form that RFC 5952 recommends.
-use Rattle.zone_rdata.proofs.Common.{[], ◌≡◌, ℕ, zero, suc, ◌+◌, ◌-◌, ◌*◌, ◌/◌, ◌%◌, ◌^◌, ◌<◌, ◌≤◌, Bool, true, false, inl, inr, List, ◌∷◌, ◌++◌, length, take, drop, map, replicate, decimal, refl, sym, ap, ◌∙◌, subst, arith, append_assoc, length-append, lt-ltb, le-ltb, rules, fold, slice_index, AllByRecursion, longest_zero_run, cases_lt, lt-leb, decimal_nonempty, digits_decimal, digits_value-decimal, append-nil, take-append-drop, length-take-le, length-drop, drop-drop, All-weaker, recursion_from_All, decode_sized-encode_lower, AreOctets, is_digit, decimal_value, IsOctetNumber, IsIpv4Address, AddressPart, IsGroup, AreParts, parts_text, parts_octets, ArePartsOf, IsIpv6Address, eight, fewer, ipv4_text, ipv6_text, parted_groups, shortened_groups, IsZeroRun, IsShortenedRun, IsAddressOctet, AllByRecursion-front, AllByRecursion-back, common_steps}
-use Rattle.std.proofs.Common.{le-leb}
+use Rattle.zone_rdata.proofs.Common.{[], ◌≡◌, ℕ, zero, suc, ◌+◌, ◌-◌, ◌*◌, ◌/◌, ◌%◌, ◌^◌, ◌<◌, ◌≤◌, Bool, true, false, inl, inr, List, ◌∷◌, ◌++◌, length, take, drop, map, replicate, decimal, refl, sym, ap, ◌∙◌, subst, arith, append_assoc, length-append, lt-ltb, le-ltb, rules, fold, slice_index, AllByRecursion, longest_zero_run, cases_lt, lt-leb, decimal_nonempty, digits_decimal, digits_value-decimal, append-nil, take-append-drop, length-take-le, length-drop, drop-drop, All-weaker, recursion_from_All, decode_sized-encode_lower, AreOctets, is_digit, decimal_value, IsOctetNumber, IsIpv4Address, AddressPart, IsGroup, AreParts, parts_text, parts_octets, ArePartsOf, IsIpv6Address, eight, fewer, ipv4_text, ipv6_text, parted_groups, shortened_groups, IsZeroRun, IsShortenedRun, IsAddressOctet, AllByRecursion-front, AllByRecursion-back, common_steps, le-leb}
 use Rattle.std.specs.Net.Addr.{segments_of}
 use Rattle.std.specs.Net.Text.{hex, hex_groups_text}
 use Rattle.std.proofs.NetLemmas.Texts.{IsZeroRun-longest_zero_run, longest_zero_run_first}

@@ -1,6 +1,5 @@
 -- The canonical texts of addresses.
-use Rattle.zone_rdata.proofs.Common.{[], ◌≡◌, ℕ, zero, suc, ◌-◌, ◌/◌, ◌%◌, ◌^◌, ◌<◌, Bool, true, ◌&&◌, List, ◌∷◌, take, drop, refl, arith, ◌==◌, inl, inr, slice_index, leading_zero_digits, and_parts, cases_eq, eqb-true, take_rest, encode_lower, lower_digits}
-use Rattle.std.specs.Char.{digit_char}
+use Rattle.zone_rdata.proofs.Common.{[], ◌≡◌, ℕ, zero, suc, ◌-◌, ◌/◌, ◌%◌, ◌^◌, ◌<◌, Bool, true, ◌&&◌, List, ◌∷◌, take, drop, refl, arith, ◌==◌, inl, inr, slice_index, leading_zero_digits, and_parts, cases_eq, eqb-true, take_rest, encode_lower, lower_digits, digit_char}
 use Rattle.std.specs.Net.Text.{hex}
 use Rattle.hex.specs.Hex.{encode_with}
 

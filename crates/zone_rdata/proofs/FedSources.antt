@@ -1,7 +1,6 @@
 -- What a source that is fed stands for after the records that it gives.
-use Rattle.zone_rdata.proofs.Common.{[], ◌≡◌, ℕ, List, ◌∷◌, ◌++◌, Option, Some, None, Result, Ok, Err, subst, arith, append-nil, Fault, common_steps}
+use Rattle.zone_rdata.proofs.Common.{[], ◌≡◌, ℕ, List, ◌∷◌, ◌++◌, Option, Some, None, Result, Ok, Err, subst, arith, append-nil, Fault, common_steps, after, answer_of, first_answer, others}
 use Rattle.zone_rdata.specs.FedSource.{Gives, SourceState, StandsFor}
-use Rattle.zone_rdata.specs.RrSource.{after, answer_of, first_answer, others}
 use Rattle.zone_rdata.specs.declared.fault.Place.{Place}
 use Rattle.zone_rdata.specs.declared.fault.Stop.{Stop}
 use Rattle.zone_rdata.specs.declared.record.Placed.{Placed}

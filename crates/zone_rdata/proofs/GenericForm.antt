@@ -1,7 +1,5 @@
 -- The generic form: digits that join to octets, item after item.
-use Rattle.zone_rdata.proofs.Common.{[], ◌≡◌, ◌≢◌, ℕ, ◌+◌, ◌-◌, ◌/◌, ◌<◌, ◌≤◌, min, List, ◌∷◌, ◌++◌, length, get_or, take, drop, map, Ok, sym, ap, ◌∙◌, subst, arith, append_assoc, length-append, drop_all, take_all, append-nil, decode_of, decode_of-ok, decode_of-same, Fault, Item, RawItem, bare, quoted, raw, generic_mark, IsGeneric, IsDecimal, StatesLength, JoinTo, StatesGeneric, GenericFault, no_length, long_length, bad_digits, Appends, common_steps}
-use Rattle.std.proofs.Common.{length-drop}
-use Rattle.zone_rdata.specs.declared.fault.Fault.TheVariants.{BadGeneric, RdataTooLong}
+use Rattle.zone_rdata.proofs.Common.{[], ◌≡◌, ◌≢◌, ℕ, ◌+◌, ◌-◌, ◌/◌, ◌<◌, ◌≤◌, min, List, ◌∷◌, ◌++◌, length, get_or, take, drop, map, Ok, sym, ap, ◌∙◌, subst, arith, append_assoc, length-append, drop_all, take_all, append-nil, decode_of, decode_of-ok, decode_of-same, Fault, Item, RawItem, bare, quoted, raw, generic_mark, IsGeneric, IsDecimal, StatesLength, JoinTo, StatesGeneric, GenericFault, no_length, long_length, bad_digits, Appends, common_steps, length-drop, BadGeneric, RdataTooLong}
 use Rattle.zone_rdata.specs.Machine.GenericLength.{LengthFault, no_number, beyond}
 use Rattle.zone_rdata.proofs.Lists.{from_place}
 

@@ -1,7 +1,6 @@
 -- A word has one number at most, and a text one time.
-use Rattle.zone_rdata.proofs.Common.{◌≡◌, ℕ, ◌<◌, ◌≤◌, Bool, true, false, not, List, ◌++◌, length, take, codes, refl, sym, ap, ◌∙◌, subst, arith, ◌==◌, Option, Some, None, bytes_eq, ◌⊎◌, inl, inr, find, list_all, option_map, eqb-true, not-true, false≢true, map-append, length-map, take_at, bytes_eq-Decides, folded_octet, folded_label, Named, classes, type_names, number_among, IsKind, IsMnemonic, IsNumbered, IsWordAmong, by_mnemonic, by_number, IsClassWord, IsKindWord, IsWordFault, nameless, beyond, for_queries, Fault}
+use Rattle.zone_rdata.proofs.Common.{◌≡◌, ℕ, ◌<◌, ◌≤◌, Bool, true, false, not, List, ◌++◌, length, take, codes, refl, sym, ap, ◌∙◌, subst, arith, ◌==◌, Option, Some, None, bytes_eq, ◌⊎◌, inl, inr, find, list_all, option_map, eqb-true, not-true, false≢true, map-append, length-map, take_at, bytes_eq-Decides, folded_octet, folded_label, Named, classes, type_names, number_among, IsKind, IsMnemonic, IsNumbered, IsWordAmong, by_mnemonic, by_number, IsClassWord, IsKindWord, IsWordFault, nameless, beyond, for_queries, Fault, UnknownType, MetaType}
 use Rattle.std.proofs.Math.Seq.{drop-append_seam}
-use Rattle.zone_rdata.specs.declared.fault.Fault.TheVariants.{UnknownType, MetaType}
 use Rattle.zone_rdata.proofs.Tables.{each_mnemonic}
 
 -- a name and a number right after it

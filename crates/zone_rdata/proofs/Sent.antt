@@ -1,7 +1,5 @@
 -- Uncompressed octets: what stands at their front, and that it is one thing.
-use Rattle.zone_rdata.proofs.Common.{[], ◌≡◌, ℕ, ◌<◌, ◌≤◌, List, ◌∷◌, ◌++◌, length, take, drop, Result, Err, refl, sym, ap, ◌∙◌, subst, arith, append_assoc, length-append, flat_map, AllByRecursion, append-nil, take-append-drop, length-map, length-take, map-append, flat_map-append, Labels, IsLabel, IsName, folded_label, folded, with_length, wire, IsLabelFault, BeginsWithSent, AllByRecursion-append, AllByRecursion-back, common_steps}
-use Rattle.std.specs.Prelude.{◌↔◌}
-use Rattle.zone_name.specs.declared.fault.NameFault.{NameFault}
+use Rattle.zone_rdata.proofs.Common.{[], ◌≡◌, ℕ, ◌<◌, ◌≤◌, List, ◌∷◌, ◌++◌, length, take, drop, Result, Err, refl, sym, ap, ◌∙◌, subst, arith, append_assoc, length-append, flat_map, AllByRecursion, append-nil, take-append-drop, length-map, length-take, map-append, flat_map-append, Labels, IsLabel, IsName, folded_label, folded, with_length, wire, IsLabelFault, BeginsWithSent, AllByRecursion-append, AllByRecursion-back, common_steps, ◌↔◌, NameFault}
 use Rattle.zone_name.specs.declared.fault.NameFault.TheVariants.{EmptyLabel, LabelTooLong, NameTooLong}
 
 -- ---- lists one after another

@@ -1,6 +1,5 @@
 -- The text of data, field after field.
-use Rattle.zone_rdata.proofs.Common.{[], ◌≡◌, ℕ, zero, suc, ◌+◌, ◌<◌, List, ◌∷◌, ◌++◌, length, get_or, take, drop, map, refl, sym, ap, arith, append_assoc, Some, OnOk, IsOk, encode_lower, flat_map, join_with_byte, take_at, drop_at, append-nil, take_more, Field, field_at, values_of, field_text, AreLaidOut, BeginsWithField, after_field, spaced, generic_head, laid_out_text, generic_text, common_steps}
-use Rattle.std.specs.Prelude.{Result}
+use Rattle.zone_rdata.proofs.Common.{[], ◌≡◌, ℕ, zero, suc, ◌+◌, ◌<◌, List, ◌∷◌, ◌++◌, length, get_or, take, drop, map, refl, sym, ap, arith, append_assoc, Some, OnOk, IsOk, encode_lower, flat_map, join_with_byte, take_at, drop_at, append-nil, take_more, Field, field_at, values_of, field_text, AreLaidOut, BeginsWithField, after_field, spaced, generic_head, laid_out_text, generic_text, common_steps, Result}
 use Rattle.hex.specs.Hex.{encode_with}
 use Rattle.zone_rdata.proofs.Lists.{from_place}
 

@@ -1,9 +1,7 @@
 -- Times read octet by octet, and that a text has one reading.
-use Rattle.zone_rdata.proofs.Common.{[], ◌≡◌, ℕ, ◌+◌, ◌*◌, ◌<◌, ◌≤◌, min, true, false, List, ◌∷◌, ◌++◌, length, Some, refl, sym, ap, ◌∙◌, subst, arith, append_assoc, length-append, IsTrue, zero-add, take, drop, get_or, AllByRecursion, flat_map, sum_by, append-nil, take-append-drop, drop_more, take_all, flat_map-append, cases_lt, nat_tests, is_digit, Group, IsTimeGroup, group_text, group_seconds, decimal_value, unit_seconds, IsTime, plain, grouped, AllByRecursion-append, common_steps}
-use Rattle.std.proofs.lemmas.List.Sums.{sum_by-append}
+use Rattle.zone_rdata.proofs.Common.{[], ◌≡◌, ℕ, ◌+◌, ◌*◌, ◌<◌, ◌≤◌, min, true, false, List, ◌∷◌, ◌++◌, length, Some, refl, sym, ap, ◌∙◌, subst, arith, append_assoc, length-append, IsTrue, zero-add, take, drop, get_or, AllByRecursion, flat_map, sum_by, append-nil, take-append-drop, drop_more, take_all, flat_map-append, cases_lt, nat_tests, is_digit, Group, IsTimeGroup, group_text, group_seconds, decimal_value, unit_seconds, IsTime, plain, grouped, AllByRecursion-append, common_steps, sum_by-append, ReadsTime}
 use Rattle.std.proofs.Math.Nat.{le-mul_of_pos_right, min-eq_left, min-eq_right, mul-le-mul_right}
 use Rattle.zone_rdata.specs.declared.time.Progress.{Progress}
-use Rattle.zone_rdata.specs.Machine.TimeProgress.{ReadsTime}
 
 abbrev pub AreDigits : List ℕ → Type 0
 AreDigits text = AllByRecursion (λ c. is_digit c ≡ true) text

@@ -1,8 +1,5 @@
 -- Data from uncompressed octets.
-use Rattle.zone_rdata.proofs.Common.{◌≡◌, ℕ, ◌≤◌, List, length, Option, arith, IfSome, AllByRecursion, AreOctets, Fault, Field, IsData, IsSized, fields_of, layout, IsCanonicalOf, common_steps}
-use Rattle.std.specs.Prelude.{option_map}
-use Rattle.zone_rdata.specs.declared.fault.Fault.TheVariants.{BadRdata}
-use Rattle.zone_rdata.specs.declared.layout.Layout.{Layout}
+use Rattle.zone_rdata.proofs.Common.{◌≡◌, ℕ, ◌≤◌, List, length, Option, arith, IfSome, AllByRecursion, AreOctets, Fault, Field, IsData, IsSized, fields_of, layout, IsCanonicalOf, common_steps, option_map, BadRdata, Layout}
 use Rattle.zone_rdata.specs.Wire.{IsWireFault, no_value}
 use Rattle.zone_rdata.proofs.Layouts.{canonical_laid, canonical_length}
 use Rattle.zone_rdata.proofs.Taken.{canonical_same}
