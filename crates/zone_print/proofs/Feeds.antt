@@ -1,36 +1,27 @@
 -- No part of a line has a line feed.
-use Rattle.std.proofs.Common.{◌≡◌, ◌≢◌, ℕ, zero, suc, ◌+◌, ◌/◌, ◌%◌, ◌==◌, ◌≤◌, List, [], ◌∷◌, ◌++◌, length, take, drop, map, ◌||◌, Bool, true, false, if◌then◌else◌, IsTrue, Option, None, Some, refl, sym, ap, ◌∙◌, codes, decimal, nat_lt, eq-eqb, arith}
-use Rattle.std.specs.List.{AllByRecursion, flat_map, join_with_byte, list_all}
-use Rattle.std.specs.Prelude.{slice_index}
+use Rattle.zone_print.proofs.Common.{common_steps, ◌≡◌, ◌≢◌, ℕ, zero, suc, ◌+◌, ◌/◌, ◌%◌, ◌==◌, ◌≤◌, List, [], ◌∷◌, ◌++◌, length, drop, map, Bool, true, false, if◌then◌else◌, IsTrue, Option, None, Some, refl, codes, decimal, nat_lt, arith, AllByRecursion, flat_map, join_with_byte, list_all, slice_index, octet_text, label_text, name_text, Data, Record, data_of, data_items, data_text, laid_out_items, written_item, class_mnemonic, laid_out_mnemonic, word_or_numbered, class_text, kind_text, line, HasNoFeed, EndsWithItsFeed}
 use Rattle.std.specs.Char.{digit_char}
 use Rattle.std.specs.Net.Addr.{segments_of}
 use Rattle.std.specs.Net.Text.{hex, leading_zero_digits, compressed_text, longest_zero_run}
 use Rattle.hex.specs.Hex.{lower_digits, encode_with, encode_lower}
 use Rattle.std.specs.Fmt.{digit_glyph, digits, digits_onto}
 use Rattle.zone_name.proofs.Pushing.{AllByRecursion-append}
-use Rattle.zone_name.specs.Text.{is_special, is_printed, decimal_escape, octet_text, label_text, name_text}
 use Rattle.zone_rdata.specs.declared.field.Field.{Field}
-use Rattle.zone_rdata.specs.Field.{FieldValue, name, u32_value, u16_value, fixed, string, strings, values_of, field_items}
+use Rattle.zone_rdata.specs.Field.{FieldValue, name, values_of, field_items}
 use Rattle.zone_rdata.specs.Fields.OneString.{string_item}
 use Rattle.zone_rdata.specs.Generic.{generic_items}
 use Rattle.zone_rdata.specs.Item.{RawItem}
 use Rattle.zone_rdata.specs.Layout.{layout}
-use Rattle.zone_rdata.specs.Record.{Data, Record, data_of}
 use Rattle.zone_rdata.specs.Address.{ipv4_text, ipv6_text, parted_groups}
-use Rattle.zone_rdata.specs.Strings.{is_shown, unit_text, inside_text, string_text}
-use Rattle.zone_rdata.specs.Text.{data_items, data_text, laid_out_items, written_item}
-use Rattle.zone_rdata.specs.Table.{Named, classes, type_names, mnemonic_among}
-use Rattle.zone_rdata.specs.Words.{class_mnemonic, laid_out_mnemonic, word_or_numbered, class_text, kind_text}
+use Rattle.zone_rdata.specs.Strings.{unit_text, inside_text, string_text}
+use Rattle.zone_rdata.specs.Table.{Named, classes, mnemonic_among}
 use Rattle.zone_rdata.proofs.Tables.{each_mnemonic}
-use Rattle.zone_print.specs.Canonical.{line}
-use Rattle.zone_print.specs.Laws.{HasNoFeed, EndsWithItsFeed}
 
 pub none_append : (xs ys : List ℕ) → HasNoFeed xs → HasNoFeed ys → HasNoFeed (xs ++ ys)
 none_append xs ys p q = AllByRecursion-append _ xs ys p q
 
 none_if : (b : Bool) (xs ys : List ℕ) → (b ≡ true → HasNoFeed xs) → (b ≡ false → HasNoFeed ys) → HasNoFeed (if b then xs else ys)
-none_if true xs ys p q = p refl
-none_if false xs ys p q = q refl
+none_if b xs ys p q = grind arith
 
 none_flat : {X : Type 0} (f : X → List ℕ) → ((x : X) → HasNoFeed (f x)) → (xs : List X) → HasNoFeed (flat_map f xs)
 none_flat f each [] = tt
@@ -42,8 +33,7 @@ high c n e h f = omega arith
 -- ---- numbers
 
 glyph_if : (b : Bool) (x y : ℕ) → x ≢ 10 → y ≢ 10 → (if b then x else y) ≢ 10
-glyph_if true x y p q = p
-glyph_if false x y p q = q
+glyph_if b x y p q = grind arith
 
 none_glyph : (d : ℕ) → digit_glyph false d ≢ 10
 none_glyph d = glyph_if (nat_lt d 10) (48 + d) (87 + d) (high _ (48 + d) refl (omega arith)) (high _ (87 + d) refl (omega arith))
@@ -65,8 +55,7 @@ has_no_feed [] = true
 has_no_feed (x ∷ xs) = if x == 10 then false else has_no_feed xs
 
 none_here : (x : ℕ) (xs : List ℕ) (b : Bool) → x == 10 ≡ b → (IsTrue (has_no_feed xs) → HasNoFeed xs) → IsTrue (if b then false else has_no_feed xs) → HasNoFeed (x ∷ xs)
-none_here x xs true e rest h = let c : false ≡ true = h in absurd cc
-none_here x xs false e rest h = ((λ f. let c : true ≡ false = sym (eq-eqb x 10 f) ∙ e in cc), rest h)
+none_here x xs b e rest h = grind arith
 
 pub none_tested : (xs : List ℕ) → IsTrue (has_no_feed xs) → HasNoFeed xs
 none_tested [] h = tt
@@ -74,19 +63,8 @@ none_tested (x ∷ xs) h = none_here x xs (x == 10) refl (none_tested xs) h
 
 -- ---- names
 
-not_in : (f : ℕ → Bool) (c : ℕ) → f c ≡ true → f 10 ≡ false → c ≢ 10
-not_in f c h e g = let clash : true ≡ false = sym h ∙ ap f g ∙ e in cc
-
-none_digits : (x y z : ℕ) → 48 ≤ x → 48 ≤ y → 48 ≤ z → HasNoFeed (92 ∷ x ∷ y ∷ z ∷ [])
-none_digits x y z p q r = (λ e. omega arith, (λ e. omega arith, (λ e. omega arith, (λ e. omega arith, tt))))
-
 none_octet : (c : ℕ) → HasNoFeed (octet_text c)
-none_octet c =
-    none_if (is_special c) (92 ∷ c ∷ []) (if is_printed c then c ∷ [] else decimal_escape c)
-    (λ h. (high 92 92 refl (omega arith), (not_in is_special c h refl, tt)))
-    (λ h. none_if (is_printed c) (c ∷ []) (decimal_escape c)
-    (λ g. (not_in is_printed c g refl, tt))
-    (λ g. none_digits (48 + c / 100) (48 + c / 10 % 10) (48 + c % 10) (omega arith) (omega arith) (omega arith)))
+none_octet c = grind arith
 
 none_label : (label : List ℕ) → HasNoFeed (label_text label)
 none_label label = none_append (flat_map octet_text label) (46 ∷ []) (none_flat octet_text none_octet label) (none_tested (46 ∷ []) refl)
@@ -103,8 +81,7 @@ RowHasNoFeed None = Unit {0}
 RowHasNoFeed (Some word) = HasNoFeed word
 
 none_word : (row : Option (List ℕ)) (front : List ℕ) (n : ℕ) → RowHasNoFeed row → HasNoFeed front → HasNoFeed (word_or_numbered row front n)
-none_word None front n p q = none_append front (decimal n) q (none_decimal n)
-none_word (Some word) front n p q = p
+none_word row front n p q = grind (arith, none_append, none_decimal)
 
 none_found : (rows : List Named) → list_all (λ row. has_no_feed row.mnemonic) rows ≡ true → (n : ℕ) (found : Option (List ℕ)) → mnemonic_among rows n ≡ found → RowHasNoFeed found
 none_found rows all n None e = tt
@@ -117,8 +94,7 @@ none_class : (n : ℕ) → HasNoFeed (class_text n)
 none_class n = none_word (class_mnemonic n) (codes "CLASS") n (none_mnemonic classes refl n) (none_tested (codes "CLASS") refl)
 
 none_laid_out_row : (fields : Option (List Field)) (n : ℕ) → RowHasNoFeed (laid_out_mnemonic fields n)
-none_laid_out_row None n = tt
-none_laid_out_row (Some fields) n = none_mnemonic type_names refl n
+none_laid_out_row fields n = grind arith
 
 none_kind : (class n : ℕ) → HasNoFeed (kind_text class n)
 none_kind class n = none_word (laid_out_mnemonic (layout class n) n) (codes "TYPE") n (none_laid_out_row (layout class n) n) (none_tested (codes "TYPE") refl)
@@ -127,16 +103,10 @@ none_dot : (xs : List ℕ) → HasNoFeed xs → HasNoFeed (xs ++ 46 ∷ [])
 none_dot xs h = none_append xs (46 ∷ []) h (high 46 46 refl (omega arith), tt)
 
 none_ipv4 : (octets : List ℕ) → HasNoFeed (ipv4_text octets)
-none_ipv4 octets =
-    let a = none_dot (decimal (slice_index octets 0)) (none_decimal (slice_index octets 0)) in
-    let b = none_dot _ (none_append _ (decimal (slice_index octets 1)) a (none_decimal (slice_index octets 1))) in
-    let c = none_dot _ (none_append _ (decimal (slice_index octets 2)) b (none_decimal (slice_index octets 2))) in
-    none_append _ (decimal (slice_index octets 3)) c (none_decimal (slice_index octets 3))
+none_ipv4 octets = grind (arith, none_dot, none_decimal, none_append)
 
 none_drop : (n : ℕ) (xs : List ℕ) → HasNoFeed xs → HasNoFeed (drop n xs)
-none_drop zero xs h = h
-none_drop (suc n) [] h = tt
-none_drop (suc n) (x ∷ xs) h = none_drop n xs h.1
+none_drop n xs h = grind (arith, common_steps)
 
 none_char : (d : ℕ) → digit_char d ≢ 10
 none_char d = none_glyph d
@@ -146,33 +116,22 @@ unfolding hex
 none_hex n = none_drop (leading_zero_digits n) (digit_char (n / 0x1000) ∷ digit_char (n / 0x100 % 16) ∷ digit_char (n / 0x10 % 16) ∷ digit_char (n % 16) ∷ []) (none_char (n / 0x1000), (none_char (n / 0x100 % 16), (none_char (n / 0x10 % 16), (none_char (n % 16), tt))))
 
 none_groups : (groups : List ℕ) → HasNoFeed (parted_groups groups)
-none_groups [] = tt
-none_groups (s ∷ rest) = none_append (hex s) (flat_map (λ t. codes ":" ++ hex t) rest) (none_hex s) (none_flat (λ t. codes ":" ++ hex t) (λ t. (high 58 58 refl (omega arith), none_hex t)) rest)
+none_groups groups = grind (arith, none_append, none_hex, none_flat, high)
 
 none_run : (segments : List ℕ) (run : ℕ × ℕ) → HasNoFeed (compressed_text segments run)
-none_run segments run =
-    none_if (nat_lt 1 run.1) (parted_groups (take run.0 segments) ++ codes "::" ++ parted_groups (drop (run.0 + run.1) segments)) (parted_groups segments)
-    (λ h. none_append (parted_groups (take run.0 segments) ++ codes "::") (parted_groups (drop (run.0 + run.1) segments)) (none_append (parted_groups (take run.0 segments)) (codes "::") (none_groups (take run.0 segments)) (high 58 58 refl (omega arith), (high 58 58 refl (omega arith), tt))) (none_groups (drop (run.0 + run.1) segments)))
-    (λ h. none_groups segments)
+none_run segments run = grind (arith, none_if, none_append, none_groups, high)
 
 none_ipv6 : (octets : List ℕ) → HasNoFeed (ipv6_text octets)
 none_ipv6 octets = none_run (segments_of octets) (longest_zero_run (segments_of octets))
 
 none_unit : (c : ℕ) → HasNoFeed (unit_text c)
-none_unit c =
-    none_if (c == 34 || c == 92) (92 ∷ c ∷ []) (if is_shown c then c ∷ [] else decimal_escape c)
-    (λ h. (high 92 92 refl (omega arith), (not_in (λ d. d == 34 || d == 92) c h refl, tt)))
-    (λ h. none_if (is_shown c) (c ∷ []) (decimal_escape c)
-    (λ g. (not_in is_shown c g refl, tt))
-    (λ g. none_digits (48 + c / 100) (48 + c / 10 % 10) (48 + c % 10) (omega arith) (omega arith) (omega arith)))
+none_unit c = grind arith
 
 none_string : (octets : List ℕ) → HasNoFeed (string_text octets)
 none_string octets = (high 34 34 refl (omega arith), none_append (inside_text octets) (34 ∷ []) (none_flat unit_text none_unit octets) (none_tested (34 ∷ []) refl))
 
 none_digit : (l : List ℕ) (i : ℕ) → HasNoFeed l → slice_index l i ≢ 10
-none_digit [] i h = λ e. cc
-none_digit (x ∷ l) zero h = h.0
-none_digit (x ∷ l) (suc i) h = none_digit l i h.1
+none_digit l i h = grind (arith, common_steps)
 
 none_encoded : (octets : List ℕ) → HasNoFeed (encode_lower octets)
 unfolding encode_with
@@ -190,12 +149,7 @@ none_strings [] = tt
 none_strings (octets ∷ many) = (none_string octets, none_strings many)
 
 none_field : (v : FieldValue) → AreFeedless (field_items v)
-none_field (name labels) = (none_name labels, tt)
-none_field (u32_value n) = (none_decimal n, tt)
-none_field (u16_value n) = (none_decimal n, tt)
-none_field (fixed octets) = (none_if (length octets == 4) (ipv4_text octets) (ipv6_text octets) (λ h. none_ipv4 octets) (λ h. none_ipv6 octets), tt)
-none_field (string octets) = (none_string octets, tt)
-none_field (strings many) = none_strings many
+none_field v = grind (arith, none_name, none_decimal, none_if, none_ipv4, none_ipv6, none_string, none_strings)
 
 none_fields : (values : List FieldValue) → AreFeedless (flat_map field_items values)
 none_fields [] = tt
@@ -224,14 +178,7 @@ none_spaced xs ys p q = none_append xs (32 ∷ ys) p (high 32 32 refl (omega ari
 
 none_line : (owner ttl class kind rdata : List ℕ) → HasNoFeed owner → HasNoFeed ttl → HasNoFeed class → HasNoFeed kind → HasNoFeed rdata
     → HasNoFeed (owner ++ 32 ∷ ttl ++ 32 ∷ class ++ 32 ∷ kind ++ 32 ∷ rdata)
-none_line owner ttl class kind rdata p q r s t =
-    none_spaced (owner ++ 32 ∷ ttl ++ 32 ∷ class ++ 32 ∷ kind) rdata
-    (none_spaced (owner ++ 32 ∷ ttl ++ 32 ∷ class) kind (none_spaced (owner ++ 32 ∷ ttl) class (none_spaced owner ttl p q) r) s) t
+none_line owner ttl class kind rdata p q r s t = grind (arith, none_spaced)
 
 pub line_ends_with_feed : (r : Record) → EndsWithItsFeed (line r)
-line_ends_with_feed r = record {
-  front = name_text r.owner ++ 32 ∷ decimal r.ttl ++ 32 ∷ class_text r.class ++ 32 ∷ kind_text r.class r.kind ++ 32 ∷ data_text (data_of r);
-  split = refl;
-  others = none_line (name_text r.owner) (decimal r.ttl) (class_text r.class) (kind_text r.class r.kind) (data_text (data_of r))
-      (none_name r.owner) (none_decimal r.ttl) (none_class r.class) (none_kind r.class r.kind) (none_data (data_of r));
-}
+line_ends_with_feed r = grind (arith, none_line (name_text r.owner) (decimal r.ttl) (class_text r.class) (kind_text r.class r.kind) (data_text (data_of r)) (none_name r.owner) (none_decimal r.ttl) (none_class r.class) (none_kind r.class r.kind) (none_data (data_of r)))

@@ -1,9 +1,6 @@
 -- A front of a text that a writer has taken.
-use Rattle.std.proofs.Common.{◌≡◌, ◌≢◌, ℕ, List, [], ◌∷◌, ◌++◌, refl, sym, ap, subst, ◌∙◌, append_assoc, take, drop, take-append-drop, Option}
-use Rattle.std.proofs.lemmas.List.{append-nil}
+use Rattle.zone_print.proofs.Common.{common_steps, ◌≡◌, ◌≢◌, ℕ, List, [], ◌∷◌, ◌++◌, refl, sym, append_assoc, take, drop, take-append-drop, Option, arith, Appends-trans, AppendsPart}
 use Rattle.std.specs.Io.KnownBytes.{Appends}
-use Rattle.std.proofs.KnownBytes.{Appends-trans}
-use Rattle.zone_print.specs.Writing.{AppendsPart}
 
 -- the writer took the text but for this rest
 pub record Left (old new : Option (List ℕ)) (text rest : List ℕ) : Type 0 where
@@ -13,11 +10,7 @@ pub record Left (old new : Option (List ℕ)) (text rest : List ℕ) : Type 0 wh
 
 -- a part of the rest is taken
 pub left_less : (old mid new : Option (List ℕ)) (text rest part others : List ℕ) → Left old mid text rest → rest ≡ part ++ others → Appends mid new part → Left old new text others
-left_less old mid new text rest part others left e taken = record {
-  front = left.front ++ part;
-  split = left.split ∙ ap (λ l. left.front ++ l) e ∙ sym (append_assoc left.front part others);
-  taken = Appends-trans old mid new left.front part left.taken taken;
-}
+left_less old mid new text rest part others left e taken = grind (arith, append_assoc, Appends-trans)
 
 -- the first n octets of the rest are taken
 pub left_after : (old mid new : Option (List ℕ)) (text rest : List ℕ) (n : ℕ) → Left old mid text rest → Appends mid new (take n rest) → Left old new text (drop n rest)
@@ -38,16 +31,8 @@ part_left old new text rest left some = (left.front, rest, some, left.split, lef
 
 -- a part of a front of the rest is taken
 pub part_more : (old mid new : Option (List ℕ)) (text rest front others : List ℕ) → Left old mid text rest → rest ≡ front ++ others → AppendsPart mid new front → AppendsPart old new text
-part_more old mid new text rest front others left e (part, back, some, split, taken) = (
-  left.front ++ part,
-  back ++ others,
-  some_more back others some,
-  left.split ∙ ap (λ l. left.front ++ l) (e ∙ ap (λ l. l ++ others) split ∙ append_assoc part back others) ∙ sym (append_assoc left.front part (back ++ others)),
-  Appends-trans old mid new left.front part left.taken taken,
-)
+part_more old mid new text rest front others left e (part, back, some, split, taken) = grind (arith, some_more, append_assoc, Appends-trans)
 
 -- all of the rest is taken
 pub left_none : (old mid new : Option (List ℕ)) (text rest part : List ℕ) → Left old mid text rest → rest ≡ part ++ [] → Appends mid new part → Appends old new text
-left_none old mid new text rest part left e taken =
-    let whole = left_less old mid new text rest part [] left e taken in
-    subst (λ t. Appends old new t) (sym (whole.split ∙ append-nil whole.front)) whole.taken
+left_none old mid new text rest part left e taken = grind (arith, common_steps)

@@ -1,23 +1,12 @@
 -- The line of a record as a line of items of a master file.
-use Rattle.std.proofs.Common.{◌≡◌, ◌≢◌, ℕ, ◌<◌, false, List, [], ◌∷◌, ◌++◌, length, map, decimal, refl, sym, ap, ◌∙◌, subst, arith, append_assoc}
-use Rattle.std.specs.Prelude.{IfSome}
-use Rattle.std.specs.List.{flat_map, AllByRecursion, join_with_byte}
-use Rattle.std.proofs.lemmas.List.{length-map}
-use Rattle.zone_name.specs.Text.{name_text}
+use Rattle.zone_print.proofs.Common.{common_steps, ◌≡◌, ◌≢◌, ℕ, ◌<◌, false, List, [], ◌∷◌, ◌++◌, length, map, decimal, arith, rules, IfSome, flat_map, AllByRecursion, join_with_byte, length-map, name_text, Record, IsRecord, data_of, data_items, written_item, class_text, kind_text, entry_of, first_octet, item_of, IsItem, line_of, Token, text, is_blank, line}
 use Rattle.zone_name.proofs.Bare.{bare_name}
-use Rattle.zone_rdata.specs.Record.{Record, IsRecord, data_of}
 use Rattle.zone_rdata.specs.Spelling.{RawItem}
 use Rattle.zone_rdata.specs.Spelling as raw
-use Rattle.zone_rdata.specs.Text.{data_items, data_text, written_item}
-use Rattle.zone_rdata.specs.Words.{class_text, kind_text}
 use Rattle.zone_rdata.proofs.PrintedWords.{class_bare, kind_bare}
 use Rattle.zone_rdata.proofs.Standing.{IsPrintedItem, bare_decimal}
 use Rattle.zone_rdata.proofs.TextItems.{data_some, data_stands}
-use Rattle.zone_text.specs.Entries.{entry_of, first_octet, item_of}
-use Rattle.zone_text.specs.Line.{IsItem, line_of}
-use Rattle.zone_text.specs.Tokens.{Token, text, is_blank}
 use Rattle.zone_text.proofs.StandingItems.{BeginsOwner, tokens_of, text_begins}
-use Rattle.zone_print.specs.Canonical.{line}
 use Rattle.zone_print.proofs.Lines.{line_parts}
 
 -- A printed line as a line of items: owner, TTL, class, type and the items of the data. It begins
@@ -31,14 +20,8 @@ pub record LineItems (r : Record) : Type 0 where
 
 -- ---- the parts of a line
 
-joined_before : (first front rest : List ℕ) → rest ++ 10 ∷ [] ≡ front → (first ++ (32 ∷ rest)) ++ 10 ∷ [] ≡ first ++ (32 ∷ front)
-joined_before first front rest e = append_assoc first (32 ∷ rest) (10 ∷ []) ∙ ap (λ t. first ++ (32 ∷ t)) e
-
 parts_joined : (owner ttl class kind : List ℕ) (texts : List (List ℕ)) → 0 < length texts → join_with_byte 32 (owner ∷ ttl ∷ class ∷ kind ∷ texts) ++ 10 ∷ [] ≡ owner ++ 32 ∷ ttl ++ 32 ∷ class ++ 32 ∷ kind ++ 32 ∷ join_with_byte 32 texts ++ 10 ∷ []
-parts_joined owner ttl class kind [] some = absurd (omega arith)
-parts_joined owner ttl class kind (first ∷ texts) some =
-    joined_before owner _ _ (joined_before ttl _ _ (joined_before class _ _ (joined_before kind _ (join_with_byte 32 (first ∷ texts)) refl)))
-    ∙ sym (line_parts owner ttl class kind (join_with_byte 32 (first ∷ texts)))
+parts_joined owner ttl class kind texts some = grind (arith, common_steps)
 
 -- ---- the line of a record
 
@@ -48,33 +31,14 @@ record_items r = raw.bare (name_text r.owner) ∷ raw.bare (decimal r.ttl) ∷ r
 
 -- each stands as it is printed
 items_stand : (r : Record) → IsRecord r → AllByRecursion IsPrintedItem (record_items r)
-items_stand r is =
-    let ttl = bare_decimal r.ttl (let low = is.ttl in omega arith) in
-    let class = class_bare r.class is.rdata.class in
-    let kind = kind_bare r.class r.kind is.rdata.kind in
-    (bare_name r.owner is.owner, (ttl, (class, (kind, data_stands (data_of r) is.rdata))))
+items_stand r is = search (rules, bare_decimal, class_bare, kind_bare, bare_name, data_stands)
 
 -- with single spaces between them and a line feed they are the line
 items_joined : (r : Record) → IsRecord r → join_with_byte 32 (map written_item (record_items r)) ++ 10 ∷ [] ≡ line r
-items_joined r is =
-    let texts = map written_item (data_items (data_of r)) in
-    let some : 0 < length texts = omega (arith, length-map (data_items (data_of r)) written_item, data_some (data_of r) is.rdata) in
-    parts_joined (name_text r.owner) (decimal r.ttl) (class_text r.class) (kind_text r.class r.kind) texts some
+items_joined r is = search (rules, length-map, data_some, parts_joined)
 
 line_begins : (r : Record) → IsRecord r → IfSome (first_octet (line r)) BeginsOwner
-line_begins r is =
-    subst (λ t. IfSome (first_octet t) BeginsOwner)
-    (sym (line_parts (name_text r.owner) (decimal r.ttl) (class_text r.class) (kind_text r.class r.kind) (data_text (data_of r))))
-    (text_begins (name_text r.owner) _ (bare_name r.owner is.owner))
+line_begins r is = grind (arith, line_parts, text_begins, bare_name)
 
 pub line_items : (r : Record) → IsRecord r → LineItems r
-line_items r is =
-    let all = tokens_of (record_items r) (items_stand r is) in
-    let printed : text (line_of all.tokens) ≡ line r = all.written ∙ items_joined r is in
-    record {
-      tokens = all.tokens;
-      items = all.each;
-      printed = printed;
-      entries = all.same;
-      begins = subst (λ t. IfSome (first_octet t) BeginsOwner) (sym printed) (line_begins r is);
-    }
+line_items r is = grind (arith, tokens_of (record_items r) (items_stand r is), items_joined r is, line_begins r is)

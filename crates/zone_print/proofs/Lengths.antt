@@ -1,22 +1,14 @@
 -- How many octets lines have, against those that their records take in messages.
-use Rattle.std.proofs.Common.{◌≡◌, ℕ, ◌+◌, ◌*◌, ◌≤◌, List, [], ◌∷◌, ◌++◌, length, decimal, arith, length-append}
-use Rattle.std.specs.List.{AllByRecursion}
+use Rattle.zone_print.proofs.Common.{common_steps, ◌≡◌, ℕ, ◌+◌, ◌*◌, ◌≤◌, List, [], ◌∷◌, ◌++◌, length, decimal, arith, length-append, AllByRecursion, name_text, Record, IsRecord, data_of, data_text, class_text, kind_text, Zone, IsZone, canon, line, lines}
 use Rattle.std.proofs.lemmas.Fmt.{length-decimal-le}
 use Rattle.std.proofs.lemmas.List.Sums.{sum_by-cons}
-use Rattle.zone_name.specs.Text.{name_text}
 use Rattle.zone_name.proofs.Lengths.{name_text_length}
-use Rattle.zone_rdata.specs.Record.{Record, IsRecord, data_of}
-use Rattle.zone_rdata.specs.Text.{data_text}
-use Rattle.zone_rdata.specs.Words.{class_text, kind_text}
 use Rattle.zone_rdata.proofs.TextLengths.{class_length, data_text_length, kind_length}
 use Rattle.zone_set.specs.Message.{message_len, message_octets}
-use Rattle.zone_set.specs.Zone.{Zone, IsZone}
-use Rattle.zone_print.specs.Canonical.{canon, line, lines}
 
 -- the five parts, four spaces and the line feed
 parts_length : (owner ttl class kind rdata : List ℕ) → length (owner ++ 32 ∷ ttl ++ 32 ∷ class ++ 32 ∷ kind ++ 32 ∷ rdata ++ 10 ∷ []) ≡ length owner + length ttl + length class + length kind + length rdata + 5
-parts_length owner ttl class kind rdata =
-    omega (arith, length-append (owner ++ 32 ∷ ttl ++ 32 ∷ class ++ 32 ∷ kind ++ 32 ∷ rdata) (10 ∷ []), length-append (owner ++ 32 ∷ ttl ++ 32 ∷ class ++ 32 ∷ kind) (32 ∷ rdata), length-append (owner ++ 32 ∷ ttl ++ 32 ∷ class) (32 ∷ kind), length-append (owner ++ 32 ∷ ttl) (32 ∷ class), length-append owner (32 ∷ ttl))
+parts_length owner ttl class kind rdata = grind (arith, common_steps)
 
 -- the TTL, the class and the type have at most ten octets each, and four times theirs in a message
 -- are forty

@@ -1,3 +1,4 @@
+pub mod Common
 pub mod Feeds
 pub mod Front
 pub mod Lines

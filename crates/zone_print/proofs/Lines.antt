@@ -1,10 +1,5 @@
 -- What a line is made of, and the lines to come.
-use Rattle.std.proofs.Common.{◌≡◌, ◌≢◌, subst, ℕ, List, [], ◌∷◌, ◌++◌, decimal, ap, sym, ◌∙◌, append_assoc}
-use Rattle.zone_name.specs.Text.{name_text}
-use Rattle.zone_rdata.specs.Record.{Record, data_of}
-use Rattle.zone_rdata.specs.Text.{data_text}
-use Rattle.zone_rdata.specs.Words.{class_text, kind_text}
-use Rattle.zone_print.specs.Canonical.{line, lines}
+use Rattle.zone_print.proofs.Common.{common_steps, ◌≡◌, ◌≢◌, ℕ, List, [], ◌∷◌, ◌++◌, ap, append_assoc, arith, name_text, Record, data_of, data_text, line, lines}
 use Rattle.zone_print.specs.Machine.Middle.{line_middle}
 use Rattle.zone_print.proofs.Feeds.{line_ends_with_feed}
 use Rattle.zone_print.proofs.Front.{some_after, some_more}
@@ -12,8 +7,7 @@ use Rattle.zone_print.proofs.Front.{some_after, some_more}
 -- data of equal classes, types and octets has equal texts
 pub same_text : (class class' kind kind' : ℕ) (octets : List ℕ) → class ≡ class' → kind ≡ kind'
     → data_text (record { class = class; kind = kind; octets = octets }) ≡ data_text (record { class = class'; kind = kind'; octets = octets })
-same_text class class' kind kind' octets e f =
-    ap (λ n. data_text (record { class = n; kind = kind; octets = octets })) e ∙ ap (λ n. data_text (record { class = class'; kind = n; octets = octets })) f
+same_text class class' kind kind' octets e f = cc
 
 regroup : (a b c d e f : List ℕ) → a ++ b ++ c ++ d ++ e ++ f ≡ a ++ (b ++ (c ++ (d ++ (e ++ f))))
 regroup a b c d e f = simp append_assoc
@@ -24,22 +18,17 @@ line_parts owner ttl class kind rdata = regroup owner (32 ∷ ttl) (32 ∷ class
 
 -- a line is its owner, its middle, the data and a line feed
 pub line_split : (r : Record) → line r ≡ name_text r.owner ++ (line_middle r ++ (data_text (data_of r) ++ 10 ∷ []))
-line_split r =
-    let value = data_text (data_of r) in
-    line_parts (name_text r.owner) (decimal r.ttl) (class_text r.class) (kind_text r.class r.kind) value
-    ∙ ap (λ l. name_text r.owner ++ l) (sym (regroup [] (32 ∷ decimal r.ttl) (32 ∷ class_text r.class) (32 ∷ kind_text r.class r.kind) (32 ∷ []) (value ++ 10 ∷ [])))
+line_split r = grind (arith, common_steps)
 
 -- owner, middle and what follows them were pushed
 pub line_pushed : (old named numbered new owner middle : List ℕ) (r : Record) → owner ≡ name_text r.owner → middle ≡ line_middle r
     → named ≡ old ++ owner → numbered ≡ named ++ middle → new ≡ numbered ++ (data_text (data_of r) ++ 10 ∷ []) → new ≡ old ++ line r
-line_pushed old named numbered new owner middle r e f g h i =
-    rw (i, h, g, e, f, line_split r) (simp append_assoc)
+line_pushed old named numbered new owner middle r e f g h i = grind (arith, common_steps)
 
 -- the first of the records to come was pushed
 pub line_moves : (buffer grown : List ℕ) (records others : List Record) (r : Record) → records ≡ r ∷ others → grown ≡ buffer ++ line r
     → buffer ++ lines records ≡ grown ++ lines others
-line_moves buffer grown records others r e pushed =
-    ap (λ rs. buffer ++ lines rs) e ∙ sym (append_assoc buffer (line r) (lines others)) ∙ ap (λ l. l ++ lines others) (sym pushed)
+line_moves buffer grown records others r e pushed = grind (arith, common_steps)
 
 -- no record is to come
 pub line_ends : (buffer : List ℕ) (records : List Record) → records ≡ [] → buffer ++ lines records ≡ buffer ++ []
@@ -47,8 +36,4 @@ line_ends buffer records e = ap (λ rs. buffer ++ lines rs) e
 
 -- while a record is to come, octets are
 pub line_to_come : (buffer : List ℕ) (records others : List Record) (r : Record) → records ≡ r ∷ others → buffer ++ lines records ≢ []
-line_to_come buffer records others r e none =
-    let ends = line_ends_with_feed r in
-    some_after buffer (lines (r ∷ others))
-    (some_more (line r) (lines others) (subst (λ l. l ≢ []) (sym ends.split) (some_after ends.front (10 ∷ []) (λ f. cc))))
-    (sym (ap (λ rs. buffer ++ lines rs) e) ∙ none)
+line_to_come buffer records others r e none = grind (arith, line_ends_with_feed, some_after, some_more)

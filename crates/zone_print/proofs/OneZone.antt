@@ -1,5 +1,5 @@
 -- A zone is fixed by its set of records: a strictly ascending list is the only one of its set.
-use Rattle.std.proofs.Common.{◌≡◌, ℕ, List, [], ◌∷◌, Less, Equal, refl, sym, ap, ap₂, ◌∙◌, subst, inl, inr, ⊎_elim}
+use Rattle.zone_print.proofs.Common.{◌≡◌, ℕ, List, [], ◌∷◌, Less, Equal, refl, sym, ap, ap₂, ◌∙◌, subst, inl, ⊎_elim, arith, Record, data_of, Placed, FileStates, records_of, Has, SameRecords, Zone, IsZone, Denotes}
 use Rattle.std.proofs.lemmas.Cmp.{on_total, then_total, nat_cmp_total, nat_list_cmp_total, tied_itself}
 use Rattle.std.proofs.lemmas.Map.Lookups.{exact_unsigned, exact_bytes}
 use Rattle.std.specs.Cmp.{IsTotalOrder}
@@ -7,14 +7,8 @@ use Rattle.std.specs.Ordering.{ordering_reverse}
 use Rattle.zone_name.specs.Order.{name_cmp}
 use Rattle.zone_name.proofs.Lawful.{name_cmp-total}
 use Rattle.zone_rdata.specs.Order.{data_cmp}
-use Rattle.zone_rdata.specs.Record.{Record, data_of}
-use Rattle.zone_rdata.specs.declared.record.Placed.{Placed}
-use Rattle.zone_text.specs.File.{FileStates}
 use Rattle.zone_set.specs.Order.{soa_rank, canonical_cmp, Ascends}
-use Rattle.zone_set.specs.Refusal.{records_of}
-use Rattle.zone_set.specs.Zone.{Has, SameRecords, Zone, IsZone}
 use Rattle.zone_set.proofs.Together.{each_Has}
-use Rattle.zone_print.specs.Denotes.{Denotes}
 use Rattle.zone_set.proofs.SetOrder.{both_equal}
 
 data_total : IsTotalOrder data_cmp
@@ -36,9 +30,7 @@ canonical_exact exact r s tied =
 
 -- no record goes before itself, and no two go each before the other
 not_itself : (r s : Record) → r ≡ s → canonical_cmp r s ≡ Less → ⊥
-not_itself r s same less =
-    let tied = tied_itself canonical_total r in
-    let less_itself : canonical_cmp r r ≡ Less = subst (λ t. canonical_cmp r t ≡ Less) (sym same) less in cc
+not_itself r s same less = cc (tied_itself canonical_total r)
 
 not_both : (r s : Record) → canonical_cmp r s ≡ Less → canonical_cmp s r ≡ Less → ⊥
 not_both r s less back = let turned = sym less ∙ canonical_total.antisymm r s ∙ ap ordering_reverse back in cc
@@ -55,8 +47,7 @@ same_first r s records others up up_others same =
 
 -- what follows the first of one list follows the first of the other
 after : (r s : Record) (records others : List Record) → Ascends (r ∷ records) → r ≡ s → ((t : Record) → Has (r ∷ records) t → Has (s ∷ others) t) → (t : Record) → Has records t → Has others t
-after r s records others up first same t has =
-    ⊎_elim (λ is. absurd (not_itself r t (first ∙ sym is) (each_Has (λ u. canonical_cmp r u ≡ Less) records t up.0 has))) (λ later. later) (same t (inr has))
+after r s records others up first same t has = grind (arith, not_itself, each_Has)
 
 pub one_ascending : (records others : List Record) → Ascends records → Ascends others → SameRecords records others → records ≡ others
 one_ascending [] [] up up_others same = refl
@@ -71,15 +62,7 @@ one_ascending (r ∷ records) (s ∷ others) up up_others same =
     )))
 
 pub one_zone : (z w : Zone) → IsZone z → IsZone w → SameRecords z.records w.records → z ≡ w
-one_zone z w is_z is_w same =
-    let records : z.records ≡ w.records = one_ascending z.records w.records is_z.compatible.ascend is_w.compatible.ascend same in
-    let (r, has_r, soa_r, at_r) = is_z.soa in
-    let (s, has_s, soa_s, at_s) = is_w.soa in
-    let has : Has z.records s = (same s).1 has_s in
-    let one : r ≡ s = is_z.compatible.one_soa r s has_r has soa_r soa_s in
-    let apex : z.apex ≡ w.apex = sym at_r ∙ ap (λ t. t.owner) one ∙ at_s in
-    let class : z.class ≡ w.class = sym (each_Has (λ t. t.class ≡ z.class) z.records s is_z.class has) ∙ each_Has (λ t. t.class ≡ w.class) w.records s is_w.class has_s in
-    λ i. record { apex = apex i; class = class i; records = records i }
+one_zone z w is_z is_w same = grind (arith, one_ascending, each_Has)
 
 -- a file that states one list of records denotes one zone
 pub one_zone_of_file : (origin : List (List ℕ)) (octets : List ℕ) → ((a b : List Placed) → FileStates origin octets a → FileStates origin octets b → a ≡ b) → (z w : Zone) → Denotes origin octets z → Denotes origin octets w → z ≡ w

@@ -1,34 +1,17 @@
 -- A record's line is one entry that states the record, so lines of records are read back.
-use Rattle.std.proofs.Common.{◌≡◌, ◌≢◌, ◌↔◌, ℕ, zero, ◌+◌, ◌^◌, ◌<◌, ◌≤◌, List, [], ◌∷◌, ◌++◌, length, ◌==◌, Bool, cond, false, Some, refl, sym, ap, ◌∙◌, subst, decimal, add-zero, arith}
-use Rattle.std.specs.Prelude.{fold}
+use Rattle.zone_print.proofs.Common.{◌≡◌, ◌≢◌, ◌↔◌, ℕ, zero, ◌+◌, ◌^◌, ◌<◌, ◌≤◌, List, [], ◌∷◌, ◌++◌, length, ◌==◌, Bool, cond, false, Some, refl, sym, ap, ◌∙◌, subst, decimal, add-zero, arith, rules, fold, append-nil, flat_map, AllByRecursion, count_by, name_text, Placed, Data, Record, IsRdata, IsRecord, data_of, data_items, IsClass, IsClassWord, IsKind, IsKindWord, class_text, kind_text, Cut, Entry, cut_from, entry_of, item_of, numbered, FileStates, EntriesState, states_one, IsItem, line_of, StatesWhole, Cuts, Token, text, records_of, Has, IsZone, SameRecords, Zone, canon, line, lines, text_limit, Denotes, EndsWithItsFeed, HasNoFeed, IsLineOf, placed_from}
 use Rattle.std.proofs.lemmas.Bool.Decides.{nat_tests}
-use Rattle.std.proofs.lemmas.List.{append-nil}
-use Rattle.std.specs.List.{flat_map, AllByRecursion, count_by}
 use Rattle.zone_name.specs.Common.{Labels}
 use Rattle.zone_name.specs.Name.{IsName}
 use Rattle.zone_name.specs.Spelling.{Spells}
-use Rattle.zone_name.specs.Text.{name_text}
 use Rattle.zone_rdata.specs.declared.fault.Place.TheVariants.{Line}
-use Rattle.zone_rdata.specs.declared.record.Placed.{Placed}
 use Rattle.zone_rdata.specs.Number.{IsTime}
-use Rattle.zone_rdata.specs.Record.{Data, Record, IsRdata, IsRecord, data_of}
 use Rattle.zone_rdata.specs.Spelling.{States}
-use Rattle.zone_rdata.specs.Text.{data_items}
-use Rattle.zone_rdata.specs.Words.{IsClass, IsClassWord, IsKind, IsKindWord, class_text, kind_text}
-use Rattle.zone_text.specs.Entries.{Cut, Entry, and_last, cut_from, entries_of, entry_of, item_of, numbered}
-use Rattle.zone_text.specs.File.{FileStates, EntriesState, states_one}
 use Rattle.zone_text.specs.Inherited.{IsOrigin}
 use Rattle.zone_text.specs.Lasting.{EndInLineFeed}
-use Rattle.zone_text.specs.Line.{IsItem, line_of, StatesWhole}
-use Rattle.zone_text.specs.Tokens.{Cuts, Token, text}
 use Rattle.zone_text.specs.Records.{EntryStates}
-use Rattle.zone_text.proofs.CutAgain.{AreEnded, cut_ended, joined}
+use Rattle.zone_text.proofs.CutAgain.{cut_ended, joined}
 use Rattle.zone_text.proofs.DecidedOnce.{cut_after_all}
-use Rattle.zone_set.specs.Refusal.{records_of}
-use Rattle.zone_set.specs.Zone.{Has, IsZone, SameRecords, Zone}
-use Rattle.zone_print.specs.Canonical.{canon, line, lines, text_limit}
-use Rattle.zone_print.specs.Denotes.{Denotes}
-use Rattle.zone_print.specs.Laws.{EndsWithItsFeed, HasNoFeed, IsLineOf, placed_from}
 use Rattle.zone_print.proofs.Feeds.{line_ends_with_feed}
 use Rattle.zone_print.proofs.Items.{LineItems, line_items}
 
@@ -120,9 +103,7 @@ record LinesCut (records : List Record) : Type 0 where
   pub are : AreLines ended records
 
 ends_in_feed : (tokens : List Token) → cut_from zero tokens ≡ record { ended = tokens ∷ []; open_tokens = [] } → EndInLineFeed tokens
-ends_in_feed tokens ended =
-    let are : AreEnded zero (cut_from zero tokens).ended = cut_ended zero tokens in
-    subst EndInLineFeed (ap (λ (c : Cut). joined c.ended) ended ∙ append-nil tokens) are.ends
+ends_in_feed tokens ended = grind (arith, cut_ended, joined, append-nil)
 
 lines_cut : ((r : Record) → IsRecord r → IsLineOf r (line r))
     → ((front rest : List ℕ) (tokens more : List Token) → Cuts front tokens → EndInLineFeed tokens → Cuts rest more → Cuts (front ++ rest) (tokens ++ more))
@@ -142,21 +123,7 @@ lines_cut line_is joins (r ∷ records) each =
 
 -- an entry states the same at any line
 at_line : (number : ℕ) (tokens : List Token) (r : Record) → StatesWhole (entry_of 1 tokens) r → StatesWhole (entry_of number tokens) r
-at_line number tokens r s = record {
-  owner_text = s.owner_text;
-  ttl_text = s.ttl_text;
-  class_word = s.class_word;
-  kind_word = s.kind_word;
-  items = s.items;
-  begins = s.begins;
-  whole = s.whole;
-  owner = s.owner;
-  ttl = s.ttl;
-  class = s.class;
-  kind = s.kind;
-  rdata = s.rdata;
-  fits = s.fits;
-}
+at_line number tokens r s = search rules
 
 -- what whole entries state, and that they leave the origin
 pub record WholeEntries : Type 0 where
@@ -177,14 +144,7 @@ pub lines_back : ((r : Record) → IsRecord r → IsLineOf r (line r))
     → ((front rest : List ℕ) (tokens more : List Token) → Cuts front tokens → EndInLineFeed tokens → Cuts rest more → Cuts (front ++ rest) (tokens ++ more))
     → WholeEntries
     → (origin : Labels) (records : List Record) → AllByRecursion IsRecord records → FileStates origin (lines records) (placed_from 1 records)
-lines_back line_is joins wholes origin records each =
-    let c : LinesCut records = lines_cut line_is joins records each in
-    let entries : entries_of c.tokens ≡ numbered 1 c.ended = ap (λ (t : Cut). numbered 1 (and_last t.ended t.open_tokens)) c.split in
-    record {
-      tokens = c.tokens;
-      cut = c.cut;
-      each = subst (λ es. EntriesState origin [] es (placed_from 1 records)) (sym entries) (states_each wholes origin [] 1 c.ended records refl c.are);
-    }
+lines_back line_is joins wholes origin records each = grind (arith, lines_cut, states_each)
 
 -- ---- the zone
 

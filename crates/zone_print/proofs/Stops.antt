@@ -1,9 +1,8 @@
 -- Why a text was not written.
-use Rattle.std.proofs.Common.{ℕ, ◌≤◌, List, length, Option, Result, Ok, Err, IfErr, OnErr}
+use Rattle.zone_print.proofs.Common.{ℕ, ◌≤◌, List, length, Option, Result, Ok, Err, IfErr, OnErr, arith, AppendsPart, StopsWrite, TellsWrite}
 use Rattle.zone_rdata.specs.declared.fault.Stop.{Stop}
 use Rattle.zone_rdata.specs.declared.fault.Stop.TheVariants.{Write, Memory}
 use Rattle.zone_print.specs.Machine.Writing.{IsOfWriting}
-use Rattle.zone_print.specs.Writing.{AppendsPart, StopsWrite, TellsWrite}
 
 -- a text within the limit was written in part
 stop_within : (works failed : Type 0) (limit : ℕ) (text : List ℕ) (old new : Option (List ℕ)) (stop : Stop) → length text ≤ limit → IsOfWriting works failed stop → AppendsPart old new text → StopsWrite limit text old new stop
@@ -16,12 +15,5 @@ pub stops_within : {T : Type 0} (works failed : Type 0) (limit : ℕ) (text : Li
 stops_within works failed limit text old new (Ok x) short is part = tt
 stops_within works failed limit text old new (Err stop) short is part = stop_within works failed limit text old new stop short is part
 
--- what stops the writing tells of the writer
-tells_stop : (works failed : Type 0) (stop : Stop) → IsOfWriting works failed stop → TellsWrite works failed stop
-tells_stop works failed Write is = is
-tells_stop works failed Memory is = is
-tells_stop works failed stop is = absurd is
-
 pub tells_writing : {T : Type 0} (works failed : Type 0) (answer : Result T Stop) → IfErr answer (IsOfWriting works failed) → IfErr answer (TellsWrite works failed)
-tells_writing works failed (Ok x) is = tt
-tells_writing works failed (Err stop) is = tells_stop works failed stop is
+tells_writing works failed answer is = grind arith

@@ -1,6 +1,5 @@
 -- A text is an address or none.
-use Rattle.zone_rdata.proofs.Common.{[], Bool, Err, IsTrue, List, Ok, Result, ap, arith, drop, false, get_or, inl, inr, length, refl, replicate, suc, sym, take, true, zero, ℕ, ◌++◌, ◌+◌, ◌-◌, ◌<◌, ◌∙◌, ◌∷◌, ◌≡◌, ◌≢◌, ◌≤◌, ◌⊎◌, cases_eq, cases_lt, AllZip, decode_sized, AreAround, ArePartsOf, IsIpv4Address, IsIpv6Address, IsOctetNumber, eight, IsAddress, of_ipv4, of_ipv6, HasGapAt, IsGroupOf, IsLastPartOf, IsDecimal}
-use Rattle.hex.specs.declared.error.FromHexError.{FromHexError}
+use Rattle.zone_rdata.proofs.Common.{[], Bool, Err, IsTrue, List, Ok, Result, ap, arith, drop, false, get_or, inl, inr, length, refl, replicate, suc, sym, take, true, zero, ℕ, ◌++◌, ◌+◌, ◌-◌, ◌<◌, ◌∙◌, ◌∷◌, ◌≡◌, ◌≢◌, ◌≤◌, ◌⊎◌, cases_eq, cases_lt, AllZip, decode_sized, AreAround, ArePartsOf, IsIpv4Address, IsIpv6Address, IsOctetNumber, eight, IsAddress, of_ipv4, of_ipv6, HasGapAt, IsGroupOf, IsLastPartOf, IsDecimal, FromHexError}
 use Rattle.zone_rdata.proofs.AddressFields.{no_ipv4, no_ipv6}
 use Rattle.zone_rdata.proofs.AddressGaps.{IsFirstGap, found_at_gap, refused_at_gap, refused_without_gap}
 use Rattle.zone_rdata.proofs.AddressParts.{HaveParts, no_parts, parts_found, parts_listed, parts_unique}

@@ -1,7 +1,6 @@
 -- An address in text has the octets that its field holds.
-use Rattle.zone_rdata.proofs.Common.{◌≡◌, ℕ, List, sym, ◌∙◌, arith, Err, Option, Some, None, IfNone, ok_or, Failing, IsIpv4Address, IsIpv6Address, AreFixed, IsAddress, of_ipv4, of_ipv6}
+use Rattle.zone_rdata.proofs.Common.{◌≡◌, ℕ, List, sym, ◌∙◌, arith, Err, Option, Some, None, IfNone, ok_or, Failing, IsIpv4Address, IsIpv6Address, AreFixed, IsAddress, of_ipv4, of_ipv6, BadRdata}
 use Rattle.zone_rdata.specs.declared.fault.Failing.TheVariants as failings
-use Rattle.zone_rdata.specs.declared.fault.Fault.TheVariants.{BadRdata}
 use Rattle.zone_rdata.proofs.AddressOctets.{ipv4_count, ipv4_bytes, ipv6_count, ipv6_bytes}
 
 -- an address of n octets has n octets

@@ -1,6 +1,5 @@
 -- What is printed for an address is read back, and is of the form that RFC 5952 recommends.
-use Rattle.zone_rdata.proofs.Common.{[], ◌≡◌, ℕ, zero, suc, ◌+◌, ◌-◌, ◌*◌, ◌/◌, ◌%◌, ◌^◌, ◌<◌, ◌≤◌, Bool, true, false, inl, inr, List, ◌∷◌, ◌++◌, length, take, drop, map, replicate, decimal, refl, sym, ap, ◌∙◌, subst, arith, append_assoc, length-append, lt-ltb, le-ltb, rules, fold, slice_index, AllByRecursion, longest_zero_run, cases_lt, lt-leb, decimal_nonempty, digits_decimal, digits_value-decimal, append-nil, take-append-drop, length-take-le, length-drop, drop-drop, All-weaker, recursion_from_All, decode_sized, decode_sized-encode_lower, AreOctets, is_digit, decimal_value, IsOctetNumber, IsIpv4Address, AddressPart, IsGroup, AreParts, parts_text, parts_octets, ArePartsOf, IsIpv6Address, eight, fewer, ipv4_text, ipv6_text, parted_groups, shortened_groups, IsZeroRun, IsShortenedRun, IsAddressOctet, AllByRecursion-front, AllByRecursion-back}
-use Rattle.std.proofs.Common.{le-leb}
+use Rattle.zone_rdata.proofs.Common.{[], ◌≡◌, ℕ, zero, suc, ◌+◌, ◌-◌, ◌*◌, ◌/◌, ◌%◌, ◌^◌, ◌<◌, ◌≤◌, Bool, true, false, inl, inr, List, ◌∷◌, ◌++◌, length, take, drop, map, replicate, decimal, refl, sym, ap, ◌∙◌, subst, arith, append_assoc, length-append, lt-ltb, le-ltb, rules, fold, slice_index, AllByRecursion, longest_zero_run, cases_lt, lt-leb, decimal_nonempty, digits_decimal, digits_value-decimal, append-nil, take-append-drop, length-take-le, length-drop, drop-drop, All-weaker, recursion_from_All, decode_sized-encode_lower, AreOctets, is_digit, decimal_value, IsOctetNumber, IsIpv4Address, AddressPart, IsGroup, AreParts, parts_text, parts_octets, ArePartsOf, IsIpv6Address, eight, fewer, ipv4_text, ipv6_text, parted_groups, shortened_groups, IsZeroRun, IsShortenedRun, IsAddressOctet, AllByRecursion-front, AllByRecursion-back, common_steps, le-leb}
 use Rattle.std.specs.Net.Addr.{segments_of}
 use Rattle.std.specs.Net.Text.{hex, hex_groups_text}
 use Rattle.std.proofs.NetLemmas.Texts.{IsZeroRun-longest_zero_run, longest_zero_run_first}
@@ -56,13 +55,7 @@ pair_bytes : (a b : ℕ) → a < 256 → b < 256 → (i : ℕ) → slice_index (
 pair_bytes a b h k i = grind arith
 
 group_printed : (n : ℕ) → n < 2 ^ 16 → IsGroup (part n)
-group_printed n fits =
-    let filled = hex_filled n fits in
-    record {
-      some = filled.0;
-      few = filled.1;
-      value = ap (λ t. decode_sized t 2) (filled.2 ∙ sym (four_encoded n fits)) ∙ decode_sized-encode_lower (pair n) 2 refl (pair_bytes (n / 256) (n % 256) (omega arith) (omega arith));
-    }
+group_printed n fits = grind (arith, hex_filled n fits, four_encoded n fits, decode_sized-encode_lower (pair n) 2 refl (pair_bytes (n / 256) (n % 256) (omega arith) (omega arith)))
 
 abbrev AllGroups : List ℕ → Type 0
 AllGroups groups = AllByRecursion (λ n. n < 2 ^ 16) groups
@@ -84,8 +77,7 @@ groups_printed : (ends : Bool) (groups : List ℕ) → AllGroups groups → AreP
 groups_printed ends groups each = record { parts = map part groups; each = parts_printed ends groups each; parted = groups_parted groups; value = refl }
 
 pairs-append : (xs ys : List ℕ) → pairs (xs ++ ys) ≡ pairs xs ++ pairs ys
-pairs-append [] ys = refl
-pairs-append (x ∷ xs) ys = ap (λ o. x / 256 ∷ x % 256 ∷ o) (pairs-append xs ys)
+pairs-append xs ys = grind (arith, common_steps)
 
 length-pairs : (groups : List ℕ) → length (pairs groups) ≡ 2 * length groups
 length-pairs [] = refl
@@ -148,21 +140,10 @@ ipv6_printed octets len each =
 -- ---- the run that is shortened
 
 run_is : (groups : List ℕ) (start len : ℕ) → IsShortenedRun groups start len → ((longest_zero_run groups).0 ≡ start) × ((longest_zero_run groups).1 ≡ len)
-run_is groups start len run =
-    let own_run = IsZeroRun-longest_zero_run groups in
-    let most = longest_zero_run_first groups start len run.zeros in
-    let least = run.longest (longest_zero_run groups).0 (longest_zero_run groups).1 own_run in
-    let same : (longest_zero_run groups).1 ≡ len = omega (arith, most.0, least) in
-    let before = run.first (longest_zero_run groups).0 (subst (λ l. IsZeroRun groups (longest_zero_run groups).0 l) same own_run) in
-    (omega arith, same)
+run_is groups start len run = grind (arith, IsZeroRun-longest_zero_run, longest_zero_run_first)
 
 longest_is : (groups : List ℕ) → 1 < (longest_zero_run groups).1 → IsShortenedRun groups (longest_zero_run groups).0 (longest_zero_run groups).1
-longest_is groups long = record {
-  zeros = IsZeroRun-longest_zero_run groups;
-  two = omega arith;
-  longest = λ s l run. (longest_zero_run_first groups s l run).0;
-  first = λ s run. (longest_zero_run_first groups s (longest_zero_run groups).1 run).1 refl;
-}
+longest_is groups long = grind (arith, IsZeroRun-longest_zero_run, longest_zero_run_first)
 
 pub run_shortened : (octets : List ℕ) (start len : ℕ) → IsShortenedRun (segments_of octets) start len → ipv6_text octets ≡ shortened_groups (segments_of octets) start len
 run_shortened octets start len run = grind (arith, run_is, lt-ltb)

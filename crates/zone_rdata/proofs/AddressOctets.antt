@@ -1,5 +1,5 @@
 -- How many octets an address has, and that they are octets.
-use Rattle.zone_rdata.proofs.Common.{[], ◌≡◌, ℕ, zero, suc, ◌-◌, ◌<◌, Bool, true, false, inl, inr, List, ◌∷◌, ◌++◌, length, replicate, refl, sym, ◌∙◌, subst, arith, length-append, AllZip, length-replicate, decode_of-ok, decode_sized-ok, decode_sized-twice, AreOctets, IsOctetNumber, IsIpv4Address, AddressPart, IsGroup, IsLastPart, AreParts, parts_octets, ArePartsOf, IsIpv6Address, eight, fewer, AllByRecursion-append}
+use Rattle.zone_rdata.proofs.Common.{[], ◌≡◌, ℕ, zero, suc, ◌-◌, ◌<◌, Bool, true, false, inl, inr, List, ◌∷◌, ◌++◌, length, replicate, refl, sym, ◌∙◌, subst, arith, length-append, AllZip, length-replicate, decode_of-ok, decode_sized-ok, decode_sized-twice, AreOctets, IsOctetNumber, IsIpv4Address, AddressPart, IsGroup, IsLastPart, AreParts, parts_octets, ArePartsOf, IsIpv6Address, eight, fewer, AllByRecursion-append, common_steps}
 use Rattle.zone_rdata.proofs.Lists.{bytes_each}
 
 zeros_bytes : (n : ℕ) → AreOctets (replicate n 0)
@@ -18,11 +18,7 @@ pub ipv4_bytes : (text octets : List ℕ) → IsIpv4Address text octets → AreO
 ipv4_bytes text octets are = (numbers_bytes are.numbers octets are.each).1
 
 group_bytes : (p : AddressPart) → IsGroup p → AreOctets p.octets
-group_bytes p is =
-    let digits : List ℕ = replicate (4 - length p.text) 48 ++ p.text in
-    let len = decode_sized-ok digits 2 p.octets is.value in
-    let read = decode_of-ok digits p.octets (sym (decode_sized-twice digits 2 len) ∙ is.value) in
-    bytes_each p.octets read.3
+group_bytes p is = grind (arith, common_steps, decode_sized-ok, decode_of-ok, decode_sized-twice, bytes_each)
 
 last_bytes : (ends : Bool) (p : AddressPart) → IsLastPart ends p → AreOctets p.octets
 last_bytes ends p (inl is) = group_bytes p is

@@ -1,6 +1,5 @@
 -- The parts of an address between its colons.
-use Rattle.zone_rdata.proofs.Common.{[], ◌≡◌, ℕ, ◌+◌, ◌<◌, ◌≤◌, ◌==◌, Bool, inl, inr, List, ◌∷◌, ◌++◌, length, map, refl, sym, ap, ◌∙◌, subst, arith, append_assoc, length-append, AllByRecursion, join_with_byte, append-nil, IsIpv4Address, AddressPart, IsLastPart, AreParts, parts_text, parts_octets, ArePartsOf, Lacks, IsCutAtFirst, IsGroupOf, IsLastPartOf, NoneFits}
-use Rattle.std.proofs.lemmas.List.Splits.{join_with_byte-slice_split, length-slice_split}
+use Rattle.zone_rdata.proofs.Common.{[], ◌≡◌, ℕ, ◌+◌, ◌<◌, ◌≤◌, ◌==◌, Bool, inl, inr, List, ◌∷◌, ◌++◌, length, map, refl, sym, ap, ◌∙◌, subst, arith, append_assoc, length-append, AllByRecursion, join_with_byte, append-nil, IsIpv4Address, AddressPart, IsLastPart, AreParts, parts_text, parts_octets, ArePartsOf, Lacks, IsCutAtFirst, IsGroupOf, IsLastPartOf, NoneFits, join_with_byte-slice_split, length-slice_split}
 use Rattle.zone_rdata.proofs.Addresses.{split, split_cut, split_join, split_lacks, group_lacks, group_same, last_lacks, last_same}
 
 some_numbers : (text : List ℕ) (numbers : List (List ℕ)) → length numbers ≡ 4 → text ≡ join_with_byte 46 numbers → 0 < length text
@@ -55,9 +54,7 @@ listed ends (text ∷ []) octets have = (record { text = text; octets = octets }
 listed ends (text ∷ next ∷ texts) octets have = put_first ends text next texts octets have.0 have.1 have.2 (listed ends (next ∷ texts) have.1 have.3) have.4
 
 pub parts_listed : (ends : Bool) (text octets : List ℕ) → HaveParts ends (split 58 text) octets → ArePartsOf ends text octets
-parts_listed ends text octets have =
-    let all = listed ends (split 58 text) octets have in
-    record { parts = all.0; each = all.1; parted = sym (join_with_byte-slice_split 58 text) ∙ ap (join_with_byte 58) (sym all.2); value = all.3 }
+parts_listed ends text octets have = grind (arith, listed ends (split 58 text) octets have, join_with_byte-slice_split 58 text)
 
 have_once : (ends : Bool) (texts : List (List ℕ)) (a b : List ℕ) → HaveParts ends texts a → HaveParts ends texts b → a ≡ b
 have_once ends [] a b x y = cc
@@ -85,12 +82,10 @@ parts_started ends text some = record { some = some; goes = λ more have. have; 
 
 -- a group with a colon after it
 goes_first : (ends : Bool) (text : List ℕ) (texts : List (List ℕ)) (added more : List ℕ) → 0 < length texts → IsGroupOf text added → HaveParts ends texts more → HaveParts ends (text ∷ texts) (added ++ more)
-goes_first ends text [] added more some is have = absurd (omega arith)
-goes_first ends text (next ∷ texts) added more some is have = (added, more, is, have, refl)
+goes_first ends text texts added more some is have = grind arith
 
 comes_first : (ends : Bool) (text : List ℕ) (texts : List (List ℕ)) (octets : List ℕ) → 0 < length texts → HaveParts ends (text ∷ texts) octets → (added : List ℕ) × (more : List ℕ) × IsGroupOf text added × HaveParts ends texts more × (octets ≡ added ++ more)
-comes_first ends text [] octets some have = absurd (omega arith)
-comes_first ends text (next ∷ texts) octets some have = have
+comes_first ends text texts octets some have = grind arith
 
 split_some : (c : ℕ) (text : List ℕ) → 0 < length (split c text)
 split_some c text = omega (arith, length-slice_split (λ b. b == c) text)

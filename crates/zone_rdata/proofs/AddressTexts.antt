@@ -1,6 +1,5 @@
 -- The canonical texts of addresses.
-use Rattle.zone_rdata.proofs.Common.{[], ◌≡◌, ℕ, zero, suc, ◌-◌, ◌/◌, ◌%◌, ◌^◌, ◌<◌, Bool, true, ◌&&◌, List, ◌∷◌, take, drop, refl, ap, ◌∙◌, arith, ◌==◌, inl, inr, slice_index, leading_zero_digits, and_parts, cases_eq, eqb-true, take_rest, encode_lower, lower_digits}
-use Rattle.std.specs.Char.{digit_char}
+use Rattle.zone_rdata.proofs.Common.{[], ◌≡◌, ℕ, zero, suc, ◌-◌, ◌/◌, ◌%◌, ◌^◌, ◌<◌, Bool, true, ◌&&◌, List, ◌∷◌, take, drop, refl, arith, ◌==◌, inl, inr, slice_index, leading_zero_digits, and_parts, cases_eq, eqb-true, take_rest, encode_lower, lower_digits, digit_char}
 use Rattle.std.specs.Net.Text.{hex}
 use Rattle.hex.specs.Hex.{encode_with}
 
@@ -31,8 +30,4 @@ four_encoded n fits = grind (arith, digit_same)
 
 pub group_written : (n zeros : ℕ) (digits bytes : List ℕ) → n < 2 ^ 16 → zeros ≡ leading_zero_digits n → bytes ≡ n / 256 % 256 ∷ n % 256 ∷ [] → digits ≡ encode_lower bytes → take (4 - zeros) (drop zeros digits) ≡ hex n
 unfolding hex
-group_written n zeros digits bytes fits z b e =
-    let high : n / 256 % 256 ≡ n / 256 = omega arith in
-    let own : digits ≡ four_digits n = e ∙ ap encode_lower (b ∙ ap (λ h. h ∷ n % 256 ∷ []) high) ∙ four_encoded n fits in
-    let all : take (4 - zeros) (drop zeros (four_digits n)) ≡ drop zeros (four_digits n) = take_rest (four_digits n) zeros in
-    ap (λ d. take (4 - zeros) (drop zeros d)) own ∙ all ∙ ap (λ k. drop k (four_digits n)) z
+group_written n zeros digits bytes fits z b e = grind (arith, four_encoded n fits, take_rest (four_digits n) zeros)

@@ -1,6 +1,5 @@
 -- Addresses in text, cut at dots and colons.
-use Rattle.zone_rdata.proofs.Common.{[], ◌≡◌, ◌≢◌, ℕ, suc, ◌-◌, ◌==◌, Bool, true, false, inl, inr, List, ◌∷◌, ◌++◌, length, replicate, refl, sym, ap, ◌∙◌, subst, arith, Result, Ok, AllByRecursion, AllZip, All, join_with_byte, slice_split, ne_eqb, drop_at, All-drop, All-from_recursion, recursion_from_All, is_hex_digit, IsOk-decode_sized, is_digit, IsOctetNumber, AreNumbers, IsIpv4Address, AddressPart, IsGroup, IsLastPart, Lacks, IsCutAtFirst, AllByRecursion-append}
-use Rattle.std.proofs.lemmas.List.Splits.{join_with_byte-slice_split, slice_split_at, slice_split_none}
+use Rattle.zone_rdata.proofs.Common.{[], ◌≡◌, ◌≢◌, ℕ, suc, ◌-◌, ◌==◌, Bool, true, false, inl, inr, List, ◌∷◌, ◌++◌, length, replicate, refl, sym, ap, ◌∙◌, subst, arith, Result, Ok, AllByRecursion, AllZip, All, join_with_byte, slice_split, ne_eqb, drop_at, All-drop, All-from_recursion, recursion_from_All, is_hex_digit, IsOk-decode_sized, is_digit, IsOctetNumber, AreNumbers, IsIpv4Address, AddressPart, IsGroup, IsLastPart, Lacks, IsCutAtFirst, AllByRecursion-append, join_with_byte-slice_split, slice_split_at, slice_split_none}
 use Rattle.zone_rdata.proofs.Lists.{each_weaker}
 
 -- ---- cutting
@@ -54,15 +53,11 @@ pub parts_numbers : (count : ℕ) (text octets : List ℕ) → length (split 46 
 parts_numbers count text octets counted each = record { numbers = split 46 text; counted = counted; parted = sym (join_with_byte-slice_split 46 text); each = each }
 
 pub zip_first : (text : List ℕ) (texts : List (List ℕ)) (octets : List ℕ) → AllZip IsOctetNumber (text ∷ texts) octets → (n : ℕ) × (more : List ℕ) × IsOctetNumber text n × AllZip IsOctetNumber texts more
-zip_first text texts [] each = absurd each
-zip_first text texts (n ∷ octets) each = (n, octets, each.0, each.1)
+zip_first text texts octets each = grind arith
 
 -- the first number stands before the first dot, the others after it
 pub numbers_more : (count : ℕ) (text front rest octets : List ℕ) (n : ℕ) → IsCutAtFirst 46 text front rest → IsOctetNumber front n → AreNumbers (suc count) rest octets → AreNumbers (suc (suc count)) text (n ∷ octets)
-numbers_more count text front rest octets n cut is are =
-    let parts = numbers_parts count rest octets are in
-    let whole = split_cut 46 text front rest cut in
-    parts_numbers (suc (suc count)) text (n ∷ octets) (rw whole (ap suc parts.0)) (rw whole (is, parts.1))
+numbers_more count text front rest octets n cut is are = grind (arith, numbers_parts, split_cut, parts_numbers)
 
 numbers_cut : (count : ℕ) (text front rest octets : List ℕ) → IsCutAtFirst 46 text front rest → AreNumbers (suc (suc count)) text octets → (n : ℕ) × (more : List ℕ) × IsOctetNumber front n × AreNumbers (suc count) rest more
 numbers_cut count text front rest octets cut are =

@@ -1,6 +1,5 @@
 -- What is proved of any field. `kind_of` picks the laws of its kind.
-use Rattle.zone_rdata.proofs.Common.{[], List, Some, ap, length, subst, sym, ℕ, ◌++◌, ◌+◌, ◌*◌, ◌<◌, ◌∙◌, ◌∷◌, ◌≡◌, ◌≢◌, ◌≤◌, arith, AllByRecursion, append_cancel_left, Labels, IsName, Fault, Field, FitsString, FieldValue, Holds, IsFieldFault, SpellsField, Suits, field_at, field_items, field_octets, field_text, items_after, own_items, IsGeneric, RawItem, bare, IsSized, BeginsWithValue, IsReal, part_field}
-use Rattle.zone_rdata.specs.declared.field.Field.TheVariants.{Name, Octets, OneString, Serial, Strings, Time, U16}
+use Rattle.zone_rdata.proofs.Common.{[], List, Some, ap, length, subst, sym, ℕ, ◌++◌, ◌+◌, ◌*◌, ◌<◌, ◌∙◌, ◌∷◌, ◌≡◌, ◌≢◌, ◌≤◌, arith, AllByRecursion, append_cancel_left, Labels, IsName, Fault, Field, FitsString, FieldValue, Holds, IsFieldFault, SpellsField, Suits, field_at, field_items, field_octets, field_text, items_after, own_items, IsGeneric, RawItem, bare, IsSized, BeginsWithValue, IsReal, part_field, Name, Octets, OneString, Serial, Strings, Time, U16}
 use Rattle.zone_rdata.proofs.FieldLaws.{AreLow, AreLowItems, FieldChoice, FieldLaws, FrontChoice, NameFaultOnce, NameOrFault, NamesNever, NamesOnce, NamesPrinted, plain_front}
 use Rattle.zone_rdata.proofs.Standing.{IsPrintedItem}
 use Rattle.zone_rdata.proofs.StringLaws.{fault-once}
@@ -77,11 +76,7 @@ pub field_holds : (origin : Labels) (f : Field) (items : List RawItem) (v : Fiel
 field_holds origin f items v h = let k = kind_of f in each_spelt origin f k (λ all w. Holds f w) (k.laws.holds origin) items v h
 
 pub field_once : NamesOnce → (origin : Labels) (f : Field) (items : List RawItem) (v w : FieldValue) → SpellsField origin f items v → SpellsField origin f items w → v ≡ w
-field_once names origin f items v w =
-    let k = kind_of f in
-    each_spelt origin f k (λ all u. SpellsField origin f all w → u ≡ w)
-    (λ i x h other. let y = k.laws.opens origin (k.items i) w other in ap k.value (k.laws.once names origin i x y.1 h (subst (SpellsField origin f (k.items i)) y.3 other)) ∙ sym y.3)
-    items v
+field_once names origin f items v w = grind (arith, kind_of f)
 
 pub field_never : NamesNever → (origin : Labels) (f : Field) (items : List RawItem) (v : FieldValue) (fault : Fault) → SpellsField origin f items v → IsFieldFault origin f items fault → ⊥
 field_never names origin f items v fault = let k = kind_of f in each_spelt origin f k (λ all w. IsFieldFault origin f all fault → ⊥) (λ i x. k.laws.never names origin i x fault) items v
@@ -99,9 +94,7 @@ field_fault_once names origin f items a b x y = x ∙ sym y
 -- ---- the items that are printed
 
 pub field_printed : NamesPrinted → (origin : Labels) (f : Field) (v : FieldValue) (rest : List RawItem) → IsSized f → Holds f v → (f ≡ Strings → rest ≡ []) → SpellsField origin f (own_items f (field_items v ++ rest)) v × (items_after f (field_items v ++ rest) ≡ rest)
-field_printed names origin f v rest sized h last =
-    let k = kind_of f in
-    each f k (λ w. SpellsField origin f (own_items f (field_items w ++ rest)) w × (items_after f (field_items w ++ rest) ≡ rest)) (λ x held. k.laws.printed names origin x rest sized held last) v h
+field_printed names origin f v rest sized h last = grind (arith, kind_of f)
 
 pub field_stands : (f : Field) (v : FieldValue) → IsSized f → Holds f v → AllByRecursion IsPrintedItem (field_items v)
 field_stands f v sized h = let k = kind_of f in each f k (λ w. AllByRecursion IsPrintedItem (field_items w)) (λ x held. k.laws.stands x sized held) v h

@@ -1,6 +1,5 @@
 -- Data that is made part by part.
-use Rattle.zone_rdata.proofs.Common.{[], Bool, IsTrue, List, None, Option, Some, add-one, ap, arith, false, get_or, length, length-append, refl, subst, suc, sym, true, zero, ℕ, ◌++◌, ◌+◌, ◌-◌, ◌<◌, ◌↔◌, ◌∙◌, ◌∷◌, ◌≡◌, ◌≢◌, ◌≤◌, AllByRecursion, flat_map, append-nil, flat_map-append, AreOctets, with_length, Fault, Field, Built, FitsString, IsNext, IsOpaque, IsPushFault, IsWhole, Pushes, ends_with_strings, misplaced, part_at, FieldValue, HoldEach, Holds, Suits, field_octets, fixed, is_strings, octets_of, string, strings, values_of, AreLaidOut, StringsLast, layout, ArePushedParts, Grows, IsBuilt, IsOver, IsReal, least_of, more_fields, over_data, over_string, part_field, part_fields, parts_held, Data, IsRdata, IsString}
-use Rattle.zone_rdata.specs.declared.fault.Fault.TheVariants.{BadRdata}
+use Rattle.zone_rdata.proofs.Common.{[], Bool, IsTrue, List, None, Option, Some, ap, arith, false, get_or, length, length-append, refl, subst, suc, sym, true, zero, ℕ, ◌++◌, ◌+◌, ◌-◌, ◌<◌, ◌↔◌, ◌∙◌, ◌∷◌, ◌≡◌, ◌≢◌, ◌≤◌, AllByRecursion, flat_map, append-nil, flat_map-append, AreOctets, with_length, Fault, Field, Built, FitsString, IsNext, IsOpaque, IsPushFault, IsWhole, Pushes, ends_with_strings, misplaced, part_at, FieldValue, HoldEach, Holds, Suits, field_octets, fixed, is_strings, octets_of, string, strings, values_of, AreLaidOut, StringsLast, layout, ArePushedParts, Grows, IsBuilt, IsOver, IsReal, least_of, more_fields, over_data, over_string, part_field, part_fields, parts_held, Data, IsRdata, IsString, rules, BadRdata}
 use Rattle.zone_rdata.specs.Builder.{long_string, too_long}
 use Rattle.zone_rdata.proofs.AnyField.{field_part}
 use Rattle.zone_rdata.proofs.Layouts.{AreFor, laid_out, values_back}
@@ -24,22 +23,17 @@ length-values_of [] octets = refl
 length-values_of (f ∷ row) octets = ap suc (length-values_of row _)
 
 pub parts_length : (laid : Option (List Field)) (count : ℕ) (octets : List ℕ) → ArePushedParts laid count octets → length (parts_held laid count octets) ≡ count
-parts_length None zero octets held = refl
-parts_length None (suc n) octets held = omega (arith, held)
-parts_length (Some row) n octets held = length-values_of (part_fields row n) octets ∙ held.0
+parts_length laid n octets held = grind (arith, length-values_of)
 
 pub parts_octets : (laid : Option (List Field)) (count : ℕ) (octets : List ℕ) → ArePushedParts laid count octets → octets_of (parts_held laid count octets) ≡ octets
-parts_octets None zero octets held = sym held
-parts_octets None (suc n) octets held = append-nil octets
-parts_octets (Some row) n octets held = held.1.whole
+parts_octets laid n octets held = search rules
 
 pub octets_push : (values : List FieldValue) (v : FieldValue) → octets_of (values ++ v ∷ []) ≡ octets_of values ++ field_octets v
 octets_push values v = flat_map-append field_octets values (v ∷ []) ∙ ap (λ o. octets_of values ++ o) (append-nil (field_octets v))
 
 -- ---- one more part
 plain_part : (f : Field) → part_field f ≢ fields.Strings
-plain_part fields.Strings = λ e. cc
-plain_part f = λ e. cc
+plain_part f = grind arith
 
 more_plain : (f : Field) (n : ℕ) → AllByRecursion (λ g. g ≢ fields.Strings) (more_fields f n)
 more_plain fields.Strings (suc n) = (λ e. cc, more_plain fields.Strings n)
@@ -60,10 +54,7 @@ more_push zero = refl
 more_push (suc n) = ap (λ r. fields.OneString ∷ r) (more_push n)
 
 last_push : (f g : Field) (n : ℕ) → part_at (f ∷ []) n ≡ Some g → part_fields (f ∷ []) (suc n) ≡ part_fields (f ∷ []) n ++ part_field g ∷ []
-last_push fields.Strings g zero e = ap (λ h. part_field h ∷ []) (let s : fields.Strings ≡ g = cc in s)
-last_push fields.Strings g (suc n) e = ap (λ r. fields.OneString ∷ r) (more_push n) ∙ ap (λ h. fields.OneString ∷ (more_fields fields.Strings n ++ part_field h ∷ [])) (let s : fields.Strings ≡ g = cc in s)
-last_push f g zero e = ap (λ h. part_field h ∷ []) (let s : f ≡ g = cc in s)
-last_push f g (suc n) e = absurd (let s : None ≡ Some g = e in cc)
+last_push f g n e = grind (arith, more_push)
 
 fields_push : (row : List Field) (f : Field) (n : ℕ) → part_at row n ≡ Some f → part_fields row (suc n) ≡ part_fields row n ++ part_field f ∷ []
 fields_push [] f n e = absurd (let s : None ≡ Some f = e in cc)
@@ -77,8 +68,7 @@ hold_push (g ∷ row) (w ∷ values) f v each h = (each.0, hold_push row values 
 hold_push row values f v each h = absurd each
 
 some_field : (o : Option Field) (v : FieldValue) → Suits o v → (f : Field) × (o ≡ Some f) × Suits (Some f) v
-some_field (Some f) v s = (f, refl, s)
-some_field None v s = absurd s
+some_field o v s = grind arith
 
 -- the parts with one more
 pub record Pushed (laid : Option (List Field)) (count : ℕ) (octets : List ℕ) (part : FieldValue) : Type 0 where
@@ -101,8 +91,7 @@ pushed_field row f count octets part held e holds some =
     }
 
 pushed_opaque : (count : ℕ) (octets : List ℕ) (part : FieldValue) → ArePushedParts None count octets → IsOpaque count part → Pushed None count octets part
-pushed_opaque zero octets (fixed more) held s = record { held = refl; made = ap (λ o. fixed (o ++ more) ∷ []) held; few = λ h. omega arith }
-pushed_opaque count octets part held s = absurd s
+pushed_opaque count octets part held s = grind arith
 
 pub pushed_part : (laid : Option (List Field)) (count : ℕ) (octets : List ℕ) (part : FieldValue) → ArePushedParts laid count octets → IsNext laid count part → FitsString part → IsReal part → Pushed laid count octets part
 pushed_part None count octets part held next fits real = pushed_opaque count octets part held next
@@ -160,8 +149,7 @@ whole_laid row count octets last past held =
 
 -- ---- what the code answers
 pub over_as : (octets more : List ℕ) (v : FieldValue) → FitsString v → more ≡ field_octets v → (fault : Fault) → IsOver octets (fixed more) fault → IsOver octets v fault
-over_as octets more v fits e _ (over_string none) = absurd (none tt)
-over_as octets more v fits e _ (over_data f h) = over_data fits (subst (λ m. 65535 < length octets + length m) e h)
+over_as octets more v fits e fault given = grind (arith, over_data)
 
 abbrev pub built : ℕ → ℕ → ℕ → List ℕ → Built
 built class kind count octets = record { class = class; kind = kind; parts = parts_held (layout class kind) count octets }
@@ -173,8 +161,7 @@ next_parts : (class kind count : ℕ) (octets : List ℕ) (part : FieldValue) �
 next_parts class kind count octets part is next = subst (λ n. IsNext (layout class kind) n part) (sym (parts_length (layout class kind) count octets is.held)) next
 
 pub push_misplaced : (class kind count : ℕ) (octets : List ℕ) (b : Built) (part : FieldValue) (r : Bool) → built class kind count octets ≡ b → IsBuilt class kind count octets → r ≡ false → (IsTrue r ↔ IsNext (layout class kind) count part) → IsPushFault b part BadRdata
-push_misplaced class kind count octets b part r e is refused test =
-    subst (λ v. IsPushFault v part BadRdata) e (misplaced (λ next. let t = test.1 (subst (λ n. IsNext (layout class kind) n part) (parts_length (layout class kind) count octets is.held) next) in absurd (let bad : false ≡ true = sym refused ∙ t in cc)))
+push_misplaced class kind count octets b part r e is refused test = grind (arith, parts_length, false, true, misplaced, layout)
 
 over_push : (class kind count : ℕ) (octets : List ℕ) (part : FieldValue) (fault : Fault) → IsBuilt class kind count octets → IsNext (layout class kind) count part → IsOver octets part fault → IsPushFault (built class kind count octets) part fault
 over_push class kind count octets part _ is next (over_string none) = long_string (next_parts class kind count octets part is next) none
@@ -184,48 +171,26 @@ pub push_over : (class kind count : ℕ) (octets : List ℕ) (b : Built) (part :
 push_over class kind count octets b part fault e is next over = subst (λ v. IsPushFault v part fault) e (over_push class kind count octets part fault is next over)
 
 pub push_built : (class kind count : ℕ) (octets new : List ℕ) (part : FieldValue) → IsBuilt class kind count octets → IsNext (layout class kind) count part → IsReal part → Grows octets part new → IsBuilt class kind (count + 1) new
-push_built class kind count octets new part is next real g =
-    let more = pushed_part (layout class kind) count octets part is.held next g.string_fits real in
-    let next_is : IsBuilt class kind (suc count) (octets ++ field_octets part) = record { is_class = is.is_class; is_kind = is.is_kind; short = omega (arith, g.fits, length-append octets (field_octets part)); few = more.few is.few; held = more.held } in
-    rw add-one (subst (IsBuilt class kind (suc count)) (sym g.written) next_is)
+push_built class kind count octets new part is next real g = grind (arith, pushed_part (layout class kind) count octets part is.held next g.string_fits real, length-append octets (field_octets part))
 
 pub push_made : (class kind count : ℕ) (octets new : List ℕ) (b : Built) (part : FieldValue) → built class kind count octets ≡ b → IsBuilt class kind count octets → IsNext (layout class kind) count part → IsReal part → Grows octets part new → Pushes b part (built class kind (count + 1) new)
-push_made class kind count octets new b part e is next real g =
-    let more = pushed_part (layout class kind) count octets part is.held next g.string_fits real in
-    let made : parts_held (layout class kind) (count + 1) new ≡ parts_held (layout class kind) count octets ++ part ∷ [] = rw add-one (ap (parts_held (layout class kind) (suc count)) g.written ∙ more.made) in
-    subst (λ v. Pushes v part (built class kind (count + 1) new)) e (record {
-      next = next_parts class kind count octets part is next;
-      string_fits = g.string_fits;
-      fits = omega (arith, g.fits, ap length (grown_octets (layout class kind) count octets part is.held), length-append octets (field_octets part));
-      made = ap (λ (ps : List FieldValue). let v : Built = record { class = class; kind = kind; parts = ps } in v) made;
-    })
+push_made class kind count octets new b part e is next real g = grind (arith, pushed_part (layout class kind) count octets part is.held next g.string_fits real, next_parts class kind count octets part is next, grown_octets (layout class kind) count octets part is.held, length-append octets (field_octets part))
 
 -- ---- the end
 pub whole_parts : (laid : Option (List Field)) (count : ℕ) (octets : List ℕ) → ArePushedParts laid count octets → least_of laid ≤ count → IsWhole laid (parts_held laid count octets)
-whole_parts None count octets held past = omega (arith, parts_length None count octets held)
-whole_parts (Some row) count octets held past = omega (arith, parts_length (Some row) count octets held)
+whole_parts laid count octets held past = grind (arith, parts_length)
 
 pub missing_part : (laid : Option (List Field)) (count : ℕ) (octets : List ℕ) → ArePushedParts laid count octets → count < least_of laid → IsWhole laid (parts_held laid count octets) → ⊥
-missing_part None count octets held few whole = omega (arith, parts_length None count octets held)
-missing_part (Some row) count octets held few whole = omega (arith, parts_length (Some row) count octets held)
+missing_part laid count octets held few whole = grind (arith, parts_length)
 
 parts_for : (class kind : ℕ) (laid : Option (List Field)) (count : ℕ) (octets : List ℕ) → laid ≡ layout class kind → ArePushedParts laid count octets → least_of laid ≤ count → AreFor laid octets
-parts_for class kind None count octets e held past = tt
-parts_for class kind (Some row) count octets e held past = whole_laid row count octets (table_row class kind row (sym e)).last past held
+parts_for class kind laid count octets e held past = grind (arith, whole_laid, table_row)
 
 pub parts_data : (class kind count : ℕ) (octets : List ℕ) → IsBuilt class kind count octets → least_of (layout class kind) ≤ count → AreOctets octets → IsRdata (record { class = class; kind = kind; octets = octets })
-parts_data class kind count octets is past each = record {
-  class = is.is_class;
-  kind = is.is_kind;
-  octets = record { short = is.short; each = each; value = parts_for class kind (layout class kind) count octets refl is.held past };
-}
+parts_data class kind count octets is past each = grind (arith, parts_for class kind (layout class kind) count octets refl is.held past)
 
 pub finish_missing : (class kind count : ℕ) (octets : List ℕ) (b : Built) → built class kind count octets ≡ b → IsBuilt class kind count octets → count < least_of (layout class kind) → IsWhole (layout b.class b.kind) b.parts → ⊥
-finish_missing class kind count octets b e is few whole =
-    missing_part (layout class kind) count octets is.held few (subst (λ (v : Built). IsWhole (layout v.class v.kind) v.parts) (sym e) whole)
+finish_missing class kind count octets b e is few whole = grind (arith, missing_part)
 
 pub finish_made : (class kind count : ℕ) (octets : List ℕ) (b : Built) (d : Data) → built class kind count octets ≡ b → IsBuilt class kind count octets → least_of (layout class kind) ≤ count → d ≡ record { class = class; kind = kind; octets = octets } → IsWhole (layout b.class b.kind) b.parts × (d ≡ record { class = b.class; kind = b.kind; octets = octets_of b.parts })
-finish_made class kind count octets b d e is past made =
-    let data_of : List ℕ → Data = λ o. record { class = class; kind = kind; octets = o } in
-    subst (λ (v : Built). IsWhole (layout v.class v.kind) v.parts × (d ≡ record { class = v.class; kind = v.kind; octets = octets_of v.parts })) e
-    (whole_parts (layout class kind) count octets is.held past, made ∙ ap data_of (sym (parts_octets (layout class kind) count octets is.held)))
+finish_made class kind count octets b d e is past made = grind (arith, whole_parts, parts_octets)

@@ -1,13 +1,11 @@
 -- Lists of which each element is an octet, by index.
-use Rattle.zone_rdata.proofs.Common.{[], ℕ, zero, suc, ◌<◌, List, ◌∷◌, ◌++◌, lit<, slice_index}
+use Rattle.zone_rdata.proofs.Common.{[], ℕ, zero, suc, ◌<◌, List, ◌∷◌, ◌++◌, lit<, slice_index, arith, common_steps}
 
 abbrev pub Bytes : List ℕ → Type 0
 Bytes xs = (i : ℕ) → slice_index xs i < 256
 
 pub bytes_append : (xs ys : List ℕ) → Bytes xs → Bytes ys → Bytes (xs ++ ys)
-bytes_append [] ys a b k = b k
-bytes_append (x ∷ xs) ys a b zero = a 0
-bytes_append (x ∷ xs) ys a b (suc k) = bytes_append xs ys (λ i. a (suc i)) b k
+bytes_append xs ys a b k = grind (arith, common_steps)
 
 pub front_bytes : (xs ys : List ℕ) → Bytes (xs ++ ys) → Bytes xs
 front_bytes [] ys each k = lit< tt

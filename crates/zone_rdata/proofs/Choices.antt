@@ -1,12 +1,11 @@
 -- What is so or not, of one thing or of none.
-use Rattle.zone_rdata.proofs.Common.{[], ◌≡◌, ℕ, ◌<◌, Bool, true, false, List, ◌∷◌, ◌⊎◌, inl, inr, refl, arith, Option, AllByRecursion, IfNone, IfSome, cases_lt, false≢true}
+use Rattle.zone_rdata.proofs.Common.{[], ◌≡◌, ℕ, ◌<◌, Bool, true, List, ◌∷◌, ◌⊎◌, inl, inr, arith, Option, AllByRecursion, IfNone, IfSome, cases_lt}
 
 abbrev pub Decided : Type 0 → Type 0
 Decided P = P ⊎ (P → ⊥)
 
 pub true_or_not : (b : Bool) → Decided (b ≡ true)
-true_or_not true = inl refl
-true_or_not false = inr false≢true
+true_or_not b = grind arith
 
 pub both_or_not : {A B : Type 0} → Decided A → Decided B → Decided (A × B)
 both_or_not h b = grind arith

@@ -1,6 +1,7 @@
 -- The names that proofs here cite most: of definitions, and of std.
 pub use Rattle.hex.proofs.HexLemmas.{IsOk-decode_sized, decode_of-encode_lower, decode_of-ok, decode_of-same, decode_sized-encode_lower, decode_sized-ok, decode_sized-twice, length-encode_with}
 pub use Rattle.hex.specs.Hex.{decode_of, decode_sized, encode_lower, is_hex_digit, lower_digits}
+pub use Rattle.hex.specs.declared.error.FromHexError.{FromHexError}
 pub use Rattle.std.proofs.Common.{Bool, Bor, Err, IsTrue, List, None, Ok, Option, Result, Some, [], add-one, ap, append_assoc, arith, bytes_eq, codes, cond, decimal, drop, false, get_or, inl, inr, le-ltb, length, length-append, lit<, lt-ltb, map, min, nat_le, nat_lt, not, refl, replicate, rules, subst, suc, sym, take, true, zero, zero-add, ℕ, ◌%◌, ◌&&◌, ◌*◌, ◌++◌, ◌+◌, ◌-◌, ◌/◌, ◌<◌, ◌==◌, ◌^◌, ◌||◌, ◌↔◌, ◌∙◌, ◌∷◌, ◌≡◌, ◌≢◌, ◌≤◌, ◌⊎◌}
 pub use Rattle.std.proofs.lemmas.Bool.{and_parts, cases_Bool, cases_eq, cases_lt, cond-true, eq-eqb, eqb-false, eqb-true, false≢true, le-leb, leb-false, leb-true, lt-leb, ne_eqb, not-true, or_cases, or_parts}
 pub use Rattle.std.proofs.lemmas.Bool.Decides.{nat_tests}
@@ -9,8 +10,11 @@ pub use Rattle.std.proofs.lemmas.Grind.{common_steps}
 pub use Rattle.std.proofs.lemmas.List.{append-nil, append_cancel_left, drop-drop, drop-replicate, drop_all, drop_at, drop_more, flat_map_more, get_or_append_left, get_or_at, length-drop, length-map, length-replicate, length-take, length-take-le, map-append, map_push, replicate-append-replicate, take-append-drop, take_all, take_at, take_more, take_rest}
 pub use Rattle.std.proofs.lemmas.List.Concat.{flat_map-append}
 pub use Rattle.std.proofs.lemmas.List.Elements.{All-drop, All-from_recursion, All-weaker, recursion_from_All}
+pub use Rattle.std.proofs.lemmas.List.Splits.{join_with_byte-slice_split, length-slice_split, slice_split_at, slice_split_none}
+pub use Rattle.std.proofs.lemmas.List.Sums.{sum_by-append}
 pub use Rattle.std.proofs.lemmas.Result.{IfErr-weaker, IfOk-weaker, err_from_is_err_and, on_err_weaker, on_ok_weaker}
 pub use Rattle.std.proofs.lemmas.Slice.Eq.{bytes_eq-Decides}
+pub use Rattle.std.specs.Char.{digit_char, to_ascii_lowercase}
 pub use Rattle.std.specs.List.{All, AllByRecursion, AllZip, find, flat_map, join_with_byte, list_all, slice_get, slice_split, sum_by}
 pub use Rattle.std.specs.Net.Text.{leading_zero_digits, longest_zero_run, zero_run}
 pub use Rattle.std.specs.Option.{ok_or, option_map}
@@ -22,6 +26,8 @@ pub use Rattle.zone_name.proofs.Sinks.{Took, Took-more, stops_after, stops_last,
 pub use Rattle.zone_name.specs.Common.{AreOctets, Labels}
 pub use Rattle.zone_name.specs.Name.{IsFoldedOctet, IsLabel, IsName, folded, folded_label, folded_octet, wire, with_length}
 pub use Rattle.zone_name.specs.Spelling.{BeginsWithUnit, IsBadEscape, IsLabelFault, IsUnit, SpellingFault, Spells, Written, escaped, is_digit, no_octet, octet_of, text_of, written_octets, written_text}
+pub use Rattle.zone_name.specs.Text.{label_text, name_text, octet_text}
+pub use Rattle.zone_name.specs.declared.fault.NameFault.{NameFault}
 pub use Rattle.zone_rdata.specs.Address.{AddressPart, AreAround, AreNumbers, AreParts, ArePartsOf, IsAddressOctet, IsGroup, IsIpv4Address, IsIpv6Address, IsLastPart, IsOctetNumber, IsShortenedRun, IsZeroRun, eight, fewer, ipv4_text, ipv6_text, parted_groups, parts_octets, parts_text, shortened_groups}
 pub use Rattle.zone_rdata.specs.Builder.{Built, FitsString, IsNext, IsOpaque, IsPushFault, IsWhole, Pushes, ends_with_strings, misplaced, part_at}
 pub use Rattle.zone_rdata.specs.DataFault.{FirstFieldFault, IsDataFault, IsFaultFor, IsGenericDataFault, IsWordsFault, in_generic_form, malformed, no_value, opaque_words, too_long, unspelt}
@@ -38,8 +44,11 @@ pub use Rattle.zone_rdata.specs.Machine.Appending.{Appends, AppendsFirst, Append
 pub use Rattle.zone_rdata.specs.Machine.Building.{ArePushedParts, Grows, IsBuilt, IsOver, IsReal, least_of, more_fields, over_data, over_string, part_field, part_fields, parts_held}
 pub use Rattle.zone_rdata.specs.Machine.Fronts.{AreWithLengths, BeginsWithSent, BeginsWithString, HoldsStrings}
 pub use Rattle.zone_rdata.specs.Machine.Printing.{BeginsWithField, after_field, generic_head, laid_out_text, spaced}
+pub use Rattle.zone_rdata.specs.Machine.TimeProgress.{ReadsTime}
 pub use Rattle.zone_rdata.specs.Number.{Group, IsDecimal, IsTime, IsTimeGroup, decimal_value, group_seconds, group_text, grouped, plain, unit_seconds}
+pub use Rattle.zone_rdata.specs.Part.{value_of}
 pub use Rattle.zone_rdata.specs.Record.{Data, IsRdata}
+pub use Rattle.zone_rdata.specs.RrSource.{after, answer_of, first_answer, others}
 pub use Rattle.zone_rdata.specs.Spelling.{IsCanonicalOf, SpellEach, States, StatesFor, in_octets, in_words}
 pub use Rattle.zone_rdata.specs.Strings.{IsString, ReachesUnit, SpellsString, StandsInQuotes, StringFault, bad_escape, inside_text, is_quote, is_shown, item_text, long_string, string_text, unit_text}
 pub use Rattle.zone_rdata.specs.Table.{Named, NamedType, ascend, classes, mnemonic_among, number_among, type_names, types}
@@ -48,5 +57,9 @@ pub use Rattle.zone_rdata.specs.Uncompressed.{AreSent, IsUncompressed}
 pub use Rattle.zone_rdata.specs.Words.{IsClass, IsClassWord, IsKind, IsKindWord, IsMnemonic, IsNumbered, IsWordAmong, IsWordFault, beyond, by_mnemonic, by_number, class_text, for_queries, is_meta, kind_text, laid_out_mnemonic, nameless, word_or_numbered}
 pub use Rattle.zone_rdata.specs.declared.fault.Failing.{Failing}
 pub use Rattle.zone_rdata.specs.declared.fault.Fault.{Fault}
+pub use Rattle.zone_rdata.specs.declared.fault.Fault.TheVariants.{BadEscape, BadGeneric, BadNumber, BadRdata, MetaType, RdataTooLong, StringTooLong, UnknownType}
 pub use Rattle.zone_rdata.specs.declared.field.Field.{Field}
+pub use Rattle.zone_rdata.specs.declared.field.Field.TheVariants.{Name, Octets, OneString, Serial, Strings, Time, U16}
 pub use Rattle.zone_rdata.specs.declared.item.Item.{Item}
+pub use Rattle.zone_rdata.specs.declared.item.Item.TheVariants.{Bare}
+pub use Rattle.zone_rdata.specs.declared.layout.Layout.{Layout}

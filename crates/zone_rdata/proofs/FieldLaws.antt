@@ -1,9 +1,5 @@
 -- What is proved of every kind of field, and what kinds share.
-use Rattle.zone_rdata.proofs.Common.{[], List, Option, Some, ap, arith, decimal, drop, get_or, inl, inr, length, length-append, refl, subst, suc, sym, take, true, zero, ℕ, ◌++◌, ◌+◌, ◌*◌, ◌<◌, ◌^◌, ◌∙◌, ◌∷◌, ◌≡◌, ◌≢◌, ◌≤◌, ◌⊎◌, AllByRecursion, IfSome, cases_lt, false≢true, length-take, take-append-drop, Labels, IsName, SpellingFault, Spells, is_digit, Fault, Field, FitsString, FieldValue, Holds, IsFieldFault, IsSent, SpellsField, Suits, field_at, field_items, field_octets, field_text, items_after, name, own_items, IsGeneric, RawItem, bare, quoted, IsSized, AppendsPrefix, AppendsValue, BeginsWithNone, BeginsWithValue, IsReal, part_field, item_text}
-use Rattle.zone_name.specs.Text.{name_text}
-use Rattle.zone_name.specs.declared.fault.NameFault.{NameFault}
-use Rattle.zone_rdata.specs.declared.fault.Fault.TheVariants.{BadRdata}
-use Rattle.zone_rdata.specs.declared.field.Field.TheVariants.{Name, OneString, Strings}
+use Rattle.zone_rdata.proofs.Common.{[], List, Option, Some, arith, decimal, drop, get_or, inl, inr, length, length-append, refl, subst, take, true, ℕ, ◌++◌, ◌+◌, ◌*◌, ◌<◌, ◌^◌, ◌∷◌, ◌≡◌, ◌≢◌, ◌≤◌, ◌⊎◌, AllByRecursion, IfSome, cases_lt, false≢true, take-append-drop, Labels, IsName, SpellingFault, Spells, is_digit, Fault, Field, FitsString, FieldValue, Holds, IsFieldFault, IsSent, SpellsField, Suits, field_at, field_items, field_octets, field_text, items_after, own_items, IsGeneric, RawItem, bare, quoted, IsSized, AppendsPrefix, AppendsValue, BeginsWithNone, BeginsWithValue, IsReal, part_field, item_text, common_steps, name_text, NameFault, BadRdata, Name, OneString, Strings}
 use Rattle.zone_rdata.proofs.Choices.{Choice}
 use Rattle.zone_rdata.proofs.GenericLaws.{decimal-is}
 use Rattle.zone_rdata.proofs.Standing.{IsPrintedItem}
@@ -39,18 +35,13 @@ abbrev pub AreLowItems : List RawItem → Type 0
 AreLowItems items = AllByRecursion (λ item. AreLow (item_text item)) items
 
 pub low_at : (octets : List ℕ) → AreLow octets → (i : ℕ) → get_or octets i 0 < 256
-low_at [] low i = omega arith
-low_at (c ∷ octets) low zero = low.0
-low_at (c ∷ octets) low (suc i) = low_at octets low.1 i
+low_at octets low i = grind (arith, common_steps)
 
 pub low_take : (n : ℕ) (octets : List ℕ) → AreLow octets → AreLow (take n octets)
-low_take (suc n) (c ∷ octets) low = (low.0, low_take n octets low.1)
-low_take n octets low = tt
+low_take n octets low = grind (arith, common_steps)
 
 pub low_drop : (n : ℕ) (octets : List ℕ) → AreLow octets → AreLow (drop n octets)
-low_drop zero octets low = low
-low_drop (suc n) [] low = tt
-low_drop (suc n) (c ∷ octets) low = low_drop n octets low.1
+low_drop n octets low = grind (arith, common_steps)
 
 -- ---- the laws of a kind
 
@@ -126,17 +117,7 @@ plain_sent f v front other h s = grind arith
 
 -- so many octets at the beginning of octets are a value, and appended
 pub appends_plain : (f : Field) (octets rest old new : List ℕ) (count : ℕ) (v : FieldValue) → f ≢ Name → Holds f v → take count octets ≡ field_octets v → (f ≡ Strings → rest ≡ []) → AppendsPrefix count octets rest old new → AppendsValue f octets rest old new
-appends_plain f octets rest old new count v other held is last grows = record {
-  value = v;
-  begins = record {
-    held = held;
-    front = take count octets;
-    sent = plain_sent f v (take count octets) other held is;
-    parts = sym (take-append-drop count octets) ∙ ap (λ r. take count octets ++ r) (sym grows.following);
-    last = last;
-  };
-  written = grows.written ∙ ap (λ t. old ++ t) is;
-}
+appends_plain f octets rest old new count v other held is last grows = grind (arith, plain_sent f v (take count octets) other held is, take-append-drop count octets)
 
 pub found_front : (f : Field) (octets rest new : List ℕ) → AppendsValue f octets rest [] new → FrontChoice f octets
 found_front f octets rest new grows = inl (grows.value, (rest, grows.begins))
@@ -154,9 +135,7 @@ pub record SizedField {X : Type 0} (f : Field) (value : X → FieldValue) (count
   pub read : (octets : List ℕ) → AreLow octets → length octets ≡ count → (x : X) × Holds f (value x) × (octets ≡ field_octets (value x))
 
 pub appends_sized : {X : Type 0} {value : X → FieldValue} (f : Field) (count : ℕ) → SizedField f value count → (octets rest old new : List ℕ) → AreLow octets → AppendsPrefix count octets rest old new → AppendsValue f octets rest old new
-appends_sized {value = value} f count sized octets rest old new low grows =
-    let own = sized.read (take count octets) (low_take count octets low) (omega (arith, length-take count octets, grows.fits)) in
-    appends_plain f octets rest old new count (value own.0) sized.plain own.1 own.2 (λ e. absurd (sized.single e)) grows
+appends_sized {value = value} f count sized octets rest old new low grows = grind (arith, common_steps)
 
 pub none_sized : {X : Type 0} {value : X → FieldValue} (f : Field) (count : ℕ) → SizedField f value count → (octets : List ℕ) → length octets < count → BeginsWithNone f octets
 none_sized {value = value} f count sized octets few v rest b = grind (arith, plain_front, length-append)

@@ -1,9 +1,6 @@
 -- What items state for a layout, if there is one, and why they state nothing.
-use Rattle.zone_rdata.proofs.Common.{◌≡◌, ℕ, ◌≤◌, List, length, sym, ap, ◌∙◌, subst, Bool, false, IsTrue, ◌↔◌, Option, Some, None, Result, Ok, Err, arith, IfOk, IfErr, IsErrAnd, Labels, Failing, Fault, IsFaultFor, IsGenericDataFault, IsWordsFault, no_value, opaque_words, IfFault, StatesGeneric, RawItem, IsGeneric, fields_of, AreSpelt, StatesFor, in_words, IsUncompressed}
-use Rattle.std.specs.Prelude.{option_map}
+use Rattle.zone_rdata.proofs.Common.{◌≡◌, ℕ, ◌≤◌, List, length, sym, ap, ◌∙◌, subst, Bool, false, IsTrue, ◌↔◌, Option, Some, None, Result, Ok, Err, arith, IfOk, IfErr, IsErrAnd, Labels, Failing, Fault, IsFaultFor, IsGenericDataFault, IsWordsFault, no_value, opaque_words, IfFault, StatesGeneric, RawItem, IsGeneric, fields_of, AreSpelt, StatesFor, in_words, IsUncompressed, option_map, BadRdata, BadGeneric, Layout}
 use Rattle.zone_rdata.specs.declared.fault.Failing.TheVariants as failings
-use Rattle.zone_rdata.specs.declared.fault.Fault.TheVariants.{BadRdata, BadGeneric}
-use Rattle.zone_rdata.specs.declared.layout.Layout.{Layout}
 use Rattle.zone_rdata.specs.DataFault as faults
 use Rattle.zone_rdata.proofs.Failings.{IfErr-fault}
 

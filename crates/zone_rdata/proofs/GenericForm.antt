@@ -1,7 +1,5 @@
 -- The generic form: digits that join to octets, item after item.
-use Rattle.zone_rdata.proofs.Common.{[], ◌≡◌, ◌≢◌, ℕ, ◌+◌, ◌-◌, ◌/◌, ◌<◌, ◌≤◌, min, List, ◌∷◌, ◌++◌, length, get_or, take, drop, map, Ok, refl, sym, ap, ◌∙◌, subst, arith, append_assoc, length-append, drop_all, take_all, append-nil, decode_of, decode_of-ok, decode_of-same, Fault, Item, RawItem, bare, quoted, raw, generic_mark, IsGeneric, IsDecimal, StatesLength, JoinTo, StatesGeneric, GenericFault, no_length, long_length, bad_digits, Appends}
-use Rattle.std.proofs.Common.{length-drop}
-use Rattle.zone_rdata.specs.declared.fault.Fault.TheVariants.{BadGeneric, RdataTooLong}
+use Rattle.zone_rdata.proofs.Common.{[], ◌≡◌, ◌≢◌, ℕ, ◌+◌, ◌-◌, ◌/◌, ◌<◌, ◌≤◌, min, List, ◌∷◌, ◌++◌, length, get_or, take, drop, map, Ok, sym, ap, ◌∙◌, subst, arith, append_assoc, length-append, drop_all, take_all, append-nil, decode_of, decode_of-ok, decode_of-same, Fault, Item, RawItem, bare, quoted, raw, generic_mark, IsGeneric, IsDecimal, StatesLength, JoinTo, StatesGeneric, GenericFault, no_length, long_length, bad_digits, Appends, common_steps, length-drop, BadGeneric, RdataTooLong}
 use Rattle.zone_rdata.specs.Machine.GenericLength.{LengthFault, no_number, beyond}
 use Rattle.zone_rdata.proofs.Lists.{from_place}
 
@@ -24,9 +22,7 @@ joined_step : (items rest : List RawItem) (text octets front new : List ℕ) →
 joined_step items rest text octets front new joined e grown = grind (arith, append_assoc, decode_of-same)
 
 pub joined_more : (items : List Item) (i : ℕ) (item d : Item) (text octets new : List ℕ) → i < length items → item ≡ get_or items i d → raw item ≡ bare text → HaveJoined (map raw items) (map raw (drop i items)) octets → Appends (λ front. decode_of text ≡ Ok front) (λ front. front) octets new → HaveJoined (map raw items) (map raw (drop (i + 1) items)) new
-joined_more items i item d text octets new lt found is joined grows =
-    let here : map raw (drop i items) ≡ bare text ∷ map raw (drop (i + 1) items) = ap (map raw) (from_place items i item d lt found) ∙ ap (λ x. x ∷ map raw (drop (i + 1) items)) is in
-    joined_step (map raw items) (map raw (drop (i + 1) items)) text octets grows.value new (subst (λ r. HaveJoined (map raw items) r octets) here joined) grows.stated grows.written
+joined_more items i item d text octets new lt found is joined grows = grind (arith, common_steps, from_place, joined_step)
 
 next_front : (items : List Item) (i : ℕ) (item d : Item) (text octets : List ℕ) → i < length items → item ≡ get_or items i d → raw item ≡ bare text → HaveJoined (map raw items) (map raw (drop i items)) octets → (whole : List ℕ) → JoinTo (map raw items) whole → (front : List ℕ) × (rest : List ℕ) × (decode_of text ≡ Ok front) × (whole ≡ octets ++ (front ++ rest))
 next_front items i item d text octets lt found is joined whole h = grind (arith, from_place)
@@ -41,9 +37,7 @@ joined_over items i item d text octets len lt found is joined room over whole h 
 
 -- at the end all of it is joined
 pub joined_all : (items : List Item) (i : ℕ) (octets : List ℕ) → length items ≤ i → HaveJoined (map raw items) (map raw (drop i items)) octets → JoinTo (map raw items) octets
-joined_all items i octets past joined =
-    let nothing : map raw (drop i items) ≡ [] = ap (map raw) (drop_all i items past) in
-    subst (JoinTo (map raw items)) (append-nil octets) (joined.leads [] (subst (λ r. JoinTo r []) (sym nothing) refl))
+joined_all items i octets past joined = grind (arith, drop_all i items past, append-nil octets)
 
 -- ---- the length
 decimal_once : (text : List ℕ) (m n : ℕ) → IsDecimal text m → IsDecimal text n → m ≡ n

@@ -1,11 +1,7 @@
 -- The laws of the generic form.
-use Rattle.zone_rdata.proofs.Common.{[], ◌≡◌, ℕ, ◌+◌, ◌/◌, ◌%◌, ◌<◌, ◌≤◌, ◌^◌, true, List, ◌∷◌, ◌++◌, length, map, Result, Ok, Err, ◌⊎◌, inl, inr, refl, sym, ap, ◌∙◌, subst, arith, length-append, join_with_byte, cases_lt, cases_eq, decimal_digit, decimal_by_steps, append-nil, decode_of, decode_of-encode_lower, AreOctets, is_digit, Fault, RawItem, bare, quoted, generic_mark, IsGeneric, IsDecimal, decimal_value, StatesLength, IsGenericForm, JoinTo, StatesGeneric, GenericFault, no_length, long_length, bad_digits, digit_items, generic_items, item_text, generic_text, AllByRecursion-append}
-use Rattle.std.specs.Prelude.{decimal}
-use Rattle.hex.specs.declared.error.FromHexError.{FromHexError}
-use Rattle.zone_rdata.specs.declared.fault.Fault.TheVariants.{BadGeneric, RdataTooLong}
+use Rattle.zone_rdata.proofs.Common.{[], ◌≡◌, ℕ, ◌+◌, ◌/◌, ◌%◌, ◌<◌, ◌≤◌, ◌^◌, true, List, ◌∷◌, ◌++◌, length, map, Result, Ok, Err, ◌⊎◌, inl, inr, refl, sym, ap, ◌∙◌, arith, join_with_byte, cases_lt, cases_eq, decimal_digit, decimal_by_steps, append-nil, decode_of, decode_of-encode_lower, AreOctets, is_digit, Fault, RawItem, bare, quoted, generic_mark, IsGeneric, IsDecimal, decimal_value, StatesLength, IsGenericForm, JoinTo, StatesGeneric, GenericFault, no_length, long_length, bad_digits, digit_items, generic_items, item_text, generic_text, common_steps, decimal, FromHexError, BadGeneric, RdataTooLong}
 use Rattle.zone_rdata.specs.Machine.GenericLength.{LengthFault, no_number, beyond}
 use Rattle.zone_rdata.proofs.Choices.{Choice, each_or_not, true_or_not}
-use Rattle.zone_rdata.proofs.Decimal.{value_push}
 use Rattle.zone_rdata.proofs.GenericForm.{JoinTo-once, form_faults, form_missing, form_states}
 use Rattle.zone_rdata.proofs.Lists.{each_below}
 use Rattle.zone_name.proofs.Lawful.{digit_test}
@@ -18,9 +14,7 @@ forms_length : (items : List RawItem) (m n : ℕ) (a b : List RawItem) → IsGen
 forms_length items m n a b f g = grind arith
 
 pub generic-once : (items : List RawItem) (a b : List ℕ) → StatesGeneric items a → StatesGeneric items b → a ≡ b
-generic-once items a b x y =
-    let same = forms_digits items (length a) (length b) x.digits y.digits x.form y.form in
-    JoinTo-once y.digits a b (subst (λ d. JoinTo d a) same x.joined) y.joined
+generic-once items a b x y = grind (arith, forms_digits, JoinTo-once)
 
 pub generic-never_both : (items : List RawItem) (octets : List ℕ) (fault : Fault) → StatesGeneric items octets → GenericFault items fault → ⊥
 generic-never_both items octets _ x (no_length marked none) = none (length octets) x.digits x.form
@@ -87,11 +81,7 @@ one_digit : (n : ℕ) → n < 10 → IsDecimal ((48 + n) ∷ []) n
 one_digit n h = record { some = omega arith; digits = (digit_test n h, tt); value = omega arith }
 
 more_digits : (n : ℕ) (digits : List ℕ) → 10 ≤ n → IsDecimal digits (n / 10) → IsDecimal (digits ++ (48 + n % 10) ∷ []) n
-more_digits n digits h is = record {
-  some = omega (arith, is.some, length-append digits ((48 + n % 10) ∷ []));
-  digits = AllByRecursion-append _ digits ((48 + n % 10) ∷ []) is.digits (digit_test (n % 10) (omega arith), tt);
-  value = omega (arith, is.value, value_push digits (48 + n % 10) 0);
-}
+more_digits n digits h is = grind (arith, common_steps)
 
 pub decimal-is : (n : ℕ) → n < 2 ^ 64 → IsDecimal (decimal n) n
 decimal-is n h = decimal_by_steps (λ n text. IsDecimal text n) one_digit more_digits n h
@@ -101,12 +91,7 @@ printed_joins [] each = refl
 printed_joins (c ∷ octets) each = (c ∷ octets, [], decode_of-encode_lower (c ∷ octets) (each_below 256 (c ∷ octets) (omega arith) each), sym (append-nil (c ∷ octets)), refl)
 
 pub printed-stated : (octets : List ℕ) → AreOctets octets → length octets ≤ 65535 → StatesGeneric (generic_items octets) octets
-printed-stated octets each short = record {
-  digits = digit_items octets;
-  form = record { item = bare (decimal (length octets)); parts = refl; states = decimal-is (length octets) (omega arith) };
-  short = short;
-  joined = printed_joins octets each;
-}
+printed-stated octets each short = grind (arith, decimal-is (length octets) (omega arith), printed_joins octets each)
 
 pub printed-text : (octets : List ℕ) → generic_text octets ≡ join_with_byte 32 (map item_text (generic_items octets))
 printed-text octets = grind (arith, decimal_digit)

@@ -1,6 +1,5 @@
 -- Items state a value or have a first fault.
-use Rattle.zone_rdata.proofs.Common.{[], List, None, Option, Some, ap, inl, inr, length, refl, subst, sym, ℕ, ◌<◌, ◌∷◌, ◌≡◌, ◌⊎◌, arith, cases_lt, decode_of-ok, Labels, IsName, AllByRecursion-append, Fault, Field, FirstFieldFault, IsDataFault, IsFaultFor, in_generic_form, malformed, no_value, opaque_words, too_long, unspelt, FieldValue, items_after, octets_of, own_items, GenericFault, JoinTo, StatesGeneric, IsGeneric, RawItem, bare, quoted, layout, SpellEach, States, StatesFor, in_words, IsUncompressed}
-use Rattle.zone_rdata.specs.declared.fault.Fault.TheVariants.{BadGeneric, BadRdata, RdataTooLong}
+use Rattle.zone_rdata.proofs.Common.{[], List, None, Option, Some, ap, inl, inr, length, refl, subst, sym, ℕ, ◌<◌, ◌∷◌, ◌≡◌, ◌⊎◌, arith, cases_lt, decode_of-ok, Labels, IsName, AllByRecursion-append, Fault, Field, FirstFieldFault, IsDataFault, IsFaultFor, in_generic_form, malformed, no_value, opaque_words, too_long, unspelt, FieldValue, items_after, octets_of, own_items, GenericFault, JoinTo, StatesGeneric, IsGeneric, RawItem, bare, quoted, layout, SpellEach, States, StatesFor, in_words, IsUncompressed, BadGeneric, BadRdata, RdataTooLong}
 use Rattle.zone_rdata.proofs.AnyField.{field_or_fault}
 use Rattle.zone_rdata.proofs.Lists.{bytes_each}
 use Rattle.zone_rdata.proofs.Choices.{Choice, Decided}
@@ -71,7 +70,4 @@ outcome_by names origin is class kind items low (inr unmarked) = words_or_fault 
 
 -- ---- data of a class and type
 pub data-or_fault : NameOrFault → (origin : Labels) (class kind : ℕ) (items : List RawItem) → IsName origin → AreLowItems items → ((octets : List ℕ) × States origin class kind items octets) ⊎ ((fault : Fault) × IsDataFault origin class kind items fault)
-data-or_fault names origin class kind items is low = elim (outcome_by names origin is class kind items low (marked_or_not items)) [
-  | inl found ↦ inl (found.0, record { stated = found.1 })
-  | inr bad ↦ inr (bad.0, record { first = bad.1 })
-]
+data-or_fault names origin class kind items is low = grind (arith, outcome_by names origin is class kind items low (marked_or_not items))

@@ -1,8 +1,5 @@
 -- Items read from the left, field after field.
-use Rattle.zone_rdata.proofs.Common.{[], ◌≡◌, ℕ, ◌+◌, ◌-◌, ◌<◌, ◌≤◌, List, ◌∷◌, ◌++◌, length, get_or, take, drop, map, refl, sym, ap, ◌∙◌, subst, arith, append_assoc, Bor, Bool, IsTrue, ◌↔◌, inl, inr, bytes_eq-Decides, append-nil, length-drop, take_all, drop_all, drop-drop, Labels, Fault, Item, Field, FirstFieldFault, IsWordsFault, unspelt, too_long, IsFieldFault, FieldValue, field_octets, octets_of, own_items, RawItem, bare, raw, generic_mark, IsGeneric, AppendsFirst, AreSpelt, SpellEach}
-use Rattle.std.specs.Str.{bytes_eq}
-use Rattle.zone_rdata.specs.declared.fault.Fault.TheVariants.{BadRdata, RdataTooLong}
-use Rattle.zone_rdata.specs.declared.item.Item.TheVariants.{Bare}
+use Rattle.zone_rdata.proofs.Common.{[], ◌≡◌, ℕ, ◌+◌, ◌-◌, ◌<◌, ◌≤◌, List, ◌∷◌, ◌++◌, length, get_or, take, drop, map, sym, ap, ◌∙◌, subst, arith, append_assoc, Bor, Bool, IsTrue, ◌↔◌, inr, bytes_eq-Decides, append-nil, length-drop, take_all, drop_all, drop-drop, Labels, Fault, Item, Field, FirstFieldFault, IsWordsFault, unspelt, too_long, IsFieldFault, FieldValue, field_octets, octets_of, own_items, RawItem, bare, raw, generic_mark, IsGeneric, AppendsFirst, AreSpelt, SpellEach, common_steps, bytes_eq, BadRdata, RdataTooLong, Bare}
 use Rattle.zone_rdata.proofs.Lists.{from_place}
 
 -- some fields were read, and what the items that are left are for the other fields, all items are
@@ -26,28 +23,18 @@ slice_end : (items : List Item) (place : ℕ) → take (length items - place) (d
 slice_end items place = grind (arith, take_all, length-drop)
 
 pub read_more : (origin : Labels) (row : List Field) (items : List Item) (i place n : ℕ) (f d : Field) (octets new : List ℕ) → i < length row → f ≡ get_or row i d → HaveRead origin row (map raw items) (drop i row) (map raw (drop place items)) octets → AppendsFirst origin f (map raw (take (length items - place) (drop place items))) (map raw (drop n (take (length items - place) (drop place items)))) octets new → HaveRead origin row (map raw items) (drop (i + 1) row) (map raw (drop (place + n) items)) new
-read_more origin row items i place n f d octets new lt found read sliced =
-    let grows = subst (λ rest. AppendsFirst origin f (map raw rest) (map raw (drop n rest)) octets new) (slice_end items place) sliced in
-    let left = map raw (drop place items) in
-    let here : HaveRead origin row (map raw items) (f ∷ drop (i + 1) row) left octets = subst (λ r. HaveRead origin row (map raw items) r left octets) (from_place row i f d lt found) read in
-    subst (λ rest. HaveRead origin row (map raw items) (drop (i + 1) row) (map raw rest) new) (drop-drop n place items) (read_step origin row (map raw items) f (drop (i + 1) row) left (map raw (drop n (drop place items))) octets new here grows)
+read_more origin row items i place n f d octets new lt found read sliced = grind (arith, common_steps, slice_end, from_place, drop-drop, read_step)
 
 -- the items of the next field spell no value of it
 pub read_bad : (origin : Labels) (row own : List Field) (items : List Item) (i place : ℕ) (f d : Field) (octets : List ℕ) (fault : Fault) → row ≡ own → i < length row → f ≡ get_or row i d → HaveRead origin row (map raw items) (drop i row) (map raw (drop place items)) octets → IsFieldFault origin f (own_items f (map raw (take (length items - place) (drop place items)))) fault → IsWordsFault origin own (map raw items) fault
-read_bad origin row own items i place f d octets fault same lt found read sliced =
-    let bad = subst (λ rest. IsFieldFault origin f (own_items f (map raw rest)) fault) (slice_end items place) sliced in
-    let left = map raw (drop place items) in
-    let here : HaveRead origin row (map raw items) (f ∷ drop (i + 1) row) left octets = subst (λ r. HaveRead origin row (map raw items) r left octets) (from_place row i f d lt found) read in
-    subst (λ r. IsWordsFault origin r (map raw items) fault) same (unspelt fault (here.fault fault (inl bad)))
+read_bad origin row own items i place f d octets fault same lt found read sliced = grind (arith, slice_end, from_place, own_items, raw, unspelt)
 
 nothing_later : (origin : Labels) (row : List Field) (items : List RawItem) (i : ℕ) (left : List RawItem) (octets : List ℕ) → length row ≤ i → HaveRead origin row items (drop i row) left octets → HaveRead origin row items [] left octets
 nothing_later origin row items i left octets past read = grind (arith, drop_all)
 
 -- no field is left for the next item
 pub read_over : (origin : Labels) (row own : List Field) (items : List RawItem) (i : ℕ) (left : List RawItem) (octets : List ℕ) → row ≡ own → length row ≤ i → 0 < length left → HaveRead origin row items (drop i row) left octets → IsWordsFault origin own items BadRdata
-read_over origin row own items i [] octets same past some read = absurd (omega arith)
-read_over origin row own items i (item ∷ left) octets same past some read =
-    subst (λ r. IsWordsFault origin r items BadRdata) same (unspelt BadRdata ((nothing_later origin row items i (item ∷ left) octets past read).fault BadRdata refl))
+read_over origin row own items i left octets same past some read = grind (arith, nothing_later, unspelt)
 
 pub read_all : (origin : Labels) (row own : List Field) (items : List RawItem) (i : ℕ) (left : List RawItem) (octets : List ℕ) → row ≡ own → length row ≤ i → left ≡ [] → HaveRead origin row items (drop i row) left octets → AreSpelt origin own items octets
 read_all origin row own items i left octets same past none read =

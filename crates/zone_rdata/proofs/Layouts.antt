@@ -1,9 +1,8 @@
 -- Values of a layout are data: their octets hold them, are octets, and without strings few.
-use Rattle.zone_rdata.proofs.Common.{[], List, Option, Some, ap, length, refl, ℕ, ◌++◌, ◌<◌, ◌∙◌, ◌∷◌, ◌≡◌, ◌≤◌, arith, length-append, ◌*◌, ◌≢◌, AllByRecursion, MatchOption, drop_at, Field, FieldValue, HoldEach, Holds, field_octets, octets_of, values_of, AreLaidOut, IsData, StringsLast, layout, IsSized, IsCanonicalOf, AllByRecursion-append}
+use Rattle.zone_rdata.proofs.Common.{[], List, Option, Some, ap, length, refl, ℕ, ◌++◌, ◌<◌, ◌∙◌, ◌∷◌, ◌≡◌, ◌≤◌, arith, length-append, ◌*◌, ◌≢◌, AllByRecursion, MatchOption, drop_at, Field, FieldValue, HoldEach, Holds, field_octets, octets_of, values_of, AreLaidOut, IsData, StringsLast, layout, IsSized, IsCanonicalOf, AllByRecursion-append, common_steps, Strings}
 use Rattle.zone_rdata.proofs.AnyField.{field_back, field_short, field_low}
 use Rattle.zone_rdata.proofs.Taken.{uncompressed_length}
 use Rattle.zone_rdata.proofs.Tables.{table_row}
-use Rattle.zone_rdata.specs.declared.field.Field.TheVariants.{Strings}
 use Rattle.zone_rdata.proofs.FieldLaws.{AreLow}
 
 -- the first field of octets, and the fields after it
@@ -45,10 +44,7 @@ short_values (f ∷ row) (v ∷ values) others sized held = grind (arith, field_
 short_values row values others sized held = absurd held
 
 pub stringless_short : (class kind : ℕ) (row : List Field) (values : List FieldValue) → layout class kind ≡ Some row → AllByRecursion (λ f. f ≢ Strings) row → HoldEach row values → length (octets_of values) ≤ 65535
-stringless_short class kind row values e others held =
-    let table = table_row class kind row e in
-    let total = short_values row values others table.sized held in
-    omega (arith, table.few, total)
+stringless_short class kind row values e others held = grind (arith, common_steps)
 
 pub equal_values : (class kind : ℕ) (row : List Field) (values others : List FieldValue) → layout class kind ≡ Some row → HoldEach row values → HoldEach row others → octets_of values ≡ octets_of others → values ≡ others
 equal_values class kind row values others e held other_held same =

@@ -1,7 +1,6 @@
 -- Of more items than any data can have, those that spell strings may be left out: the others have
 -- the same first fault, and state no data.
-use Rattle.zone_rdata.proofs.Common.{[], ◌≡◌, ℕ, ◌+◌, ◌<◌, ◌≤◌, List, ◌∷◌, ◌++◌, length, Option, Some, inl, inr, refl, sym, ap, ◌∙◌, subst, arith, append_assoc, length-append, AllByRecursion, decode_of-ok, length-frames, AllByRecursion-front, Labels, Fault, Field, FirstFieldFault, IsDataFault, IsFaultFor, IsGenericDataFault, IsWordsFault, in_generic_form, malformed, no_value, opaque_words, too_long, unspelt, FieldValue, SpellsField, octets_of, strings, FirstStringFault, SpellEachString, GenericFault, IsGenericForm, JoinTo, StatesGeneric, bad_digits, long_length, no_length, IsGeneric, RawItem, bare, quoted, layout, SpellEach, States, StatesFor, in_octets, in_words, SpellsString}
-use Rattle.zone_rdata.specs.declared.field.Field.TheVariants.{Strings}
+use Rattle.zone_rdata.proofs.Common.{[], ◌≡◌, ℕ, ◌+◌, ◌<◌, ◌≤◌, List, ◌∷◌, ◌++◌, length, Option, Some, inl, inr, refl, ap, subst, arith, append_assoc, length-append, AllByRecursion, decode_of-ok, length-frames, AllByRecursion-front, Labels, Fault, Field, FirstFieldFault, IsDataFault, IsFaultFor, IsGenericDataFault, IsWordsFault, in_generic_form, malformed, no_value, opaque_words, too_long, unspelt, FieldValue, SpellsField, octets_of, strings, FirstStringFault, SpellEachString, GenericFault, IsGenericForm, JoinTo, StatesGeneric, bad_digits, long_length, no_length, IsGeneric, RawItem, bare, quoted, layout, SpellEach, States, StatesFor, in_octets, in_words, SpellsString, Strings}
 use Rattle.zone_rdata.specs.DataFault as faults
 use Rattle.zone_rdata.specs.Machine.LeftOut.{AreShortened, IsWritten, LeavesOut}
 use Rattle.zone_rdata.proofs.Tables.{table_row}
@@ -77,11 +76,7 @@ fields_more origin (f ∷ fields) (item ∷ first) more others (v ∷ values) fe
 fields_more origin fields (item ∷ first) more others values few out h = absurd h
 
 words_fault : (origin : Labels) (fields : List Field) (first more others : List RawItem) (fault : Fault) → length fields ≤ 7 → 65543 ≤ length first → LeavesOut more others → IsWordsFault origin fields (first ++ others) fault → IsWordsFault origin fields (first ++ more) fault
-words_fault origin fields first more others _ few many out (unspelt fault bad) =
-    unspelt fault (fields_fault origin fields first more others fault (omega (arith, few, many)) out bad)
-words_fault origin fields first more others _ few many out (too_long values spelt long) =
-    let all = fields_more origin fields first more others values (omega (arith, few, many)) out spelt in
-    too_long all.0 all.1 (omega (arith, few, many, spelt_long origin fields (first ++ more) all.0 all.1, length-append first more))
+words_fault origin fields first more others fault few many out given = grind (arith, fields_fault, fields_more, spelt_long, length-append, unspelt, too_long)
 
 -- ---- the generic form
 
@@ -138,11 +133,7 @@ are_few class kind fields e = (table_row class kind fields e).few
 
 -- the others have the first fault of all items
 pub fault_of_all : (origin : Labels) (class kind : ℕ) (items kept : List RawItem) (fault : Fault) → AllByRecursion IsWritten items → AreShortened 65543 items kept → IsDataFault origin class kind kept fault → IsDataFault origin class kind items fault
-fault_of_all origin class kind items kept fault written short bad =
-    let all = subst (AllByRecursion IsWritten) short.whole written in
-    let first = subst (λ t. IsFaultFor origin (layout class kind) t fault) short.are_kept bad.first in
-    let found = fault_for origin (layout class kind) short.first short.more short.others fault (are_few class kind) (AllByRecursion-front IsWritten short.first short.more all) short.many short.out first in
-    record { first = subst (λ t. IsFaultFor origin (layout class kind) t fault) (sym short.whole) found }
+fault_of_all origin class kind items kept fault written short bad = grind (arith, fault_for, are_few, AllByRecursion-front)
 
 -- they state no data
 pub state_none : (origin : Labels) (class kind : ℕ) (items kept : List RawItem) (octets : List ℕ) → AllByRecursion IsWritten items → AreShortened 65543 items kept → States origin class kind kept octets → ⊥
@@ -168,15 +159,7 @@ one_kept n items kept item short = grind (arith, append_assoc, leaves_kept)
 
 -- the item is left out
 pub one_left_out : (n : ℕ) (items kept : List RawItem) (item : RawItem) (octets : List ℕ) → SpellsString item octets → AreShortened n items kept → AreShortened n (items ++ item ∷ []) kept
-one_left_out n items kept item octets spells short = record {
-  first = short.first;
-  more = short.more ++ item ∷ [];
-  others = short.others;
-  whole = ap (λ t. t ++ item ∷ []) short.whole ∙ append_assoc short.first short.more (item ∷ []);
-  are_kept = short.are_kept;
-  many = short.many;
-  out = leaves_less short.more short.others item octets spells short.out;
-}
+one_left_out n items kept item octets spells short = grind (arith, append_assoc short.first short.more (item ∷ []), leaves_less short.more short.others item octets spells short.out)
 
 -- ---- the first of the items
 

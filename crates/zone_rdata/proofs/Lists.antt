@@ -1,5 +1,5 @@
 -- Lists, element by element.
-use Rattle.zone_rdata.proofs.Common.{AreOctets, [], ◌≡◌, ℕ, zero, suc, ◌+◌, ◌<◌, List, ◌∷◌, length, get_or, drop, sym, ap, ◌∙◌, AllByRecursion, drop_more}
+use Rattle.zone_rdata.proofs.Common.{AreOctets, [], ◌≡◌, ℕ, suc, ◌+◌, ◌<◌, List, ◌∷◌, length, get_or, drop, sym, ap, ◌∙◌, AllByRecursion, drop_more, arith, common_steps}
 
 -- the element at an index, and those after it
 pub from_place : {A : Type 0} (xs : List A) (i : ℕ) (x d : A) → i < length xs → x ≡ get_or xs i d → drop i xs ≡ x ∷ drop (i + 1) xs
@@ -16,6 +16,4 @@ each_weaker Q weaker (x ∷ xs) each = (weaker x each.0, each_weaker Q weaker xs
 
 -- numbers below a bound are so at each place, and past the last one too
 pub each_below : (bound : ℕ) (xs : List ℕ) → 0 < bound → AllByRecursion (λ n. n < bound) xs → (i : ℕ) → get_or xs i 0 < bound
-each_below bound [] some each i = some
-each_below bound (x ∷ xs) some each zero = each.0
-each_below bound (x ∷ xs) some each (suc i) = each_below bound xs some each.1 i
+each_below bound xs some each i = grind (arith, common_steps)

@@ -1,20 +1,12 @@
 -- A word has one number at most, and a text one time.
-use Rattle.zone_rdata.proofs.Common.{◌≡◌, ℕ, ◌<◌, ◌≤◌, Bool, true, false, not, List, ◌++◌, length, take, drop, codes, refl, sym, ap, ◌∙◌, subst, arith, ◌==◌, Option, Some, None, bytes_eq, ◌⊎◌, inl, inr, find, list_all, option_map, eqb-true, not-true, false≢true, map-append, length-map, take_at, bytes_eq-Decides, folded_octet, folded_label, decimal_value, Named, classes, type_names, number_among, IsKind, IsMnemonic, IsNumbered, IsWordAmong, by_mnemonic, by_number, IsClassWord, IsKindWord, IsWordFault, nameless, beyond, for_queries, Fault}
+use Rattle.zone_rdata.proofs.Common.{◌≡◌, ℕ, ◌<◌, ◌≤◌, Bool, true, false, not, List, ◌++◌, length, take, codes, refl, sym, ap, ◌∙◌, subst, arith, ◌==◌, Option, Some, None, bytes_eq, ◌⊎◌, inl, inr, find, list_all, option_map, eqb-true, not-true, false≢true, map-append, length-map, take_at, bytes_eq-Decides, folded_octet, folded_label, Named, classes, type_names, number_among, IsKind, IsMnemonic, IsNumbered, IsWordAmong, by_mnemonic, by_number, IsClassWord, IsKindWord, IsWordFault, nameless, beyond, for_queries, Fault, UnknownType, MetaType}
 use Rattle.std.proofs.Math.Seq.{drop-append_seam}
-use Rattle.zone_rdata.specs.declared.fault.Fault.TheVariants.{UnknownType, MetaType}
 use Rattle.zone_rdata.proofs.Tables.{each_mnemonic}
 
 -- a name and a number right after it
 
 numbered_once : (name word : List ℕ) (a b : ℕ) → IsNumbered name word a → IsNumbered name word b → a ≡ b
-numbered_once name word a b x y =
-    let of_x : length (folded_label x.front) ≡ length x.front = length-map x.front folded_octet in
-    let of_y : length (folded_label y.front) ≡ length y.front = length-map y.front folded_octet in
-    let same : length x.front ≡ length y.front = sym of_x ∙ (ap length (x.named ∙ sym y.named) ∙ of_y) in
-    let left : drop (length x.front) word ≡ x.digits = rw (x.parts) (drop-append_seam x.front x.digits) in
-    let right : drop (length y.front) word ≡ y.digits = rw (y.parts) (drop-append_seam y.front y.digits) in
-    let digits : x.digits ≡ y.digits = sym left ∙ (ap (λ n. drop n word) same ∙ right) in
-    x.number.value ∙ (ap decimal_value digits ∙ sym y.number.value)
+numbered_once name word a b x y = cc (length-map x.front folded_octet, length-map y.front folded_octet, drop-append_seam x.front x.digits, drop-append_seam y.front y.digits)
 
 numbered_front : (name word : List ℕ) (n : ℕ) (x : IsNumbered name word n) → folded_label word ≡ folded_label name ++ folded_label x.digits
 numbered_front name word n x = rw (x.parts, map-append, x.named) refl

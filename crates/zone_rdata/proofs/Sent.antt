@@ -1,7 +1,5 @@
 -- Uncompressed octets: what stands at their front, and that it is one thing.
-use Rattle.zone_rdata.proofs.Common.{[], ◌≡◌, ℕ, ◌<◌, ◌≤◌, List, ◌∷◌, ◌++◌, length, take, drop, Result, Err, refl, sym, ap, ◌∙◌, subst, arith, append_assoc, length-append, flat_map, AllByRecursion, append-nil, take-append-drop, length-map, length-take, map-append, flat_map-append, Labels, IsLabel, IsName, folded_octet, folded_label, folded, with_length, wire, IsLabelFault, BeginsWithSent, AllByRecursion-append, AllByRecursion-back}
-use Rattle.std.specs.Prelude.{◌↔◌}
-use Rattle.zone_name.specs.declared.fault.NameFault.{NameFault}
+use Rattle.zone_rdata.proofs.Common.{[], ◌≡◌, ℕ, ◌<◌, ◌≤◌, List, ◌∷◌, ◌++◌, length, take, drop, Result, Err, refl, sym, ap, ◌∙◌, subst, arith, append_assoc, length-append, flat_map, AllByRecursion, append-nil, take-append-drop, length-map, length-take, map-append, flat_map-append, Labels, IsLabel, IsName, folded_label, folded, with_length, wire, IsLabelFault, BeginsWithSent, AllByRecursion-append, AllByRecursion-back, common_steps, ◌↔◌, NameFault}
 use Rattle.zone_name.specs.declared.fault.NameFault.TheVariants.{EmptyLabel, LabelTooLong, NameTooLong}
 
 -- ---- lists one after another
@@ -56,14 +54,7 @@ pub cut_none : (octets : List ℕ) (labels : Labels) → labels ≡ [] → HasCu
 cut_none octets labels e = record { sent = []; folds = sym e; some = tt; parts = refl }
 
 pub cut_more : (octets rest : List ℕ) (labels new : List (List ℕ)) (c : ℕ) (following label after : List ℕ) → HasCut octets labels rest → rest ≡ c ∷ following → 0 < c → c ≤ length following → label ≡ take c following → after ≡ drop c following → new ≡ labels ++ folded_label label ∷ [] → HasCut octets new after
-cut_more octets rest labels new c following label after cut e some fits front back grown =
-    let count : length label ≡ c = omega (arith, length-take c following, ap length front) in
-    record {
-      sent = cut.sent ++ label ∷ [];
-      folds = map-append folded_label cut.sent (label ∷ []) ∙ ap (λ t. t ++ folded_label label ∷ []) cut.folds ∙ sym grown;
-      some = AllByRecursion-append (λ l. 0 < length l) cut.sent (label ∷ []) cut.some (omega arith, tt);
-      parts = cut.parts ∙ ap (λ t. flat_map with_length cut.sent ++ t) (e ∙ frame_at c following fits ∙ ap (λ l. with_length l ++ drop c following) (sym front) ∙ ap (λ t. with_length label ++ t) (sym back)) ∙ frames_push cut.sent label after;
-    }
+cut_more octets rest labels new c following label after cut e some fits front back grown = grind (arith, common_steps, length-take, map-append, AllByRecursion-append, frame_at, frames_push)
 
 pub cut_name : (octets rest : List ℕ) (labels name : Labels) (c : ℕ) (following : List ℕ) → HasCut octets labels rest → rest ≡ c ∷ following → c ≡ 0 → name ≡ labels → IsName name → BeginsWithSent octets name following
 cut_name octets rest labels name c following cut e nothing same is = grind (arith, append_assoc)
@@ -94,13 +85,7 @@ record Fits (labels : Labels) (label : List ℕ) : Type 0 where
   room : length (wire (labels ++ label ∷ [])) ≤ 255
 
 fits_by : (before : List (List ℕ)) (label : List ℕ) (others : List (List ℕ)) → IsName (folded (before ++ label ∷ others)) → Fits (folded before) label
-fits_by before label others name =
-    let whole = map-append folded_label before (label ∷ others) in
-    let each = AllByRecursion-back IsLabel (folded before) (folded_label label ∷ folded others) (subst (AllByRecursion IsLabel) whole name.each) in
-    let count = length-map label folded_octet in
-    let frames = flat_map-append with_length (folded before) (folded_label label ∷ folded others) in
-    let mine = flat_map-append with_length (folded before) (label ∷ []) in
-    record { short = omega (arith, each.0.short, count); room = omega (arith, name.short, ap (λ t. length (wire t)) whole, length-append (flat_map with_length (folded before ++ folded_label label ∷ folded others)) (0 ∷ []), ap length frames, length-append (flat_map with_length (folded before)) (flat_map with_length (folded_label label ∷ folded others)), length-append (with_length (folded_label label)) (flat_map with_length (folded others)), count, length-append (flat_map with_length (folded before ++ label ∷ [])) (0 ∷ []), ap length mine, length-append (flat_map with_length (folded before)) (flat_map with_length (label ∷ [])), length-append (with_length label) []) }
+fits_by before label others name = grind (arith, map-append, AllByRecursion-back, length-map, flat_map-append, length-append)
 
 next_fits : (octets rest : List ℕ) (labels : Labels) (c : ℕ) (following : List ℕ) → HasCut octets labels rest → rest ≡ c ∷ following → 0 < c → c ≤ length following → (name : Labels) (tail : List ℕ) → BeginsWithSent octets name tail → Fits labels (take c following)
 next_fits octets rest labels c following cut e some fits name tail b =
@@ -116,9 +101,7 @@ refused_by : (fault : NameFault) (labels : Labels) (label : List ℕ) (r : Resul
 refused_by fault labels label r is only empty long too_long some fits = grind arith
 
 pub no_label : (octets rest : List ℕ) (labels : Labels) (c : ℕ) (following label : List ℕ) (fault : NameFault) (r : Result (Unit {0}) NameFault) → HasCut octets labels rest → rest ≡ c ∷ following → 0 < c → c ≤ length following → label ≡ take c following → r ≡ Err fault → IsLabelFault fault → ((r ≡ Err EmptyLabel) ↔ (length label ≡ 0)) → ((r ≡ Err LabelTooLong) ↔ (63 < length label)) → ((r ≡ Err NameTooLong) ↔ ((0 < length label) × (length label ≤ 63) × (255 < length (wire (labels ++ label ∷ []))))) → (name : Labels) (tail : List ℕ) → BeginsWithSent octets name tail → ⊥
-no_label octets rest labels c following label fault r cut e some fits same is only empty long too_long name tail b =
-    let count : 0 < length label = omega (arith, length-take c following, ap length same) in
-    refused_by fault labels label r is only empty long too_long count (subst (λ l. Fits labels l) (sym same) (next_fits octets rest labels c following cut e some fits name tail b))
+no_label octets rest labels c following label fault r cut e some fits same is only empty long too_long name tail b = grind (arith, length-take c following, next_fits octets rest labels c following cut e some fits name tail b)
 
 -- ---- a name at the beginning is one name
 pub name_by : (more : List (List ℕ)) (rest tail : List ℕ) → AreSome more → 0 ∷ rest ≡ wire more ++ tail → (more ≡ []) × (rest ≡ tail)

@@ -1,5 +1,5 @@
 -- Texts and items that stand in a master file as they are printed.
-use Rattle.zone_rdata.proofs.Common.{[], ◌≡◌, ℕ, ◌/◌, ◌%◌, ◌^◌, ◌<◌, ◌&&◌, nat_lt, Bool, true, List, ◌∷◌, length, decimal, inl, inr, refl, arith, AllByRecursion, list_all, and_parts, nat_tests, lower_digits, encode_lower, AreOctets, is_digit, escaped, StandsBare, is_bare, bare_octets, bare_unit, IsAddressOctet, RawItem, bare, quoted, StandsInQuotes, All-from_recursion}
+use Rattle.zone_rdata.proofs.Common.{[], ◌≡◌, ℕ, ◌/◌, ◌%◌, ◌^◌, ◌<◌, ◌&&◌, nat_lt, Bool, true, List, ◌∷◌, length, decimal, refl, arith, AllByRecursion, list_all, and_parts, nat_tests, lower_digits, encode_lower, AreOctets, is_digit, escaped, StandsBare, is_bare, bare_octets, bare_unit, IsAddressOctet, RawItem, bare, quoted, StandsInQuotes, All-from_recursion}
 use Rattle.hex.specs.Hex.{encode_with}
 use Rattle.zone_rdata.proofs.GenericLaws.{decimal-is}
 use Rattle.zone_rdata.proofs.Lists.{each_weaker}
@@ -23,12 +23,7 @@ tested_each [] e = tt
 tested_each (c ∷ text) e = let both = and_parts (is_bare c) (list_all is_bare text) e in (both.0, tested_each text both.1)
 
 pub bare_tested : (text : List ℕ) → are_bare text ≡ true → StandsBare text
-bare_tested text e =
-    let both = and_parts (nat_lt 0 (length text)) (list_all is_bare text) e in
-    bare_octets text (some (length text) both.0) (tested_each text both.1)
-  where
-    some : (n : ℕ) → nat_lt 0 n ≡ true → 0 < n
-    some n e = grind (arith, nat_tests)
+bare_tested text e = grind (arith, and_parts, is_bare, bare_octets, tested_each)
 
 -- the mark of the generic form, an escaped `#`
 pub bare_mark : StandsBare (92 ∷ 35 ∷ [])
@@ -40,9 +35,7 @@ digit_bare : (c : ℕ) → is_digit c ≡ true → is_bare c ≡ true
 digit_bare c digit = grind (arith, nat_tests)
 
 pub bare_decimal : (n : ℕ) → n < 2 ^ 64 → StandsBare (decimal n)
-bare_decimal n short =
-    let is = decimal-is n short in
-    bare_octets (decimal n) is.some (each_weaker (λ c. is_bare c ≡ true) digit_bare (decimal n) is.digits)
+bare_decimal n short = grind (arith, decimal-is, bare_octets, each_weaker, is_bare, true, digit_bare)
 
 hex_bare : (octets : List ℕ) → AreOctets octets → AreBare (encode_lower octets)
 unfolding encode_with
@@ -59,10 +52,7 @@ bare_hex c octets low = bare_octets (encode_lower (c ∷ octets)) (omega arith) 
 -- ---- addresses
 
 address_bare : (c : ℕ) → IsAddressOctet c → is_bare c ≡ true
-address_bare c (inl digit) = let low = digit.0 in let high = digit.1 in grind (arith, nat_tests)
-address_bare c (inr (inl letter)) = let low = letter.0 in let high = letter.1 in grind (arith, nat_tests)
-address_bare c (inr (inr (inl dot))) = grind (arith, nat_tests)
-address_bare c (inr (inr (inr colon))) = grind (arith, nat_tests)
+address_bare c given = grind arith
 
 pub bare_address : (text : List ℕ) → 0 < length text → AllByRecursion IsAddressOctet text → StandsBare text
 bare_address text some each = bare_octets text some (each_weaker (λ c. is_bare c ≡ true) address_bare text each)

@@ -1,5 +1,5 @@
 -- What items state is data.
-use Rattle.zone_rdata.proofs.Common.{[], List, Option, length, refl, subst, ℕ, ◌∷◌, ◌≡◌, ◌≤◌, arith, AreOctets, Labels, Fault, Field, IsDataFault, IsFaultFor, FieldValue, HoldEach, items_after, own_items, RawItem, IsData, layout, IsCanonicalOf, SpellEach, States, StatesFor}
+use Rattle.zone_rdata.proofs.Common.{[], List, Option, length, refl, ℕ, ◌∷◌, ◌≡◌, ◌≤◌, arith, AreOctets, Labels, Fault, Field, IsDataFault, IsFaultFor, FieldValue, HoldEach, items_after, own_items, RawItem, IsData, layout, IsCanonicalOf, SpellEach, States, StatesFor}
 use Rattle.zone_rdata.proofs.AnyField.{field_holds}
 use Rattle.zone_rdata.proofs.Tables.{table_row}
 use Rattle.zone_rdata.proofs.FieldLaws.{AreLow}
@@ -20,11 +20,7 @@ stated_short origin laid items octets h = grind (arith, canonical_length)
 
 -- what items state for the layout of a class and type is their data
 pub stated_data : (origin : Labels) (class kind : ℕ) (laid : Option (List Field)) (items : List RawItem) (octets : List ℕ) → laid ≡ layout class kind → StatesFor origin laid items octets → AreOctets octets → IsData class kind octets
-stated_data origin class kind laid items octets e stated each = record {
-  short = stated_short origin laid items octets stated;
-  each = each;
-  value = subst (λ l. AreFor l octets) e (stated_laid origin class kind laid items octets e stated);
-}
+stated_data origin class kind laid items octets e stated each = grind (arith, stated_short origin laid items octets stated, stated_laid origin class kind laid items octets e stated)
 
 pub states_for : (origin : Labels) (class kind : ℕ) (laid : Option (List Field)) (items : List RawItem) (octets : List ℕ) → laid ≡ layout class kind → StatesFor origin laid items octets → States origin class kind items octets
 states_for origin class kind laid items octets e stated = grind arith

@@ -1,5 +1,5 @@
 -- Octets that are strings, each after its length.
-use Rattle.zone_rdata.proofs.Common.{[], ◌≡◌, ℕ, zero, suc, ◌+◌, ◌<◌, ◌≤◌, List, ◌∷◌, ◌++◌, length, take, drop, refl, sym, ap, ◌∙◌, subst, arith, length-append, flat_map, take_at, drop_at, take_all, drop_all, take-append-drop, with_length, string_at, AreStrings, strings_by, BeginsWithString, HoldsStrings, BeginsWithField, after_field, Field, length-frames}
+use Rattle.zone_rdata.proofs.Common.{[], ◌≡◌, ℕ, zero, suc, ◌+◌, ◌<◌, ◌≤◌, List, ◌∷◌, ◌++◌, length, take, drop, refl, sym, ap, ◌∙◌, subst, arith, length-append, flat_map, take_at, drop_at, take_all, drop_all, take-append-drop, with_length, string_at, AreStrings, strings_by, BeginsWithString, HoldsStrings, BeginsWithField, after_field, Field, length-frames, common_steps}
 use Rattle.zone_rdata.specs.Fields.Strings.{strings_of}
 use Rattle.zone_rdata.specs.declared.field.Field.TheVariants as fields
 
@@ -42,9 +42,7 @@ fuel_same m n octets p q = refl
 
 strings_next : (c : ℕ) (octets : List ℕ) → strings_of (c ∷ octets) ≡ take c octets ∷ strings_of (drop c octets)
 unfolding strings_of
-strings_next c octets =
-    let parts : length (take c octets) + length (drop c octets) ≡ length octets = sym (length-append (take c octets) (drop c octets)) ∙ ap length (take-append-drop c octets) in
-    ap (λ t. take c octets ∷ t) (fuel_same (length octets) (length (drop c octets)) (drop c octets) (omega (arith, parts)) (omega arith))
+strings_next c octets = grind (arith, common_steps, length-append, take-append-drop, fuel_same)
 
 -- strings begin with a string, and the rest is strings
 pub first_string : (octets : List ℕ) → 0 < length octets → HoldsStrings octets → BeginsWithString octets × HoldsStrings (drop (length (with_length (string_at octets))) octets) × (strings_of octets ≡ string_at octets ∷ strings_of (drop (length (with_length (string_at octets))) octets))
@@ -59,8 +57,7 @@ pub all_strings : (octets : List ℕ) → AreStrings (strings_of octets) → tak
 all_strings octets are front = grind (arith, strings_len, take_all)
 
 pub some_strings : (octets : List ℕ) → AreStrings (strings_of octets) → 0 < length octets
-some_strings [] are = grind (arith, no_strings)
-some_strings (c ∷ octets) are = omega arith
+some_strings octets are = grind (arith, common_steps, no_strings)
 
 pub nothing_later : (octets : List ℕ) → drop (length (flat_map with_length (strings_of octets))) octets ≡ []
 nothing_later octets = grind (arith, drop_all, strings_len)

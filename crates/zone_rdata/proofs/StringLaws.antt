@@ -1,7 +1,6 @@
 -- The laws of strings.
-use Rattle.zone_rdata.proofs.Common.{[], ◌≡◌, ◌≢◌, ℕ, ◌<◌, Bool, true, false, ◌||◌, ◌==◌, nat_le, List, ◌∷◌, ◌⊎◌, refl, sym, ◌∙◌, arith, AllByRecursion, and_parts, or_parts, or_cases, eqb-true, eqb-false, leb-true, AreOctets, Written, text_of, octet_of, IsUnit, no_octet, written_text, written_octets, is_digit, Fault, RawItem, quoted, IsString, SpellsString, StringFault, StandsInQuotes, is_quote, inside_text, is_shown, unit_text}
-use Rattle.std.specs.Prelude.{map}
-use Rattle.zone_name.proofs.Lawful.{written_by, printed_text, value_by, decimal_escapes}
+use Rattle.zone_rdata.proofs.Common.{[], ◌≡◌, ◌≢◌, ℕ, ◌<◌, Bool, true, false, ◌||◌, ◌==◌, List, ◌∷◌, ◌⊎◌, refl, sym, ◌∙◌, arith, AllByRecursion, or_cases, eqb-true, AreOctets, Written, text_of, octet_of, IsUnit, no_octet, written_text, written_octets, is_digit, Fault, RawItem, quoted, IsString, SpellsString, StringFault, StandsInQuotes, is_quote, inside_text, is_shown, unit_text, map}
+use Rattle.zone_name.proofs.Lawful.{written_by, printed_text, value_by}
 use Rattle.zone_rdata.proofs.Strings.{string_reads, fault_reads}
 use Rattle.zone_rdata.proofs.Lists.{each_weaker}
 pub use Rattle.zone_rdata.proofs.Strings.{string-or_fault}
@@ -39,18 +38,14 @@ special_not c n k low h = grind arith
 
 quoted_by : (special shown : Bool) (c : ℕ) → is_special c ≡ special → is_shown c ≡ shown → c < 256 → IsUnit is_quote (written_by special shown c)
 unfolding written_by
-quoted_by true shown c e s low = grind (arith, special_is, no_digit, special_not)
-quoted_by false true c e s low = grind (arith, or_parts, eqb-false)
-quoted_by false false c e s low = decimal_escapes c low
+quoted_by special shown c e s low = grind arith
 
 quoted_unit : (c : ℕ) → c < 256 → IsUnit is_quote (printed_unit c)
 quoted_unit c low = quoted_by (is_special c) (is_shown c) c refl refl low
 
 line_by : (special shown : Bool) (c : ℕ) → is_special c ≡ special → is_shown c ≡ shown → AllByRecursion (λ d. d ≢ 10) (text_of (written_by special shown c))
 unfolding written_by
-line_by true shown c e s = grind (arith, special_not, special_is)
-line_by false true c e s = grind (arith, leb-true, and_parts, nat_le)
-line_by false false c e s = grind arith
+line_by special shown c e s = grind arith
 
 line_unit : (c : ℕ) → AllByRecursion (λ d. d ≢ 10) (text_of (printed_unit c))
 line_unit c = line_by (is_special c) (is_shown c) c refl refl

@@ -1,6 +1,5 @@
 -- The octets of a string as the code reads them, unit by unit.
-use Rattle.zone_rdata.proofs.Common.{[], ◌≡◌, ℕ, ◌<◌, ◌≤◌, List, ◌∷◌, ◌++◌, length, sym, ap, ◌∙◌, subst, arith, append_assoc, length-append, flat_map_more, map_push, length-map, Written, text_of, octet_of, IsUnit, no_octet, IsBadEscape, BeginsWithUnit, written_text, written_octets, RawItem, ReachesUnit, StringFault, bad_escape, long_string, item_text, AllByRecursion-append}
-use Rattle.zone_rdata.specs.declared.fault.Fault.TheVariants.{BadEscape, StringTooLong}
+use Rattle.zone_rdata.proofs.Common.{[], ◌≡◌, ℕ, ◌<◌, ◌≤◌, List, ◌∷◌, ◌++◌, length, sym, ap, ◌∙◌, subst, arith, append_assoc, length-append, flat_map_more, map_push, length-map, Written, text_of, octet_of, IsUnit, no_octet, IsBadEscape, BeginsWithUnit, written_text, written_octets, RawItem, ReachesUnit, StringFault, bad_escape, long_string, item_text, AllByRecursion-append, BadEscape, StringTooLong}
 
 -- the octets of the units up to a place of an item's text
 pub record HasRead (item : RawItem) (octets rest : List ℕ) : Type 0 where

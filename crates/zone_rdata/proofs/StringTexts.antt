@@ -1,5 +1,5 @@
 -- The text of strings, one after another.
-use Rattle.zone_rdata.proofs.Common.{[], ◌≡◌, ℕ, ◌<◌, ◌≤◌, List, ◌∷◌, ◌++◌, length, drop, map, ap, arith, append_assoc, flat_map, join_with_byte, append-nil, with_length, string_at, strings_of, BeginsWithString, HoldsStrings, string_text}
+use Rattle.zone_rdata.proofs.Common.{[], ◌≡◌, ℕ, ◌<◌, ◌≤◌, List, ◌∷◌, ◌++◌, length, drop, map, arith, append_assoc, flat_map, join_with_byte, append-nil, with_length, string_at, strings_of, BeginsWithString, HoldsStrings, string_text, common_steps}
 use Rattle.zone_rdata.proofs.StringFields.{first_string, no_strings}
 use Rattle.zone_rdata.proofs.Texts.{joined_more}
 
@@ -32,8 +32,7 @@ pub quoted_more : (whole rest text string after : List ℕ) → 0 < length rest 
 quoted_more whole rest text string after some so_far at is = grind (arith, first_string, more_first, append_assoc)
 
 no_more_text : (rest : List ℕ) → length rest ≤ 0 → more_text rest ≡ []
-no_more_text [] none = ap (λ many. flat_map (λ t. 32 ∷ t) (map string_text many)) no_strings
-no_more_text (c ∷ rest) none = absurd (omega arith)
+no_more_text rest none = grind (arith, common_steps, no_strings)
 
 pub quoted_all : (whole rest text : List ℕ) → length rest ≤ 0 → HaveQuoted whole rest text → text ≡ strings_text whole
 quoted_all whole rest text none so_far = grind (arith, no_more_text, append-nil)

@@ -1,10 +1,8 @@
 -- The string of an item, or its first fault, as an answer on lists: of the units at the beginning
 -- of its text.
-use Rattle.zone_rdata.proofs.Common.{[], ◌≡◌, ℕ, zero, suc, ◌<◌, ◌≤◌, nat_le, List, ◌∷◌, ◌++◌, length, Result, Ok, Err, ◌⊎◌, inl, inr, refl, sym, ap, ◌∙◌, subst, arith, append_assoc, length-append, AllByRecursion, cases_Bool, le-leb, lt-leb, leb-true, leb-false, append-nil, length-map, flat_map-append, AreOctets, Written, escaped, text_of, octet_of, IsUnit, no_octet, written_text, written_octets, Fault, RawItem, SpellsString, StringFault, bad_escape, long_string, item_text, AllByRecursion-append, AllByRecursion-front, AllByRecursion-back}
-use Rattle.std.proofs.Common.{if◌then◌else◌}
+use Rattle.zone_rdata.proofs.Common.{[], ◌≡◌, ℕ, zero, suc, ◌<◌, ◌≤◌, nat_le, List, ◌∷◌, ◌++◌, length, Result, Ok, Err, ◌⊎◌, inl, inr, refl, sym, ap, ◌∙◌, subst, arith, append_assoc, length-append, AllByRecursion, cases_Bool, le-leb, lt-leb, leb-true, leb-false, append-nil, length-map, flat_map-append, AreOctets, Written, escaped, text_of, octet_of, IsUnit, no_octet, written_text, written_octets, Fault, RawItem, SpellsString, StringFault, bad_escape, long_string, item_text, AllByRecursion-append, AllByRecursion-front, AllByRecursion-back, if◌then◌else◌, BadEscape, StringTooLong}
 use Rattle.zone_name.specs.Spelling.{plain, decimal}
 use Rattle.zone_name.specs.Machine.Units.{Units, units_first}
-use Rattle.zone_rdata.specs.declared.fault.Fault.TheVariants.{BadEscape, StringTooLong}
 use Rattle.zone_name.proofs.Units.{NoUnit, at_end, at_octet, at_backslash, UnitsAre, units_first_are, units_first_only}
 
 -- what follows the last unit is nothing, or a backslash that begins no escape
@@ -21,9 +19,7 @@ reading text = answer (units_first no_octet text)
 -- ---- what is spelled is the answer
 
 pub string_reads : (item : RawItem) (octets : List ℕ) → SpellsString item octets → reading (item_text item) ≡ Ok octets
-string_reads item octets spells =
-    let short : length spells.units ≤ 255 = omega (arith, spells.string.short, ap length spells.value, length-map spells.units octet_of) in
-    cc (units_first_only no_octet (item_text item) spells.units [] refl (spells.text ∙ sym (append-nil (written_text spells.units))) spells.each (at_end refl), le-leb (length spells.units) 255 short)
+string_reads item octets spells = grind (arith, length-map spells.units octet_of, units_first_only no_octet (item_text item) spells.units [] refl (spells.text ∙ sym (append-nil (written_text spells.units))) spells.each (at_end refl))
 
 bad_ended : (units : List Written) (rest more : List ℕ) → rest ≡ 92 ∷ more → ended units rest ≡ Err BadEscape
 bad_ended units rest more e = ap (ended units) e
@@ -66,10 +62,7 @@ abbrev EitherOf : RawItem → Type 0
 EitherOf item = ((octets : List ℕ) × SpellsString item octets) ⊎ ((fault : Fault) × StringFault item fault)
 
 long_units : (item : RawItem) (found : Units) → UnitsAre no_octet (item_text item) found → IsSplit 255 found.units → StringFault item StringTooLong
-long_units item found are split =
-    let each = subst (AllByRecursion (IsUnit no_octet)) split.whole are.each in
-    let whole = are.whole ∙ ap (λ t. written_text t ++ found.rest) split.whole ∙ ap (λ t. t ++ found.rest) (flat_map-append text_of split.before (split.unit ∷ split.after)) ∙ append_assoc (written_text split.before) (text_of split.unit ++ written_text split.after) found.rest ∙ ap (λ t. written_text split.before ++ t) (append_assoc (text_of split.unit) (written_text split.after) found.rest) in
-    long_string split.before split.unit (written_text split.after ++ found.rest) (record { units = AllByRecursion-front (IsUnit no_octet) split.before (split.unit ∷ split.after) each; room = omega (arith, split.count); parts = whole }) split.count (AllByRecursion-back (IsUnit no_octet) split.before (split.unit ∷ split.after) each).0
+long_units item found are split = grind (arith, flat_map-append, append_assoc, AllByRecursion-front, AllByRecursion-back, no_octet, written_text, text_of, long_string)
 
 short_units : (item : RawItem) (units : List Written) (rest : List ℕ) → item_text item ≡ written_text units ++ rest → AllByRecursion (IsUnit no_octet) units → NoUnit no_octet rest → length units ≤ 255 → AreOctets (item_text item) → EitherOf item
 short_units item units [] whole each none short low =

@@ -5,8 +5,7 @@ use Rattle.zone_rdata.specs.declared.field.Field.TheVariants as fields
 -- ---- the first element that passes a test
 
 found_by : {X : Type 0} (y x : X) (rest : Option X) (P : X → Type 0) (t : Bool) → cond t (Some y) rest ≡ Some x → (t ≡ true → P y) → (rest ≡ Some x → P x) → P x
-found_by y x rest P true e here more = let same : y ≡ x = cc in subst P same (here refl)
-found_by y x rest P false e here more = more e
+found_by y x rest P t e here more = grind arith
 
 -- it passes the test
 pub found_passes : {X : Type 0} (q : X → Bool) (xs : List X) (x : X) → find q xs ≡ Some x → q x ≡ true
@@ -21,8 +20,7 @@ found_each p q (y ∷ ys) x all e =
     found_by y x (find q ys) (λ z. p z ≡ true) (q y) e (λ t. both.0) (found_each p q ys x both.1)
 
 none_by : {X : Type 0} (y : X) (rest : Option X) (all t : Bool) → cond t (Some y) rest ≡ None → (rest ≡ None → all ≡ true) → (not t && all) ≡ true
-none_by y rest all true e more = absurd (let t : ⊥ = cc in t)
-none_by y rest all false e more = more e
+none_by y rest all t e more = grind arith
 
 -- where there is none, none passes
 pub none_passes : {X : Type 0} (q : X → Bool) (xs : List X) → find q xs ≡ None → list_all (λ x. not (q x)) xs ≡ true

@@ -1,5 +1,5 @@
 -- Uncompressed octets, field after field.
-use Rattle.zone_rdata.proofs.Common.{[], Option, None, ◌≡◌, ℕ, ◌+◌, ◌<◌, ◌≤◌, List, ◌∷◌, ◌++◌, length, get_or, drop, Some, refl, sym, ap, ◌∙◌, subst, arith, append_assoc, inl, inr, length-append, append-nil, drop_all, length-map, Field, FieldValue, field_octets, octets_of, HoldEach, name, IsSent, StringsLast, layout, IsCanonicalOf, AreSent, IsUncompressed, BeginsWithValue, BeginsWithNone, AppendsValue, AllByRecursion-back, flat_map, folded_octet, folded_label, folded, with_length}
+use Rattle.zone_rdata.proofs.Common.{[], Option, ◌≡◌, ℕ, ◌+◌, ◌<◌, ◌≤◌, List, ◌∷◌, ◌++◌, length, get_or, drop, Some, refl, sym, ap, ◌∙◌, subst, arith, append_assoc, inl, inr, length-append, append-nil, drop_all, length-map, Field, FieldValue, field_octets, octets_of, HoldEach, IsSent, StringsLast, layout, IsCanonicalOf, AreSent, IsUncompressed, BeginsWithValue, BeginsWithNone, AppendsValue, AllByRecursion-back, flat_map, folded_octet, folded_label, folded, with_length, common_steps}
 use Rattle.zone_rdata.proofs.Lists.{from_place}
 use Rattle.zone_rdata.proofs.Tables.{table_row}
 use Rattle.zone_rdata.proofs.AnyField.{front_once, front_or_none}
@@ -50,8 +50,7 @@ canonical-once class kind row octets a b e x y =
     reads_once row octets a b (to_reads row octets a last x) (to_reads row octets b last y)
 
 pub canonical_same : (class kind : ℕ) (laid : Option (List Field)) (octets a b : List ℕ) → laid ≡ layout class kind → IsCanonicalOf laid octets a → IsCanonicalOf laid octets b → a ≡ b
-canonical_same class kind None octets a b e x y = x ∙ sym y
-canonical_same class kind (Some row) octets a b e x y = canonical-once class kind row octets a b (sym e) x y
+canonical_same class kind laid octets a b e x y = grind (arith, canonical-once)
 
 -- the fields up to a place were read, and whatever the others read goes on from there
 pub record HaveTaken (row : List Field) (octets : List ℕ) (later : List Field) (rest out : List ℕ) : Type 0 where
@@ -73,8 +72,7 @@ taken_step row octets f later rest after out new taken grows =
     }
 
 pub taken_more : (row : List Field) (octets : List ℕ) (i : ℕ) (f d : Field) (rest after out new : List ℕ) → i < length row → f ≡ get_or row i d → HaveTaken row octets (drop i row) rest out → AppendsValue f rest after out new → HaveTaken row octets (drop (i + 1) row) after new
-taken_more row octets i f d rest after out new lt found taken grows =
-    taken_step row octets f (drop (i + 1) row) rest after out new (subst (λ r. HaveTaken row octets r rest out) (from_place row i f d lt found) taken) grows
+taken_more row octets i f d rest after out new lt found taken grows = grind (arith, common_steps, taken_step, from_place)
 
 pub taken_bad : (row own : List Field) (octets : List ℕ) (i : ℕ) (f d : Field) (rest out : List ℕ) → row ≡ own → StringsLast own → i < length row → f ≡ get_or row i d → HaveTaken row octets (drop i row) rest out → BeginsWithNone f rest → (canonical : List ℕ) → IsUncompressed own octets canonical → ⊥
 taken_bad row own octets i f d rest out same last lt found taken none canonical u =
@@ -106,8 +104,7 @@ length_frames_folded [] = refl
 length_frames_folded (label ∷ sent) = omega (arith, length-append (folded_label label) (flat_map with_length (folded sent)), length-append label (flat_map with_length sent), length-map label folded_octet, length_frames_folded sent)
 
 sent_length : (v : FieldValue) (front : List ℕ) → IsSent v front → length (field_octets v) ≡ length front
-sent_length (name labels) front s = omega (arith, ap length s.2, ap (λ ls. length (flat_map with_length ls)) s.1, length_frames_folded s.0, length-append (flat_map with_length s.0) (0 ∷ []), length-append (flat_map with_length labels) (0 ∷ []))
-sent_length v front s = ap length (sym s)
+sent_length v front s = grind (arith, length_frames_folded, length-append)
 
 are_sent_length : (values : List FieldValue) (octets : List ℕ) → AreSent values octets → length (octets_of values) ≡ length octets
 are_sent_length [] octets s = ap length (sym s)

@@ -1,13 +1,12 @@
 -- The canonical text of data is its items, they stand in a file as they are, and they state that
 -- data.
-use Rattle.zone_rdata.proofs.Common.{[], List, None, Option, Some, ap, arith, drop, length, length-append, map, nat_lt, refl, subst, sym, true, ℕ, ◌++◌, ◌<◌, ◌∙◌, ◌∷◌, ◌≡◌, ◌≤◌, AllByRecursion, flat_map, join_with_byte, nat_tests, append-nil, length-map, map-append, flat_map-append, AllByRecursion-append, AreOctets, Labels, Field, FieldValue, HoldEach, Holds, field_items, field_text, string, strings, values_of, string_item, digit_items, generic_items, IsGeneric, RawItem, IsLayout, IsSized, StringsLast, layout, laid_out_text, Data, IsRdata, SpellEach, States, StatesFor, in_octets, in_words, string_text, data_items, data_text, generic_text, laid_out_items, written_item}
-use Rattle.zone_rdata.specs.declared.field.Field.TheVariants.{Strings}
+use Rattle.zone_rdata.proofs.Common.{[], List, None, Option, Some, ap, arith, drop, length, length-append, map, refl, sym, ℕ, ◌++◌, ◌<◌, ◌∙◌, ◌∷◌, ◌≡◌, ◌≤◌, AllByRecursion, flat_map, join_with_byte, append-nil, map-append, flat_map-append, AllByRecursion-append, AreOctets, Labels, Field, FieldValue, HoldEach, Holds, field_items, field_text, strings, values_of, string_item, digit_items, generic_items, IsGeneric, RawItem, IsLayout, IsSized, StringsLast, layout, laid_out_text, Data, IsRdata, SpellEach, States, StatesFor, in_octets, in_words, string_text, data_items, data_text, generic_text, laid_out_items, written_item, common_steps, Strings}
 use Rattle.zone_rdata.proofs.AnyField.{field_printed, field_stands, field_unmarked}
 use Rattle.zone_rdata.proofs.FieldLaws.{NamesPrinted}
 use Rattle.zone_rdata.proofs.GenericLaws.{printed-stated, printed-text}
 use Rattle.zone_rdata.proofs.Layouts.{AreFor}
 use Rattle.zone_rdata.proofs.Standing.{IsPrintedItem, bare_decimal, bare_hex, bare_mark}
-use Rattle.zone_rdata.proofs.Tables.{each_layout, table_row}
+use Rattle.zone_rdata.proofs.Tables.{table_row}
 use Rattle.zone_rdata.proofs.Texts.{joined_more}
 
 -- ---- the text is the items
@@ -29,13 +28,10 @@ strings_spaced [] some = absurd (omega arith)
 strings_spaced (octets ∷ many) some = ap all_spaced (written_strings (octets ∷ many)) ∙ ap (λ t. 32 ∷ t) (sym (joined_more (string_text octets) (map string_text many)))
 
 some_strings : (f : Field) (many : List (List ℕ)) → Holds f (strings many) → 0 < length many
-some_strings Strings many h = h.some
-some_strings f many h = absurd h
+some_strings f many h = grind arith
 
 field_spaced : (f : Field) (v : FieldValue) → Holds f v → all_spaced (map written_item (field_items v)) ≡ 32 ∷ field_text v
-field_spaced f (strings many) h = strings_spaced many (some_strings f many h)
-field_spaced f (string octets) h = append-nil (32 ∷ string_text octets)
-field_spaced f v h = append-nil (32 ∷ field_text v)
+field_spaced f v h = grind (arith, strings_spaced, some_strings, append-nil)
 
 each_spaced : (row : List Field) (values : List FieldValue) → HoldEach row values → all_spaced (map written_item (flat_map field_items values)) ≡ all_spaced (map field_text values)
 each_spaced [] [] h = refl
@@ -45,14 +41,10 @@ each_spaced (f ∷ row) (v ∷ values) h =
 each_spaced row values h = absurd h
 
 generic_written : (octets : List ℕ) → generic_text octets ≡ join_with_byte 32 (map written_item (generic_items octets))
-generic_written [] = printed-text []
-generic_written (c ∷ octets) = printed-text (c ∷ octets)
+generic_written octets = grind (arith, printed-text)
 
 written_for : (laid : Option (List Field)) (octets : List ℕ) → AreFor laid octets → laid_out_text laid octets ≡ join_with_byte 32 (map written_item (laid_out_items laid octets))
-written_for None octets value = generic_written octets
-written_for (Some row) octets value =
-    let values = values_of row octets in
-    joined_spaced (map field_text values) ∙ ap (drop 1) (sym (each_spaced row values value.held)) ∙ sym (joined_spaced (map written_item (flat_map field_items values)))
+written_for laid octets value = grind (arith, generic_written, joined_spaced, each_spaced)
 
 -- what is printed field by field is the text
 pub data_written : (d : Data) → IsRdata d → laid_out_text (layout d.class d.kind) d.octets ≡ data_text d
@@ -83,8 +75,7 @@ data_stands d h = laid_out_stand (layout d.class d.kind) d.octets (table_row d.c
 -- ---- there is one item at least
 
 field_some : (f : Field) (v : FieldValue) → Holds f v → 0 < length (field_items v)
-field_some f (strings many) h = omega (arith, some_strings f many h, length-map many string_item)
-field_some f v h = omega arith
+field_some f v h = grind (arith, common_steps)
 
 each_some : (row : List Field) (values : List FieldValue) → 0 < length row → HoldEach row values → 0 < length (flat_map field_items values)
 each_some [] values some h = absurd (omega arith)
@@ -92,14 +83,10 @@ each_some (f ∷ row) [] some h = absurd h
 each_some (f ∷ row) (v ∷ values) some h = omega (arith, length-append (field_items v) (flat_map field_items values), field_some f v h.0)
 
 laid_out_some : (laid : Option (List Field)) (octets : List ℕ) → ((row : List Field) → laid ≡ Some row → 0 < length row) → AreFor laid octets → 0 < length (laid_out_items laid octets)
-laid_out_some None octets table value = omega arith
-laid_out_some (Some row) octets table value = each_some row (values_of row octets) (table row refl) value.held
+laid_out_some laid octets table value = grind (arith, each_some)
 
 row_some : (class kind : ℕ) (row : List Field) → layout class kind ≡ Some row → 0 < length row
-row_some class kind row e = by (length row) (each_layout (λ fields. nat_lt 0 (length fields)) refl class kind row e)
-  where
-    by : (n : ℕ) → nat_lt 0 n ≡ true → 0 < n
-    by n e = grind (arith, nat_tests)
+row_some class kind row e = grind arith
 
 pub data_some : (d : Data) → IsRdata d → 0 < length (data_items d)
 data_some d h = laid_out_some (layout d.class d.kind) d.octets (row_some d.class d.kind) h.octets.value
@@ -108,9 +95,7 @@ data_some d h = laid_out_some (layout d.class d.kind) d.octets (row_some d.class
 
 -- a field before the others
 next_spelt : NamesPrinted → (origin : Labels) (f : Field) (row : List Field) (v : FieldValue) (items : List RawItem) (values : List FieldValue) → IsSized f → Holds f v → (f ≡ Strings → items ≡ []) → SpellEach origin row items values → SpellEach origin (f ∷ row) (field_items v ++ items) (v ∷ values)
-next_spelt names origin f row v items values sized h last rest =
-    let own = field_printed names origin f v items sized h last in
-    (own.0, subst (λ following. SpellEach origin row following values) (sym own.1) rest)
+next_spelt names origin f row v items values sized h last rest = grind (arith, field_printed)
 
 each_spelt : NamesPrinted → (origin : Labels) (row : List Field) (values : List FieldValue) → StringsLast row → AllByRecursion IsSized row → HoldEach row values → SpellEach origin row (flat_map field_items values) values
 each_spelt names origin [] [] last sized h = tt

@@ -58,5 +58,4 @@ text_length (Some row) octets table short value =
 
 -- four for each octet of the data, and eight
 pub data_text_length : (d : Data) → IsRdata d → length (data_text d) ≤ 4 * length d.octets + 8
-data_text_length d is =
-    omega (arith, ap length (data_written d is), text_length (layout d.class d.kind) d.octets (table_row d.class d.kind) is.octets.short is.octets.value)
+data_text_length d is = grind (arith, data_written d is, text_length (layout d.class d.kind) d.octets (table_row d.class d.kind) is.octets.short is.octets.value)

@@ -1,6 +1,5 @@
 -- The text of data, field after field.
-use Rattle.zone_rdata.proofs.Common.{[], ◌≡◌, ℕ, zero, suc, ◌+◌, ◌<◌, List, ◌∷◌, ◌++◌, length, get_or, take, drop, map, refl, sym, ap, ◌∙◌, subst, arith, append_assoc, Some, OnOk, IsOk, encode_lower, flat_map, join_with_byte, take_at, drop_at, append-nil, take_more, Field, field_at, values_of, field_text, AreLaidOut, BeginsWithField, after_field, spaced, generic_head, laid_out_text, generic_text}
-use Rattle.std.specs.Prelude.{Result}
+use Rattle.zone_rdata.proofs.Common.{[], ◌≡◌, ℕ, zero, suc, ◌+◌, ◌<◌, List, ◌∷◌, ◌++◌, length, get_or, take, drop, map, refl, sym, ap, arith, append_assoc, Some, OnOk, IsOk, encode_lower, flat_map, join_with_byte, take_at, drop_at, append-nil, take_more, Field, field_at, values_of, field_text, AreLaidOut, BeginsWithField, after_field, spaced, generic_head, laid_out_text, generic_text, common_steps, Result}
 use Rattle.hex.specs.Hex.{encode_with}
 use Rattle.zone_rdata.proofs.Lists.{from_place}
 
@@ -32,18 +31,7 @@ pub record HavePrinted (row : List Field) (whole : List ℕ) (i : ℕ) (rest tex
   pub left : laid_out_text (Some row) whole ≡ text ++ still i (map field_text (values_of (drop i row) rest))
 
 pub printed_more : (row : List Field) (whole rest text after : List ℕ) (i : ℕ) (f d : Field) → i < length row → f ≡ get_or row i d → HavePrinted row whole i rest text → after ≡ after_field f rest → HavePrinted row whole (i + 1) after (text ++ (spaced i [] ++ field_text (field_at f rest)))
-printed_more row whole rest text after i f d lt at so_far is =
-    let here : drop i row ≡ f ∷ drop (i + 1) row = from_place row i f d lt at in
-    let laid = first_field f (drop (i + 1) row) rest (subst (λ r. AreLaidOut r rest) here so_far.laid) in
-    let own = field_text (field_at f rest) in
-    let others = map field_text (values_of (drop (i + 1) row) (after_field f rest)) in
-    let left : laid_out_text (Some row) whole ≡ text ++ still i (own ∷ others) = subst (λ r. laid_out_text (Some row) whole ≡ text ++ still i (map field_text (values_of r rest))) here so_far.left in
-    let suc_is : suc i ≡ i + 1 = omega arith in
-    subst (λ r. HavePrinted row whole (i + 1) r (text ++ (spaced i [] ++ own))) (sym is) (record {
-      laid = laid.1;
-      left = left ∙ ap (λ t. text ++ t) (still_more i own others) ∙ sym (append_assoc text (spaced i own) (still (suc i) others))
-          ∙ ap (λ t. (text ++ t) ++ still (suc i) others) (sym (spaced_text i own)) ∙ ap (λ n. (text ++ (spaced i [] ++ own)) ++ still n others) suc_is;
-    })
+printed_more row whole rest text after i f d lt at so_far is = grind (arith, common_steps, from_place, first_field, still_more, append_assoc, spaced_text)
 
 pub generic_whole : (octets : List ℕ) → generic_head octets ++ encode_lower octets ≡ generic_text octets
 unfolding encode_with

@@ -1,5 +1,5 @@
 -- A text states a time or none.
-use Rattle.zone_rdata.proofs.Common.{[], ◌≡◌, ℕ, ◌<◌, Bool, true, false, List, ◌∷◌, ◌++◌, length, Option, Some, None, inl, inr, refl, sym, ap, ◌∙◌, subst, arith, append_assoc, AllByRecursion, flat_map, sum_by, append-nil, is_digit, Group, IsTimeGroup, group_text, group_seconds, unit_seconds, IsDecimal, IsTime, plain, grouped, AllByRecursion-append}
+use Rattle.zone_rdata.proofs.Common.{[], ◌≡◌, ℕ, ◌<◌, Bool, false, List, ◌∷◌, ◌++◌, length, Option, Some, None, inl, inr, refl, sym, ap, ◌∙◌, arith, append_assoc, AllByRecursion, flat_map, sum_by, append-nil, is_digit, Group, IsTimeGroup, group_text, group_seconds, unit_seconds, IsDecimal, IsTime, plain, grouped, AllByRecursion-append, common_steps}
 use Rattle.zone_rdata.proofs.Choices.{Choice, Decided}
 use Rattle.zone_rdata.proofs.GenericLaws.{decimal_or_not}
 use Rattle.zone_rdata.proofs.Times.{AreDigits, run_split, no_run, run_nil, unit_no_digit}
@@ -63,16 +63,14 @@ letter_by [] rest c all no_digit choice = inr (λ h. absurd (let first = first_g
 letter_by (d ∷ digits) rest c all no_digit choice = unit_by (d ∷ digits) rest c (unit_seconds c) all (omega arith) no_digit refl choice
 
 octet_by : (digits rest : List ℕ) (c : ℕ) (b : Bool) → AreDigits digits → is_digit c ≡ b → (AreDigits (digits ++ c ∷ []) → Decided (AreGroups ((digits ++ c ∷ []) ++ rest))) → Decided (AreGroups rest) → Decided (AreGroups (digits ++ c ∷ rest))
-octet_by digits rest c true all e goes choice = subst (λ t. Decided (AreGroups t)) (append_assoc digits (c ∷ []) rest) (goes (AllByRecursion-append _ digits (c ∷ []) all (e, tt)))
-octet_by digits rest c false all e goes choice = letter_by digits rest c all e choice
+octet_by digits rest c b all e goes choice = grind (arith, append_assoc, AllByRecursion-append, letter_by)
 
 groups_or_not : (text digits : List ℕ) → AreDigits digits → Decided (AreGroups (digits ++ text))
 groups_or_not [] digits all = end_by digits all
 groups_or_not (c ∷ text) digits all = octet_by digits text c (is_digit c) all refl (groups_or_not text (digits ++ c ∷ [])) (groups_or_not text [] tt)
 
 some_groups : (c : ℕ) (text : List ℕ) (groups : List Group) → c ∷ text ≡ flat_map group_text groups → 0 < length groups
-some_groups c text [] e = absurd cc
-some_groups c text (g ∷ groups) e = omega arith
+some_groups c text groups e = grind (arith, common_steps)
 
 grouped_by : (text : List ℕ) → ((n : ℕ) → IsDecimal text n → ⊥) → (AreGroups text → ⊥) → (n : ℕ) → IsTime text n → ⊥
 grouped_by text none no_groups n h = grind arith

@@ -1,9 +1,7 @@
 -- Times read octet by octet, and that a text has one reading.
-use Rattle.zone_rdata.proofs.Common.{[], ◌≡◌, ℕ, ◌+◌, ◌*◌, ◌<◌, ◌≤◌, min, true, false, List, ◌∷◌, ◌++◌, length, Some, refl, sym, ap, ◌∙◌, subst, arith, append_assoc, length-append, IsTrue, zero-add, take, drop, get_or, AllByRecursion, flat_map, sum_by, append-nil, take-append-drop, drop_more, take_all, flat_map-append, cases_lt, nat_tests, is_digit, Group, IsTimeGroup, group_text, group_seconds, decimal_value, unit_seconds, IsTime, plain, grouped, AllByRecursion-append}
-use Rattle.std.proofs.lemmas.List.Sums.{sum_by-append}
+use Rattle.zone_rdata.proofs.Common.{[], ◌≡◌, ℕ, ◌+◌, ◌*◌, ◌<◌, ◌≤◌, min, true, false, List, ◌∷◌, ◌++◌, length, Some, refl, sym, ap, ◌∙◌, subst, arith, append_assoc, length-append, IsTrue, zero-add, take, drop, get_or, AllByRecursion, flat_map, sum_by, append-nil, take-append-drop, drop_more, take_all, flat_map-append, cases_lt, nat_tests, is_digit, Group, IsTimeGroup, group_text, group_seconds, decimal_value, unit_seconds, IsTime, plain, grouped, AllByRecursion-append, common_steps, sum_by-append, ReadsTime}
 use Rattle.std.proofs.Math.Nat.{le-mul_of_pos_right, min-eq_left, min-eq_right, mul-le-mul_right}
 use Rattle.zone_rdata.specs.declared.time.Progress.{Progress}
-use Rattle.zone_rdata.specs.Machine.TimeProgress.{ReadsTime}
 
 abbrev pub AreDigits : List ℕ → Type 0
 AreDigits text = AllByRecursion (λ c. is_digit c ≡ true) text
@@ -80,12 +78,10 @@ more_groups text c unit p next lasts some opens total groups number closed reads
     }
 
 no_digits : (digits : List ℕ) → (0 < length digits → ⊥) → digits ≡ []
-no_digits [] h = refl
-no_digits (d ∷ digits) h = absurd (h (omega arith))
+no_digits digits h = grind (arith, common_steps)
 
 no_groups : (groups : List Group) → (0 < length groups → ⊥) → groups ≡ []
-no_groups [] h = refl
-no_groups (g ∷ groups) h = absurd (h (omega arith))
+no_groups groups h = grind (arith, common_steps)
 
 pub first_unit : (groups : List Group) (digits text : List ℕ) → AllByRecursion IsTimeGroup groups → 0 < length groups → AreDigits text → text ≡ flat_map group_text groups ++ digits → ⊥
 first_unit [] digits text each some all e = omega arith

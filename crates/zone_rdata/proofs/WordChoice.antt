@@ -1,6 +1,5 @@
 -- A word is that of a class or of none, and that of a type or of none.
-use Rattle.zone_rdata.proofs.Common.{◌≡◌, ℕ, ◌<◌, Bool, true, false, List, length, take, drop, codes, Option, Some, None, ◌⊎◌, inl, inr, refl, sym, ap, ◌∙◌, subst, bytes_eq, arith, find, cases_lt, false≢true, take_at, drop_at, length-map, take-append-drop, bytes_eq-Decides, folded_label, IsDecimal, Named, classes, type_names, ascend, IsKind, is_meta, IsMnemonic, IsNumbered, IsWordAmong, by_mnemonic, by_number, IsClassWord, IsKindWord, IsWordFault, nameless, beyond, for_queries, Fault}
-use Rattle.zone_rdata.specs.declared.fault.Fault.TheVariants.{UnknownType, MetaType}
+use Rattle.zone_rdata.proofs.Common.{◌≡◌, ℕ, ◌<◌, Bool, true, false, List, length, take, drop, codes, Option, Some, None, ◌⊎◌, inl, inr, refl, sym, ap, ◌∙◌, subst, bytes_eq, arith, find, cases_lt, false≢true, take_at, drop_at, length-map, take-append-drop, bytes_eq-Decides, folded_label, IsDecimal, Named, classes, type_names, ascend, IsKind, is_meta, IsMnemonic, IsNumbered, IsWordAmong, by_mnemonic, by_number, IsClassWord, IsKindWord, IsWordFault, nameless, beyond, for_queries, Fault, UnknownType, MetaType}
 use Rattle.zone_rdata.proofs.Choices.{Choice, Decided, choice_as, true_or_not}
 use Rattle.zone_rdata.proofs.GenericLaws.{decimal_or_not}
 use Rattle.zone_rdata.proofs.Tables.{row_is, no_row}

@@ -1,15 +1,12 @@
 -- Words that are equal in any case of their letters.
-use Rattle.zone_rdata.proofs.Common.{[], ◌≡◌, ℕ, ◌<◌, ◌≤◌, true, false, List, ◌∷◌, map, refl, sym, ap, ◌∙◌, arith, IsTrue, ◌↔◌, inl, inr, Some, None, min, subst, bytes_eq, Bool, find, option_map, nat_tests, cases_lt, bytes_eq-Decides, folded_octet, folded_label, Named, ascend, IsKind, IsNumbered, IsWordAmong, by_mnemonic, by_number, IsKindWord, IsWordFault, for_queries, beyond, Fault}
-use Rattle.std.specs.Char.{to_ascii_lowercase}
-use Rattle.zone_rdata.specs.declared.fault.Fault.TheVariants.{UnknownType, MetaType}
+use Rattle.zone_rdata.proofs.Common.{◌≡◌, ℕ, ◌<◌, ◌≤◌, true, false, List, map, sym, ap, ◌∙◌, arith, IsTrue, ◌↔◌, inl, inr, Some, None, min, subst, bytes_eq, Bool, find, option_map, nat_tests, cases_lt, bytes_eq-Decides, folded_octet, folded_label, Named, ascend, IsKind, IsNumbered, IsWordAmong, by_mnemonic, by_number, IsKindWord, IsWordFault, for_queries, beyond, Fault, rules, to_ascii_lowercase, UnknownType, MetaType}
 use Rattle.zone_rdata.proofs.Tables.{find_mapped, row_is, no_row}
 
 lowercase_folds : (c : ℕ) → to_ascii_lowercase c ≡ folded_octet c
 lowercase_folds c = grind (arith, nat_tests)
 
 lowercase_folds_all : (text : List ℕ) → map to_ascii_lowercase text ≡ folded_label text
-lowercase_folds_all [] = refl
-lowercase_folds_all (c ∷ text) = cc (lowercase_folds c, lowercase_folds_all text)
+lowercase_folds_all text = grind arith
 
 -- std's comparison without regard to case, in this project's words
 pub same_word : (a b : List ℕ) (r : Bool) → IsTrue r ↔ (map to_ascii_lowercase a ≡ map to_ascii_lowercase b) → IsTrue r ↔ (folded_label a ≡ folded_label b)
@@ -20,8 +17,7 @@ pub same_test : (word name mnemonic : List ℕ) → name ≡ mnemonic → folded
 same_test word name mnemonic e same = grind (arith, bytes_eq-Decides)
 
 test_by : (word mnemonic : List ℕ) (t : Bool) → bytes_eq (folded_label word) (folded_label mnemonic) ≡ t → (folded_label word ≡ folded_label mnemonic → ⊥) → t ≡ false
-test_by word mnemonic true e other = grind (arith, bytes_eq-Decides)
-test_by word mnemonic false e other = refl
+test_by word mnemonic t e other = search rules
 
 pub other_test : (word name mnemonic : List ℕ) → name ≡ mnemonic → (folded_label word ≡ folded_label name → ⊥) → bytes_eq (folded_label word) (folded_label mnemonic) ≡ false
 other_test word name mnemonic e other = grind (arith, test_by, bytes_eq)

@@ -1,24 +1,13 @@
 -- A record and the sets that are held: why it is refused, and what is held with it.
-use Rattle.std.proofs.lemmas.Grind.{common_steps}
-use Rattle.std.proofs.Common.{◌≡◌, ◌≢◌, ◌⊎◌, ◌↔◌, ℕ, ◌+◌, ◌-◌, ◌^◌, min, Bool, true, false, IsTrue, not, ◌==◌, eq-eqb, ne_eqb, if◌then◌else◌, List, [], ◌∷◌, ◌++◌, refl, sym, ap, ◌∙◌, subst, arith, inl, inr, ⊎_elim}
-use Rattle.std.proofs.lemmas.List.Sums.{sum_by-cons, sum_by-append}
-use Rattle.std.specs.List.{AllByRecursion}
-use Rattle.std.specs.Prelude.{Result, Ok, Err, OnErr}
-use Rattle.zone_rdata.specs.Record.{Record, IsRecord}
-use Rattle.zone_rdata.specs.declared.fault.Fault.TheVariants.{ClassMismatch, MultipleSoa, DifferingTtl}
+use Rattle.zone_set.proofs.Common.{common_steps, ◌≡◌, ◌≢◌, ◌⊎◌, ◌↔◌, ℕ, ◌+◌, ◌-◌, ◌^◌, min, Bool, IsTrue, not, ◌==◌, eq-eqb, ne_eqb, if◌then◌else◌, List, [], ◌∷◌, refl, arith, inl, inr, AllByRecursion, Result, OnErr, Record, IsRecord, Placed, all_records, entry_record, HoldsEntries, IsEntry, IsPut, KeepsSets, Entry, Has, AreCompatible}
 use Rattle.zone_set.proofs.Between.{Has-with}
 use Rattle.zone_set.proofs.Inserting.{AreCompatible-with}
 use Rattle.zone_set.proofs.Together.{each_Has, stable_number}
-use Rattle.zone_rdata.specs.declared.record.Placed.{Placed}
 use Rattle.zone_set.specs.Builder.{OtherClass, OtherSoa, OtherTtl, Accepts, Adds, StopsAdd, fault, memory, ttl as by_ttl}
-use Rattle.zone_set.specs.Machine.Held.{all_records, entry_record, HoldsEntries, IsEntry, IsPut, KeepsSets}
 use Rattle.zone_set.specs.Message.{message_len, message_octets}
 use Rattle.zone_set.specs.Machine.Refusal.{IsRefusal, IsSetRefusal, stop_for}
-use Rattle.zone_set.specs.declared.entry.Entry.{Entry}
 use Rattle.zone_set.specs.declared.refusal.Refusal.{Refusal}
 use Rattle.zone_set.specs.declared.refusal.Refusal.TheVariants as refusal
-use Rattle.zone_set.specs.Order.{Ascends}
-use Rattle.zone_set.specs.Zone.{Has, AreCompatible}
 
 -- all records of entries are of the class
 classes : (class : ℕ) (octets : List ℕ) (es : List Entry) → AllByRecursion (λ r. r.class ≡ class) (all_records class octets es)
@@ -52,11 +41,7 @@ holds_for es holds any which = grind arith
 
 -- a record that was put is held beside those before
 pub Adds-put : (old : List Record) (r : Record) (is_new : Bool) (new : List Record) → AreCompatible old → IsPut old r is_new new → Adds old r new
-Adds-put old r true new compatible (before, after, was, is, ascend) = record {
-  ascend = ascend;
-  same = λ s. subst (λ olds. Has new s ↔ ((s ≡ r) ⊎ Has olds s)) (sym was) (subst (λ news. Has news s ↔ ((s ≡ r) ⊎ Has (before ++ after) s)) (sym is) (Has-with before after r s));
-}
-Adds-put old r false new compatible (is, has) = grind arith
+Adds-put old r is_new new compatible given = grind (arith, Has-with)
 
 octets_put : (old : List Record) (r : Record) (is_new : Bool) (new : List Record) → IsPut old r is_new new → message_octets new ≡ message_octets old + (if is_new then message_len r else 0)
 octets_put old r is_new new put = grind (arith, common_steps)
@@ -72,19 +57,11 @@ module _ {class : ℕ} {base : List (List ℕ)} {octets : List ℕ} {es : List E
   seen = same_records class r.class octets es (one_class class octets es r no_class)
 
   pub refused_put : (e : Refusal) → IsSetRefusal (all_records r.class octets es) r e → IsRefusal Old r e
-  refused_put refusal.OtherClass why = absurd why
-  refused_put refusal.OtherSoa why = absurd why
-  refused_put refusal.OtherTtl why = by_ttl no_class no_soa (rw seen at why)
-  refused_put refusal.Memory why = tt
+  refused_put e why = grind (arith, seen, by_ttl)
 
   -- where memory was refused, the records are as before
   pub KeepsSets-unchanged : (name : List (List ℕ)) (now : List ℕ) (fs : List Entry) → AllByRecursion (IsEntry name r.class now) fs → all_records r.class now fs ≡ all_records r.class octets es → KeepsSets r.class name now fs counted
-  KeepsSets-unchanged name now fs each records =
-      let view : all_records r.class now fs ≡ Old = records ∙ seen in
-      record {
-        holds = record { each = each; compatible = rw view keeps.holds.compatible };
-        counts = rw view keeps.counts;
-      }
+  KeepsSets-unchanged name now fs each records = grind (arith, seen)
 
   module _ (one_ttl : OtherTtl (all_records r.class octets es) r → ⊥) (whole : IsRecord r) (name : List (List ℕ)) (now : List ℕ) (fs : List Entry) (is_new : Bool) (each : AllByRecursion (IsEntry name r.class now) fs) (told : IsPut (all_records r.class octets es) r is_new (all_records r.class now fs)) where
     abbrev New : List Record

@@ -1,22 +1,9 @@
 -- A record between its neighbours, among records that stand together.
-use Rattle.std.proofs.Common.{◌≡◌, ◌≢◌, ◌⊎◌, ◌↔◌, ℕ, zero, suc, ◌<◌, Bool, true, false, IsTrue, List, [], ◌∷◌, ◌++◌, length, map, get_or, Option, Some, None, MatchOption, Ordering, Less, Equal, Greater, nat_cmp, nat_lt, refl, sym, ap, ◌∙◌, subst, arith, append_assoc, inl, inr, ⊎_elim, Bor}
-use Rattle.std.proofs.lemmas.Bool.{false≢true}
-use Rattle.std.proofs.lemmas.Bool.Decides.{nat_tests}
-use Rattle.std.proofs.lemmas.Cmp.{ranked}
-use Rattle.std.proofs.lemmas.List.{map-append}
-use Rattle.std.specs.List.{AllByRecursion}
-use Rattle.std.specs.Option.{IfSome, option_copied}
+use Rattle.zone_set.proofs.Common.{◌≡◌, ◌≢◌, ◌⊎◌, ◌↔◌, ℕ, zero, suc, ◌<◌, Bool, true, false, IsTrue, List, [], ◌∷◌, ◌++◌, length, map, get_or, Option, Some, None, MatchOption, Ordering, Less, Equal, Greater, nat_cmp, nat_lt, refl, sym, ap, ◌∙◌, subst, arith, append_assoc, inl, inr, ⊎_elim, Bor, false≢true, nat_tests, ranked, map-append, AllByRecursion, IfSome, option_copied, is_lt, ordering_reverse, MatchOrdering, AllByRecursion-back, Record, OtherTtl, HasOtherTtl, canonical_cmp, Ascends, Has, AreCompatible, InOneSet}
 use Rattle.std.specs.List.Sorted.{IsPartitionedBy}
-use Rattle.std.specs.Ordering.{is_lt, ordering_reverse, MatchOrdering}
-use Rattle.zone_name.proofs.Pushing.{AllByRecursion-back}
-use Rattle.zone_rdata.specs.Record.{Record}
 use Rattle.zone_set.proofs.SetOrder.{between_sets, canonical_total, exact_canonical}
 use Rattle.zone_set.proofs.Storing.{all_with}
 use Rattle.zone_set.proofs.Together.{each_Has, flipped, one_set, stable_number}
-use Rattle.zone_set.specs.Builder.{OtherTtl}
-use Rattle.zone_set.specs.Machine.Held.{HasOtherTtl}
-use Rattle.zone_set.specs.Order.{canonical_cmp, Ascends}
-use Rattle.zone_set.specs.Zone.{Has, AreCompatible, InOneSet}
 
 is_less : (o : Ordering) → is_lt o ≡ true → o ≡ Less
 is_less o less = grind arith
@@ -57,12 +44,7 @@ Has-append (x ∷ a) b r =
 
 -- a record among others
 pub Has-with : (a b : List Record) (r s : Record) → Has (a ++ r ∷ b) s ↔ ((s ≡ r) ⊎ Has (a ++ b) s)
-Has-with a b r s =
-    let new = Has-append a (r ∷ b) s in
-    let old = Has-append a b s in (
-      λ h. ⊎_elim (λ left. inr (old.1 (inl left))) (λ right. ⊎_elim (λ same. inl same) (λ rest. inr (old.1 (inr rest))) right) (new.0 h),
-      λ h. ⊎_elim (λ same. new.1 (inr (inl same))) (λ rest. ⊎_elim (λ left. new.1 (inl left)) (λ right. new.1 (inr (inr right))) (old.0 rest)) h,
-    )
+Has-with a b r s = grind (arith, Has-append)
 
 Ascends-with : (a b : List Record) (r : Record) → Ascends (a ++ b) → AllByRecursion (λ s. canonical_cmp s r ≡ Less) a → AllByRecursion (λ s. canonical_cmp r s ≡ Less) b → Ascends (a ++ r ∷ b)
 Ascends-with [] b r ascend before after = (after, ascend)
@@ -96,12 +78,10 @@ copied P Q lent copy is found = grind arith
 
 module _ {X : Type 0} (P : X → Type 0) where
   pub last_has : (before : List X) → AllByRecursion P before → (last : Option X) → MatchOption last (before ≡ []) (λ e. (front : List X) × (before ≡ front ++ e ∷ [])) → IfSome last P
-  last_has before each None none = tt
-  last_has before each (Some e) (front, whole) = (AllByRecursion-back P front (e ∷ []) (subst (AllByRecursion P) whole each)).0
+  last_has before each last none = grind (arith, AllByRecursion-back)
 
   pub first_has : (after : List X) → AllByRecursion P after → (first : Option X) → MatchOption first (after ≡ []) (λ e. (rest : List X) × (after ≡ e ∷ rest)) → IfSome first P
-  first_has after each None none = tt
-  first_has after each (Some e) (rest, whole) = (subst (AllByRecursion P) whole each).0
+  first_has after each first none = grind arith
 
 -- an element on one side of a record's place: where a record on that side is of the record's set, so is its own
 pub record IsNeighbour {X : Type 0} (f : X → Record) (old : List Record) (side : List X) (r : Record) (e : X) : Type 0 where
@@ -157,20 +137,11 @@ module _ {X : Type 0} (f : X → Record) {old : List Record} (before after : Lis
   -- what a neighbour tells, by a test
   module _ (side : List X) (side_old : (s : Record) → Has (map f side) s → Has old s) where
     none_other : (near : Option X) → MatchOption near (side ≡ []) (IsNeighbour f old side r) → (b : Bool) → MatchOption near (b ≡ false) (λ e. IsTrue b ↔ HasOtherTtl (f e) r) → b ≡ false → (s : Record) → Has (map f side) s → HasOtherTtl s r → ⊥
-    none_other None none b told is s has other = subst (λ es. Has (map f es) s) none has
-    none_other (Some e) near b told is s has (one, differ) =
-        let own : InOneSet (f e) r = near.nearest s has one in
-        let both : InOneSet s (f e) = record { owner = one.owner ∙ sym own.owner; kind = one.kind ∙ sym own.kind; covers = one.covers ∙ sym own.covers } in
-        let ttl : s.ttl ≡ (f e).ttl = p.compatible.one_ttl s (f e) (side_old s has) near.has both in
-        let yes : b ≡ true = told.1 (own, λ same. differ (ttl ∙ same)) in
-        false≢true (sym is ∙ yes)
+    none_other near none b told is s has other = grind arith
 
   pub one_ttl : (last first : Option X) → MatchOption last (before ≡ []) (IsNeighbour f old before r) → MatchOption first (after ≡ []) (IsNeighbour f old after r)
       → (b c : Bool) → MatchOption last (b ≡ false) (λ e. IsTrue b ↔ HasOtherTtl (f e) r) → b ≡ false → MatchOption first (c ≡ false) (λ e. IsTrue c ↔ HasOtherTtl (f e) r) → c ≡ false → OtherTtl old r → ⊥
-  one_ttl last first is_last is_first b c told_b is_b told_c is_c (s, has, one, other) =
-      ⊎_elim (λ left. none_other before (λ t h. has_side t (inl h)) last is_last b told_b is_b s left (one, other))
-      (λ right. none_other after (λ t h. has_side t (inr h)) first is_first c told_c is_c s right (one, other))
-      ((Has-append (map f before) (map f after) s).0 (subst (λ rs. Has rs s) p.whole has))
+  one_ttl last first is_last is_first b c told_b is_b told_c is_c (s, has, one, other) = grind (arith, none_other, has_side, Has-append)
 
   -- the first record that is not before it is after it, where it is another one
   after_first : (OtherTtl old r → ⊥) → (x : Record) → Has (map f after) x → x ≢ r → canonical_cmp r x ≡ Less

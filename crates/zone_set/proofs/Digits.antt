@@ -1,16 +1,7 @@
 -- Numbers of first digits: their order, their bound, and digits that are put before others.
-use Rattle.std.proofs.Common.{◌≡◌, ℕ, zero, suc, ◌+◌, ◌*◌, ◌/◌, ◌^◌, ◌<◌, ◌≤◌, List, [], ◌∷◌, ◌++◌, length, take, Ordering, Less, Equal, Greater, nat_cmp, refl, sym, ap, ◌∙◌, subst, arith, append_assoc}
-use Rattle.std.proofs.Math.Nat.{pow-suc, one-le-pow, mul-le-mul_right, mul_assoc}
-use Rattle.std.proofs.lemmas.Cmp.{ranked}
-use Rattle.std.specs.Cmp.Lexicographic.{slice_cmp}
-use Rattle.std.specs.Prelude.{⊤}
-use Rattle.std.specs.Ordering.{ordering_then, MatchOrdering}
-use Rattle.zone_name.specs.Common.{AreOctets}
-use Rattle.zone_name.proofs.Pushing.{AllByRecursion-append, AllByRecursion-back}
-use Rattle.zone_rdata.proofs.FieldLaws.{low_take}
+use Rattle.zone_set.proofs.Common.{common_steps, ◌≡◌, ℕ, zero, suc, ◌+◌, ◌*◌, ◌/◌, ◌^◌, ◌<◌, ◌≤◌, List, [], ◌∷◌, ◌++◌, length, take, Ordering, Less, Equal, Greater, nat_cmp, refl, sym, ap, subst, arith, append_assoc, ranked, slice_cmp, ⊤, ordering_then, MatchOrdering, AreOctets, AllByRecursion-append, AllByRecursion-back, low_take, first_digits, AreDigits, IsPutBefore, label_key}
+use Rattle.std.proofs.Math.Nat.{pow-suc, one-le-pow, mul-le-mul_right}
 use Rattle.zone_set.proofs.LabelKey.{label_low}
-use Rattle.zone_set.specs.Machine.Hint.{first_digits, AreDigits, IsPutBefore}
-use Rattle.zone_set.specs.Machine.LabelKey.{label_key}
 
 -- a digit before a number of others is below the next digit before none
 digit_bound : (c p n : ℕ) → c < 257 → n < p → c * p + n < p * 257
@@ -52,13 +43,8 @@ put_one d after digits low is = grind arith
 -- the octets of a label are put from the right
 pub put_next : (label left done before : List ℕ) (c m n k : ℕ) → AreOctets label → take 7 label ≡ left ++ done → left ≡ before ++ c ∷ [] → IsPutBefore (label_key done) m n → IsPutBefore ((c + 1) ∷ []) n k
     → (take 7 label ≡ before ++ c ∷ done) × IsPutBefore (label_key (c ∷ done)) m k
-put_next label left done before c m n k low so_far cut first second =
-    let low_done : AreDigits (label_key done) = label_low done (AllByRecursion-back (λ d. d < 256) left done (subst AreOctets so_far (low_take 7 label low))) in (
-      so_far ∙ ap (λ t. t ++ done) cut ∙ append_assoc before (c ∷ []) done,
-      λ digits each is. second (label_key done ++ digits) (AllByRecursion-append (λ d. d < 257) (label_key done) digits low_done each) (first digits each is),
-    )
+put_next label left done before c m n k low so_far cut first second = grind (arith, label_low, AllByRecursion-back, low_take, append_assoc, AllByRecursion-append)
 
 -- all of them were put
 pub put_all : (label left done : List ℕ) (m n : ℕ) → take 7 label ≡ left ++ done → length left ≡ 0 → IsPutBefore (label_key done) m n → IsPutBefore (label_key label) m n
-put_all label [] done m n so_far none put digits each is = grind arith
-put_all label (c ∷ left) done m n so_far none put digits each is = absurd (omega (arith, none))
+put_all label left done m n so_far none put digits each is = grind (arith, common_steps)

@@ -1,20 +1,7 @@
 -- From the records held to a zone, or to the least owner outside.
-use Rattle.std.proofs.Common.{◌≡◌, ◌≢◌, ℕ, Bool, true, false, ◌==◌, if◌then◌else◌, List, [], ◌∷◌, ◌++◌, Ordering, Less, Equal, Greater, nat_cmp, refl, sym, ap, ◌∙◌, subst, inl, inr, ⊎_elim, ne_eqb}
-use Rattle.std.specs.List.{AllByRecursion}
-use Rattle.std.specs.Ordering.{ordering_then}
-use Rattle.zone_name.specs.Name.{IsWithin}
-use Rattle.zone_name.specs.Order.{name_cmp}
-use Rattle.zone_rdata.specs.Record.{Record}
-use Rattle.zone_rdata.specs.declared.fault.Fault.TheVariants.{NoSoa, OutOfZone}
-use Rattle.zone_rdata.specs.declared.fault.Place.TheVariants.{Whole}
-use Rattle.zone_rdata.specs.declared.fault.Stop.TheVariants.{Refused}
-use Rattle.zone_name.proofs.Lawful.{name_cmp-exact}
+use Rattle.zone_set.proofs.Common.{◌≡◌, ◌≢◌, ℕ, Bool, false, ◌==◌, if◌then◌else◌, List, [], ◌∷◌, ◌++◌, Ordering, Less, Equal, nat_cmp, refl, sym, ap, ◌∙◌, subst, inl, inr, ⊎_elim, ne_eqb, arith, AllByRecursion, ordering_then, IsWithin, name_cmp, Record, NoSoa, OutOfZone, Whole, Refused, name_cmp-exact, HasNoSoa, IsLeastOutside, StopsFinish, no_soa, outside, IsFirstOutside, canonical_cmp, Ascends, Has, AreCompatible, IsZone}
 use Rattle.zone_set.proofs.Between.{Has-append, Ascends-right}
 use Rattle.zone_set.proofs.Together.{each_Has, each_from_Has, soa_first}
-use Rattle.zone_set.specs.Builder.{HasNoSoa, IsLeastOutside, StopsFinish, no_soa, outside}
-use Rattle.zone_set.specs.Machine.Held.{IsFirstOutside}
-use Rattle.zone_set.specs.Order.{canonical_cmp, Ascends}
-use Rattle.zone_set.specs.Zone.{Has, AreCompatible, IsZone}
 
 pub IsFirstOutside-later : (apex owner : List (List ℕ)) (r : Record) (others : List Record) → IsWithin r.owner apex → IsFirstOutside others apex owner → IsFirstOutside (r ∷ others) apex owner
 IsFirstOutside-later apex owner r others within found = record {
@@ -33,17 +20,11 @@ pub record Walks (whole : List Record) (apex : List (List ℕ)) (left : List Rec
   pub outside : (owner : List (List ℕ)) → IsFirstOutside left apex owner → IsFirstOutside whole apex owner
 
 pub Walks-start : (whole left : List Record) (apex : List (List ℕ)) → left ≡ whole → Walks whole apex left
-Walks-start whole left apex is = record {
-  inside = subst (AllByRecursion (λ r. IsWithin r.owner apex)) is;
-  outside = λ owner found. subst (λ rs. IsFirstOutside rs apex owner) is found;
-}
+Walks-start whole left apex is = grind arith
 
 module _ (whole : List Record) (apex : List (List ℕ)) (left rest : List Record) (r : Record) (walks : Walks whole apex left) (step : left ≡ r ∷ rest) where
   pub Walks-more : IsWithin r.owner apex → Walks whole apex rest
-  Walks-more within = record {
-    inside = λ each. walks.inside (subst (AllByRecursion (λ s. IsWithin s.owner apex)) (sym step) (within, each));
-    outside = λ owner found. walks.outside owner (subst (λ rs. IsFirstOutside rs apex owner) (sym step) (IsFirstOutside-later apex owner r rest within found));
-  }
+  Walks-more within = grind (arith, IsFirstOutside-later)
 
   pub Walks-found : (IsWithin r.owner apex → ⊥) → IsFirstOutside whole apex r.owner
   Walks-found out = walks.outside r.owner (subst (λ rs. IsFirstOutside rs apex r.owner) (sym step) (record { before = []; first = r; others = rest; parts = refl; inside = tt; named = refl; outside = out }))
@@ -68,11 +49,7 @@ IsZone-from_first first others compatible soa within = record {
 
 -- among records that are no SOA the order is first by owner
 by_owner : (b c : Bool) (o p : Ordering) → b ≡ false → c ≡ false → ordering_then (nat_cmp (if b then 0 else 1) (if c then 0 else 1)) (ordering_then o p) ≡ Less → o ≢ Equal → o ≡ Less
-by_owner true c o p no_b no_c less other = cc
-by_owner false true o p no_b no_c less other = cc
-by_owner false false Less p no_b no_c less other = refl
-by_owner false false Equal p no_b no_c less other = absurd (other refl)
-by_owner false false Greater p no_b no_c less other = cc
+by_owner b c o p no_b no_c less other = grind arith
 
 -- the first owner outside, after the SOA, is the least
 pub IsLeastOutside-from_first : (soa : Record) (others : List Record) (owner : List (List ℕ)) → AreCompatible (soa ∷ others) → soa.kind ≡ 6 → IsFirstOutside others soa.owner owner → IsLeastOutside (soa ∷ others) owner
@@ -130,9 +107,7 @@ module _ (held : List Record) (first : Record) (others : List Record) (compatibl
   stops_without_soa other = no_soa (subst HasNoSoa (sym parts) (no_soa_of_first first others known other))
 
   pub stops_outside : first.kind ≡ 6 → (apex owner named : List (List ℕ)) → apex ≡ first.owner → IsFirstOutside held apex owner → named ≡ owner → StopsFinish held (Refused (OutOfZone named) Whole)
-  stops_outside soa apex owner named is_apex found is =
-      let behind : IsFirstOutside others first.owner owner = IsFirstOutside-others first others owner (subst (λ rs. IsFirstOutside rs first.owner owner) parts (subst (λ a. IsFirstOutside held a owner) is_apex found)) in
-      outside named (subst (λ o. IsLeastOutside held o) (sym is) (subst (λ rs. IsLeastOutside rs owner) (sym parts) (IsLeastOutside-from_first first others owner known soa behind)))
+  stops_outside soa apex owner named is_apex found is = grind (arith, IsFirstOutside-others, IsLeastOutside-from_first, known, outside)
 
   pub IsZone-from_parts : first.kind ≡ 6 → (apex : List (List ℕ)) → apex ≡ first.owner → AllByRecursion (λ r. IsWithin r.owner apex) held → IsZone (record { apex = apex; class = first.class; records = held })
   IsZone-from_parts soa apex is within =

@@ -1,21 +1,9 @@
 -- The hint has the order of records as far as it tells them apart.
-use Rattle.std.proofs.Common.{◌≡◌, ◌≢◌, ◌⊎◌, ℕ, ◌*◌, ◌^◌, ◌<◌, ◌==◌, if◌then◌else◌, List, [], ◌++◌, Ordering, Less, Equal, Greater, nat_cmp, refl, sym, ap, ap₂, ◌∙◌, subst, arith, inl, inr, eq-eqb, ne_eqb}
-use Rattle.std.proofs.lemmas.Cmp.{nat_cmp_total, tied_itself}
-use Rattle.std.specs.List.{AllByRecursion}
-use Rattle.std.specs.Ordering.{ordering_then, ordering_reverse}
-use Rattle.zone_name.proofs.Lawful.{name_cmp-exact, name_cmp-total}
-use Rattle.zone_name.proofs.Pushing.{AllByRecursion-front}
-use Rattle.zone_name.specs.Name.{IsLabel, IsName, IsWithin}
-use Rattle.zone_name.specs.Order.{name_cmp}
-use Rattle.zone_rdata.specs.Order.{data_cmp}
-use Rattle.zone_rdata.specs.Record.{Record, data_of}
+use Rattle.zone_set.proofs.Common.{◌≡◌, ◌≢◌, ◌⊎◌, ℕ, ◌*◌, ◌^◌, ◌<◌, ◌==◌, if◌then◌else◌, List, [], ◌++◌, Ordering, Less, Equal, Greater, nat_cmp, refl, sym, ap, ap₂, ◌∙◌, subst, arith, eq-eqb, ne_eqb, nat_cmp_total, tied_itself, AllByRecursion, ordering_then, ordering_reverse, name_cmp-exact, name_cmp-total, AllByRecursion-front, IsLabel, IsName, IsWithin, name_cmp, data_cmp, Record, data_of, first_digits, IsHint, AreDigits, soa, before, within, after, owner_key, canonical_cmp}
 use Rattle.zone_set.proofs.Digits.{first_digits-bound, first_digits-less}
 use Rattle.zone_set.proofs.LabelKey.{owner_low, owners_embed}
 use Rattle.zone_set.proofs.Numbers.{then_assoc}
 use Rattle.zone_set.proofs.Within.{below_after, same_ending, within_between}
-use Rattle.zone_set.specs.Machine.Hint.{first_digits, IsHint, AreDigits, soa, before, within, after}
-use Rattle.zone_set.specs.Machine.LabelKey.{owner_key}
-use Rattle.zone_set.specs.Order.{canonical_cmp}
 
 -- an owner that is neither below the base nor before it
 pub hint_after : (base owner : List (List ℕ)) (kind : ℕ) (o : Ordering) → kind ≢ 6 → (IsWithin owner base → ⊥) → name_cmp owner base ≡ o → (o ≡ Equal) ⊎ (o ≡ Greater) → IsHint base owner kind (3 * 2 ^ 57)

@@ -1,23 +1,7 @@
 -- A walk over the labels of an owner, until those that are left take no more octets than the base.
-use Rattle.std.proofs.lemmas.Grind.{common_steps}
-use Rattle.std.proofs.Common.{◌≡◌, ℕ, ◌+◌, ◌-◌, ◌^◌, ◌<◌, ◌≤◌, List, [], ◌∷◌, ◌++◌, length, drop, refl, sym, ap, ◌∙◌, subst, arith, append_assoc, length-append}
-use Rattle.std.proofs.lemmas.List.{drop_at}
-use Rattle.std.specs.List.{flat_map, AllByRecursion}
-use Rattle.std.proofs.lemmas.List.Concat.{flat_map-append}
-use Rattle.zone_name.specs.Name.{IsLabel, IsName, IsWithin, with_length, wire, labels_of}
-use Rattle.zone_name.proofs.Octets.{labels_of-wire}
-use Rattle.zone_name.proofs.Pushing.{AllByRecursion-front, AllByRecursion-back}
+use Rattle.zone_set.proofs.Common.{common_steps, ◌≡◌, ℕ, ◌+◌, ◌-◌, ◌^◌, ◌<◌, ◌≤◌, List, [], ◌∷◌, ◌++◌, length, drop, sym, ap, ◌∙◌, subst, arith, append_assoc, AllByRecursion, IsLabel, IsName, IsWithin, wire, labels_of-wire, AllByRecursion-front, AllByRecursion-back, first_digits, IsPutBefore, label_key, owner_key}
 use Rattle.zone_set.proofs.Digits.{first_digits-bound}
 use Rattle.zone_set.proofs.LabelKey.{owner_low, owner_key-push}
-use Rattle.zone_set.specs.Machine.Hint.{first_digits, IsPutBefore}
-use Rattle.zone_set.specs.Machine.LabelKey.{label_key, owner_key}
-
--- labels before others, and the octets of both
-wire-append : (front labels : List (List ℕ)) → wire (front ++ labels) ≡ flat_map with_length front ++ wire labels
-wire-append front labels = grind (arith, common_steps)
-
-length-wire_append : (front labels : List (List ℕ)) → length (wire (front ++ labels)) ≡ length (flat_map with_length front) + length (wire labels)
-length-wire_append front labels = grind (arith, common_steps)
 
 length-wire : (label : List ℕ) (labels : List (List ℕ)) → length (wire (label ∷ labels)) ≡ length label + 1 + length (wire labels)
 length-wire label labels = grind (arith, common_steps)
@@ -57,20 +41,10 @@ module _ (base owner left : List (List ℕ)) (len key : ℕ) (walked : IsWalked 
   module _ (last : List ℕ) (name : IsName owner) (base_name : IsName base) (is : last ≡ drop (length (wire owner) - len) (wire owner)) where
     -- the last octets are those of the labels that are left
     last_octets : last ≡ wire left
-    last_octets =
-        let whole : wire owner ≡ flat_map with_length walked.done ++ wire left = ap wire walked.parts ∙ wire-append walked.done left in
-        is ∙ ap (drop (length (wire owner) - len)) whole
-        ∙ drop_at (flat_map with_length walked.done) (wire left) (length (wire owner) - len) (omega (arith, walked.counts, ap length whole, length-append (flat_map with_length walked.done) (wire left)))
+    last_octets = grind (arith, common_steps)
 
     pub walked_found : last ≡ wire base → (front : List (List ℕ)) × (owner ≡ front ++ base) × (key ≡ first_digits 7 (owner_key front))
-    walked_found same =
-        let each : AllByRecursion IsLabel left = AllByRecursion-back IsLabel walked.done left (subst (AllByRecursion IsLabel) walked.parts name.each) in
-        let found : left ≡ base = sym (labels_of-wire left each) ∙ ap labels_of (sym last_octets ∙ same) ∙ labels_of-wire base base_name.each in
-        (walked.done, walked.parts ∙ ap (λ ls. walked.done ++ ls) found, walked.gathers)
+    walked_found same = grind (arith, AllByRecursion-back, labels_of-wire, last_octets)
 
     pub walked_none : len ≤ length (wire base) → (last ≡ wire base → ⊥) → IsWithin owner base → ⊥
-    walked_none fits apart within = by (walked.within within).0 (walked.within within).1
-      where
-        by : (before : List (List ℕ)) → left ≡ before ++ base → ⊥
-        by [] same = apart (last_octets ∙ ap wire same)
-        by (x ∷ before) same = omega (arith, fits, walked.counts, ap (λ ls. length (wire ls)) same, length-wire x (before ++ base), length-wire_append before base)
+    walked_none fits apart within = grind (arith, common_steps)

@@ -1,17 +1,11 @@
 -- One more record among those that stand together.
-use Rattle.std.proofs.Common.{◌≡◌, ◌⊎◌, List, refl, sym, subst, ⊎_elim}
-use Rattle.zone_rdata.specs.Record.{Record, IsRecord}
+use Rattle.zone_set.proofs.Common.{◌≡◌, ◌⊎◌, List, refl, sym, subst, ⊎_elim, arith, Record, IsRecord, Accepts, Ascends, Has, InOneSet, AreCompatible}
 use Rattle.zone_set.proofs.Together.{each_Has, each_from_Has, flipped, accepted_class, accepted_ttl, accepted_soa}
-use Rattle.zone_set.specs.Builder.{Accepts}
-use Rattle.zone_set.specs.Order.{Ascends}
-use Rattle.zone_set.specs.Zone.{Has, InOneSet, AreCompatible}
 
 -- what holds of a record and those held, both ways round, holds of those held and it
 module _ (old new : List Record) (r : Record) (same : (s : Record) → Has new s → (s ≡ r) ⊎ Has old s) where
   among_both : (P : Record → Record → Type 0) → P r r → ((s : Record) → Has old s → P s r) → ((s : Record) → Has old s → P r s) → ((s t : Record) → Has old s → Has old t → P s t) → (s t : Record) → Has new s → Has new t → P s t
-  among_both P itself after before others s t has_s has_t =
-      ⊎_elim (λ is_s. ⊎_elim (λ is_t. subst (λ x. P x t) (sym is_s) (subst (P r) (sym is_t) itself)) (λ old_t. subst (λ x. P x t) (sym is_s) (before t old_t)) (same t has_t))
-      (λ old_s. ⊎_elim (λ is_t. subst (P s) (sym is_t) (after s old_s)) (λ old_t. others s t old_s old_t) (same t has_t)) (same s has_s)
+  among_both P itself after before others s t has_s has_t = grind arith
 
 -- a record that may stand with those held stands with them
 pub AreCompatible-with : (old new : List Record) (r : Record) → AreCompatible old → Accepts old r → IsRecord r → ((s : Record) → Has new s → (s ≡ r) ⊎ Has old s) → Ascends new → AreCompatible new

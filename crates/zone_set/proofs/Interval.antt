@@ -1,28 +1,14 @@
 -- The records after an SOA whose owners lie at or below an apex stand together.
-use Rattle.std.proofs.Common.{◌≡◌, ◌≢◌, ℕ, Option, Some, None, Bool, true, false, ◌==◌, if◌then◌else◌, List, [], ◌∷◌, ◌++◌, Ordering, Less, Equal, Greater, nat_cmp, refl, sym, ap, ◌∙◌, subst, inl, inr, ⊎_elim, ne_eqb, eqb-true, eq-eqb}
-use Rattle.std.proofs.lemmas.Cmp.{tied_itself}
-use Rattle.std.specs.List.{AllByRecursion}
-use Rattle.std.specs.Option.{IfSome, MatchOption}
-use Rattle.std.specs.Ordering.{ordering_then}
-use Rattle.zone_name.specs.Name.{IsWithin}
-use Rattle.zone_name.specs.Order.{name_cmp}
-use Rattle.zone_rdata.specs.Record.{Record}
+use Rattle.zone_set.proofs.Common.{◌≡◌, ◌≢◌, ℕ, Option, Some, None, Bool, false, ◌==◌, if◌then◌else◌, List, [], ◌∷◌, ◌++◌, Ordering, Less, Equal, Greater, nat_cmp, refl, sym, ap, ◌∙◌, subst, inl, inr, ⊎_elim, ne_eqb, eqb-true, eq-eqb, arith, tied_itself, AllByRecursion, IfSome, MatchOption, ordering_then, IsWithin, name_cmp, Record, canonical_cmp, Ascends, record_of, Has, AreCompatible}
 use Rattle.zone_set.proofs.Between.{before_all, Has-append}
 use Rattle.zone_set.proofs.SetOrder.{canonical_total}
 use Rattle.zone_set.proofs.Within.{within_between}
 use Rattle.zone_set.proofs.Together.{each_Has, each_from_Has, soa_before}
-use Rattle.zone_set.specs.Order.{canonical_cmp, Ascends}
-use Rattle.zone_rdata.specs.Lent.{record_of}
-use Rattle.zone_set.specs.Zone.{Has, AreCompatible}
 use Rattle.zone_rdata.specs.declared.lent.RrRef.{RrRef}
 
 -- after a record that is no SOA there is none, and the order is by owner
 by_owner : (x y : Bool) (o p : Ordering) → x ≡ false → ordering_then (nat_cmp (if x then 0 else 1) (if y then 0 else 1)) (ordering_then o p) ≡ Less → (y ≡ false) × (o ≢ Greater)
-by_owner true y o p no_x less = cc
-by_owner false true o p no_x less = cc
-by_owner false false Less p no_x less = (refl, λ e. cc)
-by_owner false false Equal p no_x less = (refl, λ e. cc)
-by_owner false false Greater p no_x less = cc
+by_owner x y o p no_x less = grind arith
 
 -- the second record is no SOA
 second_no_soa : (k l : Record) (rest : List Record) → AreCompatible (k ∷ l ∷ rest) → (l.kind == 6) ≡ false

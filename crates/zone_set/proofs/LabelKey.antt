@@ -1,18 +1,6 @@
 -- The key of labels has the order of the labels.
-use Rattle.std.proofs.Common.{◌≡◌, ℕ, ◌+◌, ◌<◌, List, [], ◌∷◌, ◌++◌, reverse, Less, Greater, nat_cmp, refl, sym, ap, ◌∙◌, subst, arith}
-use Rattle.std.proofs.lemmas.Bool.Decides.{nat_tests}
-use Rattle.std.proofs.lemmas.List.{reverse-append}
-use Rattle.std.specs.Cmp.{nat_cmp_is}
-use Rattle.std.specs.Cmp.Lexicographic.{slice_cmp}
-use Rattle.std.specs.List.{flat_map, AllByRecursion}
-use Rattle.std.specs.Ordering.{ordering_then}
-use Rattle.zone_name.specs.Common.{AreOctets}
-use Rattle.zone_name.specs.Name.{IsFoldedOctet, IsLabel}
-use Rattle.zone_name.specs.Order.{label_cmp, name_cmp}
-use Rattle.zone_name.proofs.Pushing.{AllByRecursion-append}
+use Rattle.zone_set.proofs.Common.{◌≡◌, ℕ, ◌+◌, ◌<◌, List, [], ◌∷◌, ◌++◌, reverse, nat_cmp, refl, sym, ap, ◌∙◌, subst, arith, nat_tests, reverse-append, slice_cmp, flat_map, AllByRecursion, ordering_then, AreOctets, IsFoldedOctet, IsLabel, label_cmp, name_cmp, AllByRecursion-append, AreDigits, label_key, owner_key}
 use Rattle.zone_set.proofs.Numbers.{then_assoc}
-use Rattle.zone_set.specs.Machine.Hint.{AreDigits}
-use Rattle.zone_set.specs.Machine.LabelKey.{label_key, owner_key}
 
 next_cmp : (c d : ℕ) → nat_cmp (c + 1) (d + 1) ≡ nat_cmp c d
 next_cmp c d = grind (arith, nat_tests)

@@ -1,22 +1,10 @@
 -- A record that is put among entries: where it is sought, what its neighbours tell, and what is held with it.
-use Rattle.std.proofs.Common.{◌≡◌, ◌≢◌, ℕ, Bool, true, false, List, [], ◌∷◌, ◌++◌, length, map, sym, ap, ◌∙◌, subst}
+use Rattle.zone_set.proofs.Common.{◌≡◌, ◌≢◌, ℕ, Bool, true, false, List, [], ◌∷◌, ◌++◌, length, map, sym, ap, ◌∙◌, subst, arith, map-append, All, AllByRecursion, AllByRecursion-back, AllByRecursion-front, IsParting, is_lt, Record, IsRecord, data_of, all_records, entry_record, HasOtherTtl, HoldsEntries, IsComparable, IsEntry, IsPut, IsHint, stored, canonical_cmp, Ascends, covered_octets, Entry}
 use Rattle.std.proofs.lemmas.List.Elements.{All-from_recursion, recursion_from_All}
-use Rattle.std.proofs.lemmas.List.{map-append}
-use Rattle.std.specs.List.{All, AllByRecursion}
-use Rattle.zone_name.proofs.Pushing.{AllByRecursion-back, AllByRecursion-front}
-use Rattle.sorted_chunks.specs.Chunks.{IsParting}
-use Rattle.std.specs.Ordering.{is_lt}
-use Rattle.zone_rdata.specs.Record.{Record, IsRecord, data_of}
 use Rattle.zone_set.proofs.Adding.{class_of}
 use Rattle.zone_set.proofs.Between.{each_before, none_before, parted, Parts}
 use Rattle.zone_set.proofs.HintOrder.{hint_orders, one_hint}
 use Rattle.zone_set.proofs.Storing.{all_with, each_kept, entry_appended, record_appended, records_kept}
-use Rattle.zone_set.specs.Machine.Held.{all_records, entry_record, HasOtherTtl, HoldsEntries, IsComparable, IsEntry, IsPut}
-use Rattle.zone_set.specs.Machine.Hint.{IsHint}
-use Rattle.zone_set.specs.Machine.Stored.{stored}
-use Rattle.zone_set.specs.Order.{canonical_cmp, Ascends}
-use Rattle.zone_set.specs.Zone.{covered_octets}
-use Rattle.zone_set.specs.declared.entry.Entry.{Entry}
 
 -- an entry of another hint is of another set, and so of another record
 module _ (octets : List ℕ) (h : ℕ) (r : Record) (e : Entry) (comparable : IsComparable octets h r e) (differ : e.hint ≢ h) where
@@ -67,26 +55,10 @@ module _ (base : List (List ℕ)) (octets : List ℕ) (r : Record) where
     each_old = subst (AllByRecursion (IsEntry base r.class octets)) (sym parts) holds.each
 
     pub each_put : IsHint base r.owner r.kind e.hint → AllByRecursion (IsEntry base r.class now) fs
-    each_put hinted =
-        subst (λ octs. AllByRecursion (IsEntry base r.class octs) fs) (sym appended)
-        (subst (AllByRecursion (IsEntry base r.class (octets ++ stored r))) (sym put)
-        (all_with (IsEntry base r.class (octets ++ stored r)) before after e (each_kept r.class octets (stored r) base (before ++ after) each_old) (entry_appended octets r whole e at base hinted)))
+    each_put hinted = grind (arith, all_with (IsEntry base r.class (octets ++ stored r)) before after e (each_kept r.class octets (stored r) base (before ++ after) each_old) (entry_appended octets r whole e at base hinted))
 
     pub records_put : all_records r.class now fs ≡ map (entry_record r.class octets) before ++ r ∷ map (entry_record r.class octets) after
-    records_put =
-        let f = entry_record r.class (octets ++ stored r) in
-        ap (λ octs. all_records r.class octs fs) appended
-        ∙ ap (map f) put
-        ∙ map-append f before (e ∷ after)
-        ∙ ap (λ rs. rs ++ f e ∷ map f after) (records_kept r.class octets (stored r) base before (AllByRecursion-front (IsEntry base r.class octets) before after each_old))
-        ∙ ap (λ s. map (entry_record r.class octets) before ++ s ∷ map f after) (record_appended octets r whole e at)
-        ∙ ap (λ rs. map (entry_record r.class octets) before ++ r ∷ rs) (records_kept r.class octets (stored r) base after (AllByRecursion-back (IsEntry base r.class octets) before after each_old))
+    records_put = grind (arith, map-append, records_kept, AllByRecursion-front, each_old, record_appended, AllByRecursion-back)
 
     pub was_put : Ascends (map (entry_record r.class octets) before ++ r ∷ map (entry_record r.class octets) after) → IsPut (all_records r.class octets es) r true (all_records r.class now fs)
-    was_put ascend = (
-      map (entry_record r.class octets) before,
-      map (entry_record r.class octets) after,
-      ap (map (entry_record r.class octets)) (sym parts) ∙ map-append (entry_record r.class octets) before after,
-      records_put,
-      subst Ascends (sym records_put) ascend,
-    )
+    was_put ascend = grind (arith, map-append, records_put)

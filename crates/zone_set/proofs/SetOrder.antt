@@ -1,22 +1,8 @@
 -- The canonical order of records: it is total, and what lies between two records of a set is of the set.
-use Rattle.std.proofs.Common.{◌≡◌, ◌≢◌, ℕ, Bool, true, false, ◌==◌, if◌then◌else◌, List, [], take, drop, Ordering, Less, Equal, Greater, nat_cmp, refl, sym, ap, ◌∙◌, subst}
-use Rattle.std.proofs.lemmas.Cmp.{nat_cmp_total, nat_list_cmp_total, tied_itself, on_total, then_total}
-use Rattle.std.proofs.lemmas.Map.Lookups.{CmpEqualImpliesEq, exact_unsigned, exact_bytes}
-use Rattle.std.specs.Cmp.{IsTotalOrder}
-use Rattle.std.specs.Cmp.Lexicographic.{slice_cmp}
-use Rattle.std.specs.Ordering.{on, ordering_reverse, ordering_then, then_cmp}
-use Rattle.zone_name.proofs.Lawful.{name_cmp-exact, name_cmp-total}
-use Rattle.zone_name.specs.Order.{name_cmp}
-use Rattle.zone_rdata.specs.Order.{data_cmp}
-use Rattle.zone_rdata.specs.Record.{Data, Record, data_of}
-use Rattle.zone_set.proofs.Numbers.{cut_compare}
-use Rattle.zone_set.specs.Order.{soa_rank, canonical_cmp}
-use Rattle.zone_set.specs.Zone.{InOneSet}
+use Rattle.zone_set.proofs.Common.{◌≡◌, ◌≢◌, ℕ, Bool, ◌==◌, if◌then◌else◌, List, [], take, Ordering, Less, Equal, Greater, nat_cmp, refl, sym, ap, ◌∙◌, rules, arith, nat_cmp_total, nat_list_cmp_total, tied_itself, on_total, then_total, CmpEqualImpliesEq, exact_unsigned, exact_bytes, IsTotalOrder, slice_cmp, on, ordering_then, then_cmp, name_cmp-exact, name_cmp-total, name_cmp, data_cmp, Data, Record, data_of, soa_rank, canonical_cmp, InOneSet}
 
 pub both_equal : (o p : Ordering) → ordering_then o p ≡ Equal → (o ≡ Equal) × (p ≡ Equal)
-both_equal Less p h = cc
-both_equal Equal p h = (refl, h)
-both_equal Greater p h = cc
+both_equal o p h = grind arith
 
 data_total : IsTotalOrder data_cmp
 data_total = then_total (on_total (λ d. d.class) nat_cmp_total) (then_total (on_total (λ d. d.kind) nat_cmp_total) (on_total (λ d. d.octets) nat_list_cmp_total))
@@ -26,18 +12,7 @@ canonical_total = then_total (on_total soa_rank nat_cmp_total) (then_total (on_t
 
 -- records that the order does not tell apart have one owner, type and data
 pub exact_canonical : (r s : Record) → canonical_cmp r s ≡ Equal → (r.owner ≡ s.owner) × (r.kind ≡ s.kind) × (r.octets ≡ s.octets)
-exact_canonical r s h =
-    let owner = both_equal _ _ (both_equal _ _ h).1 in
-    let kind = both_equal _ _ (both_equal _ _ owner.1).1 in
-    (name_cmp-exact _ _ owner.0, exact_unsigned _ _ kind.0, exact_bytes _ _ kind.1)
-
--- what is after neither there nor back ties
-level : (o p q r : Ordering) → o ≡ ordering_reverse p → ordering_then o q ≢ Greater → ordering_then p r ≢ Greater → o ≡ Equal
-level Equal p q r is low high = refl
-level Greater p q r is low high = absurd (low refl)
-level Less Greater q r is low high = absurd (high refl)
-level Less Less q r is low high = cc
-level Less Equal q r is low high = cc
+exact_canonical r s h = grind (arith, both_equal, name_cmp-exact, exact_unsigned, exact_bytes)
 
 module _ {K : Type 0} {R : K → K → Ordering} (total : IsTotalOrder R) (exact : CmpEqualImpliesEq R) where
   -- what is not apart is equal
@@ -54,22 +29,10 @@ module _ {K : Type 0} {R : K → K → Ordering} (total : IsTotalOrder R) (exact
 
   -- between two that have one first key, all have it, and the order after it holds of them
   pub squeezed : {A : Type 0} (f : A → K) (S : A → A → Ordering) (a b c : A) → f a ≡ f c → then_cmp (on f R) S a b ≢ Greater → then_cmp (on f R) S b c ≢ Greater → (f a ≡ f b) × (S a b ≢ Greater) × (S b c ≢ Greater)
-  squeezed f S a b c same low high = (here, λ e. low (ap (λ o. ordering_then o (S a b)) tie ∙ e), λ e. high (ap (λ o. ordering_then o (S b c)) next ∙ e))
-    where
-      tie : R (f a) (f b) ≡ Equal
-      tie = level (R (f a) (f b)) (R (f b) (f a)) (S a b) (S b c) (total.antisymm (f a) (f b)) low (subst (λ k. ordering_then (R (f b) k) (S b c) ≢ Greater) (sym same) high)
-
-      here : f a ≡ f b
-      here = exact (f a) (f b) tie
-
-      next : R (f b) (f c) ≡ Equal
-      next = ap (R (f b)) (sym same ∙ here) ∙ tied_itself total (f b)
+  squeezed f S a b c same low high = grind arith
 
 covers_between : (rrsig : Bool) (xs ys zs : List ℕ) → (if rrsig then take 2 xs else []) ≡ (if rrsig then take 2 zs else []) → slice_cmp nat_cmp xs ys ≢ Greater → slice_cmp nat_cmp ys zs ≢ Greater → (if rrsig then take 2 xs else []) ≡ (if rrsig then take 2 ys else [])
-covers_between false xs ys zs same low high = refl
-covers_between true xs ys zs same low high =
-    (squeezed nat_list_cmp_total exact_bytes (take 2) (on (drop 2) (slice_cmp nat_cmp)) xs ys zs same
-    (λ e. low (cut_compare 2 xs ys ∙ e)) (λ e. high (cut_compare 2 ys zs ∙ e))).0
+covers_between rrsig xs ys zs same low high = search rules
 
 pub between_sets : (low r high : Record) → low.class ≡ high.class → InOneSet low high → canonical_cmp low r ≢ Greater → canonical_cmp r high ≢ Greater → InOneSet low r
 between_sets low r high class one under over =

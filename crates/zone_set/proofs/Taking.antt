@@ -1,12 +1,9 @@
 -- Records taken from a source, one after another.
-use Rattle.std.proofs.Common.{◌≡◌, Bool, true, false, List, [], ◌∷◌, ◌++◌, Option, Some, None, Ok, Err, refl, ap, sym, ◌∙◌, subst, append_assoc, append-nil}
-use Rattle.zone_rdata.specs.Record.{Record}
+use Rattle.zone_set.proofs.Common.{◌≡◌, Bool, true, false, List, [], ◌∷◌, ◌++◌, Option, Some, None, Ok, Err, refl, ap, sym, ◌∙◌, subst, append_assoc, append-nil, rules, arith, Record, Refused, Memory, Placed}
 use Rattle.zone_rdata.specs.RrSource.{Pending, answer_of, after, first_of, others}
 use Rattle.zone_rdata.specs.declared.fault.Fault.{Fault}
 use Rattle.zone_rdata.specs.declared.fault.Place.{Place}
 use Rattle.zone_rdata.specs.declared.fault.Stop.{Stop}
-use Rattle.zone_rdata.specs.declared.fault.Stop.TheVariants.{Refused, Memory}
-use Rattle.zone_rdata.specs.declared.record.Placed.{Placed}
 use Rattle.zone_set.specs.Builder.{Accepts, Adds, AddsEach, StopsAdd, TakesAll, leaves, StopsTaking, fault, failure, memory, refused as by_fault, ending as by_ending}
 
 -- one more at the end
@@ -23,23 +20,15 @@ after_failed failed records ending is_failed = cc
 
 -- an answer with a record: it was the first
 first_parts : (failed : Bool) (records : List Placed) (ending : Option (Fault × Place)) (p : Placed) → answer_of (record { failed = failed; records = records; ending = ending }) ≡ Ok (Some p) → (failed ≡ false) × (records ≡ p ∷ others records)
-first_parts true records ending p is = cc
-first_parts false [] None p is = cc
-first_parts false [] (Some e) p is = cc
-first_parts false (q ∷ records) ending p is = let same : q ≡ p = cc in (refl, ap (λ (x : Placed). x ∷ records) same)
+first_parts failed records ending p is = grind arith
 
 -- a record that is lent is the next answer
 pub lent_first : (failed : Bool) (records : List Placed) (ending : Option (Fault × Place)) (p : Placed) → Some p ≡ first_of (record { failed = failed; records = records; ending = ending }) → answer_of (record { failed = failed; records = records; ending = ending }) ≡ Ok (Some p)
-lent_first true records ending p is = cc
-lent_first false [] ending p is = cc
-lent_first false (q ∷ records) ending p is = ap Ok (sym is)
+lent_first failed records ending p is = grind arith
 
 -- a source that works and has no record left
 none_left : (failed : Bool) (records : List Placed) (ending : Option (Fault × Place)) (o : Option Placed) → None ≡ first_of (record { failed = failed; records = records; ending = ending }) → answer_of (record { failed = failed; records = records; ending = ending }) ≡ Ok o → (failed ≡ false) × (records ≡ []) × (ending ≡ None)
-none_left true records ending o none is = cc
-none_left false [] None o none is = (refl, refl, refl)
-none_left false [] (Some e) o none is = cc
-none_left false (q ∷ records) ending o none is = cc
+none_left failed records ending o none is = grind arith
 
 -- an answer with a fault: the source failed, or the fault at its end
 pub data Stopped (pending : Pending) : Stop → Type 0 where
@@ -72,30 +61,13 @@ module _ (old : List Record) (start : Pending) (now : List Record) (left : Pendi
   same_end = ap (λ p. p.ending) had.rest
 
   pub HasTaken-more : (p : Placed) (new : List Record) (next : Pending) → answer_of left ≡ Ok (Some p) → next ≡ after left → Accepts now p.rr → Adds now p.rr new → HasTaken old start new next
-  HasTaken-more p new next answer is fits adds =
-      let first = first_parts left.failed left.records left.ending p answer in
-      let rest = is ∙ after_parts left.failed left.records left.ending first.0 in
-      let here : next.records ≡ others left.records = ap (λ (f : Pending). f.records) rest in
-      record {
-        taken = had.taken ++ p ∷ [];
-        parts = had.parts ∙ ap (λ rs. had.taken ++ rs) (first.1 ∙ ap (λ (f : Pending). p ∷ f.records) (sym rest)) ∙ sym (append_assoc had.taken (p ∷ []) next.records);
-        rest = rest ∙ ap (λ (f : Pending). leaves f (others left.records)) had.rest ∙ ap (leaves start) (sym here);
-        none = λ fails. let no : false ≡ true = sym first.0 ∙ failed ∙ fails in cc;
-        each = AddsEach-push old now had.taken p new had.each fits adds;
-      }
+  HasTaken-more p new next answer is fits adds = grind (arith, first_parts left.failed left.records left.ending p answer, append_assoc had.taken (p ∷ []) next.records, AddsEach-push old now had.taken p new had.each fits adds)
 
   whole : left.records ≡ [] → start.records ≡ had.taken
   whole none = had.parts ∙ ap (λ rs. had.taken ++ rs) none ∙ append-nil had.taken
 
   pub TakesAll-at_end : (o : Option Placed) (next : Pending) → None ≡ first_of left → answer_of left ≡ Ok o → next ≡ after left → TakesAll old start now next
-  TakesAll-at_end o next none answer is =
-      let ended = none_left left.failed left.records left.ending o none answer in
-      record {
-        works = sym failed ∙ ended.0;
-        whole = sym same_end ∙ ended.2;
-        taken = subst (λ rs. AddsEach old rs now) (sym (whole ended.1)) had.each;
-        emptied = is ∙ after_parts left.failed left.records left.ending ended.0 ∙ ap (λ rs. leaves left (others rs)) ended.1 ∙ ap (λ (f : Pending). leaves f []) had.rest;
-      }
+  TakesAll-at_end o next none answer is = search rules
 
   pub StopsTaking-at_end : (stop : Stop) (next : Pending) → answer_of left ≡ Err stop → next ≡ after left → StopsTaking old start now next stop
   StopsTaking-at_end stop next answer is = by stop (stop_parts left.failed left.records left.ending stop answer)

@@ -1,15 +1,6 @@
 -- Records held: membership, sets, and what a refusal excludes.
-use Rattle.std.proofs.Common.{◌≡◌, ◌≢◌, ◌⊎◌, ℕ, Bool, true, false, ◌==◌, if◌then◌else◌, List, [], ◌∷◌, take, Ordering, Less, nat_cmp, eqb-true, eq-eqb, refl, sym, ap, ◌∙◌, subst, inl, inr, ⊎_elim}
-use Rattle.std.proofs.lemmas.Cmp.{nat_cmp_total, nat_list_cmp_total}
-use Rattle.std.proofs.lemmas.Map.Lookups.{exact_unsigned, exact_bytes}
-use Rattle.std.specs.List.{AllByRecursion}
-use Rattle.zone_rdata.specs.Record.{Record}
-use Rattle.zone_set.specs.Order.{canonical_cmp, Ascends}
-use Rattle.std.specs.Ordering.{ordering_then}
-use Rattle.zone_name.proofs.Lawful.{name_cmp-exact, name_cmp-total}
+use Rattle.zone_set.proofs.Common.{◌≡◌, ◌≢◌, ◌⊎◌, ℕ, Bool, true, ◌==◌, if◌then◌else◌, List, [], ◌∷◌, take, Ordering, Less, nat_cmp, eqb-true, eq-eqb, refl, sym, ◌∙◌, subst, inl, inr, ⊎_elim, arith, nat_cmp_total, nat_list_cmp_total, exact_unsigned, exact_bytes, AllByRecursion, Record, Ascends, ordering_then, name_cmp-exact, name_cmp-total, AreTwoSoas, OtherSoa, Accepts, Has, InOneSet, AreCompatible}
 use Rattle.zone_set.proofs.SetOrder.{stable}
-use Rattle.zone_set.specs.Builder.{AreTwoSoas, OtherSoa, Accepts}
-use Rattle.zone_set.specs.Zone.{Has, InOneSet, AreCompatible}
 
 -- what holds of each record, and of each that is held
 pub each_Has : (P : Record → Type 0) (records : List Record) (r : Record) → AllByRecursion P records → Has records r → P r
@@ -52,27 +43,19 @@ module _ (held : List Record) (r : Record) (fits : Accepts held r) where
 
 -- the first of these records is an SOA if any is
 pub soa_before : (b c : Bool) (o : Ordering) → ordering_then (nat_cmp (if b then 0 else 1) (if c then 0 else 1)) o ≡ Less → c ≡ true → b ≡ true
-soa_before true c o less is_soa = refl
-soa_before false true o less is_soa = cc
-soa_before false false o less is_soa = cc
+soa_before b c o less is_soa = grind arith
 
 pub soa_first : (first : Record) (others : List Record) → Ascends (first ∷ others) → (s : Record) → Has (first ∷ others) s → s.kind ≡ 6 → first.kind ≡ 6
-soa_first first others ascend s has soa =
-    ⊎_elim (λ same. ap (λ r. r.kind) (sym same) ∙ soa)
-    (λ more. eqb-true first.kind 6 (soa_before (first.kind == 6) (s.kind == 6) _ (each_Has (λ t. canonical_cmp first t ≡ Less) others s ascend.0 more) (eq-eqb s.kind 6 soa))) has
+soa_first first others ascend s has soa = grind (arith, eqb-true, soa_before, each_Has, eq-eqb)
 
 -- whether another SOA is held is told by the first record
 module _ (first : Record) (others : List Record) (compatible : AreCompatible (first ∷ others)) (r : Record) where
   pub one_soa : (AreTwoSoas first r → ⊥) → OtherSoa (first ∷ others) r → ⊥
-  one_soa one (s, has, (soa_r, soa_s, other)) =
-      let soa_first_one : first.kind ≡ 6 = soa_first first others compatible.ascend s has soa_s in
-      let same : s ≡ first = compatible.one_soa s first has (inl refl) soa_s soa_first_one in
-      one (soa_r, soa_first_one, subst (λ t. (t.owner ≢ r.owner) ⊎ (t.octets ≢ r.octets)) same other)
+  one_soa one (s, has, (soa_r, soa_s, other)) = grind (arith, soa_first)
 
   pub other_soa : AreTwoSoas first r → OtherSoa (first ∷ others) r
   other_soa two = (first, inl refl, two)
 
 -- a test that decides one thing decides another that stands and falls with it
 pub decides_other : {P Q : Type 0} (b : Bool) → (b ≡ true → P) → (P → b ≡ true) → (P → Q) → ((P → ⊥) → Q → ⊥) → (b ≡ true → Q) × (Q → b ≡ true)
-decides_other true holds tells more less = (λ h. more (holds refl), λ q. refl)
-decides_other false holds tells more less = (λ h. cc, λ q. absurd (less (λ p. let no : false ≡ true = tells p in cc) q))
+decides_other b holds tells more less = grind arith

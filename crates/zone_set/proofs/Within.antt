@@ -1,12 +1,5 @@
 -- In the order of names those at or below an apex stand together.
-use Rattle.std.proofs.Common.{◌≡◌, ◌≢◌, ℕ, List, [], ◌∷◌, ◌++◌, reverse, Ordering, Less, Equal, Greater, refl, sym, ap, ap₂, ◌∙◌}
-use Rattle.std.proofs.lemmas.Cmp.{nat_list_cmp_total, tied_itself}
-use Rattle.std.proofs.lemmas.List.{reverse-reverse, reverse-append}
-use Rattle.std.proofs.lemmas.Map.Lookups.{exact_bytes}
-use Rattle.std.specs.Cmp.Lexicographic.{slice_cmp}
-use Rattle.std.specs.Ordering.{ordering_then, ordering_reverse}
-use Rattle.zone_name.specs.Name.{IsWithin}
-use Rattle.zone_name.specs.Order.{label_cmp, name_cmp}
+use Rattle.zone_set.proofs.Common.{◌≡◌, ◌≢◌, ℕ, List, [], ◌∷◌, ◌++◌, reverse, Ordering, Less, Equal, Greater, refl, sym, ap, ap₂, ◌∙◌, arith, nat_list_cmp_total, tied_itself, reverse-reverse, reverse-append, exact_bytes, slice_cmp, ordering_then, ordering_reverse, IsWithin, label_cmp, name_cmp}
 
 -- labels that begin with others
 abbrev Begins : List (List ℕ) → List (List ℕ) → Type 0
@@ -54,8 +47,4 @@ same_ending base us vs = ap₂ (slice_cmp label_cmp) (reverse-append us base) (r
 
 -- a name is not after those below it
 pub below_after : (base front : List (List ℕ)) → name_cmp base (front ++ base) ≢ Greater
-below_after base front later = first (reverse front) (sym (same_ending base [] front) ∙ later)
-  where
-    first : (ls : List (List ℕ)) → slice_cmp label_cmp [] ls ≢ Greater
-    first [] e = cc
-    first (l ∷ ls) e = cc
+below_after base front later = grind (arith, same_ending base [] front)

@@ -22,12 +22,12 @@ pub(crate) fn octet_order(a: &[u8], b: &[u8]) -> Ordering
     if x != y {
         return x.cmp(&y);
     }
-    order_behind(more, others)
+    order_after(more, others)
 }
 
 /// `octet_order`, eight octets after eight. It is no part of a search, which is shorter without it.
 #[inline(never)]
-fn order_behind(a: &[u8], b: &[u8]) -> Ordering
+fn order_after(a: &[u8], b: &[u8]) -> Ordering
     ensures { result ≡ slice_cmp nat_cmp a.now b.now }
 {
     let (mut left, mut right) = (a, b);

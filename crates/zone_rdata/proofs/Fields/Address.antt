@@ -1,7 +1,5 @@
 -- An address of a fixed number of octets.
-use Rattle.zone_rdata.proofs.Common.{[], List, Some, ap, arith, inl, inr, length, refl, subst, sym, ℕ, ◌+◌, ◌*◌, ◌<◌, ◌==◌, ◌∙◌, ◌∷◌, ◌≡◌, ◌≤◌, ◌⊎◌, if◌then◌else◌, take_at, IsAddressOctet, IsIpv6Address, ipv4_text, ipv6_text, FitsString, FieldValue, Holds, SpellsField, Suits, field_octets, fixed, AreFixed, IsAddress, address_text, of_ipv4, of_ipv6, RawItem, bare, IsReal, StandsBare}
-use Rattle.zone_rdata.specs.declared.fault.Fault.TheVariants.{BadRdata}
-use Rattle.zone_rdata.specs.declared.field.Field.TheVariants.{Octets}
+use Rattle.zone_rdata.proofs.Common.{[], List, Some, ap, arith, inl, inr, length, refl, subst, sym, ℕ, ◌+◌, ◌*◌, ◌<◌, ◌==◌, ◌∙◌, ◌∷◌, ◌≡◌, ◌≤◌, ◌⊎◌, if◌then◌else◌, take_at, IsAddressOctet, IsIpv6Address, ipv4_text, ipv6_text, FitsString, FieldValue, Holds, SpellsField, Suits, field_octets, fixed, AreFixed, IsAddress, address_text, of_ipv4, of_ipv6, RawItem, bare, IsReal, StandsBare, BadRdata, Octets}
 use Rattle.zone_rdata.proofs.AddressChoice.{address_or_not}
 use Rattle.zone_rdata.proofs.AddressFields.{address_fixed}
 use Rattle.zone_rdata.proofs.AddressGaps.{groups_unique}

@@ -1,7 +1,5 @@
 -- A domain name.
-use Rattle.zone_rdata.proofs.Common.{[], List, Some, ap, append_assoc, arith, drop, get_or, inl, inr, length, length-append, refl, subst, suc, sym, take, zero, ℕ, ◌++◌, ◌<◌, ◌∙◌, ◌∷◌, ◌≡◌, ◌≤◌, ◌⊎◌, AllByRecursion, flat_map, cases_eq, cases_lt, append-nil, length-drop, Labels, IsFoldedOctet, IsLabel, IsName, folded, folded_label, wire, with_length, AllByRecursion-append, AllByRecursion-back, FitsString, fault_of, FieldValue, Holds, SpellsField, Suits, field_octets, name, RawItem, bare, AppendsValue, BeginsWithNone, BeginsWithValue, IsReal, BeginsWithSent, labels_of-wire_append, bare_name}
-use Rattle.zone_name.specs.Text.{label_text, name_text, octet_text}
-use Rattle.zone_rdata.specs.declared.field.Field.TheVariants.{Name}
+use Rattle.zone_rdata.proofs.Common.{[], List, Some, ap, append_assoc, arith, drop, get_or, inl, inr, length, length-append, refl, subst, suc, sym, take, zero, ℕ, ◌++◌, ◌<◌, ◌∙◌, ◌∷◌, ◌≡◌, ◌≤◌, ◌⊎◌, AllByRecursion, flat_map, cases_eq, cases_lt, append-nil, length-drop, Labels, IsFoldedOctet, IsLabel, IsName, folded, folded_label, wire, with_length, AllByRecursion-append, AllByRecursion-back, FitsString, fault_of, FieldValue, Holds, SpellsField, Suits, field_octets, name, RawItem, bare, AppendsValue, BeginsWithNone, BeginsWithValue, IsReal, BeginsWithSent, labels_of-wire_append, bare_name, label_text, name_text, octet_text, Name}
 use Rattle.zone_rdata.proofs.Choices.{Decided, each_or_not}
 use Rattle.zone_rdata.proofs.FieldLaws.{AreLow, FieldLaws, FrontChoice, bare_item, bare_or_fault, found_front, mark_text}
 use Rattle.zone_rdata.proofs.Sent.{AreSome, HasCut, cut_more, cut_name, cut_none, folded_some, goes_on, name_by, no_first, no_room, sent_once}
@@ -51,25 +49,10 @@ octet_or_not : (c : ℕ) → Decided (IsFoldedOctet c)
 octet_or_not c = grind (arith, cases_lt, low, cases_eq)
 
 label_or_not : (label : List ℕ) → Decided (IsLabel label)
-label_or_not label = elim (each_or_not IsFoldedOctet octet_or_not label) [
-  | inr none ↦ inr (λ h. none h.each)
-  | inl each ↦ elim (cases_lt 63 (length label)) [
-    | inl long ↦ inr (λ h. omega (arith, h.short))
-    | inr short ↦ elim (cases_lt 0 (length label)) [
-      | inl some ↦ inl (record { some = some; short = short; each = each })
-      | inr empty ↦ inr (λ h. omega (arith, h.some))
-    ]
-  ]
-]
+label_or_not label = grind (arith, each_or_not IsFoldedOctet octet_or_not label, cases_lt 63 (length label), cases_lt 0 (length label))
 
 labels_or_not : (labels : Labels) → Decided (IsName labels)
-labels_or_not labels = elim (each_or_not IsLabel label_or_not labels) [
-  | inr none ↦ inr (λ h. none h.each)
-  | inl each ↦ elim (cases_lt 255 (length (wire labels))) [
-    | inl long ↦ inr (λ h. omega (arith, h.short))
-    | inr short ↦ inl (record { each = each; short = short })
-  ]
-]
+labels_or_not labels = grind (arith, each_or_not IsLabel label_or_not labels, cases_lt 255 (length (wire labels)))
 
 -- ---- octets begin with a name or not
 abbrev SentChoice : List ℕ → Type 0

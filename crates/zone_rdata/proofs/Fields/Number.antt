@@ -1,9 +1,7 @@
 -- A number of 16 or of 32 bits, written in decimal digits.
-use Rattle.zone_rdata.proofs.Common.{[], List, Some, ap, arith, decimal, length, refl, sym, ℕ, ◌^◌, ◌<◌, ◌∙◌, ◌∷◌, ◌≡◌, take_at, Labels, FitsString, FieldValue, Holds, SpellsField, Suits, field_octets, u16_value, u32_value, RawItem, bare, IsReal, IsDecimal, length-decimal-le}
+use Rattle.zone_rdata.proofs.Common.{[], List, Some, ap, arith, decimal, length, refl, sym, ℕ, ◌^◌, ◌<◌, ◌∙◌, ◌∷◌, ◌≡◌, take_at, Labels, FitsString, FieldValue, Holds, SpellsField, Suits, field_octets, u16_value, u32_value, RawItem, bare, IsReal, IsDecimal, length-decimal-le, BadNumber, Serial, U16}
 use Rattle.std.specs.Int.{byte_len, from_be_bytes, to_be_bytes, Width, w16, w32}
 use Rattle.std.proofs.lemmas.Nat.{be_bytes_2, be_bytes_4, from_be_bytes-to_be_bytes_2, from_be_bytes-to_be_bytes_4}
-use Rattle.zone_rdata.specs.declared.fault.Fault.TheVariants.{BadNumber}
-use Rattle.zone_rdata.specs.declared.field.Field.TheVariants.{Serial, U16}
 use Rattle.zone_rdata.specs.Fields.Number.{IsNumber, SpellsNumber}
 use Rattle.zone_rdata.proofs.Choices.{Choice, below_or_not}
 use Rattle.zone_rdata.proofs.FieldLaws.{AreLow, FieldLaws, SizedField, bare_item, bare_or_fault, low_at, mark_text, number_unmarked, sized_front, value_or_fault}

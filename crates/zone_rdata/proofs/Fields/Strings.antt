@@ -1,8 +1,5 @@
 -- One or more character-strings, up to the end of the data.
-use Rattle.zone_rdata.proofs.Common.{[], List, Some, ap, append_assoc, arith, drop, inl, inr, length, length-append, map, refl, subst, suc, sym, take, zero, ℕ, ◌++◌, ◌<◌, ◌∙◌, ◌∷◌, ◌≡◌, ◌≤◌, ◌⊎◌, AllByRecursion, flat_map, cases_lt, append-nil, drop_all, length-drop, length-map, take_all, Labels, with_length, AllByRecursion-append, Fault, FitsString, FieldValue, Holds, SpellsField, Suits, field_octets, strings, string_item, AreStrings, FirstStringFault, SpellEachString, SpellsStrings, StringsFault, strings_of, IsGeneric, RawItem, AppendsPrefix, AppendsValue, BeginsWithNone, BeginsWithValue, IsReal, AreWithLengths, IsString, SpellsString, StringFault}
-use Rattle.zone_rdata.specs.declared.fault.Fault.TheVariants.{BadRdata}
-use Rattle.zone_rdata.specs.declared.field.Field.TheVariants.{OneString, Strings}
-use Rattle.zone_rdata.specs.RrSource.{after}
+use Rattle.zone_rdata.proofs.Common.{[], List, Some, ap, append_assoc, arith, drop, inl, inr, length, length-append, map, refl, subst, suc, sym, take, zero, ℕ, ◌++◌, ◌<◌, ◌∙◌, ◌∷◌, ◌≡◌, ◌≤◌, ◌⊎◌, AllByRecursion, flat_map, cases_lt, append-nil, drop_all, length-drop, length-map, take_all, Labels, with_length, AllByRecursion-append, Fault, FitsString, FieldValue, Holds, SpellsField, Suits, field_octets, strings, string_item, AreStrings, FirstStringFault, SpellEachString, SpellsStrings, StringsFault, strings_of, IsGeneric, RawItem, AppendsPrefix, AppendsValue, BeginsWithNone, BeginsWithValue, IsReal, AreWithLengths, IsString, SpellsString, StringFault, rules, common_steps, BadRdata, OneString, Strings, after}
 use Rattle.zone_rdata.proofs.FieldLaws.{AreLow, AreLowItems, FieldChoice, FieldLaws, FrontChoice, appends_plain, found_front, front_of, low_drop}
 use Rattle.zone_rdata.proofs.Fields.OneString.{low_string}
 use Rattle.zone_rdata.proofs.Sent.{frame_at, frame_same, frames_push}
@@ -39,8 +36,7 @@ appends_strings octets rest old new framed grows =
     appends_plain Strings octets rest old new (length octets) (strings framed.0) (λ e. cc) framed.1 is (λ e. grows.following ∙ drop_all (length octets) octets (omega arith)) grows
 
 as_strings : (octets : List ℕ) (v : FieldValue) (rest : List ℕ) → BeginsWithValue Strings octets v rest → AreWithLengths octets
-as_strings octets (strings many) rest b = (many, b.held, b.parts ∙ ap (λ r. b.front ++ r) (b.last refl) ∙ append-nil b.front ∙ b.sent)
-as_strings octets v rest b = absurd b.held
+as_strings octets v rest b = search rules
 
 pub none_strings : (octets : List ℕ) → (AreWithLengths octets → ⊥) → BeginsWithNone Strings octets
 none_strings octets none v rest b = none (as_strings octets v rest b)
@@ -62,20 +58,14 @@ framed_more octets rest c count following after so_far e same fits is =
     record { many = so_far.many ++ text ∷ []; each = AllByRecursion-append IsString so_far.many (text ∷ []) so_far.each (low_string count following low fits, tt); parts = so_far.parts ∙ ap (λ t. flat_map with_length so_far.many ++ t) (here ∙ frame_at count following fits ∙ ap (λ t. with_length text ++ t) (sym is)) ∙ frames_push so_far.many text after; low = subst AreLow (sym is) (low_drop count following low.1) }
 
 pub some_frames : (many : List (List ℕ)) → 0 < length (flat_map with_length many) → 0 < length many
-some_frames [] h = absurd (omega arith)
-some_frames (x ∷ many) h = omega arith
+some_frames many h = grind (arith, common_steps)
 
 frames_some : (many : List (List ℕ)) → 0 < length many → 0 < length (flat_map with_length many)
 frames_some [] h = absurd (omega arith)
 frames_some (x ∷ many) h = omega arith
 
 pub framed_all : (octets rest : List ℕ) → 0 < length octets → Framed octets rest → length rest ≡ 0 → AreWithLengths octets
-framed_all octets rest some so_far none =
-    (so_far.many, record { some = some_frames so_far.many (omega (arith, ap length so_far.parts, length-append (flat_map with_length so_far.many) rest)); each = so_far.each }, so_far.parts ∙ (nothing so_far.many rest none))
-  where
-    nothing : (many : List (List ℕ)) (rest : List ℕ) → length rest ≡ 0 → flat_map with_length many ++ rest ≡ flat_map with_length many
-    nothing many [] e = append-nil (flat_map with_length many)
-    nothing many (c ∷ rest) e = absurd (omega arith)
+framed_all octets rest some so_far none = grind (arith, common_steps)
 
 pub framed_empty : (octets : List ℕ) → length octets ≡ 0 → AreWithLengths octets → ⊥
 framed_empty octets none framed = grind (arith, frames_some)

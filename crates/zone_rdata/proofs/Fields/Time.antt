@@ -1,7 +1,5 @@
 -- A number of seconds, in octets a number of 32 bits, written in digits or as a time.
-use Rattle.zone_rdata.proofs.Common.{[], List, arith, refl, ℕ, ◌∷◌, ◌≡◌, FieldValue, SpellsField, u32_value, RawItem, bare, IsTime, plain}
-use Rattle.zone_rdata.specs.declared.fault.Fault.TheVariants.{BadNumber}
-use Rattle.zone_rdata.specs.declared.field.Field.TheVariants.{Time}
+use Rattle.zone_rdata.proofs.Common.{[], List, arith, refl, ℕ, ◌∷◌, ◌≡◌, FieldValue, SpellsField, u32_value, RawItem, bare, IsTime, plain, BadNumber, Time}
 use Rattle.zone_rdata.specs.Fields.Time.{SpellsTime}
 use Rattle.zone_rdata.proofs.Choices.{below_or_not}
 use Rattle.zone_rdata.proofs.FieldLaws.{FieldLaws, SizedField, bare_item, bare_or_fault, sized_front, value_or_fault}

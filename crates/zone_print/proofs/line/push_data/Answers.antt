@@ -1,6 +1,5 @@
 -- The data's own class and type are the record's.
-use Rattle.std.proofs.Common.{subst}
-use Rattle.std.proofs.lemmas.Result.{MatchResult-weaker}
+use Rattle.zone_print.proofs.Common.{subst, MatchResult-weaker}
 use Rattle.zone_print.proofs.Lines.{same_text}
 use Rattle.zone_print.proofs.line.push_data.Goals as goal
 

@@ -1,7 +1,5 @@
 -- Owner, middle and what follows them join to the line.
-use Rattle.std.proofs.Common.{subst, sym}
-use Rattle.std.proofs.lemmas.Result.{MatchResult-weaker}
-use Rattle.zone_rdata.specs.Lent.{record_of}
+use Rattle.zone_print.proofs.Common.{subst, sym, MatchResult-weaker, record_of}
 use Rattle.zone_print.proofs.Lines.{line_split}
 use Rattle.zone_print.proofs.line.push_line.Goals as goal
 

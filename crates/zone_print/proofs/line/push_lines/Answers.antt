@@ -1,7 +1,5 @@
 -- A line is gone from those to come.
-use Rattle.std.proofs.Common.{refl, subst, sym, ◌∙◌}
-use Rattle.std.proofs.lemmas.List.{append-nil}
-use Rattle.zone_name.proofs.Sinks.{Took-more}
+use Rattle.zone_print.proofs.Common.{refl, subst, sym, ◌∙◌, append-nil, Took-more}
 use Rattle.zone_print.proofs.Lines.{line_moves, line_ends}
 use Rattle.zone_print.proofs.line.push_lines.Goals as goal
 

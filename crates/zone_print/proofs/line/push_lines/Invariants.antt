@@ -1,7 +1,5 @@
 -- The lines so far and those to come are the text.
-use Rattle.std.proofs.Common.{◌≡◌, ◌++◌}
-use Rattle.zone_name.proofs.Sinks.{Took}
-use Rattle.zone_print.specs.Canonical.{canon, lines}
+use Rattle.zone_print.proofs.Common.{◌≡◌, ◌++◌, Took, canon, lines}
 use Rattle.zone_print.proofs.line.push_lines.Given as goal
 
 abbrev pub invariant-loop-rr : goal.invariant-loop-rr

@@ -1,6 +1,5 @@
 -- The parts that are pushed join to the middle.
-use Rattle.std.proofs.Common.{◌∙◌, subst}
-use Rattle.std.proofs.lemmas.Result.{MatchResult-weaker}
+use Rattle.zone_print.proofs.Common.{◌∙◌, subst, MatchResult-weaker}
 use Rattle.zone_print.proofs.line.push_middle.Goals as goal
 
 pub returns : goal.returns

@@ -1,7 +1,5 @@
 -- A text over the limit is refused, and what else stops is want of memory.
-use Rattle.std.proofs.Common.{arith}
-use Rattle.std.proofs.lemmas.Result.{err_from_is_err_and}
-use Rattle.zone_print.specs.Writing.{large, memory}
+use Rattle.zone_print.proofs.Common.{arith, err_from_is_err_and, large, memory}
 use Rattle.zone_print.proofs.print.push_within.Goals as goal
 
 pub returns-then-text_len-limit-clause-stopped : goal.returns-then-text_len-limit-clause-stopped

@@ -1,6 +1,5 @@
 -- The lines so far and those to come are the text.
-use Rattle.std.proofs.Common.{◌≡◌, ◌++◌}
-use Rattle.zone_print.specs.Canonical.{canon, lines}
+use Rattle.zone_print.proofs.Common.{◌≡◌, ◌++◌, canon, lines}
 use Rattle.zone_print.proofs.print.push_within.Given as goal
 
 abbrev pub invariant-loop-rr : goal.invariant-loop-rr

@@ -1,7 +1,5 @@
 -- The writer took all but the lines in the buffer and those to come, or a part of them.
-use Rattle.std.proofs.Common.{◌≡◌, ◌++◌, [], sym, ap, ◌∙◌}
-use Rattle.std.proofs.lemmas.Result.{err_from_is_err_and, MatchResult-weaker}
-use Rattle.zone_print.specs.Canonical.{lines}
+use Rattle.zone_print.proofs.Common.{◌≡◌, ◌++◌, [], sym, ap, ◌∙◌, err_from_is_err_and, MatchResult-weaker, lines}
 use Rattle.zone_print.proofs.Front.{left_less, left_none, part_left, part_more}
 use Rattle.zone_print.proofs.Lines.{line_moves, line_ends, line_to_come}
 use Rattle.zone_print.proofs.print.write_lines.Goals as goal

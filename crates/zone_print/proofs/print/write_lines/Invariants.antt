@@ -1,6 +1,5 @@
 -- The lines in the buffer and those to come are what the writer still has to take.
-use Rattle.std.proofs.Common.{◌++◌}
-use Rattle.zone_print.specs.Canonical.{canon, lines}
+use Rattle.zone_print.proofs.Common.{◌++◌, canon, lines}
 use Rattle.zone_print.proofs.Front.{Left}
 use Rattle.zone_print.proofs.print.write_lines.Given as goal
 

@@ -1,9 +1,6 @@
 -- The limit is judged before the first octet, and what stops after that stops midway.
-use Rattle.std.proofs.Common.{◌<◌, ◌≤◌, length, refl, arith}
-use Rattle.std.proofs.KnownBytes.{Keeps-refl}
+use Rattle.zone_print.proofs.Common.{◌<◌, ◌≤◌, length, refl, arith, Keeps-refl, canon, large}
 use Rattle.std.proofs.lemmas.Bool.{false≢true}
-use Rattle.zone_print.specs.Canonical.{canon}
-use Rattle.zone_print.specs.Writing.{large}
 use Rattle.zone_print.proofs.Stops.{stops_within, tells_writing}
 use Rattle.zone_print.proofs.print.write_within.Goals as goal
 

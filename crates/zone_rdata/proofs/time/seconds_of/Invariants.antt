@@ -1,5 +1,4 @@
-use Rattle.std.proofs.Common.{take}
-use Rattle.zone_rdata.specs.Machine.TimeProgress.{ReadsTime}
+use Rattle.zone_rdata.proofs.Common.{take, ReadsTime}
 use Rattle.zone_rdata.proofs.time.seconds_of.Given as goal
 
 abbrev pub invariant-loop-octet : goal.invariant-loop-octet

@@ -1,6 +1,4 @@
-use Rattle.std.proofs.Common.{◌-◌, length, drop, sym, ap, ◌∙◌, arith}
-use Rattle.std.proofs.lemmas.Bool.{false≢true}
-use Rattle.std.specs.Cmp.Lexicographic.{bytes_decides}
+use Rattle.zone_set.proofs.Common.{◌-◌, length, drop, sym, ap, ◌∙◌, arith, false≢true, bytes_decides}
 use Rattle.zone_set.proofs.HintWalk.{walked_start, walked_next, walked_short, walked_found, walked_none}
 use Rattle.zone_set.proofs.hint.front_key.Goals as goal
 

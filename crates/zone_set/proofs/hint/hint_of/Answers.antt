@@ -1,8 +1,5 @@
-use Rattle.std.proofs.Common.{◌≡◌, ◌≢◌, ◌+◌, ◌*◌, ◌^◌, refl, sym, ap, ◌∙◌}
-use Rattle.std.proofs.lemmas.Bool.{false≢true}
-use Rattle.zone_name.specs.Order.{name_cmp}
+use Rattle.zone_set.proofs.Common.{◌≡◌, ◌≢◌, ◌+◌, ◌*◌, ◌^◌, refl, sym, ap, ◌∙◌, false≢true, name_cmp, soa, before, within}
 use Rattle.zone_set.proofs.HintOrder.{hint_after}
-use Rattle.zone_set.specs.Machine.Hint.{soa, before, within}
 use Rattle.zone_set.proofs.hint.hint_of.Goals as goal
 use Rattle.zone_set.proofs.hint.hint_of.Goals.{After-cmp}
 

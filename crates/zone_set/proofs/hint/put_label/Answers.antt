@@ -1,6 +1,4 @@
-use Rattle.std.proofs.Common.{◌∷◌, [], sym, ◌∙◌, arith}
-use Rattle.std.proofs.lemmas.List.{append-nil}
-use Rattle.zone_rdata.proofs.Lists.{bytes_each}
+use Rattle.zone_set.proofs.Common.{◌∷◌, [], sym, ◌∙◌, arith, append-nil, bytes_each}
 use Rattle.zone_set.proofs.Digits.{put_next, put_all}
 use Rattle.zone_set.proofs.hint.put_label.Goals as goal
 

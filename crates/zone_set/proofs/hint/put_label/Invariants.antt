@@ -1,6 +1,4 @@
-use Rattle.std.proofs.Common.{◌≡◌, ◌++◌, List, ℕ, take, length}
-use Rattle.zone_set.specs.Machine.Hint.{IsPutBefore}
-use Rattle.zone_set.specs.Machine.LabelKey.{label_key}
+use Rattle.zone_set.proofs.Common.{◌≡◌, ◌++◌, List, ℕ, take, length, IsPutBefore, label_key}
 use Rattle.zone_set.proofs.hint.put_label.Given as goal
 
 -- some last octets were put, with the label's end

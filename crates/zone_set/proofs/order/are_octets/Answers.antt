@@ -1,5 +1,4 @@
-use Rattle.std.proofs.Common.{arith}
-use Rattle.zone_rdata.proofs.Lists.{bytes_each}
+use Rattle.zone_set.proofs.Common.{arith, bytes_each}
 use Rattle.zone_set.proofs.order.are_octets.Goals as goal
 
 pub returns : goal.returns

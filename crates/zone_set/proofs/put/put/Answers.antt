@@ -1,20 +1,9 @@
-use Rattle.std.proofs.Common.{◌≡◌, ℕ, List, [], ◌∷◌, ◌++◌, map, MatchOption, refl, sym, ap, ◌∙◌, subst, arith}
-use Rattle.std.specs.List.{AllByRecursion}
+use Rattle.zone_set.proofs.Common.{◌≡◌, ℕ, List, [], ◌∷◌, ◌++◌, map, MatchOption, refl, sym, ap, ◌∙◌, subst, arith, AllByRecursion, IfSome, AllByRecursion-back, AllByRecursion-front, Record, OtherTtl, all_records, entry_record, HasOtherTtl, HoldsEntries, IsComparable, IsEntry, stored, Ascends, record_of, Has, Entry}
 use Rattle.sorted_chunks.specs.Chunks.{after, before, joined}
-use Rattle.std.specs.Option.{IfSome}
-use Rattle.zone_name.proofs.Pushing.{AllByRecursion-back, AllByRecursion-front}
-use Rattle.zone_rdata.specs.Record.{Record}
 use Rattle.zone_set.proofs.Adding.{on_err}
 use Rattle.zone_set.proofs.Between.{copied, first_has, first_neighbour, last_has, last_neighbour, one_ttl, told_by, Ascends-between, IsNeighbour, Parts}
 use Rattle.zone_set.proofs.Putting.{all_comparable, each_comparable, each_put, parts_at, was_put}
 use Rattle.zone_set.proofs.Storing.{each_kept, records_kept}
-use Rattle.zone_set.specs.Builder.{OtherTtl}
-use Rattle.zone_set.specs.Machine.Held.{all_records, entry_record, HasOtherTtl, HoldsEntries, IsComparable, IsEntry}
-use Rattle.zone_set.specs.Machine.Stored.{stored}
-use Rattle.zone_set.specs.Order.{Ascends}
-use Rattle.zone_rdata.specs.Lent.{record_of}
-use Rattle.zone_set.specs.Zone.{Has}
-use Rattle.zone_set.specs.declared.entry.Entry.{Entry}
 use Rattle.zone_set.proofs.put.put.Goals as goal
 use Rattle.zone_set.proofs.put.put.Goals.{After-copied-first}
 

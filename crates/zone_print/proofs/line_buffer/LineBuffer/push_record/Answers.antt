@@ -1,6 +1,5 @@
 -- The texts that are held are the record's.
-use Rattle.std.proofs.Common.{ap, ◌∙◌, ◌++◌}
-use Rattle.zone_rdata.specs.Lent.{record_of}
+use Rattle.zone_print.proofs.Common.{ap, ◌∙◌, ◌++◌, record_of}
 use Rattle.zone_print.proofs.Lines.{line_pushed}
 use Rattle.zone_print.proofs.line_buffer.LineBuffer.push_record.Goals as goal
 

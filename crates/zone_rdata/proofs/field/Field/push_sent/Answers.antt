@@ -1,5 +1,4 @@
-use Rattle.zone_rdata.proofs.Common.{◌≡◌, ◌⊎◌, ℕ, inl, inr, sym, subst, arith, IfOk-weaker, Field, u32_value, u16_value, fixed, BeginsWithNone}
-use Rattle.zone_rdata.specs.declared.field.Field.TheVariants.{Serial, Time, U16, Octets}
+use Rattle.zone_rdata.proofs.Common.{◌≡◌, ◌⊎◌, ℕ, inl, inr, sym, subst, arith, IfOk-weaker, Field, u32_value, u16_value, fixed, BeginsWithNone, Serial, Time, U16, Octets}
 use Rattle.zone_rdata.proofs.Failings.{IfErr-fault}
 use Rattle.zone_rdata.proofs.Lists.{bytes_each}
 use Rattle.zone_rdata.proofs.FieldLaws.{SizedField, appends_sized}

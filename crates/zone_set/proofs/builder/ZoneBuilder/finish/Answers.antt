@@ -1,11 +1,5 @@
-use Rattle.std.proofs.Common.{refl, sym, subst, ◌∙◌}
-use Rattle.std.proofs.lemmas.Bool.{false≢true}
-use Rattle.zone_rdata.specs.declared.fault.Fault.TheVariants.{NoSoa}
-use Rattle.zone_rdata.specs.declared.fault.Place.TheVariants.{Whole}
-use Rattle.zone_rdata.specs.declared.fault.Stop.TheVariants.{Refused}
+use Rattle.zone_set.proofs.Common.{refl, sym, subst, ◌∙◌, false≢true, NoSoa, Whole, Refused, StopsFinish, record_of}
 use Rattle.zone_set.proofs.Finishing.{IsZone-from_parts, stops_without_soa}
-use Rattle.zone_set.specs.Builder.{StopsFinish}
-use Rattle.zone_rdata.specs.Lent.{record_of}
 use Rattle.zone_set.proofs.builder.ZoneBuilder.finish.Goals as goal
 
 pub returns-then-not-is_soa-clause-stopped : goal.returns-then-not-is_soa-clause-stopped

@@ -1,9 +1,5 @@
-use Rattle.std.proofs.Common.{subst}
-use Rattle.std.specs.Prelude.{IfErr}
-use Rattle.zone_rdata.specs.declared.record.Placed.{Placed}
+use Rattle.zone_set.proofs.Common.{subst, IfErr, Placed, StopsAdd, record_of}
 use Rattle.zone_set.proofs.Adding.{stops_add}
-use Rattle.zone_set.specs.Builder.{StopsAdd}
-use Rattle.zone_rdata.specs.Lent.{record_of}
 use Rattle.zone_set.proofs.builder.ZoneBuilder.hold.Goals as goal
 use Rattle.zone_set.proofs.builder.ZoneBuilder.hold.Goals.{in-Ok, in-Err}
 

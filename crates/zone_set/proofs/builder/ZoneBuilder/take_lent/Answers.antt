@@ -1,6 +1,4 @@
-use Rattle.std.proofs.Common.{option_map, refl, sym, ap, ◌∙◌}
-use Rattle.std.proofs.lemmas.Result.{err_from_is_err_and}
-use Rattle.zone_rdata.specs.Lent.{placed_of}
+use Rattle.zone_set.proofs.Common.{option_map, refl, sym, ap, ◌∙◌, err_from_is_err_and, placed_of}
 use Rattle.zone_set.proofs.Taking.{lent_first, HasTaken-start, HasTaken-more, StopsTaking-at_end, StopsTaking-refused, TakesAll-at_end}
 use Rattle.zone_set.proofs.builder.ZoneBuilder.take_lent.Goals as goal
 

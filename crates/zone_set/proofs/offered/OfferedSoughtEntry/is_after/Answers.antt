@@ -1,6 +1,5 @@
 use Rattle.zone_set.proofs.Between.{hints_tell}
-use Rattle.zone_set.specs.Machine.Held.{entry_record}
-use Rattle.zone_rdata.specs.Lent.{record_of}
+use Rattle.zone_set.proofs.Common.{entry_record, record_of}
 use Rattle.zone_set.proofs.offered.OfferedSoughtEntry.is_after.Goals as goal
 
 pub returns-then-entry-self : goal.returns-then-entry-self

@@ -1,13 +1,7 @@
 -- Nothing speaks against a record that gets as far as its place, but the TTL of its set.
-use Rattle.std.proofs.Common.{List, refl, ◌∙◌}
-use Rattle.std.proofs.lemmas.Bool.{false≢true}
-use Rattle.std.proofs.lemmas.Result.{err_from_is_err_and}
-use Rattle.sorted_chunks.specs.Chunks.{joined}
-use Rattle.zone_rdata.specs.Record.{Record}
+use Rattle.zone_set.proofs.Common.{List, refl, ◌∙◌, false≢true, err_from_is_err_and, joined, Record, all_records, record_of}
 use Rattle.zone_set.proofs.Adding.{accepted, added, holds_for, on_err, one_class, refused_put, seen, KeepsSets-unchanged, KeepsSets-with}
 use Rattle.zone_set.specs.Builder.{OtherClass, OtherSoa, class as by_class, soa as by_soa}
-use Rattle.zone_set.specs.Machine.Held.{all_records}
-use Rattle.zone_rdata.specs.Lent.{record_of}
 use Rattle.zone_set.proofs.sets.Sets.add.Goals as goal
 use Rattle.zone_set.proofs.sets.Sets.add.Goals.{After-settle_base}
 

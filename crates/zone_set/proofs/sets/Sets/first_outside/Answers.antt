@@ -1,6 +1,5 @@
-use Rattle.std.proofs.Common.{◌≡◌, true, false, sym, ◌∙◌}
+use Rattle.zone_set.proofs.Common.{◌≡◌, true, false, sym, ◌∙◌, record_of}
 use Rattle.zone_set.proofs.Finishing.{Walks-start, Walks-more, Walks-found}
-use Rattle.zone_rdata.specs.Lent.{record_of}
 use Rattle.zone_set.proofs.sets.Sets.first_outside.Goals as goal
 
 pub loop-rr-init : goal.loop-rr-init

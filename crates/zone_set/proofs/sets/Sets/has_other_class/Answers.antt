@@ -1,7 +1,4 @@
-use Rattle.std.proofs.Common.{sym, ◌∙◌}
-use Rattle.std.proofs.lemmas.Bool.{false≢true}
-use Rattle.sorted_chunks.specs.Chunks.{joined}
-use Rattle.zone_rdata.specs.Lent.{record_of}
+use Rattle.zone_set.proofs.Common.{sym, ◌∙◌, false≢true, joined, record_of}
 use Rattle.zone_set.proofs.Adding.{other_class_told}
 use Rattle.zone_set.proofs.sets.Sets.has_other_class.Goals as goal
 

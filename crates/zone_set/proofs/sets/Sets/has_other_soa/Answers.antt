@@ -1,8 +1,5 @@
-use Rattle.std.proofs.Common.{◌≡◌, true, sym, ◌∙◌, subst, ◌↔◌}
+use Rattle.zone_set.proofs.Common.{◌≡◌, true, sym, ◌∙◌, subst, ◌↔◌, OtherSoa, record_of, AreCompatible}
 use Rattle.zone_set.proofs.Together.{decides_other, one_soa, other_soa}
-use Rattle.zone_set.specs.Builder.{OtherSoa}
-use Rattle.zone_rdata.specs.Lent.{record_of}
-use Rattle.zone_set.specs.Zone.{AreCompatible}
 use Rattle.zone_set.proofs.sets.Sets.has_other_soa.Goals as goal
 
 pub returns-in-Some : goal.returns-in-Some

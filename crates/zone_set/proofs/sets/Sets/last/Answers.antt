@@ -1,7 +1,5 @@
-use Rattle.std.proofs.Common.{Some}
-use Rattle.sorted_chunks.specs.Chunks.{joined}
+use Rattle.zone_set.proofs.Common.{Some, joined, IsEntry, IsLinked}
 use Rattle.zone_set.proofs.Between.{last_has}
-use Rattle.zone_set.specs.Machine.Held.{IsEntry, IsLinked}
 use Rattle.zone_set.proofs.sets.Sets.last.Goals as goal
 use Rattle.zone_set.proofs.sets.Sets.last.Goals.{After-as_slice}
 

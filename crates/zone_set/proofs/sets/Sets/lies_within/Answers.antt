@@ -1,10 +1,5 @@
-use Rattle.std.proofs.Common.{◌≡◌, true, false, List, [], ◌∷◌, ◌++◌, MatchOption, sym, ◌∙◌, subst}
-use Rattle.std.specs.List.{AllByRecursion}
-use Rattle.zone_name.specs.Name.{IsWithin}
-use Rattle.zone_rdata.specs.Record.{Record}
+use Rattle.zone_set.proofs.Common.{◌≡◌, true, false, List, [], ◌∷◌, ◌++◌, MatchOption, sym, ◌∙◌, subst, AllByRecursion, IsWithin, Record, record_of, AreCompatible}
 use Rattle.zone_set.proofs.Interval.{ends_tell}
-use Rattle.zone_rdata.specs.Lent.{record_of}
-use Rattle.zone_set.specs.Zone.{AreCompatible}
 use Rattle.zone_set.proofs.sets.Sets.lies_within.Goals as goal
 use Rattle.zone_set.proofs.sets.Sets.lies_within.Goals.{then-is_none_outside, else-is_none_outside}
 

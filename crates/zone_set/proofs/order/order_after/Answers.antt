@@ -1,8 +1,6 @@
-use Rattle.std.proofs.Common.{refl, sym, subst, ◌∙◌, arith}
-use Rattle.zone_rdata.proofs.FieldLaws.{AreLow, low_drop}
-use Rattle.zone_rdata.proofs.Lists.{bytes_each}
+use Rattle.zone_set.proofs.Common.{refl, sym, subst, ◌∙◌, arith, AreLow, low_drop, bytes_each}
 use Rattle.zone_set.proofs.Numbers.{eights_first, then_apart, then_same}
-use Rattle.zone_set.proofs.order.order_behind.Goals as goal
+use Rattle.zone_set.proofs.order.order_after.Goals as goal
 
 pub loop-x-init : goal.loop-x-init
 loop-x-init c = (refl, bytes_each c.args.a.now (λ i. omega (arith, c.type_inv.a i)), bytes_each c.args.b.now (λ i. omega (arith, c.type_inv.b i)))

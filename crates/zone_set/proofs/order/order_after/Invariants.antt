@@ -1,7 +1,5 @@
-use Rattle.std.proofs.Common.{◌≡◌, length, nat_cmp}
-use Rattle.std.specs.Cmp.Lexicographic.{slice_cmp}
-use Rattle.zone_rdata.proofs.FieldLaws.{AreLow}
-use Rattle.zone_set.proofs.order.order_behind.Given as goal
+use Rattle.zone_set.proofs.Common.{◌≡◌, length, nat_cmp, slice_cmp, AreLow}
+use Rattle.zone_set.proofs.order.order_after.Given as goal
 
 -- what is left lies as the whole
 abbrev pub invariant-loop-x : goal.invariant-loop-x
