@@ -148,7 +148,7 @@ parts_from : (id : ℕ) (zone : Record) (number : ℕ) (before parts : List Stat
 parts_from id zone number before [] count are short ids ask = tt
 parts_from id zone number before (p ∷ parts) count are short ids ask =
     let asks = all_front (AsksFor zone) p.sections.questions (asked_in parts) ask in (
-      record { short = short.0; message = are.0.message.message; same_id = ids.0; questions = asks.0; answers = subst (λ n. AnswersState n p.octets p.sections.answers p.placed) (sym count) (answers_state refl are.0.gives) },
+      record { short = short.0; message = are.0.message; same_id = ids.0; questions = asks.0; answers = subst (λ n. AnswersState n p.octets p.sections.answers p.placed) (sym count) (answers_state refl are.0.gives) },
       parts_from id zone (number + 1) (before ++ p ∷ []) parts (omega (arith, count, length-append before (p ∷ []))) are.1 short.1 ids.1 asks.1,
     )
 
