@@ -141,7 +141,7 @@ all_front P (x ∷ xs) ys each = let rest = all_front P xs ys each.1 in ((each.0
 
 answers_state : {number : ℕ} {octets : List ℕ} {questions : List QuestionAt} {before : List Placed} {answers : List RecordAt} {placed : List Placed} {stop : Option (Fault × ℕ)} → stop ≡ None → AnswersGive number octets questions before answers placed stop → AnswersState number octets answers placed
 answers_state e no_more = tt
-answers_state e (states is place comes rest) = (is, place, answers_state e rest)
+answers_state e (states is place comes rest) = ((is, place), answers_state e rest)
 answers_state e (refused fault) = cc
 
 parts_from : (id : ℕ) (zone : Record) (number : ℕ) (before parts : List StatedMessage) → number ≡ length before + 1 → AreRead before parts → AllByRecursion (λ octets. length octets ≤ 65535) (octets_in parts) → AllByRecursion (λ (p : StatedMessage). p.sections.id ≡ id) parts → AllByRecursion (AsksFor zone) (asked_in parts) → AreStatedMessages id zone number parts

@@ -102,13 +102,6 @@ abbrev pub AreAt : {X : Type 0} → (ℕ → X → Type 0) → (X → ℕ) → �
 AreAt Is end_of offset [] end = offset ≡ end
 AreAt Is end_of offset (x ∷ parts) end = Is offset x × AreAt Is end_of (end_of x) parts end
 
-abbrev pub AreQuestionsAt : List ℕ → ℕ → List QuestionAt → ℕ → Type 0
-AreQuestionsAt octets offset questions end =
-    AreAt (IsQuestionAt octets) (λ q. q.end) offset questions end
-
-abbrev pub AreRecordsAt : List ℕ → ℕ → List RecordAt → ℕ → Type 0
-AreRecordsAt octets offset records end = AreAt (IsRecordAt octets) (λ r. r.end) offset records end
-
 -- what stands in a message
 pub record Sections : Type 0 where
   pub id : ℕ
@@ -126,6 +119,6 @@ pub record IsMessage (octets : List ℕ) (s : Sections) : Type 0 where
   pub additional_count : length s.additional ≡ arcount_of octets
   pub past_questions : ℕ
   pub past_answers : ℕ
-  pub questions : AreQuestionsAt octets 12 s.questions past_questions
-  pub answers : AreRecordsAt octets past_questions s.answers past_answers
-  pub additional : AreRecordsAt octets past_answers s.additional (length octets)
+  pub questions : AreAt (IsQuestionAt octets) (λ q. q.end) 12 s.questions past_questions
+  pub answers : AreAt (IsRecordAt octets) (λ r. r.end) past_questions s.answers past_answers
+  pub additional : AreAt (IsRecordAt octets) (λ r. r.end) past_answers s.additional (length octets)
