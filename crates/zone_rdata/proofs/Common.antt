@@ -32,13 +32,14 @@ pub use Rattle.zone_rdata.specs.Address.{AddressPart, AreAround, AreNumbers, Are
 pub use Rattle.zone_rdata.specs.Builder.{Built, FitsString, IsNext, IsOpaque, IsPushFault, IsWhole, Pushes, ends_with_strings, misplaced, part_at}
 pub use Rattle.zone_rdata.specs.DataFault.{FirstFieldFault, IsDataFault, IsFaultFor, IsGenericDataFault, IsWordsFault, in_generic_form, malformed, no_value, opaque_words, too_long, unspelt}
 pub use Rattle.zone_rdata.specs.Fault.{IfFault, fault_of}
-pub use Rattle.zone_rdata.specs.Field.{FieldValue, HoldEach, Holds, IsFieldFault, IsSent, SpellsField, Suits, field_at, field_items, field_octets, field_text, fixed, is_strings, items_after, name, octets_of, own_items, string, strings, u16_value, u32_value, values_of}
+pub use Rattle.zone_rdata.specs.Field.{FieldValue, Holds, IsFieldFault, IsSent, SpellsField, Suits, field_at, field_items, field_octets, field_text, fixed, is_strings, items_after, name, octets_of, own_items, string, strings, u16_value, u32_value, values_of}
 pub use Rattle.zone_rdata.specs.Fields.Address.{AreFixed, IsAddress, address_text, of_ipv4, of_ipv6}
 pub use Rattle.zone_rdata.specs.Fields.OneString.{string_at, string_item}
-pub use Rattle.zone_rdata.specs.Fields.Strings.{AreStrings, FirstStringFault, SpellEachString, SpellsStrings, StringsFault, strings_by, strings_of, strings_text}
+pub use Rattle.zone_rdata.specs.Fields.Strings.{AreStrings, FirstStringFault, SpellsStrings, StringsFault, strings_by, strings_of, strings_text}
 pub use Rattle.zone_rdata.specs.Generic.{GenericFault, IsGenericForm, JoinTo, StatesGeneric, StatesLength, bad_digits, digit_items, generic_items, long_length, no_length}
 pub use Rattle.zone_rdata.specs.Item.{IsGeneric, RawItem, bare, generic_mark, quoted, raw}
 pub use Rattle.zone_rdata.specs.Layout.{AreLaidOut, IsData, IsLayout, IsSized, StringsLast, fields_in, fields_of, layout}
+pub use Rattle.zone_rdata.specs.Machine.Each.{HoldEach, SpellEachString}
 pub use Rattle.zone_rdata.specs.Machine.AddressReading.{HasGapAt, IsCutAtFirst, IsGroupOf, IsLastPartOf, Lacks, NoneFits}
 pub use Rattle.zone_rdata.specs.Machine.Appending.{Appends, AppendsFirst, AppendsPrefix, AppendsValue, AreSpelt, BeginsWithNone, BeginsWithValue}
 pub use Rattle.zone_rdata.specs.Machine.Building.{ArePushedParts, Grows, IsBuilt, IsOver, IsReal, least_of, more_fields, over_data, over_string, part_field, part_fields, parts_held}
@@ -51,7 +52,7 @@ pub use Rattle.zone_rdata.specs.Record.{Data, IsRdata}
 pub use Rattle.zone_rdata.specs.RrSource.{after, answer_of, first_answer, others}
 pub use Rattle.zone_rdata.specs.Spelling.{IsCanonicalOf, SpellEach, States, StatesFor, in_octets, in_words}
 pub use Rattle.zone_rdata.specs.Strings.{IsString, ReachesUnit, SpellsString, StandsInQuotes, StringFault, bad_escape, inside_text, is_quote, is_shown, item_text, long_string, string_text, unit_text}
-pub use Rattle.zone_rdata.specs.Table.{Named, NamedType, ascend, classes, mnemonic_among, number_among, type_names, types}
+pub use Rattle.zone_rdata.specs.Table.{Named, NamedType, ascend, classes, in_every, in_one, mnemonic_among, number_among, type_names, types}
 pub use Rattle.zone_rdata.specs.Text.{data_items, data_text, generic_text, laid_out_items, written_item}
 pub use Rattle.zone_rdata.specs.Uncompressed.{AreSent, IsUncompressed}
 pub use Rattle.zone_rdata.specs.Words.{IsClass, IsClassWord, IsKind, IsKindWord, IsMnemonic, IsNumbered, IsWordAmong, IsWordFault, beyond, by_mnemonic, by_number, class_text, for_queries, is_meta, kind_text, laid_out_mnemonic, nameless, word_or_numbered}

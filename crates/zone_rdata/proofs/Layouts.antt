@@ -1,5 +1,5 @@
 -- Values of a layout are data: their octets hold them, are octets, and without strings few.
-use Rattle.zone_rdata.proofs.Common.{[], List, Option, Some, ap, length, refl, ℕ, ◌++◌, ◌<◌, ◌∙◌, ◌∷◌, ◌≡◌, ◌≤◌, arith, length-append, ◌*◌, ◌≢◌, AllByRecursion, MatchOption, drop_at, Field, FieldValue, HoldEach, Holds, field_octets, octets_of, values_of, AreLaidOut, IsData, StringsLast, layout, IsSized, IsCanonicalOf, AllByRecursion-append, common_steps, Strings}
+use Rattle.zone_rdata.proofs.Common.{[], List, Option, Some, ap, length, refl, ℕ, ◌++◌, ◌<◌, ◌∙◌, ◌∷◌, ◌≡◌, ◌≤◌, arith, length-append, ◌*◌, ◌≢◌, AllByRecursion, MatchOption, drop_at, Field, FieldValue, HoldEach, Holds, field_octets, octets_of, values_of, AreLaidOut, IsData, StringsLast, layout, IsSized, IsCanonicalOf, AllByRecursion-append, common_steps, Strings, None, subst, sym}
 use Rattle.zone_rdata.proofs.AnyField.{field_back, field_short, field_low}
 use Rattle.zone_rdata.proofs.Taken.{uncompressed_length}
 use Rattle.zone_rdata.proofs.Tables.{table_row}
@@ -25,7 +25,8 @@ AreFor laid octets = MatchOption laid (Unit {0}) (λ fields. AreLaidOut fields o
 
 -- the canonical octets of what is stated are data, and as many
 pub canonical_laid : (class kind : ℕ) (laid : Option (List Field)) (octets canonical : List ℕ) → laid ≡ layout class kind → IsCanonicalOf laid octets canonical → AreFor laid canonical
-canonical_laid class kind laid octets canonical e is = grind (arith, laid_out, table_row)
+canonical_laid class kind None octets canonical e is = tt
+canonical_laid class kind (Some fields) octets canonical e is = subst (AreLaidOut fields) (sym is.whole) (laid_out fields is.values (table_row class kind fields (sym e)).last is.held)
 
 pub canonical_length : (laid : Option (List Field)) (octets canonical : List ℕ) → IsCanonicalOf laid octets canonical → length canonical ≡ length octets
 canonical_length laid octets canonical is = grind (arith, uncompressed_length)

@@ -1,5 +1,5 @@
 -- What items state is data.
-use Rattle.zone_rdata.proofs.Common.{[], List, Option, length, refl, ℕ, ◌∷◌, ◌≡◌, ◌≤◌, arith, AreOctets, Labels, Fault, Field, IsDataFault, IsFaultFor, FieldValue, HoldEach, items_after, own_items, RawItem, IsData, layout, IsCanonicalOf, SpellEach, States, StatesFor}
+use Rattle.zone_rdata.proofs.Common.{[], List, Option, length, refl, ℕ, ◌∷◌, ◌≡◌, ◌≤◌, arith, AreOctets, Labels, Fault, Field, IsDataFault, IsFaultFor, FieldValue, HoldEach, items_after, own_items, RawItem, IsData, layout, IsCanonicalOf, SpellEach, States, StatesFor, subst, None, Some, sym, in_words, in_octets, ◌∙◌, AreLaidOut}
 use Rattle.zone_rdata.proofs.AnyField.{field_holds}
 use Rattle.zone_rdata.proofs.Tables.{table_row}
 use Rattle.zone_rdata.proofs.FieldLaws.{AreLow}
@@ -13,7 +13,9 @@ spelt_hold origin row items values h = absurd h
 
 -- the octets that items state for a layout of the table are data
 stated_laid : (origin : Labels) (class kind : ℕ) (laid : Option (List Field)) (items : List RawItem) (octets : List ℕ) → laid ≡ layout class kind → StatesFor origin laid items octets → AreFor laid octets
-stated_laid origin class kind laid items octets e stated = grind (arith, laid_out, table_row, spelt_hold, canonical_laid)
+stated_laid origin class kind laid items octets e (in_words fields values some bare spelt is short) =
+    subst (λ l. AreFor l octets) (sym some) (subst (AreLaidOut fields) (sym is) (laid_out fields values (table_row class kind fields (sym e ∙ some)).last (spelt_hold origin fields items values spelt)))
+stated_laid origin class kind laid items octets e (in_octets (stated, form, is)) = canonical_laid class kind laid stated octets e is
 
 stated_short : (origin : Labels) (laid : Option (List Field)) (items : List RawItem) (octets : List ℕ) → StatesFor origin laid items octets → length octets ≤ 65535
 stated_short origin laid items octets h = grind (arith, canonical_length)
@@ -29,10 +31,12 @@ pub first_for : (origin : Labels) (class kind : ℕ) (laid : Option (List Field)
 first_for origin class kind laid items fault e first = grind arith
 
 low_form : (laid : Option (List Field)) (stated octets : List ℕ) → AreLow stated → IsCanonicalOf laid stated octets → AreLow octets
-low_form laid stated octets low is = grind (arith, low_values)
+low_form None stated octets low is = subst AreLow (sym is) low
+low_form (Some fields) stated octets low is = subst AreLow (sym is.whole) (low_values fields is.values is.held)
 
 stated_low : (origin : Labels) (laid : Option (List Field)) (items : List RawItem) (octets : List ℕ) → StatesFor origin laid items octets → AreLow octets
-stated_low origin laid items octets h = grind (arith, low_values, spelt_hold, low_form, joined_low)
+stated_low origin laid items octets (in_words fields values e bare spelt is short) = subst AreLow (sym is) (low_values fields values (spelt_hold origin fields items values spelt))
+stated_low origin laid items octets (in_octets (stated, form, is)) = low_form laid stated octets (joined_low form.digits stated form.joined) is
 
 pub stated_is_data : (origin : Labels) (class kind : ℕ) (items : List RawItem) (octets : List ℕ) → States origin class kind items octets → IsData class kind octets
 stated_is_data origin class kind items octets x = stated_data origin class kind (layout class kind) items octets refl x.stated (stated_low origin (layout class kind) items octets x.stated)

@@ -1,5 +1,5 @@
 -- What is found in a table of rows, and what holds of each row.
-use Rattle.zone_rdata.proofs.Common.{[], ◌≡◌, ℕ, ◌<◌, List, ◌∷◌, length, map, Bool, true, false, not, cond, ◌&&◌, ◌||◌, ◌==◌, nat_lt, nat_le, bytes_eq, Option, Some, None, refl, sym, ap, ◌∙◌, subst, arith, AllByRecursion, find, list_all, option_map, eqb-true, eq-eqb, and_parts, or_cases, not-true, cond-true, false≢true, nat_tests, bytes_eq-Decides, folded_label, Field, IsLayout, IsSized, StringsLast, fields_in, layout, is_strings, Named, NamedType, ascend, mnemonic_among, number_among, types, IsMnemonic}
+use Rattle.zone_rdata.proofs.Common.{[], ◌≡◌, ℕ, ◌<◌, List, ◌∷◌, length, map, Bool, true, false, not, cond, ◌&&◌, ◌||◌, ◌==◌, nat_lt, nat_le, bytes_eq, Option, Some, None, refl, sym, ap, ◌∙◌, subst, arith, AllByRecursion, find, list_all, option_map, eqb-true, eq-eqb, and_parts, or_cases, not-true, cond-true, false≢true, nat_tests, bytes_eq-Decides, folded_label, Field, IsLayout, IsSized, StringsLast, fields_in, layout, is_strings, Named, NamedType, in_every, in_one, ascend, mnemonic_among, number_among, types, IsMnemonic}
 use Rattle.zone_rdata.specs.declared.field.Field.TheVariants as fields
 
 -- ---- the first element that passes a test
@@ -86,11 +86,21 @@ no_row rows word e n x =
 
 -- ---- layouts
 
-fields_by : (p : List Field → Bool) (class : ℕ) (fields : List Field) (found : Option NamedType) → ((row : NamedType) → found ≡ Some row → p row.fields ≡ true) → fields_in class found ≡ Some fields → p fields ≡ true
-fields_by p class fields found each e = grind arith
+abbrev pub fields_of_row : NamedType → List Field
+fields_of_row (in_every number mnemonic fields) = fields
+fields_of_row (in_one number mnemonic fields) = fields
+
+fields_if : (b : Bool) (own fields : List Field) → cond b (Some own) None ≡ Some fields → own ≡ fields
+fields_if true own fields e = cc
+fields_if false own fields e = absurd cc
+
+fields_by : (p : List Field → Bool) (class : ℕ) (fields : List Field) (found : Option NamedType) → ((row : NamedType) → found ≡ Some row → p (fields_of_row row) ≡ true) → fields_in class found ≡ Some fields → p fields ≡ true
+fields_by p class fields None each e = absurd cc
+fields_by p class fields (Some (in_every number mnemonic own)) each e = let same : own ≡ fields = cc in subst (λ t. p t ≡ true) same (each (in_every number mnemonic own) refl)
+fields_by p class fields (Some (in_one number mnemonic own)) each e = subst (λ t. p t ≡ true) (fields_if (class == 1) own fields e) (each (in_one number mnemonic own) refl)
 
 -- what holds of the fields of each type holds of each layout
-pub each_layout : (p : List Field → Bool) → list_all (λ row. p row.fields) types ≡ true → (class kind : ℕ) (fields : List Field) → layout class kind ≡ Some fields → p fields ≡ true
+pub each_layout : (p : List Field → Bool) → list_all (λ row. p (fields_of_row row)) types ≡ true → (class kind : ℕ) (fields : List Field) → layout class kind ≡ Some fields → p fields ≡ true
 each_layout p all class kind fields = grind (arith, fields_by, found_each)
 
 abbrev strings_last : List Field → Bool

@@ -55,13 +55,6 @@ Holds OneString (string octets) = IsString octets
 Holds Strings (strings many) = AreStrings many
 Holds field value = ⊥
 
--- one value for each field, in order
-abbrev pub HoldEach : List Field → List FieldValue → Type 0
-HoldEach [] [] = ⊤
-HoldEach [] (v ∷ values) = ⊥
-HoldEach (f ∷ fields) [] = ⊥
-HoldEach (f ∷ fields) (v ∷ values) = Holds f v × HoldEach fields values
-
 -- the value of a field at the beginning of octets; strings are all that is left
 abbrev pub field_at : Field → List ℕ → FieldValue
 field_at Name octets = name (labels_of octets)

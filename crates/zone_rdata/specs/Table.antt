@@ -15,12 +15,10 @@ pub record Named : Type 0 where
   pub number : ℕ
   pub mnemonic : List ℕ
 
--- a type: its number and mnemonic, whether its data has these fields in class IN alone, and the
--- fields
-pub record NamedType : Type 0 where
-  pub named : Named
-  pub in_only : Bool
-  pub fields : List Field
+-- a type: its number, its mnemonic, and its fields in every class or in class IN alone
+pub data NamedType : Type 0 where
+  in_every : ℕ → List ℕ → List Field → NamedType
+  in_one : ℕ → List ℕ → List Field → NamedType
 
 -- the classes, their numbers ascending (RFC 1035 3.2.4)
 abbrev pub classes : List Named
@@ -30,24 +28,6 @@ classes =
     ∷ record { number = 3; mnemonic = codes "CH" }
     ∷ record { number = 4; mnemonic = codes "HS" }
     ∷ []
-
--- a type with the fields in every class
-abbrev pub in_every : ℕ → List ℕ → List Field → NamedType
-in_every number mnemonic fields =
-    record {
-      named = record { number = number; mnemonic = mnemonic };
-      in_only = false;
-      fields = fields;
-    }
-
--- a type with the fields in class IN alone
-abbrev pub in_one : ℕ → List ℕ → List Field → NamedType
-in_one number mnemonic fields =
-    record {
-      named = record { number = number; mnemonic = mnemonic };
-      in_only = true;
-      fields = fields;
-    }
 
 -- the types, their numbers ascending (RFC 1035 3.3, 3.4.1, and as noted)
 abbrev pub types : List NamedType
@@ -65,9 +45,13 @@ types =
     (U16 ∷ U16 ∷ OneString ∷ OneString ∷ OneString ∷ Name ∷ [])  -- RFC 3403 4.1
     ∷ []
 
+abbrev pub named : NamedType → Named
+named (in_every number mnemonic fields) = record { number = number; mnemonic = mnemonic }
+named (in_one number mnemonic fields) = record { number = number; mnemonic = mnemonic }
+
 -- the numbers and mnemonics of the types
 abbrev pub type_names : List Named
-type_names = map (λ row. row.named) types
+type_names = map named types
 
 -- the mnemonic of a number
 abbrev pub mnemonic_among : List Named → ℕ → Option (List ℕ)

@@ -1,8 +1,9 @@
 -- Uncompressed octets of record data, as a message can have them: names in any letter case (RFC
 -- 1035 3.3; RFC 4343 3).
 use Rattle.std.specs.Prelude.{◌≡◌, ℕ, List, [], ◌∷◌, ◌++◌}
+use Rattle.std.specs.List.{AllZip}
 use Rattle.zone_rdata.specs.declared.field.Field.{Field}
-use Rattle.zone_rdata.specs.Field.{FieldValue, HoldEach, IsSent, octets_of}
+use Rattle.zone_rdata.specs.Field.{FieldValue, Holds, IsSent, octets_of}
 
 -- the octets of values, one after another
 abbrev pub AreSent : List FieldValue → List ℕ → Type 0
@@ -14,6 +15,6 @@ AreSent (v ∷ values) octets =
 -- octets are canonical
 pub record IsUncompressed (fields : List Field) (octets canonical : List ℕ) : Type 0 where
   pub values : List FieldValue
-  pub held : HoldEach fields values
+  pub held : AllZip Holds fields values
   pub sent : AreSent values octets
   pub whole : canonical ≡ octets_of values

@@ -1,14 +1,17 @@
 -- The words of classes among items, and the digits with which a time begins.
-use Rattle.zone_text.proofs.Common.{AllByRecursion, Bool, Group, IsClassWord, IsDecimal, IsNumbered, IsTime, IsTimeGroup, List, None, Option, Some, [], ap, append_assoc, are_digits, arith, begins_with_digit, by_mnemonic, by_number, bytes_eq, bytes_eq-Decides, codes, decimal_value, drop, drop-append_seam, false, flat_map, folded_label, folded_octet, group_text, inl, inr, is_class_word, is_digit, is_some, length, length-map, map-append, or_cases, refl, rules, sym, take, take-append-drop, take-map, true, ℕ, ◌&&◌, ◌++◌, ◌<◌, ◌∙◌, ◌∷◌, ◌≡◌}
+use Rattle.zone_text.proofs.Common.{AllByRecursion, Bool, Group, IsClassWord, IsDecimal, IsNumbered, IsTime, IsTimeGroup, List, None, Option, Some, [], ap, append_assoc, are_digits, arith, begins_with_digit, by_mnemonic, by_number, bytes_eq, bytes_eq-Decides, codes, decimal_value, drop, drop-append_seam, false, flat_map, folded_label, folded_octet, group_text, inl, inr, is_class_word, is_digit, is_some, length, length-map, list_all, map-append, or_cases, refl, rules, sym, take, take-append-drop, take-map, true, ℕ, ◌&&◌, ◌++◌, ◌<◌, ◌∙◌, ◌∷◌, ◌≡◌}
 use Rattle.std.proofs.Math.Bool.{or-true}
 use Rattle.zone_rdata.specs.Table.{classes, number_among}
 use Rattle.zone_rdata.proofs.OneWord.{class_number}
 use Rattle.zone_rdata.proofs.Tables.{number_is}
 
+all_true : (text : List ℕ) → AllByRecursion (λ c. is_digit c ≡ true) text → list_all is_digit text ≡ true
+all_true [] each = refl
+all_true (c ∷ text) each = rw (each.0) (all_true text each.1)
+
 all_digits : (text : List ℕ) → 0 < length text → AllByRecursion (λ c. is_digit c ≡ true) text → are_digits text ≡ true
 all_digits [] some each = absurd (omega arith)
-all_digits (c ∷ []) some each = each.0
-all_digits (c ∷ d ∷ text) some each = rw (each.0) (all_digits (d ∷ text) (omega arith) each.1)
+all_digits (c ∷ text) some each = rw (each.0) (all_true text each.1)
 
 numbered_word : (word : List ℕ) (n : ℕ) → IsNumbered (codes "CLASS") word n → is_class_word word ≡ true
 numbered_word word n is =
@@ -52,13 +55,13 @@ both_true : (a b : Bool) → (a && b) ≡ true → (a ≡ true) × (b ≡ true)
 both_true true b e = (refl, e)
 both_true false b e = absurd cc
 
+each_digit : (text : List ℕ) → list_all is_digit text ≡ true → AllByRecursion (λ c. is_digit c ≡ true) text
+each_digit [] e = tt
+each_digit (c ∷ text) e = let both = both_true (is_digit c) (list_all is_digit text) e in (both.0, each_digit text both.1)
+
 digits_all : (text : List ℕ) → are_digits text ≡ true → (0 < length text) × AllByRecursion (λ c. is_digit c ≡ true) text
 digits_all [] e = absurd cc
-digits_all (c ∷ []) e = (omega arith, (e, tt))
-digits_all (c ∷ d ∷ text) e =
-    let both = both_true (is_digit c) (are_digits (d ∷ text)) e in
-    let rest = digits_all (d ∷ text) both.1 in
-    (omega arith, (both.0, rest.1))
+digits_all (c ∷ text) e = let both = both_true (is_digit c) (list_all is_digit (c ∷ text)) e in (omega arith, each_digit (c ∷ text) both.1)
 
 named_class : (text : List ℕ) (found : Option ℕ) → number_among classes text ≡ found → is_some found ≡ true → (m : ℕ) × IsClassWord text m
 named_class text None e some = absurd cc

@@ -9,9 +9,9 @@ pub use Rattle.std.proofs.lemmas.List.Elements.{All-more, recursion_from_All}
 pub use Rattle.std.proofs.lemmas.List.Sums.{sum_by-append, sum_by-cons}
 pub use Rattle.std.proofs.lemmas.Result.{err_from_is_err_and, on_ok_weaker}
 pub use Rattle.std.proofs.lemmas.Slice.Eq.{bytes_eq-Decides}
-pub use Rattle.std.specs.List.{All, AllByRecursion, count_by, flat_map, join_with_byte, list_any}
+pub use Rattle.std.specs.List.{All, AllByRecursion, count_by, flat_map, join_with_byte, list_all, list_any}
 pub use Rattle.std.specs.Option.{option_or}
-pub use Rattle.std.specs.Prelude.{IsSomeAnd, OnOk, is_some, option_and_then, reverse, unwrap_or, ⊤}
+pub use Rattle.std.specs.Prelude.{IsSomeAnd, OnOk, is_some, option_and_then, reverse, slice_get, unwrap_or, ⊤}
 pub use Rattle.zone_name.proofs.Pushing.{AllByRecursion-append, AllByRecursion-back, AllByRecursion-front}
 pub use Rattle.zone_name.proofs.Units.{NoUnit, UnitsAre, at_backslash, at_end, at_octet, text_of-some, unit_of_escape, units_first_are, units_first_only}
 pub use Rattle.zone_name.specs.Common.{Labels, NothingIs}
@@ -30,7 +30,7 @@ pub use Rattle.zone_rdata.specs.Item.{RawItem, raw}
 pub use Rattle.zone_rdata.specs.Machine.LeftOut.{AreShortened, IsWritten, LeavesOut}
 pub use Rattle.zone_rdata.specs.Minimum.{minimum}
 pub use Rattle.zone_rdata.specs.Number.{Group, IsDecimal, IsTime, IsTimeGroup, decimal_value, group_text}
-pub use Rattle.zone_rdata.specs.Record.{Data, IsRecord, Record}
+pub use Rattle.zone_rdata.specs.Record.{Data, IsRecord, Record, data_of}
 pub use Rattle.zone_rdata.specs.Spelling.{States, in_words}
 pub use Rattle.zone_rdata.specs.Strings.{SpellsString, is_quote, item_text}
 pub use Rattle.zone_rdata.specs.Words.{IsClass, IsClassWord, IsKind, IsKindWord, IsNumbered, IsWordFault, beyond, by_mnemonic, by_number, for_queries}
@@ -43,18 +43,18 @@ pub use Rattle.zone_rdata.specs.declared.queue.PendingRecords.{PendingRecords}
 pub use Rattle.zone_rdata.specs.declared.record.Placed.{Placed}
 pub use Rattle.zone_text.specs.Breaks.{Breaks, IsBroken, MayEndBefore, closes_nothing, no_escape, no_quote, no_quoted_escape, not_closed}
 pub use Rattle.zone_text.specs.Decided.{AreTokens, FileDecides, Stays, decided, undecided}
-pub use Rattle.zone_text.specs.Entries.{Cut, Entry, and_last, cut_from, ended_entries, entries_of, entry_of, first_octet, in_front, in_front_of, item_of, numbered, open_line}
-pub use Rattle.zone_text.specs.EntryFault.{DefaultTtlFault, DirectiveFault, EntryFault, IsNameFaultAfter, KindFault, OriginFault, OwnerFault, TtlFault, WordFault, WordsFault, long, none, of_directive, of_kind, of_owner, of_rdata, of_ttl, of_words}
+pub use Rattle.zone_text.specs.Entries.{Cut, Entry, and_last, cut_from, ended_entries, entries_of, entry_of, in_front, in_front_of, item_of, numbered, open_line}
+pub use Rattle.zone_text.specs.EntryFault.{EntryFault, IsNameFaultAfter, PartsFault, StatementFault, TtlFault, WordFault, long, none, of_parts, of_rdata, of_statement, of_ttl}
 pub use Rattle.zone_text.specs.ExampleEntries.{address, ns, soa, under, x}
 pub use Rattle.zone_text.specs.File.{EntriesState, FileStates, states_none, states_one}
 pub use Rattle.zone_text.specs.FileReads.{Ending, FileReads, ReadEach, broken, refused, stated, whole}
-pub use Rattle.zone_text.specs.Inherited.{HasClass, IsLastOwner, IsOrigin, IsOwner, IsTtl, SpellsAfter, class_word, default_ttl_text, latest, one_bare, or_else, origin_text, owner_text, stated_ttl, ttl_text}
+pub use Rattle.zone_text.specs.Inherited.{HasClass, IsLastOwner, IsOrigin, IsOwner, IsTtl, SpellsAfter, class_word, default_ttl_text, latest, origin_text, owner_text, stated_ttl, ttl_text}
 pub use Rattle.zone_text.specs.Lasting.{BreaksAtEnd, BreaksForGood, EndInLineFeed, IsCutOff, IsLostEscape, StaysBroken, after_backslash, after_digit, after_two_digits, at_line_end, closing_stays, escape_open, escape_stays, nothing_left, one_digit, quote_open, quoted_escape_open, quoted_escape_stays, too_great, two_digits}
 pub use Rattle.zone_text.specs.Line.{IsItem, StatesWhole, line_of}
 pub use Rattle.zone_text.specs.Machine.Blank.{AreBlankLines, IsBlankLine, IsComment, commented, no_lines, one_line_more}
 pub use Rattle.zone_text.specs.Machine.Cutting.{Cutting, Front, Sign, a_blank, a_closing, a_line_feed, a_quote, a_semicolon, an_opening, bare_front, cut_on, depth_past, end_front, front_by, of_item, quoted_front, sign_of, stops, takes}
 unfoldable pub use Rattle.zone_text.specs.Machine.Cutting.{before_line_feed, cut_by, cutting, from_line_feed, front_of}
-pub use Rattle.zone_text.specs.Machine.EntryReading.{DecidesEntry, DecidesFault, HasOwnerOrNone, IsReadTo, IsRecordEntry, LeavesNoRecord, SetsOrigin, SetsTtl, decides_fault, decides_none, decides_one, with_owner}
+pub use Rattle.zone_text.specs.Machine.EntryReading.{DecidesEntry, DecidesFault, DefaultTtlFault, HasHeadOf, HasOwnerOrNone, Head, IsReadTo, IsRecordEntry, LeavesNoRecord, OriginFaultUnder, SetsOrigin, SetsTtl, decides_fault, decides_none, decides_one, one_bare, with_owner}
 pub use Rattle.zone_text.specs.Machine.Feeding.{Follow, IsSplitter, ReadsEntry, ReadsOctets, ScansTo, state_of}
 pub use Rattle.zone_text.specs.Machine.ItemLengths.{EndsAt, EndsBefore, ItemReaches, ends_within, stops_bare, stops_within}
 unfoldable pub use Rattle.zone_text.specs.Machine.ItemLengths.{item_len}
@@ -67,8 +67,8 @@ unfoldable pub use Rattle.zone_text.specs.Machine.Scan.{scan_of}
 pub use Rattle.zone_text.specs.Machine.WordValues.{AreWordsOf, HaveValues}
 pub use Rattle.zone_text.specs.Outcome.{AllState, AreOctetItems}
 pub use Rattle.zone_text.specs.ParserState.{IsOneOrNone, IsStateAfter, IsTtlOrNone}
-pub use Rattle.zone_text.specs.Records.{EntryStates, HasHead, HasTtl, HasValue, Head, IsLastMinimum, StatesData, StatesMinimum, StatesNothing, head_of}
-pub use Rattle.zone_text.specs.Statements.{Parts, Statement, Word, are_digits, begins_with_digit, class, class_among, directive, includes, is_class_word, no_items, owned, parts_after, parts_in, parts_of, sets_origin, sets_ttl, statement_by, statement_of, ttl, ttl_among, unknown, unless_stated, unowned, word_after}
+pub use Rattle.zone_text.specs.Records.{EntryStates, HasContents, HasHead, HasTtl, HasValue, IsLastMinimum, StatesMinimum, StatesNothing}
+pub use Rattle.zone_text.specs.Statements.{Parts, Statement, Word, are_digits, begins_with_digit, class, class_among, directive, includes, is_class_word, no_items, owned, parts_after, parts_in, sets_origin, sets_ttl, statement_by, statement_of, ttl, ttl_among, unknown, unless_stated, unowned, word_after}
 pub use Rattle.zone_text.specs.TextSource.{AreUnfinished, FileKept, FileLeaves, StandsForFile}
 pub use Rattle.zone_text.specs.Tokens.{AllFollow, Cuts, IsToken, MayFollow, Token, bare, blank, closing, comment, depth_after, ends_item, is_blank, line_feed, opening, quoted, text, token_text}
 pub use Rattle.zone_text.specs.declared.ended.EndedEntries.{EndedEntries}

@@ -97,7 +97,8 @@ follow_on p tokens rest after stop whole each follow = search (rules, follows, a
 
 -- only the last token matters
 pub last_same : (p q : Token) (tokens : List Token) (after : List ℕ) → MayEndBefore (p ∷ q ∷ tokens) after ≡ MayEndBefore (q ∷ tokens) after
-last_same p q tokens after = cc
+last_same (comment octets) q tokens after = refl
+last_same p q tokens after = refl
 
 pub last_in_front : (p q : Token) (tokens : List Token) (after : List ℕ) → MayEndBefore (q ∷ tokens) after → MayEndBefore (p ∷ q ∷ tokens) after
 last_in_front p q tokens after last = subst (λ P. P) (sym (last_same p q tokens after)) last

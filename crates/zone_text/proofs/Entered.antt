@@ -1,5 +1,5 @@
 -- An entry states a record, states nothing or has a fault: one of the three at most, and each once.
-use Rattle.zone_text.proofs.Common.{AllByRecursion, BadTtl, DefaultTtlFault, DirectiveFault, Entry, EntryFault, EntryStates, Err, Fault, HasClass, HasTtl, HasValue, IsClass, IsDataFault, IsKind, IsKindWord, IsNameFaultAfter, IsOrigin, IsOwner, KindFault, List, Lower, NoTtl, None, Ok, Once, Option, OriginFault, OwnerFault, Parts, Record, Result, Some, SpellingFault, SpellsAfter, Statement, States, StatesNothing, TtlFault, Word, WordFault, WordsFault, [], ap, class, fault_of, includes, inl, inr, long, no_items, none, of_directive, of_kind, of_owner, of_rdata, of_ttl, of_words, one_bare, owned, parts_after, parts_in, parts_of, refl, rules, sets_origin, sets_ttl, statement_of, subst, sym, ttl, unknown, unowned, ℕ, ◌∙◌, ◌∷◌, ◌≡◌, ◌≤◌, ◌⊎◌}
+use Rattle.zone_text.proofs.Common.{AllByRecursion, BadTtl, Entry, EntryFault, EntryStates, Err, Fault, HasClass, HasTtl, HasValue, IsClass, IsDataFault, IsKind, IsKindWord, IsNameFaultAfter, IsOrigin, IsOwner, List, Lower, NoTtl, None, Ok, Once, Option, Parts, PartsFault, Record, Result, Some, SpellingFault, SpellsAfter, Statement, StatementFault, States, StatesNothing, TtlFault, Word, WordFault, [], ap, class, fault_of, inl, inr, long, no_items, none, of_parts, of_rdata, of_statement, of_ttl, owned, parts_in, refl, rules, sets_origin, sets_ttl, statement_of, subst, sym, ttl, unowned, ℕ, ◌∙◌, ◌∷◌, ◌≡◌, ◌≤◌, ◌⊎◌}
 use Rattle.zone_rdata.specs.Spelling.{bare, RawItem, quoted}
 use Rattle.zone_text.proofs.Inherits.{Then, then_once, origin_once, owner_once, class_once, ttl_once}
 
@@ -31,18 +31,26 @@ module _ (lower : Lower) (origin : List (List ℕ)) (before : List Entry) where
       let above : x.0 ≡ y.0 = origin_once lower origin before x.0 y.0 x.1.0 y.1.0 in
       lower.name_or_fault x.0 text name y.1.1.0 x.1.1 (subst (λ a. SpellingFault (Some a) text y.1.1.0) (sym above) y.1.1.1)
 
-  -- the owner
+  -- the statement
 
-  owner_fault_once : (form : Statement) → Once Fault (OwnerFault origin before form)
-  owner_fault_once (owned (quoted text) items) f g x y = x ∙ sym y
-  owner_fault_once (owned (bare text) items) f g x y = name_fault_once text f g x y
-  owner_fault_once (unowned items) f g x y = x.0 ∙ sym y.0
-  owner_fault_once form f g x y = absurd x
+  statement_fault_once : (form : Statement) → Once Fault (StatementFault origin before form)
+  statement_fault_once (sets_origin (bare text ∷ [])) f g x y = name_fault_once text f g x y
+  statement_fault_once (owned (bare text) items) f g x y = name_fault_once text f g x y
+  statement_fault_once (sets_ttl (bare text ∷ [])) f g x y = x.0 ∙ sym y.0
+  statement_fault_once (unowned items) f g x y = x.0 ∙ sym y.0
+  statement_fault_once no_items f g x y = absurd x
+  statement_fault_once form f g x y = x ∙ sym y
 
-  owner_or_fault : (form : Statement) (name : List (List ℕ)) (fault : Fault) → IsOwner origin before form name → OwnerFault origin before form fault → ⊥
+  owner_or_fault : (form : Statement) (name : List (List ℕ)) (fault : Fault) → IsOwner origin before form name → StatementFault origin before form fault → ⊥
   owner_or_fault (owned (bare text) items) name f x y = name_or_fault text name f x y
   owner_or_fault (unowned items) name f x y = y.1 name x
   owner_or_fault form name f x y = x
+
+  nothing_or_statement : (form : Statement) (fault : Fault) → StatesNothing origin before form → StatementFault origin before form fault → ⊥
+  nothing_or_statement (sets_origin (bare text ∷ [])) f x y = name_or_fault text x.0 f x.1 y
+  nothing_or_statement (sets_ttl (bare text ∷ [])) f x y = y.1 x.0 x.1
+  nothing_or_statement no_items f x y = y
+  nothing_or_statement form f x y = x
 
 -- the words before the type
 
@@ -55,18 +63,6 @@ word_or_fault lower (ttl text) f x y = y.1 x.0 x.1
 word_or_fault lower (class text) f x y =
     let same : x.0 ≡ y.1.0 = lower.class text x.0 y.1.0 x.1.0 y.1.1.0 in
     y.1.1.1 (subst IsClass same x.1.1)
-
-words_fault_once : Lower → (words : List Word) → Once Fault (WordsFault words)
-words_fault_once lower [] f g x y = absurd x
-words_fault_once lower (word ∷ words) f g (inl x) (inl y) = word_fault_once word f g x y
-words_fault_once lower (word ∷ words) f g (inl x) (inr y) = search (rules, word_or_fault)
-words_fault_once lower (word ∷ words) f g (inr x) (inl y) = search (rules, word_or_fault)
-words_fault_once lower (word ∷ words) f g (inr x) (inr y) = words_fault_once lower words f g x.1 y.1
-
-words_or_fault : Lower → (words : List Word) (fault : Fault) → AllByRecursion HasValue words → WordsFault words fault → ⊥
-words_or_fault lower [] f x y = y
-words_or_fault lower (word ∷ words) f x (inl y) = word_or_fault lower word f x.0 y
-words_or_fault lower (word ∷ words) f x (inr y) = words_or_fault lower words f x.1 y.1
 
 -- the type
 
@@ -87,17 +83,31 @@ kind_once lower rest (a, xs) (b, ys) x y =
     let number : a ≡ b = lower.kind y.word a b (rw (← word) (x.named)) y.named in
     cc
 
-kind_fault_once : Lower → (rest : List RawItem) → Once Fault (KindFault rest)
-kind_fault_once lower (bare text ∷ items) f g x y = lower.kind_fault text f g x y
-kind_fault_once lower rest f g x y = x ∙ sym y
+-- the words and the type
 
-kind_or_fault : Lower → (rest : List RawItem) (k : KindAnd) (fault : Fault) → HasKind rest k → KindFault rest fault → ⊥
-kind_or_fault lower [] k f x y = let e = x.items in absurd cc
-kind_or_fault lower (quoted text ∷ items) k f x y = let e = x.items in absurd cc
-kind_or_fault lower (bare text ∷ items) k f x y =
-    let e = x.items in
-    let word : x.word ≡ text = cc in
-    lower.kind_or_fault text k.0 f (rw (← word) (x.named)) x.kind y
+abbrev pub HasParts : Parts → KindAnd → Type 0
+HasParts parts k = AllByRecursion HasValue parts.words × HasKind parts.rest k
+
+parts_once : Lower → (parts : Parts) → Once KindAnd (HasParts parts)
+parts_once lower parts j k x y = kind_once lower parts.rest j k x.1 y.1
+
+parts_fault_once : Lower → (words : List Word) (rest : List RawItem) → Once Fault (PartsFault words rest)
+parts_fault_once lower [] (bare text ∷ items) f g x y = lower.kind_fault text f g x y
+parts_fault_once lower [] rest f g x y = x ∙ sym y
+parts_fault_once lower (word ∷ words) rest f g (inl x) (inl y) = word_fault_once word f g x y
+parts_fault_once lower (word ∷ words) rest f g (inl x) (inr y) = search (rules, word_or_fault)
+parts_fault_once lower (word ∷ words) rest f g (inr x) (inl y) = search (rules, word_or_fault)
+parts_fault_once lower (word ∷ words) rest f g (inr x) (inr y) = parts_fault_once lower words rest f g x.1 y.1
+
+parts_or_fault : Lower → (words : List Word) (rest : List RawItem) (k : KindAnd) (fault : Fault) → AllByRecursion HasValue words × HasKind rest k → PartsFault words rest fault → ⊥
+parts_or_fault lower [] [] k f x y = let e = x.1.items in absurd cc
+parts_or_fault lower [] (quoted text ∷ items) k f x y = let e = x.1.items in absurd cc
+parts_or_fault lower [] (bare text ∷ items) k f x y =
+    let e = x.1.items in
+    let word : x.1.word ≡ text = cc in
+    lower.kind_or_fault text k.0 f (rw (← word) (x.1.named)) x.1.kind y
+parts_or_fault lower (word ∷ words) rest k f x (inl y) = word_or_fault lower word f x.0.0 y
+parts_or_fault lower (word ∷ words) rest k f x (inr y) = parts_or_fault lower words rest k f (x.0.1, x.1) y.1
 
 -- the data
 
@@ -166,91 +176,61 @@ FromTtl origin before entry owner k d = Then ℕ Record Fault (Step ℕ (HasGood
 abbrev pub FromData : List (List ℕ) → List Entry → Entry → List (List ℕ) → KindAnd → Outcome Record → Type 0
 FromData origin before entry owner k = Then (ℕ × List ℕ) Record Fault (Step (ℕ × List ℕ) (Found origin before entry k) (Refused origin before entry k)) (FromTtl origin before entry owner k)
 
-abbrev pub FromKind : List (List ℕ) → List Entry → Entry → List (List ℕ) → Parts → Outcome Record → Type 0
-FromKind origin before entry owner parts = Then KindAnd Record Fault (Step KindAnd (HasKind parts.rest) (KindFault parts.rest)) (FromData origin before entry owner)
-
-abbrev pub FromWords : List (List ℕ) → List Entry → Entry → Parts → List (List ℕ) → Outcome Record → Type 0
-FromWords origin before entry parts owner = Then (Unit {0}) Record Fault (Step (Unit {0}) (λ u. AllByRecursion HasValue parts.words) (WordsFault parts.words)) (λ u. FromKind origin before entry owner parts)
+abbrev pub FromParts : List (List ℕ) → List Entry → Entry → Parts → List (List ℕ) → Outcome Record → Type 0
+FromParts origin before entry parts owner = Then KindAnd Record Fault (Step KindAnd (HasParts parts) (PartsFault parts.words parts.rest)) (FromData origin before entry owner)
 
 abbrev pub FromOwner : List (List ℕ) → List Entry → Entry → Parts → Outcome Record → Type 0
-FromOwner origin before entry parts = Then (List (List ℕ)) Record Fault (Step (List (List ℕ)) (IsOwner origin before (statement_of entry)) (OwnerFault origin before (statement_of entry))) (FromWords origin before entry parts)
+FromOwner origin before entry parts = Then (List (List ℕ)) Record Fault (Step (List (List ℕ)) (IsOwner origin before (statement_of entry)) (StatementFault origin before (statement_of entry))) (FromParts origin before entry parts)
 
 pub from_owner_once : Lower → (origin : List (List ℕ)) (before : List Entry) (entry : Entry) (parts : Parts) → Once (Outcome Record) (FromOwner origin before entry parts)
 from_owner_once lower origin before entry parts =
-    then_once (List (List ℕ)) Record Fault _ _ (step_once (List (List ℕ)) _ _ (owner_once lower origin before (statement_of entry)) (owner_fault_once lower origin before (statement_of entry)) (owner_or_fault lower origin before (statement_of entry))) (λ owner.
-    then_once (Unit {0}) Record Fault _ _ (step_once (Unit {0}) _ _ (λ u v p q. refl) (words_fault_once lower parts.words) (λ u. words_or_fault lower parts.words)) (λ u.
-    then_once KindAnd Record Fault _ _ (step_once KindAnd _ _ (kind_once lower parts.rest) (kind_fault_once lower parts.rest) (kind_or_fault lower parts.rest)) (λ k.
+    then_once (List (List ℕ)) Record Fault _ _ (step_once (List (List ℕ)) _ _ (owner_once lower origin before (statement_of entry)) (statement_fault_once lower origin before (statement_of entry)) (owner_or_fault lower origin before (statement_of entry))) (λ owner.
+    then_once KindAnd Record Fault _ _ (step_once KindAnd _ _ (parts_once lower parts) (parts_fault_once lower parts.words parts.rest) (parts_or_fault lower parts.words parts.rest)) (λ k.
     then_once (ℕ × List ℕ) Record Fault _ _ (step_once (ℕ × List ℕ) _ _ (found_once lower origin before entry k) (refused_once lower origin before entry k) (found_or_refused lower origin before entry k)) (λ d.
-    then_once ℕ Record Fault _ _ (step_once ℕ _ _ (λ m n p q. ttl_once lower origin before entry m n p.has q.has) (ttl_fault_once lower origin before entry) (ttl_or_fault lower origin before entry)) (λ seconds a b x y. x ∙ sym y)))))
+    then_once ℕ Record Fault _ _ (step_once ℕ _ _ (λ m n p q. ttl_once lower origin before entry m n p.has q.has) (ttl_fault_once lower origin before entry) (ttl_or_fault lower origin before entry)) (λ seconds a b x y. x ∙ sym y))))
 
 -- the steps of a stated record
-stated_steps : (origin : List (List ℕ)) (before : List Entry) (entry : Entry) (r : Record) (states : EntryStates origin before entry r) → FromOwner origin before entry states.head.parts (Ok r)
+stated_steps : (origin : List (List ℕ)) (before : List Entry) (entry : Entry) (r : Record) (states : EntryStates origin before entry r) → FromOwner origin before entry states.contents.head.parts (Ok r)
 stated_steps origin before entry r states =
-    let head = states.head in
-    inl (r.owner, (head.owner, inl (tt, (head.words, inl ((r.kind, states.items), (record { word = head.word; items = head.rest; named = head.named; kind = head.kind }, inl ((r.class, r.octets), (record { above = states.rdata.above; under = states.rdata.under; class = head.class; states = states.rdata.states }, inl (r.ttl, (record { has = states.ttl; short = states.fits.ttl }, refl))))))))))
+    let has = states.contents in
+    let head = has.head in
+    inl (r.owner, (head.owner, inl ((r.kind, has.items), ((head.words, record { word = head.word; items = head.rest; named = head.named; kind = head.kind }), inl ((r.class, r.octets), (record { above = has.above; under = has.under; class = head.class; states = has.states }, inl (r.ttl, (record { has = states.ttl; short = states.fits.ttl }, refl))))))))
 
 -- the steps up to a fault of a record entry
 pub record FaultySteps (origin : List (List ℕ)) (before : List Entry) (entry : Entry) (fault : Fault) : Type 0 where
   pub parts : Parts
-  pub split : parts_of entry ≡ Some parts
+  pub split : parts_in (statement_of entry) ≡ Some parts
   pub steps : FromOwner origin before entry parts (Err fault)
 
-owner_fault_parts : (origin : List (List ℕ)) (before : List Entry) (form : Statement) (fault : Fault) → OwnerFault origin before form fault → (parts : Parts) × (parts_in form ≡ Some parts)
-owner_fault_parts origin before (owned owner items) fault h = (parts_after [] items, refl)
-owner_fault_parts origin before (unowned items) fault h = (parts_after [] items, refl)
-owner_fault_parts origin before form fault h = absurd h
+-- a fault of a statement without parts
+pub record DirectiveFault (origin : List (List ℕ)) (before : List Entry) (form : Statement) (fault : Fault) : Type 0 where
+  pub bad : StatementFault origin before form fault
+  pub none : parts_in form ≡ None
+
+statement_steps : (origin : List (List ℕ)) (before : List Entry) (entry : Entry) (fault : Fault) (split : Option Parts) → parts_in (statement_of entry) ≡ split → StatementFault origin before (statement_of entry) fault → DirectiveFault origin before (statement_of entry) fault ⊎ FaultySteps origin before entry fault
+statement_steps origin before entry fault None e h = inl (record { bad = h; none = e })
+statement_steps origin before entry fault (Some parts) e h = inr (record { parts = parts; split = e; steps = inr (fault, (h, refl)) })
 
 faulty_steps : (origin : List (List ℕ)) (before : List Entry) (entry : Entry) (fault : Fault) → EntryFault origin before entry fault → DirectiveFault origin before (statement_of entry) fault ⊎ FaultySteps origin before entry fault
-faulty_steps origin before entry fault (of_directive h) = inl h
-faulty_steps origin before entry fault (of_owner h) = search (rules, owner_fault_parts)
-faulty_steps origin before entry fault (of_words owner parts is split h) =
+faulty_steps origin before entry fault (of_statement h) = statement_steps origin before entry fault _ refl h
+faulty_steps origin before entry fault (of_parts owner parts is split h) =
     inr (record { parts = parts; split = split; steps = inl (owner, (is, inr (fault, (h, refl)))) })
-faulty_steps origin before entry fault (of_kind owner parts is split words h) =
-    inr (record { parts = parts; split = split; steps = inl (owner, (is, inl (tt, (words, inr (fault, (h, refl)))))) })
-faulty_steps origin before entry fault (of_rdata head above has under h) =
-    inr (record { parts = has.parts; split = has.split; steps = inl (head.owner, (has.owner, inl (tt, (has.words, inl ((head.kind, head.items), (record { word = has.word; items = has.rest; named = has.named; kind = has.kind }, inr (fault, (record { above = above; number = head.class; under = under; class = has.class; first = h }, refl)))))))) })
-faulty_steps origin before entry fault (of_ttl head octets has states h) =
-    inr (record { parts = has.parts; split = has.split; steps = inl (head.owner, (has.owner, inl (tt, (has.words, inl ((head.kind, head.items), (record { word = has.word; items = has.rest; named = has.named; kind = has.kind }, inl ((head.class, octets), (record { above = states.above; under = states.under; class = has.class; states = states.states }, inr (fault, (h, refl)))))))))) })
-
--- directives
-
-item_fault_once : Lower → (origin : List (List ℕ)) (before : List Entry) (o : Option (List ℕ)) → Once Fault (OriginFault origin before o)
-item_fault_once lower origin before None f g x y = x ∙ sym y
-item_fault_once lower origin before (Some text) f g x y = search (rules, name_fault_once)
-
-default_fault_once : (o : Option (List ℕ)) → Once Fault (DefaultTtlFault o)
-default_fault_once None f g x y = x ∙ sym y
-default_fault_once (Some text) f g x y = x.0 ∙ sym y.0
-
-directive_fault_once : Lower → (origin : List (List ℕ)) (before : List Entry) (form : Statement) → Once Fault (DirectiveFault origin before form)
-directive_fault_once lower origin before includes f g x y = x ∙ sym y
-directive_fault_once lower origin before unknown f g x y = x ∙ sym y
-directive_fault_once lower origin before (sets_origin items) f g x y = item_fault_once lower origin before (one_bare items) f g x y
-directive_fault_once lower origin before (sets_ttl items) f g x y = default_fault_once (one_bare items) f g x y
-directive_fault_once lower origin before form f g x y = absurd x
-
--- a directive has no parts of a record
-directive_or_record : (origin : List (List ℕ)) (before : List Entry) (form : Statement) (fault : Fault) (parts : Parts) → DirectiveFault origin before form fault → parts_in form ≡ Some parts → ⊥
-directive_or_record origin before form fault parts x split = search rules
+faulty_steps origin before entry fault (of_rdata owner number kind items above has under h) =
+    inr (record { parts = has.parts; split = has.split; steps = inl (owner, (has.owner, inl ((kind, items), ((has.words, record { word = has.word; items = has.rest; named = has.named; kind = has.kind }), inr (fault, (record { above = above; number = number; under = under; class = has.class; first = h }, refl)))))) })
+faulty_steps origin before entry fault (of_ttl owner rdata states h) =
+    let has = states.head in
+    inr (record { parts = has.parts; split = has.split; steps = inl (owner, (has.owner, inl ((rdata.kind, states.items), ((has.words, record { word = has.word; items = has.rest; named = has.named; kind = has.kind }), inl ((rdata.class, rdata.octets), (record { above = states.above; under = states.under; class = has.class; states = states.states }, inr (fault, (h, refl)))))))) })
 
 pub nothing_or_parts : (origin : List (List ℕ)) (before : List Entry) (form : Statement) (parts : Parts) → StatesNothing origin before form → parts_in form ≡ Some parts → ⊥
 nothing_or_parts origin before form parts x split = search rules
-
-nothing_or_directive : Lower → (origin : List (List ℕ)) (before : List Entry) (form : Statement) (fault : Fault) → StatesNothing origin before form → DirectiveFault origin before form fault → ⊥
-nothing_or_directive lower origin before (sets_origin (bare text ∷ [])) fault x y = name_or_fault lower origin before text x.0 fault x.1 y
-nothing_or_directive lower origin before (sets_ttl (bare text ∷ [])) fault x y = y.1 x.0 x.1
-nothing_or_directive lower origin before no_items fault x y = y
-nothing_or_directive lower origin before (owned owner items) fault x y = y
-nothing_or_directive lower origin before (unowned items) fault x y = y
-nothing_or_directive lower origin before form fault x y = x
 
 -- the three outcomes
 
 pub record_once : Lower → (origin : List (List ℕ)) (before : List Entry) (entry : Entry) → Once Record (EntryStates origin before entry)
 record_once lower origin before entry a b x y =
-    let split : Some x.head.parts ≡ Some y.head.parts = sym x.head.split ∙ y.head.split in
-    let parts : x.head.parts ≡ y.head.parts = cc in
-    let same : Ok a ≡ Ok b = from_owner_once lower origin before entry y.head.parts (Ok a) (Ok b) (subst (λ p. FromOwner origin before entry p (Ok a)) parts (stated_steps origin before entry a x)) (stated_steps origin before entry b y) in
+    let split : Some x.contents.head.parts ≡ Some y.contents.head.parts = sym x.contents.head.split ∙ y.contents.head.split in
+    let parts : x.contents.head.parts ≡ y.contents.head.parts = cc in
+    let same : Ok a ≡ Ok b = from_owner_once lower origin before entry y.contents.head.parts (Ok a) (Ok b) (subst (λ p. FromOwner origin before entry p (Ok a)) parts (stated_steps origin before entry a x)) (stated_steps origin before entry b y) in
     cc
 
 steps_once : Lower → (origin : List (List ℕ)) (before : List Entry) (entry : Entry) → Once Fault (FaultySteps origin before entry)
@@ -261,19 +241,19 @@ steps_once lower origin before entry f g x y =
     cc
 
 either_once : Lower → (origin : List (List ℕ)) (before : List Entry) (entry : Entry) (f g : Fault) → DirectiveFault origin before (statement_of entry) f ⊎ FaultySteps origin before entry f → DirectiveFault origin before (statement_of entry) g ⊎ FaultySteps origin before entry g → f ≡ g
-either_once lower origin before entry f g (inl x) (inl y) = search (rules, directive_fault_once)
-either_once lower origin before entry f g (inl x) (inr y) = search rules
-either_once lower origin before entry f g (inr x) (inl y) = search rules
+either_once lower origin before entry f g (inl x) (inl y) = statement_fault_once lower origin before (statement_of entry) f g x.bad y.bad
+either_once lower origin before entry f g (inl x) (inr y) = let clash : None ≡ Some y.parts = sym x.none ∙ y.split in cc
+either_once lower origin before entry f g (inr x) (inl y) = let clash : None ≡ Some x.parts = sym y.none ∙ x.split in cc
 either_once lower origin before entry f g (inr x) (inr y) = search (rules, steps_once)
 
 pub fault_once : Lower → (origin : List (List ℕ)) (before : List Entry) (entry : Entry) → Once Fault (EntryFault origin before entry)
 fault_once lower origin before entry f g x y = search (rules, either_once, faulty_steps)
 
 record_or_steps : Lower → (origin : List (List ℕ)) (before : List Entry) (entry : Entry) (r : Record) (fault : Fault) → EntryStates origin before entry r → DirectiveFault origin before (statement_of entry) fault ⊎ FaultySteps origin before entry fault → ⊥
-record_or_steps lower origin before entry r f x (inl y) = directive_or_record origin before (statement_of entry) f x.head.parts y x.head.split
+record_or_steps lower origin before entry r f x (inl y) = let clash : None ≡ Some x.contents.head.parts = sym y.none ∙ x.contents.head.split in cc
 record_or_steps lower origin before entry r f x (inr y) =
-    let split : Some x.head.parts ≡ Some y.parts = sym x.head.split ∙ y.split in
-    let parts : x.head.parts ≡ y.parts = cc in
+    let split : Some x.contents.head.parts ≡ Some y.parts = sym x.contents.head.split ∙ y.split in
+    let parts : x.contents.head.parts ≡ y.parts = cc in
     let same : Ok r ≡ Err f = from_owner_once lower origin before entry y.parts (Ok r) (Err f) (subst (λ p. FromOwner origin before entry p (Ok r)) parts (stated_steps origin before entry r x)) y.steps in
     cc
 
@@ -284,7 +264,8 @@ pub nothing_or_record : (origin : List (List ℕ)) (before : List Entry) (entry 
 nothing_or_record origin before entry r x y = search rules
 
 nothing_or_steps : Lower → (origin : List (List ℕ)) (before : List Entry) (entry : Entry) (fault : Fault) → StatesNothing origin before (statement_of entry) → DirectiveFault origin before (statement_of entry) fault ⊎ FaultySteps origin before entry fault → ⊥
-nothing_or_steps lower origin before entry f x h = search (rules, nothing_or_directive, nothing_or_parts)
+nothing_or_steps lower origin before entry f x (inl y) = nothing_or_statement lower origin before (statement_of entry) f x y.bad
+nothing_or_steps lower origin before entry f x (inr y) = nothing_or_parts origin before (statement_of entry) y.parts x y.split
 
 pub nothing_or_fault : Lower → (origin : List (List ℕ)) (before : List Entry) (entry : Entry) (fault : Fault) → StatesNothing origin before (statement_of entry) → EntryFault origin before entry fault → ⊥
 nothing_or_fault lower origin before entry f x y = search (rules, nothing_or_steps, faulty_steps)

@@ -1,10 +1,10 @@
 -- An entry after others that state nothing or a record has an outcome: nothing, a record or a first
 -- fault.
-use Rattle.zone_text.proofs.Common.{AllByRecursion, AllByRecursion-append, AllState, AreOctetItems, BadDirective, BadTtl, Bool, Choices, DirectiveFault, Entry, EntryFault, EntryStates, Fault, HasClass, HasHead, HasTtl, HasValue, Head, IncludeDirective, IsClass, IsClassWord, IsDataFault, IsKind, IsKindWord, IsLastMinimum, IsLastOwner, IsName, IsNameFaultAfter, IsOrigin, IsOwner, IsTime, IsTtl, IsWordFault, KindFault, List, Lower, MatchOption, NoOwner, NoTtl, None, Option, OwnerFault, Parts, Record, Some, SpellingFault, Spells, SpellsAfter, Statement, States, StatesData, StatesMinimum, StatesNothing, UnknownDirective, UnknownType, Word, WordFault, WordsFault, [], ap, arith, begins_with_digit, cases_eq, cases_lt, class, class_among, class_word, false, fault_of, head_of, if◌then◌else◌, includes, inl, inr, is_class_word, latest, long, minimum, no_items, none, of_directive, of_kind, of_owner, of_rdata, of_ttl, of_words, option_and_then, or_else, owned, owner_text, parts_after, parts_in, parts_of, refl, rules, sets_origin, sets_ttl, stated_ttl, statement_by, statement_of, subst, sym, true, ttl, ttl_among, unknown, unless_stated, unowned, word_after, ℕ, ◌++◌, ◌<◌, ◌∙◌, ◌∷◌, ◌≡◌, ◌⊎◌}
+use Rattle.zone_text.proofs.Common.{AllByRecursion, AllByRecursion-append, AllState, AreOctetItems, BadDirective, BadTtl, Bool, Choices, Data, Entry, EntryFault, EntryStates, Fault, HasClass, HasContents, HasHeadOf, HasTtl, HasValue, Head, IncludeDirective, IsClass, IsClassWord, IsDataFault, IsKind, IsKindWord, IsLastMinimum, IsLastOwner, IsName, IsNameFaultAfter, IsOrigin, IsOwner, IsTime, IsTtl, IsWordFault, Labels, List, Lower, MatchOption, NoOwner, NoTtl, None, Option, Parts, PartsFault, Record, Some, SpellingFault, Spells, SpellsAfter, Statement, StatementFault, States, StatesMinimum, StatesNothing, UnknownDirective, UnknownType, Word, WordFault, [], ap, arith, begins_with_digit, cases_eq, cases_lt, class, class_among, class_word, data_of, false, fault_of, if◌then◌else◌, includes, inl, inr, is_class_word, latest, long, minimum, no_items, none, of_parts, of_rdata, of_statement, of_ttl, option_and_then, option_or, owned, owner_text, parts_after, parts_in, refl, rules, sets_origin, sets_ttl, stated_ttl, statement_by, statement_of, subst, sym, true, ttl, ttl_among, unknown, unless_stated, unowned, word_after, ℕ, ◌++◌, ◌<◌, ◌∙◌, ◌∷◌, ◌≡◌, ◌⊎◌}
 use Rattle.zone_name.specs.declared.fault.NameFault.{NameFault}
 use Rattle.zone_rdata.specs.Spelling.{RawItem, bare, quoted}
 use Rattle.zone_text.proofs.Entered.{nothing_or_parts}
-use Rattle.zone_text.proofs.Inherits.{head_once, states_once}
+use Rattle.zone_text.proofs.Inherits.{contents_once}
 use Rattle.zone_text.proofs.ClassWords.{class_word_of}
 use Rattle.zone_text.proofs.WordsLeft.{parts_by}
 
@@ -57,25 +57,25 @@ name_or_fault choices origin before text is states low =
 abbrev ClassFact : Option (List ℕ) → Type 0
 ClassFact o = (number : ℕ) × (MatchOption o (number ≡ 1) (λ text. IsClassWord text number) × IsClass number)
 
-class_among_words : (words : List Word) (later : Option (List ℕ)) → AllByRecursion HasValue words → ClassFact later → ClassFact (or_else (class_among words) later)
+class_among_words : (words : List Word) (later : Option (List ℕ)) → AllByRecursion HasValue words → ClassFact later → ClassFact (option_or (class_among words) later)
 class_among_words [] later have fact = fact
 class_among_words (ttl text ∷ words) later have fact = class_among_words words later have.1 fact
 class_among_words (class text ∷ words) later have fact = (have.0.0, (have.0.1.0, have.0.1.1))
 
-class_in_parts : (o : Option Parts) (later : Option (List ℕ)) → ((parts : Parts) → o ≡ Some parts → AllByRecursion HasValue parts.words) → ClassFact later → ClassFact (or_else (option_and_then (λ (parts : Parts). class_among parts.words) o) later)
+class_in_parts : (o : Option Parts) (later : Option (List ℕ)) → ((parts : Parts) → o ≡ Some parts → AllByRecursion HasValue parts.words) → ClassFact later → ClassFact (option_or (option_and_then (λ (parts : Parts). class_among parts.words) o) later)
 class_in_parts None later have fact = fact
 class_in_parts (Some parts) later have fact = search (rules, class_among_words)
 
-words_have : (origin : List (List ℕ)) (before : List Entry) (entry : Entry) → StatesNothing origin before (statement_of entry) ⊎ ((r : Record) × EntryStates origin before entry r) → (parts : Parts) → parts_of entry ≡ Some parts → AllByRecursion HasValue parts.words
+words_have : (origin : List (List ℕ)) (before : List Entry) (entry : Entry) → StatesNothing origin before (statement_of entry) ⊎ ((r : Record) × EntryStates origin before entry r) → (parts : Parts) → parts_in (statement_of entry) ≡ Some parts → AllByRecursion HasValue parts.words
 words_have origin before entry h parts e = search rules
 
 class_before : (origin : List (List ℕ)) (before : List Entry) → AllState origin before → ClassFact (latest class_word before)
 class_before origin [] states = search rules
-class_before origin (entry ∷ before) states = class_in_parts (parts_of entry) (latest class_word before) (words_have origin before entry states.0) (class_before origin before states.1)
+class_before origin (entry ∷ before) states = class_in_parts (parts_in (statement_of entry)) (latest class_word before) (words_have origin before entry states.0) (class_before origin before states.1)
 
-pub class_is : (origin : List (List ℕ)) (before : List Entry) (entry : Entry) (parts : Parts) → AllState origin before → parts_of entry ≡ Some parts → AllByRecursion HasValue parts.words → (number : ℕ) × (HasClass before entry number × IsClass number)
+pub class_is : (origin : List (List ℕ)) (before : List Entry) (entry : Entry) (parts : Parts) → AllState origin before → parts_in (statement_of entry) ≡ Some parts → AllByRecursion HasValue parts.words → (number : ℕ) × (HasClass before entry number × IsClass number)
 class_is origin before entry parts states split words =
-    class_in_parts (parts_of entry) (latest class_word before) (λ other e. let both : Some parts ≡ Some other = sym split ∙ e in let same : parts ≡ other = cc in subst (λ p. AllByRecursion HasValue p.words) same words) (class_before origin before states)
+    class_in_parts (parts_in (statement_of entry)) (latest class_word before) (λ other e. let both : Some parts ≡ Some other = sym split ∙ e in let same : parts ≡ other = cc in subst (λ p. AllByRecursion HasValue p.words) same words) (class_before origin before states)
 
 -- ---- the words before the type
 
@@ -140,13 +140,6 @@ word_or_fault : Lower → Choices → (word : Word) → IsKnown word → WordCho
 word_or_fault lower choices (ttl text) known = ttl_word text (ttl_word_by lower text (choices.time text))
 word_or_fault lower choices (class text) known = let found = class_word_of text known in class_word_by text found.0 found.1 (class_or_not found.0)
 
-words_by : (word : Word) (words : List Word) → WordChoice word → AllByRecursion HasValue words ⊎ ((fault : Fault) × WordsFault words fault) → AllByRecursion HasValue (word ∷ words) ⊎ ((fault : Fault) × WordsFault (word ∷ words) fault)
-words_by word words h others = search rules
-
-pub words_or_fault : Lower → Choices → (words : List Word) → AllByRecursion IsKnown words → AllByRecursion HasValue words ⊎ ((fault : Fault) × WordsFault words fault)
-words_or_fault lower choices [] known = inl tt
-words_or_fault lower choices (word ∷ words) known = words_by word words (word_or_fault lower choices word known.0) (words_or_fault lower choices words known.1)
-
 abbrev Choice : (ℕ → Type 0) → Type 0
 Choice P = ((n : ℕ) × P n) ⊎ ((n : ℕ) → P n → ⊥)
 
@@ -154,24 +147,21 @@ Choice P = ((n : ℕ) × P n) ⊎ ((n : ℕ) → P n → ⊥)
 
 -- data without a MINIMUM state none
 module _ (lower : Lower) (origin : List (List ℕ)) (before : List Entry) (entry : Entry) where
-  pub states_no_minimum : (head : Head) (octets : List ℕ) → HasHead origin before entry head → StatesData origin before head octets → minimum (record { class = head.class; kind = head.kind; octets = octets }) ≡ None → (seconds : ℕ) → StatesMinimum origin before entry seconds → ⊥
-  states_no_minimum head octets has rdata e seconds x =
-      let same : x.head ≡ head = head_once lower origin before entry x.head head x.has has in
-      let texts : x.octets ≡ octets = states_once lower origin before head x.octets octets (subst (λ h. StatesData origin before h x.octets) same x.rdata) rdata in
-      let left : minimum (record { class = x.head.class; kind = x.head.kind; octets = x.octets }) ≡ minimum (record { class = head.class; kind = head.kind; octets = octets }) = rw (same, texts) refl in
-      let clash : Some seconds ≡ None = sym x.field ∙ (left ∙ e) in
+  pub states_no_minimum : (owner : Labels) (rdata : Data) → HasContents origin before entry owner rdata → minimum rdata ≡ None → (seconds : ℕ) → StatesMinimum origin before entry seconds → ⊥
+  states_no_minimum owner rdata has e seconds (other, d, also, field) =
+      let clash : Some seconds ≡ None = sym field ∙ (ap minimum (contents_once lower origin before entry other owner d rdata also has) ∙ e) in
       cc
 
-  minimum_by : (head : Head) (octets : List ℕ) (found : Option ℕ) → HasHead origin before entry head → StatesData origin before head octets → minimum (record { class = head.class; kind = head.kind; octets = octets }) ≡ found → Choice (StatesMinimum origin before entry)
-  minimum_by head octets (Some seconds) has rdata e = inl (seconds, record { head = head; octets = octets; has = has; rdata = rdata; field = e })
-  minimum_by head octets None has rdata e = inr (states_no_minimum head octets has rdata e)
+  minimum_by : (owner : Labels) (rdata : Data) (found : Option ℕ) → HasContents origin before entry owner rdata → minimum rdata ≡ found → Choice (StatesMinimum origin before entry)
+  minimum_by owner rdata (Some seconds) has e = inl (seconds, (owner, rdata, has, e))
+  minimum_by owner rdata None has e = inr (states_no_minimum owner rdata has e)
 
-  minimum_of : (head : Head) (octets : List ℕ) → HasHead origin before entry head → StatesData origin before head octets → Choice (StatesMinimum origin before entry)
-  minimum_of head octets has rdata = minimum_by head octets (minimum (record { class = head.class; kind = head.kind; octets = octets })) has rdata refl
+  minimum_of : (owner : Labels) (rdata : Data) → HasContents origin before entry owner rdata → Choice (StatesMinimum origin before entry)
+  minimum_of owner rdata has = minimum_by owner rdata (minimum rdata) has refl
 
   minimum_in : StatesNothing origin before (statement_of entry) ⊎ ((r : Record) × EntryStates origin before entry r) → Choice (StatesMinimum origin before entry)
-  minimum_in (inl n) = inr (λ seconds x. nothing_or_parts origin before (statement_of entry) x.has.parts n x.has.split)
-  minimum_in (inr s) = minimum_of (head_of s.0 s.1.items) s.0.octets s.1.head s.1.rdata
+  minimum_in (inl n) = inr (λ seconds (owner, rdata, has, field). nothing_or_parts origin before (statement_of entry) has.head.parts n has.head.split)
+  minimum_in (inr s) = minimum_of s.0.owner (data_of s.0) s.1.contents
 
 pub no_minimum : (origin : List (List ℕ)) (before : List Entry) (entry : Entry) → ((n : ℕ) → StatesMinimum origin before entry n → ⊥) → ((n : ℕ) → IsLastMinimum origin before n → ⊥) → (n : ℕ) → IsLastMinimum origin (entry ∷ before) n → ⊥
 no_minimum origin before entry here earlier n (inl x) = here n x
@@ -195,21 +185,29 @@ ttl_by (Some text) Last last times = times text
 abbrev pub Outcome : List (List ℕ) → List Entry → Entry → Type 0
 Outcome origin before entry = StatesNothing origin before (statement_of entry) ⊎ (((r : Record) × EntryStates origin before entry r) ⊎ ((fault : Fault) × EntryFault origin before entry fault))
 
-abbrev KindChoice : List RawItem → Type 0
-KindChoice rest = ((word : List ℕ) × ((items : List RawItem) × ((n : ℕ) × ((rest ≡ bare word ∷ items) × (AreOctetItems items × (IsKindWord word n × IsKind n)))))) ⊎ ((fault : Fault) × KindFault rest fault)
+-- the words have values and a type stands after them, or the parts have a fault
+abbrev PartsChoice : List Word → List RawItem → Type 0
+PartsChoice words rest = (AllByRecursion HasValue words × ((word : List ℕ) × ((items : List RawItem) × ((n : ℕ) × ((rest ≡ bare word ∷ items) × (AreOctetItems items × (IsKindWord word n × IsKind n))))))) ⊎ ((fault : Fault) × PartsFault words rest fault)
 
-kind_by : (text : List ℕ) (items : List RawItem) → AreOctetItems items → ((n : ℕ) × (IsKindWord text n × IsKind n)) ⊎ ((fault : Fault) × IsWordFault text fault) → KindChoice (bare text ∷ items)
-kind_by text items low h = search rules
+kind_by : (text : List ℕ) (items : List RawItem) → AreOctetItems items → ((n : ℕ) × (IsKindWord text n × IsKind n)) ⊎ ((fault : Fault) × IsWordFault text fault) → PartsChoice [] (bare text ∷ items)
+kind_by text items low (inl h) = inl (tt, (text, (items, (h.0, (refl, (low, h.1))))))
+kind_by text items low (inr bad) = inr bad
 
-kind_or_fault : Choices → (rest : List RawItem) → AreOctetItems rest → KindChoice rest
-kind_or_fault choices (bare text ∷ items) low = kind_by text items low.1 (choices.kind text)
-kind_or_fault choices rest low = inr (UnknownType, refl)
+word_by : (word : Word) (words : List Word) (rest : List RawItem) → WordChoice word → PartsChoice words rest → PartsChoice (word ∷ words) rest
+word_by word words rest (inr bad) others = inr (bad.0, inl bad.1)
+word_by word words rest (inl has) (inl good) = inl ((has, good.0), good.1)
+word_by word words rest (inl has) (inr bad) = inr (bad.0, inr (has, bad.1))
+
+parts_or_fault : Lower → Choices → (words : List Word) (rest : List RawItem) → AllByRecursion IsKnown words → AreOctetItems rest → PartsChoice words rest
+parts_or_fault lower choices [] (bare text ∷ items) known low = kind_by text items low.1 (choices.kind text)
+parts_or_fault lower choices [] rest known low = inr (UnknownType, refl)
+parts_or_fault lower choices (word ∷ words) rest known low = word_by word words rest (word_or_fault lower choices word known.0) (parts_or_fault lower choices words rest known.1 low)
 
 abbrev OwnerOutcome : List (List ℕ) → List Entry → Statement → Type 0
-OwnerOutcome origin before form = ((owner : List (List ℕ)) × (IsOwner origin before form owner × IsName owner)) ⊎ ((fault : Fault) × OwnerFault origin before form fault)
+OwnerOutcome origin before form = ((owner : List (List ℕ)) × (IsOwner origin before form owner × IsName owner)) ⊎ ((fault : Fault) × StatementFault origin before form fault)
 
 abbrev DirectiveChoice : List (List ℕ) → List Entry → Statement → Type 0
-DirectiveChoice origin before form = StatesNothing origin before form ⊎ ((fault : Fault) × DirectiveFault origin before form fault)
+DirectiveChoice origin before form = StatesNothing origin before form ⊎ ((fault : Fault) × StatementFault origin before form fault)
 
 -- the items of a form
 abbrev LowForm : Statement → Type 0
@@ -222,50 +220,45 @@ LowForm (owned owner items) = AreOctetItems (owner ∷ items)
 LowForm (unowned items) = AreOctetItems items
 
 module _ (lower : Lower) (choices : Choices) (origin : List (List ℕ)) (before : List Entry) (entry : Entry) (is : IsName origin) (states : AllState origin before) where
-  from_ttl : (head : Head) (octets : List ℕ) → IsName head.owner → IsClass head.class → HasHead origin before entry head → StatesData origin before head octets → Choice (HasTtl origin before entry) → Outcome origin before entry
-  from_ttl head octets name holds has rdata (inr no_ttl) = inr (inr (NoTtl, of_ttl head octets has rdata (none no_ttl)))
-  from_ttl head octets name holds has rdata (inl found) = elim (cases_lt 2147483647 found.0) [
-    | inl over ↦ inr (inr (BadTtl, of_ttl head octets has rdata (long found.0 found.1 over)))
+  from_ttl : (owner : Labels) (rdata : Data) → IsName owner → IsClass rdata.class → HasContents origin before entry owner rdata → Choice (HasTtl origin before entry) → Outcome origin before entry
+  from_ttl owner rdata name holds has (inr no_ttl) = inr (inr (NoTtl, of_ttl owner rdata has (none no_ttl)))
+  from_ttl owner rdata name holds has (inl found) = elim (cases_lt 2147483647 found.0) [
+    | inl over ↦ inr (inr (BadTtl, of_ttl owner rdata has (long found.0 found.1 over)))
     | inr short ↦
-        let r : Record = record { owner = head.owner; class = head.class; kind = head.kind; ttl = found.0; octets = octets } in
+        let r : Record = record { owner = owner; class = rdata.class; kind = rdata.kind; ttl = found.0; octets = rdata.octets } in
         inr (inl (
           r,
           record {
-            items = head.items;
-            head = has;
-            rdata = rdata;
+            contents = record { items = has.items; above = has.above; head = has.head; under = has.under; states = has.states };
             ttl = found.1;
-            fits = record { owner = name; ttl = short; rdata = record { class = holds; kind = has.kind; octets = choices.stated rdata.above head.class head.kind head.items octets rdata.states } };
+            fits = record { owner = name; ttl = short; rdata = record { class = holds; kind = has.head.kind; octets = choices.stated has.above rdata.class rdata.kind has.items rdata.octets has.states } };
           },
         ))
   ]
 
-  from_rdata : (head : Head) (above : List (List ℕ)) → IsName head.owner → IsClass head.class → HasHead origin before entry head → IsOrigin origin before above → ((octets : List ℕ) × States above head.class head.kind head.items octets) ⊎ ((fault : Fault) × IsDataFault above head.class head.kind head.items fault) → Outcome origin before entry
-  from_rdata head above name holds has under (inr bad) = inr (inr (bad.0, of_rdata head above has under bad.1))
+  from_rdata : (head : Head) (above : List (List ℕ)) → IsName head.owner → IsClass head.class → HasHeadOf origin before entry head → IsOrigin origin before above → ((octets : List ℕ) × States above head.class head.kind head.items octets) ⊎ ((fault : Fault) × IsDataFault above head.class head.kind head.items fault) → Outcome origin before entry
+  from_rdata head above name holds has under (inr bad) = inr (inr (bad.0, of_rdata head.owner head.class head.kind head.items above has under bad.1))
   from_rdata head above name holds has under (inl found) =
-      let rdata : StatesData origin before head found.0 = record { above = above; under = under; states = found.1 } in
-      from_ttl head found.0 name holds has rdata (ttl_by (stated_ttl before entry) (IsLastMinimum origin (entry ∷ before)) (last_by origin before entry (minimum_of lower origin before entry head found.0 has rdata) (last_minimum lower origin before states)) choices.time)
+      let rdata : Data = record { class = head.class; kind = head.kind; octets = found.0 } in
+      let contents : HasContents origin before entry head.owner rdata = record { items = head.items; above = above; head = has; under = under; states = found.1 } in
+      from_ttl head.owner rdata name holds contents (ttl_by (stated_ttl before entry) (IsLastMinimum origin (entry ∷ before)) (last_by origin before entry (minimum_of lower origin before entry head.owner rdata contents) (last_minimum lower origin before states)) choices.time)
 
-  from_kind : (parts : Parts) (owner : List (List ℕ)) → parts_of entry ≡ Some parts → IsOwner origin before (statement_of entry) owner → IsName owner → AllByRecursion HasValue parts.words → KindChoice parts.rest → Outcome origin before entry
-  from_kind parts owner split owns name words (inr bad) = inr (inr (bad.0, of_kind owner parts owns split words bad.1))
-  from_kind parts owner split owns name words (inl found) =
-      let word = found.0 in
-      let items = found.1.0 in
-      let kind = found.1.1.0 in
-      let facts = found.1.1.1 in
-      let number = class_is origin before entry parts states split words in
+  from_parts : (parts : Parts) (owner : List (List ℕ)) → parts_in (statement_of entry) ≡ Some parts → IsOwner origin before (statement_of entry) owner → IsName owner → PartsChoice parts.words parts.rest → Outcome origin before entry
+  from_parts parts owner split owns name (inr bad) = inr (inr (bad.0, of_parts owner parts owns split bad.1))
+  from_parts parts owner split owns name (inl found) =
+      let word = found.1.0 in
+      let items = found.1.1.0 in
+      let kind = found.1.1.1.0 in
+      let facts = found.1.1.1.1 in
+      let number = class_is origin before entry parts states split found.0 in
       let above = origin_is origin before is states in
       let head : Head = record { owner = owner; class = number.0; kind = kind; items = items } in
-      let has : HasHead origin before entry head = record { parts = parts; word = word; split = split; owner = owns; words = words; class = number.1.0; rest = facts.0; named = facts.1.1.0; kind = facts.1.1.1 } in
+      let has : HasHeadOf origin before entry head = record { parts = parts; word = word; split = split; owner = owns; words = found.0; class = number.1.0; rest = facts.0; named = facts.1.1.0; kind = facts.1.1.1 } in
       from_rdata head above.0 name number.1.1 has above.1.0 (choices.rdata above.0 number.0 kind items above.1.1 facts.1.0)
 
-  from_words : (parts : Parts) (owner : List (List ℕ)) → parts_of entry ≡ Some parts → AreOctetItems parts.rest → IsOwner origin before (statement_of entry) owner → IsName owner → AllByRecursion HasValue parts.words ⊎ ((fault : Fault) × WordsFault parts.words fault) → Outcome origin before entry
-  from_words parts owner split low owns name (inr bad) = inr (inr (bad.0, of_words owner parts owns split bad.1))
-  from_words parts owner split low owns name (inl words) = from_kind parts owner split owns name words (kind_or_fault choices parts.rest low)
-
-  from_owner : (parts : Parts) → parts_of entry ≡ Some parts → AreGood parts → OwnerOutcome origin before (statement_of entry) → Outcome origin before entry
-  from_owner parts split good (inr bad) = inr (inr (bad.0, of_owner bad.1))
-  from_owner parts split good (inl found) = from_words parts found.0 split good.low found.1.0 found.1.1 (words_or_fault lower choices parts.words good.known)
+  from_owner : (parts : Parts) → parts_in (statement_of entry) ≡ Some parts → AreGood parts → OwnerOutcome origin before (statement_of entry) → Outcome origin before entry
+  from_owner parts split good (inr bad) = inr (inr (bad.0, of_statement bad.1))
+  from_owner parts split good (inl found) = from_parts parts found.0 split found.1.0 found.1.1 (parts_or_fault lower choices parts.words parts.rest good.known good.low)
 
   -- ---- the owner
 
@@ -297,7 +290,7 @@ module _ (lower : Lower) (choices : Choices) (origin : List (List ℕ)) (before 
 
   directive_outcome : DirectiveChoice origin before (statement_of entry) → Outcome origin before entry
   directive_outcome (inl n) = inl n
-  directive_outcome (inr bad) = inr (inr (bad.0, of_directive bad.1))
+  directive_outcome (inr bad) = inr (inr (bad.0, of_statement bad.1))
 
   -- ---- the form
 

@@ -1,5 +1,5 @@
 -- Names, words, NS records, the SOA of `x.` and addresses that files spell, for examples.
-use Rattle.zone_text.proofs.Common.{AllByRecursion, EmptyLabel, Entry, EntryStates, HasClass, HasHead, HasTtl, HasValue, IsClass, IsClassWord, IsDecimal, IsKind, IsKindWord, IsName, IsOrigin, IsOwner, IsRecord, IsTime, IsTtl, IsWordFault, List, MetaType, Parts, Some, SpellingFault, Spells, States, StatesMinimum, UnknownType, Word, [], absolute, address, ap, arith, at_origin, begins_with_digit, beyond, by_mnemonic, by_number, codes, decimal_value, empty_label, false, folded_octet, for_queries, in_words, inr, is_digit, is_dot, labels_of, lit<, lit≤, minimum, ns, parts_of, plain, refl, relative, rules, soa, statement_of, subst, sym, true, under, wire, within, x, ℕ, ◌<◌, ◌^◌, ◌∙◌, ◌∷◌, ◌≡◌, ◌≢◌, ◌≤◌}
+use Rattle.zone_text.proofs.Common.{AllByRecursion, Data, EmptyLabel, Entry, EntryStates, HasClass, HasContents, HasHead, HasTtl, HasValue, IsClass, IsClassWord, IsDecimal, IsKind, IsKindWord, IsName, IsOrigin, IsOwner, IsRecord, IsTime, IsTtl, IsWordFault, List, MetaType, Parts, Some, SpellingFault, Spells, States, StatesMinimum, UnknownType, Word, [], absolute, address, ap, arith, at_origin, begins_with_digit, beyond, by_mnemonic, by_number, codes, decimal_value, empty_label, false, folded_octet, for_queries, in_words, inr, is_digit, is_dot, labels_of, lit<, lit≤, minimum, ns, parts_in, plain, refl, relative, rules, soa, statement_of, subst, sym, true, under, wire, within, x, ℕ, ◌<◌, ◌^◌, ◌∙◌, ◌∷◌, ◌≡◌, ◌≢◌, ◌≤◌}
 use Rattle.zone_rdata.specs.declared.field.Field.TheVariants.{Name, Serial, Time, Octets}
 use Rattle.zone_rdata.specs.Address.{IsOctetNumber}
 use Rattle.zone_rdata.specs.Field.{FieldValue, name, u32_value, fixed, octets_of}
@@ -75,26 +75,30 @@ unfolding labels_of
 ns_fits owner class ttl good is short = search rules
 
 -- an entry of `NS` and a text for `n.x.`, after words and an owner
-pub states_server_by : (text : List ℕ) (origin : List (List ℕ)) (before : List Entry) (entry : Entry) (owner above : List (List ℕ)) (class ttl : ℕ) (words : List Word) → text ≢ codes "\\#" → Spells (Some above) text (under 110 x) → parts_of entry ≡ Some (record { words = words; rest = bare (codes "NS") ∷ bare text ∷ [] }) → IsOwner origin before (statement_of entry) owner → AllByRecursion HasValue words → HasClass before entry class → IsOrigin origin before above → HasTtl origin before entry ttl → IsName owner → IsClass class → ttl ≤ 2147483647 → EntryStates origin before entry (ns owner class ttl)
+pub states_server_by : (text : List ℕ) (origin : List (List ℕ)) (before : List Entry) (entry : Entry) (owner above : List (List ℕ)) (class ttl : ℕ) (words : List Word) → text ≢ codes "\\#" → Spells (Some above) text (under 110 x) → parts_in (statement_of entry) ≡ Some (record { words = words; rest = bare (codes "NS") ∷ bare text ∷ [] }) → IsOwner origin before (statement_of entry) owner → AllByRecursion HasValue words → HasClass before entry class → IsOrigin origin before above → HasTtl origin before entry ttl → IsName owner → IsClass class → ttl ≤ 2147483647 → EntryStates origin before entry (ns owner class ttl)
 states_server_by text origin before entry owner above class ttl words not_mark spells split owns values has under_it lasts good is short = record {
-  items = bare text ∷ [];
-  head = record {
-    parts = record { words = words; rest = bare (codes "NS") ∷ bare text ∷ [] };
-    word = codes "NS";
-    split = split;
-    owner = owns;
-    words = values;
-    class = has;
-    rest = refl;
-    named = is_ns;
-    kind = ns_kind;
+  contents = record {
+    items = bare text ∷ [];
+    above = above;
+    head = record {
+      parts = record { words = words; rest = bare (codes "NS") ∷ bare text ∷ [] };
+      word = codes "NS";
+      split = split;
+      owner = owns;
+      words = values;
+      class = has;
+      rest = refl;
+      named = is_ns;
+      kind = ns_kind;
+    };
+    under = under_it;
+    states = states_server above class text not_mark spells;
   };
-  rdata = record { above = above; under = under_it; states = states_server above class text not_mark spells };
   ttl = lasts;
   fits = ns_fits owner class ttl good is short;
 }
 
-pub states_ns : (origin : List (List ℕ)) (before : List Entry) (entry : Entry) (owner above : List (List ℕ)) (class ttl : ℕ) (words : List Word) → parts_of entry ≡ Some (record { words = words; rest = bare (codes "NS") ∷ bare (codes "n.x.") ∷ [] }) → IsOwner origin before (statement_of entry) owner → AllByRecursion HasValue words → HasClass before entry class → IsOrigin origin before above → HasTtl origin before entry ttl → IsName owner → IsClass class → ttl ≤ 2147483647 → EntryStates origin before entry (ns owner class ttl)
+pub states_ns : (origin : List (List ℕ)) (before : List Entry) (entry : Entry) (owner above : List (List ℕ)) (class ttl : ℕ) (words : List Word) → parts_in (statement_of entry) ≡ Some (record { words = words; rest = bare (codes "NS") ∷ bare (codes "n.x.") ∷ [] }) → IsOwner origin before (statement_of entry) owner → AllByRecursion HasValue words → HasClass before entry class → IsOrigin origin before above → HasTtl origin before entry ttl → IsName owner → IsClass class → ttl ≤ 2147483647 → EntryStates origin before entry (ns owner class ttl)
 states_ns origin before entry owner above class ttl words = states_server_by (codes "n.x.") origin before entry owner above class ttl words (λ e. absurd cc) (n_x_spells above)
 
 pub long_time : IsTime (codes "2147483648") 2147483648
@@ -130,14 +134,15 @@ no_minimum class kind octets seconds is field =
     absurd cc
 
 -- an NS record is no SOA
-pub ns_has_no_minimum : ((word : List ℕ) (a b : ℕ) → IsKindWord word a → IsKindWord word b → a ≡ b) → (before : List Entry) (entry : Entry) (words : List Word) (items : List RawItem) (seconds : ℕ) → parts_of entry ≡ Some (record { words = words; rest = bare (codes "NS") ∷ items }) → StatesMinimum x before entry seconds → ⊥
-ns_has_no_minimum once before entry words items seconds split has =
-    let both : Some has.has.parts ≡ Some (record { words = words; rest = bare (codes "NS") ∷ items }) = sym has.has.split ∙ split in
-    let parts : has.has.parts ≡ record { words = words; rest = bare (codes "NS") ∷ items } = cc in
-    let rest : bare has.has.word ∷ has.head.items ≡ bare (codes "NS") ∷ items = sym has.has.rest ∙ ap (λ (p : Parts). p.rest) parts in
-    let word : has.has.word ≡ codes "NS" = cc in
-    let kind : has.head.kind ≡ 2 = once (codes "NS") has.head.kind 2 (subst (λ w. IsKindWord w has.head.kind) word has.has.named) is_ns in
-    no_minimum has.head.class has.head.kind has.octets seconds kind has.field
+pub ns_has_no_minimum : ((word : List ℕ) (a b : ℕ) → IsKindWord word a → IsKindWord word b → a ≡ b) → (before : List Entry) (entry : Entry) (words : List Word) (items : List RawItem) (seconds : ℕ) → parts_in (statement_of entry) ≡ Some (record { words = words; rest = bare (codes "NS") ∷ items }) → StatesMinimum x before entry seconds → ⊥
+ns_has_no_minimum once before entry words items seconds split (owner, rdata, contents, field) =
+    let has = contents.head in
+    let both : Some has.parts ≡ Some (record { words = words; rest = bare (codes "NS") ∷ items }) = sym has.split ∙ split in
+    let parts : has.parts ≡ record { words = words; rest = bare (codes "NS") ∷ items } = cc in
+    let rest : bare has.word ∷ contents.items ≡ bare (codes "NS") ∷ items = sym has.rest ∙ ap (λ (p : Parts). p.rest) parts in
+    let word : has.word ≡ codes "NS" = cc in
+    let kind : rdata.kind ≡ 2 = once (codes "NS") rdata.kind 2 (subst (λ w. IsKindWord w rdata.kind) word has.named) is_ns in
+    no_minimum rdata.class rdata.kind rdata.octets seconds kind field
 
 h_name : IsName (under 104 x)
 h_name = omega arith
@@ -174,7 +179,7 @@ unfolding labels_of
 soa_fits ttl short = search rules
 
 -- the entry's head, by its words, its owner and its class
-pub soa_head : (text : List ℕ) (before : List Entry) (entry : Entry) (words : List Word) → parts_of entry ≡ Some (record { words = words; rest = bare (codes "SOA") ∷ soa_items text }) → IsOwner x before (statement_of entry) x → AllByRecursion HasValue words → HasClass before entry 1 → HasHead x before entry (record { owner = x; class = 1; kind = 6; items = soa_items text })
+pub soa_head : (text : List ℕ) (before : List Entry) (entry : Entry) (words : List Word) → parts_in (statement_of entry) ≡ Some (record { words = words; rest = bare (codes "SOA") ∷ soa_items text }) → IsOwner x before (statement_of entry) x → AllByRecursion HasValue words → HasClass before entry 1 → HasHead x before entry x 1 6 (soa_items text)
 soa_head text before entry words split owns values has = record {
   parts = record { words = words; rest = bare (codes "SOA") ∷ soa_items text };
   word = codes "SOA";
@@ -187,36 +192,41 @@ soa_head text before entry words split owns values has = record {
   kind = soa_kind;
 }
 
+abbrev pub soa_data : ℕ → Data
+soa_data last = record { class = 1; kind = 6; octets = octets_of (soa_values last) }
+
+pub soa_contents : (text : List ℕ) (last : ℕ) (before : List Entry) (entry : Entry) (words : List Word) → IsTime text last → last < 2 ^ 32 → parts_in (statement_of entry) ≡ Some (record { words = words; rest = bare (codes "SOA") ∷ soa_items text }) → IsOwner x before (statement_of entry) x → AllByRecursion HasValue words → HasClass before entry 1 → IsOrigin x before x → HasContents x before entry x (soa_data last)
+soa_contents text last before entry words time short split owns values has under_it = record {
+  items = soa_items text;
+  above = x;
+  head = soa_head text before entry words split owns values has;
+  under = under_it;
+  states = soa_states text last time short;
+}
+
 -- an entry of this SOA with the MINIMUM 5
-pub states_soa : (before : List Entry) (entry : Entry) (ttl : ℕ) (words : List Word) → parts_of entry ≡ Some (record { words = words; rest = bare (codes "SOA") ∷ soa_items (codes "5") }) → IsOwner x before (statement_of entry) x → AllByRecursion HasValue words → HasClass before entry 1 → IsOrigin x before x → HasTtl x before entry ttl → ttl ≤ 2147483647 → EntryStates x before entry (soa ttl)
+pub states_soa : (before : List Entry) (entry : Entry) (ttl : ℕ) (words : List Word) → parts_in (statement_of entry) ≡ Some (record { words = words; rest = bare (codes "SOA") ∷ soa_items (codes "5") }) → IsOwner x before (statement_of entry) x → AllByRecursion HasValue words → HasClass before entry 1 → IsOrigin x before x → HasTtl x before entry ttl → ttl ≤ 2147483647 → EntryStates x before entry (soa ttl)
 states_soa before entry ttl words split owns values has under_it lasts short = record {
-  items = soa_items (codes "5");
-  head = soa_head (codes "5") before entry words split owns values has;
-  rdata = record { above = x; under = under_it; states = soa_states (codes "5") 5 five (lit< tt) };
+  contents = soa_contents (codes "5") 5 before entry words five (lit< tt) split owns values has under_it;
   ttl = lasts;
   fits = soa_fits ttl short;
 }
 
 -- an entry of this SOA has the MINIMUM that its last item spells
-pub states_minimum : (text : List ℕ) (last : ℕ) (before : List Entry) (entry : Entry) (words : List Word) → IsTime text last → last < 2 ^ 32 → minimum (record { class = 1; kind = 6; octets = octets_of (soa_values last) }) ≡ Some last → parts_of entry ≡ Some (record { words = words; rest = bare (codes "SOA") ∷ soa_items text }) → IsOwner x before (statement_of entry) x → AllByRecursion HasValue words → HasClass before entry 1 → IsOrigin x before x → StatesMinimum x before entry last
-states_minimum text last before entry words time short field split owns values has under_it = record {
-  head = record { owner = x; class = 1; kind = 6; items = soa_items text };
-  octets = octets_of (soa_values last);
-  has = soa_head text before entry words split owns values has;
-  rdata = record { above = x; under = under_it; states = soa_states text last time short };
-  field = field;
-}
+pub states_minimum : (text : List ℕ) (last : ℕ) (before : List Entry) (entry : Entry) (words : List Word) → IsTime text last → last < 2 ^ 32 → minimum (soa_data last) ≡ Some last → parts_in (statement_of entry) ≡ Some (record { words = words; rest = bare (codes "SOA") ∷ soa_items text }) → IsOwner x before (statement_of entry) x → AllByRecursion HasValue words → HasClass before entry 1 → IsOrigin x before x → StatesMinimum x before entry last
+states_minimum text last before entry words time short field split owns values has under_it =
+    (x, soa_data last, soa_contents text last before entry words time short split owns values has under_it, field)
 
-pub minimum_five : minimum (record { class = 1; kind = 6; octets = octets_of (soa_values 5) }) ≡ Some 5
+pub minimum_five : minimum (soa_data 5) ≡ Some 5
 unfolding labels_of
 minimum_five = refl
 
-pub minimum_too_long : minimum (record { class = 1; kind = 6; octets = octets_of (soa_values 2147483648) }) ≡ Some 2147483648
+pub minimum_too_long : minimum (soa_data 2147483648) ≡ Some 2147483648
 unfolding labels_of
 minimum_too_long = refl
 
 -- an entry of the items `NS n`
-pub states_ns_below : (before : List Entry) (entry : Entry) (ttl : ℕ) (words : List Word) → parts_of entry ≡ Some (record { words = words; rest = bare (codes "NS") ∷ bare (codes "n") ∷ [] }) → IsOwner x before (statement_of entry) x → AllByRecursion HasValue words → HasClass before entry 1 → IsOrigin x before x → HasTtl x before entry ttl → ttl ≤ 2147483647 → EntryStates x before entry (ns x 1 ttl)
+pub states_ns_below : (before : List Entry) (entry : Entry) (ttl : ℕ) (words : List Word) → parts_in (statement_of entry) ≡ Some (record { words = words; rest = bare (codes "NS") ∷ bare (codes "n") ∷ [] }) → IsOwner x before (statement_of entry) x → AllByRecursion HasValue words → HasClass before entry 1 → IsOrigin x before x → HasTtl x before entry ttl → ttl ≤ 2147483647 → EntryStates x before entry (ns x 1 ttl)
 states_ns_below before entry ttl words split owns values has under_it lasts short = states_server_by (codes "n") x before entry x x 1 ttl words (λ e. absurd cc) n_spells split owns values has under_it lasts x_name in_class short
 
 pub sixty_one : IsTime (codes "61") 61
@@ -245,21 +255,25 @@ address_fits : (owner : List (List ℕ)) (ttl : ℕ) → IsName owner → ttl �
 address_fits owner ttl good short = search rules
 
 -- an entry of the items `A 10.0.0.1` after words and an owner
-pub states_address : (before : List Entry) (entry : Entry) (owner : List (List ℕ)) (ttl : ℕ) (words : List Word) → parts_of entry ≡ Some (record { words = words; rest = bare (codes "A") ∷ bare (codes "10.0.0.1") ∷ [] }) → IsOwner x before (statement_of entry) owner → AllByRecursion HasValue words → HasClass before entry 1 → IsOrigin x before x → HasTtl x before entry ttl → IsName owner → ttl ≤ 2147483647 → EntryStates x before entry (address owner ttl)
+pub states_address : (before : List Entry) (entry : Entry) (owner : List (List ℕ)) (ttl : ℕ) (words : List Word) → parts_in (statement_of entry) ≡ Some (record { words = words; rest = bare (codes "A") ∷ bare (codes "10.0.0.1") ∷ [] }) → IsOwner x before (statement_of entry) owner → AllByRecursion HasValue words → HasClass before entry 1 → IsOrigin x before x → HasTtl x before entry ttl → IsName owner → ttl ≤ 2147483647 → EntryStates x before entry (address owner ttl)
 states_address before entry owner ttl words split owns values has under_it lasts good short = record {
-  items = bare (codes "10.0.0.1") ∷ [];
-  head = record {
-    parts = record { words = words; rest = bare (codes "A") ∷ bare (codes "10.0.0.1") ∷ [] };
-    word = codes "A";
-    split = split;
-    owner = owns;
-    words = values;
-    class = has;
-    rest = refl;
-    named = by_mnemonic (record { name = codes "A"; row = refl; same = refl });
-    kind = address_kind;
+  contents = record {
+    items = bare (codes "10.0.0.1") ∷ [];
+    above = x;
+    head = record {
+      parts = record { words = words; rest = bare (codes "A") ∷ bare (codes "10.0.0.1") ∷ [] };
+      word = codes "A";
+      split = split;
+      owner = owns;
+      words = values;
+      class = has;
+      rest = refl;
+      named = by_mnemonic (record { name = codes "A"; row = refl; same = refl });
+      kind = address_kind;
+    };
+    under = under_it;
+    states = address_states;
   };
-  rdata = record { above = x; under = under_it; states = address_states };
   ttl = lasts;
   fits = address_fits owner ttl good short;
 }

@@ -1,6 +1,6 @@
 -- The parser state is what the look back over the entries finds: one entry more, and the TTL that
 -- a record inherits.
-use Rattle.zone_text.proofs.Common.{Entry, HasHead, HasTtl, Head, IsLastMinimum, IsLastOwner, IsOneOrNone, IsOrigin, IsStateAfter, IsTime, IsTtl, IsTtlOrNone, Labels, List, Lower, MatchOption, None, Option, ParserState, Parts, RawItem, SetsOrigin, SetsTtl, Some, SpellsAfter, Statement, StatesData, StatesMinimum, StatesNothing, [], ap, class_among, class_word, default_ttl_text, inr, latest, minimum, one_bare, option_and_then, option_or, origin_text, owner_text, parts_in, parts_of, refl, rules, sets_origin, sets_ttl, stated_ttl, statement_of, subst, sym, ttl_among, ttl_text, with_owner, ℕ, ◌∙◌, ◌∷◌, ◌≡◌}
+use Rattle.zone_text.proofs.Common.{Data, DefaultTtlFault, Entry, EntryFault, Fault, HasContents, HasHeadOf, HasTtl, Head, IsLastMinimum, IsLastOwner, IsOneOrNone, IsOrigin, IsStateAfter, IsTime, IsTtl, IsTtlOrNone, Labels, List, Lower, MatchOption, None, Option, OriginFaultUnder, ParserState, Parts, RawItem, SetsOrigin, SetsTtl, Some, SpellsAfter, Statement, StatementFault, StatesMinimum, StatesNothing, [], ap, class_among, class_word, default_ttl_text, inl, inr, latest, minimum, of_statement, one_bare, option_and_then, option_or, origin_text, owner_text, parts_in, refl, rules, sets_origin, sets_ttl, stated_ttl, statement_of, subst, sym, ttl_among, ttl_text, with_owner, ℕ, ◌∙◌, ◌∷◌, ◌≡◌}
 use Rattle.zone_rdata.specs.Item.{bare}
 use Rattle.zone_text.proofs.EntryOutcome.{states_no_minimum, no_minimum}
 
@@ -8,8 +8,8 @@ use Rattle.zone_text.proofs.EntryOutcome.{states_no_minimum, no_minimum}
 
 -- ---- an entry that is no record
 
-no_word : (origin : Labels) (before : List Entry) (entry : Entry) → parts_of entry ≡ None → (seconds : ℕ) → StatesMinimum origin before entry seconds → ⊥
-no_word origin before entry none seconds states = cc
+no_word : (origin : Labels) (before : List Entry) (entry : Entry) → parts_in (statement_of entry) ≡ None → (seconds : ℕ) → StatesMinimum origin before entry seconds → ⊥
+no_word origin before entry none seconds (owner, rdata, has, field) = let split = has.head.split in cc
 
 last_minimum : (origin : Labels) (before : List Entry) (entry : Entry) (carried : Option ℕ) → ((seconds : ℕ) → StatesMinimum origin before entry seconds → ⊥) → IsOneOrNone (IsLastMinimum origin before) carried → IsOneOrNone (IsLastMinimum origin (entry ∷ before)) carried
 last_minimum origin before entry None none so_far = no_minimum origin before entry none so_far
@@ -23,7 +23,7 @@ owner_by origin before (Some text) owner e so_far = absurd cc
 -- a directive or a blank entry leaves what it does not set
 pub leaves : (origin : Labels) (before : List Entry) (entry : Entry) (form : Statement) (d : ParserState) (name : Labels) (seconds : Option ℕ) → statement_of entry ≡ form → parts_in form ≡ None → owner_text form ≡ None → IsStateAfter origin before d → IsOrigin origin (entry ∷ before) name → IsTtlOrNone (latest default_ttl_text (entry ∷ before)) seconds → IsStateAfter origin (entry ∷ before) (record { origin = name; owner = d.owner; class = d.class; default_ttl = seconds; last_ttl = d.last_ttl; minimum = d.minimum })
 leaves origin before entry form d name seconds is no_parts no_owner so_far under default =
-    let parts : parts_of entry ≡ None = ap parts_in is ∙ no_parts in
+    let parts : parts_in (statement_of entry) ≡ None = ap parts_in is ∙ no_parts in
     let word : class_word (statement_of entry) ≡ None = ap (λ (o : Option Parts). option_and_then (λ (parts : Parts). class_among parts.words) o) parts in
     let ttl : ttl_text (statement_of entry) ≡ None = ap (λ (o : Option Parts). option_and_then (λ (parts : Parts). ttl_among parts.words) o) parts in
     record {
@@ -45,16 +45,16 @@ same_default before entry form seconds is none so_far = search rules
 
 -- ---- a record
 
-minimum_by : Lower → (origin : Labels) (before : List Entry) (entry : Entry) (head : Head) (octets : List ℕ) (own carried : Option ℕ) → HasHead origin before entry head → StatesData origin before head octets → minimum (record { class = head.class; kind = head.kind; octets = octets }) ≡ own → IsOneOrNone (IsLastMinimum origin before) carried → IsOneOrNone (IsLastMinimum origin (entry ∷ before)) (option_or own carried)
-minimum_by lower origin before entry head octets (Some n) carried has rdata e so_far = search rules
-minimum_by lower origin before entry head octets None carried has rdata e so_far = search (rules, last_minimum, states_no_minimum)
+minimum_by : Lower → (origin : Labels) (before : List Entry) (entry : Entry) (owner : Labels) (rdata : Data) (own carried : Option ℕ) → HasContents origin before entry owner rdata → minimum rdata ≡ own → IsOneOrNone (IsLastMinimum origin before) carried → IsOneOrNone (IsLastMinimum origin (entry ∷ before)) (option_or own carried)
+minimum_by lower origin before entry owner rdata (Some n) carried has e so_far = inl (owner, rdata, has, e)
+minimum_by lower origin before entry owner rdata None carried has e so_far = search (rules, last_minimum, states_no_minimum)
 
 -- the MINIMUM of the latest SOA, which may be the record
-pub next_minimum : Lower → (origin : Labels) (before : List Entry) (entry : Entry) (head : Head) (octets : List ℕ) (own carried : Option ℕ) → HasHead origin before entry head → StatesData origin before head octets → own ≡ minimum (record { class = head.class; kind = head.kind; octets = octets }) → IsOneOrNone (IsLastMinimum origin before) carried → IsOneOrNone (IsLastMinimum origin (entry ∷ before)) (option_or own carried)
-next_minimum lower origin before entry head octets own carried has rdata e so_far = minimum_by lower origin before entry head octets own carried has rdata (sym e) so_far
+pub next_minimum : Lower → (origin : Labels) (before : List Entry) (entry : Entry) (owner : Labels) (rdata : Data) (carried : Option ℕ) → HasContents origin before entry owner rdata → IsOneOrNone (IsLastMinimum origin before) carried → IsOneOrNone (IsLastMinimum origin (entry ∷ before)) (option_or (minimum rdata) carried)
+next_minimum lower origin before entry owner rdata carried has so_far = minimum_by lower origin before entry owner rdata (minimum rdata) carried has refl so_far
 
 -- what a record leaves, its owner aside
-pub record_leaves : (origin : Labels) (before : List Entry) (entry : Entry) (d next : ParserState) (head : Head) (own : Option ℕ) (owner : Option Labels) → IsStateAfter origin before d → HasHead origin before entry head → IsTtlOrNone (ttl_text (statement_of entry)) own → next.origin ≡ d.origin → next.class ≡ head.class → next.default_ttl ≡ d.default_ttl → next.last_ttl ≡ option_or own d.last_ttl → IsOneOrNone (IsLastMinimum origin (entry ∷ before)) next.minimum → IsOneOrNone (IsLastOwner origin (entry ∷ before)) owner → IsStateAfter origin (entry ∷ before) (with_owner owner next)
+pub record_leaves : (origin : Labels) (before : List Entry) (entry : Entry) (d next : ParserState) (head : Head) (own : Option ℕ) (owner : Option Labels) → IsStateAfter origin before d → HasHeadOf origin before entry head → IsTtlOrNone (ttl_text (statement_of entry)) own → next.origin ≡ d.origin → next.class ≡ head.class → next.default_ttl ≡ d.default_ttl → next.last_ttl ≡ option_or own d.last_ttl → IsOneOrNone (IsLastMinimum origin (entry ∷ before)) next.minimum → IsOneOrNone (IsLastOwner origin (entry ∷ before)) owner → IsStateAfter origin (entry ∷ before) (with_owner owner next)
 record_leaves origin before entry d next head own owner so_far has own_ttl same_above class_is same_ttl last_is minimum_is owner_is = search rules
 
 -- ---- the TTL of a record
@@ -76,9 +76,13 @@ none_by : (o : Option (List ℕ)) (stated last : Option ℕ) (Last : ℕ → Typ
 none_by o stated last Last none is e n has = search rules
 
 pub has_no_ttl : (origin : Labels) (before : List Entry) (entry : Entry) (stated last : Option ℕ) → IsTtlOrNone (stated_ttl before entry) stated → IsOneOrNone (IsLastMinimum origin (entry ∷ before)) last → option_or stated last ≡ None → (n : ℕ) → HasTtl origin before entry n → ⊥
-has_no_ttl origin before entry stated last ttl is e = search rules
+has_no_ttl origin before entry stated last ttl is e = none_by (stated_ttl before entry) stated last (IsLastMinimum origin (entry ∷ before)) ttl is e
 
 -- ---- directives that are read
+
+one_bare_is : (items : List RawItem) (text : List ℕ) → one_bare items ≡ Some text → items ≡ bare text ∷ []
+one_bare_is (bare other ∷ []) text e = cc
+one_bare_is items text e = absurd cc
 
 origin_states : (origin : Labels) (before : List Entry) (items : List RawItem) (text : List ℕ) (name : Labels) → one_bare items ≡ Some text → SpellsAfter origin before text name → StatesNothing origin before (sets_origin items)
 origin_states origin before (bare other ∷ []) text name e spells = let same : text ≡ other = cc in (name, subst (λ t. SpellsAfter origin before t name) same spells)
@@ -87,7 +91,7 @@ origin_states origin before items text name e spells = absurd cc
 pub origin_set : (origin : Labels) (before : List Entry) (entry : Entry) (d next : ParserState) (items : List RawItem) → IsStateAfter origin before d → statement_of entry ≡ sets_origin items → SetsOrigin items d next → StatesNothing origin before (statement_of entry) × IsStateAfter origin (entry ∷ before) next
 origin_set origin before entry d next items so_far form sets =
     let spells : SpellsAfter origin before sets.text next.origin = (d.origin, (so_far.under, sets.spelled)) in
-    let text : origin_text (statement_of entry) ≡ Some sets.text = ap origin_text form ∙ sets.item in
+    let text : origin_text (statement_of entry) ≡ Some sets.text = ap origin_text form ∙ ap (λ items. origin_text (sets_origin items)) (one_bare_is items sets.text sets.item) in
     let under : IsOrigin origin (entry ∷ before) next.origin = rw text spells in (
       subst (StatesNothing origin before) (sym form) (origin_states origin before items sets.text next.origin sets.item spells),
       subst (IsStateAfter origin (entry ∷ before)) (sym sets.others) (leaves origin before entry (sets_origin items) d next.origin d.default_ttl form refl refl so_far under (same_default before entry (sets_origin items) d.default_ttl form refl so_far.default_ttl)),
@@ -99,8 +103,26 @@ ttl_states origin before items text seconds e ttl = absurd cc
 
 pub ttl_set : (origin : Labels) (before : List Entry) (entry : Entry) (d next : ParserState) (items : List RawItem) → IsStateAfter origin before d → statement_of entry ≡ sets_ttl items → SetsTtl items d next → StatesNothing origin before (statement_of entry) × IsStateAfter origin (entry ∷ before) next
 ttl_set origin before entry d next items so_far form sets =
-    let text : default_ttl_text (statement_of entry) ≡ Some sets.text = ap default_ttl_text form ∙ sets.item in
+    let text : default_ttl_text (statement_of entry) ≡ Some sets.text = ap default_ttl_text form ∙ ap (λ items. default_ttl_text (sets_ttl items)) (one_bare_is items sets.text sets.item) in
     let default : IsTtlOrNone (latest default_ttl_text (entry ∷ before)) (Some sets.seconds) = rw text (sets.ttl) in (
       subst (StatesNothing origin before) (sym form) (ttl_states origin before items sets.text sets.seconds sets.item sets.ttl),
       subst (IsStateAfter origin (entry ∷ before)) (sym sets.others) (leaves origin before entry (sets_ttl items) d d.origin (Some sets.seconds) form refl refl so_far (same_origin origin before entry (sets_ttl items) d.origin form refl so_far.under) default),
     )
+
+-- ---- directives that are refused
+
+origin_bad : (origin : Labels) (before : List Entry) (items : List RawItem) (above : Labels) (fault : Fault) → IsOrigin origin before above → OriginFaultUnder above (one_bare items) fault → StatementFault origin before (sets_origin items) fault
+origin_bad origin before (bare text ∷ []) above fault under bad = (above, (under, bad))
+origin_bad origin before items above fault under bad = bad
+
+pub origin_refused : (origin : Labels) (before : List Entry) (entry : Entry) (d : ParserState) (items : List RawItem) (fault : Fault) → IsStateAfter origin before d → statement_of entry ≡ sets_origin items → OriginFaultUnder d.origin (one_bare items) fault → EntryFault origin before entry fault
+origin_refused origin before entry d items fault so_far form bad =
+    of_statement (subst (λ f. StatementFault origin before f fault) (sym form) (origin_bad origin before items d.origin fault so_far.under bad))
+
+ttl_bad : (origin : Labels) (before : List Entry) (items : List RawItem) (fault : Fault) → DefaultTtlFault (one_bare items) fault → StatementFault origin before (sets_ttl items) fault
+ttl_bad origin before (bare text ∷ []) fault bad = bad
+ttl_bad origin before items fault bad = bad
+
+pub ttl_refused : (origin : Labels) (before : List Entry) (entry : Entry) (items : List RawItem) (fault : Fault) → statement_of entry ≡ sets_ttl items → DefaultTtlFault (one_bare items) fault → EntryFault origin before entry fault
+ttl_refused origin before entry items fault form bad =
+    of_statement (subst (λ f. StatementFault origin before f fault) (sym form) (ttl_bad origin before items fault bad))

@@ -1,5 +1,5 @@
 -- What an entry inherits is one thing at most, as is what two steps find one after the other.
-use Rattle.zone_text.proofs.Common.{Entry, Err, HasClass, HasHead, HasTtl, Head, IsClassWord, IsLastMinimum, IsLastOwner, IsOrigin, IsOwner, IsTime, List, Lower, MatchOption, Ok, Once, Option, Result, Some, Spells, SpellsAfter, Statement, States, StatesData, StatesMinimum, [], ap, class_word, inl, inr, latest, minimum, origin_text, owned, owner_text, refl, rules, stated_ttl, statement_of, subst, sym, unowned, ℕ, ◌∙◌, ◌∷◌, ◌≡◌, ◌⊎◌}
+use Rattle.zone_text.proofs.Common.{Data, Entry, Err, HasClass, HasContents, HasHeadOf, HasTtl, Head, IsClassWord, IsLastMinimum, IsLastOwner, IsOrigin, IsOwner, IsTime, Labels, List, Lower, MatchOption, Ok, Once, Option, Result, Some, Spells, SpellsAfter, Statement, States, StatesMinimum, [], ap, class_word, inl, inr, latest, minimum, origin_text, owned, owner_text, refl, rules, stated_ttl, statement_of, subst, sym, unowned, ℕ, ◌∙◌, ◌∷◌, ◌≡◌, ◌⊎◌}
 use Rattle.zone_rdata.specs.Spelling.{bare}
 
 pub match_once : (A B : Type 0) (o : Option A) (P : B → Type 0) (Q : A → B → Type 0) → Once B P → ((x : A) → Once B (Q x)) → (a b : B) → MatchOption o (P a) (λ x. Q x a) → MatchOption o (P b) (λ x. Q x b) → a ≡ b
@@ -52,8 +52,11 @@ class_once lower before entry a b x y =
 same_head : (h k : Head) → h.owner ≡ k.owner → h.class ≡ k.class → h.kind ≡ k.kind → h.items ≡ k.items → h ≡ k
 same_head h k a b c d = rw (a, b, c, d) refl
 
+same_data : (d e : Data) → d.class ≡ e.class → d.kind ≡ e.kind → d.octets ≡ e.octets → d ≡ e
+same_data d e a b c = rw (a, b, c) refl
+
 module _ (lower : Lower) (origin : List (List ℕ)) where
-  pub head_once : (before : List Entry) (entry : Entry) → Once Head (HasHead origin before entry)
+  pub head_once : (before : List Entry) (entry : Entry) → Once Head (HasHeadOf origin before entry)
   head_once before entry h k x y =
       let split : Some x.parts ≡ Some y.parts = sym x.split ∙ y.split in
       let parts : x.parts ≡ y.parts = cc in
@@ -65,17 +68,22 @@ module _ (lower : Lower) (origin : List (List ℕ)) where
       (lower.kind y.word h.kind k.kind (rw (← word) (x.named)) y.named)
       items
 
-  pub states_once : (before : List Entry) (head : Head) → Once (List ℕ) (StatesData origin before head)
-  states_once before head a b x y =
-      let same : x.above ≡ y.above = origin_once lower origin before x.above y.above x.under y.under in
-      lower.rdata y.above head.class head.kind head.items a b (subst (λ above. States above head.class head.kind head.items a) same x.states) y.states
+  pub contents_once : (before : List Entry) (entry : Entry) (owner other : Labels) (d e : Data) → HasContents origin before entry owner d → HasContents origin before entry other e → d ≡ e
+  contents_once before entry owner other d e x y =
+      let a : Head = record { owner = owner; class = d.class; kind = d.kind; items = x.items } in
+      let b : Head = record { owner = other; class = e.class; kind = e.kind; items = y.items } in
+      let head : a ≡ b = head_once before entry a b x.head y.head in
+      let class : d.class ≡ e.class = ap (λ (h : Head). h.class) head in
+      let kind : d.kind ≡ e.kind = ap (λ (h : Head). h.kind) head in
+      let items : x.items ≡ y.items = ap (λ (h : Head). h.items) head in
+      let above : x.above ≡ y.above = origin_once lower origin before x.above y.above x.under y.under in
+      let left : States y.above e.class e.kind y.items d.octets = rw (← above, ← class, ← kind, ← items) (x.states) in
+      let octets : d.octets ≡ e.octets = lower.rdata y.above e.class e.kind y.items d.octets e.octets left y.states in
+      same_data d e class kind octets
 
   pub minimum_once : (before : List Entry) (entry : Entry) → Once ℕ (StatesMinimum origin before entry)
-  minimum_once before entry a b x y =
-      let head : x.head ≡ y.head = head_once before entry x.head y.head x.has y.has in
-      let octets : x.octets ≡ y.octets = states_once before y.head x.octets y.octets (subst (λ h. StatesData origin before h x.octets) head x.rdata) y.rdata in
-      let left : minimum (record { class = x.head.class; kind = x.head.kind; octets = x.octets }) ≡ minimum (record { class = y.head.class; kind = y.head.kind; octets = y.octets }) = rw (head, octets) refl in
-      let values : Some a ≡ Some b = sym x.field ∙ (left ∙ y.field) in
+  minimum_once before entry a b (owner, d, has, field) (other, e, also, same) =
+      let values : Some a ≡ Some b = sym field ∙ (ap minimum (contents_once before entry owner other d e has also) ∙ same) in
       cc
 
   pub last_minimum_once : (before : List Entry) → Once ℕ (IsLastMinimum origin before)

@@ -1,6 +1,6 @@
 -- An entry of very many items has the fault that it has where some that spell strings are left out,
 -- and states nothing.
-use Rattle.zone_text.proofs.Common.{AllByRecursion, AreKept, AreShortened, Bool, Cuts, DecidesEntry, DirectiveFault, Entry, EntryFault, EntryStates, Err, Fault, HasHead, HasValue, Head, IsClassWord, IsOwner, IsWritten, KindFault, Labels, LeavesOut, List, MatchOption, None, Ok, OnOk, Option, OwnerFault, ParserState, Parts, PendingRecords, Place, RawItem, Record, Result, Some, Statement, StatesNothing, Token, Word, WordsFault, [], after_item, ap, are_many, arith, at_least, begin_with, class, class_among, class_word, decides_fault, decides_none, decides_one, directive, entry_of, false, fault_of_all, first_octet, flat_map, head_of, if◌then◌else◌, includes, inl, inr, is_blank, item_of, latest, length, no_items, of_directive, of_kind, of_owner, of_rdata, of_ttl, of_words, one_bare, or_else, owned, parts_after, parts_in, refl, rules, sets_origin, sets_ttl, state_none, statement_by, statement_of, subst, sym, true, ttl, ttl_among, unknown, unless_stated, unowned, word_after, ℕ, ⊤, ◌++◌, ◌+◌, ◌==◌, ◌∙◌, ◌∷◌, ◌≡◌, ◌≤◌}
+use Rattle.zone_text.proofs.Common.{AllByRecursion, AreKept, AreShortened, Bool, Cuts, Data, DecidesEntry, Entry, EntryFault, EntryStates, Err, Fault, HasContents, HasHeadOf, HasValue, Head, IsClassWord, IsOwner, IsWritten, Labels, LeavesOut, List, MatchOption, None, Ok, OnOk, Option, ParserState, Parts, PartsFault, PendingRecords, Place, RawItem, Record, Result, Some, Statement, StatementFault, StatesNothing, Token, Word, [], after_item, ap, are_many, arith, at_least, begin_with, class, class_among, class_word, data_of, decides_fault, decides_none, decides_one, directive, entry_of, false, fault_of_all, flat_map, if◌then◌else◌, includes, inl, inr, is_blank, item_of, latest, length, no_items, of_parts, of_rdata, of_statement, of_ttl, one_bare, option_or, owned, parts_after, parts_in, refl, rules, sets_origin, sets_ttl, slice_get, state_none, statement_by, statement_of, subst, sym, true, ttl, ttl_among, unknown, unless_stated, unowned, word_after, ℕ, ⊤, ◌++◌, ◌+◌, ◌==◌, ◌∙◌, ◌∷◌, ◌≡◌, ◌≤◌}
 use Rattle.zone_rdata.specs.Item.{bare, quoted}
 use Rattle.zone_text.proofs.Kept.{items_written}
 use Rattle.zone_text.proofs.WordsLeft.{class_kept, class_pushed, parts_by, ttl_kept, ttl_pushed}
@@ -127,14 +127,11 @@ forms_long first items kept long =
 -- ---- what such forms state
 
 module _ (origin : Labels) (before : List Entry) where
-  shown_directive : (fault : Fault) (form : Statement) → IsLong form → DirectiveFault origin before (shown form) fault ≡ DirectiveFault origin before form fault
-  shown_directive fault (sets_origin items) long = rw long refl
-  shown_directive fault (sets_ttl items) long = rw long refl
-  shown_directive fault form long = refl
-
-  shown_owner_fault : (fault : Fault) (form : Statement) → IsLong form → OwnerFault origin before (shown form) fault ≡ OwnerFault origin before form fault
-  shown_owner_fault fault (owned (bare text) items) long = refl
-  shown_owner_fault fault form long = refl
+  shown_fault : (fault : Fault) (form : Statement) → IsLong form → StatementFault origin before (shown form) fault ≡ StatementFault origin before form fault
+  shown_fault fault (sets_origin (bare text ∷ [])) long = cc
+  shown_fault fault (sets_ttl (bare text ∷ [])) long = cc
+  shown_fault fault (owned (bare text) items) long = refl
+  shown_fault fault form long = refl
 
   shown_owner : (name : Labels) (form : Statement) → IsLong form → IsOwner origin before (shown form) name ≡ IsOwner origin before form name
   shown_owner name (owned (bare text) items) long = refl
@@ -150,14 +147,17 @@ module _ (origin : Labels) (before : List Entry) where
 as_kept : (P : Statement → Type 0) → ((form : Statement) → IsLong form → P (shown form) ≡ P form) → (form other : Statement) → LongForms form other → P other → P form
 as_kept P same form other h p = subst (λ Q. Q) (sym (same other h.other_long) ∙ ap P h.same ∙ same form h.long) p
 
-kind_of_first : (item : RawItem) (items kept : List RawItem) (fault : Fault) → KindFault (item ∷ kept) fault → KindFault (item ∷ items) fault
-kind_of_first item items kept fault bad = search rules
+parts_of_first : (words : List Word) (item : RawItem) (items kept : List RawItem) (fault : Fault) → PartsFault words (item ∷ kept) fault → PartsFault words (item ∷ items) fault
+parts_of_first [] (bare text) items kept fault bad = bad
+parts_of_first [] (quoted text) items kept fault bad = bad
+parts_of_first (word ∷ words) item items kept fault (inl bad) = inl bad
+parts_of_first (word ∷ words) item items kept fault (inr more) = inr (more.0, parts_of_first words item items kept fault more.1)
 
-kind_fault : (items kept : List RawItem) (fault : Fault) → Long 65548 items kept → KindFault kept fault → KindFault items fault
-kind_fault items kept fault long bad =
+parts_fault : (words : List Word) (items kept : List RawItem) (fault : Fault) → Long 65548 items kept → PartsFault words kept fault → PartsFault words items fault
+parts_fault words items kept fault long bad =
     let begin = begin_with 65548 65547 items kept (omega arith) long.short in
-    let first : KindFault (begin.item ∷ begin.others) fault = subst (λ t. KindFault t fault) begin.are_kept bad in
-    subst (λ t. KindFault t fault) (sym begin.whole) (kind_of_first begin.item begin.rest begin.others fault first)
+    let first : PartsFault words (begin.item ∷ begin.others) fault = subst (λ t. PartsFault words t fault) begin.are_kept bad in
+    subst (λ t. PartsFault words t fault) (sym begin.whole) (parts_of_first words begin.item begin.rest begin.others fault first)
 
 -- ---- the entry
 
@@ -169,10 +169,10 @@ head_with head items = record { owner = head.owner; class = head.class; kind = h
 
 record LongHead (origin : Labels) (before : List Entry) (entry : Entry) (head : Head) : Type 0 where
   items : List RawItem
-  has : HasHead origin before entry (head_with head items)
+  has : HasHeadOf origin before entry (head_with head items)
   long : Long 65543 items head.items
 
-head_long : (origin : Labels) (before : List Entry) (entry : Entry) (kept : List RawItem) (head : Head) → Long 65552 entry.items kept → HasHead origin before (with_items entry kept) head → LongHead origin before entry head
+head_long : (origin : Labels) (before : List Entry) (entry : Entry) (kept : List RawItem) (head : Head) → Long 65552 entry.items kept → HasHeadOf origin before (with_items entry kept) head → LongHead origin before entry head
 head_long origin before entry kept head long has =
     let forms = forms_long entry.first entry.items kept long in
     let found = forms.parts has.parts has.split in
@@ -190,7 +190,7 @@ head_long origin before entry kept head long has =
         split = found.split;
         owner = as_kept _ (shown_owner origin before head.owner) (statement_of entry) _ forms has.owner;
         words = subst (AllByRecursion HasValue) (sym found.long.words) has.words;
-        class = subst (λ o. MatchOption (or_else o (latest class_word before)) (head.class ≡ 1) (λ text. IsClassWord text head.class)) classes has.class;
+        class = subst (λ o. MatchOption (option_or o (latest class_word before)) (head.class ≡ 1) (λ text. IsClassWord text head.class)) classes has.class;
         rest = begin.whole ∙ ap (λ item. item ∷ begin.rest) same;
         named = has.named;
         kind = has.kind;
@@ -198,28 +198,25 @@ head_long origin before entry kept head long has =
       long = record { short = at_least 65547 65543 begin.rest head.items (omega arith) (subst (AreShortened 65547 begin.rest) tails begin.short); written = written.1 };
     }
 
+-- so many items state no data
+contents_none : (origin : Labels) (before : List Entry) (entry : Entry) (kept : List RawItem) (owner : Labels) (rdata : Data) → Long 65552 entry.items kept → HasContents origin before (with_items entry kept) owner rdata → ⊥
+contents_none origin before entry kept owner rdata long has =
+    let found = head_long origin before entry kept (record { owner = owner; class = rdata.class; kind = rdata.kind; items = has.items }) long has.head in
+    state_none has.above rdata.class rdata.kind found.items has.items rdata.octets found.long.written found.long.short has.states
+
 fault_kept : (origin : Labels) (before : List Entry) (entry : Entry) (kept : List RawItem) (fault : Fault) → Long 65552 entry.items kept → EntryFault origin before (with_items entry kept) fault → EntryFault origin before entry fault
-fault_kept origin before entry kept fault long (of_directive bad) = of_directive (as_kept _ (shown_directive origin before fault) (statement_of entry) _ (forms_long entry.first entry.items kept long) bad)
-fault_kept origin before entry kept fault long (of_owner bad) = of_owner (as_kept _ (shown_owner_fault origin before fault) (statement_of entry) _ (forms_long entry.first entry.items kept long) bad)
-fault_kept origin before entry kept fault long (of_words owner parts is split bad) =
+fault_kept origin before entry kept fault long (of_statement bad) = of_statement (as_kept _ (shown_fault origin before fault) (statement_of entry) _ (forms_long entry.first entry.items kept long) bad)
+fault_kept origin before entry kept fault long (of_parts owner parts is split bad) =
     let forms = forms_long entry.first entry.items kept long in
     let found = forms.parts parts split in
-    of_words owner found.parts (as_kept _ (shown_owner origin before owner) (statement_of entry) _ forms is) found.split (subst (λ words. WordsFault words fault) (sym found.long.words) bad)
-fault_kept origin before entry kept fault long (of_kind owner parts is split have bad) =
-    let forms = forms_long entry.first entry.items kept long in
-    let found = forms.parts parts split in
-    of_kind owner found.parts (as_kept _ (shown_owner origin before owner) (statement_of entry) _ forms is) found.split (subst (AllByRecursion HasValue) (sym found.long.words) have) (kind_fault found.parts.rest parts.rest fault found.long.long bad)
-fault_kept origin before entry kept fault long (of_rdata head above has under bad) =
-    let found = head_long origin before entry kept head long has in
-    of_rdata (head_with head found.items) above found.has under (fault_of_all above head.class head.kind found.items head.items fault found.long.written found.long.short bad)
-fault_kept origin before entry kept fault long (of_ttl head octets has states bad) =
-    let found = head_long origin before entry kept head long has in
-    absurd (state_none states.above head.class head.kind found.items head.items octets found.long.written found.long.short states.states)
+    of_parts owner found.parts (as_kept _ (shown_owner origin before owner) (statement_of entry) _ forms is) found.split (parts_fault found.parts.words found.parts.rest parts.rest fault found.long.long (subst (λ words. PartsFault words parts.rest fault) (sym found.long.words) bad))
+fault_kept origin before entry kept fault long (of_rdata owner number kind items above has under bad) =
+    let found = head_long origin before entry kept (record { owner = owner; class = number; kind = kind; items = items }) long has in
+    of_rdata owner number kind found.items above found.has under (fault_of_all above number kind found.items items fault found.long.written found.long.short bad)
+fault_kept origin before entry kept fault long (of_ttl owner rdata has bad) = absurd (contents_none origin before entry kept owner rdata long has)
 
 record_kept : (origin : Labels) (before : List Entry) (entry : Entry) (kept : List RawItem) (r : Record) → Long 65552 entry.items kept → EntryStates origin before (with_items entry kept) r → ⊥
-record_kept origin before entry kept r long states =
-    let found = head_long origin before entry kept (head_of r states.items) long states.head in
-    state_none states.rdata.above r.class r.kind found.items states.items r.octets found.long.written found.long.short states.rdata.states
+record_kept origin before entry kept r long states = contents_none origin before entry kept r.owner (data_of r) long states.contents
 
 decides_by : (origin : Labels) (before : List Entry) (entry : Entry) (kept : List RawItem) (place : Place) (old new : PendingRecords) (next : ParserState) → Long 65552 entry.items kept → DecidesEntry origin before (with_items entry kept) place old new next → DecidesEntry origin before entry place old new next
 decides_by origin before entry kept place old new next long (decides_none leaves same) = absurd (none_stated origin before _ (forms_long entry.first entry.items kept long).other_long leaves.0)
@@ -232,8 +229,8 @@ decides_kept origin before entry kept place old new next written (inl all) h = s
 decides_kept origin before entry kept place old new next written (inr short) h = decides_by origin before entry kept place old new next (record { short = short; written = written }) h
 
 -- what an entry of these octets and items decides, an entry decides of whose items these are kept
-pub entry_kept : {T E : Type 0} (result : Result T E) (origin : Labels) (before : List Entry) (line : ℕ) (octets : List ℕ) (tokens : List Token) (kept : List RawItem) (place : Place) (old new : PendingRecords) (next : ParserState) → Cuts octets tokens → AreKept (flat_map item_of tokens) kept → OnOk result (DecidesEntry origin before (record { line = line; first = first_octet octets; items = kept }) place old new next) → OnOk result (DecidesEntry origin before (entry_of line tokens) place old new next)
+pub entry_kept : {T E : Type 0} (result : Result T E) (origin : Labels) (before : List Entry) (line : ℕ) (octets : List ℕ) (tokens : List Token) (kept : List RawItem) (place : Place) (old new : PendingRecords) (next : ParserState) → Cuts octets tokens → AreKept (flat_map item_of tokens) kept → OnOk result (DecidesEntry origin before (record { line = line; first = slice_get octets 0; items = kept }) place old new next) → OnOk result (DecidesEntry origin before (entry_of line tokens) place old new next)
 entry_kept (Ok x) origin before line octets tokens kept place old new next cut are h =
     decides_kept origin before (entry_of line tokens) kept place old new next (items_written tokens cut.each) are
-    (subst (λ t. DecidesEntry origin before (record { line = line; first = first_octet t; items = kept }) place old new next) cut.whole h)
+    (subst (λ t. DecidesEntry origin before (record { line = line; first = slice_get t 0; items = kept }) place old new next) cut.whole h)
 entry_kept (Err e) origin before line octets tokens kept place old new next cut are h = tt

@@ -1,8 +1,9 @@
 -- Lines of items, and entries that state every part of a record.
-use Rattle.zone_text.proofs.Common.{AllByRecursion, AllFollow, Cuts, Entry, EntryStates, IfSome, IsItem, IsOrigin, IsToken, Labels, List, MayFollow, Option, Parts, Record, Some, StatesWhole, Token, [], arith, begins_with_digit, blank, class, common_steps, cut_from, depth_after, entries_of, entry_of, false, flat_map, in_front_of, is_blank, is_class_word, item_of, line_feed, line_of, owned, parts_after, parts_of, refl, rules, statement_by, statement_of, text, true, ttl, zero, ℕ, ◌∙◌, ◌∷◌, ◌≡◌, ◌≢◌}
+use Rattle.zone_text.proofs.Common.{AllByRecursion, AllFollow, Bool, Cuts, Entry, EntryStates, IfSome, IsItem, IsOrigin, IsToken, Labels, List, MayFollow, None, Option, Parts, Record, Some, StatesWhole, Token, Word, [], arith, begins_with_digit, blank, class, common_steps, cut_from, depth_after, entries_of, entry_of, false, flat_map, if◌then◌else◌, in_front_of, is_blank, is_class_word, item_of, line_feed, line_of, owned, parts_after, parts_in, refl, rules, statement_by, statement_of, text, true, ttl, unless_stated, zero, ℕ, ◌∙◌, ◌∷◌, ◌≡◌, ◌≢◌}
 use Rattle.zone_rdata.specs.Spelling.{RawItem}
 use Rattle.zone_rdata.specs.Spelling as raw
 use Rattle.zone_text.proofs.ClassWords.{time_first, class_word_first, class_word_known}
+use Rattle.zone_text.proofs.WordsLeft.{next_part}
 
 -- ---- the line of items
 
@@ -56,8 +57,17 @@ line_items items = refl
 owned_form : (first : Option ℕ) (item : RawItem) (items : List RawItem) → IfSome first (λ c. (is_blank c ≡ false) × (c ≢ 36)) → statement_by first (item ∷ items) ≡ owned item items
 owned_form first item items plain = search rules
 
+-- after a TTL and a class comes no word
+third_by : (a b : Bool) (s t : List ℕ) (v w : Word) → (if a then unless_stated (Some s) v else if b then unless_stated (Some t) w else None) ≡ None
+third_by true b s t v w = refl
+third_by false true s t v w = refl
+third_by false false s t v w = refl
+
 whole_parts : (ttl_word class_word kind_word : List ℕ) (items : List RawItem) → begins_with_digit ttl_word ≡ true → begins_with_digit class_word ≡ false → is_class_word class_word ≡ true → parts_after [] (raw.bare ttl_word ∷ raw.bare class_word ∷ raw.bare kind_word ∷ items) ≡ record { words = ttl ttl_word ∷ class class_word ∷ []; rest = raw.bare kind_word ∷ items }
-whole_parts ttl_word class_word kind_word items is_ttl no_ttl is_class = grind (arith, common_steps)
+whole_parts ttl_word class_word kind_word items is_ttl no_ttl is_class =
+    next_part [] (raw.bare ttl_word) (raw.bare class_word ∷ raw.bare kind_word ∷ items) (Some (ttl ttl_word)) (rw is_ttl refl)
+    ∙ (next_part (ttl ttl_word ∷ []) (raw.bare class_word) (raw.bare kind_word ∷ items) (Some (class class_word)) (rw (no_ttl, is_class) refl)
+    ∙ next_part (ttl ttl_word ∷ class class_word ∷ []) (raw.bare kind_word) items None (third_by (begins_with_digit kind_word) (is_class_word kind_word) ttl_word class_word (ttl kind_word) (class kind_word)))
 
 -- the form of the entry is that of a record with its owner
 pub whole_form : (entry : Entry) (r : Record) (s : StatesWhole entry r) → statement_of entry ≡ owned (raw.bare s.owner_text) (raw.bare s.ttl_text ∷ raw.bare s.class_word ∷ raw.bare s.kind_word ∷ s.items)
@@ -67,21 +77,25 @@ pub whole_stated : (origin above : Labels) (before : List Entry) (entry : Entry)
 whole_stated origin above before entry r under s =
     let parts : Parts = record { words = ttl s.ttl_text ∷ class s.class_word ∷ []; rest = raw.bare s.kind_word ∷ s.items } in
     let form = whole_form entry r s in
-    let split : parts_of entry ≡ Some parts = rw (form, whole_parts s.ttl_text s.class_word s.kind_word s.items (time_first _ _ s.ttl) (class_word_first _ _ s.class) (class_word_known _ _ s.class)) refl in
+    let split : parts_in (statement_of entry) ≡ Some parts = rw (form, whole_parts s.ttl_text s.class_word s.kind_word s.items (time_first _ _ s.ttl) (class_word_first _ _ s.class) (class_word_known _ _ s.class)) refl in
     record {
-      items = s.items;
-      head = record {
-        parts = parts;
-        word = s.kind_word;
-        split = split;
-        owner = rw form (above, (under, s.owner above));
-        words = ((r.ttl, record { time = s.ttl; short = s.fits.ttl }), ((r.class, (s.class, s.fits.rdata.class)), tt));
-        class = rw split s.class;
-        rest = refl;
-        named = s.kind;
-        kind = s.fits.rdata.kind;
+      contents = record {
+        items = s.items;
+        above = above;
+        head = record {
+          parts = parts;
+          word = s.kind_word;
+          split = split;
+          owner = rw form (above, (under, s.owner above));
+          words = ((r.ttl, record { time = s.ttl; short = s.fits.ttl }), ((r.class, (s.class, s.fits.rdata.class)), tt));
+          class = rw split s.class;
+          rest = refl;
+          named = s.kind;
+          kind = s.fits.rdata.kind;
+        };
+        under = under;
+        states = s.rdata above;
       };
-      rdata = record { above = above; under = under; states = s.rdata above };
       ttl = rw split s.ttl;
       fits = s.fits;
     }

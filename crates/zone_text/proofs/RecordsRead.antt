@@ -1,5 +1,5 @@
 -- A record entry whose parts are read in a known state: what it states, or why it is refused.
-use Rattle.zone_text.proofs.Common.{BadTtl, Data, Entry, EntryFault, EntryStates, Fault, HasHead, HasOwnerOrNone, HasTtl, Head, IsDataFault, IsLastMinimum, IsLastOwner, IsOneOrNone, IsOwner, IsReadTo, IsRecord, IsRecordEntry, IsStateAfter, IsTtlOrNone, Labels, List, Lower, MatchOption, NoOwner, NoTtl, None, Option, ParserState, RawItem, Record, Some, States, StatesData, ap, long, minimum, none, of_rdata, of_ttl, option_or, owned, owner_text, parts_in, refl, statement_of, subst, sym, ttl_text, with_owner, ℕ, ◌<◌, ◌∙◌, ◌∷◌, ◌≡◌}
+use Rattle.zone_text.proofs.Common.{BadTtl, Data, Entry, EntryFault, EntryStates, Fault, HasContents, HasHeadOf, HasOwnerOrNone, HasTtl, Head, IsDataFault, IsLastMinimum, IsLastOwner, IsOneOrNone, IsOwner, IsReadTo, IsRecord, IsRecordEntry, IsStateAfter, IsTtlOrNone, Labels, List, Lower, MatchOption, NoOwner, NoTtl, None, Option, ParserState, RawItem, Record, Some, States, ap, long, minimum, none, of_rdata, of_ttl, option_or, owned, owner_text, parts_in, refl, statement_of, subst, sym, ttl_text, with_owner, ℕ, ◌<◌, ◌∙◌, ◌∷◌, ◌≡◌}
 use Rattle.zone_rdata.specs.Item.{bare, quoted}
 use Rattle.zone_text.proofs.Inheriting.{has_no_ttl, has_ttl, next_minimum, record_leaves, ttl_stated}
 
@@ -36,10 +36,10 @@ module _ (origin : Labels) (before : List Entry) (entry : Entry) where
 
   -- ---- data and TTL
 
-  pub rdata_refused : (d : ParserState) (name : Labels) (items : List RawItem) (head : Head) (fault : Fault) → IsRecordEntry origin before entry d name items → HasHead origin before entry head → IsDataFault d.origin head.class head.kind head.items fault → EntryFault origin before entry fault
-  rdata_refused d name items head fault is has bad = of_rdata head d.origin has is.state.under bad
+  pub rdata_refused : (d : ParserState) (name : Labels) (items : List RawItem) (head : Head) (fault : Fault) → IsRecordEntry origin before entry d name items → HasHeadOf origin before entry head → IsDataFault d.origin head.class head.kind head.items fault → EntryFault origin before entry fault
+  rdata_refused d name items head fault is has bad = of_rdata head.owner head.class head.kind head.items d.origin has is.state.under bad
 
-  pub read_to : (d : ParserState) (name : Labels) (items : List RawItem) (head : Head) (own : Option ℕ) (rdata : Data) (a stated soa last result found : Option ℕ) → IsRecordEntry origin before entry d name items → HasHead origin before entry head × IsTtlOrNone (ttl_text (statement_of entry)) own → rdata.class ≡ head.class → rdata.kind ≡ head.kind → States d.origin head.class head.kind head.items rdata.octets → a ≡ option_or own d.default_ttl → stated ≡ option_or a d.last_ttl → soa ≡ minimum rdata → last ≡ option_or soa d.minimum → result ≡ option_or stated last → result ≡ found → IsReadTo origin before entry d head own rdata last found
+  pub read_to : (d : ParserState) (name : Labels) (items : List RawItem) (head : Head) (own : Option ℕ) (rdata : Data) (a stated soa last result found : Option ℕ) → IsRecordEntry origin before entry d name items → HasHeadOf origin before entry head × IsTtlOrNone (ttl_text (statement_of entry)) own → rdata.class ≡ head.class → rdata.kind ≡ head.kind → States d.origin head.class head.kind head.items rdata.octets → a ≡ option_or own d.default_ttl → stated ≡ option_or a d.last_ttl → soa ≡ minimum rdata → last ≡ option_or soa d.minimum → result ≡ option_or stated last → result ≡ found → IsReadTo origin before entry d head own rdata last found
   read_to d name items head own rdata a stated soa last result found is has class kind states first second of_soa least third is_found = record {
     held = is.held;
     state = is.state;
@@ -52,20 +52,23 @@ module _ (origin : Labels) (before : List Entry) (entry : Entry) where
     ttl = sym is_found ∙ (third ∙ ap (λ (o : Option ℕ). option_or o last) (second ∙ ap (λ (o : Option ℕ). option_or o d.last_ttl) first));
   }
 
-  states_data : (d : ParserState) (head : Head) (own : Option ℕ) (rdata : Data) (last found : Option ℕ) → IsReadTo origin before entry d head own rdata last found → StatesData origin before head rdata.octets
-  states_data d head own rdata last found is = record { above = d.origin; under = is.state.under; states = is.states }
+abbrev data_with : Head → Data → Data
+data_with head rdata = record { class = head.class; kind = head.kind; octets = rdata.octets }
 
-same_data : (d : Data) (class kind : ℕ) → d.class ≡ class → d.kind ≡ kind → d ≡ record { class = class; kind = kind; octets = d.octets }
-same_data d class kind a b = rw (a, b) refl
+same_data : (head : Head) (d : Data) → d.class ≡ head.class → d.kind ≡ head.kind → d ≡ data_with head d
+same_data head d a b = rw (a, b) refl
+
+has_contents : (origin : Labels) (before : List Entry) (entry : Entry) (d : ParserState) (head : Head) (own : Option ℕ) (rdata : Data) (last found : Option ℕ) → IsReadTo origin before entry d head own rdata last found → HasContents origin before entry head.owner (data_with head rdata)
+has_contents origin before entry d head own rdata last found is = record { items = head.items; above = d.origin; head = is.has; under = is.state.under; states = is.states }
 
 last_is : Lower → (origin : Labels) (before : List Entry) (entry : Entry) (d : ParserState) (head : Head) (own : Option ℕ) (rdata : Data) (last found : Option ℕ) → IsReadTo origin before entry d head own rdata last found → IsOneOrNone (IsLastMinimum origin (entry ∷ before)) last
 last_is lower origin before entry d head own rdata last found is =
-    subst (IsOneOrNone (IsLastMinimum origin (entry ∷ before))) (sym is.least)
-    (next_minimum lower origin before entry head rdata.octets (minimum rdata) d.minimum is.has (states_data origin before entry d head own rdata last found is) (ap minimum (same_data rdata head.class head.kind is.class is.kind)) is.state.minimum)
+    subst (IsOneOrNone (IsLastMinimum origin (entry ∷ before))) (ap (λ (r : Data). option_or (minimum r) d.minimum) (sym (same_data head rdata is.class is.kind)) ∙ sym is.least)
+    (next_minimum lower origin before entry head.owner (data_with head rdata) d.minimum (has_contents origin before entry d head own rdata last found is) is.state.minimum)
 
 pub no_ttl : Lower → (origin : Labels) (before : List Entry) (entry : Entry) (d : ParserState) (head : Head) (own : Option ℕ) (rdata : Data) (last : Option ℕ) → IsReadTo origin before entry d head own rdata last None → EntryFault origin before entry NoTtl
 no_ttl lower origin before entry d head own rdata last is =
-    of_ttl head rdata.octets is.has (states_data origin before entry d head own rdata last None is)
+    of_ttl head.owner (data_with head rdata) (has_contents origin before entry d head own rdata last None is)
     (none (has_no_ttl origin before entry (option_or (option_or own d.default_ttl) d.last_ttl) last (ttl_stated origin before entry (with_owner is.held d) own is.state is.own_ttl) (last_is lower origin before entry d head own rdata last None is) (sym is.ttl)))
 
 ttl_is : Lower → (origin : Labels) (before : List Entry) (entry : Entry) (d : ParserState) (head : Head) (own : Option ℕ) (rdata : Data) (last : Option ℕ) (n : ℕ) → IsReadTo origin before entry d head own rdata last (Some n) → HasTtl origin before entry n
@@ -74,7 +77,7 @@ ttl_is lower origin before entry d head own rdata last n is =
 
 pub long_ttl : Lower → (origin : Labels) (before : List Entry) (entry : Entry) (d : ParserState) (head : Head) (own : Option ℕ) (rdata : Data) (last : Option ℕ) (n : ℕ) → IsReadTo origin before entry d head own rdata last (Some n) → 2147483647 < n → EntryFault origin before entry BadTtl
 long_ttl lower origin before entry d head own rdata last n is over =
-    of_ttl head rdata.octets is.has (states_data origin before entry d head own rdata last (Some n) is) (long n (ttl_is lower origin before entry d head own rdata last n is) over)
+    of_ttl head.owner (data_with head rdata) (has_contents origin before entry d head own rdata last (Some n) is) (long n (ttl_is lower origin before entry d head own rdata last n is) over)
 
 -- ---- the record
 
@@ -82,9 +85,7 @@ pub states_record : Lower → (origin : Labels) (before : List Entry) (entry : E
 states_record lower origin before entry d head own rdata last n r is e fits =
     let same : r ≡ record { owner = head.owner; class = head.class; kind = head.kind; ttl = n; octets = rdata.octets } = e ∙ rw (is.class, is.kind) refl in
     subst (EntryStates origin before entry) (sym same) (record {
-      items = head.items;
-      head = is.has;
-      rdata = states_data origin before entry d head own rdata last (Some n) is;
+      contents = has_contents origin before entry d head own rdata last (Some n) is;
       ttl = ttl_is lower origin before entry d head own rdata last n is;
       fits = subst IsRecord same fits;
     })

@@ -1,5 +1,5 @@
 -- Items that stand as they are printed are the items of one line.
-use Rattle.zone_text.proofs.Common.{AllByRecursion, IfSome, IsItem, IsUnit, List, Token, Written, [], ap, append_assoc, arith, bare, ends_item, false, first_octet, flat_map, is_blank, item_of, join_with_byte, length, line_of, map, quoted, refl, rules, sym, text, text_of, token_text, written_text, ℕ, ◌++◌, ◌<◌, ◌∷◌, ◌≡◌, ◌≢◌}
+use Rattle.zone_text.proofs.Common.{AllByRecursion, IfSome, IsItem, IsUnit, List, Token, Written, [], ap, append_assoc, arith, bare, ends_item, false, flat_map, is_blank, item_of, join_with_byte, length, line_of, map, quoted, refl, rules, slice_get, sym, text, text_of, token_text, written_text, ℕ, ◌++◌, ◌<◌, ◌∷◌, ◌≡◌, ◌≢◌}
 use Rattle.zone_name.proofs.Bare.{StandsBare, not_bare}
 use Rattle.zone_rdata.specs.Spelling.{RawItem}
 use Rattle.zone_rdata.specs.Spelling as raw
@@ -74,12 +74,12 @@ tokens_of items stand = record { tokens = tokens_for items stand; each = are_for
 abbrev pub BeginsOwner : ℕ → Type 0
 BeginsOwner c = (is_blank c ≡ false) × (c ≢ 36)
 
-unit_begins : (w : Written) (rest : List ℕ) → IsUnit not_bare w → IfSome (first_octet (text_of w ++ rest)) BeginsOwner
+unit_begins : (w : Written) (rest : List ℕ) → IsUnit not_bare w → IfSome (slice_get (text_of w ++ rest) 0) BeginsOwner
 unit_begins w rest is = search rules
 
-units_begin : (units : List Written) (rest : List ℕ) → 0 < length units → AllByRecursion (IsUnit not_bare) units → IfSome (first_octet (written_text units ++ rest)) BeginsOwner
+units_begin : (units : List Written) (rest : List ℕ) → 0 < length units → AllByRecursion (IsUnit not_bare) units → IfSome (slice_get (written_text units ++ rest) 0) BeginsOwner
 units_begin [] rest some each = absurd (omega arith)
 units_begin (w ∷ units) rest some each = search rules
 
-pub text_begins : (octets rest : List ℕ) → StandsBare octets → IfSome (first_octet (octets ++ rest)) BeginsOwner
+pub text_begins : (octets rest : List ℕ) → StandsBare octets → IfSome (slice_get (octets ++ rest) 0) BeginsOwner
 text_begins octets rest stands = search (rules, units_begin)

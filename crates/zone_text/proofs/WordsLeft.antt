@@ -1,5 +1,5 @@
 -- The words before a record's type, read from the left.
-use Rattle.zone_text.proofs.Common.{AllByRecursion, AllByRecursion-append, AreWordsOf, Bool, Fault, HasValue, HaveValues, IsClass, IsClassWord, IsSomeAnd, IsTtl, Item, List, MatchOption, None, NothingIs, Option, Parts, RawItem, Some, Word, WordFault, Words, WordsFault, [], add-one, ap, append-nil, append_assoc, begins_with_digit, class, class_among, drop, drop-cons, drop-map, false, get_or, inl, inr, is_class_word, is_some, length, map, parts_after, raw, refl, rules, subst, sym, true, ttl, ttl_among, word_after, ℕ, ◌++◌, ◌+◌, ◌<◌, ◌∙◌, ◌∷◌, ◌≡◌}
+use Rattle.zone_text.proofs.Common.{AllByRecursion, AllByRecursion-append, AreWordsOf, Bool, Fault, HasValue, HaveValues, IsClass, IsClassWord, IsSomeAnd, IsTtl, Item, List, MatchOption, None, NothingIs, Option, Parts, PartsFault, RawItem, Some, Word, WordFault, Words, [], add-one, ap, append-nil, append_assoc, begins_with_digit, class, class_among, drop, drop-cons, drop-map, false, get_or, inl, inr, is_class_word, is_some, length, map, parts_after, raw, refl, rules, subst, sym, true, ttl, ttl_among, word_after, ℕ, ◌++◌, ◌+◌, ◌<◌, ◌∙◌, ◌∷◌, ◌≡◌}
 use Rattle.zone_rdata.specs.Item.{bare}
 use Rattle.zone_text.proofs.ClassWords.{class_word_of, class_word_known}
 
@@ -113,12 +113,12 @@ extends : (items : List RawItem) → Extends items
 extends [] words = ([], sym (append-nil words))
 extends (item ∷ items) words = extend_by words item items (word_after words item) (extends items)
 
-leftmost : (words others : List Word) (word : Word) (fault : Fault) → AllByRecursion HasValue words → WordFault word fault → WordsFault (words ++ word ∷ others) fault
-leftmost [] others word fault have bad = inl bad
-leftmost (w ∷ words) others word fault have bad = inr (have.0, leftmost words others word fault have.1 bad)
+leftmost : (words others : List Word) (word : Word) (rest : List RawItem) (fault : Fault) → AllByRecursion HasValue words → WordFault word fault → PartsFault (words ++ word ∷ others) rest fault
+leftmost [] others word rest fault have bad = inl bad
+leftmost (w ∷ words) others word rest fault have bad = inr (have.0, leftmost words others word rest fault have.1 bad)
 
 -- the next item is a word without a value
-pub read_fault : (items rest more : List RawItem) (v : Words) (item : RawItem) (fault : Fault) → ReadsWords items v rest → rest ≡ item ∷ more → ((words : List Word) → HaveValues words v → IsSomeAnd (word_after words item) (λ word. WordFault word fault)) → WordsFault (parts_after [] items).words fault
+pub read_fault : (items rest more : List RawItem) (v : Words) (item : RawItem) (fault : Fault) → ReadsWords items v rest → rest ≡ item ∷ more → ((words : List Word) → HaveValues words v → IsSomeAnd (word_after words item) (λ word. WordFault word fault)) → PartsFault (parts_after [] items).words (parts_after [] items).rest fault
 read_fault items rest more v item fault reads front some =
     let found = some_of (λ word. WordFault word fault) (word_after reads.words item) (some reads.words reads.have) in
     let parts : parts_after [] items ≡ parts_after (reads.words ++ found.0 ∷ []) more =
@@ -128,8 +128,8 @@ read_fault items rest more v item fault reads front some =
     let words : (parts_after [] items).words ≡ reads.words ++ found.0 ∷ others.0 =
     ap (λ p. p.words) parts ∙ (others.1 ∙ append_assoc reads.words (found.0 ∷ []) others.0)
     in
-    let P : List Word → Type 0 = λ ws. WordsFault ws fault in
-    subst P (sym words) (leftmost reads.words others.0 found.0 fault reads.have.each found.1.1)
+    let P : List Word → Type 0 = λ ws. PartsFault ws (parts_after [] items).rest fault in
+    subst P (sym words) (leftmost reads.words others.0 found.0 _ fault reads.have.each found.1.1)
 
 -- the item at an index is the first of those from there on
 pub item_at : (items : List Item) (i : ℕ) (d x : Item) → i < length items → get_or items i d ≡ x → drop i (map raw items) ≡ raw x ∷ drop (i + 1) (map raw items)

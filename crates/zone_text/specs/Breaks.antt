@@ -26,8 +26,7 @@ pub data IsBroken (depth : ℕ) (rest : List ℕ) : Fault → Type 0 where
 abbrev pub MayEndBefore : List Token → List ℕ → Type 0
 MayEndBefore [] rest = ⊤
 MayEndBefore (comment octets ∷ []) rest = rest ≡ []
-MayEndBefore (p ∷ []) rest = ⊤
-MayEndBefore (p ∷ q ∷ tokens) rest = MayEndBefore (q ∷ tokens) rest
+MayEndBefore (p ∷ tokens) rest = MayEndBefore tokens rest
 
 -- The text breaks after these tokens: they are the tokens of its beginning, and after them, at
 -- their depth, stands what breaks it.

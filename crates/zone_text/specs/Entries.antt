@@ -1,6 +1,6 @@
 -- The entries of a master file (RFC 1035 5.1): its tokens, cut after each line feed outside
 -- parentheses.
-use Rattle.std.specs.Prelude.{ℕ, zero, suc, ◌+◌, List, [], ◌∷◌, ◌++◌, ◌==◌, count_by, Option, Some, None}
+use Rattle.std.specs.Prelude.{ℕ, zero, suc, ◌+◌, List, [], ◌∷◌, ◌++◌, ◌==◌, count_by, slice_get, Option}
 use Rattle.std.specs.List.{flat_map}
 use Rattle.zone_rdata.specs.Spelling.{RawItem}
 use Rattle.zone_rdata.specs.Spelling as raw
@@ -22,15 +22,11 @@ in_front p (entry ∷ ended) open_tokens =
 abbrev pub in_front_of : Token → Cut → Cut
 in_front_of p rest = in_front p rest.ended rest.open_tokens
 
--- a line feed outside parentheses ends an entry
-abbrev pub ending_one : Cut → Cut
-ending_one rest =
-    record { ended = (line_feed ∷ []) ∷ rest.ended; open_tokens = rest.open_tokens }
-
--- the entries of tokens, from a depth on
+-- the entries of tokens, from a depth on: a line feed outside parentheses ends one
 abbrev pub cut_from : ℕ → List Token → Cut
 cut_from depth [] = record { ended = []; open_tokens = [] }
-cut_from zero (line_feed ∷ tokens) = ending_one (cut_from zero tokens)
+cut_from zero (line_feed ∷ tokens) =
+    let rest = cut_from zero tokens in record rest { ended = (line_feed ∷ []) ∷ rest.ended }
 cut_from depth (opening ∷ tokens) = in_front_of opening (cut_from (suc depth) tokens)
 cut_from zero (closing ∷ tokens) = in_front_of closing (cut_from zero tokens)
 cut_from (suc depth) (closing ∷ tokens) = in_front_of closing (cut_from depth tokens)
@@ -47,10 +43,6 @@ pub record Entry : Type 0 where
   pub first : Option ℕ
   pub items : List RawItem
 
-abbrev pub first_octet : List ℕ → Option ℕ
-first_octet [] = None
-first_octet (c ∷ octets) = Some c
-
 abbrev pub item_of : Token → List RawItem
 item_of (bare units) = raw.bare (written_text units) ∷ []
 item_of (quoted units) = raw.quoted (written_text units) ∷ []
@@ -58,7 +50,7 @@ item_of p = []
 
 abbrev pub entry_of : ℕ → List Token → Entry
 entry_of line tokens =
-    record { line = line; first = first_octet (text tokens); items = flat_map item_of tokens }
+    record { line = line; first = slice_get (text tokens) 0; items = flat_map item_of tokens }
 
 -- an entry's line is 1 and the line feeds before its first octet
 abbrev pub numbered : ℕ → List (List Token) → List Entry

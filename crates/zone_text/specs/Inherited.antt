@@ -1,35 +1,28 @@
 -- What an entry inherits from the entries before it (RFC 1035 5.1, RFC 2308 4). They come the
 -- latest first.
 use Rattle.std.specs.Prelude.{◌≡◌, ℕ, ◌≤◌, List, [], ◌∷◌, Option, Some, None, MatchOption, option_and_then}
+use Rattle.std.specs.Option.{option_or}
 use Rattle.zone_name.specs.Common.{Labels}
 use Rattle.zone_name.specs.Spelling.{Spells}
 use Rattle.zone_rdata.specs.Number.{IsTime}
-use Rattle.zone_rdata.specs.Spelling.{RawItem, bare}
+use Rattle.zone_rdata.specs.Spelling.{bare}
 use Rattle.zone_rdata.specs.Words.{IsClassWord}
 use Rattle.zone_text.specs.Entries.{Entry}
 use Rattle.zone_text.specs.Statements.{Statement, sets_origin, sets_ttl, owned, unowned, statement_of, Parts, parts_in, ttl_among, class_among}
 
-abbrev pub or_else : Option (List ℕ) → Option (List ℕ) → Option (List ℕ)
-or_else None other = other
-or_else (Some text) other = Some text
-
 -- what the latest of the entries states that states any
 abbrev pub latest : (Statement → Option (List ℕ)) → List Entry → Option (List ℕ)
 latest stated [] = None
-latest stated (entry ∷ before) = or_else (stated (statement_of entry)) (latest stated before)
-
-abbrev pub one_bare : List RawItem → Option (List ℕ)
-one_bare (bare text ∷ []) = Some text
-one_bare items = None
+latest stated (entry ∷ before) = option_or (stated (statement_of entry)) (latest stated before)
 
 -- the texts that an entry states: the name of `$ORIGIN`, the time of `$TTL`, a record's owner, TTL
 -- and class
 abbrev pub origin_text : Statement → Option (List ℕ)
-origin_text (sets_origin items) = one_bare items
+origin_text (sets_origin (bare text ∷ [])) = Some text
 origin_text form = None
 
 abbrev pub default_ttl_text : Statement → Option (List ℕ)
-default_ttl_text (sets_ttl items) = one_bare items
+default_ttl_text (sets_ttl (bare text ∷ [])) = Some text
 default_ttl_text form = None
 
 abbrev pub owner_text : Statement → Option (List ℕ)
@@ -79,8 +72,8 @@ HasClass before entry class =
 -- record states
 abbrev pub stated_ttl : List Entry → Entry → Option (List ℕ)
 stated_ttl before entry =
-    or_else (ttl_text (statement_of entry))
-    (or_else (latest default_ttl_text before) (latest ttl_text before))
+    option_or (ttl_text (statement_of entry))
+    (option_or (latest default_ttl_text before) (latest ttl_text before))
 
 -- a time that a TTL may be (RFC 2181 8)
 pub record IsTtl (text : List ℕ) (seconds : ℕ) : Type 0 where

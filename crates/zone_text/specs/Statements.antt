@@ -1,6 +1,7 @@
 -- What an entry says (RFC 1035 5.1; `$TTL` RFC 2308 4): nothing, a directive or a record, and a
 -- record's parts.
 use Rattle.std.specs.Prelude.{ℕ, List, [], ◌∷◌, ◌++◌, codes, take, drop, ◌==◌, ◌&&◌, ◌||◌, if◌then◌else◌, Bool, false, bytes_eq, Option, Some, None, is_some}
+use Rattle.std.specs.List.{list_all}
 use Rattle.zone_name.specs.Name.{folded_label}
 use Rattle.zone_name.specs.Spelling.{is_digit}
 use Rattle.zone_rdata.specs.Spelling.{RawItem, bare, quoted}
@@ -46,9 +47,7 @@ begins_with_digit (c ∷ text) = is_digit c
 
 -- one digit or more
 abbrev pub are_digits : List ℕ → Bool
-are_digits [] = false
-are_digits (c ∷ []) = is_digit c
-are_digits (c ∷ d ∷ text) = is_digit c && are_digits (d ∷ text)
+are_digits text = begins_with_digit text && list_all is_digit text
 
 -- the mnemonic of a class, or CLASS and digits (RFC 3597 5), in any letter case
 abbrev pub is_class_word : List ℕ → Bool
@@ -99,11 +98,8 @@ parts_after words (item ∷ items) =
       | Some word ↦ parts_after (words ++ word ∷ []) items
     ]
 
+-- the parts of a record
 abbrev pub parts_in : Statement → Option Parts
 parts_in (owned owner items) = Some (parts_after [] items)
 parts_in (unowned items) = Some (parts_after [] items)
 parts_in form = None
-
--- the parts of a record entry
-abbrev pub parts_of : Entry → Option Parts
-parts_of entry = parts_in (statement_of entry)

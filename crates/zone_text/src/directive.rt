@@ -2,9 +2,8 @@ ghost use Rattle.std.specs.Prelude.{◌≡◌, map, None, Some, IfOk, IfErr, OnO
 ghost use Rattle.zone_name.specs.Spelling.{Spells};
 ghost use Rattle.zone_rdata.specs.Fields.Name.{IsNameFault};
 ghost use Rattle.zone_rdata.specs.Item.{raw};
-ghost use Rattle.zone_text.specs.EntryFault.{DefaultTtlFault};
-ghost use Rattle.zone_text.specs.Inherited.{IsTtl, one_bare};
-ghost use Rattle.zone_text.specs.Machine.EntryReading.{SetsOrigin, SetsTtl, OriginFaultUnder};
+ghost use Rattle.zone_text.specs.Inherited.{IsTtl};
+ghost use Rattle.zone_text.specs.Machine.EntryReading.{SetsOrigin, SetsTtl, OriginFaultUnder, DefaultTtlFault, one_bare};
 
 use crate::parser_state::ParserState;
 use crate::words::{split_bare, ttl_in};

@@ -1,7 +1,6 @@
-ghost use Rattle.std.specs.Prelude.{◌≡◌, bytes_eq, map};
+ghost use Rattle.std.specs.Prelude.{◌≡◌, bytes_eq, map, slice_get};
 ghost use Rattle.zone_name.specs.Name.{folded_label};
 ghost use Rattle.zone_rdata.specs.Item.{raw};
-ghost use Rattle.zone_text.specs.Entries.{first_octet};
 ghost use Rattle.zone_text.specs.Statements.{directive, statement_by};
 ghost use Rattle.zone_text.specs.Machine.Parsed.{directive_in, statement_in};
 
@@ -61,7 +60,7 @@ fn directive_of<'i, 't>(word: Item<'t>, items: &'i [Item<'t>]) -> Directive<'i, 
 
 /// What an entry with these items states.
 pub(crate) fn parse_entry<'i, 't>(entry: &[u8], items: &'i [Item<'t>]) -> ParsedEntry<'i, 't>
-    ensures { statement_in result ≡ statement_by (first_octet entry.now) (map raw items.now) }
+    ensures { statement_in result ≡ statement_by (slice_get entry.now 0) (map raw items.now) }
 {
     let [first, rest @ ..] = items else {
         return ParsedEntry::Blank;

@@ -141,12 +141,8 @@ impl ParserState {
     fn head_of<'i, 't>(&self, items: &'i [Item<'t>]) -> Result<Head<'i, 't>, NarrowFault>
         ensures found { (origin : Labels) (before : List Entry) (entry : Entry) (owner : Labels)
             → IsRecordEntry origin before entry self.now owner (map raw items.now)
-            → IfOk result (λ head. HasHead origin before entry (record {
-              owner = owner;
-              class = head.class;
-              kind = head.kind;
-              items = map raw head.rdata.now;
-            }) × IsTtlOrNone (ttl_text (statement_of entry)) head.ttl) }
+            → IfOk result (λ head. HasHead origin before entry owner head.class head.kind
+            (map raw head.rdata.now) × IsTtlOrNone (ttl_text (statement_of entry)) head.ttl) }
         ensures fault { (origin : Labels) (before : List Entry) (entry : Entry) (owner : Labels)
             → IsRecordEntry origin before entry self.now owner (map raw items.now)
             → IfErr result (EntryFault origin before entry) }

@@ -2,7 +2,7 @@ ghost use Rattle.std.specs.Prelude.{◌≡◌, ◌≤◌, drop, length, ℕ, Lis
 ghost use Rattle.zone_name.specs.Common.{Octets};
 ghost use Rattle.zone_rdata.specs.Fault.{NoValue};
 ghost use Rattle.zone_rdata.specs.Item.{RawItem, bare, raw};
-ghost use Rattle.zone_text.specs.EntryFault.{WordFault, WordsFault};
+ghost use Rattle.zone_text.specs.EntryFault.{WordFault, PartsFault};
 ghost use Rattle.zone_text.specs.Statements.{Word, begins_with_digit, parts_after, word_after};
 ghost use Rattle.zone_text.specs.Inherited.{IsTtl};
 ghost use Rattle.zone_text.specs.Machine.WordValues.{AreWordsOf, HaveValues};
@@ -102,7 +102,8 @@ pub(crate) fn words_of(items: &[Item]) -> Result<(Words, usize), NarrowFault>
         AreWordsOf (parts_after [] (map raw items.now)) found.0
         (drop found.1 (map raw items.now))) }
     ensures within { IfOk result (λ found. found.1 ≤ length items.now) }
-    ensures fault { IfErr result (WordsFault (parts_after [] (map raw items.now)).words) }
+    ensures fault { IfErr result (PartsFault (parts_after [] (map raw items.now)).words
+        (parts_after [] (map raw items.now)).rest) }
 {
     let mut words = Words {
         ttl: None,

@@ -103,8 +103,7 @@ module _ (before other : List StatedMessage) (is : AreAlike before other) where
 
   pub read_alike : (p : StatedMessage) → IsReadAfter before p → IsReadAfter other p
   read_alike p r =
-      let m = r.message in
-      record { message = record { message = m.message; same_id = id_alike p.sections m.same_id; asks = asks_alike p.sections m.asks }; gives = give_after p.octets p.sections p.placed None r.gives }
+      record { message = r.message; same_id = id_alike p.sections r.same_id; asks = asks_alike p.sections r.asks; gives = give_after p.octets p.sections p.placed None r.gives }
 
 pub fault_alike : (before other : List StatedMessage) (octets : List ℕ) (here : List Placed) (fault : Fault) (offset : ℕ) → AreAlike before other → FaultAfter before octets here fault offset → FaultAfter other octets here fault offset
 fault_alike before other octets here fault offset is (inl bad) = inl bad
@@ -147,7 +146,7 @@ alike_grows before other p is read =
     let records = alike_after (asked_in before ++ questions) (asked_in other ++ questions) (placed_in before) (placed_in other) p.placed (alike_answers before other is questions) in
     let count : length (before ++ p ∷ []) ≡ length (other ++ p ∷ []) = length-append before (p ∷ []) ∙ ap (λ (k : StreamKept). k.messages + 1) is ∙ sym (length-append other (p ∷ [])) in
     let id = id_grows before other p (ap (λ (k : StreamKept). k.id) is) in
-    let zone = zone_grows (asked_in before) (asked_in other) questions (placed_in before) (placed_in other) p.placed (zone_of (asked_in before) (placed_in before)) refl (sym (ap (λ (k : StreamKept). k.zone) is)) read.message.asks in
+    let zone = zone_grows (asked_in before) (asked_in other) questions (placed_in before) (placed_in other) p.placed (zone_of (asked_in before) (placed_in before)) refl (sym (ap (λ (k : StreamKept). k.zone) is)) read.asks in
     let opening = records.opening in
     let closing = records.closing in
     cc (asked_grow before p, asked_grow other p, placed_grow before p, placed_grow other p)

@@ -26,7 +26,8 @@ pub use Rattle.zone_rdata.proofs.Tables.{each_layout, table_row}
 pub use Rattle.zone_rdata.specs.Builder.{Built, FitsString, IsNext, IsPushFault, IsWhole, Pushes, ends_with_strings, long_string, misplaced, part_at, too_long}
 pub use Rattle.zone_rdata.specs.Cause.{fault_for}
 pub use Rattle.zone_rdata.specs.Fault.{IfFault}
-pub use Rattle.zone_rdata.specs.Field.{FieldValue, HoldEach, Holds, Suits, field_at, field_octets, fixed, is_strings, name, octets_of, string, strings, u16_value, u32_value}
+pub use Rattle.zone_rdata.specs.Machine.Each.{HoldEach}
+pub use Rattle.zone_rdata.specs.Field.{FieldValue, Holds, Suits, field_at, field_octets, fixed, is_strings, name, octets_of, string, strings, u16_value, u32_value}
 pub use Rattle.zone_rdata.specs.Fields.OneString.{string_at}
 pub use Rattle.zone_rdata.specs.Fields.Strings.{AreStrings, strings_by}
 unfoldable pub use Rattle.zone_rdata.specs.Fields.Strings.{strings_of}
@@ -56,25 +57,24 @@ pub use Rattle.zone_wire.specs.Machine.DataReading.{Awaits, AwaitsStrings, IsRea
 pub use Rattle.zone_wire.specs.Machine.Feeding.{Follow, Going, IsCut}
 pub use Rattle.zone_wire.specs.Machine.Finding.{Outcome, Says, after_label, after_pointer, named, refused}
 unfoldable pub use Rattle.zone_wire.specs.Machine.Finding.{outcome}
-pub use Rattle.zone_wire.specs.Machine.Parsing.{HasRecordsFrom, IsParsed, name_end_of, parsed, part_end_of, raw_from, records_or_none, run_end_of, sections_or_none}
+pub use Rattle.zone_wire.specs.Machine.Parsing.{AreRecordsAt, HasRecordsFrom, IsParsed, name_end_of, parsed, part_end_of, raw_from, records_or_none, run_end_of, sections_or_none}
 pub use Rattle.zone_wire.specs.Machine.Sections.{after_header, and_then, at_offset, each_from, inside, question_at, questions_from, record_at, records_from, to_the_end, unless_faulted}
 unfoldable pub use Rattle.zone_wire.specs.Machine.Sections.{header_fault, sections_of}
 pub use Rattle.zone_wire.specs.Machine.Spot.{spot_of}
 pub use Rattle.zone_wire.specs.Machine.Stream.{asks_for, has_first_id, of_answers, of_sections}
 unfoldable pub use Rattle.zone_wire.specs.Machine.Stream.{next_message, stream_records}
 pub use Rattle.zone_wire.specs.Machine.Transferring.{Among, Gains, Hands, HeadFault, IfNoMemory, IsAfter, ReadsNext, StopsIn, Takes, TakesEach, TakesHead, TakesMessage, TakesMessageUpTo, TakesUpTo, TakesWhole, other_id, other_zone, zone_held, zone_with}
-pub use Rattle.zone_wire.specs.Machine.Walk.{label_of, pointer_of, walk_on}
-unfoldable pub use Rattle.zone_wire.specs.Machine.Walk.{standing_in, walk, walk_by}
-pub use Rattle.zone_wire.specs.Message.{AreAt, AreQuestionsAt, AreRecordsAt, HasCounts, HasHeader, IsMessage, IsPartAt, IsQuestionAt, IsRecordAt, IsResponse, QuestionAt, RecordAt, Sections, ancount_of, arcount_of, nscount_of, qdcount_of, question_by, record_by, u16_at, u32_at}
+pub use Rattle.zone_wire.specs.Machine.Walk.{Spot, label_of, outset, past_label, past_pointer, pointer_of, walk_on}
+unfoldable pub use Rattle.zone_wire.specs.Machine.Walk.{ending, standing_in, walk, walk_by}
+pub use Rattle.zone_wire.specs.Message.{AreAt, HasCounts, HasHeader, IsMessage, IsPartAt, IsQuestionAt, IsRecordAt, IsResponse, QuestionAt, RecordAt, Sections, ancount_of, arcount_of, qdcount_of, question_by, record_by, u16_at, u32_at}
 pub use Rattle.zone_wire.specs.MessageFault.{FaultIn, MessageFault, PartFault}
 pub use Rattle.zone_wire.specs.Name.{At, Found, IsLabelAt, IsNameAt, IsPointerAt, found_by, label, label_at, pointer, root, target_at}
-pub use Rattle.zone_wire.specs.Stream.{AreRead, AskAfter, AsksIn, FaultAfter, GiveAfter, HasFirstId, IsMessageAfter, IsReadAfter, ReadAfter, StreamDecides, StreamReads, asked_in, end_fault, octets_in, placed_in, reads, stops, whole}
+pub use Rattle.zone_wire.specs.Stream.{AreRead, AskAfter, AsksIn, FaultAfter, GiveAfter, HasFirstId, IsReadAfter, ReadAfter, StreamDecides, StreamReads, asked_in, end_fault, octets_in, placed_in, reads, stops, whole}
 pub use Rattle.zone_wire.specs.Transfer.{AnswerStates, AnswersState, AreFieldsAt, AreStatedMessages, AreValuesAt, AsksFor, IsDataAt, IsReadable, IsStatedMessage, IsValueAt, StatedMessage, StreamStates, compressible, frame, octets_between, ttl_of}
 pub use Rattle.zone_wire.specs.TransferSource.{AreAlike, StandsForStream, StreamKept, StreamLeaves, first_id, opening_of}
 pub use Rattle.zone_wire.specs.Unless.{NoFault, Unless, fails, holds}
 pub use Rattle.zone_wire.specs.View.{RawRecord, asked, raw_at}
 pub use Rattle.zone_wire.specs.Visits.{LeadToLast, is_label, is_pointer, labels_in, pointers_in}
-pub use Rattle.zone_wire.specs.Walk.{FaultHere, IsWalk, NameFault, Spot, Standing, Visit, Walks, at_fault, at_label, at_pointer, at_root, bad_target, by_pointer, cut_label, cut_pointer, long_name, outset, outside, over_label, past_label, past_pointer, reserved, to_fault, to_root, too_many, visit}
-unfoldable pub use Rattle.zone_wire.specs.Walk.{ending}
+pub use Rattle.zone_wire.specs.Walk.{FaultHere, IsWalk, NameFault, Standing, Visit, Walks, at_fault, at_label, at_pointer, at_root, bad_target, by_pointer, cut_label, cut_pointer, long_name, outside, over_label, reserved, to_fault, to_root, too_many, visit}
 pub use Rattle.zone_wire.specs.declared.message.Question.{Question}
 pub use Rattle.zone_wire.specs.declared.transfer.Transfer.{Transfer}

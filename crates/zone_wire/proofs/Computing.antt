@@ -20,7 +20,7 @@ name_computes message offset found octets e = walk_names message offset found (o
 
 -- a walk that ends so by computing
 pub walk_computes : (octets : List ℕ) (offset : ℕ) (fault : Option Fault) (places : ℕ) → ending (walk (after_zeros octets) offset) ≡ fault → length (walk (after_zeros octets) offset) ≡ places → WalkEnds octets offset fault places
-walk_computes octets offset fault places ends count = record { visits = walk (after_zeros octets) offset; walk = walk_is (after_zeros octets) offset _ refl; ends = ends; count = count }
+walk_computes octets offset fault places ends count = record { visits = walk (after_zeros octets) offset; walk = walk_is (after_zeros octets) offset fault ends; count = count }
 
 -- what a stream is read as, by computing
 pub reads : (messages : List (List ℕ)) (rest : List ℕ) (answered : Answered (Fault × Place)) → list_all (λ octets. nat_le (length octets) 65535) messages ≡ true → nat_lt (length rest) (2 + u16_at rest 0) ≡ true → all_octets (flat_map frame messages ++ rest) ≡ true → stream_records [] messages ≡ answered → StreamReads (flat_map frame messages ++ rest) (handed_on answered.placed) (option_or answered.fault (end_fault (length messages + 1) answered.placed rest))

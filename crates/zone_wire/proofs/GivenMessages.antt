@@ -1,5 +1,5 @@
 -- The records of messages up to the first fault are those that are read.
-use Rattle.zone_wire.proofs.Common.{AllByRecursion, Answered, AreRead, AsksIn, Bool, Bytes, Err, Fault, FaultAfter, GiveAfter, HasFirstId, IsMessageAfter, IsReadAfter, List, Message, None, Ok, Option, Place, Placed, QuestionAt, ReadAfter, Result, Sections, Some, StatedMessage, ZoneAsked, [], agrees, and_from, and_parts, ap, append-nil, append_assoc, asked_in, asks_for, eq-eqb, eqb-true, fails, false, flat_map-append, has_first_id, holds, if◌then◌else◌, inl, inr, length, list_all, next_message, octets_in, of_answers, of_sections, placed_in, reads, refl, sections_of, stops, stream_records, subst, sym, true, whole, zone_of, ℕ, ◌++◌, ◌+◌, ◌==◌, ◌∙◌, ◌∷◌, ◌≡◌, ◌≤◌}
+use Rattle.zone_wire.proofs.Common.{AllByRecursion, Answered, AreRead, AskAfter, AsksIn, Bool, Bytes, Err, Fault, FaultAfter, GiveAfter, HasFirstId, IsMessage, IsReadAfter, List, Message, None, Ok, Option, Place, Placed, QuestionAt, ReadAfter, Result, Sections, Some, StatedMessage, ZoneAsked, [], agrees, and_from, and_parts, ap, append-nil, append_assoc, asked_in, asks_for, eq-eqb, eqb-true, fails, false, flat_map-append, has_first_id, holds, if◌then◌else◌, inl, inr, length, list_all, next_message, octets_in, of_answers, of_sections, placed_in, reads, refl, sections_of, stops, stream_records, subst, sym, true, whole, zone_of, ℕ, ◌++◌, ◌+◌, ◌==◌, ◌∙◌, ◌∷◌, ◌≡◌, ◌≤◌}
 use Rattle.zone_wire.proofs.AnswerFaults.{agrees_by, agrees_true}
 use Rattle.zone_wire.proofs.Conditions.{all_by, all_pass}
 use Rattle.zone_wire.proofs.GivenAnswers.{each_stands, answers_give}
@@ -49,9 +49,9 @@ module _ (before : List StatedMessage) (octets : List ℕ) (each : Bytes octets)
   by_test true good bad passes others = passes refl
   by_test false good bad passes others = others refl
 
-  by_answers : (s : Sections) (placed : List Placed) (stop : Option (Fault × ℕ)) → IsMessageAfter before octets s → GiveAfter before octets s placed stop → Judged before octets (of_answers octets s (record { placed = placed; fault = stop }))
-  by_answers s placed None is give = (refl, record { message = is; gives = give })
-  by_answers s placed (Some e) is give = inr (s, is.message, holds is.same_id (holds is.asks give))
+  by_answers : (s : Sections) (placed : List Placed) (stop : Option (Fault × ℕ)) → IsMessage octets s → HasFirstId before s → AskAfter before s → GiveAfter before octets s placed stop → Judged before octets (of_answers octets s (record { placed = placed; fault = stop }))
+  by_answers s placed None is id asks give = (refl, record { message = is; same_id = id; asks = asks; gives = give })
+  by_answers s placed (Some e) is id asks give = inr (s, is, holds id (holds asks give))
 
   by_sections : (r : Result Sections (Fault × ℕ)) → sections_of octets ≡ r → Judged before octets (of_sections before octets r)
   by_sections (Err e) is = inl (refl, sections_fault octets each e is)
@@ -62,7 +62,7 @@ module _ (before : List StatedMessage) (octets : List ℕ) (each : Bytes octets)
       let give = answers_give octets each few (asked_in before ++ s.questions) (length before + 1) s.answers (placed_in before) (each_stands octets m.past_questions m.past_answers s.answers m.answers) in
       by_test (has_first_id before s) _ _
       (λ t. by_test all _ _
-      (λ u. by_answers s _ _ (record { message = m; same_id = id_by before s t; asks = all_by (AsksIn zone) (asks_for zone) (asks_by zone) s.questions u }) give)
+      (λ u. by_answers s _ _ m (id_by before s t) (all_by (AsksIn zone) (asks_for zone) (asks_by zone) s.questions u) give)
       (λ u. inr (s, m, holds (id_by before s t) (fails (λ asks. let yes : all ≡ true = all_pass (AsksIn zone) (asks_for zone) (asks_true zone) s.questions asks in cc)))))
       (λ t. inr (s, m, fails (λ id. let yes = id_true before s id in cc)))
 

@@ -10,7 +10,7 @@ give_in_order zone number octets questions before [] [] ask is order = no_more
 give_in_order zone number octets questions before [] (p ∷ placed) ask is order = absurd is
 give_in_order zone number octets questions before (a ∷ answers) [] ask is order = absurd is
 give_in_order zone number octets questions before (a ∷ answers) (p ∷ placed) ask is order =
-    states is.0 is.1 (follows_comes zone questions before p ask order.0) (give_in_order zone number octets questions (before ++ p ∷ []) answers placed ask is.2 order.1)
+    states is.0.0 is.0.1 (follows_comes zone questions before p ask order.0) (give_in_order zone number octets questions (before ++ p ∷ []) answers placed ask is.1 order.1)
 
 first_id : (id : ℕ) (before : List StatedMessage) (s : Sections) → AllByRecursion (λ (p : StatedMessage). p.sections.id ≡ id) before → s.id ≡ id → HasFirstId before s
 first_id id before s each e = grind arith

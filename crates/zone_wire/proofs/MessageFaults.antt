@@ -1,11 +1,11 @@
 -- The faults of messages are those at which the sections of a message stop being read.
-use Rattle.zone_wire.proofs.Common.{AreAt, Bool, Err, Fault, FaultIn, Found, HasCounts, IsMessage, IsNameAt, IsPartAt, IsQuestionAt, IsRecordAt, IsVerdict, List, MessageFault, NameFault, NoFault, None, Ok, Option, Outcome, PartFault, QuestionAt, RecordAt, Result, Sections, ShortMessage, Some, TrailingOctets, Unless, [], after_header, ancount_of, and_from, and_parts, and_then, ap, arcount_of, arith, at_offset, each_from, ending, eq-eqb, eqb-true, fails, false, get_or, header_fault, holds, if◌then◌else◌, inl, inr, inside, le-leb, le-ltb, leb-true, length, ltb-false, named, nat_le, not, not-false, nscount_of, outcome, qdcount_of, question_at, question_by, questions_from, record_at, record_by, records_from, refl, refused, sections_of, subst, suc, sym, to_the_end, true, unless_faulted, walk, zero, ℕ, ◌&&◌, ◌<◌, ◌==◌, ◌∙◌, ◌∷◌, ◌≡◌, ◌⊎◌}
+use Rattle.zone_wire.proofs.Common.{AreAt, Bool, Err, Fault, FaultIn, Found, HasCounts, IsMessage, IsNameAt, IsPartAt, IsQuestionAt, IsRecordAt, IsVerdict, List, MessageFault, NameFault, NoFault, None, Ok, Option, Outcome, PartFault, QuestionAt, RecordAt, Result, Sections, ShortMessage, Some, TrailingOctets, Unless, [], after_header, ancount_of, and_from, and_parts, and_then, ap, arcount_of, arith, at_offset, each_from, ending, eq-eqb, eqb-true, fails, false, get_or, header_fault, holds, if◌then◌else◌, inl, inr, inside, le-leb, le-ltb, leb-true, length, ltb-false, named, nat_le, not, not-false, outcome, qdcount_of, question_at, question_by, questions_from, record_at, record_by, records_from, refl, refused, sections_of, subst, suc, sym, to_the_end, true, u16_at, unless_faulted, walk, zero, ℕ, ◌&&◌, ◌<◌, ◌==◌, ◌∙◌, ◌∷◌, ◌≡◌, ◌⊎◌}
 use Rattle.zone_wire.proofs.Conditions.{unless_one, unless_holds}
 use Rattle.zone_wire.proofs.Messages.{one_part, one_message}
 use Rattle.zone_wire.proofs.ReadSections.{each_shows, question_shows, record_shows, response_of, sections_shown, at_offset_shows}
 use Rattle.zone_wire.proofs.Sectioning.{part_reads, sixteen, not_other}
 use Rattle.zone_wire.proofs.Walking.{Measures, name_walks, walk_names, walk_measures}
-use Rattle.zone_wire.proofs.WholeWalks.{is_walk, walk_is}
+use Rattle.zone_wire.proofs.WholeWalks.{walk_ends, walk_is}
 
 pub err_same : {X E : Type 0} (e f : E) → (let r : Result X E = Err e in r) ≡ Err f → e ≡ f
 err_same e f same = cc
@@ -17,13 +17,13 @@ some_same x y e = cc
 pub name_refused : (octets : List ℕ) (offset : ℕ) (fault : Fault) (steps : ℕ) → outcome octets (walk octets offset) ≡ refused fault steps → NameFault octets offset fault
 name_refused octets offset fault steps e =
     let measured : Measures (refused fault steps) (walk octets offset) = subst (λ (o : Outcome). Measures o (walk octets offset)) e (walk_measures octets offset) in
-    record { visits = walk octets offset; walk = walk_is octets offset (walk octets offset) refl; ends = measured.1 }
+    (walk octets offset, walk_is octets offset (Some fault) measured.1)
 
 pub name_refuses : (octets : List ℕ) (offset : ℕ) (fault : Fault) → NameFault octets offset fault → (steps : ℕ) × (outcome octets (walk octets offset) ≡ refused fault steps)
 name_refuses octets offset fault is = by (outcome octets (walk octets offset)) refl (walk_measures octets offset)
   where
     ends : ending (walk octets offset) ≡ Some fault
-    ends = ap ending (sym (is_walk octets offset is.visits is.walk)) ∙ is.ends
+    ends = sym (walk_ends octets offset is.0 (Some fault) is.1)
 
     by : (o : Outcome) → outcome octets (walk octets offset) ≡ o → Measures o (walk octets offset) → (steps : ℕ) × (outcome octets (walk octets offset) ≡ refused fault steps)
     by (named found) e m = let h = ends in cc
@@ -132,13 +132,13 @@ tested {Holds} {next} octets true own rest r e off by go h = subst (Unless Holds
 tested octets false own rest r e off by go h = let x = by refl in holds x (go x h)
 
 abbrev counted : List ℕ → Bool
-counted octets = nat_le (qdcount_of octets) 1 && nscount_of octets == 0
+counted octets = nat_le (qdcount_of octets) 1 && u16_at octets 8 == 0
 
 counts_of : (octets : List ℕ) → HasCounts octets → not (counted octets) ≡ false
-counts_of octets h = ap not (and_from (nat_le (qdcount_of octets) 1) (nscount_of octets == 0) (le-leb _ _ h.0) (eq-eqb _ _ h.1))
+counts_of octets h = ap not (and_from (nat_le (qdcount_of octets) 1) (u16_at octets 8 == 0) (le-leb _ _ h.0) (eq-eqb _ _ h.1))
 
 counts_by : (octets : List ℕ) → not (counted octets) ≡ false → HasCounts octets
-counts_by octets e = let p = and_parts (nat_le (qdcount_of octets) 1) (nscount_of octets == 0) (not-false _ e) in (leb-true _ _ p.0, eqb-true _ _ p.1)
+counts_by octets e = let p = and_parts (nat_le (qdcount_of octets) 1) (u16_at octets 8 == 0) (not-false _ e) in (leb-true _ _ p.0, eqb-true _ _ p.1)
 
 pub same_by : (a b : ℕ) → not (a == b) ≡ false → a ≡ b
 same_by a b e = eqb-true a b (not-false _ e)

@@ -1,5 +1,5 @@
 -- What a result of the walk says of the name.
-use Rattle.zone_wire.proofs.Common.{Err, Fault, Found, IfErr, IfOk, IsNameAt, IsOk, IsWalk, List, MatchResult, NameFault, Ok, Outcome, Result, Says, Visit, found_by, get_or, length, outcome, refl, refused, subst, sym, walk, ℕ, ◌<◌, ◌≡◌, ◌≤◌}
+use Rattle.zone_wire.proofs.Common.{Err, Fault, Found, IfErr, IfOk, IsNameAt, IsOk, IsWalk, List, MatchResult, NameFault, Ok, Option, Outcome, Result, Says, Visit, found_by, get_or, length, outcome, refl, refused, subst, sym, walk, ℕ, ◌<◌, ◌≡◌, ◌≤◌}
 use Rattle.zone_wire.specs.declared.name.Decoded.{Decoded}
 use Rattle.zone_wire.proofs.MessageFaults.{name_refused}
 use Rattle.zone_wire.proofs.WalkLaws.{of_walk}
@@ -25,9 +25,9 @@ module _ (message : List ℕ) (offset : ℕ) (each : (k : ℕ) → get_or messag
   says_fault (Ok d) says = tt
   says_fault (Err e) says = name_refused message offset e.0 e.1 says
 
-  pub says_places : (r : Result Decoded (Fault × ℕ)) → Says r (outcome message (walk message offset)) → IfErr r (λ e. (visits : List Visit) → IsWalk message offset visits → e.1 ≡ length visits)
+  pub says_places : (r : Result Decoded (Fault × ℕ)) → Says r (outcome message (walk message offset)) → IfErr r (λ e. (visits : List Visit) (ends : Option Fault) → IsWalk message offset visits ends → e.1 ≡ length visits)
   says_places (Ok d) says = tt
-  says_places (Err e) says = λ visits is. of_walk (λ v. e.1 ≡ length v) message offset visits is (sym (measured (refused e.0 e.1) says).0)
+  says_places (Err e) says = λ visits ends is. of_walk (λ v. e.1 ≡ length v) message offset visits ends is (sym (measured (refused e.0 e.1) says).0)
 
   pub says_few : (r : Result Decoded (Fault × ℕ)) → Says r (outcome message (walk message offset)) → MatchResult r (λ d. d.steps ≤ 256) (λ e. e.1 ≤ 256)
   says_few (Ok d) says = (name_bounds message offset _ (walk_names message offset (found_by d says.0) each says.1)).steps

@@ -43,11 +43,10 @@ module _ (before : List StatedMessage) (octets : List ℕ) where
       (subst (λ s. Faults s e) (one_message octets is.0 too.0 is.1 too.1) is.2) too.2
 
 pub read_not_refused : (before : List StatedMessage) (p : StatedMessage) (e : List Placed × Fault × ℕ) → IsReadAfter before p → FaultAfter before p.octets e.0 e.1 e.2 → ⊥
-read_not_refused before p e is (inl fault) = never_both p.octets p.sections (e.1, e.2) is.message.message fault.1
+read_not_refused before p e is (inl fault) = never_both p.octets p.sections (e.1, e.2) is.message fault.1
 read_not_refused before p e is (inr fault) =
-    let m = is.message in
-    let last = unless_holds m.asks (unless_holds m.same_id (subst (λ s. Faults before p.octets s e) (one_message p.octets fault.0 p.sections fault.1 m.message) fault.2)) in
-    let same = (give_after before p.octets p.sections p.placed e.0 None (Some (e.1, e.2)) m.message is.gives last).1 in
+    let last = unless_holds is.asks (unless_holds is.same_id (subst (λ s. Faults before p.octets s e) (one_message p.octets fault.0 p.sections fault.1 is.message) fault.2)) in
+    let same = (give_after before p.octets p.sections p.placed e.0 None (Some (e.1, e.2)) is.message is.gives last).1 in
     cc
 
 same_part : (p q : StatedMessage) → p.octets ≡ q.octets → p.sections ≡ q.sections → p.placed ≡ q.placed → p ≡ q
@@ -56,9 +55,9 @@ same_part p q octets sections placed = grind arith
 pub one_read : (before : List StatedMessage) (p q : StatedMessage) → p.octets ≡ q.octets → IsReadAfter before p → IsReadAfter before q → p ≡ q
 one_read before p q e is too =
     let moved : IsReadAfter before (record p { octets = q.octets }) = subst (λ (x : List ℕ). IsReadAfter before (record p { octets = x })) e is in
-    let sections = one_message q.octets p.sections q.sections moved.message.message too.message.message in
+    let sections = one_message q.octets p.sections q.sections moved.message too.message in
     let gives = subst (λ s. GiveAfter before q.octets s p.placed None) sections moved.gives in
-    same_part p q e sections (give_after before q.octets q.sections p.placed q.placed None None too.message.message gives too.gives).0
+    same_part p q e sections (give_after before q.octets q.sections p.placed q.placed None None too.message gives too.gives).0
 
 -- records that go on with more, and a fault that stays
 pub record GoesOn (placed : List Placed) (ending : Option (Fault × Place)) (other : List Placed) (late : Option (Fault × Place)) : Type 0 where

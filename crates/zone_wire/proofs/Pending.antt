@@ -1,6 +1,6 @@
 -- The question and the answers of a message that was parsed, and the answers that are still to
 -- come.
-use Rattle.zone_wire.proofs.Common.{AreQuestionsAt, AreRecordsAt, Found, HasRecordsFrom, IsMessage, IsNameAt, IsParsed, IsQuestionAt, IsRecordAt, List, QuestionAt, RecordAt, Sections, [], ap, arith, length, map, parsed, question_by, raw_at, raw_from, record_at, record_by, refl, rules, sym, u16_at, ℕ, ◌-◌, ◌∙◌, ◌∷◌, ◌≡◌}
+use Rattle.zone_wire.proofs.Common.{AreAt, AreRecordsAt, Found, HasRecordsFrom, IsMessage, IsNameAt, IsParsed, IsQuestionAt, IsRecordAt, List, QuestionAt, RecordAt, Sections, [], ap, arith, length, map, parsed, question_by, raw_at, raw_from, record_at, record_by, refl, rules, sym, u16_at, ℕ, ◌-◌, ◌∙◌, ◌∷◌, ◌≡◌}
 use Rattle.zone_wire.proofs.Messages.{one_part}
 use Rattle.zone_wire.proofs.Sectioning.{part_reads, each_reads}
 use Rattle.zone_wire.proofs.Walking.{one_name}
@@ -54,7 +54,7 @@ pub record HasOneQuestion (octets : List ℕ) (questions : List QuestionAt) : Ty
 pub has_one_question : (octets : List ℕ) (s : Sections) → IsMessage octets s → (u16_at octets 4 ≡ 0 → ⊥) → HasOneQuestion octets s.questions
 has_one_question octets s is some = by s.questions is.question_count is.questions
   where
-    by : (questions : List QuestionAt) → length questions ≡ u16_at octets 4 → AreQuestionsAt octets 12 questions is.past_questions → HasOneQuestion octets questions
+    by : (questions : List QuestionAt) → length questions ≡ u16_at octets 4 → AreAt (IsQuestionAt octets) (λ q. q.end) 12 questions is.past_questions → HasOneQuestion octets questions
     by [] count are = absurd (some (sym count))
     by (q ∷ []) count are = record { only = q; is = are.0; alone = refl }
     by (q ∷ other ∷ questions) count are = absurd (omega (arith, count, is.header.counts.0))

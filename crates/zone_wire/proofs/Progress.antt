@@ -241,7 +241,9 @@ takes_whole octets before s old mid new after is head decided count takes =
       part = p;
       octets_are = refl;
       read = record {
-        message = record { message = is; same_id = head.same_id; asks = head.asks };
+        message = is;
+        same_id = head.same_id;
+        asks = head.asks;
         gives = subst (λ n. AnswersGive n octets (asked_in before ++ s.questions) (placed_in before) s.answers takes.here None) number takes.gives;
       };
       after = record {

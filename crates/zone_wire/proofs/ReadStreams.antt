@@ -141,14 +141,14 @@ all_front P (x ∷ xs) ys each = let rest = all_front P xs ys each.1 in ((each.0
 
 answers_state : {number : ℕ} {octets : List ℕ} {questions : List QuestionAt} {before : List Placed} {answers : List RecordAt} {placed : List Placed} {stop : Option (Fault × ℕ)} → stop ≡ None → AnswersGive number octets questions before answers placed stop → AnswersState number octets answers placed
 answers_state e no_more = tt
-answers_state e (states is place comes rest) = (is, place, answers_state e rest)
+answers_state e (states is place comes rest) = ((is, place), answers_state e rest)
 answers_state e (refused fault) = cc
 
 parts_from : (id : ℕ) (zone : Record) (number : ℕ) (before parts : List StatedMessage) → number ≡ length before + 1 → AreRead before parts → AllByRecursion (λ octets. length octets ≤ 65535) (octets_in parts) → AllByRecursion (λ (p : StatedMessage). p.sections.id ≡ id) parts → AllByRecursion (AsksFor zone) (asked_in parts) → AreStatedMessages id zone number parts
 parts_from id zone number before [] count are short ids ask = tt
 parts_from id zone number before (p ∷ parts) count are short ids ask =
     let asks = all_front (AsksFor zone) p.sections.questions (asked_in parts) ask in (
-      record { short = short.0; message = are.0.message.message; same_id = ids.0; questions = asks.0; answers = subst (λ n. AnswersState n p.octets p.sections.answers p.placed) (sym count) (answers_state refl are.0.gives) },
+      record { short = short.0; message = are.0.message; same_id = ids.0; questions = asks.0; answers = subst (λ n. AnswersState n p.octets p.sections.answers p.placed) (sym count) (answers_state refl are.0.gives) },
       parts_from id zone (number + 1) (before ++ p ∷ []) parts (omega (arith, count, length-append before (p ∷ []))) are.1 short.1 ids.1 asks.1,
     )
 

@@ -7,7 +7,7 @@ Shows message spot None = length message ≤ spot.offset
 Shows message spot (Some at_root) = (spot.offset < length message) × (slice_index message spot.offset ≡ 0)
 Shows message spot (Some (at_label size)) = IsLabelAt message spot.offset size × (spot.octets + size + 2 ≤ 255)
 Shows message spot (Some (at_pointer target)) = IsPointerAt message spot.offset spot.bound target × (spot.pointers < 128)
-Shows message spot (Some (at_fault fault)) = FaultHere message spot fault
+Shows message spot (Some (at_fault fault)) = FaultHere message spot.offset spot.bound spot.pointers spot.octets fault
 
 above : (a b : ℕ) → nat_le a b ≡ false → b < a
 above a b e = grind (arith, nat_tests)
@@ -119,7 +119,7 @@ module _ (message : List ℕ) (spot : Spot) where
   pub standing_pointer : (target : ℕ) → IsPointerAt message spot.offset spot.bound target → spot.pointers < 128 → standing_in message spot ≡ Some (at_pointer target)
   standing_pointer target is few = standing_in_pointer target is ∙ ap Some (grind (arith, cond-false, below_length, good_target))
 
-  pub standing_fault : (fault : Fault) → FaultHere message spot fault → standing_in message spot ≡ Some (at_fault fault)
+  pub standing_fault : (fault : Fault) → FaultHere message spot.offset spot.bound spot.pointers spot.octets fault → standing_in message spot ≡ Some (at_fault fault)
   unfolding standing_in
   standing_fault _ (cut_label some short cut) = standing_short some short ∙ ap Some (cond-true _ _ _ (le-leb _ _ cut))
   standing_fault _ (long_name size is long) = standing_in_label size is ∙ ap Some (cond-false _ _ _ (below_length _ _ is.inside) ∙ cond-true _ _ _ (lt-ltb _ _ long))

@@ -180,12 +180,12 @@ abbrev pub Measures : Outcome → List Visit → Type 0
 Measures (named found) visits = (length visits ≡ found.steps) × (ending visits ≡ None)
 Measures (refused fault steps) visits = (length visits ≡ steps) × (ending visits ≡ Some fault)
 
-measures_label : (front : List ℕ) (rest : Outcome) (size : ℕ) (spot : Spot) (visits : List Visit) → Measures rest visits → Measures (after_label front rest) (visit spot (at_label size) ∷ visits)
+measures_label : (front : List ℕ) (rest : Outcome) (size : ℕ) (spot : Spot) (visits : List Visit) → Measures rest visits → Measures (after_label front rest) (visit spot.offset (at_label size) ∷ visits)
 unfolding ending
 measures_label front (named found) size spot visits m = (ap suc m.0, m.1)
 measures_label front (refused fault steps) size spot visits m = (ap suc m.0, m.1)
 
-measures_pointer : (end : ℕ) (rest : Outcome) (target : ℕ) (spot : Spot) (visits : List Visit) → Measures rest visits → Measures (after_pointer end rest) (visit spot (at_pointer target) ∷ visits)
+measures_pointer : (end : ℕ) (rest : Outcome) (target : ℕ) (spot : Spot) (visits : List Visit) → Measures rest visits → Measures (after_pointer end rest) (visit spot.offset (at_pointer target) ∷ visits)
 unfolding ending
 measures_pointer end (named found) target spot visits m = (ap suc m.0, m.1)
 measures_pointer end (refused fault steps) target spot visits m = (ap suc m.0, m.1)

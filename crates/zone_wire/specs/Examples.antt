@@ -6,7 +6,7 @@ use Rattle.zone_name.specs.Common.{Labels}
 use Rattle.zone_rdata.specs.Record.{Record}
 use Rattle.zone_rdata.specs.declared.fault.Place.TheVariants.{Message}
 use Rattle.zone_rdata.specs.declared.record.Placed.{Placed}
-use Rattle.zone_wire.specs.Walk.{Visit, ending, IsWalk}
+use Rattle.zone_wire.specs.Walk.{Visit, IsWalk}
 use Rattle.zone_rdata.specs.declared.fault.Fault.{Fault}
 
 -- octets after a header of twelve zeros
@@ -17,8 +17,7 @@ after_zeros octets = replicate 12 0 ++ octets
 pub record WalkEnds (octets : List ℕ) (offset : ℕ) (fault : Option Fault)
     (places : ℕ) : Type 0 where
   pub visits : List Visit
-  pub walk : IsWalk (after_zeros octets) offset visits
-  pub ends : ending visits ≡ fault
+  pub walk : IsWalk (after_zeros octets) offset visits fault
   pub count : length visits ≡ places
 
 -- n pointers one after another, the first at an offset and to a target, each other one to the one

@@ -10,46 +10,31 @@ u16_at octets offset = slice_index octets offset * 256 + slice_index octets (off
 abbrev pub u32_at : List ℕ → ℕ → ℕ
 u32_at octets offset = u16_at octets offset * 65536 + u16_at octets (offset + 2)
 
--- the parts of a header by their names: the ID, and QR, which is 1 in a response (RFC 1035 4.1.1)
-abbrev pub id_of : List ℕ → ℕ
-id_of octets = u16_at octets 0
-
-abbrev pub qr_of : List ℕ → ℕ
-qr_of octets = slice_index octets 2 / 128
-
--- OPCODE, 0 for a query and its response; TC, 1 where the message is truncated; RCODE, 0 where
--- there is no error
-abbrev pub opcode_of : List ℕ → ℕ
-opcode_of octets = slice_index octets 2 / 8 % 16
-
+-- TC, 1 where a message is truncated, and RCODE, 0 where there is no error (RFC 1035 4.1.1)
 abbrev pub tc_of : List ℕ → ℕ
 tc_of octets = slice_index octets 2 / 2 % 2
 
 abbrev pub rcode_of : List ℕ → ℕ
 rcode_of octets = slice_index octets 3 % 16
 
--- QDCOUNT, ANCOUNT, NSCOUNT and ARCOUNT: how many questions, answers, authority and additional
--- records there are
+-- QDCOUNT, ANCOUNT and ARCOUNT: how many questions, answers and additional records there are
 abbrev pub qdcount_of : List ℕ → ℕ
 qdcount_of octets = u16_at octets 4
 
 abbrev pub ancount_of : List ℕ → ℕ
 ancount_of octets = u16_at octets 6
 
-abbrev pub nscount_of : List ℕ → ℕ
-nscount_of octets = u16_at octets 8
-
 abbrev pub arcount_of : List ℕ → ℕ
 arcount_of octets = u16_at octets 10
 
--- a response to a query
+-- a response to a query: QR, the highest bit of its octet, is 1, and OPCODE, the next four, is 0
 abbrev pub IsResponse : List ℕ → Type 0
-IsResponse octets = (qr_of octets ≡ 1) × (opcode_of octets ≡ 0)
+IsResponse octets = (slice_index octets 2 / 128 ≡ 1) × (slice_index octets 2 / 8 % 16 ≡ 0)
 
--- the counts of a message of a transfer: at most one question, and no authority record (RFC 5936
--- 2.2)
+-- the counts of a message of a transfer: at most one question, and no authority record, which
+-- NSCOUNT counts (RFC 5936 2.2)
 abbrev pub HasCounts : List ℕ → Type 0
-HasCounts octets = (qdcount_of octets ≤ 1) × (nscount_of octets ≡ 0)
+HasCounts octets = (qdcount_of octets ≤ 1) × (u16_at octets 8 ≡ 0)
 
 -- the header of a message of a transfer: whole, of a response that isn't truncated and has no error
 -- (RFC 5936 2.2.1)
@@ -117,13 +102,6 @@ abbrev pub AreAt : {X : Type 0} → (ℕ → X → Type 0) → (X → ℕ) → �
 AreAt Is end_of offset [] end = offset ≡ end
 AreAt Is end_of offset (x ∷ parts) end = Is offset x × AreAt Is end_of (end_of x) parts end
 
-abbrev pub AreQuestionsAt : List ℕ → ℕ → List QuestionAt → ℕ → Type 0
-AreQuestionsAt octets offset questions end =
-    AreAt (IsQuestionAt octets) (λ q. q.end) offset questions end
-
-abbrev pub AreRecordsAt : List ℕ → ℕ → List RecordAt → ℕ → Type 0
-AreRecordsAt octets offset records end = AreAt (IsRecordAt octets) (λ r. r.end) offset records end
-
 -- what stands in a message
 pub record Sections : Type 0 where
   pub id : ℕ
@@ -135,12 +113,12 @@ pub record Sections : Type 0 where
 -- nothing after them
 pub record IsMessage (octets : List ℕ) (s : Sections) : Type 0 where
   pub header : HasHeader octets
-  pub id : s.id ≡ id_of octets
+  pub id : s.id ≡ u16_at octets 0
   pub question_count : length s.questions ≡ qdcount_of octets
   pub answer_count : length s.answers ≡ ancount_of octets
   pub additional_count : length s.additional ≡ arcount_of octets
   pub past_questions : ℕ
   pub past_answers : ℕ
-  pub questions : AreQuestionsAt octets 12 s.questions past_questions
-  pub answers : AreRecordsAt octets past_questions s.answers past_answers
-  pub additional : AreRecordsAt octets past_answers s.additional (length octets)
+  pub questions : AreAt (IsQuestionAt octets) (λ q. q.end) 12 s.questions past_questions
+  pub answers : AreAt (IsRecordAt octets) (λ r. r.end) past_questions s.answers past_answers
+  pub additional : AreAt (IsRecordAt octets) (λ r. r.end) past_answers s.additional (length octets)

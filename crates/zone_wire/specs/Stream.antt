@@ -42,14 +42,6 @@ abbrev pub AskAfter : List StatedMessage → Sections → Type 0
 AskAfter before s =
     AllByRecursion (AsksIn (zone_of (asked_in before) (placed_in before))) s.questions
 
--- octets are a message that stands after others: of the same ID, and its questions are for the same
--- zone
-pub record IsMessageAfter (before : List StatedMessage) (octets : List ℕ)
-    (s : Sections) : Type 0 where
-  pub message : IsMessage octets s
-  pub same_id : HasFirstId before s
-  pub asks : AskAfter before s
-
 -- what the answers of a message after others give
 abbrev pub GiveAfter : List StatedMessage → List ℕ → Sections → List Placed → Option (Fault × ℕ)
     → Type 0
@@ -57,9 +49,12 @@ GiveAfter before octets s placed stop =
     AnswersGive (length before + 1) octets (asked_in before ++ s.questions) (placed_in before)
     s.answers placed stop
 
--- a message after others is read: each of its answers gives a record
+-- a message after others is read: it is of the same ID, its questions are for the same zone, and
+-- each of its answers gives a record
 pub record IsReadAfter (before : List StatedMessage) (p : StatedMessage) : Type 0 where
-  pub message : IsMessageAfter before p.octets p.sections
+  pub message : IsMessage p.octets p.sections
+  pub same_id : HasFirstId before p.sections
+  pub asks : AskAfter before p.sections
   pub gives : GiveAfter before p.octets p.sections p.placed None
 
 -- The first fault of a message after others and the offset at which it stands, and the records that

@@ -1,8 +1,8 @@
 -- The records that a zone transfer states: a stream of messages, each after its length (RFC 5936
 -- 2.2, 3; RFC 1035 4.2.2).
 use Rattle.std.specs.Prelude.{◌≡◌, ◌≢◌, ℕ, ◌+◌, ◌-◌, ◌/◌, ◌%◌, ◌≤◌, List, [], ◌∷◌, ◌++◌, length, take, drop, nat_lt, if◌then◌else◌, MatchOption, ⊤}
-use Rattle.std.specs.List.{flat_map, AllByRecursion}
-use Rattle.zone_rdata.specs.Field.{FieldValue, name, field_octets, octets_of, HoldEach}
+use Rattle.std.specs.List.{flat_map, AllByRecursion, AllZip}
+use Rattle.zone_rdata.specs.Field.{FieldValue, name, field_octets, octets_of, Holds}
 use Rattle.zone_rdata.specs.Layout.{layout}
 use Rattle.zone_rdata.specs.Record.{Record, IsRecord}
 use Rattle.zone_rdata.specs.declared.fault.Place.TheVariants.{Message}
@@ -32,7 +32,7 @@ AreValuesAt octets start end (v ∷ values) =
 pub record AreFieldsAt (octets : List ℕ) (start end : ℕ) (fields : List Field)
     (canonical : List ℕ) : Type 0 where
   pub values : List FieldValue
-  pub held : HoldEach fields values
+  pub held : AllZip Holds fields values
   pub stand : AreValuesAt octets start end values
   pub whole : canonical ≡ octets_of values
 
@@ -67,11 +67,8 @@ pub record AnswerStates (octets : List ℕ) (a : RecordAt) (r : Record) : Type 0
 
 -- each answer of the message of this number states its record, which stands at the answer's offset
 abbrev pub AnswersState : ℕ → List ℕ → List RecordAt → List Placed → Type 0
-AnswersState number octets [] [] = ⊤
-AnswersState number octets (a ∷ answers) (p ∷ placed) =
-    AnswerStates octets a p.rr × (p.place ≡ Message number a.offset)
-    × AnswersState number octets answers placed
-AnswersState number octets answers placed = ⊥
+AnswersState number octets answers placed =
+    AllZip (λ a p. AnswerStates octets a p.rr × (p.place ≡ Message number a.offset)) answers placed
 
 -- a message of a stream, what stands in it, and the records that its answers state
 pub record StatedMessage : Type 0 where

@@ -18,7 +18,7 @@ ghost use Rattle.zone_rdata.specs.declared.fault.Fault.{Fault};
 ghost use Rattle.zone_rdata.specs.declared.fault.Place.{Place};
 ghost use Rattle.zone_rdata.specs.declared.record.Placed.{Placed};
 ghost use Rattle.zone_wire.specs.Visits.{labels_in, pointers_in, LeadToLast};
-ghost use Rattle.zone_wire.specs.Walk.{Visit, ending, IsWalk};
+ghost use Rattle.zone_wire.specs.Walk.{Visit, IsWalk};
 
 /// At most one name stands at an offset of a message.
 pub fn one_name_at_an_offset()
@@ -44,37 +44,44 @@ pub fn a_name_is_bounded()
 /// and what is neither stands at the last place alone.
 pub fn a_walk_is_bounded()
     ensures places { (message : Octets) (offset : ℕ) (visits : List Visit)
-        → IsWalk message offset visits
+        (ending : Option Fault)
+        → IsWalk message offset visits ending
         → length visits ≤ 256 }
     ensures labels { (message : Octets) (offset : ℕ) (visits : List Visit)
-        → IsWalk message offset visits
+        (ending : Option Fault)
+        → IsWalk message offset visits ending
         → labels_in visits ≤ 127 }
     ensures pointers { (message : Octets) (offset : ℕ) (visits : List Visit)
-        → IsWalk message offset visits
+        (ending : Option Fault)
+        → IsWalk message offset visits ending
         → pointers_in visits ≤ 128 }
     ensures last { (message : Octets) (offset : ℕ) (visits : List Visit)
-        → IsWalk message offset visits
+        (ending : Option Fault)
+        → IsWalk message offset visits ending
         → LeadToLast visits }
     ensures inside { (message : Octets) (offset : ℕ) (visits : List Visit)
-        → IsWalk message offset visits
+        (ending : Option Fault)
+        → IsWalk message offset visits ending
         → AllByRecursion (λ visit. visit.offset < length message) visits }
 {}
 
 /// The walk of a name ends at the root, after as many places as the name has steps.
 pub fn a_name_is_walked()
     ensures ending { (message : Octets) (offset : ℕ) (found : Found) (visits : List Visit)
+        (ending : Option Fault)
         → IsNameAt message offset found
-        → IsWalk message offset visits → ending visits ≡ None }
+        → IsWalk message offset visits ending → ending ≡ None }
     ensures steps { (message : Octets) (offset : ℕ) (found : Found) (visits : List Visit)
+        (ending : Option Fault)
         → IsNameAt message offset found
-        → IsWalk message offset visits → length visits ≡ found.steps }
+        → IsWalk message offset visits ending → length visits ≡ found.steps }
 {}
 
 /// Where the walk ends at the root, a name stands.
 pub fn a_walk_to_the_root_is_a_name()
     ensures { (message : Octets) (offset : ℕ) (visits : List Visit)
         → ((i : ℕ) → slice_index message i < 256)
-        → IsWalk message offset visits → ending visits ≡ None → (found : Found)
+        → IsWalk message offset visits None → (found : Found)
         × IsNameAt message offset found }
 {}
 

@@ -1,4 +1,4 @@
-ghost use Rattle.std.specs.Prelude.{◌≡◌, ◌<◌, ◌≤◌, ℕ, [], length, IfOk, IfErr, IsOk, MatchResult, List};
+ghost use Rattle.std.specs.Prelude.{◌≡◌, ◌<◌, ◌≤◌, ℕ, [], length, IfOk, IfErr, IsOk, MatchResult, List, Option};
 ghost use Rattle.zone_wire.specs.Name.{Found, IsNameAt, found_by};
 ghost use Rattle.zone_wire.specs.Machine.Finding.{Says, Tells, outcome};
 ghost use Rattle.zone_wire.specs.Walk.{Visit, IsWalk, NameFault};
@@ -32,8 +32,8 @@ pub fn name_at(message: &[u8], offset: usize) -> Result<Decoded, (Fault, u16)>
     ensures only { (found : Found) → IsNameAt message.now offset found → IsOk result }
     ensures within { IfOk result (λ d. (offset < d.end) × (d.end ≤ length message.now)) }
     ensures fault { IfErr result (λ e. NameFault message.now offset e.0) }
-    ensures places { IfErr result (λ e. (visits : List Visit)
-        → IsWalk message.now offset visits → e.1 ≡ length visits) }
+    ensures places { IfErr result (λ e. (visits : List Visit) (ending : Option Fault)
+        → IsWalk message.now offset visits ending → e.1 ≡ length visits) }
     ensures few { MatchResult result (λ d. d.steps ≤ 256) (λ e. e.1 ≤ 256) }
 {
     walked(message, offset)

@@ -1,7 +1,7 @@
 ghost use Rattle.std.specs.Prelude.{◌≡◌, ◌+◌, ◌^◌, ◌<◌, ◌≤◌, length, slice_index, Some};
 ghost use Rattle.zone_wire.specs.Name.{target_at};
 ghost use Rattle.zone_wire.specs.Machine.Spot.{spot_of, standing_of, ticks_at};
-ghost use Rattle.zone_wire.specs.Walk.{outset, past_label, past_pointer};
+ghost use Rattle.zone_wire.specs.Machine.Walk.{outset, past_label, past_pointer};
 ghost use Rattle.zone_wire.specs.Machine.Walk.{standing_in, label_of, pointer_of};
 
 use crate::number::u16_at;

@@ -1,6 +1,6 @@
 -- Several strings: one or more character-strings, up to the end of the data (RFC 1035 3.3.14).
 use Rattle.std.specs.Prelude.{◌≡◌, ℕ, zero, suc, ◌<◌, List, [], ◌∷◌, length, take, drop, map, ⊤, ◌⊎◌}
-use Rattle.std.specs.List.{join_with_byte, AllByRecursion}
+use Rattle.std.specs.List.{join_with_byte, AllByRecursion, AllZip}
 use Rattle.zone_rdata.specs.declared.fault.Fault.{Fault}
 use Rattle.zone_rdata.specs.declared.fault.Fault.TheVariants.{BadRdata}
 use Rattle.zone_rdata.specs.Item.{RawItem}
@@ -21,17 +21,10 @@ strings_by (suc n) (c ∷ octets) = take c octets ∷ strings_by n (drop c octet
 unfoldable pub strings_of : List ℕ → List (List ℕ)
 strings_of octets = strings_by (length octets) octets
 
--- an item for each string, in order, which spells it
-abbrev pub SpellEachString : List RawItem → List (List ℕ) → Type 0
-SpellEachString [] [] = ⊤
-SpellEachString (item ∷ items) (octets ∷ many) =
-    SpellsString item octets × SpellEachString items many
-SpellEachString items many = ⊥
-
--- one item or more spell the strings
+-- one item or more spell the strings, an item each
 pub record SpellsStrings (items : List RawItem) (many : List (List ℕ)) : Type 0 where
   pub some : 0 < length items
-  pub each : SpellEachString items many
+  pub each : AllZip SpellsString items many
 
 -- the fault of the leftmost item that spells no string
 abbrev pub FirstStringFault : List RawItem → Fault → Type 0

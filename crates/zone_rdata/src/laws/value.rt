@@ -1,7 +1,7 @@
 //! Laws of the values of a layout and their octets (RFC 1035 3.3).
 ghost use Rattle.std.specs.Prelude.{◌≡◌, ◌≢◌, ◌≤◌, List, Some, length, ℕ};
-ghost use Rattle.std.specs.List.{AllByRecursion};
-ghost use Rattle.zone_rdata.specs.Field.{FieldValue, HoldEach, octets_of, values_of};
+ghost use Rattle.std.specs.List.{AllByRecursion, AllZip};
+ghost use Rattle.zone_rdata.specs.Field.{FieldValue, Holds, octets_of, values_of};
 ghost use Rattle.zone_rdata.specs.Layout.{IsData, layout};
 ghost use Rattle.zone_rdata.specs.declared.field.Field.{Field};
 ghost use Rattle.zone_rdata.specs.declared.field.Field.TheVariants.{Strings};
@@ -9,7 +9,7 @@ ghost use Rattle.zone_rdata.specs.declared.field.Field.TheVariants.{Strings};
 /// Values of a layout are data, unless their octets are too many.
 pub fn held_values_are_data()
     ensures { (class kind : ℕ) (fields : List Field) (values : List FieldValue)
-        → layout class kind ≡ Some fields → HoldEach fields values
+        → layout class kind ≡ Some fields → AllZip Holds fields values
         → length (octets_of values) ≤ 65535 → IsData class kind (octets_of values) }
 {}
 
@@ -19,14 +19,14 @@ pub fn held_values_are_data()
 pub fn values_without_strings_are_short()
     ensures { (class kind : ℕ) (fields : List Field) (values : List FieldValue)
         → layout class kind ≡ Some fields → AllByRecursion (λ field. field ≢ Strings) fields
-        → HoldEach fields values → length (octets_of values) ≤ 65535 }
+        → AllZip Holds fields values → length (octets_of values) ≤ 65535 }
 {}
 
 /// Values of a layout with the same octets are the same values.
 #[tactic(auto, using(crate::proofs::Layouts::equal_values))]
 pub fn equal_octets_are_equal_values()
     ensures { (class kind : ℕ) (fields : List Field) (values others : List FieldValue)
-        → layout class kind ≡ Some fields → HoldEach fields values → HoldEach fields others
+        → layout class kind ≡ Some fields → AllZip Holds fields values → AllZip Holds fields others
         → octets_of values ≡ octets_of others → values ≡ others }
 {}
 
@@ -34,6 +34,6 @@ pub fn equal_octets_are_equal_values()
 #[tactic(auto, using(crate::proofs::Layouts::got_back))]
 pub fn values_are_got_back()
     ensures { (class kind : ℕ) (fields : List Field) (values : List FieldValue)
-        → layout class kind ≡ Some fields → HoldEach fields values
+        → layout class kind ≡ Some fields → AllZip Holds fields values
         → values_of fields (octets_of values) ≡ values }
 {}

@@ -6,7 +6,7 @@ use Rattle.zone_name.specs.Spelling.{Spells}
 use Rattle.zone_rdata.specs.Fields.Name.{IsNameFault}
 use Rattle.zone_rdata.specs.Minimum.{minimum}
 use Rattle.zone_rdata.specs.Record.{Data, Record}
-use Rattle.zone_rdata.specs.Spelling.{RawItem, States}
+use Rattle.zone_rdata.specs.Spelling.{RawItem, bare, States}
 use Rattle.zone_rdata.specs.declared.fault.Failing.{Failing}
 use Rattle.zone_rdata.specs.declared.fault.Failing.TheVariants as failings
 use Rattle.zone_rdata.specs.declared.fault.Fault.{Fault}
@@ -15,10 +15,10 @@ use Rattle.zone_rdata.specs.declared.fault.Place.{Place}
 use Rattle.zone_rdata.specs.declared.queue.PendingRecords.{PendingRecords}
 use Rattle.zone_text.specs.ParserState.{IsStateAfter, IsTtlOrNone}
 use Rattle.zone_text.specs.Entries.{Entry}
-use Rattle.zone_text.specs.EntryFault.{EntryFault}
-use Rattle.zone_text.specs.Statements.{statement_of, parts_of, parts_after}
-use Rattle.zone_text.specs.Inherited.{IsLastOwner, IsOwner, IsTtl, one_bare, ttl_text}
-use Rattle.zone_text.specs.Records.{Head, HasHead, StatesNothing, EntryStates}
+use Rattle.zone_text.specs.EntryFault.{EntryFault, WordFault}
+use Rattle.zone_text.specs.Statements.{statement_of, parts_in, parts_after, ttl}
+use Rattle.zone_text.specs.Inherited.{IsLastOwner, IsOwner, IsTtl, ttl_text}
+use Rattle.zone_text.specs.Records.{HasHead, StatesNothing, EntryStates}
 use Rattle.zone_text.specs.declared.parser_state.ParserState.{ParserState}
 
 -- an entry that states no record, and what is left to those after it
@@ -63,7 +63,7 @@ pub record IsRecordEntry (origin : Labels) (before : List Entry) (entry : Entry)
   pub held : Option Labels
   pub state : IsStateAfter origin before (with_owner held d)
   pub owner : IsOwner origin before (statement_of entry) name
-  pub parts : parts_of entry ≡ Some (parts_after [] items)
+  pub parts : parts_in (statement_of entry) ≡ Some (parts_after [] items)
 
 -- the owner of a record entry and of those after it, or the fault that there is none
 abbrev pub HasOwnerOrNone : Labels → List Entry → Entry → ParserState → List RawItem → Type 0
@@ -72,12 +72,23 @@ HasOwnerOrNone origin before entry d items =
     (λ name. IsRecordEntry origin before entry d name items
     × IsLastOwner origin (entry ∷ before) name)
 
+-- what a record entry states before its data, and the items of its data
+pub record Head : Type 0 where
+  pub owner : Labels
+  pub class : ℕ
+  pub kind : ℕ
+  pub items : List RawItem
+
+abbrev pub HasHeadOf : Labels → List Entry → Entry → Head → Type 0
+HasHeadOf origin before entry head =
+    HasHead origin before entry head.owner head.class head.kind head.items
+
 -- a record entry up to its data, and the TTL that is looked for
 pub record IsReadTo (origin : Labels) (before : List Entry) (entry : Entry) (d : ParserState)
     (head : Head) (own : Option ℕ) (rdata : Data) (last found : Option ℕ) : Type 0 where
   pub held : Option Labels
   pub state : IsStateAfter origin before (with_owner held d)
-  pub has : HasHead origin before entry head
+  pub has : HasHeadOf origin before entry head
   pub own_ttl : IsTtlOrNone (ttl_text (statement_of entry)) own
   pub class : rdata.class ≡ head.class
   pub kind : rdata.kind ≡ head.kind
@@ -118,6 +129,10 @@ pub record SetsOwner (text : List ℕ) (d next : ParserState) : Type 0 where
   pub spelled : Spells (Some d.origin) text name
   pub others : next ≡ with_owner (Some name) d
 
+abbrev pub one_bare : List RawItem → Option (List ℕ)
+one_bare (bare text ∷ []) = Some text
+one_bare items = None
+
 -- `$ORIGIN` has one bare item, the name of which the origin becomes
 pub record SetsOrigin (items : List RawItem) (d next : ParserState) : Type 0 where
   pub text : List ℕ
@@ -137,3 +152,8 @@ pub record SetsTtl (items : List RawItem) (d next : ParserState) : Type 0 where
 abbrev pub OriginFaultUnder : Labels → Option (List ℕ) → Fault → Type 0
 OriginFaultUnder above None fault = fault ≡ BadDirective
 OriginFaultUnder above (Some text) fault = IsNameFault above text fault
+
+-- the item of `$TTL` is no time of 31 bits
+abbrev pub DefaultTtlFault : Option (List ℕ) → Fault → Type 0
+DefaultTtlFault None fault = fault ≡ BadDirective
+DefaultTtlFault (Some text) fault = WordFault (ttl text) fault

@@ -1,7 +1,7 @@
 -- What a parsed message and its answers hold.
 use Rattle.std.specs.Prelude.{◌≡◌, ℕ, List, [], map, length, Result, Ok, Err}
 use Rattle.zone_rdata.specs.declared.fault.Fault.{Fault}
-use Rattle.zone_wire.specs.Message.{RecordAt, Sections, AreRecordsAt, IsMessage}
+use Rattle.zone_wire.specs.Message.{RecordAt, Sections, AreAt, IsRecordAt, IsMessage}
 use Rattle.zone_wire.specs.Machine.Finding.{Outcome, named, refused}
 use Rattle.zone_wire.specs.Machine.Sections.{sections_of, records_from}
 use Rattle.zone_wire.specs.View.{Parsed, RawRecord, raw_at}
@@ -13,6 +13,9 @@ sections_or_none (Err e) = record { id = 0; questions = []; answers = []; additi
 
 abbrev pub parsed : List ℕ → Parsed
 parsed octets = record { octets = octets; sections = sections_or_none (sections_of octets) }
+
+abbrev pub AreRecordsAt : List ℕ → ℕ → List RecordAt → ℕ → Type 0
+AreRecordsAt octets offset records end = AreAt (IsRecordAt octets) (λ r. r.end) offset records end
 
 -- octets that are a message, whose answers begin at an offset
 pub record IsParsed (octets : List ℕ) (answers : ℕ) : Type 0 where

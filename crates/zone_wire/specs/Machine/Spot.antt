@@ -3,7 +3,8 @@ use Rattle.std.specs.Prelude.{ℕ, Option, Some, None, Result, Ok, Err}
 use Rattle.zone_rdata.specs.Cause.{fault_for}
 use Rattle.zone_rdata.specs.declared.cause.Cause.{Cause}
 use Rattle.zone_rdata.specs.declared.fault.Fault.{Fault}
-use Rattle.zone_wire.specs.Walk.{Spot, Standing, at_root, at_label, at_pointer, at_fault}
+use Rattle.zone_wire.specs.Machine.Walk.{Spot}
+use Rattle.zone_wire.specs.Walk.{Standing, at_root, at_label, at_pointer, at_fault}
 use Rattle.zone_wire.specs.declared.spot.Spot as held
 use Rattle.zone_wire.specs.declared.spot.Standing as found
 use Rattle.zone_wire.specs.declared.spot.Standing.TheVariants.{Outside, Root, Label, Pointer, Bad}

@@ -2,8 +2,29 @@
 -- `IsWalk` holds of.
 use Rattle.std.specs.Prelude.{ℕ, zero, suc, ◌+◌, List, [], ◌∷◌, length, slice_index, nat_le, nat_lt, nat_eq, ◌||◌, if◌then◌else◌, Option, Some, None}
 use Rattle.zone_wire.specs.Name.{target_at}
-use Rattle.zone_wire.specs.Walk.{Standing, at_root, at_label, at_pointer, at_fault, Visit, Spot, outset, past_label, past_pointer, visit}
+use Rattle.zone_wire.specs.Walk.{Standing, at_root, at_label, at_pointer, at_fault, Visit, visit}
+use Rattle.zone_rdata.specs.declared.fault.Fault.{Fault}
 use Rattle.zone_rdata.specs.declared.fault.Fault.TheVariants.{ShortMessage, NameTooLong, ReservedLabel, BadPointer, TooManyPointers}
+
+-- A spot that is come to: its offset, the offset at which the run of labels began that stands
+-- there, and how many pointers and octets of labels, each with its length, stand before it.
+pub record Spot : Type 0 where
+  pub offset : ℕ
+  pub bound : ℕ
+  pub pointers : ℕ
+  pub octets : ℕ
+
+-- where the walk of the name at an offset begins
+abbrev pub outset : ℕ → Spot
+outset offset = record { offset = offset; bound = offset; pointers = 0; octets = 0 }
+
+abbrev pub past_label : Spot → ℕ → Spot
+past_label spot size =
+    record spot { offset = spot.offset + 1 + size; octets = spot.octets + 1 + size }
+
+abbrev pub past_pointer : Spot → ℕ → Spot
+past_pointer spot target =
+    record spot { offset = target; bound = target; pointers = spot.pointers + 1 }
 
 -- a label: its octets lie in the message, and with it and the root the name has at most 255 octets
 abbrev pub label_of : List ℕ → Spot → ℕ → Standing
@@ -38,11 +59,11 @@ standing_in message spot =
 -- a walk from a spot on, where `rest` walks on
 abbrev pub walk_on : (Spot → List Visit) → Spot → Option Standing → List Visit
 walk_on rest spot None = []
-walk_on rest spot (Some at_root) = visit spot at_root ∷ []
-walk_on rest spot (Some (at_label size)) = visit spot (at_label size) ∷ rest (past_label spot size)
+walk_on rest spot (Some at_root) = visit spot.offset at_root ∷ []
+walk_on rest spot (Some (at_label size)) = visit spot.offset (at_label size) ∷ rest (past_label spot size)
 walk_on rest spot (Some (at_pointer target)) =
-    visit spot (at_pointer target) ∷ rest (past_pointer spot target)
-walk_on rest spot (Some (at_fault fault)) = visit spot (at_fault fault) ∷ []
+    visit spot.offset (at_pointer target) ∷ rest (past_pointer spot target)
+walk_on rest spot (Some (at_fault fault)) = visit spot.offset (at_fault fault) ∷ []
 
 -- at most n spots
 unfoldable pub walk_by : ℕ → List ℕ → Spot → List Visit
@@ -53,3 +74,14 @@ walk_by (suc n) message spot = walk_on (walk_by n message) spot (standing_in mes
 -- the last spot.
 unfoldable pub walk : List ℕ → ℕ → List Visit
 walk message offset = walk_by 256 message (outset offset)
+
+-- the fault with which a walk ends, none where it ends at the root
+unfoldable pub ending : List Visit → Option Fault
+ending [] = Some ShortMessage
+ending (last ∷ visits) =
+    elim last.standing [
+      | at_root ↦ None
+      | at_label size ↦ ending visits
+      | at_pointer target ↦ ending visits
+      | at_fault fault ↦ Some fault
+    ]

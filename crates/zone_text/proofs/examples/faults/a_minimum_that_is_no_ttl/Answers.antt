@@ -7,4 +7,4 @@ pub returns : goal.returns
 unfolding units_by units_first before_line_feed from_line_feed front_of cut_by cutting
 returns c =
     let states = states_minimum (codes "2147483648") 2147483648 [] _ [] long_time (lit< tt) minimum_too_long refl (x, (refl, at_spells x x_name)) tt refl refl in
-    whole _ (cut_is_read _ _ refl) (refused _ (of_ttl states.head states.octets states.has states.rdata (long 2147483648 (inl states) (lit< tt))) refl refl)
+    whole _ (cut_is_read _ _ refl) (refused _ (of_ttl states.0 states.1 states.2 (long 2147483648 (inl states) (lit< tt))) refl refl)

@@ -8,7 +8,12 @@ pub returns : goal.returns
 unfolding units_by units_first before_line_feed from_line_feed front_of cut_by cutting
 returns c =
     whole _ (cut_is_read _ _ refl)
-    (refused _ (of_ttl (record { owner = x; class = 1; kind = 2; items = bare (codes "n.x.") ∷ [] }) _
-    (record { parts = record { words = []; rest = bare (codes "NS") ∷ bare (codes "n.x.") ∷ [] }; word = codes "NS"; split = refl; owner = (x, (refl, at_spells x x_name)); words = tt; class = refl; rest = refl; named = is_ns; kind = ns_kind })
-    (record { above = x; under = refl; states = ns_states x 1 })
+    (refused _ (of_ttl x (record { class = 1; kind = 2; octets = _ })
+    (record {
+      items = bare (codes "n.x.") ∷ [];
+      above = x;
+      head = record { parts = record { words = []; rest = bare (codes "NS") ∷ bare (codes "n.x.") ∷ [] }; word = codes "NS"; split = refl; owner = (x, (refl, at_spells x x_name)); words = tt; class = refl; rest = refl; named = is_ns; kind = ns_kind };
+      under = refl;
+      states = ns_states x 1;
+    })
     (none (λ seconds has. elim has [ inl states ↦ ns_has_no_minimum c.kind_word_is_unique.ensures [] _ [] _ seconds refl states | inr others ↦ others.1 ]))) refl refl)
