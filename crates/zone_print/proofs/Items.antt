@@ -1,6 +1,6 @@
 -- The line of a record as a line of items of a master file.
 use Rattle.std.proofs.Common.{◌≡◌, ◌≢◌, ℕ, ◌<◌, false, List, [], ◌∷◌, ◌++◌, length, map, decimal, refl, sym, ap, ◌∙◌, subst, arith, append_assoc}
-use Rattle.std.specs.Prelude.{IfSome}
+use Rattle.std.specs.Prelude.{IfSome, slice_get}
 use Rattle.std.specs.List.{flat_map, AllByRecursion, join_with_byte}
 use Rattle.std.proofs.lemmas.List.{length-map}
 use Rattle.zone_name.specs.Text.{name_text}
@@ -13,7 +13,7 @@ use Rattle.zone_rdata.specs.Words.{class_text, kind_text}
 use Rattle.zone_rdata.proofs.PrintedWords.{class_bare, kind_bare}
 use Rattle.zone_rdata.proofs.Standing.{IsPrintedItem, bare_decimal}
 use Rattle.zone_rdata.proofs.TextItems.{data_some, data_stands}
-use Rattle.zone_text.specs.Entries.{entry_of, first_octet, item_of}
+use Rattle.zone_text.specs.Entries.{entry_of, item_of}
 use Rattle.zone_text.specs.Line.{IsItem, line_of}
 use Rattle.zone_text.specs.Tokens.{Token, text, is_blank}
 use Rattle.zone_text.proofs.StandingItems.{BeginsOwner, tokens_of, text_begins}
@@ -61,9 +61,9 @@ items_joined r is =
     let some : 0 < length texts = omega (arith, length-map (data_items (data_of r)) written_item, data_some (data_of r) is.rdata) in
     parts_joined (name_text r.owner) (decimal r.ttl) (class_text r.class) (kind_text r.class r.kind) texts some
 
-line_begins : (r : Record) → IsRecord r → IfSome (first_octet (line r)) BeginsOwner
+line_begins : (r : Record) → IsRecord r → IfSome (slice_get (line r) 0) BeginsOwner
 line_begins r is =
-    subst (λ t. IfSome (first_octet t) BeginsOwner)
+    subst (λ t. IfSome (slice_get t 0) BeginsOwner)
     (sym (line_parts (name_text r.owner) (decimal r.ttl) (class_text r.class) (kind_text r.class r.kind) (data_text (data_of r))))
     (text_begins (name_text r.owner) _ (bare_name r.owner is.owner))
 
@@ -76,5 +76,5 @@ line_items r is =
       items = all.each;
       printed = printed;
       entries = all.same;
-      begins = subst (λ t. IfSome (first_octet t) BeginsOwner) (sym printed) (line_begins r is);
+      begins = subst (λ t. IfSome (slice_get t 0) BeginsOwner) (sym printed) (line_begins r is);
     }
