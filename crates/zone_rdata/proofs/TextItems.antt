@@ -44,7 +44,10 @@ generic_written : (octets : List ℕ) → generic_text octets ≡ join_with_byte
 generic_written octets = grind (arith, printed-text)
 
 written_for : (laid : Option (List Field)) (octets : List ℕ) → AreFor laid octets → laid_out_text laid octets ≡ join_with_byte 32 (map written_item (laid_out_items laid octets))
-written_for laid octets value = grind (arith, generic_written, joined_spaced, each_spaced)
+written_for None octets value = generic_written octets
+written_for (Some row) octets value =
+    let values = values_of row octets in
+    joined_spaced (map field_text values) ∙ ap (drop 1) (sym (each_spaced row values value.held)) ∙ sym (joined_spaced (map written_item (flat_map field_items values)))
 
 -- what is printed field by field is the text
 pub data_written : (d : Data) → IsRdata d → laid_out_text (layout d.class d.kind) d.octets ≡ data_text d
@@ -83,7 +86,8 @@ each_some (f ∷ row) [] some h = absurd h
 each_some (f ∷ row) (v ∷ values) some h = omega (arith, length-append (field_items v) (flat_map field_items values), field_some f v h.0)
 
 laid_out_some : (laid : Option (List Field)) (octets : List ℕ) → ((row : List Field) → laid ≡ Some row → 0 < length row) → AreFor laid octets → 0 < length (laid_out_items laid octets)
-laid_out_some laid octets table value = grind (arith, each_some)
+laid_out_some None octets table value = omega arith
+laid_out_some (Some row) octets table value = each_some row (values_of row octets) (table row refl) value.held
 
 row_some : (class kind : ℕ) (row : List Field) → layout class kind ≡ Some row → 0 < length row
 row_some class kind row e = grind arith

@@ -1,6 +1,6 @@
 -- The names that proofs here cite most: of definitions, and of std.
 pub use Rattle.std.proofs.Common.{Bool, List, [], ap, append_assoc, arith, false, get_or-drop, inl, inr, length, length-append, lit<, lit≤, nat_eq, nat_le, nat_lt, refl, rules, subst, suc, sym, true, vec_len, zero, ℕ, ◌%◌, ◌*◌, ◌++◌, ◌+◌, ◌-◌, ◌/◌, ◌<◌, ◌^◌, ◌∙◌, ◌∷◌, ◌≡◌, ◌≢◌, ◌≤◌}
-pub use Rattle.std.proofs.lemmas.Bool.{and_cases, and_from, and_parts, cond-false, cond-true, cond_both, eq-eqb, eqb-true, false_from_ne_true, false≢true, le-leb, le-ltb, leb-false, leb-true, lt-leb, lt-ltb, ltb-false, ltb-true, not-false, not-true, or_cases, or_from, or_left, or_parts, or_right}
+pub use Rattle.std.proofs.lemmas.Bool.{and_cases, and_from, and_parts, cases_lt, cond-false, cond-true, cond_both, eq-eqb, eqb-true, false_from_ne_true, false≢true, le-leb, le-ltb, leb-false, leb-true, lt-leb, lt-ltb, ltb-false, ltb-true, not-false, not-true, or_cases, or_from, or_left, or_parts, or_right}
 pub use Rattle.std.proofs.lemmas.Bool.Decides.{nat_tests}
 pub use Rattle.std.proofs.lemmas.Grind.{common_steps}
 pub use Rattle.std.proofs.lemmas.List.{append-nil, drop-drop, drop-take, drop_all, drop_more, get_or-take, length-drop, length-map, length-take, length-take-le, map-append, reverse-reverse, take-append-drop, take_all}
@@ -37,7 +37,7 @@ pub use Rattle.zone_rdata.specs.Strings.{IsString}
 pub use Rattle.zone_rdata.specs.Words.{IsClass, IsKind, is_meta}
 pub use Rattle.zone_rdata.specs.declared.fault.Failing.{Failing}
 pub use Rattle.zone_rdata.specs.declared.fault.Fault.{Fault}
-pub use Rattle.zone_rdata.specs.declared.fault.Fault.TheVariants.{AfterClosing, BadClass, BadPointer, BadQuestion, BadRdata, CompressibleType, IdMismatch, MetaType, NoOpeningSoa, ShortFrame, ShortMessage, SoaMismatch, TooManyPointers, TrailingOctets}
+pub use Rattle.zone_rdata.specs.declared.fault.Fault.TheVariants.{AfterClosing, BadClass, BadPointer, BadQuestion, BadRdata, CompressibleType, IdMismatch, MetaType, NameTooLong, NoOpeningSoa, ShortFrame, ShortMessage, SoaMismatch, TooManyPointers, TrailingOctets}
 pub use Rattle.zone_rdata.specs.declared.fault.Place.{Place}
 pub use Rattle.zone_rdata.specs.declared.fault.Place.TheVariants.{Message}
 pub use Rattle.zone_rdata.specs.declared.fed.FedStatus.TheVariants.{Finished, Open}
@@ -75,6 +75,6 @@ pub use Rattle.zone_wire.specs.TransferSource.{AreAlike, StandsForStream, Stream
 pub use Rattle.zone_wire.specs.Unless.{NoFault, Unless, fails, holds}
 pub use Rattle.zone_wire.specs.View.{RawRecord, asked, raw_at}
 pub use Rattle.zone_wire.specs.Visits.{LeadToLast, is_label, is_pointer, labels_in, pointers_in}
-pub use Rattle.zone_wire.specs.Walk.{FaultHere, IsWalk, NameFault, Standing, Visit, Walks, at_fault, at_label, at_pointer, at_root, bad_target, by_pointer, cut_label, cut_pointer, long_name, outside, over_label, reserved, to_fault, to_root, too_many, visit}
+pub use Rattle.zone_wire.specs.Walk.{FaultHere, IsWalk, NameFault, Standing, Visit, Walks, at_fault, at_label, at_pointer, at_root, by_pointer, outside, over_label, to_fault, to_root, visit}
 pub use Rattle.zone_wire.specs.declared.message.Question.{Question}
 pub use Rattle.zone_wire.specs.declared.transfer.Transfer.{Transfer}

@@ -1,5 +1,5 @@
 -- What stands at a place, read off the octets, and back.
-use Rattle.zone_wire.proofs.Common.{BadPointer, Fault, FaultHere, IsLabelAt, IsPointerAt, List, None, Option, Some, Spot, Standing, TooManyPointers, ap, arith, at_fault, at_label, at_pointer, at_root, bad_target, common_steps, cond-false, cond-true, cond_both, cut_label, cut_pointer, eq-eqb, eqb-true, false, if◌then◌else◌, label_of, le-leb, leb-true, length, long_name, lt-ltb, ltb-true, nat_eq, nat_le, nat_lt, nat_tests, pointer_of, reserved, rules, slice_index, standing_in, target_at, too_many, true, ℕ, ◌+◌, ◌<◌, ◌||◌, ◌∙◌, ◌≡◌, ◌≢◌, ◌≤◌, ◌⊎◌}
+use Rattle.zone_wire.proofs.Common.{BadPointer, Fault, FaultHere, IsLabelAt, IsPointerAt, List, NameTooLong, None, Option, ShortMessage, Some, Spot, Standing, TooManyPointers, ap, arith, at_fault, at_label, at_pointer, at_root, cases_lt, common_steps, cond-false, cond-true, cond_both, eq-eqb, eqb-true, fails, false, holds, if◌then◌else◌, inl, inr, label_of, le-leb, leb-true, length, lt-ltb, ltb-true, nat_eq, nat_le, nat_lt, nat_tests, pointer_of, refl, rules, slice_index, standing_in, sym, target_at, true, ℕ, ◌+◌, ◌<◌, ◌||◌, ◌∙◌, ◌≡◌, ◌≢◌, ◌≤◌, ◌⊎◌}
 
 -- what the octets at a place are, by what stands there
 abbrev pub Shows : List ℕ → Spot → Option Standing → Type 0
@@ -28,20 +28,30 @@ one_of : (a b c d : ℕ) → nat_lt a b || nat_le c d ≡ true → (a < b) ⊎ (
 one_of a b c d e = grind arith
 
 shows_label : (message : List ℕ) (spot : Spot) → 0 < slice_index message spot.offset → slice_index message spot.offset ≤ 63 → Shows message spot (Some (label_of message spot (slice_index message spot.offset)))
-shows_label message spot some short = grind (arith, cond_both, cut_label, leb-true, slice_index, above, long_name)
+shows_label message spot some short =
+    let first : ℕ = slice_index message spot.offset in
+    cond_both (nat_le (length message) (spot.offset + first)) (at_fault ShortMessage) (if nat_lt 255 (spot.octets + first + 2) then at_fault NameTooLong else at_label first) (λ s. Shows message spot (Some s))
+    (λ cut. inl (some, short, fails (λ inside. omega (arith, leb-true _ _ cut, inside))))
+    (λ whole. cond_both (nat_lt 255 (spot.octets + first + 2)) (at_fault NameTooLong) (at_label first) (λ s. Shows message spot (Some s))
+    (λ long. inl (some, short, holds (above _ _ whole) (fails (λ room. omega (arith, ltb-true _ _ long, room)))))
+    (λ room. let shows : Shows message spot (Some (at_label first)) = (record { first = refl; some = some; short = short; inside = above _ _ whole }, at_least _ _ room) in shows))
+
+not_in : (target bound : ℕ) → (target < 12) ⊎ (bound ≤ target) → (12 ≤ target) × (target < bound) → ⊥
+not_in target bound (inl low) good = omega (arith, low, good.0)
+not_in target bound (inr late) good = omega (arith, late, good.1)
 
 shows_pointer : (message : List ℕ) (spot : Spot) → 192 ≤ slice_index message spot.offset → Shows message spot (Some (pointer_of message spot (target_at message spot.offset)))
 shows_pointer message spot first =
     let target = target_at message spot.offset in
     cond_both (nat_le (length message) (spot.offset + 1)) _ _ (λ s. Shows message spot (Some s))
-    (λ cut. cut_pointer first (leb-true _ _ cut))
+    (λ cut. inr (inr (first, fails (λ inside. omega (arith, leb-true _ _ cut, inside)))))
     (λ whole. cond_both (nat_lt target 12 || nat_le spot.bound target) (at_fault BadPointer) (if nat_le 128 spot.pointers then at_fault TooManyPointers else at_pointer target) (λ s. Shows message spot (Some s))
-    (λ bad. bad_target first (above _ _ whole) (one_of _ _ _ _ bad))
+    (λ bad. inr (inr (first, holds (above _ _ whole) (fails (not_in target spot.bound (one_of _ _ _ _ bad))))))
     (λ good.
     let both = neither target 12 spot.bound target good in
     let is : IsPointerAt message spot.offset spot.bound target = search rules in
     cond_both (nat_le 128 spot.pointers) (at_fault TooManyPointers) (at_pointer target) (λ s. Shows message spot (Some s))
-    (λ many. too_many target is (leb-true _ _ many))
+    (λ many. inr (inr (first, holds (above _ _ whole) (holds both (fails (λ few. omega (arith, leb-true _ _ many, few)))))))
     (λ few. let shows : Shows message spot (Some (at_pointer target)) = (is, above _ _ few) in shows)))
 
 -- what stands at a place shows its octets
@@ -55,7 +65,7 @@ standing_shows message spot =
     (λ some. cond_both _ _ _ (λ s. Shows message spot (Some s))
     (λ short. shows_label message spot (positive _ (unequal _ _ some)) (leb-true _ _ short))
     (λ long. cond_both _ _ _ (λ s. Shows message spot (Some s))
-    (λ below. reserved (above _ _ long) (ltb-true _ _ below))
+    (λ below. inr (inl (above _ _ long, ltb-true _ _ below, refl)))
     (λ high. shows_pointer message spot (at_least _ _ high)))))
 
 -- where no octet is, the place lies outside
@@ -93,6 +103,18 @@ bad_test a b low_or_not_before = grind arith
 pub here_of : (message : List ℕ) (i : ℕ) → 0 < slice_index message i → i < length message
 here_of message i h = grind (arith, common_steps)
 
+not_below : (a b : ℕ) → (a < b → ⊥) → b ≤ a
+not_below a b out = elim (cases_lt a b) [ inl less ↦ absurd (out less) | inr more ↦ more ]
+
+not_within : (a b : ℕ) → (a ≤ b → ⊥) → b < a
+not_within a b out = elim (cases_lt b a) [ inl less ↦ less | inr within ↦ absurd (out within) ]
+
+out_of_range : (target bound : ℕ) → ((12 ≤ target) × (target < bound) → ⊥) → (target < 12) ⊎ (bound ≤ target)
+out_of_range target bound bad = elim (cases_lt target 12) [
+  | inl low ↦ inl low
+  | inr past ↦ inr (not_below target bound (λ below. bad (past, below)))
+]
+
 -- a place that lies in the message, by its first octet
 module _ (message : List ℕ) (spot : Spot) where
   standing_short : 0 < slice_index message spot.offset → slice_index message spot.offset ≤ 63 → standing_in message spot ≡ Some (label_of message spot (slice_index message spot.offset))
@@ -121,11 +143,13 @@ module _ (message : List ℕ) (spot : Spot) where
 
   pub standing_fault : (fault : Fault) → FaultHere message spot.offset spot.bound spot.pointers spot.octets fault → standing_in message spot ≡ Some (at_fault fault)
   unfolding standing_in
-  standing_fault _ (cut_label some short cut) = standing_short some short ∙ ap Some (cond-true _ _ _ (le-leb _ _ cut))
-  standing_fault _ (long_name size is long) = standing_in_label size is ∙ ap Some (cond-false _ _ _ (below_length _ _ is.inside) ∙ cond-true _ _ _ (lt-ltb _ _ long))
-  standing_fault _ (reserved low below) =
+  standing_fault _ (inl (some, short, fails out)) = standing_short some short ∙ ap Some (cond-true _ _ _ (le-leb _ _ (not_below _ _ out)))
+  standing_fault _ (inl (some, short, holds inside (fails long))) = standing_short some short ∙ ap Some (cond-false _ _ _ (below_length _ _ inside) ∙ cond-true _ _ _ (lt-ltb _ _ (not_within _ _ long)))
+  standing_fault _ (inl (some, short, holds inside (holds room none))) = absurd none
+  standing_fault fault (inr (inl (low, below, is))) =
       let first = middle _ low in
-      cond-false _ _ _ (below_length _ _ (here_of message spot.offset (omega (arith, low)))) ∙ ap Some (cond-false _ _ _ first.0 ∙ cond-false _ _ _ first.1 ∙ cond-true _ _ _ (lt-ltb _ _ below))
-  standing_fault _ (cut_pointer first cut) = standing_high first ∙ ap Some (cond-true _ _ _ (le-leb _ _ cut))
-  standing_fault _ (bad_target first inside bad) = standing_high first ∙ ap Some (cond-false _ _ _ (below_length _ _ inside) ∙ cond-true _ _ _ (bad_test _ _ bad))
-  standing_fault _ (too_many target is many) = standing_in_pointer target is ∙ ap Some (cond-false _ _ _ (below_length _ _ is.inside) ∙ cond-false _ _ _ (good_target _ _ is.past_header is.below) ∙ cond-true _ _ _ (le-leb _ _ many))
+      cond-false _ _ _ (below_length _ _ (here_of message spot.offset (omega (arith, low)))) ∙ ap Some (cond-false _ _ _ first.0 ∙ cond-false _ _ _ first.1 ∙ cond-true _ _ _ (lt-ltb _ _ below) ∙ ap at_fault (sym is))
+  standing_fault _ (inr (inr (first, fails out))) = standing_high first ∙ ap Some (cond-true _ _ _ (le-leb _ _ (not_below _ _ out)))
+  standing_fault _ (inr (inr (first, holds inside (fails bad)))) = standing_high first ∙ ap Some (cond-false _ _ _ (below_length _ _ inside) ∙ cond-true _ _ _ (bad_test _ _ (out_of_range _ _ bad)))
+  standing_fault _ (inr (inr (first, holds inside (holds good (fails many))))) = standing_high first ∙ ap Some (cond-false _ _ _ (below_length _ _ inside) ∙ cond-false _ _ _ (good_target _ _ good.0 good.1) ∙ cond-true _ _ _ (le-leb _ _ (not_below _ _ many)))
+  standing_fault _ (inr (inr (first, holds inside (holds good (holds few none))))) = absurd none

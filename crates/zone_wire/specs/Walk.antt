@@ -1,6 +1,7 @@
 -- The walk along a name in a message: its places, and what stands there (RFC 1035 3.1, 4.1.4).
 use Rattle.std.specs.Prelude.{◌≡◌, ℕ, ◌+◌, ◌<◌, ◌≤◌, ◌⊎◌, List, [], ◌∷◌, length, slice_index, Option, Some, None}
 use Rattle.zone_wire.specs.Name.{target_at, IsLabelAt, IsPointerAt}
+use Rattle.zone_wire.specs.Unless.{Unless, NoFault}
 use Rattle.zone_rdata.specs.declared.fault.Fault.{Fault}
 use Rattle.zone_rdata.specs.declared.fault.Fault.TheVariants.{ShortMessage, NameTooLong, ReservedLabel, BadPointer, TooManyPointers}
 
@@ -24,21 +25,15 @@ visit offset standing = record { offset = offset; standing = standing }
 -- pointers and octets of labels, each with its length: a label or a pointer that isn't whole in the
 -- message; a label with which, and the root, the name has more than 255 octets; a first octet of 64
 -- to 191; a pointer to the header, or to the bound or after it; or the 129th pointer.
-pub data FaultHere (message : List ℕ) (offset bound pointers octets : ℕ) : Fault → Type 0 where
-  cut_label : 0 < slice_index message offset → slice_index message offset ≤ 63
-      → length message ≤ offset + slice_index message offset
-      → FaultHere message offset bound pointers octets ShortMessage
-  long_name : (size : ℕ) → IsLabelAt message offset size → 255 < octets + size + 2
-      → FaultHere message offset bound pointers octets NameTooLong
-  reserved : 64 ≤ slice_index message offset → slice_index message offset < 192
-      → FaultHere message offset bound pointers octets ReservedLabel
-  cut_pointer : 192 ≤ slice_index message offset → length message ≤ offset + 1
-      → FaultHere message offset bound pointers octets ShortMessage
-  bad_target : 192 ≤ slice_index message offset → offset + 1 < length message
-      → (target_at message offset < 12) ⊎ (bound ≤ target_at message offset)
-      → FaultHere message offset bound pointers octets BadPointer
-  too_many : (target : ℕ) → IsPointerAt message offset bound target → 128 ≤ pointers
-      → FaultHere message offset bound pointers octets TooManyPointers
+abbrev pub FaultHere : List ℕ → ℕ → ℕ → ℕ → ℕ → Fault → Type 0
+FaultHere message offset bound pointers octets fault =
+    let first = slice_index message offset in
+    ((0 < first) × (first ≤ 63) × Unless (offset + first < length message) ShortMessage
+    (Unless (octets + first + 2 ≤ 255) NameTooLong NoFault) fault)
+    ⊎ (((64 ≤ first) × (first < 192) × (fault ≡ ReservedLabel))
+    ⊎ ((192 ≤ first) × Unless (offset + 1 < length message) ShortMessage
+    (Unless ((12 ≤ target_at message offset) × (target_at message offset < bound)) BadPointer
+    (Unless (pointers < 128) TooManyPointers NoFault)) fault))
 
 -- The places of a walk from an offset on, the bound, the pointers and the octets of labels before
 -- it known, and the fault with which it ends, or none: it ends at the root, at a fault, or before
