@@ -5,7 +5,7 @@ pub use Rattle.std.proofs.lemmas.Grind.{common_steps}
 pub use Rattle.std.proofs.lemmas.List.{append-nil, length-map}
 pub use Rattle.std.proofs.lemmas.Result.{MatchResult-weaker, err_from_is_err_and}
 pub use Rattle.std.specs.List.{AllByRecursion, count_by, flat_map, join_with_byte, list_all}
-pub use Rattle.std.specs.Prelude.{IfSome, fold, slice_index}
+pub use Rattle.std.specs.Prelude.{IfSome, fold, slice_get, slice_index}
 pub use Rattle.zone_name.proofs.Sinks.{Took, Took-more}
 pub use Rattle.zone_name.specs.Text.{decimal_escape, is_printed, is_special, label_text, name_text, octet_text}
 pub use Rattle.zone_print.specs.Canonical.{canon, line, lines, text_limit}
@@ -19,7 +19,7 @@ pub use Rattle.zone_rdata.specs.Words.{IsClass, IsClassWord, IsKind, IsKindWord,
 pub use Rattle.zone_rdata.specs.declared.record.Placed.{Placed}
 pub use Rattle.zone_set.specs.Refusal.{records_of}
 pub use Rattle.zone_set.specs.Zone.{Has, IsZone, SameRecords, Zone}
-pub use Rattle.zone_text.specs.Entries.{Cut, Entry, and_last, cut_from, entries_of, entry_of, first_octet, item_of, numbered}
+pub use Rattle.zone_text.specs.Entries.{Cut, Entry, and_last, cut_from, entries_of, entry_of, item_of, numbered}
 pub use Rattle.zone_text.specs.File.{EntriesState, FileStates, states_one}
 pub use Rattle.zone_text.specs.Line.{IsItem, StatesWhole, line_of}
 pub use Rattle.zone_text.specs.Tokens.{Cuts, Token, is_blank, text}

@@ -1,25 +1,11 @@
 -- The line of a record as a line of items of a master file.
-<<<<<<< HEAD
-use Rattle.zone_print.proofs.Common.{common_steps, ◌≡◌, ◌≢◌, ℕ, ◌<◌, false, List, [], ◌∷◌, ◌++◌, length, map, decimal, arith, rules, IfSome, flat_map, AllByRecursion, join_with_byte, length-map, name_text, Record, IsRecord, data_of, data_items, written_item, class_text, kind_text, entry_of, first_octet, item_of, IsItem, line_of, Token, text, is_blank, line}
-=======
-use Rattle.std.proofs.Common.{◌≡◌, ◌≢◌, ℕ, ◌<◌, false, List, [], ◌∷◌, ◌++◌, length, map, decimal, refl, sym, ap, ◌∙◌, subst, arith, append_assoc}
-use Rattle.std.specs.Prelude.{IfSome, slice_get}
-use Rattle.std.specs.List.{flat_map, AllByRecursion, join_with_byte}
-use Rattle.std.proofs.lemmas.List.{length-map}
-use Rattle.zone_name.specs.Text.{name_text}
->>>>>>> b9a066a25a00b65d999a865405cd0f223995585b
+use Rattle.zone_print.proofs.Common.{common_steps, ◌≡◌, ◌≢◌, ℕ, ◌<◌, false, List, [], ◌∷◌, ◌++◌, length, map, decimal, arith, rules, IfSome, flat_map, AllByRecursion, join_with_byte, length-map, name_text, Record, IsRecord, data_of, data_items, written_item, class_text, kind_text, entry_of, item_of, IsItem, line_of, Token, text, is_blank, line, slice_get}
 use Rattle.zone_name.proofs.Bare.{bare_name}
 use Rattle.zone_rdata.specs.Spelling.{RawItem}
 use Rattle.zone_rdata.specs.Spelling as raw
 use Rattle.zone_rdata.proofs.PrintedWords.{class_bare, kind_bare}
 use Rattle.zone_rdata.proofs.Standing.{IsPrintedItem, bare_decimal}
 use Rattle.zone_rdata.proofs.TextItems.{data_some, data_stands}
-<<<<<<< HEAD
-=======
-use Rattle.zone_text.specs.Entries.{entry_of, item_of}
-use Rattle.zone_text.specs.Line.{IsItem, line_of}
-use Rattle.zone_text.specs.Tokens.{Token, text, is_blank}
->>>>>>> b9a066a25a00b65d999a865405cd0f223995585b
 use Rattle.zone_text.proofs.StandingItems.{BeginsOwner, tokens_of, text_begins}
 use Rattle.zone_print.proofs.Lines.{line_parts}
 
@@ -51,28 +37,8 @@ items_stand r is = search (rules, bare_decimal, class_bare, kind_bare, bare_name
 items_joined : (r : Record) → IsRecord r → join_with_byte 32 (map written_item (record_items r)) ++ 10 ∷ [] ≡ line r
 items_joined r is = search (rules, length-map, data_some, parts_joined)
 
-<<<<<<< HEAD
-line_begins : (r : Record) → IsRecord r → IfSome (first_octet (line r)) BeginsOwner
+line_begins : (r : Record) → IsRecord r → IfSome (slice_get (line r) 0) BeginsOwner
 line_begins r is = grind (arith, line_parts, text_begins, bare_name)
 
 pub line_items : (r : Record) → IsRecord r → LineItems r
 line_items r is = grind (arith, tokens_of (record_items r) (items_stand r is), items_joined r is, line_begins r is)
-=======
-line_begins : (r : Record) → IsRecord r → IfSome (slice_get (line r) 0) BeginsOwner
-line_begins r is =
-    subst (λ t. IfSome (slice_get t 0) BeginsOwner)
-    (sym (line_parts (name_text r.owner) (decimal r.ttl) (class_text r.class) (kind_text r.class r.kind) (data_text (data_of r))))
-    (text_begins (name_text r.owner) _ (bare_name r.owner is.owner))
-
-pub line_items : (r : Record) → IsRecord r → LineItems r
-line_items r is =
-    let all = tokens_of (record_items r) (items_stand r is) in
-    let printed : text (line_of all.tokens) ≡ line r = all.written ∙ items_joined r is in
-    record {
-      tokens = all.tokens;
-      items = all.each;
-      printed = printed;
-      entries = all.same;
-      begins = subst (λ t. IfSome (slice_get t 0) BeginsOwner) (sym printed) (line_begins r is);
-    }
->>>>>>> b9a066a25a00b65d999a865405cd0f223995585b
