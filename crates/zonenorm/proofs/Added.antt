@@ -1,6 +1,5 @@
 -- The records that a builder holds after it took records one after another.
-use Rattle.zonenorm.proofs.Common.{◌≡◌, List, [], ◌∷◌, ◌++◌, subst, inl, inr, ⊎_elim, Record, Placed, Has, SameRecords, AddsEach, records_of}
-use Rattle.std.specs.Prelude.{◌⊎◌, ◌↔◌}
+use Rattle.zonenorm.proofs.Common.{◌≡◌, List, [], ◌∷◌, ◌++◌, subst, inl, inr, ⊎_elim, Record, Placed, Has, SameRecords, AddsEach, records_of, ◌⊎◌, ◌↔◌}
 
 -- what is held is what was taken and what was held before
 pub added : (placed : List Placed) (old new : List Record) → AddsEach old placed new → (r : Record) → Has new r ↔ (Has (records_of placed) r ⊎ Has old r)

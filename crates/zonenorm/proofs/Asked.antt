@@ -1,6 +1,5 @@
 -- From what `clap` found to the order that the words give.
-use Rattle.zonenorm.proofs.Common.{◌≡◌, ℕ, Bool, true, false, nat_eq, List, [], sym, ◌∙◌, subst, ap, ap₂, codes, arith, refl, inl, inr, pointwise, bytes_decides, AllByRecursion, Option, Some, None, Result, Ok, Err, IfOk, IfErr, drop, take, option_map, slice_index, unwrap_or, ◌||◌, App, Kinds, IsAmong, Row, Text, fault_of, first_of, subcommand_of, subcommand_name_of, subcommand_rows_of, found_of, first_value, rows_of, NothingIs, program_app, Asks, Call, Calls, command_of, arguments_of, Finds, IsLineFault, IsOriginText, Orders}
-use Rattle.std.specs.Prelude.{length, map, ◌⊎◌, ◌∷◌, ◌-◌}
+use Rattle.zonenorm.proofs.Common.{◌≡◌, ℕ, Bool, true, false, nat_eq, List, [], sym, ◌∙◌, subst, ap, codes, arith, refl, pointwise, bytes_decides, AllByRecursion, Option, Some, None, Result, IfOk, IfErr, drop, take, option_map, slice_index, ◌||◌, App, Kinds, IsAmong, Row, Text, fault_of, first_of, subcommand_of, subcommand_name_of, subcommand_rows_of, found_of, first_value, rows_of, NothingIs, program_app, Asks, Call, Calls, command_of, arguments_of, Finds, IsLineFault, IsOriginText, Orders, rules, length, map, ◌⊎◌, ◌-◌, Order}
 use Rattle.std.specs.Borrow.{Bor}
 use Rattle.clap.specs.declared.parser.ArgMatches.{ArgMatches}
 use Rattle.clap.specs.declared.error.kind.ErrorKind.{ErrorKind}
@@ -10,7 +9,6 @@ use Rattle.clap.proofs.WalkLemmas.{first_value-rows}
 use Rattle.zone_name.specs.Spelling.{Spells}
 use Rattle.zonenorm.specs.Order as orders
 use Rattle.zonenorm.specs.Machine.Calling.{IsOfCall, IsOfClap}
-use Rattle.zonenorm.specs.declared.order.Order.{Order}
 use Rattle.zonenorm.specs.declared.order.LineFault.{LineFault}
 use Rattle.zonenorm.specs.declared.order.LineFault.TheVariants.{BadOrigin, Clap, Memory}
 
@@ -19,11 +17,7 @@ both name rows x = (name x, rows x)
 
 -- a name and rows that are read apart stand together
 stand_together : {X : Type 0} (o : Option X) (name : X → Text) (rows : X → List Row) (n : Text) (r : List Row) → option_map name o ≡ Some n → option_map (λ (p : Text × List Row). p.1) (option_map (both name rows) o) ≡ Some r → option_map (both name rows) o ≡ Some (n, r)
-stand_together None name rows n r e h = cc
-stand_together (Some x) name rows n r e h =
-    let n_is : name x ≡ n = cc in
-    let r_is : rows x ≡ r = cc in
-    ap₂ (λ (a : Text) (b : List Row). Some (a, b)) n_is r_is
+stand_together o name rows n r e h = grind arith
 
 -- the subcommand that the getters of `clap` read is what was found
 pub entered : (m found : ArgMatches) (command : Text) → subcommand_name_of m ≡ Some command → option_map (λ (p : Text × List Row). p.1) (subcommand_rows_of m) ≡ Some (rows_of (found_of found)) → subcommand_rows_of m ≡ Some (command, rows_of (found_of found))
@@ -44,23 +38,17 @@ Given rows call = AllByRecursion (λ (a : Argument). first_of a.0 rows ≡ Some 
 
 -- the subcommand that was found has this word and these rows, so no call that has others was found
 pub not_found : (found : Option (Text × List Row)) (word : Text) (rows : List Row) → found ≡ Some (word, rows) → ((call : Call) → command_of call ≡ word → Given rows call → ⊥) → NothingIs (Finds found)
-not_found found word rows is none call finds =
-    let same : Some (command_of call, finds.rows) ≡ Some (word, rows) = sym finds.entered ∙ is in
-    let word_is : command_of call ≡ word = ap (λ (o : Option (Text × List Row)). (unwrap_or o ([], [])).0) same in
-    let rows_are : finds.rows ≡ rows = ap (λ (o : Option (Text × List Row)). (unwrap_or o ([], [])).1) same in
-    none call word_is (subst (λ (r : List Row). Given r call) rows_are finds.texts)
+not_found found word rows is none call finds = grind arith
 
 -- the words of two commands differ in their first letter
 other_letter : (t u : Text) → t ≡ u → (slice_index t 0 ≡ slice_index u 0 → ⊥) → ⊥
 other_letter t u e other = other (ap (λ (v : Text). slice_index v 0) e)
 
 pub no_normalise : (rows : List Row) → first_of (codes "ORIGIN") rows ≡ None → (call : Call) → command_of call ≡ codes "normalise" → Given rows call → ⊥
-no_normalise rows none (orders.normalise t) e given = let no : None ≡ Some t = sym none ∙ given.0 in cc
-no_normalise rows none call e given = other_letter (command_of call) (codes "normalise") e (λ b. absurd (omega arith))
+no_normalise rows none call e given = grind arith
 
 pub no_explain : (rows : List Row) → first_of (codes "ORIGIN") rows ≡ None → (call : Call) → command_of call ≡ codes "explain" → Given rows call → ⊥
-no_explain rows none (orders.explain t) e given = let no : None ≡ Some t = sym none ∙ given.0 in cc
-no_explain rows none call e given = other_letter (command_of call) (codes "explain") e (λ b. absurd (omega arith))
+no_explain rows none call e given = grind arith
 
 -- one of the texts of a comparison is missing
 pub data Misses (rows : List Row) : Type 0 where
@@ -73,12 +61,7 @@ missed : (o : Option Text) (t : Text) → o ≡ None → o ≡ Some t → ⊥
 missed o t none some = let no : None ≡ Some t = sym none ∙ some in cc
 
 pub no_compare : (rows : List Row) → Misses rows → (call : Call) → command_of call ≡ codes "compare" → Given rows call → ⊥
-no_compare rows misses (orders.normalise t) e given = other_letter (codes "normalise") (codes "compare") e (λ b. absurd (omega arith))
-no_compare rows misses (orders.explain t) e given = other_letter (codes "explain") (codes "compare") e (λ b. absurd (omega arith))
-no_compare rows (first_origin none) (orders.compare o p o' p') e given = missed _ o none given.0
-no_compare rows (first_path none) (orders.compare o p o' p') e given = missed _ p none given.1.0
-no_compare rows (second_origin none) (orders.compare o p o' p') e given = missed _ o' none given.1.1.0
-no_compare rows (second_path none) (orders.compare o p o' p') e given = missed _ p' none given.1.1.1.0
+no_compare rows misses call e given = grind arith
 
 pub not_same : (text word : Text) (b : Bool) → b ≡ pointwise nat_eq text word → b ≡ false → text ≡ word → ⊥
 not_same text word b test fails is = let yes : pointwise nat_eq text word ≡ true = (bytes_decides text word).1 is in let no : true ≡ false = sym yes ∙ sym test ∙ fails in cc
@@ -94,31 +77,23 @@ stays_local new old global e f g = rw (e, f, g) refl
 
 -- what a command without faults fails by
 pub for_memory : (kind : ErrorKind) (kinds : Kinds) → (kind ≡ OutOfMemory) ⊎ IsAmong kind kinds → kinds ≡ [] → kind ≡ OutOfMemory
-for_memory kind kinds (inl memory) none = memory
-for_memory kind [] (inr among) none = absurd among
-for_memory kind (k ∷ kinds) (inr among) none = cc
+for_memory kind kinds given none = grind arith
 
 module _ (words : List Text) (app : App) (found : Option (Text × List Row)) (is : app ≡ program_app) (finds : found ≡ subcommand_of app words) where
   found_is : found ≡ subcommand_of program_app words
   found_is = finds ∙ ap (λ (a : App). subcommand_of a words) is
 
   pub called : fault_of app words ≡ [] → (call : Call) → Finds found call → Calls words call
-  called faultless call given = record {
-    faultless = sym (ap (λ (a : App). fault_of a words) is) ∙ faultless;
-    finds = subst (λ (f : Option (Text × List Row)). Finds f call) found_is given;
-  }
+  called faultless call given = search rules
 
   pub not_called : NothingIs (Finds found) → (call : Call) → Calls words call → ⊥
   not_called none call calls = none call (subst (λ (f : Option (Text × List Row)). Finds f call) (sym found_is) calls.finds)
 
 pub order_given : (words : List Text) (call : Call) (r : Result Order LineFault) → Calls words call → IfOk r (Asks call) → IfOk r (Orders words)
-order_given words call (Ok order) calls asks = (call, calls, asks)
-order_given words call (Err fault) calls asks = tt
+order_given words call r calls asks = grind arith
 
 pub order_refused : (words : List Text) (call : Call) (r : Result Order LineFault) → Calls words call → IfErr r (IsOfCall call) → IfErr r (IsLineFault words)
-order_refused words call (Err BadOrigin) calls bad = (call, calls, bad)
-order_refused words call (Err (Clap told)) calls bad = absurd bad
-order_refused words call _ calls bad = tt
+order_refused words call r calls bad = grind arith
 
 pub fault_told : (words : List Text) (fault : LineFault) → IsOfClap fault → ((call : Call) → Calls words call → fault ≡ Memory) → IsLineFault words fault
 fault_told words BadOrigin h memory = absurd h
@@ -127,5 +102,4 @@ fault_told words Memory h memory = tt
 
 -- the texts of all words but the first
 pub map_after : {X Y : Type 0} (f : X → Y) (xs : List X) → map f (take (length xs - 1) (drop 1 xs)) ≡ drop 1 (map f xs)
-map_after f [] = refl
-map_after f (x ∷ xs) = ap (map f) (take_all (length (x ∷ xs) - 1) xs (omega arith))
+map_after f xs = grind (arith, take_all)

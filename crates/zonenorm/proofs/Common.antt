@@ -1,21 +1,28 @@
 -- What most proofs of this crate name, from below it and from its definitions.
 pub use Rattle.clap.specs.Simple.{app_of_fields}
-pub use Rattle.clap.specs.Words.{App, IsAmong, Kinds, Row, Rule, Text, app_of, fault_of, first_of, first_value, found_of, new_app, rows_of, rule_of, subcommand_name_of, subcommand_of, subcommand_rows_of, with_rule, with_subcommand}
+pub use Rattle.clap.specs.Words.{App, IsAmong, Kinds, Row, Rule, Text, app_of, fault_of, first_of, first_value, found_of, is_simple, is_simple_and_free, new_app, rows_of, rule_of, subcommand_name_of, subcommand_of, subcommand_rows_of, with_rule, with_subcommand}
 pub use Rattle.std.proofs.Common.{Bool, Equal, Global, Greater, Less, List, Ordering, Vec, [], ap, append-nil, append_assoc, ap₂, arith, codes, eqb-true, false, if◌then◌else◌, inl, inr, length, length-append, lit<, lit≤, map, min, nat_eq, refl, rules, subst, suc, sym, true, zero, ℕ, ⊎_elim, ◌&&◌, ◌++◌, ◌+◌, ◌-◌, ◌<◌, ◌^◌, ◌↔◌, ◌∙◌, ◌∷◌, ◌≡◌, ◌≢◌, ◌≤◌, ◌⊎◌}
-pub use Rattle.std.proofs.KnownBytes.{Appends-trans, Keeps-refl}
+pub use Rattle.std.proofs.KnownBytes.{Appends-trans, Consumes-nil, Consumes-trans, Consumes-whole, Keeps-refl}
 pub use Rattle.std.proofs.lemmas.Bool.{cases_eq, false≢true, leb-true, ne_eqb}
 pub use Rattle.std.proofs.lemmas.Bool.Decides.{leb_tells}
+pub use Rattle.std.proofs.lemmas.Grind.{common_steps}
+pub use Rattle.std.proofs.lemmas.Option.{IfSome_then}
 pub use Rattle.std.proofs.lemmas.Result.{MatchResult-weaker, err_from_is_err_and}
+pub use Rattle.std.specs.Cmp.{IsTotalOrder}
 pub use Rattle.std.specs.Cmp.Lexicographic.{bytes_decides, pointwise, pointwise_decides}
 pub use Rattle.std.specs.Fmt.{digits}
 pub use Rattle.std.specs.Io.KnownBytes.{Appends, Consumes, IsAtEnd}
 pub use Rattle.std.specs.List.{AllByRecursion, flat_map}
+pub use Rattle.std.specs.Ordering.{ordering_reverse}
 pub use Rattle.std.specs.Prelude.{Err, IfErr, IfOk, IfSome, IsTrue, None, Ok, OnErr, OnOk, Option, Result, Some, String, decimal, drop, get_or, is_some, option_map, slice_get, slice_index, string_bytes, take, unwrap_or, ◌==◌, ◌||◌}
 pub use Rattle.zone_name.specs.Common.{AtMostOneIs, Labels, NothingIs, Octets}
 pub use Rattle.zone_name.specs.Name.{IsFoldedOctet, IsLabel, IsName, IsWithin, labels_of}
 pub use Rattle.zone_name.specs.Order.{name_cmp}
+pub use Rattle.zone_name.specs.Text.{decimal_escape, is_printed, is_special, label_text, name_text, octet_text}
+pub use Rattle.zone_print.proofs.Feeds.{has_no_feed, high, line_ends_with_feed, none_append, none_decimal, none_name, none_tested}
 pub use Rattle.zone_print.specs.Canonical.{canon, line, lines, text_limit}
 pub use Rattle.zone_print.specs.Denotes.{Denotes, MakesZone}
+pub use Rattle.zone_print.specs.Laws.{EndsWithItsFeed, HasNoFeed}
 pub use Rattle.zone_print.specs.Writing.{AppendsPart, IsFailedWrite, StopsPush, StopsWrite, TellsWrite}
 pub use Rattle.zone_rdata.specs.FedSource.{Held, SourceState}
 pub use Rattle.zone_rdata.specs.Record.{IsRecord, Record, data_of}
@@ -31,10 +38,13 @@ pub use Rattle.zone_set.proofs.Together.{accepted_class, accepted_soa, accepted_
 pub use Rattle.zone_set.specs.Builder.{Accepts, Adds, AddsEach, AreTwoSoas, HasNoSoa, IsLeastOutside, IsRefusedFor, OtherClass, OtherSoa, OtherTtl, StopsFinish, StopsTaking, TakesAll, class, failure, leaves, memory, no_soa, outside, soa, ttl}
 pub use Rattle.zone_set.specs.Refusal.{AllAccepted, IsFirstRefused, records_of}
 pub use Rattle.zone_set.specs.Zone.{AreCompatible, Has, InOneSet, IsZone, SameRecords, Zone, covered_octets}
+pub use Rattle.zone_text.specs.Decided.{FileDecides, Stays}
 pub use Rattle.zone_text.specs.FileReads.{FileReads}
+pub use Rattle.zone_wire.specs.Stream.{StreamReads}
 pub use Rattle.zonenorm.specs.Compare.{Compares, DifferFirstAt, IsAccepted, IsVerdictOnTexts, ReadsWholeTo, StopsCompare, TellsReadOf, by_first, by_second, line_at, lines_of}
 pub use Rattle.zonenorm.specs.Examples.{a_x, address_of, example_zone, server_of, soa_of, top, under, x}
 pub use Rattle.zonenorm.specs.Input.{Input, InputDenotes, InputReads, InputStates, IsInput, ReadAs, as_file, as_transfer, file, input_octets, input_of, transfer}
+pub use Rattle.zonenorm.specs.Machine.Fed.{FileLeave, IsFile, IsTransfer, StandsForInput, TransferLeave}
 pub use Rattle.zonenorm.specs.Machine.Input.{Decides, IsForm}
 pub use Rattle.zonenorm.specs.Machine.Loading.{BeginsAs, IsLoaded, IsLoadedOf, ReadsZone, ReadsZoneWithin, RefusesFront, RefusesRead, all_taken, by_ending, by_record, front_refuses, nothing_pending}
 pub use Rattle.zonenorm.specs.Machine.Telling.{IsReported, TellsVerdict, explained, told, unexplained, untold}
@@ -45,3 +55,5 @@ pub use Rattle.zonenorm.specs.Run.{AreCompared, Device, Devices, IsLeft, IsStopp
 pub use Rattle.zonenorm.specs.Stops.{TellsRead}
 pub use Rattle.zonenorm.specs.Telling.{WritesLine, WritesPartOfLine, argument_of, place_words, records_line, refusal_line, row_of, stop_line, verdict_line, which_words}
 pub use Rattle.zonenorm.specs.declared.compare.Verdict.{Verdict}
+pub use Rattle.zonenorm.specs.declared.compare.Verdict.TheVariants.{Different, Same}
+pub use Rattle.zonenorm.specs.declared.order.Order.{Order}

@@ -1,9 +1,6 @@
 -- The lines of a canonical text are those of its records, so texts differ first at the line of the
 -- first records that do.
-use Rattle.zonenorm.proofs.Common.{◌≡◌, ◌≢◌, ◌↔◌, ℕ, zero, suc, ◌+◌, ◌<◌, ◌≤◌, List, [], ◌∷◌, ◌++◌, length, map, refl, sym, ap, ap₂, ◌∙◌, subst, append_assoc, length-append, arith, ne_eqb, AllByRecursion, slice_get, Option, IfSome, Octets, Record, IsRecord, Zone, canon, line, lines, Compares, DifferFirstAt, IsAccepted, IsVerdictOnTexts, line_at, lines_of, ReadAs, input_of, InputDenotes, Verdict}
-use Rattle.std.proofs.Common.{Some, None}
-use Rattle.zone_print.specs.Laws.{HasNoFeed, EndsWithItsFeed}
-use Rattle.zone_print.proofs.Feeds.{line_ends_with_feed}
+use Rattle.zonenorm.proofs.Common.{◌≡◌, ◌≢◌, ◌↔◌, ℕ, zero, suc, ◌+◌, ◌<◌, ◌≤◌, List, [], ◌∷◌, ◌++◌, length, map, refl, sym, ap, ◌∙◌, append_assoc, length-append, arith, ne_eqb, AllByRecursion, slice_get, Option, IfSome, Octets, Record, IsRecord, Zone, canon, line, lines, Compares, DifferFirstAt, IsAccepted, IsVerdictOnTexts, line_at, lines_of, ReadAs, input_of, InputDenotes, Verdict, common_steps, HasNoFeed, EndsWithItsFeed, line_ends_with_feed}
 
 -- ---- the lines of a text
 
@@ -13,9 +10,7 @@ cut_first [] text none = refl
 cut_first (c ∷ front) text none = rw (ne_eqb c 10 none.0, cut_first front text none.1) refl
 
 cut_line : (octets text : List ℕ) → EndsWithItsFeed octets → lines_of (octets ++ text) ≡ octets ∷ lines_of text
-cut_line octets text ends =
-    ap (λ os. lines_of (os ++ text)) ends.split ∙ ap lines_of (append_assoc ends.front (10 ∷ []) text) ∙ cut_first ends.front text ends.others
-    ∙ ap (λ os. os ∷ lines_of text) (sym ends.split)
+cut_line octets text ends = grind (arith, append_assoc, cut_first)
 
 -- the lines of records are their lines, in order
 pub lines_of_records : (records : List Record) → lines_of (lines records) ≡ map line records
@@ -53,10 +48,7 @@ walked_more records others left right left' right' r s number walked first first
 
 -- the number of a line is no greater than the length of the text, but for one
 pub walked_few : (records others left right : List Record) (number : ℕ) → Walked records others left right number → number ≤ length (lines records) + 1
-walked_few records others left right number walked =
-    let few : length records ≤ length (lines records) = records_few records in
-    let parts : length records ≡ length walked.front + length left = ap length walked.split ∙ length-append walked.front left in
-    rw walked.counted (omega arith)
+walked_few records others left right number walked = grind (arith, common_steps, records_few, length-append)
 
 -- ---- the first line at which they differ
 
@@ -78,16 +70,7 @@ at_front [] left = refl
 at_front (r ∷ front) left = at_front front left
 
 pub differ_at : (records others left right : List Record) (number : ℕ) → Walked records others left right number → slice_get (map line left) 0 ≢ slice_get (map line right) 0 → DifferFirstAt number (lines records) (lines others)
-differ_at records others left right number walked differ =
-    let front = walked.front in
-    record {
-      from_one = rw walked.counted (omega arith);
-      equal = λ m below. rw (walked.split, walked.other_split) (equal_before front left right m (subst (λ n. m < n) walked.counted below));
-      differs = λ same. differ (
-          sym (at_front front left) ∙ sym (line_of_record (front ++ left) (length front))
-          ∙ ap₂ line_at (ap lines (sym walked.split)) (sym walked.counted) ∙ same ∙ ap₂ line_at (ap lines walked.other_split) walked.counted
-          ∙ line_of_record (front ++ right) (length front) ∙ at_front front right);
-    }
+differ_at records others left right number walked differ = grind (arith, equal_before, at_front, line_of_record)
 
 -- ---- why they do: one list ends before the other, or the lines of their first records differ
 
@@ -104,8 +87,7 @@ is_record_after [] left r each = each.0
 is_record_after (s ∷ front) left r each = is_record_after front left r each.1
 
 is_record_at : (records front left left' : List Record) (r : Record) → AllByRecursion IsRecord records → records ≡ front ++ left → left ≡ r ∷ left' → IsRecord r
-is_record_at records front left left' r each split first =
-    is_record_after front left' r (subst (AllByRecursion IsRecord) (split ∙ ap (λ rs. front ++ rs) first) each)
+is_record_at records front left left' r each split first = grind (arith, is_record_after)
 
 differing_lines : (r s : Record) (left right : List Record) → (line r ≡ line s → r ≡ s) → (r ≡ s → ⊥) → slice_get (map line (r ∷ left)) 0 ≢ slice_get (map line (s ∷ right)) 0
 differing_lines r s left right exact other same = let one : line r ≡ line s = cc in other (exact one)
@@ -120,10 +102,7 @@ other_record records others left right left' right' r s number exact each each' 
 -- ---- the zones of known octets
 
 pub compares_zones : (form form' : ReadAs) (known known' : Option Octets) (z w : Zone) (verdict : Verdict) → IfSome known (λ octets. InputDenotes (input_of form octets) z) → IfSome known' (λ octets. InputDenotes (input_of form' octets) w) → IsVerdictOnTexts verdict (canon z) (canon w) → IfSome known (λ octets. IfSome known' (λ others. Compares (input_of form octets) (input_of form' others) verdict))
-compares_zones form form' (Some octets) (Some others) z w verdict denotes denotes' judged =
-    record { zone = z; denotes = denotes; other = w; other_denotes = denotes'; judged = judged }
-compares_zones form form' _ _ z w verdict denotes denotes' judged = tt
+compares_zones form form' known known' z w verdict denotes denotes' judged = grind arith
 
 pub is_accepted : (form : ReadAs) (known : Option Octets) (z : Zone) → IfSome known (λ octets. InputDenotes (input_of form octets) z) → IsAccepted form known
-is_accepted form None z denotes = tt
-is_accepted form (Some octets) z denotes = (z, denotes)
+is_accepted form known z denotes = grind arith

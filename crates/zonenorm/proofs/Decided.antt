@@ -1,8 +1,6 @@
 -- What refuses a front of an input refuses all of it.
-use Rattle.zonenorm.proofs.Common.{◌≡◌, ℕ, ◌<◌, List, ◌∷◌, ◌++◌, sym, ap, ◌∙◌, subst, append_assoc, get_or, Option, Some, AllByRecursion, IsName, Fault, Place, Placed, FileReads, AllAccepted, IsFirstRefused, ReadAs, as_file, as_transfer, input_of, Decides, IsForm, RefusesFront, by_record, by_ending, RefusesRead, RefusesReading, refused, unread}
+use Rattle.zonenorm.proofs.Common.{◌≡◌, ℕ, ◌<◌, List, ◌++◌, sym, ◌∙◌, subst, get_or, Option, Some, AllByRecursion, IsName, Fault, Place, Placed, FileReads, AllAccepted, IsFirstRefused, ReadAs, as_file, as_transfer, input_of, Decides, IsForm, RefusesFront, by_record, by_ending, RefusesRead, RefusesReading, refused, unread, arith, common_steps, Stays, StreamReads}
 use Rattle.zone_text.specs.Decided as file_decides
-use Rattle.zone_text.specs.Decided.{Stays}
-use Rattle.zone_wire.specs.Stream.{StreamReads}
 use Rattle.zone_wire.specs.Stream as stream_decides
 use Rattle.zonenorm.proofs.Inputs.{octet_at}
 
@@ -14,15 +12,7 @@ abbrev GoesOn : List Placed → Ending → List Placed → Ending → Type 0
 GoesOn placed ending later last = ((others : List Placed) × (later ≡ placed ++ others)) × ((e : Fault × Place) → ending ≡ Some e → (later ≡ placed) × (last ≡ ending))
 
 first_stays : (placed others : List Placed) (fault : Fault) (place : Place) → IsFirstRefused placed fault place → IsFirstRefused (placed ++ others) fault place
-first_stays placed others fault place first = record {
-  before = first.before;
-  refused = first.refused;
-  others = first.others ++ others;
-  parts = ap (λ ps. ps ++ others) first.parts ∙ append_assoc first.before (first.refused ∷ first.others) others;
-  accepted = first.accepted;
-  why = first.why;
-  stands = first.stands;
-}
+first_stays placed others fault place first = grind (arith, common_steps)
 
 refuses_on : (placed later : List Placed) (ending last : Ending) (fault : Fault) (place : Place) → GoesOn placed ending later last → RefusesFront placed ending fault place → RefusesReading later last fault place
 refuses_on placed later ending last _ _ on (by_record fault place first) =
@@ -68,5 +58,4 @@ module _ (files : FilesAreRead) (files_go : FilesGoOn) (streams : StreamsAreRead
       }
 
   pub refused_by_front : (form : ReadAs) (octets front more : List ℕ) (placed : List Placed) (ending : Ending) (fault : Fault) (place : Place) → IsForm form → AllByRecursion (λ c. c < 256) octets → octets ≡ front ++ more → Decides (input_of form front) placed ending → RefusesFront placed ending fault place → RefusesRead (input_of form octets) fault place
-  refused_by_front form octets front more placed ending fault place is each parts decides refuses =
-      subst (λ os. RefusesRead (input_of form os) fault place) (sym parts) (refused_whole form front more placed ending fault place is (subst (AllByRecursion (λ c. c < 256)) parts each) decides refuses)
+  refused_by_front form octets front more placed ending fault place is each parts decides refuses = grind (arith, refused_whole)

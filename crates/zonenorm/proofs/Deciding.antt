@@ -1,15 +1,14 @@
 -- Of the records of an input one is the first that is refused, or all are accepted.
-use Rattle.zonenorm.proofs.Common.{◌≡◌, ◌≢◌, ◌⊎◌, ℕ, Bool, true, false, List, [], ◌∷◌, ◌++◌, length, length-append, refl, sym, ap, ◌∙◌, subst, inl, inr, ⊎_elim, append_assoc, append-nil, arith, cases_eq, bytes_decides, IsWithin, Record, data_of, Fault, ClassMismatch, MultipleSoa, DifferingTtl, Place, Placed, OtherClass, AreTwoSoas, OtherSoa, OtherTtl, Accepts, IsRefusedFor, class, soa, ttl, AllAccepted, IsFirstRefused, records_of, Has, InOneSet, covered_octets}
+use Rattle.zonenorm.proofs.Common.{◌≡◌, ◌≢◌, ◌⊎◌, ℕ, Bool, List, [], ◌∷◌, ◌++◌, refl, sym, ap, ◌∙◌, subst, inl, inr, ⊎_elim, append_assoc, append-nil, arith, cases_eq, bytes_decides, IsWithin, Record, data_of, Fault, ClassMismatch, MultipleSoa, DifferingTtl, Place, Placed, OtherClass, AreTwoSoas, OtherSoa, OtherTtl, Accepts, IsRefusedFor, class, soa, ttl, AllAccepted, IsFirstRefused, records_of, Has, InOneSet, covered_octets, common_steps}
 use Rattle.std.proofs.Common.{Decides}
-use Rattle.zonenorm.proofs.Parting.{Partings, same, first, second, two_partings, Decides-owner}
+use Rattle.zonenorm.proofs.Parting.{same, two_partings, Decides-owner}
 
 -- a fact holds, or it doesn't
 abbrev pub Settled : Type 0 → Type 0
 Settled P = P ⊎ (P → ⊥)
 
 settled : {P : Type 0} (b : Bool) → Decides b P → Settled P
-settled true decides = inl (decides.0 refl)
-settled false decides = inr (λ p. let no : false ≡ true = decides.1 p in cc)
+settled b decides = grind arith
 
 pub not_settled : {P : Type 0} → Settled P → Settled (P → ⊥)
 not_settled is = ⊎_elim (λ p. inr (λ fails. fails p)) (λ fails. inl fails) is
@@ -27,10 +26,7 @@ same_octets : (a b : List ℕ) → Settled (a ≡ b)
 same_octets a b = settled _ (bytes_decides a b)
 
 same_set : (r s : Record) → Settled (InOneSet r s)
-same_set r s =
-    ⊎_elim (λ (owner, (kind, covers)). inl (record { owner = owner; kind = kind; covers = covers }))
-    (λ fails. inr (λ one. fails (one.owner, (one.kind, one.covers))))
-    (both_settled (same_owner r.owner s.owner) (both_settled (cases_eq r.kind s.kind) (same_octets (covered_octets (data_of r)) (covered_octets (data_of s)))))
+same_set r s = grind (arith, both_settled (same_owner r.owner s.owner) (both_settled (cases_eq r.kind s.kind) (same_octets (covered_octets (data_of r)) (covered_octets (data_of s)))))
 
 -- a name lies within an apex, or it doesn't
 pub is_within : (labels apex : List (List ℕ)) → Settled (IsWithin labels apex)
@@ -65,9 +61,7 @@ module _ (held : List Record) (r : Record) where
       (some_or_none (λ s. s.class ≢ r.class) (λ s. not_settled (cases_eq s.class r.class)) held)
 
   two_soas : (s : Record) → Settled (AreTwoSoas s r)
-  two_soas s =
-      ⊎_elim (λ (is, (too, differs)). inl (is, too, differs)) (λ fails. inr (λ (is, too, differs). fails (is, (too, differs))))
-      (both_settled (cases_eq r.kind 6) (both_settled (cases_eq s.kind 6) (either_settled (not_settled (same_owner s.owner r.owner)) (not_settled (same_octets s.octets r.octets)))))
+  two_soas s = grind (arith, both_settled (cases_eq r.kind 6) (both_settled (cases_eq s.kind 6) (either_settled (not_settled (same_owner s.owner r.owner)) (not_settled (same_octets s.octets r.octets)))))
 
   other_soa : Settled (OtherSoa held r)
   other_soa =
@@ -93,14 +87,7 @@ module _ (held : List Record) (r : Record) where
 
 -- one more at the end
 pub AllAccepted-push : (before : List Placed) (p : Placed) → AllAccepted before → Accepts (records_of before) p.rr → AllAccepted (before ++ p ∷ [])
-AllAccepted-push before p all fits b others q parts = by (two_partings before b [] others p q parts)
-  where
-    by : Partings before b p q → Accepts (records_of b) q.rr
-    by (same is at) = subst (λ x. Accepts (records_of b) x.rr) at (subst (λ ps. Accepts (records_of ps) p.rr) is fits)
-    by (first between is) =
-        let long : length (before ++ p ∷ []) ≡ length ((before ++ p ∷ between) ++ q ∷ others) = ap length (parts ∙ ap (λ ps. ps ++ q ∷ others) is) in
-        absurd (omega (arith, simp length-append at long))
-    by (second between is) = all b between q is
+AllAccepted-push before p all fits b others q parts = grind (arith, common_steps, two_partings)
 
 first_or_all : (whole before placed : List Placed) → whole ≡ before ++ placed → AllAccepted before → ((f : Fault) × (at : Place) × IsFirstRefused whole f at) ⊎ AllAccepted whole
 first_or_all whole before [] parts all = inr (subst AllAccepted (sym (parts ∙ append-nil before)) all)

@@ -1,17 +1,11 @@
 -- A source of a master file or of a transfer that begins, or goes on, does so as a source of an
 -- input.
-use Rattle.zonenorm.proofs.Common.{◌≡◌, List, [], false, ap, ◌∙◌, Option, None, Result, OnOk, Labels, Octets, Held, SourceState, Pending, Fault, Place, Stop, Placed, ReadAs, as_file, as_transfer, BeginsAs, nothing_pending}
-use Rattle.std.proofs.Common.{Ok, Err}
-use Rattle.zone_text.specs.Decided.{FileDecides}
+use Rattle.zonenorm.proofs.Common.{◌≡◌, List, [], false, Option, None, Result, OnOk, Labels, Octets, SourceState, Pending, Fault, Place, Stop, Placed, ReadAs, as_file, as_transfer, BeginsAs, nothing_pending, arith, Ok, Err, FileDecides, FileLeave, IsFile, IsTransfer, StandsForInput, TransferLeave}
 use Rattle.zone_text.specs.TextSource.{FileKept, StandsForFile}
 use Rattle.zone_wire.specs.TransferSource.{StandsForStream, StreamKept}
-use Rattle.zonenorm.specs.Machine.Fed.{FileLeave, IsFile, IsTransfer, StandsForInput, TransferLeave}
 
 pending_is : (pending : Pending) → pending.failed ≡ false → pending.records ≡ [] → pending.ending ≡ None → pending ≡ nothing_pending
-pending_is pending works empty whole =
-    ap (λ failed. record { failed = failed; records = pending.records; ending = pending.ending }) works
-    ∙ ap (λ records. record { failed = false; records = records; ending = pending.ending }) empty
-    ∙ ap (λ ending. record { failed = false; records = []; ending = ending }) whole
+pending_is pending works empty whole = grind arith
 
 -- a source of a file that was fed nothing begins
 pub file_begins : ((origin : Labels) (placed : List Placed) (ending : Option (Fault × Place)) → FileDecides origin [] placed ending → (placed ≡ []) × (ending ≡ None)) → (origin : Labels) (source : SourceState FileKept) → StandsForFile origin source [] [] → source.held.finished ≡ false → BeginsAs IsFile FileLeave source.pending source.held (as_file origin)
@@ -24,10 +18,7 @@ file_begins nothing origin source stands going =
 
 -- and so does one of a transfer
 pub transfer_begins : (source : SourceState StreamKept) → StandsForStream source [] [] → source.pending.records ≡ [] → source.pending.ending ≡ None → BeginsAs IsTransfer TransferLeave source.pending source.held as_transfer
-transfer_begins source stands empty whole = record {
-  stands = record { is = tt; stands = stands };
-  nothing = pending_is source.pending stands.works empty whole;
-}
+transfer_begins source stands empty whole = grind arith
 
 module _ (old new : SourceState FileKept) (more : Octets → Octets) where
   each_form : ((origin : Labels) (fed : Octets) (given : List Placed) → StandsForFile origin old fed given → StandsForFile origin new (more fed) given) → (form : ReadAs) (octets : Octets) (given : List Placed) → StandsForInput IsFile FileLeave form old.pending old.held octets given → StandsForInput IsFile FileLeave form new.pending new.held (more octets) given

@@ -1,33 +1,23 @@
 -- From what was taken of the octets that a reader gave to what the reader's octets are read as.
-use Rattle.zonenorm.proofs.Common.{◌≡◌, ℕ, ◌<◌, ◌≤◌, ◌+◌, true, List, [], ◌∷◌, ◌++◌, length, length-append, refl, sym, ap, ◌∙◌, subst, append-nil, append_assoc, arith, eqb-true, ◌==◌, Option, Some, None, IfSome, Consumes, IsAtEnd, AllByRecursion, Octets, Record, Held, Pending, Fault, InputTooLong, Place, Whole, Stop, Refused, Read, Write, Memory, Placed, Zone, ReadAs, as_file, as_transfer, input_of, input_octets, IsInput, IsForm, all_taken, BeginsAs, IsLoadedOf, ReadsZone, ReadsZoneWithin, RefusesRead, IsOfBytes, IsOfReading, IfRefused, IsRefusalWithin, too_long, reading, TellsRead}
-use Rattle.std.proofs.KnownBytes.{Consumes-trans}
+use Rattle.zonenorm.proofs.Common.{◌≡◌, ℕ, ◌<◌, ◌≤◌, ◌+◌, true, List, [], ◌++◌, length, length-append, sym, ap, ◌∙◌, subst, append-nil, arith, ◌==◌, Option, None, IfSome, Consumes, AllByRecursion, Octets, Record, Held, Pending, Fault, InputTooLong, Place, Whole, Stop, Zone, ReadAs, input_of, input_octets, IsInput, IsForm, all_taken, BeginsAs, IsLoadedOf, ReadsZone, ReadsZoneWithin, RefusesRead, IsOfBytes, IsOfReading, IfRefused, IsRefusalWithin, too_long, reading, TellsRead, common_steps, Consumes-trans}
 
 pub octets_of_input : (form : ReadAs) (octets : Octets) → input_octets (input_of form octets) ≡ octets
-octets_of_input (as_file origin) octets = refl
-octets_of_input as_transfer octets = refl
+octets_of_input form octets = grind arith
 
 -- ---- what is read
 
 pub within : (limit : ℕ) (form : ReadAs) (octets : Octets) (z : Zone) → AllByRecursion (λ c. c < 256) octets → length octets ≤ limit → ReadsZone (input_of form octets) z → ReadsZoneWithin limit (input_of form octets) z
-within limit form octets z each short reads = record {
-  each = subst (AllByRecursion (λ c. c < 256)) (sym (octets_of_input form octets)) each;
-  short = subst (λ os. length os ≤ limit) (sym (octets_of_input form octets)) short;
-  reads = reads;
-}
+within limit form octets z each short reads = grind arith
 
 pub refused_within : (limit : ℕ) (form : ReadAs) (octets : Octets) (stop : Stop) → length octets ≤ limit → IfRefused stop (RefusesRead (input_of form octets)) → IfRefused stop (IsRefusalWithin limit (input_of form octets))
-refused_within limit form octets (Refused fault place) short refuses = reading refuses.placed refuses.ending fault place (subst (λ os. length os ≤ limit) (sym (octets_of_input form octets)) short) refuses.reads refuses.refuses
-refused_within limit form octets _ short refuses = tt
+refused_within limit form octets stop short refuses = grind (arith, octets_of_input, reading)
 
 pub refused_over : (limit : ℕ) (form : ReadAs) (octets : Octets) → limit < length octets → IsRefusalWithin limit (input_of form octets) InputTooLong Whole
 refused_over limit form octets long = too_long (subst (λ os. limit < length os) (sym (octets_of_input form octets)) long)
 
 -- a reader that gave too many octets has too many
 pub too_many : (limit : ℕ) (form : ReadAs) (old new : Option Octets) (given : Octets) → Consumes old new given → limit < length given → IfSome old (λ octets. IsRefusalWithin limit (input_of form octets) InputTooLong Whole)
-too_many limit form None new given consumed long = tt
-too_many limit form (Some all) None given consumed long = absurd consumed
-too_many limit form (Some all) (Some rest) given consumed long =
-    refused_over limit form all (subst (λ os. limit < length os) (sym consumed) (rw length-append (omega arith)))
+too_many limit form old new given consumed long = grind (arith, refused_over, length-append)
 
 -- what a source begins with is taken of no octets
 pub begun : {Kept : Type 0} (IsOf : ReadAs → Type 0) (Leave : ReadAs → Octets → Kept → Octets → Type 0) (form : ReadAs) (pending : Pending) (inside : Held Kept) (held : List Record) (refusal : Option (Fault × Place)) → held ≡ [] → refusal ≡ None → BeginsAs IsOf Leave pending inside form → IsLoadedOf IsOf Leave pending inside held refusal form []
@@ -52,19 +42,15 @@ consumed_none a b c given more first next none = subst (Consumes a c) (ap (λ os
 -- ---- stops
 
 pub of_reading : (stop : Stop) → IsOfBytes stop → IsOfReading stop
-of_reading Write is = is
-of_reading _ is = tt
+of_reading stop is = grind arith
 
 -- what ends the input tells no failed read
 pub tells_no_read : (works failed : Type 0) (stop : Stop) → works → IsOfBytes stop → TellsRead works failed stop
-tells_no_read works failed Read on is = absurd is
-tells_no_read works failed _ on is = on
+tells_no_read works failed stop on is = grind arith
 
 pub no_octets : (octets : Octets) → (length octets == 0) ≡ true → octets ≡ []
-no_octets [] none = refl
-no_octets (c ∷ octets) none = absurd (omega (arith, eqb-true (length (c ∷ octets)) 0 none))
+no_octets octets none = grind (arith, common_steps)
 
 -- octets are an input of a form
 pub is_input : (form : ReadAs) (octets : Octets) → IsForm form → AllByRecursion (λ c. c < 256) (input_octets (input_of form octets)) → IsInput (input_of form octets)
-is_input (as_file origin) octets name each = (name, each)
-is_input as_transfer octets name each = each
+is_input form octets name each = grind arith

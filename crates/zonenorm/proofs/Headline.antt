@@ -1,9 +1,7 @@
 -- The parts of the sentence that the program stands for.
-use Rattle.zonenorm.proofs.Common.{◌≡◌, ◌↔◌, ◌⊎◌, ℕ, ◌<◌, ◌≤◌, List, length, refl, sym, ap, ◌∙◌, subst, ⊎_elim, arith, leb_tells, Appends, AllByRecursion, AtMostOneIs, Labels, NothingIs, Octets, Fault, Place, IsZone, Zone, canon, text_limit, Denotes, Verdict, Compares, DifferFirstAt, IsVerdictOnTexts, line_at, file, Input, InputDenotes, IsInput, Normalises, NormalisesTo, IsRefusal, IsRefused}
-use Rattle.std.proofs.Common.{Option}
+use Rattle.zonenorm.proofs.Common.{◌≡◌, ◌↔◌, ◌⊎◌, ℕ, ◌<◌, ◌≤◌, List, length, refl, sym, ap, ◌∙◌, subst, ⊎_elim, arith, Appends, AllByRecursion, AtMostOneIs, Labels, NothingIs, Octets, Fault, Place, IsZone, Zone, canon, text_limit, Denotes, Verdict, Compares, DifferFirstAt, IsVerdictOnTexts, file, Input, InputDenotes, IsInput, Normalises, NormalisesTo, IsRefusal, IsRefused, rules, Option, Same}
 use Rattle.zone_wire.specs.Name.{Found, IsNameAt}
 use Rattle.zone_wire.specs.Walk.{Visit, IsWalk}
-use Rattle.zonenorm.specs.declared.compare.Verdict.TheVariants.{Different, Same}
 use Rattle.zonenorm.specs.Headline.{DenoteOne, DenotesOnly, IsBoundedWalk, NormalisesOnlyTo}
 
 abbrev OneZone : Type 0
@@ -25,9 +23,7 @@ back : ReadsBack → (input : Input) (z : Zone) (origin : Labels) → InputDenot
 back reads input z origin denotes = reads origin z denotes.makes.zone denotes.makes.text_short
 
 pub back_only : OneZone → ReadsBack → (input : Input) (z : Zone) (origin : Labels) → InputDenotes input z → DenotesOnly (file origin (canon z)) z
-back_only one reads input z origin denotes =
-    let itself : InputDenotes (file origin (canon z)) z = back reads input z origin denotes in
-    record { denotes = itself; no_other = λ w other. one (file origin (canon z)) w z other itself }
+back_only one reads input z origin denotes = search (rules, back)
 
 pub to_itself : OneZone → ReadsBack → (input : Input) (z : Zone) (origin : Labels) → InputDenotes input z → NormalisesOnlyTo (file origin (canon z)) (canon z)
 to_itself one reads input z origin denotes =
@@ -71,8 +67,7 @@ texts_equal_if_one equal a b text other to too =
 
 pub text_back : ((input : Input) (z : Zone) (origin : Labels) → InputDenotes input z → DenotesOnly (file origin (canon z)) z)
     → (input : Input) (text : Octets) (origin : Labels) → NormalisesTo input text → DenoteOne input (file origin text)
-text_back reads input text origin to =
-    (to.zone, to.denotes, subst (λ t. InputDenotes (file origin t) to.zone) (sym to.canonical) (reads input to.zone origin to.denotes).denotes)
+text_back reads input text origin to = grind arith
 
 pub text_to_itself : ((input : Input) (z : Zone) (origin : Labels) → InputDenotes input z → NormalisesOnlyTo (file origin (canon z)) (canon z))
     → (input : Input) (text : Octets) (origin : Labels) → NormalisesTo input text → NormalisesOnlyTo (file origin text) text
@@ -86,8 +81,7 @@ written_text input old new count is = (canon is.zone, record { zone = is.zone; d
 -- ---- comparisons
 
 equal_is_same : (verdict : Verdict) (text other : Octets) → IsVerdictOnTexts verdict text other → text ≡ other → verdict ≡ Same
-equal_is_same Same text other is equal = refl
-equal_is_same (Different line) text other is equal = absurd (is.differs (ap (λ t. line_at t line) equal))
+equal_is_same verdict text other is equal = grind arith
 
 same_is_equal : (verdict : Verdict) (text other : Octets) → IsVerdictOnTexts verdict text other → verdict ≡ Same → text ≡ other
 same_is_equal verdict text other is same = subst (λ v. IsVerdictOnTexts v text other) same is
@@ -99,14 +93,10 @@ same_if_one equal first second verdict is =
     (λ same. zones.0 (same_is_equal verdict (canon is.zone) (canon is.other) is.judged same), λ one. equal_is_same verdict (canon is.zone) (canon is.other) is.judged (zones.1 one))
 
 one_line : (text other : Octets) (n m : ℕ) → DifferFirstAt n text other → DifferFirstAt m text other → n ≡ m
-one_line text other n m at_n at_m =
-    ⊎_elim (λ up. ⊎_elim (λ down. omega (arith, up.1, down.1)) (λ less. absurd (at_n.differs (at_m.equal n less.1))) (leb_tells m n))
-    (λ more. absurd (at_m.differs (at_n.equal m more.1))) (leb_tells n m)
+one_line text other n m at_n at_m = grind arith
 
 one_judgement : (verdict another : Verdict) (text other : Octets) → IsVerdictOnTexts verdict text other → IsVerdictOnTexts another text other → verdict ≡ another
-one_judgement Same another text other is too = sym (equal_is_same another text other too is)
-one_judgement (Different line) Same text other is too = equal_is_same (Different line) text other is too
-one_judgement (Different line) (Different another) text other is too = ap Different (one_line text other line another is too)
+one_judgement verdict another text other is too = grind arith
 
 pub one_verdict : OneZone → (first second : Input) → AtMostOneIs (Compares first second)
 one_verdict one first second verdict another is too =

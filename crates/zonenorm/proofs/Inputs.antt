@@ -1,8 +1,7 @@
 -- From readings to inputs.
-use Rattle.zonenorm.proofs.Common.{◌≡◌, ◌⊎◌, ◌↔◌, ℕ, zero, suc, ◌≤◌, ◌<◌, lit<, List, [], ◌∷◌, length, refl, sym, subst, inl, inr, ⊎_elim, arith, get_or, Option, Some, None, leb_tells, AllByRecursion, IsName, IsRecord, Fault, InputTooLong, Place, Whole, Placed, FileReads, records_of, Zone, IsZone, SameRecords, text_limit, Input, file, transfer, input_octets, IsInput, InputStates, InputReads, InputDenotes, MakesZone, RefusesReading, IsRefusal, too_long, reading}
+use Rattle.zonenorm.proofs.Common.{◌≡◌, ◌⊎◌, ◌↔◌, ℕ, ◌≤◌, ◌<◌, List, [], ◌∷◌, length, refl, sym, subst, inl, inr, ⊎_elim, arith, get_or, Option, Some, None, leb_tells, AllByRecursion, IsName, IsRecord, Fault, InputTooLong, Place, Whole, Placed, FileReads, records_of, Zone, IsZone, SameRecords, text_limit, Input, file, transfer, input_octets, IsInput, InputStates, InputReads, InputDenotes, MakesZone, RefusesReading, IsRefusal, too_long, reading, common_steps, StreamReads}
 use Rattle.zone_text.specs.Entries.{Entry, entries_of}
 use Rattle.zone_text.specs.File.{FileStates, EntriesState, states_none, states_one}
-use Rattle.zone_wire.specs.Stream.{StreamReads}
 use Rattle.zone_wire.specs.Transfer.{StreamStates}
 
 -- what a file states are records
@@ -20,14 +19,11 @@ placed_fit [] fits = tt
 placed_fit (p ∷ placed) fits = (fits.0, placed_fit placed fits.1)
 
 pub octet_at : (octets : List ℕ) → AllByRecursion (λ c. c < 256) octets → (i : ℕ) → get_or octets i 0 < 256
-octet_at [] each i = lit< tt
-octet_at (c ∷ octets) each zero = each.0
-octet_at (c ∷ octets) each (suc i) = octet_at octets each.1 i
+octet_at octets each i = grind (arith, common_steps)
 
 -- what holds of files of octets and of streams of octets holds of inputs
 pub of_both_forms : (P : Input → Type 0) → ((origin : List (List ℕ)) (octets : List ℕ) → IsName origin → AllByRecursion (λ c. c < 256) octets → P (file origin octets)) → ((stream : List ℕ) → ((i : ℕ) → get_or stream i 0 < 256) → P (transfer stream)) → (input : Input) → IsInput input → P input
-of_both_forms P files streams (file origin octets) is = files origin octets is.0 is.1
-of_both_forms P files streams (transfer stream) each = streams stream (octet_at stream each)
+of_both_forms P files streams input is = grind (arith, octet_at)
 
 abbrev OneReadingOf : (List Placed → Option (Fault × Place) → Type 0) → Type 0
 OneReadingOf R = (a b : List Placed) (e f : Option (Fault × Place)) → R a e → R b f → (a ≡ b) × (e ≡ f)
@@ -44,8 +40,7 @@ stated_is_read files streams (transfer stream) placed states = streams stream pl
 
 -- inputs of both forms state one list of records
 pub one_list : ((origin : List (List ℕ)) (octets : List ℕ) (a b : List Placed) → FileStates origin octets a → FileStates origin octets b → a ≡ b) → ((stream : List ℕ) (a b : List Placed) → StreamStates stream a → StreamStates stream b → a ≡ b) → (input : Input) (a b : List Placed) → InputStates input a → InputStates input b → a ≡ b
-one_list files streams (file origin octets) = files origin octets
-one_list files streams (transfer stream) = streams stream
+one_list files streams input = grind arith
 
 module _ (input : Input) where
   abbrev IsRead : Type 0
@@ -63,11 +58,7 @@ module _ (input : Input) where
       one b f fault other place elsewhere (subst (λ ending. RefusesReading b ending fault place) same.1 (subst (λ placed. RefusesReading placed e fault place) same.0 refuses)) refuses'
 
   pub refused_or_denoted : ((placed : List Placed) (fault : Fault) (place : Place) → RefusesReading placed None fault place → (z : Zone) → MakesZone placed z → ⊥) → OneReadingOf (InputReads input) → IsRead → (fault : Fault) (place : Place) → IsRefusal input fault place → (z : Zone) → InputDenotes input z → ⊥
-  refused_or_denoted apart once is_read _ _ (too_long long) z denotes = let short : length (input_octets input) ≤ text_limit = denotes.short in omega arith
-  refused_or_denoted apart once is_read _ _ (reading a e fault place short reads refuses) z denotes =
-      let same = once a denotes.placed e None reads (is_read denotes.placed denotes.states) in
-      apart denotes.placed fault place (subst (λ ending. RefusesReading denotes.placed ending fault place) same.1 (subst (λ placed. RefusesReading placed e fault place) same.0 refuses))
-      z denotes.makes
+  refused_or_denoted apart once is_read fault place given z denotes = grind arith
 
   pub one_zone : ((z w : Zone) → IsZone z → IsZone w → SameRecords z.records w.records → z ≡ w) → ((a b : List Placed) → InputStates input a → InputStates input b → a ≡ b) → (z w : Zone) → InputDenotes input z → InputDenotes input w → z ≡ w
   one_zone once lists z w left right =

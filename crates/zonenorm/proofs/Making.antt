@@ -1,12 +1,9 @@
 -- Records of which each may stand with all before it have one ascending list, and that is a zone's
 -- or lacks what a zone needs.
-use Rattle.zonenorm.proofs.Common.{◌≡◌, ◌≢◌, ◌⊎◌, ◌↔◌, ℕ, List, [], ◌∷◌, ◌++◌, length, Ordering, Less, Equal, Greater, refl, sym, ap, ◌∙◌, subst, inl, inr, ⊎_elim, append_assoc, append-nil, cases_eq, leb_tells, AllByRecursion, IsWithin, name_cmp, Record, IsRecord, data_of, Fault, NoSoa, OutOfZone, ZoneTooLarge, Place, Whole, Placed, Accepts, Adds, no_soa, outside, AllAccepted, records_of, Has, SameRecords, AreCompatible, Zone, IsZone, canon, text_limit, MakesZone, RefusesReading, refused, unread, unfinished, too_large, accepted_ttl, one_set, each_Has, each_from_Has}
-use Rattle.std.proofs.Common.{Some, None}
-use Rattle.std.specs.Cmp.{IsTotalOrder}
-use Rattle.std.specs.Ordering.{ordering_reverse}
+use Rattle.zonenorm.proofs.Common.{◌≡◌, ◌≢◌, ◌⊎◌, ◌↔◌, ℕ, List, [], ◌∷◌, ◌++◌, length, Ordering, Less, Equal, Greater, refl, sym, ap, ◌∙◌, subst, inl, inr, ⊎_elim, append_assoc, append-nil, cases_eq, leb_tells, AllByRecursion, IsWithin, name_cmp, Record, IsRecord, data_of, Fault, NoSoa, OutOfZone, ZoneTooLarge, Place, Whole, Placed, Accepts, Adds, no_soa, outside, AllAccepted, records_of, Has, SameRecords, AreCompatible, Zone, IsZone, canon, text_limit, MakesZone, RefusesReading, refused, unread, unfinished, too_large, accepted_ttl, one_set, each_Has, each_from_Has, arith, Some, None, IsTotalOrder, ordering_reverse}
 use Rattle.zone_set.specs.Order.{canonical_cmp, Ascends}
 use Rattle.zonenorm.proofs.Parting.{all_class, all_ttl, all_soa}
-use Rattle.zonenorm.proofs.Deciding.{Settled, not_settled, same_owner, is_within, some_or_none, one_or_all}
+use Rattle.zonenorm.proofs.Deciding.{Settled, not_settled, is_within, some_or_none, one_or_all}
 
 -- ---- the ascending list
 
@@ -58,14 +55,7 @@ TellsApart = (r s : Record) → canonical_cmp r s ≡ Equal → (r.owner ≡ s.o
 module _ (total : IsTotalOrder canonical_cmp) (apart : TellsApart) (whole : List Placed) (all : AllAccepted whole) where
   -- an accepted record that ties with one before it is that record
   tied_is : (held : List Record) (r : Record) → Accepts held r → (s : Record) → Has held s → canonical_cmp r s ≡ Equal → s ≡ r
-  tied_is held r fits s has tied =
-      let parts = apart r s tied in
-      let owner : s.owner ≡ r.owner = sym parts.0 in
-      let class : s.class ≡ r.class = sym (ap (λ d. d.class) parts.1) in
-      let kind : s.kind ≡ r.kind = sym (ap (λ d. d.kind) parts.1) in
-      let octets : s.octets ≡ r.octets = sym (ap (λ d. d.octets) parts.1) in
-      let ttl : s.ttl ≡ r.ttl = accepted_ttl held r fits s has (one_set s r owner kind octets) in
-      λ i. record { owner = owner i; class = class i; kind = kind i; ttl = ttl i; octets = octets i }
+  tied_is held r fits s has tied = grind (arith, accepted_ttl, one_set)
 
   ascending : (before placed : List Placed) → whole ≡ before ++ placed → (now : List Record) → Ascends now → SameRecords now (records_of before) → (new : List Record) × Ascends new × SameRecords new (records_of whole)
   ascending before [] parts now up same = (now, up, subst (λ ps. SameRecords now (records_of ps)) (sym (parts ∙ append-nil before)) same)
@@ -93,25 +83,7 @@ LeastOf P held = ((r : Record) × Has held r × P r × IsLeastOf P held r) ⊎ (
 module _ (names : IsTotalOrder name_cmp) (names_exact : (a b : List (List ℕ)) → name_cmp a b ≡ Equal → a ≡ b) (P : Record → Type 0) where
   -- the lesser of two
   lesser : (s : Record) (records : List Record) → P s → (r : Record) → Has records r → P r → IsLeastOf P records r → (o : Ordering) → name_cmp s.owner r.owner ≡ o → LeastOf P (s ∷ records)
-  lesser s records p_s r has p_r least Less is =
-      inl (
-        s,
-        inl refl,
-        p_s,
-        λ t has_t p_t other.
-            ⊎_elim (λ e. absurd (other (ap (λ x. x.owner) e)))
-            (λ more. ⊎_elim (λ e. subst (λ o. name_cmp s.owner o ≡ Less) (sym e) is) (λ differ. names.trans s.owner r.owner t.owner is (least t more p_t differ)) (same_owner t.owner r.owner)) has_t,
-      )
-  lesser s records p_s r has p_r least Equal is =
-      inl (r, inr has, p_r, λ t has_t p_t other. ⊎_elim (λ e. absurd (other (ap (λ x. x.owner) e ∙ names_exact s.owner r.owner is))) (λ more. least t more p_t other) has_t)
-  lesser s records p_s r has p_r least Greater is =
-      inl (
-        r,
-        inr has,
-        p_r,
-        λ t has_t p_t other.
-            ⊎_elim (λ e. subst (λ x. name_cmp r.owner x.owner ≡ Less) (sym e) (names.antisymm r.owner s.owner ∙ ap ordering_reverse is)) (λ more. least t more p_t other) has_t,
-      )
+  lesser s records p_s r has p_r least o is = grind arith
 
   with_one : (s : Record) (records : List Record) → Settled (P s) → LeastOf P records → LeastOf P (s ∷ records)
   with_one s records (inl p_s) (inl (r, has, p_r, least)) = lesser s records p_s r has p_r least (name_cmp s.owner r.owner) refl

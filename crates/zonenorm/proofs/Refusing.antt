@@ -1,8 +1,5 @@
 -- A reading is refused for one fault at one place, and no zone has the records of a refused one.
-use Rattle.zonenorm.proofs.Common.{◌≡◌, ℕ, ◌≤◌, List, [], ◌∷◌, ◌++◌, length, Less, refl, sym, ap, ◌∙◌, subst, inl, inr, ⊎_elim, arith, IsWithin, name_cmp, Record, Fault, OutOfZone, Place, Whole, Stop, Refused, Placed, Accepts, IsRefusedFor, class, soa, ttl, HasNoSoa, IsLeastOutside, StopsFinish, no_soa, outside, AllAccepted, IsFirstRefused, records_of, Has, SameRecords, Zone, IsZone, canon, text_limit, MakesZone, RefusesReading, refused, unread, unfinished, too_large, stable_owner, each_Has}
-use Rattle.std.proofs.Common.{Option, Some, None}
-use Rattle.std.specs.Cmp.{IsTotalOrder}
-use Rattle.std.specs.Ordering.{ordering_reverse}
+use Rattle.zonenorm.proofs.Common.{◌≡◌, ℕ, ◌≤◌, List, [], ◌∷◌, ◌++◌, length, Less, refl, sym, ap, ◌∙◌, subst, inl, inr, ⊎_elim, arith, IsWithin, name_cmp, Record, Fault, OutOfZone, Place, Whole, Stop, Refused, Placed, Accepts, IsRefusedFor, class, soa, ttl, HasNoSoa, IsLeastOutside, StopsFinish, no_soa, outside, AllAccepted, IsFirstRefused, records_of, Has, SameRecords, Zone, IsZone, canon, text_limit, MakesZone, RefusesReading, refused, unread, unfinished, too_large, stable_owner, each_Has, Option, Some, None, IsTotalOrder, ordering_reverse}
 use Rattle.zonenorm.proofs.Parting.{Partings, same, first, second, two_partings, Has-part, all_soa}
 
 -- ---- the first record that is refused
@@ -19,9 +16,7 @@ one_reason held r _ _ (ttl one one_soa other) (soa one' other') = absurd (one_so
 one_reason held r _ _ (ttl one one_soa other) (ttl one' one_soa' other') = refl
 
 refused_or_accepted : (held : List Record) (r : Record) (f : Fault) → IsRefusedFor held r f → Accepts held r → ⊥
-refused_or_accepted held r _ (class other) fits = fits.one_class other
-refused_or_accepted held r _ (soa one other) fits = fits.one_soa other
-refused_or_accepted held r _ (ttl one one_soa other) fits = fits.one_ttl other
+refused_or_accepted held r f given fits = grind arith
 
 pub refused_not_accepted : (placed : List Placed) (f : Fault) (at : Place) → IsFirstRefused placed f at → AllAccepted placed → ⊥
 refused_not_accepted placed f at is all = refused_or_accepted _ _ f is.why (all is.before is.others is.refused is.parts)
@@ -117,8 +112,7 @@ both_from : (f g : Fault) (at there : Place) → Refused f at ≡ Refused g ther
 both_from f g at there e = let fault : f ≡ g = cc in let place : at ≡ there = cc in (fault, place)
 
 both_ending : (f g : Fault) (at there : Place) (ending : Option (Fault × Place)) → ending ≡ Some (f, at) → ending ≡ Some (g, there) → (f ≡ g) × (at ≡ there)
-both_ending f g at there ending e e' =
-    let pair : Path (Fault × Place) (f, at) (g, there) = cc in (ap (λ p. p.0) pair, ap (λ p. p.1) pair)
+both_ending f g at there ending e e' = grind arith
 
 -- ---- a reading
 

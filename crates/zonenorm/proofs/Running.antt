@@ -1,13 +1,11 @@
 -- From what an order's call answers, and what is told of it, to what a run leaves.
-use Rattle.zonenorm.proofs.Common.{◌≡◌, ◌-◌, ◌^◌, ◌++◌, ℕ, List, [], length, min, refl, subst, ap, Global, Option, Some, None, IfOk, IfSome, OnErr, Result, Ok, Err, String, string_bytes, IsAtEnd, Fault, Place, Stop, Refused, Read, Write, Memory, text_limit, IsFailedWrite, TellsWrite, Zone, Compares, ReadsWholeTo, StopsCompare, TellsReadOf, InputDenotes, ReadAs, input_of, explained, told, unexplained, untold, IsReported, TellsVerdict, Normalises, ReadsWhole, IfRefused, IsRefusal, read_as_with, AreCompared, Device, Devices, IsLeft, IsStopped, Runs, StopsNormalise, TellsLine, TellsRead, records_line, refusal_line, stop_line, verdict_line, which_words, WritesLine, WritesPartOfLine, Verdict}
+use Rattle.zonenorm.proofs.Common.{◌≡◌, ◌-◌, ◌^◌, ◌++◌, ℕ, List, [], length, min, subst, Global, Option, IfOk, IfSome, OnErr, Result, String, string_bytes, IsAtEnd, Fault, Place, Stop, Refused, Write, Memory, text_limit, IsFailedWrite, TellsWrite, Zone, Compares, ReadsWholeTo, StopsCompare, TellsReadOf, InputDenotes, ReadAs, input_of, explained, told, unexplained, untold, IsReported, TellsVerdict, Normalises, ReadsWhole, IfRefused, IsRefusal, read_as_with, AreCompared, Device, Devices, IsLeft, IsStopped, Runs, StopsNormalise, TellsLine, TellsRead, records_line, refusal_line, stop_line, verdict_line, which_words, WritesLine, WritesPartOfLine, Verdict, arith, Order, IfSome_then}
 use Rattle.zonenorm.specs.Explain.{accepted, refused, Explains, IsExplanation, StopsExplain}
 use Rattle.zonenorm.specs.Run as runs
 use Rattle.zonenorm.proofs.Telling.{told_as}
 use Rattle.zonenorm.specs.declared.compare.Which.{Which}
-use Rattle.zonenorm.specs.declared.order.Order.{Order}
 use Rattle.zonenorm.specs.declared.order.Order.TheVariants.{Normalise, Explain, Compare}
 use Rattle.zonenorm.specs.declared.order.Source.{Source}
-use Rattle.std.proofs.lemmas.Option.{IfSome_then}
 
 abbrev Known : Type 0
 Known = Option (List ℕ)
@@ -27,8 +25,7 @@ module _ (form : ReadAs) (known old new : Known) where
   explains line text status is same wrote = (line, is, subst (λ (t : List ℕ). WritesLine t old new) same wrote)
 
   pub explains_part : (failed : Type 0) (stop : Stop) (line text : List ℕ) (status : ℕ) → IsFailedWrite failed stop → IsExplanation form known line status → text ≡ line → WritesPartOfLine text old new → StopsExplain form known old new stop
-  explains_part failed Write line text status of_writer is same part = (line, status, is, subst (λ (t : List ℕ). WritesPartOfLine t old new) same part)
-  explains_part failed _ line text status never is same part = absurd never
+  explains_part failed stop line text status of_writer is same part = grind arith
 
 -- ---- what stopped a run is told
 
@@ -42,14 +39,11 @@ pub refusal_told : {F : Type 0} (words : List ℕ) (errors : Device) (fault : Fa
     → IfOk line (λ l. TellsLine (words ++ string_bytes l) 3 errors answer)
     → OnErr line (TellsLine (words ++ stop_line Memory) 4 errors answer)
     → IsReported words errors (Refused fault place) answer
-refusal_told words errors fault place (Ok line) answer is line_told memory_told =
-    explained (Refused fault place) answer (told_as _ _ _ _ _ _ (ap (λ (l : List ℕ). words ++ l) is) refl line_told)
-refusal_told words errors fault place (Err e) answer is line_told memory_told = unexplained fault place answer memory_told
+refusal_told words errors fault place line answer is line_told memory_told = grind (arith, told_as, explained, unexplained)
 
 -- a verdict whose line was not written whole is told as a failed write
 pub not_told : (verdict : Verdict) (output errors : Device) (stop : Stop) (answer : ℕ) → WritesPartOfLine (verdict_line verdict) output.old output.new → IsFailedWrite output.failed stop → IsReported [] errors stop answer → TellsVerdict verdict output errors answer
-not_told verdict output errors Write answer part failed (explained _ _ line) = untold answer part failed line
-not_told verdict output errors _ answer part never report = absurd never
+not_told verdict output errors stop answer part failed report = grind (arith, untold)
 
 -- octets of the form are an input with the origin
 module _ (origin : Option (List (List ℕ))) (form : ReadAs) (is : form ≡ read_as_with origin) (d : Devices) where
@@ -75,15 +69,7 @@ module _ (one other : Source) (form other_form : ReadAs) (is : form ≡ read_as_
   judged verdict _ are (untold answer part failed line) = runs.stopped [] Write answer (runs.telling one other verdict are part failed) line
 
   pub compares : (verdict : Verdict) (answer : ℕ) → IfSome d.first.old (λ octets. IfSome d.second.old (λ others. Compares (input_of form octets) (input_of other_form others) verdict)) → IsAtEnd d.first.new × IsAtEnd d.second.new → d.first.works × d.second.works → TellsVerdict verdict d.output d.errors answer → Runs (Compare one other) d answer
-  compares verdict answer h whole work line =
-      judged verdict answer
-      (record {
-        compared =
-            subst (λ (f : ReadAs). IfSome d.first.old (λ octets. IfSome d.second.old (λ others. Compares (input_of f octets) (input_of (read_as_with other.origin) others) verdict))) is
-            (subst (λ (f : ReadAs). IfSome d.first.old (λ octets. IfSome d.second.old (λ others. Compares (input_of form octets) (input_of f others) verdict))) other_is h);
-        whole = whole;
-        work = work;
-      }) line
+  compares verdict answer h whole work line = grind (arith, judged)
 
   pub compare_stopped : (which : Which) (stop : Stop) (answer : ℕ) (words : List ℕ) → StopsCompare form other_form d.first.old d.second.old d.second.new which stop → ReadsWholeTo d.first.old d.first.new d.second.old d.second.new which stop → TellsReadOf d.first.works d.first.failed d.second.works d.second.failed which stop → IsLeft d.output → words ≡ which_words which → IsReported words d.errors stop answer → Runs (Compare one other) d answer
   compare_stopped which stop answer words h whole failed output named report =

@@ -1,8 +1,6 @@
 -- What is taken of an input that a source is fed.
-use Rattle.zonenorm.proofs.Common.{◌≡◌, ◌<◌, true, false, List, [], ◌∷◌, ◌++◌, refl, sym, ap, ◌∙◌, subst, append_assoc, append-nil, Option, Some, None, is_some, Result, Ok, Err, IfOk, AllByRecursion, Octets, Record, Held, Pending, Fault, NoSoa, OutOfZone, Place, Whole, Stop, Refused, Read, Write, Memory, Placed, AddsEach, IsRefusedFor, leaves, TakesAll, StopsTaking, failure, memory, StopsFinish, no_soa, outside, IsFirstRefused, records_of, Zone, IsZone, ReadAs, input_of, InputReads, Decides, IsForm, IsLoaded, all_taken, front_refuses, nothing_pending, RefusesFront, by_record, by_ending, ReadsZone, RefusesRead, IsOfBytes, RefusesReading, refused, unread, unfinished, IfRefused}
-use Rattle.zone_rdata.proofs.FedSources.{stands_given}
+use Rattle.zonenorm.proofs.Common.{◌≡◌, ◌<◌, true, false, List, [], ◌∷◌, ◌++◌, refl, sym, ap, ◌∙◌, subst, append_assoc, append-nil, Option, Some, None, is_some, Result, IfOk, AllByRecursion, Octets, Record, Held, Pending, Fault, NoSoa, OutOfZone, Place, Whole, Stop, Refused, Placed, AddsEach, IsRefusedFor, leaves, TakesAll, StopsTaking, StopsFinish, no_soa, outside, IsFirstRefused, records_of, Zone, IsZone, ReadAs, input_of, InputReads, Decides, IsForm, IsLoaded, all_taken, front_refuses, nothing_pending, RefusesFront, by_record, by_ending, ReadsZone, RefusesRead, IsOfBytes, RefusesReading, refused, unread, unfinished, IfRefused, arith, rules, StandsForInput}
 use Rattle.zone_set.specs.Builder.{refused as refused_record, ending as ending_fault}
-use Rattle.zonenorm.specs.Machine.Fed.{StandsForInput}
 use Rattle.zonenorm.proofs.Accepted.{IsRefusedFor-same, StopsFinish-same, taken_accepted}
 use Rattle.zonenorm.proofs.Added.{added_all, AddsEach-append}
 
@@ -10,17 +8,7 @@ use Rattle.zonenorm.proofs.Added.{added_all, AddsEach-append}
 
 module _ (given : List Placed) (held : List Record) (pending : Pending) (each : AddsEach [] given held) where
   first_refused : (taken others : List Placed) (p : Placed) (new : List Record) (f : Fault) → pending.records ≡ taken ++ p ∷ others → AddsEach held taken new → IsRefusedFor new p.rr f → IsFirstRefused (given ++ pending.records) f p.place
-  first_refused taken others p new f parts more why =
-      let all_taken : AddsEach [] (given ++ taken) new = AddsEach-append [] held new given taken each more in
-      record {
-        before = given ++ taken;
-        refused = p;
-        others = others;
-        parts = ap (λ ps. given ++ ps) parts ∙ sym (append_assoc given taken (p ∷ others));
-        accepted = taken_accepted (given ++ taken) new all_taken;
-        why = IsRefusedFor-same new (records_of (given ++ taken)) p.rr f (added_all (given ++ taken) new new all_taken refl) why;
-        stands = refl;
-      }
+  first_refused taken others p new f parts more why = grind (arith, AddsEach-append, append_assoc, taken_accepted, IsRefusedFor-same, added_all)
 
   pub front_refused : (new : List Record) (rest : Pending) (stop : Stop) → StopsTaking held pending new rest stop → IfRefused stop (RefusesFront (given ++ pending.records) pending.ending)
   front_refused new rest _ (refused_record taken others p f works parts more left why) = by_record f p.place (first_refused taken others p new f parts more why)
@@ -29,27 +17,22 @@ module _ (given : List Placed) (held : List Record) (pending : Pending) (each : 
 
 -- taking records stops for no failed read and no failed write
 pub loading_is_of_bytes : (old new : List Record) (pending rest : Pending) (stop : Stop) → StopsTaking old pending new rest stop → IsOfBytes stop
-loading_is_of_bytes old new pending rest _ (failure fails same kept) = tt
-loading_is_of_bytes old new pending rest _ _ = tt
+loading_is_of_bytes old new pending rest stop given = grind arith
 
 not_both : {e : Fault × Place} → Some e ≡ None → ⊥
 not_both same = cc
 
 pub is_none_of : (refusal : Option (Fault × Place)) → is_some refusal ≡ false → refusal ≡ None
-is_none_of None none = refl
-is_none_of (Some e) none = cc
+is_none_of refusal none = grind arith
 
 pub some_of : (refusal : Option (Fault × Place)) → is_some refusal ≡ true → (e : Fault × Place) × (refusal ≡ Some e)
-some_of None some = cc
-some_of (Some e) some = (e, refl)
+some_of refusal some = grind arith
 
 pub zone_of_records : (r : Result Zone Stop) (records : List Record) → IfOk r IsZone → IfOk r (λ z. z.records ≡ records) → IfOk r (λ z. IsZone z × (z.records ≡ records))
-zone_of_records (Ok z) records zone same = (zone, same)
-zone_of_records (Err stop) records zone same = tt
+zone_of_records r records zone same = grind arith
 
 front_reading : (placed : List Placed) (ending : Option (Fault × Place)) (fault : Fault) (place : Place) → RefusesFront placed ending fault place → RefusesReading placed ending fault place
-front_reading placed ending _ _ (by_record fault place first) = refused fault place first
-front_reading placed ending _ _ (by_ending fault place accepted is) = unread fault place accepted is
+front_reading placed ending fault place given = grind (arith, refused, unread)
 
 emptied_nothing : (pending rest : Pending) → pending.failed ≡ false → pending.ending ≡ None → rest ≡ leaves pending [] → rest ≡ nothing_pending
 emptied_nothing pending rest works whole emptied = emptied ∙ ap (λ failed. record { failed = failed; records = []; ending = pending.ending }) works ∙ ap (λ ending. record { failed = false; records = []; ending = ending }) whole
@@ -62,12 +45,7 @@ module _ {Kept : Type 0} (IsOf : ReadAs → Type 0) (Leave : ReadAs → Octets �
 
   -- what is given is pending no more
   gives_all : (pending : Pending) (held : Held Kept) (octets : Octets) (given : List Placed) → Stands pending held octets given → Stands (leaves pending []) held octets (given ++ pending.records)
-  gives_all pending held octets given stands = record {
-    is = stands.is;
-    stands = stands_given _ _ _ (record { pending = pending; held = held }) (record { pending = leaves pending []; held = held }) pending.records octets given
-        (record { first = sym (append-nil pending.records); works = refl; ending = refl; held = refl })
-        stands.stands;
-  }
+  gives_all pending held octets given stands = search rules
 
   -- after a refusal nothing more is taken
   pub taken_after : (pending : Pending) (inside : Held Kept) (held : List Record) (refusal : Option (Fault × Place)) (octets piece : Octets) (e : Fault × Place) → refusal ≡ Some e → IsLoaded (Stands pending inside) form pending held refusal octets → IsLoaded (Stands pending inside) form pending held refusal (octets ++ piece)
@@ -96,26 +74,13 @@ module _ {Kept : Type 0} (IsOf : ReadAs → Type 0) (Leave : ReadAs → Octets �
 
   module _ (p0 p1 : Pending) (b0 b1 : Held Kept) (held : List Record) (octets : Octets) (refusal : Option (Fault × Place)) (none : refusal ≡ None) (ended : b1.finished ≡ true) (kept : (given : List Placed) → Stands p0 b0 octets given → Stands p1 b1 octets given) where
     pub zone_read : (new : List Record) (rest : Pending) (z : Zone) → TakesAll held p1 new rest → IsZone z → z.records ≡ new → IsLoaded (Stands p0 b0) form p0 held refusal octets → ReadsZone (input_of form octets) z
-    zone_read new rest z takes zone records (front_refuses front more placed ending f at is parts decided refuses) = absurd (not_both (sym is ∙ none))
-    zone_read new rest z takes zone records (all_taken given unrefused stands nothing each) = record {
-      placed = given ++ p1.records;
-      reads = subst (InputReads (input_of form octets) (given ++ p1.records)) takes.whole ((kept given stands).stands.read ended);
-      same = added_all (given ++ p1.records) new z.records (AddsEach-append [] held new given p1.records each takes.taken) records;
-      zone = zone;
-    }
+    zone_read new rest z takes zone records has = grind (arith, not_both, added_all, AddsEach-append)
 
     refused_with : (given : List Placed) → Stands p0 b0 octets given → (stop : Stop) → IfRefused stop (RefusesFront (given ++ p1.records) p1.ending) → IfRefused stop (RefusesRead (input_of form octets))
-    refused_with given stands (Refused fault place) refuses = record {
-      placed = given ++ p1.records;
-      ending = p1.ending;
-      reads = (kept given stands).stands.read ended;
-      refuses = front_reading (given ++ p1.records) p1.ending fault place refuses;
-    }
-    refused_with given stands _ refuses = tt
+    refused_with given stands stop refuses = grind (arith, front_reading)
 
     pub loading_refused : (new : List Record) (rest : Pending) (stop : Stop) → StopsTaking held p1 new rest stop → IsLoaded (Stands p0 b0) form p0 held refusal octets → IfRefused stop (RefusesRead (input_of form octets))
-    loading_refused new rest stop stops (front_refuses front more placed ending f at is parts decided refuses) = absurd (not_both (sym is ∙ none))
-    loading_refused new rest stop stops (all_taken given unrefused stands nothing each) = refused_with given stands stop (front_refused given held p1 each new rest stop stops)
+    loading_refused new rest stop stops has = grind (arith, not_both, refused_with, front_refused)
 
     pub finishing_refused : (new : List Record) (rest : Pending) (stop : Stop) → TakesAll held p1 new rest → StopsFinish new stop → IsLoaded (Stands p0 b0) form p0 held refusal octets → IfRefused stop (RefusesRead (input_of form octets))
     finishing_refused new rest stop takes stops (front_refuses front more placed ending f at is parts decided refuses) = absurd (not_both (sym is ∙ none))
@@ -134,10 +99,4 @@ abbrev pub FrontRefuses : Type 0
 FrontRefuses = (form : ReadAs) (octets front more : Octets) (placed : List Placed) (ending : Option (Fault × Place)) (fault : Fault) (place : Place) → IsForm form → AllByRecursion (λ c. c < 256) octets → octets ≡ front ++ more → Decides (input_of form front) placed ending → RefusesFront placed ending fault place → RefusesRead (input_of form octets) fault place
 
 pub refused_before : FrontRefuses → (Stands : Octets → List Placed → Type 0) (form : ReadAs) (pending : Pending) (held : List Record) (refusal : Option (Fault × Place)) (octets : Octets) (e : Fault × Place) → refusal ≡ Some e → IsForm form → AllByRecursion (λ c. c < 256) octets → IsLoaded Stands form pending held refusal octets → RefusesRead (input_of form octets) e.0 e.1
-refused_before fronts Stands form pending held refusal octets e is name each (all_taken given none stands nothing taken) = absurd (not_both (sym is ∙ none))
-refused_before fronts Stands form pending held refusal octets e is name each (front_refuses front more placed ending fault place at parts decides refuses) =
-    let same : (fault, place) ≡ e = some_same (sym at ∙ is) in
-    subst (λ x. RefusesRead (input_of form octets) x.0 x.1) same (fronts form octets front more placed ending fault place name each parts decides refuses)
-  where
-    some_same : {x y : Fault × Place} → Some x ≡ Some y → x ≡ y
-    some_same one = cc
+refused_before fronts Stands form pending held refusal octets e is name each has = grind arith

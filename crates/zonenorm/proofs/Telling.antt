@@ -1,16 +1,14 @@
 -- Lines that are written piece by piece.
-use Rattle.zonenorm.proofs.Common.{◌≡◌, ℕ, List, ◌++◌, sym, ap, ◌∙◌, append_assoc, subst, Option, Result, Ok, Err, OnErr, OnOk, Appends, Appends-trans, AppendsPart, IsFailedWrite, Stop, Refused, Read, Write, Memory, Device, TellsLine, WritesLine, WritesPartOfLine}
+use Rattle.zonenorm.proofs.Common.{◌≡◌, ℕ, List, ◌++◌, append_assoc, subst, Option, Result, OnErr, OnOk, Appends, Appends-trans, AppendsPart, IsFailedWrite, Stop, Device, TellsLine, WritesLine, WritesPartOfLine, arith}
 use Rattle.zone_print.proofs.Front.{some_more}
 
 -- a part of the front of a text is a part of the text
 pub part_first : (old new : Option (List ℕ)) (piece front back : List ℕ) → piece ≡ front → AppendsPart old new piece → AppendsPart old new (front ++ back)
-part_first old new piece front back is (taken, rest, some, split, appended) =
-    (taken, rest ++ back, some_more rest back some, ap (λ (l : List ℕ). l ++ back) (sym is ∙ split) ∙ append_assoc taken rest back, appended)
+part_first old new piece front back is (taken, rest, some, split, appended) = grind (arith, some_more rest back some, append_assoc taken rest back)
 
 -- so is the beginning and a part of what follows it
 pub part_then : (old mid new : Option (List ℕ)) (piece front back : List ℕ) → piece ≡ front → Appends old mid piece → AppendsPart mid new back → AppendsPart old new (front ++ back)
-part_then old mid new piece front back is whole (taken, rest, some, split, appended) =
-    (piece ++ taken, rest, some, ap (λ (l : List ℕ). l ++ back) (sym is) ∙ ap (λ (l : List ℕ). piece ++ l) split ∙ sym (append_assoc piece taken rest), Appends-trans old mid new piece taken whole appended)
+part_then old mid new piece front back is whole (taken, rest, some, split, appended) = grind (arith, append_assoc piece taken rest, Appends-trans old mid new piece taken whole appended)
 
 pub part_as : (old new : Option (List ℕ)) (piece text : List ℕ) → piece ≡ text → AppendsPart old new piece → AppendsPart old new text
 part_as old new piece text is part = subst (λ (t : List ℕ). AppendsPart old new t) is part
@@ -20,12 +18,10 @@ pub both_written : (a b c : Option (List ℕ)) (piece other text others : List �
 both_written a b c piece other text others is are h k = Appends-trans a b c text others (subst (λ (t : List ℕ). Appends a b t) is h) (subst (λ (t : List ℕ). Appends b c t) are k)
 
 pub on_err : {X Y : Type 0} (r : Result X Y) (P Q : Type 0) → (P → Q) → OnErr r P → OnErr r Q
-on_err (Ok x) P Q then h = tt
-on_err (Err y) P Q then h = then h
+on_err r P Q then h = grind arith
 
 pub on_any_err : {X Y : Type 0} (r : Result X Y) (P : Type 0) → P → OnErr r P
-on_any_err (Ok x) P h = tt
-on_any_err (Err y) P h = h
+on_any_err r P h = grind arith
 
 -- words and digits that were written make this line, and part of them part of it
 pub this_line_on_ok : {X Y : Type 0} (r : Result X Y) (text line : List ℕ) (old new : Option (List ℕ)) → text ≡ line → OnOk r (WritesLine text old new) → OnOk r (WritesLine line old new)
@@ -36,10 +32,8 @@ part_of_line_on_err r text line old new is h = subst (λ (t : List ℕ). OnErr r
 
 -- a line that is told is told as any line that is the same, with a status that is
 pub told_as : (text line : List ℕ) (status other answer : ℕ) (writer : Device) → text ≡ line → status ≡ other → TellsLine text status writer answer → TellsLine line other writer answer
-told_as text line status other answer writer is same h =
-    subst (λ (t : List ℕ). TellsLine t other writer answer) is (subst (λ (n : ℕ). TellsLine text n writer answer) same h)
+told_as text line status other answer writer is same h = grind arith
 
 -- a write that failed
 pub failed_write : (failed : Type 0) (stop : Stop) → IsFailedWrite failed stop → failed
-failed_write failed Write h = h
-failed_write failed _ never = absurd never
+failed_write failed stop h = grind arith

@@ -1,5 +1,4 @@
-use Rattle.zonenorm.proofs.Common.{◌≤◌, ◌<◌, length, refl, arith, false≢true, canon, text_limit}
-use Rattle.std.proofs.lemmas.Option.{IfSome_then}
+use Rattle.zonenorm.proofs.Common.{◌≤◌, ◌<◌, length, refl, arith, false≢true, canon, text_limit, IfSome_then}
 use Rattle.zonenorm.proofs.Feeding.{is_input}
 use Rattle.zonenorm.proofs.Written.{denotes_zone, large}
 use Rattle.zonenorm.proofs.engine.accepted_zone.Goals as goal

@@ -1,5 +1,4 @@
-use Rattle.std.proofs.lemmas.Result.{err_from_is_err_and}
-use Rattle.std.proofs.lemmas.Option.{IfSome_then}
+use Rattle.zonenorm.proofs.Common.{err_from_is_err_and, IfSome_then}
 use Rattle.zonenorm.proofs.Feeding.{is_input}
 use Rattle.zonenorm.proofs.Written.{normalises, refused_writing, front_written, nothing_written, prints_no_read}
 use Rattle.zonenorm.proofs.engine.normalise.Goals as goal

@@ -1,5 +1,4 @@
-use Rattle.std.proofs.Common.{◌++◌, List, ℕ, sym, ap, ◌∙◌, subst}
-use Rattle.zone_name.specs.Text.{name_text}
+use Rattle.zonenorm.proofs.Common.{◌++◌, List, ℕ, sym, ap, ◌∙◌, subst, name_text}
 use Rattle.zonenorm.proofs.Ascii.{ascii_name, AreAscii}
 use Rattle.zonenorm.proofs.explain.push_owner.Goals as goal
 

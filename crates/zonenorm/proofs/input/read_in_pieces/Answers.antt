@@ -1,6 +1,5 @@
-use Rattle.zonenorm.proofs.Common.{rules, refl, sym, ◌∙◌, ◌<◌, ◌≤◌, ◌+◌, ◌++◌, [], length, length-append, arith, MatchResult-weaker, input_of, ReadsZoneWithin, IfRefused, IsRefusalWithin}
+use Rattle.zonenorm.proofs.Common.{rules, refl, sym, ◌∙◌, ◌<◌, ◌≤◌, ◌+◌, ◌++◌, [], length, length-append, arith, MatchResult-weaker, input_of, ReadsZoneWithin, IfRefused, IsRefusalWithin, Consumes-nil, Consumes-trans, Consumes-whole}
 use Rattle.zone_name.proofs.Pushing.{AllByRecursion-append}
-use Rattle.std.proofs.KnownBytes.{Consumes-nil, Consumes-trans, Consumes-whole}
 use Rattle.zonenorm.proofs.Feeding.{begun, within, refused_within, too_many, consumed_none, of_reading, tells_no_read, no_octets}
 use Rattle.zonenorm.proofs.input.read_in_pieces.Goals as goal
 

@@ -1,5 +1,4 @@
-use Rattle.std.proofs.Common.{ap, refl, ◌∙◌, List, map, string_bytes}
-use Rattle.clap.specs.Words.{App, Text, fault_of, is_simple, is_simple_and_free}
+use Rattle.zonenorm.proofs.Common.{ap, refl, ◌∙◌, List, map, string_bytes, App, Text, fault_of, is_simple, is_simple_and_free}
 use Rattle.zonenorm.proofs.Asked.{called, not_called, for_memory, order_given, order_refused, fault_told}
 use Rattle.zonenorm.proofs.order.order_of.Goals as goal
 

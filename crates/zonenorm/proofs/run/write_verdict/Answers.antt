@@ -1,5 +1,4 @@
-use Rattle.std.proofs.Common.{List, ap, codes, ℕ, ◌++◌}
-use Rattle.std.specs.Fmt.{decimal}
+use Rattle.zonenorm.proofs.Common.{List, ap, codes, ℕ, ◌++◌, decimal}
 use Rattle.zonenorm.proofs.Telling.{part_of_line_on_err, this_line_on_ok}
 use Rattle.zonenorm.proofs.run.write_verdict.Goals as goal
 
