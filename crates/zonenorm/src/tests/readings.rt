@@ -1,12 +1,12 @@
 //! Records as they are read, by their canonical lines.
-use crate::tests::{check, push_hex, push_stop, push_text};
+use crate::tests::{check, push_hex, push_stop, push_text, push_words};
 use std::alloc::Global;
 use std::test::Fail;
 use zone_rdata::{Place, Placed, Reading, Rr, Stop};
 
 /// Appends TTL and class of a record, with a blank before and after each.
 fn push_ttl_and_class(alloc: Global, rr: &Rr, line: &mut Vec<u8>) -> Result<(), Fail> {
-    line.extend_from_slice(format!(in alloc; " {} ", rr.ttl())?.as_bytes())?;
+    push_words(alloc, line, format_args!(" {} ", rr.ttl()))?;
     rr.class().push_word(line)?;
     Ok(line.push(b' ')?)
 }
@@ -46,23 +46,20 @@ fn push_line(alloc: Global, out: &mut Vec<u8>, rr: &Rr) -> Result<(), Fail> {
 pub(super) fn push_numbers(alloc: Global, out: &mut Vec<u8>, rr: &Rr) -> Result<(), Fail> {
     push_hex(alloc, out, rr.owner().wire())?;
     let (ttl, class, kind) = (rr.ttl(), rr.class().number(), rr.kind().number());
-    push_text(
-        out,
-        format!(in alloc; " {ttl} CLASS{class} TYPE{kind} ")?.as_str(),
-    )?;
+    push_words(alloc, out, format_args!(" {ttl} CLASS{class} TYPE{kind} "))?;
     push_hex(alloc, out, rr.rdata().octets())
 }
 
 /// Appends a place, with a blank before it.
 pub(super) fn push_place(alloc: Global, out: &mut Vec<u8>, place: Place) -> Result<(), Fail> {
-    let words = match place {
-        Place::Line(line) => format!(in alloc; " at line {line}")?,
+    match place {
+        Place::Line(line) => push_words(alloc, out, format_args!(" at line {line}")),
         Place::Message(number, offset) => {
-            format!(in alloc; " at message {number} offset {offset}")?
+            let words = format_args!(" at message {number} offset {offset}");
+            push_words(alloc, out, words)
         }
-        Place::Whole => format!(in alloc; " in the input")?,
-    };
-    push_text(out, words.as_str())
+        Place::Whole => push_text(out, " in the input"),
+    }
 }
 
 /// Appends a record's canonical line and its place.
