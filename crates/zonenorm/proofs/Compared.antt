@@ -1,6 +1,6 @@
 -- The lines of a canonical text are those of its records, so texts differ first at the line of the
 -- first records that do.
-use Rattle.zonenorm.proofs.Common.{◌≡◌, ◌≢◌, ◌↔◌, ℕ, zero, suc, ◌+◌, ◌<◌, ◌≤◌, List, [], ◌∷◌, ◌++◌, length, map, refl, sym, ap, ap₂, ◌∙◌, subst, append_assoc, length-append, arith, ne_eqb, AllByRecursion, slice_get, Option, IfSome, Octets, Record, IsRecord, Zone, canon, line, lines, Compares, DifferFirstAt, IsAccepted, IsVerdictOnTexts, line_at, lines_of, ReadAs, input_of, InputDenotes, Verdict}
+use Rattle.zonenorm.proofs.Common.{◌≡◌, ◌≢◌, ◌↔◌, ℕ, zero, suc, ◌+◌, ◌<◌, ◌≤◌, List, [], ◌∷◌, ◌++◌, length, map, refl, sym, ap, ap₂, ◌∙◌, subst, append_assoc, length-append, arith, ne_eqb, AllByRecursion, slice_get, Option, IfSome, Octets, Record, IsRecord, Zone, canon, line, lines, Compares, DifferFirstAt, IsAccepted, IsVerdictOnTexts, line_at, lines_of, InputDenotes, Verdict, Input}
 use Rattle.std.proofs.Common.{Some, None}
 use Rattle.zone_print.specs.Laws.{HasNoFeed, EndsWithItsFeed}
 use Rattle.zone_print.proofs.Feeds.{line_ends_with_feed}
@@ -119,11 +119,11 @@ other_record records others left right left' right' r s number exact each each' 
 
 -- ---- the zones of known octets
 
-pub compares_zones : (form form' : ReadAs) (known known' : Option Octets) (z w : Zone) (verdict : Verdict) → IfSome known (λ octets. InputDenotes (input_of form octets) z) → IfSome known' (λ octets. InputDenotes (input_of form' octets) w) → IsVerdictOnTexts verdict (canon z) (canon w) → IfSome known (λ octets. IfSome known' (λ others. Compares (input_of form octets) (input_of form' others) verdict))
+pub compares_zones : (form form' : Octets → Input) (known known' : Option Octets) (z w : Zone) (verdict : Verdict) → IfSome known (λ octets. InputDenotes (form octets) z) → IfSome known' (λ octets. InputDenotes (form' octets) w) → IsVerdictOnTexts verdict (canon z) (canon w) → IfSome known (λ octets. IfSome known' (λ others. Compares (form octets) (form' others) verdict))
 compares_zones form form' (Some octets) (Some others) z w verdict denotes denotes' judged =
     record { zone = z; denotes = denotes; other = w; other_denotes = denotes'; judged = judged }
 compares_zones form form' _ _ z w verdict denotes denotes' judged = tt
 
-pub is_accepted : (form : ReadAs) (known : Option Octets) (z : Zone) → IfSome known (λ octets. InputDenotes (input_of form octets) z) → IsAccepted form known
+pub is_accepted : (form : Octets → Input) (known : Option Octets) (z : Zone) → IfSome known (λ octets. InputDenotes (form octets) z) → IsAccepted form known
 is_accepted form None z denotes = tt
 is_accepted form (Some octets) z denotes = (z, denotes)

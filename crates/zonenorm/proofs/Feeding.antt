@@ -1,5 +1,8 @@
 -- From what was taken of the octets that a reader gave to what the reader's octets are read as.
-use Rattle.zonenorm.proofs.Common.{◌≡◌, ℕ, ◌<◌, ◌≤◌, ◌+◌, true, List, [], ◌∷◌, ◌++◌, length, length-append, refl, sym, ap, ◌∙◌, subst, append-nil, append_assoc, arith, eqb-true, ◌==◌, Option, Some, None, IfSome, Consumes, IsAtEnd, AllByRecursion, Octets, Record, Held, Pending, Fault, InputTooLong, Place, Whole, Stop, Refused, Read, Write, Memory, Placed, Zone, ReadAs, as_file, as_transfer, input_of, input_octets, IsInput, IsForm, all_taken, BeginsAs, IsLoadedOf, ReadsZone, ReadsZoneWithin, RefusesRead, IsOfBytes, IsOfReading, IfRefused, IsRefusalWithin, too_long, reading, TellsRead}
+use Rattle.zonenorm.proofs.Common.{◌≡◌, ℕ, ◌<◌, ◌≤◌, ◌+◌, true, List, [], ◌∷◌, ◌++◌, length, length-append, refl, sym, ap, ◌∙◌, subst, append-nil, append_assoc, arith, eqb-true, ◌==◌, Option, Some, None, IfSome, Consumes, IsAtEnd, AllByRecursion, Octets, Record, Held, Pending, Fault, InputTooLong, Place, Whole, Stop, Refused, Read, Write, Memory, Placed, Zone, ReadAs, as_file, as_transfer, input_of, input_octets, IsInput, IsForm, all_taken, BeginsAs, IsLoadedOf, ReadsZone, ReadsZoneWithin, RefusesRead, IsOfBytes, IsOfReading, IfRefused, IsRefusalWithin, too_long, reading, TellsRead, form_of}
+use Rattle.zonenorm.specs.Form.{read_as}
+use Rattle.zonenorm.specs.declared.form.Form.{Form}
+use Rattle.zonenorm.specs.declared.form.Form.TheVariants.{File, Transfer}
 use Rattle.std.proofs.KnownBytes.{Consumes-trans}
 
 pub octets_of_input : (form : ReadAs) (octets : Octets) → input_octets (input_of form octets) ≡ octets
@@ -65,6 +68,6 @@ no_octets [] none = refl
 no_octets (c ∷ octets) none = absurd (omega (arith, eqb-true (length (c ∷ octets)) 0 none))
 
 -- octets are an input of a form
-pub is_input : (form : ReadAs) (octets : Octets) → IsForm form → AllByRecursion (λ c. c < 256) (input_octets (input_of form octets)) → IsInput (input_of form octets)
-is_input (as_file origin) octets name each = (name, each)
-is_input as_transfer octets name each = each
+pub is_input : (form : Form) (octets : Octets) → IsForm (form_of form) → AllByRecursion (λ c. c < 256) (input_octets (read_as form octets)) → IsInput (read_as form octets)
+is_input (File origin) octets name each = (name, each)
+is_input Transfer octets name each = each
