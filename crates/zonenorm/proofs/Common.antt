@@ -43,9 +43,9 @@ pub use Rattle.zone_text.specs.FileReads.{FileReads}
 pub use Rattle.zone_wire.specs.Stream.{StreamReads}
 pub use Rattle.zonenorm.specs.Compare.{Compares, DifferFirstAt, IsAccepted, IsVerdictOnTexts, ReadsWholeTo, StopsCompare, TellsReadOf, by_first, by_second, line_at, lines_of}
 pub use Rattle.zonenorm.specs.Examples.{a_x, address_of, example_zone, server_of, soa_of, top, under, x}
-pub use Rattle.zonenorm.specs.Input.{Input, InputDenotes, InputReads, InputStates, IsInput, ReadAs, as_file, as_transfer, file, input_octets, input_of, transfer}
+pub use Rattle.zonenorm.specs.Input.{Input, InputDenotes, InputReads, InputStates, IsInput, file, input_octets, transfer}
 pub use Rattle.zonenorm.specs.Machine.Fed.{FileLeave, IsFile, IsTransfer, StandsForInput, TransferLeave}
-pub use Rattle.zonenorm.specs.Machine.Input.{Decides, IsForm}
+pub use Rattle.zonenorm.specs.Machine.Input.{Decides, IsForm, ReadAs, as_file, as_transfer, form_of, input_of}
 pub use Rattle.zonenorm.specs.Machine.Loading.{BeginsAs, IsLoaded, IsLoadedOf, ReadsZone, ReadsZoneWithin, RefusesFront, RefusesRead, all_taken, by_ending, by_record, front_refuses, nothing_pending}
 pub use Rattle.zonenorm.specs.Machine.Telling.{IsReported, TellsVerdict, explained, told, unexplained, untold}
 pub use Rattle.zonenorm.specs.Normalise.{IsOfBytes, IsOfReading, Normalises, NormalisesTo, ReadsWhole, WritesNothing, WritesPrefix}

@@ -1,6 +1,6 @@
 -- The lines of a canonical text are those of its records, so texts differ first at the line of the
 -- first records that do.
-use Rattle.zonenorm.proofs.Common.{◌≡◌, ◌≢◌, ◌↔◌, ℕ, zero, suc, ◌+◌, ◌<◌, ◌≤◌, List, [], ◌∷◌, ◌++◌, length, map, refl, sym, ap, ◌∙◌, append_assoc, length-append, arith, ne_eqb, AllByRecursion, slice_get, Option, IfSome, Octets, Record, IsRecord, Zone, canon, line, lines, Compares, DifferFirstAt, IsAccepted, IsVerdictOnTexts, line_at, lines_of, ReadAs, input_of, InputDenotes, Verdict, common_steps, HasNoFeed, EndsWithItsFeed, line_ends_with_feed}
+use Rattle.zonenorm.proofs.Common.{◌≡◌, ◌≢◌, ◌↔◌, ℕ, zero, suc, ◌+◌, ◌<◌, ◌≤◌, List, [], ◌∷◌, ◌++◌, length, map, refl, sym, ap, ◌∙◌, append_assoc, length-append, arith, ne_eqb, AllByRecursion, slice_get, Option, IfSome, Octets, Record, IsRecord, Zone, canon, line, lines, Compares, DifferFirstAt, IsAccepted, IsVerdictOnTexts, line_at, lines_of, InputDenotes, Verdict, common_steps, HasNoFeed, EndsWithItsFeed, line_ends_with_feed, Input}
 
 -- ---- the lines of a text
 
@@ -101,8 +101,8 @@ other_record records others left right left' right' r s number exact each each' 
 
 -- ---- the zones of known octets
 
-pub compares_zones : (form form' : ReadAs) (known known' : Option Octets) (z w : Zone) (verdict : Verdict) → IfSome known (λ octets. InputDenotes (input_of form octets) z) → IfSome known' (λ octets. InputDenotes (input_of form' octets) w) → IsVerdictOnTexts verdict (canon z) (canon w) → IfSome known (λ octets. IfSome known' (λ others. Compares (input_of form octets) (input_of form' others) verdict))
+pub compares_zones : (form form' : Octets → Input) (known known' : Option Octets) (z w : Zone) (verdict : Verdict) → IfSome known (λ octets. InputDenotes (form octets) z) → IfSome known' (λ octets. InputDenotes (form' octets) w) → IsVerdictOnTexts verdict (canon z) (canon w) → IfSome known (λ octets. IfSome known' (λ others. Compares (form octets) (form' others) verdict))
 compares_zones form form' known known' z w verdict denotes denotes' judged = grind arith
 
-pub is_accepted : (form : ReadAs) (known : Option Octets) (z : Zone) → IfSome known (λ octets. InputDenotes (input_of form octets) z) → IsAccepted form known
+pub is_accepted : (form : Octets → Input) (known : Option Octets) (z : Zone) → IfSome known (λ octets. InputDenotes (form octets) z) → IsAccepted form known
 is_accepted form known z denotes = grind arith

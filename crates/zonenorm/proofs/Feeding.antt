@@ -1,5 +1,8 @@
 -- From what was taken of the octets that a reader gave to what the reader's octets are read as.
-use Rattle.zonenorm.proofs.Common.{◌≡◌, ℕ, ◌<◌, ◌≤◌, ◌+◌, true, List, [], ◌++◌, length, length-append, sym, ap, ◌∙◌, subst, append-nil, arith, ◌==◌, Option, None, IfSome, Consumes, AllByRecursion, Octets, Record, Held, Pending, Fault, InputTooLong, Place, Whole, Stop, Zone, ReadAs, input_of, input_octets, IsInput, IsForm, all_taken, BeginsAs, IsLoadedOf, ReadsZone, ReadsZoneWithin, RefusesRead, IsOfBytes, IsOfReading, IfRefused, IsRefusalWithin, too_long, reading, TellsRead, common_steps, Consumes-trans}
+use Rattle.zonenorm.proofs.Common.{◌≡◌, ℕ, ◌<◌, ◌≤◌, ◌+◌, true, List, [], ◌++◌, length, length-append, sym, ap, ◌∙◌, subst, append-nil, arith, ◌==◌, Option, None, IfSome, Consumes, AllByRecursion, Octets, Record, Held, Pending, Fault, InputTooLong, Place, Whole, Stop, Zone, ReadAs, input_of, input_octets, IsInput, IsForm, all_taken, BeginsAs, IsLoadedOf, ReadsZone, ReadsZoneWithin, RefusesRead, IsOfBytes, IsOfReading, IfRefused, IsRefusalWithin, too_long, reading, TellsRead, common_steps, Consumes-trans, form_of}
+use Rattle.zonenorm.specs.Form.{read_as}
+use Rattle.zonenorm.specs.declared.form.Form.{Form}
+use Rattle.zonenorm.specs.declared.form.Form.TheVariants.{File, Transfer}
 
 pub octets_of_input : (form : ReadAs) (octets : Octets) → input_octets (input_of form octets) ≡ octets
 octets_of_input form octets = grind arith
@@ -52,5 +55,6 @@ pub no_octets : (octets : Octets) → (length octets == 0) ≡ true → octets �
 no_octets octets none = grind (arith, common_steps)
 
 -- octets are an input of a form
-pub is_input : (form : ReadAs) (octets : Octets) → IsForm form → AllByRecursion (λ c. c < 256) (input_octets (input_of form octets)) → IsInput (input_of form octets)
-is_input form octets name each = grind arith
+pub is_input : (form : Form) (octets : Octets) → IsForm (form_of form) → AllByRecursion (λ c. c < 256) (input_octets (read_as form octets)) → IsInput (read_as form octets)
+is_input (File origin) octets name each = (name, each)
+is_input Transfer octets name each = each

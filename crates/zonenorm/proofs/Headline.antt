@@ -41,19 +41,20 @@ refused_if_none never either input is = (
   λ none. ⊎_elim (λ refused. refused) (λ (z, denotes). absurd (none z denotes)) (either input is),
 )
 
-pub bounded_walk : ((message : Octets) (offset : ℕ) → (visits : List Visit) × IsWalk message offset visits)
-    → ((message : Octets) (offset : ℕ) (visits : List Visit) → IsWalk message offset visits → length visits ≤ 256)
-    → ((message : Octets) (offset : ℕ) (visits : List Visit) → IsWalk message offset visits → AllByRecursion (λ visit. visit.offset < length message) visits)
-    → ((message : Octets) (offset : ℕ) (found : Found) (visits : List Visit) → IsNameAt message offset found → IsWalk message offset visits → length visits ≡ found.steps)
+pub bounded_walk : ((message : Octets) (offset : ℕ) → (visits : List Visit) × (ending : Option Fault) × IsWalk message offset visits ending)
+    → ((message : Octets) (offset : ℕ) (visits : List Visit) (ending : Option Fault) → IsWalk message offset visits ending → length visits ≤ 256)
+    → ((message : Octets) (offset : ℕ) (visits : List Visit) (ending : Option Fault) → IsWalk message offset visits ending → AllByRecursion (λ visit. visit.offset < length message) visits)
+    → ((message : Octets) (offset : ℕ) (found : Found) (visits : List Visit) (ending : Option Fault) → IsNameAt message offset found → IsWalk message offset visits ending → length visits ≡ found.steps)
     → (message : Octets) (offset : ℕ) → (visits : List Visit) × IsBoundedWalk message offset visits
 bounded_walk some few inside steps message offset =
-    let (visits, walk) = some message offset in (
+    let (visits, ending, walk) = some message offset in (
       visits,
       record {
+        ending = ending;
         walk = walk;
-        few = few message offset visits walk;
-        inside = inside message offset visits walk;
-        steps = λ found is. sym (steps message offset found visits is walk);
+        few = few message offset visits ending walk;
+        inside = inside message offset visits ending walk;
+        steps = λ found is. sym (steps message offset found visits ending is walk);
       },
     )
 

@@ -1,5 +1,5 @@
 -- From what an order's call answers, and what is told of it, to what a run leaves.
-use Rattle.zonenorm.proofs.Common.{◌≡◌, ◌-◌, ◌^◌, ◌++◌, ℕ, List, [], length, min, subst, Global, Option, IfOk, IfSome, OnErr, Result, String, string_bytes, IsAtEnd, Fault, Place, Stop, Refused, Write, Memory, text_limit, IsFailedWrite, TellsWrite, Zone, Compares, ReadsWholeTo, StopsCompare, TellsReadOf, InputDenotes, ReadAs, input_of, explained, told, unexplained, untold, IsReported, TellsVerdict, Normalises, ReadsWhole, IfRefused, IsRefusal, read_as_with, AreCompared, Device, Devices, IsLeft, IsStopped, Runs, StopsNormalise, TellsLine, TellsRead, records_line, refusal_line, stop_line, verdict_line, which_words, WritesLine, WritesPartOfLine, Verdict, arith, Order, IfSome_then}
+use Rattle.zonenorm.proofs.Common.{◌≡◌, ◌-◌, ◌^◌, ◌++◌, ℕ, List, [], length, min, subst, Global, Option, IfOk, IfSome, OnErr, Result, String, string_bytes, IsAtEnd, Fault, Place, Stop, Refused, Write, Memory, text_limit, IsFailedWrite, TellsWrite, Zone, Compares, ReadsWholeTo, StopsCompare, TellsReadOf, InputDenotes, explained, told, unexplained, untold, IsReported, TellsVerdict, Normalises, ReadsWhole, IfRefused, IsRefusal, read_as_with, AreCompared, Device, Devices, IsLeft, IsStopped, Runs, StopsNormalise, TellsLine, TellsRead, records_line, refusal_line, stop_line, verdict_line, which_words, WritesLine, WritesPartOfLine, Verdict, arith, Order, IfSome_then, Input, Octets}
 use Rattle.zonenorm.specs.Explain.{accepted, refused, Explains, IsExplanation, StopsExplain}
 use Rattle.zonenorm.specs.Run as runs
 use Rattle.zonenorm.proofs.Telling.{told_as}
@@ -12,15 +12,15 @@ Known = Option (List ℕ)
 
 -- ---- explaining
 
-module _ (form : ReadAs) (known : Known) where
-  pub on_records : (z : Zone) (count : ℕ) → IfSome known (λ octets. InputDenotes (input_of form octets) z) → count ≡ min (length z.records) (2 ^ 64 - 1) → IsExplanation form known (records_line count) 0
+module _ (form : Octets → Input) (known : Known) where
+  pub on_records : (z : Zone) (count : ℕ) → IfSome known (λ octets. InputDenotes (form octets) z) → count ≡ min (length z.records) (2 ^ 64 - 1) → IsExplanation form known (records_line count) 0
   on_records z count h counted = accepted count (IfSome_then known h (λ octets d. (z, d, counted)))
 
-  pub on_refusal : (stop : Stop) (fault : Fault) (place : Place) → stop ≡ Refused fault place → IfSome known (λ octets. IfRefused stop (IsRefusal (input_of form octets))) → IsExplanation form known (refusal_line fault place) 3
-  on_refusal stop fault place is h = refused fault place (subst (λ (s : Stop). IfSome known (λ octets. IfRefused s (IsRefusal (input_of form octets)))) is h)
+  pub on_refusal : (stop : Stop) (fault : Fault) (place : Place) → stop ≡ Refused fault place → IfSome known (λ octets. IfRefused stop (IsRefusal (form octets))) → IsExplanation form known (refusal_line fault place) 3
+  on_refusal stop fault place is h = refused fault place (subst (λ (s : Stop). IfSome known (λ octets. IfRefused s (IsRefusal (form octets)))) is h)
 
 -- the line was written, or a proper prefix of it
-module _ (form : ReadAs) (known old new : Known) where
+module _ (form : Octets → Input) (known old new : Known) where
   pub explains : (line text : List ℕ) (status : ℕ) → IsExplanation form known line status → text ≡ line → WritesLine text old new → Explains form known old new status
   explains line text status is same wrote = (line, is, subst (λ (t : List ℕ). WritesLine t old new) same wrote)
 
@@ -46,35 +46,35 @@ pub not_told : (verdict : Verdict) (output errors : Device) (stop : Stop) (answe
 not_told verdict output errors stop answer part failed report = grind (arith, untold)
 
 -- octets of the form are an input with the origin
-module _ (origin : Option (List (List ℕ))) (form : ReadAs) (is : form ≡ read_as_with origin) (d : Devices) where
-  pub normalises : (count : ℕ) → IfSome d.first.old (λ octets. Normalises (input_of form octets) d.output.old d.output.new count) → IsAtEnd d.first.new → d.first.works × d.output.works → IsLeft d.second → IsLeft d.errors → Runs (Normalise origin) d 0
+module _ (origin : Option (List (List ℕ))) (form : Octets → Input) (is : form ≡ read_as_with origin) (d : Devices) where
+  pub normalises : (count : ℕ) → IfSome d.first.old (λ octets. Normalises (form octets) d.output.old d.output.new count) → IsAtEnd d.first.new → d.first.works × d.output.works → IsLeft d.second → IsLeft d.errors → Runs (Normalise origin) d 0
   normalises count h whole works second errors =
-      runs.done 0 (runs.normalised origin count (subst (λ (f : ReadAs). IfSome d.first.old (λ octets. Normalises (input_of f octets) d.output.old d.output.new count)) is h) whole works.0 second works.1) errors
+      runs.done 0 (runs.normalised origin count (subst (λ (f : Octets → Input). IfSome d.first.old (λ octets. Normalises (f octets) d.output.old d.output.new count)) is h) whole works.0 second works.1) errors
 
   pub normalise_stopped : (stop : Stop) (answer : ℕ) → StopsNormalise form d.first d.output stop → IsLeft d.second → IsReported [] d.errors stop answer → Runs (Normalise origin) d answer
   normalise_stopped stop answer h second report =
-      tells (Normalise origin) d [] stop answer (runs.normalising origin stop (subst (λ (f : ReadAs). StopsNormalise f d.first d.output stop) is h) second) report
+      tells (Normalise origin) d [] stop answer (runs.normalising origin stop (subst (λ (f : Octets → Input). StopsNormalise f d.first d.output stop) is h) second) report
 
   pub explains_input : (status : ℕ) → Explains form d.first.old d.output.old d.output.new status → ReadsWhole text_limit d.first.old d.first.new → d.first.works × d.output.works → IsLeft d.second → IsLeft d.errors → Runs (Explain origin) d status
   explains_input status h whole works second errors =
-      runs.done status (runs.explained origin status (subst (λ (f : ReadAs). Explains f d.first.old d.output.old d.output.new status) is h) whole works.0 second works.1) errors
+      runs.done status (runs.explained origin status (subst (λ (f : Octets → Input). Explains f d.first.old d.output.old d.output.new status) is h) whole works.0 second works.1) errors
 
   pub explain_stopped : (stop : Stop) (answer : ℕ) → StopsExplain form d.first.old d.output.old d.output.new stop → TellsRead d.first.works d.first.failed stop × TellsWrite d.output.works d.output.failed stop → IsLeft d.second → IsReported [] d.errors stop answer → Runs (Explain origin) d answer
   explain_stopped stop answer h failed second report =
-      tells (Explain origin) d [] stop answer (runs.explaining origin stop (subst (λ (f : ReadAs). StopsExplain f d.first.old d.output.old d.output.new stop) is h) failed.0 failed.1 second) report
+      tells (Explain origin) d [] stop answer (runs.explaining origin stop (subst (λ (f : Octets → Input). StopsExplain f d.first.old d.output.old d.output.new stop) is h) failed.0 failed.1 second) report
 
-module _ (one other : Source) (form other_form : ReadAs) (is : form ≡ read_as_with one.origin) (other_is : other_form ≡ read_as_with other.origin) (d : Devices) where
+module _ (one other : Source) (form other_form : Octets → Input) (is : form ≡ read_as_with one.origin) (other_is : other_form ≡ read_as_with other.origin) (d : Devices) where
   judged : (verdict : Verdict) (answer : ℕ) → AreCompared one other d.first d.second verdict → TellsVerdict verdict d.output d.errors answer → Runs (Compare one other) d answer
   judged verdict _ are (told line works errors) = runs.done _ (runs.compared one other verdict are line works) errors
   judged verdict _ are (untold answer part failed line) = runs.stopped [] Write answer (runs.telling one other verdict are part failed) line
 
-  pub compares : (verdict : Verdict) (answer : ℕ) → IfSome d.first.old (λ octets. IfSome d.second.old (λ others. Compares (input_of form octets) (input_of other_form others) verdict)) → IsAtEnd d.first.new × IsAtEnd d.second.new → d.first.works × d.second.works → TellsVerdict verdict d.output d.errors answer → Runs (Compare one other) d answer
+  pub compares : (verdict : Verdict) (answer : ℕ) → IfSome d.first.old (λ octets. IfSome d.second.old (λ others. Compares (form octets) (other_form others) verdict)) → IsAtEnd d.first.new × IsAtEnd d.second.new → d.first.works × d.second.works → TellsVerdict verdict d.output d.errors answer → Runs (Compare one other) d answer
   compares verdict answer h whole work line = grind (arith, judged)
 
   pub compare_stopped : (which : Which) (stop : Stop) (answer : ℕ) (words : List ℕ) → StopsCompare form other_form d.first.old d.second.old d.second.new which stop → ReadsWholeTo d.first.old d.first.new d.second.old d.second.new which stop → TellsReadOf d.first.works d.first.failed d.second.works d.second.failed which stop → IsLeft d.output → words ≡ which_words which → IsReported words d.errors stop answer → Runs (Compare one other) d answer
   compare_stopped which stop answer words h whole failed output named report =
       tells (Compare one other) d (which_words which) stop answer
       (runs.comparing one other which stop
-      (subst (λ (f : ReadAs). StopsCompare f (read_as_with other.origin) d.first.old d.second.old d.second.new which stop) is
-      (subst (λ (f : ReadAs). StopsCompare form f d.first.old d.second.old d.second.new which stop) other_is h)) whole failed output)
+      (subst (λ (f : Octets → Input). StopsCompare f (read_as_with other.origin) d.first.old d.second.old d.second.new which stop) is
+      (subst (λ (f : Octets → Input). StopsCompare form f d.first.old d.second.old d.second.new which stop) other_is h)) whole failed output)
       (subst (λ (w : List ℕ). IsReported w d.errors stop answer) named report)

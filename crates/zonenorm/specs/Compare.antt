@@ -6,7 +6,7 @@ use Rattle.std.specs.List.{onto_first}
 use Rattle.zone_rdata.specs.declared.fault.Stop.{Stop}
 use Rattle.zone_set.specs.Zone.{Zone}
 use Rattle.zone_print.specs.Canonical.{canon, text_limit}
-use Rattle.zonenorm.specs.Input.{Input, ReadAs, input_of, InputDenotes}
+use Rattle.zonenorm.specs.Input.{Input, InputDenotes}
 use Rattle.zonenorm.specs.Normalise.{IsOfReading, ReadsWhole}
 use Rattle.zonenorm.specs.Refusal.{IfRefused, IsRefusal}
 use Rattle.zonenorm.specs.Stops.{TellsRead}
@@ -46,18 +46,19 @@ pub record Compares (first second : Input) (verdict : Verdict) : Type 0 where
   pub judged : IsVerdictOnTexts verdict (canon zone) (canon other)
 
 -- known octets denote a zone
-abbrev pub IsAccepted : ReadAs → Option (List ℕ) → Type 0
-IsAccepted form known = IfSome known (λ octets. (z : Zone) × InputDenotes (input_of form octets) z)
+abbrev pub IsAccepted : (List ℕ → Input) → Option (List ℕ) → Type 0
+IsAccepted form known = IfSome known (λ octets. (z : Zone) × InputDenotes (form octets) z)
 
 -- an input was not read: known octets are refused so, the reader answered an error, or memory was
 -- refused
-pub record StopsReading (form : ReadAs) (known : Option (List ℕ)) (stop : Stop) : Type 0 where
+pub record StopsReading (form : List ℕ → Input) (known : Option (List ℕ))
+    (stop : Stop) : Type 0 where
   pub kind : IsOfReading stop
-  pub fault : IfSome known (λ octets. IfRefused stop (IsRefusal (input_of form octets)))
+  pub fault : IfSome known (λ octets. IfRefused stop (IsRefusal (form octets)))
 
 -- Which input stopped a comparison, and by what. The first did, and the second, of which these octets were known before
 -- and after, was not read; or the second did, and the first is accepted.
-pub data StopsCompare (form other_form : ReadAs)
+pub data StopsCompare (form other_form : List ℕ → Input)
     (first second second' : Option (List ℕ)) : Which → Stop → Type 0 where
   by_first : (stop : Stop) → StopsReading form first stop → Keeps second second'
       → StopsCompare form other_form first second second' First stop

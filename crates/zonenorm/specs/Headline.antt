@@ -1,6 +1,7 @@
 -- The words of the sentence that the program stands for (the law `headline`).
-use Rattle.std.specs.Prelude.{◌≡◌, ℕ, ◌<◌, ◌≤◌, List, length}
+use Rattle.std.specs.Prelude.{◌≡◌, ℕ, ◌<◌, ◌≤◌, List, length, Option}
 use Rattle.std.specs.List.{AllByRecursion}
+use Rattle.zone_rdata.specs.declared.fault.Fault.{Fault}
 use Rattle.zone_set.specs.Zone.{Zone}
 use Rattle.zone_wire.specs.Name.{Found, IsNameAt}
 use Rattle.zone_wire.specs.Walk.{Visit, IsWalk}
@@ -24,7 +25,8 @@ pub record NormalisesOnlyTo (input : Input) (text : List ℕ) : Type 0 where
 -- The walk of the name at an offset: at most 256 places, all in the message. A name that is decoded
 -- there takes a step for each.
 pub record IsBoundedWalk (message : List ℕ) (offset : ℕ) (visits : List Visit) : Type 0 where
-  pub walk : IsWalk message offset visits
+  pub ending : Option Fault
+  pub walk : IsWalk message offset visits ending
   pub few : length visits ≤ 256
   pub inside : AllByRecursion (λ visit. visit.offset < length message) visits
   pub steps : (found : Found) → IsNameAt message offset found → found.steps ≡ length visits

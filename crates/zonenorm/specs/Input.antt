@@ -14,11 +14,6 @@ use Rattle.zone_wire.specs.Transfer.{StreamStates}
 use Rattle.zone_set.specs.Zone.{Zone}
 use Rattle.zone_print.specs.Denotes.{DenotesBy}
 
--- how octets are read: as a master file under an origin, or as a transfer
-pub data ReadAs : Type 0 where
-  as_file : Labels → ReadAs
-  as_transfer : ReadAs
-
 pub data Input : Type 0 where
   file : Labels → List ℕ → Input
   transfer : List ℕ → Input
@@ -26,11 +21,6 @@ pub data Input : Type 0 where
 abbrev pub input_octets : Input → List ℕ
 input_octets (file origin octets) = octets
 input_octets (transfer octets) = octets
-
--- octets as the input that is read so
-abbrev pub input_of : ReadAs → List ℕ → Input
-input_of (as_file origin) octets = file origin octets
-input_of as_transfer octets = transfer octets
 
 -- what can be given as an input: octets, a file's under an origin that is a name
 abbrev pub IsInput : Input → Type 0

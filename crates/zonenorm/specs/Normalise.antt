@@ -26,8 +26,7 @@ pub record NormalisesTo (input : Input) (text : List ℕ) : Type 0 where
 abbrev pub WritesNothing : Stop → Option (List ℕ) → Option (List ℕ) → Type 0
 WritesNothing (Refused fault place) old new = Keeps old new
 WritesNothing Read old new = Keeps old new
-WritesNothing Write old new = Unit {0}
-WritesNothing Memory old new = Unit {0}
+WritesNothing stop old new = Unit {0}
 
 -- the stops of a call that has no reader and no writer
 abbrev pub IsOfBytes : Stop → Type 0
@@ -39,10 +38,8 @@ IsOfBytes Memory = Unit {0}
 -- the stops of a call that has a reader and no writer: the input is refused, the reader answered an
 -- error, or memory was refused
 abbrev pub IsOfReading : Stop → Type 0
-IsOfReading (Refused fault place) = Unit {0}
-IsOfReading Read = Unit {0}
 IsOfReading Write = ⊥
-IsOfReading Memory = Unit {0}
+IsOfReading stop = Unit {0}
 
 -- nothing was written, or a proper prefix of the canonical text of the zone that the input denotes
 abbrev pub WritesPrefix : Input → Option (List ℕ) → Option (List ℕ) → Type 0

@@ -6,7 +6,7 @@ use Rattle.zone_rdata.specs.declared.fault.Fault.TheVariants.{ZoneTooLarge, Inpu
 use Rattle.zone_rdata.specs.declared.fault.Place.{Place}
 use Rattle.zone_rdata.specs.declared.fault.Place.TheVariants.{Whole}
 use Rattle.zone_rdata.specs.declared.fault.Stop.{Stop}
-use Rattle.zone_rdata.specs.declared.fault.Stop.TheVariants.{Refused, Read, Write, Memory}
+use Rattle.zone_rdata.specs.declared.fault.Stop.TheVariants.{Refused}
 use Rattle.zone_rdata.specs.declared.record.Placed.{Placed}
 use Rattle.zone_set.specs.Builder.{StopsFinish}
 use Rattle.zone_set.specs.Refusal.{AllAccepted, IsFirstRefused, records_of}
@@ -48,6 +48,4 @@ IsRefused input = (fault : Fault) × (place : Place) × IsRefusal input fault pl
 -- the fault and place of a refusal are so
 abbrev pub IfRefused : Stop → (Fault → Place → Type 0) → Type 0
 IfRefused (Refused fault place) P = P fault place
-IfRefused Read P = Unit {0}
-IfRefused Write P = Unit {0}
-IfRefused Memory P = Unit {0}
+IfRefused stop P = Unit {0}

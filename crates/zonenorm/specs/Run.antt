@@ -10,7 +10,7 @@ use Rattle.zone_print.specs.Canonical.{text_limit}
 use Rattle.zone_print.specs.Writing.{TellsWrite}
 use Rattle.zonenorm.specs.Compare.{Compares, ReadsWholeTo, StopsCompare, TellsReadOf}
 use Rattle.zonenorm.specs.Explain.{Explains, StopsExplain}
-use Rattle.zonenorm.specs.Input.{ReadAs, as_file, as_transfer, input_of}
+use Rattle.zonenorm.specs.Input.{Input, file, transfer}
 use Rattle.zonenorm.specs.Normalise.{ConsumesAtMost, Normalises, ReadsWhole, WritesNothing, WritesPrefix}
 use Rattle.zonenorm.specs.Refusal.{IfRefused, IsRefusal}
 use Rattle.zonenorm.specs.Stops.{TellsRead}
@@ -22,9 +22,9 @@ use Rattle.zonenorm.specs.declared.order.Order.TheVariants.{Normalise, Explain, 
 use Rattle.zonenorm.specs.declared.order.Source.{Source}
 
 -- how octets are read with this origin: as a master file's, and without one as a transfer's
-abbrev pub read_as_with : Option Labels → ReadAs
-read_as_with None = as_transfer
-read_as_with (Some origin) = as_file origin
+abbrev pub read_as_with : Option Labels → List ℕ → Input
+read_as_with None octets = transfer octets
+read_as_with (Some origin) octets = file origin octets
 
 -- no more than the limit and one octet were read
 abbrev pub ReadsFew : Option (List ℕ) → Option (List ℕ) → Type 0
@@ -72,8 +72,8 @@ pub data TellsLine (line : List ℕ) (status : ℕ) (writer : Device) : ℕ → 
 pub record AreCompared (first second : Source) (input other : Device)
     (verdict : Verdict) : Type 0 where
   pub compared : IfSome input.old (λ octets. IfSome other.old (λ others.
-      Compares (input_of (read_as_with first.origin) octets)
-      (input_of (read_as_with second.origin) others) verdict))
+      Compares (read_as_with first.origin octets)
+      (read_as_with second.origin others) verdict))
   pub whole : IsAtEnd input.new × IsAtEnd other.new
   pub work : input.works × other.works
 
@@ -83,7 +83,7 @@ pub data CarriesOut (d : Devices) : Order → ℕ → Type 0 where
   normalised : (origin : Option Labels) (count : ℕ)
       → IfSome d.first.old
       (λ octets.
-      Normalises (input_of (read_as_with origin) octets) d.output.old d.output.new count)
+      Normalises (read_as_with origin octets) d.output.old d.output.new count)
       → IsAtEnd d.first.new → d.first.works → IsLeft d.second → d.output.works
       → CarriesOut d (Normalise origin) 0
   explained : (origin : Option Labels) (status : ℕ)
@@ -97,11 +97,12 @@ pub data CarriesOut (d : Devices) : Order → ℕ → Type 0 where
       → CarriesOut d (Compare first second) (verdict_status verdict)
 
 -- what normalising leaves where it stops
-pub record StopsNormalise (form : ReadAs) (input output : Device) (stop : Stop) : Type 0 where
+pub record StopsNormalise (form : List ℕ → Input) (input output : Device)
+    (stop : Stop) : Type 0 where
   pub nothing : WritesNothing stop output.old output.new
   pub prefix : IfSome input.old
-      (λ octets. WritesPrefix (input_of form octets) output.old output.new)
-  pub fault : IfSome input.old (λ octets. IfRefused stop (IsRefusal (input_of form octets)))
+      (λ octets. WritesPrefix (form octets) output.old output.new)
+  pub fault : IfSome input.old (λ octets. IfRefused stop (IsRefusal (form octets)))
   pub whole : IfRefused stop (λ fault place. ReadsWhole text_limit input.old input.new)
   pub works : TellsRead input.works input.failed stop × TellsWrite output.works output.failed stop
 

@@ -3,7 +3,6 @@ ghost use Rattle.std.specs.Io.KnownBytes.{IsAtEnd};
 ghost use Rattle.zone_print.specs.Canonical.{canon, text_limit};
 ghost use Rattle.zonenorm.specs.Compare.{Compares, IsVerdictOnTexts, ReadsWholeTo, StopsCompare, TellsReadOf};
 ghost use Rattle.zonenorm.specs.Form.{read_as};
-ghost use Rattle.zonenorm.specs.Input.{input_of};
 ghost use Rattle.zonenorm.specs.Normalise.{ConsumesAtMost};
 
 use crate::engine::accepted_zone;
@@ -50,8 +49,8 @@ pub fn compare<R: OctetReader, S: OctetReader>(
 ) -> Result<Verdict, (Which, Stop)>
     ensures compared { IfOk result (λ verdict.
         IfSome (R.remaining first.old) (λ octets. IfSome (S.remaining second.old) (λ others.
-        Compares (input_of (read_as first_form.entry) octets)
-        (input_of (read_as second_form.entry) others) verdict))) }
+        Compares (read_as first_form.entry octets)
+        (read_as second_form.entry others) verdict))) }
     ensures stopped { IfErr result
         (λ why. StopsCompare (read_as first_form.entry) (read_as second_form.entry)
         (R.remaining first.old) (S.remaining second.old) (S.remaining second.new) why.0 why.1) }

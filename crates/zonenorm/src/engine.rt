@@ -3,8 +3,8 @@ ghost use Rattle.std.specs.Io.KnownBytes.{IsAtEnd};
 ghost use Rattle.zone_print.specs.Canonical.{canon, text_limit};
 ghost use Rattle.zone_print.specs.Writing.{TellsWrite};
 ghost use Rattle.zonenorm.specs.Form.{read_as};
-ghost use Rattle.zonenorm.specs.Input.{input_of, InputDenotes};
-ghost use Rattle.zonenorm.specs.Machine.Input.{IsForm};
+ghost use Rattle.zonenorm.specs.Input.{InputDenotes};
+ghost use Rattle.zonenorm.specs.Machine.Input.{IsForm, form_of};
 ghost use Rattle.zonenorm.specs.Machine.Loading.{ReadsZoneWithin};
 ghost use Rattle.zonenorm.specs.Normalise.{ConsumesAtMost, IsOfBytes, IsOfReading, Normalises, NormalisesTo, ReadsWhole, WritesNothing, WritesPrefix};
 ghost use Rattle.zonenorm.specs.Refusal.{IfRefused, IsRefusal};
@@ -38,15 +38,15 @@ pub fn normalise<R: OctetReader, W: OctetWriter>(
     writer: &mut W,
 ) -> Result<u64, Stop>
     ensures accepted { IfOk result (λ count. IfSome (R.remaining reader.old) (λ octets.
-        Normalises (input_of (read_as form.entry) octets)
+        Normalises (read_as form.entry octets)
         (W.contents writer.old) (W.contents writer.new) count)) }
     ensures refused { IfErr result (λ stop.
         WritesNothing stop (W.contents writer.old) (W.contents writer.new)) }
     ensures front { IfErr result (λ _. IfSome (R.remaining reader.old) (λ octets.
-        WritesPrefix (input_of (read_as form.entry) octets)
+        WritesPrefix (read_as form.entry octets)
         (W.contents writer.old) (W.contents writer.new))) }
     ensures fault { IfErr result (λ stop. IfSome (R.remaining reader.old) (λ octets.
-        IfRefused stop (IsRefusal (input_of (read_as form.entry) octets)))) }
+        IfRefused stop (IsRefusal (read_as form.entry octets)))) }
     ensures few { ConsumesAtMost (text_limit + 1) (R.remaining reader.old)
         (R.remaining reader.new) }
     ensures whole { OnOk result (IsAtEnd (R.remaining reader.new)) }
@@ -77,10 +77,10 @@ pub(crate) fn accepted_zone<R: OctetReader>(
     reader: &mut R,
 ) -> Result<Zone, Stop>
     ensures zone { IfOk result (λ z. IfSome (R.remaining reader.old) (λ octets.
-        InputDenotes (input_of (read_as form.entry) octets) z)) }
+        InputDenotes (read_as form.entry octets) z)) }
     ensures short { IfOk result (λ z. length (canon z) ≤ text_limit) }
     ensures fault { IfErr result (λ stop. IfSome (R.remaining reader.old) (λ octets.
-        IfRefused stop (IsRefusal (input_of (read_as form.entry) octets)))) }
+        IfRefused stop (IsRefusal (read_as form.entry octets)))) }
     ensures stopped { IfErr result IsOfReading }
     ensures whole { OnOk result (IsAtEnd (R.remaining reader.new)) }
     ensures whole_refused { IfErr result (λ stop. IfRefused stop (λ fault place.
@@ -106,10 +106,10 @@ pub(crate) fn accepted_zone<R: OctetReader>(
 /// `Refused` where they denote none, and `Memory`.
 pub fn normalise_bytes(alloc: Global, form: Form<'_>, octets: &[u8]) -> Result<Vec<u8>, Stop>
     ensures accepted { IfOk result (λ text.
-        NormalisesTo (input_of (read_as form.entry) octets.now) text.items) }
+        NormalisesTo (read_as form.entry octets.now) text.items) }
     ensures stopped { IfErr result IsOfBytes }
     ensures fault { IfErr result (λ stop.
-        IfRefused stop (IsRefusal (input_of (read_as form.entry) octets.now))) }
+        IfRefused stop (IsRefusal (read_as form.entry octets.now))) }
 {
     let zone = zone_of(alloc, form, &mut OctetSlice { rest: octets })?;
     what_is_read_is_stated();
@@ -124,10 +124,10 @@ pub fn normalise_bytes(alloc: Global, form: Form<'_>, octets: &[u8]) -> Result<V
 /// the reader failed, and `Memory`.
 fn zone_of<R: OctetReader>(alloc: Global, form: Form<'_>, reader: &mut R) -> Result<Zone, Stop>
     ensures zone { IfOk result (λ z. IfSome (R.remaining reader.old) (λ octets.
-        ReadsZoneWithin text_limit (input_of (read_as form.entry) octets) z)) }
+        ReadsZoneWithin text_limit (read_as form.entry octets) z)) }
     ensures fault { IfErr result (λ stop. IfSome (R.remaining reader.old) (λ octets.
-        IfRefused stop (IsRefusal (input_of (read_as form.entry) octets)))) }
-    ensures form { IsForm (read_as form.entry) }
+        IfRefused stop (IsRefusal (read_as form.entry octets)))) }
+    ensures form { IsForm (form_of form.entry) }
     ensures stopped { IfErr result IsOfReading }
     ensures whole { OnOk result (IsAtEnd (R.remaining reader.new)) }
     ensures whole_refused { IfErr result (λ stop. IfRefused stop (λ fault place.

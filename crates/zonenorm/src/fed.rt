@@ -3,7 +3,7 @@ ghost use Rattle.zone_name.specs.Common.{Octets};
 ghost use Rattle.zone_rdata.specs.FedSource.{Held};
 ghost use Rattle.zone_rdata.specs.declared.fault.Stop.TheVariants.{Memory};
 ghost use Rattle.zone_rdata.specs.declared.record.Placed.{Placed};
-ghost use Rattle.zonenorm.specs.Input.{ReadAs};
+ghost use Rattle.zonenorm.specs.Machine.Input.{ReadAs};
 ghost use Rattle.zonenorm.specs.Machine.Fed.{StandsForInput};
 
 use zone_rdata::{LendingSource, Stop};

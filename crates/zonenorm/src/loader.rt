@@ -1,8 +1,7 @@
 ghost use Rattle.std.specs.Prelude.{◌≡◌, ◌+◌, ◌^◌, ◌<◌, ◌≤◌, ◌++◌, false, [], None, Err, length, IfOk, IfErr, IfSome, IsOk, OnOk};
 ghost use Rattle.zone_name.specs.Common.{Octets, AreOctets};
 ghost use Rattle.zone_rdata.specs.declared.fault.Stop.TheVariants.{Memory};
-ghost use Rattle.zonenorm.specs.Input.{ReadAs, input_of};
-ghost use Rattle.zonenorm.specs.Machine.Input.{IsForm};
+ghost use Rattle.zonenorm.specs.Machine.Input.{IsForm, ReadAs, input_of};
 ghost use Rattle.zonenorm.specs.Machine.Loading.{IsLoadedOf, ReadsZone, RefusesRead};
 ghost use Rattle.zonenorm.specs.Normalise.{IsOfBytes};
 ghost use Rattle.zonenorm.specs.Refusal.{IfRefused};

@@ -6,8 +6,8 @@ use Rattle.zone_rdata.specs.RrSource.{Pending}
 use Rattle.zone_rdata.specs.declared.record.Placed.{Placed}
 use Rattle.zone_text.specs.TextSource.{FileKept, FileLeaves}
 use Rattle.zone_wire.specs.TransferSource.{StreamKept, StreamLeaves}
-use Rattle.zonenorm.specs.Input.{ReadAs, as_file, as_transfer, input_of, InputReads}
-use Rattle.zonenorm.specs.Machine.Input.{Decides}
+use Rattle.zonenorm.specs.Input.{InputReads}
+use Rattle.zonenorm.specs.Machine.Input.{Decides, ReadAs, as_file, as_transfer, input_of}
 
 -- a source of inputs that are read so stands for octets that it was fed, read so, and the records
 -- that it has given

@@ -1,12 +1,29 @@
 -- What private functions hold of an input: that its form is one, and what its octets so far decide.
-use Rattle.std.specs.Prelude.{List, Option, ⊤}
+use Rattle.std.specs.Prelude.{ℕ, List, Option, ⊤}
+use Rattle.zone_name.specs.Common.{Labels}
 use Rattle.zone_name.specs.Name.{IsName}
 use Rattle.zone_rdata.specs.declared.fault.Fault.{Fault}
 use Rattle.zone_rdata.specs.declared.fault.Place.{Place}
 use Rattle.zone_rdata.specs.declared.record.Placed.{Placed}
 use Rattle.zone_text.specs.Decided as file_decides
 use Rattle.zone_wire.specs.Stream as stream_decides
-use Rattle.zonenorm.specs.Input.{Input, ReadAs, as_file, as_transfer, file, transfer}
+use Rattle.zonenorm.specs.Input.{Input, file, transfer}
+use Rattle.zonenorm.specs.declared.form.Form.{Form}
+use Rattle.zonenorm.specs.declared.form.Form.TheVariants.{File, Transfer}
+
+-- how octets are read: as a master file under an origin, or as a transfer
+pub data ReadAs : Type 0 where
+  as_file : Labels → ReadAs
+  as_transfer : ReadAs
+
+-- octets as the input that is read so
+abbrev pub input_of : ReadAs → List ℕ → Input
+input_of (as_file origin) octets = file origin octets
+input_of as_transfer octets = transfer octets
+
+abbrev pub form_of : Form → ReadAs
+form_of (File origin) = as_file origin.now
+form_of Transfer = as_transfer
 
 -- the origin of a master file is a name
 abbrev pub IsForm : ReadAs → Type 0

@@ -12,9 +12,9 @@ use Rattle.zone_rdata.specs.declared.record.Placed.{Placed}
 use Rattle.zone_set.specs.Builder.{AddsEach}
 use Rattle.zone_set.specs.Refusal.{AllAccepted, IsFirstRefused, records_of}
 use Rattle.zone_set.specs.Zone.{Zone, IsZone, SameRecords}
-use Rattle.zonenorm.specs.Input.{ReadAs, Input, input_of, input_octets, InputReads}
+use Rattle.zonenorm.specs.Input.{Input, input_octets, InputReads}
 use Rattle.zonenorm.specs.Machine.Fed.{StandsForInput}
-use Rattle.zonenorm.specs.Machine.Input.{Decides, IsForm}
+use Rattle.zonenorm.specs.Machine.Input.{Decides, IsForm, ReadAs, input_of}
 use Rattle.zonenorm.specs.Refusal.{IfRefused, IsRefusalWithin, RefusesReading}
 
 -- what refuses an input whatever follows what is decided of it: a record, or the fault after all of
