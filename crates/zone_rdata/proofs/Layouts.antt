@@ -1,6 +1,6 @@
 -- Values of a layout are data: their octets hold them, are octets, and without strings few.
-use Rattle.zone_rdata.proofs.Common.{[], List, Option, Some, ap, length, refl, ℕ, ◌++◌, ◌<◌, ◌∙◌, ◌∷◌, ◌≡◌, ◌≤◌, arith, length-append, ◌*◌, ◌≢◌, AllByRecursion, MatchOption, drop_at, Field, FieldValue, HoldEach, Holds, field_octets, octets_of, values_of, AreLaidOut, IsData, StringsLast, layout, IsSized, IsCanonicalOf, AllByRecursion-append, common_steps, Strings}
-use Rattle.zone_rdata.proofs.AnyField.{field_back, field_short, field_low}
+use Rattle.zone_rdata.proofs.Common.{[], List, Option, Some, ap, length, refl, ℕ, ◌++◌, ◌<◌, ◌∙◌, ◌∷◌, ◌≡◌, ◌≤◌, arith, ◌≢◌, AllByRecursion, MatchOption, drop_at, Field, FieldValue, HoldEach, Holds, field_octets, octets_of, values_of, AreLaidOut, IsData, StringsLast, layout, IsCanonicalOf, AllByRecursion-append, common_steps, Strings}
+use Rattle.zone_rdata.proofs.AnyField.{field_back, field_low}
 use Rattle.zone_rdata.proofs.Taken.{uncompressed_length}
 use Rattle.zone_rdata.proofs.Tables.{table_row}
 use Rattle.zone_rdata.proofs.FieldLaws.{AreLow}
@@ -37,11 +37,6 @@ low_values row values held = absurd held
 
 pub held_data : (class kind : ℕ) (row : List Field) (values : List FieldValue) → layout class kind ≡ Some row → HoldEach row values → length (octets_of values) ≤ 65535 → IsData class kind (octets_of values)
 held_data class kind row values e held short = grind (arith, low_values, laid_out, table_row)
-
-short_values : (row : List Field) (values : List FieldValue) → AllByRecursion (λ f. f ≢ Strings) row → AllByRecursion IsSized row → HoldEach row values → length (octets_of values) ≤ 256 * length row
-short_values [] [] others sized held = omega arith
-short_values (f ∷ row) (v ∷ values) others sized held = grind (arith, field_short, length-append, short_values row values others.1 sized.1 held.1)
-short_values row values others sized held = absurd held
 
 pub stringless_short : (class kind : ℕ) (row : List Field) (values : List FieldValue) → layout class kind ≡ Some row → AllByRecursion (λ f. f ≢ Strings) row → HoldEach row values → length (octets_of values) ≤ 65535
 stringless_short class kind row values e others held = grind (arith, common_steps)
