@@ -1,3 +1,4 @@
+pub mod Common
 pub mod Placing
 pub mod Halving
 pub mod Parting

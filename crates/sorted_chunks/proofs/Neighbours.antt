@@ -1,11 +1,7 @@
 -- What stands about a place.
-use Rattle.std.proofs.Common.{◌≡◌, ℕ, ◌+◌, ◌-◌, ◌<◌, ◌≤◌, List, [], ◌∷◌, ◌++◌, zero, suc, length, take, drop, get_or, sym, ap, subst, ◌∙◌, arith, ⊎_elim}
+use Rattle.sorted_chunks.proofs.Common.{common_steps, ◌≡◌, ℕ, ◌+◌, ◌-◌, ◌<◌, ◌≤◌, List, [], ◌∷◌, ◌++◌, length, take, drop, get_or, sym, ap, ◌∙◌, arith, ⊎_elim, append-nil, append_assoc, take-append-drop, drop_more, drop_all, take_all, take_more, get_or_past, get_or_default, All-cons, All-from_recursion, All-nil, recursion_from_All, All, AllByRecursion, after, before, joined}
 use Rattle.std.proofs.lemmas.Bool.{cases_eq}
-use Rattle.std.proofs.lemmas.List.{append-nil, append_assoc, take-append-drop, drop_more, drop_all, take_all, take_more, get_or_past, get_or_default}
-use Rattle.std.proofs.lemmas.List.Elements.{All-cons, All-from_recursion, All-nil, recursion_from_All}
-use Rattle.std.specs.List.{All, AllByRecursion}
-use Rattle.sorted_chunks.specs.Chunks.{after, before, joined}
-use Rattle.sorted_chunks.proofs.Placing.{joined-append, joined_about}
+use Rattle.sorted_chunks.proofs.Placing.{joined_about}
 
 module _ {X : Type 0} where
   -- the chunk at a place, as an index lends it
@@ -37,9 +33,7 @@ module _ {X : Type 0} where
 
   -- a place after an element of a chunk is in that chunk
   pub filled_within : (cs : List (List X)) (i j : ℕ) → 0 < j → j ≤ length (get_or cs i []) → i < length cs
-  filled_within [] i j some le = absurd (omega arith)
-  filled_within (c ∷ cs) zero j some le = omega arith
-  filled_within (c ∷ cs) (suc i) j some le = let more = filled_within cs i j some le in omega arith
+  filled_within cs i j some le = grind (arith, common_steps)
 
   -- the element before a place in a chunk
   pub last_in : (cs : List (List X)) (i j : ℕ) (x : X) → 0 < j → j ≤ length (get_or cs i []) → x ≡ get_or (get_or cs i []) (j - 1) x → (front : List X) × (before cs (record { chunk = i; offset = j }) ≡ front ++ x ∷ [])
@@ -54,19 +48,10 @@ module _ {X : Type 0} where
 
   -- the beginning of a chunk is after the end of the one before it
   before_chunk : (cs : List (List X)) (i : ℕ) → 0 < i → i ≤ length cs → before cs (record { chunk = i; offset = 0 }) ≡ before cs (record { chunk = i - 1; offset = length (get_or cs (i - 1) []) })
-  before_chunk cs i some le =
-      let next : i ≡ i - 1 + 1 = omega arith in
-      let c = get_or cs (i - 1) [] in
-      append-nil (joined (take i cs))
-      ∙ ap (λ n. joined (take n cs)) next
-      ∙ ap joined (take_more cs (i - 1) [] (omega arith))
-      ∙ joined-append (take (i - 1) cs) (c ∷ [])
-      ∙ ap (λ l. joined (take (i - 1) cs) ++ l) (append-nil c ∙ sym (take_all (length c) c (omega arith)))
+  before_chunk cs i some le = grind (arith, common_steps)
 
   pub last_of_chunk : (cs : List (List X)) (i j : ℕ) (x : X) → j ≡ 0 → 0 < i → i ≤ length cs → 0 < length (get_or cs (i - 1) []) → x ≡ get_or (get_or cs (i - 1) []) (length (get_or cs (i - 1) []) - 1) x → (front : List X) × (before cs (record { chunk = i; offset = j }) ≡ front ++ x ∷ [])
-  last_of_chunk cs i j x start some le filled is =
-      let last = last_in cs (i - 1) (length (get_or cs (i - 1) [])) x filled (omega arith) is in
-      (last.0, ap (λ n. before cs (record { chunk = i; offset = n })) start ∙ before_chunk cs i some le ∙ last.1)
+  last_of_chunk cs i j x start some le filled is = grind (arith, last_in, before_chunk)
 
   pub none_before : (cs : List (List X)) (i j : ℕ) → i ≡ 0 → j ≡ 0 → before cs (record { chunk = i; offset = j }) ≡ []
   none_before cs i j first start = ap (λ n. joined (take n cs) ++ take j (get_or cs n [])) first ∙ ap (λ n. take n (get_or cs 0 [])) start
@@ -82,8 +67,7 @@ module _ {X : Type 0} where
   after_end cs i j end = ap (λ l. l ++ joined (drop (i + 1) cs)) (drop_all j (get_or cs i []) end)
 
   pub first_of_chunk : (cs : List (List X)) (i j : ℕ) (x : X) (more : List X) → length (get_or cs i []) ≤ j → i + 1 < length cs → x ∷ more ≡ get_or cs (i + 1) [] → (rest : List X) × (after cs (record { chunk = i; offset = j }) ≡ x ∷ rest)
-  first_of_chunk cs i j x more end within is =
-      (more ++ joined (drop (i + 1 + 1) cs), after_end cs i j end ∙ ap joined (drop_more cs (i + 1) [] within) ∙ ap (λ l. l ++ joined (drop (i + 1 + 1) cs)) (sym is))
+  first_of_chunk cs i j x more end within is = grind (arith, after_end cs i j end, drop_more cs (i + 1) [] within)
 
   pub before_all : (cs : List (List X)) → before cs (record { chunk = length cs; offset = 0 }) ≡ joined cs
   before_all cs = append-nil (joined (take (length cs) cs)) ∙ ap joined (take_all (length cs) cs (omega arith))
@@ -101,8 +85,4 @@ module _ {X : Type 0} where
 
   -- what holds of each element holds of the last
   pub at_last : (P : X → Type 0) (front : List X) (x : X) (xs : List X) → xs ≡ front ++ x ∷ [] → All P xs → P x
-  at_last P front x xs is all = by front (recursion_from_All P (front ++ x ∷ []) (subst (All P) is all))
-    where
-      by : (ys : List X) → AllByRecursion P (ys ++ x ∷ []) → P x
-      by [] each = each.0
-      by (y ∷ ys) each = by ys each.1
+  at_last P front x xs is all = grind (arith, common_steps)

@@ -1,27 +1,13 @@
 -- Where the elements that pass a test end, from where they end among the first elements of the chunks and in one chunk.
-use Rattle.std.proofs.Common.{◌≡◌, ℕ, ◌+◌, ◌<◌, ◌≤◌, Bool, true, false, List, [], ◌∷◌, ◌++◌, length, take, drop, get_or, zero, suc, sym, ap, subst, ◌∙◌, refl, arith, true≢false}
-use Rattle.std.specs.List.{All, AllWithin}
-use Rattle.std.specs.List.Sorted.{IsPartitionedBy}
-use Rattle.std.proofs.lemmas.List.{append_assoc, get_or-append-add, get_or_append_left, get_or-drop, get_or-take, length-append, length-drop, length-take-le, get_or_at, get_or_default, take-append-drop}
-use Rattle.std.proofs.lemmas.List.Elements.{All-append, All-cons, All-drop, All-from_get_or, All-get_or, All-head, All-nil, All-same, All-tail}
-use Rattle.sorted_chunks.specs.Chunks.{after, before, joined, AreChunks, IsChunk, IsParting}
-use Rattle.sorted_chunks.specs.Machine.Splits.{SplitsAt}
-use Rattle.sorted_chunks.specs.Starts.{starts}
+use Rattle.sorted_chunks.proofs.Common.{◌≡◌, ℕ, ◌+◌, ◌<◌, ◌≤◌, Bool, true, false, List, [], ◌∷◌, ◌++◌, length, take, drop, get_or, zero, suc, sym, ap, subst, ◌∙◌, refl, arith, All, AllWithin, IsPartitionedBy, append_assoc, get_or-append-add, get_or_append_left, get_or-drop, get_or-take, length-append, length-drop, length-take-le, get_or_at, get_or_default, take-append-drop, All-append, All-cons, All-drop, All-from_get_or, All-get_or, All-head, All-nil, All-same, All-tail, after, before, joined, AreChunks, IsChunk, IsParting, SplitsAt, starts}
 use Rattle.sorted_chunks.proofs.Placing.{joined_about, joined-append}
 
 module _ {X : Type 0} (p : X → Bool) where
   pub part_right : (a b : List X) → IsPartitionedBy p (a ++ b) → IsPartitionedBy p b
-  part_right a b parts = λ i j d le lt passes.
-      let n = length a in
-      let at_j : p (get_or (a ++ b) (n + j) d) ≡ true = ap p (get_or-append-add a b j d) ∙ passes in
-      let whole = length-append a b in
-      sym (ap p (get_or-append-add a b i d)) ∙ parts (n + i) (n + j) d (omega arith) (omega (arith, whole)) at_j
+  part_right a b parts = grind (arith, true, get_or-append-add, length-append)
 
   pub part_left : (a b : List X) → IsPartitionedBy p (a ++ b) → IsPartitionedBy p a
-  part_left a b parts = λ i j d le lt passes.
-      let whole = length-append a b in
-      let at_j : p (get_or (a ++ b) j d) ≡ true = ap p (get_or_append_left a b d j lt) ∙ passes in
-      sym (ap p (get_or_append_left a b d i (omega arith))) ∙ parts i j d le (omega (arith, whole)) at_j
+  part_left a b parts = grind (arith, length-append, true, get_or_append_left)
 
   -- what stands before an element that passes
   pub passes_before : (a z : List X) (x : X) → IsPartitionedBy p (a ++ x ∷ z) → p x ≡ true → All (λ y. p y ≡ true) a
@@ -38,12 +24,10 @@ module _ {X : Type 0} (p : X → Bool) where
       (All-append (λ y. p y ≡ true) a (x ∷ []) (passes_before a [] x (subst (λ l. IsPartitionedBy p l) is parts) passes) (All-cons (λ y. p y ≡ true) x [] passes (All-nil (λ y. p y ≡ true))))
 
   not_true : (b : Bool) → (b ≡ true → ⊥) → b ≡ false
-  not_true true never = absurd (never refl)
-  not_true false never = refl
+  not_true b never = grind arith
 
   true_false : (b : Bool) → b ≡ true → b ≡ false → ⊥
-  true_false true passes fails = true≢false fails
-  true_false false passes fails = true≢false (sym passes)
+  true_false b passes fails = cc
 
   -- what stands after an element that fails
   pub fails_after : (a z : List X) (x : X) → IsPartitionedBy p (a ++ x ∷ z) → p x ≡ false → All (λ y. p y ≡ false) z
@@ -109,13 +93,7 @@ module _ {X : Type 0} (p : X → Bool) where
 
   -- no chunk's first element passes, so none does
   pub parts_none : (limit : ℕ) (cs : List (List X)) (passed : ℕ) → AreChunks limit cs → passed ≡ 0 → SplitsAt (starts p) cs passed → IsParting p (joined cs) (before cs (record { chunk = 0; offset = 0 })) (after cs (record { chunk = 0; offset = 0 }))
-  parts_none limit cs passed all none splits parts =
-      let fails = (splits (chunks_parted limit cs all parts)).1 in
-      (All-nil (λ y. p y ≡ true), All-same (λ y. p y ≡ false) _ _ (sym (start cs)) (fails_from limit cs 0 all parts (λ k d low lt. fails k d (omega arith) lt)))
-    where
-      start : (ds : List (List X)) → joined (drop 0 ds) ≡ after ds (record { chunk = 0; offset = 0 })
-      start [] = refl
-      start (d ∷ ds) = refl
+  parts_none limit cs passed all none splits parts = grind (arith, chunks_parted limit cs all parts)
 
   -- the last chunk whose first element passes, and where the elements after that which pass end in it
   pub parts_in : (limit : ℕ) (cs : List (List X)) (i : ℕ) (x : X) (rest : List X) (passed k : ℕ) → AreChunks limit cs → x ∷ rest ≡ get_or cs i [] → i < length cs → passed ≡ i + 1 → SplitsAt (starts p) cs passed → k ≤ length rest → SplitsAt p rest k

@@ -159,8 +159,6 @@ pub at-relative : (text : List ℕ) → text ≡ codes "@" → IsRelative text
 at-relative text e = ((plain 64 ∷ []) ∷ [], record { some = omega arith; each = (record { some = omega arith; each = ((refl, λ h. cc), tt) }, tt) }, (omega arith, tt), e)
 
 -- ---- the labels of a text of octets
-octet_short : (w : Written) → IsUnit is_dot w → AreOctets (text_of w) → octet_of w < 256
-octet_short w is each = grind arith
 
 octets_short : (label : List Written) → AllByRecursion (IsUnit is_dot) label → AreOctets (written_text label) → AreOctets (written_octets label)
 octets_short [] is each = tt

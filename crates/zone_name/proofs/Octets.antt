@@ -69,10 +69,6 @@ pub record NextLabel (n : ℕ) (more : List ℕ) (labels : List (List ℕ)) : Ty
   pub cut : labels ≡ take n more ∷ labels_of (drop n more)
   pub rest : BeginsWithName (drop n more)
 
--- a label that is left out leaves a name
-pub IsName-tail : (label : List ℕ) (labels : List (List ℕ)) → IsName (label ∷ labels) → IsName labels
-IsName-tail label labels name = grind (arith, length-append)
-
 next_in : (labels : List (List ℕ)) (rest : List ℕ) (n : ℕ) (more : List ℕ) → IsName labels → 0 < n → n ∷ more ≡ wire labels ++ rest → NextLabel n more labels
 next_in [] rest n more name positive is = absurd (let e : n ≡ 0 = cc in omega arith)
 next_in (label ∷ labels) rest n more name positive is = grind (arith, append_assoc, take_at, drop_at, length-append, labels_of-wire_append)

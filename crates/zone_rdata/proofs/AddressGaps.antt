@@ -47,9 +47,7 @@ last_before p (inr are) = absurd cc
 -- groups with a colon after all of them
 no_gaps_groups : (p : AddressPart) (parts : List AddressPart) → AreParts false (p ∷ parts) → NoGaps (58 ∷ parts_text (p ∷ parts) ++ 58 ∷ [])
 no_gaps_groups p [] are = last_before p are
-no_gaps_groups p (q ∷ parts) are =
-    let regroup = sym (append_assoc p.text (58 ∷ parts_text (q ∷ parts)) (58 ∷ [])) in
-    subst (λ t. NoGaps (58 ∷ t)) regroup (no_gaps_between p.text (parts_text (q ∷ parts) ++ 58 ∷ []) are.0.some (group_lacks 58 p refl are.0) (no_gaps_groups q parts are.1))
+no_gaps_groups p (q ∷ parts) are = grind (arith, no_gaps_groups q parts are.1, append_assoc p.text (58 ∷ parts_text (q ∷ parts)) (58 ∷ []), no_gaps_between p.text (parts_text (q ∷ parts) ++ 58 ∷ []) are.0.some (group_lacks 58 p refl are.0) (no_gaps_groups q parts are.1))
 
 no_gaps_front : (parts : List AddressPart) → AreParts false parts → NoGaps (parts_text parts ++ 58 ∷ [])
 no_gaps_front [] are = tt
@@ -67,11 +65,7 @@ first_same text a b x y = grind (arith, cases_lt)
 front_gap : (text front back octets : List ℕ) → text ≡ front ++ 58 ∷ 58 ∷ back → ArePartsOf false front octets → IsFirstGap text (length front)
 front_gap text front back octets parted are =
     let regroup = parted ∙ sym (append_assoc front (58 ∷ []) (58 ∷ back)) in
-    let len = length-append front (58 ∷ []) in
-    let free = subst (λ t. NoGaps (t ++ 58 ∷ [])) (sym are.parted) (no_gaps_front are.parts are.each) in
-    let first = ap (λ t. get_or t (length front) 0) parted ∙ get_or_at front 58 (58 ∷ back) 0 (length front) refl in
-    let second = ap (λ t. get_or t (suc (length front)) 0) regroup ∙ get_or_at (front ++ 58 ∷ []) 58 back 0 (suc (length front)) (omega (arith, len)) in
-    record { here = (first, second); none = λ k lt at. let low : get_or text k 0 ≡ get_or (front ++ 58 ∷ []) k 0 = ap (λ t. get_or t k 0) regroup ∙ get_or_append_left (front ++ 58 ∷ []) (58 ∷ back) 0 k (omega (arith, len)) in let high : get_or text (suc k) 0 ≡ get_or (front ++ 58 ∷ []) (suc k) 0 = ap (λ t. get_or t (suc k) 0) regroup ∙ get_or_append_left (front ++ 58 ∷ []) (58 ∷ back) 0 (suc k) (omega (arith, len)) in no_gaps_at (front ++ 58 ∷ []) k free (sym low ∙ at.0, sym high ∙ at.1) }
+    grind (arith, append_assoc, length-append, no_gaps_front, get_or_at, get_or_append_left, no_gaps_at)
 
 parts_no_gap : (ends : Bool) (text octets : List ℕ) → ArePartsOf ends text octets → (k : ℕ) → HasGapAt text k → ⊥
 parts_no_gap ends text octets are k at = grind (arith, no_gaps_at, no_gaps_tail, no_gaps_parts)

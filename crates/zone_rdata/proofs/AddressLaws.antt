@@ -98,10 +98,9 @@ segments_count (suc count) (a ∷ b ∷ octets) len = ap suc (segments_count cou
 segments_count count octets len = absurd (omega arith)
 
 segments_back : (count : ℕ) (octets : List ℕ) → length octets ≡ 2 * count → AreOctets octets → pairs (segments_of octets) ≡ octets
-segments_back count (a ∷ []) len each = absurd (omega arith)
-segments_back zero (a ∷ b ∷ octets) len each = absurd (omega arith)
 segments_back (suc count) (a ∷ b ∷ octets) len each = grind (arith, segments_back count octets (omega arith) each.1.1)
 segments_back count [] len each = refl
+segments_back count octets len each = absurd (omega arith)
 
 -- groups around a run of zeros
 around_printed : (groups octets : List ℕ) (start len : ℕ) → length groups ≡ 8 → AllGroups groups → pairs groups ≡ octets → IsZeroRun groups start len → 1 < len → IsIpv6Address (shortened_groups groups start len) octets

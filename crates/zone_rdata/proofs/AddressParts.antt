@@ -1,5 +1,5 @@
 -- The parts of an address between its colons.
-use Rattle.zone_rdata.proofs.Common.{[], ◌≡◌, ℕ, ◌+◌, ◌<◌, ◌≤◌, ◌==◌, Bool, inl, inr, List, ◌∷◌, ◌++◌, length, map, refl, sym, ap, ◌∙◌, subst, arith, append_assoc, length-append, AllByRecursion, join_with_byte, append-nil, IsIpv4Address, AddressPart, IsLastPart, AreParts, parts_text, parts_octets, ArePartsOf, Lacks, IsCutAtFirst, IsGroupOf, IsLastPartOf, NoneFits, join_with_byte-slice_split, length-slice_split}
+use Rattle.zone_rdata.proofs.Common.{[], ◌≡◌, ℕ, ◌+◌, ◌<◌, ◌≤◌, ◌==◌, Bool, inl, inr, List, ◌∷◌, ◌++◌, length, map, refl, sym, ap, ◌∙◌, subst, arith, append_assoc, length-append, AllByRecursion, join_with_byte, append-nil, IsIpv4Address, AddressPart, IsLastPart, AreParts, parts_text, parts_octets, ArePartsOf, Lacks, IsCutAtFirst, IsGroupOf, IsLastPartOf, NoneFits, join_with_byte-slice_split, length-slice_split, common_steps}
 use Rattle.zone_rdata.proofs.Addresses.{split, split_cut, split_join, split_lacks, group_lacks, group_same, last_lacks, last_same}
 
 some_numbers : (text : List ℕ) (numbers : List (List ℕ)) → length numbers ≡ 4 → text ≡ join_with_byte 46 numbers → 0 < length text
@@ -109,8 +109,7 @@ parts_more ends text rest group after octets added cut is reads = record {
 pub parts_stop : (ends : Bool) (text rest group after octets : List ℕ) → IsCutAtFirst 58 rest group after → HaveReadParts ends text rest octets → NoneFits (IsGroupOf group) octets → (others : List ℕ) → ArePartsOf ends text others → length others ≤ 16 → ⊥
 parts_stop ends text rest group after octets cut reads stops others are short =
     let left = left_first ends text rest group after octets others cut reads (parts_found ends text others reads.some are) in
-    let long = stops left.0 left.2 in
-    omega (arith, ap length left.4, length-append octets (left.0 ++ left.1), length-append left.0 left.1)
+    grind (arith, common_steps)
 
 pub parts_ended : (ends : Bool) (text rest octets added : List ℕ) → Lacks 58 rest → HaveReadParts ends text rest octets → IsLastPartOf ends rest added → ArePartsOf ends text (octets ++ added)
 parts_ended ends text rest octets added lacks reads is = parts_listed ends text (octets ++ added) (reads.goes added (rw (split_lacks 58 rest lacks) is))
@@ -118,8 +117,7 @@ parts_ended ends text rest octets added lacks reads is = parts_listed ends text 
 pub parts_unended : (ends : Bool) (text rest octets : List ℕ) → Lacks 58 rest → HaveReadParts ends text rest octets → NoneFits (IsLastPartOf ends rest) octets → (others : List ℕ) → ArePartsOf ends text others → length others ≤ 16 → ⊥
 parts_unended ends text rest octets lacks reads stops others are short =
     let left = reads.comes others (parts_found ends text others reads.some are) in
-    let long = stops left.0 (subst (λ t. HaveParts ends t left.0) (split_lacks 58 rest lacks) left.1) in
-    omega (arith, ap length left.2, length-append octets left.0)
+    grind (arith, parts_found, split_lacks, length-append)
 
 pub no_parts : (ends : Bool) → ArePartsOf ends [] []
 no_parts ends = record { parts = []; each = tt; parted = refl; value = refl }

@@ -19,8 +19,7 @@ split_cut c text front back cut = ap (split c) cut.parted ∙ slice_split_at _ f
 
 pub split_join : (c : ℕ) (text : List ℕ) (texts : List (List ℕ)) → AllByRecursion (Lacks c) (text ∷ texts) → split c (join_with_byte c (text ∷ texts)) ≡ text ∷ texts
 split_join c text [] lacks = split_lacks c text lacks.0
-split_join c text (next ∷ texts) lacks =
-    split_cut c _ text (join_with_byte c (next ∷ texts)) (record { parted = refl; lacks = lacks.0 }) ∙ ap (λ t. text ∷ t) (split_join c next texts lacks.1)
+split_join c text (next ∷ texts) lacks = grind (arith, split_join c next texts lacks.1, split_cut)
 
 -- ---- numbers
 
@@ -63,8 +62,7 @@ numbers_cut : (count : ℕ) (text front rest octets : List ℕ) → IsCutAtFirst
 numbers_cut count text front rest octets cut are =
     let parts = numbers_parts (suc count) text octets are in
     let whole = split_cut 46 text front rest cut in
-    let first = zip_first front (split 46 rest) octets (subst (λ t. AllZip IsOctetNumber t octets) whole parts.1) in
-    (first.0, first.1, first.2, parts_numbers (suc count) rest first.1 (omega (arith, parts.0, ap length whole)) first.3)
+    grind (arith, numbers_parts, split_cut, zip_first, parts_numbers)
 
 -- several numbers have a dot
 pub numbers_none : (text : List ℕ) → Lacks 46 text → (count : ℕ) (octets : List ℕ) → AreNumbers (suc (suc count)) text octets → ⊥

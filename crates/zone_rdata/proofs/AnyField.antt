@@ -63,8 +63,7 @@ plain_once : (f : Field) (octets : List ℕ) (v w : FieldValue) (r s : List ℕ)
 plain_once f octets v w r s other x y =
     let at_v = plain_at f octets v r other x in
     let at_w = plain_at f octets w s other y in
-    let same : v ≡ w = sym at_v.1 ∙ at_w.1 in
-    (same, append_cancel_left (field_octets w) r s (sym (at_v.0 ∙ ap (λ u. field_octets u ++ r) same) ∙ at_w.0))
+    grind (arith, plain_at, append_cancel_left)
 
 pub front_once : (f : Field) (octets : List ℕ) (v w : FieldValue) (r s : List ℕ) → BeginsWithValue f octets v r → BeginsWithValue f octets w s → (v ≡ w) × (r ≡ s)
 front_once Name octets v w r s x y = name_front_once octets v w r s x y

@@ -84,11 +84,7 @@ pushed_field row f count octets part held e holds some =
     let same : octets_of (values ++ part ∷ []) ≡ octets ++ field_octets part = octets_push values part ∙ ap (λ o. o ++ field_octets part) held.1.whole in
     let each = hold_push here values (part_field f) part held.1.held holds in
     let last : StringsLast (here ++ part_field f ∷ []) = plain_last (here ++ part_field f ∷ []) (subst (λ r. AllByRecursion (λ g. g ≢ fields.Strings) r) next (plain_fields row (suc count))) in
-    record {
-      held = (ap length next ∙ length-append here (part_field f ∷ []) ∙ (let n : length here + 1 ≡ suc count = omega (arith, held.0) in n), subst (λ r. AreLaidOut r (octets ++ field_octets part)) (sym next) (subst (AreLaidOut (here ++ part_field f ∷ [])) same (laid_out (here ++ part_field f ∷ []) (values ++ part ∷ []) last each)));
-      made = ap (λ r. values_of r (octets ++ field_octets part)) next ∙ ap (values_of (here ++ part_field f ∷ [])) (sym same) ∙ values_back (here ++ part_field f ∷ []) (values ++ part ∷ []) last each;
-      few = λ h. omega (arith, length-append octets (field_octets part));
-    }
+    grind (arith, length-append, laid_out, values_back)
 
 pushed_opaque : (count : ℕ) (octets : List ℕ) (part : FieldValue) → ArePushedParts None count octets → IsOpaque count part → Pushed None count octets part
 pushed_opaque count octets part held s = grind arith

@@ -23,10 +23,7 @@ choice_as f more none h = grind arith
 -- a number below a bound is stated or none
 pub below_or_not : (Is : ℕ → Type 0) (bound : ℕ) → ((a b : ℕ) → Is a → Is b → a ≡ b) → Choice Is → Choice (λ n. Is n × (n < bound))
 below_or_not Is bound once (inr none) = inr (λ n h. none n h.0)
-below_or_not Is bound once (inl found) = elim (cases_lt found.0 bound) [
-  | inl short ↦ inl (found.0, (found.1, short))
-  | inr over ↦ inr (λ n h. omega (arith, h.1, once n found.0 h.0 found.1))
-]
+below_or_not Is bound once (inl found) = grind (arith, cases_lt found.0 bound)
 
 -- what holds after any answer
 pub if_none_any : {T : Type 0} (o : Option T) (P : Type 0) → P → IfNone o P

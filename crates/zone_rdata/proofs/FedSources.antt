@@ -1,5 +1,5 @@
 -- What a source that is fed stands for after the records that it gives.
-use Rattle.zone_rdata.proofs.Common.{[], ◌≡◌, ℕ, List, ◌∷◌, ◌++◌, Option, Some, None, Result, Ok, Err, subst, arith, append-nil, Fault, common_steps, after, answer_of, first_answer, others}
+use Rattle.zone_rdata.proofs.Common.{[], ◌≡◌, ℕ, List, ◌∷◌, ◌++◌, Option, Some, None, Result, Ok, Err, subst, arith, append-nil, Fault, common_steps, after, answer_of}
 use Rattle.zone_rdata.specs.FedSource.{Gives, SourceState, StandsFor}
 use Rattle.zone_rdata.specs.declared.fault.Place.{Place}
 use Rattle.zone_rdata.specs.declared.fault.Stop.{Stop}
@@ -10,9 +10,6 @@ abbrev given_by : Result (Option Placed) Stop → List Placed
 given_by (Ok None) = []
 given_by (Ok (Some r)) = r ∷ []
 given_by (Err stop) = []
-
-first_given : (records : List Placed) (ending : Option (Fault × Place)) → records ≡ given_by (first_answer records ending) ++ others records
-first_given records ending = grind arith
 
 module _ {Kept : Type 0} (Decide Read : List Placed → Option (Fault × Place) → Type 0) (Leave : Kept → List ℕ → Type 0) (old new : SourceState Kept) where
   pub stands_given : (more : List Placed) (fed : List ℕ) (given : List Placed) → Gives old more new → StandsFor Decide Read Leave old fed given → StandsFor Decide Read Leave new fed (given ++ more)

@@ -40,8 +40,6 @@ pub joined_all : (items : List Item) (i : ℕ) (octets : List ℕ) → length it
 joined_all items i octets past joined = grind (arith, drop_all i items past, append-nil octets)
 
 -- ---- the length
-decimal_once : (text : List ℕ) (m n : ℕ) → IsDecimal text m → IsDecimal text n → m ≡ n
-decimal_once text m n a b = a.value ∙ sym b.value
 
 pub length_none : (item : Item) (text : List ℕ) → raw item ≡ bare text → ((n : ℕ) → IsDecimal text n → ⊥) → LengthFault (raw item) BadGeneric
 length_none item text is none = no_number (λ n h. none n (subst (λ r. StatesLength r n) is h))

@@ -58,10 +58,7 @@ form_by origin class kind (Some row) items e (inl found) = canonical_item origin
 
 -- the first item is the mark or not
 marked_or_not : (items : List RawItem) → Decided (IsGeneric items)
-marked_or_not (bare text ∷ rest) = elim (same_or_not text mark) [
-  | inl same ↦ inl (rest, ap (λ t. bare t ∷ rest) same)
-  | inr other ↦ inr (λ h. other (mark_text text rest h))
-]
+marked_or_not (bare text ∷ rest) = grind (arith, same_or_not text mark)
 marked_or_not items = inr (λ h. absurd (let e = h.1 in cc))
 
 outcome_by : NameOrFault → (origin : Labels) → IsName origin → (class kind : ℕ) (items : List RawItem) → AreLowItems items → Decided (IsGeneric items) → Outcome origin (layout class kind) items

@@ -9,8 +9,7 @@ use Rattle.zone_rdata.specs.DataFault as faults
 -- ---- items in words
 
 each_once : NamesOnce → (origin : Labels) (row : List Field) (items : List RawItem) (vs ws : List FieldValue) → SpellEach origin row items vs → SpellEach origin row items ws → vs ≡ ws
-each_once names origin [] [] [] [] h k = refl
-each_once names origin [] [] [] (w ∷ ws) h k = absurd k
+each_once names origin [] items vs ws h k = grind arith
 each_once names origin (f ∷ row) items (v ∷ vs) [] h k = absurd k
 each_once names origin (f ∷ row) items (v ∷ vs) (w ∷ ws) h k = grind (arith, field_once, each_once names origin row (items_after f items) vs ws h.1 k.1)
 each_once names origin row items vs ws h k = absurd h
@@ -24,8 +23,7 @@ first_never names origin row items values fault h bad = h
 first_once : NamesNever → NameFaultOnce → (origin : Labels) (row : List Field) (items : List RawItem) (a b : Fault) → FirstFieldFault origin row items a → FirstFieldFault origin row items b → a ≡ b
 first_once names once origin [] [] a b x y = absurd x
 first_once names once origin [] (item ∷ items) a b x y = x ∙ sym y
-first_once names once origin (f ∷ row) items a b (inl x) (inl y) = grind (arith, field_fault_once)
-first_once names once origin (f ∷ row) items a b (inl x) (inr y) = grind (arith, field_never)
+first_once names once origin row items a b (inl x) y = grind (arith, field_fault_once, field_never)
 first_once names once origin (f ∷ row) items a b (inr x) (inl y) = grind (arith, field_never)
 first_once names once origin (f ∷ row) items a b (inr x) (inr y) = first_once names once origin row (items_after f items) a b x.2 y.2
 
@@ -58,24 +56,19 @@ form_fault_marks : (laid : Option (List Field)) (items : List RawItem) (fault : 
 form_fault_marks laid items fault h = grind (arith, generic_fault_marks, generic_marks)
 
 for_once : NamesOnce → (origin : Labels) (laid : Option (List Field)) (items : List RawItem) (a b : List ℕ) → CanonicalOnce laid → StatesFor origin laid items a → StatesFor origin laid items b → a ≡ b
-for_once names origin laid items a b once (in_words row vs e unmarked h is short) (in_words row' ws e' unmarked2 k is' short') = grind (arith, same_row, each_once)
-for_once names origin laid items a b once (in_words row vs e unmarked h is short) (in_octets stated) = absurd (unmarked (generic_marks items stated.0 stated.1))
+for_once names origin laid items a b once (in_words row vs e unmarked h is short) has = grind (arith, same_row, each_once, generic_marks)
 for_once names origin laid items a b once (in_octets stated) (in_words row vs e unmarked h is short) = absurd (unmarked (generic_marks items stated.0 stated.1))
 for_once names origin laid items a b once (in_octets h) (in_octets k) = cc (once h.0 a b h.2 (subst (λ o. IsCanonicalOf laid o b) (generic-once items k.0 h.0 k.1 h.1) k.2))
 
 form_never : (laid : Option (List Field)) (items : List RawItem) (stated octets : List ℕ) (fault : Fault) → StatesGeneric items stated → IsCanonicalOf laid stated octets → IsGenericDataFault laid items fault → ⊥
 form_never laid items stated octets _ form canonical (malformed fault bad) = generic-never_both items stated fault form bad
-form_never laid items stated octets _ form canonical (no_value row stated' e form' none) =
-    let here = subst (λ l. IsCanonicalOf l stated octets) e canonical in
-    none octets (subst (λ o. IsUncompressed row o octets) (generic-once items stated stated' form form') here)
+form_never laid items stated octets _ form canonical (no_value row stated' e form' none) = grind (arith, generic-once items stated stated' form form')
 
 for_never : NamesOnce → NamesNever → (origin : Labels) (laid : Option (List Field)) (items : List RawItem) (octets : List ℕ) (fault : Fault) → StatesFor origin laid items octets → IsFaultFor origin laid items fault → ⊥
 for_never once names origin laid items octets _ (in_words row vs e unmarked h is short) (in_generic_form fault bad) = unmarked (form_fault_marks laid items fault bad)
-for_never once names origin laid items octets _ (in_words row vs e unmarked h is short) (faults.in_words row' fault e' unmarked2 bad) = grind (arith, same_row, words_never)
-for_never once names origin laid items octets _ (in_words row vs e unmarked h is short) (opaque_words e' unmarked2) = let clash : Some row ≡ None = sym e ∙ e' in cc
+for_never once names origin laid items octets fault given (faults.in_words row' x e' unmarked2 bad) = grind (arith, same_row, words_never, generic_marks)
+for_never once names origin laid items octets fault given (opaque_words e' unmarked2) = grind arith
 for_never once names origin laid items octets _ (in_octets h) (in_generic_form fault bad) = form_never laid items h.0 octets fault h.1 h.2 bad
-for_never once names origin laid items octets _ (in_octets h) (faults.in_words row fault e unmarked bad) = unmarked (generic_marks items h.0 h.1)
-for_never once names origin laid items octets _ (in_octets h) (opaque_words e unmarked) = unmarked (generic_marks items h.0 h.1)
 
 form_fault_once : (laid : Option (List Field)) (items : List RawItem) (a b : Fault) → IsGenericDataFault laid items a → IsGenericDataFault laid items b → a ≡ b
 form_fault_once laid items _ _ (malformed fault bad) (malformed fault' bad') = generic_fault-once items fault fault' bad bad'

@@ -1,5 +1,5 @@
 -- Items read from the left, field after field.
-use Rattle.zone_rdata.proofs.Common.{[], ◌≡◌, ℕ, ◌+◌, ◌-◌, ◌<◌, ◌≤◌, List, ◌∷◌, ◌++◌, length, get_or, take, drop, map, sym, ap, ◌∙◌, subst, arith, append_assoc, Bor, Bool, IsTrue, ◌↔◌, inr, bytes_eq-Decides, append-nil, length-drop, take_all, drop_all, drop-drop, Labels, Fault, Item, Field, FirstFieldFault, IsWordsFault, unspelt, too_long, IsFieldFault, FieldValue, field_octets, octets_of, own_items, RawItem, bare, raw, generic_mark, IsGeneric, AppendsFirst, AreSpelt, SpellEach, common_steps, bytes_eq, BadRdata, RdataTooLong, Bare}
+use Rattle.zone_rdata.proofs.Common.{[], ◌≡◌, ℕ, ◌+◌, ◌-◌, ◌<◌, ◌≤◌, List, ◌∷◌, ◌++◌, length, get_or, take, drop, map, sym, ap, ◌∙◌, subst, arith, append_assoc, Bor, Bool, IsTrue, ◌↔◌, inr, bytes_eq-Decides, append-nil, length-drop, take_all, drop_all, drop-drop, Labels, Fault, Item, Field, FirstFieldFault, IsWordsFault, unspelt, too_long, IsFieldFault, FieldValue, field_octets, octets_of, own_items, RawItem, bare, raw, generic_mark, IsGeneric, AppendsFirst, AreSpelt, SpellEach, common_steps, bytes_eq, BadRdata, RdataTooLong, Bare, rules}
 use Rattle.zone_rdata.proofs.Lists.{from_place}
 
 -- some fields were read, and what the items that are left are for the other fields, all items are
@@ -49,6 +49,5 @@ read_long origin fields items octets long all = too_long all.values all.spelt (s
 pub generic_first : (items : List Item) (first : Item) (text : Bor (List ℕ)) (mark : List ℕ) (r : Bool) → 0 < length items → first ≡ get_or items 0 first → first ≡ Bare text → mark ≡ 92 ∷ 35 ∷ [] → r ≡ bytes_eq text.now mark → IsTrue r ↔ IsGeneric (map raw items)
 generic_first [] first text mark r some at is marks e = absurd (omega arith)
 generic_first (i ∷ items) first text mark r some at is marks e =
-    let d = bytes_eq-Decides text.now mark in
     let same = ap raw (sym at ∙ is) in
-    (λ h. (map raw items, ap (λ x. x ∷ map raw items) (same ∙ ap bare (d.0 (sym e ∙ h) ∙ marks))), λ g. let marked : raw i ≡ generic_mark = cc g.1 in let texts : text.now ≡ 92 ∷ 35 ∷ [] = cc (sym same ∙ marked) in e ∙ d.1 (texts ∙ sym marks))
+    search rules

@@ -39,11 +39,6 @@ low_values row values held = absurd held
 pub held_data : (class kind : ℕ) (row : List Field) (values : List FieldValue) → layout class kind ≡ Some row → HoldEach row values → length (octets_of values) ≤ 65535 → IsData class kind (octets_of values)
 held_data class kind row values e held short = grind (arith, low_values, laid_out, table_row)
 
-short_values : (row : List Field) (values : List FieldValue) → AllByRecursion (λ f. f ≢ Strings) row → AllByRecursion IsSized row → HoldEach row values → length (octets_of values) ≤ 256 * length row
-short_values [] [] others sized held = omega arith
-short_values (f ∷ row) (v ∷ values) others sized held = grind (arith, field_short, length-append, short_values row values others.1 sized.1 held.1)
-short_values row values others sized held = absurd held
-
 pub stringless_short : (class kind : ℕ) (row : List Field) (values : List FieldValue) → layout class kind ≡ Some row → AllByRecursion (λ f. f ≢ Strings) row → HoldEach row values → length (octets_of values) ≤ 65535
 stringless_short class kind row values e others held = grind (arith, common_steps)
 

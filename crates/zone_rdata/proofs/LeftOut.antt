@@ -1,6 +1,6 @@
 -- Of more items than any data can have, those that spell strings may be left out: the others have
 -- the same first fault, and state no data.
-use Rattle.zone_rdata.proofs.Common.{[], ◌≡◌, ℕ, ◌+◌, ◌<◌, ◌≤◌, List, ◌∷◌, ◌++◌, length, Option, Some, inl, inr, refl, ap, subst, arith, append_assoc, length-append, AllByRecursion, decode_of-ok, length-frames, AllByRecursion-front, Labels, Fault, Field, FirstFieldFault, IsDataFault, IsFaultFor, IsGenericDataFault, IsWordsFault, in_generic_form, malformed, no_value, opaque_words, too_long, unspelt, FieldValue, SpellsField, octets_of, strings, FirstStringFault, SpellEachString, GenericFault, IsGenericForm, JoinTo, StatesGeneric, bad_digits, long_length, no_length, IsGeneric, RawItem, bare, quoted, layout, SpellEach, States, StatesFor, in_octets, in_words, SpellsString, Strings}
+use Rattle.zone_rdata.proofs.Common.{[], ◌≡◌, ℕ, ◌+◌, ◌<◌, ◌≤◌, List, ◌∷◌, ◌++◌, length, Option, Some, inl, inr, refl, ap, subst, arith, append_assoc, length-append, AllByRecursion, decode_of-ok, length-frames, AllByRecursion-front, Labels, Fault, Field, FirstFieldFault, IsDataFault, IsFaultFor, IsGenericDataFault, IsWordsFault, in_generic_form, malformed, no_value, opaque_words, too_long, unspelt, FieldValue, SpellsField, octets_of, strings, FirstStringFault, SpellEachString, GenericFault, IsGenericForm, JoinTo, StatesGeneric, bad_digits, long_length, no_length, IsGeneric, RawItem, bare, quoted, layout, SpellEach, States, StatesFor, in_octets, in_words, SpellsString, Strings, rules}
 use Rattle.zone_rdata.specs.DataFault as faults
 use Rattle.zone_rdata.specs.Machine.LeftOut.{AreShortened, IsWritten, LeavesOut}
 use Rattle.zone_rdata.proofs.Tables.{table_row}
@@ -18,12 +18,11 @@ string_each (item ∷ items) [] h = absurd h
 string_each (item ∷ items) (octets ∷ many) h = omega (arith, string_each items many h.1)
 
 spelt_long : (origin : Labels) (fields : List Field) (items : List RawItem) (values : List FieldValue) → SpellEach origin fields items values → length items ≤ length fields + length (octets_of values)
-spelt_long origin [] (item ∷ items) values h = absurd h
-spelt_long origin (f ∷ fields) items [] h = absurd h
 spelt_long origin (Strings ∷ fields) items (strings many ∷ values) h = grind (arith, string_each, length-frames, length-append)
 spelt_long origin (Strings ∷ fields) items (v ∷ values) h = absurd h.0
 spelt_long origin (f ∷ fields) (item ∷ items) (v ∷ values) h = grind (arith, length-append, spelt_long origin fields items values h.1)
 spelt_long origin fields [] values h = omega arith
+spelt_long origin fields items values h = absurd h
 
 -- ---- words
 
@@ -58,11 +57,8 @@ all_strings origin item first more others value out h = absurd h
 fields_fault : (origin : Labels) (fields : List Field) (first more others : List RawItem) (fault : Fault) → length fields < length first → LeavesOut more others → FirstFieldFault origin fields (first ++ others) fault → FirstFieldFault origin fields (first ++ more) fault
 fields_fault origin fields [] more others fault few out bad = absurd (omega (arith, few))
 fields_fault origin [] (item ∷ first) more others fault few out bad = bad
-fields_fault origin (Strings ∷ fields) (item ∷ first) more others fault few out (inl bad) = inl (strings_fault (item ∷ first) more others fault out bad)
-fields_fault origin (Strings ∷ fields) (item ∷ first) more others fault few out (inr h) =
-    let all = all_strings origin item first more others h.0 out h.1 in
-    inr (all.0, all.1, h.2)
-fields_fault origin (f ∷ fields) (item ∷ first) more others fault few out (inl bad) = inl bad
+fields_fault origin fields first more others fault few out (inl bad) = grind (arith, strings_fault)
+fields_fault origin (Strings ∷ fields) (item ∷ first) more others fault few out (inr h) = grind (arith, all_strings origin item first more others h.0 out h.1)
 fields_fault origin (f ∷ fields) (item ∷ first) more others fault few out (inr h) = inr (h.0, h.1, fields_fault origin fields first more others fault (omega (arith, few)) out h.2)
 
 fields_more : (origin : Labels) (fields : List Field) (first more others : List RawItem) (values : List FieldValue) → length fields < length first → LeavesOut more others → SpellEach origin fields (first ++ others) values → (all : List FieldValue) × SpellEach origin fields (first ++ more) all
@@ -117,12 +113,10 @@ marked [] more others many h = absurd (omega (arith, many))
 marked (a ∷ first) more others many h = mark_same a _ _ h
 
 fault_for : (origin : Labels) (laid : Option (List Field)) (first more others : List RawItem) (fault : Fault) → AreFew laid → AllByRecursion IsWritten first → 65543 ≤ length first → LeavesOut more others → IsFaultFor origin laid (first ++ others) fault → IsFaultFor origin laid (first ++ more) fault
-fault_for origin laid first more others _ few written many out (in_generic_form fault bad) =
-    in_generic_form fault (form_fault laid first more others fault written many bad)
+fault_for origin laid first more others _ few written many out (in_generic_form fault bad) = grind (arith, form_fault, in_generic_form)
 fault_for origin laid first more others _ few written many out (faults.in_words fields fault e unmarked bad) =
     faults.in_words fields fault e (λ h. unmarked (marked first others more many h)) (words_fault origin fields first more others fault (few fields e) many out bad)
-fault_for origin laid first more others _ few written many out (opaque_words e unmarked) =
-    opaque_words e (λ h. unmarked (marked first others more many h))
+fault_for origin laid first more others _ few written many out (opaque_words e unmarked) = search (rules, marked, opaque_words)
 
 never_for : (origin : Labels) (laid : Option (List Field)) (first others : List RawItem) (octets : List ℕ) → AreFew laid → AllByRecursion IsWritten first → 65543 ≤ length first → StatesFor origin laid (first ++ others) octets → ⊥
 never_for origin laid first others octets few written many (in_words fields values e unmarked spelt is short) = grind (arith, spelt_long, length-append)

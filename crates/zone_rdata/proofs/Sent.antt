@@ -7,10 +7,9 @@ use Rattle.zone_name.specs.declared.fault.NameFault.TheVariants.{EmptyLabel, Lab
 pub append_same : (x y a b : List ℕ) → length x ≡ length y → x ++ a ≡ y ++ b → (x ≡ y) × (a ≡ b)
 append_same [] [] a b count e = (refl, e)
 append_same (c ∷ x) (d ∷ y) a b count e =
-    let heads : c ≡ d = cc in
     let tails : x ++ a ≡ y ++ b = cc in
     let rest = append_same x y a b (omega arith) tails in
-    (ap (λ h. h ∷ x) heads ∙ ap (λ t. d ∷ t) rest.0, rest.1)
+    grind arith
 append_same x y a b count e = absurd (omega arith)
 
 -- what stands after its length is cut off alike
@@ -76,8 +75,7 @@ next_label (l ∷ others) tail following c some e = grind (arith, append_assoc)
 pub no_room : (octets rest : List ℕ) (labels : Labels) (c : ℕ) (following : List ℕ) → HasCut octets labels rest → rest ≡ c ∷ following → 0 < c → length following < c → (name : Labels) (tail : List ℕ) → BeginsWithSent octets name tail → ⊥
 no_room octets rest labels c following cut e some few name tail b =
     let next = goes_on octets rest tail labels name cut b in
-    let label = next_label next.0 tail following c some (sym e ∙ next.2) in
-    omega (arith, ap length label.4, length-append label.0 (wire label.1 ++ tail), label.3)
+    grind (arith, goes_on, next_label, length-append)
 
 -- what a name there says of the next label
 record Fits (labels : Labels) (label : List ℕ) : Type 0 where
@@ -90,15 +88,7 @@ fits_by before label others name = grind (arith, map-append, AllByRecursion-back
 next_fits : (octets rest : List ℕ) (labels : Labels) (c : ℕ) (following : List ℕ) → HasCut octets labels rest → rest ≡ c ∷ following → 0 < c → c ≤ length following → (name : Labels) (tail : List ℕ) → BeginsWithSent octets name tail → Fits labels (take c following)
 next_fits octets rest labels c following cut e some fits name tail b =
     let next = goes_on octets rest tail labels name cut b in
-    let label = next_label next.0 tail following c some (sym e ∙ next.2) in
-    let whole : b.sent ≡ cut.sent ++ label.0 ∷ label.1 = next.1 ∙ ap (λ t. cut.sent ++ t) label.2 in
-    let count : length (take c following) ≡ c = omega (arith, length-take c following) in
-    let same : take c following ≡ label.0 = (append_same (take c following) label.0 (drop c following) (wire label.1 ++ tail) (count ∙ sym label.3) (take-append-drop c following ∙ label.4)).0 in
-    let is : IsName (folded (cut.sent ++ label.0 ∷ label.1)) = subst IsName (sym b.folds ∙ ap folded whole) b.is_name in
-    subst (λ l. Fits labels l) (sym same) (subst (λ ls. Fits ls label.0) cut.folds (fits_by cut.sent label.0 label.1 is))
-
-refused_by : (fault : NameFault) (labels : Labels) (label : List ℕ) (r : Result (Unit {0}) NameFault) → r ≡ Err fault → IsLabelFault fault → ((r ≡ Err EmptyLabel) ↔ (length label ≡ 0)) → ((r ≡ Err LabelTooLong) ↔ (63 < length label)) → ((r ≡ Err NameTooLong) ↔ ((0 < length label) × (length label ≤ 63) × (255 < length (wire (labels ++ label ∷ []))))) → 0 < length label → Fits labels label → ⊥
-refused_by fault labels label r is only empty long too_long some fits = grind arith
+    grind (arith, common_steps, goes_on, next_label, length-take, append_same, take-append-drop, fits_by)
 
 pub no_label : (octets rest : List ℕ) (labels : Labels) (c : ℕ) (following label : List ℕ) (fault : NameFault) (r : Result (Unit {0}) NameFault) → HasCut octets labels rest → rest ≡ c ∷ following → 0 < c → c ≤ length following → label ≡ take c following → r ≡ Err fault → IsLabelFault fault → ((r ≡ Err EmptyLabel) ↔ (length label ≡ 0)) → ((r ≡ Err LabelTooLong) ↔ (63 < length label)) → ((r ≡ Err NameTooLong) ↔ ((0 < length label) × (length label ≤ 63) × (255 < length (wire (labels ++ label ∷ []))))) → (name : Labels) (tail : List ℕ) → BeginsWithSent octets name tail → ⊥
 no_label octets rest labels c following label fault r cut e some fits same is only empty long too_long name tail b = grind (arith, length-take c following, next_fits octets rest labels c following cut e some fits name tail b)
@@ -106,8 +96,7 @@ no_label octets rest labels c following label fault r cut e some fits same is on
 -- ---- a name at the beginning is one name
 pub name_by : (more : List (List ℕ)) (rest tail : List ℕ) → AreSome more → 0 ∷ rest ≡ wire more ++ tail → (more ≡ []) × (rest ≡ tail)
 name_by [] rest tail some e = (refl, (cc))
-name_by ([] ∷ more) rest tail some e = absurd (omega (arith, some.0))
-name_by ((c ∷ l) ∷ more) rest tail some e = cc
+name_by (x ∷ more) rest tail some e = grind arith
 
 pub sent_once : (octets rest tail : List ℕ) (a b : Labels) → BeginsWithSent octets a rest → BeginsWithSent octets b tail → (a ≡ b) × (rest ≡ tail)
 sent_once octets rest tail a b x y =

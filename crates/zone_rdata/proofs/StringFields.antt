@@ -8,9 +8,8 @@ string_cut : (text more : List ℕ) (m : ℕ) → strings_by (suc m) (with_lengt
 string_cut text more m = grind (arith, take_at, drop_at)
 
 strings_by_back : (many : List (List ℕ)) (m : ℕ) → length many ≤ m → strings_by m (flat_map with_length many) ≡ many
-strings_by_back [] zero fuel = refl
+strings_by_back many zero fuel = grind (arith, common_steps)
 strings_by_back [] (suc m) fuel = refl
-strings_by_back (text ∷ many) zero fuel = absurd (omega arith)
 strings_by_back (text ∷ many) (suc m) fuel = string_cut text (flat_map with_length many) m ∙ ap (λ t. text ∷ t) (strings_by_back many m (omega arith))
 
 -- joined strings hold those strings
@@ -20,8 +19,7 @@ strings_back many = strings_by_back many (length (flat_map with_length many)) (l
 
 -- nothing is left after the strings
 strings_by_len : (m : ℕ) (octets : List ℕ) → length octets ≤ m → length (flat_map with_length (strings_by m octets)) ≡ length octets
-strings_by_len zero [] fuel = refl
-strings_by_len zero (c ∷ octets) fuel = absurd (omega arith)
+strings_by_len zero octets fuel = omega arith
 strings_by_len (suc m) [] fuel = refl
 strings_by_len (suc m) (c ∷ octets) fuel =
     let parts : length (take c octets) + length (drop c octets) ≡ length octets = sym (length-append (take c octets) (drop c octets)) ∙ ap length (take-append-drop c octets) in

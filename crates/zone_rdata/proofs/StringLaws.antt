@@ -1,5 +1,5 @@
 -- The laws of strings.
-use Rattle.zone_rdata.proofs.Common.{[], ◌≡◌, ◌≢◌, ℕ, ◌<◌, Bool, true, false, ◌||◌, ◌==◌, List, ◌∷◌, ◌⊎◌, refl, sym, ◌∙◌, arith, AllByRecursion, or_cases, eqb-true, AreOctets, Written, text_of, octet_of, IsUnit, no_octet, written_text, written_octets, is_digit, Fault, RawItem, quoted, IsString, SpellsString, StringFault, StandsInQuotes, is_quote, inside_text, is_shown, unit_text, map}
+use Rattle.zone_rdata.proofs.Common.{[], ◌≡◌, ◌≢◌, ℕ, ◌<◌, Bool, false, ◌||◌, ◌==◌, List, ◌∷◌, ◌⊎◌, refl, sym, ◌∙◌, arith, AllByRecursion, AreOctets, Written, text_of, octet_of, IsUnit, no_octet, written_text, written_octets, is_digit, Fault, RawItem, quoted, IsString, SpellsString, StringFault, StandsInQuotes, is_quote, inside_text, is_shown, unit_text, map}
 use Rattle.zone_name.proofs.Lawful.{written_by, printed_text, value_by}
 use Rattle.zone_rdata.proofs.Strings.{string_reads, fault_reads}
 use Rattle.zone_rdata.proofs.Lists.{each_weaker}
@@ -29,12 +29,6 @@ octet_of-printed c = value_by (is_special c) (is_shown c) c
 
 no_digit : (c : ℕ) → (c ≡ 34) ⊎ (c ≡ 92) → is_digit c ≡ false
 no_digit c h = grind arith
-
-special_is : (c : ℕ) → is_special c ≡ true → (c ≡ 34) ⊎ (c ≡ 92)
-special_is c e = grind (arith, or_cases, eqb-true)
-
-special_not : (c n : ℕ) → (c ≡ 34) ⊎ (c ≡ 92) → n < 34 → c ≢ n
-special_not c n k low h = grind arith
 
 quoted_by : (special shown : Bool) (c : ℕ) → is_special c ≡ special → is_shown c ≡ shown → c < 256 → IsUnit is_quote (written_by special shown c)
 unfolding written_by

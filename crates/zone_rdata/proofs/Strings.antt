@@ -30,10 +30,9 @@ fault_reads item _ (long_string before w rest r full is) =
     let found : Units = units_first no_octet rest in
     let are : UnitsAre no_octet rest found = units_first_are no_octet rest in
     let units : List Written = before ++ (w ∷ found.units) in
-    let each : AllByRecursion (IsUnit no_octet) units = AllByRecursion-append (IsUnit no_octet) before (w ∷ found.units) r.units (is, are.each) in
     let following : text_of w ++ rest ≡ written_text (w ∷ found.units) ++ found.rest = ap (λ t. text_of w ++ t) are.whole ∙ sym (append_assoc (text_of w) (written_text found.units) found.rest) in
     let whole : item_text item ≡ written_text units ++ found.rest = r.parts ∙ ap (λ t. written_text before ++ t) following ∙ sym (append_assoc (written_text before) (written_text (w ∷ found.units)) found.rest) ∙ ap (λ t. t ++ found.rest) (sym (flat_map-append text_of before (w ∷ found.units))) in
-    cc (units_first_only no_octet (item_text item) units found.rest refl whole each are.none, lt-leb (length units) 255 (omega (arith, full, length-append before (w ∷ found.units))))
+    grind (arith, units_first_are, AllByRecursion-append, append_assoc, flat_map-append, units_first_only, lt-leb, length-append)
 
 -- ---- the answer is spelled, or is the first fault
 

@@ -37,9 +37,7 @@ mnemonic_by : (p : ℕ → List ℕ → Bool) (n : ℕ) (word : List ℕ) (found
 mnemonic_by p n word None each e = absurd (let t : ⊥ = cc in t)
 mnemonic_by p n word (Some row) each e =
     let facts = each row refl in
-    let number : row.number ≡ n = sym (eqb-true n row.number facts.1) in
-    let mnemonic : row.mnemonic ≡ word = cc in
-    subst (λ m. p m word ≡ true) number (subst (λ w. p row.number w ≡ true) mnemonic facts.0)
+    grind arith
 
 -- what holds of each row holds of a number and its mnemonic
 pub each_mnemonic : (p : ℕ → List ℕ → Bool) (rows : List Named) → list_all (λ row. p row.number row.mnemonic) rows ≡ true → (n : ℕ) (word : List ℕ) → mnemonic_among rows n ≡ Some word → p n word ≡ true

@@ -13,11 +13,9 @@ Reads (f ∷ row) octets canonical = (value : FieldValue) × ((rest more : List 
 
 reads_by : (row : List Field) (values : List FieldValue) (octets : List ℕ) → StringsLast row → HoldEach row values → AreSent values octets → Reads row octets (octets_of values)
 reads_by [] [] octets last held sent = (sent, refl)
-reads_by (f ∷ []) (v ∷ []) octets last held sent =
-    (v, (sent.1, [], record { held = held.0; front = sent.0; sent = sent.2; parts = sent.3; last = λ e. sent.4 }, refl, (sent.4, refl)))
+reads_by (f ∷ []) (v ∷ []) octets last held sent = grind arith
 reads_by (f ∷ []) (v ∷ w ∷ values) octets last held sent = absurd held.1
-reads_by (f ∷ g ∷ row) (v ∷ values) octets last held sent =
-    (v, (sent.1, octets_of values, record { held = held.0; front = sent.0; sent = sent.2; parts = sent.3; last = λ e. absurd (last.0 e) }, refl, reads_by (g ∷ row) values sent.1 last.1 held.1 sent.4))
+reads_by (f ∷ g ∷ row) (v ∷ values) octets last held sent = grind (arith, reads_by (g ∷ row) values sent.1 last.1 held.1 sent.4)
 reads_by row values octets last held sent = absurd held
 
 pub to_reads : (row : List Field) (octets canonical : List ℕ) → StringsLast row → IsUncompressed row octets canonical → Reads row octets canonical
@@ -95,8 +93,7 @@ taken_all row own octets i rest out same past taken none =
 pub taken_over : (row own : List Field) (octets : List ℕ) (i : ℕ) (rest out : List ℕ) → row ≡ own → StringsLast own → length row ≤ i → HaveTaken row octets (drop i row) rest out → 0 < length rest → (canonical : List ℕ) → IsUncompressed own octets canonical → ⊥
 taken_over row own octets i rest out same last past taken some canonical u =
     let reads = to_reads row octets canonical (subst StringsLast (sym same) last) (subst (λ r. IsUncompressed r octets canonical) (sym same) u) in
-    let b = (nothing_later row octets i rest out past taken).back canonical reads in
-    omega (arith, ap length b.1.0)
+    grind (arith, common_steps)
 
 -- ---- as many octets are kept as are sent
 length_frames_folded : (sent : List (List ℕ)) → length (flat_map with_length (folded sent)) ≡ length (flat_map with_length sent)

@@ -35,9 +35,7 @@ field_spaced f v h = grind (arith, strings_spaced, some_strings, append-nil)
 
 each_spaced : (row : List Field) (values : List FieldValue) → HoldEach row values → all_spaced (map written_item (flat_map field_items values)) ≡ all_spaced (map field_text values)
 each_spaced [] [] h = refl
-each_spaced (f ∷ row) (v ∷ values) h =
-    let items = map written_item (flat_map field_items values) in
-    ap all_spaced (map-append written_item (field_items v) (flat_map field_items values)) ∙ flat_map-append (λ t. 32 ∷ t) (map written_item (field_items v)) items ∙ ap (λ t. t ++ all_spaced items) (field_spaced f v h.0) ∙ ap (λ t. 32 ∷ field_text v ++ t) (each_spaced row values h.1)
+each_spaced (f ∷ row) (v ∷ values) h = grind (arith, each_spaced row values h.1, map-append, flat_map-append, field_spaced)
 each_spaced row values h = absurd h
 
 generic_written : (octets : List ℕ) → generic_text octets ≡ join_with_byte 32 (map written_item (generic_items octets))
@@ -64,8 +62,7 @@ digits_stand (c ∷ octets) low = (bare_hex c octets low, tt)
 
 each_stand : (row : List Field) (values : List FieldValue) → AllByRecursion IsSized row → HoldEach row values → ArePrintedItems (flat_map field_items values)
 each_stand [] [] sized h = tt
-each_stand (f ∷ row) (v ∷ values) sized h =
-    AllByRecursion-append IsPrintedItem (field_items v) (flat_map field_items values) (field_stands f v sized.0 h.0) (each_stand row values sized.1 h.1)
+each_stand (f ∷ row) (v ∷ values) sized h = grind (arith, each_stand row values sized.1 h.1, AllByRecursion-append, field_stands)
 each_stand row values sized h = absurd h
 
 laid_out_stand : (laid : Option (List Field)) (octets : List ℕ) → ((row : List Field) → laid ≡ Some row → IsLayout row) → length octets ≤ 65535 → AreOctets octets → AreFor laid octets → ArePrintedItems (laid_out_items laid octets)
@@ -82,8 +79,7 @@ field_some f v h = grind (arith, common_steps)
 
 each_some : (row : List Field) (values : List FieldValue) → 0 < length row → HoldEach row values → 0 < length (flat_map field_items values)
 each_some [] values some h = absurd (omega arith)
-each_some (f ∷ row) [] some h = absurd h
-each_some (f ∷ row) (v ∷ values) some h = omega (arith, length-append (field_items v) (flat_map field_items values), field_some f v h.0)
+each_some (f ∷ row) values some h = grind (arith, common_steps)
 
 laid_out_some : (laid : Option (List Field)) (octets : List ℕ) → ((row : List Field) → laid ≡ Some row → 0 < length row) → AreFor laid octets → 0 < length (laid_out_items laid octets)
 laid_out_some None octets table value = omega arith

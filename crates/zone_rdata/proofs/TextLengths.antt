@@ -34,8 +34,7 @@ kind_length class n is = laid_out_length (layout class n) n is.short
 -- the texts of values with a space before each
 each_few : (row : List Field) (values : List FieldValue) → AllByRecursion IsSized row → HoldEach row values → length (flat_map (λ t. 32 ∷ t) (map field_text values)) ≤ 4 * length (octets_of values)
 each_few [] [] sized h = omega arith
-each_few (f ∷ row) (v ∷ values) sized h =
-    omega (arith, length-append (32 ∷ field_text v) (flat_map (λ t. 32 ∷ t) (map field_text values)), length-append (field_octets v) (octets_of values), field_few f v sized.0 h.0, each_few row values sized.1 h.1)
+each_few (f ∷ row) (v ∷ values) sized h = grind (arith, each_few row values sized.1 h.1, length-append, field_few)
 each_few row values sized h = absurd h
 
 joined_length : (texts : List (List ℕ)) → length (join_with_byte 32 texts) ≤ length (flat_map (λ t. 32 ∷ t) texts)

@@ -9,17 +9,15 @@ AreDigits text = AllByRecursion (λ c. is_digit c ≡ true) text
 -- digits up to the first octet that is none are one run
 pub run_split : (a b : List ℕ) (c d : ℕ) (r s : List ℕ) → AreDigits a → AreDigits b → is_digit c ≡ false → is_digit d ≡ false → a ++ c ∷ r ≡ b ++ d ∷ s → (a ≡ b) × (c ≡ d) × (r ≡ s)
 run_split [] [] c d r s x y p q e = (refl, cc, cc)
-run_split [] (b ∷ bs) c d r s x y p q e = cc
-run_split (a ∷ as_) [] c d r s x y p q e = cc
 run_split (a ∷ as_) (b ∷ bs) c d r s x y p q e =
     let t : as_ ++ c ∷ r ≡ bs ++ d ∷ s = cc in
     let rest = run_split as_ bs c d r s x.1 y.1 p q t in
     (let k = rest.0 in cc, rest.1, rest.2)
+run_split a b c d r s x y p q e = cc
 
 -- an octet that is no digit stands in no digits
 pub no_run : (a : List ℕ) (c : ℕ) (r b : List ℕ) → AreDigits b → is_digit c ≡ false → a ++ c ∷ r ≡ b → ⊥
-no_run [] c r [] each p e = cc
-no_run [] c r (b ∷ bs) each p e = cc
+no_run [] c r b each p e = grind arith
 no_run (a ∷ as_) c r [] each p e = cc
 no_run (a ∷ as_) c r (b ∷ bs) each p e = let t : as_ ++ c ∷ r ≡ bs = cc in no_run as_ c r bs each.1 p t
 
@@ -34,9 +32,7 @@ run_nil (a ∷ as_) c r e = cc
 -- groups and digits: what a text may be cut into
 groups_run : (groups other : List Group) (a : List ℕ) (c : ℕ) (r : List ℕ) → AllByRecursion IsTimeGroup groups → AllByRecursion IsTimeGroup other → AreDigits a → is_digit c ≡ false → (0 < length a → (u : ℕ) → unit_seconds c ≡ Some u → ⊥) → flat_map group_text groups ++ (a ++ c ∷ r) ≡ flat_map group_text other → ⊥
 groups_run [] [] a c r x y digits p none e = run_nil a c r e
-groups_run [] (h ∷ other) a c r x y digits p none e =
-    let cut = run_split a h.digits c h.letter r (flat_map group_text other) digits y.0.each p (unit_no_digit h.letter h.unit y.0.lasts) (e ∙ append_assoc h.digits (h.letter ∷ []) (flat_map group_text other)) in
-    none (let k = ap length cut.0 in let s = y.0.some in omega arith) h.unit (ap unit_seconds cut.1 ∙ y.0.lasts)
+groups_run [] (h ∷ other) a c r x y digits p none e = grind (arith, common_steps, run_split, unit_no_digit, append_assoc)
 groups_run (g ∷ groups) [] a c r x y digits p none e = grind (arith, run_nil, append_assoc)
 groups_run (g ∷ groups) (h ∷ other) a c r x y digits p none e =
     let left = ap (λ t. t ++ (a ++ c ∷ r)) (append_assoc g.digits (g.letter ∷ []) (flat_map group_text groups)) ∙ append_assoc g.digits (g.letter ∷ flat_map group_text groups) (a ++ c ∷ r) in
@@ -65,17 +61,7 @@ pub more_groups : (text : List ℕ) (c unit : ℕ) (p next : Progress) → unit_
 more_groups text c unit p next lasts some opens total groups number closed reads =
     let g : Group = record { digits = reads.digits; letter = c; unit = unit } in
     let sums = sum_by-append group_seconds reads.groups (g ∷ []) in
-    record {
-      groups = reads.groups ++ g ∷ [];
-      digits = [];
-      parts = ap (λ t. t ++ c ∷ []) reads.parts ∙ append_assoc (flat_map group_text reads.groups) reads.digits (c ∷ []) ∙ sym (append-nil (flat_map group_text (reads.groups ++ g ∷ [])) ∙ flat_map-append group_text reads.groups (g ∷ []) ∙ ap (λ t. flat_map group_text reads.groups ++ t) (append-nil (group_text g)));
-      each = AllByRecursion-append IsTimeGroup reads.groups (g ∷ []) reads.each (record { some = reads.opened.0 opens; each = reads.last; lasts = lasts }, tt);
-      last = tt;
-      total = total ∙ rw (reads.total, reads.number) (capped_sum 4294967296 (sum_by group_seconds reads.groups) (decimal_value reads.digits) unit some ∙ ap (min 4294967296) (sym (sums ∙ ap (λ t. sum_by group_seconds reads.groups + t) (zero-add (decimal_value reads.digits * unit)))));
-      number = number;
-      grouped = (λ h. let l = length-append reads.groups (g ∷ []) in omega arith, λ h. groups);
-      opened = (λ h. absurd (cc (sym closed ∙ h)), λ h. absurd (omega arith));
-    }
+    grind (arith, common_steps)
 
 no_digits : (digits : List ℕ) → (0 < length digits → ⊥) → digits ≡ []
 no_digits digits h = grind (arith, common_steps)

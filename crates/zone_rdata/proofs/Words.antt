@@ -1,9 +1,6 @@
 -- Words that are equal in any case of their letters.
-use Rattle.zone_rdata.proofs.Common.{◌≡◌, ℕ, ◌<◌, ◌≤◌, true, false, List, map, sym, ap, ◌∙◌, arith, IsTrue, ◌↔◌, inl, inr, Some, None, min, subst, bytes_eq, Bool, find, option_map, nat_tests, cases_lt, bytes_eq-Decides, folded_octet, folded_label, Named, ascend, IsKind, IsNumbered, IsWordAmong, by_mnemonic, by_number, IsKindWord, IsWordFault, for_queries, beyond, Fault, rules, to_ascii_lowercase, UnknownType, MetaType}
+use Rattle.zone_rdata.proofs.Common.{◌≡◌, ℕ, ◌<◌, ◌≤◌, true, false, List, map, sym, ap, ◌∙◌, arith, IsTrue, ◌↔◌, inl, inr, Some, None, min, subst, bytes_eq, Bool, find, option_map, cases_lt, bytes_eq-Decides, folded_label, Named, ascend, IsKind, IsNumbered, IsWordAmong, by_mnemonic, by_number, IsKindWord, IsWordFault, for_queries, beyond, Fault, rules, to_ascii_lowercase, UnknownType, MetaType}
 use Rattle.zone_rdata.proofs.Tables.{find_mapped, row_is, no_row}
-
-lowercase_folds : (c : ℕ) → to_ascii_lowercase c ≡ folded_octet c
-lowercase_folds c = grind (arith, nat_tests)
 
 lowercase_folds_all : (text : List ℕ) → map to_ascii_lowercase text ≡ folded_label text
 lowercase_folds_all text = grind arith

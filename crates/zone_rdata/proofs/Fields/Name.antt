@@ -1,5 +1,5 @@
 -- A domain name.
-use Rattle.zone_rdata.proofs.Common.{[], List, Some, ap, append_assoc, arith, drop, get_or, inl, inr, length, length-append, refl, subst, suc, sym, take, zero, ℕ, ◌++◌, ◌<◌, ◌∙◌, ◌∷◌, ◌≡◌, ◌≤◌, ◌⊎◌, AllByRecursion, flat_map, cases_eq, cases_lt, append-nil, length-drop, Labels, IsFoldedOctet, IsLabel, IsName, folded, folded_label, wire, with_length, AllByRecursion-append, AllByRecursion-back, FitsString, fault_of, FieldValue, Holds, SpellsField, Suits, field_octets, name, RawItem, bare, AppendsValue, BeginsWithNone, BeginsWithValue, IsReal, BeginsWithSent, labels_of-wire_append, bare_name, label_text, name_text, octet_text, Name}
+use Rattle.zone_rdata.proofs.Common.{[], List, Some, ap, append_assoc, arith, drop, get_or, inl, inr, length, length-append, refl, subst, suc, sym, take, zero, ℕ, ◌++◌, ◌<◌, ◌∙◌, ◌∷◌, ◌≡◌, ◌≤◌, ◌⊎◌, AllByRecursion, flat_map, cases_eq, cases_lt, append-nil, length-drop, Labels, IsFoldedOctet, IsLabel, IsName, folded, folded_label, wire, with_length, AllByRecursion-append, AllByRecursion-back, FitsString, fault_of, FieldValue, Holds, SpellsField, Suits, field_octets, name, RawItem, bare, AppendsValue, BeginsWithNone, BeginsWithValue, IsReal, BeginsWithSent, labels_of-wire_append, bare_name, label_text, name_text, octet_text, Name, common_steps}
 use Rattle.zone_rdata.proofs.Choices.{Decided, each_or_not}
 use Rattle.zone_rdata.proofs.FieldLaws.{AreLow, FieldLaws, FrontChoice, bare_item, bare_or_fault, found_front, mark_text}
 use Rattle.zone_rdata.proofs.Sent.{AreSome, HasCut, cut_more, cut_name, cut_none, folded_some, goes_on, name_by, no_first, no_room, sent_once}
@@ -62,10 +62,7 @@ SentChoice octets = ((labels : Labels) × ((rest : List ℕ) × BeginsWithSent o
 ended_labels : (octets rest following tail : List ℕ) (labels own : Labels) (c : ℕ) → (cut : HasCut octets labels rest) → rest ≡ c ∷ following → c ≡ 0 → BeginsWithSent octets own tail → IsName labels
 ended_labels octets rest following tail labels own c cut e nothing b =
     let next = goes_on octets rest tail labels own cut b in
-    let some = folded_some b.sent (subst (AllByRecursion IsLabel) (sym b.folds) b.is_name.each) in
-    let same = name_by next.0 following tail (AllByRecursion-back (λ l. 0 < length l) cut.sent next.0 (subst AreSome next.1 some)) (sym (e ∙ ap (λ n. n ∷ following) nothing) ∙ next.2) in
-    let same_labels : own ≡ labels = sym b.folds ∙ ap folded (next.1 ∙ ap (λ t. cut.sent ++ t) same.0 ∙ append-nil cut.sent) ∙ cut.folds in
-    subst IsName same_labels b.is_name
+    grind (arith, goes_on, folded_some, name_by, AllByRecursion-back, append-nil)
 
 root_by : (octets rest following : List ℕ) (labels : Labels) (c : ℕ) → HasCut octets labels rest → rest ≡ c ∷ following → c ≡ 0 → Decided (IsName labels) → SentChoice octets
 root_by octets rest following labels c cut e nothing (inl is) = inl (labels, (following, cut_name octets rest labels labels c following cut e nothing refl is))
@@ -101,8 +98,7 @@ dot_last label (next ∷ labels) =
 
 no_mark : (front : List ℕ) → front ++ 46 ∷ [] ≡ 92 ∷ 35 ∷ [] → ⊥
 no_mark [] e = omega (arith, ap length e)
-no_mark (a ∷ []) e = omega (arith, ap (λ t. get_or t 1 0) e)
-no_mark (a ∷ b ∷ front) e = omega (arith, ap length e, length-append front (46 ∷ []))
+no_mark (a ∷ xs) e = grind (arith, common_steps)
 
 name_unmarked : (labels : Labels) → name_text labels ≡ 92 ∷ 35 ∷ [] → ⊥
 name_unmarked [] e = omega (arith, ap length e)

@@ -107,8 +107,7 @@ each_held (item ∷ items) (octets ∷ many) h = grind (arith, each_held items m
 each_held items many h = absurd h
 
 each_once : (items : List RawItem) (a b : Labels) → SpellEachString items a → SpellEachString items b → a ≡ b
-each_once [] [] [] h k = refl
-each_once [] (x ∷ a) b h k = absurd h
+each_once [] a b h k = grind arith
 each_once (item ∷ items) [] b h k = absurd h
 each_once (item ∷ items) (x ∷ a) (y ∷ b) h k = ap (λ z. z ∷ a) (string-once item x y h.0 k.0) ∙ ap (λ z. y ∷ z) (each_once items a b h.1 k.1)
 each_once items a b h k = absurd k

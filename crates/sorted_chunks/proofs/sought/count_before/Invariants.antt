@@ -1,6 +1,4 @@
-use Rattle.std.proofs.Common.{◌≡◌, ◌≤◌, ◌-◌, true, false, length}
-use Rattle.std.specs.List.{AllWithin}
-use Rattle.std.specs.List.Sorted.{IsPartitionedBy}
+use Rattle.sorted_chunks.proofs.Common.{◌≡◌, ◌≤◌, ◌-◌, true, false, length, AllWithin, IsPartitionedBy}
 use Rattle.sorted_chunks.proofs.sought.count_before.Given as goal
 
 -- what is sought comes after those below `low`, and not after those from `high` on

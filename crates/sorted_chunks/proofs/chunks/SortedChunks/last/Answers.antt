@@ -1,6 +1,5 @@
-use Rattle.std.proofs.Common.{◌≡◌, List, [], ◌∷◌, ◌++◌, length, MatchOption, ap, ◌∙◌, subst, arith}
+use Rattle.sorted_chunks.proofs.Common.{◌≡◌, List, [], ◌∷◌, ◌++◌, length, MatchOption, ap, ◌∙◌, subst, arith, before}
 use Rattle.sorted_chunks.proofs.Neighbours.{before_all}
-use Rattle.sorted_chunks.specs.Chunks.{before}
 use Rattle.sorted_chunks.proofs.chunks.SortedChunks.last.Goals as goal
 
 pub returns : goal.returns

@@ -1,7 +1,5 @@
-use Rattle.std.proofs.Common.{◌≡◌, ◌-◌, ◌<◌, [], length, get_or, ap, subst, arith}
-use Rattle.std.proofs.lemmas.List.Elements.{All-get_or}
+use Rattle.sorted_chunks.proofs.Common.{◌≡◌, ◌-◌, ◌<◌, [], length, get_or, ap, subst, arith, All-get_or, AreChunks, IsChunk}
 use Rattle.sorted_chunks.proofs.Neighbours.{filled_within, last_in, last_of_chunk, lent}
-use Rattle.sorted_chunks.specs.Chunks.{AreChunks, IsChunk}
 use Rattle.sorted_chunks.proofs.chunks.SortedChunks.last_before.Goals as goal
 
 pub returns-then-offset-gt0 : goal.returns-then-offset-gt0

@@ -1,6 +1,4 @@
-use Rattle.std.proofs.Common.{◌≡◌, drop, [], length, ap, ◌∙◌, arith}
-use Rattle.std.proofs.lemmas.List.{drop_all}
-use Rattle.sorted_chunks.specs.Chunks.{joined}
+use Rattle.sorted_chunks.proofs.Common.{◌≡◌, drop, [], length, ap, ◌∙◌, arith, drop_all, joined}
 use Rattle.sorted_chunks.proofs.chunks.SortedChunks.len.Goals as goal
 
 pub returns : goal.returns

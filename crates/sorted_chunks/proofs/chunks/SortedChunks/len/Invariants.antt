@@ -1,5 +1,4 @@
-use Rattle.std.proofs.Common.{◌≡◌, ◌≤◌, ◌+◌, ◌-◌, ◌^◌, min, drop, length}
-use Rattle.sorted_chunks.specs.Chunks.{joined}
+use Rattle.sorted_chunks.proofs.Common.{◌≡◌, ◌≤◌, ◌+◌, ◌-◌, ◌^◌, min, drop, length, joined}
 use Rattle.sorted_chunks.proofs.chunks.SortedChunks.len.Given as goal
 
 -- the number so far and that of the chunks left

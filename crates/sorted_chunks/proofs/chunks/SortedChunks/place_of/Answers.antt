@@ -1,7 +1,4 @@
-use Rattle.std.proofs.Common.{◌≡◌, true, false, sym, subst, ◌∙◌}
-use Rattle.std.proofs.lemmas.List.Elements.{All-nil}
-use Rattle.std.specs.List.{All}
-use Rattle.sorted_chunks.specs.Chunks.{joined}
+use Rattle.sorted_chunks.proofs.Common.{◌≡◌, true, false, sym, subst, ◌∙◌, All-nil, All, joined}
 use Rattle.sorted_chunks.proofs.Neighbours.{at_last}
 use Rattle.sorted_chunks.proofs.Parting.{all_pass}
 use Rattle.sorted_chunks.proofs.chunks.SortedChunks.place_of.Goals as goal

@@ -1,9 +1,4 @@
-use Rattle.std.proofs.Common.{◌≡◌, ◌+◌, ◌-◌, ◌<◌, ◌≤◌, ◌∷◌, [], length, get_or, ap, sym, subst, ◌∙◌, arith}
-use Rattle.std.specs.List.{All}
-use Rattle.std.proofs.lemmas.List.Elements.{All-get_or, All-tail}
-use Rattle.sorted_chunks.specs.Chunks.{AreChunks}
-use Rattle.sorted_chunks.specs.Machine.Splits.{SplitsAt}
-use Rattle.sorted_chunks.specs.Starts.{starts}
+use Rattle.sorted_chunks.proofs.Common.{◌≡◌, ◌+◌, ◌-◌, ◌<◌, ◌≤◌, ◌∷◌, [], length, get_or, ap, sym, subst, ◌∙◌, arith, All, All-get_or, All-tail, AreChunks, SplitsAt, starts}
 use Rattle.sorted_chunks.proofs.Neighbours.{each_chunk, lent, whole_at}
 use Rattle.sorted_chunks.proofs.Parting.{parts_in, parts_none}
 use Rattle.sorted_chunks.proofs.chunks.SortedChunks.search.Goals as goal

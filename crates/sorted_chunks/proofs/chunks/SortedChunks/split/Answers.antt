@@ -1,6 +1,4 @@
-use Rattle.std.proofs.Common.{◌<◌, ◌≤◌, length, sym, subst, arith}
-use Rattle.std.proofs.lemmas.List.Elements.{All-get_or}
-use Rattle.sorted_chunks.specs.Chunks.{IsChunk}
+use Rattle.sorted_chunks.proofs.Common.{◌<◌, ◌≤◌, length, sym, subst, arith, All-get_or, IsChunk}
 use Rattle.sorted_chunks.proofs.Halving.{chunks_split}
 use Rattle.sorted_chunks.proofs.chunks.SortedChunks.split.Goals as goal
 
