@@ -3,7 +3,9 @@ use crate::explain::explain_line;
 use crate::form::Form;
 use crate::normalise_bytes;
 use std::alloc::{AllocError, Global};
+use std::fmt::Display;
 use std::test::Fail;
+use zone_name::Name;
 use zone_rdata::{Failing, Fault, Stop};
 
 mod addresses;
@@ -90,7 +92,7 @@ fn check_answer<Q: Question>(alloc: Global, row: (&'static str, &str)) -> Result
 /// The first that gets another.
 fn check_lines<Q: Question>(alloc: Global, table: &'static str) -> Result<(), Fail> {
     for line in table.lines() {
-        check_answer::<Q>(alloc, line.split_once(" => ").ok_or(line)?)?;
+        check_answer::<Q>(alloc, parted(line, " => ")?)?;
     }
     Ok(())
 }
@@ -105,10 +107,24 @@ fn check_table<Q: Question>(alloc: Global, table: &'static str) -> Result<(), Fa
     for row in table.split("== ") {
         // Nothing stands before the first row.
         if !row.is_empty() {
-            check_answer::<Q>(alloc, row.split_once("=>").ok_or(row)?)?;
+            check_answer::<Q>(alloc, parted(row, "=>")?)?;
         }
     }
     Ok(())
+}
+
+/// The parts of a text before and after a mark.
+///
+/// # Errors
+///
+/// The text, where the mark doesn't stand there.
+fn parted<'t>(text: &'t str, mark: &str) -> Result<(&'t str, &'t str), Fail> {
+    Ok(text.split_once(mark).ok_or(text)?)
+}
+
+/// The name that a text spells without an origin.
+fn rooted(text: &[u8]) -> Result<Name, Fail> {
+    Ok(Name::from_text(text, None)?)
 }
 
 /// Appends a text.
@@ -116,11 +132,16 @@ fn push_text(out: &mut Vec<u8>, text: &str) -> Result<(), Fail> {
     Ok(out.extend_from_slice(text.as_bytes())?)
 }
 
+/// Appends what is shown so.
+fn push_words<D: Display + Drop>(alloc: Global, out: &mut Vec<u8>, words: D) -> Result<(), Fail> {
+    push_text(out, format!(in alloc; "{words}")?.as_str())
+}
+
 /// Appends `#` and octets in hexadecimal digits.
 fn push_hex(alloc: Global, out: &mut Vec<u8>, octets: &[u8]) -> Result<(), Fail> {
-    out.push(b'#')?;
+    push_text(out, "#")?;
     for octet in octets {
-        push_text(out, format!(in alloc; "{octet:02x}")?.as_str())?;
+        push_words(alloc, out, format_args!("{octet:02x}"))?;
     }
     Ok(())
 }
@@ -139,7 +160,7 @@ fn check(is_right: bool, wanted: &'static str) -> Result<(), Fail> {
 
 /// Appends the name of a fault.
 fn push_fault(alloc: Global, out: &mut Vec<u8>, fault: &Fault) -> Result<(), Fail> {
-    push_text(out, format!(in alloc; "{fault:?}")?.as_str())
+    push_words(alloc, out, format_args!("{fault:?}"))
 }
 
 /// An answer or its fault.
@@ -185,13 +206,13 @@ fn push_answer(
 ) -> Result<(), Fail> {
     match answered {
         Ok(text) => {
-            out.push(b'\n')?;
+            push_text(out, "\n")?;
             Ok(out.extend_from_slice(&text)?)
         }
         Err(stop) => {
-            out.push(b' ')?;
+            push_text(out, " ")?;
             push_stop(alloc, out, &stop)?;
-            Ok(out.push(b'\n')?)
+            push_text(out, "\n")
         }
     }
 }

@@ -4,12 +4,11 @@ use crate::run::run;
 use crate::tests::orders::ordered;
 use crate::tests::runs::is_broken;
 use crate::tests::zones::{reading_of, taken};
-use crate::tests::{Case, check_rows, had_memory, roomy};
+use crate::tests::{Case, check_rows, had_memory, roomy, rooted};
 use std::alloc::{AllocError, Global};
 use std::io;
 use std::io::{ErrorKind, Read, Write};
 use std::test::Fail;
-use zone_name::Name;
 use zone_print::write_zone;
 use zone_rdata::Stop;
 
@@ -24,7 +23,7 @@ fn run_first<R: Read, W: Write>(
     writer: &mut W,
     errors: &mut Vec<u8>,
 ) -> Result<u8, Fail> {
-    let order = Order::Normalise(Some(Name::from_text(b"x.", None)?));
+    let order = Order::Normalise(Some(rooted(b"x.")?));
     let mut second = Supply::at_once(b"", BROKEN);
     Ok(run(alloc, &order, reader, &mut second, writer, errors))
 }
@@ -80,7 +79,7 @@ struct Broken(&'static [u8], ErrorKind);
 impl Case for Broken {
     fn is_right(&self, alloc: Global) -> Result<bool, Fail> {
         let mut reader = Supply::at_once(self.0, Some(self.1));
-        is_broken(alloc, &Some(Name::from_text(b"x.", None)?), &mut reader)
+        is_broken(alloc, &Some(rooted(b"x.")?), &mut reader)
     }
 }
 

@@ -1,9 +1,8 @@
 //! The lines that tell a user why a run stopped: one of each form. The table of faults is proved.
 use crate::explain::explain_line;
-use crate::tests::check;
+use crate::tests::{check, rooted};
 use std::alloc::Global;
 use std::test::Fail;
-use zone_name::Name;
 use zone_rdata::{Fault, Place, Stop};
 
 /// Whether this is the line that explains a stop.
@@ -13,7 +12,7 @@ fn is_line(alloc: Global, stop: &Stop, line: &str) -> Result<bool, Fail> {
 
 #[test]
 fn stops_are_explained(rt: HostRuntime) -> Result<(), Fail> {
-    let outside = Fault::OutOfZone(Name::from_text(b"A\\.b\\200.y.", None)?);
+    let outside = Fault::OutOfZone(rooted(b"A\\.b\\200.y.")?);
     for (stop, line) in [
         (
             Stop::Refused(Fault::BadEscape, Place::Line(2)),

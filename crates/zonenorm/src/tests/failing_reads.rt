@@ -1,9 +1,9 @@
 //! Inputs whose reader fails at one of its reads, whatever was read before.
 use crate::form::Form;
+use crate::normalise;
 use crate::tests::streams::STREAMS;
 use crate::tests::vectors::{check_files, input_of};
 use crate::tests::{Question, check, check_table, push_answer, roomy};
-use crate::{normalise, normalise_bytes};
 use std::alloc::Global;
 use std::io;
 use std::io::{ErrorKind, Read};
@@ -56,7 +56,7 @@ impl Question for OfFailingReads {
             let is_told = is_told(alloc, form, &input.octets, reads)?;
             check(is_told, "a failed read is told")?;
         }
-        push_answer(alloc, out, normalise_bytes(alloc, form, &input.octets))
+        push_answer(alloc, out, input.answered(alloc))
     }
 }
 

@@ -2,10 +2,9 @@
 use crate::tests::notation::octets_of;
 use crate::tests::readings::{push_numbers, push_place, push_reading};
 use crate::tests::vectors::{file_of, input_of};
-use crate::tests::{Question, check_table, push_stop, push_text};
+use crate::tests::{Question, check_table, push_stop, push_text, push_words, rooted};
 use std::alloc::Global;
 use std::test::Fail;
-use zone_name::Name;
 use zone_rdata::{Reading, Stop};
 use zone_text::read_file;
 
@@ -15,7 +14,7 @@ fn read_under_x(alloc: Global, file: &str) -> Result<Reading, Fail> {
         Some(digits) => octets_of(alloc, digits)?,
         None => file_of(alloc, file)?,
     };
-    Ok(read_file(alloc, &Name::from_text(b"x.", None)?, &octets)?)
+    Ok(read_file(alloc, &rooted(b"x.")?, &octets)?)
 }
 
 /// All records of a file, in numbers.
@@ -24,11 +23,11 @@ struct Filed;
 impl Question for Filed {
     fn answer(alloc: Global, asked: &'static str, out: &mut Vec<u8>) -> Result<(), Fail> {
         let reading = read_under_x(alloc, asked)?;
-        out.push(b'\n')?;
+        push_text(out, "\n")?;
         for placed in reading.placed.iter() {
             push_numbers(alloc, out, &placed.rr)?;
             push_place(alloc, out, placed.place)?;
-            out.push(b'\n')?;
+            push_text(out, "\n")?;
         }
         match reading.ending {
             Some(_) => Err(Fail::from("a fault")),
@@ -76,9 +75,9 @@ impl Question for Refused {
         let Reading { placed, ending } = read_under_x(alloc, asked)?;
         let (fault, place) = ending.ok_or("nothing is refused")?;
         let count = placed.len();
-        push_text(out, format!(in alloc; " {count} before ")?.as_str())?;
+        push_words(alloc, out, format_args!(" {count} before "))?;
         push_stop(alloc, out, &Stop::Refused(fault, place))?;
-        Ok(out.push(b'\n')?)
+        push_text(out, "\n")
     }
 }
 

@@ -2,8 +2,10 @@
 use crate::form::Form;
 use crate::input::read_zone;
 use crate::normalise_bytes;
-use crate::tests::{Case, check, check_rows, is_refused, push_stop, roomy};
-use std::alloc::{AllocError, Global};
+use crate::tests::{
+    Case, check, check_rows, is_refused, push_stop, push_text, push_words, roomy, rooted,
+};
+use std::alloc::Global;
 use std::io;
 use std::io::Read;
 use std::test::Fail;
@@ -14,20 +16,14 @@ use zone_text::TextSource;
 const OWNERS: u64 = 1000;
 
 /// Appends the line of an address whose owner is `a` with this number and the rest.
-fn push_address(
-    alloc: Global,
-    file: &mut Vec<u8>,
-    number: u64,
-    rest: &str,
-) -> Result<(), AllocError> {
-    let line = format!(in alloc; "a{number}{rest} A 10.0.0.1\n")?;
-    file.extend_from_slice(line.as_bytes())
+fn push_address(alloc: Global, file: &mut Vec<u8>, number: u64, rest: &str) -> Result<(), Fail> {
+    push_words(alloc, file, format_args!("a{number}{rest} A 10.0.0.1\n"))
 }
 
 /// The owners from the highest number down, after the SOA.
-fn descending(alloc: Global) -> Result<Vec<u8>, AllocError> {
+fn descending(alloc: Global) -> Result<Vec<u8>, Fail> {
     let mut file = Vec::new(alloc);
-    file.extend_from_slice(b"@ 60 SOA n h 1 2 3 4 5\n")?;
+    push_text(&mut file, "@ 60 SOA n h 1 2 3 4 5\n")?;
     for number in 0..OWNERS {
         push_address(alloc, &mut file, 999u64.wrapping_sub(number), " 60")?;
     }
@@ -35,12 +31,12 @@ fn descending(alloc: Global) -> Result<Vec<u8>, AllocError> {
 }
 
 /// The owners from the lowest number up, before the SOA.
-fn ascending(alloc: Global) -> Result<Vec<u8>, AllocError> {
+fn ascending(alloc: Global) -> Result<Vec<u8>, Fail> {
     let mut file = Vec::new(alloc);
     for number in 0..OWNERS {
         push_address(alloc, &mut file, number, " 60")?;
     }
-    file.extend_from_slice(b"@ 60 SOA n h 1 2 3 4 5\n")?;
+    push_text(&mut file, "@ 60 SOA n h 1 2 3 4 5\n")?;
     Ok(file)
 }
 
@@ -63,9 +59,9 @@ fn after(number: u64) -> u64 {
 }
 
 /// The canonical text of both files.
-fn canonical(alloc: Global) -> Result<Vec<u8>, AllocError> {
+fn canonical(alloc: Global) -> Result<Vec<u8>, Fail> {
     let mut text = Vec::new(alloc);
-    text.extend_from_slice(b"x. 60 IN SOA n.x. h.x. 1 2 3 4 5\n")?;
+    push_text(&mut text, "x. 60 IN SOA n.x. h.x. 1 2 3 4 5\n")?;
     let mut number = 0;
     for _ in 0..OWNERS {
         push_address(alloc, &mut text, number, ".x. 60 IN")?;
@@ -76,7 +72,7 @@ fn canonical(alloc: Global) -> Result<Vec<u8>, AllocError> {
 
 /// What `normalise_bytes` makes of a file under the origin `x.`.
 fn text_of(alloc: Global, file: &[u8]) -> Result<Vec<u8>, Fail> {
-    let origin = Name::from_text(b"x.", None)?;
+    let origin = rooted(b"x.")?;
     Ok(normalise_bytes(alloc, Form::File(&origin), file)?)
 }
 
@@ -97,13 +93,17 @@ fn a_thousand_owners_are_sorted(rt: HostRuntime) -> Result<(), Fail> {
 
 /// The SOA and lines of addresses from 10.0.0.0 on, so many lines of so many addresses, each a step
 /// after the one before.
-fn addresses(alloc: Global, count: u64, lines: u64, step: u64) -> Result<Vec<u8>, AllocError> {
+fn addresses(alloc: Global, count: u64, lines: u64, step: u64) -> Result<Vec<u8>, Fail> {
     let mut file = Vec::new(alloc);
-    file.extend_from_slice(b"x. 60 IN SOA n.x. h.x. 1 2 3 4 5\n")?;
+    push_text(&mut file, "x. 60 IN SOA n.x. h.x. 1 2 3 4 5\n")?;
     for line in 0..lines {
         let number = line.wrapping_mul(step) % count.max(1);
-        let line = format!(in alloc; "x. 60 IN A 10.0.{}.{}\n", number / 256, number % 256)?;
-        file.extend_from_slice(line.as_bytes())?;
+        let (third, fourth) = (number / 256, number % 256);
+        push_words(
+            alloc,
+            &mut file,
+            format_args!("x. 60 IN A 10.0.{third}.{fourth}\n"),
+        )?;
     }
     Ok(file)
 }
@@ -176,7 +176,7 @@ struct Unending {
 /// Whether a file under the origin `x.` is refused as too long, where it may have so many octets,
 /// which are at most 100,000.
 fn is_too_long(alloc: Global, reader: &mut Endless, limit: u64) -> Result<bool, Fail> {
-    let mut source = TextSource::new(alloc, &Name::from_text(b"x.", None)?);
+    let mut source = TextSource::new(alloc, &rooted(b"x.")?);
     let mut told = roomy(alloc)?;
     match read_zone(alloc, &mut source, reader, limit.min(100_000)).err() {
         Some(stop) => push_stop(alloc, &mut told, &stop)?,

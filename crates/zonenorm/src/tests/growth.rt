@@ -3,10 +3,11 @@
 use crate::tests::check;
 use crate::tests::items::data_of;
 use crate::tests::names::named;
+use crate::tests::wire::in_class_in;
 use std::alloc::{AllocError, Global};
 use std::test::Fail;
 use zone_name::Name;
-use zone_rdata::{Class, Kind, Rdata, RdataBuilder};
+use zone_rdata::{Class, Rdata, RdataBuilder};
 
 /// What appends its text to a vector.
 #[derive(Drop)]
@@ -83,7 +84,7 @@ fn push_four(builder: &mut RdataBuilder) -> usize {
 #[test]
 fn a_refused_part_is_not_pushed(rt: HostRuntime) -> Result<(), Fail> {
     let framed: &[u8] = b"\x08abcdefgh\x08abcdefgh\x08abcdefgh\x08abcdefgh";
-    let (class, kind) = (Class::from_number(1)?, Kind::from_number(16)?);
+    let (class, kind) = in_class_in("16")?;
     let mut builder = RdataBuilder::new(rt.alloc(), class, kind);
     let pushed = push_four(&mut builder);
     let strings = builder.finish()?;

@@ -1,9 +1,10 @@
 //! Record data: from a line of words to its text, its octets and its order (RFC 1035 3.3, RFC 3597,
 //! RFC 4034 6.3).
-use crate::tests::{Question, check_lines, judged, push_fault, push_hex, push_text};
+use crate::tests::{
+    Question, check_lines, judged, parted, push_fault, push_hex, push_text, push_words, rooted,
+};
 use std::alloc::Global;
 use std::test::Fail;
-use zone_name::Name;
 use zone_rdata::{Class, Failing, Fault, Item, Kind, Rdata};
 
 /// What data is made of.
@@ -14,12 +15,14 @@ struct Words<'l> {
     items: Vec<Item<'l>>,
 }
 
+/// What stands between the quotes of a quoted word.
+fn unquoted(word: &str) -> Option<&str> {
+    word.strip_prefix("\"")?.strip_suffix("\"")
+}
+
 /// The item of a word: quotes enclose a quoted one.
 fn item_of(word: &str) -> Item<'_> {
-    match word
-        .strip_prefix("\"")
-        .and_then(|rest| rest.strip_suffix("\""))
-    {
+    match unquoted(word) {
         Some(quoted) => Item::Quoted(quoted.as_bytes()),
         None => Item::Bare(word.as_bytes()),
     }
@@ -44,19 +47,21 @@ pub(super) fn data_of(
     origin: &str,
     line: &str,
 ) -> Result<Result<Rdata, Fault>, Fail> {
-    let origin = Name::from_text(origin.as_bytes(), None)?;
+    let origin = rooted(origin.as_bytes())?;
     let Words { class, kind, items } = words_of(alloc, line)?;
     judged(Rdata::from_items(alloc, class, kind, &items, &origin))
 }
 
 /// The data that a line states under an origin, read into a buffer that was used before.
 fn data_in_buffer(alloc: Global, origin: &str, line: &str) -> Result<Result<Rdata, Fault>, Fail> {
-    let origin = Name::from_text(origin.as_bytes(), None)?;
+    let origin = rooted(origin.as_bytes())?;
     let Words { class, kind, items } = words_of(alloc, line)?;
     let mut buffer = Vec::new(alloc);
-    buffer.extend_from_slice(b"octets of before")?;
-    let read = Rdata::read_items(buffer, class, kind, &items, &origin);
-    judged(read.map_err(Failing::from))
+    push_text(&mut buffer, "octets of before")?;
+    match Rdata::read_items(buffer, class, kind, &items, &origin) {
+        Ok(data) => Ok(Ok(data)),
+        Err(failing) => judged(Err(Failing::from(failing))),
+    }
 }
 
 /// The canonical text of the data that a line states under the origin `x.`, or the name of the
@@ -136,13 +141,16 @@ fn data_of_lines(rt: HostRuntime) -> Result<(), Fail> {
 /// Appends the text, octets, class and MINIMUM of data, and whether it is of an SOA.
 fn push_data(alloc: Global, out: &mut Vec<u8>, data: &Rdata) -> Result<(), Fail> {
     data.push_text(out)?;
-    out.push(b' ')?;
+    push_text(out, " ")?;
     push_hex(alloc, out, data.octets())?;
     let class = data.class().number();
     let minimum = data.soa_minimum();
     let is_soa = data.kind().is_soa();
-    let words = format!(in alloc; " class {class}, minimum {minimum:?}, SOA {is_soa}")?;
-    push_text(out, words.as_str())
+    push_words(
+        alloc,
+        out,
+        format_args!(" class {class}, minimum {minimum:?}, SOA {is_soa}"),
+    )
 }
 
 /// The data that a line states under an origin, which stands before it.
@@ -150,7 +158,7 @@ struct Held;
 
 impl Question for Held {
     fn answer(alloc: Global, asked: &'static str, out: &mut Vec<u8>) -> Result<(), Fail> {
-        let (origin, line) = asked.split_once(' ').ok_or("no origin")?;
+        let (origin, line) = parted(asked, " ")?;
         push_data(alloc, out, &data_of(alloc, origin, line)??)
     }
 }
@@ -160,7 +168,7 @@ struct HeldInBuffer;
 
 impl Question for HeldInBuffer {
     fn answer(alloc: Global, asked: &'static str, out: &mut Vec<u8>) -> Result<(), Fail> {
-        let (origin, line) = asked.split_once(' ').ok_or("no origin")?;
+        let (origin, line) = parted(asked, " ")?;
         push_data(alloc, out, &data_in_buffer(alloc, origin, line)??)
     }
 }
@@ -185,14 +193,11 @@ struct Compared;
 
 impl Question for Compared {
     fn answer(alloc: Global, asked: &'static str, out: &mut Vec<u8>) -> Result<(), Fail> {
-        let (line, other) = asked.split_once(" and ").ok_or("no other line")?;
+        let (line, other) = parted(asked, " and ")?;
         let left = data_of(alloc, "x.", line)??;
         let right = data_of(alloc, "x.", other)??;
         let (ordering, is_same) = (left.cmp(&right), left == right);
-        push_text(
-            out,
-            format!(in alloc; "{ordering:?}, same {is_same}")?.as_str(),
-        )
+        push_words(alloc, out, format_args!("{ordering:?}, same {is_same}"))
     }
 }
 

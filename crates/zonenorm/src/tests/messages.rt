@@ -1,6 +1,6 @@
 //! Names in messages (RFC 1035 4.1.4).
 use crate::tests::notation::octets_of;
-use crate::tests::{Question, check_lines, push_fault, push_hex, push_text};
+use crate::tests::{Question, check_lines, parted, push_fault, push_hex, push_words};
 use std::alloc::Global;
 use std::test::Fail;
 use zone_wire::name_at;
@@ -20,14 +20,11 @@ fn push_found(alloc: Global, out: &mut Vec<u8>, message: &[u8], offset: usize) -
         Ok(decoded) => {
             push_hex(alloc, out, decoded.name.wire())?;
             let (end, steps) = (decoded.end, decoded.steps);
-            push_text(
-                out,
-                format!(in alloc; " up to {end} in {steps} steps")?.as_str(),
-            )
+            push_words(alloc, out, format_args!(" up to {end} in {steps} steps"))
         }
         Err((fault, made)) => {
             push_fault(alloc, out, &fault)?;
-            push_text(out, format!(in alloc; " after {made} steps")?.as_str())
+            push_words(alloc, out, format_args!(" after {made} steps"))
         }
     }
 }
@@ -37,8 +34,8 @@ struct InMessage;
 
 impl Question for InMessage {
     fn answer(alloc: Global, asked: &'static str, out: &mut Vec<u8>) -> Result<(), Fail> {
-        let (_, asked) = asked.split_once(": ").ok_or("no offset")?;
-        let (offset, digits) = asked.split_once(' ').ok_or("no message")?;
+        let (_, asked) = parted(asked, ": ")?;
+        let (offset, digits) = parted(asked, " ")?;
         push_found(
             alloc,
             out,

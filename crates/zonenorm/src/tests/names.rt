@@ -1,5 +1,7 @@
 //! Names: read from text, built, compared and printed (RFC 1035, RFC 4034, RFC 4343).
-use crate::tests::{Question, check, check_lines, check_table, push_hex, push_text};
+use crate::tests::{
+    Question, check, check_lines, check_table, parted, push_hex, push_text, push_words, rooted,
+};
 use std::alloc::Global;
 use std::cmp::Ordering;
 use std::test::Fail;
@@ -38,13 +40,13 @@ struct Spelled;
 
 impl Question for Spelled {
     fn answer(alloc: Global, asked: &'static str, out: &mut Vec<u8>) -> Result<(), Fail> {
-        let (text, origin) = asked.split_once(" under ").ok_or("no origin")?;
+        let (text, origin) = parted(asked, " under ")?;
         let name = named(text.as_bytes(), origin.as_bytes())?;
-        let mut other = Name::from_text(b"another.name.", None)?;
+        let mut other = rooted(b"another.name.")?;
         set(&mut other, text.as_bytes(), origin.as_bytes())?;
         check(are_its(&name, &other), "the octets are those of the name")?;
         push_hex(alloc, out, name.wire())?;
-        out.push(b' ')?;
+        push_text(out, " ")?;
         Ok(name.push_text(out)?)
     }
 }
@@ -54,11 +56,11 @@ struct Lent;
 
 impl Question for Lent {
     fn answer(alloc: Global, asked: &'static str, out: &mut Vec<u8>) -> Result<(), Fail> {
-        let (text, origin) = asked.split_once(" under ").ok_or("no origin")?;
+        let (text, origin) = parted(asked, " under ")?;
         let name = named(text.as_bytes(), origin.as_bytes())?;
         let (lent, _) = NameRef::split_front(name.wire());
         push_hex(alloc, out, lent.wire())?;
-        out.push(b' ')?;
+        push_text(out, " ")?;
         Ok(lent.print(out)?)
     }
 }
@@ -81,18 +83,18 @@ struct Unspelled;
 
 impl Question for Unspelled {
     fn answer(alloc: Global, asked: &'static str, out: &mut Vec<u8>) -> Result<(), Fail> {
-        let (text, origin) = asked.split_once(" under ").ok_or("no origin")?;
+        let (text, origin) = parted(asked, " under ")?;
         let fault = named(text.as_bytes(), origin.as_bytes())
             .err()
             .ok_or("a name")?;
-        let mut other = Name::from_text(b"another.name.", None)?;
+        let mut other = rooted(b"another.name.")?;
         let refusal = set(&mut other, text.as_bytes(), origin.as_bytes()).err();
         check(
             refusal == Some(fault),
             "both calls refuse the text for one fault",
         )?;
         check(other == Name::root(), "a name that isn't set is the root")?;
-        push_text(out, format!(in alloc; "{fault:?}: {fault}.\n")?.as_str())
+        push_words(alloc, out, format_args!("{fault:?}: {fault}.\n"))
     }
 }
 
@@ -137,19 +139,14 @@ fn escapes_stand_for_octets(rt: HostRuntime) -> Result<(), Fail> {
     check(are_escapes, "both escapes are full stops")
 }
 
-/// Appends yes or no.
-fn push_truth(alloc: Global, out: &mut Vec<u8>, is_so: bool) -> Result<(), Fail> {
-    push_text(out, format!(in alloc; "{is_so}")?.as_str())
-}
-
 /// Whether a name is within the zone of an apex.
 struct Within;
 
 impl Question for Within {
     fn answer(alloc: Global, asked: &'static str, out: &mut Vec<u8>) -> Result<(), Fail> {
-        let (text, apex) = asked.split_once(" in ").ok_or("no apex")?;
+        let (text, apex) = parted(asked, " in ")?;
         let (name, apex) = (named(text.as_bytes(), b"")?, named(apex.as_bytes(), b"")?);
-        push_truth(alloc, out, name.is_within(&apex))
+        push_words(alloc, out, name.is_within(&apex))
     }
 }
 
@@ -168,11 +165,11 @@ struct Same;
 
 impl Question for Same {
     fn answer(alloc: Global, asked: &'static str, out: &mut Vec<u8>) -> Result<(), Fail> {
-        let (text, other) = asked.split_once(" and ").ok_or("no other")?;
+        let (text, other) = parted(asked, " and ")?;
         let (name, other) = (named(text.as_bytes(), b"")?, named(other.as_bytes(), b"")?);
         let (name, _) = NameRef::split_front(name.wire());
         let (other, _) = NameRef::split_front(other.wire());
-        push_truth(alloc, out, name.is_same(&other))
+        push_words(alloc, out, name.is_same(&other))
     }
 }
 
@@ -256,7 +253,7 @@ struct Built;
 
 impl Question for Built {
     fn answer(alloc: Global, asked: &'static str, out: &mut Vec<u8>) -> Result<(), Fail> {
-        let (labels, refused) = asked.split_once(" and ").ok_or("no label")?;
+        let (labels, refused) = parted(asked, " and ")?;
         let mut builder = builder_of(labels)?;
         let fault = builder.push_label(refused.as_bytes()).err().ok_or("taken")?;
         let name = builder.finish();
@@ -268,7 +265,7 @@ impl Question for Built {
             Name::from_front(name.wire()) == name,
             "the octets give the name",
         )?;
-        push_text(out, format!(in alloc; "{fault:?}, ")?.as_str())?;
+        push_words(alloc, out, format_args!("{fault:?}, "))?;
         push_hex(alloc, out, name.wire())
     }
 }

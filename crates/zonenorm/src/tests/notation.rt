@@ -6,6 +6,7 @@
 //! `n@12` is the label `n` and a pointer to offset 12 (RFC 1035 4.1.4), `#` begins octets in
 //! hexadecimal digits, and a number in data has 32 bits in an SOA and 16 bits elsewhere. The
 //! lengths of messages (RFC 1035 4.2.2), labels and data are counted here.
+use crate::tests::parted;
 use std::alloc::Global;
 use std::test::Fail;
 
@@ -141,7 +142,7 @@ fn push_field(out: &mut Vec<u8>, word: &str, is_wide: bool) -> Result<(), Fail> 
 
 /// Appends a question.
 fn push_question(message: &mut Vec<u8>, words: &str) -> Result<(), Fail> {
-    let (name, codes) = words.split_once(' ').ok_or("no type")?;
+    let (name, codes) = parted(words, " ")?;
     push_field(message, name, false)?;
     for word in codes.split(' ') {
         push_number(message, code_of(word)?)?;

@@ -1,6 +1,6 @@
 //! Command lines.
 use crate::order::{LineFault, Order, order_of};
-use crate::tests::{Question, check_lines, push_text};
+use crate::tests::{Question, check_lines, push_text, push_words};
 use std::alloc::{AllocError, Global};
 use std::test::Fail;
 use zone_name::Name;
@@ -55,7 +55,7 @@ fn push_order(out: &mut Vec<u8>, order: &Order) -> Result<(), Fail> {
 /// Appends the status and the text of a fault. What `clap` tells is any text.
 fn push_refusal(alloc: Global, out: &mut Vec<u8>, fault: &LineFault) -> Result<(), Fail> {
     let status = fault.status();
-    push_text(out, format!(in alloc; "{status} ")?.as_str())?;
+    push_words(alloc, out, format_args!("{status} "))?;
     match fault {
         LineFault::Clap(text) if !text.is_empty() => push_text(out, "clap"),
         _ => push_text(out, fault.text()),

@@ -1,6 +1,6 @@
 //! Whole messages (RFC 1035 4.1).
 use crate::tests::notation::message_of;
-use crate::tests::{Question, check_lines, push_fault, push_hex, push_text};
+use crate::tests::{Question, check_lines, parted, push_fault, push_hex, push_text, push_words};
 use std::alloc::Global;
 use std::test::Fail;
 use zone_wire::Message;
@@ -11,7 +11,7 @@ fn push_asked(alloc: Global, out: &mut Vec<u8>, message: &Message) -> Result<(),
         Some(question) => {
             push_hex(alloc, out, question.name.wire())?;
             let (kind, class) = (question.kind, question.class);
-            push_text(out, format!(in alloc; " {kind} {class}")?.as_str())
+            push_words(alloc, out, format_args!(" {kind} {class}"))
         }
         None => push_text(out, "none"),
     }
@@ -20,12 +20,12 @@ fn push_asked(alloc: Global, out: &mut Vec<u8>, message: &Message) -> Result<(),
 /// Appends what a message has: its ID, what it asks for, and where its answers begin.
 fn push_message(alloc: Global, out: &mut Vec<u8>, message: &Message) -> Result<(), Fail> {
     let id = message.id();
-    push_text(out, format!(in alloc; "{id} asks ")?.as_str())?;
+    push_words(alloc, out, format_args!("{id} asks "))?;
     push_asked(alloc, out, message)?;
     push_text(out, ", answers at")?;
     for answer in message.answers() {
         let offset = answer.offset();
-        push_text(out, format!(in alloc; " {offset}")?.as_str())?;
+        push_words(alloc, out, format_args!(" {offset}"))?;
     }
     Ok(())
 }
@@ -35,12 +35,12 @@ struct Parsed;
 
 impl Question for Parsed {
     fn answer(alloc: Global, asked: &'static str, out: &mut Vec<u8>) -> Result<(), Fail> {
-        let (_, line) = asked.split_once(": ").ok_or("no message")?;
+        let (_, line) = parted(asked, ": ")?;
         match Message::parse(&message_of(alloc, line)?) {
             Ok(message) => push_message(alloc, out, &message),
             Err((fault, at)) => {
                 push_fault(alloc, out, &fault)?;
-                push_text(out, format!(in alloc; " at {at}")?.as_str())
+                push_words(alloc, out, format_args!(" at {at}"))
             }
         }
     }

@@ -92,7 +92,11 @@ impl<'r> Taken<'r> {
 
     /// Passes over the record that a source lends, if it is the next.
     fn pass_over<S: Fed>(&mut self, source: &mut S) {
-        if source.first().is_some_and(|lent| self.is_next(&lent)) {
+        let is_next = match source.first() {
+            Some(lent) => self.is_next(&lent),
+            None => false,
+        };
+        if is_next {
             source.skip();
             self.count = self.count.wrapping_add(1);
         }

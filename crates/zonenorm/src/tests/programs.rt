@@ -9,7 +9,7 @@ use crate::tests::notation::stream_of;
 use crate::tests::orders::ordered;
 use crate::tests::runs::{push_run, ran};
 use crate::tests::vectors::file_of;
-use crate::tests::{Question, check_table};
+use crate::tests::{Question, check_table, parted};
 use std::alloc::Global;
 use std::io::ErrorKind;
 use std::test::Fail;
@@ -30,7 +30,7 @@ impl Supplied {
 
 /// What an input gives.
 fn given(alloc: Global, input: &'static str) -> Result<Supplied, Fail> {
-    let (kind, text) = input.split_once('\n').ok_or("no input")?;
+    let (kind, text) = parted(input, "\n")?;
     let octets = if kind.contains("transfer") {
         stream_of(alloc, text)?
     } else {
@@ -62,14 +62,9 @@ struct Program;
 
 impl Question for Program {
     fn answer(alloc: Global, asked: &'static str, out: &mut Vec<u8>) -> Result<(), Fail> {
-        let (_, rest) = asked.split_once('\n').ok_or("no words")?;
-        let (words, inputs) = rest.split_once('\n').ok_or("no inputs")?;
-        push_ran(
-            alloc,
-            out,
-            words,
-            inputs.split_once("--\n").ok_or("one input")?,
-        )
+        let (_, rest) = parted(asked, "\n")?;
+        let (words, inputs) = parted(rest, "\n")?;
+        push_ran(alloc, out, words, parted(inputs, "--\n")?)
     }
 }
 

@@ -1,14 +1,14 @@
 //! Records as they are read, by their canonical lines.
-use crate::tests::{check, push_hex, push_stop, push_text};
+use crate::tests::{check, push_hex, push_stop, push_text, push_words};
 use std::alloc::Global;
 use std::test::Fail;
 use zone_rdata::{Place, Placed, Reading, Rr, Stop};
 
 /// Appends TTL and class of a record, with a blank before and after each.
 fn push_ttl_and_class(alloc: Global, rr: &Rr, line: &mut Vec<u8>) -> Result<(), Fail> {
-    line.extend_from_slice(format!(in alloc; " {} ", rr.ttl())?.as_bytes())?;
+    push_words(alloc, line, format_args!(" {} ", rr.ttl()))?;
     rr.class().push_word(line)?;
-    Ok(line.push(b' ')?)
+    push_text(line, " ")
 }
 
 /// The canonical line of a record, without its line feed.
@@ -17,7 +17,7 @@ pub(super) fn line_of(alloc: Global, rr: &Rr) -> Result<Vec<u8>, Fail> {
     rr.owner().push_text(&mut line)?;
     push_ttl_and_class(alloc, rr, &mut line)?;
     rr.kind().push_word(rr.class(), &mut line)?;
-    line.push(b' ')?;
+    push_text(&mut line, " ")?;
     rr.rdata().push_text(&mut line)?;
     Ok(line)
 }
@@ -26,7 +26,7 @@ pub(super) fn line_of(alloc: Global, rr: &Rr) -> Result<Vec<u8>, Fail> {
 /// data is 65464 octets 0.
 pub(super) fn zeros_line(alloc: Global) -> Result<Vec<u8>, Fail> {
     let mut line = Vec::new(alloc);
-    line.extend_from_slice(b"x. 3600 IN TYPE731 \\# 65464 ")?;
+    push_text(&mut line, "x. 3600 IN TYPE731 \\# 65464 ")?;
     line.resize(130_956, b'0')?;
     Ok(line)
 }
@@ -46,23 +46,20 @@ fn push_line(alloc: Global, out: &mut Vec<u8>, rr: &Rr) -> Result<(), Fail> {
 pub(super) fn push_numbers(alloc: Global, out: &mut Vec<u8>, rr: &Rr) -> Result<(), Fail> {
     push_hex(alloc, out, rr.owner().wire())?;
     let (ttl, class, kind) = (rr.ttl(), rr.class().number(), rr.kind().number());
-    push_text(
-        out,
-        format!(in alloc; " {ttl} CLASS{class} TYPE{kind} ")?.as_str(),
-    )?;
+    push_words(alloc, out, format_args!(" {ttl} CLASS{class} TYPE{kind} "))?;
     push_hex(alloc, out, rr.rdata().octets())
 }
 
 /// Appends a place, with a blank before it.
 pub(super) fn push_place(alloc: Global, out: &mut Vec<u8>, place: Place) -> Result<(), Fail> {
-    let words = match place {
-        Place::Line(line) => format!(in alloc; " at line {line}")?,
+    match place {
+        Place::Line(line) => push_words(alloc, out, format_args!(" at line {line}")),
         Place::Message(number, offset) => {
-            format!(in alloc; " at message {number} offset {offset}")?
+            let words = format_args!(" at message {number} offset {offset}");
+            push_words(alloc, out, words)
         }
-        Place::Whole => format!(in alloc; " in the input")?,
-    };
-    push_text(out, words.as_str())
+        Place::Whole => push_text(out, " in the input"),
+    }
 }
 
 /// Appends a record's canonical line and its place.
@@ -75,7 +72,7 @@ pub(super) fn push_placed(alloc: Global, out: &mut Vec<u8>, placed: &Placed) -> 
 fn push_ending(alloc: Global, out: &mut Vec<u8>, reading: &Reading) -> Result<(), Fail> {
     if let Some((fault, place)) = &reading.ending {
         push_stop(alloc, out, &Stop::Refused(fault.copy(), *place))?;
-        out.push(b'\n')?;
+        push_text(out, "\n")?;
     }
     Ok(())
 }
@@ -86,10 +83,10 @@ pub(super) fn push_reading(
     out: &mut Vec<u8>,
     reading: &Reading,
 ) -> Result<(), Fail> {
-    out.push(b'\n')?;
+    push_text(out, "\n")?;
     for placed in reading.placed.iter() {
         push_placed(alloc, out, placed)?;
-        out.push(b'\n')?;
+        push_text(out, "\n")?;
     }
     push_ending(alloc, out, reading)
 }

@@ -1,10 +1,9 @@
 //! Records, and a source of them.
 use crate::tests::items::data_of;
 use crate::tests::zones::reading_of;
-use crate::tests::{Case, check, check_rows};
+use crate::tests::{Case, check, check_rows, rooted};
 use std::alloc::Global;
 use std::test::Fail;
-use zone_name::Name;
 use zone_rdata::{Fault, LendingSource, PendingRecords, Place, Placed, Rr, RrSource, Stop};
 
 /// A TTL, and whether a record may have it.
@@ -28,7 +27,7 @@ fn is_server(rr: Rr, ttl: u32) -> bool {
 
 impl Case for Ttl {
     fn is_right(&self, alloc: Global) -> Result<bool, Fail> {
-        let owner = Name::from_text(b"example.", None)?;
+        let owner = rooted(b"example.")?;
         let data = data_of(alloc, "x.", "IN NS b.")??;
         Ok(match Rr::new(owner, self.0, data) {
             Ok(rr) => self.1 && is_server(rr, self.0),
@@ -68,12 +67,15 @@ struct Lent(&'static [u8], u32, &'static [u8], u64);
 impl Lent {
     /// Whether a source lends this record first.
     fn is_first<S: LendingSource>(&self, source: &S) -> bool {
-        source.first().is_some_and(|lent| {
-            lent.rr.owner.wire() == self.0
-                && lent.rr.ttl == self.1
-                && lent.rr.rdata.octets() == self.2
-                && lent.place == Place::Line(self.3)
-        })
+        match source.first() {
+            Some(lent) => {
+                lent.rr.owner.wire() == self.0
+                    && lent.rr.ttl == self.1
+                    && lent.rr.rdata.octets() == self.2
+                    && lent.place == Place::Line(self.3)
+            }
+            None => false,
+        }
     }
 }
 
@@ -98,7 +100,7 @@ fn a_reading_lends_its_records(rt: HostRuntime) -> Result<(), Fail> {
 
 /// A queue with the servers of `example.` of the TTLs 1 to 4, and the fault of a TTL after them.
 fn queue_of_four(alloc: Global) -> Result<PendingRecords, Fail> {
-    let owner = Name::from_text(b"example.", None)?;
+    let owner = rooted(b"example.")?;
     let mut pending = PendingRecords::new(alloc);
     for ttl in 1..5 {
         let data = data_of(alloc, "x.", "IN NS b.")??;

@@ -6,7 +6,9 @@ use crate::order::Order;
 use crate::run::run;
 use crate::tests::devices::{BROKEN, Supply};
 use crate::tests::vectors::{check_inputs, input_of};
-use crate::tests::{Question, check, had_memory, push_answer, push_text, roomy};
+use crate::tests::{
+    Question, check, had_memory, push_answer, push_text, push_words, roomy, rooted,
+};
 use crate::{Verdict, compare, explain, normalise, normalise_bytes};
 use std::alloc::Global;
 use std::io::Read;
@@ -19,9 +21,7 @@ struct OfOctets;
 
 impl Question for OfOctets {
     fn answer(alloc: Global, asked: &'static str, out: &mut Vec<u8>) -> Result<(), Fail> {
-        let input = input_of(alloc, asked)?;
-        let form = Form::with_origin(&input.origin);
-        push_answer(alloc, out, normalise_bytes(alloc, form, &input.octets))
+        push_answer(alloc, out, input_of(alloc, asked)?.answered(alloc))
     }
 }
 
@@ -85,7 +85,7 @@ impl Run {
 /// Appends the status of a run, its output, and the line that it tells.
 pub(super) fn push_run(alloc: Global, out: &mut Vec<u8>, ran: &Run) -> Result<(), Fail> {
     let status = ran.status;
-    push_text(out, format!(in alloc; " {status}\n")?.as_str())?;
+    push_words(alloc, out, format_args!(" {status}\n"))?;
     out.extend_from_slice(&ran.output)?;
     push_text(out, "--\n")?;
     Ok(out.extend_from_slice(&ran.told)?)
@@ -147,7 +147,7 @@ struct Runs;
 impl Question for Runs {
     fn answer(alloc: Global, asked: &'static str, out: &mut Vec<u8>) -> Result<(), Fail> {
         let input = input_of(alloc, asked)?;
-        let answered = normalise_bytes(alloc, Form::with_origin(&input.origin), &input.octets);
+        let answered = input.answered(alloc);
         let mut reader = input.octets.as_slice();
         let mut singly = Supply::singly(&input.octets, None);
         let at_once = is_run(alloc, &input.origin, &answered, &mut reader)?;
@@ -191,8 +191,7 @@ impl Question for BrokenRuns {
     fn answer(alloc: Global, asked: &'static str, out: &mut Vec<u8>) -> Result<(), Fail> {
         let input = input_of(alloc, asked)?;
         check_broken(alloc, &input.origin, &input.octets)?;
-        let form = Form::with_origin(&input.origin);
-        push_answer(alloc, out, normalise_bytes(alloc, form, &input.octets))
+        push_answer(alloc, out, input.answered(alloc))
     }
 }
 
@@ -209,7 +208,7 @@ fn is_kept_under(
     octets: &[u8],
     text: &[u8],
 ) -> Result<bool, Fail> {
-    let origin = Name::from_text(origin, None)?;
+    let origin = rooted(origin)?;
     let again = normalise_bytes(alloc, Form::File(&origin), text)?;
     let (mut first, mut second) = (octets, text);
     match compare(alloc, form, &mut first, Form::File(&origin), &mut second) {
@@ -233,10 +232,9 @@ struct ReadBack;
 impl Question for ReadBack {
     fn answer(alloc: Global, asked: &'static str, out: &mut Vec<u8>) -> Result<(), Fail> {
         let input = input_of(alloc, asked)?;
-        let form = Form::with_origin(&input.origin);
-        let answered = normalise_bytes(alloc, form, &input.octets);
+        let answered = input.answered(alloc);
         if let Ok(text) = &answered {
-            check_kept(alloc, form, &input.octets, text)?;
+            check_kept(alloc, Form::with_origin(&input.origin), &input.octets, text)?;
         }
         push_answer(alloc, out, answered)
     }
@@ -256,8 +254,14 @@ fn is_explanation(
 ) -> Result<bool, Fail> {
     match answered {
         Ok(text) => {
-            let accepted = format!(in alloc; "accepted, records: {}\n", line_count(text))?;
-            Ok(status == 0 && line == accepted.as_bytes())
+            let mut accepted = roomy(alloc)?;
+            let count = line_count(text);
+            push_words(
+                alloc,
+                &mut accepted,
+                format_args!("accepted, records: {count}\n"),
+            )?;
+            Ok(status == 0 && line == accepted.as_slice())
         }
         Err(stop) => {
             let refusal = refusal_line(alloc, stop)?;
@@ -273,7 +277,7 @@ impl Question for Explained {
     fn answer(alloc: Global, asked: &'static str, out: &mut Vec<u8>) -> Result<(), Fail> {
         let input = input_of(alloc, asked)?;
         let form = Form::with_origin(&input.origin);
-        let answered = normalise_bytes(alloc, form, &input.octets);
+        let answered = input.answered(alloc);
         let (mut reader, mut told) = (input.octets.as_slice(), roomy(alloc)?);
         let status = explain(alloc, form, &mut reader, &mut told)?;
         let is_explanation = is_explanation(alloc, &answered, status, &told)?;

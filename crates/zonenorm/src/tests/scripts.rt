@@ -7,10 +7,9 @@
 use crate::tests::notation::{message_of, octets_of, stream_of};
 use crate::tests::pieces::Fed;
 use crate::tests::readings::push_placed;
-use crate::tests::{push_stop, push_text, roomy};
+use crate::tests::{parted, push_stop, push_text, push_words, roomy, rooted};
 use std::alloc::Global;
 use std::test::Fail;
-use zone_name::Name;
 
 /// A message of 65535 octets in its frame, up to the octets of its last record's data, which are
 /// 65464.
@@ -68,12 +67,11 @@ fn push_state<S: Fed>(
     call: &str,
 ) -> Result<(), Fail> {
     let (kept, fed, is_finished) = source.state();
-    let words = match call {
-        "kept" => format!(in alloc; "{kept}")?,
-        "fed" => format!(in alloc; "{fed}")?,
-        _ => format!(in alloc; "{is_finished}")?,
-    };
-    push_text(out, words.as_str())
+    match call {
+        "kept" => push_words(alloc, out, kept),
+        "fed" => push_words(alloc, out, fed),
+        _ => push_words(alloc, out, is_finished),
+    }
 }
 
 /// Makes a call of a source, and appends the answer that it has.
@@ -108,9 +106,9 @@ fn check_call<S: Fed>(alloc: Global, source: &mut S, line: &'static str) -> Resu
 ///
 /// The first call that is answered otherwise.
 fn check_script<S: Fed>(alloc: Global, script: &'static str) -> Result<(), Fail> {
-    let (head, calls) = script.split_once('\n').ok_or(script)?;
-    let (_, origin) = head.split_once(' ').ok_or("no origin")?;
-    let mut source = S::begin(alloc, &Name::from_text(origin.as_bytes(), None)?);
+    let (head, calls) = parted(script, "\n")?;
+    let (_, origin) = parted(head, " ")?;
+    let mut source = S::begin(alloc, &rooted(origin.as_bytes())?);
     for line in calls.split('\n') {
         if !line.is_empty() {
             check_call(alloc, &mut source, line)?;

@@ -1,11 +1,14 @@
 //! Test vectors of whole inputs: rows of which the answer is the canonical text from the line after
 //! `=>` on, or on that line what explains the refusal.
+use crate::form::Form;
+use crate::normalise_bytes;
 use crate::tests::notation::stream_of;
 use crate::tests::streams::STREAMS;
-use crate::tests::{Question, check_table};
+use crate::tests::{Question, check_table, parted, rooted};
 use std::alloc::{AllocError, Global};
 use std::test::Fail;
 use zone_name::Name;
+use zone_rdata::Stop;
 
 mod data;
 mod directives;
@@ -26,6 +29,13 @@ pub(super) struct Input {
     pub(super) octets: Vec<u8>,
 }
 
+impl Input {
+    /// What `normalise_bytes` answers.
+    pub(super) fn answered(&self, alloc: Global) -> Result<Vec<u8>, Stop> {
+        normalise_bytes(alloc, Form::with_origin(&self.origin), &self.octets)
+    }
+}
+
 /// The octets of a text.
 pub(super) fn file_of(alloc: Global, text: &str) -> Result<Vec<u8>, AllocError> {
     let mut octets = Vec::new(alloc);
@@ -36,10 +46,10 @@ pub(super) fn file_of(alloc: Global, text: &str) -> Result<Vec<u8>, AllocError> 
 /// The input of a row, which has a name and the origin of a file on its first line, and then the
 /// file, or the stream in notation.
 pub(super) fn input_of(alloc: Global, asked: &'static str) -> Result<Input, Fail> {
-    let (head, text) = asked.split_once('\n').ok_or("no input")?;
+    let (head, text) = parted(asked, "\n")?;
     match head.split_once(' ') {
         Some((_, origin)) => Ok(Input {
-            origin: Some(Name::from_text(origin.as_bytes(), None)?),
+            origin: Some(rooted(origin.as_bytes())?),
             octets: file_of(alloc, text)?,
         }),
         None => Ok(Input {

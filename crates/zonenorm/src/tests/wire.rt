@@ -1,16 +1,26 @@
 //! Uncompressed octets of data, and data that is built part by part (RFC 1035 3.3, RFC 3597 4).
 use crate::tests::notation::octets_of;
-use crate::tests::{Question, check, check_lines, judged, push_fault, push_hex, push_text};
+use crate::tests::{
+    Question, check, check_lines, judged, parted, push_fault, push_hex, push_text, push_words,
+    rooted,
+};
 use std::alloc::Global;
 use std::test::Fail;
-use zone_name::Name;
 use zone_rdata::{Class, Fault, Kind, Rdata, RdataBuilder};
 
 /// What octets of a type and class IN are read as: the data's octets and MINIMUM, or the fault.
 struct Wired;
 
-fn data_of(alloc: Global, kind: u64, octets: &[u8]) -> Result<Result<Rdata, Fault>, Fail> {
-    let (class, kind) = (Class::from_number(1)?, Kind::from_number(kind)?);
+/// Class IN, and the type of a number.
+pub(super) fn in_class_in(number: &str) -> Result<(Class, Kind), Fail> {
+    Ok((
+        Class::from_number(1)?,
+        Kind::from_number(number.parse::<u64>()?)?,
+    ))
+}
+
+fn data_of(alloc: Global, kind: &str, octets: &[u8]) -> Result<Result<Rdata, Fault>, Fail> {
+    let (class, kind) = in_class_in(kind)?;
     judged(Rdata::from_wire(alloc, class, kind, octets))
 }
 
@@ -18,13 +28,13 @@ fn data_of(alloc: Global, kind: u64, octets: &[u8]) -> Result<Result<Rdata, Faul
 fn push_read(alloc: Global, out: &mut Vec<u8>, data: &Rdata) -> Result<(), Fail> {
     push_hex(alloc, out, data.octets())?;
     let minimum = data.soa_minimum();
-    push_text(out, format!(in alloc; ", minimum {minimum:?}")?.as_str())
+    push_words(alloc, out, format_args!(", minimum {minimum:?}"))
 }
 
 impl Question for Wired {
     fn answer(alloc: Global, asked: &'static str, out: &mut Vec<u8>) -> Result<(), Fail> {
-        let (kind, digits) = asked.split_once(' ').ok_or("no type")?;
-        match data_of(alloc, kind.parse::<u64>()?, &octets_of(alloc, digits)?)? {
+        let (kind, digits) = parted(asked, " ")?;
+        match data_of(alloc, kind, &octets_of(alloc, digits)?)? {
             Ok(data) => push_read(alloc, out, &data),
             Err(fault) => push_fault(alloc, out, &fault),
         }
@@ -50,7 +60,7 @@ fn data_of_octets(rt: HostRuntime) -> Result<(), Fail> {
 fn data_of_too_many_octets(rt: HostRuntime) -> Result<(), Fail> {
     let mut zeros = Vec::new(rt.alloc());
     zeros.resize(65536, 0)?;
-    let answer = data_of(rt.alloc(), 731, &zeros)?;
+    let answer = data_of(rt.alloc(), "731", &zeros)?;
     check(
         matches!(answer, Err(Fault::RdataTooLong)),
         "the fault is RdataTooLong",
@@ -63,9 +73,9 @@ fn pushed(
     builder: &mut RdataBuilder,
     part: &str,
 ) -> Result<Result<(), Fault>, Fail> {
-    let (word, value) = part.split_once(' ').ok_or("no part")?;
+    let (word, value) = parted(part, " ")?;
     judged(match word {
-        "name" => builder.push_name(&Name::from_text(value.as_bytes(), None)?),
+        "name" => builder.push_name(&rooted(value.as_bytes())?),
         "u16" => builder.push_u16(value.parse::<u16>()?),
         "u32" => builder.push_u32(value.parse::<u32>()?),
         "octets" => builder.push_octets(&octets_of(alloc, value)?),
@@ -93,10 +103,10 @@ fn push_parts(
 }
 
 /// A builder of data of this type and class IN, in a buffer that was used before.
-fn builder_of(alloc: Global, kind: u64) -> Result<RdataBuilder, Fail> {
-    let (class, kind) = (Class::from_number(1)?, Kind::from_number(kind)?);
+fn builder_of(alloc: Global, kind: &str) -> Result<RdataBuilder, Fail> {
+    let (class, kind) = in_class_in(kind)?;
     let mut buffer = Vec::new(alloc);
-    buffer.extend_from_slice(b"octets of before")?;
+    push_text(&mut buffer, "octets of before")?;
     Ok(RdataBuilder::in_buffer(buffer, class, kind))
 }
 
@@ -106,8 +116,8 @@ struct Built;
 
 impl Question for Built {
     fn answer(alloc: Global, asked: &'static str, out: &mut Vec<u8>) -> Result<(), Fail> {
-        let (kind, parts) = asked.split_once(": ").ok_or("no type")?;
-        let mut builder = builder_of(alloc, kind.parse::<u64>()?)?;
+        let (kind, parts) = parted(asked, ": ")?;
+        let mut builder = builder_of(alloc, kind)?;
         push_parts(alloc, &mut builder, parts, out)?;
         match builder.finish() {
             Ok(data) => push_hex(alloc, out, data.octets()),

@@ -1,5 +1,8 @@
 //! Words and numbers of classes and types, times, and layouts (RFC 1035 3.2, RFC 3597 5).
-use crate::tests::{Case, Question, check_lines, check_rows, push_fault, push_text};
+use crate::tests::wire::in_class_in;
+use crate::tests::{
+    Case, Question, check_lines, check_rows, parted, push_fault, push_text, push_words,
+};
 use std::alloc::Global;
 use std::test::Fail;
 use zone_rdata::{Class, Fault, Field, Kind, layout_of, seconds_of};
@@ -17,7 +20,7 @@ fn class_of(asked: &str) -> Result<Option<Class>, Fault> {
 /// Appends the number and the word of a class.
 fn push_class(alloc: Global, out: &mut Vec<u8>, class: Class) -> Result<(), Fail> {
     let number = class.number();
-    push_text(out, format!(in alloc; "{number} ")?.as_str())?;
+    push_words(alloc, out, format_args!("{number} "))?;
     Ok(class.push_word(out)?)
 }
 
@@ -57,14 +60,14 @@ fn kind_of(asked: &str) -> Result<Kind, Fault> {
 /// Appends the number of a type, its word in a class, and whether it is that of an SOA.
 fn push_kind(alloc: Global, out: &mut Vec<u8>, kind: Kind, class: Class) -> Result<(), Fail> {
     let (number, is_soa) = (kind.number(), kind.is_soa());
-    push_text(out, format!(in alloc; "{number} ")?.as_str())?;
+    push_words(alloc, out, format_args!("{number} "))?;
     kind.push_word(class, out)?;
-    push_text(out, format!(in alloc; ", SOA {is_soa}")?.as_str())
+    push_words(alloc, out, format_args!(", SOA {is_soa}"))
 }
 
 impl Question for ReadKind {
     fn answer(alloc: Global, asked: &'static str, out: &mut Vec<u8>) -> Result<(), Fail> {
-        let (asked, class) = asked.split_once(" in ").ok_or("no class")?;
+        let (asked, class) = parted(asked, " in ")?;
         let class = Class::from_number(class.parse::<u64>()?)?;
         match kind_of(asked) {
             Ok(kind) => push_kind(alloc, out, kind, class),
@@ -102,7 +105,7 @@ struct Time;
 impl Question for Time {
     fn answer(alloc: Global, asked: &'static str, out: &mut Vec<u8>) -> Result<(), Fail> {
         let seconds = seconds_of(asked.as_bytes());
-        push_text(out, format!(in alloc; "{seconds:?}")?.as_str())
+        push_words(alloc, out, format_args!("{seconds:?}"))
     }
 }
 
@@ -123,8 +126,9 @@ struct SoaField(usize, Option<Field>);
 
 impl Case for SoaField {
     fn is_right(&self, _alloc: Global) -> Result<bool, Fail> {
-        let layout = layout_of(Class::from_number(1)?, Kind::from_number(6)?);
-        Ok(layout.ok_or("no layout")?.field(self.0) == self.1)
+        let (class, kind) = in_class_in("6")?;
+        let layout = layout_of(class, kind).ok_or("no layout")?;
+        Ok(layout.field(self.0) == self.1)
     }
 }
 

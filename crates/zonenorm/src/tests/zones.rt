@@ -1,9 +1,10 @@
 //! Records that make a zone, its records in order and its text (RFC 1035 5.2, RFC 2181 5, RFC 4034
 //! 6).
-use crate::tests::{Question, check, check_table, push_hex, push_stop, push_text};
+use crate::tests::{
+    Question, check, check_table, push_hex, push_stop, push_text, push_words, rooted,
+};
 use std::alloc::Global;
 use std::test::Fail;
-use zone_name::Name;
 use zone_print::{canon_len, push_zone, text_fits, write_zone};
 use zone_rdata::{Fault, Place, Placed, Reading, Stop};
 use zone_set::{Zone, ZoneBuilder};
@@ -11,7 +12,7 @@ use zone_text::read_file;
 
 /// The records of a file under the origin `x.`.
 pub(super) fn reading_of(alloc: Global, file: &[u8]) -> Result<Reading, Fail> {
-    let origin = Name::from_text(b"x.", None)?;
+    let origin = rooted(b"x.")?;
     Ok(read_file(alloc, &origin, file)?)
 }
 
@@ -42,20 +43,23 @@ fn lent(alloc: Global, mut reading: Reading) -> Result<Zone, Stop> {
 /// messages, and the length of its text.
 fn push_head(alloc: Global, out: &mut Vec<u8>, zone: &Zone) -> Result<(), Fail> {
     let class = zone.class().number();
-    push_text(out, format!(in alloc; "\nclass {class}, apex ")?.as_str())?;
+    push_words(alloc, out, format_args!("\nclass {class}, apex "))?;
     push_hex(alloc, out, zone.apex().wire())?;
     let (count, octets, length) = (zone.len(), zone.message_len(), canon_len(zone));
-    let words = format!(in alloc; ", records {count} in {octets} octets, text of {length}\n")?;
-    push_text(out, words.as_str())
+    push_words(
+        alloc,
+        out,
+        format_args!(", records {count} in {octets} octets, text of {length}\n"),
+    )
 }
 
 /// Appends type, TTL and data of each record of a zone.
 fn push_records(alloc: Global, out: &mut Vec<u8>, zone: &Zone) -> Result<(), Fail> {
     for rr in zone.records() {
         let (kind, ttl) = (rr.kind.number(), rr.ttl);
-        push_text(out, format!(in alloc; "TYPE{kind} {ttl} ")?.as_str())?;
+        push_words(alloc, out, format_args!("TYPE{kind} {ttl} "))?;
         push_hex(alloc, out, rr.rdata.octets())?;
-        out.push(b'\n')?;
+        push_text(out, "\n")?;
     }
     Ok(())
 }
@@ -79,9 +83,9 @@ fn push_made(alloc: Global, out: &mut Vec<u8>, made: Result<Zone, Stop>) -> Resu
             push_zone_text(alloc, out, &zone)
         }
         Err(stop) => {
-            out.push(b' ')?;
+            push_text(out, " ")?;
             push_stop(alloc, out, &stop)?;
-            Ok(out.push(b'\n')?)
+            push_text(out, "\n")
         }
     }
 }
