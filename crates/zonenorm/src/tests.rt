@@ -139,7 +139,7 @@ fn push_words<D: Display + Drop>(alloc: Global, out: &mut Vec<u8>, words: D) -> 
 
 /// Appends `#` and octets in hexadecimal digits.
 fn push_hex(alloc: Global, out: &mut Vec<u8>, octets: &[u8]) -> Result<(), Fail> {
-    out.push(b'#')?;
+    push_text(out, "#")?;
     for octet in octets {
         push_words(alloc, out, format_args!("{octet:02x}"))?;
     }
@@ -206,13 +206,13 @@ fn push_answer(
 ) -> Result<(), Fail> {
     match answered {
         Ok(text) => {
-            out.push(b'\n')?;
+            push_text(out, "\n")?;
             Ok(out.extend_from_slice(&text)?)
         }
         Err(stop) => {
-            out.push(b' ')?;
+            push_text(out, " ")?;
             push_stop(alloc, out, &stop)?;
-            Ok(out.push(b'\n')?)
+            push_text(out, "\n")
         }
     }
 }

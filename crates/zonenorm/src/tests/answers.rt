@@ -1,7 +1,7 @@
 //! Records of messages (RFC 1035 4.1.3).
 use crate::tests::notation::message_of;
 use crate::tests::readings::{line_of, push_numbers};
-use crate::tests::{Question, check_lines, judged, parted, push_fault, push_hex};
+use crate::tests::{Question, check_lines, judged, parted, push_fault, push_hex, push_text};
 use std::alloc::Global;
 use std::test::Fail;
 use zone_rdata::{Fault, Rr};
@@ -88,7 +88,7 @@ impl Question for InWords {
         match record_of(alloc, &message_with(alloc, answer)?)? {
             Ok(rr) => {
                 out.extend_from_slice(&line_of(alloc, &rr)?)?;
-                out.push(b' ')?;
+                push_text(out, " ")?;
                 push_hex(alloc, out, rr.rdata().octets())
             }
             Err(fault) => push_fault(alloc, out, &fault),

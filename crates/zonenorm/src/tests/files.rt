@@ -2,7 +2,7 @@
 use crate::tests::notation::octets_of;
 use crate::tests::readings::{push_numbers, push_place, push_reading};
 use crate::tests::vectors::{file_of, input_of};
-use crate::tests::{Question, check_table, push_stop, push_words, rooted};
+use crate::tests::{Question, check_table, push_stop, push_text, push_words, rooted};
 use std::alloc::Global;
 use std::test::Fail;
 use zone_rdata::{Reading, Stop};
@@ -23,11 +23,11 @@ struct Filed;
 impl Question for Filed {
     fn answer(alloc: Global, asked: &'static str, out: &mut Vec<u8>) -> Result<(), Fail> {
         let reading = read_under_x(alloc, asked)?;
-        out.push(b'\n')?;
+        push_text(out, "\n")?;
         for placed in reading.placed.iter() {
             push_numbers(alloc, out, &placed.rr)?;
             push_place(alloc, out, placed.place)?;
-            out.push(b'\n')?;
+            push_text(out, "\n")?;
         }
         match reading.ending {
             Some(_) => Err(Fail::from("a fault")),
@@ -77,7 +77,7 @@ impl Question for Refused {
         let count = placed.len();
         push_words(alloc, out, format_args!(" {count} before "))?;
         push_stop(alloc, out, &Stop::Refused(fault, place))?;
-        Ok(out.push(b'\n')?)
+        push_text(out, "\n")
     }
 }
 

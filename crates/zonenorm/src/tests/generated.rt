@@ -2,7 +2,9 @@
 use crate::form::Form;
 use crate::input::read_zone;
 use crate::normalise_bytes;
-use crate::tests::{Case, check, check_rows, is_refused, push_stop, push_words, roomy, rooted};
+use crate::tests::{
+    Case, check, check_rows, is_refused, push_stop, push_text, push_words, roomy, rooted,
+};
 use std::alloc::Global;
 use std::io;
 use std::io::Read;
@@ -21,7 +23,7 @@ fn push_address(alloc: Global, file: &mut Vec<u8>, number: u64, rest: &str) -> R
 /// The owners from the highest number down, after the SOA.
 fn descending(alloc: Global) -> Result<Vec<u8>, Fail> {
     let mut file = Vec::new(alloc);
-    file.extend_from_slice(b"@ 60 SOA n h 1 2 3 4 5\n")?;
+    push_text(&mut file, "@ 60 SOA n h 1 2 3 4 5\n")?;
     for number in 0..OWNERS {
         push_address(alloc, &mut file, 999u64.wrapping_sub(number), " 60")?;
     }
@@ -34,7 +36,7 @@ fn ascending(alloc: Global) -> Result<Vec<u8>, Fail> {
     for number in 0..OWNERS {
         push_address(alloc, &mut file, number, " 60")?;
     }
-    file.extend_from_slice(b"@ 60 SOA n h 1 2 3 4 5\n")?;
+    push_text(&mut file, "@ 60 SOA n h 1 2 3 4 5\n")?;
     Ok(file)
 }
 
@@ -59,7 +61,7 @@ fn after(number: u64) -> u64 {
 /// The canonical text of both files.
 fn canonical(alloc: Global) -> Result<Vec<u8>, Fail> {
     let mut text = Vec::new(alloc);
-    text.extend_from_slice(b"x. 60 IN SOA n.x. h.x. 1 2 3 4 5\n")?;
+    push_text(&mut text, "x. 60 IN SOA n.x. h.x. 1 2 3 4 5\n")?;
     let mut number = 0;
     for _ in 0..OWNERS {
         push_address(alloc, &mut text, number, ".x. 60 IN")?;
@@ -93,7 +95,7 @@ fn a_thousand_owners_are_sorted(rt: HostRuntime) -> Result<(), Fail> {
 /// after the one before.
 fn addresses(alloc: Global, count: u64, lines: u64, step: u64) -> Result<Vec<u8>, Fail> {
     let mut file = Vec::new(alloc);
-    file.extend_from_slice(b"x. 60 IN SOA n.x. h.x. 1 2 3 4 5\n")?;
+    push_text(&mut file, "x. 60 IN SOA n.x. h.x. 1 2 3 4 5\n")?;
     for line in 0..lines {
         let number = line.wrapping_mul(step) % count.max(1);
         let (third, fourth) = (number / 256, number % 256);

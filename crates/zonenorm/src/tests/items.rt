@@ -1,7 +1,7 @@
 //! Record data: from a line of words to its text, its octets and its order (RFC 1035 3.3, RFC 3597,
 //! RFC 4034 6.3).
 use crate::tests::{
-    Question, check_lines, judged, parted, push_fault, push_hex, push_words, rooted,
+    Question, check_lines, judged, parted, push_fault, push_hex, push_text, push_words, rooted,
 };
 use std::alloc::Global;
 use std::test::Fail;
@@ -57,7 +57,7 @@ fn data_in_buffer(alloc: Global, origin: &str, line: &str) -> Result<Result<Rdat
     let origin = rooted(origin.as_bytes())?;
     let Words { class, kind, items } = words_of(alloc, line)?;
     let mut buffer = Vec::new(alloc);
-    buffer.extend_from_slice(b"octets of before")?;
+    push_text(&mut buffer, "octets of before")?;
     match Rdata::read_items(buffer, class, kind, &items, &origin) {
         Ok(data) => Ok(Ok(data)),
         Err(failing) => judged(Err(Failing::from(failing))),
@@ -141,7 +141,7 @@ fn data_of_lines(rt: HostRuntime) -> Result<(), Fail> {
 /// Appends the text, octets, class and MINIMUM of data, and whether it is of an SOA.
 fn push_data(alloc: Global, out: &mut Vec<u8>, data: &Rdata) -> Result<(), Fail> {
     data.push_text(out)?;
-    out.push(b' ')?;
+    push_text(out, " ")?;
     push_hex(alloc, out, data.octets())?;
     let class = data.class().number();
     let minimum = data.soa_minimum();

@@ -1,6 +1,6 @@
 //! Names: read from text, built, compared and printed (RFC 1035, RFC 4034, RFC 4343).
 use crate::tests::{
-    Question, check, check_lines, check_table, parted, push_hex, push_words, rooted,
+    Question, check, check_lines, check_table, parted, push_hex, push_text, push_words, rooted,
 };
 use std::alloc::Global;
 use std::cmp::Ordering;
@@ -46,7 +46,7 @@ impl Question for Spelled {
         set(&mut other, text.as_bytes(), origin.as_bytes())?;
         check(are_its(&name, &other), "the octets are those of the name")?;
         push_hex(alloc, out, name.wire())?;
-        out.push(b' ')?;
+        push_text(out, " ")?;
         Ok(name.push_text(out)?)
     }
 }
@@ -60,7 +60,7 @@ impl Question for Lent {
         let name = named(text.as_bytes(), origin.as_bytes())?;
         let (lent, _) = NameRef::split_front(name.wire());
         push_hex(alloc, out, lent.wire())?;
-        out.push(b' ')?;
+        push_text(out, " ")?;
         Ok(lent.print(out)?)
     }
 }

@@ -8,7 +8,7 @@ use zone_rdata::{Place, Placed, Reading, Rr, Stop};
 fn push_ttl_and_class(alloc: Global, rr: &Rr, line: &mut Vec<u8>) -> Result<(), Fail> {
     push_words(alloc, line, format_args!(" {} ", rr.ttl()))?;
     rr.class().push_word(line)?;
-    Ok(line.push(b' ')?)
+    push_text(line, " ")
 }
 
 /// The canonical line of a record, without its line feed.
@@ -17,7 +17,7 @@ pub(super) fn line_of(alloc: Global, rr: &Rr) -> Result<Vec<u8>, Fail> {
     rr.owner().push_text(&mut line)?;
     push_ttl_and_class(alloc, rr, &mut line)?;
     rr.kind().push_word(rr.class(), &mut line)?;
-    line.push(b' ')?;
+    push_text(&mut line, " ")?;
     rr.rdata().push_text(&mut line)?;
     Ok(line)
 }
@@ -26,7 +26,7 @@ pub(super) fn line_of(alloc: Global, rr: &Rr) -> Result<Vec<u8>, Fail> {
 /// data is 65464 octets 0.
 pub(super) fn zeros_line(alloc: Global) -> Result<Vec<u8>, Fail> {
     let mut line = Vec::new(alloc);
-    line.extend_from_slice(b"x. 3600 IN TYPE731 \\# 65464 ")?;
+    push_text(&mut line, "x. 3600 IN TYPE731 \\# 65464 ")?;
     line.resize(130_956, b'0')?;
     Ok(line)
 }
@@ -72,7 +72,7 @@ pub(super) fn push_placed(alloc: Global, out: &mut Vec<u8>, placed: &Placed) -> 
 fn push_ending(alloc: Global, out: &mut Vec<u8>, reading: &Reading) -> Result<(), Fail> {
     if let Some((fault, place)) = &reading.ending {
         push_stop(alloc, out, &Stop::Refused(fault.copy(), *place))?;
-        out.push(b'\n')?;
+        push_text(out, "\n")?;
     }
     Ok(())
 }
@@ -83,10 +83,10 @@ pub(super) fn push_reading(
     out: &mut Vec<u8>,
     reading: &Reading,
 ) -> Result<(), Fail> {
-    out.push(b'\n')?;
+    push_text(out, "\n")?;
     for placed in reading.placed.iter() {
         push_placed(alloc, out, placed)?;
-        out.push(b'\n')?;
+        push_text(out, "\n")?;
     }
     push_ending(alloc, out, reading)
 }

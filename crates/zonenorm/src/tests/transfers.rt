@@ -8,7 +8,9 @@ use crate::tests::readings::{push_reading, zeros_line};
 use crate::tests::scripts::{GREATEST, check_scripts};
 use crate::tests::streams::{IN_TWO, SMALL, STREAMS};
 use crate::tests::vectors::input_of;
-use crate::tests::{Case, Question, check, check_rows, check_table, is_refused, push_answer};
+use crate::tests::{
+    Case, Question, check, check_rows, check_table, is_refused, push_answer, push_text,
+};
 use std::alloc::Global;
 use std::test::Fail;
 use zone_name::Name;
@@ -235,9 +237,9 @@ fn greatest_stream(alloc: Global) -> Result<Vec<u8>, Fail> {
 /// The canonical text of that stream.
 fn greatest_text(alloc: Global) -> Result<Vec<u8>, Fail> {
     let mut text = Vec::new(alloc);
-    text.extend_from_slice(b"x. 3600 IN SOA n.x. h.x. 1 2 3 4 5\n")?;
+    push_text(&mut text, "x. 3600 IN SOA n.x. h.x. 1 2 3 4 5\n")?;
     text.extend_from_slice(&zeros_line(alloc)?)?;
-    text.push(b'\n')?;
+    push_text(&mut text, "\n")?;
     Ok(text)
 }
 

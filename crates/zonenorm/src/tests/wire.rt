@@ -106,7 +106,7 @@ fn push_parts(
 fn builder_of(alloc: Global, kind: &str) -> Result<RdataBuilder, Fail> {
     let (class, kind) = in_class_in(kind)?;
     let mut buffer = Vec::new(alloc);
-    buffer.extend_from_slice(b"octets of before")?;
+    push_text(&mut buffer, "octets of before")?;
     Ok(RdataBuilder::in_buffer(buffer, class, kind))
 }
 

@@ -1,6 +1,8 @@
 //! Records that make a zone, its records in order and its text (RFC 1035 5.2, RFC 2181 5, RFC 4034
 //! 6).
-use crate::tests::{Question, check, check_table, push_hex, push_stop, push_words, rooted};
+use crate::tests::{
+    Question, check, check_table, push_hex, push_stop, push_text, push_words, rooted,
+};
 use std::alloc::Global;
 use std::test::Fail;
 use zone_print::{canon_len, push_zone, text_fits, write_zone};
@@ -18,9 +20,7 @@ pub(super) fn reading_of(alloc: Global, file: &[u8]) -> Result<Reading, Fail> {
 fn added(alloc: Global, reading: Reading) -> Result<Zone, Stop> {
     let mut builder = ZoneBuilder::new(alloc);
     for placed in reading.placed {
-        if let Err((stop, _)) = builder.add(placed) {
-            return Err(stop);
-        }
+        builder.add(placed).map_err(|(stop, _)| stop)?;
     }
     builder.finish()
 }
@@ -59,7 +59,7 @@ fn push_records(alloc: Global, out: &mut Vec<u8>, zone: &Zone) -> Result<(), Fai
         let (kind, ttl) = (rr.kind.number(), rr.ttl);
         push_words(alloc, out, format_args!("TYPE{kind} {ttl} "))?;
         push_hex(alloc, out, rr.rdata.octets())?;
-        out.push(b'\n')?;
+        push_text(out, "\n")?;
     }
     Ok(())
 }
@@ -83,9 +83,9 @@ fn push_made(alloc: Global, out: &mut Vec<u8>, made: Result<Zone, Stop>) -> Resu
             push_zone_text(alloc, out, &zone)
         }
         Err(stop) => {
-            out.push(b' ')?;
+            push_text(out, " ")?;
             push_stop(alloc, out, &stop)?;
-            Ok(out.push(b'\n')?)
+            push_text(out, "\n")
         }
     }
 }
