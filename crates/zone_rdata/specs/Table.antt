@@ -1,6 +1,6 @@
 -- The types and the classes that have a mnemonic, a row each (RFC 1035 3.2.2, 3.2.4). Which ones
 -- are read is this project's own choice.
-use Rattle.std.specs.Prelude.{ℕ, List, [], ◌∷◌, Bool, true, false, ◌==◌, ◌&&◌, nat_lt, bytes_eq, codes, map, Option, option_map}
+use Rattle.std.specs.Prelude.{ℕ, List, [], ◌∷◌, Bool, true, ◌==◌, ◌&&◌, nat_lt, bytes_eq, codes, map, Option, option_map}
 use Rattle.std.specs.List.{find}
 use Rattle.zone_name.specs.Name.{folded_label}
 use Rattle.zone_rdata.specs.declared.field.Field.{Field}

@@ -1,6 +1,6 @@
 -- The parser state is what the look back over the entries finds: one entry more, and the TTL that
 -- a record inherits.
-use Rattle.zone_text.proofs.Common.{Data, DefaultTtlFault, Entry, EntryFault, Fault, HasContents, HasHeadOf, HasTtl, Head, IsLastMinimum, IsLastOwner, IsOneOrNone, IsOrigin, IsStateAfter, IsTime, IsTtl, IsTtlOrNone, Labels, List, Lower, MatchOption, None, Option, OriginFaultUnder, ParserState, Parts, RawItem, SetsOrigin, SetsTtl, Some, SpellsAfter, Statement, StatementFault, StatesMinimum, StatesNothing, [], ap, class_among, class_word, default_ttl_text, inl, inr, latest, minimum, of_statement, one_bare, option_and_then, option_or, origin_text, owner_text, parts_in, refl, rules, sets_origin, sets_ttl, stated_ttl, statement_of, subst, sym, ttl_among, ttl_text, with_owner, ℕ, ◌∙◌, ◌∷◌, ◌≡◌}
+use Rattle.zone_text.proofs.Common.{Data, Entry, HasContents, HasHeadOf, HasTtl, Head, IsLastMinimum, IsLastOwner, IsOneOrNone, IsOrigin, IsStateAfter, IsTime, IsTtl, IsTtlOrNone, Labels, List, Lower, MatchOption, None, Option, ParserState, Parts, RawItem, SetsOrigin, SetsTtl, Some, SpellsAfter, Statement, StatesMinimum, StatesNothing, [], ap, class_among, class_word, default_ttl_text, inl, inr, latest, minimum, one_bare, option_and_then, option_or, origin_text, owner_text, parts_in, refl, rules, sets_origin, sets_ttl, stated_ttl, statement_of, subst, sym, ttl_among, ttl_text, with_owner, ℕ, ◌∙◌, ◌∷◌, ◌≡◌}
 use Rattle.zone_rdata.specs.Item.{bare}
 use Rattle.zone_text.proofs.EntryOutcome.{states_no_minimum, no_minimum}
 
@@ -108,21 +108,3 @@ ttl_set origin before entry d next items so_far form sets =
       subst (StatesNothing origin before) (sym form) (ttl_states origin before items sets.text sets.seconds sets.item sets.ttl),
       subst (IsStateAfter origin (entry ∷ before)) (sym sets.others) (leaves origin before entry (sets_ttl items) d d.origin (Some sets.seconds) form refl refl so_far (same_origin origin before entry (sets_ttl items) d.origin form refl so_far.under) default),
     )
-
--- ---- directives that are refused
-
-origin_bad : (origin : Labels) (before : List Entry) (items : List RawItem) (above : Labels) (fault : Fault) → IsOrigin origin before above → OriginFaultUnder above (one_bare items) fault → StatementFault origin before (sets_origin items) fault
-origin_bad origin before (bare text ∷ []) above fault under bad = (above, (under, bad))
-origin_bad origin before items above fault under bad = bad
-
-pub origin_refused : (origin : Labels) (before : List Entry) (entry : Entry) (d : ParserState) (items : List RawItem) (fault : Fault) → IsStateAfter origin before d → statement_of entry ≡ sets_origin items → OriginFaultUnder d.origin (one_bare items) fault → EntryFault origin before entry fault
-origin_refused origin before entry d items fault so_far form bad =
-    of_statement (subst (λ f. StatementFault origin before f fault) (sym form) (origin_bad origin before items d.origin fault so_far.under bad))
-
-ttl_bad : (origin : Labels) (before : List Entry) (items : List RawItem) (fault : Fault) → DefaultTtlFault (one_bare items) fault → StatementFault origin before (sets_ttl items) fault
-ttl_bad origin before (bare text ∷ []) fault bad = bad
-ttl_bad origin before items fault bad = bad
-
-pub ttl_refused : (origin : Labels) (before : List Entry) (entry : Entry) (items : List RawItem) (fault : Fault) → statement_of entry ≡ sets_ttl items → DefaultTtlFault (one_bare items) fault → EntryFault origin before entry fault
-ttl_refused origin before entry items fault form bad =
-    of_statement (subst (λ f. StatementFault origin before f fault) (sym form) (ttl_bad origin before items fault bad))

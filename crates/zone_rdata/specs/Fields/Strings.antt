@@ -1,5 +1,5 @@
 -- Several strings: one or more character-strings, up to the end of the data (RFC 1035 3.3.14).
-use Rattle.std.specs.Prelude.{◌≡◌, ℕ, zero, suc, ◌<◌, List, [], ◌∷◌, length, take, drop, map, ⊤, ◌⊎◌}
+use Rattle.std.specs.Prelude.{◌≡◌, ℕ, zero, suc, ◌<◌, List, [], ◌∷◌, length, take, drop, map, ◌⊎◌}
 use Rattle.std.specs.List.{join_with_byte, AllByRecursion, AllZip}
 use Rattle.zone_rdata.specs.declared.fault.Fault.{Fault}
 use Rattle.zone_rdata.specs.declared.fault.Fault.TheVariants.{BadRdata}
