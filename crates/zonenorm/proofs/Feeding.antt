@@ -1,5 +1,5 @@
 -- From what was taken of the octets that a reader gave to what the reader's octets are read as.
-use Rattle.zonenorm.proofs.Common.{◌≡◌, ℕ, ◌<◌, ◌≤◌, ◌+◌, true, List, [], ◌∷◌, ◌++◌, length, length-append, refl, sym, ap, ◌∙◌, subst, append-nil, append_assoc, arith, eqb-true, ◌==◌, Option, Some, None, IfSome, Consumes, IsAtEnd, AllByRecursion, Octets, Record, Held, Pending, Fault, InputTooLong, Place, Whole, Stop, Refused, Read, Write, Memory, Placed, Zone, ReadAs, as_file, as_transfer, input_of, input_octets, IsInput, IsForm, all_taken, BeginsAs, IsLoadedOf, ReadsZone, ReadsZoneWithin, RefusesRead, IsOfBytes, IsOfReading, IfRefused, IsRefusalWithin, too_long, reading, TellsRead, form_of}
+use Rattle.zonenorm.proofs.Common.{◌≡◌, ℕ, ◌<◌, ◌≤◌, ◌+◌, true, List, [], ◌∷◌, ◌++◌, length, length-append, refl, sym, ap, ◌∙◌, subst, append-nil, arith, eqb-true, ◌==◌, Option, Some, None, IfSome, Consumes, AllByRecursion, Octets, Record, Held, Pending, Fault, InputTooLong, Place, Whole, Stop, Refused, Read, Write, Zone, ReadAs, as_file, as_transfer, input_of, input_octets, IsInput, IsForm, all_taken, BeginsAs, IsLoadedOf, ReadsZone, ReadsZoneWithin, RefusesRead, IsOfBytes, IsOfReading, IfRefused, IsRefusalWithin, too_long, reading, TellsRead, form_of}
 use Rattle.zonenorm.specs.Form.{read_as}
 use Rattle.zonenorm.specs.declared.form.Form.{Form}
 use Rattle.zonenorm.specs.declared.form.Form.TheVariants.{File, Transfer}

@@ -1,5 +1,5 @@
 -- Lines that are written piece by piece.
-use Rattle.zonenorm.proofs.Common.{◌≡◌, ℕ, List, ◌++◌, sym, ap, ◌∙◌, append_assoc, subst, Option, Result, Ok, Err, OnErr, OnOk, Appends, Appends-trans, AppendsPart, IsFailedWrite, Stop, Refused, Read, Write, Memory, Device, TellsLine, WritesLine, WritesPartOfLine}
+use Rattle.zonenorm.proofs.Common.{◌≡◌, ℕ, List, ◌++◌, sym, ap, ◌∙◌, append_assoc, subst, Option, Result, Ok, Err, OnErr, OnOk, Appends, Appends-trans, AppendsPart, IsFailedWrite, Stop, Write, Device, TellsLine, WritesLine, WritesPartOfLine}
 use Rattle.zone_print.proofs.Front.{some_more}
 
 -- a part of the front of a text is a part of the text
