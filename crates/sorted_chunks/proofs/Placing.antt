@@ -32,9 +32,6 @@ module _ {X : Type 0} where
   pub joined_split : (cs : List (List X)) (i j : ℕ) (v : X) (lower upper : List X) → i < length cs → lower ++ upper ≡ insert (get_or cs i []) j v → joined (set (insert cs (i + 1) upper) i lower) ≡ before cs (record { chunk = i; offset = j }) ++ v ∷ after cs (record { chunk = i; offset = j })
   joined_split cs i j v lower upper le halves = grind (arith, joined-set, length-insert_next, take-insert_next, drop-insert_next, append_assoc, regroup)
 
-  joined_push : (cs : List (List X)) (v : X) → joined (cs ++ (v ∷ []) ∷ []) ≡ joined cs ++ v ∷ []
-  joined_push cs v = joined-append cs ((v ∷ []) ∷ [])
-
   -- an element at the place after all chunks
   pub joined_past : (cs : List (List X)) (i j : ℕ) (v : X) → i ≡ length cs → IsPlace cs (record { chunk = i; offset = j }) → joined (cs ++ (v ∷ []) ∷ []) ≡ before cs (record { chunk = i; offset = j }) ++ v ∷ after cs (record { chunk = i; offset = j })
   joined_past cs i j v at place = grind (arith, common_steps)

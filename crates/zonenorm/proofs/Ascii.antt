@@ -1,14 +1,11 @@
 -- The text of a name is ASCII.
-use Rattle.zonenorm.proofs.Common.{◌≡◌, ℕ, ◌<◌, ◌≤◌, List, [], ◌∷◌, ◌++◌, ◌&&◌, Bool, true, false, if◌then◌else◌, eqb-true, arith, leb-true, AllByRecursion, flat_map, IsFoldedOctet, IsLabel, common_steps, ◌==◌, ◌||◌, is_special, is_printed, octet_text, label_text, name_text}
+use Rattle.zonenorm.proofs.Common.{◌≡◌, ℕ, ◌<◌, List, [], ◌∷◌, ◌++◌, ◌&&◌, Bool, true, arith, AllByRecursion, flat_map, IsFoldedOctet, IsLabel, common_steps, ◌||◌, octet_text, label_text, name_text}
 
 abbrev pub AreAscii : List ℕ → Type 0
 AreAscii octets = AllByRecursion (λ c. c < 128) octets
 
 ascii_append : (xs ys : List ℕ) → AreAscii xs → AreAscii ys → AreAscii (xs ++ ys)
 ascii_append xs ys p q = grind (arith, common_steps)
-
-ascii_if : (b : Bool) (xs ys : List ℕ) → (b ≡ true → AreAscii xs) → (b ≡ false → AreAscii ys) → AreAscii (if b then xs else ys)
-ascii_if b xs ys p q = grind arith
 
 ascii_flat : {X : Type 0} (f : X → List ℕ) (P : X → Type 0) → ((x : X) → P x → AreAscii (f x)) → (xs : List X) → AllByRecursion P xs → AreAscii (flat_map f xs)
 ascii_flat f P each [] all = tt
@@ -19,15 +16,6 @@ either P a b p q h = grind arith
 
 second : (a b : Bool) → (a && b) ≡ true → b ≡ true
 second a b h = grind arith
-
-equal_low : (c n : ℕ) → n < 128 → (c == n) ≡ true → c < 128
-equal_low c n low h = let e = eqb-true c n h in omega (arith, e, low)
-
-special_low : (c : ℕ) → is_special c ≡ true → c < 128
-special_low c = grind arith
-
-printed_low : (c : ℕ) → is_printed c ≡ true → c < 128
-printed_low c h = let low : c ≤ 126 = leb-true c 126 (second _ _ h) in omega (arith, low)
 
 ascii_octet : (c : ℕ) → c < 256 → AreAscii (octet_text c)
 ascii_octet c small = grind arith

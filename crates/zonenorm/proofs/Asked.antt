@@ -1,5 +1,5 @@
 -- From what `clap` found to the order that the words give.
-use Rattle.zonenorm.proofs.Common.{◌≡◌, ℕ, Bool, true, false, nat_eq, List, [], sym, ◌∙◌, subst, ap, codes, arith, refl, pointwise, bytes_decides, AllByRecursion, Option, Some, None, Result, IfOk, IfErr, drop, take, option_map, slice_index, ◌||◌, App, Kinds, IsAmong, Row, Text, fault_of, first_of, subcommand_of, subcommand_name_of, subcommand_rows_of, found_of, first_value, rows_of, NothingIs, program_app, Asks, Call, Calls, command_of, arguments_of, Finds, IsLineFault, IsOriginText, Orders, rules, length, map, ◌⊎◌, ◌-◌, Order}
+use Rattle.zonenorm.proofs.Common.{◌≡◌, ℕ, Bool, true, false, nat_eq, List, [], sym, ◌∙◌, subst, ap, codes, arith, refl, pointwise, bytes_decides, AllByRecursion, Option, Some, None, Result, IfOk, IfErr, drop, take, option_map, ◌||◌, App, Kinds, IsAmong, Row, Text, fault_of, first_of, subcommand_of, subcommand_name_of, subcommand_rows_of, found_of, first_value, rows_of, NothingIs, program_app, Asks, Call, Calls, command_of, arguments_of, Finds, IsLineFault, IsOriginText, Orders, rules, length, map, ◌⊎◌, ◌-◌, Order}
 use Rattle.std.specs.Borrow.{Bor}
 use Rattle.clap.specs.declared.parser.ArgMatches.{ArgMatches}
 use Rattle.clap.specs.declared.error.kind.ErrorKind.{ErrorKind}
@@ -40,10 +40,6 @@ Given rows call = AllByRecursion (λ (a : Argument). first_of a.0 rows ≡ Some 
 pub not_found : (found : Option (Text × List Row)) (word : Text) (rows : List Row) → found ≡ Some (word, rows) → ((call : Call) → command_of call ≡ word → Given rows call → ⊥) → NothingIs (Finds found)
 not_found found word rows is none call finds = grind arith
 
--- the words of two commands differ in their first letter
-other_letter : (t u : Text) → t ≡ u → (slice_index t 0 ≡ slice_index u 0 → ⊥) → ⊥
-other_letter t u e other = other (ap (λ (v : Text). slice_index v 0) e)
-
 pub no_normalise : (rows : List Row) → first_of (codes "ORIGIN") rows ≡ None → (call : Call) → command_of call ≡ codes "normalise" → Given rows call → ⊥
 no_normalise rows none call e given = grind arith
 
@@ -56,9 +52,6 @@ pub data Misses (rows : List Row) : Type 0 where
   first_path : first_of (codes "PATH1") rows ≡ None → Misses rows
   second_origin : first_of (codes "ORIGIN2") rows ≡ None → Misses rows
   second_path : first_of (codes "PATH2") rows ≡ None → Misses rows
-
-missed : (o : Option Text) (t : Text) → o ≡ None → o ≡ Some t → ⊥
-missed o t none some = let no : None ≡ Some t = sym none ∙ some in cc
 
 pub no_compare : (rows : List Row) → Misses rows → (call : Call) → command_of call ≡ codes "compare" → Given rows call → ⊥
 no_compare rows misses call e given = grind arith
