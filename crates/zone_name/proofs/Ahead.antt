@@ -1,4 +1,5 @@
 -- What is ahead in a text, in the words of its spelling.
+use Rattle.std.proofs.lemmas.Grind.{common_steps}
 use Rattle.zone_name.proofs.Common.{◌≡◌, ℕ, ◌<◌, Bool, false, nat_eq, if◌then◌else◌, List, [], ◌∷◌, ◌++◌, length, take, Option, refl, sym, ap, ◌∙◌, arith, length-append, pointwise, cases_Bool, eqb-true, both_ways, cond_both, Written, plain, escaped, decimal, text_of, octet_of, IsUnit, IsBadEscape, BeginsWithUnit, is_dot, no_octet, Ahead, at_end, at_dot, at_octet, at_fault, unit_ahead, ahead_in}
 use Rattle.zone_name.specs.Machine.Units.{unit_first}
 use Rattle.zone_name.proofs.Units.{IsFirst, first_is, first_of_unit, escape_of_unit, text_of-some}
@@ -16,9 +17,7 @@ unit_is c rest found other is = grind (arith, both_ways)
 
 -- what is ahead is what the text's spelling says
 pub ahead_is : (rest : List ℕ) → IsAhead rest (ahead_in rest)
-ahead_is [] = refl
-ahead_is (c ∷ rest) =
-    cond_both (is_dot c) (at_dot rest) (unit_ahead (unit_first is_dot (c ∷ rest))) (IsAhead (c ∷ rest)) (λ e. ap (λ t. t ∷ rest) (eqb-true c 46 e)) (λ e. unit_is c rest (unit_first is_dot (c ∷ rest)) e (first_is is_dot (c ∷ rest)))
+ahead_is rest = grind (arith, common_steps, cond_both, eqb-true, unit_is, first_is)
 
 -- what follows it is shorter
 abbrev pub Shrinks : List ℕ → Ahead → Type 0
@@ -28,28 +27,17 @@ Shrinks rest (at_octet c after) = length after < length rest
 Shrinks rest at_fault = Unit {0}
 
 shrinks_by : (rest : List ℕ) (ahead : Ahead) → IsAhead rest ahead → Shrinks rest ahead
-shrinks_by rest at_end is = tt
-shrinks_by rest (at_dot after) is = omega (arith, ap length is)
-shrinks_by rest (at_octet c after) is = grind (arith, length-append, text_of-some)
-shrinks_by rest at_fault is = tt
+shrinks_by rest ahead is = grind arith
 
 pub ahead_shrinks : (rest : List ℕ) → Shrinks rest (ahead_in rest)
 ahead_shrinks rest = shrinks_by rest (ahead_in rest) (ahead_is rest)
 
 -- the way back: what is ahead where a written octet stands
 pub ahead-unit : (w : Written) (rest : List ℕ) → IsUnit is_dot w → ahead_in (text_of w ++ rest) ≡ at_octet (octet_of w) rest
-ahead-unit w rest is = cc (by w is, first_of_unit is_dot w rest refl is)
-  where
-    by : (w : Written) → IsUnit is_dot w → ahead_in (text_of w ++ rest) ≡ unit_ahead (unit_first is_dot (text_of w ++ rest))
-    by (plain c) is = ap (λ (b : Bool). if b then at_dot rest else unit_ahead (unit_first is_dot (c ∷ rest))) is.0
-    by (escaped c) is = refl
-    by (decimal x y z) is = refl
+ahead-unit w rest is = grind arith
 
 bad_by : (rest : List ℕ) (ahead : Ahead) → IsBadEscape rest → IsAhead rest ahead → ahead ≡ at_fault
-bad_by rest at_end bad is = absurd (let e : [] ≡ 92 ∷ bad.0 = sym is ∙ bad.1 in cc)
-bad_by rest (at_dot after) bad is = cc
-bad_by rest (at_octet c after) bad is = grind (arith, escape_of_unit)
-bad_by rest at_fault bad is = refl
+bad_by rest ahead bad is = grind arith
 
 -- a backslash that begins no escape is a fault ahead
 pub ahead-bad : (rest : List ℕ) → IsBadEscape rest → ahead_in rest ≡ at_fault

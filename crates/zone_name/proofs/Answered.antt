@@ -76,18 +76,7 @@ marks_differ e = false≢true (sym (ap (λ t. nat_eq (get_or t 0 0) 46) e))
 
 -- a text that writes labels is answered by them, where they fit
 writes_answered : (origin : Option (List (List ℕ))) (text : List ℕ) (labels : List (List ℕ)) (form : NameShape) → HasShape text form → Writes origin text labels → ShortLabels labels → answered origin text form ≡ sized labels
-writes_answered origin text labels Root dot (root e l) short = ap sized (sym l)
-writes_answered origin text labels Root dot (at_origin e o) short = cc
-writes_answered origin text labels Root dot (absolute written are e l) short = grind (arith, err_not_ok, reading_dot, absolute_reads)
-writes_answered origin text labels Root dot (relative written above are n e o l) short = grind (arith, err_not_ok, reading_dot, relative_reads)
-writes_answered origin text labels Origin at (root e l) short = absurd (marks_differ (sym e ∙ at))
-writes_answered origin text labels Origin at (at_origin e o) short = cc
-writes_answered origin text labels Origin at (absolute written are e l) short = grind (arith, part_not_whole, reading_at, absolute_reads)
-writes_answered origin text labels Origin at (relative written above are n e o l) short = absurd (n at)
-writes_answered origin text labels Labels other (root e l) short = absurd (other.0 e)
-writes_answered origin text labels Labels other (at_origin e o) short = absurd (other.1 e)
-writes_answered origin text labels Labels other (absolute written are e l) short = ap (under_origin origin) (absolute_reads text written labels are e l short)
-writes_answered origin text labels Labels other (relative written above are n e o l) short = grind (arith, relative_reads)
+writes_answered origin text labels form dot given short = grind (arith, err_not_ok, reading_dot, absolute_reads, relative_reads, marks_differ, part_not_whole, reading_at)
 
 -- the name that a text spells is its answer
 pub answered-only : (origin : Option (List (List ℕ))) (text : List ℕ) (form : NameShape) (name : List (List ℕ)) → HasShape text form → Spells origin text name → answered origin text form ≡ Ok name
@@ -115,12 +104,10 @@ answered-fault origin text form fault has (long_name labels writes short long) =
 
 -- ---- what is answered is so
 sized_ok : (labels name : List (List ℕ)) (fits : Bool) → Ok name ≡ (if fits then Ok labels else Err NameTooLong) → name ≡ labels
-sized_ok labels name true e = cc
-sized_ok labels name false e = absurd (cc)
+sized_ok labels name fits e = grind arith
 
 sized_err : (labels : List (List ℕ)) (fault : NameFault) (fits : Bool) → nat_le (length (wire labels)) 255 ≡ fits → Err fault ≡ (if fits then Ok labels else Err NameTooLong) → (NameTooLong ≡ fault) × (255 < length (wire labels))
-sized_err labels fault true test e = absurd (cc)
-sized_err labels fault false test e = (cc, leb-false (length (wire labels)) 255 test)
+sized_err labels fault fits test e = grind arith
 
 found_by : (origin : Option (List (List ℕ))) (text : List ℕ) (found : Result (List (List ℕ) × Bool) NameFault) (name : List (List ℕ)) → text ≢ codes "@" → Says text found → Ok name ≡ under_origin origin found → IsName name → Writes origin text name
 found_by origin text (Err fault) name other says e is = absurd (cc)
@@ -141,9 +128,7 @@ fault_by origin text (Ok (labels, true)) fault other known says e =
     let long = sized_err labels fault (nat_le (length (wire labels)) 255) refl e in
     rw (← long.0) (long_name labels (absolute says.written says.are says.text_is says.labels_are)
     (subst ShortLabels (sym says.labels_are) (short_labels says.written says.short)) long.1)
-fault_by None text (Ok (labels, false)) fault other known says e =
-    let same : RelativeName ≡ fault = cc in
-    rw same at (unfounded refl (says.written, says.are, says.short, says.text_is))
+fault_by None text (Ok (labels, false)) fault other known says e = grind (arith, unfounded)
 fault_by (Some above) text (Ok (labels, false)) fault other known says e =
     let long = sized_err (labels ++ above) fault (nat_le (length (wire (labels ++ above))) 255) refl e in
     let each = rw (← says.labels_are) at (short_labels says.written says.short) in
@@ -165,8 +150,7 @@ octets_short [] is each = tt
 octets_short (w ∷ label) is each = grind (arith, octets_short label is.1 (AllByRecursion-back (λ c. c < 256) (text_of w) (written_text label) each))
 
 label_is : (label : List Written) → IsWrittenLabel label → length label ≤ 63 → AreOctets (written_text label) → IsLabel (folded_label (written_octets label))
-label_is label is short each =
-    IsLabel-folded (written_octets label) (omega (arith, is.some, length-map label octet_of)) (omega (arith, length-map label octet_of)) (octets_short label is.each each)
+label_is label is short each = grind (arith, IsLabel-folded, length-map, octets_short)
 
 dotted_are : (written : List (List Written)) → AllByRecursion IsWrittenLabel written → AreShort written → AreOctets (dotted written) → AllByRecursion IsLabel (named written)
 dotted_are [] is short each = tt
@@ -186,29 +170,17 @@ relative_are [] is short each = tt
 relative_are (label ∷ written) is short each = parted_are written label is short each
 
 sized_is : (labels : List (List ℕ)) → AllByRecursion IsLabel labels → IfOk (sized labels) IsName
-sized_is labels each = by (nat_le (length (wire labels)) 255) refl
-  where
-    by : (fits : Bool) → nat_le (length (wire labels)) 255 ≡ fits → IfOk (if fits then Ok labels else Err NameTooLong) IsName
-    by true e = record { each = each; short = leb-true (length (wire labels)) 255 e }
-    by false e = tt
+sized_is labels each = grind arith
 
 -- what is said of the labels that are read
 pub reading-says_ok : (text : List ℕ) (labels : List (List ℕ)) (is_absolute : Bool) → Says text (Ok (labels, is_absolute)) → reading text ≡ Ok (labels, is_absolute)
-reading-says_ok text labels true says = grind (arith, reading-dotted)
-reading-says_ok text labels false says = grind (arith, reading-parted)
+reading-says_ok text labels is_absolute says = grind (arith, reading-dotted, reading-parted)
 
 pub labels-says_ok : (text : List ℕ) (labels : List (List ℕ)) (is_absolute : Bool) → AreOctets text → Says text (Ok (labels, is_absolute)) → AllByRecursion IsLabel labels
-labels-says_ok text labels true octets says = grind (arith, dotted_are)
-labels-says_ok text labels false octets says = grind (arith, relative_are)
+labels-says_ok text labels is_absolute octets says = grind (arith, dotted_are, relative_are)
 
 under_is : (origin : Option (List (List ℕ))) (text : List ℕ) (found : Result (List (List ℕ) × Bool) NameFault) → IfSome origin IsName → AreOctets text → Says text found → IfOk (under_origin origin found) IsName
-under_is origin text (Err fault) known octets says = tt
-under_is origin text (Ok (labels, true)) known octets says =
-    sized_is labels (labels-says_ok text labels true octets says)
-under_is None text (Ok (labels, false)) known octets says = tt
-under_is (Some above) text (Ok (labels, false)) known octets says =
-    sized_is (labels ++ above)
-    (AllByRecursion-append IsLabel labels above (labels-says_ok text labels false octets says) known.each)
+under_is origin text found known octets says = grind (arith, sized_is, labels-says_ok, true, AllByRecursion-append, false)
 
 -- ---- one answer
 abbrev OneOf : Option (List (List ℕ)) → List ℕ → Type 0
@@ -249,5 +221,4 @@ Spells-faultless origin text labels fault spells first =
 pub FirstFault-once : (origin : Option (List (List ℕ))) (text : List ℕ) (f g : NameFault) → SpellingFault origin text f → SpellingFault origin text g → f ≡ g
 FirstFault-once origin text f g one two =
     let form = form_at text in
-    let e = sym (answered-fault origin text form.0 f form.1 one) ∙ answered-fault origin text form.0 g form.1 two in
-    cc
+    grind (arith, form_at, answered-fault)

@@ -1,5 +1,6 @@
 -- What is printed outside quotes is written octets, of which few stand by themselves.
-use Rattle.zone_name.proofs.Common.{◌≡◌, ℕ, ◌<◌, ◌==◌, ◌||◌, ◌&&◌, not, Bool, true, false, List, [], ◌∷◌, ◌++◌, length, refl, sym, ap, ap₂, ◌∙◌, arith, append_assoc, length-append, flat_map, AllByRecursion, both_ways, append-nil, length-map, flat_map-append, IsFoldedOctet, IsLabel, IsName, Written, plain, text_of, IsUnit, written_text, is_special, is_printed, octet_text, label_text, name_text}
+use Rattle.std.proofs.lemmas.Grind.{common_steps}
+use Rattle.zone_name.proofs.Common.{◌≡◌, ℕ, ◌<◌, ◌==◌, ◌||◌, ◌&&◌, not, Bool, true, false, List, [], ◌∷◌, ◌++◌, length, refl, sym, ap, ap₂, ◌∙◌, arith, append_assoc, length-append, flat_map, AllByRecursion, both_ways, append-nil, length-map, flat_map-append, IsFoldedOctet, IsLabel, IsName, Written, plain, text_of, IsUnit, written_text, is_special, is_printed, octet_text, label_text, name_text, rules}
 use Rattle.std.proofs.Common.{map}
 use Rattle.std.proofs.Math.Bool.{or-true}
 use Rattle.zone_name.proofs.Lawful.{written_by, printed_text, special_escapes, decimal_escapes}
@@ -23,12 +24,7 @@ pub record StandsBare (text : List ℕ) : Type 0 where
 -- ---- texts
 
 pub bare_append : (xs ys : List ℕ) → StandsBare xs → StandsBare ys → StandsBare (xs ++ ys)
-bare_append xs ys x y = record {
-  units = x.units ++ y.units;
-  some = omega (arith, x.some, length-append x.units y.units);
-  each = AllByRecursion-append (IsUnit not_bare) x.units y.units x.each y.each;
-  parts = ap₂ (λ (s t : List ℕ). s ++ t) x.parts y.parts ∙ sym (flat_map-append text_of x.units y.units);
-}
+bare_append xs ys x y = grind (arith, common_steps)
 
 pub bare_unit : (w : Written) → IsUnit not_bare w → StandsBare (text_of w)
 bare_unit w is = record { units = w ∷ []; some = omega arith; each = (is, tt); parts = sym (append-nil (text_of w)) }
@@ -52,18 +48,14 @@ bare_octets text some each = grind (arith, length-map, plain_units, plain_text)
 
 printed_unit : (special printed : Bool) (c : ℕ) → c < 256 → is_special c ≡ special → is_printed c ≡ printed → IsUnit not_bare (written_by special printed c)
 unfolding written_by
-printed_unit true printed c low s p = special_escapes c s
-printed_unit false true c low s p = grind (arith, bare_plain, or-true)
-printed_unit false false c low s p = decimal_escapes c low
+printed_unit special printed c low s p = search rules
 
 bare_octet : (c : ℕ) → c < 256 → StandsBare (octet_text c)
-bare_octet c low =
-    rw (printed_text (is_special c) (is_printed c) c) at (bare_unit (written_by (is_special c) (is_printed c) c) (printed_unit (is_special c) (is_printed c) c low refl refl))
+bare_octet c low = grind (arith, printed_text (is_special c) (is_printed c) c, bare_unit (written_by (is_special c) (is_printed c) c) (printed_unit (is_special c) (is_printed c) c low refl refl))
 
 bare_label : (label : List ℕ) → AllByRecursion IsFoldedOctet label → StandsBare (label_text label)
 bare_label [] each = bare_octets (46 ∷ []) (omega arith) (refl, tt)
-bare_label (c ∷ label) each =
-    rw (append_assoc (octet_text c) (flat_map octet_text label) (46 ∷ [])) (bare_append (octet_text c) (label_text label) (bare_octet c each.0.octet) (bare_label label each.1))
+bare_label (c ∷ label) each = grind (arith, bare_label label each.1, append_assoc (octet_text c) (flat_map octet_text label) (46 ∷ []), bare_append (octet_text c) (label_text label) (bare_octet c each.0.octet) (bare_label label each.1))
 
 bare_labels : (label : List ℕ) (labels : List (List ℕ)) → IsLabel label → AllByRecursion IsLabel labels → StandsBare (label_text label ++ flat_map label_text labels)
 bare_labels label [] is each = grind (arith, append-nil, bare_label)

@@ -1,5 +1,5 @@
 -- Equality, order and containment of names, as the code decides them.
-use Rattle.zone_name.proofs.Common.{◌≡◌, ℕ, ◌+◌, ◌-◌, ◌≤◌, ◌↔◌, Bool, IsTrue, List, [], ◌∷◌, ◌++◌, length, take, drop, reverse, Option, Some, None, MatchOption, refl, ap, sym, ◌∙◌, nat_eq, true, arith, length-append, ordering_then, nat_cmp, pointwise, pointwise_decides, bytes_decides, slice_cmp, reverse-append, reverse-reverse, length-reverse, length-take, take-append-drop, drop_at, drop-drop, nat_tests, wire, labels_of, IsWithin, label_cmp, name_cmp}
+use Rattle.zone_name.proofs.Common.{◌≡◌, ℕ, ◌+◌, ◌-◌, ◌≤◌, ◌↔◌, Bool, IsTrue, List, [], ◌∷◌, ◌++◌, length, take, drop, reverse, Option, Some, None, MatchOption, refl, ap, sym, ◌∙◌, nat_eq, true, arith, length-append, ordering_then, nat_cmp, pointwise, pointwise_decides, bytes_decides, slice_cmp, reverse-append, reverse-reverse, length-reverse, length-take, take-append-drop, drop_at, drop-drop, nat_tests, wire, labels_of, IsWithin, label_cmp, name_cmp, rules}
 use Rattle.std.proofs.Common.{length-drop}
 use Rattle.std.specs.declared.cmp.Ordering.{Ordering}
 use Rattle.std.specs.declared.cmp.Ordering.TheVariants.{Equal}
@@ -14,9 +14,7 @@ labels_decide a b =
 
 -- what `==` of octets answers is what `==` of labels answers
 pub eq-from_octets : (a b : List (List ℕ)) (octets others : List ℕ) (answer : Bool) → answer ≡ pointwise nat_eq octets others → octets ≡ wire a → others ≡ wire b → labels_of (wire a) ≡ a → labels_of (wire b) ≡ b → answer ≡ pointwise (pointwise nat_eq) (reverse a) (reverse b)
-eq-from_octets a b octets others answer e left right back_a back_b =
-    let same = bytes_decides octets others in
-    cc (one_answer (pointwise nat_eq octets others) (pointwise (pointwise nat_eq) (reverse a) (reverse b)) (λ h. cc (same.0 h), λ h. same.1 (cc)) (labels_decide a b))
+eq-from_octets a b octets others answer e left right back_a back_b = search (rules, labels_decide)
 
 -- equal names compare so
 pub name_cmp-same : (a b : List (List ℕ)) (answer : Bool) → answer ≡ pointwise (pointwise nat_eq) (reverse a) (reverse b) → answer ≡ true → Equal ≡ name_cmp a b
@@ -31,8 +29,7 @@ then_equal a = grind arith
 
 -- fronts that are as long decide first
 slice_cmp-append : {K : Type 0} (R : K → K → Ordering) (xs ys us vs : List K) → length xs ≡ length ys → slice_cmp R (xs ++ us) (ys ++ vs) ≡ ordering_then (slice_cmp R xs ys) (slice_cmp R us vs)
-slice_cmp-append R [] [] us vs e = refl
-slice_cmp-append R [] (y ∷ ys) us vs e = absurd (omega arith)
+slice_cmp-append R [] ys us vs e = grind arith
 slice_cmp-append R (x ∷ xs) [] us vs e = absurd (omega arith)
 slice_cmp-append R (x ∷ xs) (y ∷ ys) us vs e = grind (arith, slice_cmp-append R xs ys us vs (omega arith))
 
@@ -51,10 +48,8 @@ name_cmp-more xs ys xs' ys' x y order found order' whole left right long is next
 
 -- where one list at most has any, the longer comes last
 lengths_decide : (us vs : List (List ℕ)) (m n : ℕ) → length us ≡ m - n → length vs ≡ n - m → slice_cmp label_cmp us vs ≡ nat_cmp m n
-lengths_decide [] [] m n e f = grind (arith, nat_tests)
-lengths_decide [] (v ∷ vs) m n e f = grind (arith, nat_tests)
-lengths_decide (u ∷ us) [] m n e f = grind (arith, nat_tests)
-lengths_decide (u ∷ us) (v ∷ vs) m n e f = absurd (omega arith)
+lengths_decide [] vs m n e f = grind arith
+lengths_decide (u ∷ us) vs m n e f = grind arith
 
 -- before the first step: the labels that the longer name has before the other's are cut off
 pub name_cmp-start : (a b xs ys : List (List ℕ)) (m n : ℕ) (order : Ordering) → m ≡ length a → n ≡ length b → xs ≡ drop (m - n) a → ys ≡ drop (n - m) b → order ≡ nat_cmp m n → (length xs ≡ length ys) × (ordering_then (name_cmp xs ys) order ≡ name_cmp a b)
@@ -62,11 +57,9 @@ name_cmp-start a b xs ys m n order long_a long_b left right is =
     let us = take (m - n) a in
     let vs = take (n - m) b in
     let same : length xs ≡ length ys = omega (arith, ap length left, ap length right, length-drop (m - n) a, length-drop (n - m) b) in
-    let front : slice_cmp label_cmp (reverse us) (reverse vs) ≡ nat_cmp m n =
-    lengths_decide (reverse us) (reverse vs) m n (omega (arith, length-reverse us, length-take (m - n) a)) (omega (arith, length-reverse vs, length-take (n - m) b)) in
     let whole_a : us ++ xs ≡ a = cc (take-append-drop (m - n) a) in
     let whole_b : vs ++ ys ≡ b = cc (take-append-drop (n - m) b) in
-    (same, cc (name_cmp-append us vs xs ys same))
+    grind (arith, length-drop, lengths_decide, length-reverse, length-take, take-append-drop, name_cmp-append)
 
 -- a name lies within another where its last labels are that name's
 pub within_decided : (a b rest : List (List ℕ)) (m n : ℕ) (answer : Bool) → m ≡ length a → n ≡ length b → n ≤ m → rest ≡ drop (m - n) a → (IsTrue answer ↔ (rest ≡ b)) → (IsTrue answer ↔ IsWithin a b)

@@ -1,5 +1,5 @@
 -- The laws of the order and of what is printed.
-use Rattle.zone_name.proofs.Common.{◌≡◌, ◌≢◌, ℕ, ◌+◌, ◌/◌, ◌%◌, ◌<◌, Bool, true, false, ◌||◌, ◌==◌, nat_eq, if◌then◌else◌, List, [], ◌∷◌, reverse, Option, div-add-mod', refl, sym, subst, arith, map, flat_map, AllByRecursion, nat_cmp, pointwise, pointwise_decides, bytes_decides, slice_cmp, lists_ties, texts_ties, lists_total, reverse-reverse, length-map, nat_tests, IsFoldedOctet, IsLabel, IsName, folded_label, eqb-true, eqb-false, or_parts, name_cmp, Written, plain, escaped, decimal, text_of, octet_of, IsEscape, IsUnit, is_dot, IsWrittenLabel, written_text, written_octets, dotted, named, Writes, root, absolute, Spells, is_digit, is_special, is_printed, decimal_escape, octet_text, label_text, name_text}
+use Rattle.zone_name.proofs.Common.{◌≡◌, ◌≢◌, ℕ, ◌+◌, ◌/◌, ◌%◌, ◌<◌, Bool, true, false, ◌||◌, ◌==◌, nat_eq, if◌then◌else◌, List, [], ◌∷◌, reverse, Option, div-add-mod', refl, sym, subst, arith, map, flat_map, AllByRecursion, nat_cmp, pointwise, pointwise_decides, bytes_decides, slice_cmp, lists_ties, texts_ties, lists_total, reverse-reverse, length-map, nat_tests, IsFoldedOctet, IsLabel, IsName, folded_label, eqb-true, eqb-false, or_parts, name_cmp, Written, plain, escaped, decimal, text_of, octet_of, IsEscape, IsUnit, is_dot, IsWrittenLabel, written_text, written_octets, dotted, named, Writes, root, absolute, Spells, is_digit, is_special, is_printed, decimal_escape, octet_text, label_text, name_text, rules}
 use Rattle.std.specs.declared.cmp.Ordering.TheVariants.{Equal}
 use Rattle.std.specs.Cmp.{IsTotalOrder, on_total}
 use Rattle.std.proofs.lemmas.Cmp.{nat_cmp_total}
@@ -26,9 +26,7 @@ printed_octet c = written_by (is_special c) (is_printed c) c
 
 pub printed_text : (special printed : Bool) (c : ℕ) → text_of (written_by special printed c) ≡ (if special then 92 ∷ c ∷ [] else (if printed then c ∷ [] else decimal_escape c))
 unfolding written_by
-printed_text true printed c = refl
-printed_text false true c = refl
-printed_text false false c = refl
+printed_text special printed c = grind arith
 
 text_of-printed : (c : ℕ) → text_of (printed_octet c) ≡ octet_text c
 unfolding printed_octet
@@ -39,9 +37,7 @@ decimal_value c = omega (arith, div-add-mod' c 100, div-add-mod' c 10, div-add-m
 
 pub value_by : (special printed : Bool) (c : ℕ) → octet_of (written_by special printed c) ≡ c
 unfolding written_by
-value_by true printed c = refl
-value_by false true c = refl
-value_by false false c = decimal_value c
+value_by special printed c = grind arith
 
 octet_of-printed : (c : ℕ) → octet_of (printed_octet c) ≡ c
 unfolding printed_octet
@@ -61,8 +57,7 @@ escapes_at : (c n : ℕ) → Escapes n → (c == n) ≡ true → Escapes c
 escapes_at c n at e = let P : ℕ → Type 0 = λ t. Escapes t in subst P (sym (eqb-true c n e)) at
 
 either : (a b : Bool) (P : Type 0) → (a ≡ true → P) → (b ≡ true → P) → (a || b) ≡ true → P
-either true b P f g e = f refl
-either false b P f g e = g e
+either a b P f g e = grind arith
 
 pub special_escapes : (c : ℕ) → is_special c ≡ true → Escapes c
 special_escapes c = grind (arith, either, escapes_at)
@@ -72,9 +67,7 @@ plain_octets c e = grind (arith, or_parts, eqb-false)
 
 written_is : (special printed : Bool) (c : ℕ) → c < 256 → is_special c ≡ special → IsUnit is_dot (written_by special printed c)
 unfolding written_by
-written_is true printed c h e = special_escapes c e
-written_is false true c h e = plain_octets c e
-written_is false false c h e = decimal_escapes c h
+written_is special printed c h e = search rules
 
 printed_is : (c : ℕ) → c < 256 → IsUnit is_dot (printed_octet c)
 unfolding printed_octet

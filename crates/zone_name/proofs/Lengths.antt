@@ -4,9 +4,7 @@ use Rattle.std.specs.Prelude.{if◌then◌else◌}
 
 -- at most a backslash and three digits
 pub octet_by : (special printed : Bool) (c : ℕ) → length (if special then 92 ∷ c ∷ [] else (if printed then c ∷ [] else decimal_escape c)) ≤ 4
-octet_by true printed c = omega arith
-octet_by false true c = omega arith
-octet_by false false c = omega arith
+octet_by special printed c = grind arith
 
 octets_length : (label : List ℕ) → length (flat_map octet_text label) ≤ 4 * length label
 octets_length [] = omega arith

@@ -39,20 +39,14 @@ labels_by-nil n = grind arith
 
 -- `labels_of` gives back the labels that `wire` writes, whatever follows
 pub labels_of-wire_append : (labels : List (List ℕ)) (rest : List ℕ) → AllByRecursion IsLabel labels → labels_of (wire labels ++ rest) ≡ labels
-labels_of-wire_append labels rest each =
-    let found = labels_of-frames labels (0 ∷ rest) each in
-    rw (append_assoc (flat_map with_length labels) (0 ∷ []) rest, found.1, labels_by-root found.0 rest) (append-nil labels)
+labels_of-wire_append labels rest each = grind (arith, labels_of-frames labels (0 ∷ rest) each, append_assoc (flat_map with_length labels) (0 ∷ []) rest, append-nil labels)
 
 pub labels_of-wire : (labels : List (List ℕ)) → AllByRecursion IsLabel labels → labels_of (wire labels) ≡ labels
-labels_of-wire labels each =
-    let found = labels_of-frames labels (0 ∷ []) each in
-    rw (found.1, labels_by-root found.0 []) (append-nil labels)
+labels_of-wire labels each = grind (arith, labels_of-frames labels (0 ∷ []) each, append-nil labels)
 
 -- frames with no root after them
 pub labels_of-open : (labels : List (List ℕ)) → AllByRecursion IsLabel labels → labels_of (flat_map with_length labels) ≡ labels
-labels_of-open labels each =
-    let found = labels_of-frames labels [] each in
-    cc (append-nil (flat_map with_length labels), labels_by-nil found.0, append-nil labels)
+labels_of-open labels each = grind (arith, labels_of-frames labels [] each, append-nil (flat_map with_length labels), append-nil labels)
 
 -- the octets of a name are a name
 pub HoldsName-wire : (labels : List (List ℕ)) → IsName labels → HoldsName (wire labels)

@@ -104,17 +104,14 @@ reached : (text : List ℕ) (before : List (List Written)) (open_label : List Wr
 reached text before open_label rest some r =
     let tail = written_text open_label ++ rest in
     let shape : text ≡ dotted before ++ tail = r.parts ∙ append_assoc (dotted before) (written_text open_label) rest in
-    let longer : 0 < length text = omega (arith, ap length shape, length-append (dotted before) tail, length-append (written_text open_label) rest) in
     let enough : length (dotted before ++ tail) < suc (length text) = omega (arith, ap length shape) in
     let closed = dots_read before tail [] (suc (length text)) r.labels r.short enough in
     let opened = label_reads open_label rest [] (named before) closed.0 r.octets (omega (arith, r.room)) closed.1 in
-    (opened.0, opened.1, cc (reading_is text longer))
+    grind (arith, append_assoc, length-append, dots_read, label_reads, reading_is)
 
 -- a step that fails where a walk has come to is what is read
 reads_fault : (text : List ℕ) (before : List (List Written)) (open_label : List Written) (rest : List ℕ) (ahead : Ahead) (fault : NameFault) → 0 < length rest → Reaches text before open_label rest → ahead_in rest ≡ ahead → step_at (named before) (written_octets open_label) ahead ≡ failed fault → reading text ≡ Err fault
-reads_fault text before open_label rest ahead fault some r at fails =
-    let walk = reached text before open_label rest some r in
-    cc (fault_by walk.0 (named before) (written_octets open_label) rest ahead fault walk.1 at fails)
+reads_fault text before open_label rest ahead fault some r at fails = grind (arith, reached text before open_label rest some r)
 
 full_step : (labels : List (List ℕ)) (open_label : List ℕ) (c : ℕ) (rest : List ℕ) → 63 ≤ length open_label → step_at labels open_label (at_octet c rest) ≡ failed LabelTooLong
 full_step labels open_label c rest full = grind (arith, le-leb)

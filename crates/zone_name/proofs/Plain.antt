@@ -134,9 +134,4 @@ plain_read text front old new is_absolute cut octets start w room same =
       each = labels-says_ok text labels is_absolute octets says;
       short = omega (arith, room, same, ap length frames, length-map new folded_octet, length-append (flat_map with_length labels) (0 ∷ []));
     } in
-    record {
-      labels = labels;
-      holds = rw frames (HoldsLabels-frames labels name);
-      reads = reading-says_ok text labels is_absolute says;
-      are = cc (labels_of-open labels name.each);
-    }
+    grind (arith, HoldsLabels-frames, reading-says_ok, labels_of-open)

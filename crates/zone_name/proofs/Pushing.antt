@@ -1,5 +1,6 @@
 -- A label that is added after others.
-use Rattle.zone_name.proofs.Common.{◌≡◌, ℕ, suc, ◌+◌, ◌<◌, ◌≤◌, true, false, Option, Result, IfOk, IfErr, Ok, Err, refl, List, [], ◌∷◌, ◌++◌, length, take, drop, get_or, sym, ap, ◌∙◌, subst, arith, append_assoc, length-append, map, flat_map, AllByRecursion, refill, length-map, append-nil, take_all, take_at, map-append, flat_map-append, le-leb, lt-leb, false≢true, nat_tests, IsLabel, IsName, IsFoldedOctet, folded_octet, folded_label, with_length, wire, labels_of, HoldsName, HoldsLabels, Collects, under_origin, sized, HoldsUnfolded, unfolded_labels, NameFault}
+use Rattle.std.proofs.lemmas.Grind.{common_steps}
+use Rattle.zone_name.proofs.Common.{◌≡◌, ℕ, suc, ◌+◌, ◌<◌, ◌≤◌, true, false, Option, Result, IfOk, IfErr, Ok, Err, refl, List, [], ◌∷◌, ◌++◌, length, take, drop, get_or, sym, ap, ◌∙◌, subst, arith, append_assoc, length-append, map, flat_map, AllByRecursion, refill, length-map, append-nil, take_all, take_at, map-append, flat_map-append, le-leb, lt-leb, false≢true, nat_tests, IsLabel, IsName, IsFoldedOctet, folded_octet, folded_label, with_length, wire, labels_of, HoldsName, HoldsLabels, Collects, under_origin, sized, HoldsUnfolded, unfolded_labels, NameFault, rules}
 use Rattle.std.specs.Result.{IsOk, OnOk}
 use Rattle.std.specs.Char.{to_ascii_lowercase}
 use Rattle.zone_name.specs.declared.reading.Spelled.{Spelled}
@@ -13,8 +14,7 @@ AllByRecursion-from_places P (c ∷ octets) each = (each 0 (omega arith), AllByR
 
 -- what holds of the parts holds of the whole, and the other way round
 pub AllByRecursion-append : {X : Type 0} (P : X → Type 0) (xs ys : List X) → AllByRecursion P xs → AllByRecursion P ys → AllByRecursion P (xs ++ ys)
-AllByRecursion-append P [] ys left right = right
-AllByRecursion-append P (x ∷ xs) ys left right = (left.0, AllByRecursion-append P xs ys left.1 right)
+AllByRecursion-append P xs ys left right = grind (arith, common_steps)
 
 pub AllByRecursion-front : {X : Type 0} (P : X → Type 0) (xs ys : List X) → AllByRecursion P (xs ++ ys) → AllByRecursion P xs
 AllByRecursion-front P [] ys each = tt
@@ -48,10 +48,7 @@ frames_push labels label = grind (arith, flat_map-append, append-nil)
 
 -- labels with one more after them, where there is room
 IsName-push : (labels : List (List ℕ)) (label : List ℕ) → IsName labels → IsLabel label → length (flat_map with_length labels) + length label + 2 ≤ 255 → IsName (labels ++ label ∷ [])
-IsName-push labels label name is room = record {
-  each = AllByRecursion-append IsLabel labels (label ∷ []) name.each (is, tt);
-  short = omega (arith, length-append (flat_map with_length (labels ++ label ∷ [])) (0 ∷ []), ap length (frames_push labels label), length-append (flat_map with_length labels) (with_length label));
-}
+IsName-push labels label name is room = grind (arith, common_steps)
 
 -- frames hold the labels
 pub HoldsLabels-frames : (labels : List (List ℕ)) → IsName labels → HoldsLabels (flat_map with_length labels)
@@ -65,23 +62,18 @@ pub record Pushed (octets label new : List ℕ) : Type 0 where
 pub push_frame : (octets label new : List ℕ) → HoldsLabels octets → IsLabel label → length octets + length label + 2 ≤ 255 → new ≡ octets ++ with_length label → Pushed octets label new
 push_frame octets label new holds is room e =
     let name = IsName-push (labels_of octets) label holds.name is (rw holds.whole room) in
-    let text : flat_map with_length (labels_of octets ++ label ∷ []) ≡ new = cc (frames_push (labels_of octets) label) in
-    let gives : labels_of new ≡ labels_of octets ++ label ∷ [] = cc (labels_of-open (labels_of octets ++ label ∷ []) name.each) in
-    record { holds = record { whole = cc; name = rw gives name }; gives = gives }
+    grind (arith, IsName-push, frames_push, labels_of-open)
 
 -- no labels
 pub HoldsLabels-nil : (octets : List ℕ) → octets ≡ [] → HoldsLabels octets
-HoldsLabels-nil octets e =
-    let none : HoldsLabels [] = record { whole = ap (flat_map with_length) (labels_of-open [] tt); name = rw (labels_of-open [] tt) (record { each = tt; short = omega arith }) } in
-    rw e none
+HoldsLabels-nil octets e = grind (arith, labels_of-open [] tt)
 
 pub labels_of-none : (octets : List ℕ) → octets ≡ [] → labels_of octets ≡ []
 labels_of-none octets e = ap labels_of e ∙ labels_of-open [] tt
 
 -- the root's octet makes a name of them
 pub HoldsName-finish : (octets new : List ℕ) → HoldsLabels octets → new ≡ octets ++ 0 ∷ [] → HoldsName new
-HoldsName-finish octets new holds e =
-    subst HoldsName (cc) (HoldsName-wire (labels_of octets) holds.name)
+HoldsName-finish octets new holds e = grind (arith, HoldsName-wire (labels_of octets) holds.name)
 
 pub labels_of-finish : (octets new : List ℕ) → HoldsLabels octets → new ≡ octets ++ 0 ∷ [] → labels_of new ≡ labels_of octets
 labels_of-finish octets new holds e = grind (arith, labels_of-wire)
@@ -99,9 +91,7 @@ pub folded_frame : (octets label pushed new : List ℕ) → length label ≤ 63 
 folded_frame octets label pushed new short first after = grind (arith, append_assoc, map-append, folded_length, length-map)
 
 pub push_unfolded : (octets label pushed new : List ℕ) → HoldsUnfolded octets → AllByRecursion (λ x. x < 256) label → 0 < length label → length label ≤ 63 → length octets + length label + 2 ≤ 255 → pushed ≡ octets ++ length label ∷ [] → new ≡ pushed ++ label → Pushed (map folded_octet octets) (folded_label label) (map folded_octet new)
-push_unfolded octets label pushed new holds each some short room first after =
-    let space : length (map folded_octet octets) + length (folded_label label) + 2 ≤ 255 = omega (arith, room, length-map label folded_octet, length-map octets folded_octet) in
-    push_frame (map folded_octet octets) (folded_label label) (map folded_octet new) holds (IsLabel-folded label some short each) space (folded_frame octets label pushed new short first after)
+push_unfolded octets label pushed new holds each some short room first after = search (rules, length-map, push_frame, IsLabel-folded, folded_frame)
 
 pub HoldsUnfolded-nil : (octets : List ℕ) → octets ≡ [] → HoldsUnfolded octets
 HoldsUnfolded-nil octets e = HoldsLabels-nil (map folded_octet octets) (ap (map folded_octet) e)
@@ -119,12 +109,7 @@ joined octets others new left right holds is name text e room =
     let shape : wire (left ++ right) ≡ new =
     ap (λ t. t ++ 0 ∷ []) (flat_map-append with_length left right) ∙ append_assoc (flat_map with_length left) (flat_map with_length right) (0 ∷ [])
     ∙ ap (λ t. flat_map with_length t ++ wire right) (sym is) ∙ ap (λ t. t ++ wire right) holds.whole ∙ ap (λ t. octets ++ t) (sym text) ∙ sym e in
-    let each : AllByRecursion IsLabel left = rw is at holds.name.each in
-    let both : IsName (left ++ right) = record {
-      each = AllByRecursion-append IsLabel left right each name.each;
-      short = omega (arith, ap length shape, ap length e, length-append octets others);
-    } in
-    record { holds = subst HoldsName shape (HoldsName-wire (left ++ right) both); gives = cc (labels_of-wire (left ++ right) both.each) }
+    grind (arith, flat_map-append, append_assoc, AllByRecursion-append, length-append, HoldsName-wire, labels_of-wire)
 
 -- a name's labels have its size
 pub sized-name : (labels : List (List ℕ)) → length (wire labels) ≤ 255 → sized labels ≡ Ok labels
@@ -139,8 +124,7 @@ sized-joined left right new name both is = grind (arith, sized-name)
 
 -- what puts letters in lower case folds them
 lowered : (octets : List ℕ) → map to_ascii_lowercase octets ≡ map folded_octet octets
-lowered [] = refl
-lowered (c ∷ octets) = grind (arith, lowered octets)
+lowered octets = grind arith
 
 -- what is written over all octets takes their place
 pub refilled : (octets new : List ℕ) → length new ≡ length octets → refill (length octets) octets new ≡ new

@@ -1,4 +1,5 @@
 -- What the walk over a text finds is what the text spells: from the left, as far as it has come.
+use Rattle.std.proofs.lemmas.Grind.{common_steps}
 use Rattle.zone_name.proofs.Common.{◌≡◌, ◌≢◌, ℕ, zero, suc, ◌<◌, ◌≤◌, Bool, true, false, nat_le, if◌then◌else◌, List, [], ◌∷◌, ◌++◌, length, codes, Result, Ok, Err, refl, sym, ap, ◌∙◌, subst, inl, inr, arith, append_assoc, length-append, AllByRecursion, append-nil, map_push, length-map, flat_map-append, nat_tests, folded_label, Written, text_of, octet_of, IsUnit, is_dot, IsWrittenLabel, AreWrittenLabels, written_text, written_octets, dotted, parted, named, Reaches, FaultAt, empty_label, long_label, bad_escape, NameFault, Ahead, at_end, at_dot, at_octet, at_fault, failed, goes, step_at, read}
 use Rattle.zone_name.specs.declared.fault.NameFault.TheVariants.{LabelTooLong}
 use Rattle.zone_name.specs.Machine.LabelWalk.{reading}
@@ -46,33 +47,14 @@ regroup : (a b more : List ℕ) → a ++ b ++ 46 ∷ more ≡ a ++ (b ++ 46 ∷ 
 regroup a b more = grind (arith, append-nil, append_assoc)
 
 reaches_label : (text : List ℕ) (before : List (List Written)) (w : Written) (label : List Written) (rest more : List ℕ) → Reaches text before (w ∷ label) rest → rest ≡ 46 ∷ more → Reaches text (before ++ (w ∷ label) ∷ []) [] more
-reaches_label text before w label rest more r e = record {
-  labels = AllByRecursion-append IsWrittenLabel before ((w ∷ label) ∷ []) r.labels (record { some = omega arith; each = r.octets }, tt);
-  short = AllByRecursion-append (λ l. length l ≤ 63) before ((w ∷ label) ∷ []) r.short (r.room, tt);
-  octets = tt;
-  room = omega arith;
-  parts = cc (regroup (dotted before) (written_text (w ∷ label)) more, dotted_push before (w ∷ label));
-}
+reaches_label text before w label rest more r e = grind (arith, common_steps)
 
 reaches_octet : (text : List ℕ) (before : List (List Written)) (label : List Written) (w : Written) (rest more : List ℕ) → Reaches text before label rest → IsUnit is_dot w → rest ≡ text_of w ++ more → length label < 63 → Reaches text before (label ++ w ∷ []) more
-reaches_octet text before label w rest more r is e room = record {
-  labels = r.labels;
-  short = r.short;
-  octets = AllByRecursion-append (IsUnit is_dot) label (w ∷ []) r.octets (is, tt);
-  room = omega (arith, length-append label (w ∷ []));
-  parts = cc (append_assoc (dotted before ++ written_text label) (text_of w) more, append_assoc (dotted before) (written_text label) (text_of w), text_push label w);
-}
+reaches_octet text before label w rest more r is e room = grind (arith, common_steps)
 
 -- ---- the ends
 absolute_end : (text : List ℕ) (before : List (List Written)) (rest : List ℕ) → 0 < length text → Reaches text before [] rest → rest ≡ [] → Finds dotted text (named before)
-absolute_end text [] rest some r e = absurd (omega (arith, ap length (r.parts ∙ e)))
-absolute_end text (l ∷ ls) rest some r e = record {
-  written = l ∷ ls;
-  are = record { some = omega arith; each = r.labels };
-  short = r.short;
-  text_is = r.parts ∙ ap (λ t. dotted (l ∷ ls) ++ [] ++ t) e ∙ append-nil (dotted (l ∷ ls) ++ []) ∙ append-nil (dotted (l ∷ ls));
-  labels_are = refl;
-}
+absolute_end text before rest some r e = grind (arith, common_steps)
 
 relative_end : (text : List ℕ) (before : List (List Written)) (w : Written) (label : List Written) (rest : List ℕ) → Reaches text before (w ∷ label) rest → rest ≡ [] → Finds parted text (named before ++ folded_label (written_octets (w ∷ label)) ∷ [])
 relative_end text before w label rest r e = record {

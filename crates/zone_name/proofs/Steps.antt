@@ -1,4 +1,5 @@
 -- The walk over a text: what was read so far, and what it leads to.
+use Rattle.std.proofs.lemmas.Grind.{common_steps}
 use Rattle.zone_name.proofs.Common.{◌≡◌, ℕ, zero, suc, ◌<◌, ◌≤◌, ◌||◌, Bool, true, false, List, [], ◌∷◌, ◌++◌, length, Result, Ok, Err, refl, sym, ap, ◌∙◌, inl, inr, arith, length-append, lt-leb, le-leb, flat_map-append, folded_label, wire, IsBadEscape, EndsLabel, NameFault, Ahead, at_dot, at_octet, at_fault, ahead_in, Step, done, failed, goes, step_at, read, Collects, Closes, Joins, Goes, EndsInFault, RefusesLabel, empty, long, EndsLabelAt}
 use Rattle.zone_name.specs.declared.fault.NameFault.TheVariants.{EmptyLabel, LabelTooLong, NameTooLong, BadEscape, RelativeName}
 use Rattle.zone_name.specs.Machine.LabelWalk.{reading}
@@ -12,10 +13,7 @@ after_step n (failed fault) = Err fault
 after_step n (goes more open_next left) = read n more open_next left
 
 pub read_step : (n : ℕ) (labels : List (List ℕ)) (open_label rest : List ℕ) (ahead : Ahead) → ahead_in rest ≡ ahead → read (suc n) labels open_label rest ≡ after_step n (step_at labels open_label ahead)
-read_step n labels open_label rest ahead e = cc (by (step_at labels open_label (ahead_in rest)) refl)
-  where
-    by : (s : Step) → step_at labels open_label (ahead_in rest) ≡ s → read (suc n) labels open_label rest ≡ after_step n (step_at labels open_label (ahead_in rest))
-    by s h = refl
+read_step n labels open_label rest ahead e = cc
 
 -- an octet of a label that has room
 pub octet_step : (n : ℕ) (labels : List (List ℕ)) (open_label after : List ℕ) (c : ℕ) → length open_label < 63 → after_step n (step_at labels open_label (at_octet c after)) ≡ read n labels (open_label ++ c ∷ []) after
@@ -30,8 +28,7 @@ bad_step labels open_label = cc
 
 octet_by : (fuel : ℕ) (labels : List (List ℕ)) (open_label rest after : List ℕ) (c : ℕ) → length rest < fuel → ahead_in rest ≡ at_octet c after → length open_label < 63 → (n : ℕ) × (length rest < suc n) × (read fuel labels open_label rest ≡ read n labels (open_label ++ c ∷ []) after)
 octet_by zero labels open_label rest after c enough e room = absurd (omega arith)
-octet_by (suc n) labels open_label rest after c enough e room =
-    (n, enough, read_step n labels open_label rest (at_octet c after) e ∙ octet_step n labels open_label after c room)
+octet_by (suc n) labels open_label rest after c enough e room = grind (arith, read_step n labels open_label rest (at_octet c after) e, octet_step n labels open_label after c room)
 
 pub fault_by : (fuel : ℕ) (labels : List (List ℕ)) (open_label rest : List ℕ) (ahead : Ahead) (fault : NameFault) → length rest < fuel → ahead_in rest ≡ ahead → step_at labels open_label ahead ≡ failed fault → read fuel labels open_label rest ≡ Err fault
 fault_by fuel labels open_label rest ahead fault enough e fails = grind (arith, read_step)
@@ -104,9 +101,7 @@ wire-more : (labels : List (List ℕ)) (label : List ℕ) → 255 < length (wire
 wire-more labels label over = grind (arith, flat_map-append, length-append)
 
 joined_collects : (before after labels : List (List ℕ)) (label : List ℕ) (is_too_long is_left_out : Bool) → Collects before is_too_long labels → Joins before label is_left_out after → Collects after (is_too_long || is_left_out) (labels ++ folded_label label ∷ [])
-joined_collects before after labels label true is_left_out collects joins = grind (arith, wire-more)
-joined_collects before after labels label false true collects joins = grind arith
-joined_collects before after labels label false false collects joins = cc
+joined_collects before after labels label is_too_long is_left_out collects joins = grind (arith, wire-more)
 
 -- a label's end, as the next step finds it
 end_step : (fuel : ℕ) (labels : List (List ℕ)) (label rest : List ℕ) → length rest < fuel → 0 < length label → rest ≡ [] → read fuel labels label rest ≡ Ok (labels ++ folded_label label ∷ [], false)
@@ -115,9 +110,7 @@ end_step fuel labels label rest enough some e = grind (arith, read_step)
 dot_step : (fuel : ℕ) (labels : List (List ℕ)) (label rest more : List ℕ) → length rest < fuel → 0 < length label → rest ≡ 46 ∷ more → (m : ℕ) × (length more < m) × (read fuel labels label rest ≡ read m (labels ++ folded_label label ∷ []) [] more)
 dot_step zero labels label rest more enough some e = absurd (omega arith)
 dot_step (suc n) labels [] rest more enough some e = absurd (omega arith)
-dot_step (suc n) labels (c ∷ label) rest more enough some e =
-    let left : length more < n = omega (arith, enough, ap length e) in
-    (n, left, read_step n labels (c ∷ label) rest (at_dot more) (ap ahead_in e))
+dot_step (suc n) labels (c ∷ label) rest more enough some e = grind (arith, read_step n labels (c ∷ label) rest (at_dot more) (ap ahead_in e))
 
 dot_is : (rest more : List ℕ) (c : ℕ) → EndsLabel rest → rest ≡ c ∷ more → rest ≡ 46 ∷ more
 dot_is rest more c h is = grind arith
@@ -127,13 +120,7 @@ pub Reads-label : (text : List ℕ) (before after : List (List ℕ)) (is_too_lon
 Reads-label text before after is_too_long is_left_out rest label following more c reads at closes is =
     let reached = at.goes reads.labels reads.fuel reads.enough in
     let next = dot_step reached.0 reads.labels label following more reached.1 closes.some (dot_is following more c at.ends is) in
-    record {
-      labels = reads.labels ++ folded_label label ∷ [];
-      collects = joined_collects before after reads.labels label is_too_long is_left_out reads.collects closes.joins;
-      fuel = next.0;
-      enough = next.1;
-      leads = cc;
-    }
+    grind (arith, common_steps)
 
 -- at the end of the text, in a label
 pub Reads-relative : (text : List ℕ) (before after : List (List ℕ)) (is_too_long is_left_out : Bool) (rest label following : List ℕ) → Reads text before is_too_long rest → EndsLabelAt rest label following → Closes before label is_left_out after → following ≡ [] → (labels : List (List ℕ)) × (reading text ≡ Ok (labels, false)) × Collects after (is_too_long || is_left_out) labels

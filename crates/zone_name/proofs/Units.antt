@@ -1,4 +1,5 @@
 -- Written octets at the beginning of a text: what is read is so, and what is so is read.
+use Rattle.std.proofs.lemmas.Grind.{common_steps}
 use Rattle.zone_name.proofs.Common.{◌≡◌, ◌≢◌, ℕ, zero, suc, ◌≤◌, ◌<◌, Bool, true, false, ◌&&◌, ◌||◌, ◌==◌, nat_le, if◌then◌else◌, List, [], ◌∷◌, ◌++◌, length, Option, Some, None, refl, sym, ap, ◌∙◌, subst, arith, append_assoc, length-append, option_map, AllByRecursion, and_parts, or_parts, or_cases, eqb-true, eqb-false, ne_eqb, leb-true, le-leb, both_ways, cond_both, Written, plain, escaped, decimal, text_of, octet_of, written_text, IsEscape, IsUnit, IsBadEscape, BeginsWithEscape, BeginsWithUnit, is_digit, no_octet}
 use Rattle.std.specs.Prelude.{IfSome}
 use Rattle.zone_name.specs.Machine.Units.{decimal_first, digits_first, escape_first, unit_first, Units, units_then, units_by, units_first, valued}
@@ -57,9 +58,7 @@ SaysEscape text None = IsBadEscape text
 SaysEscape text (Some (w, rest)) = IsEscape w × (text ≡ text_of w ++ rest)
 
 decimal_is : (x y z : ℕ) (rest : List ℕ) → is_digit x ≡ true → SaysEscape (92 ∷ x ∷ y ∷ z ∷ rest) (decimal_first x y z rest)
-decimal_is x y z rest d =
-    cond_both (is_decimal x y z) (Some (decimal x y z, rest)) None (SaysEscape (92 ∷ x ∷ y ∷ z ∷ rest)) (λ e. (passed x y z e, refl))
-    (λ e. (x ∷ y ∷ z ∷ rest, refl, no_decimal x y z rest d e))
+decimal_is x y z rest d = grind arith
 
 digits_are : (x : ℕ) (rest : List ℕ) → is_digit x ≡ true → SaysEscape (92 ∷ x ∷ rest) (digits_first x rest)
 digits_are x rest d = grind (arith, one_digit, two_digits, decimal_is)
@@ -88,22 +87,7 @@ pub first_of_unit : (left_out : ℕ → Bool) (w : Written) (rest : List ℕ) �
 first_of_unit left_out w rest backslash is = grind (arith, ne_eqb, passes)
 
 no_unit_by : (left_out : ℕ → Bool) (octets : List ℕ) (found : Option (Written × List ℕ)) → IsFirst left_out octets found → NoUnit left_out octets → left_out 92 ≡ false → found ≡ None
-no_unit_by left_out octets None is none backslash = refl
-no_unit_by left_out octets (Some (w, rest)) is none backslash = absurd (elim none as (λ n. ⊥) [
-  | at_end e ↦ some_text w rest (sym is.1 ∙ e)
-  | at_octet c more e end ↦ unit_begins w rest c more is.0 (sym is.1 ∙ e) end
-  | at_backslash bad ↦ bad.2 w rest (escape_of_unit left_out w rest bad.0 is.0 (cc)) is.1
-])
-  where
-    some_text : (w : Written) (rest : List ℕ) → text_of w ++ rest ≡ [] → ⊥
-    some_text (plain c) rest e = cc
-    some_text (escaped c) rest e = cc
-    some_text (decimal x y z) rest e = cc
-
-    unit_begins : (w : Written) (rest : List ℕ) (c : ℕ) (more : List ℕ) → IsUnit left_out w → text_of w ++ rest ≡ c ∷ more → left_out c ≡ true → ⊥
-    unit_begins (plain d) rest c more is e end = let same : d ≡ c = cc in both_ways (left_out c) (ap left_out (sym same) ∙ is.0) end
-    unit_begins (escaped d) rest c more is e end = let same : 92 ≡ c = cc in both_ways (left_out c) (ap left_out (sym same) ∙ backslash) end
-    unit_begins (decimal x y z) rest c more is e end = let same : 92 ≡ c = cc in both_ways (left_out c) (ap left_out (sym same) ∙ backslash) end
+no_unit_by left_out octets found is none backslash = grind arith
 
 pub first_of_none : (left_out : ℕ → Bool) (octets : List ℕ) → left_out 92 ≡ false → NoUnit left_out octets → unit_first left_out octets ≡ None
 first_of_none left_out octets backslash none = grind (arith, no_unit_by, first_is)
@@ -131,8 +115,7 @@ units_by_first left_out octets go_on (Some (w, rest)) is more = one_more left_ou
 
 units_are : (n : ℕ) (left_out : ℕ → Bool) (octets : List ℕ) → length octets ≤ n → UnitsAre left_out octets (units_by n left_out octets)
 unfolding units_by
-units_are zero left_out [] enough = record { whole = refl; each = tt; none = at_end refl }
-units_are zero left_out (c ∷ octets) enough = absurd (omega arith)
+units_are zero left_out octets enough = grind (arith, common_steps)
 units_are (suc n) left_out octets enough = units_by_first left_out octets (units_by n left_out) (unit_first left_out octets) (first_is left_out octets) (λ rest less. units_are n left_out rest (omega arith))
 
 units_only : (n : ℕ) (left_out : ℕ → Bool) (units : List Written) (rest : List ℕ) → left_out 92 ≡ false → length (written_text units ++ rest) ≤ n → AllByRecursion (IsUnit left_out) units → NoUnit left_out rest → units_by n left_out (written_text units ++ rest) ≡ record { units = units; rest = rest }
@@ -152,18 +135,12 @@ units_first_are left_out octets = units_are (length octets) left_out octets (ome
 
 pub units_first_only : (left_out : ℕ → Bool) (octets : List ℕ) (units : List Written) (rest : List ℕ) → left_out 92 ≡ false → octets ≡ written_text units ++ rest → AllByRecursion (IsUnit left_out) units → NoUnit left_out rest → units_first left_out octets ≡ record { units = units; rest = rest }
 unfolding units_first
-units_first_only left_out octets units rest backslash e each none =
-    rw (← e) at (units_only (length (written_text units ++ rest)) left_out units rest backslash (omega arith) each none)
+units_first_only left_out octets units rest backslash e each none = cc (units_only (length (written_text units ++ rest)) left_out units rest backslash (omega arith) each none)
 
 -- ---- what the code finds of an escape
 
 pub valued_escape : {A : Type 0} (f : A → ℕ × List ℕ) (found : Option A) (x : ℕ) (rest text : List ℕ) → text ≡ x ∷ rest → is_digit x ≡ true → option_map f found ≡ valued (digits_first x rest) → IfSome found (λ a. BeginsWithEscape (92 ∷ text) (f a).0 (f a).1)
-valued_escape f None x rest text e d h = tt
-valued_escape f (Some a) x rest text e d h = by (digits_first x rest) (digits_are x rest d) h
-  where
-    by : (read : Option (Written × List ℕ)) → SaysEscape (92 ∷ x ∷ rest) read → Some (f a) ≡ valued read → BeginsWithEscape (92 ∷ text) (f a).0 (f a).1
-    by None says h = absurd (cc)
-    by (Some (w, more)) says h = record { escape = w; is_escape = says.0; value = let same : f a ≡ (octet_of w, more) = cc in sym (ap (λ p. p.0) same); parts = let same : f a ≡ (octet_of w, more) = cc in cc }
+valued_escape f found x rest text e d h = grind arith
 
 pub escaped_found : (x : ℕ) (rest text : List ℕ) → text ≡ x ∷ rest → is_digit x ≡ false → x ≢ 10 → x ≢ 13 → BeginsWithEscape (92 ∷ text) x rest
 escaped_found x rest text e d n m = record { escape = escaped x; is_escape = (d, n, m); value = refl; parts = ap (λ t. 92 ∷ t) e }
