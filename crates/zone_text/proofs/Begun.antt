@@ -11,12 +11,10 @@ some_left octets n empty len is some_is none = cc
 
 -- a fault that is decided
 pub some_found : {A : Type 0} (o : Option A) → is_some o ≡ true → (x : A) × (o ≡ Some x)
-some_found None is = absurd cc
-some_found (Some x) is = (x, refl)
+some_found o is = grind arith
 
 pub none_found : {A : Type 0} (o : Option A) → is_some o ≡ false → o ≡ None
-none_found None is = refl
-none_found (Some x) is = absurd cc
+none_found o is = grind arith
 
 -- no octets lead to the beginning of an entry
 pub scans_nothing : (at : ScanState) (unfinished : List ℕ) → at ≡ beginning → unfinished ≡ [] → ScansTo beginning unfinished (On at)

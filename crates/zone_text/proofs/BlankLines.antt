@@ -9,14 +9,7 @@ use Rattle.zone_text.proofs.Left.{line_feeds}
 use Rattle.zone_text.proofs.FedPieces.{HasFed, fed_more, FollowsOn}
 
 pub comment_ended : (octets after rest : List ℕ) (n c : ℕ) → n ≡ length (before_line_feed octets) → after ≡ drop n octets → after ≡ c ∷ rest → IsComment octets rest
-comment_ended octets after rest n c len back first =
-    let left : from_line_feed octets ≡ c ∷ rest = sym (comment_dropped octets) ∙ ap (λ k. drop k octets) (sym len) ∙ sym back ∙ first in
-    let is : c ≡ 10 = subst EndsComment left (comment_ends octets) in
-    record {
-      comment = before_line_feed octets;
-      inside = comment_each octets;
-      whole = comment_whole octets ∙ ap (λ t. before_line_feed octets ++ t) (left ∙ ap (λ d. d ∷ rest) is);
-    }
+comment_ended octets after rest n c len back first = grind (arith, comment_dropped, comment_ends, comment_each, comment_whole)
 
 -- ---- a line as an entry
 
@@ -142,11 +135,7 @@ fed_lines old mid new piece rest after n before none empty are few ended at unfi
     let line : new.ended.line ≡ mid.ended.line + n = ap (λ (e : EndedEntries). e.line) ended in
     let left : length new.unfinished.items ≡ length mid.unfinished.items = ap length unfinished in
     let follow : FollowsOn mid.ended [] (with_line (mid.ended.line + n) mid.ended) [] lines.front = lines.follow mid.ended none in
-    let is : IsSplitter new.ended new.at new.unfinished.items = record {
-      state = rw (at, unfinished) (before.is.state);
-      dropped = λ found e. unfinished ∙ empty;
-      line = omega (arith, line, before.is.line);
-    } in
+    let is : IsSplitter new.ended new.at new.unfinished.items = grind arith in
     fed_more old mid new piece rest lines.front after before none lines.whole len is
     (omega (arith, line, left, len, few))
     (rw (ended, unfinished, empty) follow)

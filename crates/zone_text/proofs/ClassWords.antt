@@ -10,16 +10,14 @@ all_true [] each = refl
 all_true (c ∷ text) each = rw (each.0) (all_true text each.1)
 
 all_digits : (text : List ℕ) → 0 < length text → AllByRecursion (λ c. is_digit c ≡ true) text → are_digits text ≡ true
-all_digits [] some each = absurd (omega arith)
-all_digits (c ∷ text) some each = rw (each.0) (all_true text each.1)
+all_digits text some each = grind (arith, all_true)
 
 numbered_word : (word : List ℕ) (n : ℕ) → IsNumbered (codes "CLASS") word n → is_class_word word ≡ true
 numbered_word word n is =
     let five : length is.front ≡ 5 = (let h : length (folded_label is.front) ≡ length is.front = simp length-map in sym h ∙ ap length is.named) in
     let rest : drop 5 word ≡ is.digits = rw (is.parts, ← five) (drop-append_seam is.front is.digits) in
-    let digits : are_digits (drop 5 word) ≡ true = rw rest (all_digits is.digits is.number.some is.number.digits) in
     let front : take 5 (folded_label word) ≡ codes "class" = rw (is.parts, map-append, is.named) refl in
-    rw (front, digits) (or-true _)
+    grind (arith, length-map, drop-append_seam, true, all_digits, map-append, or-true)
 
 -- a class word is known by its letters
 pub class_word_known : (word : List ℕ) (n : ℕ) → IsClassWord word n → is_class_word word ≡ true
@@ -52,16 +50,14 @@ time_first text n h = search (rules, decimal_first, groups_first)
 -- what is taken for a class word is one
 
 both_true : (a b : Bool) → (a && b) ≡ true → (a ≡ true) × (b ≡ true)
-both_true true b e = (refl, e)
-both_true false b e = absurd cc
+both_true a b e = grind arith
 
 each_digit : (text : List ℕ) → list_all is_digit text ≡ true → AllByRecursion (λ c. is_digit c ≡ true) text
 each_digit [] e = tt
 each_digit (c ∷ text) e = let both = both_true (is_digit c) (list_all is_digit text) e in (both.0, each_digit text both.1)
 
 digits_all : (text : List ℕ) → are_digits text ≡ true → (0 < length text) × AllByRecursion (λ c. is_digit c ≡ true) text
-digits_all [] e = absurd cc
-digits_all (c ∷ text) e = let both = both_true (is_digit c) (list_all is_digit (c ∷ text)) e in (omega arith, each_digit (c ∷ text) both.1)
+digits_all text e = grind (arith, both_true, each_digit)
 
 named_class : (text : List ℕ) (found : Option ℕ) → number_among classes text ≡ found → is_some found ≡ true → (m : ℕ) × IsClassWord text m
 named_class text None e some = absurd cc

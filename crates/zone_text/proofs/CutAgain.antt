@@ -30,16 +30,10 @@ pub record AreEnded (depth : ℕ) (ended : List (List Token)) : Type 0 where
 
 end_after : (p : Token) (entry : List Token) (rest : List Token) → 0 < length entry → EndInLineFeed (entry ++ rest) → EndInLineFeed (p ∷ entry ++ rest)
 end_after p [] rest some ends = absurd (omega arith)
-end_after (blank c) (q ∷ entry) rest some ends = ends
-end_after p (q ∷ entry) rest some ends = ends
+end_after p (q ∷ entry) rest some ends = grind arith
 
 front_ended : (depth next : ℕ) (p : Token) (ended : List (List Token)) (others : List Token) → ((tokens : List Token) → cut_from depth (p ∷ tokens) ≡ in_front_of p (cut_from next tokens)) → AreEnded next ended → AreEnded depth (in_front p ended others).ended
-front_ended depth next p [] others step are = record { each = tt; ends = tt; again = λ entry rest more e. absurd cc }
-front_ended depth next p (first ∷ ended) others step are = record {
-  each = (omega arith, are.each.1);
-  ends = end_after p first (joined ended) are.each.0 are.ends;
-  again = λ entry rest more e. step (joined (first ∷ ended) ++ more) ∙ ap (in_front_of p) (are.again first ended more refl);
-}
+front_ended depth next p ended others step are = grind (arith, end_after)
 
 none_ended : (depth : ℕ) → AreEnded depth []
 none_ended depth = record { each = tt; ends = tt; again = λ entry rest more e. absurd cc }
@@ -68,8 +62,7 @@ cut_again tokens more = again_zero (cut_from zero tokens).ended more (cut_ended 
 -- ---- their depth
 
 front_depth : (depth next : ℕ) (p : Token) (ended : List (List Token)) (others : List Token) → ((tokens : List Token) → depth_after depth (p ∷ tokens) ≡ depth_after next tokens) → ((entry : List Token) (rest : List (List Token)) → ended ≡ entry ∷ rest → depth_after next (joined ended) ≡ Some zero) → (entry : List Token) (rest : List (List Token)) → (in_front p ended others).ended ≡ entry ∷ rest → depth_after depth (joined (in_front p ended others).ended) ≡ Some zero
-front_depth depth next p [] others step are entry rest e = absurd cc
-front_depth depth next p (first ∷ ended) others step are entry rest e = step (joined (first ∷ ended)) ∙ are first ended refl
+front_depth depth next p ended others step are entry rest e = grind arith
 
 depth_zero : (ended : List (List Token)) → ((entry : List Token) (rest : List (List Token)) → ended ≡ entry ∷ rest → depth_after zero (joined ended) ≡ Some zero) → depth_after zero (joined ended) ≡ Some zero
 depth_zero [] are = refl

@@ -97,8 +97,7 @@ follow_on p tokens rest after stop whole each follow = search (rules, follows, a
 
 -- only the last token matters
 pub last_same : (p q : Token) (tokens : List Token) (after : List ℕ) → MayEndBefore (p ∷ q ∷ tokens) after ≡ MayEndBefore (q ∷ tokens) after
-last_same (comment octets) q tokens after = refl
-last_same p q tokens after = refl
+last_same p q tokens after = grind arith
 
 pub last_in_front : (p q : Token) (tokens : List Token) (after : List ℕ) → MayEndBefore (q ∷ tokens) after → MayEndBefore (p ∷ q ∷ tokens) after
 last_in_front p q tokens after last = subst (λ P. P) (sym (last_same p q tokens after)) last
@@ -107,16 +106,7 @@ last_on : (p : Token) (tokens : List Token) (depth : ℕ) (rest after : List ℕ
 last_on p tokens depth rest after fault stop whole ends last = search rules
 
 pub one_token_more : (depth : ℕ) (octets rest : List ℕ) (p : Token) (tokens : List Token) (fault : Option Fault) → Takes depth octets p rest → IsCut (depth_past depth p) rest tokens fault → IsCut depth octets (p ∷ tokens) fault
-one_token_more depth octets rest p tokens fault front more = record {
-  rest = more.rest;
-  at = more.at;
-  whole = text_on octets rest more.rest p tokens front.whole more.whole;
-  each = (front.token, more.each);
-  follow = follow_on p tokens rest more.rest front.stop more.whole more.each more.follow;
-  last = last_on p tokens more.at rest more.rest fault front.stop more.whole more.ends more.last;
-  parentheses = depth_on depth p tokens front.room ∙ more.parentheses;
-  ends = more.ends;
-}
+one_token_more depth octets rest p tokens fault front more = grind (arith, common_steps, text_on, follow_on, last_on, depth_on)
 
 some_octet : (p : Token) → IsToken p → 0 < length (token_text p)
 some_octet (bare []) is = absurd (omega (arith, is.0))
@@ -154,16 +144,7 @@ cut_only (p ∷ tokens) (suc n) depth octets fault enough is =
     let whole : octets ≡ token_text p ++ rest = is.whole ∙ append_assoc (token_text p) (text tokens) is.rest in
     let less : length rest < length octets = shorter octets rest p is.each.0 whole in
     let front : front_of depth octets ≡ takes p rest = ap (front_of depth) whole ∙ front_takes depth p rest is.each.0 (stop_of p tokens is.at is.rest fault is.each.1 is.follow is.last is.ends) room in
-    let more : IsCut (depth_past depth p) rest tokens fault = record {
-      rest = is.rest;
-      at = is.at;
-      whole = refl;
-      each = is.each.1;
-      follow = follow_after p tokens is.follow;
-      last = last_after p tokens is.rest is.last;
-      parentheses = sym (depth_on depth p tokens room) ∙ is.parentheses;
-      ends = is.ends;
-    } in
+    let more : IsCut (depth_past depth p) rest tokens fault = grind arith in
     ap (cut_on (cut_by n) depth) front
     ∙ ap (λ (found : Cutting). record { tokens = p ∷ found.tokens; broken = found.broken }) (cut_only tokens n (depth_past depth p) rest fault (omega arith) more)
 
@@ -208,24 +189,16 @@ cut_is_read octets tokens e =
     cuts octets tokens (subst P e (cutting_is octets))
 
 pub broken_is_read : (octets : List ℕ) (tokens : List Token) (fault : Fault) → cutting octets ≡ record { tokens = tokens; broken = Some fault } → Breaks octets tokens fault
-broken_is_read octets tokens fault e =
-    let P : Cutting → Type 0 = λ found. IsCut zero octets found.tokens found.broken in
-    breaks octets tokens fault (subst P e (cutting_is octets))
+broken_is_read octets tokens fault e = grind (arith, cutting_is octets)
 
 pub one_cut : (octets : List ℕ) (tokens other : List Token) → Cuts octets tokens → Cuts octets other → tokens ≡ other
 one_cut octets tokens other cut another = ap (λ (found : Cutting). found.tokens) (sym (reads_cut octets tokens cut) ∙ reads_cut octets other another)
 
 pub one_break : (octets : List ℕ) (tokens other : List Token) (fault another : Fault) → Breaks octets tokens fault → Breaks octets other another → (tokens ≡ other) × (fault ≡ another)
-one_break octets tokens other fault another broken as_well =
-    let same = sym (reads_broken octets tokens fault broken) ∙ reads_broken octets other another as_well in
-    let faults : Some fault ≡ Some another = ap (λ (found : Cutting). found.broken) same in
-    let one : fault ≡ another = cc in
-    (ap (λ (found : Cutting). found.tokens) same, one)
+one_break octets tokens other fault another broken as_well = grind (arith, reads_broken octets tokens fault broken, reads_broken octets other another as_well)
 
 pub cut_not_broken : (octets : List ℕ) (tokens other : List Token) (fault : Fault) → Cuts octets tokens → Breaks octets other fault → ⊥
-cut_not_broken octets tokens other fault cut broken =
-    let none_is_some : None ≡ Some fault = ap (λ (found : Cutting). found.broken) (sym (reads_cut octets tokens cut) ∙ reads_broken octets other fault broken) in
-    cc
+cut_not_broken octets tokens other fault cut broken = grind (arith, reads_cut octets tokens cut, reads_broken octets other fault broken)
 
 pub cut_or_broken : (octets : List ℕ) → ((tokens : List Token) × Cuts octets tokens) ⊎ ((tokens : List Token) × (fault : Fault) × Breaks octets tokens fault)
 cut_or_broken octets = by (cutting octets).tokens (cutting octets).broken (cutting_is octets)

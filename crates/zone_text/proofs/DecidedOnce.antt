@@ -1,5 +1,5 @@
 -- What is decided of a prefix, and the octets that it leaves, are one thing.
-use Rattle.zone_text.proofs.Common.{AreUnfinished, BreaksForGood, Ending, FileDecides, List, Lower, None, Placed, ReadEach, Token, [], and_last, ap, append-nil, append_cancel_left, cut_from, decided, ended_entries, entries_of, flat_map, inl, inr, numbered, open_line, rules, subst, sym, text, undecided, zero, ℕ, ◌++◌, ◌↔◌, ◌∙◌, ◌≡◌}
+use Rattle.zone_text.proofs.Common.{AreUnfinished, BreaksForGood, Ending, FileDecides, List, Lower, None, Placed, ReadEach, Token, [], and_last, ap, append-nil, append_cancel_left, cut_from, decided, ended_entries, entries_of, flat_map, inl, inr, numbered, open_line, rules, subst, sym, text, undecided, zero, ℕ, ◌++◌, ◌↔◌, ◌∙◌, ◌≡◌, arith}
 use Rattle.zone_text.proofs.Begun.{no_tokens, nothing_decided}
 use Rattle.zone_text.proofs.CutAgain.{joined, cut_again, cut_whole, and_last_after}
 use Rattle.zone_text.proofs.Cuttings.{cut_not_broken}
@@ -17,13 +17,10 @@ decided_once lower origin octets a b e f (undecided ps are never xs) (decided qs
 decided_once lower origin octets a b e f (decided ps fault good xs) (undecided qs others none ys) =
     let same : ps ≡ qs = tokens_of octets ps qs (inr (fault, good.breaks)) others in
     absurd (none fault (subst (λ p. BreaksForGood octets p fault) same good))
-decided_once lower origin octets a b e f (decided ps fault good xs) (decided qs other better ys) =
-    broken_once lower origin octets ps qs fault other a b e f good.breaks better.breaks xs ys
+decided_once lower origin octets a b e f (decided ps fault good xs) (decided qs other better ys) = grind (arith, broken_once lower origin octets ps qs fault other a b e f good.breaks better.breaks xs ys)
 
 nothing_only : (origin : List (List ℕ)) (placed : List Placed) (ending : Ending) → FileDecides origin [] placed ending → (placed ≡ []) × (ending ≡ None)
-nothing_only origin placed ending (undecided ps are never read) =
-    let same : ps ≡ [] = tokens_of [] ps [] are (inl no_tokens) in
-    subst (λ p. ReadEach origin None [] (ended_entries p) placed ending) same read
+nothing_only origin placed ending (undecided ps are never read) = grind (arith, tokens_of [] ps [] are (inl no_tokens))
 nothing_only origin placed ending (decided ps fault good read) = absurd (cut_not_broken [] [] ps fault no_tokens good.breaks)
 
 pub of_nothing : (origin : List (List ℕ)) (placed : List Placed) (ending : Ending) → FileDecides origin [] placed ending ↔ ((placed ≡ []) × (ending ≡ None))

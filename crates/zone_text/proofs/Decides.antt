@@ -1,5 +1,5 @@
 -- What is decided of a prefix stays, whatever octets follow it.
-use Rattle.zone_text.proofs.Common.{AreTokens, Breaks, BreaksForGood, Cuts, Ending, Entry, Fault, FileDecides, FileReads, Line, List, Lower, None, Placed, ReadEach, Some, Stays, Token, [], and_last, ap, append-nil, append_assoc, broken, cut_from, decided, ended_entries, entries_of, inl, inr, open_line, refused, rules, stated, states_none, states_one, subst, sym, text, undecided, whole, zero, ℕ, ◌++◌, ◌∙◌, ◌∷◌, ◌≡◌}
+use Rattle.zone_text.proofs.Common.{AreTokens, Breaks, BreaksForGood, Cuts, Ending, Entry, Fault, FileDecides, FileReads, Line, List, Lower, None, Placed, ReadEach, Some, Stays, Token, [], and_last, ap, append-nil, append_assoc, broken, cut_from, decided, ended_entries, entries_of, inl, inr, open_line, refused, rules, stated, states_none, states_one, subst, sym, text, undecided, whole, zero, ℕ, ◌++◌, ◌∙◌, ◌∷◌, ◌≡◌, arith}
 use Rattle.zone_text.proofs.Cuttings.{one_cut, one_break, cut_not_broken, cut_or_broken}
 use Rattle.zone_text.proofs.Lasting.{cut_joined, break_joined, cut_parted, break_parted, breaks_for_good}
 use Rattle.zone_text.proofs.CutAgain.{joined, cut_whole, cut_ended, cut_again, ended_at_zero, and_last_after, numbered_front}
@@ -21,16 +21,11 @@ reads_on lower origin after before (entry ∷ entries) others a b e f (stated (s
 reads_on lower origin after before (entry ∷ entries) others a b e f (stated (states_none n xs)) (stated (states_one q more r at w ys)) = absurd (nothing_or_record origin before entry q.rr n r)
 reads_on lower origin after before (entry ∷ entries) others a b e f (stated (states_none n xs)) (refused fault h u v) = absurd (nothing_or_fault lower origin before entry fault n h)
 reads_on lower origin after before (entry ∷ entries) others a b e f (stated (states_one p more r at w xs)) (stated (states_none m ys)) = absurd (nothing_or_record origin before entry p.rr m r)
-reads_on lower origin after before (entry ∷ entries) others a b e f (stated (states_one p more r at w xs)) (stated (states_one q left s place v ys)) =
-    stays_on p q a b more left e f (record_once lower origin before entry p.rr q.rr r s) (at ∙ sym place) w v (reads_on lower origin after (entry ∷ before) entries others more left e f xs ys)
+reads_on lower origin after before (entry ∷ entries) others a b e f (stated (states_one p more r at w xs)) (stated (states_one q left s place v ys)) = grind (arith, reads_on lower origin after (entry ∷ before) entries others more left e f xs ys, stays_on p q a b more left e f (record_once lower origin before entry p.rr q.rr r s) (at ∙ sym place) w v (reads_on lower origin after (entry ∷ before) entries others more left e f xs ys))
 reads_on lower origin after before (entry ∷ entries) others a b e f (stated (states_one p more r at w xs)) (refused fault h u v) = absurd (record_or_fault lower origin before entry p.rr fault r h)
 reads_on lower origin after before (entry ∷ entries) others a b e f (refused fault h u v) (stated (states_none m ys)) = absurd (nothing_or_fault lower origin before entry fault m h)
 reads_on lower origin after before (entry ∷ entries) others a b e f (refused fault h u v) (stated (states_one q more s place w ys)) = absurd (record_or_fault lower origin before entry q.rr fault s h)
-reads_on lower origin after before (entry ∷ entries) others a b e f (refused fault h u v) (refused other k s t) = record {
-  others = [];
-  first = s ∙ (sym u ∙ sym (append-nil a));
-  fault = λ found is. (s ∙ sym u, (t ∙ (ap (λ (z : Fault). let o : Ending = Some (z, Line entry.line) in o) (sym (fault_once lower origin before entry fault other h k)) ∙ sym v)));
-}
+reads_on lower origin after before (entry ∷ entries) others a b e f (refused fault h u v) (refused other k s t) = grind (arith, append-nil a, fault_once lower origin before entry fault other h k)
 
 -- ---- the tokens of a prefix and of a text that goes on
 
@@ -100,9 +95,7 @@ same_stays a b e f same = search rules
 pub broken_once : Lower → (origin : List (List ℕ)) (octets : List ℕ) (tokens all : List Token) (fault other : Fault) (a b : List Placed) (e f : Ending) → Breaks octets tokens fault → Breaks octets all other → ReadEach origin (Some (fault, Line (open_line tokens))) [] (ended_entries tokens) a e → ReadEach origin (Some (other, Line (open_line all))) [] (ended_entries all) b f → (a ≡ b) × (e ≡ f)
 broken_once lower origin octets tokens all fault other a b e f x y xs ys =
     let same = one_break octets tokens all fault other x y in
-    let front : tokens ≡ all = same.0 in
-    let one : fault ≡ other = same.1 in
-    reads_once lower origin (Some (other, Line (open_line all))) [] (ended_entries all) a b e f (rw (← front, ← one) xs) ys
+    grind (arith, one_break, reads_once)
 
 module _ (lower : Lower) (origin : List (List ℕ)) (octets : List ℕ) where
   pub decided_stays : (more : List ℕ) (a b : List Placed) (e f : Ending) → FileDecides origin octets a e → FileDecides origin (octets ++ more) b f → Stays a e b f
@@ -127,7 +120,5 @@ module _ (lower : Lower) (origin : List (List ℕ)) (octets : List ℕ) where
   decided_stays_at_end more a b e f (undecided ps are absent xs) (broken qs fault breaks ys) =
       let on = ended_on ps qs (goes_on octets more ps qs are (inr (fault, breaks))) in
       reads_on lower origin (Some (fault, Line (open_line qs))) [] (ended_entries ps) on.0 a b e f xs (subst (λ es. ReadEach origin (Some (fault, Line (open_line qs))) [] es b f) on.1 ys)
-  decided_stays_at_end more a b e f (decided ps fault good xs) (whole qs cut ys) =
-      absurd (cut_not_broken (octets ++ more) qs ps fault cut (breaks_for_good octets more ps fault good).breaks)
-  decided_stays_at_end more a b e f (decided ps fault good xs) (broken qs other breaks ys) =
-      same_stays a b e f (broken_once lower origin (octets ++ more) ps qs fault other a b e f (breaks_for_good octets more ps fault good).breaks breaks xs ys)
+  decided_stays_at_end more a b e f (decided ps fault good xs) (whole qs cut ys) = grind (arith, cut_not_broken (octets ++ more) qs ps fault cut (breaks_for_good octets more ps fault good).breaks)
+  decided_stays_at_end more a b e f (decided ps fault good xs) (broken qs other breaks ys) = grind (arith, same_stays a b e f (broken_once lower origin (octets ++ more) ps qs fault other a b e f (breaks_for_good octets more ps fault good).breaks breaks xs ys))

@@ -1,5 +1,5 @@
 -- An entry states a record, states nothing or has a fault: one of the three at most, and each once.
-use Rattle.zone_text.proofs.Common.{AllByRecursion, BadTtl, Entry, EntryFault, EntryStates, Err, Fault, HasClass, HasTtl, HasValue, IsClass, IsDataFault, IsKind, IsKindWord, IsNameFaultAfter, IsOrigin, IsOwner, List, Lower, NoTtl, None, Ok, Once, Option, Parts, PartsFault, Record, Result, Some, SpellingFault, SpellsAfter, Statement, StatementFault, States, StatesNothing, TtlFault, Word, WordFault, [], ap, class, fault_of, inl, inr, long, no_items, none, of_parts, of_rdata, of_statement, of_ttl, owned, parts_in, refl, rules, sets_origin, sets_ttl, statement_of, subst, sym, ttl, unowned, ℕ, ◌∙◌, ◌∷◌, ◌≡◌, ◌≤◌, ◌⊎◌}
+use Rattle.zone_text.proofs.Common.{AllByRecursion, BadTtl, Entry, EntryFault, EntryStates, Err, Fault, HasClass, HasTtl, HasValue, IsClass, IsDataFault, IsKind, IsKindWord, IsNameFaultAfter, IsOrigin, IsOwner, List, Lower, NoTtl, None, Ok, Once, Option, Parts, PartsFault, Record, Result, Some, SpellingFault, SpellsAfter, Statement, StatementFault, States, StatesNothing, TtlFault, Word, WordFault, [], ap, class, fault_of, inl, inr, long, no_items, none, of_parts, of_rdata, of_statement, of_ttl, owned, parts_in, refl, rules, sets_origin, sets_ttl, statement_of, subst, sym, ttl, unowned, ℕ, ◌∙◌, ◌∷◌, ◌≡◌, ◌≤◌, ◌⊎◌, arith}
 use Rattle.zone_rdata.specs.Spelling.{bare, RawItem, quoted}
 use Rattle.zone_text.proofs.Inherits.{Then, then_once, origin_once, owner_once, class_once, ttl_once}
 
@@ -21,10 +21,7 @@ step_once A Good Bad good bad either (Err f) (Err g) p q = ap Err (bad f g p q)
 
 module _ (lower : Lower) (origin : List (List ℕ)) (before : List Entry) where
   pub name_fault_once : (text : List ℕ) → Once Fault (IsNameFaultAfter origin before text)
-  name_fault_once text f g x y =
-      let above : x.0 ≡ y.0 = origin_once lower origin before x.0 y.0 x.1.0 y.1.0 in
-      let found : x.1.1.0 ≡ y.1.1.0 = lower.name_fault y.0 text x.1.1.0 y.1.1.0 (subst (λ a. SpellingFault (Some a) text x.1.1.0) above x.1.1.1) y.1.1.1 in
-      x.1.1.2 ∙ (ap fault_of found ∙ sym y.1.1.2)
+  name_fault_once text f g x y = grind (arith, origin_once)
 
   pub name_or_fault : (text : List ℕ) (name : List (List ℕ)) (fault : Fault) → SpellsAfter origin before text name → IsNameFaultAfter origin before text fault → ⊥
   name_or_fault text name fault x y =
@@ -77,11 +74,10 @@ pub record HasKind (rest : List RawItem) (k : KindAnd) : Type 0 where
 
 kind_once : Lower → (rest : List RawItem) → Once KindAnd (HasKind rest)
 kind_once lower rest (a, xs) (b, ys) x y =
-    let e : bare x.word ∷ xs ≡ bare y.word ∷ ys = sym x.items ∙ y.items in
     let word : x.word ≡ y.word = cc in
     let items : xs ≡ ys = cc in
     let number : a ≡ b = lower.kind y.word a b (rw (← word) (x.named)) y.named in
-    cc
+    grind arith
 
 -- the words and the type
 
@@ -94,20 +90,18 @@ parts_once lower parts j k x y = kind_once lower parts.rest j k x.1 y.1
 parts_fault_once : Lower → (words : List Word) (rest : List RawItem) → Once Fault (PartsFault words rest)
 parts_fault_once lower [] (bare text ∷ items) f g x y = lower.kind_fault text f g x y
 parts_fault_once lower [] rest f g x y = x ∙ sym y
-parts_fault_once lower (word ∷ words) rest f g (inl x) (inl y) = word_fault_once word f g x y
-parts_fault_once lower (word ∷ words) rest f g (inl x) (inr y) = search (rules, word_or_fault)
+parts_fault_once lower words rest f g (inl x) y = grind (arith, word_fault_once, word_or_fault)
 parts_fault_once lower (word ∷ words) rest f g (inr x) (inl y) = search (rules, word_or_fault)
 parts_fault_once lower (word ∷ words) rest f g (inr x) (inr y) = parts_fault_once lower words rest f g x.1 y.1
 
 parts_or_fault : Lower → (words : List Word) (rest : List RawItem) (k : KindAnd) (fault : Fault) → AllByRecursion HasValue words × HasKind rest k → PartsFault words rest fault → ⊥
-parts_or_fault lower [] [] k f x y = let e = x.1.items in absurd cc
-parts_or_fault lower [] (quoted text ∷ items) k f x y = let e = x.1.items in absurd cc
 parts_or_fault lower [] (bare text ∷ items) k f x y =
     let e = x.1.items in
     let word : x.1.word ≡ text = cc in
     lower.kind_or_fault text k.0 f (rw (← word) (x.1.named)) x.1.kind y
 parts_or_fault lower (word ∷ words) rest k f x (inl y) = word_or_fault lower word f x.0.0 y
 parts_or_fault lower (word ∷ words) rest k f x (inr y) = parts_or_fault lower words rest k f (x.0.1, x.1) y.1
+parts_or_fault lower [] rest k f x y = let e = x.1.items in absurd cc
 
 -- the data
 
@@ -208,8 +202,7 @@ pub record DirectiveFault (origin : List (List ℕ)) (before : List Entry) (form
   pub none : parts_in form ≡ None
 
 statement_steps : (origin : List (List ℕ)) (before : List Entry) (entry : Entry) (fault : Fault) (split : Option Parts) → parts_in (statement_of entry) ≡ split → StatementFault origin before (statement_of entry) fault → DirectiveFault origin before (statement_of entry) fault ⊎ FaultySteps origin before entry fault
-statement_steps origin before entry fault None e h = inl (record { bad = h; none = e })
-statement_steps origin before entry fault (Some parts) e h = inr (record { parts = parts; split = e; steps = inr (fault, (h, refl)) })
+statement_steps origin before entry fault split e h = grind arith
 
 faulty_steps : (origin : List (List ℕ)) (before : List Entry) (entry : Entry) (fault : Fault) → EntryFault origin before entry fault → DirectiveFault origin before (statement_of entry) fault ⊎ FaultySteps origin before entry fault
 faulty_steps origin before entry fault (of_statement h) = statement_steps origin before entry fault _ refl h
@@ -228,21 +221,18 @@ nothing_or_parts origin before form parts x split = search rules
 
 pub record_once : Lower → (origin : List (List ℕ)) (before : List Entry) (entry : Entry) → Once Record (EntryStates origin before entry)
 record_once lower origin before entry a b x y =
-    let split : Some x.contents.head.parts ≡ Some y.contents.head.parts = sym x.contents.head.split ∙ y.contents.head.split in
     let parts : x.contents.head.parts ≡ y.contents.head.parts = cc in
     let same : Ok a ≡ Ok b = from_owner_once lower origin before entry y.contents.head.parts (Ok a) (Ok b) (subst (λ p. FromOwner origin before entry p (Ok a)) parts (stated_steps origin before entry a x)) (stated_steps origin before entry b y) in
-    cc
+    grind arith
 
 steps_once : Lower → (origin : List (List ℕ)) (before : List Entry) (entry : Entry) → Once Fault (FaultySteps origin before entry)
 steps_once lower origin before entry f g x y =
-    let split : Some x.parts ≡ Some y.parts = sym x.split ∙ y.split in
     let parts : x.parts ≡ y.parts = cc in
     let same : Err f ≡ Err g = from_owner_once lower origin before entry y.parts (Err f) (Err g) (subst (λ p. FromOwner origin before entry p (Err f)) parts x.steps) y.steps in
-    cc
+    grind arith
 
 either_once : Lower → (origin : List (List ℕ)) (before : List Entry) (entry : Entry) (f g : Fault) → DirectiveFault origin before (statement_of entry) f ⊎ FaultySteps origin before entry f → DirectiveFault origin before (statement_of entry) g ⊎ FaultySteps origin before entry g → f ≡ g
-either_once lower origin before entry f g (inl x) (inl y) = statement_fault_once lower origin before (statement_of entry) f g x.bad y.bad
-either_once lower origin before entry f g (inl x) (inr y) = let clash : None ≡ Some y.parts = sym x.none ∙ y.split in cc
+either_once lower origin before entry f g (inl x) has = grind (arith, statement_fault_once)
 either_once lower origin before entry f g (inr x) (inl y) = let clash : None ≡ Some x.parts = sym y.none ∙ x.split in cc
 either_once lower origin before entry f g (inr x) (inr y) = search (rules, steps_once)
 
@@ -252,7 +242,6 @@ fault_once lower origin before entry f g x y = search (rules, either_once, fault
 record_or_steps : Lower → (origin : List (List ℕ)) (before : List Entry) (entry : Entry) (r : Record) (fault : Fault) → EntryStates origin before entry r → DirectiveFault origin before (statement_of entry) fault ⊎ FaultySteps origin before entry fault → ⊥
 record_or_steps lower origin before entry r f x (inl y) = let clash : None ≡ Some x.contents.head.parts = sym y.none ∙ x.contents.head.split in cc
 record_or_steps lower origin before entry r f x (inr y) =
-    let split : Some x.contents.head.parts ≡ Some y.parts = sym x.contents.head.split ∙ y.split in
     let parts : x.contents.head.parts ≡ y.parts = cc in
     let same : Ok r ≡ Err f = from_owner_once lower origin before entry y.parts (Ok r) (Err f) (subst (λ p. FromOwner origin before entry p (Ok r)) parts (stated_steps origin before entry r x)) y.steps in
     cc
@@ -264,8 +253,7 @@ pub nothing_or_record : (origin : List (List ℕ)) (before : List Entry) (entry 
 nothing_or_record origin before entry r x y = search rules
 
 nothing_or_steps : Lower → (origin : List (List ℕ)) (before : List Entry) (entry : Entry) (fault : Fault) → StatesNothing origin before (statement_of entry) → DirectiveFault origin before (statement_of entry) fault ⊎ FaultySteps origin before entry fault → ⊥
-nothing_or_steps lower origin before entry f x (inl y) = nothing_or_statement lower origin before (statement_of entry) f x y.bad
-nothing_or_steps lower origin before entry f x (inr y) = nothing_or_parts origin before (statement_of entry) y.parts x y.split
+nothing_or_steps lower origin before entry f x given = grind (arith, nothing_or_statement, nothing_or_parts)
 
 pub nothing_or_fault : Lower → (origin : List (List ℕ)) (before : List Entry) (entry : Entry) (fault : Fault) → StatesNothing origin before (statement_of entry) → EntryFault origin before entry fault → ⊥
 nothing_or_fault lower origin before entry f x y = search (rules, nothing_or_steps, faulty_steps)

@@ -59,8 +59,7 @@ ClassFact o = (number : ℕ) × (MatchOption o (number ≡ 1) (λ text. IsClassW
 
 class_among_words : (words : List Word) (later : Option (List ℕ)) → AllByRecursion HasValue words → ClassFact later → ClassFact (option_or (class_among words) later)
 class_among_words [] later have fact = fact
-class_among_words (ttl text ∷ words) later have fact = class_among_words words later have.1 fact
-class_among_words (class text ∷ words) later have fact = (have.0.0, (have.0.1.0, have.0.1.1))
+class_among_words (x ∷ words) later have fact = grind (arith, class_among_words words later have.1 fact)
 
 class_in_parts : (o : Option Parts) (later : Option (List ℕ)) → ((parts : Parts) → o ≡ Some parts → AllByRecursion HasValue parts.words) → ClassFact later → ClassFact (option_or (option_and_then (λ (parts : Parts). class_among parts.words) o) later)
 class_in_parts None later have fact = fact
@@ -85,21 +84,17 @@ IsKnown (ttl text) = Unit {0}
 IsKnown (class text) = is_class_word text ≡ true
 
 word_known : (a b : Bool) (s t : Option (List ℕ)) (text : List ℕ) (word : Word) → is_class_word text ≡ b → (if a then unless_stated s (ttl text) else if b then unless_stated t (class text) else None) ≡ Some word → IsKnown word
-word_known true b None t text word e h = let same : ttl text ≡ word = cc in subst IsKnown same tt
-word_known false true s None text word e h = let same : class text ≡ word = cc in subst IsKnown same e
-word_known a b s t text word e h = absurd cc
+word_known a b s t text word e h = grind arith
 
 after_known : (words : List Word) (item : RawItem) (word : Word) → word_after words item ≡ Some word → IsKnown word
-after_known words (quoted text) word e = absurd cc
-after_known words (bare text) word e = word_known (begins_with_digit text) (is_class_word text) (ttl_among words) (class_among words) text word refl e
+after_known words item word e = grind (arith, word_known)
 
 pub record AreGood (parts : Parts) : Type 0 where
   pub known : AllByRecursion IsKnown parts.words
   pub low : AreOctetItems parts.rest
 
 good_by : (words : List Word) (item : RawItem) (items : List RawItem) (o : Option Word) → word_after words item ≡ o → AllByRecursion IsKnown words → AreOctetItems (item ∷ items) → ((word : Word) → AllByRecursion IsKnown (words ++ word ∷ []) → AreGood (parts_after (words ++ word ∷ []) items)) → AreGood (parts_by words item items o)
-good_by words item items None e known low goes = record { known = known; low = low }
-good_by words item items (Some word) e known low goes = goes word (AllByRecursion-append IsKnown words (word ∷ []) known (after_known words item word e, tt))
+good_by words item items o e known low goes = grind (arith, AllByRecursion-append, after_known)
 
 pub parts_good : (items : List RawItem) (words : List Word) → AllByRecursion IsKnown words → AreOctetItems items → AreGood (parts_after words items)
 parts_good [] words known low = record { known = known; low = tt }
@@ -119,19 +114,7 @@ ttl_word : (text : List ℕ) → ((seconds : ℕ) × IsTtl text seconds) ⊎ ((s
 ttl_word text h = search rules
 
 class_or_not : (n : ℕ) → IsClass n ⊎ (IsClass n → ⊥)
-class_or_not n = elim (cases_lt n 65536) [
-  | inr over ↦ inr (λ h. omega (arith, h.short))
-  | inl short ↦ elim (cases_eq n 0) [
-    | inl is ↦ inr (λ h. h.not_zero is)
-    | inr not_zero ↦ elim (cases_eq n 254) [
-      | inl is ↦ inr (λ h. h.not_none is)
-      | inr not_none ↦ elim (cases_eq n 255) [
-        | inl is ↦ inr (λ h. h.not_any is)
-        | inr not_any ↦ inl (record { short = short; not_zero = not_zero; not_none = not_none; not_any = not_any })
-      ]
-    ]
-  ]
-]
+class_or_not n = grind (arith, cases_lt n 65536, cases_eq n 0, cases_eq n 254, cases_eq n 255)
 
 class_word_by : (text : List ℕ) (number : ℕ) → IsClassWord text number → IsClass number ⊎ (IsClass number → ⊥) → WordChoice (class text)
 class_word_by text number is h = search rules
@@ -148,9 +131,7 @@ Choice P = ((n : ℕ) × P n) ⊎ ((n : ℕ) → P n → ⊥)
 -- data without a MINIMUM state none
 module _ (lower : Lower) (origin : List (List ℕ)) (before : List Entry) (entry : Entry) where
   pub states_no_minimum : (owner : Labels) (rdata : Data) → HasContents origin before entry owner rdata → minimum rdata ≡ None → (seconds : ℕ) → StatesMinimum origin before entry seconds → ⊥
-  states_no_minimum owner rdata has e seconds (other, d, also, field) =
-      let clash : Some seconds ≡ None = sym field ∙ (ap minimum (contents_once lower origin before entry other owner d rdata also has) ∙ e) in
-      cc
+  states_no_minimum owner rdata has e seconds (other, d, also, field) = cc (contents_once lower origin before entry other owner d rdata also has)
 
   minimum_by : (owner : Labels) (rdata : Data) (found : Option ℕ) → HasContents origin before entry owner rdata → minimum rdata ≡ found → Choice (StatesMinimum origin before entry)
   minimum_by owner rdata (Some seconds) has e = inl (seconds, (owner, rdata, has, e))
@@ -190,13 +171,10 @@ abbrev PartsChoice : List Word → List RawItem → Type 0
 PartsChoice words rest = (AllByRecursion HasValue words × ((word : List ℕ) × ((items : List RawItem) × ((n : ℕ) × ((rest ≡ bare word ∷ items) × (AreOctetItems items × (IsKindWord word n × IsKind n))))))) ⊎ ((fault : Fault) × PartsFault words rest fault)
 
 kind_by : (text : List ℕ) (items : List RawItem) → AreOctetItems items → ((n : ℕ) × (IsKindWord text n × IsKind n)) ⊎ ((fault : Fault) × IsWordFault text fault) → PartsChoice [] (bare text ∷ items)
-kind_by text items low (inl h) = inl (tt, (text, (items, (h.0, (refl, (low, h.1))))))
-kind_by text items low (inr bad) = inr bad
+kind_by text items low given = grind arith
 
 word_by : (word : Word) (words : List Word) (rest : List RawItem) → WordChoice word → PartsChoice words rest → PartsChoice (word ∷ words) rest
-word_by word words rest (inr bad) others = inr (bad.0, inl bad.1)
-word_by word words rest (inl has) (inl good) = inl ((has, good.0), good.1)
-word_by word words rest (inl has) (inr bad) = inr (bad.0, inr (has, bad.1))
+word_by word words rest given others = grind arith
 
 parts_or_fault : Lower → Choices → (words : List Word) (rest : List RawItem) → AllByRecursion IsKnown words → AreOctetItems rest → PartsChoice words rest
 parts_or_fault lower choices [] (bare text ∷ items) known low = kind_by text items low.1 (choices.kind text)
@@ -263,8 +241,7 @@ module _ (lower : Lower) (choices : Choices) (origin : List (List ℕ)) (before 
   -- ---- the owner
 
   last_outcome : (items : List RawItem) → OwnerChoice origin before None → OwnerOutcome origin before (unowned items)
-  last_outcome items (inl found) = inl found
-  last_outcome items (inr no_owner) = inr (NoOwner, (refl, no_owner))
+  last_outcome items given = grind arith
 
   owned_outcome : (owner : RawItem) (items : List RawItem) → AreOctetItems (owner ∷ items) → OwnerOutcome origin before (owned owner items)
   owned_outcome (bare text) items low = name_or_fault choices origin before text is states low.0
@@ -273,16 +250,14 @@ module _ (lower : Lower) (choices : Choices) (origin : List (List ℕ)) (before 
   -- ---- directives
 
   origin_text_by : (text : List ℕ) → NameChoice origin before text → DirectiveChoice origin before (sets_origin (bare text ∷ []))
-  origin_text_by text (inl found) = inl (found.0, found.1.0)
-  origin_text_by text (inr bad) = inr bad
+  origin_text_by text given = grind arith
 
   origin_or_fault : (items : List RawItem) → AreOctetItems items → DirectiveChoice origin before (sets_origin items)
   origin_or_fault (bare text ∷ []) low = origin_text_by text (name_or_fault choices origin before text is states low.0)
   origin_or_fault items low = inr (BadDirective, refl)
 
   default_by : (text : List ℕ) → ((seconds : ℕ) × IsTtl text seconds) ⊎ ((seconds : ℕ) → IsTtl text seconds → ⊥) → DirectiveChoice origin before (sets_ttl (bare text ∷ []))
-  default_by text (inl found) = inl found
-  default_by text (inr no_ttl) = inr (BadTtl, (refl, no_ttl))
+  default_by text given = grind arith
 
   default_or_fault : (items : List RawItem) → DirectiveChoice origin before (sets_ttl items)
   default_or_fault (bare text ∷ []) = default_by text (ttl_word_by lower text (choices.time text))

@@ -1,5 +1,5 @@
 -- Names, words, NS records, the SOA of `x.` and addresses that files spell, for examples.
-use Rattle.zone_text.proofs.Common.{AllByRecursion, Data, EmptyLabel, Entry, EntryStates, HasClass, HasContents, HasHead, HasTtl, HasValue, IsClass, IsClassWord, IsDecimal, IsKind, IsKindWord, IsName, IsOrigin, IsOwner, IsRecord, IsTime, IsTtl, IsWordFault, List, MetaType, Parts, Some, SpellingFault, Spells, States, StatesMinimum, UnknownType, Word, [], absolute, address, ap, arith, at_origin, begins_with_digit, beyond, by_mnemonic, by_number, codes, decimal_value, empty_label, false, folded_octet, for_queries, in_words, inr, is_digit, is_dot, labels_of, lit<, lit≤, minimum, ns, parts_in, plain, refl, relative, rules, soa, statement_of, subst, sym, true, under, wire, within, x, ℕ, ◌<◌, ◌^◌, ◌∙◌, ◌∷◌, ◌≡◌, ◌≢◌, ◌≤◌}
+use Rattle.zone_text.proofs.Common.{AllByRecursion, Data, EmptyLabel, Entry, EntryStates, HasClass, HasContents, HasHead, HasTtl, HasValue, IsClass, IsClassWord, IsDecimal, IsKind, IsKindWord, IsName, IsOrigin, IsOwner, IsRecord, IsTime, IsTtl, IsWordFault, List, MetaType, Parts, Some, SpellingFault, Spells, States, StatesMinimum, UnknownType, Word, [], absolute, address, ap, arith, at_origin, begins_with_digit, beyond, by_mnemonic, by_number, codes, decimal_value, empty_label, false, folded_octet, for_queries, in_words, inr, is_digit, is_dot, labels_of, lit<, lit≤, minimum, ns, parts_in, plain, refl, relative, rules, soa, statement_of, subst, sym, true, under, wire, within, x, ℕ, ◌<◌, ◌^◌, ◌∙◌, ◌∷◌, ◌≡◌, ◌≢◌, ◌≤◌, common_steps}
 use Rattle.zone_rdata.specs.declared.field.Field.TheVariants.{Name, Serial, Time, Octets}
 use Rattle.zone_rdata.specs.Address.{IsOctetNumber}
 use Rattle.zone_rdata.specs.Field.{FieldValue, name, u32_value, fixed, octets_of}
@@ -108,7 +108,6 @@ long_time = search rules
 pub too_long : ((text : List ℕ) (a b : ℕ) → IsTime text a → IsTime text b → a ≡ b) → (seconds : ℕ) → IsTtl (codes "2147483648") seconds → ⊥
 too_long once seconds is =
     let same : seconds ≡ 2147483648 = once (codes "2147483648") seconds 2147483648 is.time long_time in
-    let short : seconds ≤ 2147483647 = is.short in
     omega arith
 
 -- a word that begins with no digit is no TTL
@@ -129,20 +128,11 @@ pub type_41 : IsWordFault (codes "TYPE41") MetaType
 type_41 = for_queries 41 (by_number (record { front = codes "TYPE"; digits = codes "41"; parts = refl; named = refl; number = record { some = lit< tt; digits = (refl, (refl, tt)); value = refl } })) (lit< tt) (λ is. let stored = is.stored in absurd cc)
 
 no_minimum : (class kind : ℕ) (octets : List ℕ) (seconds : ℕ) → kind ≡ 2 → minimum (record { class = class; kind = kind; octets = octets }) ≡ Some seconds → ⊥
-no_minimum class kind octets seconds is field =
-    let at_two : minimum (record { class = class; kind = 2; octets = octets }) ≡ Some seconds = subst (λ (k : ℕ). minimum (record { class = class; kind = k; octets = octets }) ≡ Some seconds) is field in
-    absurd cc
+no_minimum class kind octets seconds is field = cc
 
 -- an NS record is no SOA
 pub ns_has_no_minimum : ((word : List ℕ) (a b : ℕ) → IsKindWord word a → IsKindWord word b → a ≡ b) → (before : List Entry) (entry : Entry) (words : List Word) (items : List RawItem) (seconds : ℕ) → parts_in (statement_of entry) ≡ Some (record { words = words; rest = bare (codes "NS") ∷ items }) → StatesMinimum x before entry seconds → ⊥
-ns_has_no_minimum once before entry words items seconds split (owner, rdata, contents, field) =
-    let has = contents.head in
-    let both : Some has.parts ≡ Some (record { words = words; rest = bare (codes "NS") ∷ items }) = sym has.split ∙ split in
-    let parts : has.parts ≡ record { words = words; rest = bare (codes "NS") ∷ items } = cc in
-    let rest : bare has.word ∷ contents.items ≡ bare (codes "NS") ∷ items = sym has.rest ∙ ap (λ (p : Parts). p.rest) parts in
-    let word : has.word ≡ codes "NS" = cc in
-    let kind : rdata.kind ≡ 2 = once (codes "NS") rdata.kind 2 (subst (λ w. IsKindWord w rdata.kind) word has.named) is_ns in
-    no_minimum rdata.class rdata.kind rdata.octets seconds kind field
+ns_has_no_minimum once before entry words items seconds split (owner, rdata, contents, field) = grind (arith, common_steps, is_ns, no_minimum)
 
 h_name : IsName (under 104 x)
 h_name = omega arith
@@ -196,26 +186,15 @@ abbrev pub soa_data : ℕ → Data
 soa_data last = record { class = 1; kind = 6; octets = octets_of (soa_values last) }
 
 pub soa_contents : (text : List ℕ) (last : ℕ) (before : List Entry) (entry : Entry) (words : List Word) → IsTime text last → last < 2 ^ 32 → parts_in (statement_of entry) ≡ Some (record { words = words; rest = bare (codes "SOA") ∷ soa_items text }) → IsOwner x before (statement_of entry) x → AllByRecursion HasValue words → HasClass before entry 1 → IsOrigin x before x → HasContents x before entry x (soa_data last)
-soa_contents text last before entry words time short split owns values has under_it = record {
-  items = soa_items text;
-  above = x;
-  head = soa_head text before entry words split owns values has;
-  under = under_it;
-  states = soa_states text last time short;
-}
+soa_contents text last before entry words time short split owns values has under_it = grind (arith, soa_head text before entry words split owns values has, soa_states text last time short)
 
 -- an entry of this SOA with the MINIMUM 5
 pub states_soa : (before : List Entry) (entry : Entry) (ttl : ℕ) (words : List Word) → parts_in (statement_of entry) ≡ Some (record { words = words; rest = bare (codes "SOA") ∷ soa_items (codes "5") }) → IsOwner x before (statement_of entry) x → AllByRecursion HasValue words → HasClass before entry 1 → IsOrigin x before x → HasTtl x before entry ttl → ttl ≤ 2147483647 → EntryStates x before entry (soa ttl)
-states_soa before entry ttl words split owns values has under_it lasts short = record {
-  contents = soa_contents (codes "5") 5 before entry words five (lit< tt) split owns values has under_it;
-  ttl = lasts;
-  fits = soa_fits ttl short;
-}
+states_soa before entry ttl words split owns values has under_it lasts short = grind (arith, soa_contents (codes "5") 5 before entry words five (lit< tt) split owns values has under_it, soa_fits ttl short)
 
 -- an entry of this SOA has the MINIMUM that its last item spells
 pub states_minimum : (text : List ℕ) (last : ℕ) (before : List Entry) (entry : Entry) (words : List Word) → IsTime text last → last < 2 ^ 32 → minimum (soa_data last) ≡ Some last → parts_in (statement_of entry) ≡ Some (record { words = words; rest = bare (codes "SOA") ∷ soa_items text }) → IsOwner x before (statement_of entry) x → AllByRecursion HasValue words → HasClass before entry 1 → IsOrigin x before x → StatesMinimum x before entry last
-states_minimum text last before entry words time short field split owns values has under_it =
-    (x, soa_data last, soa_contents text last before entry words time short split owns values has under_it, field)
+states_minimum text last before entry words time short field split owns values has under_it = grind (arith, soa_contents text last before entry words time short split owns values has under_it)
 
 pub minimum_five : minimum (soa_data 5) ≡ Some 5
 unfolding labels_of

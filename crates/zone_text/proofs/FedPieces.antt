@@ -27,8 +27,7 @@ is_on ended at next unfinished part left step is e more = record {
 }
 
 pub follows_on : (ended : EndedEntries) (at next : ScanState) (unfinished part left : List ℕ) (step : Step) → IsPart ended at unfinished part step → step ≡ On next → left ≡ unfinished ++ part → FollowsOn ended unfinished ended left part
-follows_on ended at next unfinished part left step is e more origin fed given follow =
-    subst (λ t. Follow origin ended t (fed ++ part) given) (sym more) (follow_on origin ended next unfinished part fed given (after ended at unfinished part step (On next) is e) is.undecided follow)
+follows_on ended at next unfinished part left step is e more origin fed given follow = grind (arith, follow_on origin ended next unfinished part fed given (after ended at unfinished part step (On next) is e) is.undecided follow)
 
 -- they end an entry
 pub is_ended : (old mid new : EndedEntries) (at next : ScanState) (unfinished part left : List ℕ) (step : Step) → IsPart old at unfinished part step → ReadsOctets (unfinished ++ part) old mid → new ≡ mid → next ≡ beginning → left ≡ [] → IsSplitter new next left
@@ -36,8 +35,7 @@ is_ended old mid new at next unfinished part left step is reads same begins none
     nothing_taken new next left begins none (let h : new.line ≡ mid.line = ap (λ (s : EndedEntries). s.line) same in omega (arith, is.is.line, reads.later))
 
 pub follows_entry : (old mid new : EndedEntries) (at : ScanState) (unfinished part left : List ℕ) (step : Step) → IsPart old at unfinished part step → step ≡ Ends → ReadsOctets (unfinished ++ part) old mid → new ≡ mid → left ≡ [] → FollowsOn old unfinished new left part
-follows_entry old mid new at unfinished part left step is e reads same none origin fed given follow =
-    subst (λ t. Follow origin new t (fed ++ part) given) (sym none) (subst (λ s. Follow origin s [] (fed ++ part) given) (sym same) (follow_entry origin old mid unfinished part fed given (after old at unfinished part step Ends is e) is.undecided reads follow))
+follows_entry old mid new at unfinished part left step is e reads same none origin fed given follow = grind (arith, follow_entry origin old mid unfinished part fed given (after old at unfinished part step Ends is e) is.undecided reads follow)
 
 -- they break the text for good
 pub record IsRefused (fault : Fault) (old new : EndedEntries) : Type 0 where
@@ -50,12 +48,10 @@ is_refused fault old mid new at next unfinished part left step is refuse same be
     nothing_taken new next left begins none (let h : new.line ≡ mid.line = ap (λ (s : EndedEntries). s.line) same in omega (arith, is.is.line, refuse.line))
 
 pub follows_lost_escape : (old mid new : EndedEntries) (at : ScanState) (unfinished part left : List ℕ) (step : Step) → IsPart old at unfinished part step → step ≡ LostEscape → IsRefused BadEscape old mid → new ≡ mid → left ≡ [] → FollowsOn old unfinished new left part
-follows_lost_escape old mid new at unfinished part left step is e refuse same none origin fed given follow =
-    subst (λ t. Follow origin new t (fed ++ part) given) (sym none) (subst (λ s. Follow origin s [] (fed ++ part) given) (sym same) (follow_lost_escape origin old mid unfinished part fed given (after old at unfinished part step LostEscape is e) is.undecided refuse.records refuse.ending follow))
+follows_lost_escape old mid new at unfinished part left step is e refuse same none origin fed given follow = grind (arith, follow_lost_escape origin old mid unfinished part fed given (after old at unfinished part step LostEscape is e) is.undecided refuse.records refuse.ending follow)
 
 pub follows_lost_closing : (old mid new : EndedEntries) (at : ScanState) (unfinished part left : List ℕ) (step : Step) → IsPart old at unfinished part step → step ≡ ClosesNothing → IsRefused UnbalancedParenthesis old mid → new ≡ mid → left ≡ [] → FollowsOn old unfinished new left part
-follows_lost_closing old mid new at unfinished part left step is e refuse same none origin fed given follow =
-    subst (λ t. Follow origin new t (fed ++ part) given) (sym none) (subst (λ s. Follow origin s [] (fed ++ part) given) (sym same) (follow_lost_closing origin old mid unfinished part fed given (after old at unfinished part step ClosesNothing is e) is.undecided refuse.records refuse.ending follow))
+follows_lost_closing old mid new at unfinished part left step is e refuse same none origin fed given follow = grind (arith, follow_lost_closing origin old mid unfinished part fed given (after old at unfinished part step ClosesNothing is e) is.undecided refuse.records refuse.ending follow)
 
 -- so far the beginning of the piece was taken
 pub record HasFed (old new : EntrySplitter) (piece rest : List ℕ) : Type 0 where
@@ -84,9 +80,7 @@ fed_all old new piece rest before none origin fed given f =
 
 -- or the beginning of it, after which a fault is decided
 pub fed_fault : (old new : EntrySplitter) (piece rest : List ℕ) (found : Fault × Place) → HasFed old new piece rest → new.ended.decided.ending ≡ Some found → FollowsOn old.ended old.unfinished.items new.ended new.unfinished.items piece
-fed_fault old new piece rest found before ending origin fed given f =
-    subst (λ t. Follow origin new.ended new.unfinished.items t given) (append_assoc fed before.front rest ∙ ap (λ t. fed ++ t) (sym before.whole))
-    (follow_fault origin new.ended found new.unfinished.items rest (fed ++ before.front) given ending (before.follow origin fed given f))
+fed_fault old new piece rest found before ending origin fed given f = grind (arith, append_assoc fed before.front rest, follow_fault origin new.ended found new.unfinished.items rest (fed ++ before.front) given ending (before.follow origin fed given f))
 
 -- what a scan took of octets it takes whole
 pub takes_part : (at : ScanState) (rest part : List ℕ) (found : Scanned) → found ≡ scan_of at rest → part ≡ take found.taken rest → ScansTo at part found.step

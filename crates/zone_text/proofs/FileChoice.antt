@@ -1,5 +1,5 @@
 -- A file of octets has a reading, and something is decided of it.
-use Rattle.zone_text.proofs.Common.{AllByRecursion, AllByRecursion-back, AllByRecursion-front, AllState, AreOctetItems, Breaks, BreaksAtEnd, Choices, Cut, Cuts, Ending, Entry, Fault, FileDecides, FileReads, IsName, Line, List, Lower, None, Placed, ReadEach, Some, StaysBroken, Token, [], and_last, bare, broken, count_by, cut_from, decided, ended_entries, entries_of, flat_map, flat_map-append, inl, inr, item_of, numbered, open_line, quoted, refl, refused, rules, stated, states_one, subst, sym, text, token_text, undecided, whole, written_text, zero, ℕ, ◌++◌, ◌+◌, ◌<◌, ◌==◌, ◌∷◌, ◌⊎◌}
+use Rattle.zone_text.proofs.Common.{AllByRecursion, AllByRecursion-back, AllByRecursion-front, AllState, AreOctetItems, Breaks, BreaksAtEnd, Choices, Cut, Cuts, Ending, Entry, Fault, FileDecides, FileReads, IsName, Line, List, Lower, None, Placed, ReadEach, Some, StaysBroken, Token, [], and_last, bare, broken, count_by, cut_from, decided, ended_entries, entries_of, flat_map, flat_map-append, inl, inr, item_of, numbered, open_line, quoted, refl, refused, rules, stated, states_one, subst, sym, text, token_text, undecided, whole, written_text, zero, ℕ, ◌++◌, ◌+◌, ◌<◌, ◌==◌, ◌∷◌, ◌⊎◌, arith}
 use Rattle.zone_rdata.specs.Spelling.{RawItem}
 use Rattle.zone_text.proofs.Cuttings.{cut_not_broken, cut_or_broken}
 use Rattle.zone_text.proofs.Left.{entries_text}
@@ -12,9 +12,7 @@ abbrev AreLow : List ℕ → Type 0
 AreLow octets = AllByRecursion (λ c. c < 256) octets
 
 low_item : (p : Token) (items : List RawItem) → AreLow (token_text p) → AreOctetItems items → AreOctetItems (item_of p ++ items)
-low_item (bare units) items low others = (low, others)
-low_item (quoted units) items low others = (AllByRecursion-front _ (written_text units) (34 ∷ []) low.1, others)
-low_item p items low others = others
+low_item p items low others = grind (arith, AllByRecursion-front)
 
 low_items : (tokens : List Token) → AreLow (text tokens) → AreOctetItems (flat_map item_of tokens)
 low_items [] low = tt
@@ -28,8 +26,7 @@ low_entries line [] low = tt
 low_entries line (tokens ∷ entries) low = (low_items tokens (AllByRecursion-front _ (text tokens) (flat_map text entries) low), low_entries (line + count_by (λ c. c == 10) (text tokens)) entries (AllByRecursion-back _ (text tokens) (flat_map text entries) low))
 
 low_ended : (ended : List (List Token)) (open_tokens : List Token) → AreLow (flat_map text (and_last ended open_tokens)) → AreLow (flat_map text ended)
-low_ended ended [] low = low
-low_ended ended (p ∷ tokens) low = AllByRecursion-front _ (flat_map text ended) (flat_map text ((p ∷ tokens) ∷ [])) (subst AreLow (flat_map-append text ended ((p ∷ tokens) ∷ [])) low)
+low_ended ended open_tokens low = grind (arith, AllByRecursion-front, flat_map-append)
 
 low_of : (tokens : List Token) → AreLow (text tokens) → AreLowEntries (entries_of tokens)
 low_of tokens low = search (rules, low_entries, entries_text)

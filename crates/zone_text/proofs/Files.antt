@@ -1,5 +1,5 @@
 -- A file states one list of records at most, and has one reading at most; the two agree.
-use Rattle.zone_text.proofs.Common.{Ending, EntriesState, Entry, Fault, FileReads, FileStates, Line, List, Lower, None, Once, Placed, ReadEach, Some, [], ap, broken, ended_entries, entries_of, open_line, refl, refused, stated, states_none, states_one, subst, sym, whole, ℕ, ◌∙◌, ◌∷◌, ◌≡◌}
+use Rattle.zone_text.proofs.Common.{Ending, EntriesState, Entry, Fault, FileReads, FileStates, Line, List, Lower, None, Once, Placed, ReadEach, Some, [], ap, broken, ended_entries, entries_of, open_line, refl, refused, stated, states_none, states_one, subst, sym, whole, ℕ, ◌∙◌, ◌∷◌, ◌≡◌, arith, rules}
 use Rattle.zone_text.proofs.Cuttings.{one_cut, one_break, cut_not_broken}
 use Rattle.zone_text.proofs.Entered.{record_once, fault_once, record_or_fault, nothing_or_record, nothing_or_fault}
 
@@ -17,15 +17,11 @@ reads_once lower origin after before (entry ∷ entries) a b e f (stated (states
 reads_once lower origin after before (entry ∷ entries) a b e f (stated (states_none n xs)) (stated (states_one q others r at w ys)) = absurd (nothing_or_record origin before entry q.rr n r)
 reads_once lower origin after before (entry ∷ entries) a b e f (stated (states_none n xs)) (refused fault h u v) = absurd (nothing_or_fault lower origin before entry fault n h)
 reads_once lower origin after before (entry ∷ entries) a b e f (stated (states_one p more r at w xs)) (stated (states_none m ys)) = absurd (nothing_or_record origin before entry p.rr m r)
-reads_once lower origin after before (entry ∷ entries) a b e f (stated (states_one p more r at w xs)) (stated (states_one q others s place v ys)) =
-    let rest : Both more others e f = reads_once lower origin after (entry ∷ before) entries more others e f xs ys in
-    (one_more p q a b more others (record_once lower origin before entry p.rr q.rr r s) (at ∙ sym place) w v rest.0, rest.1)
+reads_once lower origin after before (entry ∷ entries) a b e f (stated (states_one p more r at w xs)) (stated (states_one q others s place v ys)) = grind (arith, reads_once lower origin after (entry ∷ before) entries more others e f xs ys, record_once lower origin before entry p.rr q.rr r s)
 reads_once lower origin after before (entry ∷ entries) a b e f (stated (states_one p more r at w xs)) (refused fault h u v) = absurd (record_or_fault lower origin before entry p.rr fault r h)
 reads_once lower origin after before (entry ∷ entries) a b e f (refused fault h u v) (stated (states_none m ys)) = absurd (nothing_or_fault lower origin before entry fault m h)
 reads_once lower origin after before (entry ∷ entries) a b e f (refused fault h u v) (stated (states_one q others s place w ys)) = absurd (record_or_fault lower origin before entry q.rr fault s h)
-reads_once lower origin after before (entry ∷ entries) a b e f (refused fault h u v) (refused other k s t) =
-    let same : fault ≡ other = fault_once lower origin before entry fault other h k in
-    (u ∙ sym s, v ∙ (ap (λ (x : Fault). let o : Ending = Some (x, Line entry.line) in o) same ∙ sym t))
+reads_once lower origin after before (entry ∷ entries) a b e f (refused fault h u v) (refused other k s t) = grind (arith, fault_once lower origin before entry fault other h k)
 
 pub file_reads_once : Lower → (origin : List (List ℕ)) (octets : List ℕ) (a b : List Placed) (e f : Ending) → FileReads origin octets a e → FileReads origin octets b f → Both a b e f
 file_reads_once lower origin octets a b e f (whole ps cut xs) (whole qs other ys) =
@@ -47,21 +43,15 @@ states_read origin before (entry ∷ entries) placed (states_one p more r at e x
 
 pub read_states : (origin : List (List ℕ)) (after : Ending) (before entries : List Entry) (placed : List Placed) (ending : Ending) → ending ≡ None → ReadEach origin after before entries placed ending → EntriesState origin before entries placed × (after ≡ None)
 read_states origin after before [] placed ending e x = (x.0, sym x.1 ∙ e)
-read_states origin after before (entry ∷ entries) placed ending e (stated (states_none n xs)) =
-    let rest = read_states origin after (entry ∷ before) entries placed ending e xs in (states_none n rest.0, rest.1)
-read_states origin after before (entry ∷ entries) placed ending e (stated (states_one p more r at w xs)) =
-    let rest = read_states origin after (entry ∷ before) entries more ending e xs in (states_one p more r at w rest.0, rest.1)
+read_states origin after before (entry ∷ entries) placed ending e (stated (states_none n xs)) = grind (arith, read_states origin after (entry ∷ before) entries placed ending e xs)
+read_states origin after before (entry ∷ entries) placed ending e (stated (states_one p more r at w xs)) = search (rules, read_states origin after (entry ∷ before) entries more ending e xs, states_one)
 read_states origin after before (entry ∷ entries) placed ending e (refused fault h u v) = absurd cc
 
 pub file_states_read : (origin : List (List ℕ)) (octets : List ℕ) (placed : List Placed) → FileStates origin octets placed → FileReads origin octets placed None
 file_states_read origin octets placed x = whole x.tokens x.cut (states_read origin [] (entries_of x.tokens) placed x.each)
 
 pub file_reads_state : (origin : List (List ℕ)) (octets : List ℕ) (placed : List Placed) → FileReads origin octets placed None → FileStates origin octets placed
-file_reads_state origin octets placed (whole ps cut xs) = record { tokens = ps; cut = cut; each = (read_states origin None [] (entries_of ps) placed None refl xs).0 }
-file_reads_state origin octets placed (broken ps fault breaks xs) =
-    let after : Ending = Some (fault, Line (open_line ps)) in
-    let none : after ≡ None = (read_states origin after [] (ended_entries ps) placed None refl xs).1 in
-    absurd cc
+file_reads_state origin octets placed given = grind (arith, read_states)
 
 -- so a file states one list of records at most
 pub file_once : Lower → (origin : List (List ℕ)) (octets : List ℕ) → Once (List Placed) (FileStates origin octets)

@@ -23,8 +23,7 @@ pub blank_in_front : (octets rest : List ℕ) (c : ℕ) → octets ≡ c ∷ res
 blank_in_front octets rest c whole is = record { token = blank c; whole = whole; is = is; ends = tt; inside = tt; stated = refl }
 
 ends_at : (octets : List ℕ) → EndsComment octets → EndsAt (λ c. c == 10) octets
-ends_at [] ends = tt
-ends_at (c ∷ rest) ends = rw ends refl
+ends_at octets ends = grind arith
 
 pub comment_in_front : (octets after rest : List ℕ) (c n : ℕ) → octets ≡ c ∷ after → c ≡ 59 → n ≡ length (before_line_feed after) → rest ≡ drop n after → IsInFront octets [] rest
 comment_in_front octets after rest c n whole is len back =
@@ -132,8 +131,7 @@ more_by octets rest left kept new items so_far found are_kept = record {
 }
 
 pub cut_more : (octets rest left : List ℕ) (kept new : List RawItem) (item : RawItem) → IsCutTo octets rest kept → IsInFront rest (item ∷ []) left → Keeps item kept new → IsCutTo octets left new
-cut_more octets rest left kept new item so_far found keeps =
-    more_by octets rest left kept new (item ∷ []) so_far found (keeps_more found.token so_far.so_far kept new item found.is (sym found.stated) so_far.are_kept keeps)
+cut_more octets rest left kept new item so_far found keeps = grind (arith, more_by octets rest left kept new (item ∷ []) so_far found (keeps_more found.token so_far.so_far kept new item found.is (sym found.stated) so_far.are_kept keeps))
 
 pub cut_on : (octets rest left : List ℕ) (kept : List RawItem) → IsCutTo octets rest kept → IsInFront rest [] left → IsCutTo octets left kept
 cut_on octets rest left kept so_far found =
@@ -150,13 +148,7 @@ cut_ended octets rest after raws c n so_far first is count =
     let last : length (so_far.front ++ fed) ≡ length so_far.front + length fed = length-append so_far.front fed in
     let taken : n ≡ length (so_far.front ++ fed) = omega (arith, count, len) in
     let entry : take n octets ≡ so_far.front ++ fed = rw (taken, whole) (take-append_seam (so_far.front ++ fed) after) in
-    record {
-      tokens = found.0;
-      one = subst (λ t. IsOneEntry t found.0) (sym entry) found.1;
-      stated = subst (λ t. AreKept t raws) (sym (found.2 ∙ append-nil so_far.so_far)) so_far.are_kept;
-      some = omega (arith, taken, last);
-      within = omega (arith, taken, len);
-    }
+    search rules
 
 pub keeps_items : (octets part : List ℕ) (n : ℕ) (kept : List RawItem) → IsFirstEntry octets n kept → part ≡ take n octets → KeepsItems part kept
 keeps_items octets part n kept first front tokens cut =
@@ -171,11 +163,7 @@ fed_entry old mid new piece rest part after n raws before none empty first front
     let left : length new.unfinished.items ≡ length mid.unfinished.items = ap length unfinished in
     let one : IsOneEntry part first.tokens = subst (λ t. IsOneEntry t first.tokens) (sym front) first.one in
     let follow : FollowsOn mid.ended [] new.ended [] part = λ origin fed given f. follow_one origin mid.ended new.ended [] part fed given first.tokens one none reads f in
-    let is : IsSplitter new.ended new.at new.unfinished.items = record {
-      state = rw (at, unfinished) (before.is.state);
-      dropped = λ found e. unfinished ∙ empty;
-      line = omega (arith, reads.later, before.is.line);
-    } in
+    let is : IsSplitter new.ended new.at new.unfinished.items = grind arith in
     fed_more old mid new piece rest part after before none whole len is
     (omega (arith, reads.near, left, len))
     (rw (unfinished, empty) follow)

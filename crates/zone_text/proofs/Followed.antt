@@ -28,8 +28,7 @@ no_fault_after origin after before (entry ∷ entries) placed (refused fault h e
 
 -- then the entries that were ended state the records
 pub reads_so_far : (origin : List (List ℕ)) (fed : List ℕ) (tokens : List Token) (placed : List Placed) → FileDecides origin fed placed None → AreTokens fed tokens → ReadsEnded origin None (cut_from zero tokens).ended placed None
-reads_so_far origin fed tokens placed (undecided others are none read) is =
-    subst (λ t. ReadsEnded origin None (cut_from zero t).ended placed None) (tokens_of fed others tokens are is) read
+reads_so_far origin fed tokens placed (undecided others are none read) is = grind (arith, tokens_of fed others tokens are is)
 reads_so_far origin fed tokens placed (decided others fault good read) is = search (rules, no_fault_after)
 
 -- ---- octets more
@@ -71,11 +70,7 @@ refused_longer origin octets tokens entries others placed found (inr breaks) e r
     ]
 
 some_tokens : (octets : List ℕ) → (tokens : List Token) × AreTokens octets tokens
-some_tokens octets =
-    elim (cut_or_broken octets) [
-      | inl found ↦ (found.0, inl found.1)
-      | inr found ↦ (found.0, inr (found.1, found.2))
-    ]
+some_tokens octets = grind (arith, cut_or_broken octets)
 
 pub fault_stays : (origin : List (List ℕ)) (fed more : List ℕ) (placed : List Placed) (found : Fault × Place) → FileDecides origin fed placed (Some found) → FileDecides origin (fed ++ more) placed (Some found)
 fault_stays origin fed more placed found (undecided tokens are none read) =
@@ -96,11 +91,7 @@ fault_is_read origin octets placed found (undecided tokens (inl cut) none read) 
     whole tokens cut (subst (λ t. ReadEach origin None [] t placed (Some found)) (sym on.1) (refused_before origin None [] (ended_entries tokens) on.0 placed found read))
 
 entries_are : (ended : List (List Token)) (tokens : List Token) → AreEnded zero ended → (cut_from zero tokens).ended ≡ [] → entries_of (joined ended ++ tokens) ≡ numbered 1 (and_last ended tokens)
-entries_are ended tokens are none =
-    ap (λ (c : Cut). numbered 1 (and_last c.ended c.open_tokens)) (again_zero ended tokens are)
-    ∙ ap (λ t. numbered 1 (and_last (ended ++ t) (cut_from zero tokens).open_tokens)) none
-    ∙ ap (λ t. numbered 1 (and_last t (cut_from zero tokens).open_tokens)) (append-nil ended)
-    ∙ ap (λ t. numbered 1 (and_last ended t)) (sym (ap (λ t. joined t ++ (cut_from zero tokens).open_tokens) none) ∙ cut_whole zero tokens)
+entries_are ended tokens are none = cc (again_zero ended tokens are, append-nil ended, cut_whole zero tokens)
 
 all_tokens : (fed : List ℕ) (ended : List (List Token)) (unfinished : List ℕ) (tokens : List Token) → IsSplit fed ended unfinished → Cuts unfinished tokens → Cuts fed (joined ended ++ tokens)
 all_tokens fed ended unfinished tokens is cut =
@@ -155,10 +146,7 @@ is_read origin entries unfinished fed given none follow =
 -- ---- the octets of the unfinished entry and others after them
 
 pub scans_on : (at : ScanState) (unfinished part : List ℕ) (step : Step) → ScansTo beginning unfinished (On at) → ScansTo at part step → ScansTo beginning (unfinished ++ part) step
-scans_on at unfinished part step before after =
-    scan_goes_on beginning at unfinished part before
-    ∙ ap (further (length unfinished)) after
-    ∙ ap (λ n. record { taken = n; step = step }) (sym (length-append unfinished part))
+scans_on at unfinished part step before after = grind (arith, scan_goes_on, length-append)
 
 -- the octets lead on
 pub follow_on : (origin : Labels) (entries : EndedEntries) (at : ScanState) (unfinished part fed : List ℕ) (given : List Placed) → ScansTo beginning (unfinished ++ part) (On at) → entries.decided.ending ≡ None → Follow origin entries unfinished fed given → Follow origin entries (unfinished ++ part) (fed ++ part) given
@@ -191,11 +179,7 @@ line_more ended tokens = grind (arith, common_steps)
 left_over : (origin : Labels) (ended : List (List Token)) (old new : EndedEntries) (unfinished part fed : List ℕ) (given : List Placed) (tokens : List Token) → IsRead origin ended old unfinished fed given → IsOneEntry (unfinished ++ part) tokens → ReadsEntry origin (reverse (numbered 1 ended)) tokens old new → new.decided.ending ≡ None → FileLeaves origin (fed ++ part) new.state new.line []
 left_over origin ended old new unfinished part fed given tokens is one read none =
     let all : (cut_from zero (joined ended ++ tokens)).ended ≡ ended ++ tokens ∷ [] = one_ended ended tokens is.parts.stays one.ended in
-    let octets : fed ++ part ≡ flat_map text (ended ++ tokens ∷ []) ++ [] =
-    whole_after fed part ended unfinished is.parts
-    ∙ ap (λ t. flat_map text ended ++ t) one.cut.whole
-    ∙ flat_map_more text [] ended tokens
-    ∙ sym (append-nil (flat_map text (ended ++ tokens ∷ []))) in
+    let octets : fed ++ part ≡ flat_map text (ended ++ tokens ∷ []) ++ [] = grind (arith, common_steps, joined, one_ended, whole_after, flat_map_more, append-nil, cut_more, numbered_then) in
     record {
       octets = record {
         tokens = joined ended ++ tokens;

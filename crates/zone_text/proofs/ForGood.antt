@@ -68,8 +68,7 @@ quoted_escape rest units after (inr cut) stays ends = inr (ends cut)
 stays_or_ends : (depth : ℕ) (rest : List ℕ) (fault : Fault) → IsBroken depth rest fault → StaysOrEnds rest
 stays_or_ends depth rest fault (closes_nothing after zero_is whole) = inl (closing_stays after whole)
 stays_or_ends depth rest fault (no_escape bad) = bare_escape rest (bad_is_malformed rest bad)
-stays_or_ends depth rest fault (no_quoted_escape units after each whole bad) =
-    quoted_escape rest units after (bad_is_malformed after bad) (quoted_escape_stays units after each whole) (quoted_escape_open units after each whole)
+stays_or_ends depth rest fault (no_quoted_escape units after each whole bad) = search (rules, quoted_escape, bad_is_malformed, quoted_escape_stays, quoted_escape_open)
 stays_or_ends depth rest fault (no_quote units each whole) = inr (quote_open units each whole)
 stays_or_ends depth rest fault (not_closed some whole) = inr (nothing_left whole)
 
@@ -88,11 +87,7 @@ lost_not_cut rest h h2 = search rules
 
 -- what follows the quoted units of a text is one thing
 after_units : (units other : List Written) (after rest : List ℕ) → AllByRecursion (IsUnit is_quote) units → AllByRecursion (IsUnit is_quote) other → NoUnit is_quote after → NoUnit is_quote rest → written_text units ++ after ≡ written_text other ++ rest → after ≡ rest
-after_units units other after rest each another none no_more e =
-    ap (λ (found : Units). found.rest) (
-    sym (units_first_only is_quote (written_text units ++ after) units after refl refl each none)
-    ∙ units_first_only is_quote (written_text units ++ after) other rest refl e another no_more
-    )
+after_units units other after rest each another none no_more e = grind (arith, units_first_only is_quote (written_text units ++ after) units after refl refl each none, units_first_only is_quote (written_text units ++ after) other rest refl e another no_more)
 
 lost_begins_none : (rest : List ℕ) → IsLostEscape rest → NoUnit is_quote rest
 lost_begins_none rest lost = at_backslash (malformed_is_bad rest (inl lost))
@@ -109,17 +104,9 @@ stays_or_ends_alone rest (closing_stays after e) (quote_open units each f) = sea
 stays_or_ends_alone rest (escape_stays lost) (quote_open units each f) = search rules
 stays_or_ends_alone rest (quoted_escape_stays other after another e lost) (quote_open units each f) =
     let same : written_text other ++ after ≡ written_text units ++ [] = after_quote rest (written_text other ++ after) (written_text units) e f ∙ sym (append-nil (written_text units)) in
-    let none : after ≡ [] = after_units other units after [] another each (lost_begins_none after lost) (at_end refl) same in
-    stays_some after (escape_stays lost) none
-stays_or_ends_alone rest (closing_stays after e) (escape_open cut) = search rules
-stays_or_ends_alone rest (escape_stays lost) (escape_open cut) = lost_not_cut rest lost cut
-stays_or_ends_alone rest (quoted_escape_stays other after another e lost) (escape_open cut) = search rules
-stays_or_ends_alone rest (closing_stays after e) (quoted_escape_open units more each f cut) = other_first 41 34 rest after (written_text units ++ more) e f (λ h. omega arith)
-stays_or_ends_alone rest (escape_stays lost) (quoted_escape_open units more each f cut) = search rules
-stays_or_ends_alone rest (quoted_escape_stays other after another e lost) (quoted_escape_open units more each f cut) =
-    let same : written_text other ++ after ≡ written_text units ++ more = after_quote rest (written_text other ++ after) (written_text units ++ more) e f in
-    let at : after ≡ more = after_units other units after more another each (lost_begins_none after lost) (at_backslash (malformed_is_bad more (inr cut))) same in
-    lost_not_cut after lost (subst IsCutOff (sym at) cut)
+    grind (arith, after_quote, append-nil, after_units, lost_begins_none, at_end, stays_some)
+stays_or_ends_alone rest stays (escape_open cut) = grind arith
+stays_or_ends_alone rest stays (quoted_escape_open units more each f cut) = grind (arith, other_first, after_quote, after_units, lost_begins_none, at_backslash, malformed_is_bad, lost_not_cut)
 
 -- ---- a break of a text whose rest after its tokens is known
 

@@ -27,16 +27,12 @@ comment_ends [] = tt
 comment_ends (c ∷ rest) = cond_both (c == 10) (c ∷ rest) (from_line_feed rest) EndsComment (eqb-true c 10) (λ e. comment_ends rest)
 
 pub comment_dropped : (octets : List ℕ) → drop (length (before_line_feed octets)) octets ≡ from_line_feed octets
-comment_dropped octets =
-    ap (drop (length (before_line_feed octets))) (comment_whole octets) ∙ drop-append_seam (before_line_feed octets) (from_line_feed octets)
+comment_dropped octets = cc (comment_whole octets, drop-append_seam (before_line_feed octets) (from_line_feed octets))
 
 comment_only : (octets rest : List ℕ) → IsComment octets → EndsComment rest → (before_line_feed (octets ++ rest) ≡ octets) × (from_line_feed (octets ++ rest) ≡ rest)
 unfolding before_line_feed from_line_feed
-comment_only [] [] each ends = (refl, refl)
-comment_only [] (c ∷ rest) each ends = rw ends (refl, refl)
-comment_only (c ∷ octets) rest each ends =
-    let more = comment_only octets rest each.1 ends in
-    rw (ne_eqb c 10 each.0) (ap (λ t. c ∷ t) more.0, more.1)
+comment_only [] rest each ends = grind arith
+comment_only (c ∷ octets) rest each ends = grind (arith, comment_only octets rest each.1 ends)
 
 -- ---- what an octet is where no item, comment or quote is open
 
@@ -70,9 +66,7 @@ Begins c (quoted units) = c ≡ 34
 pub begins : (c : ℕ) (octets : List ℕ) (p : Token) (rest : List ℕ) → IsToken p → c ∷ octets ≡ token_text p ++ rest → Begins c p
 begins c octets (blank d) rest is e = let same : c ≡ d = cc in ap is_blank same ∙ is
 begins c octets (bare []) rest is e = absurd (omega (arith, is.0))
-begins c octets (bare (plain d ∷ units)) rest is e = cc
 begins c octets (bare (escaped d ∷ units)) rest is e = let same : c ≡ 92 = cc in ap ends_item same
-begins c octets (bare (decimal x y z ∷ units)) rest is e = cc
 begins c octets p rest is e = cc
 
 -- ---- the beginning of a text
@@ -135,10 +129,7 @@ bare_is depth c octets (w ∷ units) rest goes_on whole each none = search rules
 
 front_by_sign : (depth c : ℕ) (rest : List ℕ) (sign : Sign) → IsSign c sign → IsFront depth (c ∷ rest) (front_by depth c rest sign)
 front_by_sign depth c rest a_blank is = record { whole = refl; token = is; stop = tt; room = tt }
-front_by_sign depth c rest a_line_feed is = search rules
-front_by_sign depth c rest an_opening is = search rules
 front_by_sign zero c rest a_closing is = closes_nothing rest refl (first_octet_is c 41 rest is)
-front_by_sign (suc depth) c rest a_closing is = search rules
 front_by_sign depth c rest a_semicolon is = grind (arith, first_octet_is, comment_whole, comment_each, comment_ends)
 front_by_sign depth c rest a_quote is =
     let found : UnitsAre is_quote rest (units_first is_quote rest) = units_first_are is_quote rest in
@@ -146,10 +137,10 @@ front_by_sign depth c rest a_quote is =
 front_by_sign depth c rest of_item is =
     let found : UnitsAre ends_item (c ∷ rest) (units_first ends_item (c ∷ rest)) = units_first_are ends_item (c ∷ rest) in
     bare_is depth c rest (units_first ends_item (c ∷ rest)).units (units_first ends_item (c ∷ rest)).rest is found.whole found.each found.none
+front_by_sign depth c rest sign is = search rules
 
 end_is : (depth : ℕ) → IsFront depth [] (end_front depth)
-end_is zero = (refl, refl)
-end_is (suc depth) = not_closed (omega arith) refl
+end_is depth = grind (arith, not_closed)
 
 -- what is read at the beginning is so
 pub front_is : (depth : ℕ) (octets : List ℕ) → IsFront depth octets (front_of depth octets)
@@ -163,22 +154,15 @@ unfolding front_of
 at_sign depth c rest sign e = ap (front_by depth c rest) e
 
 front_of_units : (depth c : ℕ) (octets : List ℕ) (units : List Written) (rest : List ℕ) → ends_item c ≡ false → c ∷ octets ≡ written_text units ++ rest → AllByRecursion (IsUnit ends_item) units → NoUnit ends_item rest → front_of depth (c ∷ octets) ≡ bare_front units rest
-front_of_units depth c octets units rest goes_on whole each none =
-    at_sign depth c octets of_item (sign_of_item c goes_on)
-    ∙ ap (λ (found : Units). bare_front found.units found.rest) (units_first_only ends_item (c ∷ octets) units rest refl whole each none)
+front_of_units depth c octets units rest goes_on whole each none = cc (at_sign depth c octets of_item (sign_of_item c goes_on), units_first_only ends_item (c ∷ octets) units rest refl whole each none)
 
 front_of_bare : (depth : ℕ) (w : Written) (units : List Written) (rest : List ℕ) → AllByRecursion (IsUnit ends_item) (w ∷ units) → NoUnit ends_item rest → front_of depth (written_text (w ∷ units) ++ rest) ≡ takes (bare (w ∷ units)) rest
-front_of_bare depth (plain c) units rest each none =
-    front_of_units depth c (written_text units ++ rest) (plain c ∷ units) rest each.0.0 refl each none
-front_of_bare depth (escaped c) units rest each none =
-    front_of_units depth 92 (c ∷ (written_text units ++ rest)) (escaped c ∷ units) rest refl refl each none
-front_of_bare depth (decimal x y z) units rest each none =
-    front_of_units depth 92 (x ∷ y ∷ z ∷ (written_text units ++ rest)) (decimal x y z ∷ units) rest refl refl each none
+front_of_bare depth (plain c) units rest each none = cc (front_of_units depth c (written_text units ++ rest) (plain c ∷ units) rest each.0.0 refl each none)
+front_of_bare depth (escaped c) units rest each none = cc (front_of_units depth 92 (c ∷ (written_text units ++ rest)) (escaped c ∷ units) rest refl refl each none)
+front_of_bare depth (decimal x y z) units rest each none = cc (front_of_units depth 92 (x ∷ y ∷ z ∷ (written_text units ++ rest)) (decimal x y z ∷ units) rest refl refl each none)
 
 front_of_quote : (depth : ℕ) (octets : List ℕ) (units : List Written) (rest : List ℕ) → octets ≡ written_text units ++ rest → AllByRecursion (IsUnit is_quote) units → NoUnit is_quote rest → front_of depth (34 ∷ octets) ≡ quoted_front units rest
-front_of_quote depth octets units rest whole each none =
-    at_sign depth 34 octets a_quote refl
-    ∙ ap (λ (found : Units). quoted_front found.units found.rest) (units_first_only is_quote octets units rest refl whole each none)
+front_of_quote depth octets units rest whole each none = cc (at_sign depth 34 octets a_quote refl, units_first_only is_quote octets units rest refl whole each none)
 
 pub front_takes : (depth : ℕ) (p : Token) (rest : List ℕ) → IsToken p → Stops p rest → HasRoom depth p → front_of depth (token_text p ++ rest) ≡ takes p rest
 front_takes depth (blank c) rest is stop room = at_sign depth c rest a_blank (rw is refl)
@@ -186,28 +170,21 @@ front_takes depth line_feed rest is stop room = at_sign depth 10 rest a_line_fee
 front_takes depth opening rest is stop room = at_sign depth 40 rest an_opening refl
 front_takes zero closing rest is stop room = absurd (omega arith)
 front_takes (suc depth) closing rest is stop room = at_sign (suc depth) 41 rest a_closing refl
-front_takes depth (comment octets) rest is stop room =
-    let only = comment_only octets rest is stop in
-    at_sign depth 59 (octets ++ rest) a_semicolon refl ∙ rw (only.0, only.1) refl
+front_takes depth (comment octets) rest is stop room = grind (arith, comment_only octets rest is stop, at_sign depth 59 (octets ++ rest) a_semicolon refl)
 front_takes depth (bare []) rest is stop room = absurd (omega (arith, is.0))
 front_takes depth (bare (w ∷ units)) rest is stop room = front_of_bare depth w units rest is.1 stop
-front_takes depth (quoted units) rest is stop room =
-    front_of_quote depth ((written_text units ++ 34 ∷ []) ++ rest) units (34 ∷ rest) (append_assoc (written_text units) (34 ∷ []) rest) is (at_octet 34 rest refl refl)
+front_takes depth (quoted units) rest is stop room = cc (front_of_quote depth ((written_text units ++ 34 ∷ []) ++ rest) units (34 ∷ rest) (append_assoc (written_text units) (34 ∷ []) rest) is (at_octet 34 rest refl refl))
 
 bad_escape_front : (depth : ℕ) (rest : List ℕ) → IsBadEscape rest → front_of depth rest ≡ stops (Some BadEscape)
-bad_escape_front depth rest bad =
-    let P : List ℕ → Type 0 = λ t. front_of depth t ≡ stops (Some BadEscape) in
-    subst P (sym bad.1) (front_of_units depth 92 bad.0 [] (92 ∷ bad.0) refl refl tt (at_backslash (subst IsBadEscape bad.1 bad)))
+bad_escape_front depth rest bad = cc (front_of_units depth 92 bad.0 [] (92 ∷ bad.0) refl refl tt (at_backslash (subst IsBadEscape bad.1 bad)))
 
 broken_front : (depth : ℕ) (rest : List ℕ) (fault : Fault) → IsBroken depth rest fault → front_of depth rest ≡ stops (Some fault)
 unfolding front_of
 broken_front depth rest fault (closes_nothing after e whole) = rw (e, whole) refl
 broken_front depth rest fault (no_escape bad) = bad_escape_front depth rest bad
 broken_front depth rest fault (no_quoted_escape units after each whole bad) = rw whole (front_of_quote depth (written_text units ++ after) units after refl each (at_backslash bad) ∙ ap (quoted_front units) bad.1)
-broken_front depth rest fault (no_quote units each whole) =
-    rw whole (front_of_quote depth (written_text units) units [] (sym (append-nil (written_text units))) each (at_end refl))
-broken_front zero rest fault (not_closed some whole) = absurd (omega arith)
-broken_front (suc depth) rest fault (not_closed some whole) = rw whole refl
+broken_front depth rest fault (no_quote units each whole) = cc (front_of_quote depth (written_text units) units [] (sym (append-nil (written_text units))) each (at_end refl))
+broken_front depth rest fault (not_closed some whole) = grind arith
 
 pub front_stops : (depth : ℕ) (octets : List ℕ) (fault : Option Fault) → Ends depth octets fault → front_of depth octets ≡ stops fault
 unfolding front_of

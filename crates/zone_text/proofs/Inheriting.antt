@@ -1,6 +1,6 @@
 -- The parser state is what the look back over the entries finds: one entry more, and the TTL that
 -- a record inherits.
-use Rattle.zone_text.proofs.Common.{Data, Entry, HasContents, HasHeadOf, HasTtl, Head, IsLastMinimum, IsLastOwner, IsOneOrNone, IsOrigin, IsStateAfter, IsTime, IsTtl, IsTtlOrNone, Labels, List, Lower, MatchOption, None, Option, ParserState, Parts, RawItem, SetsOrigin, SetsTtl, Some, SpellsAfter, Statement, StatesMinimum, StatesNothing, [], ap, class_among, class_word, default_ttl_text, inl, inr, latest, minimum, one_bare, option_and_then, option_or, origin_text, owner_text, parts_in, refl, rules, sets_origin, sets_ttl, stated_ttl, statement_of, subst, sym, ttl_among, ttl_text, with_owner, ℕ, ◌∙◌, ◌∷◌, ◌≡◌}
+use Rattle.zone_text.proofs.Common.{Data, Entry, HasContents, HasHeadOf, HasTtl, Head, IsLastMinimum, IsLastOwner, IsOneOrNone, IsOrigin, IsStateAfter, IsTime, IsTtl, IsTtlOrNone, Labels, List, Lower, MatchOption, None, Option, ParserState, Parts, RawItem, SetsOrigin, SetsTtl, Some, SpellsAfter, Statement, StatesMinimum, StatesNothing, [], ap, class_among, class_word, default_ttl_text, inl, inr, latest, minimum, one_bare, option_and_then, option_or, origin_text, owner_text, parts_in, refl, rules, sets_origin, sets_ttl, stated_ttl, statement_of, subst, sym, ttl_among, ttl_text, with_owner, ℕ, ◌∙◌, ◌∷◌, ◌≡◌, arith}
 use Rattle.zone_rdata.specs.Item.{bare}
 use Rattle.zone_text.proofs.EntryOutcome.{states_no_minimum, no_minimum}
 
@@ -17,23 +17,11 @@ last_minimum origin before entry (Some n) none so_far = inr (none, so_far)
 
 -- no owner
 owner_by : (origin : Labels) (before : List Entry) (o : Option (List ℕ)) (owner : Option Labels) → o ≡ None → IsOneOrNone (IsLastOwner origin before) owner → IsOneOrNone (λ name. MatchOption o (IsLastOwner origin before name) (λ text. SpellsAfter origin before text name)) owner
-owner_by origin before None owner e so_far = so_far
-owner_by origin before (Some text) owner e so_far = absurd cc
+owner_by origin before o owner e so_far = grind arith
 
 -- a directive or a blank entry leaves what it does not set
 pub leaves : (origin : Labels) (before : List Entry) (entry : Entry) (form : Statement) (d : ParserState) (name : Labels) (seconds : Option ℕ) → statement_of entry ≡ form → parts_in form ≡ None → owner_text form ≡ None → IsStateAfter origin before d → IsOrigin origin (entry ∷ before) name → IsTtlOrNone (latest default_ttl_text (entry ∷ before)) seconds → IsStateAfter origin (entry ∷ before) (record { origin = name; owner = d.owner; class = d.class; default_ttl = seconds; last_ttl = d.last_ttl; minimum = d.minimum })
-leaves origin before entry form d name seconds is no_parts no_owner so_far under default =
-    let parts : parts_in (statement_of entry) ≡ None = ap parts_in is ∙ no_parts in
-    let word : class_word (statement_of entry) ≡ None = ap (λ (o : Option Parts). option_and_then (λ (parts : Parts). class_among parts.words) o) parts in
-    let ttl : ttl_text (statement_of entry) ≡ None = ap (λ (o : Option Parts). option_and_then (λ (parts : Parts). ttl_among parts.words) o) parts in
-    record {
-      under = under;
-      owner = owner_by origin before (owner_text (statement_of entry)) d.owner (ap owner_text is ∙ no_owner) so_far.owner;
-      class = rw word (so_far.class);
-      default_ttl = default;
-      last_ttl = rw ttl (so_far.last_ttl);
-      minimum = last_minimum origin before entry d.minimum (no_word origin before entry parts) so_far.minimum;
-    }
+leaves origin before entry form d name seconds is no_parts no_owner so_far under default = grind arith
 
 -- no `$ORIGIN`
 pub same_origin : (origin : Labels) (before : List Entry) (entry : Entry) (form : Statement) (name : Labels) → statement_of entry ≡ form → origin_text form ≡ None → IsOrigin origin before name → IsOrigin origin (entry ∷ before) name
@@ -64,8 +52,7 @@ pub ttl_stated : (origin : Labels) (before : List Entry) (entry : Entry) (d : Pa
 ttl_stated origin before entry d own so_far own_ttl = search rules
 
 has_by : (o : Option (List ℕ)) (stated last : Option ℕ) (n : ℕ) (Last : ℕ → Type 0) → IsTtlOrNone o stated → IsOneOrNone Last last → option_or stated last ≡ Some n → MatchOption o (Last n) (λ text. IsTime text n)
-has_by None stated None n Last none is e = cc
-has_by None stated (Some m) n Last none is e = search rules
+has_by None stated last n Last none is e = grind arith
 has_by (Some text) None last n Last ttl is e = absurd ttl
 has_by (Some text) (Some m) last n Last ttl is e = let at : m ≡ n = cc in subst (IsTime text) at ttl.time
 
@@ -81,8 +68,7 @@ has_no_ttl origin before entry stated last ttl is e = none_by (stated_ttl before
 -- ---- directives that are read
 
 one_bare_is : (items : List RawItem) (text : List ℕ) → one_bare items ≡ Some text → items ≡ bare text ∷ []
-one_bare_is (bare other ∷ []) text e = cc
-one_bare_is items text e = absurd cc
+one_bare_is items text e = grind arith
 
 origin_states : (origin : Labels) (before : List Entry) (items : List RawItem) (text : List ℕ) (name : Labels) → one_bare items ≡ Some text → SpellsAfter origin before text name → StatesNothing origin before (sets_origin items)
 origin_states origin before (bare other ∷ []) text name e spells = let same : text ≡ other = cc in (name, subst (λ t. SpellsAfter origin before t name) same spells)

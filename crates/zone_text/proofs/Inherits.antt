@@ -1,5 +1,5 @@
 -- What an entry inherits is one thing at most, as is what two steps find one after the other.
-use Rattle.zone_text.proofs.Common.{Data, Entry, Err, HasClass, HasContents, HasHeadOf, HasTtl, Head, IsClassWord, IsLastMinimum, IsLastOwner, IsOrigin, IsOwner, IsTime, Labels, List, Lower, MatchOption, Ok, Once, Option, Result, Some, Spells, SpellsAfter, Statement, States, StatesMinimum, [], ap, class_word, inl, inr, latest, minimum, origin_text, owned, owner_text, refl, rules, stated_ttl, statement_of, subst, sym, unowned, ℕ, ◌∙◌, ◌∷◌, ◌≡◌, ◌⊎◌}
+use Rattle.zone_text.proofs.Common.{Data, Entry, Err, HasClass, HasContents, HasHeadOf, HasTtl, Head, IsClassWord, IsLastMinimum, IsLastOwner, IsOrigin, IsOwner, IsTime, Labels, List, Lower, MatchOption, Ok, Once, Option, Result, Some, Spells, SpellsAfter, Statement, States, StatesMinimum, [], ap, class_word, inl, inr, latest, minimum, origin_text, owned, owner_text, refl, rules, stated_ttl, statement_of, subst, sym, unowned, ℕ, ◌∙◌, ◌∷◌, ◌≡◌, ◌⊎◌, arith}
 use Rattle.zone_rdata.specs.Spelling.{bare}
 
 pub match_once : (A B : Type 0) (o : Option A) (P : B → Type 0) (Q : A → B → Type 0) → Once B P → ((x : A) → Once B (Q x)) → (a b : B) → MatchOption o (P a) (λ x. Q x a) → MatchOption o (P b) (λ x. Q x b) → a ≡ b
@@ -10,16 +10,7 @@ abbrev pub Then : (A B F : Type 0) → (Result A F → Type 0) → (A → Result
 Then A B F First Next r = ((x : A) × (First (Ok x) × Next x r)) ⊎ ((fault : F) × (First (Err fault) × (r ≡ Err fault)))
 
 pub then_once : (A B F : Type 0) (First : Result A F → Type 0) (Next : A → Result B F → Type 0) → Once (Result A F) First → ((x : A) → Once (Result B F) (Next x)) → Once (Result B F) (Then A B F First Next)
-then_once A B F First Next one others a b (inl x) (inl y) =
-    let same : Ok x.0 ≡ Ok y.0 = one (Ok x.0) (Ok y.0) x.1.0 y.1.0 in
-    let at : x.0 ≡ y.0 = cc in
-    others y.0 a b (subst (λ v. Next v a) at x.1.1) y.1.1
-then_once A B F First Next one others a b (inl x) (inr f) = let same : Ok x.0 ≡ Err f.0 = one (Ok x.0) (Err f.0) x.1.0 f.1.0 in absurd cc
-then_once A B F First Next one others a b (inr f) (inl x) = let same : Ok x.0 ≡ Err f.0 = one (Ok x.0) (Err f.0) x.1.0 f.1.0 in absurd cc
-then_once A B F First Next one others a b (inr f) (inr g) = let same : Err f.0 ≡ Err g.0 = one (Err f.0) (Err g.0) f.1.0 g.1.0 in
-    let h : f.0 ≡ g.0 = cc in
-    let refused : F → Result B F = λ x. Err x in
-    f.1.1 ∙ (ap refused h ∙ sym g.1.1)
+then_once A B F First Next one others a b given has = grind arith
 
 pub spells_once : Lower → (Above : List (List ℕ) → Type 0) → Once (List (List ℕ)) Above → (text : List ℕ) → Once (List (List ℕ)) (λ name. (above : List (List ℕ)) × (Above above × Spells (Some above) text name))
 spells_once lower Above one text a b x y =
@@ -37,8 +28,7 @@ module _ (lower : Lower) (origin : List (List ℕ)) where
 
   pub last_owner_once : (before : List Entry) → Once (List (List ℕ)) (IsLastOwner origin before)
   last_owner_once [] a b x y = absurd x
-  last_owner_once (entry ∷ before) a b x y =
-      match_once (List ℕ) (List (List ℕ)) (owner_text (statement_of entry)) (IsLastOwner origin before) (SpellsAfter origin before) (last_owner_once before) (spells_after_once before) a b x y
+  last_owner_once (entry ∷ before) a b x y = grind (arith, last_owner_once before, match_once (List ℕ) (List (List ℕ)) (owner_text (statement_of entry)) (IsLastOwner origin before) (SpellsAfter origin before) (last_owner_once before) (spells_after_once before) a b x y)
 
   pub owner_once : (before : List Entry) (form : Statement) → Once (List (List ℕ)) (IsOwner origin before form)
   owner_once before (owned (bare text) items) a b x y = spells_after_once before text a b x y
@@ -82,9 +72,7 @@ module _ (lower : Lower) (origin : List (List ℕ)) where
       same_data d e class kind octets
 
   pub minimum_once : (before : List Entry) (entry : Entry) → Once ℕ (StatesMinimum origin before entry)
-  minimum_once before entry a b (owner, d, has, field) (other, e, also, same) =
-      let values : Some a ≡ Some b = sym field ∙ (ap minimum (contents_once before entry owner other d e has also) ∙ same) in
-      cc
+  minimum_once before entry a b (owner, d, has, field) (other, e, also, same) = grind (arith, contents_once before entry owner other d e has also)
 
   pub last_minimum_once : (before : List Entry) → Once ℕ (IsLastMinimum origin before)
   last_minimum_once [] a b x y = absurd x

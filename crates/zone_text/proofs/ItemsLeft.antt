@@ -19,13 +19,7 @@ FrontIs octets raws left = (p : Token) (rest : List ℕ) → IsToken p → EndsB
 
 -- an octet that ends an item and begins neither an item nor a comment
 pub plain_front : (octets after : List ℕ) (c : ℕ) → octets ≡ c ∷ after → c ≢ 34 → c ≢ 59 → ends_item c ≡ true → FrontIs octets [] after
-plain_front octets after c whole no_quote no_comment ends p rest is at e = by p is (sym whole ∙ e) (begins c after p rest is (sym whole ∙ e))
-  where
-    by : (p : Token) → IsToken p → c ∷ after ≡ token_text p ++ rest → Begins c p → Front [] after p rest
-    by (comment octets) is e first = absurd (no_comment first)
-    by (bare units) is e first = absurd (both_ways (ends_item c) first ends)
-    by (quoted units) is e first = absurd (no_quote first)
-    by p is e first = (refl, cc)
+plain_front octets after c whole no_quote no_comment ends p rest is at e = grind (arith, begins)
 
 no_blank : (c d : ℕ) → c ≡ d → is_blank d ≡ false → is_blank c ≡ true → ⊥
 no_blank c d e not_one is = both_ways (is_blank c) (ap is_blank e ∙ not_one) is
@@ -75,23 +69,13 @@ unfolding item_len
 some_octets octets after c n whole goes_on len = search rules
 
 pub bare_takes : (octets after left : List ℕ) (c n : ℕ) → octets ≡ c ∷ after → ends_item c ≡ false → n ≡ item_len ends_item false octets → n ≤ length octets → left ≡ drop n octets → length left < length octets
-bare_takes octets after left c n whole goes_on len within back =
-    let some : 0 < n = some_octets octets after c n whole goes_on len in
-    let less : length left ≡ length octets - n = ap length back ∙ length-drop n octets in
-    omega arith
+bare_takes octets after left c n whole goes_on len within back = grind (arith, some_octets octets after c n whole goes_on len, length-drop n octets)
 
 -- ---- all tokens of a text
 
 -- a token ends before those after it
 ends_after : (p : Token) (tokens : List Token) → AllByRecursion IsToken tokens → AllFollow (p ∷ tokens) → EndsBefore p (text tokens)
-ends_after (bare units) [] each follow = tt
-ends_after (bare units) (blank c ∷ tokens) each follow = rw (each.0) refl
-ends_after (bare units) (bare more ∷ tokens) each follow = absurd follow.0
-ends_after (bare units) tokens each follow = refl
-ends_after (comment octets) [] each follow = tt
-ends_after (comment octets) (line_feed ∷ tokens) each follow = refl
-ends_after (comment octets) tokens each follow = absurd follow.0
-ends_after p tokens each follow = tt
+ends_after p tokens each follow = grind arith
 
 -- the tokens that are left, and the items of those before them, of which these are kept
 pub record IsLeft (rest : List ℕ) (kept : List RawItem) (tokens : List Token) : Type 0 where

@@ -1,5 +1,5 @@
 -- The items that are kept of an entry, one by one.
-use Rattle.zone_text.proofs.Common.{AllByRecursion, AllByRecursion-back, AllByRecursion-front, AreKept, Bool, IsShort, IsToken, IsUnit, IsWritten, Keeps, List, RawItem, SpellsString, Token, Written, [], ap, append-nil, arith, bare, flat_map, inl, inr, item_of, item_text, length, length-append, no_octet, octet_of, one_kept, one_left_out, quoted, refl, rules, subst, sym, text_of, text_of-some, written_octets, written_text, ℕ, ◌++◌, ◌<◌, ◌∙◌, ◌∷◌, ◌≡◌, ◌≤◌}
+use Rattle.zone_text.proofs.Common.{AllByRecursion, AllByRecursion-back, AllByRecursion-front, AreKept, Bool, IsShort, IsToken, IsUnit, IsWritten, Keeps, List, RawItem, SpellsString, Token, Written, [], ap, append-nil, arith, bare, flat_map, inl, inr, item_of, item_text, length, length-append, no_octet, octet_of, one_kept, one_left_out, quoted, refl, rules, subst, sym, text_of, text_of-some, written_octets, written_text, ℕ, ◌++◌, ◌<◌, ◌∙◌, ◌∷◌, ◌≡◌, ◌≤◌, common_steps}
 
 -- ---- an item of a token
 
@@ -18,24 +18,14 @@ octet_low out w is low = search rules
 
 octets_low : (out : ℕ → Bool) (units : List Written) → AllByRecursion (IsUnit out) units → Low (written_text units) → Low (written_octets units)
 octets_low out [] each low = tt
-octets_low out (w ∷ units) each low =
-    (octet_low out w each.0 (AllByRecursion-front _ (text_of w) (written_text units) low), octets_low out units each.1 (AllByRecursion-back _ (text_of w) (written_text units) low))
+octets_low out (w ∷ units) each low = grind (arith, octets_low out units each.1 (AllByRecursion-back _ (text_of w) (written_text units) low))
 
 no_longer : (units : List Written) → length (written_octets units) ≤ length (written_text units)
 no_longer [] = omega arith
 no_longer (w ∷ units) = omega (arith, text_of-some w, no_longer units, length-append (text_of w) (written_text units))
 
 units_spell : (out : ℕ → Bool) (units : List Written) (item : RawItem) → AllByRecursion (IsUnit out) units → item_text item ≡ written_text units → IsShort item → SpellsString item (written_octets units)
-units_spell out units item each text short = record {
-  units = units;
-  each = units_anywhere out units each;
-  text = text;
-  value = refl;
-  string = record {
-    short = omega (arith, short.few, ap length text, no_longer units);
-    each = octets_low out units each (subst Low text short.octets);
-  };
-}
+units_spell out units item each text short = grind (arith, units_anywhere out units each, no_longer units, octets_low out units each (subst Low text short.octets))
 
 same_item : (a b : RawItem) → a ∷ [] ≡ b ∷ [] → a ≡ b
 same_item a b e = cc
@@ -66,18 +56,7 @@ none_kept = inl refl
 
 -- an item of a token comes after those kept, or is left out
 pub keeps_more : (p : Token) (items kept new : List RawItem) (item : RawItem) → IsToken p → item ∷ [] ≡ item_of p → AreKept items kept → Keeps item kept new → AreKept (items ++ item ∷ []) new
-keeps_more p items kept new item is e (inl all) (inl more) = search rules
-keeps_more p items kept new item is e (inl all) (inr less) =
-    let spells = short_spells p item is e less.2 in
-    inr (record {
-      first = kept;
-      more = item ∷ [];
-      others = [];
-      whole = ap (λ t. t ++ item ∷ []) (sym all);
-      are_kept = less.0 ∙ sym (append-nil kept);
-      many = less.1;
-      out = inr (spells.0, spells.1, refl);
-    })
+keeps_more p items kept new item is e (inl all) has = grind (arith, common_steps, short_spells, append-nil)
 keeps_more p items kept new item is e (inr short) (inl more) = search (rules, one_kept)
 keeps_more p items kept new item is e (inr short) (inr less) =
     let spells = short_spells p item is e less.2 in

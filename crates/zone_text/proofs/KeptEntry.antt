@@ -1,6 +1,6 @@
 -- An entry of very many items has the fault that it has where some that spell strings are left out,
 -- and states nothing.
-use Rattle.zone_text.proofs.Common.{AllByRecursion, AreKept, AreShortened, Bool, Cuts, Data, DecidesEntry, Entry, EntryFault, EntryStates, Err, Fault, HasContents, HasHeadOf, HasValue, Head, IsClassWord, IsOwner, IsWritten, Labels, LeavesOut, List, MatchOption, None, Ok, OnOk, Option, ParserState, Parts, PartsFault, PendingRecords, Place, RawItem, Record, Result, Some, Statement, StatementFault, StatesNothing, Token, Word, [], after_item, ap, are_many, arith, at_least, begin_with, class, class_among, class_word, data_of, decides_fault, decides_none, decides_one, directive, entry_of, false, fault_of_all, flat_map, if◌then◌else◌, includes, inl, inr, is_blank, item_of, latest, length, no_items, of_parts, of_rdata, of_statement, of_ttl, one_bare, option_or, owned, parts_after, parts_in, refl, rules, sets_origin, sets_ttl, slice_get, state_none, statement_by, statement_of, subst, sym, true, ttl, ttl_among, unknown, unless_stated, unowned, word_after, ℕ, ⊤, ◌++◌, ◌+◌, ◌==◌, ◌∙◌, ◌∷◌, ◌≡◌, ◌≤◌}
+use Rattle.zone_text.proofs.Common.{AllByRecursion, AreKept, AreShortened, Bool, Cuts, Data, DecidesEntry, Entry, EntryFault, EntryStates, Err, Fault, HasContents, HasHeadOf, HasValue, Head, IsClassWord, IsOwner, IsWritten, Labels, LeavesOut, List, MatchOption, None, Ok, OnOk, Option, ParserState, Parts, PartsFault, PendingRecords, Place, RawItem, Record, Result, Some, Statement, StatementFault, StatesNothing, Token, Word, [], after_item, ap, are_many, arith, at_least, begin_with, class, class_among, class_word, data_of, decides_fault, decides_none, decides_one, directive, entry_of, false, fault_of_all, flat_map, if◌then◌else◌, includes, inl, inr, is_blank, item_of, latest, length, no_items, of_parts, of_rdata, of_statement, of_ttl, one_bare, option_or, owned, parts_after, parts_in, refl, rules, sets_origin, sets_ttl, slice_get, state_none, statement_by, statement_of, subst, sym, true, ttl, ttl_among, unknown, unless_stated, unowned, word_after, ℕ, ⊤, ◌++◌, ◌+◌, ◌==◌, ◌∙◌, ◌∷◌, ◌≡◌, ◌≤◌, common_steps}
 use Rattle.zone_rdata.specs.Item.{bare, quoted}
 use Rattle.zone_text.proofs.Kept.{items_written}
 use Rattle.zone_text.proofs.WordsLeft.{class_kept, class_pushed, parts_by, ttl_kept, ttl_pushed}
@@ -59,10 +59,7 @@ record FormParts (split_so : Option Parts) (other : Parts) : Type 0 where
 
 kept_parts : (items kept : List RawItem) → Long 65551 items kept → (parts : Parts) → Some (parts_after [] kept) ≡ Some parts → FormParts (Some (parts_after [] items)) parts
 unfolding free_one
-kept_parts items kept long parts e =
-    let same : parts_after [] kept ≡ parts = cc in
-    let found : LongParts (parts_after [] items) (parts_after [] kept) = rw (long.short.whole, long.short.are_kept) (parts_long [] long.short.first long.short.more long.short.others (omega (arith, long.short.many)) (subst (AllByRecursion IsWritten) long.short.whole long.written) long.short.out) in
-    record { parts = parts_after [] items; split = refl; long = subst (LongParts (parts_after [] items)) same found }
+kept_parts items kept long parts e = grind (arith, parts_long [] long.short.first long.short.more long.short.others (omega (arith, long.short.many)) (subst (AllByRecursion IsWritten) long.short.whole long.written) long.short.out)
 
 -- ---- forms
 
@@ -92,24 +89,14 @@ no_one_bare : (items : List RawItem) → 2 ≤ length items → one_bare items �
 no_one_bare items many = search rules
 
 word_long : (a b c : Bool) (items kept : List RawItem) → one_bare items ≡ None → one_bare kept ≡ None → LongForms (if a then sets_origin items else if b then sets_ttl items else if c then includes else unknown) (if a then sets_origin kept else if b then sets_ttl kept else if c then includes else unknown)
-word_long false false true items kept many most = record { same = refl; long = tt; other_long = tt; parts = λ p e. absurd cc }
-word_long false false false items kept many most = record { same = refl; long = tt; other_long = tt; parts = λ p e. absurd cc }
-word_long a b c items kept many most = record { same = refl; long = many; other_long = most; parts = λ p e. absurd cc }
+word_long a b c items kept many most = grind arith
 
 directive_long : (word : RawItem) (items kept : List RawItem) → Long 65551 items kept → LongForms (directive word items) (directive word kept)
-directive_long (quoted text) items kept long = record { same = refl; long = tt; other_long = tt; parts = λ p e. absurd cc }
-directive_long (bare text) items kept long =
-    let many = are_many 65551 items kept long.short in
-    word_long _ _ _ items kept (no_one_bare items (omega (arith, many.0))) (no_one_bare kept (omega (arith, many.1)))
+directive_long word items kept long = grind (arith, common_steps, are_many, word_long, no_one_bare)
 
 octet_long : (a b : Bool) (item : RawItem) (items kept : List RawItem) → IsWritten item → Long 65551 items kept → LongForms (if a then directive item items else if b then unowned (item ∷ items) else owned item items) (if a then directive item kept else if b then unowned (item ∷ kept) else owned item kept)
 octet_long true b item items kept is long = directive_long item items kept long
-octet_long false true item items kept is long = record {
-  same = refl;
-  long = tt;
-  other_long = tt;
-  parts = kept_parts (item ∷ items) (item ∷ kept) (record { short = after_item 65551 item items kept long.short; written = (is, long.written) });
-}
+octet_long false true item items kept is long = search (rules, kept_parts, after_item)
 octet_long false false item items kept is long = record { same = refl; long = tt; other_long = tt; parts = kept_parts items kept long }
 
 first_long : (first : Option ℕ) (item : RawItem) (items kept : List RawItem) → IsWritten item → Long 65551 items kept → LongForms (statement_by first (item ∷ items)) (statement_by first (item ∷ kept))
@@ -121,43 +108,33 @@ forms_long first items kept long =
     let begin = begin_with 65552 65551 items kept (omega arith) long.short in
     let written : AllByRecursion IsWritten (begin.item ∷ begin.rest) = subst (AllByRecursion IsWritten) begin.whole long.written in
     let found = first_long first begin.item begin.rest begin.others written.0 (record { short = begin.short; written = written.1 }) in
-    let half = subst (λ t. LongForms (statement_by first t) (statement_by first (begin.item ∷ begin.others))) (sym begin.whole) found in
-    subst (λ t. LongForms (statement_by first items) (statement_by first t)) (sym begin.are_kept) half
+    grind arith
 
 -- ---- what such forms state
 
 module _ (origin : Labels) (before : List Entry) where
   shown_fault : (fault : Fault) (form : Statement) → IsLong form → StatementFault origin before (shown form) fault ≡ StatementFault origin before form fault
-  shown_fault fault (sets_origin (bare text ∷ [])) long = cc
-  shown_fault fault (sets_ttl (bare text ∷ [])) long = cc
-  shown_fault fault (owned (bare text) items) long = refl
-  shown_fault fault form long = refl
+  shown_fault fault form long = grind arith
 
   shown_owner : (name : Labels) (form : Statement) → IsLong form → IsOwner origin before (shown form) name ≡ IsOwner origin before form name
-  shown_owner name (owned (bare text) items) long = refl
-  shown_owner name form long = refl
+  shown_owner name form long = grind arith
 
   none_stated : (form : Statement) → IsLong form → StatesNothing origin before form → ⊥
-  none_stated (sets_origin (bare text ∷ [])) long n = cc
-  none_stated (sets_ttl (bare text ∷ [])) long n = cc
-  none_stated no_items long n = long
-  none_stated form long n = n
+  none_stated form long n = grind arith
 
 -- what a form shows, the other shows
 as_kept : (P : Statement → Type 0) → ((form : Statement) → IsLong form → P (shown form) ≡ P form) → (form other : Statement) → LongForms form other → P other → P form
 as_kept P same form other h p = subst (λ Q. Q) (sym (same other h.other_long) ∙ ap P h.same ∙ same form h.long) p
 
 parts_of_first : (words : List Word) (item : RawItem) (items kept : List RawItem) (fault : Fault) → PartsFault words (item ∷ kept) fault → PartsFault words (item ∷ items) fault
-parts_of_first [] (bare text) items kept fault bad = bad
-parts_of_first [] (quoted text) items kept fault bad = bad
+parts_of_first [] item items kept fault bad = grind arith
 parts_of_first (word ∷ words) item items kept fault (inl bad) = inl bad
 parts_of_first (word ∷ words) item items kept fault (inr more) = inr (more.0, parts_of_first words item items kept fault more.1)
 
 parts_fault : (words : List Word) (items kept : List RawItem) (fault : Fault) → Long 65548 items kept → PartsFault words kept fault → PartsFault words items fault
 parts_fault words items kept fault long bad =
     let begin = begin_with 65548 65547 items kept (omega arith) long.short in
-    let first : PartsFault words (begin.item ∷ begin.others) fault = subst (λ t. PartsFault words t fault) begin.are_kept bad in
-    subst (λ t. PartsFault words t fault) (sym begin.whole) (parts_of_first words begin.item begin.rest begin.others fault first)
+    grind (arith, begin_with, parts_of_first)
 
 -- ---- the entry
 
@@ -182,21 +159,7 @@ head_long origin before entry kept head long has =
     let tails : begin.others ≡ head.items = cc in
     let written : AllByRecursion IsWritten (begin.item ∷ begin.rest) = subst (AllByRecursion IsWritten) begin.whole found.long.long.written in
     let classes : class_word (statement_of (with_items entry kept)) ≡ class_word (statement_of entry) = rw (has.split, found.split, found.long.words) refl in
-    record {
-      items = begin.rest;
-      has = record {
-        parts = found.parts;
-        word = has.word;
-        split = found.split;
-        owner = as_kept _ (shown_owner origin before head.owner) (statement_of entry) _ forms has.owner;
-        words = subst (AllByRecursion HasValue) (sym found.long.words) has.words;
-        class = subst (λ o. MatchOption (option_or o (latest class_word before)) (head.class ≡ 1) (λ text. IsClassWord text head.class)) classes has.class;
-        rest = begin.whole ∙ ap (λ item. item ∷ begin.rest) same;
-        named = has.named;
-        kind = has.kind;
-      };
-      long = record { short = at_least 65547 65543 begin.rest head.items (omega arith) (subst (AreShortened 65547 begin.rest) tails begin.short); written = written.1 };
-    }
+    grind arith
 
 -- so many items state no data
 contents_none : (origin : Labels) (before : List Entry) (entry : Entry) (kept : List RawItem) (owner : Labels) (rdata : Data) → Long 65552 entry.items kept → HasContents origin before (with_items entry kept) owner rdata → ⊥

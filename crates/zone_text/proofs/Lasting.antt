@@ -1,5 +1,5 @@
 -- What is settled of a text by its front.
-use Rattle.zone_text.proofs.Common.{AllByRecursion-append, AllByRecursion-back, AllByRecursion-front, AllFollow, BadEscape, Breaks, BreaksForGood, Cuts, EndInLineFeed, Fault, IsBadEscape, IsBroken, IsEscape, IsLostEscape, IsToken, List, MayEndBefore, None, Option, Some, StaysBroken, Token, UnbalancedParenthesis, Written, [], ap, append-nil, append_assoc, at_line_end, closes_nothing, closing_stays, comment, depth_after, depth_past, escape_stays, false, flat_map-append, is_digit, no_escape, no_quoted_escape, one_digit, quoted_escape_stays, refl, rules, stops, subst, sym, text, text_of, token_text, too_great, two_digits, written_text, zero, ℕ, ◌++◌, ◌∙◌, ◌∷◌, ◌≡◌, ◌⊎◌}
+use Rattle.zone_text.proofs.Common.{AllByRecursion-append, AllByRecursion-back, AllByRecursion-front, AllFollow, BadEscape, Breaks, BreaksForGood, Cuts, EndInLineFeed, Fault, IsBadEscape, IsBroken, IsEscape, IsLostEscape, IsToken, List, MayEndBefore, None, Option, Some, StaysBroken, Token, UnbalancedParenthesis, Written, [], ap, append-nil, append_assoc, at_line_end, closes_nothing, closing_stays, comment, depth_after, depth_past, escape_stays, false, flat_map-append, is_digit, no_escape, no_quoted_escape, one_digit, quoted_escape_stays, refl, rules, stops, subst, sym, text, text_of, token_text, too_great, two_digits, written_text, zero, ℕ, ◌++◌, ◌∙◌, ◌∷◌, ◌≡◌, ◌⊎◌, arith}
 use Rattle.zone_text.proofs.Fronts.{front_stops}
 use Rattle.zone_text.proofs.Cuttings.{IsCut, is_cut, cuts, is_broken, breaks, last_after, last_in_front, follow_after, depth_on, room_of}
 
@@ -39,16 +39,7 @@ depth_append depth at (p ∷ tokens) more e =
 -- ---- what stands after a line feed outside parentheses is cut by itself
 
 pub both_cut : (front rest : List ℕ) (tokens more : List Token) (fault : Option Fault) → Cuts front tokens → EndInLineFeed tokens → IsCut zero rest more fault → IsCut zero (front ++ rest) (tokens ++ more) fault
-both_cut front rest tokens more fault cut ends others = record {
-  rest = others.rest;
-  at = others.at;
-  whole = ap (λ t. t ++ rest) cut.whole ∙ ap (λ t. text tokens ++ t) others.whole ∙ sym (append_assoc (text tokens) (text more) others.rest) ∙ ap (λ t. t ++ others.rest) (sym (flat_map-append token_text tokens more));
-  each = AllByRecursion-append IsToken tokens more cut.each others.each;
-  follow = follow_append tokens more cut.follow ends others.follow;
-  last = last_append tokens more others.rest ends others.last;
-  parentheses = depth_append zero zero tokens more cut.balanced ∙ others.parentheses;
-  ends = others.ends;
-}
+both_cut front rest tokens more fault cut ends others = grind (arith, append_assoc, flat_map-append, AllByRecursion-append, follow_append, last_append, depth_append)
 
 pub cut_joined : (front rest : List ℕ) (tokens more : List Token) → Cuts front tokens → EndInLineFeed tokens → Cuts rest more → Cuts (front ++ rest) (tokens ++ more)
 cut_joined front rest tokens more cut ends others = search (rules, cuts, both_cut, is_cut)
@@ -91,9 +82,7 @@ cut_parted octets tokens more balanced cut =
     (is.rest, is.whole, is.front, cuts is.rest more is.back)
 
 pub break_parted : (octets : List ℕ) (tokens more : List Token) (fault : Fault) → depth_after zero tokens ≡ Some zero → Breaks octets (tokens ++ more) fault → (rest : List ℕ) × (octets ≡ text tokens ++ rest) × Cuts (text tokens) tokens × Breaks rest more fault
-break_parted octets tokens more fault balanced broken =
-    let is : IsParted octets tokens more (Some fault) = parted octets tokens more (Some fault) balanced (is_broken octets (tokens ++ more) fault broken) in
-    (is.rest, is.whole, is.front, breaks is.rest more fault is.back)
+break_parted octets tokens more fault balanced broken = grind (arith, parted octets tokens more (Some fault) balanced (is_broken octets (tokens ++ more) fault broken))
 
 -- ---- a break that stays
 
@@ -113,10 +102,7 @@ lost_escape rest more lost =
     (begins.0 ++ more, ap (λ t. t ++ more) begins.1, λ w after written e. begins_none rest more after w lost written e)
 
 one_fault : (depth : ℕ) (rest : List ℕ) (fault other : Fault) → IsBroken depth rest fault → IsBroken depth rest other → fault ≡ other
-one_fault depth rest fault other broken as_well = by fault other (sym (front_stops depth rest (Some fault) broken) ∙ front_stops depth rest (Some other) as_well)
-  where
-    by : (f g : Fault) → stops (Some f) ≡ stops (Some g) → f ≡ g
-    by f g e = cc
+one_fault depth rest fault other broken as_well = cc (front_stops depth rest (Some fault) broken, front_stops depth rest (Some other) as_well)
 
 -- a `)` breaks at depth zero alone
 at_depth_zero : (depth : ℕ) (rest after : List ℕ) (fault : Fault) → rest ≡ 41 ∷ after → IsBroken depth rest fault → depth ≡ 0

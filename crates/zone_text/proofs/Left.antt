@@ -43,9 +43,7 @@ ended_cutting_stays octets more =
     (lines.0, ap (numbered 1) stay.1 ∙ lines.1)
 
 pub ended_entries_stay : (octets more : List ℕ) (tokens later : List Token) → AreTokens octets tokens → AreTokens (octets ++ more) later → (others : List Entry) × (ended_entries later ≡ ended_entries tokens ++ others)
-ended_entries_stay octets more tokens later before after =
-    let stay = ended_cutting_stays octets more in
-    (stay.0, ap ended_entries (sym (tokens_are (octets ++ more) later after)) ∙ stay.1 ∙ ap (λ t. ended_entries t ++ stay.0) (tokens_are octets tokens before))
+ended_entries_stay octets more tokens later before after = grind (arith, ended_cutting_stays octets more, tokens_are (octets ++ more) later after, tokens_are octets tokens before)
 
 pub ended_entries_first : (tokens : List Token) → (others : List Entry) × (entries_of tokens ≡ ended_entries tokens ++ others)
 ended_entries_first tokens = by (cut_from zero tokens).ended (cut_from zero tokens).open_tokens
@@ -69,8 +67,7 @@ turned entry entries before = grind (arith, common_steps)
 -- entries of which none is refused, and others after them
 module _ (origin : List (List ℕ)) (after : Ending) where
   pub reads_then : (before entries more : List Entry) (placed others : List Placed) (ending : Ending) → ReadEach origin None before entries placed None → ReadEach origin after (reverse entries ++ before) more others ending → ReadEach origin after before (entries ++ more) (placed ++ others) ending
-  reads_then before [] more placed others ending read next =
-      subst (λ t. ReadEach origin after before more t ending) (ap (λ t. t ++ others) (sym read.0)) next
+  reads_then before [] more placed others ending read next = grind arith
   reads_then before (entry ∷ entries) more placed others ending (stated (states_none n read)) next =
       stated (states_none n (reads_then (entry ∷ before) entries more placed others ending read (subst (λ t. ReadEach origin after t more others ending) (turned entry entries before) next)))
   reads_then before (entry ∷ entries) more placed others ending (stated (states_one p rest states place e read)) next =
@@ -106,11 +103,7 @@ pub record IsSplit (fed : List ℕ) (ended : List (List Token)) (unfinished : Li
   pub stays : AreEnded zero ended
 
 pub split : (fed : List ℕ) (tokens : List Token) (unfinished : List ℕ) → AreTokens fed tokens → fed ≡ flat_map text (cut_from zero tokens).ended ++ unfinished → IsSplit fed (cut_from zero tokens).ended unfinished
-split fed tokens unfinished are rest = record {
-  whole = rest ∙ ap (λ t. t ++ unfinished) (text_of_entries (cut_from zero tokens).ended);
-  front = (parted fed tokens are).front;
-  stays = cut_ended zero tokens;
-}
+split fed tokens unfinished are rest = grind (arith, text_of_entries (cut_from zero tokens).ended, parted fed tokens are, cut_ended zero tokens)
 
 -- other octets after them
 module _ (fed more : List ℕ) (ended : List (List Token)) (unfinished : List ℕ) where
@@ -121,32 +114,20 @@ module _ (fed more : List ℕ) (ended : List (List Token)) (unfinished : List �
   whole_after is = longer is ∙ ap (λ t. t ++ (unfinished ++ more)) (sym (text_of_entries ended))
 
   pub cut_more : (tokens : List Token) → IsSplit fed ended unfinished → Cuts (unfinished ++ more) tokens → Cuts (fed ++ more) (joined ended ++ tokens)
-  cut_more tokens is cut =
-      subst (λ t. Cuts t (joined ended ++ tokens)) (sym (longer is)) (cut_joined (text (joined ended)) (unfinished ++ more) (joined ended) tokens is.front is.stays.ends cut)
+  cut_more tokens is cut = search (rules, joined, longer, cut_joined)
 
   pub break_more : (tokens : List Token) (fault : Fault) → IsSplit fed ended unfinished → Breaks (unfinished ++ more) tokens fault → Breaks (fed ++ more) (joined ended ++ tokens) fault
-  break_more tokens fault is breaks =
-      subst (λ t. Breaks t (joined ended ++ tokens) fault) (sym (longer is)) (break_joined (text (joined ended)) (unfinished ++ more) (joined ended) tokens fault is.front is.stays.ends breaks)
+  break_more tokens fault is breaks = grind (arith, joined, longer, break_joined)
 
   pub tokens_more : (tokens : List Token) → IsSplit fed ended unfinished → AreTokens (unfinished ++ more) tokens → AreTokens (fed ++ more) (joined ended ++ tokens)
-  tokens_more tokens is (inl cut) = inl (cut_more tokens is cut)
-  tokens_more tokens is (inr found) = inr (found.0, break_more tokens found.0 is found.1)
+  tokens_more tokens is given = grind (arith, cut_more, break_more)
 
   -- what breaks the octets after the ended entries, as the octets so far show, breaks all
   after_tokens : (tokens : List Token) (rest : List ℕ) → IsSplit fed ended unfinished → unfinished ++ more ≡ text tokens ++ rest → fed ++ more ≡ text (joined ended ++ tokens) ++ rest
-  after_tokens tokens rest is e =
-      longer is
-      ∙ ap (λ t. text (joined ended) ++ t) e
-      ∙ sym (append_assoc (text (joined ended)) (text tokens) rest)
-      ∙ ap (λ t. t ++ rest) (sym (flat_map-append token_text (joined ended) tokens))
+  after_tokens tokens rest is e = grind (arith, common_steps)
 
   pub for_good_more : (tokens : List Token) (fault : Fault) → IsSplit fed ended unfinished → BreaksForGood (unfinished ++ more) tokens fault → BreaksForGood (fed ++ more) (joined ended ++ tokens) fault
-  for_good_more tokens fault is good =
-      stays_for_good (fed ++ more) (joined ended ++ tokens) fault
-      (break_more tokens fault is good.breaks)
-      good.breaks.rest
-      (after_tokens tokens good.breaks.rest is good.breaks.whole)
-      good.stays
+  for_good_more tokens fault is good = search (rules, stays_for_good, joined, break_more, after_tokens)
 
 -- and where nothing does yet, nothing does
 pub none_cut : (octets : List ℕ) (tokens : List Token) → Cuts octets tokens → (fault : Fault) → BreaksForGood octets tokens fault → ⊥
@@ -158,8 +139,7 @@ none_broken fed more ended unfinished tokens fault breaks is none (inr ends) oth
 
 pub none_more : (fed more : List ℕ) (ended : List (List Token)) (unfinished : List ℕ) (tokens : List Token) → IsSplit fed ended unfinished → AreTokens (unfinished ++ more) tokens → ((fault : Fault) → BreaksForGood (unfinished ++ more) tokens fault → ⊥) → (fault : Fault) → BreaksForGood (fed ++ more) (joined ended ++ tokens) fault → ⊥
 none_more fed more ended unfinished tokens is (inl cut) none fault good = search (rules, none_cut, joined, cut_more)
-none_more fed more ended unfinished tokens is (inr found) none fault good =
-    none_broken fed more ended unfinished tokens found.0 found.1 is none (break_stays_or_ends (unfinished ++ more) tokens found.0 found.1) fault good
+none_more fed more ended unfinished tokens is (inr found) none fault good = grind (arith, none_broken fed more ended unfinished tokens found.0 found.1 is none (break_stays_or_ends (unfinished ++ more) tokens found.0 found.1) fault good)
 
 -- ---- the entries of those tokens
 

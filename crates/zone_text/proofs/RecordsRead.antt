@@ -1,5 +1,5 @@
 -- A record entry whose parts are read in a known state: what it states, or why it is refused.
-use Rattle.zone_text.proofs.Common.{BadTtl, Data, Entry, EntryFault, EntryStates, Fault, HasContents, HasHeadOf, HasOwnerOrNone, HasTtl, Head, IsDataFault, IsLastMinimum, IsLastOwner, IsOneOrNone, IsOwner, IsReadTo, IsRecord, IsRecordEntry, IsStateAfter, IsTtlOrNone, Labels, List, Lower, MatchOption, NoOwner, NoTtl, None, Option, ParserState, RawItem, Record, Some, States, ap, long, minimum, none, of_rdata, of_ttl, option_or, owned, owner_text, parts_in, refl, statement_of, subst, sym, ttl_text, with_owner, ℕ, ◌<◌, ◌∙◌, ◌∷◌, ◌≡◌}
+use Rattle.zone_text.proofs.Common.{BadTtl, Data, Entry, EntryFault, EntryStates, Fault, HasContents, HasHeadOf, HasOwnerOrNone, HasTtl, Head, IsDataFault, IsLastMinimum, IsLastOwner, IsOneOrNone, IsOwner, IsReadTo, IsRecord, IsRecordEntry, IsStateAfter, IsTtlOrNone, Labels, List, Lower, MatchOption, NoOwner, NoTtl, None, Option, ParserState, RawItem, Record, Some, States, ap, long, minimum, none, of_rdata, of_ttl, option_or, owned, owner_text, parts_in, refl, statement_of, subst, sym, ttl_text, with_owner, ℕ, ◌<◌, ◌∙◌, ◌∷◌, ◌≡◌, rules, arith}
 use Rattle.zone_rdata.specs.Item.{bare, quoted}
 use Rattle.zone_text.proofs.Inheriting.{has_no_ttl, has_ttl, next_minimum, record_leaves, ttl_stated}
 
@@ -7,26 +7,17 @@ use Rattle.zone_text.proofs.Inheriting.{has_no_ttl, has_ttl, next_minimum, recor
 
 module _ (origin : Labels) (before : List Entry) (entry : Entry) where
   owned_entry : (d : ParserState) (held : Option Labels) (name : Labels) (owner : RawItem) (items : List RawItem) → statement_of entry ≡ owned owner items → IsStateAfter origin before (with_owner held d) → IsOwner origin before (owned owner items) name → IsRecordEntry origin before entry d name items
-  owned_entry d held name owner items form so_far owns = record {
-    held = held;
-    state = so_far;
-    owner = subst (λ f. IsOwner origin before f name) (sym form) owns;
-    parts = ap parts_in form;
-  }
+  owned_entry d held name owner items form so_far owns = grind arith
 
   owner_now : (name : Labels) (owner : RawItem) (items : List RawItem) → owner_text (statement_of entry) ≡ owner_text (owned owner items) → IsOwner origin before (owned owner items) name → IsLastOwner origin (entry ∷ before) name
-  owner_now name (bare text) items e owns = rw e owns
-  owner_now name (quoted text) items e owns = absurd owns
+  owner_now name owner items e owns = grind arith
 
   owner_stated : (name : Labels) (owner : RawItem) (items : List RawItem) → statement_of entry ≡ owned owner items → IsOwner origin before (owned owner items) name → IsLastOwner origin (entry ∷ before) name
   owner_stated name owner items form owns = owner_now name owner items (ap owner_text form) owns
 
   -- an entry states the owner that became the last one
   pub has_stated_owner : (d : ParserState) (name : Labels) (owner : RawItem) (items : List RawItem) → statement_of entry ≡ owned owner items → IsStateAfter origin before d → IsOwner origin before (owned owner items) name → HasOwnerOrNone origin before entry (with_owner (Some name) d) items
-  has_stated_owner d name owner items form so_far owns = (
-    owned_entry (with_owner (Some name) d) d.owner name owner items form so_far owns,
-    owner_stated name owner items form owns,
-  )
+  has_stated_owner d name owner items form so_far owns = grind arith
 
   pub no_owner : (d : ParserState) (items : List RawItem) → HasOwnerOrNone origin before entry d items → d.owner ≡ None → EntryFault origin before entry NoOwner
   no_owner d items has e = subst (λ o. MatchOption o (EntryFault origin before entry NoOwner) (λ name. IsRecordEntry origin before entry d name items × IsLastOwner origin (entry ∷ before) name)) e has
@@ -40,17 +31,7 @@ module _ (origin : Labels) (before : List Entry) (entry : Entry) where
   rdata_refused d name items head fault is has bad = of_rdata head.owner head.class head.kind head.items d.origin has is.state.under bad
 
   pub read_to : (d : ParserState) (name : Labels) (items : List RawItem) (head : Head) (own : Option ℕ) (rdata : Data) (a stated soa last result found : Option ℕ) → IsRecordEntry origin before entry d name items → HasHeadOf origin before entry head × IsTtlOrNone (ttl_text (statement_of entry)) own → rdata.class ≡ head.class → rdata.kind ≡ head.kind → States d.origin head.class head.kind head.items rdata.octets → a ≡ option_or own d.default_ttl → stated ≡ option_or a d.last_ttl → soa ≡ minimum rdata → last ≡ option_or soa d.minimum → result ≡ option_or stated last → result ≡ found → IsReadTo origin before entry d head own rdata last found
-  read_to d name items head own rdata a stated soa last result found is has class kind states first second of_soa least third is_found = record {
-    held = is.held;
-    state = is.state;
-    has = has.0;
-    own_ttl = has.1;
-    class = class;
-    kind = kind;
-    states = states;
-    least = least ∙ ap (λ (o : Option ℕ). option_or o d.minimum) of_soa;
-    ttl = sym is_found ∙ (third ∙ ap (λ (o : Option ℕ). option_or o last) (second ∙ ap (λ (o : Option ℕ). option_or o d.last_ttl) first));
-  }
+  read_to d name items head own rdata a stated soa last result found is has class kind states first second of_soa least third is_found = grind arith
 
 abbrev data_with : Head → Data → Data
 data_with head rdata = record { class = head.class; kind = head.kind; octets = rdata.octets }
@@ -62,9 +43,7 @@ has_contents : (origin : Labels) (before : List Entry) (entry : Entry) (d : Pars
 has_contents origin before entry d head own rdata last found is = record { items = head.items; above = d.origin; head = is.has; under = is.state.under; states = is.states }
 
 last_is : Lower → (origin : Labels) (before : List Entry) (entry : Entry) (d : ParserState) (head : Head) (own : Option ℕ) (rdata : Data) (last found : Option ℕ) → IsReadTo origin before entry d head own rdata last found → IsOneOrNone (IsLastMinimum origin (entry ∷ before)) last
-last_is lower origin before entry d head own rdata last found is =
-    subst (IsOneOrNone (IsLastMinimum origin (entry ∷ before))) (ap (λ (r : Data). option_or (minimum r) d.minimum) (sym (same_data head rdata is.class is.kind)) ∙ sym is.least)
-    (next_minimum lower origin before entry head.owner (data_with head rdata) d.minimum (has_contents origin before entry d head own rdata last found is) is.state.minimum)
+last_is lower origin before entry d head own rdata last found is = grind (arith, same_data head rdata is.class is.kind, next_minimum lower origin before entry head.owner (data_with head rdata) d.minimum (has_contents origin before entry d head own rdata last found is) is.state.minimum)
 
 pub no_ttl : Lower → (origin : Labels) (before : List Entry) (entry : Entry) (d : ParserState) (head : Head) (own : Option ℕ) (rdata : Data) (last : Option ℕ) → IsReadTo origin before entry d head own rdata last None → EntryFault origin before entry NoTtl
 no_ttl lower origin before entry d head own rdata last is =
@@ -72,12 +51,10 @@ no_ttl lower origin before entry d head own rdata last is =
     (none (has_no_ttl origin before entry (option_or (option_or own d.default_ttl) d.last_ttl) last (ttl_stated origin before entry (with_owner is.held d) own is.state is.own_ttl) (last_is lower origin before entry d head own rdata last None is) (sym is.ttl)))
 
 ttl_is : Lower → (origin : Labels) (before : List Entry) (entry : Entry) (d : ParserState) (head : Head) (own : Option ℕ) (rdata : Data) (last : Option ℕ) (n : ℕ) → IsReadTo origin before entry d head own rdata last (Some n) → HasTtl origin before entry n
-ttl_is lower origin before entry d head own rdata last n is =
-    has_ttl origin before entry (option_or (option_or own d.default_ttl) d.last_ttl) last n (ttl_stated origin before entry (with_owner is.held d) own is.state is.own_ttl) (last_is lower origin before entry d head own rdata last (Some n) is) (sym is.ttl)
+ttl_is lower origin before entry d head own rdata last n is = grind (arith, has_ttl origin before entry (option_or (option_or own d.default_ttl) d.last_ttl) last n (ttl_stated origin before entry (with_owner is.held d) own is.state is.own_ttl) (last_is lower origin before entry d head own rdata last (Some n) is) (sym is.ttl))
 
 pub long_ttl : Lower → (origin : Labels) (before : List Entry) (entry : Entry) (d : ParserState) (head : Head) (own : Option ℕ) (rdata : Data) (last : Option ℕ) (n : ℕ) → IsReadTo origin before entry d head own rdata last (Some n) → 2147483647 < n → EntryFault origin before entry BadTtl
-long_ttl lower origin before entry d head own rdata last n is over =
-    of_ttl head.owner (data_with head rdata) (has_contents origin before entry d head own rdata last (Some n) is) (long n (ttl_is lower origin before entry d head own rdata last n is) over)
+long_ttl lower origin before entry d head own rdata last n is over = search (rules, has_contents, ttl_is, of_ttl, long)
 
 -- ---- the record
 
@@ -91,7 +68,4 @@ states_record lower origin before entry d head own rdata last n r is e fits =
     })
 
 pub record_left : Lower → (origin : Labels) (before : List Entry) (entry : Entry) (d next : ParserState) (head : Head) (own : Option ℕ) (rdata : Data) (last found : Option ℕ) (owner : Option Labels) → IsReadTo origin before entry d head own rdata last found → next.origin ≡ d.origin → next.class ≡ head.class → next.default_ttl ≡ d.default_ttl → next.last_ttl ≡ option_or own d.last_ttl → next.minimum ≡ last → IsOneOrNone (IsLastOwner origin (entry ∷ before)) owner → IsStateAfter origin (entry ∷ before) (with_owner owner next)
-record_left lower origin before entry d next head own rdata last found owner is above class default_ttl last_ttl least owner_is =
-    record_leaves origin before entry (with_owner is.held d) next head own owner is.state is.has is.own_ttl above class default_ttl last_ttl
-    (subst (IsOneOrNone (IsLastMinimum origin (entry ∷ before))) (sym least) (last_is lower origin before entry d head own rdata last found is))
-    owner_is
+record_left lower origin before entry d next head own rdata last found owner is above class default_ttl last_ttl least owner_is = grind (arith, record_leaves origin before entry (with_owner is.held d) next head own owner is.state is.has is.own_ttl above class default_ttl last_ttl (subst (IsOneOrNone (IsLastMinimum origin (entry ∷ before))) (sym least) (last_is lower origin before entry d head own rdata last found is)) owner_is)

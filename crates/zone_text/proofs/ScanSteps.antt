@@ -7,10 +7,7 @@ stays_open : (depth c : ℕ) → moves Open c ≡ false → open_step depth c �
 stays_open depth c e = search rules
 
 stays_in : (mode : Mode) (depth c : ℕ) → moves mode c ≡ false → step_in mode depth c ≡ on mode depth
-stays_in Open depth c e = stays_open depth c e
-stays_in Quoted depth c e = let p = or_parts (c == 34) (c == 92) e in rw (p.0, p.1) refl
-stays_in Comment depth c e = rw e refl
-stays_in mode depth c e = absurd (both_ways _ e refl)
+stays_in mode depth c e = grind arith
 
 pub stays : (at : ScanState) (c : ℕ) → moves at.mode c ≡ false → step_of at c ≡ On at
 stays at c e = stays_in at.mode at.depth c e
@@ -57,8 +54,7 @@ all_taken start at octets i e before = grind (arith, common_steps)
 -- ---- octets that leave an open state as it is
 
 quiet_on : (octets : List ℕ) (i : ℕ) → i < length octets → moves Open (get_or octets i 0) ≡ false → AreQuiet octets i → AreQuiet octets (i + 1)
-quiet_on octets i less still quiet depth =
-    one_on (open_at depth) (open_at depth) (open_at depth) octets i less (stays (open_at depth) (get_or octets i 0) still) (quiet depth)
+quiet_on octets i less still quiet depth = grind (arith, one_on (open_at depth) (open_at depth) (open_at depth) octets i less (stays (open_at depth) (get_or octets i 0) still) (quiet depth))
 
 pub four_on : (octets : List ℕ) (i : ℕ) (first second third fourth : Bool) → first ≡ moves Open (get_or octets i 0) → second ≡ moves Open (get_or octets (i + 1) 0) → third ≡ moves Open (get_or octets (i + 2) 0) → fourth ≡ moves Open (get_or octets (i + 3) 0) → (first || second || third || fourth) ≡ false → i ≤ length octets → 4 ≤ length octets - i → AreQuiet octets i → AreQuiet octets (i + 4)
 four_on octets i first second third fourth is1 is2 is3 is4 none within fits quiet =

@@ -69,9 +69,7 @@ at_depth : (step last : Step) (depth : ℕ) (octets : List ℕ) → step ≡ las
 at_depth step last depth octets e d read = search rules
 
 unclosed_ends : (depth : ℕ) (octets : List ℕ) → octets ≡ [] → EndsAt depth octets (unclosed depth)
-unclosed_ends depth octets e = cond_both (depth == 0) None (Some UnbalancedParenthesis) (EndsAt depth octets)
-    (λ d. (eqb-true depth 0 d, e))
-    (λ d. let some : depth ≢ 0 = eqb-false depth 0 d in not_closed (omega arith) e)
+unclosed_ends depth octets e = grind (arith, cond_both, eqb-true, eqb-false, not_closed)
 
 -- the octets ran out
 out_read : (step : Step) (fault : Option Fault) (depth : ℕ) (octets : List ℕ) → RanOut fault step → EndsAt depth octets fault → BreaksAtEnd octets → IsRead step depth octets
@@ -84,35 +82,22 @@ escape_read LostEscape depth octets after open_escape broken at_the_end stays = 
 escape_read step depth octets after open_escape broken at_the_end stays = absurd open_escape
 
 token_read : (step : Step) (depth : ℕ) (octets : List ℕ) (p : Token) (rest : List ℕ) → Takes depth octets p rest → EndsNone depth p → IsRead step (depth_past depth p) rest → IsRead step depth octets
-token_read step depth octets p rest front none more = record {
-  tokens = p ∷ more.tokens;
-  rest = more.rest;
-  whole = text_on octets rest more.rest p more.tokens front.whole more.whole;
-  left = more.left;
-  cut = one_token_more depth octets rest p more.tokens (fault_of step) front more.cut;
-  entries = token_on depth p more.tokens front.room none ∙ ap (in_front_of p) more.entries ∙ in_entry step p more.tokens;
-}
+token_read step depth octets p rest front none more = grind (arith, text_on octets rest more.rest p more.tokens front.whole more.whole, one_token_more depth octets rest p more.tokens (fault_of step) front more.cut, token_on depth p more.tokens front.room none, in_entry step p more.tokens)
 
 pub is_read : (step : Step) (depth : ℕ) (octets : List ℕ) → Reads step depth octets → IsRead step depth octets
 is_read step _ _ (ends depth octets e d f) = search (rules, at_depth, line_read)
 is_read step _ _ (closes depth octets e d f) = at_depth step ClosesNothing depth octets e d (stop_read ClosesNothing zero octets (closes_none [] refl f) (closing_stays [] f) refl)
 is_read step _ _ (runs_out depth octets ran f) = search (rules, out_read, unclosed_ends)
 is_read step _ _ (in_quote depth octets units ran each f) = out_read step (Some UnclosedQuote) depth octets ran (no_quote units each f) (quote_open units each f)
-is_read step _ _ (in_escape depth octets open_escape) =
-    escape_read step depth octets octets open_escape (no_escape (escape_is_bad step octets open_escape)) escape_open escape_stays
-is_read step _ _ (in_quoted_escape depth octets units after each f open_escape) =
-    escape_read step depth octets after open_escape (no_quoted_escape units after each f (escape_is_bad step after open_escape)) (quoted_escape_open units after each f) (quoted_escape_stays units after each f)
+is_read step _ _ (in_escape depth octets open_escape) = search (rules, escape_read, escape_is_bad, no_escape, escape_open, escape_stays)
+is_read step _ _ (in_quoted_escape depth octets units after each f open_escape) = search (rules, escape_read, escape_is_bad, no_quoted_escape, quoted_escape_open, quoted_escape_stays)
 is_read step _ _ (then_more depth octets p rest front none more) = token_read step depth octets p rest front none (is_read step (depth_past depth p) rest more)
 
 -- ---- where a scan goes on and stops
 
 module _ (at : ScanState) (rest b : List ℕ) where
   go_on_by : (step : Step) → ((next : ScanState) → (scan_of next rest).step ≡ On at → scan_of next (rest ++ b) ≡ further (length rest) (scan_of at b)) → (scan_on (λ next. scan_of next rest) step).step ≡ On at → scan_on (λ next. scan_of next (rest ++ b)) step ≡ further (suc (length rest)) (scan_of at b)
-  go_on_by (On next) more e =
-      ap (further 1) (more next e)
-      ∙ further_on 1 (length rest) (scan_of at b)
-      ∙ (let n : 1 + length rest ≡ suc (length rest) = omega arith in ap (λ m. further m (scan_of at b)) n)
-  go_on_by step more e = absurd cc
+  go_on_by step more e = grind arith
 
 -- a scan that doesn't stop goes on after the octets
 pub step_goes_on : (start at : ScanState) (a b : List ℕ) → (scan_of start a).step ≡ On at → scan_of start (a ++ b) ≡ further (length a) (scan_of at b)
@@ -146,8 +131,7 @@ pub takes_front : (start : ScanState) (octets : List ℕ) → length (take (scan
 takes_front start octets = simp length-take (omega (arith, taken_within start octets))
 
 depth_by : (start at : ScanState) (c : ℕ) (rest : List ℕ) (step : Step) → step_of start c ≡ step → ((next : ScanState) → (scan_of next rest).step ≡ On at → at.depth ≤ next.depth + length rest) → (scan_on (λ next. scan_of next rest) step).step ≡ On at → at.depth ≤ start.depth + suc (length rest)
-depth_by start at c rest (On next) same more e = omega (arith, more next e, rises start next c same)
-depth_by start at c rest step same more e = absurd cc
+depth_by start at c rest step same more e = grind arith
 
 -- each octet opens one parenthesis at the most
 pub unfinished_depth : (start at : ScanState) (octets : List ℕ) → (scan_of start octets).step ≡ On at → at.depth ≤ start.depth + length octets

@@ -10,8 +10,4 @@ time_within text n found few =
 
 -- a time that is too long, cut off or not, is no TTL
 pub time_over : (text : List ℕ) (n : ℕ) → ((m : ℕ) × (IsTime text m × (n ≡ min 4294967296 m))) → 2147483647 < n → (seconds : ℕ) → IsTtl text seconds → ⊥
-time_over text n found over seconds ttl =
-    let cut : n ≡ min 4294967296 found.0 = found.1.1 in
-    let same : found.0 ≡ seconds = one_time text found.0 seconds found.1.0 ttl.time in
-    let short : seconds ≤ 2147483647 = ttl.short in
-    omega arith
+time_over text n found over seconds ttl = grind (arith, one_time text found.0 seconds found.1.0 ttl.time)

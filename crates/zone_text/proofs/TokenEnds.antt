@@ -21,19 +21,14 @@ no_backslash c digit = ne_eqb c 92 (λ e. both_ways (is_digit c) (ap is_digit e)
 -- an item's units go up to what ends it
 pub item_len_of : (ends : ℕ → Bool) (units : List Written) (rest : List ℕ) → EndsPlainly ends → AllByRecursion (IsUnit ends) units → EndsAt ends rest → item_len ends false (written_text units ++ rest) ≡ length (written_text units)
 unfolding item_len
-item_len_of ends [] [] plainly each at = refl
-item_len_of ends [] (c ∷ rest) plainly each at = search rules
-item_len_of ends (plain c ∷ units) rest plainly each at =
-    rw (ne_eqb c 92 each.0.1, each.0.0) (ap suc (item_len_of ends units rest plainly each.1 at))
-item_len_of ends (escaped c ∷ units) rest plainly each at = ap (λ n. suc (suc n)) (item_len_of ends units rest plainly each.1 at)
-item_len_of ends (decimal x y z ∷ units) rest plainly each at = search (rules, no_backslash, item_len_of ends units rest plainly each.1 at)
+item_len_of ends [] rest plainly each at = grind arith
+item_len_of ends (x ∷ units) rest plainly each at = grind (arith, item_len_of ends units rest plainly each.1)
 
 -- ---- comments
 
 pub comment_len_of : (octets rest : List ℕ) → AllByRecursion (λ c. c ≢ 10) octets → EndsAt (λ c. c == 10) rest → length (before_line_feed (octets ++ rest)) ≡ length octets
 unfolding before_line_feed
-comment_len_of [] [] each at = refl
-comment_len_of [] (c ∷ rest) each at = rw at refl
+comment_len_of [] rest each at = grind arith
 comment_len_of (c ∷ octets) rest each at = rw (ne_eqb c 10 each.0) (ap suc (comment_len_of octets rest each.1 at))
 
 -- ---- how far was looked

@@ -1,5 +1,5 @@
 -- The words before a record's type, read from the left.
-use Rattle.zone_text.proofs.Common.{AllByRecursion, AllByRecursion-append, AreWordsOf, Bool, Fault, HasValue, HaveValues, IsClass, IsClassWord, IsSomeAnd, IsTtl, Item, List, MatchOption, None, NothingIs, Option, Parts, PartsFault, RawItem, Some, Word, WordFault, Words, [], add-one, ap, append-nil, append_assoc, begins_with_digit, class, class_among, drop, drop-cons, drop-map, false, get_or, inl, inr, is_class_word, is_some, length, map, parts_after, raw, refl, rules, subst, sym, true, ttl, ttl_among, word_after, ℕ, ◌++◌, ◌+◌, ◌<◌, ◌∙◌, ◌∷◌, ◌≡◌}
+use Rattle.zone_text.proofs.Common.{AllByRecursion, AllByRecursion-append, AreWordsOf, Bool, Fault, HasValue, HaveValues, IsClass, IsClassWord, IsSomeAnd, IsTtl, Item, List, MatchOption, None, NothingIs, Option, Parts, PartsFault, RawItem, Some, Word, WordFault, Words, [], add-one, ap, append-nil, append_assoc, begins_with_digit, class, class_among, drop, drop-cons, drop-map, false, get_or, inl, inr, is_class_word, is_some, length, map, parts_after, raw, refl, rules, subst, sym, true, ttl, ttl_among, word_after, ℕ, ◌++◌, ◌+◌, ◌<◌, ◌∙◌, ◌∷◌, ◌≡◌, arith}
 use Rattle.zone_rdata.specs.Item.{bare}
 use Rattle.zone_text.proofs.ClassWords.{class_word_of, class_word_known}
 
@@ -60,9 +60,7 @@ takes_class words v next text n have no_digit none is good own same =
 
 -- a class that holds no zone data
 pub refuses_class : (words : List Word) (v : Words) (text : List ℕ) (n : ℕ) (fault : Fault) → HaveValues words v → begins_with_digit text ≡ false → is_some v.class ≡ false → IsClassWord text n → WordFault (class text) fault → IsSomeAnd (word_after words (bare text)) (λ word. WordFault word fault)
-refuses_class words v text n fault have no_digit none is bad =
-    let P : Option Word → Type 0 = λ o. IsSomeAnd o (λ word. WordFault word fault) in
-    subst P (sym (class_after words v text have no_digit none (class_word_known text n is))) bad
+refuses_class words v text n fault have no_digit none is bad = grind (arith, class_after words v text have no_digit none (class_word_known text n is))
 
 no_class_word : (text : List ℕ) (b : Bool) → is_class_word text ≡ b → NothingIs (IsClassWord text) → b ≡ false
 no_class_word text true e none = let found = class_word_of text e in absurd (none found.0 found.1)
@@ -125,11 +123,8 @@ read_fault items rest more v item fault reads front some =
     reads.parts ∙ (ap (parts_after reads.words) front ∙ next_part reads.words item more (Some found.0) found.1.0)
     in
     let others = extends more (reads.words ++ found.0 ∷ []) in
-    let words : (parts_after [] items).words ≡ reads.words ++ found.0 ∷ others.0 =
-    ap (λ p. p.words) parts ∙ (others.1 ∙ append_assoc reads.words (found.0 ∷ []) others.0)
-    in
     let P : List Word → Type 0 = λ ws. PartsFault ws (parts_after [] items).rest fault in
-    subst P (sym words) (leftmost reads.words others.0 found.0 _ fault reads.have.each found.1.1)
+    grind (arith, some_of, next_part, extends, append_assoc, leftmost)
 
 -- the item at an index is the first of those from there on
 pub item_at : (items : List Item) (i : ℕ) (d x : Item) → i < length items → get_or items i d ≡ x → drop i (map raw items) ≡ raw x ∷ drop (i + 1) (map raw items)
