@@ -1,8 +1,7 @@
 -- What is ahead in a text, in the words of its spelling.
 use Rattle.std.proofs.lemmas.Grind.{common_steps}
-use Rattle.zone_name.proofs.Common.{◌≡◌, ℕ, ◌<◌, Bool, false, nat_eq, if◌then◌else◌, List, [], ◌∷◌, ◌++◌, length, take, Option, refl, sym, ap, ◌∙◌, arith, length-append, pointwise, cases_Bool, eqb-true, both_ways, cond_both, Written, plain, escaped, decimal, text_of, octet_of, IsUnit, IsBadEscape, BeginsWithUnit, is_dot, no_octet, Ahead, at_end, at_dot, at_octet, at_fault, unit_ahead, ahead_in}
-use Rattle.zone_name.specs.Machine.Units.{unit_first}
-use Rattle.zone_name.proofs.Units.{IsFirst, first_is, first_of_unit, escape_of_unit, text_of-some}
+use Rattle.zone_name.proofs.Common.{◌≡◌, ℕ, ◌<◌, Bool, false, nat_eq, List, [], ◌∷◌, ◌++◌, length, take, Option, arith, pointwise, cases_Bool, eqb-true, both_ways, cond_both, Written, text_of, octet_of, IsUnit, IsBadEscape, BeginsWithUnit, is_dot, no_octet, Ahead, at_end, at_dot, at_octet, at_fault, unit_ahead, ahead_in}
+use Rattle.zone_name.proofs.Units.{IsFirst, first_is}
 
 -- what is ahead, said of the text there
 abbrev pub IsAhead : List ℕ → Ahead → Type 0

@@ -1,5 +1,5 @@
 -- The name that a text spells under an origin, or its first fault, as an answer on lists.
-use Rattle.zone_name.proofs.Common.{◌≡◌, ◌≢◌, ℕ, ◌<◌, ◌≤◌, Bool, true, false, nat_eq, nat_le, if◌then◌else◌, List, [], ◌∷◌, ◌++◌, length, get_or, codes, Result, Ok, Err, Option, Some, None, IfOk, IfErr, IfSome, ◌⊎◌, inl, inr, refl, sym, ap, ◌∙◌, subst, arith, AllByRecursion, pointwise, bytes_decides, length-map, false≢true, leb-true, leb-false, folded_label, folded_octet, wire, IsLabel, IsName, Written, plain, text_of, octet_of, IsUnit, is_dot, IsWrittenLabel, AreWrittenLabels, written_text, written_octets, dotted, parted, named, Writes, root, at_origin, absolute, relative, Spells, FaultAt, IsRelative, SpellingFault, within, unfounded, long_name, NameFault, sized, under_origin, HasShape}
+use Rattle.zone_name.proofs.Common.{◌≡◌, ◌≢◌, ℕ, ◌<◌, ◌≤◌, Bool, true, false, nat_eq, nat_le, if◌then◌else◌, List, [], ◌∷◌, ◌++◌, length, get_or, codes, Result, Ok, Err, Option, Some, None, IfOk, IfErr, IfSome, ◌⊎◌, inl, inr, refl, sym, ap, ◌∙◌, subst, arith, AllByRecursion, pointwise, bytes_decides, length-map, false≢true, folded_label, folded_octet, wire, IsLabel, IsName, Written, plain, text_of, octet_of, IsUnit, is_dot, IsWrittenLabel, AreWrittenLabels, written_text, written_octets, dotted, parted, named, Writes, root, absolute, relative, Spells, FaultAt, IsRelative, SpellingFault, within, unfounded, long_name, NameFault, sized, under_origin, HasShape}
 use Rattle.zone_name.specs.Common.{AreOctets}
 use Rattle.zone_name.specs.declared.fault.NameFault.TheVariants.{EmptyLabel, NameTooLong, RelativeName}
 use Rattle.zone_name.specs.declared.reading.NameShape.{NameShape}

@@ -1,10 +1,8 @@
 -- What is printed outside quotes is written octets, of which few stand by themselves.
 use Rattle.std.proofs.lemmas.Grind.{common_steps}
-use Rattle.zone_name.proofs.Common.{◌≡◌, ℕ, ◌<◌, ◌==◌, ◌||◌, ◌&&◌, not, Bool, true, false, List, [], ◌∷◌, ◌++◌, length, refl, sym, ap, ap₂, ◌∙◌, arith, append_assoc, length-append, flat_map, AllByRecursion, both_ways, append-nil, length-map, flat_map-append, IsFoldedOctet, IsLabel, IsName, Written, plain, text_of, IsUnit, written_text, is_special, is_printed, octet_text, label_text, name_text, rules}
+use Rattle.zone_name.proofs.Common.{◌≡◌, ℕ, ◌<◌, ◌==◌, ◌||◌, ◌&&◌, not, Bool, true, List, [], ◌∷◌, ◌++◌, length, refl, sym, ap, arith, append_assoc, flat_map, AllByRecursion, both_ways, append-nil, length-map, IsFoldedOctet, IsLabel, IsName, Written, plain, text_of, IsUnit, written_text, is_special, is_printed, octet_text, label_text, name_text, rules}
 use Rattle.std.proofs.Common.{map}
-use Rattle.std.proofs.Math.Bool.{or-true}
-use Rattle.zone_name.proofs.Lawful.{written_by, printed_text, special_escapes, decimal_escapes}
-use Rattle.zone_name.proofs.Pushing.{AllByRecursion-append}
+use Rattle.zone_name.proofs.Lawful.{written_by, printed_text}
 
 -- an octet that stands by itself outside quotes: a dot, or one from `!` to `~` that is not special
 abbrev pub is_bare : ℕ → Bool

@@ -1,9 +1,9 @@
 -- Equality, order and containment of names, as the code decides them.
-use Rattle.zone_name.proofs.Common.{◌≡◌, ℕ, ◌+◌, ◌-◌, ◌≤◌, ◌↔◌, Bool, IsTrue, List, [], ◌∷◌, ◌++◌, length, take, drop, reverse, Option, Some, None, MatchOption, refl, ap, sym, ◌∙◌, nat_eq, true, arith, length-append, ordering_then, nat_cmp, pointwise, pointwise_decides, bytes_decides, slice_cmp, reverse-append, reverse-reverse, length-reverse, length-take, take-append-drop, drop_at, drop-drop, nat_tests, wire, labels_of, IsWithin, label_cmp, name_cmp, rules}
+use Rattle.zone_name.proofs.Common.{◌≡◌, ℕ, ◌+◌, ◌-◌, ◌≤◌, ◌↔◌, Bool, IsTrue, List, [], ◌∷◌, ◌++◌, length, take, drop, reverse, Option, Some, None, MatchOption, ap, sym, ◌∙◌, nat_eq, true, arith, length-append, ordering_then, nat_cmp, pointwise, pointwise_decides, bytes_decides, slice_cmp, reverse-append, reverse-reverse, length-reverse, length-take, take-append-drop, drop_at, drop-drop, wire, labels_of, IsWithin, label_cmp, name_cmp, rules}
 use Rattle.std.proofs.Common.{length-drop}
 use Rattle.std.specs.declared.cmp.Ordering.{Ordering}
 use Rattle.std.specs.declared.cmp.Ordering.TheVariants.{Equal}
-use Rattle.std.specs.Bool.{Decides, one_answer}
+use Rattle.std.specs.Bool.{Decides}
 use Rattle.std.proofs.lemmas.Cmp.{lists_total, nat_list_cmp_total, on_total, tied_itself}
 
 -- the test on labels from the right decides equality

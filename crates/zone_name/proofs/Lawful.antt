@@ -1,5 +1,5 @@
 -- The laws of the order and of what is printed.
-use Rattle.zone_name.proofs.Common.{◌≡◌, ◌≢◌, ℕ, ◌+◌, ◌/◌, ◌%◌, ◌<◌, Bool, true, false, ◌||◌, ◌==◌, nat_eq, if◌then◌else◌, List, [], ◌∷◌, reverse, Option, div-add-mod', refl, sym, subst, arith, map, flat_map, AllByRecursion, nat_cmp, pointwise, pointwise_decides, bytes_decides, slice_cmp, lists_ties, texts_ties, lists_total, reverse-reverse, length-map, nat_tests, IsFoldedOctet, IsLabel, IsName, folded_label, eqb-true, eqb-false, or_parts, name_cmp, Written, plain, escaped, decimal, text_of, octet_of, IsEscape, IsUnit, is_dot, IsWrittenLabel, written_text, written_octets, dotted, named, Writes, root, absolute, Spells, is_digit, is_special, is_printed, decimal_escape, octet_text, label_text, name_text, rules}
+use Rattle.zone_name.proofs.Common.{◌≡◌, ◌≢◌, ℕ, ◌+◌, ◌/◌, ◌%◌, ◌<◌, Bool, true, false, ◌||◌, nat_eq, if◌then◌else◌, List, [], ◌∷◌, reverse, Option, div-add-mod', refl, sym, arith, map, flat_map, AllByRecursion, nat_cmp, pointwise, pointwise_decides, bytes_decides, slice_cmp, lists_ties, texts_ties, lists_total, reverse-reverse, length-map, nat_tests, IsFoldedOctet, IsLabel, IsName, folded_label, eqb-false, or_parts, name_cmp, Written, plain, escaped, decimal, text_of, octet_of, IsUnit, is_dot, IsWrittenLabel, written_text, written_octets, dotted, named, Writes, root, absolute, Spells, is_digit, is_special, is_printed, decimal_escape, octet_text, label_text, name_text, rules}
 use Rattle.std.specs.declared.cmp.Ordering.TheVariants.{Equal}
 use Rattle.std.specs.Cmp.{IsTotalOrder, on_total}
 use Rattle.std.proofs.lemmas.Cmp.{nat_cmp_total}
@@ -46,21 +46,8 @@ octet_of-printed c = value_by (is_special c) (is_printed c) c
 pub digit_test : (d : ℕ) → d < 10 → is_digit (48 + d) ≡ true
 digit_test d h = grind (arith, nat_tests)
 
-pub decimal_escapes : (c : ℕ) → c < 256 → IsEscape (decimal (48 + c / 100) (48 + c / 10 % 10) (48 + c % 10))
-decimal_escapes c h = grind (arith, digit_test, div-add-mod', decimal_value)
-
--- no special octet is a digit or ends a line
-abbrev Escapes : ℕ → Type 0
-Escapes c = (is_digit c ≡ false) × (c ≢ 10) × (c ≢ 13)
-
-escapes_at : (c n : ℕ) → Escapes n → (c == n) ≡ true → Escapes c
-escapes_at c n at e = let P : ℕ → Type 0 = λ t. Escapes t in subst P (sym (eqb-true c n e)) at
-
 either : (a b : Bool) (P : Type 0) → (a ≡ true → P) → (b ≡ true → P) → (a || b) ≡ true → P
 either a b P f g e = grind arith
-
-pub special_escapes : (c : ℕ) → is_special c ≡ true → Escapes c
-special_escapes c = grind (arith, either, escapes_at)
 
 plain_octets : (c : ℕ) → is_special c ≡ false → (is_dot c ≡ false) × (c ≢ 92)
 plain_octets c e = grind (arith, or_parts, eqb-false)

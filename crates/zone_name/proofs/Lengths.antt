@@ -1,5 +1,5 @@
 -- How many octets a printed name has, against those that it takes in a message.
-use Rattle.zone_name.proofs.Common.{ℕ, ◌+◌, ◌*◌, ◌≤◌, Bool, true, false, List, [], ◌∷◌, length, arith, length-append, flat_map, wire, with_length, decimal_escape, octet_text, label_text, name_text}
+use Rattle.zone_name.proofs.Common.{ℕ, ◌+◌, ◌*◌, ◌≤◌, Bool, List, [], ◌∷◌, length, arith, length-append, flat_map, wire, with_length, decimal_escape, octet_text, label_text, name_text}
 use Rattle.std.specs.Prelude.{if◌then◌else◌}
 
 -- at most a backslash and three digits

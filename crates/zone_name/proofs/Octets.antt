@@ -33,10 +33,6 @@ labels_of-frames labels rest each =
 pub labels_by-root : (n : ℕ) (rest : List ℕ) → labels_by n (0 ∷ rest) ≡ []
 labels_by-root n rest = grind arith
 
--- no octets hold no label
-pub labels_by-nil : (n : ℕ) → labels_by n [] ≡ []
-labels_by-nil n = grind arith
-
 -- `labels_of` gives back the labels that `wire` writes, whatever follows
 pub labels_of-wire_append : (labels : List (List ℕ)) (rest : List ℕ) → AllByRecursion IsLabel labels → labels_of (wire labels ++ rest) ≡ labels
 labels_of-wire_append labels rest each = grind (arith, labels_of-frames labels (0 ∷ rest) each, append_assoc (flat_map with_length labels) (0 ∷ []) rest, append-nil labels)

@@ -4,7 +4,7 @@ use Rattle.zone_name.specs.declared.fault.NameFault.TheVariants.{EmptyLabel, Lab
 use Rattle.zone_name.specs.Machine.LabelWalk.{reading}
 use Rattle.zone_name.proofs.Ahead.{ahead-unit, ahead-bad}
 use Rattle.zone_name.proofs.Units.{text_of-some}
-use Rattle.zone_name.proofs.Steps.{read_step, octet_step, bad_step, reading-nil, fault_by}
+use Rattle.zone_name.proofs.Steps.{read_step, octet_step, bad_step, reading-nil}
 use Rattle.zone_name.proofs.Spelled.{AreShort}
 
 -- one written octet is read

@@ -1,6 +1,6 @@
 -- A label that is added after others.
 use Rattle.std.proofs.lemmas.Grind.{common_steps}
-use Rattle.zone_name.proofs.Common.{◌≡◌, ℕ, suc, ◌+◌, ◌<◌, ◌≤◌, true, false, Option, Result, IfOk, IfErr, Ok, Err, refl, List, [], ◌∷◌, ◌++◌, length, take, drop, get_or, sym, ap, ◌∙◌, subst, arith, append_assoc, length-append, map, flat_map, AllByRecursion, refill, length-map, append-nil, take_all, take_at, map-append, flat_map-append, le-leb, lt-leb, false≢true, nat_tests, IsLabel, IsName, IsFoldedOctet, folded_octet, folded_label, with_length, wire, labels_of, HoldsName, HoldsLabels, Collects, under_origin, sized, HoldsUnfolded, unfolded_labels, NameFault, rules}
+use Rattle.zone_name.proofs.Common.{◌≡◌, ℕ, suc, ◌+◌, ◌<◌, ◌≤◌, true, false, Option, Result, IfOk, IfErr, Ok, Err, refl, List, [], ◌∷◌, ◌++◌, length, take, drop, get_or, sym, ap, ◌∙◌, arith, append_assoc, length-append, map, flat_map, AllByRecursion, refill, length-map, append-nil, take_all, take_at, map-append, flat_map-append, le-leb, lt-leb, false≢true, nat_tests, IsLabel, IsName, IsFoldedOctet, folded_octet, folded_label, with_length, wire, labels_of, HoldsName, HoldsLabels, Collects, under_origin, sized, HoldsUnfolded, unfolded_labels, NameFault, rules}
 use Rattle.std.specs.Result.{IsOk, OnOk}
 use Rattle.std.specs.Char.{to_ascii_lowercase}
 use Rattle.zone_name.specs.declared.reading.Spelled.{Spelled}

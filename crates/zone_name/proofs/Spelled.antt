@@ -1,6 +1,6 @@
 -- What the walk over a text finds is what the text spells: from the left, as far as it has come.
 use Rattle.std.proofs.lemmas.Grind.{common_steps}
-use Rattle.zone_name.proofs.Common.{◌≡◌, ◌≢◌, ℕ, zero, suc, ◌<◌, ◌≤◌, Bool, true, false, nat_le, if◌then◌else◌, List, [], ◌∷◌, ◌++◌, length, codes, Result, Ok, Err, refl, sym, ap, ◌∙◌, subst, inl, inr, arith, append_assoc, length-append, AllByRecursion, append-nil, map_push, length-map, flat_map-append, nat_tests, folded_label, Written, text_of, octet_of, IsUnit, is_dot, IsWrittenLabel, AreWrittenLabels, written_text, written_octets, dotted, parted, named, Reaches, FaultAt, empty_label, long_label, bad_escape, NameFault, Ahead, at_end, at_dot, at_octet, at_fault, failed, goes, step_at, read}
+use Rattle.zone_name.proofs.Common.{◌≡◌, ◌≢◌, ℕ, zero, suc, ◌<◌, ◌≤◌, Bool, true, false, nat_le, if◌then◌else◌, List, [], ◌∷◌, ◌++◌, length, codes, Result, Ok, Err, refl, sym, ◌∙◌, subst, inl, inr, arith, append_assoc, length-append, AllByRecursion, append-nil, map_push, length-map, nat_tests, folded_label, Written, text_of, octet_of, IsUnit, is_dot, IsWrittenLabel, AreWrittenLabels, written_text, written_octets, dotted, parted, named, Reaches, FaultAt, empty_label, long_label, bad_escape, NameFault, Ahead, at_end, at_dot, at_octet, at_fault, failed, goes, step_at, read}
 use Rattle.zone_name.specs.declared.fault.NameFault.TheVariants.{LabelTooLong}
 use Rattle.zone_name.specs.Machine.LabelWalk.{reading}
 use Rattle.zone_name.proofs.Ahead.{IsAhead, ahead_is, Shrinks, ahead_shrinks}
@@ -26,14 +26,9 @@ Says text (Ok (labels, false)) = Finds parted text labels
 Says text (Err fault) = FaultAt text fault
 
 -- ---- one label or one octet more
-dotted_push : (before : List (List Written)) (label : List Written) → dotted (before ++ label ∷ []) ≡ dotted before ++ (written_text label ++ 46 ∷ [])
-dotted_push before label = grind (arith, flat_map-append, append-nil)
 
 named_push : (before : List (List Written)) (label : List Written) → named (before ++ label ∷ []) ≡ named before ++ folded_label (written_octets label) ∷ []
 named_push before label = grind (arith, map_push)
-
-text_push : (label : List Written) (w : Written) → written_text (label ++ w ∷ []) ≡ written_text label ++ text_of w
-text_push label w = grind (arith, flat_map-append, append-nil)
 
 join_more : (a b c : List ℕ) → a ++ (46 ∷ (b ++ c)) ≡ ((a ++ 46 ∷ []) ++ b) ++ c
 join_more a b c = sym (append_assoc (a ++ 46 ∷ []) b c ∙ append_assoc a (46 ∷ []) (b ++ c))

@@ -1,6 +1,6 @@
 -- Written octets at the beginning of a text: what is read is so, and what is so is read.
 use Rattle.std.proofs.lemmas.Grind.{common_steps}
-use Rattle.zone_name.proofs.Common.{◌≡◌, ◌≢◌, ℕ, zero, suc, ◌≤◌, ◌<◌, Bool, true, false, ◌&&◌, ◌||◌, ◌==◌, nat_le, if◌then◌else◌, List, [], ◌∷◌, ◌++◌, length, Option, Some, None, refl, sym, ap, ◌∙◌, subst, arith, append_assoc, length-append, option_map, AllByRecursion, and_parts, or_parts, or_cases, eqb-true, eqb-false, ne_eqb, leb-true, le-leb, both_ways, cond_both, Written, plain, escaped, decimal, text_of, octet_of, written_text, IsEscape, IsUnit, IsBadEscape, BeginsWithEscape, BeginsWithUnit, is_digit, no_octet}
+use Rattle.zone_name.proofs.Common.{◌≡◌, ◌≢◌, ℕ, zero, suc, ◌≤◌, ◌<◌, Bool, true, false, ◌&&◌, ◌||◌, ◌==◌, nat_le, if◌then◌else◌, List, [], ◌∷◌, ◌++◌, length, Option, Some, None, refl, sym, ap, subst, arith, append_assoc, length-append, option_map, AllByRecursion, and_parts, or_parts, or_cases, eqb-true, eqb-false, ne_eqb, leb-true, le-leb, both_ways, cond_both, Written, plain, escaped, decimal, text_of, octet_of, written_text, IsEscape, IsUnit, IsBadEscape, BeginsWithEscape, BeginsWithUnit, is_digit, no_octet}
 use Rattle.std.specs.Prelude.{IfSome}
 use Rattle.zone_name.specs.Machine.Units.{decimal_first, digits_first, escape_first, unit_first, Units, units_then, units_by, units_first, valued}
 
@@ -21,10 +21,6 @@ IsFirst left_out octets (Some (w, rest)) = IsUnit left_out w × (octets ≡ text
 pub unit_of_escape : (left_out : ℕ → Bool) (w : Written) → IsEscape w → IsUnit left_out w
 unit_of_escape left_out w is = grind arith
 
--- and so is a written octet after a backslash
-pub escape_of_unit : (left_out : ℕ → Bool) (w : Written) (rest more : List ℕ) → IsUnit left_out w → text_of w ++ rest ≡ 92 ∷ more → IsEscape w
-escape_of_unit left_out w rest more is e = grind arith
-
 pub bare_backslash : (w : Written) (after : List ℕ) → IsEscape w → 92 ∷ [] ≡ text_of w ++ after → ⊥
 bare_backslash w after is e = grind arith
 
@@ -43,9 +39,6 @@ passes x y z is = rw (is.0, is.1, is.2) (le-leb (octet_of (decimal x y z)) 255 i
 
 passed : (x y z : ℕ) → is_decimal x y z ≡ true → IsEscape (decimal x y z)
 passed x y z e = grind (arith, and_parts, nat_le, leb-true)
-
-no_decimal : (x y z : ℕ) (rest : List ℕ) → is_digit x ≡ true → is_decimal x y z ≡ false → (w : Written) (after : List ℕ) → IsEscape w → 92 ∷ x ∷ y ∷ z ∷ rest ≡ text_of w ++ after → ⊥
-no_decimal x y z rest d f w after is e = grind (arith, both_ways, passes)
 
 no_escaped : (x : ℕ) (rest : List ℕ) → is_digit x ≡ false → (x == 10 || x == 13) ≡ true → (w : Written) (after : List ℕ) → IsEscape w → 92 ∷ x ∷ rest ≡ text_of w ++ after → ⊥
 no_escaped x rest d t w after is e = grind (arith, or_cases, eqb-true, both_ways)

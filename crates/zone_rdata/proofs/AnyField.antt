@@ -1,5 +1,5 @@
 -- What is proved of any field. `kind_of` picks the laws of its kind.
-use Rattle.zone_rdata.proofs.Common.{[], List, Some, ap, length, subst, sym, ℕ, ◌++◌, ◌+◌, ◌*◌, ◌<◌, ◌∙◌, ◌∷◌, ◌≡◌, ◌≢◌, ◌≤◌, arith, AllByRecursion, append_cancel_left, Labels, IsName, Fault, Field, FitsString, FieldValue, Holds, IsFieldFault, SpellsField, Suits, field_at, field_items, field_octets, field_text, items_after, own_items, IsGeneric, RawItem, bare, IsSized, BeginsWithValue, IsReal, part_field, Name, Octets, OneString, Serial, Strings, Time, U16}
+use Rattle.zone_rdata.proofs.Common.{[], List, Some, length, subst, sym, ℕ, ◌++◌, ◌+◌, ◌*◌, ◌<◌, ◌∙◌, ◌∷◌, ◌≡◌, ◌≢◌, ◌≤◌, arith, AllByRecursion, append_cancel_left, Labels, IsName, Fault, Field, FitsString, FieldValue, Holds, IsFieldFault, SpellsField, Suits, field_at, field_items, field_octets, field_text, items_after, own_items, IsGeneric, RawItem, bare, IsSized, BeginsWithValue, IsReal, part_field, Name, Octets, OneString, Serial, Strings, Time, U16}
 use Rattle.zone_rdata.proofs.FieldLaws.{AreLow, AreLowItems, FieldChoice, FieldLaws, FrontChoice, NameFaultOnce, NameOrFault, NamesNever, NamesOnce, NamesPrinted, plain_front}
 use Rattle.zone_rdata.proofs.Standing.{IsPrintedItem}
 use Rattle.zone_rdata.proofs.StringLaws.{fault-once}

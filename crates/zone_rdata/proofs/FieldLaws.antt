@@ -1,5 +1,5 @@
 -- What is proved of every kind of field, and what kinds share.
-use Rattle.zone_rdata.proofs.Common.{[], List, Option, Some, arith, decimal, drop, get_or, inl, inr, length, length-append, refl, subst, take, true, ℕ, ◌++◌, ◌+◌, ◌*◌, ◌<◌, ◌^◌, ◌∷◌, ◌≡◌, ◌≢◌, ◌≤◌, ◌⊎◌, AllByRecursion, IfSome, cases_lt, false≢true, take-append-drop, Labels, IsName, SpellingFault, Spells, is_digit, Fault, Field, FitsString, FieldValue, Holds, IsFieldFault, IsSent, SpellsField, Suits, field_at, field_items, field_octets, field_text, items_after, own_items, IsGeneric, RawItem, bare, quoted, IsSized, AppendsPrefix, AppendsValue, BeginsWithNone, BeginsWithValue, IsReal, part_field, item_text, common_steps, name_text, NameFault, BadRdata, Name, OneString, Strings, ap, suc, sym, zero, ◌∙◌, length-take}
+use Rattle.zone_rdata.proofs.Common.{[], List, Option, Some, arith, decimal, drop, get_or, inl, inr, length, length-append, refl, subst, take, true, ℕ, ◌++◌, ◌+◌, ◌*◌, ◌<◌, ◌^◌, ◌∷◌, ◌≡◌, ◌≢◌, ◌≤◌, ◌⊎◌, AllByRecursion, IfSome, cases_lt, false≢true, take-append-drop, Labels, IsName, SpellingFault, Spells, is_digit, Fault, Field, FitsString, FieldValue, Holds, IsFieldFault, IsSent, SpellsField, Suits, field_at, field_items, field_octets, field_text, items_after, own_items, IsGeneric, RawItem, bare, quoted, IsSized, AppendsPrefix, AppendsValue, BeginsWithNone, BeginsWithValue, IsReal, part_field, item_text, common_steps, name_text, NameFault, BadRdata, Name, OneString, Strings}
 use Rattle.zone_name.specs.Text.{name_text}
 use Rattle.zone_name.specs.declared.fault.NameFault.{NameFault}
 use Rattle.zone_rdata.specs.declared.fault.Fault.TheVariants.{BadRdata}

@@ -1,9 +1,9 @@
 -- Items state a value or have a first fault.
-use Rattle.zone_rdata.proofs.Common.{[], List, None, Option, Some, ap, inl, inr, length, refl, subst, sym, ℕ, ◌<◌, ◌∷◌, ◌≡◌, ◌⊎◌, arith, cases_lt, decode_of-ok, Labels, IsName, AllByRecursion-append, Fault, Field, FirstFieldFault, IsDataFault, IsFaultFor, in_generic_form, malformed, no_value, opaque_words, too_long, unspelt, FieldValue, items_after, octets_of, own_items, GenericFault, JoinTo, StatesGeneric, IsGeneric, RawItem, bare, quoted, layout, SpellEach, States, StatesFor, in_words, IsUncompressed, BadGeneric, BadRdata, RdataTooLong}
+use Rattle.zone_rdata.proofs.Common.{[], List, None, Option, Some, inl, inr, length, refl, subst, sym, ℕ, ◌<◌, ◌∷◌, ◌≡◌, ◌⊎◌, arith, cases_lt, decode_of-ok, Labels, IsName, AllByRecursion-append, Fault, Field, FirstFieldFault, IsDataFault, IsFaultFor, in_generic_form, malformed, no_value, opaque_words, too_long, unspelt, FieldValue, items_after, octets_of, own_items, GenericFault, JoinTo, StatesGeneric, IsGeneric, RawItem, bare, quoted, layout, SpellEach, States, StatesFor, in_words, IsUncompressed, BadGeneric, BadRdata, RdataTooLong}
 use Rattle.zone_rdata.proofs.AnyField.{field_or_fault}
 use Rattle.zone_rdata.proofs.Lists.{bytes_each}
 use Rattle.zone_rdata.proofs.Choices.{Choice, Decided}
-use Rattle.zone_rdata.proofs.FieldLaws.{mark, mark_text, AreLow, AreLowItems, FieldChoice, NameOrFault}
+use Rattle.zone_rdata.proofs.FieldLaws.{mark, AreLow, AreLowItems, FieldChoice, NameOrFault}
 use Rattle.zone_rdata.proofs.GenericLaws.{generic-or_fault}
 use Rattle.zone_rdata.proofs.Taken.{canonical_or_not}
 use Rattle.zone_rdata.proofs.WordChoice.{same_or_not}

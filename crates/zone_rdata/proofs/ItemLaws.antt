@@ -1,5 +1,5 @@
 -- Items state at most one value, or have at most one first fault.
-use Rattle.zone_rdata.proofs.Common.{[], List, None, Option, Some, arith, inl, inr, length, refl, subst, sym, ℕ, ◌∙◌, ◌∷◌, ◌≡◌, ◌≤◌, Labels, Fault, Field, FirstFieldFault, IsDataFault, IsFaultFor, IsGenericDataFault, IsWordsFault, in_generic_form, malformed, no_value, opaque_words, too_long, unspelt, FieldValue, items_after, octets_of, StatesGeneric, GenericFault, RawItem, IsGeneric, layout, IsCanonicalOf, SpellEach, States, StatesFor, in_octets, in_words, IsUncompressed}
+use Rattle.zone_rdata.proofs.Common.{[], List, None, Option, Some, arith, inl, inr, length, refl, subst, sym, ℕ, ◌∙◌, ◌∷◌, ◌≡◌, ◌≤◌, Labels, Fault, Field, FirstFieldFault, IsDataFault, IsFaultFor, IsGenericDataFault, IsWordsFault, in_generic_form, malformed, no_value, opaque_words, too_long, unspelt, FieldValue, items_after, octets_of, StatesGeneric, GenericFault, RawItem, IsGeneric, layout, IsCanonicalOf, SpellEach, States, StatesFor, in_octets, in_words}
 use Rattle.zone_rdata.proofs.AnyField.{field_fault_once, field_never, field_once}
 use Rattle.zone_rdata.proofs.FieldLaws.{NameFaultOnce, NamesNever, NamesOnce}
 use Rattle.zone_rdata.proofs.GenericLaws.{generic-never_both, generic-once, generic_fault-once}

@@ -1,5 +1,5 @@
 -- Items read from the left, field after field.
-use Rattle.zone_rdata.proofs.Common.{[], ◌≡◌, ℕ, ◌+◌, ◌-◌, ◌<◌, ◌≤◌, List, ◌∷◌, ◌++◌, length, get_or, take, drop, map, sym, ap, ◌∙◌, subst, arith, append_assoc, Bor, Bool, IsTrue, ◌↔◌, inr, bytes_eq-Decides, append-nil, length-drop, take_all, drop_all, drop-drop, Labels, Fault, Item, Field, FirstFieldFault, IsWordsFault, unspelt, too_long, IsFieldFault, FieldValue, field_octets, octets_of, own_items, RawItem, bare, raw, generic_mark, IsGeneric, AppendsFirst, AreSpelt, SpellEach, common_steps, bytes_eq, BadRdata, RdataTooLong, Bare, rules}
+use Rattle.zone_rdata.proofs.Common.{[], ◌≡◌, ℕ, ◌+◌, ◌-◌, ◌<◌, ◌≤◌, List, ◌∷◌, ◌++◌, length, get_or, take, drop, map, sym, ap, ◌∙◌, subst, arith, append_assoc, Bor, Bool, IsTrue, ◌↔◌, inr, append-nil, length-drop, take_all, drop_all, drop-drop, Labels, Fault, Item, Field, FirstFieldFault, IsWordsFault, unspelt, too_long, IsFieldFault, FieldValue, field_octets, octets_of, own_items, RawItem, raw, IsGeneric, AppendsFirst, AreSpelt, SpellEach, common_steps, bytes_eq, BadRdata, RdataTooLong, Bare, rules}
 use Rattle.zone_rdata.proofs.Lists.{from_place}
 
 -- some fields were read, and what the items that are left are for the other fields, all items are

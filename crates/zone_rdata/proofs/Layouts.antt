@@ -1,6 +1,6 @@
 -- Values of a layout are data: their octets hold them, are octets, and without strings few.
-use Rattle.zone_rdata.proofs.Common.{[], List, Option, Some, ap, length, refl, ℕ, ◌++◌, ◌<◌, ◌∙◌, ◌∷◌, ◌≡◌, ◌≤◌, arith, length-append, ◌*◌, ◌≢◌, AllByRecursion, MatchOption, drop_at, Field, FieldValue, HoldEach, Holds, field_octets, octets_of, values_of, AreLaidOut, IsData, StringsLast, layout, IsSized, IsCanonicalOf, AllByRecursion-append, common_steps, Strings, None, subst, sym}
-use Rattle.zone_rdata.proofs.AnyField.{field_back, field_short, field_low}
+use Rattle.zone_rdata.proofs.Common.{[], List, Option, Some, ap, length, refl, ℕ, ◌++◌, ◌<◌, ◌∙◌, ◌∷◌, ◌≡◌, ◌≤◌, arith, ◌≢◌, AllByRecursion, MatchOption, drop_at, Field, FieldValue, HoldEach, Holds, field_octets, octets_of, values_of, AreLaidOut, IsData, StringsLast, layout, IsCanonicalOf, AllByRecursion-append, common_steps, Strings, None, subst, sym}
+use Rattle.zone_rdata.proofs.AnyField.{field_back, field_low}
 use Rattle.zone_rdata.proofs.Taken.{uncompressed_length}
 use Rattle.zone_rdata.proofs.Tables.{table_row}
 use Rattle.zone_rdata.proofs.FieldLaws.{AreLow}

@@ -1,6 +1,6 @@
 -- The canonical text of data is its items, they stand in a file as they are, and they state that
 -- data.
-use Rattle.zone_rdata.proofs.Common.{[], List, None, Option, Some, ap, arith, drop, length, length-append, map, refl, sym, ℕ, ◌++◌, ◌<◌, ◌∙◌, ◌∷◌, ◌≡◌, ◌≤◌, AllByRecursion, flat_map, join_with_byte, append-nil, map-append, flat_map-append, AllByRecursion-append, AreOctets, Labels, Field, FieldValue, HoldEach, Holds, field_items, field_text, strings, values_of, string_item, digit_items, generic_items, IsGeneric, RawItem, IsLayout, IsSized, StringsLast, layout, laid_out_text, Data, IsRdata, SpellEach, States, StatesFor, in_octets, in_words, string_text, data_items, data_text, generic_text, laid_out_items, written_item, common_steps, Strings}
+use Rattle.zone_rdata.proofs.Common.{[], List, None, Option, Some, ap, arith, drop, length, map, refl, sym, ℕ, ◌++◌, ◌<◌, ◌∙◌, ◌∷◌, ◌≡◌, ◌≤◌, AllByRecursion, flat_map, join_with_byte, append-nil, map-append, flat_map-append, AllByRecursion-append, AreOctets, Labels, Field, FieldValue, HoldEach, Holds, field_items, field_text, strings, values_of, string_item, digit_items, generic_items, IsGeneric, RawItem, IsLayout, IsSized, StringsLast, layout, laid_out_text, Data, IsRdata, SpellEach, States, StatesFor, in_octets, in_words, string_text, data_items, data_text, generic_text, laid_out_items, written_item, common_steps, Strings}
 use Rattle.zone_rdata.proofs.AnyField.{field_printed, field_stands, field_unmarked}
 use Rattle.zone_rdata.proofs.FieldLaws.{NamesPrinted}
 use Rattle.zone_rdata.proofs.GenericLaws.{printed-stated, printed-text}
@@ -73,9 +73,6 @@ pub data_stands : (d : Data) → IsRdata d → AllByRecursion IsPrintedItem (dat
 data_stands d h = laid_out_stand (layout d.class d.kind) d.octets (table_row d.class d.kind) h.octets.short h.octets.each h.octets.value
 
 -- ---- there is one item at least
-
-field_some : (f : Field) (v : FieldValue) → Holds f v → 0 < length (field_items v)
-field_some f v h = grind (arith, common_steps)
 
 each_some : (row : List Field) (values : List FieldValue) → 0 < length row → HoldEach row values → 0 < length (flat_map field_items values)
 each_some [] values some h = absurd (omega arith)

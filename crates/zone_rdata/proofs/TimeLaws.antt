@@ -1,5 +1,5 @@
 -- A text states at most one time.
-use Rattle.zone_rdata.proofs.Common.{[], ◌≡◌, ℕ, ◌*◌, ◌<◌, List, ◌∷◌, length, Some, refl, sym, ap, ◌∙◌, append_assoc, arith, AllByRecursion, flat_map, sum_by, append-nil, Group, IsTimeGroup, group_text, group_seconds, decimal_value, unit_seconds, IsDecimal, IsTime, sum_by-append, common_steps}
+use Rattle.zone_rdata.proofs.Common.{[], ◌≡◌, ℕ, ◌<◌, List, ◌∷◌, length, Some, refl, sym, ap, ◌∙◌, append_assoc, arith, AllByRecursion, flat_map, sum_by, append-nil, Group, IsTimeGroup, group_text, group_seconds, unit_seconds, IsDecimal, IsTime, common_steps}
 use Rattle.zone_rdata.proofs.Times.{run_split, run_nil, unit_no_digit, first_unit}
 
 same_unit : (c d u v : ℕ) → c ≡ d → unit_seconds c ≡ Some u → unit_seconds d ≡ Some v → u ≡ v

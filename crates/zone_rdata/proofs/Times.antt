@@ -1,6 +1,5 @@
 -- Times read octet by octet, and that a text has one reading.
-use Rattle.zone_rdata.proofs.Common.{[], ◌≡◌, ℕ, ◌+◌, ◌*◌, ◌<◌, ◌≤◌, min, true, false, List, ◌∷◌, ◌++◌, length, Some, refl, sym, ap, ◌∙◌, subst, arith, append_assoc, length-append, IsTrue, zero-add, take, drop, get_or, AllByRecursion, flat_map, sum_by, append-nil, take-append-drop, drop_more, take_all, flat_map-append, cases_lt, nat_tests, is_digit, Group, IsTimeGroup, group_text, group_seconds, decimal_value, unit_seconds, IsTime, plain, grouped, AllByRecursion-append, common_steps, sum_by-append, ReadsTime}
-use Rattle.std.proofs.Math.Nat.{le-mul_of_pos_right, min-eq_left, min-eq_right, mul-le-mul_right}
+use Rattle.zone_rdata.proofs.Common.{[], ◌≡◌, ℕ, ◌+◌, ◌*◌, ◌<◌, ◌≤◌, min, true, false, List, ◌∷◌, ◌++◌, length, Some, refl, sym, ap, ◌∙◌, subst, arith, append_assoc, length-append, IsTrue, take, drop, get_or, AllByRecursion, flat_map, sum_by, append-nil, take-append-drop, drop_more, take_all, nat_tests, is_digit, Group, IsTimeGroup, group_text, group_seconds, unit_seconds, IsTime, plain, grouped, common_steps, sum_by-append, ReadsTime}
 use Rattle.zone_rdata.specs.declared.time.Progress.{Progress}
 
 abbrev pub AreDigits : List ℕ → Type 0
@@ -52,9 +51,6 @@ groups_open (g ∷ groups) (h ∷ other) a x y digits some e =
 -- no time goes on with an octet that is neither a digit nor, after digits, a unit
 pub stops : (text rest : List ℕ) (c n : ℕ) (p : Progress) → is_digit c ≡ false → (0 < length text → IsTrue p.open → (u : ℕ) → unit_seconds c ≡ Some u → ⊥) → ReadsTime text p → IsTime (text ++ c ∷ rest) n → ⊥
 stops text rest c n p no_digit none reads h = grind (arith, no_run, append_assoc, groups_run, length-append)
-
-capped_sum : (C T N u : ℕ) → 0 < u → min C (min C T + min C N * u) ≡ min C (T + N * u)
-capped_sum C T N u some = grind (arith, cases_lt, min-eq_left, le-mul_of_pos_right, mul-le-mul_right, min-eq_right)
 
 -- a group closes
 pub more_groups : (text : List ℕ) (c unit : ℕ) (p next : Progress) → unit_seconds c ≡ Some unit → 0 < unit → p.open ≡ true → next.total ≡ min 4294967296 (p.total + p.number * unit) → next.grouped ≡ true → next.number ≡ 0 → next.open ≡ false → ReadsTime text p → ReadsTime (text ++ c ∷ []) next

@@ -1,10 +1,10 @@
 -- Lines without items: what is cut of them, and what follows from octets with such lines after them.
-use Rattle.zone_text.proofs.Common.{AllByRecursion, AreBlankLines, Comment, Cuts, EndedEntries, Ends, Entry, EntrySplitter, Follow, IsBlankLine, IsComment, IsSplitter, IsStateAfter, Labels, LeavesNoRecord, List, None, ReadsOctets, ScansTo, Token, [], ap, append_assoc, arith, before_line_feed, beginning, comment, commented, common_steps, decides_none, drop, entry_of, flat_map, from_line_feed, further, if◌then◌else◌, item_of, length, length-append, line_feed, ne_eqb, no_lines, one_line_more, refl, rules, scan_of, subst, suc, sum_by-cons, sym, ℕ, ◌++◌, ◌+◌, ◌<◌, ◌==◌, ◌∙◌, ◌∷◌, ◌≡◌, ◌≢◌, ◌≤◌}
+use Rattle.zone_text.proofs.Common.{AllByRecursion, AreBlankLines, Comment, Cuts, EndedEntries, Ends, Entry, EntrySplitter, Follow, IsBlankLine, IsComment, IsSplitter, IsStateAfter, Labels, LeavesNoRecord, List, None, ReadsOctets, ScansTo, Token, [], ap, append_assoc, arith, before_line_feed, beginning, comment, commented, common_steps, decides_none, drop, entry_of, flat_map, further, if◌then◌else◌, item_of, length, length-append, line_feed, ne_eqb, no_lines, one_line_more, refl, rules, scan_of, subst, suc, sum_by-cons, sym, ℕ, ◌++◌, ◌+◌, ◌<◌, ◌==◌, ◌∙◌, ◌∷◌, ◌≡◌, ◌≢◌, ◌≤◌}
 use Rattle.zone_text.specs.Machine.Blank.{line_feed as fed_line}
 use Rattle.zone_text.proofs.Cuttings.{one_cut}
 use Rattle.zone_text.proofs.EntryTaken.{lines_after, takes_entry}
 use Rattle.zone_text.proofs.Followed.{follow_entry}
-use Rattle.zone_text.proofs.Fronts.{EndsComment, comment_dropped, comment_each, comment_ends, comment_whole}
+use Rattle.zone_text.proofs.Fronts.{comment_dropped, comment_each, comment_ends, comment_whole}
 use Rattle.zone_text.proofs.Left.{line_feeds}
 use Rattle.zone_text.proofs.FedPieces.{HasFed, fed_more, FollowsOn}
 

@@ -1,5 +1,5 @@
 -- The entries that line feeds have ended, cut out of their tokens again, whatever follows them.
-use Rattle.zone_text.proofs.Common.{AllByRecursion, EndInLineFeed, Entry, List, Some, Token, [], and_last, ap, arith, blank, closing, common_steps, count_by, cut_from, depth_after, entry_of, flat_map, in_front, in_front_of, length, line_feed, numbered, opening, refl, rules, suc, text, zero, ℕ, ◌++◌, ◌+◌, ◌<◌, ◌==◌, ◌∙◌, ◌∷◌, ◌≡◌}
+use Rattle.zone_text.proofs.Common.{AllByRecursion, EndInLineFeed, Entry, List, Some, Token, [], and_last, ap, arith, closing, common_steps, count_by, cut_from, depth_after, entry_of, flat_map, in_front, in_front_of, length, line_feed, numbered, opening, refl, rules, suc, text, zero, ℕ, ◌++◌, ◌+◌, ◌<◌, ◌==◌, ◌∷◌, ◌≡◌}
 
 abbrev pub joined : List (List Token) → List Token
 joined entries = flat_map (λ (e : List Token). e) entries

@@ -1,6 +1,6 @@
 -- An entry after others that state nothing or a record has an outcome: nothing, a record or a first
 -- fault.
-use Rattle.zone_text.proofs.Common.{AllByRecursion, AllByRecursion-append, AllState, AreOctetItems, BadDirective, BadTtl, Bool, Choices, Data, Entry, EntryFault, EntryStates, Fault, HasClass, HasContents, HasHeadOf, HasTtl, HasValue, Head, IncludeDirective, IsClass, IsClassWord, IsDataFault, IsKind, IsKindWord, IsLastMinimum, IsLastOwner, IsName, IsNameFaultAfter, IsOrigin, IsOwner, IsTime, IsTtl, IsWordFault, Labels, List, Lower, MatchOption, NoOwner, NoTtl, None, Option, Parts, PartsFault, Record, Some, SpellingFault, Spells, SpellsAfter, Statement, StatementFault, States, StatesMinimum, StatesNothing, UnknownDirective, UnknownType, Word, WordFault, [], ap, arith, begins_with_digit, cases_eq, cases_lt, class, class_among, class_word, data_of, false, fault_of, if◌then◌else◌, includes, inl, inr, is_class_word, latest, long, minimum, no_items, none, of_parts, of_rdata, of_statement, of_ttl, option_and_then, option_or, owned, owner_text, parts_after, parts_in, refl, rules, sets_origin, sets_ttl, stated_ttl, statement_by, statement_of, subst, sym, true, ttl, ttl_among, unknown, unless_stated, unowned, word_after, ℕ, ◌++◌, ◌<◌, ◌∙◌, ◌∷◌, ◌≡◌, ◌⊎◌}
+use Rattle.zone_text.proofs.Common.{AllByRecursion, AllByRecursion-append, AllState, AreOctetItems, BadDirective, BadTtl, Bool, Choices, Data, Entry, EntryFault, EntryStates, Fault, HasClass, HasContents, HasHeadOf, HasTtl, HasValue, Head, IncludeDirective, IsClass, IsClassWord, IsDataFault, IsKind, IsKindWord, IsLastMinimum, IsLastOwner, IsName, IsNameFaultAfter, IsOrigin, IsOwner, IsTime, IsTtl, IsWordFault, Labels, List, Lower, MatchOption, NoOwner, NoTtl, None, Option, Parts, PartsFault, Record, Some, SpellingFault, Spells, SpellsAfter, Statement, StatementFault, States, StatesMinimum, StatesNothing, UnknownDirective, UnknownType, Word, WordFault, [], ap, arith, cases_eq, cases_lt, class, class_among, class_word, data_of, fault_of, if◌then◌else◌, includes, inl, inr, is_class_word, latest, long, minimum, no_items, none, of_parts, of_rdata, of_statement, of_ttl, option_and_then, option_or, owned, owner_text, parts_after, parts_in, refl, rules, sets_origin, sets_ttl, stated_ttl, statement_by, statement_of, subst, sym, true, ttl, unknown, unless_stated, unowned, word_after, ℕ, ◌++◌, ◌<◌, ◌∙◌, ◌∷◌, ◌≡◌, ◌⊎◌}
 use Rattle.zone_name.specs.declared.fault.NameFault.{NameFault}
 use Rattle.zone_rdata.specs.Spelling.{RawItem, bare, quoted}
 use Rattle.zone_text.proofs.Entered.{nothing_or_parts}
@@ -9,9 +9,6 @@ use Rattle.zone_text.proofs.ClassWords.{class_word_of}
 use Rattle.zone_text.proofs.WordsLeft.{parts_by}
 
 -- ---- the origin
-
-abbrev OriginFact : List (List ℕ) → List Entry → Option (List ℕ) → Type 0
-OriginFact origin before o = (name : List (List ℕ)) × (MatchOption o (IsOrigin origin before name) (λ text. SpellsAfter origin before text name) × IsName name)
 
 origin_by : (origin : List (List ℕ)) (before : List Entry) (entry : Entry) → StatesNothing origin before (statement_of entry) ⊎ ((r : Record) × EntryStates origin before entry r) → ((name : List (List ℕ)) × (IsOrigin origin before name × IsName name)) → (name : List (List ℕ)) × (IsOrigin origin (entry ∷ before) name × IsName name)
 origin_by origin before entry (inl n) above = search rules

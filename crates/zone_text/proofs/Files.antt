@@ -1,5 +1,5 @@
 -- A file states one list of records at most, and has one reading at most; the two agree.
-use Rattle.zone_text.proofs.Common.{Ending, EntriesState, Entry, Fault, FileReads, FileStates, Line, List, Lower, None, Once, Placed, ReadEach, Some, [], ap, broken, ended_entries, entries_of, open_line, refl, refused, stated, states_none, states_one, subst, sym, whole, ℕ, ◌∙◌, ◌∷◌, ◌≡◌, arith, rules}
+use Rattle.zone_text.proofs.Common.{Ending, EntriesState, Entry, FileReads, FileStates, Line, List, Lower, None, Once, Placed, ReadEach, Some, [], broken, ended_entries, entries_of, open_line, refl, refused, stated, states_none, states_one, subst, sym, whole, ℕ, ◌∙◌, ◌∷◌, ◌≡◌, arith, rules}
 use Rattle.zone_text.proofs.Cuttings.{one_cut, one_break, cut_not_broken}
 use Rattle.zone_text.proofs.Entered.{record_once, fault_once, record_or_fault, nothing_or_record, nothing_or_fault}
 

@@ -1,6 +1,6 @@
 -- What is decided of octets by what those before them left, and what follows from octets fed and
 -- records given, part by part.
-use Rattle.zone_text.proofs.Common.{AreTokens, BadEscape, Breaks, BreaksForGood, ClosesNothing, Cut, Cuts, EndedEntries, Ending, Ends, Entry, Fault, FileDecides, FileLeaves, FileReads, Follow, IsOneEntry, IsStateAfter, Labels, Line, List, LostEscape, None, On, Place, Placed, ReadEach, ReadsEntry, ReadsOctets, ScanState, ScansTo, Some, Step, Token, UnbalancedParenthesis, [], and_last, ap, append-nil, append_assoc, arith, beginning, broken, common_steps, cut_from, decided, end_fault_of, ended_entries, entries_of, entry_of, flat_map, flat_map_more, further, inl, inr, length, length-append, numbered, open_line, refl, refused, reverse, reverse-append, rules, stated, states_none, states_one, subst, sym, text, undecided, whole, zero, ℕ, ◌++◌, ◌+◌, ◌∙◌, ◌∷◌, ◌≡◌}
+use Rattle.zone_text.proofs.Common.{AreTokens, BadEscape, Breaks, BreaksForGood, ClosesNothing, Cuts, EndedEntries, Ending, Ends, Entry, Fault, FileDecides, FileLeaves, FileReads, Follow, IsOneEntry, IsStateAfter, Labels, Line, List, LostEscape, None, On, Place, Placed, ReadEach, ReadsEntry, ReadsOctets, ScanState, ScansTo, Some, Step, Token, UnbalancedParenthesis, [], and_last, ap, append-nil, append_assoc, arith, beginning, broken, common_steps, cut_from, decided, end_fault_of, ended_entries, entries_of, entry_of, flat_map, flat_map_more, inl, inr, length-append, numbered, open_line, refl, refused, reverse, reverse-append, rules, stated, states_none, states_one, subst, sym, text, undecided, whole, zero, ℕ, ◌++◌, ◌+◌, ◌∙◌, ◌∷◌, ◌≡◌}
 use Rattle.zone_text.proofs.CutAgain.{joined, AreEnded, again_zero, cut_whole}
 use Rattle.zone_text.proofs.Left.{line_feeds, numbered_then, IsSplit, split, whole_after, cut_more, tokens_more, ended_as_before, one_ended, reads_then, refused_before, reads_after, break_more, for_good_more, none_cut, none_more, ended_entries_first}
 use Rattle.zone_text.proofs.Scanned.{goes_on as scan_goes_on, ends_entry, stays_open, loses_escape, closes_nothing, at_end}

@@ -1,10 +1,8 @@
 -- The parser state is what the look back over the entries finds: one entry more, and the TTL that
 -- a record inherits.
-use Rattle.zone_text.proofs.Common.{Data, Entry, HasContents, HasHeadOf, HasTtl, Head, IsLastMinimum, IsLastOwner, IsOneOrNone, IsOrigin, IsStateAfter, IsTime, IsTtl, IsTtlOrNone, Labels, List, Lower, MatchOption, None, Option, ParserState, Parts, RawItem, SetsOrigin, SetsTtl, Some, SpellsAfter, Statement, StatesMinimum, StatesNothing, [], ap, class_among, class_word, default_ttl_text, inl, inr, latest, minimum, one_bare, option_and_then, option_or, origin_text, owner_text, parts_in, refl, rules, sets_origin, sets_ttl, stated_ttl, statement_of, subst, sym, ttl_among, ttl_text, with_owner, ℕ, ◌∙◌, ◌∷◌, ◌≡◌, arith}
+use Rattle.zone_text.proofs.Common.{Data, Entry, HasContents, HasHeadOf, HasTtl, Head, IsLastMinimum, IsLastOwner, IsOneOrNone, IsOrigin, IsStateAfter, IsTime, IsTtl, IsTtlOrNone, Labels, List, Lower, MatchOption, None, Option, ParserState, RawItem, SetsOrigin, SetsTtl, Some, SpellsAfter, Statement, StatesMinimum, StatesNothing, [], ap, default_ttl_text, inl, inr, latest, minimum, one_bare, option_or, origin_text, owner_text, parts_in, refl, rules, sets_origin, sets_ttl, stated_ttl, statement_of, subst, sym, ttl_text, with_owner, ℕ, ◌∙◌, ◌∷◌, ◌≡◌, arith}
 use Rattle.zone_rdata.specs.Item.{bare}
 use Rattle.zone_text.proofs.EntryOutcome.{states_no_minimum, no_minimum}
-
--- ---- one entry more
 
 -- ---- an entry that is no record
 

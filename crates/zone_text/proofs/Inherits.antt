@@ -1,5 +1,5 @@
 -- What an entry inherits is one thing at most, as is what two steps find one after the other.
-use Rattle.zone_text.proofs.Common.{Data, Entry, Err, HasClass, HasContents, HasHeadOf, HasTtl, Head, IsClassWord, IsLastMinimum, IsLastOwner, IsOrigin, IsOwner, IsTime, Labels, List, Lower, MatchOption, Ok, Once, Option, Result, Some, Spells, SpellsAfter, Statement, States, StatesMinimum, [], ap, class_word, inl, inr, latest, minimum, origin_text, owned, owner_text, refl, rules, stated_ttl, statement_of, subst, sym, unowned, ℕ, ◌∙◌, ◌∷◌, ◌≡◌, ◌⊎◌, arith}
+use Rattle.zone_text.proofs.Common.{Data, Entry, Err, HasClass, HasContents, HasHeadOf, HasTtl, Head, IsClassWord, IsLastMinimum, IsLastOwner, IsOrigin, IsOwner, IsTime, Labels, List, Lower, MatchOption, Ok, Once, Option, Result, Some, Spells, SpellsAfter, Statement, States, StatesMinimum, [], ap, class_word, inl, inr, latest, origin_text, owned, owner_text, refl, rules, stated_ttl, statement_of, subst, sym, unowned, ℕ, ◌∙◌, ◌∷◌, ◌≡◌, ◌⊎◌, arith}
 use Rattle.zone_rdata.specs.Spelling.{bare}
 
 pub match_once : (A B : Type 0) (o : Option A) (P : B → Type 0) (Q : A → B → Type 0) → Once B P → ((x : A) → Once B (Q x)) → (a b : B) → MatchOption o (P a) (λ x. Q x a) → MatchOption o (P b) (λ x. Q x b) → a ≡ b

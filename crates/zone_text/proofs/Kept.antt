@@ -1,5 +1,5 @@
 -- The items that are kept of an entry, one by one.
-use Rattle.zone_text.proofs.Common.{AllByRecursion, AllByRecursion-back, AllByRecursion-front, AreKept, Bool, IsShort, IsToken, IsUnit, IsWritten, Keeps, List, RawItem, SpellsString, Token, Written, [], ap, append-nil, arith, bare, flat_map, inl, inr, item_of, item_text, length, length-append, no_octet, octet_of, one_kept, one_left_out, quoted, refl, rules, subst, sym, text_of, text_of-some, written_octets, written_text, ℕ, ◌++◌, ◌<◌, ◌∙◌, ◌∷◌, ◌≡◌, ◌≤◌, common_steps}
+use Rattle.zone_text.proofs.Common.{AllByRecursion, AllByRecursion-back, AreKept, Bool, IsShort, IsToken, IsUnit, IsWritten, Keeps, List, RawItem, SpellsString, Token, Written, [], ap, append-nil, arith, bare, flat_map, inl, inr, item_of, item_text, length, length-append, no_octet, one_kept, one_left_out, quoted, refl, rules, subst, text_of, text_of-some, written_octets, written_text, ℕ, ◌++◌, ◌<◌, ◌∷◌, ◌≡◌, ◌≤◌, common_steps}
 
 -- ---- an item of a token
 
@@ -12,9 +12,6 @@ unit_anywhere out w is = search rules
 units_anywhere : (out : ℕ → Bool) (units : List Written) → AllByRecursion (IsUnit out) units → AllByRecursion (IsUnit no_octet) units
 units_anywhere out [] each = tt
 units_anywhere out (w ∷ units) each = (unit_anywhere out w each.0, units_anywhere out units each.1)
-
-octet_low : (out : ℕ → Bool) (w : Written) → IsUnit out w → Low (text_of w) → octet_of w < 256
-octet_low out w is low = search rules
 
 octets_low : (out : ℕ → Bool) (units : List Written) → AllByRecursion (IsUnit out) units → Low (written_text units) → Low (written_octets units)
 octets_low out [] each low = tt

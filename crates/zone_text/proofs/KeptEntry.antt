@@ -1,7 +1,7 @@
 -- An entry of very many items has the fault that it has where some that spell strings are left out,
 -- and states nothing.
-use Rattle.zone_text.proofs.Common.{AllByRecursion, AreKept, AreShortened, Bool, Cuts, Data, DecidesEntry, Entry, EntryFault, EntryStates, Err, Fault, HasContents, HasHeadOf, HasValue, Head, IsClassWord, IsOwner, IsWritten, Labels, LeavesOut, List, MatchOption, None, Ok, OnOk, Option, ParserState, Parts, PartsFault, PendingRecords, Place, RawItem, Record, Result, Some, Statement, StatementFault, StatesNothing, Token, Word, [], after_item, ap, are_many, arith, at_least, begin_with, class, class_among, class_word, data_of, decides_fault, decides_none, decides_one, directive, entry_of, false, fault_of_all, flat_map, if◌then◌else◌, includes, inl, inr, is_blank, item_of, latest, length, no_items, of_parts, of_rdata, of_statement, of_ttl, one_bare, option_or, owned, parts_after, parts_in, refl, rules, sets_origin, sets_ttl, slice_get, state_none, statement_by, statement_of, subst, sym, true, ttl, ttl_among, unknown, unless_stated, unowned, word_after, ℕ, ⊤, ◌++◌, ◌+◌, ◌==◌, ◌∙◌, ◌∷◌, ◌≡◌, ◌≤◌, common_steps}
-use Rattle.zone_rdata.specs.Item.{bare, quoted}
+use Rattle.zone_text.proofs.Common.{AllByRecursion, AreKept, AreShortened, Bool, Cuts, Data, DecidesEntry, Entry, EntryFault, EntryStates, Err, Fault, HasContents, HasHeadOf, Head, IsOwner, IsWritten, Labels, LeavesOut, List, None, Ok, OnOk, Option, ParserState, Parts, PartsFault, PendingRecords, Place, RawItem, Record, Result, Some, Statement, StatementFault, StatesNothing, Token, Word, [], after_item, ap, are_many, arith, begin_with, class, class_among, class_word, data_of, decides_fault, decides_none, decides_one, directive, entry_of, false, fault_of_all, flat_map, if◌then◌else◌, includes, inl, inr, is_blank, item_of, length, no_items, of_parts, of_rdata, of_statement, of_ttl, one_bare, owned, parts_after, parts_in, refl, rules, sets_origin, sets_ttl, slice_get, state_none, statement_by, statement_of, subst, sym, true, ttl, ttl_among, unknown, unless_stated, unowned, word_after, ℕ, ⊤, ◌++◌, ◌+◌, ◌==◌, ◌∙◌, ◌∷◌, ◌≡◌, ◌≤◌, common_steps}
+use Rattle.zone_rdata.specs.Item.{bare}
 use Rattle.zone_text.proofs.Kept.{items_written}
 use Rattle.zone_text.proofs.WordsLeft.{class_kept, class_pushed, parts_by, ttl_kept, ttl_pushed}
 

@@ -1,5 +1,5 @@
 -- What octets leave of a file: the entries that line feeds have ended, and the octets after them.
-use Rattle.zone_text.proofs.Common.{AreTokens, Breaks, BreaksAtEnd, BreaksForGood, Cut, Cuts, Cutting, Ending, Entry, Fault, Line, List, None, Option, Place, Placed, ReadEach, Some, StaysBroken, Token, [], add-zero, add_assoc, and_last, ap, append-nil, append_assoc, arith, common_steps, count_by, cut_from, cutting, ended_entries, entries_of, flat_map, flat_map-append, inl, inr, numbered, refl, refused, reverse, rules, stated, states_none, states_one, subst, sum_by-append, sym, text, token_text, zero, ℕ, ◌++◌, ◌+◌, ◌==◌, ◌∙◌, ◌∷◌, ◌≡◌, ◌⊎◌}
+use Rattle.zone_text.proofs.Common.{AreTokens, Breaks, BreaksAtEnd, BreaksForGood, Cut, Cuts, Cutting, Ending, Entry, Fault, Line, List, None, Option, Place, Placed, ReadEach, Some, StaysBroken, Token, [], add-zero, add_assoc, and_last, ap, append-nil, append_assoc, arith, common_steps, count_by, cut_from, cutting, ended_entries, entries_of, flat_map, flat_map-append, inl, inr, numbered, refl, refused, reverse, rules, stated, states_none, states_one, subst, sum_by-append, sym, text, zero, ℕ, ◌++◌, ◌+◌, ◌==◌, ◌∙◌, ◌∷◌, ◌≡◌, ◌⊎◌}
 use Rattle.zone_text.proofs.Cuttings.{cut_not_broken, IsCut, cutting_is, cutting_only, reads_cut, reads_broken}
 use Rattle.zone_text.proofs.Lasting.{cut_joined, break_joined, IsParted, parted as parted_at, both_cut}
 use Rattle.zone_text.proofs.CutAgain.{joined, AreEnded, cut_ended, again_zero, cut_whole, cut_again, ended_at_zero, numbered_front}

@@ -1,19 +1,10 @@
 -- A record entry whose parts are read in a known state: what it states, or why it is refused.
-use Rattle.zone_text.proofs.Common.{BadTtl, Data, Entry, EntryFault, EntryStates, Fault, HasContents, HasHeadOf, HasOwnerOrNone, HasTtl, Head, IsDataFault, IsLastMinimum, IsLastOwner, IsOneOrNone, IsOwner, IsReadTo, IsRecord, IsRecordEntry, IsStateAfter, IsTtlOrNone, Labels, List, Lower, MatchOption, NoOwner, NoTtl, None, Option, ParserState, RawItem, Record, Some, States, ap, long, minimum, none, of_rdata, of_ttl, option_or, owned, owner_text, parts_in, refl, statement_of, subst, sym, ttl_text, with_owner, ℕ, ◌<◌, ◌∙◌, ◌∷◌, ◌≡◌, rules, arith}
-use Rattle.zone_rdata.specs.Item.{bare, quoted}
+use Rattle.zone_text.proofs.Common.{BadTtl, Data, Entry, EntryFault, EntryStates, Fault, HasContents, HasHeadOf, HasOwnerOrNone, HasTtl, Head, IsDataFault, IsLastMinimum, IsLastOwner, IsOneOrNone, IsOwner, IsReadTo, IsRecord, IsRecordEntry, IsStateAfter, IsTtlOrNone, Labels, List, Lower, MatchOption, NoOwner, NoTtl, None, Option, ParserState, RawItem, Record, Some, States, long, minimum, none, of_rdata, of_ttl, option_or, owned, refl, statement_of, subst, sym, ttl_text, with_owner, ℕ, ◌<◌, ◌∙◌, ◌∷◌, ◌≡◌, rules, arith}
 use Rattle.zone_text.proofs.Inheriting.{has_no_ttl, has_ttl, next_minimum, record_leaves, ttl_stated}
 
 -- ---- the owner
 
 module _ (origin : Labels) (before : List Entry) (entry : Entry) where
-  owned_entry : (d : ParserState) (held : Option Labels) (name : Labels) (owner : RawItem) (items : List RawItem) → statement_of entry ≡ owned owner items → IsStateAfter origin before (with_owner held d) → IsOwner origin before (owned owner items) name → IsRecordEntry origin before entry d name items
-  owned_entry d held name owner items form so_far owns = grind arith
-
-  owner_now : (name : Labels) (owner : RawItem) (items : List RawItem) → owner_text (statement_of entry) ≡ owner_text (owned owner items) → IsOwner origin before (owned owner items) name → IsLastOwner origin (entry ∷ before) name
-  owner_now name owner items e owns = grind arith
-
-  owner_stated : (name : Labels) (owner : RawItem) (items : List RawItem) → statement_of entry ≡ owned owner items → IsOwner origin before (owned owner items) name → IsLastOwner origin (entry ∷ before) name
-  owner_stated name owner items form owns = owner_now name owner items (ap owner_text form) owns
 
   -- an entry states the owner that became the last one
   pub has_stated_owner : (d : ParserState) (name : Labels) (owner : RawItem) (items : List RawItem) → statement_of entry ≡ owned owner items → IsStateAfter origin before d → IsOwner origin before (owned owner items) name → HasOwnerOrNone origin before entry (with_owner (Some name) d) items

@@ -1,11 +1,10 @@
 -- What a scan says of the octets that it took: where it goes on and stops, and the tokens that they
 -- are.
-use Rattle.zone_text.proofs.Common.{AreTokens, BadEscape, Breaks, BreaksAtEnd, BreaksForGood, ClosesNothing, Cut, Cuts, Ends, Fault, IsBroken, IsCutOff, IsLostEscape, IsOneEntry, List, LostEscape, MatchOption, None, On, Option, ScanState, Scanned, Some, StaysBroken, Step, Token, UnbalancedParenthesis, UnclosedQuote, [], ap, arith, beginning, closing_stays, cond_both, cut_from, depth_past, end_fault_of, eqb-false, eqb-true, escape_open, escape_stays, further, in_front_of, length, length-take, line_feed, no_escape, no_quote, no_quoted_escape, not_closed, quote_open, quoted_escape_open, quoted_escape_stays, refl, rules, scan_of, scan_on, step_of, subst, suc, sym, take, take-length, text, unclosed, zero, ℕ, ◌++◌, ◌+◌, ◌==◌, ◌∙◌, ◌∷◌, ◌≡◌, ◌≢◌, ◌≤◌}
+use Rattle.zone_text.proofs.Common.{AreTokens, BadEscape, Breaks, BreaksAtEnd, BreaksForGood, ClosesNothing, Cut, Cuts, Ends, Fault, IsBroken, IsCutOff, IsLostEscape, IsOneEntry, List, LostEscape, MatchOption, None, On, Option, ScanState, Scanned, Some, StaysBroken, Step, Token, UnbalancedParenthesis, UnclosedQuote, [], ap, arith, beginning, closing_stays, cond_both, cut_from, depth_past, end_fault_of, eqb-false, eqb-true, escape_open, escape_stays, further, in_front_of, length, length-take, line_feed, no_escape, no_quote, no_quoted_escape, not_closed, quote_open, quoted_escape_open, quoted_escape_stays, refl, rules, scan_of, scan_on, step_of, subst, suc, sym, take, take-length, text, unclosed, zero, ℕ, ◌++◌, ◌+◌, ◌∷◌, ◌≡◌, ◌≤◌}
 use Rattle.zone_text.specs.Breaks.{closes_nothing as closes_none}
 use Rattle.zone_text.proofs.Cuttings.{IsCut, cuts, breaks, no_token, one_token_more, text_on}
 use Rattle.zone_text.proofs.ForGood.{stays_for_good, ends_not_for_good}
 use Rattle.zone_text.proofs.ScanReads.{Reads, reads, EscapeAt, RanOut, EndsNone, ends, closes, runs_out, in_quote, in_escape, in_quoted_escape, then_more, escape_is_bad}
-use Rattle.zone_text.proofs.ScanSteps.{further_on, rises}
 use Rattle.zone_text.proofs.Fronts.{HasRoom, Takes, Ends as EndsAt}
 
 -- ---- what the last step says

@@ -1,5 +1,5 @@
 -- Items that stand as they are printed are the items of one line.
-use Rattle.zone_text.proofs.Common.{AllByRecursion, IfSome, IsItem, IsUnit, List, Token, Written, [], ap, append_assoc, arith, bare, ends_item, false, flat_map, is_blank, item_of, join_with_byte, length, line_of, map, quoted, refl, rules, slice_get, sym, text, text_of, token_text, written_text, ℕ, ◌++◌, ◌<◌, ◌∷◌, ◌≡◌, ◌≢◌}
+use Rattle.zone_text.proofs.Common.{AllByRecursion, IfSome, IsItem, IsUnit, List, Token, Written, [], ap, append_assoc, arith, bare, ends_item, false, flat_map, is_blank, item_of, join_with_byte, length, line_of, map, quoted, refl, rules, slice_get, sym, text, token_text, written_text, ℕ, ◌++◌, ◌<◌, ◌∷◌, ◌≡◌, ◌≢◌}
 use Rattle.zone_name.proofs.Bare.{StandsBare, not_bare}
 use Rattle.zone_rdata.specs.Spelling.{RawItem}
 use Rattle.zone_rdata.specs.Spelling as raw
@@ -73,9 +73,6 @@ tokens_of items stand = record { tokens = tokens_for items stand; each = are_for
 -- an octet with which an entry begins that has an owner of its own
 abbrev pub BeginsOwner : ℕ → Type 0
 BeginsOwner c = (is_blank c ≡ false) × (c ≢ 36)
-
-unit_begins : (w : Written) (rest : List ℕ) → IsUnit not_bare w → IfSome (slice_get (text_of w ++ rest) 0) BeginsOwner
-unit_begins w rest is = search rules
 
 units_begin : (units : List Written) (rest : List ℕ) → 0 < length units → AllByRecursion (IsUnit not_bare) units → IfSome (slice_get (written_text units ++ rest) 0) BeginsOwner
 units_begin [] rest some each = absurd (omega arith)

@@ -1,5 +1,5 @@
 -- Where names, questions and records of a message end, and the first fault before that.
-use Rattle.zone_wire.proofs.Common.{Err, Fault, List, Ok, Outcome, Result, and_then, ap, arith, get_or, length, name_end_of, named, outcome, part_end_of, record_at, records_from, refused, run_end_of, subst, sym, u16_at, walk, ℕ, ◌+◌, ◌-◌, ◌<◌, ◌∷◌, ◌≡◌, ◌≤◌}
+use Rattle.zone_wire.proofs.Common.{Err, Fault, List, Ok, Outcome, Result, and_then, ap, arith, get_or, length, name_end_of, named, outcome, part_end_of, record_at, records_from, refused, run_end_of, subst, sym, walk, ℕ, ◌+◌, ◌-◌, ◌<◌, ◌∷◌, ◌≡◌, ◌≤◌}
 use Rattle.zone_wire.proofs.Walking.{walk_names, name_bounds}
 
 ended_inside : (message : List ℕ) (offset : ℕ) → ((k : ℕ) → get_or message k 0 < 256) → (o : Outcome) → outcome message (walk message offset) ≡ o → (end : ℕ) → Ok end ≡ name_end_of o → end ≤ length message
@@ -11,10 +11,6 @@ ended_inside message offset each (refused fault steps) e end ends = cc
 -- a name ends inside its message
 pub name_ends_inside : (message : List ℕ) (offset : ℕ) → ((k : ℕ) → get_or message k 0 < 256) → (end : ℕ) → Ok end ≡ name_end_of (outcome message (walk message offset)) → end ≤ length message
 name_ends_inside message offset each end ends = grind (arith, ended_inside)
-
--- the offset after a record whose name ends here
-abbrev pub past_record : List ℕ → ℕ → ℕ
-past_record octets end = end + 10 + u16_at octets (end + 8)
 
 same_end : {X : Type 0} (x : X) (r : Result (List X × ℕ) (Fault × ℕ)) → run_end_of (and_then r (λ others. Ok (x ∷ others.0, others.1))) ≡ run_end_of r
 same_end x r = grind arith

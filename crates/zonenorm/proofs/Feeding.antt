@@ -1,5 +1,5 @@
 -- From what was taken of the octets that a reader gave to what the reader's octets are read as.
-use Rattle.zonenorm.proofs.Common.{◌≡◌, ℕ, ◌<◌, ◌≤◌, ◌+◌, true, List, [], ◌++◌, length, length-append, sym, ap, ◌∙◌, subst, append-nil, arith, ◌==◌, Option, None, IfSome, Consumes, AllByRecursion, Octets, Record, Held, Pending, Fault, InputTooLong, Place, Whole, Stop, Zone, ReadAs, input_of, input_octets, IsInput, IsForm, all_taken, BeginsAs, IsLoadedOf, ReadsZone, ReadsZoneWithin, RefusesRead, IsOfBytes, IsOfReading, IfRefused, IsRefusalWithin, too_long, reading, TellsRead, common_steps, Consumes-trans, form_of, ◌∷◌, refl, eqb-true, Some, Refused, Read, Write, as_file, as_transfer}
+use Rattle.zonenorm.proofs.Common.{◌≡◌, ℕ, ◌<◌, ◌≤◌, ◌+◌, true, List, [], ◌++◌, length, length-append, sym, ap, ◌∙◌, subst, append-nil, arith, ◌==◌, Option, None, IfSome, Consumes, AllByRecursion, Octets, Record, Held, Pending, Fault, InputTooLong, Place, Whole, Stop, Zone, ReadAs, input_of, input_octets, IsInput, IsForm, all_taken, BeginsAs, IsLoadedOf, ReadsZone, ReadsZoneWithin, RefusesRead, IsOfBytes, IsOfReading, IfRefused, IsRefusalWithin, too_long, reading, TellsRead, common_steps, Consumes-trans, form_of}
 use Rattle.zonenorm.specs.Form.{read_as}
 use Rattle.zonenorm.specs.declared.form.Form.{Form}
 use Rattle.zonenorm.specs.declared.form.Form.TheVariants.{File, Transfer}

@@ -1,5 +1,5 @@
 -- From what an order's call answers, and what is told of it, to what a run leaves.
-use Rattle.zonenorm.proofs.Common.{◌≡◌, ◌-◌, ◌^◌, ◌++◌, ℕ, List, [], length, min, subst, Global, Option, IfOk, IfSome, OnErr, Result, String, string_bytes, IsAtEnd, Fault, Place, Stop, Refused, Write, Memory, text_limit, IsFailedWrite, TellsWrite, Zone, Compares, ReadsWholeTo, StopsCompare, TellsReadOf, InputDenotes, explained, told, unexplained, untold, IsReported, TellsVerdict, Normalises, ReadsWhole, IfRefused, IsRefusal, read_as_with, AreCompared, Device, Devices, IsLeft, IsStopped, Runs, StopsNormalise, TellsLine, TellsRead, records_line, refusal_line, stop_line, verdict_line, which_words, WritesLine, WritesPartOfLine, Verdict, arith, Order, IfSome_then, Input, Octets, refl, ap, Ok, Err}
+use Rattle.zonenorm.proofs.Common.{◌≡◌, ◌-◌, ◌^◌, ◌++◌, ℕ, List, [], length, min, subst, Global, Option, IfOk, IfSome, OnErr, Result, String, string_bytes, IsAtEnd, Fault, Place, Stop, Refused, Write, Memory, text_limit, IsFailedWrite, TellsWrite, Zone, Compares, ReadsWholeTo, StopsCompare, TellsReadOf, InputDenotes, explained, told, unexplained, untold, IsReported, TellsVerdict, Normalises, ReadsWhole, IfRefused, IsRefusal, read_as_with, AreCompared, Device, Devices, IsLeft, IsStopped, Runs, StopsNormalise, TellsLine, TellsRead, records_line, refusal_line, stop_line, verdict_line, which_words, WritesLine, WritesPartOfLine, Verdict, arith, Order, IfSome_then, Input, Octets}
 use Rattle.zonenorm.specs.Explain.{accepted, refused, Explains, IsExplanation, StopsExplain}
 use Rattle.zonenorm.specs.Run as runs
 use Rattle.zonenorm.proofs.Telling.{told_as}

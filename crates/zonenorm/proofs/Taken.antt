@@ -1,6 +1,5 @@
 -- What is taken of an input that a source is fed.
-use Rattle.zonenorm.proofs.Common.{◌≡◌, ◌<◌, true, false, List, [], ◌∷◌, ◌++◌, refl, sym, ap, ◌∙◌, subst, append_assoc, append-nil, Option, Some, None, is_some, Result, IfOk, AllByRecursion, Octets, Record, Held, Pending, Fault, NoSoa, OutOfZone, Place, Whole, Stop, Refused, Placed, AddsEach, IsRefusedFor, leaves, TakesAll, StopsTaking, StopsFinish, no_soa, outside, IsFirstRefused, records_of, Zone, IsZone, ReadAs, input_of, InputReads, Decides, IsForm, IsLoaded, all_taken, front_refuses, nothing_pending, RefusesFront, by_record, by_ending, ReadsZone, RefusesRead, IsOfBytes, RefusesReading, refused, unread, unfinished, IfRefused, arith, rules, StandsForInput, Ok, Err, failure}
-use Rattle.zone_rdata.proofs.FedSources.{stands_given}
+use Rattle.zonenorm.proofs.Common.{◌≡◌, ◌<◌, true, false, List, [], ◌∷◌, ◌++◌, refl, sym, ap, ◌∙◌, subst, append_assoc, append-nil, Option, Some, None, is_some, Result, IfOk, AllByRecursion, Octets, Record, Held, Pending, Fault, NoSoa, OutOfZone, Place, Whole, Stop, Refused, Placed, AddsEach, IsRefusedFor, leaves, TakesAll, StopsTaking, StopsFinish, no_soa, outside, IsFirstRefused, records_of, Zone, IsZone, ReadAs, input_of, InputReads, Decides, IsForm, IsLoaded, all_taken, front_refuses, nothing_pending, RefusesFront, by_record, by_ending, ReadsZone, RefusesRead, IsOfBytes, RefusesReading, refused, unread, unfinished, IfRefused, arith, rules, StandsForInput}
 use Rattle.zone_set.specs.Builder.{refused as refused_record, ending as ending_fault}
 use Rattle.zonenorm.proofs.Accepted.{IsRefusedFor-same, StopsFinish-same, taken_accepted}
 use Rattle.zonenorm.proofs.Added.{added_all, AddsEach-append}

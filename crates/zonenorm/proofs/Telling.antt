@@ -1,5 +1,5 @@
 -- Lines that are written piece by piece.
-use Rattle.zonenorm.proofs.Common.{◌≡◌, ℕ, List, ◌++◌, append_assoc, subst, Option, Result, OnErr, OnOk, Appends, Appends-trans, AppendsPart, IsFailedWrite, Stop, Device, TellsLine, WritesLine, WritesPartOfLine, arith, sym, ap, ◌∙◌, Ok, Err, Write}
+use Rattle.zonenorm.proofs.Common.{◌≡◌, ℕ, List, ◌++◌, append_assoc, subst, Option, Result, OnErr, OnOk, Appends, Appends-trans, AppendsPart, IsFailedWrite, Stop, Device, TellsLine, WritesLine, WritesPartOfLine, arith}
 use Rattle.zone_print.proofs.Front.{some_more}
 
 -- a part of the front of a text is a part of the text
