@@ -5,7 +5,6 @@ use Rattle.zone_text.proofs.Inheriting.{has_no_ttl, has_ttl, next_minimum, recor
 -- ---- the owner
 
 module _ (origin : Labels) (before : List Entry) (entry : Entry) where
-
   -- an entry states the owner that became the last one
   pub has_stated_owner : (d : ParserState) (name : Labels) (owner : RawItem) (items : List RawItem) → statement_of entry ≡ owned owner items → IsStateAfter origin before d → IsOwner origin before (owned owner items) name → HasOwnerOrNone origin before entry (with_owner (Some name) d) items
   has_stated_owner d name owner items form so_far owns = grind arith
