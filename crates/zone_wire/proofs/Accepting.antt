@@ -1,10 +1,9 @@
 -- The records of a transfer stand in order, and those but the closing SOA are handed on.
-use Rattle.zone_wire.proofs.Common.{AllByRecursion, AreStatedMessages, Bool, List, Placed, Record, StatedMessage, [], ap, append-nil, append_assoc, arith, cond-true, false, filter, filter-append, flat_map, frame, handed_on, length, list_any, map, not, or_from, refl, rules, subst, true, ℕ, ◌++◌, ◌+◌, ◌==◌, ◌||◌, ◌∙◌, ◌∷◌, ◌≡◌, ◌≢◌, ◌≤◌}
+use Rattle.zone_wire.proofs.Common.{AllByRecursion, AreStatedMessages, Bool, List, Placed, Record, StatedMessage, [], ap, append-nil, append_assoc, arith, cond-true, false, filter, filter-append, flat_map, frame, handed_on, length, list_any, map, not, or_from, refl, rules, subst, true, ℕ, ◌++◌, ◌+◌, ◌==◌, ◌||◌, ◌∙◌, ◌∷◌, ◌≡◌, ◌≢◌, ◌≤◌, common_steps}
 use Rattle.zone_wire.proofs.Answering.{OpensWith, is_soa, InOrder, differ}
 
 pub all_append : {X : Type 0} (P : X → Type 0) (xs ys : List X) → AllByRecursion P xs → AllByRecursion P ys → AllByRecursion P (xs ++ ys)
-all_append P [] ys each also = also
-all_append P (x ∷ xs) ys each also = (each.0, all_append P xs ys each.1 also)
+all_append P xs ys each also = grind (arith, common_steps)
 
 -- records in order, in two parts
 pub in_order_parts : (zone : Record) (before xs ys : List Placed) → InOrder zone before (xs ++ ys) → InOrder zone before xs × InOrder zone (before ++ xs) ys
@@ -14,20 +13,13 @@ in_order_parts zone before (x ∷ xs) ys order =
     ((order.0, rest.0), subst (λ (b : List Placed). InOrder zone b ys) (append_assoc before (x ∷ []) xs) rest.1)
 
 pub opens_more : (zone : Record) (before here : List Placed) → OpensWith zone before → InOrder zone before here → OpensWith zone (before ++ here)
-opens_more zone [] [] opens order = tt
-opens_more zone [] (p ∷ here) opens order = order.0.0
-opens_more zone (opening ∷ before) here opens order = opens
+opens_more zone before here opens order = grind arith
 
 abbrev pub octets_of_parts : List StatedMessage → List (List ℕ)
 octets_of_parts parts = map (λ p. p.octets) parts
 
 pub any_append : (xs ys : List Placed) → list_any is_soa (xs ++ ys) ≡ (list_any is_soa xs || list_any is_soa ys)
-any_append [] ys = refl
-any_append (x ∷ xs) ys = ap (λ b. is_soa x || b) (any_append xs ys) ∙ or_assoc (is_soa x) (list_any is_soa xs) (list_any is_soa ys)
-  where
-    or_assoc : (a b c : Bool) → (a || (b || c)) ≡ ((a || b) || c)
-    or_assoc true b c = refl
-    or_assoc false b c = refl
+any_append xs ys = grind (arith, common_steps)
 
 -- an SOA, records that are none, and the SOA again are in order
 pub rest_in_order : (zone : Record) (opening closing : Placed) (done others : List Placed) → closing.rr ≡ opening.rr → list_any is_soa done ≡ false → AllByRecursion (λ (p : Placed). p.rr.kind ≢ 6) others → InOrder zone (opening ∷ done) (others ++ closing ∷ [])
@@ -48,7 +40,4 @@ short_parts id zone number [] are = tt
 short_parts id zone number (p ∷ parts) are = (are.0.short, short_parts id zone (number + 1) parts are.1)
 
 pub handed_transfer : (opening : Placed) (others : List Placed) (closing : Placed) → AllByRecursion (λ (p : Placed). p.rr.kind ≢ 6) others → closing.rr.kind ≡ 6 → handed_on (opening ∷ (others ++ closing ∷ [])) ≡ opening ∷ others
-handed_transfer opening others closing each soa =
-    let test = λ (p : Placed). not (p.rr.kind == 6) in
-    let none : filter test (closing ∷ []) ≡ [] = cc in
-    grind (arith, filter-append, others_kept, append-nil)
+handed_transfer opening others closing each soa = grind (arith, filter-append, others_kept, append-nil)

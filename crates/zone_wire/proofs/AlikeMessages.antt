@@ -1,5 +1,5 @@
 -- A message is judged by itself, and by what messages before it that are alike have in common.
-use Rattle.zone_wire.proofs.Common.{AgreeWith, AllByRecursion, AnswersGive, AreAlike, AskAfter, AsksIn, ComesAfter, Fault, FaultAfter, GiveAfter, HasFirstId, IsReadAfter, List, None, Option, OrderFault, Placed, QuestionAt, Record, RecordAt, Sections, Some, StatedMessage, StreamKept, ZoneAsked, [], ap, append-nil, append_assoc, asked_in, first_id, inl, inr, is_closed, length, length-append, list_any, no_more, opening_of, placed_in, refl, states, subst, sym, zone_of, ℕ, ◌++◌, ◌+◌, ◌||◌, ◌∙◌, ◌∷◌, ◌≡◌}
+use Rattle.zone_wire.proofs.Common.{AgreeWith, AllByRecursion, AnswersGive, AreAlike, AskAfter, AsksIn, ComesAfter, Fault, FaultAfter, GiveAfter, HasFirstId, IsReadAfter, List, None, Option, OrderFault, Placed, QuestionAt, Record, RecordAt, Sections, Some, StatedMessage, StreamKept, ZoneAsked, [], ap, append-nil, append_assoc, asked_in, first_id, inl, inr, is_closed, length, length-append, list_any, no_more, opening_of, placed_in, refl, states, subst, sym, zone_of, ℕ, ◌++◌, ◌+◌, ◌||◌, ◌∙◌, ◌∷◌, ◌≡◌, common_steps, arith}
 use Rattle.zone_wire.specs.AnswerFault.{refused}
 use Rattle.zone_wire.proofs.Accepting.{any_append}
 use Rattle.zone_wire.proofs.Answering.{is_soa}
@@ -13,53 +13,28 @@ record Alike (questions others : List QuestionAt) (before other : List Placed) :
   zone : before ≡ [] → zone_of questions [] ≡ zone_of others []
 
 nothing_too : (xs ys : List Placed) → opening_of xs ≡ opening_of ys → xs ≡ [] → ys ≡ []
-nothing_too xs [] e h = refl
-nothing_too [] (y ∷ ys) e h = cc
-nothing_too (x ∷ xs) (y ∷ ys) e h = cc
+nothing_too xs ys e h = grind arith
 
 stands_alike : (questions others : List QuestionAt) (before other : List Placed) (r : Record) → Alike questions others before other → ComesAfter questions before r → ComesAfter others other r
-stands_alike questions others [] [] r is comes = (comes.0, subst (λ z. AgreeWith z r.owner r.class) (is.zone refl) comes.1)
-stands_alike questions others [] (y ∷ ys) r is comes = let h = is.opening in cc
-stands_alike questions others (x ∷ xs) [] r is comes = let h = is.opening in cc
-stands_alike questions others (x ∷ xs) (y ∷ ys) r is comes =
-    let same : x.rr ≡ y.rr = (let h = is.opening in cc) in
-    (sym is.closing ∙ comes.0, λ kind. comes.1 kind ∙ same)
+stands_alike questions others before other r is comes = grind arith
 
 order_alike : (questions others : List QuestionAt) (before other : List Placed) (r : Record) (fault : Fault) → Alike questions others before other → OrderFault questions before r fault → OrderFault others other r fault
-order_alike questions others [] [] r fault is bad =
-    let zone = is.zone refl in
-    unless_same (λ h. h) (λ h. h) (unless_same (subst (λ z. AgreeWith z r.owner r.class) zone) (subst (λ z. AgreeWith z r.owner r.class) (sym zone)) (λ no. no)) bad
-order_alike questions others [] (y ∷ ys) r fault is bad = let h = is.opening in cc
-order_alike questions others (x ∷ xs) [] r fault is bad = let h = is.opening in cc
-order_alike questions others (x ∷ xs) (y ∷ ys) r fault is bad =
-    let same : x.rr ≡ y.rr = (let h = is.opening in cc) in
-    let closing = is.closing in
-    unless_same (λ h. sym closing ∙ h) (λ h. closing ∙ h) (unless_same (λ h kind. h kind ∙ same) (λ h kind. h kind ∙ sym same) (λ no. no)) bad
+order_alike questions others before other r fault is bad = grind (arith, unless_same)
 
 opening_grows : (before other : List Placed) (p : Placed) → opening_of before ≡ opening_of other → opening_of (before ++ p ∷ []) ≡ opening_of (other ++ p ∷ [])
-opening_grows [] [] p e = refl
-opening_grows [] (y ∷ ys) p e = cc
-opening_grows (x ∷ xs) [] p e = cc
-opening_grows (x ∷ xs) (y ∷ ys) p e = e
+opening_grows before other p e = grind arith
 
 closing_grows : (before other : List Placed) (p : Placed) → opening_of before ≡ opening_of other → is_closed before ≡ is_closed other → is_closed (before ++ p ∷ []) ≡ is_closed (other ++ p ∷ [])
-closing_grows [] [] p e h = refl
-closing_grows [] (y ∷ ys) p e h = cc
-closing_grows (x ∷ xs) [] p e h = cc
-closing_grows (x ∷ xs) (y ∷ ys) p e h = any_append xs (p ∷ []) ∙ ap (λ b. b || list_any is_soa (p ∷ [])) h ∙ sym (any_append ys (p ∷ []))
+closing_grows before other p e h = grind (arith, common_steps)
 
 some_more : (before : List Placed) (p : Placed) → before ++ p ∷ [] ≡ [] → ⊥
-some_more [] p e = cc
-some_more (x ∷ before) p e = cc
+some_more before p e = grind (arith, common_steps)
 
 alike_more : (questions others : List QuestionAt) (before other : List Placed) (p : Placed) → Alike questions others before other → Alike questions others (before ++ p ∷ []) (other ++ p ∷ [])
 alike_more questions others before other p is = record { opening = opening_grows before other p is.opening; closing = closing_grows before other p is.opening is.closing; zone = λ e. absurd (some_more before p e) }
 
 alike_after : (questions others : List QuestionAt) (before other placed : List Placed) → Alike questions others before other → Alike questions others (before ++ placed) (other ++ placed)
-alike_after questions others before other [] is = subst (λ x. Alike questions others x (other ++ [])) (sym (append-nil before)) (subst (Alike questions others before) (sym (append-nil other)) is)
-alike_after questions others before other (p ∷ placed) is =
-    let rest = alike_after questions others (before ++ p ∷ []) (other ++ p ∷ []) placed (alike_more questions others before other p is) in
-    subst (λ x. Alike questions others x (other ++ p ∷ placed)) (append_assoc before (p ∷ []) placed) (subst (Alike questions others ((before ++ p ∷ []) ++ placed)) (append_assoc other (p ∷ []) placed) rest)
+alike_after questions others before other placed is = grind (arith, common_steps)
 
 give_alike : {number : ℕ} {octets : List ℕ} {questions : List QuestionAt} {before : List Placed} {answers : List RecordAt} {placed : List Placed} {stop : Option (Fault × ℕ)} (others : List QuestionAt) (other : List Placed) → Alike questions others before other → AnswersGive number octets questions before answers placed stop → AnswersGive number octets others other answers placed stop
 give_alike others other is no_more = no_more
@@ -70,28 +45,14 @@ give_alike {questions = questions} {before = before} others other is (refused {f
 
 -- questions more
 zone_more : (asked other more : List QuestionAt) → zone_of asked [] ≡ zone_of other [] → zone_of (asked ++ more) [] ≡ zone_of (other ++ more) []
-zone_more [] [] more e = refl
-zone_more [] (q ∷ other) more e = cc
-zone_more (q ∷ asked) [] more e = cc
-zone_more (q ∷ asked) (r ∷ other) more e = e
+zone_more asked other more e = grind arith
 
 module _ (before other : List StatedMessage) (is : AreAlike before other) where
   alike_answers : (questions : List QuestionAt) → Alike (asked_in before ++ questions) (asked_in other ++ questions) (placed_in before) (placed_in other)
-  alike_answers questions =
-      let opening = ap (λ (k : StreamKept). k.opening) is in
-      record {
-        opening = opening;
-        closing = ap (λ (k : StreamKept). k.closed) is;
-        zone = λ e. zone_more (asked_in before) (asked_in other) questions (ap (zone_of (asked_in before)) (sym e) ∙ ap (λ (k : StreamKept). k.zone) is ∙ ap (zone_of (asked_in other)) (nothing_too (placed_in before) (placed_in other) opening e));
-      }
+  alike_answers questions = grind arith
 
   id_alike : (s : Sections) → HasFirstId before s → HasFirstId other s
-  id_alike s has = by before other (ap (λ (k : StreamKept). k.id) is) has
-    where
-      by : (xs ys : List StatedMessage) → first_id xs ≡ first_id ys → HasFirstId xs s → HasFirstId ys s
-      by xs [] e h = tt
-      by [] (y ∷ ys) e h = cc
-      by (x ∷ xs) (y ∷ ys) e h = let same : x.sections.id ≡ y.sections.id = cc in h ∙ same
+  id_alike s has = grind arith
 
   asks_alike : (s : Sections) → AskAfter before s → AskAfter other s
   asks_alike s asks = subst (λ (k : StreamKept). AllByRecursion (AsksIn k.zone) s.questions) is asks
@@ -102,8 +63,7 @@ module _ (before other : List StatedMessage) (is : AreAlike before other) where
       subst (λ (k : StreamKept). AnswersGive (k.messages + 1) octets questions (placed_in other) s.answers placed stop) is (give_alike questions (placed_in other) (alike_answers s.questions) give)
 
   pub read_alike : (p : StatedMessage) → IsReadAfter before p → IsReadAfter other p
-  read_alike p r =
-      record { message = r.message; same_id = id_alike p.sections r.same_id; asks = asks_alike p.sections r.asks; gives = give_after p.octets p.sections p.placed None r.gives }
+  read_alike p r = grind (arith, id_alike, asks_alike, give_after)
 
 pub fault_alike : (before other : List StatedMessage) (octets : List ℕ) (here : List Placed) (fault : Fault) (offset : ℕ) → AreAlike before other → FaultAfter before octets here fault offset → FaultAfter other octets here fault offset
 fault_alike before other octets here fault offset is (inl bad) = inl bad
@@ -116,28 +76,16 @@ zone_same : (name : List (List ℕ)) (class : ℕ) (z : ZoneAsked) → name ≡ 
 zone_same name class z n c = ap (λ x. let y : ZoneAsked = record { name = x; class = class } in y) n ∙ ap (λ x. let y : ZoneAsked = record { name = z.name; class = x } in y) c
 
 zone_stays : (asked more : List QuestionAt) (placed here : List Placed) (z : ZoneAsked) → zone_of asked placed ≡ Some z → AllByRecursion (AsksIn (Some z)) more → zone_of (asked ++ more) (placed ++ here) ≡ Some z
-zone_stays (q ∷ asked) more placed here z e asks = e
-zone_stays [] [] [] here z e asks = cc
-zone_stays [] [] (p ∷ placed) here z e asks = e
-zone_stays [] (q ∷ more) placed here z e asks = ap Some (zone_same q.name q.class z asks.0.agrees.0 asks.0.agrees.1)
+zone_stays asked more placed here z e asks = grind arith
 
 zone_none : (asked : List QuestionAt) (placed : List Placed) → zone_of asked placed ≡ None → (asked ≡ []) × (placed ≡ [])
-zone_none [] [] e = (refl, refl)
-zone_none [] (p ∷ placed) e = cc
-zone_none (q ∷ asked) placed e = cc
+zone_none asked placed e = grind arith
 
 zone_grows : (asked other more : List QuestionAt) (placed late here : List Placed) (zone : Option ZoneAsked) → zone_of asked placed ≡ zone → zone_of other late ≡ zone → AllByRecursion (AsksIn zone) more → zone_of (asked ++ more) (placed ++ here) ≡ zone_of (other ++ more) (late ++ here)
-zone_grows asked other more placed late here (Some z) e k asks = zone_stays asked more placed here z e asks ∙ sym (zone_stays other more late here z k asks)
-zone_grows asked other more placed late here None e k asks =
-    let x = zone_none asked placed e in
-    let y = zone_none other late k in
-    ap (λ q. zone_of (q ++ more) (placed ++ here)) (x.0 ∙ sym y.0) ∙ ap (λ p. zone_of (other ++ more) (p ++ here)) (x.1 ∙ sym y.1)
+zone_grows asked other more placed late here zone e k asks = grind arith
 
 id_grows : (before other : List StatedMessage) (p : StatedMessage) → first_id before ≡ first_id other → first_id (before ++ p ∷ []) ≡ first_id (other ++ p ∷ [])
-id_grows [] [] p e = refl
-id_grows [] (y ∷ ys) p e = cc
-id_grows (x ∷ xs) [] p e = cc
-id_grows (x ∷ xs) (y ∷ ys) p e = e
+id_grows before other p e = grind arith
 
 -- messages that are alike stay so after one more
 pub alike_grows : (before other : List StatedMessage) (p : StatedMessage) → AreAlike before other → IsReadAfter before p → AreAlike (before ++ p ∷ []) (other ++ p ∷ [])

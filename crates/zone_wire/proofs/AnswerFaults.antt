@@ -60,23 +60,15 @@ other_records : (r s : Record) → not (same_record r s) ≡ true → r ≢ s
 other_records r s e same = grind (arith, records_same)
 
 kept_soa : (r : Record) (opening : Placed) → other_soa_test r opening ≡ false → r.kind ≡ 6 → r ≡ opening.rr
-kept_soa r opening e kind = elim (and_cases (r.kind == 6) (not (same_record r opening.rr)) e) [
-  | inl none ↦ (let yes = eq-eqb r.kind 6 kind in let t : ⊥ = cc in absurd t)
-  | inr same ↦ records_equal r opening.rr (not-false _ same)
-]
+kept_soa r opening e kind = grind (arith, and_cases, eq-eqb, records_equal, not-false)
 
 other_soa_false : (r : Record) (opening : Placed) → (r.kind ≡ 6 → r ≡ opening.rr) → other_soa_test r opening ≡ false
 other_soa_false r opening same = grind (arith, other_records)
 
 -- a record after others is refused with its first fault
 pub order_faults : (questions : List QuestionAt) (before : List Placed) (r : Record) (fault : Fault) → order_fault questions before r ≡ Some fault → OrderFault questions before r fault
-order_faults questions [] r fault e =
-    option_unless (not (r.kind == 6)) NoOpeningSoa _ fault (not_other r.kind 6) (same_by r.kind 6) (λ _ h.
-    let last = last_test (agrees (zone_of questions []) r.owner r.class) BadQuestion fault h in
-    subst (Unless (AgreeWith (zone_of questions []) r.owner r.class) BadQuestion NoFault) last.1 (fails (disagrees (zone_of questions []) r.owner r.class last.0))) e
-order_faults questions (opening ∷ others) r fault e = grind (arith, option_unless, list_any, other_soa_false, kept_soa)
+order_faults questions before r fault e = grind (arith, option_unless, not_other, same_by, last_test, disagrees, other_soa_false, kept_soa, agrees, zone_of, fails)
 
 -- a record that isn't refused stands after others
 pub order_stands : (questions : List QuestionAt) (before : List Placed) (r : Record) → order_fault questions before r ≡ None → ComesAfter questions before r
-order_stands questions [] r e = grind (arith, agrees_by)
-order_stands questions (opening ∷ others) r e = grind (arith, kept_soa)
+order_stands questions before r e = grind (arith, agrees_by, kept_soa)

@@ -15,11 +15,7 @@ pub names_same : (n m : List (List ℕ)) → n ≡ m → same_name n m ≡ true
 names_same n m e = (pointwise_decides bytes_decides n m).1 e
 
 pub records_same : (r s : Record) → r ≡ s → same_record r s ≡ true
-records_same r s e =
-    let place : (same_name s.owner s.owner && s.class == s.class) ≡ true = and_from (same_name s.owner s.owner) (s.class == s.class) (names_same s.owner s.owner refl) (eq-eqb s.class s.class refl) in
-    let head : (same_name s.owner s.owner && s.class == s.class && s.kind == s.kind && s.ttl == s.ttl) ≡ true = search rules in
-    let own : same_record s s ≡ true = search rules in
-    ap (λ x. same_record x s) e ∙ own
+records_same r s e = search (rules, true, and_from, names_same, eq-eqb)
 
 -- records, if there are any, begin with the zone's SOA
 abbrev pub OpensWith : Record → List Placed → Type 0

@@ -58,18 +58,11 @@ carries_label {message} {offset} {spot} {labels} {end} {steps} size c e =
 
 -- where a pointer leads
 pub carries_pointer : {message : List ℕ} {offset : ℕ} {spot : Spot} {labels : List (List ℕ)} {end : Option ℕ} {steps : ℕ} (target : ℕ) → Carries message offset spot labels end steps → standing_in message spot ≡ Some (at_pointer target) → Carries message offset (past_pointer spot target) labels (Some (unwrap_or end (spot.offset + 2))) (steps + 1)
-carries_pointer {message} {offset} {spot} {labels} {end} {steps} target c e =
-    let r = reaches (Some (at_pointer target)) c e in
-    let shows : Shows message spot (Some (at_pointer target)) = subst (Shows message spot) e (standing_shows message spot) in
-    search rules
+carries_pointer {message} {offset} {spot} {labels} {end} {steps} target c e = grind (arith, reaches (Some (at_pointer target)) c e, standing_shows message spot)
 
 -- at the root
 pub carries_root : {message : List ℕ} {offset : ℕ} {spot : Spot} {labels : List (List ℕ)} {end : Option ℕ} {steps : ℕ} → Carries message offset spot labels end steps → standing_in message spot ≡ Some at_root → outcome message (walk message offset) ≡ named (record { labels = labels; end = unwrap_or end (spot.offset + 1); steps = steps + 1; pointers = spot.pointers })
-carries_root {message} {offset} {spot} {labels} {end} {steps} c e =
-    let r = reaches (Some at_root) c e in
-    let front : labels ++ [] ≡ labels = append-nil labels in
-    let none : spot.pointers + 0 ≡ spot.pointers = omega arith in
-    cc (r.whole)
+carries_root {message} {offset} {spot} {labels} {end} {steps} c e = grind (arith, reaches (Some at_root) c e, append-nil labels)
 
 -- at a fault
 pub carries_bad : {message : List ℕ} {offset : ℕ} {spot : Spot} {labels : List (List ℕ)} {end : Option ℕ} {steps : ℕ} (fault : Fault) → Carries message offset spot labels end steps → standing_in message spot ≡ Some (at_fault fault) → outcome message (walk message offset) ≡ refused fault (steps + 1)

@@ -1,27 +1,21 @@
 -- Conditions in an order, and the tests that decide them.
-use Rattle.zone_wire.proofs.Common.{AllByRecursion, Bool, Err, List, Option, Result, Some, Unless, [], and_from, and_parts, fails, false, holds, if◌then◌else◌, list_all, refl, subst, true, ◌∷◌, ◌≡◌}
+use Rattle.zone_wire.proofs.Common.{AllByRecursion, Bool, Err, List, Option, Result, Some, Unless, [], and_from, and_parts, fails, false, holds, if◌then◌else◌, list_all, refl, subst, true, ◌∷◌, ◌≡◌, arith}
 
 -- conditions have one first fault
 pub unless_one : {E Holds : Type 0} {next : E → Type 0} {first e f : E} → ((a b : E) → next a → next b → a ≡ b) → Unless Holds first next e → Unless Holds first next f → e ≡ f
-unless_one go (fails x) (fails y) = refl
-unless_one go (fails x) (holds y more) = absurd (x y)
-unless_one go (holds x more) (fails y) = absurd (y x)
-unless_one go (holds x more) (holds y others) = go _ _ more others
+unless_one go b given = grind arith
 
 -- one that holds leaves the fault to those after it
 pub unless_holds : {E Holds : Type 0} {own : E} {next : E → Type 0} {e : E} → Holds → Unless Holds own next e → next e
-unless_holds is (fails x) = absurd (x is)
-unless_holds is (holds x more) = more
+unless_holds is given = grind arith
 
 -- what holds of each fault
 pub unless_each : {E Holds : Type 0} {own : E} {next : E → Type 0} {e : E} (P : E → Type 0) → P own → (next e → P e) → Unless Holds own next e → P e
-unless_each P here later (fails x) = here
-unless_each P here later (holds x more) = later more
+unless_each P here later given = grind arith
 
 -- conditions that mean the same
 pub unless_same : {E Holds Other : Type 0} {own : E} {next after : E → Type 0} {e : E} → (Holds → Other) → (Other → Holds) → (next e → after e) → Unless Holds own next e → Unless Other own after e
-unless_same to from go (fails x) = fails (λ y. x (from y))
-unless_same to from go (holds x more) = holds (to x) (go more)
+unless_same to from go given = grind (arith, fails, holds)
 
 -- a test, and those after it
 pub option_unless : {E Holds : Type 0} {next : E → Type 0} (test : Bool) (own : E) (rest : Option E) (e : E) → (Holds → test ≡ false) → (test ≡ false → Holds) → (Holds → rest ≡ Some e → next e) → (if test then Some own else rest) ≡ Some e → Unless Holds own next e

@@ -1,5 +1,5 @@
 -- The faults of a record's data are those at which its fields stop being read.
-use Rattle.zone_wire.proofs.Common.{BadRdata, DataFault, Err, Fault, Field, FieldFault, FieldValue, FieldsFault, IsFieldAt, List, MatchOption, Name, None, Octets, Ok, OneString, Option, Outcome, RecordAt, Result, Serial, Some, Strings, Time, U16, [], and_then, ap, data_at, eq-eqb, field_at, flat_map, get_or, inl, inr, layout, leb-false, length, name, name_before, named, nat_eq, nat_le, nat_lt, octets_between, octets_of, outcome, pointwise, refl, refused, sized_before, slice_index, strings, strings_before, strings_of, subst, sym, true, value_at, values_at, walk, with_length, ℕ, ◌&&◌, ◌+◌, ◌<◌, ◌==◌, ◌∙◌, ◌∷◌, ◌≡◌, ◌≤◌}
+use Rattle.zone_wire.proofs.Common.{BadRdata, DataFault, Err, Fault, Field, FieldFault, FieldValue, FieldsFault, IsFieldAt, List, MatchOption, Name, None, Octets, Ok, OneString, Option, Outcome, RecordAt, Result, Serial, Some, Strings, Time, U16, [], and_then, ap, data_at, eq-eqb, field_at, flat_map, get_or, inl, inr, layout, leb-false, length, name, name_before, named, nat_eq, nat_le, nat_lt, octets_between, octets_of, outcome, pointwise, refl, refused, sized_before, slice_index, strings, strings_before, strings_of, subst, sym, true, value_at, values_at, walk, with_length, ℕ, ◌&&◌, ◌+◌, ◌<◌, ◌==◌, ◌∙◌, ◌∷◌, ◌≡◌, ◌≤◌, arith}
 use Rattle.zone_wire.proofs.Fielding.{value_reads}
 use Rattle.zone_wire.proofs.MessageFaults.{err_same, fails_test, stops, name_refused}
 use Rattle.zone_wire.proofs.ReadFields.{value_shows}
@@ -64,11 +64,7 @@ module _ (octets : List ℕ) (each : (k : ℕ) → get_or octets k 0 < 256) (end
       ]
 
   layout_fault : (start : ℕ) (fault : Fault) (o : Option (List Field)) → (let r : Result (List ℕ) Fault = elim o [ None ↦ Ok (octets_between octets start end) | Some fields ↦ and_then (values_at octets end start fields) (λ values. Ok (octets_of values)) ] in r) ≡ Err fault → MatchOption o ⊥ (λ fields. FieldsFault octets end fields start fault)
-  layout_fault start fault None e = cc
-  layout_fault start fault (Some fields) e = elim (stops (values_at octets end start fields) _ fault e) [
-    | inl h ↦ values_fault fields start fault h
-    | inr h ↦ (let t : ⊥ = cc in absurd t)
-  ]
+  layout_fault start fault o e = grind (arith, stops, values_fault)
 
 -- data that is refused has this first fault
 pub data_faults : (octets : List ℕ) (a : RecordAt) (fault : Fault) → ((k : ℕ) → get_or octets k 0 < 256) → a.end ≤ length octets → data_at octets a ≡ Err fault → DataFault octets a fault

@@ -1,5 +1,5 @@
 -- The data of a record is read into a builder.
-use Rattle.zone_wire.proofs.Common.{AllByRecursion, Awaits, AwaitsStrings, BadRdata, Built, Err, Fault, Field, FieldValue, HoldEach, Holds, IsNext, IsPushFault, IsRead, IsReadyFor, IsRecordAt, IsSized, IsWhole, List, None, Ok, Option, Pushes, PutsValue, PutsValues, RawRecord, RecordAt, Result, Some, Strings, Suits, [], and_then, ap, append-nil, append_assoc, arith, cond-false, cond-true, data_at, drop, drop_all, ends_with_strings, eq-eqb, false, field_octets, fixed, flat_map, flat_map-append, get_or, if◌then◌else◌, inl, inr, layout, length, length-append, length-take, long_string, misplaced, name, nat_tests, octets_between, octets_of, octets_push, option_or, part_at, parts_for, put_after, refl, slice_get, strings, subst, suc, sym, table_row, too_long, u16_value, u32_value, value_at, values_at, zero, ℕ, ◌*◌, ◌++◌, ◌+◌, ◌-◌, ◌<◌, ◌==◌, ◌∙◌, ◌∷◌, ◌≡◌, ◌≢◌, ◌≤◌}
+use Rattle.zone_wire.proofs.Common.{AllByRecursion, Awaits, AwaitsStrings, BadRdata, Built, Err, Fault, Field, FieldValue, HoldEach, Holds, IsNext, IsPushFault, IsRead, IsReadyFor, IsRecordAt, IsSized, IsWhole, List, None, Ok, Option, Pushes, PutsValue, PutsValues, RawRecord, RecordAt, Result, Some, Strings, Suits, [], and_then, ap, append-nil, append_assoc, arith, cond-false, cond-true, data_at, drop, drop_all, ends_with_strings, eq-eqb, false, field_octets, fixed, flat_map, flat_map-append, get_or, if◌then◌else◌, inl, inr, layout, length, length-append, length-take, long_string, misplaced, name, nat_tests, octets_between, octets_of, octets_push, option_or, part_at, parts_for, put_after, refl, slice_get, strings, subst, suc, sym, table_row, too_long, u16_value, u32_value, value_at, values_at, zero, ℕ, ◌*◌, ◌++◌, ◌+◌, ◌-◌, ◌<◌, ◌==◌, ◌∙◌, ◌∷◌, ◌≡◌, ◌≢◌, ◌≤◌, common_steps}
 use Rattle.zone_rdata.proofs.AnyField.{field_short}
 use Rattle.zone_wire.proofs.ReadFields.{value_shows, values_show}
 use Rattle.zone_wire.proofs.MessageFaults.{and_then_err}
@@ -78,20 +78,7 @@ module _ (octets : List ℕ) (each : (k : ℕ) → get_or octets k 0 < 256) (end
       }
 
   strings_ready : (now : Built) (count place : ℕ) (field : Field) → end ≤ start + 65535 → fields ≡ Strings ∷ [] → slice_get fields count ≡ Some field → HaveValues octets end start fields old now count place → IsReadyFor octets end place now field
-  strings_ready now count place field short alone here h =
-      let only = only_strings count field (ap (λ fs. slice_get fs count) (sym alone) ∙ here) in
-      let none : h.values ≡ [] = nothing h.values (h.number ∙ only.0) in
-      let parts : now.parts ≡ [] = own_parts now count place h ∙ ap (flat_map parts_for) none in
-      let row : layout now.class now.kind ≡ Some (Strings ∷ []) = same_laid now count place h ∙ ap Some alone in
-      let ready : AwaitsStrings end place now = record {
-        next = λ n part suits. subst (λ o. IsNext o (length now.parts + n) part) (sym row) (subst (λ o. Suits o part) (sym (strings_next (length now.parts + n))) suits);
-        room = omega (arith, h.past, ap (λ ps. length (octets_of ps)) parts);
-      } in
-      subst (IsReadyFor octets end place now) (sym only.1) ready
-    where
-      nothing : (values : List FieldValue) → length values ≡ 0 → values ≡ []
-      nothing [] e = refl
-      nothing (v ∷ values) e = absurd (omega arith)
+  strings_ready now count place field short alone here h = grind (arith, common_steps)
 
   pub field_ready : (now : Built) (count place : ℕ) (field : Field) → end ≤ start + 65535 → slice_get fields count ≡ Some field → HaveValues octets end start fields old now count place → IsReadyFor octets end place now field
   field_ready now count place field short here h = elim (subst IsRow laid (each_row old.class old.kind)) [
@@ -128,10 +115,7 @@ module _ (octets : List ℕ) (each : (k : ℕ) → get_or octets k 0 < 256) (end
   field_bad now count place field fault here h e = h.fails fault (ap (values_at octets end place) (from_here fields count field here) ∙ and_then_err (value_at octets end place field) fault _ e)
 
   pub left_over : (now : Built) (count place : ℕ) → slice_get fields count ≡ None → place < end → HaveValues octets end start fields old now count place → values_at octets end start fields ≡ Err BadRdata
-  left_over now count place here some h = h.fails BadRdata (ap (values_at octets end place) (none_here fields count here) ∙ cond-false _ _ _ (differs place end (omega arith)))
-    where
-      differs : (a b : ℕ) → a < b → (a == b) ≡ false
-      differs a b h = grind (arith, nat_tests)
+  left_over now count place here some h = grind (arith, common_steps)
 
   parts_whole : (fs : List Field) (values : List FieldValue) → HoldEach fs values → length fs ≤ length (flat_map parts_for values)
   parts_whole [] [] held = omega arith
@@ -204,17 +188,7 @@ module _ (octets : List ℕ) (a : RecordAt) (class kind : ℕ) (same_class : cla
   values_are_refused fields fault row e = laid_data octets a fields (record_laid (Some fields) row) ∙ and_then_err (values_at octets a.end a.start fields) fault _ e
 
   pub octets_are_read : (now : Built) → None ≡ layout class kind → Pushes old (fixed (octets_between octets a.start a.end)) now → IsRead octets a now
-  octets_are_read now row p =
-      let part : List FieldValue = fixed (octets_between octets a.start a.end) ∷ [] in
-      let own = own_class now part p.made in
-      let laid = record_laid None row in
-      let parts = no_parts now part p.made in
-      record {
-        class = own.0;
-        kind = own.1;
-        read = opaque_data octets a laid ∙ ap Ok (sym (append-nil (octets_between octets a.start a.end)) ∙ ap octets_of (sym parts));
-        whole = subst (λ o. IsWhole o now.parts) (sym laid ∙ ap (λ n. layout n a.kind) (sym own.0) ∙ ap (λ n. layout now.class n) (sym own.1)) (omega (arith, ap length parts));
-      }
+  octets_are_read now row p = grind (arith, own_class, record_laid, no_parts, opaque_data, append-nil)
 
   -- opaque data is at most 65,535 octets
   pub octets_are_taken : (fault : Fault) → None ≡ layout class kind → a.end ≤ a.start + 65535 → IsPushFault old (fixed (octets_between octets a.start a.end)) fault → ⊥

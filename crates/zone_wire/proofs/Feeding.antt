@@ -1,6 +1,6 @@
 -- What is decided of a stream by one frame more, by octets that end inside a frame, and by the
 -- stream's end.
-use Rattle.zone_wire.proofs.Common.{AreRead, Bytes, Fault, Finished, Follow, Going, IfSome, IsAfter, IsCut, IsFramed, IsReadAfter, List, MatchOption, Message, None, Option, Place, Placed, ReadAfter, ReadsNext, Some, StandsForStream, StatedMessage, StopsIn, StreamDecides, StreamKept, StreamLeaves, StreamReads, TakesWhole, Transfer, [], ap, append-nil, append_assoc, arith, bytes_append, drop, end_fault, false, flat_map, frame, handed_on, is_closed, length, length-append, length-drop, length-map, length-take-le, map-append, octets_in, placed_in, refl, stops, subst, sym, take, take-append-drop, u16_at, zone_held, ℕ, ◌%◌, ◌*◌, ◌++◌, ◌+◌, ◌-◌, ◌/◌, ◌<◌, ◌∙◌, ◌∷◌, ◌≡◌, ◌≤◌}
+use Rattle.zone_wire.proofs.Common.{AreRead, Bytes, Fault, Finished, Follow, Going, IfSome, IsAfter, IsCut, IsFramed, IsReadAfter, List, MatchOption, Message, None, Option, Place, Placed, ReadAfter, ReadsNext, Some, StandsForStream, StatedMessage, StopsIn, StreamDecides, StreamKept, StreamLeaves, StreamReads, TakesWhole, Transfer, [], ap, append-nil, append_assoc, arith, bytes_append, drop, end_fault, false, flat_map, frame, handed_on, is_closed, length, length-append, length-drop, length-map, length-take-le, map-append, octets_in, placed_in, refl, stops, subst, sym, take, take-append-drop, u16_at, zone_held, ℕ, ◌%◌, ◌*◌, ◌++◌, ◌+◌, ◌-◌, ◌/◌, ◌<◌, ◌∙◌, ◌∷◌, ◌≡◌, ◌≤◌, common_steps, rules}
 use Rattle.zone_rdata.specs.FedSource.{is_failed, is_finished, SourceState}
 use Rattle.zone_rdata.specs.declared.fed.FedStatus.{FedStatus}
 use Rattle.zone_wire.specs.declared.framer.Framer.{Framer}
@@ -10,15 +10,7 @@ use Rattle.zone_wire.proofs.Streams.{one_decision, fault_stays, fault_is_read, s
 
 -- octets of the length that they begin with are a frame
 pub framed_whole : (whole : List ℕ) → Bytes whole → length whole ≡ 2 + u16_at whole 0 → whole ≡ frame (drop 2 whole)
-framed_whole [] each e = absurd (omega (arith, e))
-framed_whole (c ∷ []) each e = absurd (omega (arith, e))
-framed_whole (high ∷ low ∷ octets) each e =
-    let h : high < 256 = each 0 in
-    let l : low < 256 = each 1 in
-    let size : length octets ≡ high * 256 + low = omega (arith, e) in
-    let high_is : high ≡ length octets / 256 = omega (arith, size, h, l) in
-    let low_is : low ≡ length octets % 256 = omega (arith, size, h, l) in
-    ap (λ x. x ∷ low ∷ octets) high_is ∙ ap (λ x. (length octets / 256) ∷ x ∷ octets) low_is
+framed_whole whole each e = grind arith
 
 framed_more : (fed front octets unfinished : List ℕ) (messages : List (List ℕ)) → IsFramed fed messages unfinished → unfinished ++ front ≡ frame octets → length octets ≤ 65535 → IsFramed (fed ++ front) (messages ++ octets ∷ []) []
 framed_more fed front octets unfinished messages is e short = frames_join fed front messages (octets ∷ []) unfinished [] is (subst (λ x. IsFramed x (octets ∷ []) []) (sym e) (frame_is octets short))
@@ -52,8 +44,7 @@ framed_state old new unfinished fed front octets given g e short None w = going_
 framed_state old new unfinished fed front octets given g e short (Some f) s = stopped old new unfinished fed front octets given g e short f s.0 s.1.0 s.1.1
 
 still_going : (t : Transfer) (unfinished fed : List ℕ) (given : List Placed) (ending : Option (Fault × Place)) → ending ≡ None → MatchOption ending (Going t unfinished fed given) (λ e. StreamDecides fed (given ++ t.decided.placed) (Some e)) → Going t unfinished fed given
-still_going t unfinished fed given None e state = state
-still_going t unfinished fed given (Some f) e state = cc
+still_going t unfinished fed given ending e state = grind arith
 
 pub one_frame : (old new : Transfer) (unfinished fed front octets : List ℕ) (given : List Placed) → old.decided.ending ≡ None → Bytes front → unfinished ++ front ≡ frame octets → length octets ≤ 65535 → ((before : List StatedMessage) → IsAfter before old → ReadsNext octets before old new) → Follow old unfinished fed given → Follow new [] (fed ++ front) given
 one_frame old new unfinished fed front octets given going each e short next follow =
@@ -61,47 +52,22 @@ one_frame old new unfinished fed front octets given going each e short next foll
     record { octets = bytes_append fed front follow.octets each; state = framed_state old new unfinished fed front octets given g e short new.decided.ending (next g.parts g.after) }
 
 going_state : (t : Transfer) (unfinished fed : List ℕ) (given : List Placed) (ending : Option (Fault × Place)) → ending ≡ None → Going t unfinished fed given → MatchOption ending (Going t unfinished fed given) (λ e. StreamDecides fed (given ++ t.decided.placed) (Some e))
-going_state t unfinished fed given None e g = g
-going_state t unfinished fed given (Some f) e g = cc
+going_state t unfinished fed given ending e g = grind arith
 
 -- octets that end inside the frame
 pub inside_frame : (t : Transfer) (unfinished fed more : List ℕ) (given : List Placed) → t.decided.ending ≡ None → Bytes more → IsCut (unfinished ++ more) → Follow t unfinished fed given → Follow t (unfinished ++ more) (fed ++ more) given
-inside_frame t unfinished fed more given going each cut follow =
-    let g = still_going t unfinished fed given t.decided.ending going follow.state in
-    let longer : Going t (unfinished ++ more) (fed ++ more) given = record {
-      parts = g.parts;
-      framed = record { whole = ap (λ x. x ++ more) g.framed.whole ∙ append_assoc (flat_map frame (octets_in g.parts)) unfinished more; short = g.framed.short; cut = cut };
-      read = g.read;
-      after = g.after;
-      handed = g.handed;
-    } in
-    record { octets = bytes_append fed more follow.octets each; state = going_state t (unfinished ++ more) (fed ++ more) given t.decided.ending going longer }
+inside_frame t unfinished fed more given going each cut follow = grind (arith, still_going, append_assoc, bytes_append, going_state)
 
 -- after a fault nothing more is decided
 faulted_state : (t : Transfer) (unfinished other fed more : List ℕ) (given : List Placed) (ending : Option (Fault × Place)) → (ending ≡ None → ⊥) → Bytes (fed ++ more) → MatchOption ending (Going t unfinished fed given) (λ e. StreamDecides fed (given ++ t.decided.placed) (Some e)) → MatchOption ending (Going t other (fed ++ more) given) (λ e. StreamDecides (fed ++ more) (given ++ t.decided.placed) (Some e))
-faulted_state t unfinished other fed more given None some each state = absurd (some refl)
-faulted_state t unfinished other fed more given (Some f) some each state =
-    let later = some_decision (fed ++ more) each in
-    let stays = fault_stays fed more (given ++ t.decided.placed) later.0 f later.1 state later.2 in
-    subst (λ ps. StreamDecides (fed ++ more) ps (Some f)) stays.0 (subst (λ o. StreamDecides (fed ++ more) later.0 o) stays.1 later.2)
+faulted_state t unfinished other fed more given ending some each state = grind (arith, some_decision, fault_stays)
 
 pub after_fault : (t : Transfer) (unfinished other fed more : List ℕ) (given : List Placed) → (t.decided.ending ≡ None → ⊥) → Bytes more → Follow t unfinished fed given → Follow t other (fed ++ more) given
-after_fault t unfinished other fed more given some each follow = record {
-  octets = bytes_append fed more follow.octets each;
-  state = faulted_state t unfinished other fed more given t.decided.ending some (bytes_append fed more follow.octets each) follow.state;
-}
+after_fault t unfinished other fed more given some each follow = search (rules, bytes_append, faulted_state)
 
 -- the end of the stream after a fault
 pub ends_after_fault : (t : Transfer) (unfinished fed : List ℕ) (given : List Placed) → (t.decided.ending ≡ None → ⊥) → Follow t unfinished fed given → StreamReads fed (given ++ t.decided.placed) t.decided.ending
-ends_after_fault t unfinished fed given some follow = by t.decided.ending some follow.state
-  where
-    by : (ending : Option (Fault × Place)) → (ending ≡ None → ⊥) → MatchOption ending (Going t unfinished fed given) (λ e. StreamDecides fed (given ++ t.decided.placed) (Some e)) → StreamReads fed (given ++ t.decided.placed) ending
-    by None none state = absurd (none refl)
-    by (Some f) none state =
-        let whole = append-nil fed in
-        let later = some_reading (fed ++ []) (subst Bytes (sym whole) follow.octets) in
-        let stays = fault_is_read fed [] (given ++ t.decided.placed) later.0 f later.1 state later.2 in
-        subst (λ xs. StreamReads xs (given ++ t.decided.placed) (Some f)) whole (subst (λ ps. StreamReads (fed ++ []) ps (Some f)) stays.0 (subst (λ o. StreamReads (fed ++ []) later.0 o) stays.1 later.2))
+ends_after_fault t unfinished fed given some follow = grind arith
 
 -- a piece of which a front was taken
 pub record FedSoFar (piece rest : List ℕ) (old new : Framer) : Type 0 where
@@ -150,8 +116,7 @@ fed_more piece rest taken old mid new each s going some within cut dropped count
         absurd none
 
 take_whole : {X : Type 0} (xs : List X) → take (length xs) xs ≡ xs
-take_whole [] = refl
-take_whole (x ∷ xs) = ap (λ ys. x ∷ ys) (take_whole xs)
+take_whole xs = grind (arith, common_steps)
 
 -- what a part of a list up to its end is
 pub rest_taken : {X : Type 0} (n : ℕ) (xs : List X) → take (length xs - n) (drop n xs) ≡ drop n xs
@@ -161,8 +126,7 @@ pub all_taken : {X : Type 0} (xs : List X) → take (length xs) xs ≡ xs
 all_taken xs = take_whole xs
 
 pub empty_of : {X : Type 0} (xs : List X) → length xs ≡ 0 → xs ≡ []
-empty_of [] e = refl
-empty_of (x ∷ xs) e = absurd (omega (arith, e))
+empty_of xs e = grind (arith, common_steps)
 
 abbrev kept_in : Transfer → StreamKept
 kept_in t = record { messages = t.messages; id = t.id; zone = zone_held t.zone; opening = t.opening; closed = t.closed }
@@ -175,14 +139,7 @@ source_of status count t unfinished = record {
 }
 
 decided_by : (fed unfinished : List ℕ) (parts : List StatedMessage) → IsFramed fed (octets_in parts) unfinished → AreRead [] parts → StreamDecides fed (handed_on (placed_in parts)) None
-decided_by fed unfinished parts framed read = record {
-  messages = octets_in parts;
-  rest = unfinished;
-  framed = framed;
-  all = placed_in parts;
-  read = reads_all [] parts read;
-  stated = refl;
-}
+decided_by fed unfinished parts framed read = grind (arith, reads_all)
 
 -- what a source stands for before the end of its stream
 pub stands_follow : (status : FedStatus) (count : ℕ) (t : Transfer) (unfinished fed : List ℕ) (given : List Placed) → is_finished status ≡ false → StandsForStream (source_of status count t unfinished) fed given → Follow t unfinished fed given
@@ -224,11 +181,4 @@ follow_stands status count t unfinished fed given works going counted follow = r
     }
 
 pub finished_stands : (count : ℕ) (t : Transfer) (unfinished fed : List ℕ) (given : List Placed) → Bytes fed → count ≡ length fed → StreamReads fed (given ++ t.decided.placed) t.decided.ending → StandsForStream (source_of Finished count t unfinished) fed given
-finished_stands count t unfinished fed given octets counted reads = record {
-  works = refl;
-  octets = octets;
-  count = counted;
-  decided = λ e. let no : ⊥ = cc in absurd no;
-  leave = λ e none. let no : ⊥ = cc in absurd no;
-  read = λ e. reads;
-}
+finished_stands count t unfinished fed given octets counted reads = grind arith

@@ -1,5 +1,5 @@
 -- The values of fields are read in a message: parts of its octets, numbers, and names.
-use Rattle.zone_wire.proofs.Common.{Awaits, BadRdata, Built, Err, Fault, Field, FieldValue, FitsString, Found, IsNameAt, IsPushFault, IsReadyFor, IsSized, List, Name, NameFault, Octets, Ok, OneString, Pushes, PutsValue, Serial, Some, Suits, Time, U16, [], ap, arith, common_steps, cond-false, drop, drop-drop, drop-take, drop_more, field_at, field_octets, fixed, get_or, inl, inr, length, length-append, long_string, lt-leb, misplaced, name, name_before, octets_between, octets_of, octets_push, outcome, parts_for, refl, sized_before, slice_index, string, string_at, subst, suc, sym, take, take-append-drop, take_all, too_long, u16_at, u16_value, u32_at, u32_value, value_at, walk, zero, ℕ, ◌++◌, ◌+◌, ◌-◌, ◌<◌, ◌∙◌, ◌∷◌, ◌≡◌, ◌≤◌, ◌⊎◌}
+use Rattle.zone_wire.proofs.Common.{Awaits, BadRdata, Built, Err, Fault, Field, FieldValue, FitsString, Found, IsNameAt, IsPushFault, IsReadyFor, IsSized, List, Name, NameFault, Octets, Ok, OneString, Pushes, PutsValue, Serial, Some, Suits, Time, U16, [], ap, arith, common_steps, cond-false, drop, drop-drop, drop-take, drop_more, field_at, field_octets, fixed, get_or, inl, inr, length, length-append, long_string, lt-leb, misplaced, name, name_before, octets_between, octets_of, octets_push, outcome, parts_for, refl, sized_before, slice_index, string, string_at, subst, suc, sym, take, take-append-drop, take_all, too_long, u16_at, u16_value, u32_at, u32_value, value_at, walk, zero, ℕ, ◌++◌, ◌+◌, ◌-◌, ◌<◌, ◌∙◌, ◌∷◌, ◌≡◌, ◌≤◌, ◌⊎◌, rules}
 use Rattle.zone_wire.proofs.Fielding.{name_reads}
 use Rattle.zone_wire.proofs.MessageFaults.{name_refuses}
 use Rattle.zone_wire.proofs.Walking.{name_walks}
@@ -71,11 +71,7 @@ puts_sized octets end start size past field value old new is at inside same one 
 
 -- a part that is awaited isn't refused
 pub unrefused : (octets : List ℕ) (end start past : ℕ) (b : Built) (field : Field) (value : FieldValue) → Awaits octets end start b field → Suits (Some field) value → FitsString value → value_at octets end start field ≡ Ok (value, past) → (fault : Fault) → IsPushFault b value fault → ⊥
-unrefused octets end start past b field value w suits fits read _ (misplaced wrong) = grind arith
-unrefused octets end start past b field value w suits fits read _ (long_string next long) = long fits
-unrefused octets end start past b field value w suits fits read _ (too_long next f over) =
-    let room = w.room value past read in
-    omega (arith, room, over, ap length (octets_push b.parts value), length-append (octets_of b.parts) (field_octets value))
+unrefused octets end start past b field value w suits fits read fault given = search (rules, octets_push, length-append)
 
 pub unrefused_sized : (octets : List ℕ) (end start size past : ℕ) (b : Built) (field : Field) (value : FieldValue) → Awaits octets end start b field → Suits (Some field) value → FitsString value → IsSizedAt octets end start field size → past ≡ start + size → past ≤ end → field_at field (octets_between octets start past) ≡ value → (fault : Fault) → IsPushFault b value fault → ⊥
 unrefused_sized octets end start size past b field value w suits fits is at inside same = grind (arith, unrefused)
@@ -102,17 +98,13 @@ fixed_suits octets start size past at within sized = grind (arith, part_len)
 -- ---- numbers of 32 bits, serials and times alike
 long_same : (octets : List ℕ) (end start : ℕ) (field : Field) → (field ≡ Serial) ⊎ (field ≡ Time) → value_at octets end start field ≡ value_at octets end start Serial
 unfolding value_at
-long_same octets end start field (inl is) = ap (value_at octets end start) is
-long_same octets end start field (inr is) = ap (value_at octets end start) is
+long_same octets end start field given = grind arith
 
 long_suits : (part : FieldValue) → Suits (Some Serial) part → Suits (Some Time) part
 long_suits part s = grind arith
 
 pub long_ready : (octets : List ℕ) (end start : ℕ) (b : Built) (field : Field) → (field ≡ Serial) ⊎ (field ≡ Time) → IsReadyFor octets end start b field → Awaits octets end start b Serial
-long_ready octets end start b field (inl is) ready = subst (IsReadyFor octets end start b) is ready
-long_ready octets end start b field (inr is) ready =
-    let w : Awaits octets end start b Time = subst (IsReadyFor octets end start b) is ready in
-    record { next = λ part suits. w.next part (long_suits part suits); sized = tt; room = λ value past read. w.room value past (long_same octets end start Time (inr refl) ∙ read) }
+long_ready octets end start b field given ready = grind (arith, long_suits, long_same)
 
 pub long_puts : (octets : List ℕ) (end start : ℕ) (field : Field) (old new : Built) (place : ℕ) → (field ≡ Serial) ⊎ (field ≡ Time) → PutsValue octets end start Serial old new place → PutsValue octets end start field old new place
 long_puts octets end start field old new place is p = record { value = p.value; read = long_same octets end start field is ∙ p.read; put = p.put; past = p.past; inside = p.inside }

@@ -27,12 +27,7 @@ pub part_first : (octets : List ℕ) (start past : ℕ) → start < past → get
 part_first octets start past h = grind (arith, common_steps)
 
 pub strings_read : (octets : List ℕ) (end : ℕ) (many : List (List ℕ)) → AreStrings many → octets ≡ flat_map with_length many → strings_before end octets ≡ Ok (strings many, end)
-strings_read octets end many are is =
-    let cut : strings_of octets ≡ many = cc (strings_back many) in
-    let some : 0 < length octets = omega (arith, length-frames many, ap length is) in
-    let whole : flat_map with_length (strings_of octets) ≡ octets = cc in
-    cond-true _ _ _ (and_from (nat_lt 0 (length octets)) (pointwise nat_eq (flat_map with_length (strings_of octets)) octets) (lt-ltb 0 (length octets) some) (search rules))
-    ∙ ap (λ (m : List (List ℕ)). Ok (strings m, end)) cut
+strings_read octets end many are is = search (rules, strings_back, length-frames, cond-true, and_from, lt-ltb)
 
 string_size : (octets : List ℕ) (start next : ℕ) (text : List ℕ) → next ≤ length octets → (start ≤ next) × (octets_between octets start next ≡ with_length text) → suc (length text) ≡ 1 + slice_index octets start
 string_size octets start next text within stands = grind (arith, part_first)

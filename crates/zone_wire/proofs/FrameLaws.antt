@@ -1,16 +1,12 @@
 -- Frame by frame.
-use Rattle.zone_wire.proofs.Common.{AreRead, Bytes, EitherIs, Err, Fault, FaultAfter, IsFramed, IsReadAfter, IsVerdict, List, Message, None, Ok, Placed, ReadAfter, Result, Some, StatedMessage, StreamDecides, [], ap, append-nil, append_assoc, flat_map, flat_map-append, frame, handed_on, inl, inr, length, lit<, next_message, octets_in, placed_in, reads, refl, stops, subst, sym, whole, ℕ, ◌++◌, ◌+◌, ◌∙◌, ◌∷◌, ◌≡◌, ◌≤◌}
+use Rattle.zone_wire.proofs.Common.{AreRead, Bytes, EitherIs, Err, Fault, FaultAfter, IsFramed, IsReadAfter, IsVerdict, List, Message, None, Ok, Placed, ReadAfter, Result, Some, StatedMessage, StreamDecides, [], ap, append-nil, append_assoc, flat_map, flat_map-append, frame, handed_on, inl, inr, length, lit<, next_message, octets_in, placed_in, reads, refl, stops, subst, sym, whole, ℕ, ◌++◌, ◌+◌, ◌∙◌, ◌∷◌, ◌≡◌, ◌≤◌, common_steps, arith}
 use Rattle.zone_wire.proofs.Accepting.{all_append}
 use Rattle.zone_wire.proofs.GivenMessages.{reads_up_to, Judged, judged}
 use Rattle.zone_wire.proofs.OneReading.{fault_one, one_read, read_not_refused}
 
 -- octets appended to octets: their frames after those before, where the rest begins them
 pub frames_join : (stream more : List ℕ) (messages others : List (List ℕ)) (rest last : List ℕ) → IsFramed stream messages rest → IsFramed (rest ++ more) others last → IsFramed (stream ++ more) (messages ++ others) last
-frames_join stream more messages others rest last is next = record {
-  whole = ap (λ x. x ++ more) is.whole ∙ append_assoc (flat_map frame messages) rest more ∙ ap (λ x. flat_map frame messages ++ x) next.whole ∙ sym (append_assoc (flat_map frame messages) (flat_map frame others) last) ∙ ap (λ x. x ++ last) (sym (flat_map-append frame messages others));
-  short = all_append (λ (octets : List ℕ). length octets ≤ 65535) messages others is.short next.short;
-  cut = next.cut;
-}
+frames_join stream more messages others rest last is next = grind (arith, common_steps)
 
 pub frame_is : (octets : List ℕ) → length octets ≤ 65535 → IsFramed (frame octets) (octets ∷ []) []
 frame_is octets few = record { whole = sym (append-nil (frame octets ++ []) ∙ append-nil (frame octets)); short = (few, tt); cut = lit< tt }

@@ -1,5 +1,5 @@
 -- The records of a message's answers up to the first that has a fault are those that are read.
-use Rattle.zone_wire.proofs.Common.{AllByRecursion, AnswerFault, AnswerStates, AnswersGive, AreRecordsAt, Bytes, ComesAfter, Err, Fault, IsRecordAt, List, Message, None, Ok, Option, Placed, QuestionAt, Record, RecordAt, Result, Some, [], answer_record, answers_of, ap, before_others, inl, inr, length, no_more, order_fault, own_record, refl, states, ℕ, ◌++◌, ◌∷◌, ◌≡◌, ◌≤◌}
+use Rattle.zone_wire.proofs.Common.{AllByRecursion, AnswerFault, AnswerStates, AnswersGive, AreRecordsAt, Bytes, ComesAfter, Err, Fault, IsRecordAt, List, Message, None, Ok, Option, Placed, QuestionAt, Record, RecordAt, Result, Some, [], answer_record, answers_of, ap, before_others, inl, inr, length, no_more, order_fault, own_record, refl, states, ℕ, ◌++◌, ◌∷◌, ◌≡◌, ◌≤◌, arith}
 use Rattle.zone_wire.specs.AnswerFault.{refused}
 use Rattle.zone_wire.proofs.AnswerFaults.{own_faults, own_states, order_faults, order_stands}
 use Rattle.zone_wire.proofs.MessageFaults.{err_same, stops}
@@ -14,8 +14,7 @@ each_stands octets offset end [] are = tt
 each_stands octets offset end (a ∷ answers) are = ((offset, are.0), each_stands octets a.end end answers are.1)
 
 ordered : (r : Record) (o : Option Fault) (fault : Fault) → (let x : Result Record Fault = elim o [ Some f ↦ Err f | None ↦ Ok r ] in x) ≡ Err fault → o ≡ Some fault
-ordered r None fault e = cc
-ordered r (Some f) fault e = ap Some (err_same f fault e)
+ordered r o fault e = grind arith
 
 module _ (octets : List ℕ) (each : Bytes octets) (few : length octets ≤ 65535) (questions : List QuestionAt) where
   answer_faults : (before : List Placed) (a : RecordAt) (fault : Fault) → IsInMessage octets a → answer_record octets questions before a ≡ Err fault → AnswerFault octets questions before a fault

@@ -1,5 +1,5 @@
 -- The records of messages up to the first fault are those that are read.
-use Rattle.zone_wire.proofs.Common.{AllByRecursion, Answered, AreRead, AskAfter, AsksIn, Bool, Bytes, Err, Fault, FaultAfter, GiveAfter, HasFirstId, IsMessage, IsReadAfter, List, Message, None, Ok, Option, Place, Placed, QuestionAt, ReadAfter, Result, Sections, Some, StatedMessage, ZoneAsked, [], agrees, and_from, and_parts, ap, append-nil, append_assoc, asked_in, asks_for, eq-eqb, eqb-true, fails, false, flat_map-append, has_first_id, holds, if◌then◌else◌, inl, inr, length, list_all, next_message, octets_in, of_answers, of_sections, placed_in, reads, refl, sections_of, stops, stream_records, subst, sym, true, whole, zone_of, ℕ, ◌++◌, ◌+◌, ◌==◌, ◌∙◌, ◌∷◌, ◌≡◌, ◌≤◌}
+use Rattle.zone_wire.proofs.Common.{AllByRecursion, Answered, AreRead, AskAfter, AsksIn, Bool, Bytes, Err, Fault, FaultAfter, GiveAfter, HasFirstId, IsMessage, IsReadAfter, List, Message, None, Ok, Option, Place, Placed, QuestionAt, ReadAfter, Result, Sections, Some, StatedMessage, ZoneAsked, [], agrees, and_from, and_parts, ap, append-nil, append_assoc, asked_in, asks_for, eq-eqb, eqb-true, fails, false, flat_map-append, has_first_id, holds, if◌then◌else◌, inl, inr, length, list_all, next_message, octets_in, of_answers, of_sections, placed_in, reads, refl, sections_of, stops, stream_records, subst, sym, true, whole, zone_of, ℕ, ◌++◌, ◌+◌, ◌==◌, ◌∙◌, ◌∷◌, ◌≡◌, ◌≤◌, arith}
 use Rattle.zone_wire.proofs.AnswerFaults.{agrees_by, agrees_true}
 use Rattle.zone_wire.proofs.Conditions.{all_by, all_pass}
 use Rattle.zone_wire.proofs.GivenAnswers.{each_stands, answers_give}
@@ -26,12 +26,10 @@ reads_up_to before (p ∷ parts) rest more ending are is =
 
 -- the ID and the questions of a message after others
 id_by : (before : List StatedMessage) (s : Sections) → has_first_id before s ≡ true → HasFirstId before s
-id_by [] s e = tt
-id_by (first ∷ before) s e = eqb-true s.id first.sections.id e
+id_by before s e = grind arith
 
 id_true : (before : List StatedMessage) (s : Sections) → HasFirstId before s → has_first_id before s ≡ true
-id_true [] s is = refl
-id_true (first ∷ before) s is = eq-eqb s.id first.sections.id is
+id_true before s is = grind arith
 
 asks_by : (zone : Option ZoneAsked) (q : QuestionAt) → asks_for zone q ≡ true → AsksIn zone q
 asks_by zone q e = let p = and_parts (q.kind == 252) (agrees zone q.name q.class) e in record { kind = eqb-true _ _ p.0; agrees = agrees_by zone q.name q.class p.1 }
@@ -46,12 +44,10 @@ Judged before octets (Err e) = FaultAfter before octets e.0 e.1 e.2
 
 module _ (before : List StatedMessage) (octets : List ℕ) (each : Bytes octets) (few : length octets ≤ 65535) where
   by_test : (test : Bool) (good bad : Result StatedMessage (List Placed × Fault × ℕ)) → (test ≡ true → Judged before octets good) → (test ≡ false → Judged before octets bad) → Judged before octets (if test then good else bad)
-  by_test true good bad passes others = passes refl
-  by_test false good bad passes others = others refl
+  by_test test good bad passes others = grind arith
 
   by_answers : (s : Sections) (placed : List Placed) (stop : Option (Fault × ℕ)) → IsMessage octets s → HasFirstId before s → AskAfter before s → GiveAfter before octets s placed stop → Judged before octets (of_answers octets s (record { placed = placed; fault = stop }))
-  by_answers s placed None is id asks give = (refl, record { message = is; same_id = id; asks = asks; gives = give })
-  by_answers s placed (Some e) is id asks give = inr (s, is, holds id (holds asks give))
+  by_answers s placed stop is id asks give = grind (arith, holds)
 
   by_sections : (r : Result Sections (Fault × ℕ)) → sections_of octets ≡ r → Judged before octets (of_sections before octets r)
   by_sections (Err e) is = inl (refl, sections_fault octets each e is)

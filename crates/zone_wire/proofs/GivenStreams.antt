@@ -1,5 +1,5 @@
 -- What a stream is read as is what is found in it, and records.
-use Rattle.zone_wire.proofs.Common.{AllByRecursion, AnswersGive, Bytes, Fault, FaultAfter, IsFramed, IsRecord, List, Option, Place, Placed, QuestionAt, ReadAfter, RecordAt, StatedMessage, StreamDecides, StreamReads, [], flat_map, frame, front_bytes, handed_on, inl, inr, no_more, reads, refl, states, stops, stream_records, subst, sym, whole, ℕ}
+use Rattle.zone_wire.proofs.Common.{AllByRecursion, AnswersGive, Bytes, Fault, FaultAfter, IsFramed, IsRecord, List, Option, Place, Placed, QuestionAt, ReadAfter, RecordAt, StatedMessage, StreamDecides, StreamReads, [], flat_map, frame, front_bytes, handed_on, inl, inr, no_more, reads, refl, states, stops, stream_records, subst, sym, whole, ℕ, arith}
 use Rattle.zone_wire.specs.AnswerFault.{refused}
 use Rattle.zone_wire.proofs.Accepting.{all_append}
 use Rattle.zone_wire.proofs.Conditions.{unless_each}
@@ -28,8 +28,7 @@ give_fit (states is place comes rest) = (is.fits, give_fit rest)
 give_fit (refused fault) = tt
 
 fault_fit : (before : List StatedMessage) (octets : List ℕ) (e : List Placed × Fault × ℕ) → FaultAfter before octets e.0 e.1 e.2 → Fit e.0
-fault_fit before octets e (inl is) = subst Fit (sym is.0) tt
-fault_fit before octets e (inr is) = unless_each (λ x. Fit x.0) tt (unless_each (λ x. Fit x.0) tt give_fit) is.2
+fault_fit before octets e given = grind (arith, unless_each, give_fit)
 
 all_fit : {before : List StatedMessage} {messages : List (List ℕ)} {placed : List Placed} {ending : Option (Fault × Place)} → ReadAfter before messages placed ending → Fit placed
 all_fit whole = tt

@@ -30,26 +30,18 @@ name_refuses octets offset fault is = by (outcome octets (walk octets offset)) r
     by (refused f steps) e m = (steps, e ∙ ap (λ x. refused x steps) (some_same f fault (sym m.1 ∙ ends)))
 
 pub name_one : (octets : List ℕ) (offset : ℕ) (f g : Fault) → NameFault octets offset f → NameFault octets offset g → f ≡ g
-name_one octets offset f g is too =
-    let e = (name_refuses octets offset f is).1 in
-    let k = (name_refuses octets offset g too).1 in
-    cc
+name_one octets offset f g is too = grind (arith, name_refuses octets offset f is, name_refuses octets offset g too)
 
 pub name_not_both : (octets : List ℕ) (offset : ℕ) (found : Found) (f : Fault) → IsNameAt octets offset found → NameFault octets offset f → ⊥
-name_not_both octets offset found f is fault =
-    let e = name_walks octets offset found is in
-    let k = (name_refuses octets offset f fault).1 in
-    cc
+name_not_both octets offset found f is fault = grind (arith, name_walks octets offset found is, name_refuses octets offset f fault)
 
 -- a test that fails
 pub fails_test : {X E : Type 0} (test : Bool) (x : X) (fault other : E) → (if test then (let r : Result X E = Ok x in r) else Err fault) ≡ Err other → (test ≡ false) × (fault ≡ other)
-fails_test true x fault other e = cc
-fails_test false x fault other e = (refl, err_same fault other e)
+fails_test test x fault other e = grind arith
 
 -- the first of two stops, or it leads to the second, which stops
 pub stops : {X Y E : Type 0} (r : Result X E) (next : X → Result Y E) (e : E) → and_then r next ≡ Err e → (r ≡ Err e) ⊎ ((x : X) × ((r ≡ Ok x) × (next x ≡ Err e)))
-stops (Ok x) next e h = inr (x, (refl, h))
-stops (Err f) next e h = inl (ap Err (err_same f e h))
+stops r next e h = grind arith
 
 pub and_then_err : {X Y E : Type 0} (r : Result X E) (e : E) (next : X → Result Y E) → r ≡ Err e → and_then r next ≡ Err e
 and_then_err r e next h = ap (λ z. and_then z next) h
@@ -69,8 +61,7 @@ record_faults : (octets : List ℕ) → ((k : ℕ) → get_or octets k 0 < 256) 
 record_faults octets each offset fault = part_faults octets (record_by octets offset) (λ (r : RecordAt). r.end) each offset fault (IsRecordAt octets) (λ r is. is)
 
 at_offset_stops : {X : Type 0} (offset : ℕ) (r : Result X Fault) (e : Fault × ℕ) → at_offset offset r ≡ Err e → (r ≡ Err e.0) × (e.1 ≡ offset)
-at_offset_stops offset (Ok x) e h = cc
-at_offset_stops offset (Err f) e h = let same = err_same (f, offset) e h in (ap (λ (x : Fault × ℕ). Err x.0) same, ap (λ (x : Fault × ℕ). x.1) (sym same))
+at_offset_stops offset r e h = grind arith
 
 -- parts one after another
 module _ {X : Type 0} (octets : List ℕ) (Is : ℕ → X → Type 0) (end_of : X → ℕ) where
@@ -164,9 +155,7 @@ module _ (octets : List ℕ) (each : (k : ℕ) → get_or octets k 0 < 256) wher
   ]
 
   end_fault : (end : ℕ) (s : Sections) (e : Fault × ℕ) → to_the_end octets end s ≡ Err e → left_over octets end e
-  end_fault end s e h =
-      let f = fails_test (end == length octets) s (TrailingOctets, 0) e h in
-      subst (left_over octets end) f.1 (fails (λ same. let yes : (end == length octets) ≡ true = eq-eqb end (length octets) same in let no = f.0 in cc))
+  end_fault end s e h = grind (arith, fails_test, true, eq-eqb, fails)
 
   after_faults : (e : Fault × ℕ) → after_header octets ≡ Err e → questions_fault octets e
   after_faults e h = elim (stops (questions_from octets (qdcount_of octets) 12) _ e h) [

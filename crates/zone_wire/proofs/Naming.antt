@@ -1,5 +1,5 @@
 -- What a result of the walk says of the name.
-use Rattle.zone_wire.proofs.Common.{Err, Fault, Found, IfErr, IfOk, IsNameAt, IsOk, IsWalk, List, MatchResult, NameFault, Ok, Option, Outcome, Result, Says, Visit, found_by, get_or, length, outcome, refl, refused, subst, sym, walk, ℕ, ◌<◌, ◌≡◌, ◌≤◌}
+use Rattle.zone_wire.proofs.Common.{Err, Fault, Found, IfErr, IfOk, IsNameAt, IsOk, IsWalk, List, MatchResult, NameFault, Ok, Option, Outcome, Result, Says, Visit, found_by, get_or, length, outcome, refl, refused, subst, sym, walk, ℕ, ◌<◌, ◌≡◌, ◌≤◌, arith}
 use Rattle.zone_wire.specs.declared.name.Decoded.{Decoded}
 use Rattle.zone_wire.proofs.MessageFaults.{name_refused}
 use Rattle.zone_wire.proofs.WalkLaws.{of_walk}
@@ -11,8 +11,7 @@ module _ (message : List ℕ) (offset : ℕ) (each : (k : ℕ) → get_or messag
   says_found (Err e) says = tt
 
   pub says_only : (r : Result Decoded (Fault × ℕ)) → Says r (outcome message (walk message offset)) → (found : Found) → IsNameAt message offset found → IsOk r
-  says_only (Ok d) says found is = refl
-  says_only (Err e) says found is = let e = name_walks message offset found is in cc
+  says_only r says found is = grind (arith, name_walks)
 
   pub says_within : (r : Result Decoded (Fault × ℕ)) → Says r (outcome message (walk message offset)) → IfOk r (λ d. (offset < d.end) × (d.end ≤ length message))
   says_within (Ok d) says = let bounds = name_bounds message offset _ (walk_names message offset (found_by d says.0) each says.1) in (bounds.start, bounds.end)
@@ -22,8 +21,7 @@ module _ (message : List ℕ) (offset : ℕ) (each : (k : ℕ) → get_or messag
   measured o e = subst (λ (p : Outcome). Measures p (walk message offset)) e (walk_measures message offset)
 
   pub says_fault : (r : Result Decoded (Fault × ℕ)) → Says r (outcome message (walk message offset)) → IfErr r (λ e. NameFault message offset e.0)
-  says_fault (Ok d) says = tt
-  says_fault (Err e) says = name_refused message offset e.0 e.1 says
+  says_fault r says = grind (arith, name_refused)
 
   pub says_places : (r : Result Decoded (Fault × ℕ)) → Says r (outcome message (walk message offset)) → IfErr r (λ e. (visits : List Visit) (ends : Option Fault) → IsWalk message offset visits ends → e.1 ≡ length visits)
   says_places (Ok d) says = tt

@@ -8,11 +8,7 @@ use Rattle.zone_wire.proofs.Walking.{one_name}
 
 module _ (octets : List ℕ) (end : ℕ) (within : end ≤ length octets) where
   value_one : (field : Field) (start past late : ℕ) (v w : FieldValue) → IsFieldAt octets end field start past v → IsFieldAt octets end field start late w → (v ≡ w) × (past ≡ late)
-  value_one field start past late v w is too =
-      let e = value_reads octets end start past field v is.last is.held is.inside within is.stands in
-      let k = value_reads octets end start late field w too.last too.held too.inside within too.stands in
-      let same : (v, past) ≡ (w, late) = cc in
-      (ap (λ (x : FieldValue × ℕ). x.0) same, ap (λ (x : FieldValue × ℕ). x.1) same)
+  value_one field start past late v w is too = grind (arith, value_reads octets end start past field v is.last is.held is.inside within is.stands, value_reads octets end start late field w too.last too.held too.inside within too.stands)
 
   field_not_both : (field : Field) (start past : ℕ) (v : FieldValue) (f : Fault) → IsFieldAt octets end field start past v → FieldFault octets end field start f → ⊥
   field_not_both Name start past (name labels) f h (inl is) = name_not_both octets start h.stands.0 f h.stands.1 is
@@ -53,8 +49,7 @@ module _ (octets : List ℕ) (end : ℕ) (within : end ≤ length octets) where
 
   -- a field that has its value leaves the fault to those after it
   after : (field : Field) (fields : List Field) (start past : ℕ) (v : FieldValue) (f : Fault) → IsFieldAt octets end field start past v → FieldsFault octets end (field ∷ fields) start f → FieldsFault octets end fields past f
-  after field fields start past v f h (inl is) = absurd (field_not_both field start past v f h is)
-  after field fields start past v f h (inr is) = subst (λ n. FieldsFault octets end fields n f) (value_one field start is.0 past is.1 v is.2 h).1 is.3
+  after field fields start past v f h given = grind (arith, field_not_both, value_one)
 
   fields_not_both : (fields : List Field) (values : List FieldValue) (start : ℕ) (f : Fault) → StringsLast fields → HoldEach fields values → AreValuesAt octets start end values → FieldsFault octets end fields start f → ⊥
   fields_not_both [] [] start f last held stand is = is.1 stand

@@ -1,5 +1,5 @@
 -- Answers that are read without a fault state their records, in the order of a transfer.
-use Rattle.zone_wire.proofs.Common.{AllByRecursion, AnswerStates, BadClass, CompressibleType, Err, Fault, IsRecord, List, MetaType, None, Ok, Option, Placed, QuestionAt, Record, RecordAt, Result, Some, [], and_parts, answer_record, ap, bytes_decides, compressible, data_at, eqb-true, false, get_or, is_meta, is_no_class, length, list_any, nat_eq, or_parts, order_fault, own_record, pointwise, pointwise_decides, refl, same_name, same_record, subst, true, ttl_of, ℕ, ◌&&◌, ◌<◌, ◌==◌, ◌∙◌, ◌∷◌, ◌≡◌, ◌≢◌, ◌≤◌}
+use Rattle.zone_wire.proofs.Common.{AllByRecursion, AnswerStates, BadClass, CompressibleType, Err, Fault, IsRecord, List, MetaType, None, Ok, Option, Placed, QuestionAt, Record, RecordAt, Result, Some, [], and_parts, answer_record, ap, bytes_decides, compressible, data_at, eqb-true, false, get_or, is_meta, is_no_class, length, list_any, nat_eq, or_parts, order_fault, own_record, pointwise, pointwise_decides, refl, same_name, same_record, subst, true, ttl_of, ℕ, ◌&&◌, ◌<◌, ◌==◌, ◌∙◌, ◌∷◌, ◌≡◌, ◌≢◌, ◌≤◌, arith, rules}
 use Rattle.zone_wire.proofs.ReadFields.{data_shown}
 use Rattle.zone_wire.proofs.ReadSections.{ok_same, leads, passes_on}
 use Rattle.zone_wire.proofs.Transfers.{equal_parts}
@@ -24,24 +24,15 @@ pub names_equal : (n m : List (List ℕ)) → same_name n m ≡ true → n ≡ m
 names_equal n m e = (pointwise_decides bytes_decides n m).0 e
 
 pub records_equal : (r s : Record) → same_record r s ≡ true → r ≡ s
-records_equal r s e =
-    let d = and_parts (same_name r.owner s.owner && r.class == s.class && r.kind == s.kind && r.ttl == s.ttl) (pointwise nat_eq r.octets s.octets) e in
-    let c = and_parts (same_name r.owner s.owner && r.class == s.class && r.kind == s.kind) (r.ttl == s.ttl) d.0 in
-    let b = and_parts (same_name r.owner s.owner && r.class == s.class) (r.kind == s.kind) c.0 in
-    let a = and_parts (same_name r.owner s.owner) (r.class == s.class) b.0 in
-    equal_parts r s (names_equal r.owner s.owner a.0) (eqb-true _ _ a.1) (eqb-true _ _ b.1) (eqb-true _ _ c.1) ((bytes_decides r.octets s.octets).0 d.1)
+records_equal r s e = search (rules, and_parts, equal_parts, names_equal, eqb-true)
 
 -- a name and class that agree with the zone
 pub agree_parts : (name other : List (List ℕ)) (class last : ℕ) → (same_name name other && class == last) ≡ true → (name ≡ other) × (class ≡ last)
 agree_parts name other class last e = let p = and_parts (same_name name other) (class == last) e in (names_equal name other p.0, eqb-true _ _ p.1)
 
 kept_record : (r s : Record) (fault : Option Fault) → (let x : Result Record Fault = elim fault [ Some f ↦ Err f | None ↦ Ok r ] in x) ≡ Ok s → (fault ≡ None) × (r ≡ s)
-kept_record r s None e = (refl, ok_same r s e)
-kept_record r s (Some f) e = cc
+kept_record r s fault e = grind arith
 
 pub answer_shown : (octets : List ℕ) (questions : List QuestionAt) (before : List Placed) (a : RecordAt) (r : Record) → answer_record octets questions before a ≡ Ok r → (own_record octets a ≡ Ok r) × (order_fault questions before r ≡ None)
 unfolding answer_record
-answer_shown octets questions before a r e =
-    let l = leads (own_record octets a) _ r e in
-    let k = kept_record l.first r (order_fault questions before l.first) l.goes_on in
-    (l.is ∙ ap Ok k.1, subst (λ (x : Record). order_fault questions before x ≡ None) k.1 k.0)
+answer_shown octets questions before a r e = grind arith

@@ -1,5 +1,5 @@
 -- What is read as the data of a record is its data.
-use Rattle.zone_wire.proofs.Common.{AllByRecursion, AreFieldsAt, AreValuesAt, Fault, Field, FieldValue, HoldEach, Holds, IsDataAt, IsString, IsValueAt, List, MatchOption, Name, None, Octets, Ok, OneString, Option, Outcome, RecordAt, Result, Serial, Some, Strings, Time, U16, [], and_parts, and_then, ap, arith, be_bytes_2, be_bytes_4, bytes_each, data_at, drop, field_at, flat_map, from_be_bytes, get_or, layout, leb-true, length, length-drop, length-take, length-take-le, ltb-true, name_before, named, nat_eq, nat_le, nat_lt, octets_between, octets_of, outcome, pointwise, refl, refused, rules, sized_before, slice_index, some_frames, string_at, strings_before, strings_by, strings_of, subst, suc, sym, take, take_all, to_be_bytes, value_at, values_at, w16, w32, walk, with_length, zero, ℕ, ◌&&◌, ◌+◌, ◌-◌, ◌<◌, ◌==◌, ◌^◌, ◌∙◌, ◌∷◌, ◌≡◌, ◌≤◌}
+use Rattle.zone_wire.proofs.Common.{AllByRecursion, AreFieldsAt, AreValuesAt, Fault, Field, FieldValue, HoldEach, Holds, IsDataAt, IsString, IsValueAt, List, MatchOption, Name, None, Octets, Ok, OneString, Option, Outcome, RecordAt, Result, Serial, Some, Strings, Time, U16, [], and_parts, and_then, ap, arith, be_bytes_2, be_bytes_4, bytes_each, data_at, drop, field_at, flat_map, from_be_bytes, get_or, layout, leb-true, length, length-drop, length-take, length-take-le, ltb-true, name_before, named, nat_eq, nat_le, nat_lt, octets_between, octets_of, outcome, pointwise, refl, refused, rules, sized_before, slice_index, some_frames, string_at, strings_before, strings_by, strings_of, subst, suc, sym, take, take_all, to_be_bytes, value_at, values_at, w16, w32, walk, with_length, zero, ℕ, ◌&&◌, ◌+◌, ◌-◌, ◌<◌, ◌==◌, ◌^◌, ◌∙◌, ◌∷◌, ◌≡◌, ◌≤◌, common_steps}
 use Rattle.zone_wire.proofs.Fielding.{part_first}
 use Rattle.zone_wire.proofs.ReadSections.{ok_same, leads, passes}
 use Rattle.zone_wire.proofs.Walking.{walk_names, take_each, drop_each}
@@ -26,17 +26,13 @@ module _ (octets : List ℕ) (each : (k : ℕ) → get_or octets k 0 < 256) (end
   name_shows start (refused fault steps) v is e = cc
 
   sized_shows : (start size : ℕ) (field : Field) (v : FieldValue × ℕ) → (start + size ≤ end → Shown octets end start field (field_at field (octets_between octets start (start + size)), start + size)) → sized_before octets end start field size ≡ Ok v → Shown octets end start field v
-  sized_shows start size field v shows e =
-      let p = passes (nat_le (start + size) end) _ v _ e in
-      subst (Shown octets end start field) p.1 (shows (leb-true _ _ p.0))
+  sized_shows start size field v shows e = grind arith
 
   pub part_bytes : (start past : ℕ) (k : ℕ) → get_or (octets_between octets start past) k 0 < 256
   part_bytes start past = take_each (past - start) (drop start octets) (drop_each start octets each)
 
   part_size : (start size : ℕ) → start + size ≤ end → length (octets_between octets start (start + size)) ≡ size
-  part_size start size fits =
-      let n : start + size - start ≡ size = omega arith in
-      grind (arith, length-take-le, length-drop)
+  part_size start size fits = grind (arith, common_steps)
 
   long_short : (bs : List ℕ) → ((k : ℕ) → get_or bs k 0 < 256) → from_be_bytes w32 bs < 2 ^ 32
   long_short bs small = omega (arith, small 0, small 1, small 2, small 3)
@@ -45,24 +41,14 @@ module _ (octets : List ℕ) (each : (k : ℕ) → get_or octets k 0 < 256) (end
   two_short bs small = omega (arith, small 0, small 1)
 
   long_stands : (start : ℕ) → start + 4 ≤ end → (start ≤ start + 4) × (octets_between octets start (start + 4) ≡ to_be_bytes w32 (from_be_bytes w32 (take 4 (octets_between octets start (start + 4)))))
-  long_stands start fits =
-      let bs = octets_between octets start (start + 4) in
-      let len : length bs ≡ 4 = part_size start 4 fits in
-      (omega arith, grind (arith, be_bytes_4, part_bytes, take_all))
+  long_stands start fits = grind (arith, part_size, be_bytes_4, part_bytes, take_all)
 
   two_stands : (start : ℕ) → start + 2 ≤ end → (start ≤ start + 2) × (octets_between octets start (start + 2) ≡ to_be_bytes w16 (from_be_bytes w16 (take 2 (octets_between octets start (start + 2)))))
-  two_stands start fits =
-      let bs = octets_between octets start (start + 2) in
-      let len : length bs ≡ 2 = part_size start 2 fits in
-      (omega arith, grind (arith, be_bytes_2, part_bytes, take_all))
+  two_stands start fits = grind (arith, common_steps)
 
   -- octets of a fixed number
   fixed_shows : (start n : ℕ) → start + n ≤ end → Shown octets end start (Octets n) (field_at (Octets n) (octets_between octets start (start + n)), start + n)
-  fixed_shows start n fits =
-      let bs = octets_between octets start (start + n) in
-      let len : length bs ≡ n = part_size start n fits in
-      let whole : take n bs ≡ bs = take_all n bs (omega (arith, len)) in
-      grind (arith, bytes_each, take_each, part_bytes)
+  fixed_shows start n fits = grind (arith, part_size, take_all, bytes_each, take_each, part_bytes)
 
   -- a string after its length
   string_shows : (start : ℕ) → start + (1 + slice_index octets start) ≤ end → Shown octets end start OneString (field_at OneString (octets_between octets start (start + (1 + slice_index octets start))), start + (1 + slice_index octets start))
@@ -82,14 +68,7 @@ module _ (octets : List ℕ) (each : (k : ℕ) → get_or octets k 0 < 256) (end
 
   -- strings up to the end
   strings_show : (start : ℕ) (v : FieldValue × ℕ) → strings_before end (octets_between octets start end) ≡ Ok v → Shown octets end start Strings v
-  strings_show start v e =
-      let bs = octets_between octets start end in
-      let p = passes (nat_lt 0 (length bs) && pointwise nat_eq (flat_map with_length (strings_of bs)) bs) _ v _ e in
-      let b = and_parts (nat_lt 0 (length bs)) (pointwise nat_eq (flat_map with_length (strings_of bs)) bs) p.0 in
-      let some : 0 < length bs = ltb-true 0 (length bs) b.0 in
-      let whole : flat_map with_length (strings_of bs) ≡ bs = search rules in
-      let order : start ≤ end = omega (arith, length-take (end - start) (drop start octets)) in
-      subst (Shown octets end start Strings) p.1 (record { some = some_frames (strings_of bs) (omega (arith, ap length whole)); each = strings_each bs (part_bytes start end) }, omega arith, (order, sym whole))
+  strings_show start v e = search (rules, passes, and_parts, ltb-true, length-take, some_frames, strings_each, part_bytes)
 
   -- what is read for a field stands there
   pub value_shows : (start : ℕ) (field : Field) (v : FieldValue × ℕ) → value_at octets end start field ≡ Ok v → Shown octets end start field v

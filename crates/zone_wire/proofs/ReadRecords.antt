@@ -70,8 +70,7 @@ UnstrungAreShort = (class kind : ℕ) (fields : List Field) (values : List Field
 module _ (are_data : HeldAreData) (are_short : UnstrungAreShort) where
   module _ (octets : List ℕ) (each : Bytes octets) (short : length octets ≤ 65535) where
     values_short : (class kind start end : ℕ) (fields : List Field) (values : List FieldValue) → layout class kind ≡ Some fields → HoldEach fields values → AreValuesAt octets start end values → IsRow (Some fields) → length (octets_of values) ≤ 65535
-    values_short class kind start end fields values row held stand (inl none) = are_short class kind fields values row none held
-    values_short class kind start end fields values row held stand (inr alone) = omega (arith, short, strings_short octets start end values (subst (λ fs. HoldEach fs values) alone held) stand)
+    values_short class kind start end fields values row held stand given = grind (arith, common_steps)
 
     data_by : (class kind start end : ℕ) (canonical : List ℕ) (row : Option (List Field)) → layout class kind ≡ row → MatchOption row (canonical ≡ octets_between octets start end) (λ fields. AreFieldsAt octets start end fields canonical) → IsData class kind canonical
     data_by class kind start end canonical None row is = record {

@@ -29,19 +29,7 @@ response_of octets e = (omega (arith, e), omega (arith, e))
 
 pub header_shows : (octets : List ℕ) → header_fault octets ≡ None → HasHeader octets
 unfolding header_fault
-header_shows octets e =
-    let a = no_fault _ _ _ e in
-    let b = no_fault _ _ _ a.1 in
-    let c = no_fault _ _ _ b.1 in
-    let d = no_fault _ _ _ c.1 in
-    let counts = and_parts (nat_le (u16_at octets 4) 1) (u16_at octets 8 == 0) (not-false _ (no_fault _ _ _ d.1).0) in
-    record {
-      twelve = ltb-false _ _ a.0;
-      response = response_of octets (eqb-true _ _ (not-false _ b.0));
-      whole = eqb-true _ _ (not-false _ c.0);
-      no_error = eqb-true _ _ (not-false _ d.0);
-      counts = (leb-true _ _ counts.0, eqb-true _ _ counts.1);
-    }
+header_shows octets e = grind arith
 
 -- what stands after a name inside the message
 pub part_shows : {X : Type 0} (octets : List ℕ) (by : Found → X) (end_of : X → ℕ) → ((k : ℕ) → get_or octets k 0 < 256) → (offset : ℕ) (x : X) → inside octets by end_of (outcome octets (walk octets offset)) ≡ Ok x → IsPartAt octets by end_of offset x

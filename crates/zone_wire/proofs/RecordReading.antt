@@ -1,5 +1,5 @@
 -- An answer is read as the record that it states, or has its first fault.
-use Rattle.zone_wire.proofs.Common.{AnswerStates, BadClass, Bool, Built, Bytes, CompressibleType, Data, DataFault, Err, Failing, Fault, IfErr, IfFault, IfOk, IsClass, IsDataAt, IsErr, IsKind, IsRead, IsReadable, IsRecord, IsRecordAt, IsTrue, List, MetaType, Ok, OwnFault, RawRecord, Record, RecordAt, Result, ap, data_at, fails, false, holds, octets_of, refl, subst, sym, true, ttl_of, ℕ, ◌↔◌, ◌∙◌, ◌≡◌}
+use Rattle.zone_wire.proofs.Common.{AnswerStates, BadClass, Bool, Built, Bytes, CompressibleType, Data, DataFault, Err, Failing, Fault, IfErr, IfFault, IfOk, IsClass, IsDataAt, IsErr, IsKind, IsRead, IsReadable, IsRecord, IsRecordAt, IsTrue, List, MetaType, Ok, OwnFault, RawRecord, Record, RecordAt, Result, ap, data_at, fails, false, holds, octets_of, refl, subst, sym, true, ttl_of, ℕ, ◌↔◌, ◌∙◌, ◌≡◌, arith}
 use Rattle.zone_rdata.specs.declared.fault.Failing.TheVariants as failings
 use Rattle.zone_wire.proofs.DataFaults.{data_faults}
 use Rattle.zone_wire.proofs.OneFault.{own_not_both}
@@ -37,24 +37,14 @@ pub own_data : (octets : List ℕ) (a : RecordAt) (fault : Fault) → IsClass a.
 own_data octets a fault class kind readable is = holds class (holds kind (holds readable is))
 
 pub data_is_refused : (raw now : RawRecord) → raw ≡ now → (offset : ℕ) → Bytes raw.octets → IsRecordAt raw.octets offset raw.at → (fault : Fault) → data_at now.octets now.at ≡ Err fault → DataFault now.octets now.at fault
-data_is_refused raw now view offset each at fault e =
-    subst (λ (v : RawRecord). data_at v.octets v.at ≡ Err fault → DataFault v.octets v.at fault) view (data_faults raw.octets raw.at fault each at.inside) e
+data_is_refused raw now view offset each at fault e = grind (arith, data_faults)
 
 pub data_is_read : (raw now : RawRecord) → raw ≡ now → (offset : ℕ) → Bytes raw.octets → IsRecordAt raw.octets offset raw.at → (b : Built) (canonical : List ℕ) → IsRead now.octets now.at b → canonical ≡ octets_of b.parts → IsDataAt now.octets now.at canonical
-data_is_read raw now view offset each at b canonical is same =
-    subst (λ (v : RawRecord). data_at v.octets v.at ≡ Ok canonical → IsDataAt v.octets v.at canonical) view (data_shown raw.octets raw.at canonical each at.inside) (is.read ∙ ap Ok (sym same))
+data_is_read raw now view offset each at b canonical is same = grind (arith, data_shown)
 
 -- the record of an answer that is made of its parts
 pub stated : (raw now : RawRecord) → raw ≡ now → (class kind ttl : ℕ) (d : Data) (r : Record)
     → r ≡ record { owner = raw.at.owner; class = d.class; kind = d.kind; ttl = ttl; octets = d.octets }
     → IsRecord r → d.class ≡ class → d.kind ≡ kind → class ≡ now.at.class → kind ≡ now.at.kind → ttl ≡ ttl_of raw.at.ttl
     → IsDataAt now.octets now.at d.octets → IsReadable now.at.kind → AnswerStates now.octets now.at r
-stated raw now view class kind ttl d r made fits its_class its_kind is_class is_kind is_ttl stands readable = record {
-  owner = ap (λ (x : Record). x.owner) made ∙ ap (λ (v : RawRecord). v.at.owner) view;
-  class = ap (λ (x : Record). x.class) made ∙ its_class ∙ is_class;
-  kind = ap (λ (x : Record). x.kind) made ∙ its_kind ∙ is_kind;
-  ttl = ap (λ (x : Record). x.ttl) made ∙ is_ttl ∙ ap (λ (v : RawRecord). ttl_of v.at.ttl) view;
-  rdata = subst (IsDataAt now.octets now.at) (sym (ap (λ (x : Record). x.octets) made)) stands;
-  fits = fits;
-  readable = readable;
-}
+stated raw now view class kind ttl d r made fits its_class its_kind is_class is_kind is_ttl stands readable = grind arith

@@ -14,9 +14,7 @@ sixteen octets is = omega (arith, is.0, is.1)
 
 pub header_reads : (octets : List ℕ) → HasHeader octets → header_fault octets ≡ None
 unfolding header_fault
-header_reads octets is =
-    cond-false _ _ _ (le-ltb _ _ is.twelve) ∙ cond-false _ _ _ (not_other _ _ (sixteen octets is.response)) ∙ cond-false _ _ _ (not_other _ _ is.whole)
-    ∙ cond-false _ _ _ (not_other _ _ is.no_error) ∙ cond-false _ _ _ (ap not (and_from (nat_le (u16_at octets 4) 1) (u16_at octets 8 == 0) (le-leb _ _ is.counts.0) (eq-eqb _ _ is.counts.1)))
+header_reads octets is = grind arith
 
 pub part_reads : {X : Type 0} {octets : List ℕ} {by : Found → X} {end_of : X → ℕ} (offset : ℕ) (x : X) → IsPartAt octets by end_of offset x → inside octets by end_of (outcome octets (walk octets offset)) ≡ Ok x
 part_reads {octets = octets} {by = by} {end_of = end_of} offset x is = grind (arith, name_walks)

@@ -28,17 +28,10 @@ one_of : (a b c d : ℕ) → nat_lt a b || nat_le c d ≡ true → (a < b) ⊎ (
 one_of a b c d e = grind arith
 
 shows_label : (message : List ℕ) (spot : Spot) → 0 < slice_index message spot.offset → slice_index message spot.offset ≤ 63 → Shows message spot (Some (label_of message spot (slice_index message spot.offset)))
-shows_label message spot some short =
-    let first : ℕ = slice_index message spot.offset in
-    cond_both (nat_le (length message) (spot.offset + first)) (at_fault ShortMessage) (if nat_lt 255 (spot.octets + first + 2) then at_fault NameTooLong else at_label first) (λ s. Shows message spot (Some s))
-    (λ cut. inl (some, short, fails (λ inside. omega (arith, leb-true _ _ cut, inside))))
-    (λ whole. cond_both (nat_lt 255 (spot.octets + first + 2)) (at_fault NameTooLong) (at_label first) (λ s. Shows message spot (Some s))
-    (λ long. inl (some, short, holds (above _ _ whole) (fails (λ room. omega (arith, ltb-true _ _ long, room)))))
-    (λ room. let shows : Shows message spot (Some (at_label first)) = (record { first = refl; some = some; short = short; inside = above _ _ whole }, at_least _ _ room) in shows))
+shows_label message spot some short = grind (arith, cond_both, leb-true, above, ltb-true, at_least, at_fault, at_label, fails, holds)
 
 not_in : (target bound : ℕ) → (target < 12) ⊎ (bound ≤ target) → (12 ≤ target) × (target < bound) → ⊥
-not_in target bound (inl low) good = omega (arith, low, good.0)
-not_in target bound (inr late) good = omega (arith, late, good.1)
+not_in target bound given good = omega arith
 
 shows_pointer : (message : List ℕ) (spot : Spot) → 192 ≤ slice_index message spot.offset → Shows message spot (Some (pointer_of message spot (target_at message spot.offset)))
 shows_pointer message spot first =
@@ -110,10 +103,7 @@ not_within : (a b : ℕ) → (a ≤ b → ⊥) → b < a
 not_within a b out = elim (cases_lt b a) [ inl less ↦ less | inr within ↦ absurd (out within) ]
 
 out_of_range : (target bound : ℕ) → ((12 ≤ target) × (target < bound) → ⊥) → (target < 12) ⊎ (bound ≤ target)
-out_of_range target bound bad = elim (cases_lt target 12) [
-  | inl low ↦ inl low
-  | inr past ↦ inr (not_below target bound (λ below. bad (past, below)))
-]
+out_of_range target bound bad = grind arith
 
 -- a place that lies in the message, by its first octet
 module _ (message : List ℕ) (spot : Spot) where
@@ -123,9 +113,7 @@ module _ (message : List ℕ) (spot : Spot) where
 
   standing_high : 192 ≤ slice_index message spot.offset → standing_in message spot ≡ Some (pointer_of message spot (target_at message spot.offset))
   unfolding standing_in
-  standing_high h =
-      let first = high _ h in
-      cond-false _ _ _ (below_length _ _ (here_of message spot.offset (omega (arith, h)))) ∙ ap Some (cond-false _ _ _ first.0 ∙ cond-false _ _ _ first.1 ∙ cond-false _ _ _ first.2)
+  standing_high h = grind (arith, common_steps)
 
   standing_in_label : (size : ℕ) → IsLabelAt message spot.offset size → standing_in message spot ≡ Some (label_of message spot size)
   standing_in_label size is = cc (standing_short (rw is.first is.some) (rw is.first is.short))

@@ -1,5 +1,5 @@
 -- Strings are read in a message one after another, and pushed to a builder.
-use Rattle.zone_wire.proofs.Common.{AllByRecursion, AllByRecursion-append, AreStrings, Awaits, AwaitsStrings, BadRdata, Bool, Built, Err, Fault, FieldValue, Framed, Holds, IsNext, IsString, IsValueAt, List, Ok, OneString, PutsValue, Some, Strings, Suits, [], and_parts, ap, append-nil, append_assoc, arith, bytes_decides, bytes_each, common_steps, cond-false, false, field_octets, flat_map, flat_map-append, framed_short, get_or, layout, length, length-append, ltb-true, map, map-append, nat_eq, nat_lt, octets_between, octets_of, parts_for, pointwise, put_after, refl, slice_index, some_frames, string, strings, strings_before, strings_of, subst, sym, true, value_at, with_length, ℕ, ◌&&◌, ◌++◌, ◌+◌, ◌-◌, ◌<◌, ◌∙◌, ◌∷◌, ◌≡◌, ◌≤◌}
+use Rattle.zone_wire.proofs.Common.{AllByRecursion, AllByRecursion-append, AreStrings, Awaits, AwaitsStrings, BadRdata, Bool, Built, Err, Fault, FieldValue, Framed, Holds, IsNext, IsString, IsValueAt, List, Ok, OneString, PutsValue, Some, Strings, Suits, [], and_parts, ap, append-nil, append_assoc, arith, bytes_decides, bytes_each, common_steps, cond-false, false, field_octets, flat_map, flat_map-append, framed_short, get_or, layout, length, length-append, ltb-true, map, map-append, nat_eq, nat_lt, octets_between, octets_of, parts_for, pointwise, put_after, refl, slice_index, some_frames, string, strings, strings_before, strings_of, subst, sym, true, value_at, with_length, ℕ, ◌&&◌, ◌++◌, ◌+◌, ◌-◌, ◌<◌, ◌∙◌, ◌∷◌, ◌≡◌, ◌≤◌, rules}
 use Rattle.zone_rdata.specs.Machine.Fronts.{AreWithLengths}
 use Rattle.zone_wire.proofs.Fielding.{strings_read}
 use Rattle.zone_wire.proofs.ReadFields.{part_bytes, strings_each, value_shows}
@@ -75,10 +75,7 @@ module _ (octets : List ℕ) (each : (k : ℕ) → get_or octets k 0 < 256) (end
 
   -- a string takes at least its length's octet
   pub string_past : (old new : Built) (place past : ℕ) → PutsValue octets end place OneString old new past → place < past
-  string_past old new place past p =
-      let shows = value_shows octets each end within place OneString (p.value, past) p.read in
-      let s = string_stands octets place past p.value shows.0 shows.2 in
-      omega (arith, ap length s.4, part_len octets place past (omega (arith, shows.1)))
+  string_past old new place past p = grind (arith, value_shows octets each end within place OneString (p.value, past) p.read)
 
   strings_value : (many : List (List ℕ)) → AreStrings many → octets_between octets start end ≡ flat_map with_length many → value_at octets end start Strings ≡ Ok (strings many, end)
   unfolding value_at
@@ -92,16 +89,7 @@ module _ (octets : List ℕ) (each : (k : ℕ) → get_or octets k 0 < 256) (end
       record { value = strings h.many; read = strings_value h.many are is ∙ ap (λ n. Ok (strings h.many, n)) (sym same); put = h.put; past = h.past; inside = h.inside }
 
   strings_none : (AreWithLengths (octets_between octets start end) → ⊥) → strings_before end (octets_between octets start end) ≡ Err BadRdata
-  strings_none none =
-      let bs : List ℕ = octets_between octets start end in
-      cond-false _ _ _ (untrue (nat_lt 0 (length bs) && pointwise nat_eq (flat_map with_length (strings_of bs)) bs) (λ yes.
-      let p = and_parts (nat_lt 0 (length bs)) (pointwise nat_eq (flat_map with_length (strings_of bs)) bs) yes in
-      let whole : flat_map with_length (strings_of bs) ≡ bs = (bytes_decides (flat_map with_length (strings_of bs)) bs).0 p.1 in
-      none (strings_of bs, record { some = some_frames (strings_of bs) (omega (arith, ltb-true 0 (length bs) p.0, ap length whole)); each = strings_each bs (part_bytes octets each end within start end) }, sym whole)))
-    where
-      untrue : (t : Bool) → (t ≡ true → ⊥) → t ≡ false
-      untrue true never = absurd (never refl)
-      untrue false never = refl
+  strings_none none = search (rules, cond-false, and_parts, some_frames, ltb-true, strings_each, part_bytes)
 
   strings_fault : (AreWithLengths (octets_between octets start end) → ⊥) → value_at octets end start Strings ≡ Err BadRdata
   unfolding value_at

@@ -69,10 +69,7 @@ module _ (octets : List ℕ) (none : None ≡ header_fault octets) where
         from_additional = from_answers ∙ and_then_ok _ (additional_run.parts, end) (after_additional octets questions_run.parts answers_run.parts) additional_run.is
 
         pub trailing : end ≢ length octets → sections_of octets ≡ Err (TrailingOctets, 0)
-        trailing h = from_additional ∙ cond-false _ _ _ (differs end (length octets) h)
-          where
-            differs : (a b : ℕ) → a ≢ b → (a == b) ≡ false
-            differs a b h = grind (arith, nat_tests)
+        trailing h = grind (arith, from_additional, cond-false)
 
         abbrev whole : Sections
         whole = record { id = u16_at octets 0; questions = questions_run.parts; answers = answers_run.parts; additional = additional_run.parts }

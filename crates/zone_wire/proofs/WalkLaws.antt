@@ -1,5 +1,5 @@
 -- What holds of the walk that is computed holds of each list that is a walk.
-use Rattle.zone_wire.proofs.Common.{EitherIs, Fault, Found, IsNameAt, IsVerdict, IsWalk, List, NameFault, None, Option, Outcome, Visit, ap, ending, get_or, inl, inr, length, named, outcome, refl, refused, subst, sym, walk, ℕ, ◌<◌, ◌∙◌, ◌≡◌}
+use Rattle.zone_wire.proofs.Common.{EitherIs, Fault, Found, IsNameAt, IsVerdict, IsWalk, List, NameFault, None, Option, Outcome, Visit, ap, ending, get_or, inl, inr, length, named, outcome, refl, refused, subst, sym, walk, ℕ, ◌<◌, ◌∙◌, ◌≡◌, arith}
 use Rattle.zone_wire.proofs.MessageFaults.{name_refused, name_one, name_not_both}
 use Rattle.zone_wire.proofs.Walking.{name_measures, one_name, walk_gives_name, walk_names}
 use Rattle.zone_wire.proofs.WholeWalks.{is_walk, walk_ends, walk_is}
@@ -8,10 +8,7 @@ pub of_walk : (P : List Visit → Type 0) (message : List ℕ) (offset : ℕ) (v
 of_walk P message offset visits ends is holds = subst P (sym (is_walk message offset visits ends is)) holds
 
 pub one_walk : (message : List ℕ) (offset : ℕ) (w v : List Visit × Option Fault) → IsWalk message offset w.0 w.1 → IsWalk message offset v.0 v.1 → w ≡ v
-one_walk message offset (visits, ends) (others, late) is too =
-    let same : visits ≡ others = is_walk message offset visits ends is ∙ sym (is_walk message offset others late too) in
-    let both : ends ≡ late = walk_ends message offset visits ends is ∙ sym (walk_ends message offset others late too) in
-    ap (λ (v : List Visit). (v, ends)) same ∙ ap (λ (e : Option Fault). (others, e)) both
+one_walk message offset (visits, ends) (others, late) is too = grind (arith, is_walk, walk_ends)
 
 pub some_walk : (message : List ℕ) (offset : ℕ) → (visits : List Visit) × (ends : Option Fault) × IsWalk message offset visits ends
 some_walk message offset = (walk message offset, ending (walk message offset), walk_is message offset _ refl)

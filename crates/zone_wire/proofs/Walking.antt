@@ -16,11 +16,7 @@ outcome_at message n spot (Some (at_fault fault)) = refused fault 1
 
 outcome_on : (message : List ℕ) (n : ℕ) (spot : Spot) (standing : Option Standing) → outcome message (walk_on (walk_by n message) spot standing) ≡ outcome_at message n spot standing
 unfolding outcome outcome_by
-outcome_on message n spot None = refl
-outcome_on message n spot (Some at_root) = refl
-outcome_on message n spot (Some (at_label size)) = refl
-outcome_on message n spot (Some (at_pointer target)) = refl
-outcome_on message n spot (Some (at_fault fault)) = refl
+outcome_on message n spot standing = grind arith
 
 -- one place more
 pub outcome_step : (message : List ℕ) (n : ℕ) (spot : Spot) (standing : Option Standing) → standing_in message spot ≡ standing → outcome_by (suc n) message spot ≡ outcome_at message n spot standing
@@ -91,10 +87,7 @@ unfolding walk outcome_by
 name_walks message offset found is = let bounds = name_bounds message offset found is in at_walks is.at 256 0 0 bounds.steps (omega (arith, is.few)) (omega (arith, bounds.short))
 
 pub one_name : (message : List ℕ) (offset : ℕ) (found other : Found) → IsNameAt message offset found → IsNameAt message offset other → found ≡ other
-one_name message offset found other is too =
-    let e = name_walks message offset found is in
-    let k = name_walks message offset other too in
-    cc
+one_name message offset found other is too = grind (arith, name_walks)
 
 -- what a walk finds from a spot on stands there
 pub record Finds (message : List ℕ) (spot : Spot) (found : Found) : Type 0 where
@@ -182,21 +175,15 @@ Measures (refused fault steps) visits = (length visits ≡ steps) × (ending vis
 
 measures_label : (front : List ℕ) (rest : Outcome) (size : ℕ) (spot : Spot) (visits : List Visit) → Measures rest visits → Measures (after_label front rest) (visit spot.offset (at_label size) ∷ visits)
 unfolding ending
-measures_label front (named found) size spot visits m = (ap suc m.0, m.1)
-measures_label front (refused fault steps) size spot visits m = (ap suc m.0, m.1)
+measures_label front rest size spot visits m = grind arith
 
 measures_pointer : (end : ℕ) (rest : Outcome) (target : ℕ) (spot : Spot) (visits : List Visit) → Measures rest visits → Measures (after_pointer end rest) (visit spot.offset (at_pointer target) ∷ visits)
 unfolding ending
-measures_pointer end (named found) target spot visits m = (ap suc m.0, m.1)
-measures_pointer end (refused fault steps) target spot visits m = (ap suc m.0, m.1)
+measures_pointer end rest target spot visits m = grind arith
 
 measures_at : (message : List ℕ) (n : ℕ) (spot : Spot) (standing : Option Standing) → ((next : Spot) → Measures (outcome_by n message next) (walk_by n message next)) → Measures (outcome_at message n spot standing) (walk_on (walk_by n message) spot standing)
 unfolding ending
-measures_at message n spot None m = (refl, refl)
-measures_at message n spot (Some at_root) m = (refl, refl)
-measures_at message n spot (Some (at_label size)) m = measures_label _ (outcome_by n message (past_label spot size)) size spot (walk_by n message (past_label spot size)) (m (past_label spot size))
-measures_at message n spot (Some (at_pointer target)) m = measures_pointer _ (outcome_by n message (past_pointer spot target)) target spot (walk_by n message (past_pointer spot target)) (m (past_pointer spot target))
-measures_at message n spot (Some (at_fault fault)) m = (refl, refl)
+measures_at message n spot standing m = grind arith
 
 pub measures : (n : ℕ) (message : List ℕ) (spot : Spot) → Measures (outcome_by n message spot) (walk_by n message spot)
 unfolding walk_by outcome_by outcome ending
