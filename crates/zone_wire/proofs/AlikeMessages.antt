@@ -1,8 +1,6 @@
 -- A message is judged by itself, and by what messages before it that are alike have in common.
-use Rattle.zone_wire.proofs.Common.{AgreeWith, AllByRecursion, AnswersGive, AreAlike, AskAfter, AsksIn, ComesAfter, Fault, FaultAfter, GiveAfter, HasFirstId, IsReadAfter, List, None, Option, OrderFault, Placed, QuestionAt, Record, RecordAt, Sections, Some, StatedMessage, StreamKept, ZoneAsked, [], ap, append-nil, append_assoc, asked_in, first_id, inl, inr, is_closed, length, length-append, list_any, no_more, opening_of, placed_in, refl, states, subst, sym, zone_of, ℕ, ◌++◌, ◌+◌, ◌||◌, ◌∙◌, ◌∷◌, ◌≡◌, common_steps, arith}
+use Rattle.zone_wire.proofs.Common.{AllByRecursion, AnswersGive, AreAlike, AskAfter, AsksIn, ComesAfter, Fault, FaultAfter, GiveAfter, HasFirstId, IsReadAfter, List, Option, OrderFault, Placed, QuestionAt, Record, RecordAt, Sections, Some, StatedMessage, StreamKept, ZoneAsked, [], ap, asked_in, first_id, inl, inr, is_closed, length, length-append, no_more, opening_of, placed_in, refl, states, subst, sym, zone_of, ℕ, ◌++◌, ◌+◌, ◌∙◌, ◌∷◌, ◌≡◌, common_steps, arith}
 use Rattle.zone_wire.specs.AnswerFault.{refused}
-use Rattle.zone_wire.proofs.Accepting.{any_append}
-use Rattle.zone_wire.proofs.Answering.{is_soa}
 use Rattle.zone_wire.proofs.Conditions.{unless_same}
 use Rattle.zone_wire.proofs.GivenMessages.{asked_grow, placed_grow}
 
@@ -11,9 +9,6 @@ record Alike (questions others : List QuestionAt) (before other : List Placed) :
   opening : opening_of before ≡ opening_of other
   closing : is_closed before ≡ is_closed other
   zone : before ≡ [] → zone_of questions [] ≡ zone_of others []
-
-nothing_too : (xs ys : List Placed) → opening_of xs ≡ opening_of ys → xs ≡ [] → ys ≡ []
-nothing_too xs ys e h = grind arith
 
 stands_alike : (questions others : List QuestionAt) (before other : List Placed) (r : Record) → Alike questions others before other → ComesAfter questions before r → ComesAfter others other r
 stands_alike questions others before other r is comes = grind arith
@@ -70,16 +65,6 @@ fault_alike before other octets here fault offset is (inl bad) = inl bad
 fault_alike before other octets here fault offset is (inr bad) =
     let s = bad.0 in
     inr (s, bad.1, unless_same (id_alike before other is s) (id_alike other before (sym is) s) (unless_same (asks_alike before other is s) (asks_alike other before (sym is) s) (give_after before other is octets s here (Some (fault, offset)))) bad.2)
-
--- the zone stays that which is fixed
-zone_same : (name : List (List ℕ)) (class : ℕ) (z : ZoneAsked) → name ≡ z.name → class ≡ z.class → (let y : ZoneAsked = record { name = name; class = class } in y) ≡ z
-zone_same name class z n c = ap (λ x. let y : ZoneAsked = record { name = x; class = class } in y) n ∙ ap (λ x. let y : ZoneAsked = record { name = z.name; class = x } in y) c
-
-zone_stays : (asked more : List QuestionAt) (placed here : List Placed) (z : ZoneAsked) → zone_of asked placed ≡ Some z → AllByRecursion (AsksIn (Some z)) more → zone_of (asked ++ more) (placed ++ here) ≡ Some z
-zone_stays asked more placed here z e asks = grind arith
-
-zone_none : (asked : List QuestionAt) (placed : List Placed) → zone_of asked placed ≡ None → (asked ≡ []) × (placed ≡ [])
-zone_none asked placed e = grind arith
 
 zone_grows : (asked other more : List QuestionAt) (placed late here : List Placed) (zone : Option ZoneAsked) → zone_of asked placed ≡ zone → zone_of other late ≡ zone → AllByRecursion (AsksIn zone) more → zone_of (asked ++ more) (placed ++ here) ≡ zone_of (other ++ more) (late ++ here)
 zone_grows asked other more placed late here zone e k asks = grind arith

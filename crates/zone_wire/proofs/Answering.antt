@@ -1,5 +1,5 @@
 -- The answer of a message is read as the record that it states, and in the order of a transfer.
-use Rattle.zone_wire.proofs.Common.{AgreeWith, AllByRecursion, AsksFor, Bool, ComesAfter, IsClass, List, Placed, QuestionAt, Record, [], and_from, ap, arith, bytes_decides, eq-eqb, false, is_no_class, list_any, nat_eq, nat_tests, or_from, pointwise_decides, refl, rules, same_name, same_record, true, zone_of, ℕ, ⊤, ◌&&◌, ◌++◌, ◌==◌, ◌∙◌, ◌∷◌, ◌≡◌, ◌≢◌}
+use Rattle.zone_wire.proofs.Common.{AgreeWith, AllByRecursion, AsksFor, Bool, ComesAfter, IsClass, List, Placed, QuestionAt, Record, [], and_from, arith, bytes_decides, eq-eqb, false, is_no_class, list_any, nat_eq, nat_tests, or_from, pointwise_decides, refl, rules, same_name, same_record, true, zone_of, ℕ, ⊤, ◌++◌, ◌==◌, ◌∷◌, ◌≡◌, ◌≢◌}
 
 pub differ : (a b : ℕ) → a ≢ b → nat_eq a b ≡ false
 differ a b h = grind (arith, nat_tests)

@@ -1,5 +1,5 @@
 -- The data of a record is read into a builder.
-use Rattle.zone_wire.proofs.Common.{AllByRecursion, Awaits, AwaitsStrings, BadRdata, Built, Err, Fault, Field, FieldValue, HoldEach, Holds, IsNext, IsPushFault, IsRead, IsReadyFor, IsRecordAt, IsSized, IsWhole, List, None, Ok, Option, Pushes, PutsValue, PutsValues, RawRecord, RecordAt, Result, Some, Strings, Suits, [], and_then, ap, append-nil, append_assoc, arith, cond-false, cond-true, data_at, drop, drop_all, ends_with_strings, eq-eqb, false, field_octets, fixed, flat_map, flat_map-append, get_or, if◌then◌else◌, inl, inr, layout, length, length-append, length-take, long_string, misplaced, name, nat_tests, octets_between, octets_of, octets_push, option_or, part_at, parts_for, put_after, refl, slice_get, strings, subst, suc, sym, table_row, too_long, u16_value, u32_value, value_at, values_at, zero, ℕ, ◌*◌, ◌++◌, ◌+◌, ◌-◌, ◌<◌, ◌==◌, ◌∙◌, ◌∷◌, ◌≡◌, ◌≢◌, ◌≤◌, common_steps}
+use Rattle.zone_wire.proofs.Common.{AllByRecursion, Awaits, BadRdata, Built, Err, Fault, Field, FieldValue, HoldEach, Holds, IsNext, IsPushFault, IsRead, IsReadyFor, IsRecordAt, IsSized, IsWhole, List, None, Ok, Option, Pushes, PutsValue, PutsValues, RawRecord, RecordAt, Result, Some, Strings, Suits, [], and_then, ap, append-nil, append_assoc, arith, cond-true, data_at, drop, drop_all, ends_with_strings, eq-eqb, field_octets, fixed, flat_map, flat_map-append, get_or, if◌then◌else◌, inl, inr, layout, length, length-append, length-take, long_string, misplaced, name, octets_between, octets_of, octets_push, option_or, part_at, parts_for, put_after, refl, slice_get, strings, subst, suc, sym, table_row, too_long, u16_value, u32_value, value_at, values_at, zero, ℕ, ◌*◌, ◌++◌, ◌+◌, ◌-◌, ◌<◌, ◌∙◌, ◌∷◌, ◌≡◌, ◌≢◌, ◌≤◌, common_steps}
 use Rattle.zone_rdata.proofs.AnyField.{field_short}
 use Rattle.zone_wire.proofs.ReadFields.{value_shows, values_show}
 use Rattle.zone_wire.proofs.MessageFaults.{and_then_err}
@@ -28,9 +28,6 @@ within_fields : (fields : List Field) (i : ℕ) (field : Field) → slice_get fi
 within_fields [] i field e = absurd (let t : ⊥ = cc in t)
 within_fields (f ∷ fields) zero field e = omega arith
 within_fields (f ∷ fields) (suc i) field e = let h = within_fields fields i field e in omega arith
-
-only_strings : (i : ℕ) (field : Field) → slice_get (Strings ∷ []) i ≡ Some field → (i ≡ 0) × (field ≡ Strings)
-only_strings i field e = grind arith
 
 -- the values of the fields before a place were put
 pub record HaveValues (octets : List ℕ) (end start : ℕ) (fields : List Field) (old now : Built) (count place : ℕ) : Type 0 where

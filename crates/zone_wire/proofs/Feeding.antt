@@ -1,12 +1,12 @@
 -- What is decided of a stream by one frame more, by octets that end inside a frame, and by the
 -- stream's end.
-use Rattle.zone_wire.proofs.Common.{AreRead, Bytes, Fault, Finished, Follow, Going, IfSome, IsAfter, IsCut, IsFramed, IsReadAfter, List, MatchOption, Message, None, Option, Place, Placed, ReadAfter, ReadsNext, Some, StandsForStream, StatedMessage, StopsIn, StreamDecides, StreamKept, StreamLeaves, StreamReads, TakesWhole, Transfer, [], ap, append-nil, append_assoc, arith, bytes_append, drop, end_fault, false, flat_map, frame, handed_on, is_closed, length, length-append, length-drop, length-map, length-take-le, map-append, octets_in, placed_in, refl, stops, subst, sym, take, take-append-drop, u16_at, zone_held, ℕ, ◌%◌, ◌*◌, ◌++◌, ◌+◌, ◌-◌, ◌/◌, ◌<◌, ◌∙◌, ◌∷◌, ◌≡◌, ◌≤◌, common_steps, rules}
+use Rattle.zone_wire.proofs.Common.{AreRead, Bytes, Fault, Finished, Follow, Going, IfSome, IsAfter, IsCut, IsFramed, IsReadAfter, List, MatchOption, Message, None, Option, Place, Placed, ReadAfter, ReadsNext, Some, StandsForStream, StatedMessage, StopsIn, StreamDecides, StreamKept, StreamLeaves, StreamReads, TakesWhole, Transfer, [], ap, append-nil, append_assoc, arith, bytes_append, drop, end_fault, false, frame, handed_on, is_closed, length, length-append, length-drop, length-map, length-take-le, map-append, octets_in, placed_in, refl, stops, subst, sym, take, take-append-drop, u16_at, zone_held, ℕ, ◌++◌, ◌+◌, ◌-◌, ◌<◌, ◌∙◌, ◌∷◌, ◌≡◌, ◌≤◌, common_steps, rules}
 use Rattle.zone_rdata.specs.FedSource.{is_failed, is_finished, SourceState}
 use Rattle.zone_rdata.specs.declared.fed.FedStatus.{FedStatus}
 use Rattle.zone_wire.specs.declared.framer.Framer.{Framer}
 use Rattle.zone_wire.proofs.FrameLaws.{frames_join, frame_is}
 use Rattle.zone_wire.proofs.GivenMessages.{reads_all, reads_up_to}
-use Rattle.zone_wire.proofs.Streams.{one_decision, fault_stays, fault_is_read, some_decision, some_reading}
+use Rattle.zone_wire.proofs.Streams.{one_decision, fault_stays, some_decision}
 
 -- octets of the length that they begin with are a frame
 pub framed_whole : (whole : List ℕ) → Bytes whole → length whole ≡ 2 + u16_at whole 0 → whole ≡ frame (drop 2 whole)

@@ -1,5 +1,5 @@
 -- The values of fields are read in a message: parts of its octets, numbers, and names.
-use Rattle.zone_wire.proofs.Common.{Awaits, BadRdata, Built, Err, Fault, Field, FieldValue, FitsString, Found, IsNameAt, IsPushFault, IsReadyFor, IsSized, List, Name, NameFault, Octets, Ok, OneString, Pushes, PutsValue, Serial, Some, Suits, Time, U16, [], ap, arith, common_steps, cond-false, drop, drop-drop, drop-take, drop_more, field_at, field_octets, fixed, get_or, inl, inr, length, length-append, long_string, lt-leb, misplaced, name, name_before, octets_between, octets_of, octets_push, outcome, parts_for, refl, sized_before, slice_index, string, string_at, subst, suc, sym, take, take-append-drop, take_all, too_long, u16_at, u16_value, u32_at, u32_value, value_at, walk, zero, ℕ, ◌++◌, ◌+◌, ◌-◌, ◌<◌, ◌∙◌, ◌∷◌, ◌≡◌, ◌≤◌, ◌⊎◌, rules}
+use Rattle.zone_wire.proofs.Common.{Awaits, BadRdata, Built, Err, Fault, Field, FieldValue, FitsString, Found, IsNameAt, IsPushFault, IsReadyFor, IsSized, List, Name, NameFault, Octets, Ok, OneString, Pushes, PutsValue, Serial, Some, Suits, Time, U16, [], ap, arith, common_steps, cond-false, drop, drop-drop, drop-take, drop_more, field_at, fixed, get_or, length, length-append, lt-leb, name, name_before, octets_between, octets_push, outcome, parts_for, refl, sized_before, slice_index, string, string_at, suc, sym, take, take-append-drop, take_all, u16_at, u16_value, u32_at, u32_value, value_at, walk, zero, ℕ, ◌++◌, ◌+◌, ◌-◌, ◌<◌, ◌∙◌, ◌∷◌, ◌≡◌, ◌≤◌, ◌⊎◌, rules}
 use Rattle.zone_wire.proofs.Fielding.{name_reads}
 use Rattle.zone_wire.proofs.MessageFaults.{name_refuses}
 use Rattle.zone_wire.proofs.Walking.{name_walks}

@@ -1,6 +1,5 @@
 -- Frame by frame.
-use Rattle.zone_wire.proofs.Common.{AreRead, Bytes, EitherIs, Err, Fault, FaultAfter, IsFramed, IsReadAfter, IsVerdict, List, Message, None, Ok, Placed, ReadAfter, Result, Some, StatedMessage, StreamDecides, [], ap, append-nil, append_assoc, flat_map, flat_map-append, frame, handed_on, inl, inr, length, lit<, next_message, octets_in, placed_in, reads, refl, stops, subst, sym, whole, ℕ, ◌++◌, ◌+◌, ◌∙◌, ◌∷◌, ◌≡◌, ◌≤◌, common_steps, arith}
-use Rattle.zone_wire.proofs.Accepting.{all_append}
+use Rattle.zone_wire.proofs.Common.{AreRead, Bytes, EitherIs, Err, Fault, FaultAfter, IsFramed, IsReadAfter, IsVerdict, List, Message, None, Ok, Placed, ReadAfter, Result, Some, StatedMessage, StreamDecides, [], append-nil, frame, handed_on, inl, inr, length, lit<, next_message, octets_in, placed_in, reads, refl, stops, subst, sym, whole, ℕ, ◌++◌, ◌+◌, ◌∙◌, ◌∷◌, ◌≡◌, ◌≤◌, common_steps, arith}
 use Rattle.zone_wire.proofs.GivenMessages.{reads_up_to, Judged, judged}
 use Rattle.zone_wire.proofs.OneReading.{fault_one, one_read, read_not_refused}
 

@@ -1,8 +1,8 @@
 -- The records of a message's answers up to the first that has a fault are those that are read.
-use Rattle.zone_wire.proofs.Common.{AllByRecursion, AnswerFault, AnswerStates, AnswersGive, AreRecordsAt, Bytes, ComesAfter, Err, Fault, IsRecordAt, List, Message, None, Ok, Option, Placed, QuestionAt, Record, RecordAt, Result, Some, [], answer_record, answers_of, ap, before_others, inl, inr, length, no_more, order_fault, own_record, refl, states, ℕ, ◌++◌, ◌∷◌, ◌≡◌, ◌≤◌, arith}
+use Rattle.zone_wire.proofs.Common.{AllByRecursion, AnswerFault, AnswerStates, AnswersGive, AreRecordsAt, Bytes, ComesAfter, Err, Fault, IsRecordAt, List, Message, None, Ok, Option, Placed, QuestionAt, Record, RecordAt, Result, Some, [], answer_record, answers_of, before_others, inl, inr, length, no_more, order_fault, own_record, refl, states, ℕ, ◌++◌, ◌∷◌, ◌≡◌, ◌≤◌, arith}
 use Rattle.zone_wire.specs.AnswerFault.{refused}
 use Rattle.zone_wire.proofs.AnswerFaults.{own_faults, own_states, order_faults, order_stands}
-use Rattle.zone_wire.proofs.MessageFaults.{err_same, stops}
+use Rattle.zone_wire.proofs.MessageFaults.{stops}
 use Rattle.zone_wire.proofs.ReadAnswers.{answer_shown}
 
 -- it stands somewhere

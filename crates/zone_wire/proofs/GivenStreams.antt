@@ -1,5 +1,5 @@
 -- What a stream is read as is what is found in it, and records.
-use Rattle.zone_wire.proofs.Common.{AllByRecursion, AnswersGive, Bytes, Fault, FaultAfter, IsFramed, IsRecord, List, Option, Place, Placed, QuestionAt, ReadAfter, RecordAt, StatedMessage, StreamDecides, StreamReads, [], flat_map, frame, front_bytes, handed_on, inl, inr, no_more, reads, refl, states, stops, stream_records, subst, sym, whole, ℕ, arith}
+use Rattle.zone_wire.proofs.Common.{AllByRecursion, AnswersGive, Bytes, Fault, FaultAfter, IsFramed, IsRecord, List, Option, Place, Placed, QuestionAt, ReadAfter, RecordAt, StatedMessage, StreamDecides, StreamReads, [], flat_map, frame, front_bytes, handed_on, no_more, reads, refl, states, stops, stream_records, subst, sym, whole, ℕ, arith}
 use Rattle.zone_wire.specs.AnswerFault.{refused}
 use Rattle.zone_wire.proofs.Accepting.{all_append}
 use Rattle.zone_wire.proofs.Conditions.{unless_each}

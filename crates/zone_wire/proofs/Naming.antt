@@ -1,5 +1,5 @@
 -- What a result of the walk says of the name.
-use Rattle.zone_wire.proofs.Common.{Err, Fault, Found, IfErr, IfOk, IsNameAt, IsOk, IsWalk, List, MatchResult, NameFault, Ok, Option, Outcome, Result, Says, Visit, found_by, get_or, length, outcome, refl, refused, subst, sym, walk, ℕ, ◌<◌, ◌≡◌, ◌≤◌, arith}
+use Rattle.zone_wire.proofs.Common.{Err, Fault, Found, IfErr, IfOk, IsNameAt, IsOk, IsWalk, List, MatchResult, NameFault, Ok, Option, Outcome, Result, Says, Visit, found_by, get_or, length, outcome, refused, subst, sym, walk, ℕ, ◌<◌, ◌≡◌, ◌≤◌, arith}
 use Rattle.zone_wire.specs.declared.name.Decoded.{Decoded}
 use Rattle.zone_wire.proofs.MessageFaults.{name_refused}
 use Rattle.zone_wire.proofs.WalkLaws.{of_walk}

@@ -1,9 +1,8 @@
 -- Answers and messages that are read one after another.
-use Rattle.zone_wire.proofs.Common.{AfterClosing, AgreeWith, AllByRecursion, Among, AnswerFault, AnswersGive, AskAfter, AsksIn, Bool, ComesAfter, Err, Failing, Fault, Gains, Hands, HasFirstId, HeadFault, IfFault, IfNoMemory, IsAfter, IsMessage, List, MatchOption, Message, MessageFault, None, Ok, Option, OrderFault, Placed, Question, QuestionAt, RawRecord, ReadsNext, Record, RecordAt, Result, Sections, Some, StatedMessage, StopsIn, Takes, TakesEach, TakesHead, TakesMessage, TakesMessageUpTo, TakesUpTo, TakesWhole, Transfer, ZoneAsked, [], ap, append-nil, append_assoc, asked, asked_in, cond-false, cond-true, eq-eqb, fails, false, filter, filter-append, first_id, handed_on, holds, inl, inr, is_some, length, length-append, list_any, map, nat_eq, no_more, not, or_left, or_right, other_id, other_zone, placed_in, pointwise, raw_at, refl, reverse, reverse-reverse, same_name, states, subst, sym, true, zone_held, zone_of, zone_with, ℕ, ⊤, ◌++◌, ◌+◌, ◌==◌, ◌||◌, ◌∙◌, ◌∷◌, ◌≡◌, common_steps, arith, rules}
+use Rattle.zone_wire.proofs.Common.{AfterClosing, AgreeWith, Among, AnswerFault, AnswersGive, AskAfter, Bool, ComesAfter, Err, Failing, Fault, Gains, Hands, HasFirstId, HeadFault, IfFault, IfNoMemory, IsAfter, IsMessage, List, MatchOption, Message, MessageFault, None, Ok, Option, OrderFault, Placed, Question, QuestionAt, RawRecord, ReadsNext, Record, RecordAt, Result, Sections, Some, StatedMessage, StopsIn, Takes, TakesEach, TakesHead, TakesMessage, TakesMessageUpTo, TakesUpTo, TakesWhole, Transfer, [], ap, append-nil, append_assoc, asked, asked_in, fails, false, first_id, handed_on, holds, inl, is_some, length, length-append, map, nat_eq, no_more, not, placed_in, pointwise, raw_at, refl, reverse, reverse-reverse, same_name, states, subst, sym, true, zone_held, zone_with, ℕ, ⊤, ◌++◌, ◌+◌, ◌==◌, ◌∙◌, ◌∷◌, ◌≡◌, common_steps, arith, rules}
 use Rattle.zone_rdata.specs.declared.fault.Failing.TheVariants as failings
 use Rattle.zone_wire.specs.AnswerFault.{refused}
-use Rattle.zone_wire.proofs.Accepting.{any_append}
-use Rattle.zone_wire.proofs.Answering.{is_soa, differ, names_same}
+use Rattle.zone_wire.proofs.Answering.{names_same}
 use Rattle.zone_wire.proofs.GivenMessages.{asked_grow, placed_grow}
 use Rattle.zone_wire.proofs.ReadAnswers.{names_equal}
 
@@ -12,16 +11,6 @@ some_of o e = grind arith
 
 pub none_of : {X : Type 0} (o : Option X) → is_some o ≡ false → o ≡ None
 none_of o e = grind arith
-
--- one record more
-zone_opened : (questions : List QuestionAt) (p : Placed) → zone_with (zone_of questions []) p.rr ≡ zone_of questions (p ∷ [])
-zone_opened questions p = grind arith
-
-zone_kept : (questions : List QuestionAt) (opening : Placed) (others more : List Placed) → zone_of questions (opening ∷ others) ≡ zone_of questions ((opening ∷ others) ++ more)
-zone_kept questions opening others more = grind arith
-
-hands_more : (given before after more all : List Placed) → after ≡ before ++ more → given ++ before ≡ all → given ++ after ≡ all ++ more
-hands_more given before after more all e h = ap (λ x. given ++ x) e ∙ sym (append_assoc given before more) ∙ ap (λ x. x ++ more) h
 
 abbrev pub here_at : Record → ℕ → ℕ → Placed
 here_at rr number offset = record { rr = rr; place = Message number offset }
@@ -32,11 +21,6 @@ opening_gains questions placed rr offset old mid new among none opening zone mid
 
 abbrev not_soa : Placed → Bool
 not_soa p = not (p.rr.kind == 6)
-
--- after it each record but the closing SOA is
-gains_after : (questions : List QuestionAt) (placed : List Placed) (p : Placed) (old new : Transfer) → Among questions placed old → is_some old.opening ≡ true → new.opening ≡ old.opening → new.zone ≡ old.zone → new.id ≡ old.id
-    → new.closed ≡ (old.closed || list_any is_soa (p ∷ [])) → new.decided.placed ≡ old.decided.placed ++ filter not_soa (p ∷ []) → Gains (p ∷ []) questions placed old new
-gains_after questions placed p old new among some opening zone id closed items = grind (arith, common_steps)
 
 pub closing_gains : (questions : List QuestionAt) (placed : List Placed) (p : Placed) (old new : Transfer) → Among questions placed old → is_some old.opening ≡ true → p.rr.kind ≡ 6 → new ≡ record old { closed = true } → Gains (p ∷ []) questions placed old new
 closing_gains questions placed p old new among some soa is = grind (arith, common_steps)
@@ -51,9 +35,6 @@ stands_after questions placed rr t among some going other = grind arith
 -- none does once it is
 pub closed_after : (questions : List QuestionAt) (placed : List Placed) (rr : Record) (t : Transfer) → Among questions placed t → t.closed ≡ true → OrderFault questions placed rr AfterClosing
 closed_after questions placed rr t among closed = grind (arith, fails)
-
-gains_none : (questions : List QuestionAt) (placed : List Placed) (t : Transfer) → Among questions placed t → Gains [] questions placed t t
-gains_none questions placed t among = record { among = subst (λ ps. Among questions ps t) (sym (append-nil placed)) among; handed = λ given e. e ∙ ap handed_on (sym (append-nil placed)); id = refl }
 
 gains_more : (here more : List Placed) (questions : List QuestionAt) (placed : List Placed) (old mid new : Transfer) → Gains here questions placed old mid → Gains more questions (placed ++ here) mid new → Gains (here ++ more) questions placed old new
 gains_more here more questions placed old mid new first next = grind (arith, common_steps)
@@ -133,16 +114,8 @@ has_first_id before s id e h = grind arith
 pub no_first_id : (before : List StatedMessage) (s : Sections) (id : Option ℕ) → id ≡ first_id before → (MatchOption id ⊤ (λ first. s.id ≡ first) → ⊥) → HasFirstId before s → ⊥
 no_first_id before s id e h has = grind arith
 
--- a message without a question leaves the zone as it is
-among_nothing : (before : List StatedMessage) (s : Sections) (t : Transfer) → s.questions ≡ [] → Among (asked_in before) (placed_in before) t → Among (asked_in before ++ s.questions) (placed_in before) t
-among_nothing before s t none among = subst (λ qs. Among qs (placed_in before) t) (sym (ap (λ qs. asked_in before ++ qs) none ∙ append-nil (asked_in before))) among
-
 pub takes_none : (before : List StatedMessage) (s : Sections) (old new : Transfer) (id : ℕ) → IsAfter before old → s.questions ≡ [] → id ≡ s.id → HasFirstId before s → new.messages ≡ old.messages + 1 → new.id ≡ Some id → new.zone ≡ old.zone → new.opening ≡ old.opening → new.closed ≡ old.closed → TakesHead before s old new
 takes_none before s old new id after none is same count new_id zone opening closed = grind arith
-
--- the question of a message fixes the zone, or names the one that is fixed
-zone_asked : (questions : List QuestionAt) (placed : List Placed) (q : QuestionAt) → AgreeWith (zone_of questions placed) q.name q.class → (let z : ZoneAsked = record { name = q.name; class = q.class } in Some z) ≡ zone_of (questions ++ q ∷ []) placed
-zone_asked questions placed q agree = grind arith
 
 pub takes_one : (before : List StatedMessage) (s : Sections) (old new : Transfer) (id : ℕ) (q : QuestionAt) → IsAfter before old → s.questions ≡ q ∷ [] → id ≡ s.id → HasFirstId before s → q.kind ≡ 252 → AgreeWith (zone_held old.zone) q.name q.class → new.messages ≡ old.messages + 1 → new.id ≡ Some id → zone_held new.zone ≡ Some (record { name = q.name; class = q.class }) → new.opening ≡ old.opening → new.closed ≡ old.closed → TakesHead before s old new
 takes_one before s old new id q after one is same kind agree count new_id zone opening closed = grind arith

@@ -1,5 +1,5 @@
 -- Answers that are read without a fault state their records, in the order of a transfer.
-use Rattle.zone_wire.proofs.Common.{AllByRecursion, AnswerStates, BadClass, CompressibleType, Err, Fault, IsRecord, List, MetaType, None, Ok, Option, Placed, QuestionAt, Record, RecordAt, Result, Some, [], and_parts, answer_record, ap, bytes_decides, compressible, data_at, eqb-true, false, get_or, is_meta, is_no_class, length, list_any, nat_eq, or_parts, order_fault, own_record, pointwise, pointwise_decides, refl, same_name, same_record, subst, true, ttl_of, ℕ, ◌&&◌, ◌<◌, ◌==◌, ◌∙◌, ◌∷◌, ◌≡◌, ◌≢◌, ◌≤◌, arith, rules}
+use Rattle.zone_wire.proofs.Common.{AllByRecursion, AnswerStates, BadClass, CompressibleType, Fault, IsRecord, List, MetaType, None, Ok, Placed, QuestionAt, Record, RecordAt, Result, [], and_parts, answer_record, bytes_decides, compressible, data_at, eqb-true, false, get_or, is_meta, is_no_class, length, list_any, nat_eq, or_parts, order_fault, own_record, pointwise_decides, refl, same_name, same_record, subst, true, ttl_of, ℕ, ◌&&◌, ◌<◌, ◌==◌, ◌∷◌, ◌≡◌, ◌≢◌, ◌≤◌, arith, rules}
 use Rattle.zone_wire.proofs.ReadFields.{data_shown}
 use Rattle.zone_wire.proofs.ReadSections.{ok_same, leads, passes_on}
 use Rattle.zone_wire.proofs.Transfers.{equal_parts}
@@ -29,9 +29,6 @@ records_equal r s e = search (rules, and_parts, equal_parts, names_equal, eqb-tr
 -- a name and class that agree with the zone
 pub agree_parts : (name other : List (List ℕ)) (class last : ℕ) → (same_name name other && class == last) ≡ true → (name ≡ other) × (class ≡ last)
 agree_parts name other class last e = let p = and_parts (same_name name other) (class == last) e in (names_equal name other p.0, eqb-true _ _ p.1)
-
-kept_record : (r s : Record) (fault : Option Fault) → (let x : Result Record Fault = elim fault [ Some f ↦ Err f | None ↦ Ok r ] in x) ≡ Ok s → (fault ≡ None) × (r ≡ s)
-kept_record r s fault e = grind arith
 
 pub answer_shown : (octets : List ℕ) (questions : List QuestionAt) (before : List Placed) (a : RecordAt) (r : Record) → answer_record octets questions before a ≡ Ok r → (own_record octets a ≡ Ok r) × (order_fault questions before r ≡ None)
 unfolding answer_record

@@ -1,5 +1,5 @@
 -- The record that an answer states is one.
-use Rattle.zone_wire.proofs.Common.{AllByRecursion, AreFieldsAt, AreLaidOut, AreValuesAt, BadClass, Bool, Bytes, CompressibleType, Field, FieldValue, HoldEach, IsData, IsName, IsRecord, IsRecordAt, List, MatchOption, MetaType, None, Ok, Option, Placed, Record, RecordAt, Some, Strings, [], and_parts, ap, arith, bytes_each, common_steps, compressible, data_at, drop, false, filter, handed_on, if◌then◌else◌, inl, inr, is_meta, is_no_class, is_strings, layout, length, list_all, list_any, nat_eq, not, octets_between, octets_of, own_record, refl, subst, sym, true, ttl_of, u16_at, ℕ, ⊤, ◌+◌, ◌<◌, ◌||◌, ◌∷◌, ◌≡◌, ◌≢◌, ◌≤◌, ◌⊎◌}
+use Rattle.zone_wire.proofs.Common.{AllByRecursion, AreFieldsAt, AreLaidOut, AreValuesAt, BadClass, Bool, Bytes, CompressibleType, Field, FieldValue, HoldEach, IsData, IsName, IsRecord, IsRecordAt, List, MatchOption, MetaType, None, Ok, Option, Placed, Record, RecordAt, Some, Strings, [], and_parts, ap, arith, bytes_each, common_steps, compressible, data_at, drop, false, filter, handed_on, if◌then◌else◌, is_meta, is_no_class, is_strings, layout, length, list_all, list_any, nat_eq, not, octets_between, octets_of, own_record, refl, subst, sym, true, ttl_of, u16_at, ℕ, ⊤, ◌+◌, ◌<◌, ◌||◌, ◌∷◌, ◌≡◌, ◌≢◌, ◌≤◌, ◌⊎◌}
 use Rattle.zone_wire.proofs.ReadFields.{data_shown}
 use Rattle.zone_wire.proofs.ReadSections.{ok_same, leads, passes_on}
 use Rattle.zone_wire.proofs.Walking.{take_each, drop_each}
@@ -34,10 +34,6 @@ each_row class kind = grind arith
 
 part_short : (octets : List ℕ) (start end : ℕ) → length (octets_between octets start end) ≤ length octets
 part_short octets start end = grind (arith, common_steps)
-
--- strings take no more octets than the message
-strings_short : (octets : List ℕ) (start end : ℕ) (values : List FieldValue) → HoldEach (Strings ∷ []) values → AreValuesAt octets start end values → length (octets_of values) ≤ length octets
-strings_short octets start end values held stand = grind (arith, common_steps)
 
 pub no_class_parts : (n : ℕ) → is_no_class n ≡ false → (n ≢ 0) × (n ≢ 254) × (n ≢ 255)
 no_class_parts n e = grind arith

@@ -1,5 +1,5 @@
 -- What is read as the sections of a message are its sections.
-use Rattle.zone_wire.proofs.Common.{AreAt, Bool, Err, Fault, Found, HasHeader, IsMessage, IsPartAt, IsQuestionAt, IsRecordAt, IsResponse, List, None, Ok, Option, Outcome, QuestionAt, RecordAt, Result, Sections, Some, after_header, and_parts, and_then, arith, at_offset, each_from, eqb-true, false, get_or, header_fault, if◌then◌else◌, inside, leb-true, length, ltb-false, named, nat_le, not-false, outcome, question_at, question_by, questions_from, record_at, records_from, refl, refused, rules, sections_of, slice_index, subst, suc, sym, true, u16_at, unless_faulted, walk, zero, ℕ, ◌/◌, ◌<◌, ◌==◌, ◌≡◌, ◌≤◌}
+use Rattle.zone_wire.proofs.Common.{AreAt, Bool, Err, Fault, Found, HasHeader, IsMessage, IsPartAt, IsQuestionAt, IsRecordAt, IsResponse, List, None, Ok, Option, Outcome, QuestionAt, RecordAt, Result, Sections, after_header, and_then, arith, at_offset, each_from, eqb-true, false, get_or, header_fault, if◌then◌else◌, inside, leb-true, length, named, nat_le, outcome, question_at, question_by, questions_from, record_at, records_from, refl, refused, rules, sections_of, slice_index, subst, suc, sym, true, u16_at, unless_faulted, walk, zero, ℕ, ◌/◌, ◌<◌, ◌==◌, ◌≡◌, ◌≤◌}
 use Rattle.zone_wire.proofs.Walking.{walk_names}
 
 pub ok_same : {X E : Type 0} (x y : X) → (let r : Result X E = Ok x in r) ≡ Ok y → x ≡ y
@@ -20,9 +20,6 @@ passes test x y fault e = grind arith
 
 pub passes_on : {X E : Type 0} (test : Bool) (fault : E) (rest : Result X E) (x : X) → (if test then Err fault else rest) ≡ Ok x → (test ≡ false) × (rest ≡ Ok x)
 passes_on test fault rest x e = grind arith
-
-pub no_fault : (test : Bool) (fault : Fault) (rest : Option Fault) → (if test then Some fault else rest) ≡ None → (test ≡ false) × (rest ≡ None)
-no_fault test fault rest e = grind arith
 
 pub response_of : (octets : List ℕ) → slice_index octets 2 / 8 ≡ 16 → IsResponse octets
 response_of octets e = (omega (arith, e), omega (arith, e))

@@ -1,5 +1,5 @@
 -- The sections of a message are read.
-use Rattle.zone_wire.proofs.Common.{AreAt, Fault, Found, HasHeader, IsMessage, IsPartAt, IsQuestionAt, IsRecordAt, IsResponse, List, None, Ok, Option, Result, Sections, [], after_header, and_from, and_then, ap, arith, at_offset, cond-false, cond-true, each_from, eq-eqb, false, header_fault, inside, le-leb, le-ltb, length, nat_le, not, outcome, question_at, record_at, refl, sections_of, slice_index, subst, sym, u16_at, unless_faulted, walk, ℕ, ◌/◌, ◌==◌, ◌∙◌, ◌∷◌, ◌≡◌}
+use Rattle.zone_wire.proofs.Common.{AreAt, Fault, Found, HasHeader, IsMessage, IsPartAt, IsQuestionAt, IsRecordAt, IsResponse, List, None, Ok, Option, Result, Sections, [], after_header, and_then, ap, arith, at_offset, cond-true, each_from, eq-eqb, false, header_fault, inside, length, not, outcome, question_at, record_at, refl, sections_of, slice_index, subst, sym, u16_at, unless_faulted, walk, ℕ, ◌/◌, ◌==◌, ◌∙◌, ◌∷◌, ◌≡◌}
 use Rattle.zone_wire.proofs.Walking.{name_walks}
 
 pub and_then_ok : {X Y E : Type 0} (r : Result X E) (x : X) (next : X → Result Y E) → r ≡ Ok x → and_then r next ≡ next x

@@ -1,5 +1,5 @@
 -- Strings are read in a message one after another, and pushed to a builder.
-use Rattle.zone_wire.proofs.Common.{AllByRecursion, AllByRecursion-append, AreStrings, Awaits, AwaitsStrings, BadRdata, Bool, Built, Err, Fault, FieldValue, Framed, Holds, IsNext, IsString, IsValueAt, List, Ok, OneString, PutsValue, Some, Strings, Suits, [], and_parts, ap, append-nil, append_assoc, arith, bytes_decides, bytes_each, common_steps, cond-false, false, field_octets, flat_map, flat_map-append, framed_short, get_or, layout, length, length-append, ltb-true, map, map-append, nat_eq, nat_lt, octets_between, octets_of, parts_for, pointwise, put_after, refl, slice_index, some_frames, string, strings, strings_before, strings_of, subst, sym, true, value_at, with_length, ℕ, ◌&&◌, ◌++◌, ◌+◌, ◌-◌, ◌<◌, ◌∙◌, ◌∷◌, ◌≡◌, ◌≤◌, rules}
+use Rattle.zone_wire.proofs.Common.{AllByRecursion, AllByRecursion-append, AreStrings, Awaits, AwaitsStrings, BadRdata, Built, Err, Fault, FieldValue, Framed, Holds, IsNext, IsString, IsValueAt, List, Ok, OneString, PutsValue, Some, Strings, Suits, [], and_parts, ap, append-nil, append_assoc, arith, bytes_each, common_steps, cond-false, field_octets, flat_map, flat_map-append, framed_short, get_or, layout, length, length-append, ltb-true, map, map-append, octets_between, octets_of, parts_for, put_after, refl, slice_index, some_frames, string, strings, strings_before, subst, sym, value_at, with_length, ℕ, ◌++◌, ◌+◌, ◌-◌, ◌<◌, ◌∙◌, ◌∷◌, ◌≡◌, ◌≤◌, rules}
 use Rattle.zone_rdata.specs.Machine.Fronts.{AreWithLengths}
 use Rattle.zone_wire.proofs.Fielding.{strings_read}
 use Rattle.zone_wire.proofs.ReadFields.{part_bytes, strings_each, value_shows}

@@ -1,5 +1,5 @@
 -- The sections of a message by where each of them ends.
-use Rattle.zone_wire.proofs.Common.{AreRecordsAt, Err, Fault, HasHeader, IsMessage, IsParsed, IsRecordAt, List, None, Ok, Option, QuestionAt, RecordAt, Result, Sections, Some, TrailingOctets, after_header, and_then, ap, arith, cond-false, cond-true, eq-eqb, false, get_or, header_fault, length, nat_tests, parsed, questions_from, record_at, records_from, run_end_of, sections_of, sections_or_none, subst, sym, to_the_end, u16_at, unless_faulted, ℕ, ◌<◌, ◌==◌, ◌∙◌, ◌≡◌, ◌≢◌}
+use Rattle.zone_wire.proofs.Common.{AreRecordsAt, Err, Fault, HasHeader, IsMessage, IsParsed, IsRecordAt, List, None, Ok, Option, QuestionAt, RecordAt, Result, Sections, Some, TrailingOctets, after_header, and_then, ap, arith, cond-false, cond-true, eq-eqb, get_or, header_fault, length, parsed, questions_from, record_at, records_from, run_end_of, sections_of, sections_or_none, subst, sym, to_the_end, u16_at, unless_faulted, ℕ, ◌<◌, ◌∙◌, ◌≡◌, ◌≢◌}
 use Rattle.zone_wire.proofs.MessageFaults.{and_then_err}
 use Rattle.zone_wire.proofs.ReadSections.{header_shows, record_shows, each_shows, sections_shown}
 use Rattle.zone_wire.proofs.Sectioning.{and_then_ok, opens}

@@ -1,5 +1,5 @@
 -- What holds of the walk that is computed holds of each list that is a walk.
-use Rattle.zone_wire.proofs.Common.{EitherIs, Fault, Found, IsNameAt, IsVerdict, IsWalk, List, NameFault, None, Option, Outcome, Visit, ap, ending, get_or, inl, inr, length, named, outcome, refl, refused, subst, sym, walk, ℕ, ◌<◌, ◌∙◌, ◌≡◌, arith}
+use Rattle.zone_wire.proofs.Common.{EitherIs, Fault, Found, IsNameAt, IsVerdict, IsWalk, List, NameFault, None, Option, Outcome, Visit, ending, get_or, inl, inr, length, named, outcome, refl, refused, subst, sym, walk, ℕ, ◌<◌, ◌∙◌, ◌≡◌, arith}
 use Rattle.zone_wire.proofs.MessageFaults.{name_refused, name_one, name_not_both}
 use Rattle.zone_wire.proofs.Walking.{name_measures, one_name, walk_gives_name, walk_names}
 use Rattle.zone_wire.proofs.WholeWalks.{is_walk, walk_ends, walk_is}

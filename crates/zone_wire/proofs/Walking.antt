@@ -1,5 +1,5 @@
 -- The walk and the relation of names agree.
-use Rattle.zone_wire.proofs.Common.{AllByRecursion, At, Found, IsLabel, IsLabel-folded, IsNameAt, List, None, Option, Outcome, ShortMessage, Some, Spot, Standing, Visit, [], after_label, after_pointer, ap, arith, at_fault, at_label, at_pointer, at_root, bytes_each, common_steps, drop, ending, flat_map, get_or, get_or-drop, label, label_at, length, length-append, length-drop, length-take-le, lit≤, named, outcome, outset, past_label, past_pointer, pointer, refl, refused, root, standing_in, subst, suc, sym, take, visit, walk, walk_by, walk_on, wire, with_length, zero, ℕ, ◌*◌, ◌+◌, ◌<◌, ◌∙◌, ◌∷◌, ◌≡◌, ◌≤◌}
+use Rattle.zone_wire.proofs.Common.{AllByRecursion, At, Found, IsLabel, IsLabel-folded, IsNameAt, List, None, Option, Outcome, ShortMessage, Some, Spot, Standing, Visit, [], after_label, after_pointer, arith, at_fault, at_label, at_pointer, at_root, bytes_each, common_steps, drop, ending, flat_map, get_or, get_or-drop, label, label_at, length, length-append, length-drop, length-take-le, lit≤, named, outcome, outset, past_label, past_pointer, pointer, refl, refused, root, standing_in, subst, suc, sym, take, walk, walk_by, walk_on, wire, with_length, zero, ℕ, ◌*◌, ◌+◌, ◌<◌, ◌∙◌, ◌∷◌, ◌≡◌, ◌≤◌}
 use Rattle.zone_wire.proofs.Spots.{Shows, standing_shows, standing_root, standing_label, standing_pointer}
 
 -- what n places from a spot on lead to
@@ -172,14 +172,6 @@ walk_names message offset found each e =
 abbrev pub Measures : Outcome → List Visit → Type 0
 Measures (named found) visits = (length visits ≡ found.steps) × (ending visits ≡ None)
 Measures (refused fault steps) visits = (length visits ≡ steps) × (ending visits ≡ Some fault)
-
-measures_label : (front : List ℕ) (rest : Outcome) (size : ℕ) (spot : Spot) (visits : List Visit) → Measures rest visits → Measures (after_label front rest) (visit spot.offset (at_label size) ∷ visits)
-unfolding ending
-measures_label front rest size spot visits m = grind arith
-
-measures_pointer : (end : ℕ) (rest : Outcome) (target : ℕ) (spot : Spot) (visits : List Visit) → Measures rest visits → Measures (after_pointer end rest) (visit spot.offset (at_pointer target) ∷ visits)
-unfolding ending
-measures_pointer end rest target spot visits m = grind arith
 
 measures_at : (message : List ℕ) (n : ℕ) (spot : Spot) (standing : Option Standing) → ((next : Spot) → Measures (outcome_by n message next) (walk_by n message next)) → Measures (outcome_at message n spot standing) (walk_on (walk_by n message) spot standing)
 unfolding ending
