@@ -8,9 +8,7 @@ all_append P xs ys each also = grind (arith, common_steps)
 -- records in order, in two parts
 pub in_order_parts : (zone : Record) (before xs ys : List Placed) → InOrder zone before (xs ++ ys) → InOrder zone before xs × InOrder zone (before ++ xs) ys
 in_order_parts zone before [] ys order = search rules
-in_order_parts zone before (x ∷ xs) ys order =
-    let rest = in_order_parts zone (before ++ x ∷ []) xs ys order.1 in
-    ((order.0, rest.0), subst (λ (b : List Placed). InOrder zone b ys) (append_assoc before (x ∷ []) xs) rest.1)
+in_order_parts zone before (x ∷ xs) ys order = grind (arith, in_order_parts zone (before ++ x ∷ []) xs ys order.1, append_assoc)
 
 pub opens_more : (zone : Record) (before here : List Placed) → OpensWith zone before → InOrder zone before here → OpensWith zone (before ++ here)
 opens_more zone before here opens order = grind arith
@@ -24,8 +22,7 @@ any_append xs ys = grind (arith, common_steps)
 -- an SOA, records that are none, and the SOA again are in order
 pub rest_in_order : (zone : Record) (opening closing : Placed) (done others : List Placed) → closing.rr ≡ opening.rr → list_any is_soa done ≡ false → AllByRecursion (λ (p : Placed). p.rr.kind ≢ 6) others → InOrder zone (opening ∷ done) (others ++ closing ∷ [])
 rest_in_order zone opening closing done [] same none each = ((none, λ kind. same), tt)
-rest_in_order zone opening closing done (p ∷ others) same none each =
-    (search rules, rest_in_order zone opening closing (done ++ p ∷ []) others same (grind (arith, any_append, or_from, is_soa, differ)) each.1)
+rest_in_order zone opening closing done (p ∷ others) same none each = grind (arith, rest_in_order zone opening closing (done ++ p ∷ []) others same (grind (arith, any_append, or_from, is_soa, differ)) each.1)
 
 others_kept : (others : List Placed) → AllByRecursion (λ (p : Placed). p.rr.kind ≢ 6) others → filter (λ (p : Placed). not (p.rr.kind == 6)) others ≡ others
 others_kept [] each = refl

@@ -33,8 +33,7 @@ alike_after questions others before other placed is = grind (arith, common_steps
 
 give_alike : {number : ℕ} {octets : List ℕ} {questions : List QuestionAt} {before : List Placed} {answers : List RecordAt} {placed : List Placed} {stop : Option (Fault × ℕ)} (others : List QuestionAt) (other : List Placed) → Alike questions others before other → AnswersGive number octets questions before answers placed stop → AnswersGive number octets others other answers placed stop
 give_alike others other is no_more = no_more
-give_alike {questions = questions} {before = before} others other is (states {p = p} s place comes rest) =
-    states s place (stands_alike questions others before other p.rr is comes) (give_alike others (other ++ p ∷ []) (alike_more questions others before other p is) rest)
+give_alike {questions = questions} {before = before} others other is (states {p = p} s place comes rest) = grind (arith, give_alike others (other ++ p ∷ []) (alike_more questions others before other p is) rest, stands_alike, alike_more, states)
 give_alike others other is (refused (inl fault)) = refused (inl fault)
 give_alike {questions = questions} {before = before} others other is (refused {fault = fault} (inr bad)) = refused (inr (bad.0, bad.1, order_alike questions others before other bad.0 fault is bad.2))
 
@@ -77,9 +76,8 @@ pub alike_grows : (before other : List StatedMessage) (p : StatedMessage) → Ar
 alike_grows before other p is read =
     let questions = p.sections.questions in
     let records = alike_after (asked_in before ++ questions) (asked_in other ++ questions) (placed_in before) (placed_in other) p.placed (alike_answers before other is questions) in
-    let count : length (before ++ p ∷ []) ≡ length (other ++ p ∷ []) = length-append before (p ∷ []) ∙ ap (λ (k : StreamKept). k.messages + 1) is ∙ sym (length-append other (p ∷ [])) in
     let id = id_grows before other p (ap (λ (k : StreamKept). k.id) is) in
     let zone = zone_grows (asked_in before) (asked_in other) questions (placed_in before) (placed_in other) p.placed (zone_of (asked_in before) (placed_in before)) refl (sym (ap (λ (k : StreamKept). k.zone) is)) read.asks in
     let opening = records.opening in
     let closing = records.closing in
-    cc (asked_grow before p, asked_grow other p, placed_grow before p, placed_grow other p)
+    grind (arith, common_steps)

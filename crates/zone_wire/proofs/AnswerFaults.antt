@@ -1,5 +1,5 @@
 -- The faults of answers are those at which their records stop being read.
-use Rattle.zone_wire.proofs.Common.{AgreeWith, AnswerStates, BadClass, Bool, Bytes, ComesAfter, CompressibleType, Err, Fault, IsClass, IsKind, IsRecordAt, List, MetaType, None, Ok, Option, OrderFault, OwnFault, Placed, QuestionAt, Record, RecordAt, Result, Some, ZoneAsked, agrees, and_cases, arith, compressible, data_at, eq-eqb, fails, false, if◌then◌else◌, inl, inr, is_meta, is_no_class, length, list_any, nat_eq, not, not-false, order_fault, own_record, refl, same_record, true, ttl_of, zone_of, ℕ, ◌&&◌, ◌<◌, ◌==◌, ◌≡◌, ◌≢◌, ◌≤◌}
+use Rattle.zone_wire.proofs.Common.{AgreeWith, AnswerStates, BadClass, Bool, Bytes, ComesAfter, CompressibleType, Err, Fault, IsClass, IsKind, IsRecordAt, List, MetaType, None, Ok, Option, OrderFault, OwnFault, Placed, QuestionAt, Record, RecordAt, Result, Some, ZoneAsked, agrees, and_cases, arith, compressible, data_at, eq-eqb, fails, false, if◌then◌else◌, inl, inr, is_meta, is_no_class, length, list_any, nat_eq, not, not-false, order_fault, own_record, refl, same_record, true, ttl_of, zone_of, ℕ, ◌&&◌, ◌<◌, ◌==◌, ◌≡◌, ◌≢◌, ◌≤◌, rules}
 use Rattle.zone_rdata.proofs.Layouts.{held_data, stringless_short}
 use Rattle.zone_wire.proofs.Answering.{holds_data, none_of, names_same, records_same}
 use Rattle.zone_wire.proofs.DataFaults.{data_faults}
@@ -26,13 +26,7 @@ module _ (octets : List ℕ) (each : Bytes octets) (few : length octets ≤ 6553
   unfolding own_record
   own_faults offset a fault at e =
       let words = record_words octets offset a each at in
-      result_unless (is_no_class a.class) BadClass _ fault (holds_data a.class) (class_by a.class words.0)
-      (λ _. result_unless (is_meta a.kind) MetaType _ fault (λ (is : IsKind a.kind). is.stored) (λ h. record { short = words.1; stored = h })
-      (λ _. result_unless (list_any (nat_eq a.kind) compressible) CompressibleType _ fault (none_of a.kind compressible) (each_other a.kind compressible)
-      (λ _ h. elim (stops (data_at octets a) (record_with a) fault h) [
-        | inl d ↦ data_faults octets a fault each at.inside d
-        | inr d ↦ (let t : ⊥ = cc in absurd t)
-      ]))) e
+      search (rules, result_unless, holds_data, class_by, none_of, each_other, stops, data_faults)
 
   -- by itself it states the record as which it is read
   pub own_states : (offset : ℕ) (a : RecordAt) (r : Record) → IsRecordAt octets offset a → own_record octets a ≡ Ok r → AnswerStates octets a r

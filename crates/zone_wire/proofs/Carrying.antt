@@ -52,9 +52,7 @@ reaches {message} {offset} {spot} {labels} {end} {steps} standing c e = grind (a
 pub carries_label : {message : List ℕ} {offset : ℕ} {spot : Spot} {labels : List (List ℕ)} {end : Option ℕ} {steps : ℕ} (size : ℕ) → Carries message offset spot labels end steps → standing_in message spot ≡ Some (at_label size) → Carries message offset (past_label spot size) (labels ++ label_at message spot.offset size ∷ []) end (steps + 1)
 carries_label {message} {offset} {spot} {labels} {end} {steps} size c e =
     let r = reaches (Some (at_label size)) c e in
-    let shows : Shows message spot (Some (at_label size)) = subst (Shows message spot) e (standing_shows message spot) in
-    let l = label_at message spot.offset size in
-    search (rules, octets_of-push, label_octets-label, carried-label, outcome_by)
+    grind (arith, reaches, standing_shows, octets_of-push, label_octets-label, carried-label, outcome_by)
 
 -- where a pointer leads
 pub carries_pointer : {message : List ℕ} {offset : ℕ} {spot : Spot} {labels : List (List ℕ)} {end : Option ℕ} {steps : ℕ} (target : ℕ) → Carries message offset spot labels end steps → standing_in message spot ≡ Some (at_pointer target) → Carries message offset (past_pointer spot target) labels (Some (unwrap_or end (spot.offset + 2))) (steps + 1)

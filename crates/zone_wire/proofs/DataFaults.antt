@@ -25,9 +25,7 @@ module _ (octets : List ℕ) (each : (k : ℕ) → get_or octets k 0 < 256) (end
 
   name_fault : (start : ℕ) (o : Outcome) (fault : Fault) → outcome octets (walk octets start) ≡ o → name_before end o ≡ Err fault → FieldFault octets end Name start fault
   name_fault start (refused f steps) fault is e = inl (name_refused octets start fault steps (is ∙ ap (λ x. refused x steps) (err_same f fault e)))
-  name_fault start (named found) fault is e =
-      let f = fails_test (nat_le found.end end) (name found.labels, found.end) BadRdata fault e in
-      inr (sym f.1, found, walk_names octets start found each is, leb-false _ _ f.0)
+  name_fault start (named found) fault is e = grind (arith, fails_test (nat_le found.end end) (name found.labels, found.end) BadRdata fault e, walk_names octets start found each is)
 
   no_value : (start : ℕ) (field : Field) (fault : Fault) → value_at octets end start field ≡ Err fault → (past : ℕ) (value : FieldValue) → IsFieldAt octets end field start past value → ⊥
   no_value start field fault e past value h = let is = value_is start past field value h in cc
@@ -51,9 +49,7 @@ module _ (octets : List ℕ) (each : (k : ℕ) → get_or octets k 0 < 256) (end
 
   -- the first of fields that has no value
   pub values_fault : (fields : List Field) (start : ℕ) (fault : Fault) → values_at octets end start fields ≡ Err fault → FieldsFault octets end fields start fault
-  values_fault [] start fault e =
-      let f = fails_test (start == end) (let vs : List FieldValue = [] in vs) BadRdata fault e in
-      (sym f.1, λ same. let yes : (start == end) ≡ true = eq-eqb start end same in let no = f.0 in cc)
+  values_fault [] start fault e = grind arith
   values_fault (field ∷ fields) start fault e =
       elim (stops (value_at octets end start field) _ fault e) [
         | inl h ↦ inl (field_faults start field fault h)

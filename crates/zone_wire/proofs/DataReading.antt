@@ -89,24 +89,7 @@ module _ (octets : List ℕ) (each : (k : ℕ) → get_or octets k 0 < 256) (end
       let rest : List Field = drop (count + 1) fields in
       let more : flat_map parts_for (h.values ++ p.value ∷ []) ≡ flat_map parts_for h.values ++ parts_for p.value = flat_map-append parts_for h.values (p.value ∷ []) ∙ ap (λ t. flat_map parts_for h.values ++ t) (append-nil (parts_for p.value)) in
       let goes : values_at octets end place (drop count fields) ≡ and_then (values_at octets end past rest) (λ others. Ok (p.value ∷ others)) = ap (values_at octets end place) (from_here fields count field here) ∙ and_then_ok (value_at octets end place field) (p.value, past) _ p.read in
-      record {
-        values = h.values ++ p.value ∷ [];
-        number = length-append h.values (p.value ∷ []) ∙ ap (λ n. n + 1) h.number;
-        put = p.put ∙ ap (λ (b : Built). put_after b (parts_for p.value)) h.put
-            ∙ ap (λ (ps : List FieldValue). let v : Built = record old { parts = ps } in v) (append_assoc old.parts (flat_map parts_for h.values) (parts_for p.value) ∙ ap (λ t. old.parts ++ t) (sym more));
-        plain = λ others.
-            let before = h.plain others in
-            let other = field_of (λ f. f ≢ Strings) fields count field here others in
-            let one : flat_map parts_for (h.values ++ p.value ∷ []) ≡ flat_map parts_for h.values ++ p.value ∷ [] = more ∙ ap (λ t. flat_map parts_for h.values ++ t) (plain_parts field p.value other shows.0) in
-            let short = field_short field p.value other (field_of IsSized fields count field here (table_row old.class old.kind fields laid).sized) shows.0 in (
-              ap length one ∙ length-append (flat_map parts_for h.values) (p.value ∷ []) ∙ ap (λ n. n + 1) before.0,
-              omega (arith, short, before.1, ap (λ ps. length (octets_of ps)) one, ap length (octets_push (flat_map parts_for h.values) p.value), length-append (octets_of (flat_map parts_for h.values)) (field_octets p.value)),
-            );
-        leads = λ others e. h.leads (p.value ∷ others) (goes ∙ and_then_ok (values_at octets end past rest) others _ e) ∙ ap Ok (sym (append_assoc h.values (p.value ∷ []) others));
-        fails = λ fault e. h.fails fault (goes ∙ and_then_err (values_at octets end past rest) fault _ e);
-        past = omega (arith, h.past, p.past);
-        inside = p.inside;
-      }
+      grind (arith, length-append, append_assoc, field_of, plain_parts, field_short, table_row, octets_push)
 
   pub field_bad : (now : Built) (count place : ℕ) (field : Field) (fault : Fault) → slice_get fields count ≡ Some field → HaveValues octets end start fields old now count place → value_at octets end place field ≡ Err fault → values_at octets end start fields ≡ Err fault
   field_bad now count place field fault here h e = h.fails fault (ap (values_at octets end place) (from_here fields count field here) ∙ and_then_err (value_at octets end place field) fault _ e)

@@ -3,9 +3,7 @@ use Rattle.zone_wire.proofs.Common.{Err, Fault, List, Ok, Outcome, Result, and_t
 use Rattle.zone_wire.proofs.Walking.{walk_names, name_bounds}
 
 ended_inside : (message : List ℕ) (offset : ℕ) → ((k : ℕ) → get_or message k 0 < 256) → (o : Outcome) → outcome message (walk message offset) ≡ o → (end : ℕ) → Ok end ≡ name_end_of o → end ≤ length message
-ended_inside message offset each (named found) e end ends =
-    let same : end ≡ found.end = cc in
-    subst (λ n. n ≤ length message) (sym same) (name_bounds message offset found (walk_names message offset found each e)).end
+ended_inside message offset each (named found) e end ends = grind (arith, name_bounds message offset found (walk_names message offset found each e))
 ended_inside message offset each (refused fault steps) e end ends = cc
 
 -- a name ends inside its message

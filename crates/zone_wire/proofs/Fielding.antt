@@ -35,11 +35,8 @@ string_size octets start next text within stands = grind (arith, part_first)
 -- the value of a field, where strings go on to the end
 pub value_reads : (octets : List ℕ) (end start next : ℕ) (field : Field) (v : FieldValue) → (field ≡ Strings → next ≡ end) → Holds field v → next ≤ end → end ≤ length octets → IsValueAt octets start next v → value_at octets end start field ≡ Ok (v, next)
 unfolding value_at
-value_reads octets end start next Name (name labels) last h before within s =
-    name_reads end s.0 (outcome octets (walk octets start)) (name_walks octets start s.0 s.1) (omega (arith, s.3))
-    ∙ ap (λ (l : List (List ℕ)). Ok (name l, s.0.end)) s.2 ∙ ap (λ n. Ok (name labels, n)) s.3
-value_reads octets end start next Serial (u32_value n) last h before within s = sized_reads octets end start next Serial (u32_value n) 4 refl (long_back n h) before within s
-value_reads octets end start next Time (u32_value n) last h before within s = sized_reads octets end start next Time (u32_value n) 4 refl (long_back n h) before within s
+value_reads octets end start next Name (name labels) last h before within s = grind (arith, name_reads, name_walks)
+value_reads octets end start next field (u32_value n) last h before within s = search (rules, sized_reads, long_back)
 value_reads octets end start next U16 (u16_value n) last h before within s = sized_reads octets end start next U16 (u16_value n) 2 refl (two_back n h) before within s
 value_reads octets end start next (Octets n) (fixed text) last h before within s = sized_reads octets end start next (Octets n) (fixed text) n h.size (ap fixed (take_all n text (omega (arith, h.size)))) before within s
 value_reads octets end start next OneString (string text) last h before within s = sized_reads octets end start next OneString (string text) (1 + slice_index octets start) (string_size octets start next text (omega arith) s) (ap string (take_all (length text) text (omega arith))) before within s
@@ -47,16 +44,11 @@ value_reads octets end start next Strings (strings many) last h before within s 
 value_reads octets end start next field v last h before within s = absurd h
 
 values_read : (octets : List ℕ) (end : ℕ) → end ≤ length octets → (fields : List Field) (values : List FieldValue) (start : ℕ) → StringsLast fields → HoldEach fields values → AreValuesAt octets start end values → values_at octets end start fields ≡ Ok values
-values_read octets end within [] [] start last h s = cond-true _ _ _ (eq-eqb start end s)
-values_read octets end within [] (v ∷ values) start last h s = absurd h
+values_read octets end within [] values start last h s = grind arith
 values_read octets end within (f ∷ fields) [] start last h s = absurd h
-values_read octets end within (f ∷ []) (v ∷ []) start last h s =
-    and_then_ok (value_at octets end start f) (v, s.0) _ (value_reads octets end start s.0 f v (λ e. s.3) h.0 s.1 within s.2)
-    ∙ and_then_ok (values_at octets end s.0 []) [] _ (cond-true _ _ _ (eq-eqb s.0 end s.3))
+values_read octets end within (f ∷ []) (v ∷ []) start last h s = grind (arith, and_then_ok, value_reads, cond-true, eq-eqb)
 values_read octets end within (f ∷ []) (v ∷ w ∷ values) start last h s = absurd h.1
-values_read octets end within (f ∷ g ∷ fields) (v ∷ values) start last h s =
-    and_then_ok (value_at octets end start f) (v, s.0) _ (value_reads octets end start s.0 f v (λ e. absurd (last.0 e)) h.0 s.1 within s.2)
-    ∙ and_then_ok (values_at octets end s.0 (g ∷ fields)) values _ (values_read octets end within (g ∷ fields) values s.0 last.1 h.1 s.3)
+values_read octets end within (f ∷ g ∷ fields) (v ∷ values) start last h s = grind (arith, values_read octets end within (g ∷ fields) values s.0 last.1 h.1 s.3, and_then_ok, value_reads)
 
 layout_reads : (octets : List ℕ) (start end : ℕ) (canonical : List ℕ) (o : Option (List Field)) → ((fields : List Field) → o ≡ Some fields → StringsLast fields) → end ≤ length octets → MatchOption o (canonical ≡ octets_between octets start end) (λ fields. AreFieldsAt octets start end fields canonical) → (let r : Result (List ℕ) Fault = elim o [ None ↦ Ok (octets_between octets start end) | Some fields ↦ and_then (values_at octets end start fields) (λ values. Ok (octets_of values)) ] in r) ≡ Ok canonical
 layout_reads octets start end canonical o last within is = grind (arith, values_read)

@@ -6,19 +6,16 @@ use Rattle.zone_wire.proofs.GivenMessages.{placed_grow, asked_grow}
 
 -- answers that state records in the order of a transfer
 give_in_order : (zone : Record) (number : ℕ) (octets : List ℕ) (questions : List QuestionAt) (before : List Placed) (answers : List RecordAt) (placed : List Placed) → AllByRecursion (AsksFor zone) questions → AnswersState number octets answers placed → InOrder zone before placed → AnswersGive number octets questions before answers placed None
-give_in_order zone number octets questions before [] [] ask is order = no_more
-give_in_order zone number octets questions before [] (p ∷ placed) ask is order = absurd is
+give_in_order zone number octets questions before [] placed ask is order = grind (arith, no_more)
 give_in_order zone number octets questions before (a ∷ answers) [] ask is order = absurd is
-give_in_order zone number octets questions before (a ∷ answers) (p ∷ placed) ask is order =
-    states is.0.0 is.0.1 (follows_comes zone questions before p ask order.0) (give_in_order zone number octets questions (before ++ p ∷ []) answers placed ask is.1 order.1)
+give_in_order zone number octets questions before (a ∷ answers) (p ∷ placed) ask is order = grind (arith, give_in_order zone number octets questions (before ++ p ∷ []) answers placed ask is.1 order.1, follows_comes, states)
 
 first_id : (id : ℕ) (before : List StatedMessage) (s : Sections) → AllByRecursion (λ (p : StatedMessage). p.sections.id ≡ id) before → s.id ≡ id → HasFirstId before s
 first_id id before s each e = grind arith
 
 asks_in : (zone : Record) (before : List QuestionAt) (placed : List Placed) (questions : List QuestionAt) → AllByRecursion (AsksFor zone) before → OpensWith zone placed → AllByRecursion (AsksFor zone) questions → AllByRecursion (AsksIn (zone_of before placed)) questions
 asks_in zone before placed [] asked opens ask = tt
-asks_in zone before placed (q ∷ questions) asked opens ask =
-    (record { kind = ask.0.kind; agrees = zone_agrees zone before placed q.name q.class asked opens ask.0.name ask.0.class }, asks_in zone before placed questions asked opens ask.1)
+asks_in zone before placed (q ∷ questions) asked opens ask = grind (arith, asks_in zone before placed questions asked opens ask.1)
 
 -- a message of a transfer after others
 stated_is_read : (id : ℕ) (zone : Record) (number : ℕ) (before : List StatedMessage) (p : StatedMessage) → number ≡ length before + 1 → IsStatedMessage id zone number p → AllByRecursion (λ (q : StatedMessage). q.sections.id ≡ id) before → AllByRecursion (AsksFor zone) (asked_in before) → OpensWith zone (placed_in before) → InOrder zone (placed_in before) p.placed → IsReadAfter before p

@@ -85,8 +85,7 @@ module _ {X : Type 0} (octets : List ℕ) (Is : ℕ → X → Type 0) (end_of : 
 
   -- where all stand, what comes next has the fault
   fault_after : (next : After) (parts : List X) (count offset past : ℕ) (e : Fault × ℕ) → length parts ≡ count → AreAt Is end_of offset parts past → next past e → FaultIn octets Is end_of count next offset e
-  fault_after next [] zero offset past e size stand is = subst (λ n. next n e) (sym stand) is
-  fault_after next [] (suc count) offset past e size stand is = absurd (omega arith)
+  fault_after next [] count offset past e size stand is = grind arith
   fault_after next (x ∷ parts) zero offset past e size stand is = absurd (omega arith)
   fault_after next (x ∷ parts) (suc count) offset past e size stand is = inr (x, stand.0, fault_after next parts count (end_of x) past e (omega arith) stand.1 is)
 
@@ -110,8 +109,7 @@ module _ {X : Type 0} (octets : List ℕ) (Is : ℕ → X → Type 0) (end_of : 
         fault_in_one next go count (end_of too.0) e f (subst (λ x. FaultIn octets Is end_of count next (end_of x) e) (one offset is.0 too.0 is.1 too.1) is.2) too.2
 
     fault_past : (next : After) (parts : List X) (count offset past : ℕ) (e : Fault × ℕ) → length parts ≡ count → AreAt Is end_of offset parts past → FaultIn octets Is end_of count next offset e → next past e
-    fault_past next [] zero offset past e size stand is = subst (λ n. next n e) stand is
-    fault_past next [] (suc count) offset past e size stand is = absurd (omega arith)
+    fault_past next [] count offset past e size stand is = grind arith
     fault_past next (x ∷ parts) zero offset past e size stand is = absurd (omega arith)
     fault_past next (x ∷ parts) (suc count) offset past e size stand (inl is) = absurd (part_not_both offset x e.0 stand.0 is.0)
     fault_past next (x ∷ parts) (suc count) offset past e size stand (inr is) =
@@ -196,8 +194,7 @@ module _ (octets : List ℕ) where
       let h = is.header in
       let questions = unless_holds h.counts (unless_holds h.no_error (unless_holds h.whole (unless_holds h.response (unless_holds h.twelve fault)))) in
       let answers = fault_past octets (IsQuestionAt octets) (λ q. q.end) part_named one_part (answers_fault octets) s.questions (qdcount_of octets) 12 is.past_questions e is.question_count is.questions questions in
-      let additional = records_past (additional_fault octets) s.answers (ancount_of octets) is.past_questions is.past_answers e is.answer_count is.answers answers in
-      unless_holds refl (records_past (left_over octets) s.additional (arcount_of octets) is.past_answers (length octets) e is.additional_count is.additional additional)
+      grind (arith, unless_holds, fault_past, part_named, one_part, records_past)
 
   -- octets are a message, or have a first fault
   pub message_verdict : ((k : ℕ) → get_or octets k 0 < 256) → IsVerdict (IsMessage octets) (λ (e : Fault × ℕ). MessageFault octets e.0 e.1)

@@ -1,13 +1,12 @@
 -- At most one reading of a message.
-use Rattle.zone_wire.proofs.Common.{AreAt, Found, IsMessage, IsPartAt, IsQuestionAt, IsRecordAt, List, Sections, [], ap, arith, length, refl, rules, subst, sym, ℕ, ◌∙◌, ◌∷◌, ◌≡◌}
+use Rattle.zone_wire.proofs.Common.{AreAt, Found, IsMessage, IsPartAt, IsQuestionAt, IsRecordAt, List, Sections, [], ap, arith, length, refl, rules, subst, sym, ℕ, ◌∙◌, ◌∷◌, ◌≡◌, common_steps}
 use Rattle.zone_wire.proofs.Walking.{one_name}
 
 pub one_part : {X : Type 0} {octets : List ℕ} {by : Found → X} {end_of : X → ℕ} (offset : ℕ) (x y : X) → IsPartAt octets by end_of offset x → IsPartAt octets by end_of offset y → x ≡ y
 one_part {octets = octets} {by = by} offset x y is too = grind (arith, one_name)
 
 pub one_list : {X : Type 0} (Is : ℕ → X → Type 0) (end_of : X → ℕ) → ((offset : ℕ) (x y : X) → Is offset x → Is offset y → x ≡ y) → (xs ys : List X) (offset end past : ℕ) → length xs ≡ length ys → AreAt Is end_of offset xs end → AreAt Is end_of offset ys past → (xs ≡ ys) × (end ≡ past)
-one_list Is end_of one [] [] offset end past e are too = (refl, sym are ∙ too)
-one_list Is end_of one [] (y ∷ ys) offset end past e are too = absurd (omega (arith, e))
+one_list Is end_of one [] ys offset end past e are too = grind (arith, common_steps)
 one_list Is end_of one (x ∷ xs) [] offset end past e are too = absurd (omega (arith, e))
 one_list Is end_of one (x ∷ xs) (y ∷ ys) offset end past e are too =
     let same : x ≡ y = one offset x y are.0 too.0 in

@@ -12,9 +12,7 @@ module _ (octets : List ℕ) (end : ℕ) (within : end ≤ length octets) where
 
   field_not_both : (field : Field) (start past : ℕ) (v : FieldValue) (f : Fault) → IsFieldAt octets end field start past v → FieldFault octets end field start f → ⊥
   field_not_both Name start past (name labels) f h (inl is) = name_not_both octets start h.stands.0 f h.stands.1 is
-  field_not_both Name start past (name labels) f h (inr is) =
-      let same = ap (λ (x : Found). x.end) (one_name octets start h.stands.0 is.1 h.stands.1 is.2) in
-      omega (arith, is.3, h.inside, h.stands.3, same)
+  field_not_both Name start past (name labels) f h (inr is) = grind (arith, one_name)
   field_not_both Name start past v f h is = h.held
   field_not_both Serial start past v f h is = is.1 past v h
   field_not_both Time start past v f h is = is.1 past v h
@@ -40,8 +38,7 @@ module _ (octets : List ℕ) (end : ℕ) (within : end ≤ length octets) where
 
   fields_one : (fields : List Field) (start : ℕ) (f g : Fault) → FieldsFault octets end fields start f → FieldsFault octets end fields start g → f ≡ g
   fields_one [] start f g is too = is.0 ∙ sym too.0
-  fields_one (field ∷ fields) start f g (inl is) (inl too) = field_one field start f g is too
-  fields_one (field ∷ fields) start f g (inl is) (inr too) = absurd (field_not_both field start too.0 too.1 f too.2 is)
+  fields_one fields start f g (inl is) too = grind (arith, field_one, field_not_both)
   fields_one (field ∷ fields) start f g (inr is) (inl too) = absurd (field_not_both field start is.0 is.1 g is.2 too)
   fields_one (field ∷ fields) start f g (inr is) (inr too) =
       let same = value_one field start is.0 too.0 is.1 too.1 is.2 too.2 in
@@ -52,8 +49,7 @@ module _ (octets : List ℕ) (end : ℕ) (within : end ≤ length octets) where
   after field fields start past v f h given = grind (arith, field_not_both, value_one)
 
   fields_not_both : (fields : List Field) (values : List FieldValue) (start : ℕ) (f : Fault) → StringsLast fields → HoldEach fields values → AreValuesAt octets start end values → FieldsFault octets end fields start f → ⊥
-  fields_not_both [] [] start f last held stand is = is.1 stand
-  fields_not_both [] (v ∷ values) start f last held stand is = held
+  fields_not_both [] values start f last held stand is = grind arith
   fields_not_both (field ∷ fields) [] start f last held stand is = held
   fields_not_both (field ∷ []) (v ∷ []) start f last held stand is =
       (after field [] start stand.0 v f (record { held = held.0; stands = stand.2; inside = stand.1; last = λ e. stand.3 }) is).1 stand.3
@@ -95,12 +91,10 @@ order_not_both questions before r f comes is = grind arith
 module _ (octets : List ℕ) (questions : List QuestionAt) (before : List Placed) (a : RecordAt) (within : a.end ≤ length octets) where
   pub answer_not_both : (f : Fault) (r : Record) → AnswerFault octets questions before a f → AnswerStates octets a r → ComesAfter questions before r → ⊥
   answer_not_both f r (inl is) states comes = own_not_both octets a f r within is states
-  answer_not_both f r (inr is) states comes =
-      order_not_both questions before r f comes (subst (λ s. OrderFault questions before s f) (record_unique octets a is.0 r within is.1 states) is.2)
+  answer_not_both f r (inr is) states comes = grind (arith, order_not_both, record_unique)
 
   pub answer_one : (f g : Fault) → AnswerFault octets questions before a f → AnswerFault octets questions before a g → f ≡ g
   answer_one f g (inl is) (inl too) = own_one octets a f g within is too
   answer_one f g (inl is) (inr too) = absurd (own_not_both octets a f too.0 within is too.1)
   answer_one f g (inr is) (inl too) = absurd (own_not_both octets a g is.0 within too is.1)
-  answer_one f g (inr is) (inr too) =
-      order_one questions before too.0 f g (subst (λ s. OrderFault questions before s f) (record_unique octets a is.0 too.0 within is.1 too.1) is.2) too.2
+  answer_one f g (inr is) (inr too) = grind (arith, order_one, record_unique)

@@ -1,5 +1,5 @@
 -- Messages are read in one way, and more messages only go on.
-use Rattle.zone_wire.proofs.Common.{AllByRecursion, AnswersGive, AskAfter, BadQuestion, Fault, FaultAfter, GiveAfter, HasFirstId, IdMismatch, IsMessage, IsReadAfter, List, Message, None, Option, Place, Placed, QuestionAt, ReadAfter, RecordAt, Sections, Some, StatedMessage, Unless, [], ap, append-nil, append_assoc, arith, common_steps, inl, inr, length, length-append, no_more, reads, refl, states, stops, subst, sym, whole, ℕ, ◌++◌, ◌+◌, ◌∙◌, ◌∷◌, ◌≡◌, ◌≤◌}
+use Rattle.zone_wire.proofs.Common.{AllByRecursion, AnswersGive, AskAfter, BadQuestion, Fault, FaultAfter, GiveAfter, HasFirstId, IdMismatch, IsMessage, IsReadAfter, List, Message, None, Option, Place, Placed, QuestionAt, ReadAfter, RecordAt, Sections, Some, StatedMessage, Unless, [], ap, append-nil, append_assoc, arith, common_steps, inl, inr, length, length-append, no_more, reads, refl, states, stops, subst, sym, whole, ℕ, ◌++◌, ◌+◌, ◌∙◌, ◌∷◌, ◌≡◌, ◌≤◌, rules}
 use Rattle.zone_wire.specs.AnswerFault.{refused}
 use Rattle.zone_wire.proofs.Conditions.{unless_one, unless_holds}
 use Rattle.zone_wire.proofs.GivenAnswers.{IsInMessage, each_stands}
@@ -11,10 +11,7 @@ use Rattle.zone_wire.proofs.Transfers.{placed_same, record_unique}
 -- what answers give is one thing
 give_one : (number : ℕ) (octets : List ℕ) (questions : List QuestionAt) (answers : List RecordAt) (before placed other : List Placed) (stop late : Option (Fault × ℕ)) → AllByRecursion (IsInMessage octets) answers → AnswersGive number octets questions before answers placed stop → AnswersGive number octets questions before answers other late → (placed ≡ other) × (stop ≡ late)
 give_one number octets questions [] before placed other stop late at no_more no_more = (refl, refl)
-give_one number octets questions (a ∷ answers) before placed other stop late at (states {p = p} {placed = xs} is place comes rest) (states {p = q} {placed = ys} too there comes_too others) =
-    let same : p ≡ q = placed_same p q (record_unique octets a p.rr q.rr at.0.1.inside is too) (place ∙ sym there) in
-    let one = give_one number octets questions answers (before ++ q ∷ []) xs ys stop late at.1 (subst (λ r. AnswersGive number octets questions (before ++ r ∷ []) answers xs stop) same rest) others in
-    (ap (λ r. r ∷ xs) same ∙ ap (λ x. q ∷ x) one.0, one.1)
+give_one number octets questions (a ∷ answers) before placed other stop late at (states {p = p} {placed = xs} is place comes rest) (states {p = q} {placed = ys} too there comes_too others) = grind (arith, common_steps, give_one number octets questions answers (before ++ q ∷ []) xs ys stop late, placed_same, record_unique)
 give_one number octets questions (a ∷ answers) before placed other stop late at (states {p = p} is place comes rest) (refused {fault = f} fault) = search (arith, answer_not_both)
 give_one number octets questions (a ∷ answers) before placed other stop late at (refused {fault = f} fault) (states {p = p} is place comes rest) = search (arith, answer_not_both)
 give_one number octets questions (a ∷ answers) before placed other stop late at (refused {fault = f} is) (refused {fault = g} too) = (refl, ap (λ x. Some (x, a.offset)) (answer_one octets questions before a at.0.1.inside f g is too))
@@ -68,30 +65,23 @@ pub record GoesOn (placed : List Placed) (ending : Option (Fault × Place)) (oth
 -- more messages go on
 pub read_goes_on : (messages after all : List (List ℕ)) (before : List StatedMessage) (placed other : List Placed) (ending late : Option (Fault × Place)) → all ≡ messages ++ after → ReadAfter before messages placed ending → ReadAfter before all other late → GoesOn placed ending other late
 read_goes_on messages after all before placed other ending late e whole too = grind arith
-read_goes_on messages after all before placed other ending late e (reads is rest) whole = cc
+read_goes_on messages after all before placed other ending late e given whole = grind arith
 read_goes_on messages after all before placed other ending late e (reads {p = p} {messages = ms} {placed = xs} is rest) (reads {p = q} {messages = ns} {placed = ys} too others) =
     let octets : p.octets ≡ q.octets = cc in
     let tail : ns ≡ ms ++ after = cc in
     let same : p ≡ q = one_read before p q octets is too in
     let more = read_goes_on ms after ns (before ++ q ∷ []) xs ys ending late tail (subst (λ r. ReadAfter (before ++ r ∷ []) ms xs ending) same rest) others in
-    let front : q.placed ≡ p.placed = ap (λ (r : StatedMessage). r.placed) (sym same) in
-    record {
-      more = more.more;
-      goes_on = ap (λ z. z ++ ys) front ∙ ap (λ z. p.placed ++ z) more.goes_on ∙ sym (append_assoc p.placed xs more.more);
-      stays = λ f h. let s = more.stays f h in (ap (λ z. z ++ ys) front ∙ ap (λ z. p.placed ++ z) s.0, s.1);
-    }
+    grind (arith, one_read, append_assoc)
 read_goes_on messages after all before placed other ending late e (reads {p = p} is rest) (stops {octets = octets} {fault = f} {offset = n} fault) =
     let same : octets ≡ p.octets = cc in
     absurd (read_not_refused before p (other, f, n) is (subst (λ o. FaultAfter before o other f n) same fault))
-read_goes_on messages after all before placed other ending late e (stops fault) whole = cc
 read_goes_on messages after all before placed other ending late e (stops {octets = octets} {fault = f} {offset = n} fault) (reads {p = p} is rest) =
     let same : octets ≡ p.octets = cc in
     absurd (read_not_refused before p (placed, f, n) is (subst (λ o. FaultAfter before o placed f n) same fault))
 read_goes_on messages after all before placed other ending late e (stops {octets = octets} {fault = f} {offset = n} is) (stops {octets = others} {fault = g} {offset = m} too) =
     let octets_same : others ≡ octets = cc in
     let same = fault_one before octets (placed, f, n) (other, g, m) is (subst (λ o. FaultAfter before o other g m) octets_same too) in
-    let records = ap (λ (x : Stopped). x.0) (sym same) in
-    record { more = []; goes_on = records ∙ sym (append-nil placed); stays = λ k h. (records, ap (λ (x : Stopped). Some (x.1, Message (length before + 1) x.2)) (sym same) ∙ h) }
+    search rules
 
 ending_one : (ending late : Option (Fault × Place)) → ((e : Fault × Place) → ending ≡ Some e → late ≡ Some e) → ((e : Fault × Place) → late ≡ Some e → ending ≡ Some e) → ending ≡ late
 ending_one ending late f g = grind arith

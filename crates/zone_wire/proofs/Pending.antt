@@ -30,8 +30,7 @@ pub one_more_is : (octets : List ℕ) (count offset : ℕ) → HasRecordsFrom oc
 one_more_is octets count offset s some r is end e =
     let more = one_more octets count offset s some in
     let same : more.first ≡ r = one_part offset more.first r more.is is in
-    let there : more.first.end ≡ end = cc in
-    (search rules, cc)
+    grind arith
 
 -- the record after this name, where a record stands
 pub record_of_name : (octets : List ℕ) (offset : ℕ) (r : RecordAt) → IsRecordAt octets offset r → (found : Found) → IsNameAt octets offset found → IsRecordAt octets offset (record_by octets offset found)

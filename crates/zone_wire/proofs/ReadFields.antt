@@ -19,10 +19,7 @@ strings_each octets small = strings_each_by (length octets) octets small
 
 module _ (octets : List ℕ) (each : (k : ℕ) → get_or octets k 0 < 256) (end : ℕ) (within : end ≤ length octets) where
   name_shows : (start : ℕ) (o : Outcome) (v : FieldValue × ℕ) → outcome octets (walk octets start) ≡ o → name_before end o ≡ Ok v → Shown octets end start Name v
-  name_shows start (named found) v is e =
-      let p = passes (nat_le found.end end) _ v _ e in
-      let at = walk_names octets start found each is in
-      subst (Shown octets end start Name) p.1 (at.name, leb-true _ _ p.0, (found, at, refl, refl))
+  name_shows start (named found) v is e = grind (arith, walk_names octets start found each is)
   name_shows start (refused fault steps) v is e = cc
 
   sized_shows : (start size : ℕ) (field : Field) (v : FieldValue × ℕ) → (start + size ≤ end → Shown octets end start field (field_at field (octets_between octets start (start + size)), start + size)) → sized_before octets end start field size ≡ Ok v → Shown octets end start field v

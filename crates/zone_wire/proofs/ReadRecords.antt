@@ -69,11 +69,7 @@ module _ (are_data : HeldAreData) (are_short : UnstrungAreShort) where
     values_short class kind start end fields values row held stand given = grind (arith, common_steps)
 
     data_by : (class kind start end : ℕ) (canonical : List ℕ) (row : Option (List Field)) → layout class kind ≡ row → MatchOption row (canonical ≡ octets_between octets start end) (λ fields. AreFieldsAt octets start end fields canonical) → IsData class kind canonical
-    data_by class kind start end canonical None row is = record {
-      short = omega (arith, short, part_short octets start end, ap length is);
-      each = subst (AllByRecursion (λ c. c < 256)) (sym is) (bytes_each (octets_between octets start end) (take_each _ (drop start octets) (drop_each start octets each)));
-      value = subst (λ o. MatchOption o (Unit {0}) (λ fields. AreLaidOut fields canonical)) (sym row) tt;
-    }
+    data_by class kind start end canonical None row is = grind (arith, common_steps, part_short, bytes_each, take_each, drop_each)
     data_by class kind start end canonical (Some fields) row is =
         subst (IsData class kind) (sym is.whole)
         (are_data class kind fields is.values row is.held (values_short class kind start end fields is.values row is.held is.stand (subst IsRow row (each_row class kind))))

@@ -52,9 +52,8 @@ each_shows {X} read end_of Is shows zero offset run e = grind arith
 each_shows {X} read end_of Is shows (suc count) offset run e =
     let one = leads (at_offset offset (read offset)) _ run e in
     let rest = leads (each_from read end_of count (end_of one.first)) _ run one.goes_on in
-    let here : Is offset one.first = search rules in
     let others = each_shows read end_of Is shows count (end_of one.first) rest.first rest.is in
-    search rules
+    grind arith
 
 opened : (octets : List ℕ) (s : Sections) (fault : Option Fault) → unless_faulted fault (after_header octets) ≡ Ok s → (fault ≡ None) × (after_header octets ≡ Ok s)
 opened octets s fault e = grind arith

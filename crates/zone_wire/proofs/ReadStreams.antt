@@ -1,5 +1,5 @@
 -- A stream that is read without a fault is a transfer.
-use Rattle.zone_wire.proofs.Common.{AllByRecursion, AnswersGive, AnswersState, AreRead, AreStatedMessages, AsksFor, AsksIn, Bool, Bytes, ComesAfter, Fault, IsReadAfter, List, None, Option, Place, Placed, QuestionAt, ReadAfter, Record, RecordAt, Some, StatedMessage, StreamReads, StreamStates, ZoneAsked, [], ap, append-nil, append_assoc, arith, asked_in, back_bytes, end_fault, eq-eqb, eqb-true, false, flat_map, frame, front_bytes, handed_on, is_closed, length, length-append, list_any, no_more, octets_in, option_or, placed_in, reads, refl, states, stops, subst, suc, sym, true, whole, zone_of, ℕ, ⊤, ◌++◌, ◌+◌, ◌||◌, ◌∙◌, ◌∷◌, ◌≡◌, ◌≢◌, ◌≤◌}
+use Rattle.zone_wire.proofs.Common.{AllByRecursion, AnswersGive, AnswersState, AreRead, AreStatedMessages, AsksFor, AsksIn, Bool, Bytes, ComesAfter, Fault, IsReadAfter, List, None, Option, Place, Placed, QuestionAt, ReadAfter, Record, RecordAt, Some, StatedMessage, StreamReads, StreamStates, ZoneAsked, [], ap, append-nil, append_assoc, arith, asked_in, back_bytes, end_fault, eq-eqb, eqb-true, false, flat_map, frame, front_bytes, handed_on, is_closed, length, length-append, list_any, no_more, octets_in, option_or, placed_in, reads, refl, states, stops, subst, suc, sym, true, whole, zone_of, ℕ, ⊤, ◌++◌, ◌+◌, ◌||◌, ◌∙◌, ◌∷◌, ◌≡◌, ◌≢◌, ◌≤◌, common_steps}
 use Rattle.zone_wire.specs.AnswerFault.{refused}
 use Rattle.zone_wire.proofs.Accepting.{all_append, any_append, framed_parts, handed_transfer}
 use Rattle.zone_wire.proofs.Answering.{is_soa}
@@ -37,8 +37,7 @@ one_question (first ∷ questions) placed q ask of = grind (arith, all_append)
 -- at most one question
 questions_in_zone : (questions : List QuestionAt) (placed : List Placed) (asked : List QuestionAt) → length asked ≤ 1 → AllByRecursion (AsksIn (zone_of questions placed)) asked → OfOneZone questions placed → OfOneZone (questions ++ asked) placed
 questions_in_zone questions placed [] few ask of = grind (arith, append-nil)
-questions_in_zone questions placed (q ∷ []) few ask of = one_question questions placed q ask.0 of
-questions_in_zone questions placed (q ∷ r ∷ asked) few ask of = absurd (omega (arith, few))
+questions_in_zone questions placed (q ∷ xs) few ask of = grind (arith, common_steps, one_question)
 
 records_in_zone : {number : ℕ} {octets : List ℕ} {answers : List RecordAt} {placed : List Placed} {stop : Option (Fault × ℕ)} (questions : List QuestionAt) (before : List Placed) → AnswersGive number octets questions before answers placed stop → OfOneZone questions before → OfOneZone questions (before ++ placed)
 records_in_zone questions (opening ∷ before) give of = grind arith
@@ -80,14 +79,7 @@ record AreAccepted (before parts : List StatedMessage) : Type 0 where
 
 accepted : (parts before : List StatedMessage) → AreRead before parts → OfOneId before → OfOneZone (asked_in before) (placed_in before) → AreAccepted before parts
 accepted [] before are id zone = grind (arith, append-nil)
-accepted (p ∷ parts) before are id zone =
-    let rest = accepted parts (before ++ p ∷ []) are.1 (id_more before p are.0 id) (zone_more before p are.0 zone) in
-    let along = append_assoc before (p ∷ []) parts in
-    record {
-      one_id = subst OfOneId along rest.one_id;
-      one_zone = subst (λ b. OfOneZone (asked_in b) (placed_in b)) along rest.one_zone;
-      order = orders_append (placed_in before) p.placed (placed_in parts) (orders_from are.0.gives) (subst (λ b. Orders b (placed_in parts)) (sym (placed_grow before p)) rest.order);
-    }
+accepted (p ∷ parts) before are id zone = grind (arith, accepted parts (before ++ p ∷ []) are.1 (id_more before p are.0 id) (zone_more before p are.0 zone), id_more, zone_more, append_assoc, orders_append, orders_from, placed_grow)
 
 -- records that are none of them an SOA, and the opening SOA again
 record Closes (opening : Placed) (rest : List Placed) : Type 0 where
@@ -169,17 +161,4 @@ read_is_transfer stream placed r =
     let closing_kind : c.closing.rr.kind ≡ 6 = ap (λ (x : Record). x.kind) c.same ∙ w.soa in
     let parts : placed_in m.parts ≡ w.opening ∷ (c.others ++ c.closing ∷ []) = sym m.stated ∙ all in
     let opens : OpensIn a.one_zone.0 (w.opening ∷ (c.others ++ c.closing ∷ [])) = subst (OpensIn a.one_zone.0) parts a.one_zone.1.opens in
-    record {
-      parts = m.parts;
-      framed = d.framed.whole ∙ ap (λ x. flat_map frame d.messages ++ x) end.1 ∙ append-nil (flat_map frame d.messages) ∙ ap (flat_map frame) m.octets ∙ sym (framed_parts m.parts);
-      id = a.one_id.0;
-      opening = w.opening;
-      others = c.others;
-      closing = c.closing;
-      each = parts_from a.one_id.0 w.opening.rr 1 [] m.parts refl m.read (subst (AllByRecursion (λ octets. length octets ≤ 65535)) m.octets d.framed.short) a.one_id.1 (asks_for a.one_zone.0 w.opening.rr opens.0 opens.1 (asked_in m.parts) a.one_zone.1.asked);
-      answers = parts;
-      soa = w.soa;
-      no_soa = c.none;
-      same = c.same;
-      stated = d.stated ∙ ap handed_on all ∙ handed_transfer w.opening c.others c.closing c.none closing_kind;
-    }
+    grind (arith, append-nil, framed_parts, parts_from, asks_for, no_soa, handed_transfer)

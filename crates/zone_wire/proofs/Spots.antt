@@ -134,9 +134,7 @@ module _ (message : List ℕ) (spot : Spot) where
   standing_fault _ (inl (some, short, fails out)) = standing_short some short ∙ ap Some (cond-true _ _ _ (le-leb _ _ (not_below _ _ out)))
   standing_fault _ (inl (some, short, holds inside (fails long))) = standing_short some short ∙ ap Some (cond-false _ _ _ (below_length _ _ inside) ∙ cond-true _ _ _ (lt-ltb _ _ (not_within _ _ long)))
   standing_fault _ (inl (some, short, holds inside (holds room none))) = absurd none
-  standing_fault fault (inr (inl (low, below, is))) =
-      let first = middle _ low in
-      cond-false _ _ _ (below_length _ _ (here_of message spot.offset (omega (arith, low)))) ∙ ap Some (cond-false _ _ _ first.0 ∙ cond-false _ _ _ first.1 ∙ cond-true _ _ _ (lt-ltb _ _ below) ∙ ap at_fault (sym is))
+  standing_fault fault (inr (inl (low, below, is))) = grind (arith, common_steps)
   standing_fault _ (inr (inr (first, fails out))) = standing_high first ∙ ap Some (cond-true _ _ _ (le-leb _ _ (not_below _ _ out)))
   standing_fault _ (inr (inr (first, holds inside (fails bad)))) = standing_high first ∙ ap Some (cond-false _ _ _ (below_length _ _ inside) ∙ cond-true _ _ _ (bad_test _ _ (out_of_range _ _ bad)))
   standing_fault _ (inr (inr (first, holds inside (holds good (fails many))))) = standing_high first ∙ ap Some (cond-false _ _ _ (below_length _ _ inside) ∙ cond-false _ _ _ (good_target _ _ good.0 good.1) ∙ cond-true _ _ _ (le-leb _ _ (not_below _ _ many)))

@@ -21,8 +21,7 @@ one_reading stream placed other ending late reads also =
 pub one_decision : (stream : List ℕ) (placed other : List Placed) (ending late : Option (Fault × Place)) → StreamDecides stream placed ending → StreamDecides stream other late → (placed ≡ other) × (ending ≡ late)
 one_decision stream placed other ending late is too =
     let same = framed_unique stream is.messages too.messages is.rest too.rest is.framed too.framed in
-    let one = one_way too.messages is.all too.all ending late (subst (λ m. ReadAfter [] m is.all ending) same.0 is.read) too.read in
-    (is.stated ∙ ap handed_on one.0 ∙ sym too.stated, one.1)
+    grind (arith, framed_unique, one_way)
 
 -- the messages of a longer stream go on
 messages_go_on : (stream more : List ℕ) (ms ns : List (List ℕ)) (r s : List ℕ) (placed other : List Placed) (ending late : Option (Fault × Place)) → IsFramed stream ms r → IsFramed (stream ++ more) ns s → ReadAfter [] ms placed ending → ReadAfter [] ns other late → GoesOn placed ending other late

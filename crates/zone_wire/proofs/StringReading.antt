@@ -39,15 +39,7 @@ module _ (octets : List ℕ) (each : (k : ℕ) → get_or octets k 0 < 256) (end
   string_room : (old now : Built) (place past : ℕ) (v : FieldValue) → AwaitsStrings end start old → HavePut octets end start old now place → value_at octets end place OneString ≡ Ok (v, past) → length (octets_of now.parts) + length (field_octets v) ≤ 65535
   string_room old now place past v w h read =
       let shows = value_shows octets each end within place OneString (v, past) read in
-      let s = string_stands octets place past v shows.0 shows.2 in
-      let before : length (octets_of now.parts) ≡ length (octets_of old.parts) + (place - start) =
-      ap (λ (b : Built). length (octets_of b.parts)) h.put
-      ∙ ap length (flat_map-append field_octets old.parts (map string h.many))
-      ∙ length-append (octets_of old.parts) (octets_of (map string h.many))
-      ∙ ap (λ o. length (octets_of old.parts) + length o) (octets_of_strings h.many ∙ sym h.parts)
-      ∙ ap (λ n. length (octets_of old.parts) + n) (part_len octets start place (omega (arith, h.inside))) in
-      let here : length (field_octets v) ≡ past - place = ap (λ x. length (field_octets x)) s.1 ∙ ap length (sym s.4) ∙ part_len octets place past (omega (arith, shows.1)) in
-      omega (arith, before, here, w.room, h.past, shows.1, s.3)
+      grind (arith, value_shows, string_stands, flat_map-append, length-append, octets_of_strings, part_len)
 
   pub next_string : (old now : Built) (place : ℕ) → AwaitsStrings end start old → HavePut octets end start old now place → Awaits octets end place now OneString
   next_string old now place w h = record {
@@ -110,11 +102,6 @@ module _ (octets : List ℕ) (each : (k : ℕ) → get_or octets k 0 < 256) (end
       let f = string_fails place fault e in
       let bs : List ℕ = octets_between octets start end in
       let after : List ℕ = octets_between octets (place + 1) end in
-      let so_far : Framed bs (octets_between octets place end) = record {
-        many = h.many;
-        each = h.each;
-        parts = between_join octets start place end h.past h.inside ∙ ap (λ t. t ++ octets_between octets place end) h.parts;
-        low = bytes_each (octets_between octets place end) (part_bytes octets each end within place end);
-      } in
+      let so_far : Framed bs (octets_between octets place end) = grind (arith, string_fails, between_join, bytes_each, part_bytes, strings_fault, framed_short, between_first) in
       strings_fault (framed_short bs (octets_between octets place end) (slice_index octets place) (slice_index octets place) after so_far (between_first octets place end some (omega arith)) refl (omega (arith, f.1, part_len octets (place + 1) end within)))
       ∙ ap Err (sym f.0)

@@ -1,18 +1,16 @@
 -- At most one list of records of a stream.
-use Rattle.zone_wire.proofs.Common.{AnswerStates, IsDataAt, List, Placed, Record, RecordAt, [], ap, arith, frame, length, refl, ℕ, ◌++◌, ◌∙◌, ◌∷◌, ◌≡◌, ◌≤◌}
+use Rattle.zone_wire.proofs.Common.{AnswerStates, IsDataAt, List, Placed, Record, RecordAt, [], ap, arith, frame, length, refl, ℕ, ◌++◌, ◌∙◌, ◌∷◌, ◌≡◌, ◌≤◌, common_steps}
 use Rattle.zone_wire.proofs.Fielding.{data_reads}
 
 -- two lists, each with more after it, where the first are as long
 pub front_unique : {X : Type 0} (a b c d : List X) → length a ≡ length b → a ++ c ≡ b ++ d → (a ≡ b) × (c ≡ d)
-front_unique [] [] c d len e = (refl, e)
-front_unique [] (y ∷ b) c d len e = absurd (omega (arith, len))
+front_unique [] b c d len e = grind (arith, common_steps)
 front_unique (x ∷ a) [] c d len e = absurd (omega (arith, len))
 front_unique (x ∷ a) (y ∷ b) c d len e =
     let tail : a ++ c ≡ b ++ d = cc in
-    let head : x ≡ y = cc in
     let shorter : length a ≡ length b = omega (arith, len) in
     let rest = front_unique a b c d shorter tail in
-    (ap (λ z. z ∷ a) head ∙ ap (λ zs. y ∷ zs) rest.0, rest.1)
+    grind arith
 
 -- a frame at the beginning of a stream
 pub frame_unique : (a b c d : List ℕ) → frame a ++ c ≡ frame b ++ d → (a ≡ b) × (c ≡ d)

@@ -57,9 +57,7 @@ at_steps (pointer offset bound target labels end steps pointers here rest) = ome
 -- each label takes two octets or more
 pub at_octets : {message : List ℕ} {offset bound : ℕ} {labels : List (List ℕ)} {end steps pointers : ℕ} → At message offset bound labels end steps pointers → 2 * length labels ≤ label_octets labels
 at_octets (root offset bound inside first) = omega arith
-at_octets {message} (label offset bound size labels end steps pointers here rest) =
-    let this = label_at message offset size in
-    omega (arith, at_octets rest, label_octets-more this labels, label_octets-label message offset size here.inside)
+at_octets {message} (label offset bound size labels end steps pointers here rest) = grind (arith, at_octets rest, label_octets-more, label_octets-label)
 at_octets (pointer offset bound target labels end steps pointers here rest) = at_octets rest
 
 -- a name ends inside its message

@@ -28,8 +28,7 @@ same zero w is = absurd (omega (arith, is.short, is.few, is.enough))
 same {message} (suc n) {spot} (outside past) is = walk_step n message spot None (standing_outside message spot past)
 same {message} (suc n) {spot} (to_root here first) is = walk_step n message spot (Some at_root) (standing_root message spot here first)
 same {message} (suc n) {spot} (to_fault {fault = fault} here) is = walk_step n message spot (Some (at_fault fault)) (standing_fault message spot fault here)
-same {message} (suc n) {spot} (over_label {size = size} here room rest) is =
-    cc (same n {spot = past_label spot size} rest (enough_label {message = message} is (here, room)), walk_step n message spot (Some (at_label size)) (standing_label message spot size here room))
+same {message} (suc n) {spot} (over_label {size = size} here room rest) is = grind (arith, same n {spot = past_label spot size} rest (enough_label {message = message} is (here, room)), enough_label {message = message} is (here, room), walk_step n message spot (Some (at_label size)) (standing_label message spot size here room))
 same {message} (suc n) {spot} (by_pointer {target = target} here few rest) is =
     cc (same n {spot = past_pointer spot target} rest (enough_pointer {message = message} is (here, few)), walk_step n message spot (Some (at_pointer target)) (standing_pointer message spot target here few))
 
