@@ -1,5 +1,5 @@
 -- The records of a transfer stand in order, and those but the closing SOA are handed on.
-use Rattle.zone_wire.proofs.Common.{AllByRecursion, AreStatedMessages, List, Placed, Record, StatedMessage, [], ap, append-nil, append_assoc, arith, cond-true, false, filter, filter-append, flat_map, frame, handed_on, length, list_any, map, not, or_from, refl, rules, subst, ℕ, ◌++◌, ◌+◌, ◌==◌, ◌||◌, ◌∙◌, ◌∷◌, ◌≡◌, ◌≢◌, ◌≤◌, common_steps}
+use Rattle.zone_wire.proofs.Common.{AllByRecursion, AreStatedMessages, List, Placed, Record, StatedMessage, [], ap, append-nil, append_assoc, arith, cond-true, false, filter, filter-append, flat_map, frame, handed_on, length, list_any, map, not, or_from, refl, rules, ℕ, ◌++◌, ◌+◌, ◌==◌, ◌||◌, ◌∙◌, ◌∷◌, ◌≡◌, ◌≢◌, ◌≤◌, common_steps}
 use Rattle.zone_wire.proofs.Answering.{OpensWith, is_soa, InOrder, differ}
 
 pub all_append : {X : Type 0} (P : X → Type 0) (xs ys : List X) → AllByRecursion P xs → AllByRecursion P ys → AllByRecursion P (xs ++ ys)

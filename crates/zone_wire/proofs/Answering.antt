@@ -1,5 +1,5 @@
 -- The answer of a message is read as the record that it states, and in the order of a transfer.
-use Rattle.zone_wire.proofs.Common.{AgreeWith, AllByRecursion, AsksFor, Bool, ComesAfter, IsClass, List, Placed, QuestionAt, Record, [], and_from, arith, bytes_decides, eq-eqb, false, is_no_class, list_any, nat_eq, nat_tests, or_from, pointwise_decides, refl, rules, same_name, same_record, true, zone_of, ℕ, ⊤, ◌++◌, ◌==◌, ◌∷◌, ◌≡◌, ◌≢◌}
+use Rattle.zone_wire.proofs.Common.{AllByRecursion, AsksFor, Bool, ComesAfter, IsClass, List, Placed, QuestionAt, Record, [], and_from, arith, bytes_decides, eq-eqb, false, is_no_class, list_any, nat_eq, nat_tests, or_from, pointwise_decides, refl, rules, same_name, same_record, true, ℕ, ⊤, ◌++◌, ◌==◌, ◌∷◌, ◌≡◌, ◌≢◌}
 
 pub differ : (a b : ℕ) → a ≢ b → nat_eq a b ≡ false
 differ a b h = grind (arith, nat_tests)
@@ -21,10 +21,6 @@ records_same r s e = search (rules, true, and_from, names_same, eq-eqb)
 abbrev pub OpensWith : Record → List Placed → Type 0
 OpensWith zone [] = ⊤
 OpensWith zone (opening ∷ placed) = opening.rr ≡ zone
-
--- what the questions for a zone and its records fix is the zone
-pub zone_agrees : (zone : Record) (questions : List QuestionAt) (placed : List Placed) (name : List (List ℕ)) (class : ℕ) → AllByRecursion (AsksFor zone) questions → OpensWith zone placed → name ≡ zone.owner → class ≡ zone.class → AgreeWith (zone_of questions placed) name class
-zone_agrees zone questions placed name class ask opens n c = grind arith
 
 abbrev pub is_soa : Placed → Bool
 is_soa p = p.rr.kind == 6

@@ -1,6 +1,6 @@
 -- A walk that is carried on from place to place: the walk from the start is what was met so far and
 -- the walk from here.
-use Rattle.zone_wire.proofs.Common.{Fault, List, None, Option, Outcome, ShortMessage, Some, Spot, Standing, [], after_label, ap, append-nil, arith, at_fault, at_label, at_pointer, at_root, common_steps, drop, label_at, length, named, outcome, outset, past_label, past_pointer, refl, refused, rules, standing_in, subst, suc, sym, take, unwrap_or, walk, wire, zero, ℕ, ◌*◌, ◌++◌, ◌+◌, ◌-◌, ◌<◌, ◌∙◌, ◌∷◌, ◌≡◌, ◌≤◌}
+use Rattle.zone_wire.proofs.Common.{Fault, List, None, Option, Outcome, ShortMessage, Some, Spot, Standing, [], after_label, ap, append-nil, arith, at_fault, at_label, at_pointer, at_root, common_steps, drop, label_at, length, named, outcome, outset, past_label, past_pointer, refl, refused, standing_in, subst, suc, sym, take, unwrap_or, walk, wire, zero, ℕ, ◌*◌, ◌++◌, ◌+◌, ◌-◌, ◌<◌, ◌∙◌, ◌∷◌, ◌≡◌, ◌≤◌}
 use Rattle.zone_name.specs.Spelling.{IsLabelFault}
 use Rattle.zone_name.specs.declared.fault.NameFault.{NameFault}
 use Rattle.zone_name.specs.declared.fault.NameFault.TheVariants.{EmptyLabel, LabelTooLong, NameTooLong}

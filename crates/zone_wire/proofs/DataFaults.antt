@@ -1,5 +1,5 @@
 -- The faults of a record's data are those at which its fields stop being read.
-use Rattle.zone_wire.proofs.Common.{BadRdata, DataFault, Err, Fault, Field, FieldFault, FieldValue, FieldsFault, IsFieldAt, List, MatchOption, Name, None, Octets, Ok, OneString, Option, Outcome, RecordAt, Result, Serial, Some, Strings, Time, U16, [], and_then, ap, data_at, eq-eqb, field_at, flat_map, get_or, inl, inr, layout, leb-false, length, name, name_before, named, nat_eq, nat_le, nat_lt, octets_between, octets_of, outcome, pointwise, refl, refused, sized_before, slice_index, strings, strings_before, strings_of, subst, sym, true, value_at, values_at, walk, with_length, ℕ, ◌&&◌, ◌+◌, ◌<◌, ◌==◌, ◌∙◌, ◌∷◌, ◌≡◌, ◌≤◌, arith}
+use Rattle.zone_wire.proofs.Common.{BadRdata, DataFault, Err, Fault, Field, FieldFault, FieldValue, FieldsFault, IsFieldAt, List, MatchOption, Name, None, Octets, Ok, OneString, Option, Outcome, RecordAt, Result, Serial, Some, Strings, Time, U16, [], and_then, ap, data_at, field_at, flat_map, get_or, inl, inr, layout, length, name, name_before, named, nat_eq, nat_le, nat_lt, octets_between, octets_of, outcome, pointwise, refl, refused, sized_before, slice_index, strings, strings_before, strings_of, subst, sym, value_at, values_at, walk, with_length, ℕ, ◌&&◌, ◌+◌, ◌<◌, ◌∙◌, ◌∷◌, ◌≡◌, ◌≤◌, arith}
 use Rattle.zone_wire.proofs.Fielding.{value_reads}
 use Rattle.zone_wire.proofs.MessageFaults.{err_same, fails_test, stops, name_refused}
 use Rattle.zone_wire.proofs.ReadFields.{value_shows}

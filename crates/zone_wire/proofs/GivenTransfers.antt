@@ -1,7 +1,7 @@
 -- A transfer is read as its records.
 use Rattle.zone_wire.proofs.Common.{AllByRecursion, AnswersGive, AnswersState, AreStatedMessages, AsksFor, AsksIn, HasFirstId, IsReadAfter, IsStatedMessage, List, None, Placed, QuestionAt, ReadAfter, Record, RecordAt, Sections, StatedMessage, StreamReads, StreamStates, [], ap, append-nil, arith, asked_in, cond-true, eq-eqb, flat_map, frame, handed_on, is_closed, length, length-append, list_any, lit<, no_more, octets_in, or_left, or_right, placed_in, reads, refl, states, subst, sym, true, whole, zone_of, ℕ, ◌++◌, ◌+◌, ◌∙◌, ◌∷◌, ◌≡◌}
 use Rattle.zone_wire.proofs.Accepting.{all_append, in_order_parts, opens_more, any_append, rest_in_order, framed_parts, short_parts, handed_transfer}
-use Rattle.zone_wire.proofs.Answering.{OpensWith, zone_agrees, is_soa, InOrder, follows_comes}
+use Rattle.zone_wire.proofs.Answering.{OpensWith, is_soa, InOrder, follows_comes}
 use Rattle.zone_wire.proofs.GivenMessages.{placed_grow, asked_grow}
 
 -- answers that state records in the order of a transfer

@@ -1,5 +1,5 @@
 -- At most one reading of a message.
-use Rattle.zone_wire.proofs.Common.{AreAt, Found, IsMessage, IsPartAt, IsQuestionAt, IsRecordAt, List, Sections, [], ap, arith, length, refl, rules, subst, sym, ℕ, ◌∙◌, ◌∷◌, ◌≡◌, common_steps}
+use Rattle.zone_wire.proofs.Common.{AreAt, Found, IsMessage, IsPartAt, IsQuestionAt, IsRecordAt, List, Sections, [], ap, arith, length, rules, subst, sym, ℕ, ◌∙◌, ◌∷◌, ◌≡◌, common_steps}
 use Rattle.zone_wire.proofs.Walking.{one_name}
 
 pub one_part : {X : Type 0} {octets : List ℕ} {by : Found → X} {end_of : X → ℕ} (offset : ℕ) (x y : X) → IsPartAt octets by end_of offset x → IsPartAt octets by end_of offset y → x ≡ y

@@ -1,5 +1,5 @@
 -- Data and answers have one first fault, and none where they have a value.
-use Rattle.zone_wire.proofs.Common.{AnswerFault, AnswerStates, AreFieldsAt, AreValuesAt, BadRdata, ComesAfter, DataFault, Fault, Field, FieldFault, FieldValue, FieldsFault, Found, HoldEach, IsDataAt, IsFieldAt, IsNameAt, List, MatchOption, Name, NameFault, None, Octets, OneString, Option, OrderFault, OwnFault, Placed, QuestionAt, Record, RecordAt, Serial, Some, Strings, StringsLast, Time, U16, [], ap, arith, inl, inr, layout, length, name, octets_between, refl, subst, sym, table_row, ℕ, ◌<◌, ◌∙◌, ◌∷◌, ◌≡◌, ◌≤◌}
+use Rattle.zone_wire.proofs.Common.{AnswerFault, AnswerStates, AreFieldsAt, AreValuesAt, BadRdata, ComesAfter, DataFault, Fault, Field, FieldFault, FieldValue, FieldsFault, Found, HoldEach, IsDataAt, IsFieldAt, IsNameAt, List, MatchOption, Name, NameFault, None, Octets, OneString, Option, OrderFault, OwnFault, Placed, QuestionAt, Record, RecordAt, Serial, Some, Strings, StringsLast, Time, U16, [], arith, inl, inr, layout, length, name, octets_between, refl, subst, sym, table_row, ℕ, ◌<◌, ◌∙◌, ◌∷◌, ◌≡◌, ◌≤◌}
 use Rattle.zone_wire.proofs.Conditions.{unless_one, unless_holds}
 use Rattle.zone_wire.proofs.Fielding.{value_reads}
 use Rattle.zone_wire.proofs.MessageFaults.{name_one, name_not_both}

@@ -1,6 +1,6 @@
 -- The question and the answers of a message that was parsed, and the answers that are still to
 -- come.
-use Rattle.zone_wire.proofs.Common.{AreAt, AreRecordsAt, Found, HasRecordsFrom, IsMessage, IsNameAt, IsParsed, IsQuestionAt, IsRecordAt, List, QuestionAt, RecordAt, Sections, [], ap, arith, length, map, parsed, question_by, raw_at, raw_from, record_at, record_by, refl, rules, sym, u16_at, ℕ, ◌-◌, ◌∙◌, ◌∷◌, ◌≡◌}
+use Rattle.zone_wire.proofs.Common.{AreAt, AreRecordsAt, Found, HasRecordsFrom, IsMessage, IsNameAt, IsParsed, IsQuestionAt, IsRecordAt, List, QuestionAt, RecordAt, Sections, [], ap, arith, length, map, parsed, question_by, raw_at, raw_from, record_at, record_by, refl, sym, u16_at, ℕ, ◌-◌, ◌∙◌, ◌∷◌, ◌≡◌}
 use Rattle.zone_wire.proofs.Messages.{one_part}
 use Rattle.zone_wire.proofs.Sectioning.{part_reads, each_reads}
 use Rattle.zone_wire.proofs.Walking.{one_name}

@@ -1,5 +1,5 @@
 -- What is read as the data of a record is its data.
-use Rattle.zone_wire.proofs.Common.{AllByRecursion, AreFieldsAt, AreValuesAt, Fault, Field, FieldValue, HoldEach, Holds, IsDataAt, IsString, IsValueAt, List, MatchOption, Name, None, Octets, Ok, OneString, Option, Outcome, RecordAt, Result, Serial, Some, Strings, Time, U16, [], and_parts, and_then, ap, arith, be_bytes_4, bytes_each, data_at, drop, field_at, from_be_bytes, get_or, layout, leb-true, length, length-take, ltb-true, name_before, named, nat_le, octets_between, octets_of, outcome, refl, refused, rules, sized_before, slice_index, some_frames, string_at, strings_before, strings_by, strings_of, subst, suc, sym, take, take_all, to_be_bytes, value_at, values_at, w16, w32, walk, with_length, zero, ℕ, ◌+◌, ◌-◌, ◌<◌, ◌==◌, ◌^◌, ◌∙◌, ◌∷◌, ◌≡◌, ◌≤◌, common_steps}
+use Rattle.zone_wire.proofs.Common.{AllByRecursion, AreFieldsAt, AreValuesAt, Fault, Field, FieldValue, HoldEach, Holds, IsDataAt, IsString, IsValueAt, List, MatchOption, Name, None, Octets, Ok, OneString, Option, Outcome, RecordAt, Result, Serial, Some, Strings, Time, U16, [], and_parts, and_then, ap, arith, be_bytes_4, bytes_each, data_at, drop, field_at, from_be_bytes, get_or, layout, length, length-take, ltb-true, name_before, named, octets_between, octets_of, outcome, refl, refused, rules, sized_before, slice_index, some_frames, string_at, strings_before, strings_by, strings_of, suc, sym, take, take_all, to_be_bytes, value_at, values_at, w16, w32, walk, with_length, zero, ℕ, ◌+◌, ◌-◌, ◌<◌, ◌==◌, ◌^◌, ◌∙◌, ◌∷◌, ◌≡◌, ◌≤◌, common_steps}
 use Rattle.zone_wire.proofs.Fielding.{part_first}
 use Rattle.zone_wire.proofs.ReadSections.{ok_same, leads, passes}
 use Rattle.zone_wire.proofs.Walking.{walk_names, take_each, drop_each}

@@ -1,5 +1,5 @@
 -- A stream that is read without a fault is a transfer.
-use Rattle.zone_wire.proofs.Common.{AllByRecursion, AnswersGive, AnswersState, AreRead, AreStatedMessages, AsksFor, AsksIn, Bool, Bytes, ComesAfter, Fault, IsReadAfter, List, None, Option, Place, Placed, QuestionAt, ReadAfter, Record, RecordAt, Some, StatedMessage, StreamReads, StreamStates, ZoneAsked, [], ap, append-nil, append_assoc, arith, asked_in, back_bytes, end_fault, eq-eqb, eqb-true, false, flat_map, frame, front_bytes, handed_on, is_closed, length, length-append, list_any, no_more, octets_in, option_or, placed_in, reads, refl, states, stops, subst, suc, sym, true, whole, zone_of, ℕ, ⊤, ◌++◌, ◌+◌, ◌||◌, ◌∙◌, ◌∷◌, ◌≡◌, ◌≢◌, ◌≤◌, common_steps}
+use Rattle.zone_wire.proofs.Common.{AllByRecursion, AnswersGive, AnswersState, AreRead, AreStatedMessages, AsksFor, AsksIn, Bool, Bytes, ComesAfter, Fault, IsReadAfter, List, None, Option, Place, Placed, QuestionAt, ReadAfter, Record, RecordAt, Some, StatedMessage, StreamReads, StreamStates, ZoneAsked, [], ap, append-nil, append_assoc, arith, asked_in, back_bytes, end_fault, eq-eqb, eqb-true, false, flat_map, frame, front_bytes, is_closed, length, length-append, list_any, no_more, octets_in, option_or, placed_in, reads, refl, states, stops, subst, suc, sym, true, whole, zone_of, ℕ, ⊤, ◌++◌, ◌+◌, ◌||◌, ◌∙◌, ◌∷◌, ◌≡◌, ◌≢◌, ◌≤◌, common_steps}
 use Rattle.zone_wire.specs.AnswerFault.{refused}
 use Rattle.zone_wire.proofs.Accepting.{all_append, any_append, framed_parts, handed_transfer}
 use Rattle.zone_wire.proofs.Answering.{is_soa}

@@ -1,5 +1,5 @@
 -- What stands at a place, read off the octets, and back.
-use Rattle.zone_wire.proofs.Common.{BadPointer, Fault, FaultHere, IsLabelAt, IsPointerAt, List, None, Option, Some, Spot, Standing, TooManyPointers, ap, arith, at_fault, at_label, at_pointer, at_root, cases_lt, common_steps, cond-false, cond-true, cond_both, eq-eqb, eqb-true, fails, false, holds, if◌then◌else◌, inl, inr, label_of, le-leb, leb-true, length, lt-ltb, ltb-true, nat_eq, nat_le, nat_lt, nat_tests, pointer_of, refl, rules, slice_index, standing_in, sym, target_at, true, ℕ, ◌+◌, ◌<◌, ◌||◌, ◌∙◌, ◌≡◌, ◌≢◌, ◌≤◌, ◌⊎◌}
+use Rattle.zone_wire.proofs.Common.{BadPointer, Fault, FaultHere, IsLabelAt, IsPointerAt, List, None, Option, Some, Spot, Standing, TooManyPointers, ap, arith, at_fault, at_label, at_pointer, at_root, cases_lt, common_steps, cond-false, cond-true, cond_both, eq-eqb, eqb-true, fails, false, holds, if◌then◌else◌, inl, inr, label_of, le-leb, leb-true, length, lt-ltb, ltb-true, nat_eq, nat_le, nat_lt, nat_tests, pointer_of, refl, rules, slice_index, standing_in, target_at, true, ℕ, ◌+◌, ◌<◌, ◌||◌, ◌∙◌, ◌≡◌, ◌≢◌, ◌≤◌, ◌⊎◌}
 
 -- what the octets at a place are, by what stands there
 abbrev pub Shows : List ℕ → Spot → Option Standing → Type 0

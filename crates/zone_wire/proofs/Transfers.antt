@@ -1,5 +1,5 @@
 -- At most one list of records of a stream.
-use Rattle.zone_wire.proofs.Common.{AnswerStates, IsDataAt, List, Placed, Record, RecordAt, [], ap, arith, frame, length, refl, ℕ, ◌++◌, ◌∙◌, ◌∷◌, ◌≡◌, ◌≤◌, common_steps}
+use Rattle.zone_wire.proofs.Common.{AnswerStates, IsDataAt, List, Placed, Record, RecordAt, [], ap, arith, frame, length, ℕ, ◌++◌, ◌∙◌, ◌∷◌, ◌≡◌, ◌≤◌, common_steps}
 use Rattle.zone_wire.proofs.Fielding.{data_reads}
 
 -- two lists, each with more after it, where the first are as long
