@@ -168,19 +168,24 @@ soa_fits : (ttl : ℕ) → ttl ≤ 2147483647 → IsRecord (soa ttl)
 unfolding labels_of
 soa_fits ttl short = search rules
 
--- the entry's head, by its words, its owner and its class
-pub soa_head : (text : List ℕ) (before : List Entry) (entry : Entry) (words : List Word) → parts_in (statement_of entry) ≡ Some (record { words = words; rest = bare (codes "SOA") ∷ soa_items text }) → IsOwner x before (statement_of entry) x → AllByRecursion HasValue words → HasClass before entry 1 → HasHead x before entry x 1 6 (soa_items text)
-soa_head text before entry words split owns values has = record {
-  parts = record { words = words; rest = bare (codes "SOA") ∷ soa_items text };
-  word = codes "SOA";
+-- the entry's head, by its words, its owner, its class and its type
+has_head : (before : List Entry) (entry : Entry) (owner : List (List ℕ)) (words : List Word) (word : List ℕ) (kind : ℕ) (items : List RawItem) → parts_in (statement_of entry) ≡ Some (record { words = words; rest = bare word ∷ items }) → IsOwner x before (statement_of entry) owner → AllByRecursion HasValue words → HasClass before entry 1 → IsKindWord word kind → IsKind kind → HasHead x before entry owner 1 kind items
+has_head before entry owner words word kind items split owns values has named is = record {
+  parts = record { words = words; rest = bare word ∷ items };
+  word = word;
   split = split;
   owner = owns;
   words = values;
   class = has;
   rest = refl;
-  named = by_mnemonic (record { name = codes "SOA"; row = refl; same = refl });
-  kind = soa_kind;
+  named = named;
+  kind = is;
 }
+
+pub soa_head : (text : List ℕ) (before : List Entry) (entry : Entry) (words : List Word) → parts_in (statement_of entry) ≡ Some (record { words = words; rest = bare (codes "SOA") ∷ soa_items text }) → IsOwner x before (statement_of entry) x → AllByRecursion HasValue words → HasClass before entry 1 → HasHead x before entry x 1 6 (soa_items text)
+soa_head text before entry words split owns values has =
+    has_head before entry x words (codes "SOA") 6 (soa_items text) split owns values has
+    (by_mnemonic (record { name = codes "SOA"; row = refl; same = refl })) soa_kind
 
 abbrev pub soa_data : ℕ → Data
 soa_data last = record { class = 1; kind = 6; octets = octets_of (soa_values last) }
@@ -239,17 +244,9 @@ states_address before entry owner ttl words split owns values has under_it lasts
   contents = record {
     items = bare (codes "10.0.0.1") ∷ [];
     above = x;
-    head = record {
-      parts = record { words = words; rest = bare (codes "A") ∷ bare (codes "10.0.0.1") ∷ [] };
-      word = codes "A";
-      split = split;
-      owner = owns;
-      words = values;
-      class = has;
-      rest = refl;
-      named = by_mnemonic (record { name = codes "A"; row = refl; same = refl });
-      kind = address_kind;
-    };
+    head =
+        has_head before entry owner words (codes "A") 1 (bare (codes "10.0.0.1") ∷ []) split owns values has
+        (by_mnemonic (record { name = codes "A"; row = refl; same = refl })) address_kind;
     under = under_it;
     states = address_states;
   };
