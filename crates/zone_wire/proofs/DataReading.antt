@@ -91,15 +91,8 @@ module _ (from : Cursor) (fields : List Field) (old : Built) (laid : layout old.
       let rest : List Field = drop (count + 1) fields in
       let more : flat_map parts_for (h.values ++ p.value ∷ []) ≡ flat_map parts_for h.values ++ parts_for p.value = flat_map-append parts_for h.values (p.value ∷ []) ∙ ap (λ t. flat_map parts_for h.values ++ t) (append-nil (parts_for p.value)) in
       let goes : values_at from.message.now from.end to.at (drop count fields) ≡ and_then (values_at from.message.now from.end past.at rest) (λ others. Ok (p.value ∷ others)) = ap (values_at from.message.now from.end to.at) (from_here fields count field here) ∙ and_then_ok (value_at from.message.now from.end to.at field) (p.value, past.at) _ (from_next to now count field _ h p.reads.read) in
-      record {
-        values = h.values ++ p.value ∷ [];
-        number = grind (arith, length-append);
-        put = grind (arith, append_assoc);
-        plain = grind (arith, length-append, field_of, plain_parts, field_short, table_row, octets_push);
-        leads = grind (arith, append_assoc);
-        fails = grind arith;
-        same = p.reads.same ∙ h.same;
-      }
+      let same : data_of past ≡ data_of from = p.reads.same ∙ h.same in
+      grind (arith, length-append, append_assoc, field_of, plain_parts, field_short, table_row, octets_push)
 
   pub field_bad : (to : Cursor) (now : Built) (count : ℕ) (field : Field) (fault : Fault) → slice_get fields count ≡ Some field → HaveValues from to fields old now count → next_value to field ≡ Err fault → values_at from.message.now from.end from.at fields ≡ Err fault
   field_bad to now count field fault here h e = h.fails fault (ap (values_at from.message.now from.end to.at) (from_here fields count field here) ∙ and_then_err (value_at from.message.now from.end to.at field) fault _ (from_next to now count field _ h e))

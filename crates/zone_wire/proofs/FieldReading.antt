@@ -37,14 +37,6 @@ between_first octets start past some inside = grind (arith, drop_more)
 abbrev pub IsSizedAt : Cursor → Field → ℕ → Type 0
 IsSizedAt c field size = next_value c field ≡ sized_before c.message.now c.end c.at field size
 
-pub serial_sized : (c : Cursor) → IsSizedAt c Serial 4
-unfolding value_at
-serial_sized c = refl
-
-pub two_sized : (c : Cursor) → IsSizedAt c U16 2
-unfolding value_at
-two_sized c = refl
-
 pub fixed_sized : (c : Cursor) (size : ℕ) → IsSizedAt c (Octets size) size
 unfolding value_at
 fixed_sized c size = refl
@@ -63,11 +55,27 @@ sized_fails c size field fault is e = grind arith
 pub sized_read : (old new : Cursor) (size : ℕ) (field : Field) (part : List ℕ) (value : FieldValue) → IsSizedAt old field size → TakesOctets old new size part → field_at field part ≡ value → Reads old new field value
 sized_read old new size field part value is taken same = record { read = grind (arith, new.order); same = taken.same }
 
-pub two_value : (part : List ℕ) (n : ℕ) → length part ≡ 2 → n ≡ u16_at part 0 → field_at U16 part ≡ u16_value n
+two_value : (part : List ℕ) (n : ℕ) → length part ≡ 2 → n ≡ u16_at part 0 → field_at U16 part ≡ u16_value n
 two_value part n len is = grind (arith, common_steps)
 
-pub long_value : (part : List ℕ) (n : ℕ) → length part ≡ 4 → n ≡ u32_at part 0 → field_at Serial part ≡ u32_value n
+pub two_read : (old new : Cursor) (part : List ℕ) (n : ℕ) → TakesOctets old new 2 part → n ≡ u16_at part 0 → Reads old new U16 (u16_value n)
+unfolding value_at
+two_read old new part n taken is = sized_read old new 2 U16 part (u16_value n) refl taken (two_value part n taken.len is)
+
+pub two_cut : (c : Cursor) (fault : Fault) → (fault ≡ BadRdata) × (c.end < c.at + 2) → next_value c U16 ≡ Err fault
+unfolding value_at
+two_cut c fault = sized_refused c 2 U16 fault refl
+
+long_value : (part : List ℕ) (n : ℕ) → length part ≡ 4 → n ≡ u32_at part 0 → field_at Serial part ≡ u32_value n
 long_value part n len is = grind (arith, common_steps)
+
+pub long_read : (old new : Cursor) (part : List ℕ) (n : ℕ) → TakesOctets old new 4 part → n ≡ u32_at part 0 → Reads old new Serial (u32_value n)
+unfolding value_at
+long_read old new part n taken is = sized_read old new 4 Serial part (u32_value n) refl taken (long_value part n taken.len is)
+
+pub long_cut : (c : Cursor) (fault : Fault) → (fault ≡ BadRdata) × (c.end < c.at + 4) → next_value c Serial ≡ Err fault
+unfolding value_at
+long_cut c fault = sized_refused c 4 Serial fault refl
 
 pub fixed_read : (old new : Cursor) (size : ℕ) (part : List ℕ) → TakesOctets old new size part → Reads old new (Octets size) (fixed part)
 fixed_read old new size part taken = sized_read old new size (Octets size) part (fixed part) (fixed_sized old size) taken (ap fixed (take_all size part (omega (arith, taken.len))))
