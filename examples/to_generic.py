@@ -42,6 +42,8 @@ BASE64 = {
 }
 # A parameter of base64, or one that may be it, since its key is written with an escape.
 ECH = re.compile(r'ech=|(?!")[^=]*\\', re.IGNORECASE)
+# A bare item with an octet that is a blank around Python's numbers, and none in a master file.
+ODD = re.compile(r'(?!")(?:.*[^\\])?[\v\f\x1c-\x1f]', re.DOTALL)
 
 
 class Unfit(Exception):
@@ -125,7 +127,9 @@ def stays(kind, data):
     """Whether a record stays as it is, whatever dnspython knows of its type."""
     if kind in READ or GENERIC.fullmatch(kind) or kind.startswith('"'):
         return True
-    return data[:1] != ["\\#"] and not all(map(is_base64, base64_of(kind, data)))
+    if data[:1] == ["\\#"]:
+        return False
+    return any(map(ODD.match, data)) or not all(map(is_base64, base64_of(kind, data)))
 
 
 @contextlib.contextmanager
