@@ -44,6 +44,13 @@ class Function:
     def is_method(self):
         return self.text.startswith(" ")
 
+    @property
+    def body(self):
+        """Where the brace of its body stands in its file; `None` where nothing is in it."""
+        indent = self.text[: len(self.text) - len(self.text.lstrip())]
+        found = re.search(rf"^{indent}\{{$", self.text, re.M) or re.search(r"\{$", self.text, re.M)
+        return found and self.start + found.end() - 1
+
 
 def functions_of(crate):
     """The functions of a crate but its tests, by the folder of the crate."""
