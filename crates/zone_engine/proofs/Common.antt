@@ -40,13 +40,14 @@ pub use Rattle.zone_text.specs.FileReads.{FileReads}
 pub use Rattle.zone_wire.specs.Stream.{StreamReads}
 pub use Rattle.zone_engine.specs.Compare.{Compares, DifferFirstAt, IsAccepted, IsVerdictOnTexts, by_first, by_second, line_at, lines_of}
 pub use Rattle.zone_engine.specs.Examples.{a_x, address_of, example_zone, server_of, soa_of, top, under, x}
-pub use Rattle.zone_engine.specs.Input.{Input, InputDenotes, InputReads, InputStates, IsInput, file, input_octets, transfer}
+pub use Rattle.zone_engine.specs.Input.{Input, InputDenotes, InputDenotesWithin, InputReads, InputStates, IsInput, file, input_octets, transfer}
 pub use Rattle.zone_engine.specs.Machine.Fed.{FileLeave, IsFile, IsTransfer, StandsForInput, TransferLeave}
 pub use Rattle.zone_engine.specs.Machine.Input.{Decides, IsForm, ReadAs, as_file, as_transfer, form_of, input_of}
 pub use Rattle.zone_engine.specs.Machine.Loading.{BeginsAs, IsLoaded, IsLoadedOf, ReadsZone, ReadsZoneWithin, RefusesFront, RefusesRead, all_taken, by_ending, by_record, front_refuses, nothing_pending}
 pub use Rattle.zone_engine.specs.Normalise.{IsOfBytes, IsOfReading, Normalises, NormalisesTo, WritesNothing, WritesPrefix}
 pub use Rattle.zone_engine.specs.Refusal.{IfRefused, IsRefusal, IsRefusalWithin, IsRefused, RefusesReading, reading, refused, too_large, too_long, unfinished, unread}
 pub use Rattle.zone_engine.specs.Stops.{TellsRead}
-pub use Rattle.zone_engine.specs.Telling.{WritesLine, WritesPartOfLine, argument_of, place_words, records_line, refusal_line, row_of, stop_line, verdict_line}
+pub use Rattle.zone_engine.specs.Telling.{WritesLine, WritesPartOfLine, argument_of, place_words, records_line, refusal_line, stop_line, verdict_line}
 pub use Rattle.zone_engine.specs.declared.comparison.Verdict.{Verdict}
 pub use Rattle.zone_engine.specs.declared.comparison.Verdict.TheVariants.{Different, Same}
+pub use Rattle.zone_rdata.specs.FaultTable.{fault_row}

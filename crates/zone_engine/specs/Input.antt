@@ -1,7 +1,7 @@
 -- The inputs that state records: a master file with its origin (RFC 1035 5), or the octets of a
 -- zone transfer as they came over TCP (RFC 5936 2.2), each message after its length (RFC 1035
 -- 4.2.2).
-use Rattle.std.specs.Prelude.{ℕ, List, Option}
+use Rattle.std.specs.Prelude.{ℕ, ◌≤◌, List, length, Option}
 use Rattle.zone_name.specs.Common.{Labels, AreOctets}
 use Rattle.zone_name.specs.Name.{IsName}
 use Rattle.zone_rdata.specs.declared.fault.Fault.{Fault}
@@ -40,3 +40,7 @@ InputReads (transfer octets) placed ending = StreamReads octets placed ending
 -- the zone that an input denotes
 abbrev pub InputDenotes : Input → Zone → Type 0
 InputDenotes input z = DenotesBy (InputStates input) (input_octets input) z
+
+-- the zone that an input denotes which has at most so many octets
+abbrev pub InputDenotesWithin : ℕ → Input → Zone → Type 0
+InputDenotesWithin limit input z = (length (input_octets input) ≤ limit) × InputDenotes input z

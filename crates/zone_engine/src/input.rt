@@ -13,9 +13,17 @@ use zone_rdata::{Fault, Place, Stop};
 use zone_set::Zone;
 
 /// How many octets one read asks for at most.
-const PIECE: usize = 65_536;
+pub(crate) const PIECE: usize = 65_536;
 
-/// The zone of what the reader gives up to its end, which is fed to a source in pieces. After a
+/// So many zero octets. The length is a parameter, so that no proof counts up to it.
+pub(crate) fn zeros(alloc: Global, len: usize) -> Result<Vec<u8>, AllocError>
+    ensures zeros { IfOk result (λ octets. octets.items ≡ replicate len 0) }
+    ensures len { IfOk result (λ octets. length octets.items ≡ len) }
+{
+    vec![in alloc; 0u8; len]
+}
+
+/// The zone of what the reader gives up to its end, which is read into `piece` and fed to a source. After a
 /// fault it reads on, since an input that is too long is refused for that.
 ///
 /// # Errors
@@ -24,43 +32,6 @@ const PIECE: usize = 65_536;
 /// gives more than `limit` octets, of which `limit + 1` are read, and else with the refusal of the
 /// input, but for the length of its canonical text; `Memory`.
 pub(crate) fn read_zone<S: FedSource, R: OctetReader>(
-    alloc: Global,
-    source: &mut S,
-    reader: &mut R,
-    limit: u64,
-) -> Result<Zone, Stop>
-    requires limit { limit + 2 < 2 ^ 64 }
-    requires open { (S.held source.old).finished ≡ false }
-    requires unfed { (S.held source.old).fed ≡ 0 }
-    ensures zone { IfOk result (ReadsKnown
-        (BeginsAs S.IsOf S.Leave (S.pending source.old) (S.held source.old)) limit
-        (R.remaining reader.old)) }
-    ensures fault { IfErr result (RefusesKnown
-        (BeginsAs S.IsOf S.Leave (S.pending source.old) (S.held source.old)) limit
-        (R.remaining reader.old)) }
-    ensures stopped { IfErr result IsOfReading }
-    ensures whole { OnOk result (IsAtEnd (R.remaining reader.new)) }
-    ensures whole_refused { IfErr result (λ stop. IfRefused stop (λ fault place.
-        ReadsWhole limit (R.remaining reader.old) (R.remaining reader.new))) }
-    ensures works { OnOk result (R.Works reader.old → R.Works reader.new) }
-    ensures failed { IfErr result (TellsRead
-        (R.Works reader.old → R.Works reader.new) (R.Works reader.old → R.Failed reader.new)) }
-    ensures few { ConsumesAtMost (limit + 1) (R.remaining reader.old) (R.remaining reader.new) }
-{
-    let mut piece = zeros(alloc, PIECE)?;
-    read_in_pieces(alloc, source, reader, &mut piece, limit)
-}
-
-/// So many zero octets. The length is a parameter, so that no proof counts up to it.
-fn zeros(alloc: Global, len: usize) -> Result<Vec<u8>, AllocError>
-    ensures zeros { IfOk result (λ octets. octets.items ≡ replicate len 0) }
-    ensures len { IfOk result (λ octets. length octets.items ≡ len) }
-{
-    vec![in alloc; 0u8; len]
-}
-
-/// What `read_zone` answers, by reads into `piece`.
-fn read_in_pieces<S: FedSource, R: OctetReader>(
     alloc: Global,
     source: &mut S,
     reader: &mut R,

@@ -15,7 +15,7 @@ mod loader;
 mod octets;
 
 pub use comparison::{Verdict, Which, compare};
-pub use engine::{normalise, normalise_bytes};
+pub use engine::{accepted_zone, accepted_zone_within, normalise, normalise_bytes};
 pub use explanation::{
     OUT_OF_MEMORY, READ_FAILED, WRITE_FAILED, explain, explain_line, refusal_line,
 };

@@ -46,9 +46,11 @@ impl<R: Read> OctetReader for R {
     }
 }
 
-/// Octets in memory, which never fail.
+/// A reader of octets in memory, which never fails: of it the contracts of all that reads say that
+/// `Read` isn't answered.
 #[derive(Drop)]
 pub struct OctetSlice<'o> {
+    /// Those that it has still to give.
     pub rest: &'o [u8],
 }
 

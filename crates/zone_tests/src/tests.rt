@@ -1,4 +1,5 @@
 //! What no contract says: worked examples, texts for people, and devices that fail.
+use crate::tests::shown::check_octets;
 use std::alloc::{AllocError, Global};
 use std::fmt::Display;
 use std::test::Fail;
@@ -16,6 +17,8 @@ mod files;
 mod generated;
 mod growth;
 mod items;
+mod limits;
+mod lists;
 mod messages;
 mod names;
 mod notation;
@@ -27,6 +30,7 @@ mod readings;
 mod records;
 mod runs;
 mod scripts;
+mod shown;
 mod streams;
 mod transfers;
 mod vectors;
@@ -36,24 +40,23 @@ mod zones;
 
 /// A row of a table of few: what is asked, and the answer that it must get.
 trait Case {
-    /// Whether the answer is the one that is wanted.
+    /// That the answer is the one that is wanted.
     ///
     /// # Errors
     ///
-    /// A refusal that the row doesn't speak of, want of memory among them.
-    fn is_right(&self, alloc: Global) -> Result<bool, Fail>;
+    /// The answer and the one that is wanted, where it is another; a refusal that the row doesn't
+    /// speak of, want of memory among them.
+    fn check(&self, alloc: Global) -> Result<(), Fail>;
 }
 
 /// That each row gets the answer that is wanted.
 ///
 /// # Errors
 ///
-/// The index of the first row that gets another.
+/// The first that gets another, and the one that is wanted.
 fn check_rows<C: Case>(alloc: Global, cases: &[C]) -> Result<(), Fail> {
-    for (at, case) in cases.iter().enumerate() {
-        if !case.is_right(alloc)? {
-            return Err(Fail::new(format_args!("row {at} gets another answer")));
-        }
+    for case in cases {
+        case.check(alloc)?;
     }
     Ok(())
 }
@@ -72,15 +75,12 @@ trait Question {
 ///
 /// # Errors
 ///
-/// What was asked, where the answer is another.
+/// Where it is another, that one, the one that is wanted, and what was asked.
 fn check_answer<Q: Question>(alloc: Global, row: (&'static str, &str)) -> Result<(), Fail> {
     let (asked, wanted) = row;
     let mut answer = roomy(alloc)?;
     Q::answer(alloc, asked, &mut answer)?;
-    if answer.as_slice() == wanted.as_bytes() {
-        return Ok(());
-    }
-    Err(Fail::new(format_args!("another answer: {asked}")))
+    check_octets(asked, &answer, wanted.as_bytes())
 }
 
 /// That each line of a table gets the answer that stands after its ` => `.
@@ -215,14 +215,19 @@ fn push_answer(
     }
 }
 
-/// Whether octets are refused, by a stop that is explained so.
-fn is_refused(alloc: Global, form: Form<'_>, octets: &[u8], front: &str) -> Result<bool, Fail> {
+/// That octets are refused, by a stop that is explained so.
+fn check_refused(alloc: Global, form: Form<'_>, octets: &[u8], front: &str) -> Result<(), Fail> {
+    check_stopped(alloc, normalise_bytes(alloc, form, octets).err(), front)
+}
+
+/// That a call was stopped, by a stop that is explained so.
+fn check_stopped(alloc: Global, stopped: Option<Stop>, front: &str) -> Result<(), Fail> {
     let mut told = roomy(alloc)?;
-    match normalise_bytes(alloc, form, octets).err() {
+    match stopped {
         Some(stop) => push_stop(alloc, &mut told, &stop)?,
-        None => return Ok(false),
+        None => push_text(&mut told, "accepted")?,
     }
-    Ok(told.as_slice() == front.as_bytes())
+    check_octets("a refusal", &told, front.as_bytes())
 }
 
 /// Nothing, unless a run told want of memory.

@@ -1,6 +1,7 @@
 //! Readers and writers that fail, and writers that take little at a time.
 use crate::tests::orders::ordered;
-use crate::tests::runs::is_broken;
+use crate::tests::runs::check_broken;
+use crate::tests::shown::{check_octets, check_same};
 use crate::tests::zones::{reading_of, taken};
 use crate::tests::{Case, check_rows, had_memory, roomy, rooted};
 use std::alloc::{AllocError, Global};
@@ -76,9 +77,9 @@ impl Read for Supply<'_> {
 struct Broken(&'static [u8], ErrorKind);
 
 impl Case for Broken {
-    fn is_right(&self, alloc: Global) -> Result<bool, Fail> {
+    fn check(&self, alloc: Global) -> Result<(), Fail> {
         let mut reader = Supply::at_once(self.0, Some(self.1));
-        is_broken(alloc, &Some(rooted(b"x.")?), &mut reader)
+        check_broken(alloc, &Some(rooted(b"x.")?), &mut reader)
     }
 }
 
@@ -150,21 +151,28 @@ impl Narrowed {
         self.3 == TEXT
     }
 
-    /// Whether `write_zone` answers as it should.
-    fn is_written(&self, alloc: Global) -> Result<bool, Fail> {
+    /// That `write_zone` answers as it should.
+    fn check_written(&self, alloc: Global) -> Result<(), Fail> {
         let zone = taken(alloc, reading_of(alloc, FILE)?)?;
         let mut writer = self.writer(alloc)?;
-        let is_answered = self.is_answer(write_zone(alloc, &zone, &mut writer))?;
-        Ok(is_answered && writer.taken.as_slice() == self.3)
+        self.check_answer(write_zone(alloc, &zone, &mut writer))?;
+        check_octets("what is written of a zone", &writer.taken, self.3)
     }
 
-    /// Whether `write_zone` should answer so.
-    fn is_answer(&self, answer: Result<(), Stop>) -> Result<bool, Fail> {
-        match answer {
-            Ok(()) => Ok(self.is_whole()),
-            Err(Stop::Memory) => Err(Fail::from("memory")),
-            Err(stop) => Ok(!self.is_whole() && matches!(stop, Stop::Write)),
-        }
+    /// That `write_zone` should answer so.
+    fn check_answer(&self, answer: Result<(), Stop>) -> Result<(), Fail> {
+        let answer = match answer {
+            Ok(()) => "whole",
+            Err(Stop::Write) => "write failed",
+            Err(Stop::Memory) => return Err(Fail::from("memory")),
+            Err(_) => "another stop",
+        };
+        let wanted = if self.is_whole() {
+            "whole"
+        } else {
+            "write failed"
+        };
+        check_same("the answer of write_zone", answer, wanted)
     }
 
     /// The status of a run, and the line that it tells.
@@ -176,19 +184,22 @@ impl Narrowed {
         }
     }
 
-    /// Whether `run` answers as it should.
-    fn is_run(&self, alloc: Global) -> Result<bool, Fail> {
+    /// That `run` answers as it should.
+    fn check_run(&self, alloc: Global) -> Result<(), Fail> {
         let (mut reader, mut writer, mut errors) = (FILE, self.writer(alloc)?, roomy(alloc)?);
         let status = run_first(alloc, &mut reader, &mut writer, &mut errors)?;
         had_memory(&errors)?;
-        let is_ended = (status, errors.as_slice()) == self.ending();
-        Ok(is_ended && writer.taken.as_slice() == self.3)
+        let (ending, told) = self.ending();
+        check_same("the status", status, ending)?;
+        check_octets("the line that is told", &errors, told)?;
+        check_octets("what a run writes", &writer.taken, self.3)
     }
 }
 
 impl Case for Narrowed {
-    fn is_right(&self, alloc: Global) -> Result<bool, Fail> {
-        Ok(self.is_written(alloc)? && self.is_run(alloc)?)
+    fn check(&self, alloc: Global) -> Result<(), Fail> {
+        self.check_written(alloc)?;
+        self.check_run(alloc)
     }
 }
 
@@ -223,13 +234,15 @@ impl Mute {
 }
 
 impl Case for Mute {
-    fn is_right(&self, alloc: Global) -> Result<bool, Fail> {
+    fn check(&self, alloc: Global) -> Result<(), Fail> {
         let order = ordered(alloc, self.0)?;
         let mut open = roomy(alloc)?;
         let mut mute = Narrow::new(alloc, usize::MAX, 0, true)?;
         let status = self.status(alloc, &order, &mut open, &mut mute);
         had_memory(&open)?;
-        Ok(status == self.2 && mute.taken.is_empty() && open.as_slice() == self.3.unwrap_or(b""))
+        check_same(self.0, status, self.2)?;
+        check_octets(self.0, &mute.taken, b"")?;
+        check_octets(self.0, &open, self.3.unwrap_or(b""))
     }
 }
 

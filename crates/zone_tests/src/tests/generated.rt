@@ -1,8 +1,13 @@
 //! Files that are too long to be written out, and inputs that have no end.
-use crate::tests::{Case, check, check_rows, is_refused, push_text, push_words, roomy, rooted};
+use crate::tests::shown::{check_octets, check_same};
+use crate::tests::{
+    Case, check, check_refused, check_rows, check_stopped, push_text, push_words, rooted,
+};
 use std::alloc::Global;
+use std::io;
+use std::io::Read;
 use std::test::Fail;
-use zone_engine::{Form, normalise_bytes};
+use zone_engine::{Form, accepted_zone_within, normalise_bytes};
 use zone_name::Name;
 
 /// How many owners a file has.
@@ -69,19 +74,19 @@ fn text_of(alloc: Global, file: &[u8]) -> Result<Vec<u8>, Fail> {
     Ok(normalise_bytes(alloc, Form::File(&origin), file)?)
 }
 
-/// Whether this is the text that a file under the origin `x.` has.
-fn has_text(alloc: Global, file: &[u8], text: &[u8]) -> Result<bool, Fail> {
-    Ok(text_of(alloc, file)?.as_slice() == text)
+/// That this is the text that a file under the origin `x.` has.
+fn check_text(alloc: Global, file: &[u8], text: &[u8], asked: &str) -> Result<(), Fail> {
+    check_octets(asked, &text_of(alloc, file)?, text)
 }
 
 #[test]
 fn a_thousand_owners_are_sorted(rt: HostRuntime) -> Result<(), Fail> {
     let text = canonical(rt.alloc())?;
     check(text.len() == 24923, "the text has 24923 octets")?;
-    let is_sorted = has_text(rt.alloc(), &descending(rt.alloc())?, &text)?;
-    check(is_sorted, "owners from the highest down are sorted")?;
-    let is_sorted = has_text(rt.alloc(), &ascending(rt.alloc())?, &text)?;
-    check(is_sorted, "owners from the lowest up are sorted")
+    let file = descending(rt.alloc())?;
+    check_text(rt.alloc(), &file, &text, "owners from the highest down")?;
+    let file = ascending(rt.alloc())?;
+    check_text(rt.alloc(), &file, &text, "owners from the lowest up")
 }
 
 /// The SOA and lines of addresses from 10.0.0.0 on, so many lines of so many addresses, each a step
@@ -105,11 +110,11 @@ fn addresses(alloc: Global, count: u64, lines: u64, step: u64) -> Result<Vec<u8>
 struct ManyData(u64);
 
 impl Case for ManyData {
-    fn is_right(&self, alloc: Global) -> Result<bool, Fail> {
+    fn check(&self, alloc: Global) -> Result<(), Fail> {
         // 1009 is a prime, so each address stands there.
         let drawn = addresses(alloc, self.0, self.0.wrapping_add(self.0 / 3), 1009)?;
         let text = addresses(alloc, self.0, self.0, 1)?;
-        has_text(alloc, &drawn, &text)
+        check_text(alloc, &drawn, &text, "a set of many data")
     }
 }
 
@@ -133,8 +138,75 @@ fn a_million_open_parentheses(rt: HostRuntime) -> Result<(), Fail> {
     file.resize(1_000_000, b'(')?;
     let root = Name::root();
     let front = "F15 UnbalancedParenthesis at line 1";
-    check(
-        is_refused(rt.alloc(), Form::File(&root), &file, front)?,
-        front,
-    )
+    check_refused(rt.alloc(), Form::File(&root), &file, front)
+}
+
+/// A reader that gives its octets and then line feeds without an end.
+#[derive(Drop)]
+struct Endless {
+    left: &'static [u8],
+    /// How many octets it gave.
+    given: u64,
+}
+
+impl Read for Endless {
+    fn read(&mut self, buf: &mut [u8]) -> io::Result<usize> {
+        let count = if self.left.is_empty() {
+            buf.fill(b'\n');
+            buf.len()
+        } else {
+            self.left.read(buf)?
+        };
+        self.given = self.given.wrapping_add(count as u64);
+        Ok(count)
+    }
+}
+
+/// A front of an endless file under the origin `x.`, and the most octets that an input may have.
+struct Unending {
+    front: &'static [u8],
+    limit: u64,
+}
+
+/// That a file under the origin `x.` is refused as too long, where it may have so many octets,
+/// which are at most 100,000.
+fn check_too_long(alloc: Global, reader: &mut Endless, limit: u64) -> Result<(), Fail> {
+    let origin = rooted(b"x.")?;
+    let answer = accepted_zone_within(alloc, Form::File(&origin), reader, limit.min(100_000));
+    check_stopped(alloc, answer.err(), "F45 InputTooLong in the input")
+}
+
+impl Case for Unending {
+    fn check(&self, alloc: Global) -> Result<(), Fail> {
+        let mut reader = Endless {
+            left: self.front,
+            given: 0,
+        };
+        check_too_long(alloc, &mut reader, self.limit)?;
+        check_same("octets given", reader.given, self.limit.wrapping_add(1))
+    }
+}
+
+static UNENDING: &[Unending] = &[
+    Unending {
+        front: b"",
+        limit: 1000,
+    },
+    Unending {
+        front: b"@ 60 SOA n h 1 2 3 4 5\n",
+        limit: 1000,
+    },
+    Unending {
+        front: b"",
+        limit: 70_000,
+    },
+    Unending {
+        front: b")",
+        limit: 1000,
+    },
+];
+
+#[test]
+fn endless_inputs_are_too_long(rt: HostRuntime) -> Result<(), Fail> {
+    check_rows(rt.alloc(), UNENDING)
 }

@@ -1,8 +1,9 @@
 //! Command lines.
-use crate::tests::{Question, check_lines, push_text, push_words};
+use crate::tests::shown::{check_octets, check_same};
+use crate::tests::{Question, check_lines, push_text, push_words, roomy};
 use std::alloc::{AllocError, Global};
 use std::test::Fail;
-use zone_command::{LineFault, Order, order_of};
+use zone_command::{LineFault, Order, order_after_name, order_of, refuse};
 use zone_name::Name;
 
 /// The words of a line, in which a blank stands between two. An empty line has none.
@@ -107,4 +108,25 @@ normalise -a. => 2 clap
 #[test]
 fn command_lines(rt: HostRuntime) -> Result<(), Fail> {
     check_lines::<Given>(rt.alloc(), LINES)
+}
+
+#[test]
+fn the_name_of_the_program_is_passed_over(rt: HostRuntime) -> Result<(), Fail> {
+    let words = words_of(rt.alloc(), "zonenorm normalise X.")?;
+    let order = match order_after_name(rt.alloc(), &words) {
+        Err(LineFault::Memory) => return Err(Fail::from("memory")),
+        answer => answer?,
+    };
+    let mut told = roomy(rt.alloc())?;
+    push_order(&mut told, &order)?;
+    check_octets("the order", &told, b"normalise x.")
+}
+
+#[test]
+fn a_bad_origin_is_told(rt: HostRuntime) -> Result<(), Fail> {
+    let mut told = roomy(rt.alloc())?;
+    let status = refuse(&LineFault::BadOrigin, &mut told);
+    check_same("the status", status, 2)?;
+    let wanted = b"F46 BadOrigin: an origin is an absolute name or the word transfer\n";
+    check_octets("the line", &told, wanted)
 }

@@ -1,13 +1,14 @@
 //! Records, and a source of them.
 use crate::tests::items::data_of;
+use crate::tests::shown::check_same;
 use crate::tests::zones::reading_of;
 use crate::tests::{Case, check, check_rows, rooted};
 use std::alloc::Global;
 use std::test::Fail;
 use zone_rdata::{Fault, LendingSource, PendingRecords, Place, Placed, Rr, RrSource, Stop};
 
-/// A TTL, and whether a record may have it.
-struct Ttl(u32, bool);
+/// A TTL, and the fault of a record that has it, if it may not.
+struct Ttl(u32, Option<&'static str>);
 
 /// The octets of `b.`.
 const SERVER: &[u8] = b"\x01b\x00";
@@ -26,17 +27,20 @@ fn is_server(rr: Rr, ttl: u32) -> bool {
 }
 
 impl Case for Ttl {
-    fn is_right(&self, alloc: Global) -> Result<bool, Fail> {
+    fn check(&self, alloc: Global) -> Result<(), Fail> {
         let owner = rooted(b"example.")?;
         let data = data_of(alloc, "x.", "IN NS b.")??;
-        Ok(match Rr::new(owner, self.0, data) {
-            Ok(rr) => self.1 && is_server(rr, self.0),
-            Err(fault) => !self.1 && matches!(fault, Fault::BadTtl),
-        })
+        match Rr::new(owner, self.0, data) {
+            Ok(rr) => {
+                check(is_server(rr, self.0), "the record is that of its parts")?;
+                check_same(self.0, None, self.1)
+            }
+            Err(fault) => check_same(self.0, Some(fault.name()), self.1),
+        }
     }
 }
 
-static TTLS: &[Ttl] = &[Ttl(2147483647, true), Ttl(2147483648, false)];
+static TTLS: &[Ttl] = &[Ttl(2147483647, None), Ttl(2147483648, Some("BadTtl"))];
 
 #[test]
 fn records_of_31_bits(rt: HostRuntime) -> Result<(), Fail> {

@@ -1,10 +1,9 @@
 //! What `normalise`, `normalise_bytes`, `explain` and `run` answer to each vector, and to its
 //! canonical text.
 use crate::tests::devices::{BROKEN, Supply};
+use crate::tests::shown::{check_octets, check_same};
 use crate::tests::vectors::{check_inputs, input_of};
-use crate::tests::{
-    Question, check, had_memory, push_answer, push_text, push_words, roomy, rooted,
-};
+use crate::tests::{Question, had_memory, push_answer, push_text, push_words, roomy, rooted};
 use std::alloc::Global;
 use std::io::Read;
 use std::test::Fail;
@@ -38,11 +37,11 @@ fn written(alloc: Global, form: Form<'_>, octets: &[u8]) -> Result<Result<Vec<u8
     let (mut reader, mut written) = (octets, roomy(alloc)?);
     match normalise(alloc, form, &mut reader, &mut written) {
         Ok(count) => {
-            check(count == line_count(&written), "the lines are counted")?;
+            check_same("the records", count, line_count(&written))?;
             Ok(Ok(written))
         }
         Err(stop) => {
-            check(written.is_empty(), "nothing is written of what is refused")?;
+            check_octets("what is written of what is refused", &written, b"")?;
             Ok(Err(stop))
         }
     }
@@ -73,9 +72,11 @@ pub(super) struct Run {
 }
 
 impl Run {
-    /// Whether a run has this status, output and line.
-    fn did(&self, status: u8, output: &[u8], told: &[u8]) -> bool {
-        self.status == status && self.output.as_slice() == output && self.told.as_slice() == told
+    /// That a run has this status, output and line.
+    fn check(&self, status: u8, output: &[u8], told: &[u8]) -> Result<(), Fail> {
+        check_same("the status", self.status, status)?;
+        check_octets("the output", &self.output, output)?;
+        check_octets("the line that is told", &self.told, told)
     }
 }
 
@@ -123,17 +124,17 @@ fn refusal_line(alloc: Global, stop: &Stop) -> Result<String, Fail> {
     Ok(line)
 }
 
-/// Whether a run over a reader of the input does what `normalise_bytes` answers.
-fn is_run<R: Read>(
+/// That a run over a reader of the input does what `normalise_bytes` answers.
+fn check_run<R: Read>(
     alloc: Global,
     origin: &Option<Name>,
     answered: &Result<Vec<u8>, Stop>,
     reader: &mut R,
-) -> Result<bool, Fail> {
+) -> Result<(), Fail> {
     let ran = ran_alone(alloc, origin, reader)?;
     match answered {
-        Ok(text) => Ok(ran.did(0, text, b"")),
-        Err(stop) => Ok(ran.did(3, b"", refusal_line(alloc, stop)?.as_bytes())),
+        Ok(text) => ran.check(0, text, b""),
+        Err(stop) => ran.check(3, b"", refusal_line(alloc, stop)?.as_bytes()),
     }
 }
 
@@ -147,10 +148,8 @@ impl Question for Runs {
         let answered = input.answered(alloc);
         let mut reader = input.octets.as_slice();
         let mut singly = Supply::singly(&input.octets, None);
-        let at_once = is_run(alloc, &input.origin, &answered, &mut reader)?;
-        check(at_once, "a run does so")?;
-        let is_so = is_run(alloc, &input.origin, &answered, &mut singly)?;
-        check(is_so, "a run over single octets does so")?;
+        check_run(alloc, &input.origin, &answered, &mut reader)?;
+        check_run(alloc, &input.origin, &answered, &mut singly)?;
         push_answer(alloc, out, answered)
     }
 }
@@ -160,23 +159,22 @@ fn runs_over_inputs(rt: HostRuntime) -> Result<(), Fail> {
     check_inputs::<Runs>(rt.alloc())
 }
 
-/// Whether a run ends in the failure of its reader, and writes nothing.
-pub(super) fn is_broken<R: Read>(
+/// That a run ends in the failure of its reader, and writes nothing.
+pub(super) fn check_broken<R: Read>(
     alloc: Global,
     origin: &Option<Name>,
     reader: &mut R,
-) -> Result<bool, Fail> {
-    Ok(ran_alone(alloc, origin, reader)?.did(4, b"", b"read failed\n"))
+) -> Result<(), Fail> {
+    ran_alone(alloc, origin, reader)?.check(4, b"", b"read failed\n")
 }
 
 /// That runs end so where a reader that gives all at once before that, and one that gives an octet
 /// at a time, fails at once, after half of the input, and in place of its end.
-fn check_broken(alloc: Global, origin: &Option<Name>, octets: &[u8]) -> Result<(), Fail> {
+fn check_all_broken(alloc: Global, origin: &Option<Name>, octets: &[u8]) -> Result<(), Fail> {
     for count in [0, octets.len() / 2, octets.len()] {
         let (left, _) = octets.split_at(count);
-        let at_once = is_broken(alloc, origin, &mut Supply::at_once(left, BROKEN))?;
-        let singly = is_broken(alloc, origin, &mut Supply::singly(left, BROKEN))?;
-        check(at_once && singly, "a read that fails is told")?;
+        check_broken(alloc, origin, &mut Supply::at_once(left, BROKEN))?;
+        check_broken(alloc, origin, &mut Supply::singly(left, BROKEN))?;
     }
     Ok(())
 }
@@ -187,7 +185,7 @@ struct BrokenRuns;
 impl Question for BrokenRuns {
     fn answer(alloc: Global, asked: &'static str, out: &mut Vec<u8>) -> Result<(), Fail> {
         let input = input_of(alloc, asked)?;
-        check_broken(alloc, &input.origin, &input.octets)?;
+        check_all_broken(alloc, &input.origin, &input.octets)?;
         push_answer(alloc, out, input.answered(alloc))
     }
 }
@@ -197,19 +195,20 @@ fn runs_whose_reader_fails(rt: HostRuntime) -> Result<(), Fail> {
     check_inputs::<BrokenRuns>(rt.alloc())
 }
 
-/// Whether a canonical text under this origin normalises to itself, and is the zone of the input.
-fn is_kept_under(
+/// That a canonical text under this origin normalises to itself, and is the zone of the input.
+fn check_kept_under(
     alloc: Global,
     origin: &[u8],
     form: Form<'_>,
     octets: &[u8],
     text: &[u8],
-) -> Result<bool, Fail> {
+) -> Result<(), Fail> {
     let origin = rooted(origin)?;
     let again = normalise_bytes(alloc, Form::File(&origin), text)?;
+    check_octets("a canonical text is read back", &again, text)?;
     let (mut first, mut second) = (octets, text);
     match compare(alloc, form, &mut first, Form::File(&origin), &mut second) {
-        Ok(verdict) => Ok(verdict == Verdict::Same && again.as_slice() == text),
+        Ok(verdict) => check_same("an input and its text", verdict, Verdict::Same),
         Err((_, stop)) => Err(Fail::from(stop)),
     }
 }
@@ -217,8 +216,7 @@ fn is_kept_under(
 /// That a canonical text of an input is read back under other origins and its own.
 fn check_kept(alloc: Global, form: Form<'_>, octets: &[u8], text: &[u8]) -> Result<(), Fail> {
     for origin in [b".".as_slice(), b"x.", b"other.example."] {
-        let is_kept = is_kept_under(alloc, origin, form, octets, text)?;
-        check(is_kept, "a canonical text is read back")?;
+        check_kept_under(alloc, origin, form, octets, text)?;
     }
     Ok(())
 }
@@ -242,13 +240,13 @@ fn canonical_texts_as_files(rt: HostRuntime) -> Result<(), Fail> {
     check_inputs::<ReadBack>(rt.alloc())
 }
 
-/// Whether this status and line are what `explain` should give.
-fn is_explanation(
+/// That this status and line are what `explain` should give.
+fn check_explanation(
     alloc: Global,
     answered: &Result<Vec<u8>, Stop>,
     status: u8,
     line: &[u8],
-) -> Result<bool, Fail> {
+) -> Result<(), Fail> {
     match answered {
         Ok(text) => {
             let mut accepted = roomy(alloc)?;
@@ -258,11 +256,13 @@ fn is_explanation(
                 &mut accepted,
                 format_args!("accepted, records: {count}\n"),
             )?;
-            Ok(status == 0 && line == accepted.as_slice())
+            check_same("the status", status, 0)?;
+            check_octets("the line", line, &accepted)
         }
         Err(stop) => {
             let refusal = refusal_line(alloc, stop)?;
-            Ok(status == 3 && line == refusal.as_bytes())
+            check_same("the status", status, 3)?;
+            check_octets("the line", line, refusal.as_bytes())
         }
     }
 }
@@ -277,8 +277,7 @@ impl Question for Explained {
         let answered = input.answered(alloc);
         let (mut reader, mut told) = (input.octets.as_slice(), roomy(alloc)?);
         let status = explain(alloc, form, &mut reader, &mut told)?;
-        let is_explanation = is_explanation(alloc, &answered, status, &told)?;
-        check(is_explanation, "the answer is explained")?;
+        check_explanation(alloc, &answered, status, &told)?;
         push_answer(alloc, out, answered)
     }
 }

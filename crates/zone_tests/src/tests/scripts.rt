@@ -7,6 +7,7 @@
 use crate::tests::notation::{message_of, octets_of, stream_of};
 use crate::tests::pieces::Fed;
 use crate::tests::readings::push_placed;
+use crate::tests::shown::check_octets;
 use crate::tests::{parted, push_stop, push_text, push_words, roomy, rooted};
 use std::alloc::Global;
 use std::test::Fail;
@@ -94,10 +95,7 @@ fn check_call<S: Fed>(alloc: Global, source: &mut S, line: &'static str) -> Resu
     let (call, wanted) = line.split_once(" => ").unwrap_or((line, ""));
     let mut answer = roomy(alloc)?;
     push_called(alloc, &mut answer, source, call)?;
-    if answer.as_slice() == wanted.as_bytes() {
-        return Ok(());
-    }
-    Err(Fail::new(format_args!("another answer: {line}")))
+    check_octets(line, &answer, wanted.as_bytes())
 }
 
 /// That each call of a script is answered as it says.

@@ -4,10 +4,11 @@ use crate::tests::notation::{message_of, stream_of};
 use crate::tests::pieces::{Fed, MOST, is_right_in_two, is_right_singly};
 use crate::tests::readings::{push_reading, zeros_line};
 use crate::tests::scripts::{GREATEST, check_scripts};
+use crate::tests::shown::check_octets;
 use crate::tests::streams::{IN_TWO, SMALL, STREAMS};
 use crate::tests::vectors::input_of;
 use crate::tests::{
-    Case, Question, check, check_rows, check_table, is_refused, push_answer, push_text,
+    Case, Question, check, check_refused, check_rows, check_table, push_answer, push_text,
 };
 use std::alloc::Global;
 use std::test::Fail;
@@ -15,21 +16,21 @@ use zone_engine::{Form, normalise_bytes};
 use zone_name::Name;
 use zone_wire::{TransferSource, read_transfer};
 
-/// Whether the small transfer with an error code is refused for that.
-fn is_code_told(alloc: Global, code: u8) -> Result<bool, Fail> {
+/// That the small transfer with an error code is refused for that.
+fn check_code(alloc: Global, code: u8) -> Result<(), Fail> {
     let mut stream = stream_of(alloc, SMALL)?;
     if let Some(flags) = stream.get_mut(5) {
         *flags = code;
     }
     let front = format!(in alloc; "F26 ErrorCode {code} at message 1 offset 0")?;
-    is_refused(alloc, Form::Transfer, &stream, front.as_str())
+    check_refused(alloc, Form::Transfer, &stream, front.as_str())
 }
 
 /// The fault of the small transfer with each error code from 1 to 15 (RFC 1035 4.1.1).
 #[test]
 fn error_codes_are_told(rt: HostRuntime) -> Result<(), Fail> {
     for code in 1..16u8 {
-        check(is_code_told(rt.alloc(), code)?, "an error code is told")?;
+        check_code(rt.alloc(), code)?;
     }
     Ok(())
 }
@@ -89,15 +90,13 @@ struct Prefixes {
 }
 
 impl Case for Prefixes {
-    fn is_right(&self, alloc: Global) -> Result<bool, Fail> {
+    fn check(&self, alloc: Global) -> Result<(), Fail> {
         let octets = stream_of(alloc, self.octets)?;
         for count in self.from..=self.to.min(octets.len()) {
             let (front, _) = octets.split_at(count.min(octets.len()));
-            if !is_refused(alloc, Form::Transfer, front, self.front)? {
-                return Ok(false);
-            }
+            check_refused(alloc, Form::Transfer, front, self.front)?;
         }
-        Ok(true)
+        Ok(())
     }
 }
 
@@ -247,8 +246,5 @@ fn the_greatest_message_is_normalised(rt: HostRuntime) -> Result<(), Fail> {
     let stream = greatest_stream(rt.alloc())?;
     let answered = normalise_bytes(rt.alloc(), Form::Transfer, &stream)?;
     let text = greatest_text(rt.alloc())?;
-    check(
-        answered.as_slice() == text.as_slice(),
-        "the text is the canonical one",
-    )
+    check_octets("the greatest message", &answered, &text)
 }

@@ -1,4 +1,5 @@
 //! Words and numbers of classes and types, times, and layouts (RFC 1035 3.2, RFC 3597 5).
+use crate::tests::shown::check_same;
 use crate::tests::wire::in_class_in;
 use crate::tests::{
     Case, Question, check_lines, check_rows, parted, push_fault, push_text, push_words,
@@ -125,10 +126,10 @@ const TIMES: &str = "\
 struct SoaField(usize, Option<Field>);
 
 impl Case for SoaField {
-    fn is_right(&self, _alloc: Global) -> Result<bool, Fail> {
+    fn check(&self, _alloc: Global) -> Result<(), Fail> {
         let (class, kind) = in_class_in("6")?;
         let layout = layout_of(class, kind).ok_or("no layout")?;
-        Ok(layout.field(self.0) == self.1)
+        check_same(self.0, layout.field(self.0), self.1)
     }
 }
 

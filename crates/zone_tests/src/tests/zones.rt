@@ -1,5 +1,6 @@
 //! Records that make a zone, its records in order and its text (RFC 1035 5.2, RFC 2181 5, RFC 4034
 //! 6).
+use crate::tests::shown::check_octets;
 use crate::tests::{
     Question, check, check_table, push_hex, push_stop, push_text, push_words, rooted,
 };
@@ -70,8 +71,8 @@ fn push_zone_text(alloc: Global, out: &mut Vec<u8>, zone: &Zone) -> Result<(), F
     check(text_fits(zone), "the text fits")?;
     let before = out.len();
     write_zone(alloc, zone, out)?;
-    let is_same = out.get(before..) == Some(text.as_slice());
-    check(is_same, "the text is written as it is appended")
+    let written = out.get(before..).unwrap_or(b"");
+    check_octets("the text is written as it is appended", written, &text)
 }
 
 /// Appends a zone, or what explains its refusal.
@@ -90,11 +91,11 @@ fn push_made(alloc: Global, out: &mut Vec<u8>, made: Result<Zone, Stop>) -> Resu
     }
 }
 
-/// Whether what is made of records that come another way is appended as before.
-fn is_same(alloc: Global, told: &[u8], made: Result<Zone, Stop>) -> Result<bool, Fail> {
+/// That what is made of records that come another way is appended as before.
+fn check_made(alloc: Global, told: &[u8], made: Result<Zone, Stop>, way: &str) -> Result<(), Fail> {
     let mut again = Vec::new(alloc);
     push_made(alloc, &mut again, made)?;
-    Ok(told == again.as_slice())
+    check_octets(way, &again, told)
 }
 
 /// The zone of a file's records, the same if they are added one by one, taken or lent.
@@ -104,10 +105,10 @@ impl Question for OfFile {
     fn answer(alloc: Global, asked: &'static str, out: &mut Vec<u8>) -> Result<(), Fail> {
         let file = asked.as_bytes();
         push_made(alloc, out, added(alloc, reading_of(alloc, file)?))?;
-        let of_taken = is_same(alloc, out, taken(alloc, reading_of(alloc, file)?))?;
-        check(of_taken, "records that are taken make the same")?;
-        let of_lent = is_same(alloc, out, lent(alloc, reading_of(alloc, file)?))?;
-        check(of_lent, "records that are lent make the same")
+        let made = taken(alloc, reading_of(alloc, file)?);
+        check_made(alloc, out, made, "records that are taken make the same")?;
+        let made = lent(alloc, reading_of(alloc, file)?);
+        check_made(alloc, out, made, "records that are lent make the same")
     }
 }
 

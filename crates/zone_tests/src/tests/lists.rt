@@ -1,4 +1,5 @@
-use crate::{SortedChunks, Sought};
+//! Ordered lists that are kept in chunks.
+use sorted_chunks::{SortedChunks, Sought};
 use std::alloc::{AllocError, Global};
 use std::test::Fail;
 

@@ -1,6 +1,6 @@
 use Rattle.zone_engine.proofs.Common.{◌≡◌, ◌-◌, ◌+◌, false, BeginsAs, IsLoadedOf}
 use Rattle.zone_engine.proofs.Feeding.{HasFed}
-use Rattle.zone_engine.proofs.input.read_in_pieces.Given as goal
+use Rattle.zone_engine.proofs.input.read_zone.Given as goal
 
 -- what the reader gave so far was taken, and is at most one octet over the limit
 abbrev pub invariant-loop-count : goal.invariant-loop-count

@@ -1,6 +1,6 @@
 -- A text over the limit is refused, and what else stops is want of memory.
 use Rattle.zone_print.proofs.Common.{arith, err_from_is_err_and, large, memory}
-use Rattle.zone_print.proofs.print.push_within.Goals as goal
+use Rattle.zone_print.proofs.print.push_zone_within.Goals as goal
 
 pub returns-then-text_len-limit-clause-stopped : goal.returns-then-text_len-limit-clause-stopped
 returns-then-text_len-limit-clause-stopped c = large (omega (arith, c.len_within-text_len.ensures))

@@ -1,7 +1,7 @@
 use Rattle.zone_engine.proofs.Common.{rules, refl, sym, ◌∙◌, ◌<◌, ◌≤◌, ◌+◌, ◌++◌, [], length, length-append, arith, MatchResult-weaker, input_of, ReadsZoneWithin, IfRefused, IsRefusalWithin, Consumes-nil, Consumes-trans, Consumes-whole}
 use Rattle.zone_name.proofs.Pushing.{AllByRecursion-append}
 use Rattle.zone_engine.proofs.Feeding.{begun, within, refused_within, too_many, consumed_none, of_reading, tells_no_read, no_octets}
-use Rattle.zone_engine.proofs.input.read_in_pieces.Goals as goal
+use Rattle.zone_engine.proofs.input.read_zone.Goals as goal
 
 pub loop-count-init : goal.loop-count-init
 loop-count-init g c = record {

@@ -2,7 +2,7 @@
 use Rattle.zone_print.proofs.Common.{◌<◌, ◌≤◌, length, refl, arith, Keeps-refl, canon, large}
 use Rattle.std.proofs.lemmas.Bool.{false≢true}
 use Rattle.zone_print.proofs.Stops.{stops_within, tells_writing}
-use Rattle.zone_print.proofs.print.write_within.Goals as goal
+use Rattle.zone_print.proofs.print.write_zone_within.Goals as goal
 
 pub returns-then-not-text_fits_within-clause-stopped : goal.returns-then-not-text_fits_within-clause-stopped
 returns-then-not-text_fits_within-clause-stopped g c =
