@@ -8,15 +8,20 @@ FILE, or standard input, is read under ORIGIN, an absolute name; the result goes
 output. Only the type and the data of such records are written anew. Every other entry stays as it
 is, octet for octet, and each entry stays on its line: so owners, TTLs and classes that are
 omitted are read by zonenorm by its own rules, with or without `$ORIGIN` and `$TTL`, and a fault
-names the line of FILE. A type that dnspython doesn't know stays too, and zonenorm refuses it
-(F7).
+names the line of FILE. A type that dnspython doesn't know stays too, and so does a record whose
+base64 is malformed: zonenorm refuses them (F7). Where an entry breaks (F4, F14, F15), it and all
+after it stay as they are.
 
-It needs dnspython 2.3 or later (Debian: python3-dnspython).
+It needs dnspython 2.3 or later (Debian: python3-dnspython) where FILE has a record to convert or
+`$ORIGIN`.
 
 Status 0: all was written. 1: a record's data doesn't fit its type; a line tells which, and
 nothing was written. 2: the command line is wrong. 4: reading or writing failed, or dnspython is
 missing."""
 import argparse
+import base64
+import contextlib
+import functools
 import re
 import sys
 
@@ -24,30 +29,59 @@ READ = {"A", "NS", "CNAME", "SOA", "PTR", "MX", "TXT", "AAAA", "SRV", "NAPTR"}
 CLASS = re.compile(r"IN|CS|CH|HS|CLASS[0-9]+", re.IGNORECASE)
 TTL = re.compile(r"([0-9]+[wdhms]?)+", re.IGNORECASE)
 GENERIC = re.compile(r"TYPE[0-9]+", re.IGNORECASE)
+ESCAPE = r"\\(?:[01][0-9]{2}|2[0-4][0-9]|25[0-5]|[^0-9\r\n])"
 PIECE = re.compile(
-    r'(?P<end>\n)|(?P<blank>[ \t\r]+)|(?P<comment>;[^\n]*)|(?P<open>\()|(?P<close>\))'
-    r'|(?P<item>"(?:\\.|[^"\\])*"|(?:\\.|[^\s;()"\\])+|.)',
+    r"(?P<end>\n)|(?P<blank>[ \t\r]+)|(?P<comment>;[^\n]*)|(?P<open>\()|(?P<close>\))"
+    rf'|(?P<item>"(?:{ESCAPE}|[^"\\])*"|(?:{ESCAPE}|[^ \t\r\n;()"\\])+)|(?P<broken>.)',
     re.DOTALL,
 )
+# The first item of base64 in the data of a type: all after it is base64 too, but for HIP.
+BASE64 = {
+    "DHCID": 0, "OPENPGPKEY": 0, "HIP": 2, "CDNSKEY": 3, "CERT": 3, "DNSKEY": 3, "KEY": 3,
+    "IPSECKEY": 4, "RRSIG": 8, "SIG": 8,
+}
+# A parameter of base64, or one that may be it, since its key is written with an escape.
+ECH = re.compile(r'ech=|(?!")[^=]*\\', re.IGNORECASE)
+# A bare item with an octet that is a blank around Python's numbers, and none in a master file.
+ODD = re.compile(r'(?!")(?:.*[^\\])?[\v\f\x1c-\x1f]', re.DOTALL)
 
 
 class Unfit(Exception):
     """A record that can't be written in the generic form."""
 
 
+class Item(str):
+    """An item that knows whether it touches the one before: `alpn="h2"` is two, and one word."""
+
+    touches = False
+
+
+def joined(items):
+    """The items as they stood, those that touch without a blank between."""
+    return "".join(item if item.touches else f" {item}" for item in items).lstrip(" ")
+
+
 def entries(text):
-    """Each entry: its octets as text, its line, its items, and whether it begins with a blank."""
-    depth, begin, items, line, first_line = 0, 0, [], 1, 1
+    """Each entry: its octets as text, its line, and its items. An entry that breaks comes with all
+    after it and without items: an escape is malformed, a quote or a parenthesis stays open, or a
+    `)` closes nothing."""
+    depth, begin, items, line, first_line, touches = 0, 0, [], 1, 1, False
     for piece in PIECE.finditer(text):
         if piece["item"]:
-            items.append(piece["item"])
+            item = Item(piece["item"])
+            item.touches = touches
+            items.append(item)
+        touches = bool(piece["item"])
         depth += bool(piece["open"]) - bool(piece["close"])
+        if piece["broken"] or depth < 0:
+            yield text[begin:], first_line, []
+            return
         line += piece[0].count("\n")
-        if piece["end"] and depth <= 0:
+        if piece["end"] and depth == 0:
             yield text[begin : piece.end()], first_line, items
-            depth, begin, items, first_line = 0, piece.end(), [], line
+            begin, items, first_line = piece.end(), [], line
     if begin < len(text):
-        yield text[begin:], first_line, items
+        yield text[begin:], first_line, [] if depth else items
 
 
 def split(whole, items):
@@ -69,58 +103,110 @@ def in_ascii(data):
     return data
 
 
+def is_base64(text):
+    """Whether this is base64 with its padding and the bits left over zero (RFC 4648 section 4). The
+    decoder, here and in dnspython, passes over what is no digit."""
+    try:
+        return base64.b64encode(base64.b64decode(text)).decode() == text
+    except ValueError:
+        return False
+
+
+def base64_of(kind, data):
+    """Each text in the data of a record that is to be base64."""
+    if kind in ("SVCB", "HTTPS"):
+        for item, after in zip(data[2:], [*data[3:], ""]):
+            if ECH.match(item):
+                yield item[4:] or after[1:-1]
+    elif kind in BASE64:
+        end = 3 if kind == "HIP" else None
+        yield "".join(data[BASE64[kind] : end])
+
+
+def stays(kind, data):
+    """Whether a record stays as it is, whatever dnspython knows of its type."""
+    if kind in READ or GENERIC.fullmatch(kind) or kind.startswith('"'):
+        return True
+    if data[:1] == ["\\#"]:
+        return False
+    return any(map(ODD.match, data)) or not all(map(is_base64, base64_of(kind, data)))
+
+
+@contextlib.contextmanager
+def dnspython():
+    """The library, looked for where it is needed. What it refuses is unfit."""
+    import dns.exception, dns.name, dns.rdata, dns.rdataclass, dns.rdatatype
+
+    try:
+        yield dns
+    except (dns.exception.DNSException, ValueError, ArithmeticError) as error:
+        raise Unfit(str(error) or type(error).__name__) from None
+
+
+def number_of(dns, kind):
+    """The number of a type that holds data and that dnspython knows."""
+    try:
+        number = dns.rdatatype.from_text(kind)
+    except dns.exception.DNSException:
+        return None
+    return None if number in (0, 41) or 128 <= number <= 255 else number
+
+
 class Converter:
     """Walks through the entries with the origin and the class that hold."""
 
-    def __init__(self, dns, origin):
-        self.dns, self.origin, self.stated = dns, origin, "IN"
+    def __init__(self, given):
+        self.given, self.stated = given, "IN"
 
-    def kind_to_convert(self, kind):
-        """The number of a type that has no words in zonenorm and is known here."""
-        if kind.upper() in READ or GENERIC.fullmatch(kind) or kind.startswith('"'):
-            return None
-        try:
-            number = self.dns.rdatatype.from_text(kind)
-        except self.dns.exception.DNSException:
-            return None
-        return None if number in (0, 41) or 128 <= number <= 255 else number
+    @functools.cached_property
+    def origin(self):
+        """The origin that holds: the one given, until a `$ORIGIN` sets another."""
+        with dnspython() as dns:
+            return dns.name.from_text(self.given, None)
 
     def entry(self, whole, items):
         """The entry as it is to be written."""
         if not items:
             return whole
         if items[0].upper() == "$ORIGIN" and len(items) == 2:
-            self.origin = self.dns.name.from_text(items[1], self.origin)
+            with dnspython() as dns:
+                self.origin = dns.name.from_text(items[1], self.origin)
         if items[0].startswith("$"):
             return whole
         front, stated, kind, data = split(whole, items)
         self.stated = stated or self.stated
-        number = self.kind_to_convert(kind)
-        if number is None:
-            return whole
-        if data[:1] == ["\\#"]:
-            return self.written(whole, front, number, " ".join(data))
-        rdata = self.dns.rdata.from_text(
-            self.dns.rdataclass.from_text(self.stated), number, in_ascii(" ".join(data)),
-            origin=self.origin, relativize=False,
-        )
-        octets = rdata.to_wire()
-        return self.written(whole, front, number, f"\\# {len(octets)} {octets.hex()}".rstrip())
+        return whole if stays(kind.upper(), data) else self.record(whole, front, kind, data)
 
-    def written(self, whole, front, number, data):
-        """An entry in the generic form, with as many line feeds as it had."""
-        blank = " " if whole[0] in " \t\r" else ""
-        return blank + " ".join([*front, f"TYPE{int(number)}", data]) + "\n" * whole.count("\n")
+    def record(self, whole, front, kind, data):
+        """A record in the generic form, or as it is where dnspython doesn't know its type."""
+        with dnspython() as dns:
+            number = number_of(dns, kind)
+            if number is None:
+                return whole
+            if data[:1] == ["\\#"]:
+                return written(whole, front, number, " ".join(data))
+            rdata = dns.rdata.from_text(
+                dns.rdataclass.from_text(self.stated), number, in_ascii(joined(data)),
+                origin=self.origin, relativize=False,
+            )
+            octets = rdata.to_wire()
+            return written(whole, front, number, f"\\# {len(octets)} {octets.hex()}".rstrip())
 
 
-def converted(dns, text, origin):
+def written(whole, front, number, data):
+    """An entry in the generic form, with as many line feeds as it had."""
+    blank = " " if whole[0] in " \t\r" else ""
+    return blank + " ".join([*front, f"TYPE{int(number)}", data]) + "\n" * whole.count("\n")
+
+
+def converted(text, origin):
     """The whole file."""
-    converter = Converter(dns, dns.name.from_text(origin, None))
+    converter = Converter(origin)
     for whole, line, items in entries(text):
         try:
             yield converter.entry(whole, items)
-        except (Unfit, dns.exception.DNSException, ValueError, ArithmeticError) as error:
-            raise Unfit(f"line {line}: {error or type(error).__name__}") from None
+        except Unfit as error:
+            raise Unfit(f"line {line}: {error}") from None
 
 
 def main():
@@ -133,11 +219,9 @@ def main():
     if not given.origin.endswith("."):
         words.error("ORIGIN is an absolute name, with a dot at its end")
     try:
-        import dns.exception, dns.name, dns.rdata, dns.rdataclass, dns.rdatatype
-
         source = open(given.file, "rb") if given.file else sys.stdin.buffer
         text = source.read().decode("latin-1")
-        octets = "".join(converted(dns, text, given.origin)).encode("latin-1")
+        octets = "".join(converted(text, given.origin)).encode("latin-1")
         sys.stdout.buffer.write(octets)
         sys.stdout.buffer.flush()
     except Unfit as reason:

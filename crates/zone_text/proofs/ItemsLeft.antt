@@ -1,6 +1,6 @@
 -- The items of tokens, gathered from the left: the first token of a text, and the items of those
 -- after it.
-use Rattle.zone_text.proofs.Common.{AllByRecursion, AllFollow, AreKept, Cuts, EndsBefore, IsToken, Keeps, KeepsItems, List, RawItem, Token, [], ap, append-nil, append_assoc, arith, bare, before_line_feed, blank, both_ways, comment, drop, drop-append_seam, ends_item, false, flat_map, is_blank, is_quote, item_len, item_of, length, length-drop, min, quoted, refl, rules, subst, suc, sym, take, take-append_seam, text, token_text, true, written_text, ℕ, ◌++◌, ◌-◌, ◌<◌, ◌∙◌, ◌∷◌, ◌≡◌, ◌≢◌, ◌≤◌}
+use Rattle.zone_text.proofs.Common.{AllByRecursion, AllFollow, AreKept, Cuts, EndsBefore, IsToken, Keeps, KeepsItems, List, RawItem, Token, [], ap, append-nil, append_assoc, arith, bare, before_line_feed, blank, both_ways, comment, drop, drop-append_seam, ends_item, false, flat_map, is_blank, is_quote, item_len, item_of, length, length-drop, min, quoted, refl, rules, subst, suc, sym, take, take-append_seam, text, token_text, true, written_text, ℕ, ◌++◌, ◌<◌, ◌∙◌, ◌∷◌, ◌≡◌, ◌≢◌, ◌≤◌}
 use Rattle.zone_rdata.specs.Item as raw
 use Rattle.zone_text.proofs.Cuttings.{follow_after, shorter}
 use Rattle.zone_text.proofs.Fronts.{Begins, begins}

@@ -1,7 +1,6 @@
 //! A source of the records of a master file that is fed in pieces.
 ghost use Rattle.std.specs.Prelude.{◌≡◌, ◌+◌, ◌<◌, ◌^◌, ◌++◌, ℕ, true, false, [], List, length, IfErr, IfSome, IsOk, OnOk, OnErr};
 ghost use Rattle.zone_name.specs.Common.{Labels};
-ghost use Rattle.zone_rdata.specs.declared.fed.FedStatus.TheVariants.{OutOfMemory};
 
 use crate::splitter::EntrySplitter;
 use std::alloc::Global;
@@ -34,18 +33,6 @@ impl Model for TextSource {
 
     ghost invariant = { λ s.
         IsSource s.status s.fed s.splitter.ended s.splitter.at s.splitter.unfinished.items };
-}
-
-/// Gives up what is kept: every later call answers `Memory`.
-#[cold]
-fn fail(splitter: &mut EntrySplitter, status: &mut FedStatus) -> Stop
-    ensures memory { result ≡ Stop.Memory }
-    ensures failed { status.new ≡ OutOfMemory }
-    ensures none { splitter.new.unfinished.items ≡ [] }
-{
-    splitter.drop_unfinished();
-    *status = FedStatus::OutOfMemory;
-    Stop::Memory
 }
 
 impl TextSource {
@@ -98,7 +85,11 @@ impl TextSource {
                 self.fed += piece.len() as u64;
                 Ok(())
             }
-            Err(_) => Err(fail(&mut self.splitter, &mut self.status)),
+            Err(_) => {
+                self.splitter.drop_unfinished();
+                self.status = FedStatus::OutOfMemory;
+                Err(Stop::Memory)
+            }
         }
     }
 
@@ -132,7 +123,11 @@ impl TextSource {
                 self.status = FedStatus::Finished;
                 Ok(())
             }
-            Err(_) => Err(fail(&mut self.splitter, &mut self.status)),
+            Err(_) => {
+                self.splitter.drop_unfinished();
+                self.status = FedStatus::OutOfMemory;
+                Err(Stop::Memory)
+            }
         }
     }
 

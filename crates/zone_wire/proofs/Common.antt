@@ -53,7 +53,7 @@ pub use Rattle.zone_wire.specs.Machine.Answers.{Answered, agrees, answers_of, be
 unfoldable pub use Rattle.zone_wire.specs.Machine.Answers.{answer_record, own_record}
 pub use Rattle.zone_wire.specs.Machine.Data.{name_before, sized_before, strings_before, values_at}
 unfoldable pub use Rattle.zone_wire.specs.Machine.Data.{data_at, value_at}
-pub use Rattle.zone_wire.specs.Machine.DataReading.{Awaits, AwaitsStrings, IsRead, IsReadyFor, PutsValue, PutsValues, parts_for, put_after}
+pub use Rattle.zone_wire.specs.Machine.DataReading.{Awaits, AwaitsStrings, IsRead, IsReadyFor, PutsValue, PutsValues, Reads, TakesOctets, data_of, next_value, parts_for, put_after}
 pub use Rattle.zone_wire.specs.Machine.Feeding.{Follow, Going, IsCut}
 pub use Rattle.zone_wire.specs.Machine.Finding.{Outcome, Says, after_label, after_pointer, named, refused}
 unfoldable pub use Rattle.zone_wire.specs.Machine.Finding.{outcome}
@@ -76,5 +76,6 @@ pub use Rattle.zone_wire.specs.Unless.{NoFault, Unless, fails, holds}
 pub use Rattle.zone_wire.specs.View.{RawRecord, asked, raw_at}
 pub use Rattle.zone_wire.specs.Visits.{LeadToLast, is_label, is_pointer, labels_in, pointers_in}
 pub use Rattle.zone_wire.specs.Walk.{FaultHere, IsWalk, NameFault, Standing, Visit, Walks, at_fault, at_label, at_pointer, at_root, by_pointer, outside, over_label, to_fault, to_root, visit}
+pub use Rattle.zone_wire.specs.declared.cursor.Cursor.{Cursor}
 pub use Rattle.zone_wire.specs.declared.message.Question.{Question}
 pub use Rattle.zone_wire.specs.declared.transfer.Transfer.{Transfer}

@@ -1,11 +1,11 @@
 -- The data of a record is read into a builder.
-use Rattle.zone_wire.proofs.Common.{AllByRecursion, Awaits, BadRdata, Built, Err, Fault, Field, FieldValue, HoldEach, Holds, IsNext, IsPushFault, IsRead, IsReadyFor, IsRecordAt, IsSized, IsWhole, List, None, Ok, Option, Pushes, PutsValue, PutsValues, RawRecord, RecordAt, Result, Some, Strings, Suits, [], and_then, ap, append-nil, append_assoc, arith, cond-true, data_at, drop, drop_all, ends_with_strings, eq-eqb, field_octets, fixed, flat_map, flat_map-append, get_or, if◌then◌else◌, inl, inr, layout, length, length-append, length-take, long_string, misplaced, name, octets_between, octets_of, octets_push, option_or, part_at, parts_for, put_after, refl, slice_get, strings, subst, suc, sym, table_row, too_long, u16_value, u32_value, value_at, values_at, zero, ℕ, ◌*◌, ◌++◌, ◌+◌, ◌-◌, ◌<◌, ◌∙◌, ◌∷◌, ◌≡◌, ◌≢◌, ◌≤◌, common_steps}
+use Rattle.zone_wire.proofs.Common.{AllByRecursion, Awaits, BadRdata, Built, Err, Fault, Field, FieldValue, HoldEach, Holds, IsNext, IsPushFault, IsRead, IsReadyFor, IsRecordAt, IsSized, IsWhole, List, None, Ok, Option, Pushes, PutsValue, PutsValues, RawRecord, RecordAt, Result, Some, Strings, Suits, [], and_then, ap, append-nil, append_assoc, arith, cond-true, data_at, drop, drop_all, ends_with_strings, eq-eqb, field_octets, fixed, flat_map, flat_map-append, get_or, inl, inr, layout, length, length-append, length-take, long_string, misplaced, name, octets_between, octets_of, octets_push, option_or, part_at, parts_for, put_after, refl, slice_get, strings, subst, suc, sym, table_row, too_long, u16_value, u32_value, value_at, values_at, zero, ℕ, ◌*◌, ◌++◌, ◌+◌, ◌-◌, ◌<◌, ◌∙◌, ◌∷◌, ◌≡◌, ◌≢◌, ◌≤◌, common_steps, Cursor, data_of, next_value, if◌then◌else◌}
 use Rattle.zone_rdata.proofs.AnyField.{field_short}
-use Rattle.zone_wire.proofs.ReadFields.{value_shows, values_show}
+use Rattle.zone_wire.proofs.ReadFields.{values_show}
 use Rattle.zone_wire.proofs.MessageFaults.{and_then_err}
 use Rattle.zone_wire.proofs.ReadRecords.{IsRow, each_row}
 use Rattle.zone_wire.proofs.Sectioning.{and_then_ok}
-use Rattle.zone_wire.proofs.StringReading.{length-strings, octets_of_strings}
+use Rattle.zone_wire.proofs.StringReading.{length-strings, octets_of_strings, shown}
 
 -- ---- the fields of a layout
 from_here : (fields : List Field) (i : ℕ) (field : Field) → slice_get fields i ≡ Some field → drop i fields ≡ field ∷ drop (i + 1) fields
@@ -30,18 +30,17 @@ within_fields (f ∷ fields) zero field e = omega arith
 within_fields (f ∷ fields) (suc i) field e = let h = within_fields fields i field e in omega arith
 
 -- the values of the fields before a place were put
-pub record HaveValues (octets : List ℕ) (end start : ℕ) (fields : List Field) (old now : Built) (count place : ℕ) : Type 0 where
+pub record HaveValues (from to : Cursor) (fields : List Field) (old now : Built) (count : ℕ) : Type 0 where
   pub values : List FieldValue
   pub number : length values ≡ count
   pub put : now ≡ put_after old (flat_map parts_for values)
   pub plain : AllByRecursion (λ f. f ≢ Strings) fields → (length (flat_map parts_for values) ≡ count) × (length (octets_of (flat_map parts_for values)) ≤ 256 * count)
-  pub leads : (others : List FieldValue) → values_at octets end place (drop count fields) ≡ Ok others → values_at octets end start fields ≡ Ok (values ++ others)
-  pub fails : (fault : Fault) → values_at octets end place (drop count fields) ≡ Err fault → values_at octets end start fields ≡ Err fault
-  pub past : start ≤ place
-  pub inside : place ≤ end
+  pub leads : (others : List FieldValue) → values_at from.message.now from.end to.at (drop count fields) ≡ Ok others → values_at from.message.now from.end from.at fields ≡ Ok (values ++ others)
+  pub fails : (fault : Fault) → values_at from.message.now from.end to.at (drop count fields) ≡ Err fault → values_at from.message.now from.end from.at fields ≡ Err fault
+  pub same : data_of to ≡ data_of from
 
-plain_ready : (octets : List ℕ) (end start : ℕ) (b : Built) (field : Field) → field ≢ Strings → Awaits octets end start b field → IsReadyFor octets end start b field
-plain_ready octets end start b field other w = grind arith
+plain_ready : (c : Cursor) (b : Built) (field : Field) → field ≢ Strings → Awaits c b field → IsReadyFor c b field
+plain_ready c b field other w = grind arith
 
 strings_next : (n : ℕ) → part_at (Strings ∷ []) n ≡ Some Strings
 strings_next n = grind arith
@@ -49,53 +48,57 @@ strings_next n = grind arith
 plain_parts : (field : Field) (value : FieldValue) → field ≢ Strings → Holds field value → parts_for value ≡ value ∷ []
 plain_parts field value other held = grind arith
 
-module _ (octets : List ℕ) (each : (k : ℕ) → get_or octets k 0 < 256) (end start : ℕ) (within : end ≤ length octets) (fields : List Field) (old : Built) (laid : layout old.class old.kind ≡ Some fields) (new : old.parts ≡ []) where
-  own_parts : (now : Built) (count place : ℕ) (h : HaveValues octets end start fields old now count place) → now.parts ≡ flat_map parts_for h.values
-  own_parts now count place h = ap (λ (b : Built). b.parts) h.put ∙ ap (λ ps. ps ++ flat_map parts_for h.values) new
+module _ (from : Cursor) (fields : List Field) (old : Built) (laid : layout old.class old.kind ≡ Some fields) (new : old.parts ≡ []) where
+  own_parts : (to : Cursor) (now : Built) (count : ℕ) (h : HaveValues from to fields old now count) → now.parts ≡ flat_map parts_for h.values
+  own_parts to now count h = ap (λ (b : Built). b.parts) h.put ∙ ap (λ ps. ps ++ flat_map parts_for h.values) new
 
-  same_laid : (now : Built) (count place : ℕ) → HaveValues octets end start fields old now count place → layout now.class now.kind ≡ Some fields
-  same_laid now count place h = ap (λ (b : Built). layout b.class b.kind) h.put ∙ laid
+  same_laid : (to : Cursor) (now : Built) (count : ℕ) → HaveValues from to fields old now count → layout now.class now.kind ≡ Some fields
+  same_laid to now count h = ap (λ (b : Built). layout b.class b.kind) h.put ∙ laid
 
-  plain_next : (now : Built) (count place : ℕ) (field : Field) → AllByRecursion (λ f. f ≢ Strings) fields → slice_get fields count ≡ Some field → HaveValues octets end start fields old now count place → Awaits octets end place now field
-  plain_next now count place field others here h =
+  plain_next : (to : Cursor) (now : Built) (count : ℕ) (field : Field) → AllByRecursion (λ f. f ≢ Strings) fields → slice_get fields count ≡ Some field → HaveValues from to fields old now count → Awaits to now field
+  plain_next to now count field others here h =
       let table = table_row old.class old.kind fields laid in
       let sized = field_of IsSized fields count field here table.sized in
       let other = field_of (λ f. f ≢ Strings) fields count field here others in
       let plain = h.plain others in
-      let parts = own_parts now count place h in
+      let parts = own_parts to now count h in
       let number : length now.parts ≡ count = ap length parts ∙ plain.0 in
       let at : part_at fields (length now.parts) ≡ Some field = ap (part_at fields) number ∙ ap (λ o. option_or o (if ends_with_strings fields then Some Strings else None)) here in
       record {
-        next = λ part suits. subst (λ o. IsNext o (length now.parts) part) (sym (same_laid now count place h)) (subst (λ o. Suits o part) (sym at) suits);
+        next = λ part suits. subst (λ o. IsNext o (length now.parts) part) (sym (same_laid to now count h)) (subst (λ o. Suits o part) (sym at) suits);
         sized = sized;
         room = λ value past read.
-            let shows = value_shows octets each end within place field (value, past) read in
-            let one = field_short field value other sized shows.0 in
+            let one = field_short field value other sized (shown from to field (value, past) h.same read).0 in
             omega (arith, one, plain.1, table.few, within_fields fields count field here, ap (λ ps. length (octets_of ps)) parts);
       }
 
-  strings_ready : (now : Built) (count place : ℕ) (field : Field) → end ≤ start + 65535 → fields ≡ Strings ∷ [] → slice_get fields count ≡ Some field → HaveValues octets end start fields old now count place → IsReadyFor octets end place now field
-  strings_ready now count place field short alone here h = grind (arith, common_steps)
+  strings_ready : (to : Cursor) (now : Built) (count : ℕ) (field : Field) → fields ≡ Strings ∷ [] → slice_get fields count ≡ Some field → HaveValues from to fields old now count → IsReadyFor to now field
+  strings_ready to now count field alone here h = grind (arith, common_steps, to.short)
 
-  pub field_ready : (now : Built) (count place : ℕ) (field : Field) → end ≤ start + 65535 → slice_get fields count ≡ Some field → HaveValues octets end start fields old now count place → IsReadyFor octets end place now field
-  field_ready now count place field short here h = elim (subst IsRow laid (each_row old.class old.kind)) [
-    | inl others ↦ plain_ready octets end place now field (field_of (λ f. f ≢ Strings) fields count field here others) (plain_next now count place field others here h)
-    | inr alone ↦ strings_ready now count place field short alone here h
+  pub field_ready : (to : Cursor) (now : Built) (count : ℕ) (field : Field) → slice_get fields count ≡ Some field → HaveValues from to fields old now count → IsReadyFor to now field
+  field_ready to now count field here h = elim (subst IsRow laid (each_row old.class old.kind)) [
+    | inl others ↦ plain_ready to now field (field_of (λ f. f ≢ Strings) fields count field here others) (plain_next to now count field others here h)
+    | inr alone ↦ strings_ready to now count field alone here h
   ]
 
-  pub field_put : (now next : Built) (count place past : ℕ) (field : Field) → slice_get fields count ≡ Some field → HaveValues octets end start fields old now count place → PutsValue octets end place field now next past → HaveValues octets end start fields old next (count + 1) past
-  field_put now next count place past field here h p =
-      let shows = value_shows octets each end within place field (p.value, past) p.read in
+  -- the value of the next field is that of the field at a later place
+  from_next : (to : Cursor) (now : Built) (count : ℕ) (field : Field) (v : Result (FieldValue × ℕ) Fault) → HaveValues from to fields old now count → next_value to field ≡ v → value_at from.message.now from.end to.at field ≡ v
+  from_next to now count field v h e = subst (λ (d : List ℕ × ℕ). value_at d.0 d.1 to.at field ≡ v) h.same e
+
+  pub field_put : (to past : Cursor) (now next : Built) (count : ℕ) (field : Field) → slice_get fields count ≡ Some field → HaveValues from to fields old now count → PutsValue field to past now next → HaveValues from past fields old next (count + 1)
+  field_put to past now next count field here h p =
+      let shows = shown from to field (p.value, past.at) h.same p.reads.read in
       let rest : List Field = drop (count + 1) fields in
       let more : flat_map parts_for (h.values ++ p.value ∷ []) ≡ flat_map parts_for h.values ++ parts_for p.value = flat_map-append parts_for h.values (p.value ∷ []) ∙ ap (λ t. flat_map parts_for h.values ++ t) (append-nil (parts_for p.value)) in
-      let goes : values_at octets end place (drop count fields) ≡ and_then (values_at octets end past rest) (λ others. Ok (p.value ∷ others)) = ap (values_at octets end place) (from_here fields count field here) ∙ and_then_ok (value_at octets end place field) (p.value, past) _ p.read in
+      let goes : values_at from.message.now from.end to.at (drop count fields) ≡ and_then (values_at from.message.now from.end past.at rest) (λ others. Ok (p.value ∷ others)) = ap (values_at from.message.now from.end to.at) (from_here fields count field here) ∙ and_then_ok (value_at from.message.now from.end to.at field) (p.value, past.at) _ (from_next to now count field _ h p.reads.read) in
+      let same : data_of past ≡ data_of from = p.reads.same ∙ h.same in
       grind (arith, length-append, append_assoc, field_of, plain_parts, field_short, table_row, octets_push)
 
-  pub field_bad : (now : Built) (count place : ℕ) (field : Field) (fault : Fault) → slice_get fields count ≡ Some field → HaveValues octets end start fields old now count place → value_at octets end place field ≡ Err fault → values_at octets end start fields ≡ Err fault
-  field_bad now count place field fault here h e = h.fails fault (ap (values_at octets end place) (from_here fields count field here) ∙ and_then_err (value_at octets end place field) fault _ e)
+  pub field_bad : (to : Cursor) (now : Built) (count : ℕ) (field : Field) (fault : Fault) → slice_get fields count ≡ Some field → HaveValues from to fields old now count → next_value to field ≡ Err fault → values_at from.message.now from.end from.at fields ≡ Err fault
+  field_bad to now count field fault here h e = h.fails fault (ap (values_at from.message.now from.end to.at) (from_here fields count field here) ∙ and_then_err (value_at from.message.now from.end to.at field) fault _ (from_next to now count field _ h e))
 
-  pub left_over : (now : Built) (count place : ℕ) → slice_get fields count ≡ None → place < end → HaveValues octets end start fields old now count place → values_at octets end start fields ≡ Err BadRdata
-  left_over now count place here some h = grind (arith, common_steps)
+  pub left_over : (to : Cursor) (now : Built) (count : ℕ) → slice_get fields count ≡ None → to.at ≢ to.end → HaveValues from to fields old now count → values_at from.message.now from.end from.at fields ≡ Err BadRdata
+  left_over to now count here some h = grind (arith, common_steps)
 
   parts_whole : (fs : List Field) (values : List FieldValue) → HoldEach fs values → length fs ≤ length (flat_map parts_for values)
   parts_whole [] [] held = omega arith
@@ -108,15 +111,15 @@ module _ (octets : List ℕ) (each : (k : ℕ) → get_or octets k 0 < 256) (end
       some_part f (strings many) held = absurd held
       some_part f v held = omega arith
 
-  pub all_values : (now : Built) (count place : ℕ) → slice_get fields count ≡ None → end ≤ place → HaveValues octets end start fields old now count place → PutsValues octets end start fields old now
-  all_values now count place here done h =
-      let same : place ≡ end = omega (arith, h.inside) in
-      let read : values_at octets end start fields ≡ Ok h.values = h.leads [] (ap (values_at octets end place) (none_here fields count here) ∙ cond-true _ _ _ (eq-eqb place end same)) ∙ ap Ok (append-nil h.values) in
+  pub all_values : (to : Cursor) (now : Built) (count : ℕ) → slice_get fields count ≡ None → to.at ≡ to.end → HaveValues from to fields old now count → PutsValues from.message.now from.end from.at fields old now
+  all_values to now count here done h =
+      let same : to.at ≡ from.end = done ∙ ap (λ (d : List ℕ × ℕ). d.1) h.same in
+      let read : values_at from.message.now from.end from.at fields ≡ Ok h.values = h.leads [] (ap (values_at from.message.now from.end to.at) (none_here fields count here) ∙ cond-true _ _ _ (eq-eqb to.at from.end same)) ∙ ap Ok (append-nil h.values) in
       record {
         values = h.values;
         read = read;
         put = h.put;
-        whole = omega (arith, parts_whole fields h.values (values_show octets each end within fields start h.values read).0, ap length (own_parts now count place h));
+        whole = omega (arith, parts_whole fields h.values (values_show from.message.now from.octets from.end from.inside fields from.at h.values read).0, ap length (own_parts to now count h));
       }
 
 -- ---- the data of a record

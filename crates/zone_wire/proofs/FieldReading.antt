@@ -1,5 +1,5 @@
 -- The values of fields are read in a message: parts of its octets, numbers, and names.
-use Rattle.zone_wire.proofs.Common.{Awaits, BadRdata, Built, Err, Fault, Field, FieldValue, FitsString, Found, IsNameAt, IsPushFault, IsReadyFor, IsSized, List, Name, NameFault, Octets, Ok, OneString, Pushes, PutsValue, Serial, Some, Suits, Time, U16, [], ap, arith, common_steps, cond-false, drop, drop-drop, drop-take, drop_more, field_at, fixed, get_or, length, length-append, lt-leb, name, name_before, octets_between, octets_push, outcome, parts_for, refl, sized_before, slice_index, string, string_at, suc, sym, take, take-append-drop, take_all, u16_at, u16_value, u32_at, u32_value, value_at, walk, zero, ℕ, ◌++◌, ◌+◌, ◌-◌, ◌<◌, ◌∙◌, ◌∷◌, ◌≡◌, ◌≤◌, ◌⊎◌, rules}
+use Rattle.zone_wire.proofs.Common.{BadRdata, Err, Fault, Field, FieldValue, Found, IsNameAt, List, Name, NameFault, Octets, Ok, OneString, Serial, U16, [], ap, arith, common_steps, cond-false, drop, drop-drop, drop-take, drop_more, field_at, fixed, get_or, length, lt-leb, name, name_before, octets_between, outcome, refl, sized_before, slice_index, string, string_at, suc, sym, take, take-append-drop, take_all, u16_at, u16_value, u32_at, u32_value, value_at, walk, zero, ℕ, ◌++◌, ◌+◌, ◌-◌, ◌<◌, ◌∙◌, ◌∷◌, ◌≡◌, ◌≤◌, Cursor, Reads, TakesOctets, next_value, Awaits, Built, FitsString, IsPushFault, IsReadyFor, Pushes, PutsValue, Some, Suits, Time, length-append, octets_push, parts_for, put_after, ◌⊎◌, rules, IfErr, IfErr-fault, IfFault, Failing, Result}
 use Rattle.zone_wire.proofs.Fielding.{name_reads}
 use Rattle.zone_wire.proofs.MessageFaults.{name_refuses}
 use Rattle.zone_wire.proofs.Walking.{name_walks}
@@ -34,93 +34,101 @@ pub between_first : (octets : List ℕ) (start past : ℕ) → start < past → 
 between_first octets start past some inside = grind (arith, drop_more)
 
 -- ---- fields of so many octets
-abbrev pub IsSizedAt : List ℕ → ℕ → ℕ → Field → ℕ → Type 0
-IsSizedAt octets end start field size = value_at octets end start field ≡ sized_before octets end start field size
+abbrev pub IsSizedAt : Cursor → Field → ℕ → Type 0
+IsSizedAt c field size = next_value c field ≡ sized_before c.message.now c.end c.at field size
 
-pub serial_sized : (octets : List ℕ) (end start : ℕ) → IsSizedAt octets end start Serial 4
+pub fixed_sized : (c : Cursor) (size : ℕ) → IsSizedAt c (Octets size) size
 unfolding value_at
-serial_sized octets end start = refl
+fixed_sized c size = refl
 
-pub two_sized : (octets : List ℕ) (end start : ℕ) → IsSizedAt octets end start U16 2
+pub string_sized : (c : Cursor) → IsSizedAt c OneString (1 + slice_index c.message.now c.at)
 unfolding value_at
-two_sized octets end start = refl
+string_sized c = refl
 
-pub fixed_sized : (octets : List ℕ) (end start size : ℕ) → IsSizedAt octets end start (Octets size) size
+pub sized_refused : (c : Cursor) (size : ℕ) (field : Field) (fault : Fault) → IsSizedAt c field size → (fault ≡ BadRdata) × (c.end < c.at + size) → next_value c field ≡ Err fault
+sized_refused c size field fault is bad = grind arith
+
+pub sized_fails : (c : Cursor) (size : ℕ) (field : Field) (fault : Fault) → IsSizedAt c field size → next_value c field ≡ Err fault → (fault ≡ BadRdata) × (c.end < c.at + size)
+sized_fails c size field fault is e = grind arith
+
+-- octets that are taken are the value that is next
+pub sized_read : (old new : Cursor) (size : ℕ) (field : Field) (part : List ℕ) (value : FieldValue) → IsSizedAt old field size → TakesOctets old new size part → field_at field part ≡ value → Reads old new field value
+sized_read old new size field part value is taken same = record { read = grind (arith, new.order); same = taken.same }
+
+two_value : (part : List ℕ) (n : ℕ) → length part ≡ 2 → n ≡ u16_at part 0 → field_at U16 part ≡ u16_value n
+two_value part n len is = grind (arith, common_steps)
+
+pub two_read : (old new : Cursor) (part : List ℕ) (n : ℕ) → TakesOctets old new 2 part → n ≡ u16_at part 0 → Reads old new U16 (u16_value n)
 unfolding value_at
-fixed_sized octets end start size = refl
+two_read old new part n taken is = sized_read old new 2 U16 part (u16_value n) refl taken (two_value part n taken.len is)
 
-pub string_sized : (octets : List ℕ) (end start : ℕ) → IsSizedAt octets end start OneString (1 + slice_index octets start)
+pub two_cut : (c : Cursor) (fault : Fault) → (fault ≡ BadRdata) × (c.end < c.at + 2) → next_value c U16 ≡ Err fault
 unfolding value_at
-string_sized octets end start = refl
+two_cut c fault = sized_refused c 2 U16 fault refl
 
-pub sized_bad : (octets : List ℕ) (end start size : ℕ) (field : Field) → IsSizedAt octets end start field size → end < start + size → value_at octets end start field ≡ Err BadRdata
-sized_bad octets end start size field is over = grind arith
+long_value : (part : List ℕ) (n : ℕ) → length part ≡ 4 → n ≡ u32_at part 0 → field_at Serial part ≡ u32_value n
+long_value part n len is = grind (arith, common_steps)
 
-pub sized_refused : (octets : List ℕ) (end start size : ℕ) (field : Field) (fault : Fault) → IsSizedAt octets end start field size → (fault ≡ BadRdata) × (end < start + size) → value_at octets end start field ≡ Err fault
-sized_refused octets end start size field fault is bad = grind arith
+pub long_read : (old new : Cursor) (part : List ℕ) (n : ℕ) → TakesOctets old new 4 part → n ≡ u32_at part 0 → Reads old new Serial (u32_value n)
+unfolding value_at
+long_read old new part n taken is = sized_read old new 4 Serial part (u32_value n) refl taken (long_value part n taken.len is)
 
-sized_ok : (octets : List ℕ) (end start size past : ℕ) (field : Field) (value : FieldValue) → IsSizedAt octets end start field size → past ≡ start + size → past ≤ end → field_at field (octets_between octets start past) ≡ value → value_at octets end start field ≡ Ok (value, past)
-sized_ok octets end start size past field value is at inside same = grind arith
+pub long_cut : (c : Cursor) (fault : Fault) → (fault ≡ BadRdata) × (c.end < c.at + 4) → next_value c Serial ≡ Err fault
+unfolding value_at
+long_cut c fault = sized_refused c 4 Serial fault refl
 
-pub sized_fails : (octets : List ℕ) (end start size : ℕ) (field : Field) (fault : Fault) → sized_before octets end start field size ≡ Err fault → (fault ≡ BadRdata) × (end < start + size)
-sized_fails octets end start size field fault e = grind arith
-
--- a part that is pushed is the value that stands there
-pub puts_sized : (octets : List ℕ) (end start size past : ℕ) (field : Field) (value : FieldValue) (old new : Built) → IsSizedAt octets end start field size → past ≡ start + size → past ≤ end → field_at field (octets_between octets start past) ≡ value → parts_for value ≡ value ∷ [] → Pushes old value new → PutsValue octets end start field old new past
-puts_sized octets end start size past field value old new is at inside same one pushed = grind arith
-
--- a part that is awaited isn't refused
-pub unrefused : (octets : List ℕ) (end start past : ℕ) (b : Built) (field : Field) (value : FieldValue) → Awaits octets end start b field → Suits (Some field) value → FitsString value → value_at octets end start field ≡ Ok (value, past) → (fault : Fault) → IsPushFault b value fault → ⊥
-unrefused octets end start past b field value w suits fits read fault given = search (rules, octets_push, length-append)
-
-pub unrefused_sized : (octets : List ℕ) (end start size past : ℕ) (b : Built) (field : Field) (value : FieldValue) → Awaits octets end start b field → Suits (Some field) value → FitsString value → IsSizedAt octets end start field size → past ≡ start + size → past ≤ end → field_at field (octets_between octets start past) ≡ value → (fault : Fault) → IsPushFault b value fault → ⊥
-unrefused_sized octets end start size past b field value w suits fits is at inside same = grind (arith, unrefused)
-
-pub two_value : (octets : List ℕ) (start past n : ℕ) → past ≡ start + 2 → past ≤ length octets → n ≡ u16_at octets start → field_at U16 (octets_between octets start past) ≡ u16_value n
-two_value octets start past n at within is = grind (arith, part_get)
-
-pub long_value : (octets : List ℕ) (start past n : ℕ) → past ≡ start + 4 → past ≤ length octets → n ≡ u32_at octets start → field_at Serial (octets_between octets start past) ≡ u32_value n
-long_value octets start past n at within is = grind (arith, part_get)
-
-pub fixed_value : (octets : List ℕ) (start size past : ℕ) → past ≡ start + size → past ≤ length octets → field_at (Octets size) (octets_between octets start past) ≡ fixed (octets_between octets start past)
-fixed_value octets start size past at within = grind (arith, common_steps)
+pub fixed_read : (old new : Cursor) (size : ℕ) (part : List ℕ) → TakesOctets old new size part → Reads old new (Octets size) (fixed part)
+fixed_read old new size part taken = sized_read old new size (Octets size) part (fixed part) (fixed_sized old size) taken (ap fixed (take_all size part (omega (arith, taken.len))))
 
 -- the string after its length
-pub string_value : (octets : List ℕ) (start past : ℕ) → past ≡ start + (1 + slice_index octets start) → past ≤ length octets → field_at OneString (octets_between octets start past) ≡ string (octets_between octets (start + 1) past)
+string_value : (octets : List ℕ) (start past : ℕ) → past ≡ start + (1 + slice_index octets start) → past ≤ length octets → field_at OneString (octets_between octets start past) ≡ string (octets_between octets (start + 1) past)
 string_value octets start past at within = grind (arith, common_steps, octets_between, string, string_at, between_first, take_all, get_or)
 
-pub string_short : (octets : List ℕ) (start past : ℕ) → past ≡ start + (1 + slice_index octets start) → past ≤ length octets → slice_index octets start < 256 → length (octets_between octets (start + 1) past) ≤ 255
-string_short octets start past at within low = grind (arith, part_len)
+-- its length is the octet that is taken first
+module _ (old mid : Cursor) (one : List ℕ) (taken : TakesOctets old mid 1 one) where
+  counted : slice_index one 0 ≡ slice_index old.message.now old.at
+  counted = grind (arith, part_get)
 
-pub fixed_suits : (octets : List ℕ) (start size past : ℕ) → past ≡ start + size → past ≤ length octets → IsSized (Octets size) → Suits (Some (Octets size)) (fixed (octets_between octets start past))
-fixed_suits octets start size past at within sized = grind (arith, part_len)
+  pub string_read : (new : Cursor) (text : List ℕ) → TakesOctets mid new (slice_index one 0) text → Reads old new OneString (string text)
+  string_read new text then = record { read = grind (arith, counted, string_value, string_sized, new.order, new.inside); same = then.same ∙ taken.same }
 
--- ---- numbers of 32 bits, serials and times alike
-long_same : (octets : List ℕ) (end start : ℕ) (field : Field) → (field ≡ Serial) ⊎ (field ≡ Time) → value_at octets end start field ≡ value_at octets end start Serial
+  pub string_cut : (fault : Fault) → (fault ≡ BadRdata) × (mid.end < mid.at + slice_index one 0) → next_value old OneString ≡ Err fault
+  string_cut fault bad = sized_refused old _ OneString fault (string_sized old) (bad.0, omega (arith, bad.1, counted, taken.at, ap (λ (d : List ℕ × ℕ). d.1) taken.same))
+
+pub string_uncounted : (c : Cursor) (fault : Fault) → (fault ≡ BadRdata) × (c.end < c.at + 1) → next_value c OneString ≡ Err fault
+string_uncounted c fault bad = sized_refused c _ OneString fault (string_sized c) (bad.0, omega (arith, bad.1))
+
+-- ---- a value that is read and pushed
+-- a part that is awaited isn't refused
+unrefused_by : (old new : Cursor) (b : Built) (field : Field) (value : FieldValue) → Awaits old b field → Suits (Some field) value → FitsString value → Reads old new field value → (fault : Fault) → IsPushFault b value fault → ⊥
+unrefused_by old new b field value w suits fits reads fault given = search (rules, octets_push, length-append)
+
+pub unrefused : (old new : Cursor) (b : Built) (field : Field) (value : FieldValue) → Awaits old b field → Suits (Some field) value → FitsString value → Reads old new field value → (P : Fault → Type 0) (r : Result (Unit {0}) Failing) → IfErr r (IfFault (IsPushFault b value)) → IfErr r (IfFault P)
+unrefused old new b field value w suits fits reads P r = IfErr-fault r _ P (λ fault given. absurd (unrefused_by old new b field value w suits fits reads fault given))
+
+pub part_put : (field like : Field) (old new : Cursor) (b put : Built) (value : FieldValue) → next_value old field ≡ next_value old like → parts_for value ≡ value ∷ [] → Reads old new like value → Pushes b value put → PutsValue field old new b put
+part_put field like old new b put value same one reads pushed = record { value = value; reads = record { read = same ∙ reads.read; same = reads.same }; put = pushed.made ∙ ap (put_after b) (sym one) }
+
+-- numbers of 32 bits, serials and times alike
+pub long_same : (c : Cursor) (field : Field) → (field ≡ Serial) ⊎ (field ≡ Time) → next_value c field ≡ next_value c Serial
 unfolding value_at
-long_same octets end start field given = grind arith
+long_same c field given = grind arith
 
 long_suits : (part : FieldValue) → Suits (Some Serial) part → Suits (Some Time) part
 long_suits part s = grind arith
 
-pub long_ready : (octets : List ℕ) (end start : ℕ) (b : Built) (field : Field) → (field ≡ Serial) ⊎ (field ≡ Time) → IsReadyFor octets end start b field → Awaits octets end start b Serial
-long_ready octets end start b field given ready = grind (arith, long_suits, long_same)
-
-pub long_puts : (octets : List ℕ) (end start : ℕ) (field : Field) (old new : Built) (place : ℕ) → (field ≡ Serial) ⊎ (field ≡ Time) → PutsValue octets end start Serial old new place → PutsValue octets end start field old new place
-long_puts octets end start field old new place is p = record { value = p.value; read = long_same octets end start field is ∙ p.read; put = p.put; past = p.past; inside = p.inside }
-
-pub long_fails : (octets : List ℕ) (end start : ℕ) (field : Field) (fault : Fault) → (field ≡ Serial) ⊎ (field ≡ Time) → value_at octets end start Serial ≡ Err fault → value_at octets end start field ≡ Err fault
-long_fails octets end start field fault is e = long_same octets end start field is ∙ e
+pub long_ready : (c : Cursor) (b : Built) (field : Field) → (field ≡ Serial) ⊎ (field ≡ Time) → IsReadyFor c b field → Awaits c b Serial
+long_ready c b field given ready = grind (arith, long_suits, long_same)
 
 -- ---- names
-pub name_read : (octets : List ℕ) (end start : ℕ) (found : Found) → IsNameAt octets start found → found.end ≤ end → value_at octets end start Name ≡ Ok (name found.labels, found.end)
+pub name_read : (c : Cursor) (found : Found) → IsNameAt c.message.now c.at found → found.end ≤ c.end → next_value c Name ≡ Ok (name found.labels, found.end)
 unfolding value_at
-name_read octets end start found is fits = name_reads end found (outcome octets (walk octets start)) (name_walks octets start found is) fits
+name_read c found is fits = name_reads c.end found (outcome c.message.now (walk c.message.now c.at)) (name_walks c.message.now c.at found is) fits
 
-pub name_over : (octets : List ℕ) (end start : ℕ) (found : Found) → IsNameAt octets start found → end < found.end → value_at octets end start Name ≡ Err BadRdata
+pub name_over : (c : Cursor) (found : Found) → IsNameAt c.message.now c.at found → c.end < found.end → next_value c Name ≡ Err BadRdata
 unfolding value_at
-name_over octets end start found is over = ap (name_before end) (name_walks octets start found is) ∙ cond-false _ _ _ (lt-leb found.end end over)
+name_over c found is over = ap (name_before c.end) (name_walks c.message.now c.at found is) ∙ cond-false _ _ _ (lt-leb found.end c.end over)
 
-pub name_faulty : (octets : List ℕ) (end start : ℕ) (fault : Fault) → NameFault octets start fault → value_at octets end start Name ≡ Err fault
+pub name_faulty : (c : Cursor) (fault : Fault) → NameFault c.message.now c.at fault → next_value c Name ≡ Err fault
 unfolding value_at
-name_faulty octets end start fault is = ap (name_before end) (name_refuses octets start fault is).1
+name_faulty c fault is = ap (name_before c.end) (name_refuses c.message.now c.at fault is).1

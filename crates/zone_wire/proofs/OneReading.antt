@@ -1,5 +1,5 @@
 -- Messages are read in one way, and more messages only go on.
-use Rattle.zone_wire.proofs.Common.{AllByRecursion, AnswersGive, AskAfter, BadQuestion, Fault, FaultAfter, GiveAfter, HasFirstId, IdMismatch, IsMessage, IsReadAfter, List, None, Option, Place, Placed, QuestionAt, ReadAfter, RecordAt, Sections, Some, StatedMessage, Unless, [], ap, append-nil, append_assoc, arith, common_steps, inl, inr, length, length-append, no_more, reads, refl, states, stops, subst, sym, whole, ℕ, ◌++◌, ◌+◌, ◌∙◌, ◌∷◌, ◌≡◌, ◌≤◌, rules}
+use Rattle.zone_wire.proofs.Common.{AllByRecursion, AnswersGive, AskAfter, BadQuestion, Fault, FaultAfter, GiveAfter, HasFirstId, IdMismatch, IsMessage, IsReadAfter, List, None, Option, Place, Placed, QuestionAt, ReadAfter, RecordAt, Sections, Some, StatedMessage, Unless, [], ap, append-nil, append_assoc, arith, common_steps, inl, inr, length, length-append, no_more, reads, refl, states, stops, subst, sym, whole, ℕ, ◌++◌, ◌∙◌, ◌∷◌, ◌≡◌, ◌≤◌, rules}
 use Rattle.zone_wire.specs.AnswerFault.{refused}
 use Rattle.zone_wire.proofs.Conditions.{unless_one, unless_holds}
 use Rattle.zone_wire.proofs.GivenAnswers.{IsInMessage, each_stands}

@@ -4,7 +4,7 @@ use Rattle.zone_wire.proofs.Fielding.{part_first}
 use Rattle.zone_wire.proofs.ReadSections.{ok_same, leads, passes}
 use Rattle.zone_wire.proofs.Walking.{walk_names, take_each, drop_each}
 
-abbrev Shown : List ℕ → ℕ → ℕ → Field → FieldValue × ℕ → Type 0
+abbrev pub Shown : List ℕ → ℕ → ℕ → Field → FieldValue × ℕ → Type 0
 Shown octets end start field v = Holds field v.0 × (v.1 ≤ end) × IsValueAt octets start v.1 v.0
 
 strings_each_by : (n : ℕ) (octets : List ℕ) → ((k : ℕ) → get_or octets k 0 < 256) → AllByRecursion IsString (strings_by n octets)

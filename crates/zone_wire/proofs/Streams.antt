@@ -1,5 +1,5 @@
 -- A stream is read in one way, and what is decided for its beginning stays.
-use Rattle.zone_wire.proofs.Common.{Fault, IsFramed, List, Option, Place, Placed, ReadAfter, Some, StreamDecides, StreamReads, [], ap, filter, filter-append, get_or, handed_on, not, refl, subst, sym, ℕ, ◌++◌, ◌+◌, ◌<◌, ◌==◌, ◌∙◌, ◌∷◌, ◌≡◌, arith}
+use Rattle.zone_wire.proofs.Common.{Fault, IsFramed, List, Option, Place, Placed, ReadAfter, Some, StreamDecides, StreamReads, [], ap, filter, filter-append, get_or, handed_on, not, refl, subst, sym, ℕ, ◌++◌, ◌<◌, ◌==◌, ◌∙◌, ◌∷◌, ◌≡◌, arith}
 use Rattle.zone_wire.proofs.Frames.{framed_unique, framed_extends, framing}
 use Rattle.zone_wire.proofs.GivenStreams.{stream_decides}
 use Rattle.zone_wire.proofs.OneReading.{GoesOn, read_goes_on, one_way}

@@ -3,6 +3,7 @@
 #![tactic(auto)]
 
 mod answers;
+mod cursor;
 mod data;
 pub mod examples;
 mod framer;

@@ -1,24 +1,29 @@
-use Rattle.zone_wire.proofs.Common.{arith, if_fault_passed}
+use Rattle.zone_wire.proofs.Common.{Err, List, ap, arith, false≢true, fault_answered, if_fault_passed, refl, ℕ}
+use Rattle.zone_wire.proofs.FieldReading.{unrefused}
 use Rattle.zone_wire.proofs.StringReading.{next_string, string_put, string_past, all_put, string_missing, string_bad}
 use Rattle.zone_wire.proofs.data.push_strings.Goals as goal
 
-pub returns-then-start-end-clause-fault : goal.returns-then-start-end-clause-fault
-returns-then-start-end-clause-fault c = rw c.of.ensures (string_missing c.args.message.now (λ i. omega (arith, c.type_inv.message i)) c.args.end c.args.start c.requires.inside (omega arith))
+pub returns-then-is_empty-clause-fault : goal.returns-then-is_empty-clause-fault
+returns-then-is_empty-clause-fault c = rw c.of.ensures (string_missing c.args.cursor.now (c.is_empty.ensures.0 c.if-is_empty.true))
 
-pub push_string-requires-clause-next : goal.push_string-requires-clause-next
-push_string-requires-clause-next c = next_string c.args.message.now (λ i. omega (arith, c.type_inv.message i)) c.args.end c.args.start c.requires.inside c.args.builder.now c.loop-place.builder c.loop-place.place c.requires.next c.loop-place.invariant
+pub returns-in_err-string-clause-fault : goal.returns-in_err-string-clause-fault
+returns-in_err-string-clause-fault c =
+    fault_answered c.from_residual.result _ _ c.from_residual.ensures.1
+    (string_bad c.args.cursor.now c.loop-builder.cursor c.args.builder.now c.loop-builder.builder _ (λ same. false≢true (c.loop-builder-test.ensures.1 same)) c.loop-builder.invariant c.in_err-string.ensures.fault)
 
-pub returns-in_err-place-clause-fault : goal.returns-in_err-place-clause-fault
-returns-in_err-place-clause-fault c =
-    if_fault_passed c.from_residual.result c.in_err-place.field-0.0 _ _ c.from_residual.ensures.1
-    (λ fault bad. string_bad c.args.message.now (λ i. omega (arith, c.type_inv.message i)) c.args.end c.args.start c.requires.inside c.args.builder.now c.loop-place.builder c.loop-place.place fault c.loop-place-test.true c.loop-place.invariant bad)
-    c.in_err-place.ensures.fault
+pub loop-builder-smaller : goal.loop-builder-smaller
+loop-builder-smaller c =
+    let past = string_past c.args.cursor.now c.loop-builder.cursor c.args.builder.now c.loop-builder.builder c.loop-builder.invariant c.string.new.self _ c.in_ok-string.ensures.found in
+    omega (arith, past, c.string.new.self.order, ap (λ (d : List ℕ × ℕ). d.1) c.in_ok-string.ensures.found.same)
 
-pub loop-place-smaller : goal.loop-place-smaller
-loop-place-smaller c = omega (arith, c.loop-place-test.true, string_past c.args.message.now (λ i. omega (arith, c.type_inv.message i)) c.args.end c.args.start c.requires.inside c.loop-place.builder c.push_string.new.builder c.loop-place.place c.in_ok-place.place c.in_ok-place.ensures.found)
+pub loop-builder-preserved : goal.loop-builder-preserved
+loop-builder-preserved c = string_put c.args.cursor.now c.loop-builder.cursor c.args.builder.now c.loop-builder.builder c.loop-builder.invariant c.string.new.self _ c.in_ok-string.ensures.found c.push.new.self c.in_ok-push.ensures.ok
 
-pub loop-place-preserved : goal.loop-place-preserved
-loop-place-preserved c = string_put c.args.message.now (λ i. omega (arith, c.type_inv.message i)) c.args.end c.args.start c.requires.inside c.args.builder.now c.loop-place.builder c.push_string.new.builder c.loop-place.place c.in_ok-place.place c.loop-place.invariant c.in_ok-place.ensures.found
+pub returns-in_err-push-clause-fault : goal.returns-in_err-push-clause-fault
+returns-in_err-push-clause-fault c =
+    let awaits = next_string c.args.cursor.now c.loop-builder.cursor c.args.builder.now c.loop-builder.builder c.loop-builder.invariant c.requires.next in
+    if_fault_passed c.from_residual-in_err-push.result c.in_err-push.field-0.0 _ _ c.from_residual-in_err-push.ensures.1 (λ fault bad. bad)
+    (unrefused c.loop-builder.cursor c.string.new.self c.loop-builder.builder _ _ awaits tt c.in_ok-string.ensures.short c.in_ok-string.ensures.found _ (Err c.in_err-push.field-0.0) c.in_err-push.ensures.fault)
 
 pub returns-clause-found : goal.returns-clause-found
-returns-clause-found c = all_put c.args.message.now (λ i. omega (arith, c.type_inv.message i)) c.args.end c.args.start c.requires.inside c.args.builder.now c.loop-place.builder c.loop-place.place (omega arith) (omega arith) c.loop-place.invariant
+returns-clause-found c = all_put c.args.cursor.now c.loop-builder.cursor c.args.builder.now c.loop-builder.builder (grind arith) (c.loop-builder-test.ensures.0 refl) c.loop-builder.invariant

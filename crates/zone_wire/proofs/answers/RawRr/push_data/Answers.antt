@@ -2,9 +2,6 @@ use Rattle.zone_wire.proofs.Common.{IfErr-fault, fields_of, on_ok_weaker}
 use Rattle.zone_wire.proofs.DataReading.{data_short, laid_read, laid_refused, opaque_read, opaque_taken}
 use Rattle.zone_wire.proofs.answers.RawRr.push_data.Goals as goal
 
-pub push_fields-requires-clause-short : goal.push_fields-requires-clause-short
-push_fields-requires-clause-short c = (data_short c.self.inside.message.now c.self.inside.offset _ c.are_octets.ensures c.self.invariant).1
-
 pub returns-in-Some-clause-found : goal.returns-in-Some-clause-found
 returns-in-Some-clause-found c =
     on_ok_weaker c.push_fields.result (λ puts. laid_read _ c.args.self.now c.self.view_is c.args.class c.args.kind c.requires.class c.requires.kind c.args.builder.now c.requires.new (fields_of c.in-Some.layout) c.push_fields.new.builder c.in-Some.ensures.fields puts) c.push_fields.ensures.found
