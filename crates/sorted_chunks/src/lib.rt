@@ -7,8 +7,6 @@ mod chunks;
 mod iter;
 mod position;
 mod sought;
-#[cfg(test)]
-mod tests;
 
 // A crate can name a list in a contract only if the types of its fields are exported.
 #[doc(hidden)]

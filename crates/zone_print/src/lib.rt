@@ -8,8 +8,7 @@ mod line_buffer;
 mod print;
 mod write;
 
-pub use print::{TEXT_LIMIT, canon_len, push_zone, text_fits, write_zone};
+pub use print::{
+    TEXT_LIMIT, canon_len, push_zone, push_zone_within, text_fits, write_zone, write_zone_within,
+};
 pub use write::{OctetWriter, write_octets};
-
-#[cfg(test)]
-mod tests;

@@ -45,7 +45,7 @@ pub fn push_zone(alloc: Global, zone: &Zone) -> Result<Vec<u8>, Stop>
     ensures short { OnOk result (length (canon zone.now) ≤ text_limit) }
     ensures stopped { IfErr result (StopsPush text_limit (canon zone.now)) }
 {
-    push_within(alloc, zone, TEXT_LIMIT)
+    push_zone_within(alloc, zone, TEXT_LIMIT)
 }
 
 /// Writes the canonical text of the zone. It doesn't flush the writer.
@@ -65,11 +65,11 @@ pub fn write_zone<W: OctetWriter>(alloc: Global, zone: &Zone, writer: &mut W) ->
     ensures failed { IfErr result (TellsWrite
         (W.Works writer.old → W.Works writer.new) (W.Works writer.old → W.Failed writer.new)) }
 {
-    write_within(alloc, zone, writer, TEXT_LIMIT)
+    write_zone_within(alloc, zone, writer, TEXT_LIMIT)
 }
 
 /// The length of the canonical text, or one more than the limit where it is longer.
-pub(crate) fn len_within(zone: &Zone, limit: u64) -> u64
+fn len_within(zone: &Zone, limit: u64) -> u64
     requires { limit ≤ text_limit }
     ensures { result ≡ min (length (canon zone.now)) (limit + 1) }
 {
@@ -88,8 +88,12 @@ fn text_fits_within(zone: &Zone, limit: u64) -> bool
     zone.message_len() <= limit / 4 || len_within(zone, limit) <= limit
 }
 
-/// `push_zone` under a limit.
-pub(crate) fn push_within(alloc: Global, zone: &Zone, limit: u64) -> Result<Vec<u8>, Stop>
+/// [`push_zone`] under a limit of the caller's.
+///
+/// # Errors
+///
+/// `ZoneTooLarge` at the input as a whole where the text has more than `limit` octets; `Memory`.
+pub fn push_zone_within(alloc: Global, zone: &Zone, limit: u64) -> Result<Vec<u8>, Stop>
     requires { limit ≤ text_limit }
     ensures text { IfOk result (λ text. text.items ≡ canon zone.now) }
     ensures short { OnOk result (length (canon zone.now) ≤ limit) }
@@ -106,8 +110,13 @@ pub(crate) fn push_within(alloc: Global, zone: &Zone, limit: u64) -> Result<Vec<
     Ok(text.into_octets())
 }
 
-/// `write_zone` under a limit.
-pub(crate) fn write_within<W: OctetWriter>(
+/// [`write_zone`] under a limit of the caller's.
+///
+/// # Errors
+///
+/// `ZoneTooLarge` at the input as a whole where the text has more than `limit` octets, before the first octet; `Write` where
+/// the writer failed; `Memory`. After the last two a proper prefix of the text was written.
+pub fn write_zone_within<W: OctetWriter>(
     alloc: Global,
     zone: &Zone,
     writer: &mut W,

@@ -1,4 +1,5 @@
 pub mod Fault
+pub mod FaultTable
 pub mod Cause
 pub mod Item
 pub mod Strings

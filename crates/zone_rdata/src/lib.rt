@@ -7,6 +7,7 @@ mod builder;
 mod cause;
 mod class;
 mod fault;
+mod fault_table;
 mod fed;
 mod field;
 mod generic;

@@ -1,13 +1,1 @@
-pub mod Form
-pub mod Input
-pub mod Stops
-pub mod Normalise
-pub mod Refusal
-pub mod Headline
-pub mod Examples
-pub mod Compare
-pub mod Order
-pub mod Telling
-pub mod Explain
-pub mod Run
 pub mod Machine

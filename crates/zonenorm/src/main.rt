@@ -2,38 +2,20 @@
 //! as captured zone transfers.
 #![tactic(auto)]
 
-ghost use Rattle.zonenorm.specs.Machine.Calling.{IsOfClap};
+ghost use Rattle.std.specs.Prelude.{◌≢◌};
 
-mod command;
-mod compare;
-mod engine;
-pub mod examples;
-mod explain;
-mod fed;
-mod form;
-mod input;
-pub mod laws;
-mod line;
-mod loader;
-mod octets;
 mod opened;
-mod order;
-mod run;
-mod status;
 
-pub use compare::{Verdict, Which, compare};
-pub use engine::{normalise, normalise_bytes};
-pub use explain::{explain, explain_line};
-pub use form::Form;
-pub use octets::OctetReader;
 use opened::inputs;
-use order::order_after_name;
-pub use order::{LineFault, Order, Source, order_of};
-use run::refuse;
-pub use run::run;
 use std::process::ExitCode;
 use std::rt::Env;
 use std::{env, io};
+pub use zone_command::{LineFault, Order, Source, order_of, run};
+use zone_command::{order_after_name, refuse};
+pub use zone_engine::{
+    Form, OctetReader, Verdict, Which, compare, examples, explain, explain_line, laws, normalise,
+    normalise_bytes,
+};
 
 fn main(rt: HostRuntime) -> ExitCode {
     ExitCode::from(match ordered(&rt) {
@@ -62,7 +44,7 @@ fn ordered<R: Env + AllocGlobal>(rt: &R) -> Result<Order, LineFault> {
 
 /// Why there are no words: memory was refused, or one of them is no text.
 fn no_words<R: AllocGlobal>(rt: &R, error: &io::Error) -> LineFault
-    ensures { IsOfClap result }
+    ensures { result ≢ LineFault.BadOrigin }
 {
     if error.kind() == io::ErrorKind::OutOfMemory {
         return LineFault::Memory;
@@ -72,6 +54,3 @@ fn no_words<R: AllocGlobal>(rt: &R, error: &io::Error) -> LineFault
         Err(_) => LineFault::Memory,
     }
 }
-
-#[cfg(test)]
-mod tests;

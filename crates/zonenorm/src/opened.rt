@@ -1,10 +1,10 @@
 //! The inputs of an order, opened.
 ghost use Rattle.zonenorm.specs.Machine.Opened.{IsOpened, TakesStandard};
 
-use crate::order::{Order, Source};
 use std::fs::{File, Files};
 use std::io;
 use std::io::{ErrorKind, Read};
+use zone_command::{Order, Source};
 
 /// An input of the program.
 #[derive(Drop)]

@@ -2,8 +2,8 @@
 use Rattle.std.specs.Prelude.{◌≡◌, ℕ, List, Option, None}
 use Rattle.zonenorm.specs.declared.opened.Input.{Input}
 use Rattle.zonenorm.specs.declared.opened.Input.TheVariants.{Standard, File, Missing}
-use Rattle.zonenorm.specs.declared.order.Order.{Order}
-use Rattle.zonenorm.specs.declared.order.Order.TheVariants.{Normalise, Explain, Compare}
+use Rattle.zone_command.specs.declared.order.Order.{Order}
+use Rattle.zone_command.specs.declared.order.Order.TheVariants.{Normalise, Explain, Compare}
 
 -- what is known of what standard input or the file gives; a missing input gives nothing that is
 -- known

@@ -1,5 +1,0 @@
-use Rattle.std.proofs.Common.{length}
-use Rattle.sorted_chunks.proofs.tests.listed.Given as goal
-
-abbrev pub decreases-loop-element : goal.decreases-loop-element
-decreases-loop-element l = length l.left

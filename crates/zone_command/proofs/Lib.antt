@@ -1,0 +1,4 @@
+pub mod Common
+pub mod Asked
+pub mod Running
+pub mod Telling

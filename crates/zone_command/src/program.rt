@@ -1,0 +1,198 @@
+ghost use Rattle.std.specs.Prelude.{◌≡◌, ◌++◌, IfErr, IfOk, OnErr, OnOk, string_bytes};
+ghost use Rattle.zone_print.specs.Writing.{IsFailedWrite};
+ghost use Rattle.zone_rdata.specs.declared.fault.Stop.TheVariants.{Memory};
+ghost use Rattle.zone_command.specs.Machine.Telling.{IsReported, TellsVerdict};
+ghost use Rattle.zone_command.specs.Order.{line_status, line_text};
+ghost use Rattle.zone_command.specs.Run.{device, devices, ReadsSecond, Runs, TellsLine};
+ghost use Rattle.zone_engine.specs.Normalise.{ReadsFew};
+ghost use Rattle.zone_engine.specs.Telling.{stop_line, verdict_line, verdict_status, which_words, WritesLine, WritesPartOfLine};
+
+use crate::order::{LineFault, Order};
+use crate::status;
+use itoa::Buffer;
+use std::alloc::{AllocError, Global};
+use zone_engine::{
+    Form, OUT_OF_MEMORY, OctetReader, READ_FAILED, Verdict, WRITE_FAILED, Which, compare, explain,
+    normalise, refusal_line, write_line,
+};
+use zone_print::OctetWriter;
+use zone_rdata::Stop;
+
+/// The whole program over two readers, a writer and an error writer. `normalise` and `explain` read
+/// the first reader alone, and a comparison reads the second once the first was accepted. It
+/// answers the exit status: 0 where the canonical text was written, the zone was accepted or both
+/// are the same; 1 where two zones differ; 3 where an input is refused; 4 where reading, writing or
+/// memory failed. Of 3 and 4 a line on the error writer tells why, of a comparison after the name
+/// of the input; `explain` tells of 3 on the writer. Where that can't be told the status is 4: a
+/// proper prefix of the line was written, or, where memory was refused for it, the line
+/// `out of memory`. With 4 the writer got nothing, or a proper prefix of the text or line that the
+/// order writes. With 0 and 1 the error writer got nothing. No writer is flushed, and a reader or a
+/// writer that failed isn't called again.
+pub fn run<R1: OctetReader, R2: OctetReader, W: OctetWriter, E: OctetWriter>(
+    alloc: Global,
+    order: &Order,
+    first: &mut R1,
+    second: &mut R2,
+    output: &mut W,
+    errors: &mut E,
+) -> u8
+    ensures ran { Runs order.now
+        (devices
+        (device (R1.remaining first.old) (R1.remaining first.new)
+        (R1.Works first.old → R1.Works first.new) (R1.Works first.old → R1.Failed first.new))
+        (device (R2.remaining second.old) (R2.remaining second.new)
+        (R2.Works second.old → R2.Works second.new) (R2.Works second.old → R2.Failed second.new))
+        (device (W.contents output.old) (W.contents output.new)
+        (W.Works output.old → W.Works output.new) (W.Works output.old → W.Failed output.new))
+        (device (E.contents errors.old) (E.contents errors.new)
+        (E.Works errors.old → E.Works errors.new) (E.Works errors.old → E.Failed errors.new)))
+        result }
+    ensures first { ReadsFew (R1.remaining first.old) (R1.remaining first.new) }
+    ensures second { ReadsSecond order.now (R2.remaining second.old) (R2.remaining second.new) }
+{
+    match order {
+        Order::Normalise(origin) => {
+            match normalise(alloc, Form::with_origin(origin), first, output) {
+                Ok(_) => status::SUCCESS,
+                Err(stop) => report(alloc, "", &stop, errors),
+            }
+        }
+        Order::Explain(origin) => {
+            match explain(alloc, Form::with_origin(origin), first, output) {
+                Ok(status) => status,
+                Err(stop) => report(alloc, "", &stop, errors),
+            }
+        }
+        Order::Compare(one, other) => {
+            let forms = (
+                Form::with_origin(&one.origin),
+                Form::with_origin(&other.origin),
+            );
+            match compare(alloc, forms.0, first, forms.1, second) {
+                Ok(verdict) => tell_verdict(alloc, verdict, output, errors),
+                Err((which, stop)) => report(alloc, words_of(which), &stop, errors),
+            }
+        }
+    }
+}
+
+/// Tells the verdict of a comparison, and answers its status.
+fn tell_verdict<W: OctetWriter, E: OctetWriter>(
+    alloc: Global,
+    verdict: Verdict,
+    output: &mut W,
+    errors: &mut E,
+) -> u8
+    ensures { TellsVerdict verdict
+        (device (W.contents output.old) (W.contents output.new)
+        (W.Works output.old → W.Works output.new) (W.Works output.old → W.Failed output.new))
+        (device (E.contents errors.old) (E.contents errors.new)
+        (E.Works errors.old → E.Works errors.new) (E.Works errors.old → E.Failed errors.new))
+        result }
+{
+    match write_verdict(verdict, output) {
+        Ok(()) => status_of(verdict),
+        Err(stop) => report(alloc, "", &stop, errors),
+    }
+}
+
+/// Writes the line of a verdict, without taking memory.
+///
+/// # Errors
+///
+/// `Write` where the writer failed. A proper prefix of the line was written.
+fn write_verdict<W: OctetWriter>(verdict: Verdict, output: &mut W) -> Result<(), Stop>
+    ensures written { OnOk result
+        (WritesLine (verdict_line verdict) (W.contents output.old) (W.contents output.new)) }
+    ensures part { OnErr result
+        (WritesPartOfLine (verdict_line verdict) (W.contents output.old) (W.contents output.new)) }
+    ensures works { OnOk result (W.Works output.old → W.Works output.new) }
+    ensures failed { IfErr result (IsFailedWrite (W.Works output.old → W.Failed output.new)) }
+{
+    match verdict {
+        Verdict::Same => write_line(output, "", "same"),
+        Verdict::Different(line) => {
+            let mut digits = Buffer::new();
+            write_line(output, "different at line ", digits.format(line))
+        }
+    }
+}
+
+/// The exit status of a comparison.
+fn status_of(verdict: Verdict) -> u8
+    ensures { result ≡ verdict_status verdict }
+{
+    match verdict {
+        Verdict::Same => status::SUCCESS,
+        Verdict::Different(_) => status::DIFFERENT,
+    }
+}
+
+/// What a line on this input of a comparison begins with.
+fn words_of(which: Which) -> &'static str
+    ensures { result.now ≡ which_words which }
+{
+    match which {
+        Which::First => "first: ",
+        Which::Second => "second: ",
+    }
+}
+
+/// Tells why a run stopped, after these words, and answers its status. Only the line of a refusal
+/// takes memory, and where that is refused, want of memory is told.
+fn report<E: OctetWriter>(alloc: Global, words: &str, stop: &Stop, errors: &mut E) -> u8
+    ensures { IsReported words.now
+        (device (E.contents errors.old) (E.contents errors.new)
+        (E.Works errors.old → E.Works errors.new) (E.Works errors.old → E.Failed errors.new))
+        stop.now result }
+{
+    match stop {
+        Stop::Refused(fault, place) => {
+            tell_refusal(words, refusal_line(alloc, fault, *place), errors)
+        }
+        Stop::Read => tell(words, READ_FAILED, status::FAILED, errors),
+        Stop::Write => tell(words, WRITE_FAILED, status::FAILED, errors),
+        Stop::Memory => tell(words, OUT_OF_MEMORY, status::FAILED, errors),
+    }
+}
+
+/// Tells the line of a refusal after these words, or that memory was refused for it, and answers the
+/// status.
+fn tell_refusal<E: OctetWriter>(words: &str, line: Result<String, AllocError>, errors: &mut E) -> u8
+    ensures told { IfOk line (λ line. TellsLine (words.now ++ string_bytes line) 3
+        (device (E.contents errors.old) (E.contents errors.new)
+        (E.Works errors.old → E.Works errors.new) (E.Works errors.old → E.Failed errors.new))
+        result) }
+    ensures untold { OnErr line (TellsLine (words.now ++ stop_line Memory) 4
+        (device (E.contents errors.old) (E.contents errors.new)
+        (E.Works errors.old → E.Works errors.new) (E.Works errors.old → E.Failed errors.new))
+        result) }
+{
+    match line {
+        Ok(line) => tell(words, line.as_str(), status::REFUSED, errors),
+        Err(_) => tell(words, OUT_OF_MEMORY, status::FAILED, errors),
+    }
+}
+
+/// Tells why a command line is no order, and answers the status: 4 where that could not be told.
+pub fn refuse<E: OctetWriter>(fault: &LineFault, errors: &mut E) -> u8
+    ensures { TellsLine (line_text fault.now) (line_status fault.now)
+        (device (E.contents errors.old) (E.contents errors.new)
+        (E.Works errors.old → E.Works errors.new) (E.Works errors.old → E.Failed errors.new))
+        result }
+{
+    tell("", fault.text(), fault.status(), errors)
+}
+
+/// Writes these words and the line, and answers this status: 4 where the writer failed.
+fn tell<E: OctetWriter>(words: &str, line: &str, answer: u8, errors: &mut E) -> u8
+    ensures { TellsLine (words.now ++ line.now) answer
+        (device (E.contents errors.old) (E.contents errors.new)
+        (E.Works errors.old → E.Works errors.new) (E.Works errors.old → E.Failed errors.new))
+        result }
+{
+    match write_line(errors, words, line) {
+        Ok(()) => answer,
+        Err(_) => status::FAILED,
+    }
+}

@@ -1,0 +1,60 @@
+-- From what was taken of the octets that a reader gave to what the reader's octets are read as.
+use Rattle.zone_engine.proofs.Common.{◌≡◌, ℕ, ◌<◌, ◌≤◌, ◌+◌, true, List, [], ◌++◌, length, length-append, sym, ap, ◌∙◌, subst, append-nil, arith, ◌==◌, Option, None, IfSome, Consumes, AllByRecursion, Octets, Record, Held, Pending, Fault, InputTooLong, Place, Whole, Stop, Zone, ReadAs, input_of, input_octets, IsInput, IsForm, all_taken, BeginsAs, IsLoadedOf, ReadsZone, ReadsZoneWithin, RefusesRead, IsOfBytes, IsOfReading, IfRefused, IsRefusalWithin, too_long, reading, TellsRead, common_steps, Consumes-trans, form_of}
+use Rattle.zone_engine.specs.Form.{read_as}
+use Rattle.zone_engine.specs.declared.form.Form.{Form}
+use Rattle.zone_engine.specs.declared.form.Form.TheVariants.{File, Transfer}
+
+pub octets_of_input : (form : ReadAs) (octets : Octets) → input_octets (input_of form octets) ≡ octets
+octets_of_input form octets = grind arith
+
+-- ---- what is read
+
+pub within : (limit : ℕ) (form : ReadAs) (octets : Octets) (z : Zone) → AllByRecursion (λ c. c < 256) octets → length octets ≤ limit → ReadsZone (input_of form octets) z → ReadsZoneWithin limit (input_of form octets) z
+within limit form octets z each short reads = grind arith
+
+pub refused_within : (limit : ℕ) (form : ReadAs) (octets : Octets) (stop : Stop) → length octets ≤ limit → IfRefused stop (RefusesRead (input_of form octets)) → IfRefused stop (IsRefusalWithin limit (input_of form octets))
+refused_within limit form octets stop short refuses = grind (arith, octets_of_input, reading)
+
+pub refused_over : (limit : ℕ) (form : ReadAs) (octets : Octets) → limit < length octets → IsRefusalWithin limit (input_of form octets) InputTooLong Whole
+refused_over limit form octets long = too_long (subst (λ os. limit < length os) (sym (octets_of_input form octets)) long)
+
+-- a reader that gave too many octets has too many
+pub too_many : (limit : ℕ) (form : ReadAs) (old new : Option Octets) (given : Octets) → Consumes old new given → limit < length given → IfSome old (λ octets. IsRefusalWithin limit (input_of form octets) InputTooLong Whole)
+too_many limit form old new given consumed long = grind (arith, refused_over, length-append)
+
+-- what a source begins with is taken of no octets
+pub begun : {Kept : Type 0} (IsOf : ReadAs → Type 0) (Leave : ReadAs → Octets → Kept → Octets → Type 0) (form : ReadAs) (pending : Pending) (inside : Held Kept) (held : List Record) (refusal : Option (Fault × Place)) → held ≡ [] → refusal ≡ None → BeginsAs IsOf Leave pending inside form → IsLoadedOf IsOf Leave pending inside held refusal form []
+begun IsOf Leave form pending inside held refusal none unrefused begins = all_taken [] unrefused begins.stands begins.nothing none
+
+-- ---- what was read so far
+
+-- The octets that the reader gave, and what was taken of them for each form under which the source
+-- began with nothing
+pub record HasFed (Began : ReadAs → Type 0) (Taken : ReadAs → Octets → Type 0) (old new : Option Octets) (count fed limit : ℕ) : Type 0 where
+  pub given : Octets
+  pub consumed : Consumes old new given
+  pub counted : length given ≡ count
+  pub each : AllByRecursion (λ c. c < 256) given
+  pub few : count ≤ limit + 1
+  pub fed_few : fed ≤ count
+  pub taken : (form : ReadAs) → Began form → Taken form given
+
+pub consumed_none : (a b c : Option Octets) (given more : Octets) → Consumes a b given → Consumes b c more → more ≡ [] → Consumes a c given
+consumed_none a b c given more first next none = subst (Consumes a c) (ap (λ os. given ++ os) none ∙ append-nil given) (Consumes-trans a b c given more first next)
+
+-- ---- stops
+
+pub of_reading : (stop : Stop) → IsOfBytes stop → IsOfReading stop
+of_reading stop is = grind arith
+
+-- what ends the input tells no failed read
+pub tells_no_read : (works failed : Type 0) (stop : Stop) → works → IsOfBytes stop → TellsRead works failed stop
+tells_no_read works failed stop on is = grind arith
+
+pub no_octets : (octets : Octets) → (length octets == 0) ≡ true → octets ≡ []
+no_octets octets none = grind (arith, common_steps)
+
+-- octets are an input of a form
+pub is_input : (form : Form) (octets : Octets) → IsForm (form_of form) → AllByRecursion (λ c. c < 256) (input_octets (read_as form octets)) → IsInput (read_as form octets)
+is_input (File origin) octets name each = (name, each)
+is_input Transfer octets name each = each

@@ -1,0 +1,11 @@
+pub mod Form
+pub mod Input
+pub mod Stops
+pub mod Normalise
+pub mod Refusal
+pub mod Headline
+pub mod Examples
+pub mod Compare
+pub mod Telling
+pub mod Explain
+pub mod Machine

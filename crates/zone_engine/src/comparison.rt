@@ -1,0 +1,100 @@
+ghost use Rattle.std.specs.Prelude.{◌+◌, ◌≤◌, length, IfOk, IfErr, IfSome, OnOk};
+ghost use Rattle.std.specs.Io.KnownBytes.{IsAtEnd};
+ghost use Rattle.zone_print.specs.Canonical.{canon, text_limit};
+ghost use Rattle.zone_engine.specs.Compare.{Compares, IsVerdictOnTexts, ReadsWholeTo, StopsCompare, TellsReadOf};
+ghost use Rattle.zone_engine.specs.Form.{read_as};
+ghost use Rattle.zone_engine.specs.Normalise.{ConsumesAtMost};
+
+use crate::engine::accepted_zone;
+use crate::form::Form;
+use crate::octets::OctetReader;
+use std::alloc::Global;
+use zone_print::laws::equal_lines_are_equal_records;
+use zone_rdata::Stop;
+use zone_set::Zone;
+
+/// What comparing two zones finds.
+#[derive(Clone, Copy, Debug, PartialEq, Eq)]
+pub enum Verdict {
+    /// Their canonical texts are equal.
+    Same,
+    /// The number of the first line, from 1, at which their canonical texts differ: the one after
+    /// the shorter text's last where that text begins the other.
+    Different(u64),
+}
+
+/// Which of two inputs.
+#[derive(Clone, Copy, Debug, PartialEq, Eq)]
+pub enum Which {
+    /// The one read first.
+    First,
+    /// The one read once the first was accepted.
+    Second,
+}
+
+/// Compares the canonical texts of the zones that two readers' octets denote, without making the
+/// texts. Each reader is read as by [`normalise`](crate::normalise), the second one after the first
+/// input was judged whole.
+///
+/// # Errors
+///
+/// The first input that stops it, and by what: `Refused` where its octets denote no zone, `Read` where its reader failed,
+/// which isn't called again, and `Memory`. Where that is the first input, the second isn't read.
+pub fn compare<R: OctetReader, S: OctetReader>(
+    alloc: Global,
+    first_form: Form<'_>,
+    first: &mut R,
+    second_form: Form<'_>,
+    second: &mut S,
+) -> Result<Verdict, (Which, Stop)>
+    ensures compared { IfOk result (λ verdict.
+        IfSome (R.remaining first.old) (λ octets. IfSome (S.remaining second.old) (λ others.
+        Compares (read_as first_form.entry octets)
+        (read_as second_form.entry others) verdict))) }
+    ensures stopped { IfErr result
+        (λ why. StopsCompare (read_as first_form.entry) (read_as second_form.entry)
+        (R.remaining first.old) (S.remaining second.old) (S.remaining second.new) why.0 why.1) }
+    ensures few { ConsumesAtMost (text_limit + 1) (R.remaining first.old) (R.remaining first.new) }
+    ensures few_of_second { ConsumesAtMost (text_limit + 1) (S.remaining second.old)
+        (S.remaining second.new) }
+    ensures whole { OnOk result (IsAtEnd (R.remaining first.new)
+        × IsAtEnd (S.remaining second.new)) }
+    ensures whole_refused { IfErr result (λ why. ReadsWholeTo (R.remaining first.old)
+        (R.remaining first.new) (S.remaining second.old) (S.remaining second.new) why.0 why.1) }
+    ensures works { OnOk result ((R.Works first.old → R.Works first.new)
+        × (S.Works second.old → S.Works second.new)) }
+    ensures failed { IfErr result (λ why. TellsReadOf
+        (R.Works first.old → R.Works first.new) (R.Works first.old → R.Failed first.new)
+        (S.Works second.old → S.Works second.new) (S.Works second.old → S.Failed second.new)
+        why.0 why.1) }
+{
+    let zone = match accepted_zone(alloc, first_form, first) {
+        Ok(zone) => zone,
+        Err(stop) => return Err((Which::First, stop)),
+    };
+    match accepted_zone(alloc, second_form, second) {
+        Ok(other) => Ok(first_difference(&zone, &other)),
+        Err(stop) => Err((Which::Second, stop)),
+    }
+}
+
+/// The verdict on the canonical texts of two zones. Each line is that of a record, and lines are
+/// equal exactly if the records are, so records are compared.
+fn first_difference(zone: &Zone, other: &Zone) -> Verdict
+    requires { length (canon zone.now) ≤ text_limit }
+    ensures { IsVerdictOnTexts result (canon zone.now) (canon other.now) }
+{
+    equal_lines_are_equal_records();
+    let mut others = other.records();
+    let mut line = 1;
+    for rr in zone.records() {
+        match others.next() {
+            Some(other) if rr.is_same(&other) => line += 1,
+            _ => return Verdict::Different(line),
+        }
+    }
+    match others.next() {
+        Some(_) => Verdict::Different(line),
+        None => Verdict::Same,
+    }
+}

@@ -1,0 +1,91 @@
+ghost use Rattle.std.specs.Prelude.{◌≡◌, ◌+◌, ◌^◌, ◌≤◌, ◌<◌, false, [], length, IfOk, IfErr, OnOk, replicate};
+ghost use Rattle.std.specs.Io.KnownBytes.{Consumes, IsAtEnd, Keeps};
+ghost use Rattle.zone_engine.specs.Machine.Loading.{BeginsAs, ReadsKnown, RefusesKnown};
+ghost use Rattle.zone_engine.specs.Normalise.{ConsumesAtMost, IsOfReading, ReadsWhole};
+ghost use Rattle.zone_engine.specs.Refusal.{IfRefused};
+ghost use Rattle.zone_engine.specs.Stops.{IsFailedRead, TellsRead};
+
+use crate::fed::FedSource;
+use crate::loader::ZoneLoader;
+use crate::octets::OctetReader;
+use std::alloc::{AllocError, Global};
+use zone_rdata::{Fault, Place, Stop};
+use zone_set::Zone;
+
+/// How many octets one read asks for at most.
+pub(crate) const PIECE: usize = 65_536;
+
+/// So many zero octets. The length is a parameter, so that no proof counts up to it.
+pub(crate) fn zeros(alloc: Global, len: usize) -> Result<Vec<u8>, AllocError>
+    ensures zeros { IfOk result (λ octets. octets.items ≡ replicate len 0) }
+    ensures len { IfOk result (λ octets. length octets.items ≡ len) }
+{
+    vec![in alloc; 0u8; len]
+}
+
+/// The zone of what the reader gives up to its end, which is read into `piece` and fed to a source. After a
+/// fault it reads on, since an input that is too long is refused for that.
+///
+/// # Errors
+///
+/// `Read` where the reader failed, by an interruption too; `Refused` with `InputTooLong` where it
+/// gives more than `limit` octets, of which `limit + 1` are read, and else with the refusal of the
+/// input, but for the length of its canonical text; `Memory`.
+pub(crate) fn read_zone<S: FedSource, R: OctetReader>(
+    alloc: Global,
+    source: &mut S,
+    reader: &mut R,
+    piece: &mut [u8],
+    limit: u64,
+) -> Result<Zone, Stop>
+    requires limit { limit + 2 < 2 ^ 64 }
+    requires open { (S.held source.old).finished ≡ false }
+    requires unfed { (S.held source.old).fed ≡ 0 }
+    requires room { 0 < length piece.old }
+    ensures zone { IfOk result (ReadsKnown
+        (BeginsAs S.IsOf S.Leave (S.pending source.old) (S.held source.old)) limit
+        (R.remaining reader.old)) }
+    ensures fault { IfErr result (RefusesKnown
+        (BeginsAs S.IsOf S.Leave (S.pending source.old) (S.held source.old)) limit
+        (R.remaining reader.old)) }
+    ensures stopped { IfErr result IsOfReading }
+    ensures whole { OnOk result (IsAtEnd (R.remaining reader.new)) }
+    ensures whole_refused { IfErr result (λ stop. IfRefused stop (λ fault place.
+        ReadsWhole limit (R.remaining reader.old) (R.remaining reader.new))) }
+    ensures works { OnOk result (R.Works reader.old → R.Works reader.new) }
+    ensures failed { IfErr result (TellsRead
+        (R.Works reader.old → R.Works reader.new) (R.Works reader.old → R.Failed reader.new)) }
+    ensures few { ConsumesAtMost (limit + 1) (R.remaining reader.old) (R.remaining reader.new) }
+{
+    let mut loader = ZoneLoader::new(alloc);
+    let mut count = 0;
+    while count <= limit {
+        let others = (limit - count).min(piece.len() as u64 - 1) as usize;
+        let given = read_piece(reader, &mut piece[..others + 1])?;
+        if given.is_empty() {
+            return loader.finish(source);
+        }
+        loader.take(source, given)?;
+        count += given.len() as u64;
+    }
+    Err(Stop::Refused(Fault::InputTooLong, Place::Whole))
+}
+
+/// What one read into `piece` gives: nothing at the end alone.
+///
+/// # Errors
+///
+/// `Read` where the reader failed.
+fn read_piece<'p, R: OctetReader>(reader: &mut R, piece: &'p mut [u8]) -> Result<&'p [u8], Stop>
+    requires { 0 < length piece.old }
+    ensures taken { IfOk result
+        (λ given. Consumes (R.remaining reader.old) (R.remaining reader.new) given.now) }
+    ensures few { IfOk result (λ given. length given.now ≤ length piece.old) }
+    ensures end { IfOk result (λ given. given.now ≡ [] → IsAtEnd (R.remaining reader.new)) }
+    ensures works { OnOk result (R.Works reader.old → R.Works reader.new) }
+    ensures failed { IfErr result (IsFailedRead (R.Works reader.old → R.Failed reader.new)) }
+    ensures kept { IfErr result (λ _. Keeps (R.remaining reader.old) (R.remaining reader.new)) }
+{
+    let count = reader.read_some(piece)?;
+    Ok(&piece[..count])
+}

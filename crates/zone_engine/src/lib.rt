@@ -1,0 +1,24 @@
+//! Zones of master files and of captured zone transfers: one canonical text of each, the comparison of two, the line of
+//! a refusal, and the laws of all.
+#![tactic(auto)]
+
+mod comparison;
+mod engine;
+pub mod examples;
+mod explanation;
+mod fed;
+mod form;
+mod input;
+pub mod laws;
+mod line;
+mod loader;
+mod octets;
+
+pub use comparison::{Verdict, Which, compare};
+pub use engine::{accepted_zone, accepted_zone_within, normalise, normalise_bytes};
+pub use explanation::{
+    OUT_OF_MEMORY, READ_FAILED, WRITE_FAILED, explain, explain_line, refusal_line,
+};
+pub use form::Form;
+pub use line::write_line;
+pub use octets::{OctetReader, OctetSlice};

@@ -1,0 +1,105 @@
+ghost use Rattle.std.specs.Prelude.{◌≡◌, ◌+◌, ◌^◌, ◌<◌, ◌≤◌, ◌++◌, false, [], None, Err, length, IfOk, IfErr, IfSome, IsOk, OnOk};
+ghost use Rattle.zone_name.specs.Common.{Octets, AreOctets};
+ghost use Rattle.zone_rdata.specs.declared.fault.Stop.TheVariants.{Memory};
+ghost use Rattle.zone_engine.specs.Machine.Input.{IsForm, ReadAs, input_of};
+ghost use Rattle.zone_engine.specs.Machine.Loading.{IsLoadedOf, ReadsZone, RefusesRead};
+ghost use Rattle.zone_engine.specs.Normalise.{IsOfBytes};
+ghost use Rattle.zone_engine.specs.Refusal.{IfRefused};
+
+use crate::fed::FedSource;
+use crate::laws::what_is_decided_refuses;
+use std::alloc::Global;
+use zone_rdata::{Fault, Place, Stop};
+use zone_set::{Zone, ZoneBuilder};
+
+/// What was taken of an input that is fed.
+#[derive(Drop)]
+pub(crate) struct ZoneLoader {
+    /// The records before the first refusal.
+    builder: ZoneBuilder,
+    /// Why the input is refused, and where, if that is decided.
+    refusal: Option<(Fault, Place)>,
+}
+
+impl ZoneLoader {
+    /// Nothing was taken.
+    pub(crate) fn new(alloc: Global) -> ZoneLoader
+        ensures holds { result.builder ≡ [] }
+        ensures refuses { result.refusal ≡ None }
+    {
+        ZoneLoader {
+            builder: ZoneBuilder::new(alloc),
+            refusal: None,
+        }
+    }
+
+    /// Feeds a piece to the source, and takes the records that it decides. After a refusal it does
+    /// nothing.
+    ///
+    /// # Errors
+    ///
+    /// `Memory`.
+    pub(crate) fn take<S: FedSource>(&mut self, source: &mut S, piece: &[u8]) -> Result<(), Stop>
+        requires open { (S.held source.old).finished ≡ false }
+        requires fits { (S.held source.old).fed + length piece.now + 1 < 2 ^ 64 }
+        ensures taken { OnOk result ((form : ReadAs) (octets : Octets)
+            → IsLoadedOf S.IsOf S.Leave (S.pending source.old) (S.held source.old)
+            self.old.builder self.old.refusal form octets
+            → IsLoadedOf S.IsOf S.Leave (S.pending source.new) (S.held source.new)
+            self.new.builder self.new.refusal form (octets ++ piece.now)) }
+        ensures open { (S.held source.new).finished ≡ false }
+        ensures fed { (S.held source.new).fed ≤ (S.held source.old).fed + length piece.now }
+        ensures refused { IfSome self.old.refusal (λ _. IsOk result × (self.new ≡ self.old)) }
+        ensures stopped { IfErr result (λ stop. stop ≡ Memory) }
+        ensures octets { AreOctets piece.now }
+    {
+        if self.refusal.is_some() {
+            return Ok(());
+        }
+        source.feed(piece)?;
+        match self.builder.take_lent(source) {
+            Ok(()) => Ok(()),
+            Err(Stop::Refused(fault, place)) => {
+                self.refusal = Some((fault, place));
+                Ok(())
+            }
+            Err(stop) => Err(stop),
+        }
+    }
+
+    /// Ends the source, and makes the zone of all records.
+    ///
+    /// # Errors
+    ///
+    /// `Refused` with the refusal of the input, but for its length and that of its canonical text;
+    /// `Memory`.
+    pub(crate) fn finish<S: FedSource>(self, source: &mut S) -> Result<Zone, Stop>
+        requires open { (S.held source.old).finished ≡ false }
+        ensures zone { IfOk result (λ z. (form : ReadAs) (octets : Octets)
+            → IsLoadedOf S.IsOf S.Leave (S.pending source.old) (S.held source.old)
+            self.builder self.refusal form octets
+            → ReadsZone (input_of form octets) z) }
+        ensures fault { IfErr result (λ stop. (form : ReadAs) (octets : Octets)
+            → IsForm form → AreOctets octets
+            → IsLoadedOf S.IsOf S.Leave (S.pending source.old) (S.held source.old)
+            self.builder self.refusal form octets
+            → IfRefused stop (RefusesRead (input_of form octets))) }
+        ensures refused { IfSome self.refusal
+            (λ refusal. result ≡ Err (Stop.Refused refusal.0 refusal.1)) }
+        ensures stopped { IfErr result IsOfBytes }
+    {
+        let ZoneLoader {
+            mut builder,
+            refusal,
+        } = self;
+        what_is_decided_refuses();
+        match refusal {
+            Some((fault, place)) => Err(Stop::Refused(fault, place)),
+            None => {
+                source.finish()?;
+                builder.take_lent(source)?;
+                builder.finish()
+            }
+        }
+    }
+}

@@ -1,0 +1,67 @@
+ghost use Rattle.std.specs.Prelude.{ℕ, List, Option, Some, IfErr, OnOk, ⊤};
+ghost use Rattle.std.specs.Io.{ReadsAtMost};
+ghost use Rattle.std.specs.Io.KnownBytes.{ReadConsumes};
+ghost use Rattle.zone_engine.specs.Stops.{IsFailedRead};
+
+use std::io::Read;
+use zone_rdata::Stop;
+
+/// What octets are read from. Every reader of std is one.
+///
+/// All that reads is proved for every `Works` and `Failed`. So it answers `Read` only where a call of the reader did, and
+/// where one did it answers `Read`, and calls it no more.
+pub trait OctetReader {
+    /// The octets that it will give, where they are known.
+    ghost remaining: { Self → Option (List ℕ) };
+
+    /// That no call of it has failed.
+    ghost Works: { Self → Type 0 };
+
+    /// That its last call failed, and none before.
+    ghost Failed: { Self → Type 0 };
+
+    /// Reads into a prefix of `piece` and answers its length, which is 0 at the end or for an empty
+    /// piece alone.
+    ///
+    /// # Errors
+    ///
+    /// `Read` where it failed. Nothing was read.
+    fn read_some(&mut self, piece: &mut [u8]) -> Result<usize, Stop>
+        ensures bound { ReadsAtMost result piece.new }
+        ensures bytes { ReadConsumes (remaining self.old) (remaining self.new) result piece.new }
+        ensures works { OnOk result (Works self.old → Works self.new) }
+        ensures failed { IfErr result (IsFailedRead (Works self.old → Failed self.new)) };
+}
+
+/// Std's trait can't say that a reader failed: nothing is known of it.
+impl<R: Read> OctetReader for R {
+    ghost remaining = { R.remaining };
+
+    ghost Works = { λ _. ⊤ };
+
+    ghost Failed = { λ _. ⊤ };
+
+    fn read_some(&mut self, piece: &mut [u8]) -> Result<usize, Stop> {
+        self.read(piece).map_err(|_| Stop::Read)
+    }
+}
+
+/// A reader of octets in memory, which never fails: of it the contracts of all that reads say that
+/// `Read` isn't answered.
+#[derive(Drop)]
+pub struct OctetSlice<'o> {
+    /// Those that it has still to give.
+    pub rest: &'o [u8],
+}
+
+impl OctetReader for OctetSlice<'_> {
+    ghost remaining = { λ octets. Some octets.rest.now };
+
+    ghost Works = { λ _. ⊤ };
+
+    ghost Failed = { λ _. ⊥ };
+
+    fn read_some(&mut self, piece: &mut [u8]) -> Result<usize, Stop> {
+        self.rest.read(piece).map_err(|_| Stop::Read)
+    }
+}

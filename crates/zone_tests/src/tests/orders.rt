@@ -1,0 +1,132 @@
+//! Command lines.
+use crate::tests::shown::{check_octets, check_same};
+use crate::tests::{Question, check_lines, push_text, push_words, roomy};
+use std::alloc::{AllocError, Global};
+use std::test::Fail;
+use zone_command::{LineFault, Order, order_after_name, order_of, refuse};
+use zone_name::Name;
+
+/// The words of a line, in which a blank stands between two. An empty line has none.
+fn words_of(alloc: Global, line: &str) -> Result<Vec<String>, AllocError> {
+    let mut words = Vec::new(alloc);
+    if !line.is_empty() {
+        for word in line.split(' ') {
+            words.push(String::from_str(alloc, word)?)?;
+        }
+    }
+    Ok(words)
+}
+
+/// The order that a line gives.
+pub(super) fn ordered(alloc: Global, line: &str) -> Result<Order, Fail> {
+    match order_of(alloc, &words_of(alloc, line)?) {
+        Ok(order) => Ok(order),
+        Err(LineFault::Memory) => Err(Fail::from("memory")),
+        Err(_) => Err(Fail::from("no order")),
+    }
+}
+
+/// Appends a word, the origin of an input, which a transfer has none of, and a path.
+fn push_input(
+    out: &mut Vec<u8>,
+    word: &str,
+    origin: &Option<Name>,
+    path: &str,
+) -> Result<(), Fail> {
+    push_text(out, word)?;
+    match origin {
+        Some(name) => name.push_text(out)?,
+        None => push_text(out, "transfer")?,
+    }
+    push_text(out, path)
+}
+
+/// Appends an order as its line may be written, but for the blank before a path.
+fn push_order(out: &mut Vec<u8>, order: &Order) -> Result<(), Fail> {
+    match order {
+        Order::Normalise(origin) => push_input(out, "normalise ", origin, ""),
+        Order::Explain(origin) => push_input(out, "explain ", origin, ""),
+        Order::Compare(first, second) => {
+            push_input(out, "compare ", &first.origin, first.path.as_str())?;
+            push_input(out, " ", &second.origin, second.path.as_str())
+        }
+    }
+}
+
+/// Appends the status and the text of a fault. What `clap` tells is any text.
+fn push_refusal(alloc: Global, out: &mut Vec<u8>, fault: &LineFault) -> Result<(), Fail> {
+    let status = fault.status();
+    push_words(alloc, out, format_args!("{status} "))?;
+    match fault {
+        LineFault::Clap(text) if !text.is_empty() => push_text(out, "clap"),
+        _ => push_text(out, fault.text()),
+    }
+}
+
+/// What a line gives: an order, or the status and the text of its fault.
+struct Given;
+
+impl Question for Given {
+    fn answer(alloc: Global, asked: &'static str, out: &mut Vec<u8>) -> Result<(), Fail> {
+        match order_of(alloc, &words_of(alloc, asked)?) {
+            Ok(order) => push_order(out, &order),
+            Err(LineFault::Memory) => Err(Fail::from("memory")),
+            Err(fault) => push_refusal(alloc, out, &fault),
+        }
+    }
+}
+
+/// The words after the program's name, and what they give.
+const LINES: &str = "\
+normalise X. => normalise x.
+normalise . => normalise .
+normalise transfer. => normalise transfer.
+normalise \\-a. => normalise -a.
+normalise transfer => normalise transfer
+explain . => explain .
+explain transfer => explain transfer
+compare X. p transfer q => compare x.p transferq
+compare transfer q X. p => compare transferq x.p
+normalise x => 2 F46 BadOrigin: an origin is an absolute name or the word transfer
+normalise @ => 2 F46 BadOrigin: an origin is an absolute name or the word transfer
+normalise a.. => 2 F46 BadOrigin: an origin is an absolute name or the word transfer
+normalise Transfer => 2 F46 BadOrigin: an origin is an absolute name or the word transfer
+normalise  => 2 F46 BadOrigin: an origin is an absolute name or the word transfer
+explain @ => 2 F46 BadOrigin: an origin is an absolute name or the word transfer
+compare x p y. q => 2 F46 BadOrigin: an origin is an absolute name or the word transfer
+compare x. p y q => 2 F46 BadOrigin: an origin is an absolute name or the word transfer
+ => 2 clap
+sort x. => 2 clap
+normalise => 2 clap
+normalise x. y. => 2 clap
+compare x. p y. => 2 clap
+compare x p y. => 2 clap
+--help => 2 clap
+normalise -a. => 2 clap
+";
+
+#[test]
+fn command_lines(rt: HostRuntime) -> Result<(), Fail> {
+    check_lines::<Given>(rt.alloc(), LINES)
+}
+
+#[test]
+fn the_name_of_the_program_is_passed_over(rt: HostRuntime) -> Result<(), Fail> {
+    let words = words_of(rt.alloc(), "zonenorm normalise X.")?;
+    let order = match order_after_name(rt.alloc(), &words) {
+        Err(LineFault::Memory) => return Err(Fail::from("memory")),
+        answer => answer?,
+    };
+    let mut told = roomy(rt.alloc())?;
+    push_order(&mut told, &order)?;
+    check_octets("the order", &told, b"normalise x.")
+}
+
+#[test]
+fn a_bad_origin_is_told(rt: HostRuntime) -> Result<(), Fail> {
+    let mut told = roomy(rt.alloc())?;
+    let status = refuse(&LineFault::BadOrigin, &mut told);
+    check_same("the status", status, 2)?;
+    let wanted = b"F46 BadOrigin: an origin is an absolute name or the word transfer\n";
+    check_octets("the line", &told, wanted)
+}

@@ -1,0 +1,156 @@
+//! Records, and a source of them.
+use crate::tests::items::data_of;
+use crate::tests::shown::check_same;
+use crate::tests::zones::reading_of;
+use crate::tests::{Case, check, check_rows, rooted};
+use std::alloc::Global;
+use std::test::Fail;
+use zone_rdata::{Fault, LendingSource, PendingRecords, Place, Placed, Rr, RrSource, Stop};
+
+/// A TTL, and the fault of a record that has it, if it may not.
+struct Ttl(u32, Option<&'static str>);
+
+/// The octets of `b.`.
+const SERVER: &[u8] = b"\x01b\x00";
+
+/// Whether the record is `example. ttl IN NS b.`.
+fn is_server(rr: Rr, ttl: u32) -> bool {
+    let has_words = rr.ttl() == ttl && rr.class().number() == 1 && rr.kind().number() == 2;
+    let has_data = rr.owner().wire() == b"\x07example\x00".as_slice()
+        && rr.rdata().octets() == SERVER;
+    let (owner, seconds, rdata) = rr.into_parts();
+    has_words
+        && has_data
+        && owner.wire() == b"\x07example\x00".as_slice()
+        && seconds == ttl
+        && rdata.octets() == SERVER
+}
+
+impl Case for Ttl {
+    fn check(&self, alloc: Global) -> Result<(), Fail> {
+        let owner = rooted(b"example.")?;
+        let data = data_of(alloc, "x.", "IN NS b.")??;
+        match Rr::new(owner, self.0, data) {
+            Ok(rr) => {
+                check(is_server(rr, self.0), "the record is that of its parts")?;
+                check_same(self.0, None, self.1)
+            }
+            Err(fault) => check_same(self.0, Some(fault.name()), self.1),
+        }
+    }
+}
+
+static TTLS: &[Ttl] = &[Ttl(2147483647, None), Ttl(2147483648, Some("BadTtl"))];
+
+#[test]
+fn records_of_31_bits(rt: HostRuntime) -> Result<(), Fail> {
+    check_rows(rt.alloc(), TTLS)
+}
+
+/// Whether this is refused for its TTL at line 4.
+fn is_bad_ttl(answer: Result<Option<Placed>, Stop>) -> bool {
+    matches!(answer, Err(Stop::Refused(Fault::BadTtl, Place::Line(4))))
+}
+
+#[test]
+fn a_reading_gives_its_fault_again(rt: HostRuntime) -> Result<(), Fail> {
+    let mut reading = reading_of(rt.alloc(), b"example. 1 IN NS b.\n")?;
+    reading.ending = Some((Fault::BadTtl, Place::Line(4)));
+    check(reading.next()?.is_some(), "the record is given first")?;
+    let is_refused = is_bad_ttl(reading.next());
+    check(
+        is_refused && is_bad_ttl(reading.next()),
+        "the fault is given twice",
+    )
+}
+
+/// A record that is lent: its owner's octets, its TTL, its data's octets and its line.
+#[derive(Drop)]
+struct Lent(&'static [u8], u32, &'static [u8], u64);
+
+impl Lent {
+    /// Whether a source lends this record first.
+    fn is_first<S: LendingSource>(&self, source: &S) -> bool {
+        match source.first() {
+            Some(lent) => {
+                lent.rr.owner.wire() == self.0
+                    && lent.rr.ttl == self.1
+                    && lent.rr.rdata.octets() == self.2
+                    && lent.place == Place::Line(self.3)
+            }
+            None => false,
+        }
+    }
+}
+
+static LENT: &[Lent] = &[
+    Lent(b"\x01a\x00", 1, SERVER, 1),
+    Lent(b"\x01c\x00", 2, b"\x01d\x00", 2),
+];
+
+#[test]
+fn a_reading_lends_its_records(rt: HostRuntime) -> Result<(), Fail> {
+    let mut reading = reading_of(rt.alloc(), b"a. 1 IN NS b.\nc. 2 IN NS d.\n")?;
+    for lent in LENT {
+        check(lent.is_first(&reading), "a record is lent")?;
+        reading.skip();
+    }
+    let is_empty = reading.first().is_none();
+    check(
+        is_empty && reading.next()?.is_none(),
+        "nothing is left after them",
+    )
+}
+
+/// A queue with the servers of `example.` of the TTLs 1 to 4, and the fault of a TTL after them.
+fn queue_of_four(alloc: Global) -> Result<PendingRecords, Fail> {
+    let owner = rooted(b"example.")?;
+    let mut pending = PendingRecords::new(alloc);
+    for ttl in 1..5 {
+        let data = data_of(alloc, "x.", "IN NS b.")??;
+        pending.placed.push(&owner, ttl, data, Place::Line(3))?;
+    }
+    pending.ending = Some((Fault::BadTtl, Place::Line(4)));
+    Ok(pending)
+}
+
+/// Whether a queue lends its first record, and the octets of that are used again once it is
+/// skipped.
+///
+/// # Errors
+///
+/// No octets were kept, as where memory is wanting.
+fn is_used_again(alloc: Global, pending: &mut PendingRecords) -> Result<bool, Fail> {
+    let is_lent = Lent(b"\x07example\x00", 1, SERVER, 3).is_first(pending);
+    pending.placed.skip();
+    let buffer = pending.placed.buffer(alloc);
+    if buffer.is_empty() {
+        return Err(Fail::from("memory"));
+    }
+    Ok(is_lent && buffer.as_slice() == SERVER)
+}
+
+/// Whether this is the server of `example.` with this TTL.
+fn is_given(placed: Option<Placed>, ttl: u32) -> bool {
+    match placed {
+        Some(placed) => placed.place == Place::Line(3) && is_server(placed.rr, ttl),
+        None => false,
+    }
+}
+
+#[test]
+fn a_queue_gives_what_was_put_in(rt: HostRuntime) -> Result<(), Fail> {
+    let mut pending = queue_of_four(rt.alloc())?;
+    check(
+        is_used_again(rt.alloc(), &mut pending)?,
+        "the first record is lent",
+    )?;
+    check(
+        is_given(pending.placed.pop(), 2),
+        "the second record is given",
+    )?;
+    check(is_given(pending.next()?, 3), "the third record is given")?;
+    let mut rest = pending.into_reading();
+    check(is_given(rest.next()?, 4), "the fourth record is given")?;
+    check(is_bad_ttl(rest.next()), "the fault is given after them")
+}

@@ -1,5 +1,0 @@
-use Rattle.zonenorm.proofs.Common.{lit≤, Some, DifferingTtl, UnclosedQuote, Line, reading}
-use Rattle.zonenorm.proofs.examples.a_file_with_a_differing_ttl.Goals as goal
-
-pub returns : goal.returns
-returns c = reading _ (Some (UnclosedQuote, Line 4)) DifferingTtl (Line 3) (lit≤ tt) c.records_before_an_open_quote.ensures c.a_differing_ttl_before_an_open_quote.ensures

@@ -1,6 +1,0 @@
-use Rattle.zonenorm.proofs.Common.{refl, UnclosedQuote, Line, unread}
-use Rattle.zonenorm.proofs.Small.{all_of_one}
-use Rattle.zonenorm.proofs.examples.an_open_quote_before_a_missing_soa.Goals as goal
-
-pub returns : goal.returns
-returns c = unread UnclosedQuote (Line 2) (all_of_one _) refl

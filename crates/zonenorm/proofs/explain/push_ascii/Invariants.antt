@@ -1,6 +1,0 @@
--- The octets so far were appended.
-use Rattle.std.proofs.Common.{◌≡◌, ◌++◌, take, string_bytes}
-use Rattle.zonenorm.proofs.explain.push_ascii.Given as goal
-
-abbrev pub invariant-loop-octet : goal.invariant-loop-octet
-invariant-loop-octet l = string_bytes l.line ≡ string_bytes l.fn.line ++ take l.octet-index l.octets

@@ -1,5 +1,0 @@
-use Rattle.zonenorm.proofs.FedSources.{stands_on}
-use Rattle.zonenorm.proofs.fed.TextSourceFedSource.finish.Goals as goal
-
-pub returns-clause-stands : goal.returns-clause-stands
-returns-clause-stands c = stands_on c.args.self.now c.finish.new.self (λ octets. octets) c.finish.result c.finish.ensures.stands
