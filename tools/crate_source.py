@@ -47,9 +47,11 @@ class Function:
     @property
     def body(self):
         """Where the brace of its body stands in its file; `None` where nothing is in it."""
+        if self.text.endswith("{}\n"):
+            return None
         indent = self.text[: len(self.text) - len(self.text.lstrip())]
         found = re.search(rf"^{indent}\{{$", self.text, re.M) or re.search(r"\{$", self.text, re.M)
-        return found and self.start + found.end() - 1
+        return self.start + found.end() - 1
 
 
 def functions_of(crate):
