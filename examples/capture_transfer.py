@@ -200,6 +200,7 @@ class Key:
         self.mac(b"")  # fails where this Python lacks the digest
 
     def mac(self, octets):
+        """The signature of octets."""
         return hmac.new(self.secret, octets, self.digest).digest()
 
     def variables(self, timers, error=0, other=b""):
@@ -276,11 +277,12 @@ def key_error(message):
 
 def must_be_no_error(message):
     """Refuses an answer with an error code; where one is about the key, that tells more."""
-    code, about_key = message[3] & 15, key_error(message) if message[3] & 15 else 0
-    if about_key:
-        raise Stopped(f"the server answers with {named(KEY_ERRORS, about_key)}")
-    if code:
-        raise Stopped(f"the server answers with {named(CODES, code)}")
+    code = message[3] & 15
+    if code == 0:
+        return
+    about_key = key_error(message)
+    error = named(KEY_ERRORS, about_key) if about_key else named(CODES, code)
+    raise Stopped(f"the server answers with {error}")
 
 
 def take(server, file, count):
@@ -434,10 +436,11 @@ def main():
     except Stopped as reason:
         print(f"capture_transfer: {reason}", file=sys.stderr)
         return reason.status
-    except OSError as error:
+    except (OSError, UnicodeError) as error:  # the latter where SERVER is no name
         print(f"capture_transfer: {error}", file=sys.stderr)
         return 4
     return 0
 
 
-sys.exit(main())
+if __name__ == "__main__":
+    sys.exit(main())
