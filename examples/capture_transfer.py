@@ -192,7 +192,11 @@ class Key:
         if stated["algorithm"].lower() not in ALGORITHMS:
             raise ValueError("its algorithm isn't " + ", ".join(ALGORITHMS))
         algorithm, self.digest = ALGORITHMS[stated["algorithm"].lower()]
-        self.name, self.algorithm = wire_name(found[1].lower()), wire_name(algorithm)
+        self.algorithm = wire_name(algorithm)
+        try:
+            self.name = wire_name(found[1].lower())
+        except ValueError:
+            raise ValueError("its name isn't one in ASCII without escapes") from None
         try:
             self.secret = base64.b64decode(stated["secret"], validate=True)
         except ValueError:
@@ -226,7 +230,8 @@ class Signatures:
         return message[:10] + struct.pack("!H", 1) + message[12:] + record
 
     def check(self, message, is_last):
-        """Whether a message has a signature, which is right and covers those before it too."""
+        """Whether a message has a signature, which is right and covers those before it too. One
+        that is cut (section 5.2.2.1) is wrong here, since the query's was whole."""
         signature = signature_of(message)
         if not signature:
             self.unsigned.append(message)
