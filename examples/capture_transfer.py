@@ -1,31 +1,74 @@
 #!/usr/bin/env python3
 """Asks a server for a zone transfer (AXFR, RFC 5936) and keeps the octets of the answer.
 
-    capture_transfer.py [--port N] [--timeout SECONDS] SERVER ZONE FILE
+    capture_transfer.py [--port N] [--timeout SECONDS] [--class CLASS] [--key KEYFILE]
+                        [--tls] [--tls-ca FILE] [--tls-hostname NAME] SERVER ZONE FILE
 
 FILE is written anew, or is standard output where it is `-`: the messages as they came over TCP,
 each after its length, up to the one with the closing SOA or to where the stream stopped.
 `zonenorm normalise transfer` reads it, and judges it: this script looks only for the end.
 
-Status 0: the closing SOA came. 1: the stream stopped before it, or the server answered with an
-error code; FILE has what came. 2: the command line is wrong. 4: the server can't be reached or
-FILE can't be written.
+With --key the query is signed and the signatures of the answer are checked (TSIG, RFC 8945). FILE
+then has only messages that a right signature covers. KEYFILE is as `tsig-keygen` writes it and
+`dig -k` reads it. With --tls the server is asked over TLS 1.3 (RFC 9103); its certificate is
+checked where --tls-ca names the certificates that are trusted.
 
-It signs nothing (no TSIG) and checks no signature. ZONE is written without escapes."""
+Status 0: the closing SOA came. 1: the stream stopped before it, or the server answered with an
+error code. 2: the command line is wrong. 3: a signature is wrong or missing. 4: the server can't
+be reached, or a file can't be read or written. With 1 and 3 FILE has what came, which with --key
+ends at the last right signature.
+
+ZONE and the name of a key are written without escapes."""
 import argparse
+import base64
 import contextlib
+import hmac
+import io
 import math
+import re
 import secrets
 import socket
+import ssl
 import struct
 import sys
+import time
+from typing import NamedTuple
 
-AXFR, SOA, IN = 252, 6, 1
+AXFR, SOA, TSIG, ANY = 252, 6, 250, 255
+CLASSES = {"IN": 1, "CS": 2, "CH": 3, "HS": 4}
 LIMIT = 1_073_741_824  # the octets that zonenorm takes
+FUDGE = 300  # seconds by which clocks may differ (RFC 8945 section 10)
+UNSIGNED = 99  # messages that may lack a signature between two that have one (section 5.3.1)
+ALGORITHMS = {  # the names of the key file and of the record (section 6), and Python's
+    "hmac-md5": ("hmac-md5.sig-alg.reg.int", "md5"),
+    **{f"hmac-{it}": (f"hmac-{it}", it) for it in ("sha1", "sha224", "sha256", "sha384", "sha512")},
+}
+CODES = {  # RFC 1035 section 4.1.1, RFC 2136 section 2.2
+    1: "FORMERR: it can't read the query",
+    2: "SERVFAIL: it has no valid copy of the zone now, or failed",
+    3: "NXDOMAIN: it knows no such name",
+    4: "NOTIMP: it sends no transfers",
+    5: "REFUSED: it doesn't let this address or this key transfer the zone",
+    9: "NOTAUTH: it isn't authoritative for this zone",
+}
+KEY_ERRORS = {  # RFC 8945 section 3
+    16: "BADSIG: it finds another signature, so the secrets differ",
+    17: "BADKEY: it doesn't know this key with this algorithm",
+    18: "BADTIME: its clock and this one differ too much",
+    22: "BADTRUNC: it wants a longer signature",
+}
 
 
 class Stopped(Exception):
     """Why the stream ends without a closing SOA."""
+
+    status = 1
+
+
+class BadSignature(Stopped):
+    """What is wrong with the signatures."""
+
+    status = 3
 
 
 def wire_name(text):
@@ -39,11 +82,10 @@ def wire_name(text):
     return name
 
 
-def query(zone):
-    """The query, after its length. Only the question is in it (RFC 5936 2.1)."""
+def query(zone, number):
+    """The query in the class of a number. Only the question is in it (RFC 5936 2.1)."""
     header = struct.pack("!HHHHHH", secrets.randbelow(65536), 0, 1, 0, 0, 0)
-    message = header + wire_name(zone) + struct.pack("!HH", AXFR, IN)
-    return struct.pack("!H", len(message)) + message
+    return header + wire_name(zone) + struct.pack("!HH", AXFR, number)
 
 
 def after_name(message, offset):
@@ -59,21 +101,193 @@ def after_name(message, offset):
         offset += 1 + octet
 
 
+def whole_name(message, offset):
+    """The octets of a name in lower case, its pointers followed, each further back."""
+    name, begin = b"", offset
+    while octet := message[offset]:
+        if octet >= 192:
+            offset = struct.unpack_from("!H", message, offset)[0] & 0x3FFF
+            if offset >= begin:
+                raise Stopped("a pointer doesn't lead back")
+            begin = offset
+        else:
+            name += message[offset : offset + 1 + octet]
+            offset += 1 + octet
+    return name.lower() + b"\0"
+
+
+def records(message, sections):
+    """Where each record of the first sections begins, in which section, and its type."""
+    counts = struct.unpack_from("!HHHH", message, 4)
+    offset = 12
+    for _ in range(counts[0]):
+        offset = after_name(message, offset) + 4
+    for section in range(1, 1 + sections):
+        for _ in range(counts[section]):
+            begin, offset = offset, after_name(message, offset)
+            kind, _, _, length = struct.unpack_from("!HHIH", message, offset)
+            yield begin, section, kind
+            offset += 10 + length
+
+
 def soas_among_answers(message):
     """How many of the message's answers are SOA records."""
-    flags, questions, answers = struct.unpack_from("!HHH", message, 2)
-    if flags & 15:
-        raise Stopped(f"the server answers with error code {flags & 15}")
-    offset = 12
-    for _ in range(questions):
-        offset = after_name(message, offset) + 4
-    soas = 0
-    for _ in range(answers):
-        offset = after_name(message, offset)
-        kind, _, _, length = struct.unpack_from("!HHIH", message, offset)
-        soas += kind == SOA
-        offset += 10 + length
-    return soas
+    return sum(kind == SOA for _, _, kind in records(message, 1))
+
+
+class Signature(NamedTuple):
+    """What a TSIG record says (RFC 8945 section 4.2)."""
+
+    begin: int  # where the record begins in its message
+    key: bytes
+    algorithm: bytes
+    timers: bytes  # the time and by how much it may be off
+    mac: bytes
+    ident: bytes  # the ID that the message was signed with
+    error: int
+    other: bytes
+
+
+def signature_at(message, begin):
+    """The TSIG record that begins there, and ends its message."""
+    offset = after_name(message, begin)
+    _, of, ttl, length = struct.unpack_from("!HHIH", message, offset)
+    timers = after_name(message, offset + 10)
+    (size,) = struct.unpack_from("!H", message, timers + 8)
+    after = timers + 10 + size
+    ident, error, more = struct.unpack_from("!2sHH", message, after)
+    end = after + 6 + more
+    if (of, ttl) != (ANY, 0) or not end == offset + 10 + length == len(message):
+        raise BadSignature("a TSIG record is malformed")
+    return Signature(
+        begin, whole_name(message, begin), whole_name(message, offset + 10),
+        message[timers : timers + 8], message[timers + 10 : after], ident, error,
+        message[after + 6 : end],
+    )
+
+
+def signature_of(message):
+    """The signature of a message, or None: its last record, of the additional section."""
+    every = list(records(message, 3))
+    if all(kind != TSIG for _, _, kind in every):
+        return None
+    begin, section, kind = every[-1]
+    if (section, kind) != (3, TSIG) or sum(it[2] == TSIG for it in every) > 1:
+        raise BadSignature("a TSIG record isn't the last of its message")
+    return signature_at(message, begin)
+
+
+class Key:
+    """A key as its file states it: its name, its algorithm and its secret."""
+
+    WORD = re.compile(r'(?P<comment>/\*.*?\*/|(?://|#)[^\n]*)|"([^"]*)"|([{};]|[^\s{};"]+)', re.S)
+    STATEMENT = re.compile(r"key (\S+) { (\w+) (\S+) ; (\w+) (\S+) ; } ;")
+
+    def __init__(self, text):
+        words = (it for it in self.WORD.finditer(text) if it.lastgroup != "comment")
+        found = self.STATEMENT.fullmatch(" ".join(it[it.lastindex] for it in words))
+        stated = {found[2]: found[3], found[4]: found[5]} if found else {}
+        if set(stated) != {"algorithm", "secret"}:
+            raise ValueError("it isn't one key statement with an algorithm and a secret")
+        if stated["algorithm"].lower() not in ALGORITHMS:
+            raise ValueError("its algorithm isn't " + ", ".join(ALGORITHMS))
+        algorithm, self.digest = ALGORITHMS[stated["algorithm"].lower()]
+        self.algorithm = wire_name(algorithm)
+        try:
+            self.name = wire_name(found[1].lower())
+        except ValueError:
+            raise ValueError("its name isn't one in ASCII without escapes") from None
+        try:
+            self.secret = base64.b64decode(stated["secret"], validate=True)
+        except ValueError:
+            raise ValueError("its secret isn't base64") from None
+        self.mac(b"")  # fails where this Python lacks the digest
+
+    def mac(self, octets):
+        """The signature of octets."""
+        return hmac.new(self.secret, octets, self.digest).digest()
+
+    def variables(self, timers, error=0, other=b""):
+        """What is signed after a message (RFC 8945 section 4.3.3)."""
+        end = struct.pack("!HH", error, len(other)) + other
+        return self.name + struct.pack("!HI", ANY, 0) + self.algorithm + timers + end
+
+
+class Signatures:
+    """The signatures of one query and its answer (RFC 8945 section 5.3)."""
+
+    def __init__(self, key):
+        self.key, self.last, self.first, self.unsigned = key, b"", True, []
+
+    def signed(self, message):
+        """The query with its signature."""
+        now = int(time.time())
+        timers = struct.pack("!HIH", now >> 32, now & 0xFFFFFFFF, FUDGE)
+        self.last = self.key.mac(message + self.key.variables(timers))
+        data = self.key.algorithm + timers + struct.pack("!H", len(self.last)) + self.last
+        data += message[:2] + struct.pack("!HH", 0, 0)
+        record = self.key.name + struct.pack("!HHIH", TSIG, ANY, 0, len(data)) + data
+        return message[:10] + struct.pack("!H", 1) + message[12:] + record
+
+    def check(self, message, is_last):
+        """Whether a message has a signature, which is right and covers those before it too. One
+        that is cut (section 5.2.2.1) is wrong here, since the query's was whole."""
+        signature = signature_of(message)
+        if not signature:
+            self.unsigned.append(message)
+            if self.first or is_last or len(self.unsigned) > UNSIGNED:
+                raise BadSignature("a message that must be signed isn't")
+            return False
+        if (signature.key, signature.algorithm) != (self.key.name, self.key.algorithm):
+            raise BadSignature("a signature is by another key or algorithm")
+        if not hmac.compare_digest(self.key.mac(self.covered(message, signature)), signature.mac):
+            raise BadSignature("a signature is wrong: a message was altered, or secrets differ")
+        if signature.error:
+            raise BadSignature(f"a signature comes with {named(KEY_ERRORS, signature.error)}")
+        must_be_timely(signature.timers)
+        self.last, self.first, self.unsigned = signature.mac, False, []
+        return True
+
+    def covered(self, message, signature):
+        """The octets that a signature covers (RFC 8945 sections 4.3 and 5.3.1)."""
+        (additional,) = struct.unpack_from("!H", message, 10)
+        before = struct.pack("!H", len(self.last)) + self.last + b"".join(self.unsigned)
+        header = signature.ident + message[2:10] + struct.pack("!H", additional - 1)
+        after = signature.timers
+        if self.first:
+            after = self.key.variables(signature.timers, signature.error, signature.other)
+        return before + header + message[12 : signature.begin] + after
+
+
+def must_be_timely(timers):
+    """Refuses a signature whose time is off by more than it allows (RFC 8945 section 5.2.3)."""
+    high, low, fudge = struct.unpack("!HIH", timers)
+    if abs((high << 32) + low - time.time()) > fudge:
+        raise BadSignature("the time of a signature is off: the clocks differ, or it is an old one")
+
+
+def named(words, number):
+    """An error code with what it means."""
+    return f"error code {number}, {words[number]}" if number in words else f"error code {number}"
+
+
+def key_error(message):
+    """The error code of a message's TSIG record; 0 where it has none."""
+    try:
+        signature = signature_of(message)
+    except (IndexError, struct.error, Stopped):
+        return 0
+    return signature.error if signature else 0
+
+
+def must_be_no_error(message):
+    """Refuses an answer with an error code; where one is about the key, that tells more."""
+    code = message[3] & 15
+    if code == 0:
+        return
+    about_key = key_error(message)
+    error = named(KEY_ERRORS, about_key) if about_key else named(CODES, code)
+    raise Stopped(f"the server answers with {error}")
 
 
 def take(server, file, count):
@@ -91,17 +305,28 @@ def take(server, file, count):
     return bytes(octets)
 
 
-def capture(server, file):
-    """Copies messages up to the one in which an SOA comes the second time."""
+def next_message(server, file):
+    """The next message of the stream, written to the file after its length."""
+    (length,) = struct.unpack("!H", take(server, file, 2))
+    return take(server, file, length)
+
+
+def capture(server, file, signatures):
+    """Copies messages up to the one in which an SOA comes the second time. With a key they are
+    held back until a signature covers them."""
     soas = taken = 0
+    kept = io.BytesIO() if signatures else file
     while soas < 2:
-        (length,) = struct.unpack("!H", take(server, file, 2))
-        message = take(server, file, length)
-        taken += 2 + length
+        message = next_message(server, kept)
+        taken += 2 + len(message)
         if taken > LIMIT:
             raise Stopped("the transfer is longer than zonenorm reads")
         try:
+            must_be_no_error(message)
             soas += soas_among_answers(message)
+            if signatures and signatures.check(message, soas >= 2):
+                file.write(kept.getvalue())
+                kept = io.BytesIO()
         except (IndexError, struct.error):
             raise Stopped("a message ends too early") from None
 
@@ -122,43 +347,105 @@ def seconds(text):
     return number
 
 
+def class_number(text):
+    """The number of a class, from its word or from one as CLASS3 (RFC 3597 section 5)."""
+    word = text.upper()
+    digits = re.fullmatch(r"CLASS([0-9]{1,5})", word)
+    number = int(digits[1]) if digits else CLASSES.get(word, 0)
+    if not 1 <= number <= 65535:
+        raise argparse.ArgumentTypeError(f"not a class: {text}")
+    return number
+
+
+def key_of(path):
+    """The key of a file. What is wrong with it is told without its words."""
+    try:
+        with open(path, encoding="ascii") as file:
+            return Key(file.read())
+    except UnicodeDecodeError:
+        raise OSError(f"{path} holds no key: it isn't ASCII") from None
+    except ValueError as error:
+        raise OSError(f"{path} holds no key: {error}") from None
+
+
 def opened(path):
     """The file to write, or standard output, which stays open."""
     return contextlib.nullcontext(sys.stdout.buffer) if path == "-" else open(path, "wb")
 
 
-def main():
+def over_tls(server, given):
+    """The connection over TLS, which says that it is for DNS (RFC 9103 section 7). Whether the
+    server says so too isn't asked: NSD 4.6 doesn't."""
+    context = ssl.SSLContext(ssl.PROTOCOL_TLS_CLIENT)
+    context.minimum_version = ssl.TLSVersion.TLSv1_3
+    context.set_alpn_protocols(["dot"])
+    if given.tls_ca:
+        context.load_verify_locations(given.tls_ca)
+    else:
+        context.check_hostname, context.verify_mode = False, ssl.CERT_NONE
+    return context.wrap_socket(server, server_hostname=given.tls_hostname or given.server)
+
+
+def asked(given, message, signatures):
+    """Sends the query to the server and copies its answer."""
+    with contextlib.ExitStack() as stack:
+        address = (given.server, given.port or (853 if given.tls else 53))
+        server = stack.enter_context(socket.create_connection(address, given.timeout))
+        if given.tls:
+            server = stack.enter_context(over_tls(server, given))
+        file = stack.enter_context(opened(given.file))
+        server.sendall(struct.pack("!H", len(message)) + message)
+        try:
+            capture(server, file, signatures)
+        finally:
+            file.flush()
+
+
+def command_line():
+    """What the command line can say."""
     words = argparse.ArgumentParser(
         description=__doc__, formatter_class=argparse.RawDescriptionHelpFormatter
     )
-    words.add_argument("--port", type=port, default=53, help="1 to 65535 (default: 53)")
+    words.add_argument("--port", type=port, help="1 to 65535 (default: 53, with --tls 853)")
     words.add_argument(
         "--timeout", type=seconds, default=30, metavar="SECONDS",
         help="how long to wait for an octet, over 0 and up to 86400 (default: 30)",
     )
+    words.add_argument(
+        "--class", dest="of", type=class_number, default="IN", metavar="CLASS",
+        help="IN, CS, CH, HS or CLASS with a number (default: IN)",
+    )
+    words.add_argument("--key", metavar="KEYFILE", help="the key that signs (TSIG)")
+    words.add_argument("--tls", action="store_true", help="ask over TLS")
+    words.add_argument("--tls-ca", metavar="FILE", help="certificates that are trusted, in PEM")
+    words.add_argument(
+        "--tls-hostname", metavar="NAME", help="whom the certificate is of (default: SERVER)"
+    )
     words.add_argument("server", metavar="SERVER")
     words.add_argument("zone", metavar="ZONE")
     words.add_argument("file", metavar="FILE")
+    return words
+
+
+def main():
+    words = command_line()
     given = words.parse_args()
+    given.tls = given.tls or bool(given.tls_ca or given.tls_hostname)
     try:
-        asked = query(given.zone)
+        message = query(given.zone, given.of)
     except ValueError as error:
         words.error(str(error))
-    address = (given.server, given.port)
     try:
-        with socket.create_connection(address, given.timeout) as server, opened(given.file) as file:
-            server.sendall(asked)
-            try:
-                capture(server, file)
-            finally:
-                file.flush()
+        signatures = Signatures(key_of(given.key)) if given.key else None
+        asked(given, signatures.signed(message) if signatures else message, signatures)
     except Stopped as reason:
         print(f"capture_transfer: {reason}", file=sys.stderr)
-        return 1
-    except OSError as error:
+        return reason.status
+    except (OSError, UnicodeError) as error:  # the latter where SERVER is no name
         print(f"capture_transfer: {error}", file=sys.stderr)
         return 4
     return 0
 
 
-sys.exit(main())
+if __name__ == "__main__":
+    sys.exit(main())
