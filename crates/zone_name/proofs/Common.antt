@@ -9,9 +9,10 @@ pub use Rattle.std.specs.List.{AllByRecursion, flat_map, refill}
 pub use Rattle.std.specs.Ordering.{is_eq, nat_cmp, ordering_then}
 pub use Rattle.std.specs.Prelude.{EachIndex, map, option_map, slice_index}
 pub use Rattle.zone_name.specs.Machine.LabelWalk.{Ahead, Collects, Step, ahead_in, at_dot, at_end, at_fault, at_octet, done, failed, goes, read, reading, sized, step_at, under_origin, unit_ahead}
-pub use Rattle.zone_name.specs.Machine.Seen.{Closes, EndsInFault, EndsLabelAt, Goes, HasShape, HoldsUnfolded, Joins, RefusesLabel, empty, long, unfolded_labels}
-pub use Rattle.zone_name.specs.Name.{BeginsWithName, HoldsLabels, HoldsName, IsFoldedOctet, IsLabel, IsName, IsWithin, folded_label, folded_octet, labels_by, labels_of, wire, with_length}
+pub use Rattle.zone_name.specs.Machine.Seen.{Closes, EndsInFault, EndsLabelAt, Goes, HasShape, HoldsCasedLabels, Joins, RefusesLabel, empty, long}
+pub use Rattle.zone_name.specs.Machine.Letters.{HoldsLabelsBy, HoldsNameBy, IsLabelBy, IsNameBy, SpellsBy, lettered, lettered_in, name_read, origin_in, taken_by}
+pub use Rattle.zone_name.specs.Name.{BeginsWithName, HoldsCasedName, HoldsLabels, HoldsName, IsCasedLabel, IsCasedName, IsFoldedOctet, IsLabel, IsName, IsWithin, folded, folded_label, folded_octet, labels_by, labels_of, wire, with_length}
 pub use Rattle.zone_name.specs.Order.{label_cmp, name_cmp}
-pub use Rattle.zone_name.specs.Spelling.{AreWrittenLabels, BeginsWithEscape, BeginsWithUnit, EndsLabel, FaultAt, IsBadEscape, IsEscape, IsRelative, IsUnit, IsWrittenLabel, Reaches, SpellingFault, Spells, Writes, Written, absolute, at_origin, bad_escape, decimal, dotted, empty_label, escaped, is_digit, is_dot, long_label, long_name, named, no_octet, octet_of, parted, plain, relative, root, text_of, unfounded, within, written_octets, written_text}
+pub use Rattle.zone_name.specs.Spelling.{AreWrittenLabels, BeginsWithEscape, BeginsWithUnit, EndsLabel, FaultAt, IsBadEscape, IsEscape, IsRelative, IsUnit, IsWrittenLabel, Reaches, SpellingFault, Spells, SpellsCased, Writes, WritesBy, WritesCased, Written, absolute, at_origin, bad_escape, decimal, dotted, empty_label, escaped, is_digit, is_dot, kept, long_label, long_name, named, no_octet, octet_of, parted, plain, relative, root, text_of, unfounded, within, written_octets, written_text}
 pub use Rattle.zone_name.specs.Text.{decimal_escape, is_printed, is_special, label_text, name_text, octet_text}
 pub use Rattle.zone_name.specs.declared.fault.NameFault.{NameFault}

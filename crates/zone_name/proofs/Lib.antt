@@ -12,5 +12,7 @@ pub mod Lawful
 pub mod Sinks
 pub mod Bare
 pub mod Plain
+pub mod Letters
+pub mod Folding
 pub mod Lengths
 pub mod Common

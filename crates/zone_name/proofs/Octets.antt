@@ -1,15 +1,27 @@
 -- The octets of names: what `labels_of` finds in what `wire` writes.
-use Rattle.zone_name.proofs.Common.{◌≡◌, ℕ, zero, suc, ◌+◌, ◌-◌, ◌<◌, ◌≤◌, List, [], ◌∷◌, ◌++◌, length, take, drop, refl, sym, ap, ◌∙◌, subst, arith, append_assoc, length-append, flat_map, AllByRecursion, take_at, drop_at, append-nil, take-append-drop, IsLabel, IsName, with_length, wire, labels_by, BeginsWithName, HoldsName}
+use Rattle.zone_name.proofs.Common.{◌≡◌, ℕ, zero, suc, ◌+◌, ◌-◌, ◌<◌, ◌≤◌, List, [], ◌∷◌, ◌++◌, length, take, drop, refl, sym, ap, ◌∙◌, subst, arith, append_assoc, length-append, flat_map, AllByRecursion, take_at, drop_at, append-nil, take-append-drop, IsCasedLabel, IsCasedName, IsLabel, IsName, with_length, wire, labels_by, BeginsWithName, HoldsCasedName, HoldsName}
 use Rattle.zone_name.specs.Name.{labels_of}
 
 -- one label cut off the beginning
 labels_by-cut : (k m : ℕ) (text label more : List ℕ) → text ≡ label ++ more → length label ≡ suc k → labels_by (suc m) (suc k ∷ text) ≡ label ∷ labels_by m more
 labels_by-cut k m text label more e count = rw (e, take_at label more (suc k) count, drop_at label more (suc k) count) refl
 
+-- labels that are not empty
+abbrev pub AreSome : List (List ℕ) → Type 0
+AreSome labels = AllByRecursion (λ label. 0 < length label) labels
+
+labels_some : (labels : List (List ℕ)) → AllByRecursion IsLabel labels → AreSome labels
+labels_some [] each = tt
+labels_some (label ∷ labels) each = (each.0.some, labels_some labels each.1)
+
+cased_some : (labels : List (List ℕ)) → AllByRecursion IsCasedLabel labels → AreSome labels
+cased_some [] each = tt
+cased_some (label ∷ labels) each = (each.0.some, cased_some labels each.1)
+
 -- the labels in frames, and then those in what follows
-pub labels_by-frames : (labels : List (List ℕ)) (rest : List ℕ) (m n : ℕ) → m ≡ length labels + n → AllByRecursion IsLabel labels → labels_by m (flat_map with_length labels ++ rest) ≡ labels ++ labels_by n rest
+pub labels_by-frames : (labels : List (List ℕ)) (rest : List ℕ) (m n : ℕ) → m ≡ length labels + n → AreSome labels → labels_by m (flat_map with_length labels ++ rest) ≡ labels ++ labels_by n rest
 labels_by-frames [] rest m n fuel each = let e : m ≡ n = omega arith in ap (λ t. labels_by t rest) e
-labels_by-frames ([] ∷ labels) rest m n fuel each = absurd (omega (arith, each.0.some))
+labels_by-frames ([] ∷ labels) rest m n fuel each = absurd (omega (arith, each.0))
 labels_by-frames ((c ∷ label) ∷ labels) rest zero n fuel each = absurd (omega arith)
 labels_by-frames ((c ∷ label) ∷ labels) rest (suc m) n fuel each =
     let more = flat_map with_length labels ++ rest in
@@ -22,7 +34,7 @@ length-frames [] = omega arith
 length-frames (label ∷ labels) = grind (arith, length-append, length-frames labels)
 
 -- the fuel of `labels_of` is enough for the labels in frames
-pub labels_of-frames : (labels : List (List ℕ)) (rest : List ℕ) → AllByRecursion IsLabel labels → (n : ℕ) × (labels_of (flat_map with_length labels ++ rest) ≡ labels ++ labels_by n rest)
+pub labels_of-frames : (labels : List (List ℕ)) (rest : List ℕ) → AreSome labels → (n : ℕ) × (labels_of (flat_map with_length labels ++ rest) ≡ labels ++ labels_by n rest)
 unfolding labels_of
 labels_of-frames labels rest each =
     let n = length (flat_map with_length labels ++ rest) - length labels in
@@ -35,18 +47,33 @@ labels_by-root n rest = grind arith
 
 -- `labels_of` gives back the labels that `wire` writes, whatever follows
 pub labels_of-wire_append : (labels : List (List ℕ)) (rest : List ℕ) → AllByRecursion IsLabel labels → labels_of (wire labels ++ rest) ≡ labels
-labels_of-wire_append labels rest each = grind (arith, labels_of-frames labels (0 ∷ rest) each, append_assoc (flat_map with_length labels) (0 ∷ []) rest, append-nil labels)
+labels_of-wire_append labels rest each = grind (arith, labels_of-frames labels (0 ∷ rest) (labels_some labels each), append_assoc (flat_map with_length labels) (0 ∷ []) rest, append-nil labels)
+
+wire_back : (labels : List (List ℕ)) → AreSome labels → labels_of (wire labels) ≡ labels
+wire_back labels each = grind (arith, labels_of-frames labels (0 ∷ []) each, append-nil labels)
 
 pub labels_of-wire : (labels : List (List ℕ)) → AllByRecursion IsLabel labels → labels_of (wire labels) ≡ labels
-labels_of-wire labels each = grind (arith, labels_of-frames labels (0 ∷ []) each, append-nil labels)
+labels_of-wire labels each = wire_back labels (labels_some labels each)
+
+pub labels_of-wire_cased : (labels : List (List ℕ)) → AllByRecursion IsCasedLabel labels → labels_of (wire labels) ≡ labels
+labels_of-wire_cased labels each = wire_back labels (cased_some labels each)
 
 -- frames with no root after them
+open_back : (labels : List (List ℕ)) → AreSome labels → labels_of (flat_map with_length labels) ≡ labels
+open_back labels each = grind (arith, labels_of-frames labels [] each, append-nil (flat_map with_length labels), append-nil labels)
+
 pub labels_of-open : (labels : List (List ℕ)) → AllByRecursion IsLabel labels → labels_of (flat_map with_length labels) ≡ labels
-labels_of-open labels each = grind (arith, labels_of-frames labels [] each, append-nil (flat_map with_length labels), append-nil labels)
+labels_of-open labels each = open_back labels (labels_some labels each)
+
+pub labels_of-open_cased : (labels : List (List ℕ)) → AllByRecursion IsCasedLabel labels → labels_of (flat_map with_length labels) ≡ labels
+labels_of-open_cased labels each = open_back labels (cased_some labels each)
 
 -- the octets of a name are a name
 pub HoldsName-wire : (labels : List (List ℕ)) → IsName labels → HoldsName (wire labels)
 HoldsName-wire labels name = grind (arith, labels_of-wire)
+
+pub HoldsCasedName-wire : (labels : List (List ℕ)) → IsCasedName labels → HoldsCasedName (wire labels)
+HoldsCasedName-wire labels name = grind (arith, labels_of-wire_cased)
 
 -- the octets of a name begin with it, whatever follows
 pub BeginsWithName-wire_append : (labels : List (List ℕ)) (rest : List ℕ) → IsName labels → BeginsWithName (wire labels ++ rest)
@@ -78,6 +105,9 @@ root_label n more e = rw e (labels_by-root (length (0 ∷ more)) more)
 -- the root's octets, as they are pushed
 pub HoldsName-root : (octets : List ℕ) → octets ≡ [] ++ 0 ∷ [] → HoldsName octets
 HoldsName-root octets e = rw e (HoldsName-wire [] (record { each = tt; short = omega arith }))
+
+pub HoldsCasedName-root : (octets : List ℕ) → octets ≡ [] ++ 0 ∷ [] → HoldsCasedName octets
+HoldsCasedName-root octets e = rw e (HoldsCasedName-wire [] (record { each = tt; short = omega arith }))
 
 pub labels_of-root : (octets : List ℕ) → octets ≡ [] ++ 0 ∷ [] → labels_of octets ≡ []
 labels_of-root octets e = ap labels_of e ∙ labels_of-wire [] tt

@@ -1,5 +1,5 @@
 -- What a text spells, and its own first fault, is what the walk over it finds.
-use Rattle.zone_name.proofs.Common.{◌≡◌, ℕ, zero, suc, ◌+◌, ◌<◌, ◌≤◌, true, false, List, [], ◌∷◌, ◌++◌, length, Ok, Err, inl, inr, refl, sym, ap, ◌∙◌, arith, append_assoc, length-append, AllByRecursion, append-nil, length-map, le-leb, folded_label, Written, text_of, octet_of, IsUnit, is_dot, IsWrittenLabel, AreWrittenLabels, written_text, written_octets, dotted, parted, named, EndsLabel, Reaches, FaultAt, empty_label, long_label, bad_escape, NameFault, Ahead, at_dot, at_octet, at_fault, ahead_in, failed, step_at, read}
+use Rattle.zone_name.proofs.Common.{◌≡◌, ℕ, zero, suc, ◌+◌, ◌<◌, ◌≤◌, true, false, List, [], ◌∷◌, ◌++◌, length, Ok, Err, inl, inr, refl, sym, ap, ◌∙◌, arith, append_assoc, length-append, AllByRecursion, append-nil, length-map, le-leb, Written, text_of, octet_of, IsUnit, is_dot, IsWrittenLabel, AreWrittenLabels, written_text, written_octets, dotted, parted, kept, EndsLabel, Reaches, FaultAt, empty_label, long_label, bad_escape, NameFault, Ahead, at_dot, at_octet, at_fault, ahead_in, failed, step_at, read}
 use Rattle.zone_name.specs.declared.fault.NameFault.TheVariants.{EmptyLabel, LabelTooLong, BadEscape}
 use Rattle.zone_name.specs.Machine.LabelWalk.{reading}
 use Rattle.zone_name.proofs.Ahead.{ahead-unit, ahead-bad}
@@ -24,13 +24,13 @@ label_reads (w ∷ label) tail open_label labels (suc n) each room enough =
     (next.0, next.1, cc (octet_reads w rest open_label labels n each.0 (omega arith), append_assoc open_label (octet_of w ∷ []) (written_octets label)))
 
 -- a written label and the dot after it
-dot_reads : (label : List Written) (rest : List ℕ) (labels : List (List ℕ)) (n : ℕ) → IsWrittenLabel label → length label ≤ 63 → length (written_text label ++ (46 ∷ rest)) < n → (m : ℕ) × (length rest < m) × (read n labels [] (written_text label ++ (46 ∷ rest)) ≡ read m (labels ++ folded_label (written_octets label) ∷ []) [] rest)
+dot_reads : (label : List Written) (rest : List ℕ) (labels : List (List ℕ)) (n : ℕ) → IsWrittenLabel label → length label ≤ 63 → length (written_text label ++ (46 ∷ rest)) < n → (m : ℕ) × (length rest < m) × (read n labels [] (written_text label ++ (46 ∷ rest)) ≡ read m (labels ++ written_octets label ∷ []) [] rest)
 dot_reads [] rest labels n is short enough = absurd (omega (arith, is.some))
 dot_reads (w ∷ label) rest labels n is short enough =
     let found = label_reads (w ∷ label) (46 ∷ rest) [] labels n is.each (omega arith) enough in
     closes found.0 found.1 found.2
   where
-    closes : (m : ℕ) → length (46 ∷ rest) < m → read n labels [] (written_text (w ∷ label) ++ (46 ∷ rest)) ≡ read m labels (written_octets (w ∷ label)) (46 ∷ rest) → (k : ℕ) × (length rest < k) × (read n labels [] (written_text (w ∷ label) ++ (46 ∷ rest)) ≡ read k (labels ++ folded_label (written_octets (w ∷ label)) ∷ []) [] rest)
+    closes : (m : ℕ) → length (46 ∷ rest) < m → read n labels [] (written_text (w ∷ label) ++ (46 ∷ rest)) ≡ read m labels (written_octets (w ∷ label)) (46 ∷ rest) → (k : ℕ) × (length rest < k) × (read n labels [] (written_text (w ∷ label) ++ (46 ∷ rest)) ≡ read k (labels ++ written_octets (w ∷ label) ∷ []) [] rest)
     closes zero left e = absurd (omega arith)
     closes (suc k) left e = (k, omega arith, e ∙ read_step k labels (written_octets (w ∷ label)) (46 ∷ rest) (at_dot rest) refl)
 
@@ -38,44 +38,44 @@ regroup : (a rest : List ℕ) → (a ++ 46 ∷ []) ++ rest ≡ a ++ (46 ∷ rest
 regroup a rest = append_assoc a (46 ∷ []) rest
 
 -- labels with dots after them are read
-dots_read : (written : List (List Written)) (rest : List ℕ) (labels : List (List ℕ)) (n : ℕ) → AllByRecursion IsWrittenLabel written → AreShort written → length (dotted written ++ rest) < n → (m : ℕ) × (length rest < m) × (read n labels [] (dotted written ++ rest) ≡ read m (labels ++ named written) [] rest)
+dots_read : (written : List (List Written)) (rest : List ℕ) (labels : List (List ℕ)) (n : ℕ) → AllByRecursion IsWrittenLabel written → AreShort written → length (dotted written ++ rest) < n → (m : ℕ) × (length rest < m) × (read n labels [] (dotted written ++ rest) ≡ read m (labels ++ kept written) [] rest)
 dots_read [] rest labels n each short enough = (n, enough, ap (λ t. read n t [] rest) (sym (append-nil labels)))
 dots_read (label ∷ written) rest labels n each short enough =
     let tail = dotted written ++ rest in
     let shape = append_assoc (written_text label ++ 46 ∷ []) (dotted written) rest ∙ regroup (written_text label) tail in
     let found = dot_reads label tail labels n each.0 short.0 (rw shape at enough) in
-    let next = dots_read written rest (labels ++ folded_label (written_octets label) ∷ []) found.0 each.1 short.1 found.1 in
-    (next.0, next.1, cc (append_assoc labels (folded_label (written_octets label) ∷ []) (named written)))
+    let next = dots_read written rest (labels ++ written_octets label ∷ []) found.0 each.1 short.1 found.1 in
+    (next.0, next.1, cc (append_assoc labels (written_octets label ∷ []) (kept written)))
 
 -- labels with dots after them and no more
-dotted_reads : (written : List (List Written)) (labels : List (List ℕ)) (n : ℕ) → AllByRecursion IsWrittenLabel written → AreShort written → length (dotted written) < n → read n labels [] (dotted written) ≡ Ok (labels ++ named written, true)
+dotted_reads : (written : List (List Written)) (labels : List (List ℕ)) (n : ℕ) → AllByRecursion IsWrittenLabel written → AreShort written → length (dotted written) < n → read n labels [] (dotted written) ≡ Ok (labels ++ kept written, true)
 dotted_reads written labels n each short enough =
     let none = append-nil (dotted written) in
     let found = dots_read written [] labels n each short (rw none enough) in
     cc (ends found.0 found.1)
   where
-    ends : (m : ℕ) → length {A = ℕ} [] < m → read m (labels ++ named written) [] [] ≡ Ok (labels ++ named written, true)
+    ends : (m : ℕ) → length {A = ℕ} [] < m → read m (labels ++ kept written) [] [] ≡ Ok (labels ++ kept written, true)
     ends zero left = absurd (omega arith)
     ends (suc k) left = refl
 
 -- the last label of a relative text
-last_reads : (label : List Written) (labels : List (List ℕ)) (n : ℕ) → IsWrittenLabel label → length label ≤ 63 → length (written_text label) < n → read n labels [] (written_text label) ≡ Ok (labels ++ folded_label (written_octets label) ∷ [], false)
+last_reads : (label : List Written) (labels : List (List ℕ)) (n : ℕ) → IsWrittenLabel label → length label ≤ 63 → length (written_text label) < n → read n labels [] (written_text label) ≡ Ok (labels ++ written_octets label ∷ [], false)
 last_reads [] labels n is short enough = absurd (omega (arith, is.some))
 last_reads (w ∷ label) labels n is short enough =
     let none = append-nil (written_text (w ∷ label)) in
     let found = label_reads (w ∷ label) [] [] labels n is.each (omega arith) (rw none enough) in
     cc (ends found.0 found.1 found.2)
   where
-    ends : (m : ℕ) → length {A = ℕ} [] < m → read n labels [] (written_text (w ∷ label) ++ []) ≡ read m labels (written_octets (w ∷ label)) [] → read n labels [] (written_text (w ∷ label) ++ []) ≡ Ok (labels ++ folded_label (written_octets (w ∷ label)) ∷ [], false)
+    ends : (m : ℕ) → length {A = ℕ} [] < m → read n labels [] (written_text (w ∷ label) ++ []) ≡ read m labels (written_octets (w ∷ label)) [] → read n labels [] (written_text (w ∷ label) ++ []) ≡ Ok (labels ++ written_octets (w ∷ label) ∷ [], false)
     ends zero left e = absurd (omega arith)
     ends (suc k) left e = e
 
 -- labels parted by dots are read
-parted_reads : (written : List (List Written)) (label : List Written) (labels : List (List ℕ)) (n : ℕ) → AllByRecursion IsWrittenLabel (label ∷ written) → AreShort (label ∷ written) → length (parted (label ∷ written)) < n → read n labels [] (parted (label ∷ written)) ≡ Ok (labels ++ named (label ∷ written), false)
+parted_reads : (written : List (List Written)) (label : List Written) (labels : List (List ℕ)) (n : ℕ) → AllByRecursion IsWrittenLabel (label ∷ written) → AreShort (label ∷ written) → length (parted (label ∷ written)) < n → read n labels [] (parted (label ∷ written)) ≡ Ok (labels ++ kept (label ∷ written), false)
 parted_reads [] label labels n each short enough = last_reads label labels n each.0 short.0 enough
 parted_reads (next ∷ written) label labels n each short enough =
     let found = dot_reads label (parted (next ∷ written)) labels n each.0 short.0 enough in
-    cc (parted_reads written next (labels ++ folded_label (written_octets label) ∷ []) found.0 each.1 short.1 found.1, append_assoc labels (folded_label (written_octets label) ∷ []) (named (next ∷ written)))
+    cc (parted_reads written next (labels ++ written_octets label ∷ []) found.0 each.1 short.1 found.1, append_assoc labels (written_octets label ∷ []) (kept (next ∷ written)))
 
 octets_some : (label : List Written) → IsWrittenLabel label → 0 < length (written_text label)
 octets_some [] is = absurd (omega (arith, is.some))
@@ -86,7 +86,7 @@ unfolding reading
 reading_is text some = grind arith
 
 -- an absolute text
-pub reading-dotted : (written : List (List Written)) → AreWrittenLabels written → AreShort written → reading (dotted written) ≡ Ok (named written, true)
+pub reading-dotted : (written : List (List Written)) → AreWrittenLabels written → AreShort written → reading (dotted written) ≡ Ok (kept written, true)
 reading-dotted [] are short = absurd (omega (arith, are.some))
 reading-dotted (label ∷ written) are short = cc (reading_is (dotted (label ∷ written)) (omega (arith, length-append (written_text label ++ 46 ∷ []) (dotted written), length-append (written_text label) (46 ∷ []))), dotted_reads (label ∷ written) [] (suc (length (dotted (label ∷ written)))) are.each short (omega arith))
 
@@ -94,23 +94,23 @@ parted_some : (written : List (List Written)) (label : List Written) → IsWritt
 parted_some written label is = grind (arith, octets_some, length-append)
 
 -- a relative text
-pub reading-parted : (written : List (List Written)) → AreWrittenLabels written → AreShort written → reading (parted written) ≡ Ok (named written, false)
+pub reading-parted : (written : List (List Written)) → AreWrittenLabels written → AreShort written → reading (parted written) ≡ Ok (kept written, false)
 reading-parted [] are short = absurd (omega (arith, are.some))
 reading-parted (label ∷ written) are short = cc (reading_is (parted (label ∷ written)) (parted_some written label are.each.0), parted_reads written label [] (suc (length (parted (label ∷ written)))) are.each short (omega arith))
 
 -- ---- the faults
 -- a walk that has come to a place leads from there to what the whole text leads to
-reached : (text : List ℕ) (before : List (List Written)) (open_label : List Written) (rest : List ℕ) → 0 < length rest → Reaches text before open_label rest → (n : ℕ) × (length rest < n) × (reading text ≡ read n (named before) (written_octets open_label) rest)
+reached : (text : List ℕ) (before : List (List Written)) (open_label : List Written) (rest : List ℕ) → 0 < length rest → Reaches text before open_label rest → (n : ℕ) × (length rest < n) × (reading text ≡ read n (kept before) (written_octets open_label) rest)
 reached text before open_label rest some r =
     let tail = written_text open_label ++ rest in
     let shape : text ≡ dotted before ++ tail = r.parts ∙ append_assoc (dotted before) (written_text open_label) rest in
     let enough : length (dotted before ++ tail) < suc (length text) = omega (arith, ap length shape) in
     let closed = dots_read before tail [] (suc (length text)) r.labels r.short enough in
-    let opened = label_reads open_label rest [] (named before) closed.0 r.octets (omega (arith, r.room)) closed.1 in
+    let opened = label_reads open_label rest [] (kept before) closed.0 r.octets (omega (arith, r.room)) closed.1 in
     grind (arith, append_assoc, length-append, dots_read, label_reads, reading_is)
 
 -- a step that fails where a walk has come to is what is read
-reads_fault : (text : List ℕ) (before : List (List Written)) (open_label : List Written) (rest : List ℕ) (ahead : Ahead) (fault : NameFault) → 0 < length rest → Reaches text before open_label rest → ahead_in rest ≡ ahead → step_at (named before) (written_octets open_label) ahead ≡ failed fault → reading text ≡ Err fault
+reads_fault : (text : List ℕ) (before : List (List Written)) (open_label : List Written) (rest : List ℕ) (ahead : Ahead) (fault : NameFault) → 0 < length rest → Reaches text before open_label rest → ahead_in rest ≡ ahead → step_at (kept before) (written_octets open_label) ahead ≡ failed fault → reading text ≡ Err fault
 reads_fault text before open_label rest ahead fault some r at fails = grind (arith, reached text before open_label rest some r)
 
 full_step : (labels : List (List ℕ)) (open_label : List ℕ) (c : ℕ) (rest : List ℕ) → 63 ≤ length open_label → step_at labels open_label (at_octet c rest) ≡ failed LabelTooLong
@@ -123,5 +123,5 @@ empty_reads text before rest r (inr dot) first = cc (reads_fault text before [] 
 -- the leftmost fault of a text is what is read
 pub reading-fault : (text : List ℕ) (fault : NameFault) → FaultAt text fault → reading text ≡ Err fault
 reading-fault text fault (empty_label before rest r ends first other) = grind (arith, empty_reads)
-reading-fault text fault (long_label before open_label w rest r full is) = cc (reads_fault text before open_label (text_of w ++ rest) (at_octet (octet_of w) rest) LabelTooLong (omega (arith, length-append (text_of w) rest, text_of-some w)) r (ahead-unit w rest is) (full_step (named before) (written_octets open_label) (octet_of w) rest (omega (arith, length-map open_label octet_of))))
-reading-fault text fault (bad_escape before open_label rest r bad) = cc (reads_fault text before open_label rest at_fault BadEscape (omega (arith, ap length bad.1)) r (ahead-bad rest bad) (bad_step (named before) (written_octets open_label)))
+reading-fault text fault (long_label before open_label w rest r full is) = cc (reads_fault text before open_label (text_of w ++ rest) (at_octet (octet_of w) rest) LabelTooLong (omega (arith, length-append (text_of w) rest, text_of-some w)) r (ahead-unit w rest is) (full_step (kept before) (written_octets open_label) (octet_of w) rest (omega (arith, length-map open_label octet_of))))
+reading-fault text fault (bad_escape before open_label rest r bad) = cc (reads_fault text before open_label rest at_fault BadEscape (omega (arith, ap length bad.1)) r (ahead-bad rest bad) (bad_step (kept before) (written_octets open_label)))

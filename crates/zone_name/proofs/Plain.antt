@@ -1,9 +1,9 @@
 -- A text without escapes, whose labels' lengths are written over the dots before them.
-use Rattle.zone_name.proofs.Common.{◌≡◌, ℕ, zero, suc, ◌+◌, ◌-◌, ◌<◌, ◌≤◌, Bool, true, false, List, [], ◌∷◌, ◌++◌, length, take, drop, get_or, set, Ok, nat_eq, refl, sym, ap, ap₂, ◌∙◌, arith, append_assoc, length-append, map, flat_map, AllByRecursion, pointwise, bytes_decides, append-nil, length-map, length-set, length-take-le, length-drop, map-append, map_push, take-append-drop, drop_at, drop_more, set_at, flat_map-append, IsName, folded_octet, with_length, Written, plain, IsUnit, is_dot, IsWrittenLabel, written_text, written_octets, dotted, parted, named, reading, HoldsUnfolded, unfolded_labels}
+use Rattle.zone_name.proofs.Common.{◌≡◌, ℕ, zero, suc, ◌+◌, ◌-◌, ◌<◌, ◌≤◌, Bool, true, false, List, [], ◌∷◌, ◌++◌, length, take, drop, get_or, set, Ok, nat_eq, refl, sym, ap, ap₂, ◌∙◌, arith, append_assoc, length-append, map, flat_map, AllByRecursion, pointwise, bytes_decides, append-nil, length-map, length-set, length-take-le, length-drop, map_push, take-append-drop, drop_at, drop_more, set_at, flat_map-append, IsCasedName, labels_of, with_length, Written, plain, IsUnit, is_dot, IsWrittenLabel, written_text, written_octets, dotted, parted, kept, reading, HoldsCasedLabels}
 use Rattle.zone_name.specs.Common.{AreOctets}
 use Rattle.zone_name.specs.Machine.Plain.{after_dots, WritesLengths}
-use Rattle.zone_name.proofs.Octets.{labels_of-open}
-use Rattle.zone_name.proofs.Pushing.{AllByRecursion-append, HoldsLabels-frames, folded_length, frames_push}
+use Rattle.zone_name.proofs.Octets.{labels_of-open_cased}
+use Rattle.zone_name.proofs.Pushing.{AllByRecursion-append, HoldsCasedLabels-frames, frames_push}
 use Rattle.zone_name.proofs.Spelled.{AreShort, Says}
 use Rattle.zone_name.proofs.Answered.{reading-says_ok, labels-says_ok}
 use Rattle.zone_name.proofs.Bare.{plain_text}
@@ -86,7 +86,7 @@ cut_suffix text front dot e = cc (take-append-drop (length text - 1) text, ap₂
 
 says_by : (text front : List ℕ) (is_absolute : Bool) (written : List (List Written))
     → IsCut text front is_absolute → AllByRecursion IsWrittenLabel written → AreShort written
-    → 46 ∷ front ≡ after_dots written → Says text (Ok (named written, is_absolute))
+    → 46 ∷ front ≡ after_dots written → Says text (Ok (kept written, is_absolute))
 says_by text front is_absolute [] cut each short dots = absurd (cc)
 says_by text front true (label ∷ labels) cut each short dots =
     let same : front ≡ parted (label ∷ labels) = cc (dots-parted label labels) in
@@ -107,31 +107,23 @@ says_by text front false (label ∷ labels) cut each short dots =
       labels_are = refl;
     }
 
--- the lengths stay when the letters are folded
-folded_frames : (written : List (List Written)) → AreShort written
-    → map folded_octet (flat_map with_length (map written_octets written)) ≡ flat_map with_length (named written)
-folded_frames [] short = refl
-folded_frames (label ∷ written) short = grind (arith, map-append, folded_length, length-map, folded_frames written short.1)
-
 -- what was read into octets, and what the text reads as
 pub record PlainRead (text new : List ℕ) (is_absolute : Bool) : Type 0 where
   pub labels : List (List ℕ)
-  pub holds : HoldsUnfolded new
+  pub holds : HoldsCasedLabels new
   pub reads : reading text ≡ Ok (labels, is_absolute)
-  pub are : unfolded_labels new ≡ labels
+  pub are : labels_of new ≡ labels
 
 pub plain_read : (text front old new : List ℕ) (is_absolute : Bool) → IsCut text front is_absolute
     → AreOctets text → old ≡ 46 ∷ front → WritesLengths old new [] → length old + 1 ≤ 255
     → length new ≡ length old → PlainRead text new is_absolute
 plain_read text front old new is_absolute cut octets start w room same =
-    let labels = named w.written in
+    let labels = kept w.written in
     let says = says_by text front is_absolute w.written cut w.each w.short
     (cc (append-nil (after_dots w.written))) in
-    let frames : map folded_octet new ≡ flat_map with_length labels =
-    ap (map folded_octet) (w.lengths ∙ append-nil (flat_map with_length (map written_octets w.written)))
-    ∙ folded_frames w.written w.short in
-    let name : IsName labels = record {
+    let frames : new ≡ flat_map with_length labels = w.lengths ∙ append-nil (flat_map with_length labels) in
+    let name : IsCasedName labels = record {
       each = labels-says_ok text labels is_absolute octets says;
-      short = omega (arith, room, same, ap length frames, length-map new folded_octet, length-append (flat_map with_length labels) (0 ∷ []));
+      short = omega (arith, room, same, ap length frames, length-append (flat_map with_length labels) (0 ∷ []));
     } in
-    grind (arith, HoldsLabels-frames, reading-says_ok, labels_of-open)
+    grind (arith, HoldsCasedLabels-frames, reading-says_ok, labels_of-open_cased)

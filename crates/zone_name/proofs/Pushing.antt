@@ -1,11 +1,10 @@
 -- A label that is added after others.
 use Rattle.std.proofs.lemmas.Grind.{common_steps}
-use Rattle.zone_name.proofs.Common.{◌≡◌, ℕ, suc, ◌+◌, ◌<◌, ◌≤◌, true, false, Option, Result, IfOk, IfErr, Ok, Err, refl, List, [], ◌∷◌, ◌++◌, length, take, drop, get_or, sym, ap, ◌∙◌, arith, append_assoc, length-append, map, flat_map, AllByRecursion, refill, length-map, append-nil, take_all, take_at, map-append, flat_map-append, le-leb, lt-leb, false≢true, nat_tests, IsLabel, IsName, IsFoldedOctet, folded_octet, folded_label, with_length, wire, labels_of, HoldsName, HoldsLabels, Collects, under_origin, sized, HoldsUnfolded, unfolded_labels, NameFault, rules}
+use Rattle.zone_name.proofs.Common.{◌≡◌, ℕ, suc, ◌+◌, ◌<◌, ◌≤◌, Result, Ok, Err, refl, List, [], ◌∷◌, ◌++◌, length, take, drop, get_or, ap, ◌∙◌, arith, append_assoc, length-append, map, flat_map, AllByRecursion, refill, length-map, append-nil, take_all, take_at, map-append, flat_map-append, le-leb, lt-leb, false≢true, nat_tests, IsLabel, IsName, IsFoldedOctet, folded_octet, folded_label, with_length, wire, labels_of, HoldsName, HoldsLabels, HoldsCasedLabels, IsCasedLabel, IsCasedName, folded, sized}
 use Rattle.std.specs.Result.{IsOk, OnOk}
 use Rattle.std.specs.Char.{to_ascii_lowercase}
-use Rattle.zone_name.specs.declared.reading.Spelled.{Spelled}
 use Rattle.zone_name.specs.declared.fault.NameFault.TheVariants.{NameTooLong}
-use Rattle.zone_name.proofs.Octets.{labels_of-open, labels_of-root, labels_of-wire, HoldsName-wire}
+use Rattle.zone_name.proofs.Octets.{labels_of-open, labels_of-open_cased, labels_of-wire, HoldsName-wire}
 
 -- each of the octets, by its place
 pub AllByRecursion-from_places : (P : ℕ → Type 0) (octets : List ℕ) → ((k : ℕ) → k < length octets → P (get_or octets k 0)) → AllByRecursion P octets
@@ -86,30 +85,44 @@ pushed_octets octets label pushed new n first after all = grind (arith, take_all
 pub folded_length : (n : ℕ) → n ≤ 63 → folded_octet n ≡ n
 folded_length n short = grind (arith, nat_tests)
 
--- a length and the octets after it, folded together
-pub folded_frame : (octets label pushed new : List ℕ) → length label ≤ 63 → pushed ≡ octets ++ length label ∷ [] → new ≡ pushed ++ label → map folded_octet new ≡ map folded_octet octets ++ with_length (folded_label label)
-folded_frame octets label pushed new short first after = grind (arith, append_assoc, map-append, folded_length, length-map)
+-- labels with one more after them, where there is room
+IsCasedName-push : (labels : List (List ℕ)) (label : List ℕ) → IsCasedName labels → IsCasedLabel label → length (flat_map with_length labels) + length label + 2 ≤ 255 → IsCasedName (labels ++ label ∷ [])
+IsCasedName-push labels label name is room = grind (arith, common_steps)
 
-pub push_unfolded : (octets label pushed new : List ℕ) → HoldsUnfolded octets → AllByRecursion (λ x. x < 256) label → 0 < length label → length label ≤ 63 → length octets + length label + 2 ≤ 255 → pushed ≡ octets ++ length label ∷ [] → new ≡ pushed ++ label → Pushed (map folded_octet octets) (folded_label label) (map folded_octet new)
-push_unfolded octets label pushed new holds each some short room first after = search (rules, length-map, push_frame, IsLabel-folded, folded_frame)
+-- frames hold the labels
+pub HoldsCasedLabels-frames : (labels : List (List ℕ)) → IsCasedName labels → HoldsCasedLabels (flat_map with_length labels)
+HoldsCasedLabels-frames labels name = grind (arith, labels_of-open_cased)
 
-pub HoldsUnfolded-nil : (octets : List ℕ) → octets ≡ [] → HoldsUnfolded octets
-HoldsUnfolded-nil octets e = HoldsLabels-nil (map folded_octet octets) (ap (map folded_octet) e)
+pub record PushedCased (octets label new : List ℕ) : Type 0 where
+  pub holds : HoldsCasedLabels new
+  pub gives : labels_of new ≡ labels_of octets ++ label ∷ []
 
-pub unfolded_labels-none : (octets : List ℕ) → octets ≡ [] → unfolded_labels octets ≡ []
-unfolded_labels-none octets e = labels_of-none (map folded_octet octets) (ap (map folded_octet) e)
+-- a length and the octets after it, after those that are held
+pub push_cased : (octets label pushed new : List ℕ) → HoldsCasedLabels octets → IsCasedLabel label → length octets + length label + 2 ≤ 255 → pushed ≡ octets ++ length label ∷ [] → new ≡ pushed ++ label → PushedCased octets label new
+push_cased octets label pushed new holds is room first after =
+    let name = IsCasedName-push (labels_of octets) label holds.name is (rw holds.whole room) in
+    let shape : new ≡ octets ++ with_length label = cc (append_assoc octets (length label ∷ []) label) in
+    grind (arith, frames_push, labels_of-open_cased)
 
--- the labels of two names, one after the other
-pub record Joined (left right : List (List ℕ)) (new : List ℕ) : Type 0 where
-  pub holds : HoldsName new
-  pub gives : labels_of new ≡ left ++ right
+-- no labels
+pub HoldsCasedLabels-nil : (octets : List ℕ) → octets ≡ [] → HoldsCasedLabels octets
+HoldsCasedLabels-nil octets e = grind (arith, labels_of-open_cased [] tt)
 
-pub joined : (octets others new : List ℕ) (left right : List (List ℕ)) → HoldsLabels octets → labels_of octets ≡ left → IsName right → others ≡ wire right → new ≡ octets ++ others → length octets + length others ≤ 255 → Joined left right new
-joined octets others new left right holds is name text e room =
-    let shape : wire (left ++ right) ≡ new =
-    ap (λ t. t ++ 0 ∷ []) (flat_map-append with_length left right) ∙ append_assoc (flat_map with_length left) (flat_map with_length right) (0 ∷ [])
-    ∙ ap (λ t. flat_map with_length t ++ wire right) (sym is) ∙ ap (λ t. t ++ wire right) holds.whole ∙ ap (λ t. octets ++ t) (sym text) ∙ sym e in
-    grind (arith, flat_map-append, append_assoc, AllByRecursion-append, length-append, HoldsName-wire, labels_of-wire)
+-- the lengths stay when the letters are folded
+pub folded_frames : (labels : List (List ℕ)) → AllByRecursion IsCasedLabel labels → map folded_octet (flat_map with_length labels) ≡ flat_map with_length (folded labels)
+folded_frames [] each = refl
+folded_frames (label ∷ labels) each = grind (arith, map-append, folded_length, length-map, folded_frames labels each.1)
+
+pub folded_labels : (labels : List (List ℕ)) → AllByRecursion IsCasedLabel labels → AllByRecursion IsLabel (folded labels)
+folded_labels [] each = tt
+folded_labels (label ∷ labels) each = (IsLabel-folded label each.0.some each.0.short each.0.each, folded_labels labels each.1)
+
+folded_open : (labels : List (List ℕ)) → length (flat_map with_length (folded labels)) ≡ length (flat_map with_length labels)
+folded_open [] = refl
+folded_open (label ∷ labels) = grind (arith, length-append, length-map, folded_open labels)
+
+pub folded_size : (labels : List (List ℕ)) → length (wire (folded labels)) ≡ length (wire labels)
+folded_size labels = omega (arith, folded_open labels, length-append (flat_map with_length (folded labels)) (0 ∷ []), length-append (flat_map with_length labels) (0 ∷ []))
 
 -- a name's labels have its size
 pub sized-name : (labels : List (List ℕ)) → length (wire labels) ≤ 255 → sized labels ≡ Ok labels
@@ -118,9 +131,6 @@ sized-name labels short = grind (arith, le-leb)
 -- labels over that size are refused
 pub sized-long : (labels : List (List ℕ)) → 255 < length (wire labels) → sized labels ≡ Err NameTooLong
 sized-long labels long = grind (arith, lt-leb)
-
-pub sized-joined : (left right : List (List ℕ)) (new : List ℕ) (name : List (List ℕ)) → Joined left right new → name ≡ labels_of new → sized (left ++ right) ≡ Ok name
-sized-joined left right new name both is = grind (arith, sized-name)
 
 -- what puts letters in lower case folds them
 lowered : (octets : List ℕ) → map to_ascii_lowercase octets ≡ map folded_octet octets
@@ -133,23 +143,6 @@ refilled octets new same = take_at new (drop (length new) octets) (length octets
 pub folded_again : (octets lower : List ℕ) → lower ≡ map to_ascii_lowercase octets → refill (length octets) octets lower ≡ map folded_octet octets
 folded_again octets lower e = grind (arith, refilled, length-map, lowered)
 
--- the octets of a name after labels that are now folded
-pub ended_with : (octets lower ending new : List ℕ) → HoldsUnfolded octets → HoldsName ending → lower ≡ map folded_octet octets → new ≡ lower ++ ending → length lower + length ending ≤ 255 → HoldsName new × (sized (unfolded_labels octets ++ labels_of ending) ≡ Ok (labels_of new))
-ended_with octets lower ending new holds name is e room =
-    let space : length (map folded_octet octets) + length ending ≤ 255 = omega (arith, room, ap length is) in
-    let both = joined (map folded_octet octets) ending new (unfolded_labels octets) (labels_of ending) holds refl name.name (sym name.whole) (cc) space in
-    (both.holds, sized-joined (unfolded_labels octets) (labels_of ending) new (labels_of new) both refl)
-
 -- an answer that is a value keeps what is promised of one
 pub taken : {T E P : Type 0} (result : Result T E) → IsOk result → OnOk result P → P
 taken result is holds = grind (arith, false≢true)
-
--- nothing follows the labels of an absolute text
-under_root : (origin : Option (List (List ℕ))) (spelled : Spelled) (held labels : List (List ℕ)) (result : Result (List (List ℕ)) NameFault) → spelled.is_absolute ≡ true → spelled.is_too_long ≡ false → sized (held ++ labels_of (0 ∷ [])) ≡ result → Collects held spelled.is_too_long labels → under_origin origin (Ok (labels, spelled.is_absolute)) ≡ result
-under_root origin spelled held labels result absolute short e collects = grind (arith, append-nil, labels_of-root)
-
-pub finished : (origin : Option (List (List ℕ))) (spelled : Spelled) (held : List (List ℕ)) (new : List ℕ) (result : Result (Unit {0}) NameFault) → spelled.is_absolute ≡ true → spelled.is_too_long ≡ false → IfOk result (λ _. HoldsName new × (sized (held ++ labels_of (0 ∷ [])) ≡ Ok (labels_of new))) → IfOk result (λ _. HoldsName new × ((labels : List (List ℕ)) → Collects held spelled.is_too_long labels → under_origin origin (Ok (labels, spelled.is_absolute)) ≡ Ok (labels_of new)))
-finished origin spelled held new result absolute short is = grind (arith, under_root)
-
-pub unfinished : (origin : Option (List (List ℕ))) (spelled : Spelled) (held : List (List ℕ)) (result : Result (Unit {0}) NameFault) → spelled.is_absolute ≡ true → spelled.is_too_long ≡ false → IfErr result (λ fault. sized (held ++ labels_of (0 ∷ [])) ≡ Err fault) → IfErr result (λ fault. (labels : List (List ℕ)) → Collects held spelled.is_too_long labels → under_origin origin (Ok (labels, spelled.is_absolute)) ≡ Err fault)
-unfinished origin spelled held result absolute short is = grind (arith, under_root)

@@ -1,6 +1,6 @@
 -- What the walk over a text finds is what the text spells: from the left, as far as it has come.
 use Rattle.std.proofs.lemmas.Grind.{common_steps}
-use Rattle.zone_name.proofs.Common.{◌≡◌, ◌≢◌, ℕ, zero, suc, ◌<◌, ◌≤◌, Bool, true, false, nat_le, if◌then◌else◌, List, [], ◌∷◌, ◌++◌, length, codes, Result, Ok, Err, refl, sym, ◌∙◌, subst, inl, inr, arith, append_assoc, length-append, AllByRecursion, append-nil, map_push, length-map, nat_tests, folded_label, Written, text_of, octet_of, IsUnit, is_dot, IsWrittenLabel, AreWrittenLabels, written_text, written_octets, dotted, parted, named, Reaches, FaultAt, empty_label, long_label, bad_escape, NameFault, Ahead, at_end, at_dot, at_octet, at_fault, failed, goes, step_at, read}
+use Rattle.zone_name.proofs.Common.{◌≡◌, ◌≢◌, ℕ, zero, suc, ◌<◌, ◌≤◌, Bool, true, false, nat_le, if◌then◌else◌, List, [], ◌∷◌, ◌++◌, length, codes, Result, Ok, Err, refl, sym, ◌∙◌, subst, inl, inr, arith, append_assoc, length-append, AllByRecursion, append-nil, map_push, length-map, nat_tests, Written, text_of, octet_of, IsUnit, is_dot, IsWrittenLabel, AreWrittenLabels, written_text, written_octets, dotted, parted, kept, Reaches, FaultAt, empty_label, long_label, bad_escape, NameFault, Ahead, at_end, at_dot, at_octet, at_fault, failed, goes, step_at, read}
 use Rattle.zone_name.specs.declared.fault.NameFault.TheVariants.{LabelTooLong}
 use Rattle.zone_name.specs.Machine.LabelWalk.{reading}
 use Rattle.zone_name.proofs.Ahead.{IsAhead, ahead_is, Shrinks, ahead_shrinks}
@@ -17,7 +17,7 @@ pub record Finds (spelling : List (List Written) → List ℕ) (text : List ℕ)
   pub are : AreWrittenLabels written
   pub short : AreShort written
   pub text_is : text ≡ spelling written
-  pub labels_are : labels ≡ named written
+  pub labels_are : labels ≡ kept written
 
 -- what an answer says of the text
 abbrev pub Says : List ℕ → Result (List (List ℕ) × Bool) NameFault → Type 0
@@ -27,8 +27,8 @@ Says text (Err fault) = FaultAt text fault
 
 -- ---- one label or one octet more
 
-named_push : (before : List (List Written)) (label : List Written) → named (before ++ label ∷ []) ≡ named before ++ folded_label (written_octets label) ∷ []
-named_push before label = grind (arith, map_push)
+kept_push : (before : List (List Written)) (label : List Written) → kept (before ++ label ∷ []) ≡ kept before ++ written_octets label ∷ []
+kept_push before label = grind (arith, map_push)
 
 join_more : (a b c : List ℕ) → a ++ (46 ∷ (b ++ c)) ≡ ((a ++ 46 ∷ []) ++ b) ++ c
 join_more a b c = sym (append_assoc (a ++ 46 ∷ []) b c ∙ append_assoc a (46 ∷ []) (b ++ c))
@@ -48,23 +48,23 @@ reaches_octet : (text : List ℕ) (before : List (List Written)) (label : List W
 reaches_octet text before label w rest more r is e room = grind (arith, common_steps)
 
 -- ---- the ends
-absolute_end : (text : List ℕ) (before : List (List Written)) (rest : List ℕ) → 0 < length text → Reaches text before [] rest → rest ≡ [] → Finds dotted text (named before)
+absolute_end : (text : List ℕ) (before : List (List Written)) (rest : List ℕ) → 0 < length text → Reaches text before [] rest → rest ≡ [] → Finds dotted text (kept before)
 absolute_end text before rest some r e = grind (arith, common_steps)
 
-relative_end : (text : List ℕ) (before : List (List Written)) (w : Written) (label : List Written) (rest : List ℕ) → Reaches text before (w ∷ label) rest → rest ≡ [] → Finds parted text (named before ++ folded_label (written_octets (w ∷ label)) ∷ [])
+relative_end : (text : List ℕ) (before : List (List Written)) (w : Written) (label : List Written) (rest : List ℕ) → Reaches text before (w ∷ label) rest → rest ≡ [] → Finds parted text (kept before ++ written_octets (w ∷ label) ∷ [])
 relative_end text before w label rest r e = record {
   written = before ++ (w ∷ label) ∷ [];
   are = record { some = omega (arith, length-append before ((w ∷ label) ∷ [])); each = AllByRecursion-append IsWrittenLabel before ((w ∷ label) ∷ []) r.labels (record { some = omega arith; each = r.octets }, tt) };
   short = AllByRecursion-append (λ l. length l ≤ 63) before ((w ∷ label) ∷ []) r.short (r.room, tt);
   text_is = cc (append-nil (dotted before ++ written_text (w ∷ label)), parted_push before (w ∷ label));
-  labels_are = sym (named_push before (w ∷ label));
+  labels_are = sym (kept_push before (w ∷ label));
 }
 
 -- ---- one step
 abbrev Later : ℕ → List ℕ → Type 0
-Later n text = (before : List (List Written)) (label : List Written) (rest : List ℕ) → Reaches text before label rest → length rest < n → Says text (read n (named before) (written_octets label) rest)
+Later n text = (before : List (List Written)) (label : List Written) (rest : List ℕ) → Reaches text before label rest → length rest < n → Says text (read n (kept before) (written_octets label) rest)
 
-full_label : (n : ℕ) (text : List ℕ) (before : List (List Written)) (label : List Written) (rest more : List ℕ) (c : ℕ) → Later n text → Reaches text before label rest → length more < length rest → length rest < suc n → (w : Written) → IsUnit is_dot w → octet_of w ≡ c → rest ≡ text_of w ++ more → (full : Bool) → nat_le 63 (length (written_octets label)) ≡ full → Says text (after_step n (if full then failed LabelTooLong else goes (named before) (written_octets label ++ c ∷ []) more))
+full_label : (n : ℕ) (text : List ℕ) (before : List (List Written)) (label : List Written) (rest more : List ℕ) (c : ℕ) → Later n text → Reaches text before label rest → length more < length rest → length rest < suc n → (w : Written) → IsUnit is_dot w → octet_of w ≡ c → rest ≡ text_of w ++ more → (full : Bool) → nat_le 63 (length (written_octets label)) ≡ full → Says text (after_step n (if full then failed LabelTooLong else goes (kept before) (written_octets label ++ c ∷ []) more))
 full_label n text before label rest more c later r shorter enough w is oc e true test =
     let P : List ℕ → Type 0 = λ t. Reaches text before label t in
     long_label before label w more (subst P e r) (exact (length label) (length (written_octets label)) (length-map label octet_of) r.room test) is
@@ -78,7 +78,7 @@ full_label n text before label rest more c later r shorter enough w is oc e fals
     below : (m k : ℕ) → k ≡ m → nat_le 63 k ≡ false → m < 63
     below m k same full = grind (arith, nat_tests)
 
-step_says : (n : ℕ) (text : List ℕ) (before : List (List Written)) (label : List Written) (rest : List ℕ) (ahead : Ahead) → text ≢ codes "." → 0 < length text → Later n text → Reaches text before label rest → length rest < suc n → IsAhead rest ahead → Shrinks rest ahead → Says text (after_step n (step_at (named before) (written_octets label) ahead))
+step_says : (n : ℕ) (text : List ℕ) (before : List (List Written)) (label : List Written) (rest : List ℕ) (ahead : Ahead) → text ≢ codes "." → 0 < length text → Later n text → Reaches text before label rest → length rest < suc n → IsAhead rest ahead → Shrinks rest ahead → Says text (after_step n (step_at (kept before) (written_octets label) ahead))
 step_says n text before [] rest at_end other some later r enough is shorter = absolute_end text before rest some r is
 step_says n text before (w ∷ label) rest at_end other some later r enough is shorter = relative_end text before w label rest r is
 step_says n text before [] rest (at_dot more) other some later r enough is shorter = empty_label before rest r (inr (more, is)) (λ h. absurd (dot_some more (sym is ∙ h))) other
@@ -86,7 +86,7 @@ step_says n text before [] rest (at_dot more) other some later r enough is short
     dot_some : (more : List ℕ) → 46 ∷ more ≡ [] → ⊥
     dot_some more e = cc
 step_says n text before (w ∷ label) rest (at_dot more) other some later r enough is shorter =
-    rw (named_push before (w ∷ label)) at (later (before ++ (w ∷ label) ∷ []) [] more (reaches_label text before w label rest more r is) (omega arith))
+    rw (kept_push before (w ∷ label)) at (later (before ++ (w ∷ label) ∷ []) [] more (reaches_label text before w label rest more r is) (omega arith))
 step_says n text before [] rest (at_octet c more) other some later r enough is shorter = full_label n text before [] rest more c later r shorter enough is.unit is.is_unit is.value is.parts (nat_le 63 (length (written_octets []))) refl
 step_says n text before (w ∷ label) rest (at_octet c more) other some later r enough is shorter = full_label n text before (w ∷ label) rest more c later r shorter enough is.unit is.is_unit is.value is.parts (nat_le 63 (length (written_octets (w ∷ label)))) refl
 step_says n text before [] rest at_fault other some later r enough is shorter = bad_escape before [] rest r is

@@ -1,6 +1,6 @@
 -- The walk over a text: what was read so far, and what it leads to.
 use Rattle.std.proofs.lemmas.Grind.{common_steps}
-use Rattle.zone_name.proofs.Common.{◌≡◌, ℕ, zero, suc, ◌<◌, ◌≤◌, ◌||◌, Bool, false, List, [], ◌∷◌, ◌++◌, length, Result, Ok, Err, refl, sym, ap, ◌∙◌, inl, inr, arith, length-append, lt-leb, le-leb, flat_map-append, folded_label, wire, IsBadEscape, EndsLabel, NameFault, Ahead, at_dot, at_octet, at_fault, ahead_in, Step, done, failed, goes, step_at, read, Collects, Closes, Joins, Goes, EndsInFault, RefusesLabel, empty, long, EndsLabelAt}
+use Rattle.zone_name.proofs.Common.{◌≡◌, ℕ, zero, suc, ◌<◌, ◌≤◌, ◌||◌, Bool, false, List, [], ◌∷◌, ◌++◌, length, Result, Ok, Err, refl, sym, ap, ◌∙◌, inl, inr, arith, length-append, lt-leb, le-leb, flat_map-append, wire, IsBadEscape, EndsLabel, NameFault, Ahead, at_dot, at_octet, at_fault, ahead_in, Step, done, failed, goes, step_at, read, Collects, Closes, Joins, Goes, EndsInFault, RefusesLabel, empty, long, EndsLabelAt}
 use Rattle.zone_name.specs.declared.fault.NameFault.TheVariants.{EmptyLabel, LabelTooLong, NameTooLong, BadEscape, RelativeName}
 use Rattle.zone_name.specs.Machine.LabelWalk.{reading}
 use Rattle.zone_name.proofs.Ahead.{ahead_shrinks, ahead-bad}
@@ -100,14 +100,14 @@ reading-nil text e = grind arith
 wire-more : (labels : List (List ℕ)) (label : List ℕ) → 255 < length (wire labels) → 255 < length (wire (labels ++ label ∷ []))
 wire-more labels label over = grind (arith, flat_map-append, length-append)
 
-joined_collects : (before after labels : List (List ℕ)) (label : List ℕ) (is_too_long is_left_out : Bool) → Collects before is_too_long labels → Joins before label is_left_out after → Collects after (is_too_long || is_left_out) (labels ++ folded_label label ∷ [])
+joined_collects : (before after labels : List (List ℕ)) (label : List ℕ) (is_too_long is_left_out : Bool) → Collects before is_too_long labels → Joins before label is_left_out after → Collects after (is_too_long || is_left_out) (labels ++ label ∷ [])
 joined_collects before after labels label is_too_long is_left_out collects joins = grind (arith, wire-more)
 
 -- a label's end, as the next step finds it
-end_step : (fuel : ℕ) (labels : List (List ℕ)) (label rest : List ℕ) → length rest < fuel → 0 < length label → rest ≡ [] → read fuel labels label rest ≡ Ok (labels ++ folded_label label ∷ [], false)
+end_step : (fuel : ℕ) (labels : List (List ℕ)) (label rest : List ℕ) → length rest < fuel → 0 < length label → rest ≡ [] → read fuel labels label rest ≡ Ok (labels ++ label ∷ [], false)
 end_step fuel labels label rest enough some e = grind (arith, read_step)
 
-dot_step : (fuel : ℕ) (labels : List (List ℕ)) (label rest more : List ℕ) → length rest < fuel → 0 < length label → rest ≡ 46 ∷ more → (m : ℕ) × (length more < m) × (read fuel labels label rest ≡ read m (labels ++ folded_label label ∷ []) [] more)
+dot_step : (fuel : ℕ) (labels : List (List ℕ)) (label rest more : List ℕ) → length rest < fuel → 0 < length label → rest ≡ 46 ∷ more → (m : ℕ) × (length more < m) × (read fuel labels label rest ≡ read m (labels ++ label ∷ []) [] more)
 dot_step zero labels label rest more enough some e = absurd (omega arith)
 dot_step (suc n) labels [] rest more enough some e = absurd (omega arith)
 dot_step (suc n) labels (c ∷ label) rest more enough some e = grind (arith, read_step n labels (c ∷ label) rest (at_dot more) (ap ahead_in e))
@@ -126,7 +126,7 @@ Reads-label text before after is_too_long is_left_out rest label following more 
 pub Reads-relative : (text : List ℕ) (before after : List (List ℕ)) (is_too_long is_left_out : Bool) (rest label following : List ℕ) → Reads text before is_too_long rest → EndsLabelAt rest label following → Closes before label is_left_out after → following ≡ [] → (labels : List (List ℕ)) × (reading text ≡ Ok (labels, false)) × Collects after (is_too_long || is_left_out) labels
 Reads-relative text before after is_too_long is_left_out rest label following reads at closes is =
     let reached = at.goes reads.labels reads.fuel reads.enough in (
-      reads.labels ++ folded_label label ∷ [],
+      reads.labels ++ label ∷ [],
       cc (end_step reached.0 reads.labels label following reached.1 closes.some is),
       joined_collects before after reads.labels label is_too_long is_left_out reads.collects closes.joins,
     )

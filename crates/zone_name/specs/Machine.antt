@@ -3,6 +3,7 @@
 pub mod Units
 pub mod LabelWalk
 pub mod Seen
+pub mod Letters
 pub mod Plain
 pub mod Shown
 pub mod Joined

@@ -1,7 +1,7 @@
 -- Domain names as lists of labels, and their octets in messages (RFC 1035 2.3.4, 3.1; RFC 4343 3).
 use Rattle.std.specs.Prelude.{◌≡◌, ℕ, zero, suc, ◌+◌, ◌<◌, ◌≤◌, List, [], ◌∷◌, ◌++◌, length, map, take, drop, nat_le, ◌&&◌, if◌then◌else◌}
 use Rattle.std.specs.List.{flat_map, AllByRecursion}
-use Rattle.zone_name.specs.Common.{Labels}
+use Rattle.zone_name.specs.Common.{AreOctets, Labels}
 
 -- a letter in lower case: octets 65 to 90 go to 97 to 122, and every other octet stays (RFC 4343 3)
 abbrev pub folded_octet : ℕ → ℕ
@@ -37,6 +37,17 @@ pub record IsName (labels : Labels) : Type 0 where
   pub each : AllByRecursion IsLabel labels
   pub short : length (wire labels) ≤ 255
 
+-- a label with its letters as they are written
+pub record IsCasedLabel (label : List ℕ) : Type 0 where
+  pub some : 0 < length label
+  pub short : length label ≤ 63
+  pub each : AreOctets label
+
+-- a name with its letters as they are written: labels that take at most 255 octets in all
+pub record IsCasedName (labels : Labels) : Type 0 where
+  pub each : AllByRecursion IsCasedLabel labels
+  pub short : length (wire labels) ≤ 255
+
 -- the labels at the beginning of octets, one after another up to the root, at most n of them
 abbrev pub labels_by : ℕ → List ℕ → Labels
 labels_by zero octets = []
@@ -52,6 +63,11 @@ labels_of octets = labels_by (length octets) octets
 pub record HoldsName (octets : List ℕ) : Type 0 where
   pub whole : wire (labels_of octets) ≡ octets
   pub name : IsName (labels_of octets)
+
+-- the uncompressed octets of a name with its letters as they are written, and nothing more
+pub record HoldsCasedName (octets : List ℕ) : Type 0 where
+  pub whole : wire (labels_of octets) ≡ octets
+  pub name : IsCasedName (labels_of octets)
 
 -- the octets of labels, each after its length, which the root's octet makes a name
 pub record HoldsLabels (octets : List ℕ) : Type 0 where

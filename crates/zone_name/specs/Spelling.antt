@@ -2,7 +2,7 @@
 use Rattle.std.specs.Prelude.{◌≡◌, ◌≢◌, ℕ, ◌+◌, ◌-◌, ◌*◌, ◌<◌, ◌≤◌, List, [], ◌∷◌, ◌++◌, length, map, codes, Option, Some, None, nat_le, ◌==◌, ◌&&◌, Bool, true, false, ◌⊎◌}
 use Rattle.std.specs.List.{flat_map, AllByRecursion, join_with_byte}
 use Rattle.zone_name.specs.Common.{Labels}
-use Rattle.zone_name.specs.Name.{folded, wire, IsName}
+use Rattle.zone_name.specs.Name.{folded, wire, IsCasedName, IsName}
 use Rattle.zone_name.specs.declared.fault.NameFault.{NameFault}
 use Rattle.zone_name.specs.declared.fault.NameFault.TheVariants.{EmptyLabel, LabelTooLong, NameTooLong, BadEscape, RelativeName}
 
@@ -77,29 +77,48 @@ dotted labels = flat_map (λ label. written_text label ++ 46 ∷ []) labels
 abbrev pub parted : List (List Written) → List ℕ
 parted labels = join_with_byte 46 (map written_text labels)
 
+-- the labels that are written, with their letters
+abbrev pub kept : List (List Written) → Labels
+kept labels = map written_octets labels
+
 -- the labels that are written, in lower case
 abbrev pub named : List (List Written) → Labels
-named labels = folded (map written_octets labels)
+named labels = folded (kept labels)
 
 -- one label or more
 pub record AreWrittenLabels (labels : List (List Written)) : Type 0 where
   pub some : 0 < length labels
   pub each : AllByRecursion IsWrittenLabel labels
 
--- how a text spells labels under an origin, whatever their length
-pub data Writes (origin : Option Labels) (text : List ℕ) (labels : Labels) : Type 0 where
-  root : text ≡ codes "." → labels ≡ [] → Writes origin text labels
-  at_origin : text ≡ codes "@" → origin ≡ Some labels → Writes origin text labels
+-- how a text spells labels under an origin, whatever their length, where `taken` says what labels
+-- those that are written are
+pub data WritesBy (taken : List (List Written) → Labels) (origin : Option Labels) (text : List ℕ)
+    (labels : Labels) : Type 0 where
+  root : text ≡ codes "." → labels ≡ [] → WritesBy taken origin text labels
+  at_origin : text ≡ codes "@" → origin ≡ Some labels → WritesBy taken origin text labels
   absolute : (written : List (List Written)) → AreWrittenLabels written → text ≡ dotted written
-      → labels ≡ named written → Writes origin text labels
+      → labels ≡ taken written → WritesBy taken origin text labels
   relative : (written : List (List Written)) (above : Labels) → AreWrittenLabels written
       → text ≢ codes "@" → text ≡ parted written → origin ≡ Some above
-      → labels ≡ named written ++ above → Writes origin text labels
+      → labels ≡ taken written ++ above → WritesBy taken origin text labels
+
+-- the same, where what is written is put in lower case
+abbrev pub Writes : Option Labels → List ℕ → Labels → Type 0
+Writes = WritesBy named
+
+-- the same, where what is written keeps its letters
+abbrev pub WritesCased : Option Labels → List ℕ → Labels → Type 0
+WritesCased = WritesBy kept
 
 -- the text spells the name under the origin
 pub record Spells (origin : Option Labels) (text : List ℕ) (labels : Labels) : Type 0 where
   pub written : Writes origin text labels
   pub name : IsName labels
+
+-- the text spells the name under the origin, and all letters stay as they are written
+pub record SpellsCased (origin : Option Labels) (text : List ℕ) (labels : Labels) : Type 0 where
+  pub written : WritesCased origin text labels
+  pub name : IsCasedName labels
 
 -- what stands at the place of a label's next octet and is none: nothing, or a dot
 abbrev pub EndsLabel : List ℕ → Type 0

@@ -1,12 +1,13 @@
 //! Laws of names, each the contract of a function that does nothing.
-ghost use Rattle.std.specs.Prelude.{◌≡◌, ◌++◌, Option, IfSome};
+ghost use Rattle.std.specs.Prelude.{◌≡◌, ◌++◌, Option, IfSome, option_map};
 ghost use Rattle.std.specs.Cmp.{IsTotalOrder};
 ghost use Rattle.std.specs.declared.cmp.Ordering.TheVariants.{Equal};
 ghost use Rattle.zone_name.specs.Common.{AreOctets, AtMostOneIs, EitherIs, IsVerdict, Labels, NeverBothAre, Octets};
-ghost use Rattle.zone_name.specs.Name.{BeginsWithName, IsName, labels_of, wire};
+ghost use Rattle.zone_name.specs.Name.{BeginsWithName, IsCasedName, IsName, folded, labels_of, wire};
 ghost use Rattle.zone_name.specs.Order.{name_cmp};
-ghost use Rattle.zone_name.specs.Spelling.{SpellingFault, Spells};
+ghost use Rattle.zone_name.specs.Spelling.{SpellingFault, Spells, SpellsCased};
 ghost use Rattle.zone_name.specs.Text.{name_text};
+ghost use Rattle.zone_name.specs.declared.fault.NameFault.{NameFault};
 
 /// Names that compare as equal are equal.
 pub fn order_is_exact()
@@ -36,6 +37,26 @@ pub fn texts_have_one_verdict()
         → NeverBothAre (Spells origin text) (SpellingFault origin text) }
     ensures one_fault { (origin : Option Labels) (text : Octets)
         → AtMostOneIs (SpellingFault origin text) }
+{}
+
+/// With its letters kept, a text of octets spells a name under an origin or has a first fault,
+/// never both, and one of each at most.
+pub fn cased_texts_have_one_verdict()
+    ensures { (origin : Option Labels) (text : Octets) → IfSome origin IsCasedName
+        → AreOctets text
+        → IsVerdict (SpellsCased origin text) (SpellingFault origin text) }
+{}
+
+/// The name that a text spells under an origin with its letters in lower case is the one that it
+/// spells with its letters kept, put in lower case; and the faults are the same.
+pub fn letters_are_folded_before_or_after()
+    ensures folds { (origin : Option Labels) (text : Octets) (labels : Labels)
+        → SpellsCased origin text labels → Spells (option_map folded origin) text (folded labels) }
+    ensures from { (origin : Option Labels) (text : Octets) (labels : Labels)
+        → IfSome origin IsCasedName → AreOctets text → Spells (option_map folded origin) text labels
+        → (cased : Labels) × SpellsCased origin text cased × (folded cased ≡ labels) }
+    ensures fault { (origin : Option Labels) (text : Octets) (fault : NameFault)
+        → SpellingFault origin text fault → SpellingFault (option_map folded origin) text fault }
 {}
 
 /// What is printed for a name spells that name under every origin and without one.

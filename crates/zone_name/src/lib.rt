@@ -3,6 +3,7 @@
 #![tactic(auto)]
 
 mod builder;
+mod cased;
 mod escape;
 mod fault;
 mod labels;
@@ -15,6 +16,7 @@ mod sink;
 mod text;
 
 pub use builder::NameBuilder;
+pub use cased::CasedName;
 pub use escape::{NextUnit, decimal_escape, escape_at, next_unit};
 pub use fault::NameFault;
 pub use labels::Labels;

@@ -2,11 +2,12 @@ ghost use Rattle.std.specs.Prelude.{◌≡◌, ◌≤◌, ◌↔◌, List, [], l
 ghost use Rattle.zone_name.specs.Common.{Octets};
 ghost use Rattle.zone_name.specs.Name.{wire, labels_of, IsName, HoldsName, IsWithin, BeginsWithName};
 ghost use Rattle.zone_name.specs.Spelling.{Spells, SpellingFault};
+ghost use Rattle.zone_name.specs.Machine.Letters.{origin_in};
 
 use crate::fault::NameFault;
 use crate::labels::Labels;
 use crate::lent::NameRef;
-use crate::reading::{NameShape, replace, shape_of};
+use crate::reading::{Letters, read_name};
 use arrayvec::ArrayVec;
 use std::marker::Model;
 
@@ -66,33 +67,8 @@ impl Name {
         ensures fault { IfErr result (SpellingFault (option_copied origin.entry) text.now) }
         ensures err { OnErr result (self.new ≡ []) }
     {
-        known_origin(origin);
-        match shape_of(text) {
-            NameShape::Root => {
-                self.hold(b"\0");
-                Ok(())
-            }
-            NameShape::Origin => match origin {
-                Some(origin) => {
-                    self.hold(origin.wire());
-                    Ok(())
-                }
-                None => {
-                    self.hold(b"\0");
-                    Err(NameFault::RelativeName)
-                }
-            },
-            NameShape::Labels => replace(&mut self.octets, text, origin),
-        }
-    }
-
-    /// Becomes the name of these octets.
-    fn hold(&mut self, octets: &[u8])
-        requires { HoldsName octets.now }
-        ensures { self.new ≡ labels_of octets.now }
-    {
-        self.octets.clear();
-        let _ = self.octets.try_extend_from_slice(octets);
+        let above = octets_of(origin);
+        read_name(&mut self.octets, text, above, Letters::Folded)
     }
 
     /// The root of all names: no label (RFC 1035 3.1).
@@ -181,11 +157,13 @@ impl Name {
     }
 }
 
-/// Does nothing, and tells contracts that an origin is a name.
-fn known_origin(origin: Option<&Name>)
-    ensures { IfSome (option_copied origin.entry) IsName }
+/// The uncompressed octets of an origin.
+fn octets_of<'o>(origin: Option<&'o Name>) -> Option<&'o [u8]>
+    ensures labels { origin_in (option_copied result) ≡ option_copied origin.entry }
+    ensures name { IfSome (option_copied result) HoldsName }
 {
-    if let Some(name) = origin {
-        name.known();
+    match origin {
+        Some(name) => Some(name.wire()),
+        None => None,
     }
 }

@@ -1,22 +1,24 @@
-ghost use Rattle.std.specs.Prelude.{◌≡◌, ◌≤◌, ◌<◌, ◌↔◌, ◌++◌, ◌∷◌, [], ℕ, length, map, slice_index, option_copied};
-ghost use Rattle.std.specs.Prelude.{IsTrue, IfSome, IfOk, IfErr, OnOk, OnErr, Ok, Err};
-ghost use Rattle.zone_name.specs.Common.{Labels};
-ghost use Rattle.zone_name.specs.Name.{HoldsName, folded_octet, labels_of};
-ghost use Rattle.zone_name.specs.Spelling.{IsUnit, is_dot, plain};
+ghost use Rattle.std.specs.Prelude.{◌≡◌, ◌≤◌, ◌<◌, ◌↔◌, ◌++◌, ◌∷◌, [], ℕ, List, length, map, slice_index, option_copied};
+ghost use Rattle.std.specs.Prelude.{IsOk, IsTrue, IfSome, IfOk, IfErr, OnOk, OnErr, Ok, Err};
+ghost use Rattle.zone_name.specs.Common.{Labels, Octets};
+ghost use Rattle.zone_name.specs.Name.{folded_octet, labels_of};
+ghost use Rattle.zone_name.specs.Spelling.{IsUnit, SpellingFault, is_dot, plain};
 ghost use Rattle.zone_name.specs.Machine.LabelWalk.{Collects, reading, under_origin, sized};
+ghost use Rattle.zone_name.specs.Machine.Letters.{HoldsLabelsBy, HoldsNameBy, SpellsBy};
+ghost use Rattle.zone_name.specs.Machine.Letters.{lettered, name_read, origin_in};
 ghost use Rattle.zone_name.specs.Machine.Plain.{WritesLengths};
-ghost use Rattle.zone_name.specs.Machine.Seen.{Closes, EndsLabelAt, HasShape, HoldsUnfolded, IsClosable};
-ghost use Rattle.zone_name.specs.Machine.Seen.{IsReadInto, EndsInFault, RefusesLabel, unfolded_labels};
+ghost use Rattle.zone_name.specs.Machine.Seen.{Closes, EndsLabelAt, HasShape, HoldsCasedLabels, IsClosable};
+ghost use Rattle.zone_name.specs.Machine.Seen.{IsReadInto, EndsInFault, RefusesLabel};
 
 use crate::builder::check_label;
 use crate::escape::{NextUnit, next_unit};
 use crate::fault::NameFault;
-use crate::name::{MAX_LABEL_LEN, MAX_NAME_LEN, Name};
+use crate::name::{MAX_LABEL_LEN, MAX_NAME_LEN};
 use arrayvec::ArrayVec;
 
 /// How a name's text is read (RFC 1035 5.1).
 #[derive(Drop)]
-pub(crate) enum NameShape {
+enum NameShape {
     /// A dot alone, which is the root.
     Root,
     /// An `@` alone, which is the origin.
@@ -25,8 +27,17 @@ pub(crate) enum NameShape {
     Labels,
 }
 
+/// What becomes of the letters of a name that is read.
+#[derive(Clone, Copy, Drop)]
+pub(crate) enum Letters {
+    /// They stay as they are written.
+    Kept,
+    /// They are put in lower case (RFC 4343 3).
+    Folded,
+}
+
 /// How the text is read.
-pub(crate) fn shape_of(text: &[u8]) -> NameShape
+fn shape_of(text: &[u8]) -> NameShape
     ensures { HasShape text.now result }
 {
     match text {
@@ -90,7 +101,7 @@ fn write_lengths(octets: &mut [u8]) -> bool
 /// `None`: the text has an escape or a fault, and the octets say nothing.
 fn read_plain(octets: &mut ArrayVec<u8, MAX_NAME_LEN>, text: &[u8]) -> Option<Spelled>
     requires { octets.old.items ≡ [] }
-    ensures holds { IfSome result (λ _. HoldsUnfolded octets.new.items) }
+    ensures holds { IfSome result (λ _. HoldsCasedLabels octets.new.items) }
     ensures labels { IfSome result (λ spelled. IsReadInto text.now octets.new.items spelled) }
 {
     let (labels, is_absolute) = match text.strip_suffix(b".") {
@@ -114,10 +125,10 @@ fn read_plain(octets: &mut ArrayVec<u8, MAX_NAME_LEN>, text: &[u8]) -> Option<Sp
 /// Appends a label to the others, its letters as they are, and tells whether there was no room for
 /// it.
 fn close(octets: &mut ArrayVec<u8, MAX_NAME_LEN>, label: &[u8]) -> Result<bool, NameFault>
-    requires { HoldsUnfolded octets.old.items }
-    ensures holds { HoldsUnfolded octets.new.items }
-    ensures ok { IfOk result (λ full. Closes (unfolded_labels octets.old.items) label.now full
-        (unfolded_labels octets.new.items)) }
+    requires { HoldsCasedLabels octets.old.items }
+    ensures holds { HoldsCasedLabels octets.new.items }
+    ensures ok { IfOk result (λ full. Closes (labels_of octets.old.items) label.now full
+        (labels_of octets.new.items)) }
     ensures err { IfErr result (RefusesLabel label.now) }
 {
     check_label(label)?;
@@ -146,11 +157,11 @@ fn read_label<'t>(
     text: &'t [u8],
 ) -> Result<ReadLabel<'t>, NameFault>
     requires some { 0 < length text.now }
-    requires holds { HoldsUnfolded octets.old.items }
-    ensures holds { HoldsUnfolded octets.new.items }
+    requires holds { HoldsCasedLabels octets.old.items }
+    ensures holds { HoldsCasedLabels octets.new.items }
     ensures ok { IfOk result (λ read. IsClosable text.now read.following.now (λ label.
-        Closes (unfolded_labels octets.old.items) label read.is_left_out
-        (unfolded_labels octets.new.items))) }
+        Closes (labels_of octets.old.items) label read.is_left_out
+        (labels_of octets.new.items))) }
     ensures err { IfErr result (EndsInFault text.now) }
 {
     let mut label: ArrayVec<u8, MAX_LABEL_LEN> = ArrayVec::new();
@@ -195,7 +206,7 @@ fn open_label<'t>(
 /// 1035 5.1).
 fn read_labels(octets: &mut ArrayVec<u8, MAX_NAME_LEN>, text: &[u8]) -> Result<Spelled, NameFault>
     requires { octets.old.items ≡ [] }
-    ensures holds { HoldsUnfolded octets.new.items }
+    ensures holds { HoldsCasedLabels octets.new.items }
     ensures labels { IfOk result (λ spelled. IsReadInto text.now octets.new.items spelled) }
     ensures fault { IfErr result (λ fault. reading text.now ≡ Err fault) }
 {
@@ -225,23 +236,40 @@ fn read_labels(octets: &mut ArrayVec<u8, MAX_NAME_LEN>, text: &[u8]) -> Result<S
 }
 
 /// Puts the letters in lower case (RFC 4343 3). A label's length is no letter, and stays.
-fn fold(octets: &mut ArrayVec<u8, MAX_NAME_LEN>)
+pub(crate) fn fold(octets: &mut ArrayVec<u8, MAX_NAME_LEN>)
     ensures { octets.new.items ≡ map folded_octet octets.old.items }
 {
     octets.as_mut_slice().make_ascii_lowercase();
 }
 
-/// Turns the labels to lower case, and appends the octets of a name to them.
-fn end_with(octets: &mut ArrayVec<u8, MAX_NAME_LEN>, ending: &[u8]) -> Result<(), NameFault>
-    requires holds { HoldsUnfolded octets.old.items }
-    requires name { HoldsName ending.now }
-    ensures ok { IfOk result (λ _. HoldsName octets.new.items
-        × (sized (unfolded_labels octets.old.items ++ labels_of ending.now) ≡ Ok
+/// Folds the letters of the labels, or keeps them.
+fn set_letters(octets: &mut ArrayVec<u8, MAX_NAME_LEN>, letters: Letters)
+    requires { HoldsCasedLabels octets.old.items }
+    ensures holds { HoldsLabelsBy letters octets.new.items }
+    ensures labels { labels_of octets.new.items ≡ lettered letters (labels_of octets.old.items) }
+{
+    match letters {
+        Letters::Kept => {}
+        Letters::Folded => fold(octets),
+    }
+}
+
+/// Folds the letters of the labels, or keeps them, and appends the octets of a name.
+fn end_with(
+    octets: &mut ArrayVec<u8, MAX_NAME_LEN>,
+    ending: &[u8],
+    letters: Letters,
+) -> Result<(), NameFault>
+    requires holds { HoldsCasedLabels octets.old.items }
+    requires name { HoldsNameBy letters ending.now }
+    ensures ok { IfOk result (λ _. HoldsNameBy letters octets.new.items
+        × (sized (lettered letters (labels_of octets.old.items) ++ labels_of ending.now) ≡ Ok
         (labels_of octets.new.items))) }
     ensures err { IfErr result (λ fault.
-        sized (unfolded_labels octets.old.items ++ labels_of ending.now) ≡ Err fault) }
+        sized (lettered letters (labels_of octets.old.items) ++ labels_of ending.now)
+        ≡ Err fault) }
 {
-    fold(octets);
+    set_letters(octets, letters);
     octets
         .try_extend_from_slice(ending)
         .map_err(|_| NameFault::NameTooLong)
@@ -251,23 +279,25 @@ fn end_with(octets: &mut ArrayVec<u8, MAX_NAME_LEN>, ending: &[u8]) -> Result<()
 fn finish(
     octets: &mut ArrayVec<u8, MAX_NAME_LEN>,
     spelled: Spelled,
-    origin: Option<&Name>,
+    origin: Option<&[u8]>,
+    letters: Letters,
 ) -> Result<(), NameFault>
-    requires { HoldsUnfolded octets.old.items }
-    ensures ok { IfOk result (λ _. HoldsName octets.new.items × ((labels : Labels)
-        → Collects (unfolded_labels octets.old.items) spelled.is_too_long labels
-        → under_origin (option_copied origin.entry) (Ok (labels, spelled.is_absolute)) ≡ Ok
-        (labels_of octets.new.items))) }
+    requires holds { HoldsCasedLabels octets.old.items }
+    requires origin { IfSome (option_copied origin) (HoldsNameBy letters) }
+    ensures ok { IfOk result (λ _. HoldsNameBy letters octets.new.items × ((labels : Labels)
+        → Collects (labels_of octets.old.items) spelled.is_too_long labels
+        → under_origin (origin_in (option_copied origin.entry))
+        (Ok (lettered letters labels, spelled.is_absolute)) ≡ Ok (labels_of octets.new.items))) }
     ensures err { IfErr result (λ fault. (labels : Labels)
-        → Collects (unfolded_labels octets.old.items) spelled.is_too_long labels
-        → under_origin (option_copied origin.entry) (Ok (labels, spelled.is_absolute))
-        ≡ Err fault) }
+        → Collects (labels_of octets.old.items) spelled.is_too_long labels
+        → under_origin (origin_in (option_copied origin.entry))
+        (Ok (lettered letters labels, spelled.is_absolute)) ≡ Err fault) }
 {
     if spelled.is_absolute {
         if spelled.is_too_long {
             return Err(NameFault::NameTooLong);
         }
-        return end_with(octets, b"\0");
+        return end_with(octets, b"\0", letters);
     }
     let Some(above) = origin else {
         return Err(NameFault::RelativeName);
@@ -275,7 +305,7 @@ fn finish(
     if spelled.is_too_long {
         return Err(NameFault::NameTooLong);
     }
-    end_with(octets, above.wire())
+    end_with(octets, above, letters)
 }
 
 /// Puts the octets of the name of a text that is neither `.` nor `@` in place (RFC 1035 5.1).
@@ -284,14 +314,16 @@ fn finish(
 fn read_into(
     octets: &mut ArrayVec<u8, MAX_NAME_LEN>,
     text: &[u8],
-    origin: Option<&Name>,
+    origin: Option<&[u8]>,
+    letters: Letters,
 ) -> Result<(), NameFault>
-    requires { octets.old.items ≡ [] }
-    ensures ok { IfOk result (λ _. HoldsName octets.new.items
-        × (under_origin (option_copied origin.entry) (reading text.now) ≡ Ok
+    requires none { octets.old.items ≡ [] }
+    requires origin { IfSome (option_copied origin) (HoldsNameBy letters) }
+    ensures ok { IfOk result (λ _. HoldsNameBy letters octets.new.items
+        × (name_read letters (origin_in (option_copied origin.entry)) text.now ≡ Ok
         (labels_of octets.new.items))) }
-    ensures err { IfErr result
-        (λ fault. under_origin (option_copied origin.entry) (reading text.now) ≡ Err fault) }
+    ensures err { IfErr result (λ fault.
+        name_read letters (origin_in (option_copied origin.entry)) text.now ≡ Err fault) }
 {
     let spelled = match read_plain(octets, text) {
         Some(spelled) => spelled,
@@ -300,30 +332,79 @@ fn read_into(
             read_labels(octets, text)?
         }
     };
-    finish(octets, spelled, origin)
+    finish(octets, spelled, origin, letters)
 }
 
 /// Puts the octets of the name of a text that is neither `.` nor `@` in place of those that are
 /// held (RFC 1035 5.1). On an error they are the root's.
-pub(crate) fn replace(
+fn replace(
     octets: &mut ArrayVec<u8, MAX_NAME_LEN>,
     text: &[u8],
-    origin: Option<&Name>,
+    origin: Option<&[u8]>,
+    letters: Letters,
 ) -> Result<(), NameFault>
-    ensures holds { HoldsName octets.new.items }
-    ensures ok { OnOk result (under_origin (option_copied origin.entry) (reading text.now) ≡ Ok
-        (labels_of octets.new.items)) }
-    ensures err { IfErr result
-        (λ fault. under_origin (option_copied origin.entry) (reading text.now) ≡ Err fault) }
+    requires { IfSome (option_copied origin) (HoldsNameBy letters) }
+    ensures holds { HoldsNameBy letters octets.new.items }
+    ensures ok { OnOk result (name_read letters (origin_in (option_copied origin.entry)) text.now
+        ≡ Ok (labels_of octets.new.items)) }
+    ensures err { IfErr result (λ fault.
+        name_read letters (origin_in (option_copied origin.entry)) text.now ≡ Err fault) }
     ensures root { OnErr result (octets.new.items ≡ 0 ∷ []) }
 {
     octets.clear();
-    match read_into(octets, text, origin) {
+    match read_into(octets, text, origin, letters) {
         Ok(()) => Ok(()),
         Err(fault) => {
             octets.clear();
             octets.push(0);
             Err(fault)
         }
+    }
+}
+
+/// Puts other octets in place of those that are held.
+fn hold(octets: &mut ArrayVec<u8, MAX_NAME_LEN>, name: &[u8])
+    requires { length name.now ≤ 255 }
+    ensures { octets.new.items ≡ name.now }
+{
+    octets.clear();
+    let _ = octets.try_extend_from_slice(name);
+}
+
+/// Puts the octets of the name that a text spells under an origin in place of those that are held
+/// (RFC 1035 5.1). On an error they are the root's.
+pub(crate) fn read_name(
+    octets: &mut ArrayVec<u8, MAX_NAME_LEN>,
+    text: &[u8],
+    origin: Option<&[u8]>,
+    letters: Letters,
+) -> Result<(), NameFault>
+    requires { IfSome (option_copied origin) (HoldsNameBy letters) }
+    ensures holds { HoldsNameBy letters octets.new.items }
+    ensures found { OnOk result (SpellsBy letters (origin_in (option_copied origin.entry)) text.now
+        (labels_of octets.new.items)) }
+    ensures only { (name : List Octets)
+        → SpellsBy letters (origin_in (option_copied origin.entry)) text.now name
+        → IsOk result × (labels_of octets.new.items ≡ name) }
+    ensures fault { IfErr result
+        (SpellingFault (origin_in (option_copied origin.entry)) text.now) }
+    ensures err { OnErr result (labels_of octets.new.items ≡ []) }
+{
+    match shape_of(text) {
+        NameShape::Root => {
+            hold(octets, b"\0");
+            Ok(())
+        }
+        NameShape::Origin => match origin {
+            Some(above) => {
+                hold(octets, above);
+                Ok(())
+            }
+            None => {
+                hold(octets, b"\0");
+                Err(NameFault::RelativeName)
+            }
+        },
+        NameShape::Labels => replace(octets, text, origin, letters),
     }
 }

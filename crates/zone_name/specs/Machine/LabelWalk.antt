@@ -2,7 +2,7 @@
 -- labels so far.
 use Rattle.std.specs.Prelude.{◌≡◌, ℕ, zero, suc, ◌<◌, List, [], ◌∷◌, ◌++◌, length, Bool, true, false, nat_le, if◌then◌else◌, Option, Some, None, Result, Ok, Err}
 use Rattle.zone_name.specs.Common.{Labels}
-use Rattle.zone_name.specs.Name.{folded_label, wire}
+use Rattle.zone_name.specs.Name.{wire}
 use Rattle.zone_name.specs.Spelling.{Written, octet_of, is_dot}
 use Rattle.zone_name.specs.Machine.Units.{unit_first}
 use Rattle.zone_name.specs.declared.fault.NameFault.{NameFault}
@@ -32,10 +32,10 @@ pub data Step : Type 0 where
 
 abbrev pub step_at : Labels → List ℕ → Ahead → Step
 step_at labels [] at_end = done labels true
-step_at labels (c ∷ open_label) at_end = done (labels ++ folded_label (c ∷ open_label) ∷ []) false
+step_at labels (c ∷ open_label) at_end = done (labels ++ (c ∷ open_label) ∷ []) false
 step_at labels [] (at_dot rest) = failed EmptyLabel
 step_at labels (c ∷ open_label) (at_dot rest) =
-    goes (labels ++ folded_label (c ∷ open_label) ∷ []) [] rest
+    goes (labels ++ (c ∷ open_label) ∷ []) [] rest
 step_at labels open_label (at_octet c rest) =
     if nat_le 63 (length open_label) then failed LabelTooLong
     else goes labels (open_label ++ c ∷ []) rest

@@ -1,6 +1,7 @@
 -- The form of a text that the code saw, and what reading and closing a label does.
-use Rattle.std.specs.Prelude.{◌≡◌, ◌≢◌, codes, ℕ, ◌+◌, ◌<◌, ◌≤◌, Bool, true, false, List, [], ◌∷◌, ◌++◌, length, map, Ok, Err}
-use Rattle.zone_name.specs.Name.{folded_label, folded_octet, labels_of, wire, HoldsLabels}
+use Rattle.std.specs.Prelude.{◌≡◌, ◌≢◌, codes, ℕ, ◌+◌, ◌<◌, ◌≤◌, Bool, true, false, List, [], ◌∷◌, ◌++◌, length, Ok, Err}
+use Rattle.std.specs.List.{flat_map}
+use Rattle.zone_name.specs.Name.{labels_of, wire, with_length, IsCasedName}
 use Rattle.zone_name.specs.Spelling.{EndsLabel}
 use Rattle.zone_name.specs.Machine.LabelWalk.{Collects, read, reading}
 use Rattle.zone_name.specs.declared.fault.NameFault.{NameFault}
@@ -15,24 +16,22 @@ HasShape text Root = text ≡ codes "."
 HasShape text Origin = text ≡ codes "@"
 HasShape text Labels = (text ≢ codes ".") × (text ≢ codes "@")
 
--- the octets of labels, each after its length, with their letters as they are
-abbrev pub HoldsUnfolded : List ℕ → Type 0
-HoldsUnfolded octets = HoldsLabels (map folded_octet octets)
-
-abbrev pub unfolded_labels : List ℕ → List (List ℕ)
-unfolded_labels octets = labels_of (map folded_octet octets)
+-- the octets of labels, each after its length, with their letters as they are written
+pub record HoldsCasedLabels (octets : List ℕ) : Type 0 where
+  pub whole : flat_map with_length (labels_of octets) ≡ octets
+  pub name : IsCasedName (labels_of octets)
 
 -- the labels that a text spells are in octets, or take too many octets for a name
 abbrev pub IsReadInto : List ℕ → List ℕ → Spelled → Type 0
 IsReadInto text octets spelled =
     (labels : List (List ℕ)) × (reading text ≡ Ok (labels, spelled.is_absolute))
-    × Collects (unfolded_labels octets) spelled.is_too_long labels
+    × Collects (labels_of octets) spelled.is_too_long labels
 
 -- a label is added after others, or left out where it makes them too long
 abbrev pub Joins : List (List ℕ) → List ℕ → Bool → List (List ℕ) → Type 0
 Joins before label true after =
-    (after ≡ before) × (255 < length (wire (before ++ folded_label label ∷ [])))
-Joins before label false after = after ≡ before ++ folded_label label ∷ []
+    (after ≡ before) × (255 < length (wire (before ++ label ∷ [])))
+Joins before label false after = after ≡ before ++ label ∷ []
 
 -- a label of 1 to 63 octets is closed
 pub record Closes (before : List (List ℕ)) (label : List ℕ) (is_left_out : Bool)

@@ -1,6 +1,7 @@
-use Rattle.std.proofs.Common.{◌≡◌, Result, Ok, Err, IfOk, sym}
+use Rattle.std.proofs.Common.{◌≡◌, Result, Ok, Err, IfOk, sym, rules}
 use Rattle.std.specs.Result.{IsOk, is_ok}
-use Rattle.zone_name.proofs.Pushing.{ended_with, taken}
+use Rattle.zone_name.proofs.Letters.{ended_with, joined-long}
+use Rattle.zone_name.proofs.Pushing.{taken}
 use Rattle.zone_name.proofs.reading.end_with.Goals as goal
 
 -- an answer whose fault alone was mapped
@@ -13,5 +14,11 @@ pub returns-clause-ok : goal.returns-clause-ok
 returns-clause-ok c =
     let extended = c.try_extend_from_slice in
     mapped c.map_err.result extended.result _ c.map_err.ensures.variant (λ is.
-    ended_with c.args.octets.now.items c.fold.new.octets.items c.args.ending.now extended.new.self.items
-    c.requires.holds c.requires.name c.fold.ensures (taken extended.result is extended.ensures.ok) (extended.ensures.variant.0 is))
+    ended_with c.args.letters c.args.octets.now.items c.set_letters.new.octets.items c.args.ending.now extended.new.self.items
+    c.set_letters.ensures.holds c.set_letters.ensures.labels c.requires.name (taken extended.result is extended.ensures.ok) (extended.ensures.variant.0 is))
+
+pub returns-clause-err : goal.returns-clause-err
+returns-clause-err c =
+    rw (← c.set_letters.ensures.labels) (
+    let long = joined-long c.args.letters c.set_letters.new.octets.items c.args.ending.now c.set_letters.ensures.holds c.requires.name in
+    search (rules, long))

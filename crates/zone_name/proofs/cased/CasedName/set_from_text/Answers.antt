@@ -1,0 +1,6 @@
+use Rattle.zone_name.proofs.Common.{subst, sym, SpellsCased}
+use Rattle.zone_name.proofs.cased.CasedName.set_from_text.Goals as goal
+
+pub returns-clause-only : goal.returns-clause-only
+returns-clause-only c = λ name spells.
+    c.read_name.ensures.only name (subst (λ o. SpellsCased o c.args.text.now name) (sym c.octets_of-above.ensures.labels) spells)

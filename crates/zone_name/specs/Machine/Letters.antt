@@ -1,0 +1,55 @@
+-- Names that are read with their letters kept or folded.
+use Rattle.std.specs.Prelude.{ℕ, List, Bool, Option, Result, Ok, Err, option_map}
+use Rattle.zone_name.specs.Common.{Labels}
+use Rattle.zone_name.specs.Name.{folded, labels_of, HoldsCasedName, HoldsLabels, HoldsName, IsCasedLabel, IsCasedName, IsLabel, IsName}
+use Rattle.zone_name.specs.Spelling.{Spells, SpellsCased, Written, kept, named}
+use Rattle.zone_name.specs.Machine.LabelWalk.{reading, under_origin}
+use Rattle.zone_name.specs.Machine.Seen.{HoldsCasedLabels}
+use Rattle.zone_name.specs.declared.fault.NameFault.{NameFault}
+use Rattle.zone_name.specs.declared.reading.Letters.{Letters}
+use Rattle.zone_name.specs.declared.reading.Letters.TheVariants.{Kept, Folded}
+
+-- what becomes of labels
+abbrev pub lettered : Letters → Labels → Labels
+lettered Kept labels = labels
+lettered Folded labels = folded labels
+
+-- and of those that are written
+abbrev pub taken_by : Letters → List (List Written) → Labels
+taken_by Kept = kept
+taken_by Folded = named
+
+-- what is true of the labels then
+abbrev pub IsLabelBy : Letters → List ℕ → Type 0
+IsLabelBy Kept = IsCasedLabel
+IsLabelBy Folded = IsLabel
+
+abbrev pub IsNameBy : Letters → Labels → Type 0
+IsNameBy Kept = IsCasedName
+IsNameBy Folded = IsName
+
+-- and of the octets of a name, and of labels
+abbrev pub HoldsNameBy : Letters → List ℕ → Type 0
+HoldsNameBy Kept = HoldsCasedName
+HoldsNameBy Folded = HoldsName
+
+abbrev pub HoldsLabelsBy : Letters → List ℕ → Type 0
+HoldsLabelsBy Kept = HoldsCasedLabels
+HoldsLabelsBy Folded = HoldsLabels
+
+abbrev pub SpellsBy : Letters → Option Labels → List ℕ → Labels → Type 0
+SpellsBy Kept = SpellsCased
+SpellsBy Folded = Spells
+
+-- what was read
+abbrev pub lettered_in : Letters → Result (Labels × Bool) NameFault → Result (Labels × Bool) NameFault
+lettered_in letters (Ok (labels, is_absolute)) = Ok (lettered letters labels, is_absolute)
+lettered_in letters (Err fault) = Err fault
+
+-- the labels of an origin's octets
+abbrev pub origin_in : Option (List ℕ) → Option Labels
+origin_in = option_map labels_of
+
+-- the name of the labels that are read
+abbrev pub name_read : Letters → Option Labels → List ℕ → Result Labels NameFault
+name_read letters origin text = under_origin origin (lettered_in letters (reading text))
