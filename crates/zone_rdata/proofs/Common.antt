@@ -41,7 +41,8 @@ pub use Rattle.zone_rdata.specs.Item.{IsGeneric, RawItem, bare, generic_mark, qu
 pub use Rattle.zone_rdata.specs.Layout.{AreLaidOut, IsData, IsLayout, IsSized, StringsLast, fields_in, fields_of, layout}
 pub use Rattle.zone_rdata.specs.Machine.Each.{HoldEach, SpellEachString}
 pub use Rattle.zone_rdata.specs.Machine.AddressReading.{HasGapAt, IsCutAtFirst, IsGroupOf, IsLastPartOf, Lacks, NoneFits}
-pub use Rattle.zone_rdata.specs.Machine.Appending.{Appends, AppendsFirst, AppendsPrefix, AppendsValue, AreSpelt, BeginsWithNone, BeginsWithValue}
+pub use Rattle.zone_rdata.specs.Appended.{Appends}
+pub use Rattle.zone_rdata.specs.Machine.Appending.{AppendsFirst, AppendsPrefix, AppendsValue, AreSpelt, BeginsWithNone, BeginsWithValue}
 pub use Rattle.zone_rdata.specs.Machine.Building.{ArePushedParts, Grows, IsBuilt, IsOver, IsReal, least_of, more_fields, over_data, over_string, part_field, part_fields, parts_held}
 pub use Rattle.zone_rdata.specs.Machine.Fronts.{AreWithLengths, BeginsWithSent, BeginsWithString, HoldsStrings}
 pub use Rattle.zone_rdata.specs.Machine.Printing.{BeginsWithField, after_field, generic_head, laid_out_text, spaced}
@@ -52,7 +53,7 @@ pub use Rattle.zone_rdata.specs.Record.{Data, IsRdata}
 pub use Rattle.zone_rdata.specs.RrSource.{after, answer_of, first_answer, others}
 pub use Rattle.zone_rdata.specs.Spelling.{IsCanonicalOf, SpellEach, States, StatesFor, in_octets, in_words}
 pub use Rattle.zone_rdata.specs.Strings.{IsString, ReachesUnit, SpellsString, StandsInQuotes, StringFault, bad_escape, inside_text, is_quote, is_shown, item_text, long_string, string_text, unit_text}
-pub use Rattle.zone_rdata.specs.Table.{Named, NamedType, ascend, classes, in_every, in_one, mnemonic_among, number_among, type_names, types}
+pub use Rattle.zone_rdata.specs.Table.{Named, NamedType, ascend, ascends, classes, in_every, in_one, mnemonic_among, number_among, type_names, types}
 pub use Rattle.zone_rdata.specs.Text.{data_items, data_text, generic_text, laid_out_items, written_item}
 pub use Rattle.zone_rdata.specs.Uncompressed.{AreSent, IsUncompressed}
 pub use Rattle.zone_rdata.specs.Words.{IsClass, IsClassWord, IsKind, IsKindWord, IsMnemonic, IsNumbered, IsWordAmong, IsWordFault, beyond, by_mnemonic, by_number, class_text, for_queries, is_meta, kind_text, laid_out_mnemonic, nameless, word_or_numbered}

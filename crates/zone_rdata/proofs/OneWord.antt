@@ -5,7 +5,7 @@ use Rattle.zone_rdata.proofs.Tables.{each_mnemonic}
 
 -- a name and a number right after it
 
-numbered_once : (name word : List ℕ) (a b : ℕ) → IsNumbered name word a → IsNumbered name word b → a ≡ b
+pub numbered_once : (name word : List ℕ) (a b : ℕ) → IsNumbered name word a → IsNumbered name word b → a ≡ b
 numbered_once name word a b x y = cc (length-map x.front folded_octet, length-map y.front folded_octet, drop-append_seam x.front x.digits, drop-append_seam y.front y.digits)
 
 numbered_front : (name word : List ℕ) (n : ℕ) (x : IsNumbered name word n) → folded_label word ≡ folded_label name ++ folded_label x.digits
@@ -13,16 +13,16 @@ numbered_front name word n x = rw (x.parts, map-append, x.named) refl
 
 -- a mnemonic of a table
 
-is_number : ℕ → Option ℕ → Bool
+unfoldable pub is_number : ℕ → Option ℕ → Bool
 is_number n None = false
 is_number n (Some m) = m == n
 
 -- each mnemonic is that of its number alone
-own_numbers : List Named → Bool
+unfoldable pub own_numbers : List Named → Bool
 own_numbers rows = list_all (λ row. is_number row.number (number_among rows row.mnemonic)) rows
 
 -- no mnemonic begins with the name
-unlike : List ℕ → List Named → Bool
+unfoldable pub unlike : List ℕ → List Named → Bool
 unlike name rows = list_all (λ row. not (bytes_eq (take (length name) (folded_label row.mnemonic)) (folded_label name))) rows
 
 the_number : (n : ℕ) (found : Option ℕ) → is_number n found ≡ true → found ≡ Some n
@@ -35,7 +35,7 @@ mnemonic_number rows own word n x =
     ap (λ w. option_map (λ row. row.number) (find (λ row. bytes_eq w (folded_label row.mnemonic)) rows)) x.same
     ∙ the_number n (number_among rows x.name) (each_mnemonic (λ n name. is_number n (number_among rows name)) rows own n x.name x.row)
 
-mnemonic_once : (rows : List Named) → own_numbers rows ≡ true → (word : List ℕ) (a b : ℕ) → IsMnemonic rows word a → IsMnemonic rows word b → a ≡ b
+pub mnemonic_once : (rows : List Named) → own_numbers rows ≡ true → (word : List ℕ) (a b : ℕ) → IsMnemonic rows word a → IsMnemonic rows word b → a ≡ b
 mnemonic_once rows own word a b x y = cc (mnemonic_number rows own word a x, mnemonic_number rows own word b y)
 
 mnemonic_or_numbered : (rows : List Named) (name : List ℕ) → unlike name rows ≡ true → (word : List ℕ) (a b : ℕ) → IsMnemonic rows word a → IsNumbered name word b → ⊥
@@ -52,7 +52,7 @@ class_number = mnemonic_number classes refl
 
 -- words
 
-word_once : (rows : List Named) (name : List ℕ) → own_numbers rows ≡ true → unlike name rows ≡ true → (word : List ℕ) (a b : ℕ) → IsWordAmong rows name word a → IsWordAmong rows name word b → a ≡ b
+pub word_once : (rows : List Named) (name : List ℕ) → own_numbers rows ≡ true → unlike name rows ≡ true → (word : List ℕ) (a b : ℕ) → IsWordAmong rows name word a → IsWordAmong rows name word b → a ≡ b
 word_once rows name own apart word a b (by_mnemonic x) (by_mnemonic y) = mnemonic_once rows own word a b x y
 word_once rows name own apart word a b (by_mnemonic x) (by_number y) = absurd (mnemonic_or_numbered rows name apart word a b x y)
 word_once rows name own apart word a b (by_number x) (by_mnemonic y) = absurd (mnemonic_or_numbered rows name apart word b a y x)

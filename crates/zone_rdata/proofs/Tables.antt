@@ -1,5 +1,5 @@
 -- What is found in a table of rows, and what holds of each row.
-use Rattle.zone_rdata.proofs.Common.{[], ◌≡◌, ℕ, ◌<◌, List, ◌∷◌, length, map, Bool, true, false, not, cond, ◌&&◌, ◌||◌, ◌==◌, nat_lt, nat_le, bytes_eq, Option, Some, None, refl, sym, ap, ◌∙◌, subst, arith, AllByRecursion, find, list_all, option_map, eqb-true, eq-eqb, and_parts, or_cases, not-true, cond-true, false≢true, nat_tests, bytes_eq-Decides, folded_label, Field, IsLayout, IsSized, StringsLast, fields_in, layout, is_strings, Named, NamedType, in_every, in_one, ascend, mnemonic_among, number_among, types, IsMnemonic}
+use Rattle.zone_rdata.proofs.Common.{[], ◌≡◌, ℕ, ◌<◌, List, ◌∷◌, length, map, Bool, true, false, not, cond, ◌&&◌, ◌||◌, ◌==◌, nat_lt, nat_le, bytes_eq, Option, Some, None, refl, sym, ap, ◌∙◌, subst, arith, AllByRecursion, find, list_all, option_map, eqb-true, eq-eqb, and_parts, or_cases, not-true, cond-true, false≢true, nat_tests, bytes_eq-Decides, folded_label, Field, IsLayout, IsSized, StringsLast, fields_in, layout, is_strings, Named, NamedType, in_every, in_one, ascend, ascends, mnemonic_among, number_among, types, IsMnemonic}
 use Rattle.zone_rdata.specs.declared.field.Field.TheVariants as fields
 
 -- ---- the first element that passes a test
@@ -57,23 +57,26 @@ own_here row rest = cond-true _ _ _ (eq-eqb row.number row.number refl)
 own_after : (row x : Named) (rest : Option Named) → row.number < x.number → rest ≡ Some x → cond (x.number == row.number) (Some row) rest ≡ Some x
 own_after row x rest above e = grind (arith, eqb-true)
 
+ascends_from : (low : ℕ) (rows : List Named) → ascend low rows ≡ true → ascends rows ≡ true
+ascends_from low [] up = refl
+ascends_from low (row ∷ rows) up = (and_parts (nat_lt low row.number) (ascend row.number rows) up).1
+
 -- a row is the one of its number
-own_row : (low : ℕ) (rows : List Named) (q : Named → Bool) (x : Named) → ascend low rows ≡ true → find q rows ≡ Some x → find (λ row. x.number == row.number) rows ≡ Some x
-own_row low [] q x up e = absurd cc
-own_row low (row ∷ rows) q x up e =
-    let both = and_parts (nat_lt low row.number) (ascend row.number rows) up in
-    cc (found_by row x (find q rows) (λ z. cond (z.number == row.number) (Some row) (find (λ other. z.number == other.number) rows) ≡ Some z) (q row) e (λ t. own_here row (find (λ other. row.number == other.number) rows)) (λ more. own_after row x (find (λ other. x.number == other.number) rows) (found_above row.number rows q x both.1 more) (own_row row.number rows q x both.1 more)))
+own_row : (rows : List Named) (q : Named → Bool) (x : Named) → ascends rows ≡ true → find q rows ≡ Some x → find (λ row. x.number == row.number) rows ≡ Some x
+own_row [] q x up e = absurd cc
+own_row (row ∷ rows) q x up e =
+    cc (found_by row x (find q rows) (λ z. cond (z.number == row.number) (Some row) (find (λ other. z.number == other.number) rows) ≡ Some z) (q row) e (λ t. own_here row (find (λ other. row.number == other.number) rows)) (λ more. own_after row x (find (λ other. x.number == other.number) rows) (found_above row.number rows q x up more) (own_row rows q x (ascends_from row.number rows up) more)))
 
 -- the row of a word has a number of which the word is the mnemonic
-pub row_is : (rows : List Named) → ascend 0 rows ≡ true → (word : List ℕ) (row : Named) → find (λ row. bytes_eq (folded_label word) (folded_label row.mnemonic)) rows ≡ Some row → IsMnemonic rows word row.number
+pub row_is : (rows : List Named) → ascends rows ≡ true → (word : List ℕ) (row : Named) → find (λ row. bytes_eq (folded_label word) (folded_label row.mnemonic)) rows ≡ Some row → IsMnemonic rows word row.number
 row_is rows up word row e = record {
   name = row.mnemonic;
-  row = ap (option_map (λ row. row.mnemonic)) (own_row 0 rows (λ row. bytes_eq (folded_label word) (folded_label row.mnemonic)) row up e);
+  row = ap (option_map (λ row. row.mnemonic)) (own_row rows (λ row. bytes_eq (folded_label word) (folded_label row.mnemonic)) row up e);
   same = (bytes_eq-Decides (folded_label word) (folded_label row.mnemonic)).0 (found_passes (λ row. bytes_eq (folded_label word) (folded_label row.mnemonic)) rows row e);
 }
 
 -- and so has the number that a word finds
-pub number_is : (rows : List Named) → ascend 0 rows ≡ true → (word : List ℕ) (n : ℕ) → number_among rows word ≡ Some n → IsMnemonic rows word n
+pub number_is : (rows : List Named) → ascends rows ≡ true → (word : List ℕ) (n : ℕ) → number_among rows word ≡ Some n → IsMnemonic rows word n
 number_is rows up word n = grind (arith, bytes_eq, row_is)
 
 -- a word of no row is no mnemonic

@@ -1,5 +1,5 @@
 -- A word is that of a class or of none, and that of a type or of none.
-use Rattle.zone_rdata.proofs.Common.{◌≡◌, ℕ, ◌<◌, Bool, true, false, List, length, take, drop, codes, Option, Some, None, ◌⊎◌, inl, inr, refl, sym, ap, ◌∙◌, subst, bytes_eq, arith, find, cases_lt, false≢true, take_at, drop_at, length-map, take-append-drop, bytes_eq-Decides, folded_label, IsDecimal, Named, classes, type_names, ascend, IsKind, is_meta, IsMnemonic, IsNumbered, IsWordAmong, by_mnemonic, by_number, IsClassWord, IsKindWord, IsWordFault, nameless, beyond, for_queries, Fault, UnknownType, MetaType}
+use Rattle.zone_rdata.proofs.Common.{◌≡◌, ℕ, ◌<◌, Bool, true, false, List, length, take, drop, codes, Option, Some, None, ◌⊎◌, inl, inr, refl, sym, ap, ◌∙◌, subst, bytes_eq, arith, find, cases_lt, false≢true, take_at, drop_at, length-map, take-append-drop, bytes_eq-Decides, folded_label, IsDecimal, Named, classes, type_names, ascends, IsKind, is_meta, IsMnemonic, IsNumbered, IsWordAmong, by_mnemonic, by_number, IsClassWord, IsKindWord, IsWordFault, nameless, beyond, for_queries, Fault, UnknownType, MetaType}
 use Rattle.zone_rdata.proofs.Choices.{Choice, Decided, choice_as, true_or_not}
 use Rattle.zone_rdata.proofs.GenericLaws.{decimal_or_not}
 use Rattle.zone_rdata.proofs.Tables.{row_is, no_row}
@@ -9,7 +9,7 @@ pub same_or_not : (a b : List ℕ) → Decided (a ≡ b)
 same_or_not a b = elim (true_or_not (bytes_eq a b)) [ inl same ↦ inl ((bytes_eq-Decides a b).0 same) | inr other ↦ inr (λ h. other ((bytes_eq-Decides a b).1 h)) ]
 
 -- ---- a mnemonic
-mnemonic_by : (rows : List Named) → ascend 0 rows ≡ true → (word : List ℕ) (found : Option Named) → find (λ row. bytes_eq (folded_label word) (folded_label row.mnemonic)) rows ≡ found → Choice (IsMnemonic rows word)
+mnemonic_by : (rows : List Named) → ascends rows ≡ true → (word : List ℕ) (found : Option Named) → find (λ row. bytes_eq (folded_label word) (folded_label row.mnemonic)) rows ≡ found → Choice (IsMnemonic rows word)
 mnemonic_by rows up word None e = inr (no_row rows word e)
 mnemonic_by rows up word (Some row) e = inl (row.number, row_is rows up word row e)
 
@@ -42,7 +42,7 @@ word_by rows name word (inl found) numbered = inl (found.0, by_mnemonic found.1)
 word_by rows name word (inr none) (inl found) = inl (found.0, by_number found.1)
 word_by rows name word (inr none) (inr none') = inr (no_word rows name word none none')
 
-word_or_not : (rows : List Named) (name : List ℕ) → ascend 0 rows ≡ true → (word : List ℕ) → Choice (IsWordAmong rows name word)
+word_or_not : (rows : List Named) (name : List ℕ) → ascends rows ≡ true → (word : List ℕ) → Choice (IsWordAmong rows name word)
 word_or_not rows name up word = word_by rows name word (mnemonic_by rows up word (find (λ row. bytes_eq (folded_label word) (folded_label row.mnemonic)) rows) refl) (numbered_or_not name word)
 
 pub class_or_not : (word : List ℕ) → Choice (IsClassWord word)

@@ -1,5 +1,5 @@
 -- Words that are equal in any case of their letters.
-use Rattle.zone_rdata.proofs.Common.{◌≡◌, ℕ, ◌<◌, ◌≤◌, true, false, List, map, sym, ap, ◌∙◌, arith, IsTrue, ◌↔◌, inl, inr, Some, None, min, subst, bytes_eq, Bool, find, option_map, cases_lt, bytes_eq-Decides, folded_label, Named, ascend, IsKind, IsNumbered, IsWordAmong, by_mnemonic, by_number, IsKindWord, IsWordFault, for_queries, beyond, Fault, rules, to_ascii_lowercase, UnknownType, MetaType}
+use Rattle.zone_rdata.proofs.Common.{◌≡◌, ℕ, ◌<◌, ◌≤◌, true, false, List, map, sym, ap, ◌∙◌, arith, IsTrue, ◌↔◌, inl, inr, Some, None, min, subst, bytes_eq, Bool, find, option_map, cases_lt, bytes_eq-Decides, folded_label, Named, ascends, IsKind, IsNumbered, IsWordAmong, by_mnemonic, by_number, IsKindWord, IsWordFault, for_queries, beyond, Fault, rules, to_ascii_lowercase, UnknownType, MetaType}
 use Rattle.zone_rdata.proofs.Tables.{find_mapped, row_is, no_row}
 
 lowercase_folds_all : (text : List ℕ) → map to_ascii_lowercase text ≡ folded_label text
@@ -22,7 +22,7 @@ other_test word name mnemonic e other = grind (arith, test_by, bytes_eq)
 -- ---- the number that a word stands for
 
 -- the row that a word finds is that of a number
-pub word_of_row : {R : Type 0} (names : R → Named) (rows : List R) (name word : List ℕ) (row : R) (n : ℕ) → ascend 0 (map names rows) ≡ true → Some row ≡ find (λ row. bytes_eq (folded_label word) (folded_label (names row).mnemonic)) rows → n ≡ (names row).number → n < 65536 → (m : ℕ) × (IsWordAmong (map names rows) name word m × (n ≡ min 4294967296 m))
+pub word_of_row : {R : Type 0} (names : R → Named) (rows : List R) (name word : List ℕ) (row : R) (n : ℕ) → ascends (map names rows) ≡ true → Some row ≡ find (λ row. bytes_eq (folded_label word) (folded_label (names row).mnemonic)) rows → n ≡ (names row).number → n < 65536 → (m : ℕ) × (IsWordAmong (map names rows) name word m × (n ≡ min 4294967296 m))
 word_of_row names rows name word row n up e number short =
     let found = find_mapped names (λ row. bytes_eq (folded_label word) (folded_label row.mnemonic)) rows ∙ ap (option_map names) (sym e) in
     ((names row).number, (by_mnemonic (row_is (map names rows) up word (names row) found), omega arith))

@@ -58,6 +58,11 @@ pub record ArePartsOf (ends : Bool) (text octets : List ℕ) : Type 0 where
   pub parted : text ≡ parts_text parts
   pub value : octets ≡ parts_octets parts
 
+-- four groups parted by colons, and their octets: a node identifier (RFC 6742 2.1)
+pub record AreFourGroups (text octets : List ℕ) : Type 0 where
+  pub groups : ArePartsOf false text octets
+  pub four : length octets ≡ 8
+
 -- groups before and after `::`, and the octets of them and of the zero groups between them, at
 -- least one
 pub record AreAround (front back octets : List ℕ) : Type 0 where

@@ -2,6 +2,7 @@ pub mod Fault
 pub mod FaultTable
 pub mod Cause
 pub mod Item
+pub mod Appended
 pub mod Strings
 pub mod Address
 pub mod Number
@@ -17,6 +18,7 @@ pub mod Lent
 pub mod Minimum
 pub mod Order
 pub mod Spelling
+pub mod LeftOut
 pub mod Wire
 pub mod DataFault
 pub mod Text

@@ -8,4 +8,4 @@ pub mod Building
 pub mod Each
 pub mod Fronts
 pub mod GenericLength
-pub mod LeftOut
+pub mod Written

@@ -63,7 +63,12 @@ number_among rows word =
     option_map (λ row. row.number)
     (find (λ row. bytes_eq (folded_label word) (folded_label row.mnemonic)) rows)
 
--- the numbers ascend from above the first
+-- the numbers ascend from above one
 abbrev pub ascend : ℕ → List Named → Bool
 ascend above [] = true
 ascend above (row ∷ rows) = nat_lt above row.number && ascend row.number rows
+
+-- the numbers ascend
+abbrev pub ascends : List Named → Bool
+ascends [] = true
+ascends (row ∷ rows) = ascend row.number rows

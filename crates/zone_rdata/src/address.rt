@@ -5,6 +5,7 @@ mod ipv4;
 mod ipv6;
 mod printing;
 
-pub(crate) use ipv4::ipv4_octets_of;
-pub(crate) use ipv6::ipv6_octets_of;
+pub use groups::four_groups_of;
+pub use ipv4::ipv4_octets_of;
+pub use ipv6::ipv6_octets_of;
 pub(crate) use printing::{push_ipv4, push_ipv6};

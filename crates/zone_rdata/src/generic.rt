@@ -3,7 +3,7 @@ ghost use Rattle.hex.specs.Hex.{decode_of};
 ghost use Rattle.zone_name.specs.Common.{Octets};
 ghost use Rattle.zone_rdata.specs.Fault.{IfFault, NoValue};
 ghost use Rattle.zone_rdata.specs.Generic.{GenericFault, JoinTo, StatesGeneric, StatesLength};
-ghost use Rattle.zone_rdata.specs.Machine.Appending.{Appends};
+ghost use Rattle.zone_rdata.specs.Appended.{Appends};
 ghost use Rattle.zone_rdata.specs.Machine.GenericLength.{LengthFault};
 ghost use Rattle.zone_rdata.specs.Item.{IsGeneric, raw};
 

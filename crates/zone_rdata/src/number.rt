@@ -11,8 +11,9 @@ use zone_name::Sink;
 /// What a number is cut off at: one over the greatest number of 32 bits.
 pub(crate) const CAP: u64 = 4294967296;
 
-/// The number that one or more decimal digits stand for, at most `CAP`. `None`: the text is none.
-pub(crate) fn decimal_of(text: &[u8]) -> Option<u64>
+/// The number that one or more decimal digits stand for (RFC 1035 5.1), leading zeros allowed: 2 ^
+/// 32 where it is greater. `None`: the text isn't so.
+pub fn decimal_of(text: &[u8]) -> Option<u64>
     ensures found { IfSome result (IsCapped (IsDecimal text.now)) }
     ensures none { IfNone result (NothingIs (IsDecimal text.now)) }
 {

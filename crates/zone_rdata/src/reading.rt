@@ -22,7 +22,7 @@ pub(crate) fn are_octets(octets: &[u8])
 }
 
 /// Whether the first item is the mark of the generic form, `\#` (RFC 3597 5).
-pub(crate) fn is_generic(items: &[Item]) -> bool
+pub fn is_generic(items: &[Item]) -> bool
     ensures { IsTrue result ↔ IsGeneric (map raw items.now) }
 {
     match items.first() {

@@ -3,7 +3,7 @@ ghost use Rattle.zone_name.specs.Name.{with_length};
 ghost use Rattle.zone_name.specs.Sink.{TakesSome};
 ghost use Rattle.zone_rdata.specs.Item.{raw};
 ghost use Rattle.zone_rdata.specs.Strings.{SpellsString, StringFault, item_text, string_text, unit_text};
-ghost use Rattle.zone_rdata.specs.Machine.Appending.{Appends};
+ghost use Rattle.zone_rdata.specs.Appended.{Appends};
 ghost use Rattle.zone_rdata.specs.Machine.NarrowFailing.{IsFaultOf};
 
 use crate::cause::Cause;
@@ -21,7 +21,7 @@ use zone_name::{NextUnit, Sink, decimal_escape, next_unit};
 /// # Errors
 ///
 /// The leftmost `BadEscape` or `StringTooLong`; and `Memory` where memory is refused.
-pub(crate) fn push_string(item: Item, out: &mut Vec<u8>) -> Result<(), NarrowFailing>
+pub fn push_string(item: Item, out: &mut Vec<u8>) -> Result<(), NarrowFailing>
     ensures found { OnOk result
         (Appends (SpellsString (raw item.entry)) with_length out.old.items out.new.items) }
     ensures fault { (fault : Fault) → result ≡ Err (Failing.Fault fault)

@@ -6,12 +6,14 @@ ghost use Rattle.zone_rdata.specs.Table.{Named};
 use crate::field::Field;
 
 /// A row of a table: a number and the mnemonic that stands for it.
-pub(crate) trait Row {
+pub trait Row {
     ghost names: { Self → Named };
 
+    /// The number.
     fn number(&self) -> u16
         ensures { result ≡ (names self.now).number };
 
+    /// The mnemonic, in the letter case that is printed.
     fn mnemonic(&self) -> &'static [u8]
         ensures { result.now ≡ (names self.now).mnemonic };
 }
@@ -155,8 +157,8 @@ pub(crate) static TYPES: &[TypeRow] = &[
     },
 ];
 
-/// The row of a number.
-pub(crate) fn row_of<R: Row>(rows: &[R], number: u16) -> Option<&R>
+/// The first row of a number. `None`: there is none.
+pub fn row_of<R: Row>(rows: &[R], number: u16) -> Option<&R>
     ensures { option_copied result ≡ find (λ row. number == (R.names row).number) rows.now }
 {
     for row in rows {

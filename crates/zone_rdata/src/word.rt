@@ -3,7 +3,7 @@ ghost use Rattle.std.specs.List.{find};
 ghost use Rattle.zone_name.specs.Common.{NothingIs};
 ghost use Rattle.zone_name.specs.Name.{folded_label};
 ghost use Rattle.zone_rdata.specs.Number.{IsCapped};
-ghost use Rattle.zone_rdata.specs.Table.{ascend};
+ghost use Rattle.zone_rdata.specs.Table.{ascends};
 ghost use Rattle.zone_rdata.specs.Words.{IsNumbered, IsWordAmong};
 
 use crate::number::decimal_of;
@@ -12,8 +12,8 @@ use arrayvec::ArrayVec;
 use itoa::Buffer;
 use zone_name::Sink;
 
-/// Whether two words are equal but for the case of their letters.
-pub(crate) fn is_word(word: &[u8], wanted: &[u8]) -> bool
+/// Whether two words are equal but for the case of their letters (RFC 4343 3).
+pub fn is_word(word: &[u8], wanted: &[u8]) -> bool
     ensures { IsTrue result ↔ (folded_label word.now ≡ folded_label wanted.now) }
 {
     word.eq_ignore_ascii_case(wanted)
@@ -35,8 +35,8 @@ pub(crate) fn numbered(name: &[u8], word: &[u8]) -> Option<u64>
     decimal_of(digits)
 }
 
-/// The row whose mnemonic a word is, in any letter case.
-fn row_named<'r, R: Row>(rows: &'r [R], word: &[u8]) -> Option<&'r R>
+/// The first row whose mnemonic a word is, in any letter case. `None`: there is none.
+pub fn row_named<'r, R: Row>(rows: &'r [R], word: &[u8]) -> Option<&'r R>
     ensures { option_copied result
         ≡ find (λ row. bytes_eq (folded_label word.now) (folded_label (R.names row).mnemonic))
         rows.now }
@@ -49,10 +49,11 @@ fn row_named<'r, R: Row>(rows: &'r [R], word: &[u8]) -> Option<&'r R>
     None
 }
 
-/// The number that a word stands for in any letter case, at most `CAP`: that of a mnemonic of the
-/// rows, or the one right after the name. `None`: it is no such word.
-pub(crate) fn number_of_word<R: Row>(rows: &[R], name: &[u8], word: &[u8]) -> Option<u64>
-    requires { ascend 0 (map R.names rows.now) ≡ true }
+/// The number that a word stands for in any letter case: that of a mnemonic of the rows, or the one
+/// right after the name, as in `TYPE65` (RFC 3597 5); 2 ^ 32 where it is greater. `None`: it is no
+/// such word.
+pub fn number_of_word<R: Row>(rows: &[R], name: &[u8], word: &[u8]) -> Option<u64>
+    requires { ascends (map R.names rows.now) ≡ true }
     ensures found { IfSome result
         (IsCapped (IsWordAmong (map R.names rows.now) name.now word.now)) }
     ensures none { IfNone result

@@ -1,18 +1,12 @@
 -- Octets that grow while the items of record data are read.
 use Rattle.std.specs.Prelude.{◌≡◌, ℕ, List, ◌++◌, ◌≤◌, [], length, take, drop}
 use Rattle.zone_name.specs.Common.{Labels}
+use Rattle.zone_rdata.specs.Appended.{Appends}
 use Rattle.zone_rdata.specs.declared.field.Field.{Field}
 use Rattle.zone_rdata.specs.Field.{FieldValue, field_octets, octets_of, SpellsField, own_items, items_after, Holds, IsSent}
 use Rattle.zone_rdata.specs.Item.{RawItem}
 use Rattle.zone_rdata.specs.Spelling.{SpellEach}
 use Rattle.zone_rdata.specs.declared.field.Field.TheVariants.{Strings}
-
--- the octets of a value that is stated are appended
-pub record Appends {V : Type 0} (Stated : V → Type 0) (octets : V → List ℕ)
-    (old new : List ℕ) : Type 0 where
-  pub value : V
-  pub stated : Stated value
-  pub written : new ≡ old ++ octets value
 
 -- the octets of the value that items spell for a field are appended
 abbrev pub AppendsField : Labels → Field → List RawItem → List ℕ → List ℕ → Type 0

@@ -1,6 +1,6 @@
 ghost use Rattle.std.specs.Prelude.{◌≡◌, ◌+◌, ◌<◌, ◌≤◌, ◌++◌, length, IfSome, IfNone, OnSome};
 ghost use Rattle.zone_name.specs.Common.{NothingIs, Octets};
-ghost use Rattle.zone_rdata.specs.Address.{ArePartsOf};
+ghost use Rattle.zone_rdata.specs.Address.{AreFourGroups, ArePartsOf};
 ghost use Rattle.zone_rdata.specs.Machine.AddressReading.{AppendsSome, IsGroupOf, IsLastPartOf, NoneFits};
 
 use super::ipv4::{cut_at, ipv4_octets_of};
@@ -77,5 +77,20 @@ pub(super) fn octets_of_parts(text: &[u8], ends: bool) -> Option<ArrayVec<u8, LE
         rest = after;
     }
     push_last(&mut octets, rest, ends)?;
+    Some(octets)
+}
+
+/// The octets of four groups parted by colons, each of one to four hexadecimal digits, as in the
+/// text of a node identifier (RFC 6742 2.1). `None`: the text isn't so.
+pub fn four_groups_of(text: &[u8]) -> Option<[u8; 8]>
+    ensures found { IfSome result (λ octets. AreFourGroups text.now octets) }
+    ensures none { IfNone result (NothingIs (AreFourGroups text.now)) }
+{
+    let groups = octets_of_parts(text, false)?;
+    if groups.len() != 8 {
+        return None;
+    }
+    let mut octets = [0; 8];
+    octets.copy_from_slice(groups.as_slice());
     Some(octets)
 }

@@ -53,7 +53,7 @@ fn octets_around(front: &[u8], back: &[u8]) -> Option<[u8; 16]>
 }
 
 /// The octets of an address in groups (RFC 4291 2.2). `None`: the text is no such address.
-pub(crate) fn ipv6_octets_of(text: &[u8]) -> Option<[u8; 16]>
+pub fn ipv6_octets_of(text: &[u8]) -> Option<[u8; 16]>
     ensures found { IfSome result (λ octets. IsIpv6Address text.now octets) }
     ensures none { IfNone result (NothingIs (IsIpv6Address text.now)) }
 {

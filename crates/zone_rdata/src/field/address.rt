@@ -2,7 +2,7 @@ ghost use Rattle.std.specs.Prelude.{[], ◌≡◌, ◌⊎◌, length, IfErr, OnO
 ghost use Rattle.zone_rdata.specs.Field.{fixed, field_text};
 ghost use Rattle.zone_rdata.specs.Fault.{NoValue, IfFault};
 ghost use Rattle.zone_rdata.specs.Fields.Address.{IsAddress};
-ghost use Rattle.zone_rdata.specs.Machine.Appending.{Appends};
+ghost use Rattle.zone_rdata.specs.Appended.{Appends};
 
 use crate::address::{ipv4_octets_of, ipv6_octets_of, push_ipv4, push_ipv6};
 use crate::cause::Cause;

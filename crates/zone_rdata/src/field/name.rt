@@ -3,7 +3,7 @@ ghost use Rattle.zone_name.specs.Name.{wire};
 ghost use Rattle.zone_name.specs.Spelling.{Spells};
 ghost use Rattle.zone_rdata.specs.Fault.{IfFault};
 ghost use Rattle.zone_rdata.specs.Fields.Name.{IsNameFault};
-ghost use Rattle.zone_rdata.specs.Machine.Appending.{Appends};
+ghost use Rattle.zone_rdata.specs.Appended.{Appends};
 ghost use Rattle.zone_rdata.specs.Machine.Appending.{AppendsValue, BeginsWithNone};
 ghost use Rattle.zone_rdata.specs.Machine.Fronts.{BeginsWithSent};
 

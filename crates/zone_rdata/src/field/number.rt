@@ -2,7 +2,7 @@ ghost use Rattle.std.specs.Prelude.{◌≡◌, ◌≤◌, drop, length, IfErr, O
 ghost use Rattle.std.specs.Int.{w16, w32, to_be_bytes};
 ghost use Rattle.zone_rdata.specs.Fault.{NoValue, IfFault};
 ghost use Rattle.zone_rdata.specs.Fields.Number.{SpellsNumber, number_at};
-ghost use Rattle.zone_rdata.specs.Machine.Appending.{Appends};
+ghost use Rattle.zone_rdata.specs.Appended.{Appends};
 
 use crate::fault::Fault;
 use crate::narrow_failing::NarrowFailing;

@@ -6,7 +6,7 @@ ghost use Rattle.zone_name.specs.Name.{with_length};
 ghost use Rattle.zone_rdata.specs.Fault.{IfFault};
 ghost use Rattle.zone_rdata.specs.Fields.Strings.{SpellsStrings, StringsFault, strings_of};
 ghost use Rattle.zone_rdata.specs.Item.{raw};
-ghost use Rattle.zone_rdata.specs.Machine.Appending.{Appends};
+ghost use Rattle.zone_rdata.specs.Appended.{Appends};
 ghost use Rattle.zone_rdata.specs.Machine.Appending.{AppendsValue, BeginsWithNone};
 ghost use Rattle.zone_rdata.specs.Machine.Fronts.{AreWithLengths, HoldsStrings};
 

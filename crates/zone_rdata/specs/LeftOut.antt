@@ -1,6 +1,6 @@
 -- Items of which some that spell strings are left out, after more items than any data can have.
-use Rattle.std.specs.Prelude.{◌≡◌, ℕ, ◌<◌, ◌≤◌, List, [], ◌∷◌, ◌++◌, length, ⊤, ◌⊎◌}
-use Rattle.zone_rdata.specs.Item.{RawItem, bare, quoted}
+use Rattle.std.specs.Prelude.{◌≡◌, ℕ, ◌≤◌, List, [], ◌∷◌, ◌++◌, length, ◌⊎◌}
+use Rattle.zone_rdata.specs.Item.{RawItem}
 use Rattle.zone_rdata.specs.Strings.{SpellsString}
 
 -- some of the items are left out, each of which spells a string
@@ -19,8 +19,3 @@ pub record AreShortened (n : ℕ) (items kept : List RawItem) : Type 0 where
   pub are_kept : kept ≡ first ++ others
   pub many : n ≤ length first
   pub out : LeavesOut more others
-
--- a bare item has a text
-abbrev pub IsWritten : RawItem → Type 0
-IsWritten (bare text) = 0 < length text
-IsWritten (quoted text) = ⊤
