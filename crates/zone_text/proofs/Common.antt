@@ -11,7 +11,7 @@ pub use Rattle.std.proofs.lemmas.Result.{err_from_is_err_and, on_ok_weaker}
 pub use Rattle.std.proofs.lemmas.Slice.Eq.{bytes_eq-Decides}
 pub use Rattle.std.specs.List.{All, AllByRecursion, count_by, flat_map, join_with_byte, list_all, list_any}
 pub use Rattle.std.specs.Option.{option_or}
-pub use Rattle.std.specs.Prelude.{IsSomeAnd, OnOk, is_some, option_and_then, reverse, slice_get, unwrap_or, ⊤}
+pub use Rattle.std.specs.Prelude.{IsSomeAnd, OnOk, is_some, option_and_then, option_map, reverse, slice_get, unwrap_or, ⊤}
 pub use Rattle.zone_name.proofs.Pushing.{AllByRecursion-append, AllByRecursion-back, AllByRecursion-front}
 pub use Rattle.zone_name.proofs.Units.{NoUnit, UnitsAre, at_backslash, at_end, at_octet, text_of-some, unit_of_escape, units_first_are, units_first_only}
 pub use Rattle.zone_name.specs.Common.{Labels, NothingIs}
@@ -27,7 +27,8 @@ pub use Rattle.zone_rdata.specs.DataFault.{IsDataFault}
 pub use Rattle.zone_rdata.specs.Fault.{IfFault, fault_of}
 pub use Rattle.zone_rdata.specs.FedSource.{SourceState, counted, is_finished}
 pub use Rattle.zone_rdata.specs.Item.{RawItem, raw}
-pub use Rattle.zone_rdata.specs.Machine.LeftOut.{AreShortened, IsWritten, LeavesOut}
+pub use Rattle.zone_rdata.specs.LeftOut.{AreShortened, LeavesOut}
+pub use Rattle.zone_rdata.specs.Machine.Written.{IsWritten}
 pub use Rattle.zone_rdata.specs.Minimum.{minimum}
 pub use Rattle.zone_rdata.specs.Number.{Group, IsDecimal, IsTime, IsTimeGroup, decimal_value, group_text}
 pub use Rattle.zone_rdata.specs.Record.{Data, IsRecord, Record, data_of}
@@ -46,6 +47,9 @@ pub use Rattle.zone_text.specs.Decided.{AreTokens, FileDecides, Stays, decided, 
 pub use Rattle.zone_text.specs.Entries.{Cut, Entry, and_last, cut_from, ended_entries, entries_of, entry_of, in_front, in_front_of, item_of, numbered, open_line}
 pub use Rattle.zone_text.specs.EntryFault.{EntryFault, IsNameFaultAfter, PartsFault, StatementFault, TtlFault, WordFault, long, none, of_parts, of_rdata, of_statement, of_ttl}
 pub use Rattle.zone_text.specs.ExampleEntries.{address, ns, soa, under, x}
+pub use Rattle.zone_text.specs.FirstEntry.{FirstIs, IsBrokenOff, IsFirstEntry, IsOneEntry, IsOpen}
+pub use Rattle.zone_text.specs.Kept.{AreKept, KeepsItems}
+pub use Rattle.zone_text.specs.Stated.{directive_in, statement_in}
 pub use Rattle.zone_text.specs.File.{EntriesState, FileStates, states_none, states_one}
 pub use Rattle.zone_text.specs.FileReads.{Ending, FileReads, ReadEach, broken, refused, stated, whole}
 pub use Rattle.zone_text.specs.Inherited.{HasClass, IsLastOwner, IsOrigin, IsOwner, IsTtl, SpellsAfter, class_word, default_ttl_text, latest, origin_text, owner_text, stated_ttl, ttl_text}
@@ -58,19 +62,19 @@ pub use Rattle.zone_text.specs.Machine.EntryReading.{DecidesEntry, DecidesFault,
 pub use Rattle.zone_text.specs.Machine.Feeding.{Follow, IsSplitter, ReadsEntry, ReadsOctets, ScansTo, state_of}
 pub use Rattle.zone_text.specs.Machine.ItemLengths.{EndsAt, EndsBefore, ItemReaches, ends_within, stops_bare, stops_within}
 unfoldable pub use Rattle.zone_text.specs.Machine.ItemLengths.{item_len}
-pub use Rattle.zone_text.specs.Machine.Kept.{AreKept, IsShort, Keeps}
-pub use Rattle.zone_text.specs.Machine.Line.{IsFirstEntry, IsInFront, IsInside, IsQuoted, KeepsItems}
+pub use Rattle.zone_text.specs.Machine.Kept.{IsShort, Keeps}
+pub use Rattle.zone_text.specs.Machine.Line.{IsInFront, IsInside, IsQuoted}
 pub use Rattle.zone_text.specs.Machine.Lower.{Choices, Lower, Once}
-pub use Rattle.zone_text.specs.Machine.Parsed.{directive_in, statement_in}
-pub use Rattle.zone_text.specs.Machine.Scan.{AreQuiet, IsOneEntry, beginning, closed, comment_step, end_fault_of, ends_number, escape_step, fed_line, further, moves, on, open_at, open_step, quoted_step, scan_on, step_in, step_of, unclosed}
+pub use Rattle.zone_text.specs.Machine.Scan.{AreQuiet, beginning, closed, comment_step, end_fault_of, ends_number, escape_step, fed_line, further, moves, on, open_at, open_step, quoted_step, scan_on, step_in, step_of, unclosed}
 unfoldable pub use Rattle.zone_text.specs.Machine.Scan.{scan_of}
+pub use Rattle.zone_text.specs.Machine.WordTexts.{HaveTexts}
 pub use Rattle.zone_text.specs.Machine.WordValues.{AreWordsOf, HaveValues}
 pub use Rattle.zone_text.specs.Outcome.{AllState, AreOctetItems}
 pub use Rattle.zone_text.specs.ParserState.{IsOneOrNone, IsStateAfter, IsTtlOrNone}
 pub use Rattle.zone_text.specs.Records.{EntryStates, HasContents, HasHead, HasTtl, HasValue, IsLastMinimum, StatesMinimum, StatesNothing}
 pub use Rattle.zone_text.specs.Statements.{Parts, Statement, Word, are_digits, begins_with_digit, class, class_among, directive, includes, is_class_word, no_items, owned, parts_after, parts_in, sets_origin, sets_ttl, statement_by, statement_of, ttl, ttl_among, unknown, unless_stated, unowned, word_after}
 pub use Rattle.zone_text.specs.TextSource.{AreUnfinished, FileKept, FileLeaves, StandsForFile}
-pub use Rattle.zone_text.specs.Tokens.{AllFollow, Cuts, IsToken, MayFollow, Token, bare, blank, closing, comment, depth_after, ends_item, is_blank, line_feed, opening, quoted, text, token_text}
+pub use Rattle.zone_text.specs.Tokens.{AllFollow, AreTokensOf, Cuts, IsToken, MayFollow, Token, bare, blank, closing, comment, depth_after, ends_item, is_blank, line_feed, opening, quoted, text, token_text}
 pub use Rattle.zone_text.specs.declared.ended.EndedEntries.{EndedEntries}
 pub use Rattle.zone_text.specs.declared.parser_state.ParserState.{ParserState}
 pub use Rattle.zone_text.specs.declared.scan.Mode.{Mode}

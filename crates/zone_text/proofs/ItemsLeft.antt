@@ -74,7 +74,7 @@ bare_takes octets after left c n whole goes_on len within back = grind (arith, s
 -- ---- all tokens of a text
 
 -- a token ends before those after it
-ends_after : (p : Token) (tokens : List Token) → AllByRecursion IsToken tokens → AllFollow (p ∷ tokens) → EndsBefore p (text tokens)
+pub ends_after : (p : Token) (tokens : List Token) → AllByRecursion IsToken tokens → AllFollow (p ∷ tokens) → EndsBefore p (text tokens)
 ends_after p tokens each follow = grind arith
 
 -- the tokens that are left, and the items of those before them, of which these are kept

@@ -1,5 +1,5 @@
 -- The items that are kept of an entry, one by one.
-use Rattle.zone_text.proofs.Common.{AllByRecursion, AllByRecursion-back, AreKept, Bool, IsShort, IsToken, IsUnit, IsWritten, Keeps, List, RawItem, SpellsString, Token, Written, [], ap, append-nil, arith, bare, flat_map, inl, inr, item_of, item_text, length, length-append, no_octet, one_kept, one_left_out, quoted, refl, rules, subst, text_of, text_of-some, written_octets, written_text, ℕ, ◌++◌, ◌<◌, ◌∷◌, ◌≡◌, ◌≤◌, common_steps}
+use Rattle.zone_text.proofs.Common.{AllByRecursion, AllByRecursion-back, AreKept, Bool, IsShort, IsToken, IsUnit, IsWritten, Keeps, List, RawItem, SpellsString, Token, Written, [], ap, append-nil, arith, bare, flat_map, inl, inr, item_of, item_text, length, length-append, no_octet, one_kept, one_left_out, quoted, refl, rules, subst, text_of, text_of-some, written_octets, written_text, ℕ, ◌++◌, ◌+◌, ◌<◌, ◌∙◌, ◌∷◌, ◌≡◌, ◌≤◌, common_steps}
 
 -- ---- an item of a token
 
@@ -58,3 +58,15 @@ keeps_more p items kept new item is e (inr short) (inl more) = search (rules, on
 keeps_more p items kept new item is e (inr short) (inr less) =
     let spells = short_spells p item is e less.2 in
     inr (rw (less.0) (one_left_out _ items kept item spells.0 spells.1 short))
+
+-- ---- few items
+
+-- few kept are all
+pub all_few : (items kept : List RawItem) → AreKept items kept → length kept < 65552 → kept ≡ items
+all_few items kept (inl all) few = all
+all_few items kept (inr short) few = absurd (let l : length kept ≡ length short.first + length short.others = ap length short.are_kept ∙ length-append short.first short.others in omega (arith, l, few, short.many))
+
+-- and of few all are kept
+pub few_kept : (items kept : List RawItem) → AreKept items kept → length items < 65552 → kept ≡ items
+few_kept items kept (inl all) few = all
+few_kept items kept (inr short) few = absurd (let l : length items ≡ length short.first + length short.more = ap length short.whole ∙ length-append short.first short.more in omega (arith, l, few, short.many))

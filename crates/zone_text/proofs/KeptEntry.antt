@@ -12,9 +12,9 @@ pub record Long (n : ℕ) (items kept : List RawItem) : Type 0 where
 
 -- ---- parts
 
-record LongParts (parts other : Parts) : Type 0 where
-  words : parts.words ≡ other.words
-  long : Long 65548 parts.rest other.rest
+pub record LongParts (parts other : Parts) : Type 0 where
+  pub words : parts.words ≡ other.words
+  pub long : Long 65548 parts.rest other.rest
 
 free_one : Option (List ℕ) → ℕ
 free_one None = 1
@@ -52,10 +52,10 @@ parts_long words (item ∷ first) more others many written out =
     (λ word e. parts_long (words ++ word ∷ []) first more others (omega (arith, many, free_less words item word e)) written.1 out)
 
 -- the parts of all items, and those of the items that are kept
-record FormParts (split_so : Option Parts) (other : Parts) : Type 0 where
-  parts : Parts
-  split : split_so ≡ Some parts
-  long : LongParts parts other
+pub record FormParts (split_so : Option Parts) (other : Parts) : Type 0 where
+  pub parts : Parts
+  pub split : split_so ≡ Some parts
+  pub long : LongParts parts other
 
 kept_parts : (items kept : List RawItem) → Long 65551 items kept → (parts : Parts) → Some (parts_after [] kept) ≡ Some parts → FormParts (Some (parts_after [] items)) parts
 unfolding free_one
@@ -64,7 +64,7 @@ kept_parts items kept long parts e = grind (arith, parts_long [] long.short.firs
 -- ---- forms
 
 -- what a form shows besides its other items
-abbrev shown : Statement → Statement
+abbrev pub shown : Statement → Statement
 shown (sets_origin items) = sets_origin []
 shown (sets_ttl items) = sets_ttl []
 shown (owned owner items) = owned owner []
@@ -72,18 +72,18 @@ shown (unowned items) = unowned []
 shown form = form
 
 -- a form that has more than one item
-abbrev IsLong : Statement → Type 0
+abbrev pub IsLong : Statement → Type 0
 IsLong no_items = ⊥
 IsLong (sets_origin items) = one_bare items ≡ None
 IsLong (sets_ttl items) = one_bare items ≡ None
 IsLong form = ⊤
 
 -- two such forms, of which the other has the items that are kept
-record LongForms (form other : Statement) : Type 0 where
-  same : shown other ≡ shown form
-  long : IsLong form
-  other_long : IsLong other
-  parts : (parts : Parts) → parts_in other ≡ Some parts → FormParts (parts_in form) parts
+pub record LongForms (form other : Statement) : Type 0 where
+  pub same : shown other ≡ shown form
+  pub long : IsLong form
+  pub other_long : IsLong other
+  pub parts : (parts : Parts) → parts_in other ≡ Some parts → FormParts (parts_in form) parts
 
 no_one_bare : (items : List RawItem) → 2 ≤ length items → one_bare items ≡ None
 no_one_bare items many = search rules
@@ -103,7 +103,7 @@ first_long : (first : Option ℕ) (item : RawItem) (items kept : List RawItem) �
 first_long None item items kept is long = record { same = refl; long = tt; other_long = tt; parts = kept_parts items kept long }
 first_long (Some c) item items kept is long = octet_long (c == 36) (is_blank c) item items kept is long
 
-forms_long : (first : Option ℕ) (items kept : List RawItem) → Long 65552 items kept → LongForms (statement_by first items) (statement_by first kept)
+pub forms_long : (first : Option ℕ) (items kept : List RawItem) → Long 65552 items kept → LongForms (statement_by first items) (statement_by first kept)
 forms_long first items kept long =
     let begin = begin_with 65552 65551 items kept (omega arith) long.short in
     let written : AllByRecursion IsWritten (begin.item ∷ begin.rest) = subst (AllByRecursion IsWritten) begin.whole long.written in

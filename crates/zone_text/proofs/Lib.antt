@@ -35,3 +35,8 @@ pub mod Inheriting
 pub mod RecordsRead
 pub mod Lines
 pub mod StandingItems
+pub mod FirstFound
+pub mod TokensOf
+pub mod PartsLeft
+pub mod OpenEntries
+pub mod ClassHeld

@@ -62,7 +62,7 @@ takes_class words v next text n have no_digit none is good own same =
 pub refuses_class : (words : List Word) (v : Words) (text : List ℕ) (n : ℕ) (fault : Fault) → HaveValues words v → begins_with_digit text ≡ false → is_some v.class ≡ false → IsClassWord text n → WordFault (class text) fault → IsSomeAnd (word_after words (bare text)) (λ word. WordFault word fault)
 refuses_class words v text n fault have no_digit none is bad = grind (arith, class_after words v text have no_digit none (class_word_known text n is))
 
-no_class_word : (text : List ℕ) (b : Bool) → is_class_word text ≡ b → NothingIs (IsClassWord text) → b ≡ false
+pub no_class_word : (text : List ℕ) (b : Bool) → is_class_word text ≡ b → NothingIs (IsClassWord text) → b ≡ false
 no_class_word text true e none = let found = class_word_of text e in absurd (none found.0 found.1)
 no_class_word text false e none = refl
 
@@ -90,7 +90,7 @@ pub record ReadsWords (items : List RawItem) (values : Words) (rest : List RawIt
 pub read_to : (items rest more : List RawItem) (v : Words) (item : RawItem) → ReadsWords items v rest → rest ≡ item ∷ more → ((words : List Word) → HaveValues words v → word_after words item ≡ None) → AreWordsOf (parts_after [] items) v rest
 read_to items rest more v item reads front none = search rules
 
-some_of : (P : Word → Type 0) (o : Option Word) → IsSomeAnd o P → (word : Word) × ((o ≡ Some word) × P word)
+pub some_of : (P : Word → Type 0) (o : Option Word) → IsSomeAnd o P → (word : Word) × ((o ≡ Some word) × P word)
 some_of P o h = search rules
 
 -- the next item is a word

@@ -5,6 +5,8 @@ pub mod Machine
 pub mod ExampleTokens
 pub mod Entries
 pub mod Statements
+pub mod Stated
+pub mod PartsIn
 pub mod Inherited
 pub mod Records
 pub mod ParserState
@@ -12,6 +14,9 @@ pub mod EntryFault
 pub mod File
 pub mod FileReads
 pub mod Decided
+pub mod Kept
+pub mod FirstEntry
+pub mod OpenEntry
 pub mod Outcome
 pub mod TextSource
 pub mod Line

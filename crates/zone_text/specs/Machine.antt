@@ -3,10 +3,11 @@ pub mod Blank
 pub mod Cutting
 pub mod EntryReading
 pub mod Feeding
-pub mod Parsed
 pub mod ItemLengths
 pub mod Kept
 pub mod Line
 pub mod Lower
+pub mod OpenEntry
 pub mod Scan
+pub mod WordTexts
 pub mod WordValues

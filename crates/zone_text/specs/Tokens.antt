@@ -70,3 +70,9 @@ pub record Cuts (octets : List ℕ) (tokens : List Token) : Type 0 where
   pub each : AllByRecursion IsToken tokens
   pub follow : AllFollow tokens
   pub balanced : depth_after zero tokens ≡ Some zero
+
+-- these are the octets' tokens, whether or not their parentheses are balanced
+pub record AreTokensOf (octets : List ℕ) (tokens : List Token) : Type 0 where
+  pub whole : octets ≡ text tokens
+  pub each : AllByRecursion IsToken tokens
+  pub follow : AllFollow tokens

@@ -3,7 +3,7 @@ ghost use Rattle.std.specs.Prelude.{◌≡◌, ◌+◌, ◌<◌, ◌≤◌, ◌^
 ghost use Rattle.zone_rdata.specs.Item.{raw};
 ghost use Rattle.zone_text.specs.ParserState.{IsStateAfter};
 ghost use Rattle.zone_text.specs.Machine.Feeding.{ReadsOctets};
-ghost use Rattle.zone_text.specs.Machine.Line.{KeepsItems};
+ghost use Rattle.zone_text.specs.Kept.{KeepsItems};
 
 use crate::items::cut_items;
 use crate::parser_state::ParserState;
@@ -23,7 +23,7 @@ pub(crate) struct EndedEntries {
 }
 
 /// How many line feeds the octets have.
-fn line_feeds(octets: &[u8]) -> usize
+pub fn line_feeds(octets: &[u8]) -> usize
     ensures count { result ≡ count_by (λ c. c == 10) octets.now }
     ensures few { result ≤ length octets.now }
 {

@@ -7,14 +7,14 @@ ghost use Rattle.zone_text.specs.Tokens.{Token, IsToken, ends_item, is_blank, to
 ghost use Rattle.zone_text.specs.Machine.Cutting.{before_line_feed};
 ghost use Rattle.zone_text.specs.Machine.ItemLengths.{EndsAt, EndsBefore, ItemReaches, ends_within, item_len, stops_within};
 ghost use Rattle.zone_text.specs.Machine.Kept.{IsShort, Keeps};
-ghost use Rattle.zone_text.specs.Machine.Line.{KeepsItems};
+ghost use Rattle.zone_text.specs.Kept.{KeepsItems};
 
 use crate::table::stops_bare;
 use std::alloc::AllocError;
 use zone_rdata::Item;
 
 /// Whether the octet parts items: a space, a tab or a carriage return.
-pub(crate) fn is_blank(octet: u8) -> bool
+pub fn is_blank(octet: u8) -> bool
     ensures { result ≡ is_blank octet }
 {
     matches!(octet, b' ' | b'\t' | b'\r')
@@ -114,7 +114,7 @@ fn begins_bare(octet: u8) -> bool
 
 /// The first token of a text that is cut into tokens: its item, if it is one, and the rest. `None`:
 /// the text ends.
-fn split_token(text: &[u8]) -> Option<(Option<Item<'_>>, &[u8])>
+pub(crate) fn split_token(text: &[u8]) -> Option<(Option<Item<'_>>, &[u8])>
     ensures end { IfNone result (text.now ≡ []) }
     ensures found { IfSome result (λ found. (p : Token) (rest : Octets)
         → IsToken p → EndsBefore p rest → text.now ≡ token_text p ++ rest
@@ -140,7 +140,7 @@ fn split_token(text: &[u8]) -> Option<(Option<Item<'_>>, &[u8])>
 
 /// More items than an entry has that states anything: an owner, a TTL, a class, a type, and data,
 /// of which all items but a few state an octet or more of 65,535.
-const MOST_ITEMS: usize = 65_552;
+pub const MOST_ITEMS: usize = 65_552;
 
 /// Whether octets that are written so are no more than a string may have (RFC 1035 3.3).
 fn fit_string(text: &[u8]) -> bool

@@ -2,7 +2,8 @@
 //! 5.1).
 ghost use Rattle.std.specs.Prelude.{map, length, IfOk, IfSome, option_map, option_to_list};
 ghost use Rattle.zone_rdata.specs.Item.{raw};
-ghost use Rattle.zone_text.specs.Machine.Line.{IsFirstEntry, IsInFront, IsQuoted};
+ghost use Rattle.zone_text.specs.FirstEntry.{IsFirstEntry};
+ghost use Rattle.zone_text.specs.Machine.Line.{IsInFront, IsQuoted};
 
 use crate::items::{Extent, comment_len, is_blank, keep, plain_len};
 use crate::table::stops_bare;

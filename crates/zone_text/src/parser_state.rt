@@ -9,11 +9,11 @@ ghost use Rattle.zone_text.specs.EntryFault.{EntryFault};
 ghost use Rattle.zone_text.specs.Statements.{statement_of, owned};
 ghost use Rattle.zone_text.specs.Tokens.{Token, Cuts};
 ghost use Rattle.zone_text.specs.Machine.EntryReading.{DecidesEntry, LeavesNoRecord, SetsOwner};
-ghost use Rattle.zone_text.specs.Machine.Parsed.{directive_in, statement_in};
-ghost use Rattle.zone_text.specs.Machine.Kept.{AreKept};
+ghost use Rattle.zone_text.specs.Stated.{directive_in, statement_in};
+ghost use Rattle.zone_text.specs.Kept.{AreKept};
 
-use crate::parsed::{Directive, ParsedEntry, parse_entry};
 use crate::record::refuse;
+use crate::statements::{Directive, Statement, statement_of};
 use std::alloc::{AllocError, Global};
 use zone_name::{Name, NameFault};
 use zone_rdata::{Cause, Class, Item, NarrowFailing, NarrowFault, PendingRecords, Place};
@@ -77,14 +77,14 @@ impl ParserState {
             (DecidesEntry origin before (entry_of line tokens) place decided.old decided.new
             self.new) }
     {
-        self.read_parsed(alloc, parse_entry(entry, items), place, decided)
+        self.read_parsed(alloc, statement_of(entry, items), place, decided)
     }
 
     /// Reads an entry that was parsed.
     fn read_parsed(
         &mut self,
         alloc: Global,
-        parsed: ParsedEntry,
+        parsed: Statement,
         place: Place,
         decided: &mut PendingRecords,
     ) -> Result<(), AllocError>
@@ -94,15 +94,13 @@ impl ParserState {
             (DecidesEntry origin before entry place decided.old decided.new self.new) }
     {
         match parsed {
-            ParsedEntry::Blank => Ok(()),
-            ParsedEntry::Directive(directive) => match self.follow(directive) {
+            Statement::Blank => Ok(()),
+            Statement::Directive(directive) => match self.follow(directive) {
                 Ok(()) => Ok(()),
                 Err(fault) => refuse(NarrowFailing::from(fault), place, decided),
             },
-            ParsedEntry::Owned(owner, items) => self.read_owned(
-                alloc, owner, items, place, decided,
-            ),
-            ParsedEntry::Unowned(items) => self.read_record(alloc, items, place, decided),
+            Statement::Owned(owner, items) => self.read_owned(alloc, owner, items, place, decided),
+            Statement::Unowned(items) => self.read_record(alloc, items, place, decided),
         }
     }
 

@@ -203,7 +203,7 @@ fn quiet_len(octets: &[u8]) -> usize
 
 /// As `scan`, octet by octet.
 fn scan_each(octets: &[u8], start: ScanState) -> Scanned
-    requires { start.depth + length octets.now + 1 < 2 ^ 64 }
+    requires { start.depth + length octets.now < 2 ^ 64 }
     ensures found { result ≡ scan_of start octets.now }
     ensures within { result.taken ≤ length octets.now }
     ensures moves { 0 < length octets.now → 0 < result.taken }
@@ -243,7 +243,7 @@ fn quiet_front(octets: &[u8], at: ScanState) -> usize
 /// Takes octets up to the end of the entry or to what breaks it, and all of them where neither
 /// comes.
 pub(crate) fn scan(octets: &[u8], start: ScanState) -> Scanned
-    requires { start.depth + length octets.now + 1 < 2 ^ 64 }
+    requires { start.depth + length octets.now < 2 ^ 64 }
     ensures found { result ≡ scan_of start octets.now }
     ensures within { result.taken ≤ length octets.now }
     ensures moves { 0 < length octets.now → 0 < result.taken }

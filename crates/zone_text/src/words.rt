@@ -9,8 +9,9 @@ ghost use Rattle.zone_text.specs.Machine.WordValues.{AreWordsOf, HaveValues};
 
 use zone_rdata::{Cause, Class, Fault, Item, MAX_TTL, NarrowFault, seconds_of};
 
-/// The first item's text where the item is bare, and the items after it.
-pub(crate) fn split_bare<'i, 't>(items: &'i [Item<'t>]) -> Option<(&'t [u8], &'i [Item<'t>])>
+/// The text of the first item where that is a bare one, and the items after it. `None`: there is no
+/// item, or the first is quoted.
+pub fn split_bare<'i, 't>(items: &'i [Item<'t>]) -> Option<(&'t [u8], &'i [Item<'t>])>
     ensures found { IfSome result (λ parts.
         map raw items.now ≡ bare parts.0.now ∷ map raw parts.1.now) }
     ensures none { IfNone result ((text : Octets) (rest : List RawItem)
@@ -24,7 +25,7 @@ pub(crate) fn split_bare<'i, 't>(items: &'i [Item<'t>]) -> Option<(&'t [u8], &'i
 }
 
 /// Whether the first octet is a digit, as that of a TTL.
-fn begins_with_digit(text: &[u8]) -> bool
+pub(crate) fn begins_with_digit(text: &[u8]) -> bool
     ensures { result ≡ begins_with_digit text.now }
 {
     matches!(text, [b'0'..=b'9', ..])

@@ -1,14 +1,8 @@
--- The items of an entry that are kept while it is read: all, or of very many those that may matter.
+-- The items of an entry that are kept while it is read, one by one.
 use Rattle.std.specs.Prelude.{◌≡◌, ◌≤◌, List, [], ◌∷◌, ◌++◌, length, ◌⊎◌}
 use Rattle.zone_name.specs.Common.{AreOctets}
 use Rattle.zone_rdata.specs.Item.{RawItem}
-use Rattle.zone_rdata.specs.Machine.LeftOut.{AreShortened}
 use Rattle.zone_rdata.specs.Strings.{item_text}
-
--- all items, or some that spell strings are left out after more than an entry has that states
--- anything
-abbrev pub AreKept : List RawItem → List RawItem → Type 0
-AreKept items kept = (kept ≡ items) ⊎ AreShortened 65552 items kept
 
 -- the text of the item is no longer than a string may be
 pub record IsShort (item : RawItem) : Type 0 where

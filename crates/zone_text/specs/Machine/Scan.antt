@@ -1,6 +1,6 @@
 -- How the octets of a master file are taken one by one: what each leaves open, and where an entry
 -- ends (RFC 1035 5.1).
-use Rattle.std.specs.Prelude.{◌≡◌, ℕ, zero, ◌+◌, ◌-◌, Bool, true, List, [], ◌∷◌, drop, ◌==◌, ◌&&◌, ◌||◌, nat_le, if◌then◌else◌, Option, Some, None}
+use Rattle.std.specs.Prelude.{◌≡◌, ℕ, ◌+◌, ◌-◌, Bool, true, List, [], ◌∷◌, drop, ◌==◌, ◌&&◌, ◌||◌, nat_le, if◌then◌else◌, Option, Some, None}
 use Rattle.zone_name.specs.Spelling.{decimal, octet_of, is_digit}
 use Rattle.zone_rdata.specs.declared.fault.Fault.{Fault}
 use Rattle.zone_rdata.specs.declared.fault.Fault.TheVariants.{BadEscape, UnclosedQuote, UnbalancedParenthesis}
@@ -14,8 +14,6 @@ use Rattle.zone_text.specs.declared.scan.Scanned.{Scanned}
 use Rattle.zone_text.specs.declared.scan.ScanState.{ScanState}
 use Rattle.zone_text.specs.declared.scan.Step.{Step}
 use Rattle.zone_text.specs.declared.scan.Step.TheVariants.{On, Ends, LostEscape, ClosesNothing}
-use Rattle.zone_text.specs.Tokens.{Token, Cuts}
-use Rattle.zone_text.specs.Entries.{cut_from}
 
 -- ---- one octet
 
@@ -129,10 +127,3 @@ fault_in (QuotedEscaped escape) depth = Some BadEscape
 -- what the input's end makes of the open entry
 abbrev pub end_fault_of : ScanState → Option Fault
 end_fault_of at = fault_in at.mode at.depth
-
--- ---- one entry
-
--- the octets are the tokens of one entry, with the line feed that ends it
-pub record IsOneEntry (octets : List ℕ) (tokens : List Token) : Type 0 where
-  pub cut : Cuts octets tokens
-  pub ended : cut_from zero tokens ≡ record { ended = tokens ∷ []; open_tokens = [] }

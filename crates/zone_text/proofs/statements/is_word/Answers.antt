@@ -1,6 +1,6 @@
 use Rattle.zone_text.proofs.Common.{Bool, List, bytes_eq, bytes_eq-Decides, false, folded_label, refl, sym, true, ℕ, ◌∙◌, ◌≡◌}
 use Rattle.zone_rdata.proofs.Words.{same_word}
-use Rattle.zone_text.proofs.parsed.is_word.Goals as goal
+use Rattle.zone_text.proofs.statements.is_word.Goals as goal
 
 same_test : (a b : Bool) (xs ys : List ℕ) → b ≡ bytes_eq xs ys → (a ≡ true → xs ≡ ys) → (xs ≡ ys → a ≡ true) → a ≡ b
 same_test true false xs ys e there back = sym (e ∙ (bytes_eq-Decides xs ys).1 (there refl))

@@ -2,14 +2,14 @@ ghost use Rattle.std.specs.Prelude.{◌≡◌, bytes_eq, map, slice_get};
 ghost use Rattle.zone_name.specs.Name.{folded_label};
 ghost use Rattle.zone_rdata.specs.Item.{raw};
 ghost use Rattle.zone_text.specs.Statements.{directive, statement_by};
-ghost use Rattle.zone_text.specs.Machine.Parsed.{directive_in, statement_in};
+ghost use Rattle.zone_text.specs.Stated.{directive_in, statement_in};
 
 use crate::items::is_blank;
 use zone_rdata::Item;
 
 /// A directive (RFC 1035 5.1; `$TTL` RFC 2308 4).
-#[derive(Drop)]
-pub(crate) enum Directive<'i, 't> {
+#[derive(Clone, Copy)]
+pub enum Directive<'i, 't> {
     /// `$ORIGIN`, and the items after the word.
     Origin(&'i [Item<'t>]),
     /// `$TTL`, and the items after the word.
@@ -21,8 +21,8 @@ pub(crate) enum Directive<'i, 't> {
 }
 
 /// An entry by what it states (RFC 1035 5.1).
-#[derive(Drop)]
-pub(crate) enum ParsedEntry<'i, 't> {
+#[derive(Clone, Copy)]
+pub enum Statement<'i, 't> {
     /// No items.
     Blank,
     /// A directive.
@@ -59,15 +59,15 @@ fn directive_of<'i, 't>(word: Item<'t>, items: &'i [Item<'t>]) -> Directive<'i, 
 }
 
 /// What an entry with these items states.
-pub(crate) fn parse_entry<'i, 't>(entry: &[u8], items: &'i [Item<'t>]) -> ParsedEntry<'i, 't>
+pub fn statement_of<'i, 't>(entry: &[u8], items: &'i [Item<'t>]) -> Statement<'i, 't>
     ensures { statement_in result ≡ statement_by (slice_get entry.now 0) (map raw items.now) }
 {
     let [first, rest @ ..] = items else {
-        return ParsedEntry::Blank;
+        return Statement::Blank;
     };
     match entry {
-        [b'$', ..] => ParsedEntry::Directive(directive_of(*first, rest)),
-        [octet, ..] if is_blank(*octet) => ParsedEntry::Unowned(items),
-        _ => ParsedEntry::Owned(*first, rest),
+        [b'$', ..] => Statement::Directive(directive_of(*first, rest)),
+        [octet, ..] if is_blank(*octet) => Statement::Unowned(items),
+        _ => Statement::Owned(*first, rest),
     }
 }

@@ -1,0 +1,16 @@
+use Rattle.zone_text.proofs.Common.{refl}
+use Rattle.zone_text.proofs.PartsLeft.{found_before, found_on}
+use Rattle.zone_text.proofs.WordsLeft.{item_at}
+use Rattle.zone_text.proofs.parts.record_parts.Goals as goal
+
+pub returns-in_default : goal.returns-in_default
+returns-in_default c =
+    found_before _ _ _ _ c.loop-index.texts _ c.loop-index.invariant (item_at _ _ _ _ c.loop-index-test.true c.in_default.is) (λ words have. refl) c.before-in_default.ensures.ttl c.before-in_default.ensures.class c.before-in_default.ensures.rest
+
+pub returns-in_default-with : goal.returns-in_default-with
+returns-in_default-with c =
+    found_before _ _ _ _ c.loop-index.texts _ c.loop-index.invariant (item_at _ _ _ _ c.loop-index-test.true c.in-Bare.is) (rw c.in_default-with.is at c.with.ensures.none) c.before-in_default-with.ensures.ttl c.before-in_default-with.ensures.class c.before-in_default-with.ensures.rest
+
+pub loop-index-preserved : goal.loop-index-preserved
+loop-index-preserved c =
+    found_on _ _ _ _ c.loop-index.texts c.in-Some.next c.loop-index.invariant (item_at _ _ _ _ c.loop-index-test.true c.in-Bare.is) (rw c.in-Some.is at c.with.ensures.found)

@@ -1,0 +1,113 @@
+//! What other tools on master files stand on: the entry at the front of octets, an entry's items,
+//! and the tokens of a text, one by one (RFC 1035 5.1).
+ghost use Rattle.std.specs.Prelude.{◌≡◌, ◌<◌, [], ◌∷◌, List, map, length, IfNone, IfOk, IfSome, OnErr, OnOk, option_map, option_to_list};
+ghost use Rattle.zone_rdata.specs.Item.{raw};
+ghost use Rattle.zone_text.specs.Entries.{item_of};
+ghost use Rattle.zone_text.specs.FirstEntry.{FirstIs};
+ghost use Rattle.zone_text.specs.Kept.{KeepsItems};
+ghost use Rattle.zone_text.specs.Tokens.{Token, AreTokensOf};
+
+use crate::items::{cut_items, split_token};
+use crate::line::cut_line;
+use crate::scan::{ScanState, Step, scan};
+use std::alloc::AllocError;
+use zone_rdata::{Fault, Item};
+
+/// What the entry at the front of octets is (RFC 1035 5.1).
+#[derive(Debug, Drop)]
+pub enum FirstEntry {
+    /// It has so many octets; the last of them is the line feed that ends it.
+    Whole(usize),
+    /// The octets don't end it.
+    Open,
+    /// They don't end it, and break by this fault, whatever follows them.
+    Broken(Fault),
+}
+
+/// The entry at the front, by a scan of the octets.
+fn scan_entry<'t>(octets: &'t [u8], items: &mut Vec<Item<'t>>) -> Result<FirstEntry, AllocError>
+    ensures { IfOk result (λ found. FirstIs octets.now (map raw items.new.items) found) }
+{
+    items.clear();
+    let found = scan(octets, ScanState::beginning());
+    match found.step {
+        Step::Ends => {
+            let (entry, _) = octets.split_at(found.taken);
+            cut_items(entry, items)?;
+            Ok(FirstEntry::Whole(found.taken))
+        }
+        Step::On(_) => Ok(FirstEntry::Open),
+        Step::LostEscape => Ok(FirstEntry::Broken(Fault::BadEscape)),
+        Step::ClosesNothing => Ok(FirstEntry::Broken(Fault::UnbalancedParenthesis)),
+    }
+}
+
+/// As `first_entry`. After `AllocError` nothing is said of `items`.
+fn find_entry<'t>(octets: &'t [u8], items: &mut Vec<Item<'t>>) -> Result<FirstEntry, AllocError>
+    ensures { IfOk result (λ found. FirstIs octets.now (map raw items.new.items) found) }
+{
+    match cut_line(octets, items)? {
+        Some(taken) => Ok(FirstEntry::Whole(taken)),
+        None => scan_entry(octets, items),
+    }
+}
+
+/// Finds the entry at the front of octets. Where the octets end it, its items come in place of what
+/// `items` held: all, or where it has 65,552 or more those that `entry_items` keeps. Where they don't,
+/// `items` is left empty.
+///
+/// It looks at the octets up to the end of the entry. For an entry that comes in many pieces see
+/// `OpenEntry`.
+///
+/// # Errors
+///
+/// `AllocError`, and `items` is empty then.
+pub fn first_entry<'t>(
+    octets: &'t [u8],
+    items: &mut Vec<Item<'t>>,
+) -> Result<FirstEntry, AllocError>
+    ensures found { IfOk result (λ found. FirstIs octets.now (map raw items.new.items) found) }
+    ensures emptied { OnErr result (items.new.items ≡ []) }
+{
+    match find_entry(octets, items) {
+        Ok(found) => Ok(found),
+        Err(refused) => {
+            items.clear();
+            Err(refused)
+        }
+    }
+}
+
+/// Puts the items of octets that are cut into tokens, as a whole entry is, in place of what `items`
+/// held: all of them where they are fewer than `MOST_ITEMS`. Of more than that some that are short
+/// enough for a string (255 octets, RFC 1035 3.3) are left out, so that an entry of many items takes
+/// no more memory than its octets: where `items` then holds fewer than `MOST_ITEMS`, they are all.
+///
+/// # Errors
+///
+/// `AllocError`, and `items` is empty then.
+pub fn entry_items<'t>(entry: &'t [u8], items: &mut Vec<Item<'t>>) -> Result<(), AllocError>
+    ensures found { OnOk result (KeepsItems entry.now (map raw items.new.items)) }
+    ensures emptied { OnErr result (items.new.items ≡ []) }
+{
+    match cut_items(entry, items) {
+        Ok(()) => Ok(()),
+        Err(refused) => {
+            items.clear();
+            Err(refused)
+        }
+    }
+}
+
+/// The token at the front of a text that is cut into tokens: its item, if it is one, and the rest of
+/// the text. A token without an item is a blank, which is one octet (`is_blank` tells it by the first
+/// octet), a parenthesis, a comment without its line feed, or a line feed. `None`: the text is empty.
+pub fn first_token(text: &[u8]) -> Option<(Option<Item<'_>>, &[u8])>
+    ensures none { IfNone result (text.now ≡ []) }
+    ensures found { IfSome result (λ found. (p : Token) (more : List Token)
+        → AreTokensOf text.now (p ∷ more)
+        → (option_to_list (option_map raw found.0) ≡ item_of p) × AreTokensOf found.1.now more) }
+    ensures shorter { IfSome result (λ found. length found.1.now < length text.now) }
+{
+    split_token(text)
+}
