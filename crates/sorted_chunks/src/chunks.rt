@@ -1,4 +1,4 @@
-ghost use Rattle.std.specs.Prelude.{◌≡◌, ◌++◌, ◌∷◌, ◌+◌, ◌-◌, ◌^◌, ◌<◌, ◌≤◌, ◌↔◌, [], List, All, length, min, slice_index_or, IsTrue, OnOk, OnErr, MatchOption};
+ghost use Rattle.std.specs.Prelude.{◌≡◌, ◌++◌, ◌∷◌, ◌+◌, ◌-◌, ◌^◌, ◌<◌, ◌≤◌, ◌↔◌, [], List, All, length, min, slice_index_or, IsTrue, IfOk, OnOk, OnErr, MatchOption};
 ghost use Rattle.sorted_chunks.specs.Chunks.{after, before, joined, IsParting, IsPlace};
 
 use crate::chunk::Chunk;
@@ -36,6 +36,25 @@ impl<T: Copy, const LIMIT: usize> SortedChunks<T, LIMIT> {
             alloc,
             chunks: Vec::new(alloc),
         }
+    }
+
+    /// These elements, in their order. They stand in one chunk, whatever its length.
+    ///
+    /// # Errors
+    ///
+    /// `AllocError` where memory is refused.
+    pub fn of_sorted(alloc: Global, elements: Vec<T>) -> Result<Self, AllocError>
+        requires { 2 ≤ LIMIT }
+        ensures { IfOk result (λ chunks. joined chunks ≡ elements.items) }
+    {
+        let mut chunks = Vec::new(alloc);
+        let Some(first) = elements.as_slice().first().copied() else {
+            return Ok(SortedChunks { alloc, chunks });
+        };
+        let mut rest = elements;
+        rest.remove(0);
+        chunks.push(Chunk { head: first, rest })?;
+        Ok(SortedChunks { alloc, chunks })
     }
 
     /// Whether there is no element.

@@ -7,10 +7,9 @@ use Rattle.zone_set.specs.Builder.{OtherClass, OtherSoa, OtherTtl, Accepts, Adds
 use Rattle.zone_set.specs.Message.{message_len, message_octets}
 use Rattle.zone_set.specs.Machine.Refusal.{IsRefusal, IsSetRefusal, stop_for}
 use Rattle.zone_set.specs.declared.refusal.Refusal.{Refusal}
-use Rattle.zone_set.specs.declared.refusal.Refusal.TheVariants as refusal
 
 -- all records of entries are of the class
-classes : (class : ℕ) (octets : List ℕ) (es : List Entry) → AllByRecursion (λ r. r.class ≡ class) (all_records class octets es)
+pub classes : (class : ℕ) (octets : List ℕ) (es : List Entry) → AllByRecursion (λ r. r.class ≡ class) (all_records class octets es)
 classes class octets [] = tt
 classes class octets (e ∷ es) = (refl, classes class octets es)
 

@@ -5,7 +5,7 @@ use Rattle.zone_set.proofs.SetOrder.{between_sets, canonical_total, exact_canoni
 use Rattle.zone_set.proofs.Storing.{all_with}
 use Rattle.zone_set.proofs.Together.{each_Has, flipped, one_set, stable_number}
 
-is_less : (o : Ordering) → is_lt o ≡ true → o ≡ Less
+pub is_less : (o : Ordering) → is_lt o ≡ true → o ≡ Less
 is_less o less = grind arith
 
 -- what is not before is not after the other way round
@@ -60,7 +60,7 @@ before_all (x ∷ a) b s t ascend has_s has_t =
     ⊎_elim (λ same. subst (λ y. canonical_cmp y t ≡ Less) (sym same) (each_Has (λ y. canonical_cmp x y ≡ Less) (a ++ b) t ascend.0 ((Has-append a b t).1 (inr has_t))))
     (λ more. before_all a b s t ascend.1 more has_t) has_s
 
-later_all : (r x : Record) (others : List Record) → canonical_cmp r x ≡ Less → AllByRecursion (λ s. canonical_cmp x s ≡ Less) others → AllByRecursion (λ s. canonical_cmp r s ≡ Less) others
+pub later_all : (r x : Record) (others : List Record) → canonical_cmp r x ≡ Less → AllByRecursion (λ s. canonical_cmp x s ≡ Less) others → AllByRecursion (λ s. canonical_cmp r s ≡ Less) others
 later_all r x [] less later = tt
 later_all r x (s ∷ others) less later = (canonical_total.trans r x s less later.0, later_all r x others less later.1)
 

@@ -15,3 +15,10 @@ pub mod Taking
 pub mod Adding
 pub mod Putting
 pub mod Interval
+pub mod Neighbours
+pub mod ByHint
+pub mod Repeats
+pub mod Listing
+pub mod Offering
+pub mod ListPush
+pub mod PlaceSteps

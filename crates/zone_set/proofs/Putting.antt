@@ -15,7 +15,7 @@ module _ (octets : List ℕ) (h : ℕ) (r : Record) (e : Entry) (comparable : Is
   other_hint_other_record same = differ (comparable.one_set (record { owner = ap (λ s. s.owner) same; kind = ap (λ s. s.kind) same; covers = ap (λ s. covered_octets (data_of s)) same }))
 
 module _ (base : List (List ℕ)) (octets : List ℕ) (r : Record) where
-  comparable : (h : ℕ) → IsRecord r → IsHint base r.owner r.kind h → (e : Entry) → IsEntry base r.class octets e → IsComparable octets h r e
+  pub comparable : (h : ℕ) → IsRecord r → IsHint base r.owner r.kind h → (e : Entry) → IsEntry base r.class octets e → IsComparable octets h r e
   comparable h whole is e entry =
       let s = entry_record r.class octets e in
       record {

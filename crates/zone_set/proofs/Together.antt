@@ -1,5 +1,5 @@
 -- Records held: membership, sets, and what a refusal excludes.
-use Rattle.zone_set.proofs.Common.{◌≡◌, ◌≢◌, ◌⊎◌, ℕ, Bool, true, ◌==◌, if◌then◌else◌, List, [], ◌∷◌, take, Ordering, Less, nat_cmp, eqb-true, eq-eqb, refl, sym, ◌∙◌, subst, inl, inr, ⊎_elim, arith, nat_cmp_total, nat_list_cmp_total, exact_unsigned, exact_bytes, AllByRecursion, Record, Ascends, ordering_then, name_cmp-exact, name_cmp-total, AreTwoSoas, OtherSoa, Accepts, Has, InOneSet, AreCompatible}
+use Rattle.zone_set.proofs.Common.{◌≡◌, ◌≢◌, ℕ, Bool, true, ◌==◌, if◌then◌else◌, List, [], ◌∷◌, take, Ordering, Less, nat_cmp, eqb-true, eq-eqb, refl, sym, ◌∙◌, subst, inl, inr, ⊎_elim, arith, nat_cmp_total, nat_list_cmp_total, exact_unsigned, exact_bytes, AllByRecursion, Record, Ascends, ordering_then, name_cmp-exact, name_cmp-total, AreTwoSoas, OtherSoa, Accepts, Has, InOneSet, AreCompatible}
 use Rattle.zone_set.proofs.SetOrder.{stable}
 
 -- what holds of each record, and of each that is held

@@ -4,3 +4,5 @@ pub mod Hint
 pub mod Stored
 pub mod Held
 pub mod Refusal
+pub mod Bulk
+pub mod Places

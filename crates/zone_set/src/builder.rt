@@ -7,12 +7,12 @@ use crate::sets::Sets;
 use crate::zone::Zone;
 use std::alloc::Global;
 use std::marker::Model;
-use zone_rdata::{Fault, LendingSource, Place, Placed, RrRef, RrSource, Stop};
+use zone_rdata::{Fault, Place, Placed, RrRef, RrSource, Stop};
 
 /// The records of a zone so far. Contracts see their set, as its one list in canonical order.
 #[derive(Drop)]
 pub struct ZoneBuilder {
-    sets: Sets,
+    pub(crate) sets: Sets,
 }
 
 impl Model for ZoneBuilder {
@@ -56,7 +56,7 @@ impl ZoneBuilder {
     }
 
     /// `add` for a borrowed record of a place.
-    fn hold(&mut self, rr: &RrRef<'_>, place: Place) -> Result<(), Stop>
+    pub(crate) fn hold(&mut self, rr: &RrRef<'_>, place: Place) -> Result<(), Stop>
         ensures accepted { OnOk result (Accepts self.old (record_of rr.now)) }
         ensures taken { OnOk result (Adds self.old (record_of rr.now) self.new) }
         ensures refused { IfErr result
@@ -95,31 +95,6 @@ impl ZoneBuilder {
                 Err(stop) => return Err(stop),
             }
         }
-    }
-
-    /// Takes all that a source has left to give, as `take_all` does, and moves no record.
-    ///
-    /// # Errors
-    ///
-    /// Those of `take_all`.
-    pub fn take_lent<S: LendingSource>(&mut self, source: &mut S) -> Result<(), Stop>
-        ensures taken { OnOk result
-            (TakesAll self.old (S.pending source.old) self.new (S.pending source.new)) }
-        ensures stopped { IfErr result
-            (StopsTaking self.old (S.pending source.old) self.new (S.pending source.new)) }
-        ensures beside { S.beside source.new ≡ S.beside source.old }
-    {
-        while let Some(placed) = source.first() {
-            let held = self.hold(&placed.rr, placed.place);
-            source.skip();
-            match held {
-                Ok(()) => {}
-                Err(refused) => return Err(refused),
-            }
-        }
-        // With no record left the fault at the end, if there is one.
-        source.next()?;
-        Ok(())
     }
 
     /// The zone of the records held.

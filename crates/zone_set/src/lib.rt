@@ -1,20 +1,27 @@
-//! A zone as the set of its records in canonical order: records are added one by one, and one that
-//! can't stand with those before it is refused (RFC 1035 5.2, RFC 2181 5, RFC 4034 6).
+//! A zone as the set of its records in canonical order: records are listed and settled at once, or
+//! added one by one, and the first that can't stand with those before it is refused (RFC 1035 5.2,
+//! RFC 2181 5, RFC 4034 6).
 #![tactic(auto)]
 
 mod builder;
+mod bulk;
 mod entry;
 mod hint;
+mod list;
+mod offer;
 mod offered;
 mod order;
+mod places;
 mod put;
 mod records;
 mod refusal;
 mod sets;
 mod stored;
+mod tie;
 mod zone;
 
 pub use builder::ZoneBuilder;
+pub use list::ZoneList;
 pub use records::Records;
 pub use zone::Zone;
 pub use zone_rdata::RrRef;

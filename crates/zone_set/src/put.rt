@@ -108,7 +108,7 @@ fn is_equal(offered: &Offered<'_, '_>, entry: Option<Entry>) -> bool
 }
 
 /// Whether records are of one set, and their TTLs differ.
-fn has_other_ttl(held: &RrRef<'_>, rr: &RrRef<'_>) -> bool
+pub(crate) fn has_other_ttl(held: &RrRef<'_>, rr: &RrRef<'_>) -> bool
     ensures { IsTrue result ↔ HasOtherTtl (record_of held.now) (record_of rr.now) }
 {
     held.ttl != rr.ttl

@@ -1,10 +1,10 @@
-ghost use Rattle.std.specs.Prelude.{◌≡◌, ◌⊎◌, ◌+◌, ◌-◌, ◌^◌, ◌↔◌, ◌∷◌, ◌++◌, [], List, length, min, if◌then◌else◌, IsTrue, OnOk, OnErr, IfErr, IfNone, IfSome, MatchOption};
+ghost use Rattle.std.specs.Prelude.{◌≡◌, ◌⊎◌, ◌+◌, ◌-◌, ◌^◌, ◌↔◌, ◌∷◌, ◌++◌, [], List, length, min, if◌then◌else◌, IsTrue, OnOk, OnErr, IfOk, IfErr, IfNone, IfSome, MatchOption};
 ghost use Rattle.std.specs.List.{AllByRecursion};
 ghost use Rattle.sorted_chunks.specs.Chunks.{joined};
 ghost use Rattle.zone_name.specs.Name.{IsWithin};
 ghost use Rattle.zone_rdata.specs.Record.{Record, IsRecord};
 ghost use Rattle.zone_set.specs.Builder.{Accepts, Adds, AreTwoSoas, OtherClass, OtherSoa};
-ghost use Rattle.zone_set.specs.Machine.Held.{IsFirstOutside};
+ghost use Rattle.zone_set.specs.Machine.Held.{all_records, HoldsEntries, IsFirstOutside};
 ghost use Rattle.zone_set.specs.Machine.Refusal.{IsRefusal};
 ghost use Rattle.zone_set.specs.Message.{message_len, message_octets};
 ghost use Rattle.zone_rdata.specs.Lent.{record_of};
@@ -16,7 +16,7 @@ use crate::records::Records;
 use crate::refusal::Refusal;
 use crate::stored::record_at;
 use sorted_chunks::SortedChunks;
-use std::alloc::Global;
+use std::alloc::{AllocError, Global};
 use std::marker::Model;
 use zone_name::{Name, NameRef};
 use zone_rdata::{Class, RrRef};
@@ -66,6 +66,37 @@ impl Sets {
             entries: SortedChunks::new(alloc),
             message_len: 0,
         }
+    }
+
+    /// The sets of entries in canonical order.
+    ///
+    /// # Errors
+    ///
+    /// `AllocError` where memory is refused.
+    pub(crate) fn of_sorted(
+        alloc: Global,
+        class: Class,
+        base: Name,
+        octets: Vec<u8>,
+        entries: Vec<Entry>,
+    ) -> Result<Sets, AllocError>
+        requires { HoldsEntries base class octets.items entries.items }
+        ensures { IfOk result (λ sets. sets ≡ all_records class octets.items entries.items) }
+    {
+        let mut message_len: u64 = 0;
+        let mut left = entries.as_slice();
+        while let Some((entry, rest)) = left.split_first() {
+            let rr = record_at(class, octets.as_slice(), entry.at);
+            message_len = message_len.saturating_add(len_in_messages(&rr));
+            left = rest;
+        }
+        Ok(Sets {
+            class,
+            base,
+            octets,
+            entries: SortedChunks::of_sorted(alloc, entries)?,
+            message_len,
+        })
     }
 
     /// The records in canonical order.
@@ -204,7 +235,7 @@ fn settle_base(base: &mut Name, entries: &SortedChunks<Entry, LIMIT>, owner: &Na
 }
 
 /// Whether both are SOA records, and they differ in owner or data.
-fn is_other_soa(first: &RrRef<'_>, rr: &RrRef<'_>) -> bool
+pub(crate) fn is_other_soa(first: &RrRef<'_>, rr: &RrRef<'_>) -> bool
     ensures { IsTrue result ↔ AreTwoSoas (record_of first.now) (record_of rr.now) }
 {
     if !rr.kind.is_soa() || !first.kind.is_soa() {

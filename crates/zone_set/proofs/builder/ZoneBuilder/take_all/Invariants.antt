@@ -1,11 +1,12 @@
 use Rattle.std.proofs.Common.{length, ◌≡◌}
 use Rattle.zone_set.proofs.Taking.{HasTaken}
+use Rattle.zone_set.specs.Builder.{AddsEach}
 use Rattle.zone_set.proofs.builder.ZoneBuilder.take_all.Given as goal
 
 -- some first records of the source were taken, and nothing else of it changed
 abbrev pub invariant-loop-placed : goal.invariant-loop-placed
 invariant-loop-placed g l =
-    HasTaken l.fn.self (g.S.RrSource.pending l.fn.source) l.self (g.S.RrSource.pending l.source)
+    HasTaken (λ taken. AddsEach l.fn.self taken l.self) (g.S.RrSource.pending l.fn.source) (g.S.RrSource.pending l.source)
     × (g.S.RrSource.beside l.source ≡ g.S.RrSource.beside l.fn.source)
 
 abbrev pub decreases-loop-placed : goal.decreases-loop-placed

@@ -1,0 +1,17 @@
+use Rattle.std.proofs.Common.{◌∷◌, length}
+use Rattle.std.specs.List.{AllByRecursion}
+use Rattle.zone_set.specs.Machine.Bulk.{AreNeighbours}
+use Rattle.zone_set.specs.Machine.Held.{all_records, IsEntry}
+use Rattle.zone_set.proofs.bulk.are_neighbours.Given as goal
+
+abbrev pub ghost-stand_next : goal.ghost-stand_next
+ghost-stand_next g a = g.base
+
+-- if the last entry looked at and those that are left are neighbours, all are
+abbrev pub invariant-loop-next : goal.invariant-loop-next
+invariant-loop-next g l =
+    AllByRecursion (IsEntry g.base l.class l.octets) (l.last ∷ l.left)
+    × (AreNeighbours (all_records l.class l.octets (l.last ∷ l.left)) → AreNeighbours (all_records l.class l.octets l.fn.entries))
+
+abbrev pub decreases-loop-next : goal.decreases-loop-next
+decreases-loop-next g l = length l.left

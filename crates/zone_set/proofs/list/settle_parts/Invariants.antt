@@ -1,0 +1,7 @@
+use Rattle.zone_set.proofs.list.settle_parts.Given as goal
+
+abbrev pub ghost-settle : goal.ghost-settle
+ghost-settle g a = g.known.0
+
+abbrev pub ghost-offer : goal.ghost-offer
+ghost-offer g a = g.known.1

@@ -1,0 +1,69 @@
+-- Entries that were sorted at once: what their neighbours have to show.
+use Rattle.std.specs.Prelude.{◌≡◌, ℕ, ◌+◌, Bool, List, [], ◌∷◌, ⊤, map, flat_map, take, drop, slice_index, bytes_eq}
+use Rattle.std.specs.Int.{from_be_bytes, w16}
+use Rattle.std.specs.declared.cmp.Ordering.TheVariants.{Less}
+use Rattle.std.specs.List.{AllByRecursion}
+use Rattle.zone_rdata.specs.Record.{Record, IsRecord}
+use Rattle.zone_rdata.specs.declared.fault.Fault.TheVariants.{ClassMismatch}
+use Rattle.zone_rdata.specs.declared.fault.Place.{Place}
+use Rattle.zone_rdata.specs.declared.fault.Stop.{Stop}
+use Rattle.zone_rdata.specs.declared.fault.Stop.TheVariants.{Refused, Memory}
+use Rattle.zone_rdata.specs.declared.record.Placed.{Placed}
+use Rattle.zone_set.specs.Builder.{AreTwoSoas, OtherClass}
+use Rattle.zone_set.specs.Machine.Held.{all_records, entry_record, HasOtherTtl, IsEntry}
+use Rattle.zone_set.specs.Machine.Stored.{stored}
+use Rattle.zone_set.specs.Refusal.{records_of}
+use Rattle.zone_set.specs.Order.{canonical_cmp}
+use Rattle.zone_set.specs.declared.entry.Entry.{Entry}
+
+-- the first stands before the second, and both may stand in one zone
+pub record StandNext (r s : Record) : Type 0 where
+  pub before : canonical_cmp r s ≡ Less
+  pub one_ttl : HasOtherTtl r s → ⊥
+  pub one_soa : AreTwoSoas r s → ⊥
+
+-- so do all neighbours
+abbrev pub AreNeighbours : List Record → Type 0
+AreNeighbours [] = ⊤
+AreNeighbours (r ∷ []) = ⊤
+AreNeighbours (r ∷ (s ∷ records)) = StandNext r s × AreNeighbours (s ∷ records)
+
+-- how many octets keep the record whose octets these begin with
+abbrev pub span_len : List ℕ → ℕ
+span_len octets = 9 + slice_index octets 6 + from_be_bytes w16 (take 2 (drop 7 octets))
+
+-- the octets that keep the record at a place, as far as there are any
+abbrev pub span : List ℕ → ℕ → List ℕ
+span octets at = take (span_len (drop at octets)) (drop at octets)
+
+-- the same octets keep the records of two entries
+abbrev pub is_repeat : List ℕ → Entry → Entry → Bool
+is_repeat octets a b = bytes_eq (span octets a.at) (span octets b.at)
+
+-- octets that keep these records one after another, all of one class, and their places
+pub record IsRow (class : ℕ) (octets : List ℕ) (places : List Place)
+    (placed : List Placed) : Type 0 where
+  pub classes : AllByRecursion (λ p. p.rr.class ≡ class) placed
+  pub whole : AllByRecursion (λ p. IsRecord p.rr) placed
+  pub kept : octets ≡ flat_map (λ p. stored p.rr) placed
+  pub stand : places ≡ map (λ p. p.place) placed
+
+-- entries and places as the records that came
+abbrev pub listed : ℕ → List ℕ → List Entry → List Place → List Placed
+listed class octets [] places = []
+listed class octets (e ∷ entries) [] = []
+listed class octets (e ∷ entries) (place ∷ places) =
+    record { rr = entry_record class octets e; place = place } ∷ listed class octets entries places
+
+-- what a list of records keeps: each entry's record stands in its turn
+pub record KeepsList (class : ℕ) (base : List (List ℕ)) (octets : List ℕ) (entries : List Entry)
+    (places : List Place) : Type 0 where
+  pub each : AllByRecursion (IsEntry base class octets) entries
+  pub row : IsRow class octets places (listed class octets entries places)
+  pub all : records_of (listed class octets entries places) ≡ all_records class octets entries
+
+-- why a record isn't listed: memory was refused, or one of another class is listed
+pub data StopsList (placed : List Placed) (p : Placed) : Stop → Type 0 where
+  memory : StopsList placed p Memory
+  class : OtherClass (records_of placed) p.rr
+      → StopsList placed p (Refused ClassMismatch p.place)

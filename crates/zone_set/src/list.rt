@@ -1,0 +1,247 @@
+ghost use Rattle.std.specs.Prelude.{◌≡◌, ◌↔◌, ◌⊎◌, ◌++◌, ◌∷◌, IsTrue, List, [], length, IfOk, IfErr, OnOk, OnErr, if◌then◌else◌};
+ghost use Rattle.std.specs.List.{AllByRecursion};
+ghost use Rattle.zone_rdata.specs.Lent.{record_of};
+ghost use Rattle.zone_rdata.specs.Record.{IsRecord};
+ghost use Rattle.zone_name.specs.Common.{Labels};
+ghost use Rattle.zone_rdata.specs.declared.record.Placed.{Placed};
+ghost use Rattle.zone_set.specs.Machine.Bulk.{listed, KeepsList, StopsList};
+ghost use Rattle.zone_set.specs.Builder.{OtherClass};
+ghost use Rattle.zone_set.specs.Machine.Stored.{stored};
+ghost use Rattle.zone_set.specs.Refusal.{records_of};
+ghost use Rattle.zone_set.specs.ZoneList.{IsSettledAs, ListsAll, StopsListing, StopsSettling};
+
+use crate::builder::ZoneBuilder;
+use crate::bulk::settle;
+use crate::entry::Entry;
+use crate::hint::hint_of;
+use crate::offer::offer;
+use crate::places::Places;
+use crate::sets::Sets;
+use crate::stored::append;
+use std::alloc::{AllocError, Global};
+use std::marker::Model;
+use zone_name::Name;
+use zone_rdata::{Class, Fault, LendingSource, Place, RrRef, Stop};
+
+/// The records of an input as they come, each with its place. Whether they can stand together is
+/// told when all are there. Contracts see them in the order in which they came.
+#[derive(Drop)]
+pub struct ZoneList {
+    alloc: Global,
+    /// The class of all records.
+    class: Class,
+    /// The owner of the first record, which hints are relative to.
+    base: Name,
+    /// One copy of each record.
+    octets: Vec<u8>,
+    /// Where each record stands among the octets.
+    entries: Vec<Entry>,
+    /// Where each record stands in the input.
+    places: Places,
+}
+
+impl Model for ZoneList {
+    ghost use Rattle.std.specs.Prelude.{List};
+    ghost use Rattle.zone_rdata.specs.declared.record.Placed.{Placed};
+    ghost use Rattle.zone_set.specs.Machine.Bulk.{listed, KeepsList};
+
+    ghost Value = { List Placed };
+
+    ghost view = { λ l. listed l.class l.octets.items l.entries.items l.places };
+
+    ghost invariant = { λ l.
+        KeepsList l.class l.base l.octets.items l.entries.items l.places };
+}
+
+impl ZoneList {
+    /// No record.
+    pub fn new(alloc: Global) -> ZoneList
+        ensures { result ≡ [] }
+    {
+        // With no record it may be any class.
+        let Some(class) = Class::of_number(1) else {
+            unreachable!();
+        };
+        ZoneList {
+            alloc,
+            class,
+            base: Name::root(),
+            octets: Vec::new(alloc),
+            entries: Vec::new(alloc),
+            places: Places::new(alloc),
+        }
+    }
+
+    /// Lists all that a source has left to give, and moves no record.
+    ///
+    /// # Errors
+    ///
+    /// `Refused` with `ClassMismatch` at the first record whose class isn't that of the records
+    /// listed, or with the fault at the source's end; `Memory` where memory was refused or the
+    /// source has failed. The records before it are listed, and the one that was refused is
+    /// dropped: the source has those after it left. Nothing else of the source changes.
+    pub fn take_lent<S: LendingSource>(&mut self, source: &mut S) -> Result<(), Stop>
+        ensures taken { OnOk result
+            (ListsAll self.old (S.pending source.old) self.new (S.pending source.new)) }
+        ensures stopped { IfErr result
+            (StopsListing self.old (S.pending source.old) self.new (S.pending source.new)) }
+        ensures beside { S.beside source.new ≡ S.beside source.old }
+    {
+        while let Some(placed) = source.first() {
+            let listed = self.list(&placed.rr, placed.place);
+            source.skip();
+            match listed {
+                Ok(()) => {}
+                Err(refused) => return Err(refused),
+            }
+        }
+        // With no record left the fault at the end, if there is one.
+        source.next()?;
+        Ok(())
+    }
+
+    /// Lists a record.
+    ///
+    /// # Errors
+    ///
+    /// `Refused` with `ClassMismatch` where one of another class is listed, and `Memory`. The list
+    /// is unchanged.
+    fn list(&mut self, rr: &RrRef<'_>, place: Place) -> Result<(), Stop>
+        ensures taken { OnOk result
+            (self.new ≡ self.old ++ record { rr = record_of rr.now; place = place } ∷ []) }
+        ensures refused { IfErr result
+            (StopsList self.old (record { rr = record_of rr.now; place = place })) }
+        ensures unchanged { OnErr result (self.new ≡ self.old) }
+    {
+        if self.has_other_class(rr) {
+            return Err(Stop::Refused(Fault::ClassMismatch, place));
+        }
+        rr.known();
+        self.push(rr, place)?;
+        Ok(())
+    }
+
+    /// Whether a record of another class is listed.
+    fn has_other_class(&self, rr: &RrRef<'_>) -> bool
+        ensures other { IsTrue result → OtherClass (records_of self.now) (record_of rr.now) }
+        ensures same { IsTrue result ⊎ AllByRecursion (λ p. p.rr.class ≡ rr.now.class) self.now }
+    {
+        if has_none(self.entries.as_slice()) {
+            return false;
+        }
+        self.class != rr.class
+    }
+
+    /// Lists a record of the class of those before it.
+    ///
+    /// # Errors
+    ///
+    /// `AllocError` where memory is refused. The list is unchanged.
+    fn push(&mut self, rr: &RrRef<'_>, place: Place) -> Result<(), AllocError>
+        requires whole { IsRecord (record_of rr.now) }
+        requires class { AllByRecursion (λ p. p.rr.class ≡ rr.now.class) self.old }
+        ensures taken { OnOk result
+            (self.new ≡ self.old ++ record { rr = record_of rr.now; place = place } ∷ []) }
+        ensures unchanged { OnErr result (self.new ≡ self.old) }
+    {
+        // So that no record is kept in part.
+        self.entries.reserve(1)?;
+        let is_first = has_none(self.entries.as_slice());
+        first_decides(&mut self.class, &mut self.base, is_first, rr);
+        let hint = hint_of(&self.base, &rr.owner, rr.kind);
+        let at = append_with_place(&mut self.octets, &mut self.places, rr, place)?;
+        self.entries.push_reserved(Entry { hint, at });
+        Ok(())
+    }
+
+    /// The builder of all records.
+    ///
+    /// # Errors
+    ///
+    /// `Refused` at the first record that can't stand with those before it; `Memory`.
+    pub fn settle(self) -> Result<ZoneBuilder, Stop>
+        ensures taken { IfOk result (IsSettledAs self) }
+        ensures refused { IfErr result (StopsSettling self) }
+    {
+        let ZoneList {
+            alloc,
+            class,
+            base,
+            octets,
+            entries,
+            places,
+        } = self;
+        settle_parts(alloc, class, base, octets, entries, places)
+    }
+}
+
+/// `ZoneList::settle` for the parts of a list.
+fn settle_parts(
+    alloc: Global,
+    class: Class,
+    base: Name,
+    octets: Vec<u8>,
+    mut entries: Vec<Entry>,
+    places: Places,
+) -> Result<ZoneBuilder, Stop>
+    ghost known: { Labels × List Placed }
+    requires base { known.0 ≡ base }
+    requires placed { known.1 ≡ listed class octets.items entries.items places }
+    requires keeps { KeepsList class base octets.items entries.items places }
+    ensures taken { IfOk result (IsSettledAs known.1) }
+    ensures refused { IfErr result (StopsSettling known.1) }
+{
+    if settle(class, octets.as_slice(), &mut entries) {
+        let sets = Sets::of_sorted(alloc, class, base, octets, entries)?;
+        return Ok(ZoneBuilder { sets });
+    }
+    // In the order in which they came the first that is refused shows.
+    offer(alloc, class, octets.as_slice(), &places)
+}
+
+/// Appends the octets that keep a record and its place, and answers where the octets begin.
+///
+/// # Errors
+///
+/// `AllocError` where memory is refused. Neither is changed.
+fn append_with_place(
+    octets: &mut Vec<u8>,
+    places: &mut Places,
+    rr: &RrRef<'_>,
+    place: Place,
+) -> Result<usize, AllocError>
+    requires { IsRecord (record_of rr.now) }
+    ensures at { IfOk result (λ at. at ≡ length octets.old.items) }
+    ensures kept { OnOk result
+        (octets.new.items ≡ octets.old.items ++ stored (record_of rr.now)) }
+    ensures stands { OnOk result (places.new ≡ places.old ++ place ∷ []) }
+    ensures unchanged { OnErr result
+        ((octets.new.items ≡ octets.old.items) × (places.new ≡ places.old)) }
+{
+    let at = append(octets, rr)?;
+    match places.push(place) {
+        Ok(()) => Ok(at),
+        Err(error) => {
+            octets.truncate(at);
+            Err(error)
+        }
+    }
+}
+
+/// The first record decides the class of all, and what hints are relative to.
+fn first_decides(class: &mut Class, base: &mut Name, is_first: bool, rr: &RrRef<'_>)
+    ensures class { class.new ≡ (if is_first then rr.now.class else class.old) }
+    ensures base { base.new ≡ (if is_first then rr.now.owner else base.old) }
+{
+    if is_first {
+        *class = rr.class;
+        *base = rr.owner.to_name();
+    }
+}
+
+/// Whether there is no entry.
+fn has_none(entries: &[Entry]) -> bool
+    ensures { IsTrue result ↔ (entries.now ≡ []) }
+{
+    entries.is_empty()
+}

@@ -1,0 +1,130 @@
+ghost use Rattle.std.specs.Prelude.{◌≡◌, ◌<◌, length, IfSome, drop};
+ghost use Rattle.zone_set.specs.Machine.Bulk as bulk;
+
+use crate::entry::Entry;
+use std::cmp::Ordering;
+
+/// How the records of entries lie, by which they are sorted. Nothing rests on it but how soon a
+/// zone is made: it may be asked of any entries, and no contract speaks of what it answers.
+pub(crate) fn entry_order(octets: &[u8], a: &Entry, b: &Entry) -> Ordering {
+    if a.hint != b.hint {
+        return a.hint.cmp(&b.hint);
+    }
+    tie_order(octets, a.at, b.at)
+}
+
+/// How records of one hint lie, by owner, type and data.
+#[inline(never)]
+fn tie_order(octets: &[u8], a: usize, b: usize) -> Ordering {
+    let (Some(x), Some(y)) = (stored_at(octets, a), stored_at(octets, b)) else {
+        return Ordering::Equal;
+    };
+    owner_order(x.owner, y.owner)
+        .then(x.kind.cmp(&y.kind))
+        .then(x.data.cmp(y.data))
+}
+
+/// What is compared of a record.
+#[derive(Drop)]
+struct StoredParts<'z> {
+    owner: &'z [u8],
+    kind: u16,
+    data: &'z [u8],
+}
+
+/// The parts of what stands at a place, if a whole record does.
+fn stored_at<'z>(octets: &'z [u8], at: usize) -> Option<StoredParts<'z>> {
+    let (_, from) = octets.split_at_checked(at)?;
+    let (head, from) = from.split_first_chunk::<9>()?;
+    let [_, _, _, _, k0, k1, owner_len, d0, d1] = *head;
+    let (owner, from) = from.split_at_checked(owner_len as usize)?;
+    let (data, _) = from.split_at_checked(u16::from_be_bytes([d0, d1]) as usize)?;
+    Some(StoredParts {
+        owner,
+        kind: u16::from_be_bytes([k0, k1]),
+        data,
+    })
+}
+
+/// How owners lie, by their labels from the right.
+fn owner_order(a: &[u8], b: &[u8]) -> Ordering {
+    if a == b {
+        return Ordering::Equal;
+    }
+    let (len, other_len) = (label_count(a), label_count(b));
+    let mut labels = past(a, len.saturating_sub(other_len));
+    let mut others = past(b, other_len.saturating_sub(len));
+    let mut order = len.cmp(&other_len);
+    while let (Some((label, rest)), Some((other, more))) = (
+        first_label(labels),
+        first_label(others),
+    ) {
+        order = label.cmp(other).then(order);
+        labels = rest;
+        others = more;
+    }
+    order
+}
+
+/// The first label and what follows it.
+fn first_label(octets: &[u8]) -> Option<(&[u8], &[u8])>
+    ensures { IfSome result (λ parts. length parts.1.now < length octets.now) }
+{
+    let (len, after) = octets.split_first()?;
+    if *len == 0 {
+        return None;
+    }
+    after.split_at_checked(*len as usize)
+}
+
+/// How many labels there are.
+fn label_count(octets: &[u8]) -> usize {
+    let (mut left, mut count) = (octets, 0usize);
+    while let Some((_, rest)) = first_label(left) {
+        left = rest;
+        count = count.saturating_add(1);
+    }
+    count
+}
+
+/// What follows so many labels.
+fn past(octets: &[u8], count: usize) -> &[u8] {
+    let mut left = octets;
+    for _ in 0..count {
+        if let Some((_, rest)) = first_label(left) {
+            left = rest;
+        }
+    }
+    left
+}
+
+/// Whether the same octets keep the records of two entries, whatever the entries.
+pub(crate) fn is_repeat(octets: &[u8], a: &Entry, b: &Entry) -> bool
+    ensures { result ≡ bulk.is_repeat octets.now a.now b.now }
+{
+    span(octets, a.at) == span(octets, b.at)
+}
+
+/// The octets that keep the record at a place, as far as there are any.
+pub(crate) fn span(octets: &[u8], at: usize) -> &[u8]
+    ensures { result.now ≡ bulk.span octets.now at }
+{
+    let from = from(octets, at);
+    let Some((head, _)) = from.split_first_chunk::<9>() else {
+        return from;
+    };
+    let [_, _, _, _, _, _, owner_len, d0, d1] = *head;
+    let len = 9 + owner_len as usize + u16::from_be_bytes([d0, d1]) as usize;
+    if len > from.len() { from } else { &from[..len] }
+}
+
+/// The octets from a place on, if there are any.
+fn from(octets: &[u8], at: usize) -> &[u8]
+    ensures { result.now ≡ drop at octets.now }
+{
+    if at > octets.len() {
+        &octets[..0]
+    } else {
+        &octets[at..]
+    }
+}
