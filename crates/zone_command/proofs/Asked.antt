@@ -7,7 +7,6 @@ use Rattle.clap.specs.declared.error.kind.ErrorKind.TheVariants.{OutOfMemory}
 use Rattle.std.proofs.lemmas.List.{take_all}
 use Rattle.clap.proofs.WalkLemmas.{first_value-rows}
 use Rattle.zone_name.specs.Spelling.{Spells}
-use Rattle.zone_command.specs.Order as orders
 use Rattle.zone_command.specs.Machine.Calling.{IsOfCall, IsOfClap}
 use Rattle.zone_command.specs.declared.order.LineFault.{LineFault}
 use Rattle.zone_command.specs.declared.order.LineFault.TheVariants.{BadOrigin, Clap, Memory}

@@ -9,18 +9,19 @@ pub use Rattle.std.specs.List.{AllByRecursion}
 pub use Rattle.std.specs.Prelude.{IfErr, IfOk, IfSome, None, OnErr, Option, Result, Some, String, decimal, drop, option_map, string_bytes, take, ◌||◌}
 pub use Rattle.zone_name.specs.Common.{NothingIs, Octets}
 pub use Rattle.zone_print.specs.Canonical.{text_limit}
-pub use Rattle.zone_print.specs.Writing.{IsFailedWrite, TellsWrite}
+pub use Rattle.zone_print.specs.Device.{Device, Fails, IsLeft, WorksOn}
+pub use Rattle.zone_print.specs.Writing.{IsFailedWrite}
 pub use Rattle.zone_rdata.specs.declared.fault.Fault.{Fault}
 pub use Rattle.zone_rdata.specs.declared.fault.Place.{Place}
 pub use Rattle.zone_rdata.specs.declared.fault.Stop.{Stop}
 pub use Rattle.zone_rdata.specs.declared.fault.Stop.TheVariants.{Memory, Read, Refused, Write}
-pub use Rattle.zone_engine.specs.Compare.{Compares, ReadsWholeTo, StopsCompare, TellsReadOf}
+pub use Rattle.zone_engine.specs.Compare.{Compares, StopsCompare}
 pub use Rattle.zone_engine.specs.Input.{Input}
 pub use Rattle.zone_command.specs.Machine.Telling.{IsReported, TellsVerdict, explained, told, unexplained, untold}
-pub use Rattle.zone_engine.specs.Normalise.{Normalises, ReadsWhole}
+pub use Rattle.zone_engine.specs.Normalise.{Normalises, StopsNormalise}
 pub use Rattle.zone_command.specs.Order.{Asks, Call, Calls, Finds, IsLineFault, IsOriginText, Orders, argument, arguments_of, bare_app, command_of, compare_app, explain_app, normalise_app, program_app}
-pub use Rattle.zone_command.specs.Run.{AreCompared, Device, Devices, IsLeft, IsStopped, Runs, StopsNormalise, TellsLine}
-pub use Rattle.zone_engine.specs.Stops.{TellsRead}
+pub use Rattle.zone_command.specs.Run.{AreCompared, Devices, IsStopped, Runs, TellsLine}
+pub use Rattle.zone_engine.specs.Reading.{ReadsToEnd, ReadsWhole, StopsReading, TellsRead}
 pub use Rattle.zone_engine.specs.Telling.{WritesPartOfLine, refusal_line, stop_line, verdict_line, which_words}
 pub use Rattle.zone_engine.specs.declared.comparison.Verdict.{Verdict}
 pub use Rattle.zone_command.specs.declared.order.Order.{Order}

@@ -1,10 +1,10 @@
 -- Lines that are told.
-use Rattle.zone_command.proofs.Common.{◌≡◌, ℕ, List, IsFailedWrite, Stop, Device, TellsLine, arith}
+use Rattle.zone_command.proofs.Common.{◌≡◌, ℕ, List, IsFailedWrite, Stop, Device, Fails, TellsLine, arith}
 
 -- a line that is told is told as any line that is the same, with a status that is
-pub told_as : (text line : List ℕ) (status other answer : ℕ) (writer : Device) → text ≡ line → status ≡ other → TellsLine text status writer answer → TellsLine line other writer answer
-told_as text line status other answer writer is same h = grind arith
+pub told_as : (text line : List ℕ) (status other answer : ℕ) (old new : Device) → text ≡ line → status ≡ other → TellsLine text status old new answer → TellsLine line other old new answer
+told_as text line status other answer old new is same h = grind arith
 
 -- a write that failed
-pub failed_write : (failed : Type 0) (stop : Stop) → IsFailedWrite failed stop → failed
-failed_write failed stop h = grind arith
+pub failed_write : (old new : Device) (stop : Stop) → IsFailedWrite old new stop → Fails old new
+failed_write old new stop h = grind arith

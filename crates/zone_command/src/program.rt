@@ -1,10 +1,11 @@
 ghost use Rattle.std.specs.Prelude.{◌≡◌, ◌++◌, IfErr, IfOk, OnErr, OnOk, string_bytes};
+ghost use Rattle.zone_print.specs.Device.{WorksOn};
 ghost use Rattle.zone_print.specs.Writing.{IsFailedWrite};
 ghost use Rattle.zone_rdata.specs.declared.fault.Stop.TheVariants.{Memory};
 ghost use Rattle.zone_command.specs.Machine.Telling.{IsReported, TellsVerdict};
 ghost use Rattle.zone_command.specs.Order.{line_status, line_text};
-ghost use Rattle.zone_command.specs.Run.{device, devices, ReadsSecond, Runs, TellsLine};
-ghost use Rattle.zone_engine.specs.Normalise.{ReadsFew};
+ghost use Rattle.zone_command.specs.Run.{devices, ReadsSecond, Runs, TellsLine};
+ghost use Rattle.zone_engine.specs.Reading.{ReadsFew};
 ghost use Rattle.zone_engine.specs.Telling.{stop_line, verdict_line, verdict_status, which_words, WritesLine, WritesPartOfLine};
 
 use crate::order::{LineFault, Order};
@@ -37,18 +38,12 @@ pub fn run<R1: OctetReader, R2: OctetReader, W: OctetWriter, E: OctetWriter>(
     errors: &mut E,
 ) -> u8
     ensures ran { Runs order.now
-        (devices
-        (device (R1.remaining first.old) (R1.remaining first.new)
-        (R1.Works first.old → R1.Works first.new) (R1.Works first.old → R1.Failed first.new))
-        (device (R2.remaining second.old) (R2.remaining second.new)
-        (R2.Works second.old → R2.Works second.new) (R2.Works second.old → R2.Failed second.new))
-        (device (W.contents output.old) (W.contents output.new)
-        (W.Works output.old → W.Works output.new) (W.Works output.old → W.Failed output.new))
-        (device (E.contents errors.old) (E.contents errors.new)
-        (E.Works errors.old → E.Works errors.new) (E.Works errors.old → E.Failed errors.new)))
-        result }
-    ensures first { ReadsFew (R1.remaining first.old) (R1.remaining first.new) }
-    ensures second { ReadsSecond order.now (R2.remaining second.old) (R2.remaining second.new) }
+        (devices (R1.state first.old) (R2.state second.old)
+        (W.state output.old) (E.state errors.old))
+        (devices (R1.state first.new) (R2.state second.new)
+        (W.state output.new) (E.state errors.new)) result }
+    ensures first { ReadsFew (R1.state first.old) (R1.state first.new) }
+    ensures second { ReadsSecond order.now (R2.state second.old) (R2.state second.new) }
 {
     match order {
         Order::Normalise(origin) => {
@@ -83,12 +78,8 @@ fn tell_verdict<W: OctetWriter, E: OctetWriter>(
     output: &mut W,
     errors: &mut E,
 ) -> u8
-    ensures { TellsVerdict verdict
-        (device (W.contents output.old) (W.contents output.new)
-        (W.Works output.old → W.Works output.new) (W.Works output.old → W.Failed output.new))
-        (device (E.contents errors.old) (E.contents errors.new)
-        (E.Works errors.old → E.Works errors.new) (E.Works errors.old → E.Failed errors.new))
-        result }
+    ensures { TellsVerdict verdict (W.state output.old) (W.state output.new)
+        (E.state errors.old) (E.state errors.new) result }
 {
     match write_verdict(verdict, output) {
         Ok(()) => status_of(verdict),
@@ -103,11 +94,11 @@ fn tell_verdict<W: OctetWriter, E: OctetWriter>(
 /// `Write` where the writer failed. A proper prefix of the line was written.
 fn write_verdict<W: OctetWriter>(verdict: Verdict, output: &mut W) -> Result<(), Stop>
     ensures written { OnOk result
-        (WritesLine (verdict_line verdict) (W.contents output.old) (W.contents output.new)) }
+        (WritesLine (verdict_line verdict) (W.state output.old) (W.state output.new)) }
     ensures part { OnErr result
-        (WritesPartOfLine (verdict_line verdict) (W.contents output.old) (W.contents output.new)) }
-    ensures works { OnOk result (W.Works output.old → W.Works output.new) }
-    ensures failed { IfErr result (IsFailedWrite (W.Works output.old → W.Failed output.new)) }
+        (WritesPartOfLine (verdict_line verdict) (W.state output.old) (W.state output.new)) }
+    ensures works { OnOk result (WorksOn (W.state output.old) (W.state output.new)) }
+    ensures failed { IfErr result (IsFailedWrite (W.state output.old) (W.state output.new)) }
 {
     match verdict {
         Verdict::Same => write_line(output, "", "same"),
@@ -141,10 +132,7 @@ fn words_of(which: Which) -> &'static str
 /// Tells why a run stopped, after these words, and answers its status. Only the line of a refusal
 /// takes memory, and where that is refused, want of memory is told.
 fn report<E: OctetWriter>(alloc: Global, words: &str, stop: &Stop, errors: &mut E) -> u8
-    ensures { IsReported words.now
-        (device (E.contents errors.old) (E.contents errors.new)
-        (E.Works errors.old → E.Works errors.new) (E.Works errors.old → E.Failed errors.new))
-        stop.now result }
+    ensures { IsReported words.now (E.state errors.old) (E.state errors.new) stop.now result }
 {
     match stop {
         Stop::Refused(fault, place) => {
@@ -160,13 +148,9 @@ fn report<E: OctetWriter>(alloc: Global, words: &str, stop: &Stop, errors: &mut 
 /// status.
 fn tell_refusal<E: OctetWriter>(words: &str, line: Result<String, AllocError>, errors: &mut E) -> u8
     ensures told { IfOk line (λ line. TellsLine (words.now ++ string_bytes line) 3
-        (device (E.contents errors.old) (E.contents errors.new)
-        (E.Works errors.old → E.Works errors.new) (E.Works errors.old → E.Failed errors.new))
-        result) }
+        (E.state errors.old) (E.state errors.new) result) }
     ensures untold { OnErr line (TellsLine (words.now ++ stop_line Memory) 4
-        (device (E.contents errors.old) (E.contents errors.new)
-        (E.Works errors.old → E.Works errors.new) (E.Works errors.old → E.Failed errors.new))
-        result) }
+        (E.state errors.old) (E.state errors.new) result) }
 {
     match line {
         Ok(line) => tell(words, line.as_str(), status::REFUSED, errors),
@@ -177,9 +161,7 @@ fn tell_refusal<E: OctetWriter>(words: &str, line: Result<String, AllocError>, e
 /// Tells why a command line is no order, and answers the status: 4 where that could not be told.
 pub fn refuse<E: OctetWriter>(fault: &LineFault, errors: &mut E) -> u8
     ensures { TellsLine (line_text fault.now) (line_status fault.now)
-        (device (E.contents errors.old) (E.contents errors.new)
-        (E.Works errors.old → E.Works errors.new) (E.Works errors.old → E.Failed errors.new))
-        result }
+        (E.state errors.old) (E.state errors.new) result }
 {
     tell("", fault.text(), fault.status(), errors)
 }
@@ -187,9 +169,7 @@ pub fn refuse<E: OctetWriter>(fault: &LineFault, errors: &mut E) -> u8
 /// Writes these words and the line, and answers this status: 4 where the writer failed.
 fn tell<E: OctetWriter>(words: &str, line: &str, answer: u8, errors: &mut E) -> u8
     ensures { TellsLine (words.now ++ line.now) answer
-        (device (E.contents errors.old) (E.contents errors.new)
-        (E.Works errors.old → E.Works errors.new) (E.Works errors.old → E.Failed errors.new))
-        result }
+        (E.state errors.old) (E.state errors.new) result }
 {
     match write_line(errors, words, line) {
         Ok(()) => answer,

@@ -8,7 +8,7 @@ pub use Rattle.std.proofs.lemmas.Option.{IfSome_then}
 pub use Rattle.std.proofs.lemmas.Result.{MatchResult-weaker, err_from_is_err_and}
 pub use Rattle.std.specs.Cmp.{IsTotalOrder}
 pub use Rattle.std.specs.Cmp.Lexicographic.{bytes_decides, pointwise, pointwise_decides}
-pub use Rattle.std.specs.Io.KnownBytes.{Appends, Consumes}
+pub use Rattle.std.specs.Io.KnownBytes.{Appends, Consumes, IsAtEnd, Keeps}
 pub use Rattle.std.specs.List.{AllByRecursion, flat_map}
 pub use Rattle.std.specs.Ordering.{ordering_reverse}
 pub use Rattle.std.specs.Prelude.{Err, IfOk, IfSome, IsTrue, None, Ok, OnErr, OnOk, Option, Result, Some, decimal, get_or, is_some, slice_get, ◌==◌, ◌||◌}
@@ -19,6 +19,7 @@ pub use Rattle.zone_name.specs.Text.{label_text, name_text, octet_text}
 pub use Rattle.zone_print.proofs.Feeds.{has_no_feed, high, line_ends_with_feed, none_append, none_decimal, none_name, none_tested}
 pub use Rattle.zone_print.specs.Canonical.{canon, line, lines, text_limit}
 pub use Rattle.zone_print.specs.Denotes.{Denotes, MakesZone}
+pub use Rattle.zone_print.specs.Device.{Device, Fails, IsLeft, WorksOn}
 pub use Rattle.zone_print.specs.Laws.{EndsWithItsFeed, HasNoFeed}
 pub use Rattle.zone_print.specs.Writing.{AppendsPart, IsFailedWrite, StopsPush, StopsWrite}
 pub use Rattle.zone_rdata.specs.FedSource.{Held, SourceState}
@@ -32,7 +33,7 @@ pub use Rattle.zone_rdata.specs.declared.fault.Stop.{Stop}
 pub use Rattle.zone_rdata.specs.declared.fault.Stop.TheVariants.{Refused}
 pub use Rattle.zone_rdata.specs.declared.record.Placed.{Placed}
 pub use Rattle.zone_set.proofs.Together.{accepted_class, accepted_soa, accepted_ttl, each_Has, each_from_Has, one_set, stable_owner}
-pub use Rattle.zone_set.specs.Builder.{Accepts, Adds, AddsEach, AreTwoSoas, HasNoSoa, IsLeastOutside, IsRefusedFor, OtherClass, OtherSoa, OtherTtl, StopsFinish, StopsTaking, TakesAll, class, leaves, no_soa, outside, soa, ttl}
+pub use Rattle.zone_set.specs.Builder.{Accepts, Adds, AreTwoSoas, HasNoSoa, IsLeastOutside, IsRefusedFor, OtherClass, OtherSoa, OtherTtl, StopsFinish, class, leaves, no_soa, outside, soa, ttl}
 pub use Rattle.zone_set.specs.Refusal.{AllAccepted, IsFirstRefused, records_of}
 pub use Rattle.zone_set.specs.Zone.{AreCompatible, Has, InOneSet, IsZone, SameRecords, Zone, covered_octets}
 pub use Rattle.zone_text.specs.Decided.{FileDecides, Stays}
@@ -43,10 +44,10 @@ pub use Rattle.zone_engine.specs.Examples.{a_x, address_of, example_zone, server
 pub use Rattle.zone_engine.specs.Input.{Input, InputDenotes, InputDenotesWithin, InputReads, InputStates, IsInput, file, input_octets, transfer}
 pub use Rattle.zone_engine.specs.Machine.Fed.{FileLeave, IsFile, IsTransfer, StandsForInput, TransferLeave}
 pub use Rattle.zone_engine.specs.Machine.Input.{Decides, IsForm, ReadAs, as_file, as_transfer, form_of, input_of}
-pub use Rattle.zone_engine.specs.Machine.Loading.{BeginsAs, IsLoaded, IsLoadedOf, ReadsZone, ReadsZoneWithin, RefusesFront, RefusesRead, all_taken, by_ending, by_record, front_refuses, nothing_pending}
-pub use Rattle.zone_engine.specs.Normalise.{IsOfBytes, IsOfReading, Normalises, NormalisesTo, WritesNothing, WritesPrefix}
+pub use Rattle.zone_engine.specs.Machine.Loading.{BeginsAs, IsFirstStop, IsLoaded, IsLoadedOf, ReadsZone, ReadsZoneWithin, RefusesFront, RefusesRead, all_taken, by_ending, by_record, earlier, front_refuses, itself, nothing_pending}
+pub use Rattle.zone_engine.specs.Normalise.{IsOfBytes, IsOfReading, Normalises, NormalisesTo, StopsNormalise, WritesNothing, WritesPrefix}
+pub use Rattle.zone_engine.specs.Reading.{ConsumesAtMost, IsFailedRead, Reads, ReadsToEnd, ReadsWhole, StopsReading, TellsRead}
 pub use Rattle.zone_engine.specs.Refusal.{IfRefused, IsRefusal, IsRefusalWithin, IsRefused, RefusesReading, reading, refused, too_large, too_long, unfinished, unread}
-pub use Rattle.zone_engine.specs.Stops.{TellsRead}
 pub use Rattle.zone_engine.specs.Telling.{WritesLine, WritesPartOfLine, argument_of, place_words, records_line, refusal_line, stop_line, verdict_line}
 pub use Rattle.zone_engine.specs.declared.comparison.Verdict.{Verdict}
 pub use Rattle.zone_engine.specs.declared.comparison.Verdict.TheVariants.{Different, Same}

@@ -11,7 +11,8 @@ Ending = Option (Fault × Place)
 abbrev GoesOn : List Placed → Ending → List Placed → Ending → Type 0
 GoesOn placed ending later last = ((others : List Placed) × (later ≡ placed ++ others)) × ((e : Fault × Place) → ending ≡ Some e → (later ≡ placed) × (last ≡ ending))
 
-first_stays : (placed others : List Placed) (fault : Fault) (place : Place) → IsFirstRefused placed fault place → IsFirstRefused (placed ++ others) fault place
+-- what is refused stays refused where more records follow
+pub first_stays : (placed others : List Placed) (fault : Fault) (place : Place) → IsFirstRefused placed fault place → IsFirstRefused (placed ++ others) fault place
 first_stays placed others fault place first = grind (arith, common_steps)
 
 refuses_on : (placed later : List Placed) (ending last : Ending) (fault : Fault) (place : Place) → GoesOn placed ending later last → RefusesFront placed ending fault place → RefusesReading later last fault place

@@ -1,7 +1,7 @@
 -- Of the records of an input one is the first that is refused, or all are accepted.
 use Rattle.zone_engine.proofs.Common.{◌≡◌, ◌≢◌, ◌⊎◌, ℕ, Bool, List, [], ◌∷◌, ◌++◌, refl, sym, ap, ◌∙◌, subst, inl, inr, ⊎_elim, append_assoc, append-nil, arith, cases_eq, bytes_decides, IsWithin, Record, data_of, Fault, ClassMismatch, MultipleSoa, DifferingTtl, Place, Placed, OtherClass, AreTwoSoas, OtherSoa, OtherTtl, Accepts, IsRefusedFor, class, soa, ttl, AllAccepted, IsFirstRefused, records_of, Has, InOneSet, covered_octets, common_steps}
 use Rattle.std.proofs.Common.{Decides}
-use Rattle.zone_engine.proofs.Parting.{same, two_partings, Decides-owner}
+use Rattle.zone_engine.proofs.Parting.{two_partings, Decides-owner}
 
 -- a fact holds, or it doesn't
 abbrev pub Settled : Type 0 → Type 0

@@ -1,5 +1,5 @@
 -- From what was taken of the octets that a reader gave to what the reader's octets are read as.
-use Rattle.zone_engine.proofs.Common.{◌≡◌, ℕ, ◌<◌, ◌≤◌, ◌+◌, true, List, [], ◌++◌, length, length-append, sym, ap, ◌∙◌, subst, append-nil, arith, ◌==◌, Option, None, IfSome, Consumes, AllByRecursion, Octets, Record, Held, Pending, Fault, InputTooLong, Place, Whole, Stop, Zone, ReadAs, input_of, input_octets, IsInput, IsForm, all_taken, BeginsAs, IsLoadedOf, ReadsZone, ReadsZoneWithin, RefusesRead, IsOfBytes, IsOfReading, IfRefused, IsRefusalWithin, too_long, reading, TellsRead, common_steps, Consumes-trans, form_of}
+use Rattle.zone_engine.proofs.Common.{◌≡◌, ℕ, ◌<◌, ◌≤◌, ◌+◌, true, List, [], ◌++◌, length, length-append, sym, ap, ◌∙◌, subst, append-nil, arith, ◌==◌, Option, None, IfSome, Consumes, AllByRecursion, Octets, Placed, Held, Pending, Fault, InputTooLong, Place, Whole, Stop, Zone, ReadAs, input_of, input_octets, IsInput, IsForm, all_taken, BeginsAs, IsLoadedOf, ReadsZone, ReadsZoneWithin, RefusesRead, IsOfBytes, IsOfReading, IfRefused, IsRefusalWithin, too_long, reading, common_steps, Consumes-trans, form_of}
 use Rattle.zone_engine.specs.Form.{read_as}
 use Rattle.zone_engine.specs.declared.form.Form.{Form}
 use Rattle.zone_engine.specs.declared.form.Form.TheVariants.{File, Transfer}
@@ -23,8 +23,8 @@ pub too_many : (limit : ℕ) (form : ReadAs) (old new : Option Octets) (given : 
 too_many limit form old new given consumed long = grind (arith, refused_over, length-append)
 
 -- what a source begins with is taken of no octets
-pub begun : {Kept : Type 0} (IsOf : ReadAs → Type 0) (Leave : ReadAs → Octets → Kept → Octets → Type 0) (form : ReadAs) (pending : Pending) (inside : Held Kept) (held : List Record) (refusal : Option (Fault × Place)) → held ≡ [] → refusal ≡ None → BeginsAs IsOf Leave pending inside form → IsLoadedOf IsOf Leave pending inside held refusal form []
-begun IsOf Leave form pending inside held refusal none unrefused begins = all_taken [] unrefused begins.stands begins.nothing none
+pub begun : {Kept : Type 0} (IsOf : ReadAs → Type 0) (Leave : ReadAs → Octets → Kept → Octets → Type 0) (form : ReadAs) (pending : Pending) (inside : Held Kept) (listed : List Placed) (refusal : Option (Fault × Place)) → listed ≡ [] → refusal ≡ None → BeginsAs IsOf Leave pending inside form → IsLoadedOf IsOf Leave pending inside listed refusal form []
+begun IsOf Leave form pending inside listed refusal none unrefused begins = rw none (all_taken unrefused begins.stands begins.nothing)
 
 -- ---- what was read so far
 
@@ -46,10 +46,6 @@ consumed_none a b c given more first next none = subst (Consumes a c) (ap (λ os
 
 pub of_reading : (stop : Stop) → IsOfBytes stop → IsOfReading stop
 of_reading stop is = grind arith
-
--- what ends the input tells no failed read
-pub tells_no_read : (works failed : Type 0) (stop : Stop) → works → IsOfBytes stop → TellsRead works failed stop
-tells_no_read works failed stop on is = grind arith
 
 pub no_octets : (octets : Octets) → (length octets == 0) ≡ true → octets ≡ []
 no_octets octets none = grind (arith, common_steps)

@@ -1,7 +1,5 @@
 pub mod Common
-pub mod Added
 pub mod Ascii
-pub mod Accepted
 pub mod Parting
 pub mod Refusing
 pub mod Deciding
@@ -11,6 +9,7 @@ pub mod Small
 pub mod Inputs
 pub mod Taken
 pub mod Feeding
+pub mod Readers
 pub mod Written
 pub mod Compared
 pub mod FedSources

@@ -1,5 +1,5 @@
 -- Lines that are written piece by piece.
-use Rattle.zone_engine.proofs.Common.{◌≡◌, ℕ, List, ◌++◌, append_assoc, subst, Option, Result, OnErr, OnOk, Appends, Appends-trans, AppendsPart, WritesLine, WritesPartOfLine, arith}
+use Rattle.zone_engine.proofs.Common.{◌≡◌, ℕ, List, ◌++◌, append_assoc, subst, Option, Result, OnErr, OnOk, Appends, Appends-trans, AppendsPart, Device, WritesLine, WritesPartOfLine, arith}
 use Rattle.zone_print.proofs.Front.{some_more}
 
 -- a part of the front of a text is a part of the text
@@ -24,8 +24,8 @@ pub on_any_err : {X Y : Type 0} (r : Result X Y) (P : Type 0) → P → OnErr r 
 on_any_err r P h = grind arith
 
 -- words and digits that were written make this line, and part of them part of it
-pub this_line_on_ok : {X Y : Type 0} (r : Result X Y) (text line : List ℕ) (old new : Option (List ℕ)) → text ≡ line → OnOk r (WritesLine text old new) → OnOk r (WritesLine line old new)
+pub this_line_on_ok : {X Y : Type 0} (r : Result X Y) (text line : List ℕ) (old new : Device) → text ≡ line → OnOk r (WritesLine text old new) → OnOk r (WritesLine line old new)
 this_line_on_ok r text line old new is h = subst (λ (t : List ℕ). OnOk r (WritesLine t old new)) is h
 
-pub part_of_line_on_err : {X Y : Type 0} (r : Result X Y) (text line : List ℕ) (old new : Option (List ℕ)) → text ≡ line → OnErr r (WritesPartOfLine text old new) → OnErr r (WritesPartOfLine line old new)
+pub part_of_line_on_err : {X Y : Type 0} (r : Result X Y) (text line : List ℕ) (old new : Device) → text ≡ line → OnErr r (WritesPartOfLine text old new) → OnErr r (WritesPartOfLine line old new)
 part_of_line_on_err r text line old new is h = subst (λ (t : List ℕ). OnErr r (WritesPartOfLine t old new)) is h

@@ -1,6 +1,5 @@
 -- No line that people are told has a line feed.
 use Rattle.zone_engine.proofs.Common.{ℕ, List, ◌++◌, codes, refl, arith, IsTrue, decimal, Fault, Place, Stop, argument_of, place_words, records_line, refusal_line, fault_row, stop_line, verdict_line, Verdict, rules, HasNoFeed, has_no_feed, high, none_append, none_decimal, none_name, none_tested, Same, Different}
-use Rattle.zone_rdata.specs.declared.fault.Fault.TheVariants as faults
 
 -- ---- the parts of the line of a refusal
 

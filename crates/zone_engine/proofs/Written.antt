@@ -1,6 +1,8 @@
 -- From the zone that an input is read as to the canonical text that is written of it.
-use Rattle.zone_engine.proofs.Common.{◌≡◌, ℕ, ◌<◌, ◌≤◌, ◌-◌, ◌^◌, List, length, min, refl, Vec, Global, Option, None, IfSome, Result, IfOk, OnOk, Appends, Octets, ZoneTooLarge, Whole, Stop, Placed, Zone, canon, text_limit, StopsPush, StopsWrite, Input, IsInput, InputDenotes, InputDenotesWithin, InputReads, InputStates, ReadsZoneWithin, IsOfBytes, Normalises, NormalisesTo, WritesNothing, WritesPrefix, IfRefused, IsRefusal, IsRefusalWithin, reading, too_large, TellsRead, arith}
-use Rattle.zone_print.specs.Writing as printing
+use Rattle.zone_engine.proofs.Common.{◌≡◌, ℕ, ◌<◌, ◌≤◌, ◌-◌, ◌^◌, List, length, min, refl, Vec, Global, Option, None, Some, IfSome, Result, IfOk, OnOk, Appends, Octets, ZoneTooLarge, Whole, Stop, Placed, Zone, canon, text_limit, StopsPush, StopsWrite, Input, IsInput, InputDenotes, InputDenotesWithin, InputReads, InputStates, ReadsZoneWithin, IsOfBytes, Normalises, NormalisesTo, StopsNormalise, WorksOn, WritesNothing, WritesPrefix, IfRefused, IsRefusal, IsRefusalWithin, reading, too_large, Device, IsOfReading, Keeps-refl, ReadsToEnd, StopsReading, TellsRead, inl, IfSome_then, arith}
+use Rattle.zone_print.specs.Writing.{TellsWrite}
+use Rattle.zone_rdata.specs.declared.fault.Stop.TheVariants.{Refused, Read, Write, Memory}
+use Rattle.zone_engine.proofs.Readers.{if_refused}
 
 abbrev ReadIsStated : Type 0
 ReadIsStated = (input : Input) (placed : List Placed) → IsInput input → InputReads input placed None → InputStates input placed
@@ -23,14 +25,11 @@ module _ (input : Input) (z : Zone) (reads : ReadsZoneWithin text_limit input z)
   pub refused_pushing : (stop : Stop) → StopsPush text_limit (canon z) stop → IfRefused stop (IsRefusal input)
   refused_pushing stop given = grind (arith, too_long)
 
-  pub refused_writing : (old new : Option Octets) (stop : Stop) → StopsWrite text_limit (canon z) old new stop → IfRefused stop (IsRefusal input)
+  refused_writing : (old new : Device) (stop : Stop) → StopsWrite text_limit (canon z) old new stop → IfRefused stop (IsRefusal input)
   refused_writing old new stop given = grind (arith, too_long)
 
-  pub front_written : ReadIsStated → IsInput input → (old new : Option Octets) (stop : Stop) → StopsWrite text_limit (canon z) old new stop → WritesPrefix input old new
+  front_written : ReadIsStated → IsInput input → (old new : Device) (stop : Stop) → StopsWrite text_limit (canon z) old new stop → WritesPrefix input old.octets new.octets
   front_written stated is old new stop given = grind arith
-
-pub nothing_written : (limit : ℕ) (text : Octets) (old new : Option Octets) (stop : Stop) → StopsWrite limit text old new stop → WritesNothing stop old new
-nothing_written limit text old new stop given = grind arith
 
 pub normalises : (input : Input) (z : Zone) → ReadsZoneWithin text_limit input z → ReadIsStated → IsInput input → (old new : Option Octets) (count : ℕ) → Appends old new (canon z) → length (canon z) ≤ text_limit → count ≡ min (length z.records) (2 ^ 64 - 1) → Normalises input old new count
 normalises input z reads stated is old new count written short counted = record { zone = z; denotes = denotes input z reads stated is short; written = written; counted = counted }
@@ -38,9 +37,52 @@ normalises input z reads stated is old new count written short counted = record 
 pub normalises_to : (input : Input) (z : Zone) → ReadsZoneWithin text_limit input z → ReadIsStated → IsInput input → (r : Result (Vec ℕ Global) Stop) → IfOk r (λ text. text.items ≡ canon z) → OnOk r (length (canon z) ≤ text_limit) → IfOk r (λ text. NormalisesTo input text.items)
 normalises_to input z reads stated is r same short = grind arith
 
+nothing_written : (limit : ℕ) (text : Octets) (old new : Device) (stop : Stop) → StopsWrite limit text old new stop → WritesNothing stop old.octets new.octets
+nothing_written limit text old new stop given = grind arith
+
+tells_write : (limit : ℕ) (text : Octets) (old new : Device) (stop : Stop) → StopsWrite limit text old new stop → TellsWrite old new stop
+tells_write limit text old new stop given = grind arith
+
 -- what stops the printing tells no failed read
-pub prints_no_read : (works failed : Type 0) (limit : ℕ) (text : Octets) (old new : Option Octets) (stop : Stop) → works → StopsWrite limit text old new stop → TellsRead works failed stop
-prints_no_read works failed limit text old new stop on given = grind arith
+prints_no_read : (reader reader' : Device) (limit : ℕ) (text : Octets) (old new : Device) (stop : Stop) → WorksOn reader reader' → StopsWrite limit text old new stop → TellsRead reader reader' stop
+prints_no_read reader reader' limit text old new stop on given = grind arith
+
+-- a stop of reading leaves the writer as it was
+pub stops_unwritten : (form : Octets → Input) (reader writer : Device) (stop : Stop) → IsOfReading stop → StopsNormalise form reader writer writer stop
+stops_unwritten form reader writer stop is = record { nothing = nothing stop is; prefix = prefix reader.octets; tells = tells stop is }
+  where
+    nothing : (stop : Stop) → IsOfReading stop → WritesNothing stop writer.octets writer.octets
+    nothing (Refused fault place) is = Keeps-refl _
+    nothing Read is = Keeps-refl _
+    nothing Write is = absurd is
+    nothing Memory is = tt
+
+    prefix : (known : Option Octets) → IfSome known (λ octets. WritesPrefix (form octets) writer.octets writer.octets)
+    prefix None = tt
+    prefix (Some octets) = inl (Keeps-refl _)
+
+    tells : (stop : Stop) → IsOfReading stop → TellsWrite writer writer stop
+    tells (Refused fault place) is = λ works. works
+    tells Read is = λ works. works
+    tells Write is = absurd is
+    tells Memory is = λ works. works
+
+-- what stops the writing of a zone that is read, of the writer and of the reader
+module _ (form : Octets → Input) (reader old new : Device) (z : Zone) (stop : Stop) (reads : IfSome reader.octets (λ octets. ReadsZoneWithin text_limit (form octets) z)) (stops : StopsWrite text_limit (canon z) old new stop) where
+  pub stops_writing : ReadIsStated → ((octets : Octets) → ReadsZoneWithin text_limit (form octets) z → IsInput (form octets)) → StopsNormalise form reader old new stop
+  stops_writing stated is = record {
+    nothing = nothing_written text_limit (canon z) old new stop stops;
+    prefix = IfSome_then _ reads (λ octets r. front_written (form octets) z r stated (is octets r) old new stop stops);
+    tells = tells_write text_limit (canon z) old new stop stops;
+  }
+
+  pub stops_when_read : (reader' : Device) → ReadsToEnd text_limit reader reader' → StopsReading text_limit form reader reader' stop
+  stops_when_read reader' end = record {
+    few = end.few;
+    fault = IfSome_then _ reads (λ octets r. refused_writing (form octets) z r old new stop stops);
+    whole = if_refused _ stop (inl end.whole);
+    tells = prints_no_read reader reader' text_limit (canon z) old new stop end.works stops;
+  }
 
 -- printing a text stops for no failed read and no failed write
 pub pushing_is_of_bytes : (limit : ℕ) (text : Octets) (stop : Stop) → StopsPush limit text stop → IsOfBytes stop

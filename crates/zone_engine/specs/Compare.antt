@@ -1,15 +1,14 @@
 -- What comparing two inputs answers: that their canonical texts are equal, or the first line at
 -- which they differ (this project's own).
 use Rattle.std.specs.Prelude.{◌≡◌, ◌≢◌, ℕ, zero, suc, ◌<◌, ◌≤◌, ◌==◌, if◌then◌else◌, List, [], ◌∷◌, slice_get, Option, None, IfSome}
-use Rattle.std.specs.Io.KnownBytes.{IsAtEnd, Keeps}
 use Rattle.std.specs.List.{onto_first}
 use Rattle.zone_rdata.specs.declared.fault.Stop.{Stop}
 use Rattle.zone_set.specs.Zone.{Zone}
 use Rattle.zone_print.specs.Canonical.{canon, text_limit}
+use Rattle.zone_print.specs.Device.{Device, IsLeft}
 use Rattle.zone_engine.specs.Input.{Input, InputDenotes}
-use Rattle.zone_engine.specs.Normalise.{IsOfReading, ReadsWhole}
-use Rattle.zone_engine.specs.Refusal.{IfRefused, IsRefusal}
-use Rattle.zone_engine.specs.Stops.{TellsRead}
+use Rattle.zone_engine.specs.Normalise.{IsOfReading}
+use Rattle.zone_engine.specs.Reading.{ReadsToEnd, StopsReading}
 use Rattle.zone_engine.specs.declared.comparison.Verdict.{Verdict}
 use Rattle.zone_engine.specs.declared.comparison.Verdict.TheVariants.{Same, Different}
 use Rattle.zone_engine.specs.declared.comparison.Which.{Which}
@@ -49,34 +48,14 @@ pub record Compares (first second : Input) (verdict : Verdict) : Type 0 where
 abbrev pub IsAccepted : (List ℕ → Input) → Option (List ℕ) → Type 0
 IsAccepted form known = IfSome known (λ octets. (z : Zone) × InputDenotes (form octets) z)
 
--- an input was not read: known octets are refused so, the reader answered an error, or memory was
--- refused
-pub record StopsReading (form : List ℕ → Input) (known : Option (List ℕ))
-    (stop : Stop) : Type 0 where
-  pub kind : IsOfReading stop
-  pub fault : IfSome known (λ octets. IfRefused stop (IsRefusal (form octets)))
-
--- Which input stopped a comparison, and by what. The first did, and the second, of which these octets were known before
--- and after, was not read; or the second did, and the first is accepted.
+-- Which input stopped a comparison, and by what. The first did, and the second was left as it was;
+-- or the second did, and the first is accepted and was read to its end.
 pub data StopsCompare (form other_form : List ℕ → Input)
-    (first second second' : Option (List ℕ)) : Which → Stop → Type 0 where
-  by_first : (stop : Stop) → StopsReading form first stop → Keeps second second'
-      → StopsCompare form other_form first second second' First stop
-  by_second : (stop : Stop) → IsAccepted form first → StopsReading other_form second stop
-      → StopsCompare form other_form first second second' Second stop
-
--- how far two readers were read, of octets that are known before and after, where one of them is refused: that one whole,
--- and the first to its end where it is the second
-abbrev pub ReadsWholeTo : Option (List ℕ) → Option (List ℕ) → Option (List ℕ) → Option (List ℕ)
-    → Which → Stop → Type 0
-ReadsWholeTo first first' second second' First stop =
-    IfRefused stop (λ fault place. ReadsWhole text_limit first first')
-ReadsWholeTo first first' second second' Second stop =
-    IsAtEnd first' × IfRefused stop (λ fault place. ReadsWhole text_limit second second')
-
--- what a stop by an input tells of the two readers, of each that it works and that it failed
-abbrev pub TellsReadOf : Type 0 → Type 0 → Type 0 → Type 0 → Which → Stop → Type 0
-TellsReadOf works failed other_works other_failed First stop = TellsRead works failed stop
-    × other_works
-TellsReadOf works failed other_works other_failed Second stop = works
-    × TellsRead other_works other_failed stop
+    (first first' second second' : Device) : Which → Stop → Type 0 where
+  by_first : (stop : Stop) → IsOfReading stop → StopsReading text_limit form first first' stop
+      → IsLeft second second'
+      → StopsCompare form other_form first first' second second' First stop
+  by_second : (stop : Stop) → IsOfReading stop → IsAccepted form first.octets
+      → ReadsToEnd text_limit first first'
+      → StopsReading text_limit other_form second second' stop
+      → StopsCompare form other_form first first' second second' Second stop

@@ -1,11 +1,11 @@
 -- What explaining an input answers and writes (this project's own).
 use Rattle.std.specs.Prelude.{◌≡◌, ℕ, ◌-◌, ◌^◌, List, length, min, Option, IfSome}
-use Rattle.std.specs.Io.KnownBytes.{Keeps}
 use Rattle.zone_rdata.specs.declared.fault.Fault.{Fault}
 use Rattle.zone_rdata.specs.declared.fault.Place.{Place}
 use Rattle.zone_rdata.specs.declared.fault.Stop.{Stop}
 use Rattle.zone_rdata.specs.declared.fault.Stop.TheVariants.{Refused, Read, Write, Memory}
 use Rattle.zone_set.specs.Zone.{Zone}
+use Rattle.zone_print.specs.Device.{Device, Fails, IsLeft}
 use Rattle.zone_engine.specs.Input.{Input, InputDenotes}
 use Rattle.zone_engine.specs.Refusal.{IsRefusal}
 use Rattle.zone_engine.specs.Telling.{records_line, refusal_line, WritesLine, WritesPartOfLine}
@@ -30,19 +30,17 @@ pub data IsExplanation (form : List ℕ → Input) (known : Option (List ℕ)) :
   refused : (fault : Fault) (place : Place) → AreRefused form known fault place
       → IsExplanation form known (refusal_line fault place) 3
 
--- that line was written whole
-abbrev pub Explains : (List ℕ → Input) → Option (List ℕ) → Option (List ℕ) → Option (List ℕ) → ℕ
-    → Type 0
-Explains form known old new status =
-    (line : List ℕ) × IsExplanation form known line status × WritesLine line old new
+-- the line on the octets of a reader, where they are known, was written whole
+abbrev pub Explains : (List ℕ → Input) → Device → Device → Device → ℕ → Type 0
+Explains form reader old new status =
+    (line : List ℕ) × IsExplanation form reader.octets line status × WritesLine line old new
 
--- What explaining known octets leaves where it stops: nothing written where reading failed or memory was refused, and a
--- proper prefix of the line where writing failed. A refusal is no stop.
-abbrev pub StopsExplain : (List ℕ → Input) → Option (List ℕ) → Option (List ℕ) → Option (List ℕ)
-    → Stop → Type 0
-StopsExplain form known old new (Refused fault place) = ⊥
-StopsExplain form known old new Read = Keeps old new
-StopsExplain form known old new Write =
-    (line : List ℕ) × (status : ℕ) × IsExplanation form known line status
-    × WritesPartOfLine line old new
-StopsExplain form known old new Memory = Keeps old new
+-- What explaining them leaves of the writer where it stops: it is as it was where reading failed or
+-- memory was refused, and holds a proper prefix of the line where it failed. A refusal is no stop.
+abbrev pub StopsExplain : (List ℕ → Input) → Device → Device → Device → Stop → Type 0
+StopsExplain form reader old new (Refused fault place) = ⊥
+StopsExplain form reader old new Read = IsLeft old new
+StopsExplain form reader old new Write =
+    (line : List ℕ) × (status : ℕ) × IsExplanation form reader.octets line status
+    × WritesPartOfLine line old new × Fails old new
+StopsExplain form reader old new Memory = IsLeft old new

@@ -1,8 +1,8 @@
 pub mod Form
 pub mod Input
-pub mod Stops
 pub mod Normalise
 pub mod Refusal
+pub mod Reading
 pub mod Headline
 pub mod Examples
 pub mod Compare

@@ -1,11 +1,12 @@
 -- What normalising an input answers and leaves (this project's own).
-use Rattle.std.specs.Prelude.{◌≡◌, ℕ, ◌-◌, ◌^◌, ◌+◌, ◌≤◌, List, length, min, Option, ◌⊎◌}
-use Rattle.std.specs.Io.KnownBytes.{Appends, Consumes, IsAtEnd, Keeps}
+use Rattle.std.specs.Prelude.{◌≡◌, ℕ, ◌-◌, ◌^◌, List, length, min, Option, IfSome, ◌⊎◌}
+use Rattle.std.specs.Io.KnownBytes.{Appends, Keeps}
 use Rattle.zone_rdata.specs.declared.fault.Stop.{Stop}
 use Rattle.zone_rdata.specs.declared.fault.Stop.TheVariants.{Refused, Read, Write, Memory}
 use Rattle.zone_set.specs.Zone.{Zone}
-use Rattle.zone_print.specs.Canonical.{canon, text_limit}
-use Rattle.zone_print.specs.Writing.{AppendsPart}
+use Rattle.zone_print.specs.Canonical.{canon}
+use Rattle.zone_print.specs.Device.{Device}
+use Rattle.zone_print.specs.Writing.{AppendsPart, TellsWrite}
 use Rattle.zone_engine.specs.Input.{Input, InputDenotes}
 
 -- The input denotes a zone, its canonical text and nothing else was written, and the answer is the
@@ -46,15 +47,12 @@ abbrev pub WritesPrefix : Input → Option (List ℕ) → Option (List ℕ) → 
 WritesPrefix input old new =
     Keeps old new ⊎ ((z : Zone) × InputDenotes input z × AppendsPart old new (canon z))
 
--- the known octets of a reader lost a prefix of at most so many
-abbrev pub ConsumesAtMost : ℕ → Option (List ℕ) → Option (List ℕ) → Type 0
-ConsumesAtMost most old new = (given : List ℕ) × (length given ≤ most) × Consumes old new given
-
--- no more than the limit and one octet were read
-abbrev pub ReadsFew : Option (List ℕ) → Option (List ℕ) → Type 0
-ReadsFew = ConsumesAtMost (text_limit + 1)
-
--- a reader was read whole: to its end, or to one octet over the limit
-abbrev pub ReadsWhole : ℕ → Option (List ℕ) → Option (List ℕ) → Type 0
-ReadsWhole limit old new = IsAtEnd new
-    ⊎ ((given : List ℕ) × (length given ≡ limit + 1) × Consumes old new given)
+-- What normalising the octets of a reader, where they are known, leaves of the writer where it
+-- stops: a refused input and one that can't be read write nothing, any other nothing or a proper
+-- prefix of its canonical text; and `Write` tells that the writer failed, any other stop that it
+-- works.
+pub record StopsNormalise (form : List ℕ → Input) (reader old new : Device)
+    (stop : Stop) : Type 0 where
+  pub nothing : WritesNothing stop old.octets new.octets
+  pub prefix : IfSome reader.octets (λ octets. WritesPrefix (form octets) old.octets new.octets)
+  pub tells : TellsWrite old new stop

@@ -1,6 +1,6 @@
 -- The lines that tell people what was found and why a call stopped, and what is written of them (this project's own).
 -- `docs/FAULTS.md` lists the faults.
-use Rattle.std.specs.Prelude.{ℕ, List, [], ◌∷◌, ◌++◌, codes, decimal, Option}
+use Rattle.std.specs.Prelude.{ℕ, List, [], ◌∷◌, ◌++◌, codes, decimal}
 use Rattle.std.specs.Io.KnownBytes.{Appends}
 use Rattle.zone_name.specs.Text.{name_text}
 use Rattle.zone_rdata.specs.FaultTable.{fault_row}
@@ -10,6 +10,7 @@ use Rattle.zone_rdata.specs.declared.fault.Place.{Place}
 use Rattle.zone_rdata.specs.declared.fault.Place.TheVariants.{Line, Message, Whole}
 use Rattle.zone_rdata.specs.declared.fault.Stop.{Stop}
 use Rattle.zone_rdata.specs.declared.fault.Stop.TheVariants.{Refused, Read, Write, Memory}
+use Rattle.zone_print.specs.Device.{Device}
 use Rattle.zone_print.specs.Writing.{AppendsPart}
 use Rattle.zone_engine.specs.declared.comparison.Verdict.{Verdict}
 use Rattle.zone_engine.specs.declared.comparison.Verdict.TheVariants.{Same, Different}
@@ -68,9 +69,9 @@ verdict_status Same = 0
 verdict_status (Different line) = 1
 
 -- a line was written with its line feed, and nothing else
-abbrev pub WritesLine : List ℕ → Option (List ℕ) → Option (List ℕ) → Type 0
-WritesLine line old new = Appends old new (line ++ 10 ∷ [])
+abbrev pub WritesLine : List ℕ → Device → Device → Type 0
+WritesLine line old new = Appends old.octets new.octets (line ++ 10 ∷ [])
 
 -- a proper prefix of that was written
-abbrev pub WritesPartOfLine : List ℕ → Option (List ℕ) → Option (List ℕ) → Type 0
-WritesPartOfLine line old new = AppendsPart old new (line ++ 10 ∷ [])
+abbrev pub WritesPartOfLine : List ℕ → Device → Device → Type 0
+WritesPartOfLine line old new = AppendsPart old.octets new.octets (line ++ 10 ∷ [])

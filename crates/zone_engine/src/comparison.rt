@@ -1,9 +1,8 @@
-ghost use Rattle.std.specs.Prelude.{◌+◌, ◌≤◌, length, IfOk, IfErr, IfSome, OnOk};
-ghost use Rattle.std.specs.Io.KnownBytes.{IsAtEnd};
+ghost use Rattle.std.specs.Prelude.{◌≤◌, length, IfOk, IfErr, IfSome, OnOk};
 ghost use Rattle.zone_print.specs.Canonical.{canon, text_limit};
-ghost use Rattle.zone_engine.specs.Compare.{Compares, IsVerdictOnTexts, ReadsWholeTo, StopsCompare, TellsReadOf};
+ghost use Rattle.zone_engine.specs.Compare.{Compares, IsVerdictOnTexts, StopsCompare};
 ghost use Rattle.zone_engine.specs.Form.{read_as};
-ghost use Rattle.zone_engine.specs.Normalise.{ConsumesAtMost};
+ghost use Rattle.zone_engine.specs.Reading.{ReadsToEnd};
 
 use crate::engine::accepted_zone;
 use crate::form::Form;
@@ -48,25 +47,15 @@ pub fn compare<R: OctetReader, S: OctetReader>(
     second: &mut S,
 ) -> Result<Verdict, (Which, Stop)>
     ensures compared { IfOk result (λ verdict.
-        IfSome (R.remaining first.old) (λ octets. IfSome (S.remaining second.old) (λ others.
+        IfSome (R.state first.old).octets (λ octets. IfSome (S.state second.old).octets (λ others.
         Compares (read_as first_form.entry octets)
         (read_as second_form.entry others) verdict))) }
     ensures stopped { IfErr result
         (λ why. StopsCompare (read_as first_form.entry) (read_as second_form.entry)
-        (R.remaining first.old) (S.remaining second.old) (S.remaining second.new) why.0 why.1) }
-    ensures few { ConsumesAtMost (text_limit + 1) (R.remaining first.old) (R.remaining first.new) }
-    ensures few_of_second { ConsumesAtMost (text_limit + 1) (S.remaining second.old)
-        (S.remaining second.new) }
-    ensures whole { OnOk result (IsAtEnd (R.remaining first.new)
-        × IsAtEnd (S.remaining second.new)) }
-    ensures whole_refused { IfErr result (λ why. ReadsWholeTo (R.remaining first.old)
-        (R.remaining first.new) (S.remaining second.old) (S.remaining second.new) why.0 why.1) }
-    ensures works { OnOk result ((R.Works first.old → R.Works first.new)
-        × (S.Works second.old → S.Works second.new)) }
-    ensures failed { IfErr result (λ why. TellsReadOf
-        (R.Works first.old → R.Works first.new) (R.Works first.old → R.Failed first.new)
-        (S.Works second.old → S.Works second.new) (S.Works second.old → S.Failed second.new)
+        (R.state first.old) (R.state first.new) (S.state second.old) (S.state second.new)
         why.0 why.1) }
+    ensures read { OnOk result (ReadsToEnd text_limit (R.state first.old) (R.state first.new)
+        × ReadsToEnd text_limit (S.state second.old) (S.state second.new)) }
 {
     let zone = match accepted_zone(alloc, first_form, first) {
         Ok(zone) => zone,

@@ -1,14 +1,13 @@
-ghost use Rattle.std.specs.Prelude.{◌+◌, ◌≤◌, length, IfOk, IfErr, IfSome, OnOk};
-ghost use Rattle.std.specs.Io.KnownBytes.{IsAtEnd};
+ghost use Rattle.std.specs.Prelude.{◌≤◌, length, IfOk, IfErr, IfSome, OnOk};
 ghost use Rattle.zone_print.specs.Canonical.{canon, text_limit};
-ghost use Rattle.zone_print.specs.Writing.{TellsWrite};
+ghost use Rattle.zone_print.specs.Device.{WorksOn};
 ghost use Rattle.zone_engine.specs.Form.{read_as};
 ghost use Rattle.zone_engine.specs.Input.{InputDenotes, InputDenotesWithin};
 ghost use Rattle.zone_engine.specs.Machine.Input.{IsForm, form_of};
 ghost use Rattle.zone_engine.specs.Machine.Loading.{ReadsZoneWithin};
-ghost use Rattle.zone_engine.specs.Normalise.{ConsumesAtMost, IsOfBytes, IsOfReading, Normalises, NormalisesTo, ReadsWhole, WritesNothing, WritesPrefix};
-ghost use Rattle.zone_engine.specs.Refusal.{IfRefused, IsRefusal, IsRefusalWithin};
-ghost use Rattle.zone_engine.specs.Stops.{TellsRead};
+ghost use Rattle.zone_engine.specs.Normalise.{IsOfBytes, IsOfReading, Normalises, NormalisesTo, StopsNormalise};
+ghost use Rattle.zone_engine.specs.Reading.{Reads};
+ghost use Rattle.zone_engine.specs.Refusal.{IfRefused, IsRefusal};
 
 use crate::form::Form;
 use crate::input::{PIECE, read_zone, zeros};
@@ -37,27 +36,14 @@ pub fn normalise<R: OctetReader, W: OctetWriter>(
     reader: &mut R,
     writer: &mut W,
 ) -> Result<u64, Stop>
-    ensures accepted { IfOk result (λ count. IfSome (R.remaining reader.old) (λ octets.
+    ensures accepted { IfOk result (λ count. IfSome (R.state reader.old).octets (λ octets.
         Normalises (read_as form.entry octets)
-        (W.contents writer.old) (W.contents writer.new) count)) }
-    ensures refused { IfErr result (λ stop.
-        WritesNothing stop (W.contents writer.old) (W.contents writer.new)) }
-    ensures front { IfErr result (λ _. IfSome (R.remaining reader.old) (λ octets.
-        WritesPrefix (read_as form.entry octets)
-        (W.contents writer.old) (W.contents writer.new))) }
-    ensures fault { IfErr result (λ stop. IfSome (R.remaining reader.old) (λ octets.
-        IfRefused stop (IsRefusal (read_as form.entry octets)))) }
-    ensures few { ConsumesAtMost (text_limit + 1) (R.remaining reader.old)
-        (R.remaining reader.new) }
-    ensures whole { OnOk result (IsAtEnd (R.remaining reader.new)) }
-    ensures whole_refused { IfErr result (λ stop. IfRefused stop (λ fault place.
-        ReadsWhole text_limit (R.remaining reader.old) (R.remaining reader.new))) }
-    ensures works { OnOk result ((R.Works reader.old → R.Works reader.new)
-        × (W.Works writer.old → W.Works writer.new)) }
-    ensures failed { IfErr result (λ stop. TellsRead (R.Works reader.old → R.Works reader.new)
-        (R.Works reader.old → R.Failed reader.new) stop
-        × TellsWrite (W.Works writer.old → W.Works writer.new)
-        (W.Works writer.old → W.Failed writer.new) stop) }
+        (W.state writer.old).octets (W.state writer.new).octets count)) }
+    ensures works { OnOk result (WorksOn (W.state writer.old) (W.state writer.new)) }
+    ensures stopped { IfErr result (StopsNormalise (read_as form.entry) (R.state reader.old)
+        (W.state writer.old) (W.state writer.new)) }
+    ensures read { Reads text_limit (read_as form.entry)
+        (R.state reader.old) (R.state reader.new) result }
 {
     let zone = zone_of(alloc, form, reader, TEXT_LIMIT)?;
     what_is_read_is_stated();
@@ -76,20 +62,12 @@ pub fn accepted_zone<R: OctetReader>(
     form: Form<'_>,
     reader: &mut R,
 ) -> Result<Zone, Stop>
-    ensures zone { IfOk result (λ z. IfSome (R.remaining reader.old) (λ octets.
+    ensures zone { IfOk result (λ z. IfSome (R.state reader.old).octets (λ octets.
         InputDenotes (read_as form.entry octets) z)) }
     ensures short { IfOk result (λ z. length (canon z) ≤ text_limit) }
-    ensures fault { IfErr result (λ stop. IfSome (R.remaining reader.old) (λ octets.
-        IfRefused stop (IsRefusal (read_as form.entry octets)))) }
     ensures stopped { IfErr result IsOfReading }
-    ensures whole { OnOk result (IsAtEnd (R.remaining reader.new)) }
-    ensures whole_refused { IfErr result (λ stop. IfRefused stop (λ fault place.
-        ReadsWhole text_limit (R.remaining reader.old) (R.remaining reader.new))) }
-    ensures works { OnOk result (R.Works reader.old → R.Works reader.new) }
-    ensures failed { IfErr result (TellsRead
-        (R.Works reader.old → R.Works reader.new) (R.Works reader.old → R.Failed reader.new)) }
-    ensures few { ConsumesAtMost (text_limit + 1) (R.remaining reader.old)
-        (R.remaining reader.new) }
+    ensures read { Reads text_limit (read_as form.entry)
+        (R.state reader.old) (R.state reader.new) result }
 {
     accepted_zone_within(alloc, form, reader, TEXT_LIMIT)
 }
@@ -107,19 +85,12 @@ pub fn accepted_zone_within<R: OctetReader>(
     limit: u64,
 ) -> Result<Zone, Stop>
     requires { limit ≤ text_limit }
-    ensures zone { IfOk result (λ z. IfSome (R.remaining reader.old) (λ octets.
+    ensures zone { IfOk result (λ z. IfSome (R.state reader.old).octets (λ octets.
         InputDenotesWithin limit (read_as form.entry octets) z)) }
     ensures short { IfOk result (λ z. length (canon z) ≤ text_limit) }
-    ensures fault { IfErr result (λ stop. IfSome (R.remaining reader.old) (λ octets.
-        IfRefused stop (IsRefusalWithin limit (read_as form.entry octets)))) }
     ensures stopped { IfErr result IsOfReading }
-    ensures whole { OnOk result (IsAtEnd (R.remaining reader.new)) }
-    ensures whole_refused { IfErr result (λ stop. IfRefused stop (λ fault place.
-        ReadsWhole limit (R.remaining reader.old) (R.remaining reader.new))) }
-    ensures works { OnOk result (R.Works reader.old → R.Works reader.new) }
-    ensures failed { IfErr result (TellsRead
-        (R.Works reader.old → R.Works reader.new) (R.Works reader.old → R.Failed reader.new)) }
-    ensures few { ConsumesAtMost (limit + 1) (R.remaining reader.old) (R.remaining reader.new) }
+    ensures read { Reads limit (read_as form.entry)
+        (R.state reader.old) (R.state reader.new) result }
 {
     let stated = zone_of(alloc, form, reader, limit)?;
     what_is_read_is_stated();
@@ -159,19 +130,12 @@ fn zone_of<R: OctetReader>(
     limit: u64,
 ) -> Result<Zone, Stop>
     requires { limit ≤ text_limit }
-    ensures zone { IfOk result (λ z. IfSome (R.remaining reader.old) (λ octets.
+    ensures zone { IfOk result (λ z. IfSome (R.state reader.old).octets (λ octets.
         ReadsZoneWithin limit (read_as form.entry octets) z)) }
-    ensures fault { IfErr result (λ stop. IfSome (R.remaining reader.old) (λ octets.
-        IfRefused stop (IsRefusalWithin limit (read_as form.entry octets)))) }
     ensures form { IsForm (form_of form.entry) }
     ensures stopped { IfErr result IsOfReading }
-    ensures whole { OnOk result (IsAtEnd (R.remaining reader.new)) }
-    ensures whole_refused { IfErr result (λ stop. IfRefused stop (λ fault place.
-        ReadsWhole limit (R.remaining reader.old) (R.remaining reader.new))) }
-    ensures works { OnOk result (R.Works reader.old → R.Works reader.new) }
-    ensures failed { IfErr result (TellsRead
-        (R.Works reader.old → R.Works reader.new) (R.Works reader.old → R.Failed reader.new)) }
-    ensures few { ConsumesAtMost (limit + 1) (R.remaining reader.old) (R.remaining reader.new) }
+    ensures read { Reads limit (read_as form.entry)
+        (R.state reader.old) (R.state reader.new) result }
 {
     match form {
         Form::File(origin) => {

@@ -2,11 +2,10 @@ ghost use Rattle.std.specs.Prelude.{◌≡◌, ◌<◌, ◌++◌, ◌∷◌, [],
 ghost use Rattle.std.specs.List.{AllByRecursion};
 ghost use Rattle.zone_name.specs.Text.{name_text};
 ghost use Rattle.zone_print.specs.Canonical.{text_limit};
-ghost use Rattle.zone_print.specs.Writing.{TellsWrite};
+ghost use Rattle.zone_print.specs.Device.{WorksOn};
 ghost use Rattle.zone_engine.specs.Explain.{Explains, StopsExplain};
 ghost use Rattle.zone_engine.specs.Form.{read_as};
-ghost use Rattle.zone_engine.specs.Normalise.{ReadsFew, ReadsWhole};
-ghost use Rattle.zone_engine.specs.Stops.{TellsRead};
+ghost use Rattle.zone_engine.specs.Reading.{ReadsFew, ReadsWhole, TellsRead};
 ghost use Rattle.zone_engine.specs.Telling.{argument_of, place_words, refusal_line, stop_line};
 
 use crate::engine::accepted_zone;
@@ -48,19 +47,15 @@ pub fn explain<R: OctetReader, W: OctetWriter>(
     reader: &mut R,
     writer: &mut W,
 ) -> Result<u8, Stop>
-    ensures explained { IfOk result (Explains (read_as form.entry) (R.remaining reader.old)
-        (W.contents writer.old) (W.contents writer.new)) }
-    ensures stopped { IfErr result (StopsExplain (read_as form.entry) (R.remaining reader.old)
-        (W.contents writer.old) (W.contents writer.new)) }
-    ensures few { ReadsFew (R.remaining reader.old) (R.remaining reader.new) }
-    ensures whole { OnOk result
-        (ReadsWhole text_limit (R.remaining reader.old) (R.remaining reader.new)) }
-    ensures works { OnOk result ((R.Works reader.old → R.Works reader.new)
-        × (W.Works writer.old → W.Works writer.new)) }
-    ensures failed { IfErr result (λ stop. TellsRead (R.Works reader.old → R.Works reader.new)
-        (R.Works reader.old → R.Failed reader.new) stop
-        × TellsWrite (W.Works writer.old → W.Works writer.new)
-        (W.Works writer.old → W.Failed writer.new) stop) }
+    ensures explained { IfOk result (Explains (read_as form.entry) (R.state reader.old)
+        (W.state writer.old) (W.state writer.new)) }
+    ensures stopped { IfErr result (StopsExplain (read_as form.entry) (R.state reader.old)
+        (W.state writer.old) (W.state writer.new)) }
+    ensures few { ReadsFew (R.state reader.old) (R.state reader.new) }
+    ensures whole { OnOk result (ReadsWhole text_limit (R.state reader.old) (R.state reader.new)) }
+    ensures works { OnOk result (WorksOn (R.state reader.old) (R.state reader.new)
+        × WorksOn (W.state writer.old) (W.state writer.new)) }
+    ensures failed { IfErr result (TellsRead (R.state reader.old) (R.state reader.new)) }
 {
     match accepted_zone(alloc, form, reader) {
         Ok(zone) => {

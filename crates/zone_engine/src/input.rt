@@ -1,9 +1,9 @@
-ghost use Rattle.std.specs.Prelude.{◌≡◌, ◌+◌, ◌^◌, ◌≤◌, ◌<◌, false, [], length, IfOk, IfErr, OnOk, replicate};
+ghost use Rattle.std.specs.Prelude.{◌≡◌, ◌+◌, ◌^◌, ◌≤◌, ◌<◌, false, [], length, IfOk, IfErr, OnErr, OnOk, replicate};
 ghost use Rattle.std.specs.Io.KnownBytes.{Consumes, IsAtEnd, Keeps};
-ghost use Rattle.zone_engine.specs.Machine.Loading.{BeginsAs, ReadsKnown, RefusesKnown};
-ghost use Rattle.zone_engine.specs.Normalise.{ConsumesAtMost, IsOfReading, ReadsWhole};
-ghost use Rattle.zone_engine.specs.Refusal.{IfRefused};
-ghost use Rattle.zone_engine.specs.Stops.{IsFailedRead, TellsRead};
+ghost use Rattle.zone_print.specs.Device.{WorksOn};
+ghost use Rattle.zone_engine.specs.Machine.Loading.{BeginsAs, ReadsAs, ReadsKnown};
+ghost use Rattle.zone_engine.specs.Normalise.{IsOfReading};
+ghost use Rattle.zone_engine.specs.Reading.{IsFailedRead};
 
 use crate::fed::FedSource;
 use crate::loader::ZoneLoader;
@@ -44,18 +44,11 @@ pub(crate) fn read_zone<S: FedSource, R: OctetReader>(
     requires room { 0 < length piece.old }
     ensures zone { IfOk result (ReadsKnown
         (BeginsAs S.IsOf S.Leave (S.pending source.old) (S.held source.old)) limit
-        (R.remaining reader.old)) }
-    ensures fault { IfErr result (RefusesKnown
-        (BeginsAs S.IsOf S.Leave (S.pending source.old) (S.held source.old)) limit
-        (R.remaining reader.old)) }
+        (R.state reader.old).octets) }
     ensures stopped { IfErr result IsOfReading }
-    ensures whole { OnOk result (IsAtEnd (R.remaining reader.new)) }
-    ensures whole_refused { IfErr result (λ stop. IfRefused stop (λ fault place.
-        ReadsWhole limit (R.remaining reader.old) (R.remaining reader.new))) }
-    ensures works { OnOk result (R.Works reader.old → R.Works reader.new) }
-    ensures failed { IfErr result (TellsRead
-        (R.Works reader.old → R.Works reader.new) (R.Works reader.old → R.Failed reader.new)) }
-    ensures few { ConsumesAtMost (limit + 1) (R.remaining reader.old) (R.remaining reader.new) }
+    ensures read { ReadsAs
+        (BeginsAs S.IsOf S.Leave (S.pending source.old) (S.held source.old)) limit
+        (R.state reader.old) (R.state reader.new) result }
 {
     let mut loader = ZoneLoader::new(alloc);
     let mut count = 0;
@@ -79,12 +72,13 @@ pub(crate) fn read_zone<S: FedSource, R: OctetReader>(
 fn read_piece<'p, R: OctetReader>(reader: &mut R, piece: &'p mut [u8]) -> Result<&'p [u8], Stop>
     requires { 0 < length piece.old }
     ensures taken { IfOk result
-        (λ given. Consumes (R.remaining reader.old) (R.remaining reader.new) given.now) }
+        (λ given. Consumes (R.state reader.old).octets (R.state reader.new).octets given.now) }
     ensures few { IfOk result (λ given. length given.now ≤ length piece.old) }
-    ensures end { IfOk result (λ given. given.now ≡ [] → IsAtEnd (R.remaining reader.new)) }
-    ensures works { OnOk result (R.Works reader.old → R.Works reader.new) }
-    ensures failed { IfErr result (IsFailedRead (R.Works reader.old → R.Failed reader.new)) }
-    ensures kept { IfErr result (λ _. Keeps (R.remaining reader.old) (R.remaining reader.new)) }
+    ensures end { IfOk result (λ given. given.now ≡ [] → IsAtEnd (R.state reader.new).octets) }
+    ensures works { OnOk result (WorksOn (R.state reader.old) (R.state reader.new)) }
+    ensures failed { IfErr result (IsFailedRead (R.state reader.old) (R.state reader.new)) }
+    ensures kept { OnErr result
+        (Keeps (R.state reader.old).octets (R.state reader.new).octets) }
 {
     let count = reader.read_some(piece)?;
     Ok(&piece[..count])

@@ -11,7 +11,7 @@ pub use Rattle.zone_name.specs.Text.{decimal_escape, is_printed, is_special, lab
 pub use Rattle.zone_print.specs.Canonical.{canon, line, lines, text_limit}
 pub use Rattle.zone_print.specs.Denotes.{Denotes}
 pub use Rattle.zone_print.specs.Laws.{EndsWithItsFeed, HasNoFeed, IsLineOf, placed_from}
-pub use Rattle.zone_print.specs.Writing.{AppendsPart, StopsWrite, TellsWrite, large, memory}
+pub use Rattle.zone_print.specs.Writing.{AppendsPart, StopsWrite, large, memory}
 pub use Rattle.zone_rdata.specs.Lent.{record_of}
 pub use Rattle.zone_rdata.specs.Record.{Data, IsRdata, IsRecord, Record, data_of}
 pub use Rattle.zone_rdata.specs.Text.{data_items, data_text, laid_out_items, written_item}

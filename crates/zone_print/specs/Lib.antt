@@ -1,5 +1,6 @@
 pub mod Canonical
 pub mod Denotes
+pub mod Device
 pub mod Writing
 pub mod Laws
 pub mod Machine

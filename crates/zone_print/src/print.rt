@@ -1,8 +1,9 @@
 ghost use Rattle.std.specs.Prelude.{◌≡◌, ◌+◌, ◌≤◌, ◌↔◌, length, min, IfOk, IfErr, OnOk, OnErr, IsTrue};
 ghost use Rattle.std.specs.Io.KnownBytes.{Appends};
 ghost use Rattle.zone_print.specs.Canonical.{canon, text_limit};
+ghost use Rattle.zone_print.specs.Device.{WorksOn};
 ghost use Rattle.zone_print.specs.Machine.Writing.{IsOfWriting};
-ghost use Rattle.zone_print.specs.Writing.{AppendsPart, StopsPush, StopsWrite, TellsWrite};
+ghost use Rattle.zone_print.specs.Writing.{AppendsPart, StopsPush, StopsWrite};
 
 use crate::laws::a_text_is_at_most_four_times_its_messages;
 use crate::line::push_lines;
@@ -57,13 +58,11 @@ pub fn push_zone(alloc: Global, zone: &Zone) -> Result<Vec<u8>, Stop>
 /// two a proper prefix of the text was written.
 pub fn write_zone<W: OctetWriter>(alloc: Global, zone: &Zone, writer: &mut W) -> Result<(), Stop>
     ensures text { OnOk result
-        (Appends (W.contents writer.old) (W.contents writer.new) (canon zone.now)) }
+        (Appends (W.state writer.old).octets (W.state writer.new).octets (canon zone.now)) }
     ensures short { OnOk result (length (canon zone.now) ≤ text_limit) }
     ensures stopped { IfErr result
-        (StopsWrite text_limit (canon zone.now) (W.contents writer.old) (W.contents writer.new)) }
-    ensures works { OnOk result (W.Works writer.old → W.Works writer.new) }
-    ensures failed { IfErr result (TellsWrite
-        (W.Works writer.old → W.Works writer.new) (W.Works writer.old → W.Failed writer.new)) }
+        (StopsWrite text_limit (canon zone.now) (W.state writer.old) (W.state writer.new)) }
+    ensures works { OnOk result (WorksOn (W.state writer.old) (W.state writer.new)) }
 {
     write_zone_within(alloc, zone, writer, TEXT_LIMIT)
 }
@@ -124,13 +123,11 @@ pub fn write_zone_within<W: OctetWriter>(
 ) -> Result<(), Stop>
     requires { limit ≤ text_limit }
     ensures text { OnOk result
-        (Appends (W.contents writer.old) (W.contents writer.new) (canon zone.now)) }
+        (Appends (W.state writer.old).octets (W.state writer.new).octets (canon zone.now)) }
     ensures short { OnOk result (length (canon zone.now) ≤ limit) }
     ensures stopped { IfErr result
-        (StopsWrite limit (canon zone.now) (W.contents writer.old) (W.contents writer.new)) }
-    ensures works { OnOk result (W.Works writer.old → W.Works writer.new) }
-    ensures failed { IfErr result (TellsWrite
-        (W.Works writer.old → W.Works writer.new) (W.Works writer.old → W.Failed writer.new)) }
+        (StopsWrite limit (canon zone.now) (W.state writer.old) (W.state writer.new)) }
+    ensures works { OnOk result (WorksOn (W.state writer.old) (W.state writer.new)) }
 {
     if !text_fits_within(zone, limit) {
         return Err(Stop::Refused(Fault::ZoneTooLarge, Place::Whole));
@@ -145,12 +142,11 @@ pub fn write_zone_within<W: OctetWriter>(
 /// `Write` where the writer failed, and `Memory`. A proper prefix of the text was written.
 fn write_lines<W: OctetWriter>(alloc: Global, zone: &Zone, writer: &mut W) -> Result<(), Stop>
     ensures text { OnOk result
-        (Appends (W.contents writer.old) (W.contents writer.new) (canon zone.now)) }
+        (Appends (W.state writer.old).octets (W.state writer.new).octets (canon zone.now)) }
     ensures part { OnErr result
-        (AppendsPart (W.contents writer.old) (W.contents writer.new) (canon zone.now)) }
-    ensures works { OnOk result (W.Works writer.old → W.Works writer.new) }
-    ensures stopped { IfErr result (IsOfWriting
-        (W.Works writer.old → W.Works writer.new) (W.Works writer.old → W.Failed writer.new)) }
+        (AppendsPart (W.state writer.old).octets (W.state writer.new).octets (canon zone.now)) }
+    ensures works { OnOk result (WorksOn (W.state writer.old) (W.state writer.new)) }
+    ensures stopped { IfErr result (IsOfWriting (W.state writer.old) (W.state writer.new)) }
 {
     let mut buffer = LineBuffer::new(alloc);
     for rr in zone.records() {

@@ -1,10 +1,11 @@
 -- What may stop the writing of lines.
 use Rattle.zone_rdata.specs.declared.fault.Stop.{Stop}
 use Rattle.zone_rdata.specs.declared.fault.Stop.TheVariants.{Refused, Read, Write, Memory}
+use Rattle.zone_print.specs.Device.{Device, WorksOn, Fails}
 
 -- the writer failed, or it works and memory was refused
-abbrev pub IsOfWriting : Type 0 → Type 0 → Stop → Type 0
-IsOfWriting works failed (Refused fault place) = ⊥
-IsOfWriting works failed Read = ⊥
-IsOfWriting works failed Write = failed
-IsOfWriting works failed Memory = works
+abbrev pub IsOfWriting : Device → Device → Stop → Type 0
+IsOfWriting old new (Refused fault place) = ⊥
+IsOfWriting old new Read = ⊥
+IsOfWriting old new Write = Fails old new
+IsOfWriting old new Memory = WorksOn old new

@@ -4,7 +4,7 @@ use Rattle.zone_command.proofs.program.report.Goals as goal
 
 pub returns-in-Refused : goal.returns-in-Refused
 returns-in-Refused g c =
-    rw c.in-Refused.is (refusal_told _ _ c.in-Refused.fault c.in-Refused.place _ _
+    rw c.in-Refused.is (refusal_told _ _ _ c.in-Refused.fault c.in-Refused.place _ _
     c.refusal_line.ensures c.tell_refusal.ensures.told c.tell_refusal.ensures.untold)
 
 pub returns-in-Read : goal.returns-in-Read

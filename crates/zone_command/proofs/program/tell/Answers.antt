@@ -6,4 +6,4 @@ pub returns-in-Ok : goal.returns-in-Ok
 returns-in-Ok g c = whole c.in-Ok.ensures.written c.in-Ok.ensures.works
 
 pub returns-in-Err : goal.returns-in-Err
-returns-in-Err g c = part c.in-Err.ensures.part (failed_write _ _ c.in-Err.ensures.failed)
+returns-in-Err g c = part c.in-Err.ensures.part (failed_write (g.E.OctetWriter.state c.args.errors.now) (g.E.OctetWriter.state c.write_line.new.writer) _ c.in-Err.ensures.failed)

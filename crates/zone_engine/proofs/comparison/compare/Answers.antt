@@ -4,7 +4,7 @@ use Rattle.zone_engine.proofs.comparison.compare.Goals as goal
 
 pub returns-in-Err-clause-stopped : goal.returns-in-Err-clause-stopped
 returns-in-Err-clause-stopped g c =
-    by_first c.in-Err.stop (record { kind = c.in-Err.ensures.stopped; fault = c.in-Err.ensures.fault }) (Keeps-refl _)
+    by_first c.in-Err.stop c.in-Err.ensures.stopped c.in-Err.ensures.read (Keeps-refl _, λ works. works)
 
 pub returns-in-Ok-accepted_zone-clause-compared : goal.returns-in-Ok-accepted_zone-clause-compared
 returns-in-Ok-accepted_zone-clause-compared g c =
@@ -12,5 +12,4 @@ returns-in-Ok-accepted_zone-clause-compared g c =
 
 pub returns-clause-stopped : goal.returns-clause-stopped
 returns-clause-stopped g c =
-    by_second c.in-Err-accepted_zone.stop (is_accepted _ _ c.in-Ok.zone c.in-Ok.ensures.zone)
-    (record { kind = c.in-Err-accepted_zone.ensures.stopped; fault = c.in-Err-accepted_zone.ensures.fault })
+    by_second c.in-Err-accepted_zone.stop c.in-Err-accepted_zone.ensures.stopped (is_accepted _ _ c.in-Ok.zone c.in-Ok.ensures.zone) c.in-Ok.ensures.read c.in-Err-accepted_zone.ensures.read

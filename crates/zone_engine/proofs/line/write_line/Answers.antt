@@ -15,8 +15,8 @@ returns-in_err-write_octets-2-clause-part g c =
 
 pub returns-clause-part : goal.returns-clause-part
 returns-clause-part g c =
-    on_err c.write_octets-3.result (AppendsPart (g.W.OctetWriter.contents c.write_octets-2.new.writer) (g.W.OctetWriter.contents c.write_octets-3.new.writer) (10 ∷ []))
-    (AppendsPart (g.W.OctetWriter.contents c.args.writer.now) (g.W.OctetWriter.contents c.write_octets-3.new.writer) (c.args.words.now ++ c.args.line.now ++ 10 ∷ []))
+    on_err c.write_octets-3.result (AppendsPart (g.W.OctetWriter.state c.write_octets-2.new.writer).octets (g.W.OctetWriter.state c.write_octets-3.new.writer).octets (10 ∷ []))
+    (AppendsPart (g.W.OctetWriter.state c.args.writer.now).octets (g.W.OctetWriter.state c.write_octets-3.new.writer).octets (c.args.words.now ++ c.args.line.now ++ 10 ∷ []))
     (λ part. part_then _ _ _ (c.args.words.now ++ c.args.line.now) (c.args.words.now ++ c.args.line.now) (10 ∷ []) refl
     (both_written _ _ _ _ _ c.args.words.now c.args.line.now c.as_bytes.ensures.value c.as_bytes-2.ensures.value c.in_ok-write_octets.ensures.written c.in_ok-write_octets-2.ensures.written) part)
     c.write_octets-3.ensures.part

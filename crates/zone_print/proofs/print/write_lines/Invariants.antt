@@ -1,11 +1,12 @@
 -- The lines in the buffer and those to come are what the writer still has to take.
 use Rattle.zone_print.proofs.Common.{◌++◌, canon, lines}
 use Rattle.zone_print.proofs.Front.{Left}
+use Rattle.zone_print.specs.Device.{WorksOn}
 use Rattle.zone_print.proofs.print.write_lines.Given as goal
 
 abbrev pub invariant-loop-rr : goal.invariant-loop-rr
 invariant-loop-rr g l =
     record {
-      left : Left (g.W.OctetWriter.contents l.initial.writer) (g.W.OctetWriter.contents l.writer) (canon l.zone) (l.buffer ++ lines l.rr-iterator);
-      works : g.W.OctetWriter.Works l.initial.writer → g.W.OctetWriter.Works l.writer;
+      left : Left (g.W.OctetWriter.state l.initial.writer).octets (g.W.OctetWriter.state l.writer).octets (canon l.zone) (l.buffer ++ lines l.rr-iterator);
+      works : WorksOn (g.W.OctetWriter.state l.initial.writer) (g.W.OctetWriter.state l.writer);
     }
