@@ -5,7 +5,7 @@ use crate::tests::{
 use std::alloc::Global;
 use std::cmp::Ordering;
 use std::test::Fail;
-use zone_name::{Name, NameBuilder, NameFault, NameRef, escape_at};
+use zone_name::{CasedName, Name, NameBuilder, NameFault, NameRef, escape_at};
 
 /// The name of a text under an origin; an empty origin is none.
 pub(super) fn named(text: &[u8], origin: &[u8]) -> Result<Name, NameFault> {
@@ -14,6 +14,15 @@ pub(super) fn named(text: &[u8], origin: &[u8]) -> Result<Name, NameFault> {
     }
     let origin = Name::from_text(origin, None)?;
     Name::from_text(text, Some(&origin))
+}
+
+/// The name of a text under an origin, with the letters of both; an empty origin is none.
+fn named_cased(text: &[u8], origin: &[u8]) -> Result<CasedName, NameFault> {
+    if origin.is_empty() {
+        return CasedName::from_text(text, None);
+    }
+    let origin = CasedName::from_text(origin, None)?;
+    CasedName::from_text(text, Some(&origin))
 }
 
 /// Sets a name to that of a text under an origin; an empty origin is none.
@@ -78,6 +87,35 @@ a\\046b under x. => #03612e62017800 a\\.b.x.
 \\034\\036\\040\\041\\046\\059\\064\\092\\032\\000\\127\\255\\033\\126. under  => #0e222428292e3b405c20007fff217e00 \\\"\\$\\(\\)\\.\\;\\@\\\\\\032\\000\\127\\255!~.
 ";
 
+/// The octets of the name that a text spells under an origin, with the letters of both.
+struct Cased;
+
+impl Question for Cased {
+    fn answer(alloc: Global, asked: &'static str, out: &mut Vec<u8>) -> Result<(), Fail> {
+        let (text, origin) = parted(asked, " under ")?;
+        let name = named_cased(text.as_bytes(), origin.as_bytes())?;
+        check(
+            name.copy().wire() == name.wire(),
+            "a copy has the same octets",
+        )?;
+        check(
+            name.folded() == named(text.as_bytes(), origin.as_bytes())?,
+            "in lower case it is the name that is read in lower case",
+        )?;
+        push_hex(alloc, out, name.wire())
+    }
+}
+
+/// Texts under an origin, or none.
+const CASED: &str = "\
+Mail.Example. under  => #044d61696c074578616d706c6500
+mAIL under Example. => #046d41494c074578616d706c6500
+@ under eXAMPLE. => #076558414d504c4500
+\\065\\098\\.C. under  => #0441622e4300
+A\\.b under Z. => #03412e62015a00
+. under Example. => #00
+";
+
 /// The fault of a text that spells no name under an origin, and how it is shown.
 struct Unspelled;
 
@@ -94,6 +132,10 @@ impl Question for Unspelled {
             "both calls refuse the text for one fault",
         )?;
         check(other == Name::root(), "a name that isn't set is the root")?;
+        check(
+            named_cased(text.as_bytes(), origin.as_bytes()).err() == Some(fault),
+            "with its letters kept it has the same fault",
+        )?;
         push_words(alloc, out, format_args!("{fault:?}: {fault}.\n"))
     }
 }
@@ -124,7 +166,17 @@ const UNSPELLED: &str = "\
 fn texts_of_names(rt: HostRuntime) -> Result<(), Fail> {
     check_lines::<Spelled>(rt.alloc(), SPELLED)?;
     check_lines::<Lent>(rt.alloc(), SPELLED)?;
+    check_lines::<Cased>(rt.alloc(), CASED)?;
     check_table::<Unspelled>(rt.alloc(), UNSPELLED)
+}
+
+#[test]
+fn a_name_that_keeps_its_letters_is_set(rt: HostRuntime) {
+    let mut name = CasedName::root();
+    let is_set = name.set_from_text(b"A.b.", None).is_ok();
+    assert!(rt; is_set && name.wire() == b"\x01A\x01b\x00".as_slice());
+    let fault = name.set_from_text(b"a..", None).err();
+    assert!(rt; fault == Some(NameFault::EmptyLabel) && name.wire() == b"\x00".as_slice());
 }
 
 /// Whether this is the escape that follows a backslash, the octet that it stands for, and what

@@ -8,7 +8,7 @@ use std::alloc::Global;
 use std::test::Fail;
 use zone_print::{canon_len, push_zone, text_fits, write_zone};
 use zone_rdata::{Fault, Place, Placed, Reading, Stop};
-use zone_set::{Zone, ZoneBuilder};
+use zone_set::{Zone, ZoneBuilder, ZoneList};
 use zone_text::read_file;
 
 /// The records of a file under the origin `x.`.
@@ -33,10 +33,12 @@ pub(super) fn taken(alloc: Global, mut reading: Reading) -> Result<Zone, Stop> {
     builder.finish()
 }
 
-/// The zone of the records that a source lends.
+/// The zone of the records that a source lends, or the first refusal among them.
 fn lent(alloc: Global, mut reading: Reading) -> Result<Zone, Stop> {
-    let mut builder = ZoneBuilder::new(alloc);
-    builder.take_lent(&mut reading)?;
+    let mut list = ZoneList::new(alloc);
+    let taken = list.take_lent(&mut reading);
+    let builder = list.settle()?;
+    taken?;
     builder.finish()
 }
 
@@ -136,6 +138,24 @@ x. 3600 IN NS n.x.
 x. 3600 IN NS n.x.
 x. 60 IN NS m.x.
 => F41 DifferingTtl at line 3
+== x. 3600 IN SOA n.x. h.x. 1 2 3 4 5
+x. 3600 IN NS n.x.
+x. 60 IN NS m.x.
+x. 60 CH NS n.x.
+=> F41 DifferingTtl at line 3
+== x. 3600 IN SOA n.x. h.x. 1 2 3 4 5
+x. 3600 IN NS n.x.
+x. 60 CH NS n.x.
+x. 60 IN NS m.x.
+=> F39 ClassMismatch at line 3
+== x. 3600 IN SOA n.x. h.x. 1 2 3 4 5
+x. 3600 IN NS n.x.
+x. 3600 IN SOA n.x. h.x. 1 2 3 4 6
+x. 60 IN NS m.x.
+=> F40 MultipleSoa at line 3
+== x. 3600 IN SOA n.x. h.x. 1 2 3 4 5
+x. 60 IN SOA n.x. h.x. 1 2 3 4 5
+=> F41 DifferingTtl at line 2
 == x. 3600 IN SOA n.x. h.x. 1 2 3 4 5
 b.y. 60 IN NS n.x.
 y. 60 IN NS n.x.

@@ -1,0 +1,86 @@
+//! What other crates read data with: numbers, words of a table, strings and addresses (RFC 1035 5.1,
+//! RFC 4291 2.2).
+use crate::tests::shown::{check_octets, check_same};
+use std::test::Fail;
+use zone_rdata::{
+    Item, Row, decimal_of, four_groups_of, ipv4_octets_of, ipv6_octets_of, is_word, number_of_word,
+    push_string, row_named, row_of,
+};
+
+/// A metal by its number and its sign.
+struct Metal {
+    number: u16,
+    sign: &'static [u8],
+}
+
+impl Row for Metal {
+    ghost use Rattle.zone_rdata.specs.Table.{Named};
+
+    ghost names = { λ row. record { number = row.number; mnemonic = row.sign.now } };
+
+    fn number(&self) -> u16 {
+        self.number
+    }
+
+    fn mnemonic(&self) -> &'static [u8] {
+        self.sign
+    }
+}
+
+static METALS: &[Metal] = &[
+    Metal {
+        number: 26,
+        sign: b"Fe",
+    },
+    Metal {
+        number: 79,
+        sign: b"Au",
+    },
+];
+
+#[test]
+fn numbers_in_digits(_rt: HostRuntime) -> Result<(), Fail> {
+    check_same("leading zeros", decimal_of(b"0065"), Some(65))?;
+    check_same("past 2^32", decimal_of(b"99999999999"), Some(4294967296))?;
+    check_same("a sign", decimal_of(b"-1"), None)
+}
+
+#[test]
+fn rows_by_number_and_word(_rt: HostRuntime) -> Result<(), Fail> {
+    let gold = row_of(METALS, 79).ok_or("no row of 79")?;
+    check_octets("79", gold.mnemonic(), b"Au")?;
+    let iron = row_named(METALS, b"FE").ok_or("no row of FE")?;
+    check_same("FE", iron.number(), 26)?;
+    check_same("no row", row_of(METALS, 27).is_none(), true)?;
+    check_same("letter case", is_word(b"aU", b"Au"), true)?;
+    check_same("AU", number_of_word(METALS, b"METAL", b"AU"), Some(79))?;
+    check_same(
+        "metal80",
+        number_of_word(METALS, b"METAL", b"metal80"),
+        Some(80),
+    )?;
+    check_same("Ag", number_of_word(METALS, b"METAL", b"Ag"), None)
+}
+
+#[test]
+fn strings_after_their_length(rt: HostRuntime) -> Result<(), Fail> {
+    let mut out = Vec::new(rt.alloc());
+    push_string(Item::Bare(b"a\\098"), &mut out)?;
+    push_string(Item::Quoted(b""), &mut out)?;
+    check_octets("two strings", &out, b"\x02ab\x00")
+}
+
+#[test]
+fn octets_of_addresses(_rt: HostRuntime) -> Result<(), Fail> {
+    let four = ipv4_octets_of(b"192.0.2.1").ok_or("no address of four octets")?;
+    check_octets("192.0.2.1", &four, &[192, 0, 2, 1])?;
+    let groups = four_groups_of(b"14:4fff:ff20:ee64").ok_or("no four groups")?;
+    let stated = [0, 0x14, 0x4f, 0xff, 0xff, 0x20, 0xee, 0x64];
+    check_octets("14:4fff:ff20:ee64", &groups, &stated)?;
+    let sixteen = ipv6_octets_of(b"::102:3").ok_or("no address of sixteen octets")?;
+    check_octets(
+        "::102:3",
+        &sixteen,
+        &[0, 0, 0, 0, 0, 0, 0, 0, 0, 0, 0, 0, 1, 2, 0, 3],
+    )
+}
