@@ -1,0 +1,69 @@
+-- A text in base64 stands for one list of octets, those that it decodes to.
+use Rattle.std.proofs.Common.{[], ◌≡◌, ℕ, ◌<◌, List, ◌∷◌, length, take, drop, ◌++◌, ◌==◌, Bool, false, refl, sym, ap, ◌∙◌, arith, lit<, Ok, Err}
+use Rattle.std.proofs.lemmas.List.{nil_from_length, take-append-drop}
+use Rattle.base64.proofs.EngineFacts.{decode_of-encode_of, decode_of_strict, encode_of-nil}
+use Rattle.base64.specs.Engines.{standard}
+use Rattle.base64.specs.GeneralPurpose.{IsBytes, decode_of, encode_of}
+use Rattle.base64.specs.declared.decode.DecodeError.{DecodeError}
+use Rattle.zone_name.specs.Common.{AreOctets}
+use Rattle.zone_rdata.proofs.Lists.{bytes_each, each_below}
+use Rattle.zone_rdata.specs.Item.{RawItem}
+use Rattle.zone_words.proofs.JoinedItems.{joined_once, joined_or_fault}
+use Rattle.zone_words.specs.Fault.{AppendsStated}
+use Rattle.zone_words.specs.Kinds.Base64.{FailsBase64, IsBase64, StatesBase64}
+use Rattle.zone_words.specs.declared.fault.WordsFault.{WordsFault}
+
+decodes_again : (octets : List ℕ) → AreOctets octets → decode_of standard (encode_of standard octets) ≡ Ok octets
+decodes_again octets each = decode_of-encode_of standard octets refl (each_below 256 octets (lit< tt) each)
+
+encoded_once : (a b : List ℕ) → AreOctets a → AreOctets b → encode_of standard a ≡ encode_of standard b → a ≡ b
+encoded_once a b x y same = cc (sym (decodes_again a x) ∙ (ap (decode_of standard) same ∙ decodes_again b y))
+
+pub one_base64 : (text a b : List ℕ) → IsBase64 text a → IsBase64 text b → a ≡ b
+one_base64 text a b x y = encoded_once a b x.each y.each (sym x.encoded ∙ y.encoded)
+
+-- no text stands for no octet
+pub no_base64 : (text octets : List ℕ) → length text ≡ 0 → IsBase64 text octets → ⊥
+no_base64 text octets none is =
+    let empty : [] ≡ encode_of standard octets = sym (nil_from_length text none) ∙ is.encoded in
+    let same : octets ≡ [] = encoded_once octets [] is.each tt (sym empty ∙ sym (encode_of-nil standard)) in
+    omega (arith, is.some, ap length same)
+
+some_octet : (text octets : List ℕ) → 0 < length text → text ≡ encode_of standard octets → 0 < length octets
+some_octet text [] some encoded = absurd (omega (arith, some, ap length (encoded ∙ encode_of-nil standard)))
+some_octet text (octet ∷ octets) some encoded = omega arith
+
+-- as `is_empty` tells
+pub has_octets : (text : List ℕ) (empty : Bool) → empty ≡ (length text == 0) → empty ≡ false → 0 < length text
+has_octets [] empty tells none = cc
+has_octets (c ∷ text) empty tells none = omega arith
+
+-- what a text decodes to
+pub decoded_is : (text octets : List ℕ) → IsBytes text → IsBytes octets → 0 < length text → decode_of standard text ≡ Ok octets → IsBase64 text octets
+decoded_is text octets texts bytes some decoded =
+    let encoded = decode_of_strict standard text octets (refl, refl) texts decoded in
+    record {
+      some = some_octet text octets some encoded;
+      each = bytes_each octets bytes;
+      encoded = encoded;
+    }
+
+-- a text that doesn't decode is no base64
+pub undecoded : (text : List ℕ) (e : DecodeError) → decode_of standard text ≡ Err e → (octets : List ℕ) → IsBase64 text octets → ⊥
+undecoded text e bad octets is =
+    let good = ap (decode_of standard) is.encoded ∙ decodes_again octets is.each in
+    cc (sym bad ∙ good)
+
+-- decoded octets behind those that were there
+pub decoded_appended : (text old new : List ℕ) (n : ℕ) → IsBytes text → IsBytes (drop n new) → 0 < length text → decode_of standard text ≡ Ok (drop n new) → take n new ≡ old → AppendsStated (IsBase64 text) old new
+decoded_appended text old new n texts bytes some decoded front = record {
+  octets = drop n new;
+  stated = decoded_is text (drop n new) texts bytes some decoded;
+  written = sym (take-append-drop n new) ∙ ap (λ t. t ++ drop n new) front;
+}
+
+pub base64_once : (items : List RawItem) (a b : List ℕ) → StatesBase64 items a → StatesBase64 items b → a ≡ b
+base64_once items a b x y = joined_once IsBase64 one_base64 items a b x y
+
+pub base64_or_fault : (items : List RawItem) (octets : List ℕ) (fault : WordsFault) → StatesBase64 items octets → FailsBase64 items fault → ⊥
+base64_or_fault items octets fault stated fails = joined_or_fault _ IsBase64 (λ none is. no_base64 [] none refl is) items octets fault stated fails

@@ -1,0 +1,67 @@
+-- What an entry leaves to those after it.
+use Rattle.std.proofs.Common.{arith, ap, refl, subst, sym, ◌∙◌, ◌≡◌, ◌∷◌, [], List, ℕ, map, Bool, true, Some, None, option_map, length, ◌<◌}
+use Rattle.std.specs.Prelude.{Option, MatchOption}
+use Rattle.std.specs.Option.{option_or}
+use Rattle.zone_name.specs.Common.{Labels}
+use Rattle.zone_name.specs.Spelling.{SpellsCased}
+use Rattle.zone_rdata.specs.Item.{RawItem, bare, raw}
+use Rattle.zone_rdata.specs.declared.item.Item.{Item}
+use Rattle.zone_text.specs.Entries.{Entry}
+use Rattle.zone_text.specs.Inherited.{latest, class_word}
+use Rattle.zone_text.specs.PartsIn.{ArePartsIn}
+use Rattle.zone_text.specs.Statements.{sets_origin, statement_of, class_among, parts_after}
+use Rattle.zone_text.specs.declared.parts.RecordParts.{RecordParts}
+use Rattle.zone_words.specs.Inherited.{IsInherited, IsInternetAfter, IsOneOrNone}
+use Rattle.zone_words.specs.Origin.{IsCasedOrigin, NamesOrigin, origin_items}
+use Rattle.zone_words.specs.declared.inherited.Inherited.{Inherited}
+
+-- the origin after an entry, where it is a `$ORIGIN` with these items
+abbrev OriginAfter : Labels → List Entry → Option (List RawItem) → Labels → Type 0
+OriginAfter origin before items name =
+    MatchOption items (IsCasedOrigin origin before name)
+    (λ stated. (above : Labels) × IsCasedOrigin origin before above × NamesOrigin above stated name)
+
+-- the origin stays where an entry is no `$ORIGIN`
+pub origin_stays : (origin : Labels) (before : List Entry) (entry : Entry) (found : Option Labels) → origin_items (statement_of entry) ≡ None → IsOneOrNone (IsCasedOrigin origin before) found → IsOneOrNone (IsCasedOrigin origin (entry ∷ before)) found
+origin_stays origin before entry found other is = subst (λ items. IsOneOrNone (OriginAfter origin before items) found) (sym other) is
+
+-- the class where it is no record
+pub class_stays : (before : List Entry) (entry : Entry) (is : Bool) → class_word (statement_of entry) ≡ None → IsInternetAfter (latest class_word before) true is → IsInternetAfter (latest class_word (entry ∷ before)) true is
+class_stays before entry is other internet = rw other internet
+
+class_next : (word last : Option (List ℕ)) (was is : Bool) → IsInternetAfter last true was → IsInternetAfter word was is → IsInternetAfter (option_or word last) true is
+class_next None None was is before after = after ∙ before
+class_next None (Some text) was is before after = subst (λ b. IsInternetAfter (Some text) true b) (sym after) before
+class_next (Some text) last was is before after = after
+
+-- a record
+pub record_follows : (origin : Labels) (before : List Entry) (entry : Entry) (was next : Inherited) (items : List RawItem) (parts : RecordParts) (word : Option (List ℕ)) → next.origin ≡ was.origin → origin_items (statement_of entry) ≡ None → class_word (statement_of entry) ≡ class_among (parts_after [] items).words → ArePartsIn (parts_after [] items) parts → word ≡ option_map (λ text. text.now) parts.class → IsInternetAfter word was.is_internet next.is_internet → IsInherited origin before was → IsInherited origin (entry ∷ before) next
+record_follows origin before entry was next items parts word same other stated are is after has = record {
+  under = subst (IsOneOrNone (IsCasedOrigin origin (entry ∷ before))) (sym same) (origin_stays origin before entry was.origin other has.under);
+  internet = (let w : class_word (statement_of entry) ≡ word = stated ∙ are.class ∙ sym is in subst (λ t. IsInternetAfter (option_or t (latest class_word before)) true next.is_internet) (sym w) (class_next word (latest class_word before) was.is_internet next.is_internet has.internet after));
+}
+
+-- another entry, which is no `$ORIGIN`
+pub other_follows : (origin : Labels) (before : List Entry) (entry : Entry) (i : Inherited) → origin_items (statement_of entry) ≡ None → class_word (statement_of entry) ≡ None → IsInherited origin before i → IsInherited origin (entry ∷ before) i
+other_follows origin before entry i none other has = record {
+  under = origin_stays origin before entry i.origin none has.under;
+  internet = class_stays before entry i.is_internet other has.internet;
+}
+
+next_under : (origin : Labels) (before : List Entry) (items : List RawItem) (was found : Option Labels) → IsOneOrNone (IsCasedOrigin origin before) was → ((a b : Labels) → IsCasedOrigin origin before a → IsCasedOrigin origin before b → a ≡ b) → IsOneOrNone (λ name. (held : Labels) × (was ≡ Some held) × NamesOrigin held items name) found → IsOneOrNone (λ name. (above : Labels) × IsCasedOrigin origin before above × NamesOrigin above items name) found
+next_under origin before items None None has once next = λ name is. has is.0 is.1
+next_under origin before items (Some held) None has once next = λ name is. next name (held, refl, subst (λ a. NamesOrigin a items name) (once is.0 held is.1 has) is.2)
+next_under origin before items None (Some name) has once next = absurd (let none : None ≡ Some next.0 = next.1 in cc)
+next_under origin before items (Some held) (Some name) has once next = (held, has, (let same : held ≡ next.0 = cc (next.1) in subst (λ a. NamesOrigin a items name) (sym same) next.2))
+
+-- one bare item names it
+pub named_by : (above : Labels) (items : List RawItem) (text : List ℕ) (rest : List Item) (found : Option Labels) → items ≡ bare text ∷ map raw rest → length rest < 1 → IsOneOrNone (SpellsCased (Some above) text) found → IsOneOrNone (NamesOrigin above items) found
+named_by above items text [] found is few spelt = subst (λ i. IsOneOrNone (NamesOrigin above i) found) (sym is) spelt
+named_by above items text (item ∷ rest) found is few spelt = absurd (omega (arith, few))
+
+-- `$ORIGIN`
+pub origin_follows : (origin : Labels) (before : List Entry) (entry : Entry) (was next : Inherited) (items : List RawItem) → statement_of entry ≡ sets_origin items → next.is_internet ≡ was.is_internet → IsOneOrNone (λ name. (held : Labels) × (was.origin ≡ Some held) × NamesOrigin held items name) next.origin → ((a b : Labels) → IsCasedOrigin origin before a → IsCasedOrigin origin before b → a ≡ b) → IsInherited origin before was → IsInherited origin (entry ∷ before) next
+origin_follows origin before entry was next items is same named once has = record {
+  under = subst (λ o. IsOneOrNone (OriginAfter origin before o) next.origin) (sym (ap origin_items is)) (next_under origin before items was.origin next.origin has.under once named);
+  internet = rw is (subst (λ b. IsInternetAfter (latest class_word before) true b) (sym same) has.internet);
+}

@@ -1,0 +1,63 @@
+-- Words of further types: each is that of one type at most.
+use Rattle.std.proofs.Common.{◌≡◌, ℕ, ◌<◌, ◌≤◌, Bool, true, false, ◌==◌, List, codes, Bor, Option, Some, None, refl, sym, ap, ◌∙◌, subst, arith, min, nat_lt}
+use Rattle.std.proofs.lemmas.Bool.{eqb-true}
+use Rattle.std.proofs.lemmas.Bool.Decides.{nat_tests}
+use Rattle.std.specs.List.{find, list_all}
+use Rattle.std.specs.Option.{option_copied, option_map}
+use Rattle.std.specs.Prelude.{IfNone, IfSome}
+use Rattle.zone_name.specs.Common.{NothingIs}
+use Rattle.zone_rdata.proofs.OneWord.{is_number, own_numbers, unlike, word_once}
+use Rattle.zone_rdata.proofs.Tables.{found_each, found_passes}
+use Rattle.zone_rdata.specs.Number.{IsCapped}
+use Rattle.zone_rdata.specs.Words.{IsWordAmong}
+use Rattle.zone_words.specs.Table.{FurtherType, IsFurtherWord, further_names, further_of, further_type, further_types}
+use Rattle.zone_words.specs.declared.table.FurtherType as code
+
+abbrev IsWord : List ℕ → ℕ → Type 0
+IsWord word n = IsWordAmong further_names (codes "TYPE") word n
+
+further_number_once : (word : List ℕ) (m n : ℕ) → IsWord word m → IsWord word n → m ≡ n
+unfolding is_number own_numbers unlike
+further_number_once word = word_once further_names (codes "TYPE") refl refl word
+
+-- a word is that of one further type at most
+pub further_word_once : (word : List ℕ) (a b : FurtherType) → IsFurtherWord word a → IsFurtherWord word b → a ≡ b
+further_word_once word a b p q =
+    let same : further_type a.number ≡ further_type b.number = ap further_type (further_number_once word a.number b.number p.named q.named) in
+    let e : Some a ≡ Some b = sym p.row ∙ same ∙ q.row in
+    cc e
+
+abbrev is_short : FurtherType → Bool
+is_short f = nat_lt f.number 65536
+
+-- the type of a number has that number, of 16 bits
+numbered : (n : ℕ) (f : FurtherType) → further_type n ≡ Some f → (n ≡ f.number) × (n < 65536)
+numbered n f e =
+    let own : n ≡ f.number = eqb-true n f.number (found_passes (λ (f : FurtherType). n == f.number) further_types f e) in
+    let short : nat_lt f.number 65536 ≡ true = found_each is_short (λ (f : FurtherType). n == f.number) further_types f refl e in
+    (own, grind (arith, nat_tests))
+
+the_word : (word : List ℕ) (n : ℕ) (f : FurtherType) → IsCapped (IsWord word) n → further_type n ≡ Some f → IsFurtherWord word f
+the_word word n f capped e =
+    let own = numbered n f e in
+    let m_is : capped.0 ≡ f.number = let c = capped.1.1 in let a = own.0 in let b = own.1 in omega arith in
+    record { named = subst (IsWord word) m_is capped.1.0; row = ap further_type (sym own.0) ∙ e }
+
+pub further_found : (word : List ℕ) (n : ℕ) (r : Option (Bor code.FurtherType)) → IsCapped (IsWord word) n → option_map further_of (option_copied r) ≡ further_type n → IfSome r (λ row. IsFurtherWord word (further_of row.now))
+further_found word n None capped e = tt
+further_found word n (Some row) capped e = the_word word n (further_of row.now) capped (sym e)
+
+no_row : (word : List ℕ) (n : ℕ) → IsCapped (IsWord word) n → further_type n ≡ None → NothingIs (IsFurtherWord word)
+no_row word n capped e f p =
+    let own = numbered f.number f p.row in
+    let m_is : capped.0 ≡ f.number = further_number_once word capped.0 f.number capped.1.0 p.named in
+    let n_is : n ≡ f.number = let c = capped.1.1 in let b = own.1 in omega arith in
+    let bad : Some f ≡ None = sym p.row ∙ ap further_type (sym n_is) ∙ e in
+    cc bad
+
+pub no_further_found : (word : List ℕ) (n : ℕ) (r : Option (Bor code.FurtherType)) → IsCapped (IsWord word) n → option_map further_of (option_copied r) ≡ further_type n → IfNone r (NothingIs (IsFurtherWord word))
+no_further_found word n None capped e = no_row word n capped (sym e)
+no_further_found word n (Some row) capped e = tt
+
+pub no_further : (word : List ℕ) → NothingIs (IsWord word) → NothingIs (IsFurtherWord word)
+no_further word none f p = none f.number p.named

@@ -1,0 +1,44 @@
+pub mod Classes
+pub mod Origins
+pub mod Following
+pub mod Walks
+pub mod Files
+pub mod FedTexts
+pub mod Standing
+pub mod OneRewriting
+pub mod OwnRewriting
+mod Base32Digits
+mod Base64Texts
+mod HexDigits
+mod JoinedItems
+mod LengthsBefore
+mod PassedFaults
+mod Numbers
+mod TypeWords
+mod StringItems
+pub mod OfName
+mod ReadFields
+pub mod Years
+pub mod Times
+pub mod Bits
+pub mod Bitmaps
+pub mod Values
+pub mod Tags
+pub mod OfParameters
+mod HexPairs
+mod NodeIds
+pub mod TypeItems
+mod Salts
+pub mod FurtherWords
+pub mod FieldLaws
+pub mod DataLaws
+mod GivenItems
+pub mod Cuts
+pub mod Prefixes
+pub mod Scaled
+pub mod Places
+pub mod Locations
+pub mod KeptRecords
+pub mod Turns
+pub mod GivenTokens
+pub mod BecomesOnce

@@ -1,0 +1,15 @@
+-- A domain name.
+use Rattle.std.proofs.Common.{◌≡◌, ℕ, List, Some, ◌∙◌, ap, sym}
+use Rattle.zone_name.specs.Common.{Labels}
+use Rattle.zone_name.specs.Name.{wire}
+use Rattle.zone_name.proofs.Answered.{SpellsCased-faultless, SpellsCased-once}
+use Rattle.zone_words.specs.Kinds.Name.{FailsName, StatesName}
+use Rattle.zone_words.specs.declared.fault.WordsFault.{WordsFault}
+
+-- a text states one list of octets
+pub name_once : (origin : Labels) (text a b : List ℕ) → StatesName origin text a → StatesName origin text b → a ≡ b
+name_once origin text a b one two = one.2 ∙ ap wire (SpellsCased-once (Some origin) text one.0 two.0 one.1 two.1) ∙ sym two.2
+
+-- where it states octets, it doesn't fail
+pub name_or_fault : (origin : Labels) (text octets : List ℕ) (fault : WordsFault) → StatesName origin text octets → FailsName origin text fault → ⊥
+name_or_fault origin text octets fault states fails = SpellsCased-faultless (Some origin) text states.0 fails.0 states.1 fails.1

@@ -1,0 +1,11 @@
+-- What is proved of parameters.
+pub mod Keys
+pub mod Escapes
+pub mod Lists
+pub mod Ascending
+pub mod KeyLists
+pub mod Protocols
+pub mod Texts
+pub mod Values
+pub mod Reading
+pub mod Once

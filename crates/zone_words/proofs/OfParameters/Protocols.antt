@@ -1,0 +1,172 @@
+-- The items of a list as the code reads them.
+use Rattle.std.proofs.Common.{◌≡◌, ℕ, ◌<◌, ◌≤◌, false, List, [], ◌∷◌, ◌++◌, length, Option, Some, None, sym, ap, ◌∙◌, subst, arith, refl, append_assoc, length-append}
+use Rattle.std.proofs.lemmas.List.{append-nil, flat_map_more}
+use Rattle.std.specs.List.{AllByRecursion, flat_map, onto_first}
+use Rattle.std.specs.Option.{option_map}
+use Rattle.zone_name.proofs.Pushing.{AllByRecursion-append}
+use Rattle.zone_name.specs.Common.{NothingIs}
+use Rattle.zone_name.specs.Name.{with_length}
+use Rattle.zone_words.specs.Fault.{AppendsStated}
+use Rattle.zone_words.specs.Machine.Parameters.{HasNoItems}
+use Rattle.zone_words.proofs.OfParameters.Escapes.{unescaped_once}
+use Rattle.zone_words.specs.Parameters.Value.{items_of, IsProtocol, ListsItems, ListsProtocols, Unescaped}
+
+abbrev Items : Type 0
+Items = List (List ℕ)
+
+-- octets before the first item
+abbrev prefixed : List ℕ → Items → Items
+prefixed [] items = items
+prefixed (c ∷ octets) items = onto_first c (prefixed octets items)
+
+prefixed_more : (octets : List ℕ) (c : ℕ) (items : Items) → prefixed (octets ++ c ∷ []) items ≡ prefixed octets (onto_first c items)
+prefixed_more [] c items = refl
+prefixed_more (d ∷ octets) c items = ap (onto_first d) (prefixed_more octets c items)
+
+prefixed_first : (octets first : List ℕ) (items : Items) → prefixed octets (first ∷ items) ≡ (octets ++ first) ∷ items
+prefixed_first [] first items = refl
+prefixed_first (c ∷ octets) first items = ap (onto_first c) (prefixed_first octets first items)
+
+map_prefixed : (octets : List ℕ) (c : ℕ) (items : Option Items) → option_map (prefixed octets) (option_map (onto_first c) items) ≡ option_map (prefixed (octets ++ c ∷ [])) items
+map_prefixed octets c None = refl
+map_prefixed octets c (Some items) = ap Some (sym (prefixed_more octets c items))
+
+map_first : (octets : List ℕ) (items : Option Items) → option_map (prefixed octets) (option_map (λ items. [] ∷ items) items) ≡ option_map (λ items. octets ∷ items) items
+map_first octets None = refl
+map_first octets (Some items) = ap Some (prefixed_first octets [] items ∙ ap (λ t. t ∷ items) (append-nil octets))
+
+map_nothing : (items : Option Items) → items ≡ option_map (prefixed []) items
+map_nothing None = refl
+map_nothing (Some items) = refl
+
+-- the octets of the first item up to a place
+pub record HasItem (text rest item : List ℕ) : Type 0 where
+  pub items : items_of false text ≡ option_map (prefixed item) (items_of false rest)
+  pub within : length rest ≤ length text
+  pub short : length item ≤ 255
+
+pub item_none : (text : List ℕ) → HasItem text text []
+item_none text = record { items = map_nothing (items_of false text); within = omega arith; short = omega arith }
+
+pub item_more : (text rest after item : List ℕ) (c : ℕ) → HasItem text rest item → (items_of false rest ≡ option_map (onto_first c) (items_of false after)) × (length after < length rest) → length item < 255 → HasItem text after (item ++ c ∷ [])
+item_more text rest after item c has next room = record {
+  items = has.items ∙ ap (option_map (prefixed item)) next.0 ∙ map_prefixed item c (items_of false after);
+  within = omega (arith, has.within, next.1);
+  short = omega (arith, room, length-append item (c ∷ []));
+}
+
+-- the items from the first on, where it ends
+first_ended : (text rest item : List ℕ) → HasItem text rest item → rest ≡ [] → items_of false text ≡ Some (item ∷ [])
+first_ended text rest item has ended = has.items ∙ ap (λ t. option_map (prefixed item) (items_of false t)) ended ∙ map_first item (Some [])
+
+first_parted : (text rest after item : List ℕ) → HasItem text rest item → rest ≡ 44 ∷ after → items_of false text ≡ option_map (λ items. item ∷ items) (items_of false after)
+first_parted text rest after item has comma = has.items ∙ ap (λ t. option_map (prefixed item) (items_of false t)) comma ∙ map_first item (items_of false after)
+
+pub item_ends : (text rest item : List ℕ) → HasItem text rest item → rest ≡ [] → 0 < length item → IsProtocol item × (items_of false text ≡ Some (item ∷ []))
+item_ends text rest item has ended some = ((some, has.short), first_ended text rest item has ended)
+
+pub item_parts : (text rest after item : List ℕ) → HasItem text rest item → rest ≡ 44 ∷ after → 0 < length item → IsProtocol item × (length after < length text) × (items_of false text ≡ option_map (λ items. item ∷ items) (items_of false after))
+item_parts text rest after item has comma some = ((some, has.short), omega (arith, has.within, ap length comma), first_parted text rest after item has comma)
+
+-- ---- where the first item is none
+
+none_at_first : (item : List ℕ) (items : Option Items) (found : Items) → (IsProtocol item → ⊥) → option_map (λ items. item ∷ items) items ≡ Some found → AllByRecursion IsProtocol found → ⊥
+none_at_first item None found stops e each = absurd cc
+none_at_first item (Some items) [] stops e each = absurd cc
+none_at_first item (Some items) (first ∷ found) stops e each = stops (subst IsProtocol (let same : Some (item ∷ items) ≡ Some (first ∷ found) = e in cc) each.0)
+
+pub empty_ends : (text rest item : List ℕ) → HasItem text rest item → rest ≡ [] → length item ≡ 0 → HasNoItems text
+empty_ends text rest item has ended empty found e each = none_at_first item (Some []) found (λ is. omega (arith, is.0, empty)) (sym (first_ended text rest item has ended) ∙ e) each
+
+pub empty_parts : (text rest after item : List ℕ) → HasItem text rest item → rest ≡ 44 ∷ after → length item ≡ 0 → HasNoItems text
+empty_parts text rest after item has comma empty found e each = none_at_first item (items_of false after) found (λ is. omega (arith, is.0, empty)) (sym (first_parted text rest after item has comma) ∙ e) each
+
+pub item_stops : (text rest item : List ℕ) → HasItem text rest item → items_of false rest ≡ None → HasNoItems text
+item_stops text rest item has none found e each =
+    let nothing : items_of false text ≡ None = has.items ∙ ap (option_map (prefixed item)) none in
+    absurd cc
+
+long_first : (item : List ℕ) (items : Option Items) (found : Items) (c : ℕ) → length item ≡ 255 → option_map (prefixed (item ++ c ∷ [])) items ≡ Some found → AllByRecursion IsProtocol found → ⊥
+long_first item None found c full e each = absurd cc
+long_first item (Some []) found c full e each =
+    let whole = prefixed_more item c [] ∙ prefixed_first item (c ∷ []) [] in
+    let is : found ≡ (item ++ c ∷ []) ∷ [] = (let same : Some found ≡ Some ((item ++ c ∷ []) ∷ []) = sym e ∙ ap Some whole in cc) in
+    let first = (subst (AllByRecursion IsProtocol) is each).0 in
+    omega (arith, first.1, full, length-append item (c ∷ []))
+long_first item (Some (first ∷ items)) found c full e each =
+    let whole = prefixed_more item c (first ∷ items) ∙ prefixed_first item (c ∷ first) items in
+    let is : found ≡ (item ++ c ∷ first) ∷ items = (let same : Some found ≡ Some ((item ++ c ∷ first) ∷ items) = sym e ∙ ap Some whole in cc) in
+    let long = (subst (AllByRecursion IsProtocol) is each).0 in
+    omega (arith, long.1, full, length-append item (c ∷ first))
+
+pub item_full : (text rest after item : List ℕ) (c : ℕ) → HasItem text rest item → (items_of false rest ≡ option_map (onto_first c) (items_of false after)) × (length after < length rest) → length item ≡ 255 → HasNoItems text
+item_full text rest after item c has next full found e each = long_first item (items_of false after) found c full (sym (has.items ∙ ap (option_map (prefixed item)) next.0 ∙ map_prefixed item c (items_of false after)) ∙ e) each
+
+-- ---- item after item
+
+map_append : (done : Items) (item : List ℕ) (items : Option Items) → option_map (λ more. done ++ more) (option_map (λ items. item ∷ items) items) ≡ option_map (λ more. (done ++ item ∷ []) ++ more) items
+map_append done item None = refl
+map_append done item (Some items) = ap Some (sym (append_assoc done (item ∷ []) items))
+
+map_whole : (items : Option Items) → items ≡ option_map (λ more. [] ++ more) items
+map_whole None = refl
+map_whole (Some items) = refl
+
+pub record HasItems (text rest old new : List ℕ) : Type 0 where
+  pub done : Items
+  pub items : items_of false text ≡ option_map (λ more. done ++ more) (items_of false rest)
+  pub each : AllByRecursion IsProtocol done
+  pub value : new ≡ old ++ flat_map with_length done
+
+pub items_none : (text old : List ℕ) → HasItems text text old old
+items_none text old = record { done = []; items = map_whole (items_of false text); each = tt; value = sym (append-nil old) }
+
+items_grown : (done : Items) (item old new next : List ℕ) → new ≡ old ++ flat_map with_length done → next ≡ (new ++ length item ∷ []) ++ item → next ≡ old ++ flat_map with_length (done ++ item ∷ [])
+items_grown done item old new next e f = f ∙ append_assoc new (length item ∷ []) item ∙ ap (λ t. t ++ length item ∷ item) e ∙ append_assoc old (flat_map with_length done) (length item ∷ item) ∙ ap (λ t. old ++ t) (flat_map_more with_length [] done item)
+
+pub items_more : (text rest after item old new next : List ℕ) → HasItems text rest old new → IsProtocol item × (length after < length rest) × (items_of false rest ≡ option_map (λ items. item ∷ items) (items_of false after)) → next ≡ (new ++ length item ∷ []) ++ item → HasItems text after old next
+items_more text rest after item old new next has first grown = record {
+  done = has.done ++ item ∷ [];
+  items = has.items ∙ ap (option_map (λ more. has.done ++ more)) first.2 ∙ map_append has.done item (items_of false after);
+  each = AllByRecursion-append IsProtocol has.done (item ∷ []) has.each (first.0, tt);
+  value = items_grown has.done item old new next has.value grown;
+}
+
+pub items_all : (text rest item old new next : List ℕ) → HasItems text rest old new → IsProtocol item × (items_of false rest ≡ Some (item ∷ [])) → next ≡ (new ++ length item ∷ []) ++ item → AppendsStated (ListsItems text) old next
+items_all text rest item old new next has first grown = record {
+  octets = flat_map with_length (has.done ++ item ∷ []);
+  stated = record {
+    protocols = has.done ++ item ∷ [];
+    items = has.items ∙ ap (option_map (λ more. has.done ++ more)) first.1;
+    each = AllByRecursion-append IsProtocol has.done (item ∷ []) has.each (first.0, tt);
+    value = refl;
+  };
+  written = items_grown has.done item old new next has.value grown;
+}
+
+each_back : (done items : Items) → AllByRecursion IsProtocol (done ++ items) → AllByRecursion IsProtocol items
+each_back [] items each = each
+each_back (item ∷ done) items each = each_back done items each.1
+
+stops_by : (done : Items) (items : Option Items) (found : Items) → ((more : Items) → items ≡ Some more → AllByRecursion IsProtocol more → ⊥) → option_map (λ more. done ++ more) items ≡ Some found → AllByRecursion IsProtocol found → ⊥
+stops_by done None found none e each = absurd cc
+stops_by done (Some items) found none e each = none items refl (each_back done items (subst (AllByRecursion IsProtocol) (let same : Some found ≡ Some (done ++ items) = sym e in cc) each))
+
+pub items_stop : (text rest old new : List ℕ) → HasItems text rest old new → HasNoItems rest → NothingIs (ListsItems text)
+items_stop text rest old new has none octets is = stops_by has.done (items_of false rest) is.protocols none (sym has.items ∙ is.items) is.each
+
+pub items_once : (text a b : List ℕ) → ListsItems text a → ListsItems text b → a ≡ b
+items_once text a b x y =
+    let both : Some x.protocols ≡ Some y.protocols = sym x.items ∙ y.items in
+    let same : x.protocols ≡ y.protocols = cc in
+    x.value ∙ ap (flat_map with_length) same ∙ sym y.value
+
+pub protocols_stop : (text octets slice : List ℕ) → Unescaped text octets → slice ≡ octets → NothingIs (ListsItems slice) → NothingIs (ListsProtocols text)
+protocols_stop text octets slice is same none others are =
+    let e = unescaped_once text are.spelt octets are.unescaped is ∙ sym same in
+    none others (subst (λ t. ListsItems t others) e are.items)
+
+pub protocols_once : (text a b : List ℕ) → ListsProtocols text a → ListsProtocols text b → a ≡ b
+protocols_once text a b x y =
+    let e = unescaped_once text x.spelt y.spelt x.unescaped y.unescaped in
+    items_once y.spelt a b (subst (λ t. ListsItems t a) e x.items) y.items

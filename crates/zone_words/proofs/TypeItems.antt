@@ -1,0 +1,131 @@
+-- Items that name types, and the bits of these types.
+use Rattle.std.proofs.Common.{[], ◌≡◌, ℕ, zero, suc, ◌+◌, ◌/◌, ◌<◌, ◌≤◌, ◌↔◌, ◌⊎◌, inl, inr, List, ◌∷◌, ◌++◌, get_or, length, map, take, refl, sym, ap, ◌∙◌, subst, arith}
+use Rattle.std.proofs.lemmas.List.{get_or_past, map_push, take_more}
+use Rattle.std.specs.Int.{bit_at}
+use Rattle.std.specs.List.{AllByRecursion}
+use Rattle.zone_name.proofs.Pushing.{AllByRecursion-append, AllByRecursion-front}
+use Rattle.zone_name.specs.Common.{NothingIs}
+use Rattle.zone_rdata.specs.Item.{RawItem, bare, quoted}
+use Rattle.zone_words.proofs.Bitmaps.{bitmap_once}
+use Rattle.zone_words.proofs.Bits.{no_bit_in_zero}
+use Rattle.zone_words.proofs.TypeWords.{type_word_once}
+use Rattle.zone_words.specs.DataItem.{raw_item}
+use Rattle.zone_words.specs.Fault.{AppendsStated}
+use Rattle.zone_words.specs.Kinds.Bitmap.{HasBit, IsBitmapOf}
+use Rattle.zone_words.specs.Kinds.Types.{FailsPerhapsTypes, FailsTypes, NameType, NamesAType, NamesType, StatesPerhapsTypes, StatesTypes}
+use Rattle.zone_words.specs.Machine.TypeBits.{AreBitsOf}
+use Rattle.zone_words.specs.declared.data_item.DataItem.{DataItem}
+use Rattle.zone_words.specs.declared.fault.WordsFault.{WordsFault}
+use Rattle.zone_words.specs.declared.fault.WordsFault.TheVariants.{NotAType}
+
+item_once : (item : RawItem) (m n : ℕ) → NamesType item m → NamesType item n → m ≡ n
+item_once (bare word) m n a b = type_word_once word m n a b
+item_once (quoted text) m n a b = absurd a
+
+-- ---- one item more
+
+named_before : (items : List RawItem) (item : RawItem) (n : ℕ) → NameType (items ++ item ∷ []) n → NameType items n ⊎ NamesType item n
+named_before [] item n h = elim h [ inl here ↦ inr here | inr none ↦ absurd none ]
+named_before (first ∷ items) item n h =
+    elim h [
+      | inl here ↦ inl (inl here)
+      | inr rest ↦ elim (named_before items item n rest) [
+        | inl among ↦ inl (inr among)
+        | inr last ↦ inr last
+      ]
+    ]
+
+still_named : (items : List RawItem) (item : RawItem) (n : ℕ) → NameType items n → NameType (items ++ item ∷ []) n
+still_named [] item n h = absurd h
+still_named (first ∷ items) item n h =
+    elim h [ inl here ↦ inl here | inr rest ↦ inr (still_named items item n rest) ]
+
+last_named : (items : List RawItem) (item : RawItem) (n : ℕ) → NamesType item n → NameType (items ++ item ∷ []) n
+last_named [] item n h = inl h
+last_named (first ∷ items) item n h = inr (last_named items item n h)
+
+pub no_bits : AreBitsOf [] []
+no_bits =
+    record {
+      few = omega arith;
+      each = tt;
+      types = λ n. (λ h. no_bit_in_zero _ (let z = get_or_past {X = ℕ} [] (n / 8) 0 (omega arith) in rw z at h), λ none. absurd none);
+    }
+
+bits_grown : (items : List RawItem) (item : RawItem) (bits new : List ℕ) (number : ℕ) → AreBitsOf items bits → NamesType item number → length new ≤ 8192 → ((n : ℕ) → HasBit new n ↔ ((n ≡ number) ⊎ HasBit bits n)) → AreBitsOf (items ++ item ∷ []) new
+bits_grown items item bits new number have names few set =
+    record {
+      few = few;
+      each = AllByRecursion-append NamesAType items (item ∷ []) have.each ((number, names), tt);
+      types = λ n. (
+        λ h. elim ((set n).0 h) [
+          | inl own ↦ last_named items item n (subst (NamesType item) (sym own) names)
+          | inr before ↦ still_named items item n ((have.types n).0 before)
+        ],
+        λ h. (set n).1 (elim (named_before items item n h) [
+          | inl among ↦ inr ((have.types n).1 among)
+          | inr last ↦ inl (item_once item n number last names)
+        ]),
+      );
+    }
+
+raw_more : (items : List DataItem) (i : ℕ) (d : DataItem) → i < length items → map raw_item (take (i + 1) items) ≡ map raw_item (take i items) ++ raw_item (get_or items i d) ∷ []
+raw_more items i d inside =
+    ap (map raw_item) (take_more items i d inside) ∙ map_push raw_item (take i items) (get_or items i d)
+
+pub bits_more : (items : List DataItem) (i : ℕ) (d : DataItem) (bits new : List ℕ) (number : ℕ) → i < length items → AreBitsOf (map raw_item (take i items)) bits → NamesType (raw_item (get_or items i d)) number → length new ≤ 8192 → ((n : ℕ) → HasBit new n ↔ ((n ≡ number) ⊎ HasBit bits n)) → AreBitsOf (map raw_item (take (i + 1) items)) new
+bits_more items i d bits new number inside have names few set =
+    subst (λ (l : List RawItem). AreBitsOf l new) (sym (raw_more items i d inside)) (bits_grown (map raw_item (take i items)) (raw_item (get_or items i d)) bits new number have names few set)
+
+-- ---- items that state no types
+
+each_at : (items : List DataItem) (i : ℕ) (d : DataItem) → i < length items → AllByRecursion NamesAType (map raw_item items) → NamesAType (raw_item (get_or items i d))
+each_at [] i d inside each = absurd (omega arith)
+each_at (item ∷ items) zero d inside each = each.0
+each_at (item ∷ items) (suc i) d inside each = each_at items i d (omega arith) each.1
+
+pub no_types : (items : List DataItem) (i : ℕ) (d : DataItem) → i < length items → NothingIs (NamesType (raw_item (get_or items i d))) → FailsPerhapsTypes (map raw_item items) NotAType
+no_types items i d inside none =
+    (refl, λ octets states. let has = each_at items i d inside states.each in none has.0 has.1)
+
+-- ---- the bitmap of the bits
+
+same_types : (Is Has : ℕ → Type 0) (octets : List ℕ) → ((n : ℕ) → Has n ↔ Is n) → IsBitmapOf Has octets → IsBitmapOf Is octets
+same_types Is Has octets same bitmap =
+    record {
+      windows = bitmap.windows;
+      parts = bitmap.parts;
+      each = bitmap.each;
+      ascend = bitmap.ascend;
+      types = λ n. (λ h. (same n).0 ((bitmap.types n).0 h), λ h. (bitmap.types n).1 ((same n).1 h));
+    }
+
+pub types_stated : (items : List RawItem) (bits old new : List ℕ) → AreBitsOf items bits → AppendsStated (IsBitmapOf (HasBit bits)) old new → AppendsStated (StatesPerhapsTypes items) old new
+types_stated items bits old new are appends =
+    record {
+      octets = appends.octets;
+      stated = record { each = are.each; bitmap = same_types (NameType items) (HasBit bits) appends.octets are.types appends.stated };
+      written = appends.written;
+    }
+
+-- ---- items state one bitmap
+
+pub perhaps_types_once : (items : List RawItem) (a b : List ℕ) → StatesPerhapsTypes items a → StatesPerhapsTypes items b → a ≡ b
+perhaps_types_once items a b these those =
+    bitmap_once (NameType items) a b these.bitmap those.bitmap
+
+pub types_once : (items : List RawItem) (a b : List ℕ) → StatesTypes items a → StatesTypes items b → a ≡ b
+types_once items a b these those = perhaps_types_once items a b these.types those.types
+
+pub perhaps_types_or_fault : (items : List RawItem) (octets : List ℕ) (fault : WordsFault) → StatesPerhapsTypes items octets → FailsPerhapsTypes items fault → ⊥
+perhaps_types_or_fault items octets fault states fails = fails.1 octets states
+
+pub types_or_fault : (items : List RawItem) (octets : List ℕ) (fault : WordsFault) → StatesTypes items octets → FailsTypes items fault → ⊥
+types_or_fault [] octets fault states fails = omega (arith, states.some)
+types_or_fault (item ∷ items) octets fault states fails = fails.1 octets states
+
+-- items that name no types state none, and an item is left
+pub types_fail : (items : List DataItem) → 0 < length items → (fault : WordsFault) → FailsPerhapsTypes (map raw_item items) fault → FailsTypes (map raw_item items) fault
+types_fail [] some fault fails = absurd (omega arith)
+types_fail (item ∷ items) some fault fails =
+    (fails.0, λ octets states. fails.1 octets states.types)

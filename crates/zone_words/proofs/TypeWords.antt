@@ -1,0 +1,101 @@
+-- Words of types and of other numbers: each has one number at most.
+use Rattle.std.proofs.Common.{◌≡◌, ℕ, ◌<◌, ◌≤◌, Bool, true, false, not, List, [], ◌∷◌, ◌++◌, length, codes, refl, sym, ap, ◌∙◌, subst, arith, min, Option, Some, None}
+use Rattle.std.proofs.lemmas.Bool.{false≢true, not-true}
+use Rattle.std.proofs.lemmas.Bool.Decides.{nat_tests}
+use Rattle.std.specs.List.{list_all}
+use Rattle.std.specs.Prelude.{IfSome, IfNone}
+use Rattle.zone_name.specs.Common.{NothingIs}
+use Rattle.zone_rdata.proofs.OneWord.{is_number, mnemonic_once, numbered_once, own_numbers, unlike, word_once}
+use Rattle.zone_rdata.proofs.Tables.{each_mnemonic}
+use Rattle.zone_rdata.specs.Table.{Named}
+use Rattle.zone_name.specs.Name.{folded_label, folded_octet}
+use Rattle.zone_name.specs.Spelling.{is_digit}
+use Rattle.zone_rdata.specs.Number.{IsCapped, IsDecimal}
+use Rattle.zone_rdata.specs.Words.{IsKind, IsMnemonic, IsNumbered, IsWordAmong, by_mnemonic, by_number}
+use Rattle.zone_words.specs.Mnemonics.{IsNumberOrMnemonic, IsTypeWord, algorithms, certificate_types, registered_types}
+
+abbrev IsWord : List ℕ → ℕ → Type 0
+IsWord word n = IsWordAmong registered_types (codes "TYPE") word n
+
+pub word_of_type_once : (word : List ℕ) (m n : ℕ) → IsWord word m → IsWord word n → m ≡ n
+unfolding is_number own_numbers unlike
+word_of_type_once word = word_once registered_types (codes "TYPE") refl refl word
+
+-- a word is that of one type at most
+pub type_word_once : (word : List ℕ) (m n : ℕ) → IsTypeWord word m → IsTypeWord word n → m ≡ n
+type_word_once word m n a b = word_of_type_once word m n a.named b.named
+
+pub no_type : (word : List ℕ) → NothingIs (IsWord word) → NothingIs (IsTypeWord word)
+no_type word none n is = none n is.named
+
+-- the number of a word is that of no type of which records can be
+pub no_kind : (word : List ℕ) (n : ℕ) → IsCapped (IsWord word) n → (IsKind n → ⊥) → NothingIs (IsTypeWord word)
+no_kind word n capped other m is =
+    let same : capped.0 ≡ m = word_of_type_once word capped.0 m capped.1.0 is.named in
+    let short : m < 65536 = is.kind.short in
+    let own : n ≡ m = let e = capped.1.1 in omega arith in
+    other (subst IsKind (sym own) is.kind)
+
+pub a_type : (word : List ℕ) (n k : ℕ) → IsCapped (IsWord word) n → k ≡ n → IsKind n → IsTypeWord word k
+a_type word n k capped same kind =
+    let short : n < 65536 = kind.short in
+    let own : capped.0 ≡ k = let e = capped.1.1 in omega arith in
+    record { named = subst (IsWord word) own capped.1.0; kind = subst IsKind (sym same) kind }
+
+-- what becomes of the number that a word has
+pub type_found : (word : List ℕ) (n : ℕ) (r : Option ℕ) → IsCapped (IsWord word) n → IfSome r (λ k. (k ≡ n) × IsKind n) → IfSome r (IsTypeWord word)
+type_found word n None capped h = h
+type_found word n (Some k) capped h = a_type word n k capped h.0 h.1
+
+pub no_type_found : (word : List ℕ) (n : ℕ) (r : Option ℕ) → IsCapped (IsWord word) n → IfNone r (IsKind n → ⊥) → IfNone r (NothingIs (IsTypeWord word))
+no_type_found word n None capped h = no_kind word n capped h
+no_type_found word n (Some k) capped h = h
+
+-- ---- digits, or a mnemonic
+
+-- a digit comes first
+begins_with_digit : List ℕ → Bool
+begins_with_digit [] = false
+begins_with_digit (c ∷ text) = is_digit c
+
+-- no mnemonic begins with a digit
+letters_first : List Named → Bool
+letters_first rows = list_all (λ row. not (begins_with_digit (folded_label row.mnemonic))) rows
+
+digit_stays : (c : ℕ) → is_digit c ≡ true → is_digit (folded_octet c) ≡ true
+digit_stays c e = grind (arith, nat_tests)
+
+digits_first : (text : List ℕ) (n : ℕ) → IsDecimal text n → begins_with_digit (folded_label text) ≡ true
+unfolding begins_with_digit
+digits_first [] n is = absurd (let some = is.some in omega arith)
+digits_first (c ∷ text) n is = digit_stays c is.digits.0
+
+no_front : (front : List ℕ) → folded_label front ≡ [] → front ≡ []
+no_front [] e = refl
+no_front (c ∷ front) e = absurd (let t : folded_label (c ∷ front) ≡ [] = e in cc)
+
+digits_alone : (word : List ℕ) (n : ℕ) → IsNumbered [] word n → IsDecimal word n
+digits_alone word n is =
+    let none : is.front ≡ [] = no_front is.front is.named in
+    let same : is.digits ≡ word = ap (λ f. f ++ is.digits) (sym none) ∙ sym is.parts in
+    subst (λ t. IsDecimal t n) same is.number
+
+mnemonic_or_digits : (rows : List Named) → letters_first rows ≡ true → (word : List ℕ) (m n : ℕ) → IsMnemonic rows word m → IsNumbered [] word n → ⊥
+unfolding letters_first
+mnemonic_or_digits rows letters word m n x y =
+    let other = not-true _ (each_mnemonic (λ _ name. not (begins_with_digit (folded_label name))) rows letters m x.name x.row) in
+    false≢true (sym other ∙ ap begins_with_digit (sym x.same) ∙ digits_first word n (digits_alone word n y))
+
+number_or_mnemonic_once : (rows : List Named) → own_numbers rows ≡ true → letters_first rows ≡ true → (word : List ℕ) (m n : ℕ) → IsNumberOrMnemonic rows word m → IsNumberOrMnemonic rows word n → m ≡ n
+number_or_mnemonic_once rows own letters word m n (by_mnemonic x) (by_mnemonic y) = mnemonic_once rows own word m n x y
+number_or_mnemonic_once rows own letters word m n (by_mnemonic x) (by_number y) = absurd (mnemonic_or_digits rows letters word m n x y)
+number_or_mnemonic_once rows own letters word m n (by_number x) (by_mnemonic y) = absurd (mnemonic_or_digits rows letters word n m y x)
+number_or_mnemonic_once rows own letters word m n (by_number x) (by_number y) = numbered_once [] word m n x y
+
+pub algorithm_once : (word : List ℕ) (m n : ℕ) → IsNumberOrMnemonic algorithms word m → IsNumberOrMnemonic algorithms word n → m ≡ n
+unfolding is_number own_numbers letters_first begins_with_digit
+algorithm_once = number_or_mnemonic_once algorithms refl refl
+
+pub certificate_type_once : (word : List ℕ) (m n : ℕ) → IsNumberOrMnemonic certificate_types word m → IsNumberOrMnemonic certificate_types word n → m ≡ n
+unfolding is_number own_numbers letters_first begins_with_digit
+certificate_type_once = number_or_mnemonic_once certificate_types refl refl

@@ -1,0 +1,14 @@
+use Rattle.std.proofs.Common.{refl, arith}
+use Rattle.zone_words.proofs.Base64Texts.{decoded_appended, has_octets, no_base64, undecoded}
+use Rattle.zone_words.proofs.kinds.base64_text.push_decoded.Goals as goal
+
+pub returns-then-is_empty-clause-fault : goal.returns-then-is_empty-clause-fault
+returns-then-is_empty-clause-fault c = (refl, λ octets is. no_base64 c.args.text.now octets (grind (arith, c.is_empty.ensures, c.if-is_empty.true)) is)
+
+pub returns-in-Ok-clause-states : goal.returns-in-Ok-clause-states
+returns-in-Ok-clause-states c =
+    decoded_appended c.args.text.now c.args.out.now.items _ _ (λ i. omega (arith, c.type_inv.text i)) c.in-Ok.ensures.bytes (has_octets c.args.text.now c.is_empty.result c.is_empty.ensures c.if-is_empty.false) c.in-Ok.ensures.ok c.in-Ok.ensures.front
+
+pub returns-in-Err-DecodeError-clause-fault : goal.returns-in-Err-DecodeError-clause-fault
+returns-in-Err-DecodeError-clause-fault c =
+    (refl, undecoded c.args.text.now _ (rw c.in-Err-DecodeError.field-0-is at c.in-Err-DecodeError.ensures.err))

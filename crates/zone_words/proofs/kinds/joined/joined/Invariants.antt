@@ -1,0 +1,7 @@
+use Rattle.std.proofs.Common.{map, drop}
+use Rattle.zone_words.specs.DataItem.{raw_item}
+use Rattle.zone_words.proofs.JoinedItems.{HaveJoined}
+use Rattle.zone_words.proofs.kinds.joined.joined.Given as goal
+
+abbrev pub invariant-loop-item : goal.invariant-loop-item
+invariant-loop-item l = HaveJoined (map raw_item l.items) (map raw_item (drop l.item-index l.items)) l.text.items

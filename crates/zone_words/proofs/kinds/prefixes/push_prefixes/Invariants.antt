@@ -1,0 +1,7 @@
+use Rattle.std.proofs.Common.{drop, map}
+use Rattle.zone_words.specs.DataItem.{raw_item}
+use Rattle.zone_words.proofs.Prefixes.{LeadToPrefixes}
+use Rattle.zone_words.proofs.kinds.prefixes.push_prefixes.Given as goal
+
+abbrev pub invariant-loop-item : goal.invariant-loop-item
+invariant-loop-item l = LeadToPrefixes (map raw_item l.items) (map raw_item (drop l.item-index l.items)) l.fn.out.items l.out.items

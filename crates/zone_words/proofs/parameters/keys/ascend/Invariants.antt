@@ -1,0 +1,8 @@
+use Rattle.std.proofs.Common.{drop}
+use Rattle.zone_words.specs.Parameters.Value.{AscendAbove}
+use Rattle.zone_words.proofs.parameters.keys.ascend.Given as goal
+
+abbrev pub invariant-loop-number : goal.invariant-loop-number
+invariant-loop-number l =
+    (AscendAbove l.low (drop l.number-index l.numbers) → AscendAbove 0 l.numbers)
+    × (AscendAbove 0 l.numbers → AscendAbove l.low (drop l.number-index l.numbers))

@@ -1,0 +1,13 @@
+use Rattle.std.proofs.Common.{refl}
+use Rattle.std.proofs.lemmas.List.Sorted.{IsNonDecreasingBy-from_sort}
+use Rattle.zone_words.proofs.OfParameters.KeyLists.{no_keys_listed, no_keys_stated, not_ascending}
+use Rattle.zone_words.proofs.PassedFaults.{fault_passed}
+use Rattle.zone_words.proofs.parameters.keys.ascending_keys.Goals as goal
+
+pub returns-in_err-numbers-clause-fault : goal.returns-in_err-numbers-clause-fault
+returns-in_err-numbers-clause-fault c = fault_passed c.from_residual.result c.in_err-numbers.field-0.0 _ _ c.from_residual.ensures.1 (λ fault none. (none.0, no_keys_stated c.args.text.now none.1)) c.in_err-numbers.ensures.fault
+
+pub returns-then-not-ascend-clause-fault : goal.returns-then-not-ascend-clause-fault
+returns-then-not-ascend-clause-fault c =
+    let sorted = c.sort_unstable.new.self.items in
+    rw c.into.ensures (refl, no_keys_listed c.args.text.now c.in_ok-numbers.numbers.items sorted c.in_ok-numbers.ensures.found c.sort_unstable.ensures.permutation (IsNonDecreasingBy-from_sort (λ x. x) sorted c.sort_unstable.ensures.sorted) (not_ascending sorted c.as_slice.result.now c.ascend.result c.if-not-ascend.true c.as_slice.ensures.value c.ascend.ensures.1))

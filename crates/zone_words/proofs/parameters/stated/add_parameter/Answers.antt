@@ -1,0 +1,21 @@
+use Rattle.std.proofs.Common.{subst}
+use Rattle.zone_words.proofs.OfParameters.Reading.{parameter_added, parameter_fails, parameter_repeated}
+use Rattle.zone_words.proofs.PassedFaults.{fault_passed}
+use Rattle.zone_words.specs.Fault.{AppendsStated}
+use Rattle.zone_words.specs.Machine.Parameters.{text_of}
+use Rattle.zone_words.specs.Machine.Stated.{keyless}
+use Rattle.zone_words.specs.Parameters.Value.{StatesValue}
+use Rattle.std.proofs.Common.{sym, ◌∙◌}
+use Rattle.zone_words.proofs.parameters.stated.add_parameter.Goals as goal
+
+pub returns-in_default-clause-fault : goal.returns-in_default-clause-fault
+returns-in_default-clause-fault c = rw c.into.ensures (λ before holds. keyless c.in_default.ensures.none)
+
+pub returns-then-contains_key-clause-fault : goal.returns-then-contains_key-clause-fault
+returns-then-contains_key-clause-fault c = rw c.into-then-contains_key.ensures (λ before holds. parameter_repeated (text_of c.args.text) c.in-Some.key c.number-number.result c.args.stated.now before c.in-Some.ensures.found c.number-number.ensures (sym c.contains_key.ensures ∙ c.if-contains_key.true) holds)
+
+pub returns-in_err-push_value-clause-fault : goal.returns-in_err-push_value-clause-fault
+returns-in_err-push_value-clause-fault c = fault_passed c.from_residual.result c.in_err-push_value.field-0.0 _ _ c.from_residual.ensures.1 (λ fault fails before holds. parameter_fails (text_of c.args.text) c.in-Some.key c.number-number.result c.args.stated.now before fault c.in-Some.ensures.found c.number-number.ensures (sym c.contains_key.ensures ∙ c.if-contains_key.false) fails holds) c.in_err-push_value.ensures.fault
+
+pub returns-in-Ok-clause-adds : goal.returns-in-Ok-clause-adds
+returns-in-Ok-clause-adds c = parameter_added (text_of c.args.text) c.in-Some.key c.number-number.result c.push_value.new.out c.args.stated.now (record { values = c.insert.new.self; required = c.push_value.new.required }) c.in-Some.ensures.found c.number-number.ensures (sym c.contains_key.ensures ∙ c.if-contains_key.false) (subst (λ t. AppendsStated (StatesValue c.in-Some.key c.args.text.value.now) t c.push_value.new.out.items) c.new-value.ensures.items c.in_ok-push_value.ensures.stated) c.in_ok-push_value.ensures.required c.in-Ok.ensures.entries

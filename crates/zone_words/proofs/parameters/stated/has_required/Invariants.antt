@@ -1,0 +1,11 @@
+use Rattle.std.proofs.Common.{◌≡◌, drop, true}
+use Rattle.std.specs.BTreeMap.{get}
+use Rattle.std.specs.List.{AllByRecursion}
+use Rattle.std.specs.Ordering.{nat_cmp}
+use Rattle.std.specs.Prelude.{is_some}
+use Rattle.zone_words.proofs.parameters.stated.has_required.Given as goal
+
+abbrev pub invariant-loop-number : goal.invariant-loop-number
+invariant-loop-number l =
+    (AllByRecursion (λ n. is_some (get nat_cmp l.stated.values n) ≡ true) (drop l.number-index l.stated.required.items) → AllByRecursion (λ n. is_some (get nat_cmp l.stated.values n) ≡ true) l.stated.required.items)
+    × (AllByRecursion (λ n. is_some (get nat_cmp l.stated.values n) ≡ true) l.stated.required.items → AllByRecursion (λ n. is_some (get nat_cmp l.stated.values n) ≡ true) (drop l.number-index l.stated.required.items))

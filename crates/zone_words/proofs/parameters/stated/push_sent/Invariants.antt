@@ -1,0 +1,13 @@
+use Rattle.std.proofs.Common.{◌≡◌, ◌++◌, map}
+use Rattle.std.specs.List.{AllByRecursion, flat_map}
+use Rattle.zone_words.proofs.OfParameters.Reading.{entry_sent}
+use Rattle.zone_words.specs.Machine.Stated.{all_sent}
+use Rattle.zone_words.specs.Parameters.{IsShort, sent_octets}
+use Rattle.zone_words.proofs.parameters.stated.push_sent.Given as goal
+
+abbrev pub invariant-loop-number : goal.invariant-loop-number
+invariant-loop-number l = record {
+  written : l.out.items ++ flat_map sent_octets (map entry_sent l.number-iterator) ≡ l.fn.out.items ++ flat_map sent_octets (all_sent l.values);
+  short : AllByRecursion IsShort (map entry_sent l.number-iterator) → AllByRecursion IsShort (all_sent l.values);
+  long : AllByRecursion IsShort (all_sent l.values) → AllByRecursion IsShort (map entry_sent l.number-iterator);
+}

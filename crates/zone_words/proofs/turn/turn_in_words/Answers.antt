@@ -1,0 +1,19 @@
+use Rattle.std.proofs.Common.{map}
+use Rattle.zone_words.proofs.Turns.{fails_there, stands_somewhere, stated_there}
+use Rattle.zone_words.specs.DataItem.{given}
+use Rattle.zone_words.specs.Refusal.{refused_of}
+use Rattle.zone_words.proofs.turn.turn_in_words.Goals as goal
+
+pub returns-in_default : goal.returns-in_default
+returns-in_default c words origin before tokens cut there =
+    absurd (stands_somewhere c.args.entry.now origin before c.args.line tokens c.args.found.now c.args.kept c.args.above.now cut there words.few c.in_default.ensures.none)
+
+pub returns-in-Ok : goal.returns-in-Ok
+returns-in-Ok c words origin before tokens cut there =
+    stated_there c.args.entry.now origin before c.args.line tokens c.args.found.now c.args.kept c.args.above.now c.in-Some.around (map given c.in_ok-items.items.items) c.read_data.new.octets.items cut there words c.in-Some.ensures.found c.in_ok-items.ensures
+    (rw (c.deref.ensures.value) at c.in-Ok.ensures.states)
+
+pub returns-in-Err-Fault : goal.returns-in-Err-Fault
+returns-in-Err-Fault c words origin before tokens cut there =
+    fails_there c.args.entry.now origin before c.args.line tokens c.args.found.now c.args.kept c.args.above.now c.in-Some.around (map given c.in_ok-items.items.items) c.in-Err-Fault.field.now c.in-Err-Fault.fault (refused_of c.refusal.result) cut there words c.in-Some.ensures.found c.in_ok-items.ensures
+    (rw (c.deref.ensures.value, c.in-Err-Fault.field-0-is) at c.in-Err-Fault.ensures.fault) (rw (c.in-Err-Fault.field-0-is) at c.refusal.ensures)

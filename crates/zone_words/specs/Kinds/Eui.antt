@@ -1,0 +1,21 @@
+-- Identifiers of hardware in text, EUI-48 and EUI-64 (RFC 7043 3.2, 4.2).
+use Rattle.std.specs.Prelude.{◌≡◌, ℕ, List, [], ◌∷◌, length, Ok}
+use Rattle.std.specs.List.{AllZip, join_with_byte}
+use Rattle.hex.specs.Hex.{decode_sized}
+use Rattle.zone_words.specs.Fault.{NothingStated}
+use Rattle.zone_words.specs.declared.fault.WordsFault.{WordsFault}
+use Rattle.zone_words.specs.declared.fault.WordsFault.TheVariants.{NotAnAddress}
+
+-- two hexadecimal digits in either letter case, and their octet
+abbrev pub IsPair : List ℕ → ℕ → Type 0
+IsPair text octet = decode_sized text 1 ≡ Ok (octet ∷ [])
+
+-- so many pairs parted by hyphens, and their octets
+pub record StatesEui (count : ℕ) (text octets : List ℕ) : Type 0 where
+  pub pairs : List (List ℕ)
+  pub each : AllZip IsPair pairs octets
+  pub parted : text ≡ join_with_byte 45 pairs
+  pub counted : length octets ≡ count
+
+abbrev pub FailsEui : ℕ → List ℕ → WordsFault → Type 0
+FailsEui count text fault = NothingStated NotAnAddress (StatesEui count text) fault

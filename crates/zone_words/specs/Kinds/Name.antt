@@ -1,0 +1,18 @@
+-- A domain name, with the letters of the file (RFC 1035 3.1, 5.1).
+use Rattle.std.specs.Prelude.{◌≡◌, ℕ, List, Some}
+use Rattle.zone_name.specs.Common.{Labels}
+use Rattle.zone_name.specs.Name.{wire}
+use Rattle.zone_name.specs.Spelling.{SpellingFault, SpellsCased}
+use Rattle.zone_name.specs.declared.fault.NameFault.{NameFault}
+use Rattle.zone_words.specs.declared.fault.WordsFault.{WordsFault}
+use Rattle.zone_words.specs.declared.fault.WordsFault.TheVariants.{NotAName}
+
+-- the text spells a name under the origin, and these are its uncompressed octets
+abbrev pub StatesName : Labels → List ℕ → List ℕ → Type 0
+StatesName origin text octets =
+    (labels : Labels) × SpellsCased (Some origin) text labels × (octets ≡ wire labels)
+
+-- the text spells none, and the fault is the first of the name
+abbrev pub FailsName : Labels → List ℕ → WordsFault → Type 0
+FailsName origin text fault =
+    (f : NameFault) × SpellingFault (Some origin) text f × (fault ≡ NotAName (Some f))

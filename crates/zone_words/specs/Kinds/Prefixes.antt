@@ -1,0 +1,73 @@
+-- Prefixes of addresses (RFC 3123 4, 5).
+use Rattle.std.specs.Prelude.{◌≡◌, ◌≢◌, ℕ, ◌+◌, ◌-◌, ◌*◌, ◌<◌, ◌≤◌, List, [], ◌∷◌, ◌++◌, length, replicate, slice_index, codes, Bool, true, false}
+use Rattle.std.specs.Int.{w16, to_be_bytes}
+use Rattle.zone_rdata.specs.Address.{IsIpv4Address, IsIpv6Address}
+use Rattle.zone_rdata.specs.Item.{RawItem, bare, quoted}
+use Rattle.zone_rdata.specs.Number.{IsDecimal}
+use Rattle.zone_words.specs.Fault.{NothingStated}
+use Rattle.zone_words.specs.declared.fault.WordsFault.{WordsFault}
+use Rattle.zone_words.specs.declared.fault.WordsFault.TheVariants.{NoPrefix}
+use Rattle.zone_words.specs.declared.kinds.prefixes.Address.{Address}
+use Rattle.zone_words.specs.declared.kinds.prefixes.Address.TheVariants.{Ipv4, Ipv6}
+use Rattle.zone_words.specs.declared.kinds.prefixes.Prefix.{Prefix}
+
+-- the number of an address's family
+abbrev pub family_of : Address → ℕ
+family_of (Ipv4 octets) = 1
+family_of (Ipv6 octets) = 2
+
+abbrev pub octets_of : Address → List ℕ
+octets_of (Ipv4 octets) = octets
+octets_of (Ipv6 octets) = octets
+
+abbrev pub IsAddressText : List ℕ → Address → Type 0
+IsAddressText text (Ipv4 octets) = IsIpv4Address text octets
+IsAddressText text (Ipv6 octets) = IsIpv6Address text octets
+
+-- what stands before a prefix that is left out of a greater one
+abbrev pub mark : Bool → List ℕ
+mark true = codes "!"
+mark false = []
+
+-- a text as `!1:192.168.38.0/28`: an address beyond its length has any bits
+pub record SpellsPrefix (text : List ℕ) (p : Prefix) : Type 0 where
+  pub family : List ℕ
+  pub address : List ℕ
+  pub len : List ℕ
+  pub parts : text ≡ (mark p.negated ++ (family ++ 58 ∷ address)) ++ 47 ∷ len
+  pub number : IsDecimal family (family_of p.address)
+  pub is : IsAddressText address p.address
+  pub bits : IsDecimal len p.bits
+  pub few : p.bits ≤ 8 * length (octets_of p.address)
+
+-- octets without the zeros that end them
+pub record IsTrimmed (octets part : List ℕ) : Type 0 where
+  pub zeros : ℕ
+  pub whole : octets ≡ part ++ replicate zeros 0
+  pub last : 0 < length part → slice_index part (length part - 1) ≢ 0
+
+-- the highest bit before the count of the address's octets
+abbrev pub sign : Bool → ℕ
+sign true = 128
+sign false = 0
+
+-- the family, the length of the prefix, the count of the address's octets, and these
+pub record IsPrefixOctets (p : Prefix) (octets : List ℕ) : Type 0 where
+  pub part : List ℕ
+  pub trimmed : IsTrimmed (octets_of p.address) part
+  pub value : octets ≡ to_be_bytes w16 (family_of p.address)
+      ++ (p.bits ∷ (sign p.negated + length part) ∷ part)
+
+abbrev pub StatesPrefix : RawItem → List ℕ → Type 0
+StatesPrefix (bare text) octets = (p : Prefix) × (SpellsPrefix text p × IsPrefixOctets p octets)
+StatesPrefix (quoted text) octets = ⊥
+
+-- any number of prefixes, one after another
+abbrev pub StatesPrefixes : List RawItem → List ℕ → Type 0
+StatesPrefixes [] octets = octets ≡ []
+StatesPrefixes (item ∷ items) octets =
+    (front back : List ℕ) × (StatesPrefix item front × (StatesPrefixes items back
+    × (octets ≡ front ++ back)))
+
+abbrev pub FailsPrefixes : List RawItem → WordsFault → Type 0
+FailsPrefixes items fault = NothingStated NoPrefix (StatesPrefixes items) fault

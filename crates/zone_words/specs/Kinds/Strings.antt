@@ -1,0 +1,52 @@
+-- Character-strings, each after its length (RFC 1035 3.3).
+use Rattle.std.specs.Prelude.{◌≡◌, ℕ, List, [], ◌∷◌}
+use Rattle.std.specs.List.{flat_map}
+use Rattle.zone_name.specs.Name.{with_length}
+use Rattle.zone_rdata.specs.declared.fault.Fault.{Fault}
+use Rattle.zone_rdata.specs.declared.fault.Fault.TheVariants as faults
+use Rattle.zone_rdata.specs.Fields.Strings.{FirstStringFault, SpellsStrings}
+use Rattle.zone_rdata.specs.Spelling.{RawItem}
+use Rattle.zone_rdata.specs.Strings.{SpellsString, StringFault}
+use Rattle.zone_words.specs.declared.fault.WordsFault.{WordsFault}
+use Rattle.zone_words.specs.declared.fault.WordsFault.TheVariants.{BadEscape, NothingLeft, StringTooLong}
+
+-- the fault of a string among those of words
+abbrev pub of_string : Fault → WordsFault
+of_string faults.BadEscape = BadEscape
+of_string fault = StringTooLong
+
+-- an item is one string
+pub record StatesString (item : RawItem) (octets : List ℕ) : Type 0 where
+  pub string : List ℕ
+  pub spelt : SpellsString item string
+  pub value : octets ≡ with_length string
+
+pub record FailsString (item : RawItem) (fault : WordsFault) : Type 0 where
+  pub own : Fault
+  pub first : StringFault item own
+  pub is : fault ≡ of_string own
+
+-- one item or more are strings, one after another
+pub record StatesStrings (items : List RawItem) (octets : List ℕ) : Type 0 where
+  pub strings : List (List ℕ)
+  pub spelt : SpellsStrings items strings
+  pub value : octets ≡ flat_map with_length strings
+
+-- the leftmost item that is no string
+pub record AnItemFails (items : List RawItem) (fault : WordsFault) : Type 0 where
+  pub own : Fault
+  pub first : FirstStringFault items own
+  pub is : fault ≡ of_string own
+
+abbrev pub FailsStrings : List RawItem → WordsFault → Type 0
+FailsStrings [] fault = fault ≡ NothingLeft
+FailsStrings items fault = AnItemFails items fault
+
+-- one item is a string, or none is there
+abbrev pub StatesPerhaps : List RawItem → List ℕ → Type 0
+StatesPerhaps [] octets = octets ≡ []
+StatesPerhaps (item ∷ items) octets = StatesString item octets
+
+abbrev pub FailsPerhaps : List RawItem → WordsFault → Type 0
+FailsPerhaps [] fault = ⊥
+FailsPerhaps (item ∷ items) fault = FailsString item fault

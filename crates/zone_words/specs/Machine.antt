@@ -1,0 +1,17 @@
+-- What only private functions and proofs cite.
+pub mod Windows
+pub mod Walking
+pub mod Numbers
+pub mod Strings
+pub mod TypeBits
+pub mod Fields
+pub mod EntryWriting
+pub mod FedWriting
+pub mod Further
+pub mod Turn
+pub mod Pairs
+pub mod Parameters
+pub mod Stated
+pub mod Cuts
+pub mod Prefixes
+pub mod Locations

@@ -1,0 +1,77 @@
+-- How the code takes parameters apart.
+use Rattle.std.specs.Prelude.{◌≡◌, ◌≢◌, ℕ, ◌<◌, false, List, [], ◌∷◌, ◌++◌, length, decimal, ⊤, Option, Some, None, option_map}
+use Rattle.std.specs.Borrow.{Bor}
+use Rattle.std.specs.List.{AllByRecursion, onto_first}
+use Rattle.zone_name.specs.Common.{NothingIs}
+use Rattle.zone_rdata.specs.Address.{IsIpv4Address, IsIpv6Address}
+use Rattle.zone_words.specs.Parameters.Keys.{key_text}
+use Rattle.zone_words.specs.Parameters.Text as texts
+use Rattle.zone_words.specs.Parameters.Value.{IsProtocol, items_of, Unescaped}
+use Rattle.zone_words.specs.declared.fault.WordsFault.{WordsFault}
+use Rattle.zone_words.specs.declared.fault.WordsFault.TheVariants as faults
+use Rattle.zone_words.specs.declared.parameters.addresses.Version.{Version}
+use Rattle.zone_words.specs.declared.parameters.addresses.Version.TheVariants.{V4, V6}
+use Rattle.zone_words.specs.declared.parameters.protocols.NextListed.{NextListed}
+use Rattle.zone_words.specs.declared.parameters.protocols.NextListed.TheVariants.{End, Comma, Octet, BadEscape}
+use Rattle.zone_words.specs.declared.parameters.key.Key.{Key}
+use Rattle.zone_words.specs.declared.parameters.key.Key.TheVariants.{Numbered}
+use Rattle.zone_words.specs.declared.parameters.text.ParameterText.{ParameterText}
+
+-- the decimal number of a key, without leading zeros
+abbrev pub IsKeyNumber : List ℕ → ℕ → Type 0
+IsKeyNumber digits number = (digits ≡ decimal number) × (number < 65535)
+
+-- a key that has a name
+abbrev pub HasName : Key → Type 0
+HasName (Numbered number) = ⊥
+HasName key = ⊤
+
+-- the text is the name of the key
+abbrev pub IsNamed : List ℕ → Key → Type 0
+IsNamed text key = (text ≡ key_text key) × HasName key
+
+-- the octet isn't in the text
+abbrev pub Lacks : ℕ → List ℕ → Type 0
+Lacks c text = AllByRecursion (λ d. d ≢ c) text
+
+-- the text is cut at the first of an octet
+pub record IsCutAt (c : ℕ) (text front back : List ℕ) : Type 0 where
+  pub parted : text ≡ front ++ c ∷ back
+  pub lacks : Lacks c front
+
+-- a key and its value without where they lie in memory
+abbrev pub text_of : ParameterText → texts.ParameterText
+text_of text = record { key = text.key.now; value = text.value.now }
+
+-- the octets of an address of a version
+abbrev pub IsAddressOf : Version → List ℕ → List ℕ → Type 0
+IsAddressOf V4 = IsIpv4Address
+IsAddressOf V6 = IsIpv6Address
+
+-- what a list begins with
+abbrev pub IsNextListed : List ℕ → NextListed → Type 0
+IsNextListed text End = text ≡ []
+IsNextListed text (Comma rest) = text ≡ 44 ∷ rest.now
+IsNextListed text (Octet c rest) =
+    (items_of false text ≡ option_map (onto_first c) (items_of false rest.now))
+    × (length rest.now < length text)
+IsNextListed text BadEscape = items_of false text ≡ None
+
+-- the first item of a list, and what stands after its comma
+abbrev pub IsFirstItem : List ℕ → List ℕ → Option (Bor (List ℕ)) → Type 0
+IsFirstItem text item None = IsProtocol item × (items_of false text ≡ Some (item ∷ []))
+IsFirstItem text item (Some rest) =
+    IsProtocol item × (length rest.now < length text)
+    × (items_of false text ≡ option_map (λ items. item ∷ items) (items_of false rest.now))
+
+-- a list whose items aren't all protocols
+abbrev pub HasNoItems : List ℕ → Type 0
+HasNoItems text = (items : List (List ℕ)) → items_of false text ≡ Some items
+    → AllByRecursion IsProtocol items → ⊥
+
+-- why a text whose escapes are undone states no octets
+pub data FailsEscaped (Stated : List ℕ → List ℕ → Type 0)
+    (text : List ℕ) : WordsFault → Type 0 where
+  wrong : NothingIs (Unescaped text) → FailsEscaped Stated text faults.BadEscape
+  nothing : (spelt : List ℕ) → Unescaped text spelt → NothingIs (Stated text)
+      → FailsEscaped Stated text faults.NotAValue

@@ -1,0 +1,10 @@
+-- A window that is written after others, where it has a type.
+use Rattle.std.specs.Prelude.{◌≡◌, ℕ, ◌↔◌, List, ◌++◌}
+use Rattle.zone_words.specs.Kinds.Bitmap.{HasBit, IsWindow, Window, window_octets}
+
+-- nothing, where no bit is set, or the window of these bits
+pub data AppendsWindow (number : ℕ) (bits old new : List ℕ) : Type 0 where
+  nothing : ((n : ℕ) → HasBit bits n → ⊥) → new ≡ old → AppendsWindow number bits old new
+  window : (w : Window) → IsWindow w → w.number ≡ number
+      → ((n : ℕ) → HasBit w.bits n ↔ HasBit bits n) → new ≡ old ++ window_octets w
+      → AppendsWindow number bits old new

@@ -1,0 +1,153 @@
+-- The further types, a row each, their numbers ascending, with the section of the RFC that gives the
+-- words of each.
+use Rattle.std.specs.Prelude.{◌≡◌, ℕ, List, [], ◌∷◌, ◌==◌, Bool, true, false, codes, map, Option, Some}
+use Rattle.std.specs.List.{find}
+use Rattle.zone_rdata.specs.Table.{Named}
+use Rattle.zone_rdata.specs.Words.{IsWordAmong}
+use Rattle.zone_words.specs.declared.field.BareKind.TheVariants.{Algorithm, CertificateType, Eui48, Eui64, Hash, Ipv4, Name, NodeId, RecordType, Salt, Tag, Time, U16, U32, U8}
+use Rattle.zone_words.specs.declared.field.Field.{Field}
+use Rattle.zone_words.specs.declared.field.FieldKind.{FieldKind}
+use Rattle.zone_words.specs.declared.field.FieldKind.TheVariants.{Bare, Base64, Hex, OneString, Parameters, PerhapsOneString, PerhapsTypes, Prefixes, QuotedValue, Strings, Types, Value}
+use Rattle.zone_words.specs.declared.table.FurtherType as code
+
+-- a field by its name in the RFC, in lower case, and what its items state
+pub record NamedField : Type 0 where
+  pub name : List ℕ
+  pub kind : FieldKind
+
+-- a type: its number, its mnemonic, whether it is one of class IN alone, and the fields of its data
+pub record FurtherType : Type 0 where
+  pub number : ℕ
+  pub mnemonic : List ℕ
+  pub in_internet_alone : Bool
+  pub fields : List NamedField
+
+abbrev pub field : List ℕ → FieldKind → NamedField
+field name kind = record { name = name; kind = kind }
+
+abbrev pub in_every : ℕ → List ℕ → List NamedField → FurtherType
+in_every number mnemonic fields =
+    record { number = number; mnemonic = mnemonic; in_internet_alone = false; fields = fields }
+
+abbrev pub in_internet : ℕ → List ℕ → List NamedField → FurtherType
+in_internet number mnemonic fields =
+    record { number = number; mnemonic = mnemonic; in_internet_alone = true; fields = fields }
+
+abbrev pub further_types : List FurtherType
+further_types =
+    in_every 13 (codes "HINFO")  -- RFC 1035 3.3.2
+    (field (codes "cpu") OneString ∷ field (codes "os") OneString ∷ [])
+    ∷ in_every 17 (codes "RP")  -- RFC 1183 2.2
+    (field (codes "mailbox") (Bare Name) ∷ field (codes "text") (Bare Name) ∷ [])
+    ∷ in_every 18 (codes "AFSDB")  -- RFC 1183 1
+    (field (codes "subtype") (Bare U16) ∷ field (codes "host") (Bare Name) ∷ [])
+    ∷ in_every 19 (codes "X25") (field (codes "psdn-address") OneString ∷ [])  -- RFC 1183 3.1
+    ∷ in_every 20 (codes "ISDN")  -- RFC 1183 3.2
+    (field (codes "isdn-address") OneString ∷ field (codes "sa") PerhapsOneString ∷ [])
+    ∷ in_every 21 (codes "RT")  -- RFC 1183 3.3
+    (field (codes "preference") (Bare U16) ∷ field (codes "host") (Bare Name) ∷ [])
+    ∷ in_internet 36 (codes "KX")  -- RFC 2230 3.1
+    (field (codes "preference") (Bare U16) ∷ field (codes "exchanger") (Bare Name) ∷ [])
+    ∷ in_every 37 (codes "CERT")  -- RFC 4398 2.2
+    (field (codes "type") (Bare CertificateType) ∷ field (codes "key tag") (Bare U16)
+    ∷ field (codes "algorithm") (Bare Algorithm) ∷ field (codes "certificate") Base64 ∷ [])
+    ∷ in_every 39 (codes "DNAME") (field (codes "target") (Bare Name) ∷ [])  -- RFC 6672 2.1
+    ∷ in_internet 42 (codes "APL") (field (codes "data") Prefixes ∷ [])  -- RFC 3123 4, 5
+    ∷ in_every 43 (codes "DS")  -- RFC 4034 5.3
+    (field (codes "key tag") (Bare U16) ∷ field (codes "algorithm") (Bare Algorithm)
+    ∷ field (codes "digest type") (Bare U8) ∷ field (codes "digest") Hex ∷ [])
+    ∷ in_every 44 (codes "SSHFP")  -- RFC 4255 3.2
+    (field (codes "algorithm") (Bare U8) ∷ field (codes "type") (Bare U8)
+    ∷ field (codes "fingerprint") Hex ∷ [])
+    ∷ in_every 46 (codes "RRSIG")  -- RFC 4034 3.2
+    (field (codes "type covered") (Bare RecordType) ∷ field (codes "algorithm") (Bare Algorithm)
+    ∷ field (codes "labels") (Bare U8) ∷ field (codes "original ttl") (Bare U32)
+    ∷ field (codes "expiration") (Bare Time) ∷ field (codes "inception") (Bare Time)
+    ∷ field (codes "key tag") (Bare U16) ∷ field (codes "signer") (Bare Name)
+    ∷ field (codes "signature") Base64 ∷ [])
+    ∷ in_every 47 (codes "NSEC")  -- RFC 4034 4.2
+    (field (codes "next") (Bare Name) ∷ field (codes "types") Types ∷ [])
+    ∷ in_every 48 (codes "DNSKEY")  -- RFC 4034 2.2
+    (field (codes "flags") (Bare U16) ∷ field (codes "protocol") (Bare U8)
+    ∷ field (codes "algorithm") (Bare Algorithm) ∷ field (codes "public key") Base64 ∷ [])
+    ∷ in_internet 49 (codes "DHCID") (field (codes "data") Base64 ∷ [])  -- RFC 4701 3.2
+    ∷ in_every 50 (codes "NSEC3")  -- RFC 5155 3.3
+    (field (codes "hash algorithm") (Bare U8) ∷ field (codes "flags") (Bare U8)
+    ∷ field (codes "iterations") (Bare U16) ∷ field (codes "salt") (Bare Salt)
+    ∷ field (codes "next") (Bare Hash) ∷ field (codes "types") PerhapsTypes ∷ [])
+    ∷ in_every 51 (codes "NSEC3PARAM")  -- RFC 5155 4.3
+    (field (codes "hash algorithm") (Bare U8) ∷ field (codes "flags") (Bare U8)
+    ∷ field (codes "iterations") (Bare U16) ∷ field (codes "salt") (Bare Salt) ∷ [])
+    ∷ in_every 52 (codes "TLSA")  -- RFC 6698 2.2
+    (field (codes "usage") (Bare U8) ∷ field (codes "selector") (Bare U8)
+    ∷ field (codes "matching type") (Bare U8) ∷ field (codes "data") Hex ∷ [])
+    ∷ in_every 53 (codes "SMIMEA")  -- RFC 8162 2
+    (field (codes "usage") (Bare U8) ∷ field (codes "selector") (Bare U8)
+    ∷ field (codes "matching type") (Bare U8) ∷ field (codes "data") Hex ∷ [])
+    ∷ in_every 59 (codes "CDS")  -- RFC 7344 3.1
+    (field (codes "key tag") (Bare U16) ∷ field (codes "algorithm") (Bare Algorithm)
+    ∷ field (codes "digest type") (Bare U8) ∷ field (codes "digest") Hex ∷ [])
+    ∷ in_every 60 (codes "CDNSKEY")  -- RFC 7344 3.2
+    (field (codes "flags") (Bare U16) ∷ field (codes "protocol") (Bare U8)
+    ∷ field (codes "algorithm") (Bare Algorithm) ∷ field (codes "public key") Base64 ∷ [])
+    ∷ in_every 61 (codes "OPENPGPKEY") (field (codes "key") Base64 ∷ [])  -- RFC 7929 2.3
+    ∷ in_every 62 (codes "CSYNC")  -- RFC 7477 2.1.2
+    (field (codes "serial") (Bare U32) ∷ field (codes "flags") (Bare U16)
+    ∷ field (codes "types") PerhapsTypes ∷ [])
+    ∷ in_every 63 (codes "ZONEMD")  -- RFC 8976 2.3
+    (field (codes "serial") (Bare U32) ∷ field (codes "scheme") (Bare U8)
+    ∷ field (codes "hash algorithm") (Bare U8) ∷ field (codes "digest") Hex ∷ [])
+    ∷ in_internet 64 (codes "SVCB")  -- RFC 9460 2.1
+    (field (codes "priority") (Bare U16) ∷ field (codes "target") (Bare Name)
+    ∷ field (codes "parameters") Parameters ∷ [])
+    ∷ in_internet 65 (codes "HTTPS")  -- RFC 9460 9
+    (field (codes "priority") (Bare U16) ∷ field (codes "target") (Bare Name)
+    ∷ field (codes "parameters") Parameters ∷ [])
+    ∷ in_every 99 (codes "SPF") (field (codes "data") Strings ∷ [])  -- RFC 4408 3.1.1
+    ∷ in_every 104 (codes "NID")  -- RFC 6742 2.1
+    (field (codes "preference") (Bare U16) ∷ field (codes "nodeid") (Bare NodeId) ∷ [])
+    ∷ in_every 105 (codes "L32")  -- RFC 6742 2.2
+    (field (codes "preference") (Bare U16) ∷ field (codes "locator32") (Bare Ipv4) ∷ [])
+    ∷ in_every 106 (codes "L64")  -- RFC 6742 2.3
+    (field (codes "preference") (Bare U16) ∷ field (codes "locator64") (Bare NodeId) ∷ [])
+    ∷ in_every 107 (codes "LP")  -- RFC 6742 2.4
+    (field (codes "preference") (Bare U16) ∷ field (codes "fqdn") (Bare Name) ∷ [])
+    ∷ in_every 108 (codes "EUI48") (field (codes "address") (Bare Eui48) ∷ [])  -- RFC 7043 3.2
+    ∷ in_every 109 (codes "EUI64") (field (codes "address") (Bare Eui64) ∷ [])  -- RFC 7043 4.2
+    ∷ in_every 256 (codes "URI")  -- RFC 7553 4.4
+    (field (codes "priority") (Bare U16) ∷ field (codes "weight") (Bare U16)
+    ∷ field (codes "target") QuotedValue ∷ [])
+    ∷ in_every 257 (codes "CAA")  -- RFC 8659 4.1.1
+    (field (codes "flags") (Bare U8) ∷ field (codes "tag") (Bare Tag)
+    ∷ field (codes "value") Value ∷ [])
+    ∷ []
+
+-- the rows of the code are these
+abbrev pub field_of : Field → NamedField
+field_of f = field f.0.now f.1
+
+abbrev pub further_of : code.FurtherType → FurtherType
+further_of row =
+    record {
+      number = row.number;
+      mnemonic = row.mnemonic.now;
+      in_internet_alone = row.in_internet_alone;
+      fields = map field_of row.fields.now;
+    }
+
+abbrev pub name_of : code.FurtherType → Named
+name_of row = record { number = row.number; mnemonic = row.mnemonic.now }
+
+-- their numbers and mnemonics
+abbrev pub further_names : List Named
+further_names =
+    map (λ (f : FurtherType). record { number = f.number; mnemonic = f.mnemonic }) further_types
+
+-- the further type of a number
+abbrev pub further_type : ℕ → Option FurtherType
+further_type n = find (λ (f : FurtherType). n == f.number) further_types
+
+-- the word of a further type: its mnemonic in any letter case, or `TYPE` and its number
+pub record IsFurtherWord (word : List ℕ) (further : FurtherType) : Type 0 where
+  pub named : IsWordAmong further_names (codes "TYPE") word further.number
+  pub row : further_type further.number ≡ Some further

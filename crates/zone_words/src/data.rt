@@ -1,0 +1,161 @@
+//! Data in words: its fields, one after another.
+ghost use Rattle.std.specs.Prelude.{◌≡◌, ◌≤◌, [], drop, length, map, IfOk, IfErr, IfSome, IfNone, OnOk, OnErr};
+ghost use Rattle.zone_words.specs.Data.{AFieldFails, DataFails, IfDataFault, StatesData, last_name};
+ghost use Rattle.zone_words.specs.DataItem.{given};
+ghost use Rattle.zone_words.specs.Fault.{AppendsStated};
+ghost use Rattle.zone_words.specs.Field.{StatesField};
+ghost use Rattle.zone_words.specs.Machine.Fields.{AppendsParts, IsFieldFault, IsWhole, WholeFails};
+ghost use Rattle.zone_words.specs.Table.{field_of};
+
+use crate::data_item::DataItem;
+use crate::fault::{WordsFailing, WordsFault};
+use crate::field::Field;
+use zone_name::CasedName;
+
+/// Why items state no data.
+#[derive(Debug, Drop)]
+pub(crate) enum DataFailing {
+    /// What is wrong, and the field by its name in the RFC, in lower case.
+    Fault {
+        field: &'static str,
+        fault: WordsFault,
+    },
+    /// Memory was refused.
+    OutOfMemory,
+}
+
+/// The most octets of data (RFC 1035 3.2.1).
+const MOST: usize = 65_535;
+
+/// Puts the octets that items state under an origin, field after field, in place of what `octets`
+/// held. On any error `octets` is left empty.
+///
+/// # Errors
+///
+/// The first of: what is wrong with the leftmost field that states nothing; `ItemsLeftOver`; and
+/// `TooLong`, of which the last two are told of the last field. Or want of memory, as soon as it is
+/// met.
+pub(crate) fn read_data(
+    fields: &[Field],
+    items: &[DataItem],
+    origin: &CasedName,
+    octets: &mut Vec<u8>,
+) -> Result<(), DataFailing>
+    ensures states { OnOk result
+        (StatesData origin.now (map field_of fields.now) (map given items.now)
+        octets.new.items) }
+    ensures fault { IfErr result
+        (IfDataFault (DataFails origin.now (map field_of fields.now) (map given items.now))) }
+    ensures emptied { OnErr result (octets.new.items ≡ []) }
+{
+    let read = read_whole(fields, items, origin, octets);
+    if read.is_err() {
+        octets.clear();
+    }
+    read
+}
+
+/// As `read_data`, but `octets` holds anything where there is an error.
+fn read_whole(
+    fields: &[Field],
+    items: &[DataItem],
+    origin: &CasedName,
+    octets: &mut Vec<u8>,
+) -> Result<(), DataFailing>
+    ensures states { OnOk result
+        (StatesData origin.now (map field_of fields.now) (map given items.now)
+        octets.new.items) }
+    ensures fault { IfErr result
+        (IfDataFault (DataFails origin.now (map field_of fields.now) (map given items.now))) }
+{
+    octets.clear();
+    let count = push_fields(fields, items, origin, octets)?;
+    match fault_of_whole(items.len() - count, octets.len()) {
+        Some(fault) => Err(DataFailing::Fault {
+            field: last_name(fields),
+            fault,
+        }),
+        None => Ok(()),
+    }
+}
+
+/// Appends the octets that items state, field after field, and gives how many items these are.
+///
+/// # Errors
+///
+/// What is wrong with the leftmost field that states nothing, and want of memory.
+fn push_fields(
+    fields: &[Field],
+    items: &[DataItem],
+    origin: &CasedName,
+    out: &mut Vec<u8>,
+) -> Result<usize, DataFailing>
+    ensures states { IfOk result (λ count.
+        AppendsParts origin.now (map field_of fields.now) (map given items.now)
+        (map given (drop count items.now)) out.old.items out.new.items) }
+    ensures inside { IfOk result (λ count. count ≤ length items.now) }
+    ensures fault { IfErr result
+        (IfDataFault (AFieldFails origin.now (map field_of fields.now) (map given items.now))) }
+{
+    let mut place: usize = 0;
+    for field in fields {
+        let next = place + field.1.count_of(items.len() - place);
+        push_field(field, &items[place..next], origin, out)?;
+        place = next;
+    }
+    Ok(place)
+}
+
+/// Appends the octets that a field's own items state.
+///
+/// # Errors
+///
+/// What is wrong with the field, and want of memory.
+fn push_field(
+    field: &Field,
+    own: &[DataItem],
+    origin: &CasedName,
+    out: &mut Vec<u8>,
+) -> Result<(), DataFailing>
+    ensures states { OnOk result
+        (AppendsStated (StatesField origin.now (field_of field.now).kind (map given own.now))
+        out.old.items out.new.items) }
+    ensures fault { IfErr result
+        (IfDataFault (IsFieldFault origin.now (field_of field.now) (map given own.now))) }
+{
+    match field.1.push(own, origin, out) {
+        Ok(()) => Ok(()),
+        Err(WordsFailing::Fault(fault)) => Err(DataFailing::Fault {
+            field: field.0,
+            fault,
+        }),
+        Err(WordsFailing::OutOfMemory) => Err(DataFailing::OutOfMemory),
+    }
+}
+
+/// What is wrong after the last field, where so many items are left and there are so many octets.
+fn fault_of_whole(left: usize, len: usize) -> Option<WordsFault>
+    ensures some { IfSome result (WholeFails left len) }
+    ensures none { IfNone result (IsWhole left len) }
+{
+    if left > 0 {
+        return Some(WordsFault::ItemsLeftOver);
+    }
+    if len > MOST {
+        return Some(WordsFault::TooLong);
+    }
+    None
+}
+
+/// The name of the last field.
+fn last_name(fields: &[Field]) -> &'static str
+    ensures { result.now ≡ last_name (map field_of fields.now) }
+{
+    match fields.last() {
+        Some(field) => field.0,
+        None => "data",
+    }
+}
+
+#[cfg(test)]
+mod tests;

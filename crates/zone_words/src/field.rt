@@ -1,0 +1,222 @@
+//! The fields of a type's data: what they are called, and what their items state.
+ghost use Rattle.std.specs.Prelude.{◌≡◌, map, IfErr, OnOk};
+ghost use Rattle.zone_words.specs.DataItem.{given, raw_item};
+ghost use Rattle.zone_words.specs.Fault.{AppendsStated, IfFault};
+ghost use Rattle.zone_words.specs.Field.{FailsBare, FailsField, FailsText, StatesBare, StatesField, StatesText, own_count, quoted_fault, takes_one};
+ghost use Rattle.zone_words.specs.FirstItem.{FirstFails, FirstStates};
+
+use crate::data_item::DataItem;
+use crate::fault::{WordsFailing, WordsFault};
+use crate::kinds::{
+    push_algorithm, push_base64, push_certificate_type, push_eui48, push_eui64,
+    push_first_quoted_value, push_first_string, push_first_value, push_hash, push_hex, push_ipv4,
+    push_name, push_node_id, push_perhaps_string, push_perhaps_types, push_prefixes, push_salt,
+    push_strings, push_tag, push_time, push_type, push_types, push_u8, push_u16, push_u32,
+};
+use crate::parameters::push_parameters;
+use zone_name::CasedName;
+use zone_rdata::Item;
+
+/// What the text of one bare item states.
+#[derive(Clone, Copy, Debug, PartialEq, Eq)]
+pub(crate) enum BareKind {
+    /// A number of 8 bits in decimal digits.
+    U8,
+    /// A number of 16 bits in decimal digits.
+    U16,
+    /// A number of 32 bits in decimal digits.
+    U32,
+    /// An algorithm of DNSSEC, in digits or by its mnemonic (RFC 4034 A.1).
+    Algorithm,
+    /// The type of a certificate, in digits or by its mnemonic (RFC 4398 2.1).
+    CertificateType,
+    /// A type by its word (RFC 4034 3.1.1).
+    RecordType,
+    /// A time in seconds, or a date and a time of day (RFC 4034 3.2).
+    Time,
+    /// A domain name (RFC 1035 5.1).
+    Name,
+    /// Hexadecimal digits, after the number of their octets, or `-` (RFC 5155 3.3).
+    Salt,
+    /// Base32hex, after the number of its octets (RFC 5155 3.3).
+    Hash,
+    /// Letters and digits, after their number (RFC 8659 4.1).
+    Tag,
+    /// An address of four octets (RFC 1035 3.4.1).
+    Ipv4,
+    /// Four groups of hexadecimal digits (RFC 6742 2.1.2).
+    NodeId,
+    /// Six pairs of hexadecimal digits (RFC 7043 3.2).
+    Eui48,
+    /// Eight pairs of hexadecimal digits (RFC 7043 4.2).
+    Eui64,
+}
+
+/// What the items of a field state.
+#[derive(Clone, Copy, Debug, PartialEq, Eq)]
+pub(crate) enum FieldKind {
+    /// One bare item.
+    Bare(BareKind),
+    /// A character-string, bare or quoted (RFC 1035 3.3).
+    OneString,
+    /// A character-string that may be left out.
+    PerhapsOneString,
+    /// The octets of one item, bare or quoted, without their number (RFC 8659 4.1).
+    Value,
+    /// The octets of one quoted item, without their number (RFC 7553 4.4).
+    QuotedValue,
+    /// One character-string or more, up to the end.
+    Strings,
+    /// Hexadecimal digits, up to the end.
+    Hex,
+    /// Base64, up to the end (RFC 4648 4).
+    Base64,
+    /// One type or more by their words, up to the end (RFC 4034 4.1.2).
+    Types,
+    /// Types by their words, or none, up to the end (RFC 5155 3.2.1).
+    PerhapsTypes,
+    /// Prefixes of addresses, up to the end, or none (RFC 3123 5).
+    Prefixes,
+    /// The parameters of a service, up to the end (RFC 9460 2.1).
+    Parameters,
+}
+
+/// A field: its name in the RFC of its type, in lower case, and what its items state.
+#[derive(Clone, Copy, Debug)]
+pub(crate) struct Field(pub(crate) &'static str, pub(crate) FieldKind);
+
+impl BareKind {
+    /// What is wrong with a quoted item.
+    fn quoted_fault(self) -> WordsFault
+        ensures { result ≡ quoted_fault self }
+    {
+        match self {
+            BareKind::U8
+            | BareKind::U16
+            | BareKind::U32
+            | BareKind::Algorithm
+            | BareKind::CertificateType => WordsFault::NotANumber,
+            BareKind::RecordType => WordsFault::NotAType,
+            BareKind::Time => WordsFault::NotATime,
+            BareKind::Name => WordsFault::NotAName(None),
+            BareKind::Salt => WordsFault::NoHexadecimal,
+            BareKind::Hash => WordsFault::NoBase32Hex,
+            BareKind::Tag => WordsFault::NotATag,
+            BareKind::Ipv4 | BareKind::NodeId | BareKind::Eui48 | BareKind::Eui64 => {
+                WordsFault::NotAnAddress
+            }
+        }
+    }
+
+    /// Appends the octets that a bare item's text states.
+    ///
+    /// # Errors
+    ///
+    /// What is wrong with the text, and want of memory. `out` may have got some octets.
+    fn push(self, text: &[u8], origin: &CasedName, out: &mut Vec<u8>) -> Result<(), WordsFailing>
+        ensures states { OnOk result
+            (AppendsStated (StatesText origin.now self text.now) out.old.items out.new.items) }
+        ensures fault { IfErr result (IfFault (FailsText origin.now self text.now)) }
+    {
+        match self {
+            BareKind::U8 => push_u8(text, out),
+            BareKind::U16 => push_u16(text, out),
+            BareKind::U32 => push_u32(text, out),
+            BareKind::Algorithm => push_algorithm(text, out),
+            BareKind::CertificateType => push_certificate_type(text, out),
+            BareKind::RecordType => push_type(text, out),
+            BareKind::Time => push_time(text, out),
+            BareKind::Name => push_name(text, origin, out),
+            BareKind::Salt => push_salt(text, out),
+            BareKind::Hash => push_hash(text, out),
+            BareKind::Tag => push_tag(text, out),
+            BareKind::Ipv4 => push_ipv4(text, out),
+            BareKind::NodeId => push_node_id(text, out),
+            BareKind::Eui48 => push_eui48(text, out),
+            BareKind::Eui64 => push_eui64(text, out),
+        }
+    }
+
+    /// Appends the octets that the first item states, which has to be bare.
+    ///
+    /// # Errors
+    ///
+    /// `NothingLeft` where there is no item, what is wrong with it, and want of memory. `out` may
+    /// have got some octets.
+    fn push_first(
+        self,
+        items: &[DataItem],
+        origin: &CasedName,
+        out: &mut Vec<u8>,
+    ) -> Result<(), WordsFailing>
+        ensures states { OnOk result
+            (AppendsStated (FirstStates (StatesBare origin.now self) (map raw_item items.now))
+            out.old.items out.new.items) }
+        ensures fault { IfErr result
+            (IfFault (FirstFails (FailsBare origin.now self) (map raw_item items.now))) }
+    {
+        match items.first() {
+            Some(first) => match first.item {
+                Item::Bare(text) => self.push(text, origin, out),
+                Item::Quoted(_) => Err(WordsFailing::Fault(self.quoted_fault())),
+            },
+            None => Err(WordsFailing::Fault(WordsFault::NothingLeft)),
+        }
+    }
+}
+
+impl FieldKind {
+    /// Whether the field has one item at most, and not all that are left.
+    fn takes_one(self) -> bool
+        ensures { result ≡ takes_one self }
+    {
+        matches!(
+            self,
+            FieldKind::Bare(_)
+                | FieldKind::OneString
+                | FieldKind::PerhapsOneString
+                | FieldKind::Value
+                | FieldKind::QuotedValue
+        )
+    }
+
+    /// How many items are the field's own, where so many are left.
+    pub(crate) fn count_of(self, left: usize) -> usize
+        ensures { result ≡ own_count self left }
+    {
+        if self.takes_one() { left.min(1) } else { left }
+    }
+
+    /// Appends the octets that the field's own items state.
+    ///
+    /// # Errors
+    ///
+    /// What is wrong with the items, and want of memory. `out` may have got some octets.
+    pub(crate) fn push(
+        self,
+        items: &[DataItem],
+        origin: &CasedName,
+        out: &mut Vec<u8>,
+    ) -> Result<(), WordsFailing>
+        ensures states { OnOk result
+            (AppendsStated (StatesField origin.now self (map given items.now)) out.old.items
+            out.new.items) }
+        ensures fault { IfErr result
+            (IfFault (FailsField origin.now self (map given items.now))) }
+    {
+        match self {
+            FieldKind::Bare(kind) => kind.push_first(items, origin, out),
+            FieldKind::OneString => push_first_string(items, out),
+            FieldKind::PerhapsOneString => push_perhaps_string(items, out),
+            FieldKind::Value => push_first_value(items, out),
+            FieldKind::QuotedValue => push_first_quoted_value(items, out),
+            FieldKind::Strings => push_strings(items, out),
+            FieldKind::Hex => push_hex(items, out),
+            FieldKind::Base64 => push_base64(items, out),
+            FieldKind::Types => push_types(items, out),
+            FieldKind::PerhapsTypes => push_perhaps_types(items, out),
+            FieldKind::Prefixes => push_prefixes(items, out),
+            FieldKind::Parameters => push_parameters(items, out),
+        }
+    }
+}

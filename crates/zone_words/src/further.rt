@@ -1,0 +1,119 @@
+//! The records of further types among the entries of a master file (RFC 1035 5.1).
+ghost use Rattle.std.specs.Prelude.{◌≡◌, ◌↔◌, IsTrue, IfSome, IfNone, Some, [], map};
+ghost use Rattle.zone_name.specs.Name.{folded_label};
+ghost use Rattle.zone_rdata.specs.Item.{raw};
+ghost use Rattle.zone_text.specs.Stated.{statement_in};
+ghost use Rattle.zone_text.specs.Statements.{Parts, parts_after, parts_in};
+ghost use Rattle.zone_words.specs.Entry.{AreOnOneLine, line_feeds_in};
+ghost use Rattle.zone_words.specs.Machine.Further.{FindsParts, NoneIsFurther};
+ghost use Rattle.zone_words.specs.Refusal.{refused_of};
+
+use crate::fault::WordsFault;
+use crate::refusal::Refusal;
+use crate::table::{FurtherType, further_type_of};
+use zone_rdata::{Item, is_word};
+use zone_text::{Statement, line_feeds, record_parts, split_bare};
+
+/// A record of a further type: its row of the table, the type's word and the items of the data.
+#[derive(Clone, Copy)]
+pub(crate) struct FurtherRecord<'i, 't> {
+    pub(crate) further: &'static FurtherType,
+    pub(crate) word: &'t [u8],
+    pub(crate) items: &'i [Item<'t>],
+}
+
+/// The record of a further type that the items after an owner are, where the class that holds is IN
+/// or isn't. `None`: they are none.
+fn record_of<'i, 't>(items: &'i [Item<'t>], is_internet: bool) -> Option<FurtherRecord<'i, 't>>
+    ensures found { IfSome result
+        (FindsParts (parts_after [] (map raw items.now)) is_internet) }
+    ensures none { IfNone result
+        (NoneIsFurther (parts_after [] (map raw items.now)) is_internet) }
+{
+    let parts = record_parts(items);
+    if !parts.have_values() {
+        return None;
+    }
+    let Some((word, after)) = split_bare(parts.rest) else {
+        return None;
+    };
+    let Some(further) = further_type_of(word) else {
+        return None;
+    };
+    if further.in_internet_alone && !is_internet {
+        return None;
+    }
+    Some(FurtherRecord {
+        further,
+        word,
+        items: after,
+    })
+}
+
+/// The record of a further type that a statement is, where the class that holds is IN or isn't.
+/// `None`: it is none.
+pub(crate) fn further_record<'i, 't>(
+    statement: Statement<'i, 't>,
+    is_internet: bool,
+) -> Option<FurtherRecord<'i, 't>>
+    ensures found { IfSome result (λ found. (parts : Parts)
+        × (parts_in (statement_in statement.entry) ≡ Some parts)
+        × FindsParts parts is_internet found) }
+    ensures none { IfNone result ((parts : Parts)
+        → parts_in (statement_in statement.entry) ≡ Some parts
+        → NoneIsFurther parts is_internet) }
+{
+    match statement {
+        Statement::Blank => None,
+        Statement::Directive(_) => None,
+        Statement::Owned(_, items) => record_of(items, is_internet),
+        Statement::Unowned(items) => record_of(items, is_internet),
+    }
+}
+
+impl FurtherRecord<'_, '_> {
+    /// The refusal of the entry that begins on a line.
+    pub(crate) fn refusal(&self, line: u64, field: &'static str, fault: WordsFault) -> Refusal
+        ensures { refused_of result ≡ record {
+          line = line;
+          mnemonic = self.now.further.now.mnemonic.now;
+          field = field.now;
+          fault = fault;
+        } }
+    {
+        Refusal {
+            line,
+            mnemonic: self.further.mnemonic,
+            field,
+            fault,
+        }
+    }
+
+    /// Whether the type's word is the mnemonic, and not `TYPE` and the number.
+    pub(crate) fn has_mnemonic(&self) -> bool
+        ensures { IsTrue result
+            ↔ (folded_label self.now.word.now ≡ folded_label self.now.further.now.mnemonic.now) }
+    {
+        is_word(self.word, self.further.mnemonic.as_bytes())
+    }
+}
+
+/// Whether no line feed stands in an item.
+fn is_on_one_line(item: &Item) -> bool
+    ensures { IsTrue result ↔ (line_feeds_in (raw item.now) ≡ 0) }
+{
+    let (Item::Bare(text) | Item::Quoted(text)) = *item;
+    line_feeds(text) == 0
+}
+
+/// Whether no line feed stands in the items.
+pub(crate) fn are_on_one_line(items: &[Item]) -> bool
+    ensures { IsTrue result ↔ AreOnOneLine (map raw items.now) }
+{
+    for item in items {
+        if !is_on_one_line(item) {
+            return false;
+        }
+    }
+    true
+}

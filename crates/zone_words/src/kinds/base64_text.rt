@@ -1,0 +1,44 @@
+ghost use Rattle.std.specs.Prelude.{map, IfErr, OnOk};
+ghost use Rattle.zone_words.specs.DataItem.{raw_item};
+ghost use Rattle.zone_words.specs.Fault.{AppendsStated, IfFault, NothingStated};
+ghost use Rattle.zone_words.specs.Kinds.Base64.{FailsBase64, IsBase64, StatesBase64};
+ghost use Rattle.zone_words.specs.declared.fault.WordsFault.TheVariants.{NoBase64};
+
+use super::joined::joined_text;
+use crate::data_item::DataItem;
+use crate::fault::{WordsFailing, WordsFault};
+use base64::DecodeAllocError;
+use base64::engine::general_purpose::STANDARD;
+
+/// Appends the octets, one or more, that a text in base64 stands for, in one item or more (RFC 4648
+/// 4). It may be parted anywhere, as by any white space (RFC 4034 2.2).
+///
+/// # Errors
+///
+/// `NothingLeft` where there is no item; `NoBase64` where an item is quoted, or where the text of
+/// all items has another character, no octet, not its whole padding at its very end, or unused bits
+/// that aren't zero; and `OutOfMemory` where memory is refused. `out` may then have some of the
+/// octets.
+pub(crate) fn push_base64(items: &[DataItem], out: &mut Vec<u8>) -> Result<(), WordsFailing>
+    ensures states { OnOk result
+        (AppendsStated (StatesBase64 (map raw_item items.now)) out.old.items out.new.items) }
+    ensures fault { IfErr result (IfFault (FailsBase64 (map raw_item items.now))) }
+{
+    let text = joined_text(*out.allocator(), items, WordsFault::NoBase64)?;
+    push_decoded(text.as_slice(), out)
+}
+
+/// Appends the octets, one or more, that a text in base64 stands for.
+pub(super) fn push_decoded(text: &[u8], out: &mut Vec<u8>) -> Result<(), WordsFailing>
+    ensures states { OnOk result (AppendsStated (IsBase64 text.now) out.old.items out.new.items) }
+    ensures fault { IfErr result (IfFault (NothingStated NoBase64 (IsBase64 text.now))) }
+{
+    if text.is_empty() {
+        return Err(WordsFailing::Fault(WordsFault::NoBase64));
+    }
+    match STANDARD.decode_vec(text, out) {
+        Ok(()) => Ok(()),
+        Err(DecodeAllocError::DecodeError(_)) => Err(WordsFailing::Fault(WordsFault::NoBase64)),
+        Err(DecodeAllocError::OutOfMemory) => Err(WordsFailing::OutOfMemory),
+    }
+}

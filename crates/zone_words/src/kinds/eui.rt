@@ -1,0 +1,83 @@
+ghost use Rattle.std.specs.Prelude.{◌≡◌, ◌≤◌, ◌<◌, ◌∷◌, ◌++◌, IfErr, IfNone, IfSome, OnOk};
+ghost use Rattle.zone_name.specs.Common.{NothingIs};
+ghost use Rattle.zone_words.specs.Fault.{AppendsStated, IfFault};
+ghost use Rattle.zone_words.specs.Kinds.Eui.{FailsEui, IsPair, StatesEui};
+ghost use Rattle.zone_words.specs.Machine.Pairs.{BeginsWithPair, IsCutPair};
+
+use crate::fault::{WordsFailing, WordsFault};
+use hex::decode_to_slice;
+
+/// Appends the six octets of an EUI-48: pairs of hexadecimal digits in either letter case, parted
+/// by hyphens (RFC 7043 3.2).
+///
+/// # Errors
+///
+/// `NotAnAddress` where the text is none, and `OutOfMemory` where memory is refused. `out` may then
+/// have some of the octets.
+pub(crate) fn push_eui48(text: &[u8], out: &mut Vec<u8>) -> Result<(), WordsFailing>
+    ensures states { OnOk result
+        (AppendsStated (StatesEui 6 text.now) out.old.items out.new.items) }
+    ensures fault { IfErr result (IfFault (FailsEui 6 text.now)) }
+{
+    push_pairs(text, 6, out)
+}
+
+/// Appends the eight octets of an EUI-64: pairs of hexadecimal digits in either letter case, parted
+/// by hyphens (RFC 7043 4.2).
+///
+/// # Errors
+///
+/// `NotAnAddress` where the text is none, and `OutOfMemory` where memory is refused. `out` may then
+/// have some of the octets.
+pub(crate) fn push_eui64(text: &[u8], out: &mut Vec<u8>) -> Result<(), WordsFailing>
+    ensures states { OnOk result
+        (AppendsStated (StatesEui 8 text.now) out.old.items out.new.items) }
+    ensures fault { IfErr result (IfFault (FailsEui 8 text.now)) }
+{
+    push_pairs(text, 8, out)
+}
+
+/// Appends the octets of so many pairs parted by hyphens.
+fn push_pairs(text: &[u8], count: usize, out: &mut Vec<u8>) -> Result<(), WordsFailing>
+    requires some { 0 < count }
+    requires few { count ≤ 8 }
+    ensures states { OnOk result
+        (AppendsStated (StatesEui count text.now) out.old.items out.new.items) }
+    ensures fault { IfErr result (IfFault (FailsEui count text.now)) }
+{
+    if text.len() + 1 != 3 * count {
+        return Err(WordsFailing::Fault(WordsFault::NotAnAddress));
+    }
+    let mut rest = text;
+    while let Some((octet, after)) = octet_before_hyphen(rest) {
+        out.extend_from_slice(&[octet])?;
+        rest = after;
+    }
+    let Some(octet) = octet_of(rest) else {
+        return Err(WordsFailing::Fault(WordsFault::NotAnAddress));
+    };
+    Ok(out.extend_from_slice(&[octet])?)
+}
+
+/// The octet of the pair before the first hyphen, and what stands after that hyphen. `None`: the
+/// text doesn't begin with a pair and a hyphen.
+fn octet_before_hyphen(text: &[u8]) -> Option<(u8, &[u8])>
+    ensures some { IfSome result (λ found. IsCutPair text.now found.0 found.1.now) }
+    ensures none { IfNone result (BeginsWithPair text.now → ⊥) }
+{
+    if text.len() < 3 || text[2] != b'-' {
+        return None;
+    }
+    let octet = octet_of(&text[..2])?;
+    Some((octet, &text[3..]))
+}
+
+/// The octet of a pair of digits. `None`: the text is none.
+fn octet_of(text: &[u8]) -> Option<u8>
+    ensures some { IfSome result (λ octet. IsPair text.now octet) }
+    ensures none { IfNone result (NothingIs (IsPair text.now)) }
+{
+    let mut octet = [0; 1];
+    decode_to_slice(text, &mut octet).ok()?;
+    Some(octet[0])
+}

@@ -1,0 +1,42 @@
+ghost use Rattle.std.specs.Prelude.{map, IfErr, OnOk};
+ghost use Rattle.zone_words.specs.DataItem.{raw_item};
+ghost use Rattle.zone_words.specs.Fault.{AppendsStated, IfFault, NothingStated};
+ghost use Rattle.zone_words.specs.Kinds.Hex.{FailsHex, IsHex, StatesHex};
+ghost use Rattle.zone_words.specs.declared.fault.WordsFault.TheVariants.{NoHexadecimal};
+
+use super::joined::joined_text;
+use crate::data_item::DataItem;
+use crate::fault::{WordsFailing, WordsFault};
+use hex::decode_to_slice;
+
+/// Appends the octets, one or more, that hexadecimal digits stand for, in one item or more (RFC
+/// 4648 8). The digits of an octet may be parted between items, as by any white space (RFC 4034
+/// 5.3).
+///
+/// # Errors
+///
+/// `NothingLeft` where there is no item; `NoHexadecimal` where an item is quoted or has another
+/// character, and where the digits of all items are none or odd in number; and `OutOfMemory` where
+/// memory is refused. `out` may then have some of the octets.
+pub(crate) fn push_hex(items: &[DataItem], out: &mut Vec<u8>) -> Result<(), WordsFailing>
+    ensures states { OnOk result
+        (AppendsStated (StatesHex (map raw_item items.now)) out.old.items out.new.items) }
+    ensures fault { IfErr result (IfFault (FailsHex (map raw_item items.now))) }
+{
+    let text = joined_text(*out.allocator(), items, WordsFault::NoHexadecimal)?;
+    push_digits(text.as_slice(), out)
+}
+
+/// Appends the octets, one or more, that hexadecimal digits stand for.
+pub(super) fn push_digits(text: &[u8], out: &mut Vec<u8>) -> Result<(), WordsFailing>
+    ensures states { OnOk result (AppendsStated (IsHex text.now) out.old.items out.new.items) }
+    ensures fault { IfErr result (IfFault (NothingStated NoHexadecimal (IsHex text.now))) }
+{
+    if text.is_empty() {
+        return Err(WordsFailing::Fault(WordsFault::NoHexadecimal));
+    }
+    let before = out.len();
+    out.resize(before + text.len() / 2, 0)?;
+    let (_, room) = out.as_mut_slice().split_at_mut(before);
+    decode_to_slice(text, room).map_err(|_| WordsFailing::Fault(WordsFault::NoHexadecimal))
+}

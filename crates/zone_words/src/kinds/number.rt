@@ -1,0 +1,96 @@
+//! Numbers in decimal digits (RFC 1035 5.1).
+ghost use Rattle.std.specs.Prelude.{◌≡◌, ◌≤◌, Some, IfOk, IfErr, OnOk};
+ghost use Rattle.std.specs.Int.{w8, w16, w32};
+ghost use Rattle.zone_words.specs.Fault.{AppendsStated, IfFault};
+ghost use Rattle.zone_words.specs.Kinds.Number.{FailsU8, FailsU16, FailsU32, StatesU8, StatesU16, StatesU32};
+ghost use Rattle.zone_words.specs.Machine.Numbers.{FailsToFit, Fits, IsOver};
+
+use crate::fault::{WordsFailing, WordsFault};
+use zone_rdata::decimal_of;
+
+/// Appends the number of 8 bits that decimal digits stand for.
+///
+/// # Errors
+///
+/// `NotANumber`, `TooLarge` and want of memory.
+pub(crate) fn push_u8(text: &[u8], out: &mut Vec<u8>) -> Result<(), WordsFailing>
+    ensures states { OnOk result
+        (AppendsStated (StatesU8 text.now) out.old.items out.new.items) }
+    ensures fault { IfErr result (IfFault (FailsU8 text.now)) }
+{
+    push_one_octet(decimal_of(text), out)?;
+    Ok(())
+}
+
+/// Appends the number of 16 bits that decimal digits stand for.
+///
+/// # Errors
+///
+/// `NotANumber`, `TooLarge` and want of memory.
+pub(crate) fn push_u16(text: &[u8], out: &mut Vec<u8>) -> Result<(), WordsFailing>
+    ensures states { OnOk result
+        (AppendsStated (StatesU16 text.now) out.old.items out.new.items) }
+    ensures fault { IfErr result (IfFault (FailsU16 text.now)) }
+{
+    push_two_octets(decimal_of(text), out)?;
+    Ok(())
+}
+
+/// Appends the number of 32 bits that decimal digits stand for.
+///
+/// # Errors
+///
+/// `NotANumber`, `TooLarge` and want of memory.
+pub(crate) fn push_u32(text: &[u8], out: &mut Vec<u8>) -> Result<(), WordsFailing>
+    ensures states { OnOk result
+        (AppendsStated (StatesU32 text.now) out.old.items out.new.items) }
+    ensures fault { IfErr result (IfFault (FailsU32 text.now)) }
+{
+    let number = at_most(u32::MAX, decimal_of(text))?;
+    out.extend_from_slice(&number.to_be_bytes())?;
+    Ok(())
+}
+
+/// Appends a number that was read, of 8 bits.
+///
+/// # Errors
+///
+/// `NotANumber` where there is none, `TooLarge` and want of memory.
+pub(super) fn push_one_octet(number: Option<u64>, out: &mut Vec<u8>) -> Result<(), WordsFailing>
+    ensures states { OnOk result (AppendsStated (Fits w8 number) out.old.items out.new.items) }
+    ensures fault { IfErr result (IfFault (FailsToFit w8 number)) }
+{
+    let number = at_most(u32::from(u8::MAX), number)?;
+    out.extend_from_slice(&[number as u8])?;
+    Ok(())
+}
+
+/// Appends a number that was read, of 16 bits.
+///
+/// # Errors
+///
+/// `NotANumber` where there is none, `TooLarge` and want of memory.
+pub(super) fn push_two_octets(number: Option<u64>, out: &mut Vec<u8>) -> Result<(), WordsFailing>
+    ensures states { OnOk result (AppendsStated (Fits w16 number) out.old.items out.new.items) }
+    ensures fault { IfErr result (IfFault (FailsToFit w16 number)) }
+{
+    let number = at_most(u32::from(u16::MAX), number)?;
+    out.extend_from_slice(&(number as u16).to_be_bytes())?;
+    Ok(())
+}
+
+/// The number that was read, where it is at most `most`.
+///
+/// # Errors
+///
+/// `NotANumber` where there is none, and `TooLarge`.
+fn at_most(most: u32, number: Option<u64>) -> Result<u32, WordsFault>
+    ensures found { IfOk result (λ n. (number ≡ Some n) × (n ≤ most)) }
+    ensures fault { IfErr result (IsOver most number) }
+{
+    match number {
+        Some(number) if number <= u64::from(most) => Ok(number as u32),
+        Some(_) => Err(WordsFault::TooLarge),
+        None => Err(WordsFault::NotANumber),
+    }
+}

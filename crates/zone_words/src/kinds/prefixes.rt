@@ -1,0 +1,166 @@
+//! Prefixes of addresses (RFC 3123).
+ghost use Rattle.std.specs.Prelude.{◌≡◌, ◌*◌, ◌≤◌, length, map, IfErr, IfNone, IfSome, OnOk};
+ghost use Rattle.zone_name.specs.Common.{NothingIs};
+ghost use Rattle.zone_rdata.specs.Item.{raw};
+ghost use Rattle.zone_rdata.specs.Number.{IsDecimal};
+ghost use Rattle.zone_words.specs.DataItem.{raw_item};
+ghost use Rattle.zone_words.specs.Fault.{AppendsStated, IfFault};
+ghost use Rattle.zone_words.specs.Kinds.Prefixes.{FailsPrefixes, IsAddressText, IsPrefixOctets, SpellsPrefix, StatesPrefixes, family_of, octets_of, sign};
+ghost use Rattle.zone_words.specs.Machine.Prefixes.{IsAfterMark, IsItemPrefix};
+
+use super::bitmap::trimmed_len;
+use super::cut::{cut_at_first, cut_at_last};
+use crate::data_item::DataItem;
+use crate::fault::{WordsFailing, WordsFault};
+use std::alloc::AllocError;
+use zone_rdata::{Item, decimal_of, ipv4_octets_of, ipv6_octets_of};
+
+/// An address of one of the two families that have texts (RFC 3123 4).
+#[derive(Clone, Copy)]
+enum Address {
+    /// Of family 1.
+    Ipv4([u8; 4]),
+    /// Of family 2.
+    Ipv6([u8; 16]),
+}
+
+/// An address prefix.
+#[derive(Clone, Copy)]
+struct Prefix {
+    /// Its addresses are left out of the prefixes beside it.
+    negated: bool,
+    /// The address, whose bits beyond the prefix may be set.
+    address: Address,
+    /// How many bits of the address are the prefix.
+    bits: u8,
+}
+
+impl Address {
+    /// The number of the family.
+    fn family(&self) -> u16
+        ensures { result ≡ family_of self.now }
+    {
+        match self {
+            Address::Ipv4(_) => 1,
+            Address::Ipv6(_) => 2,
+        }
+    }
+
+    /// The address's four or sixteen octets.
+    fn octets(&self) -> &[u8]
+        ensures octets { result.now ≡ octets_of self.now }
+        ensures few { length result.now ≤ 16 }
+    {
+        match self {
+            Address::Ipv4(octets) => octets,
+            Address::Ipv6(octets) => octets,
+        }
+    }
+}
+
+/// Appends the prefixes that items are, of any number of items.
+///
+/// # Errors
+///
+/// `NoPrefix` where an item is quoted, or no prefix; and `OutOfMemory`. `out` may have got some of
+/// the octets.
+pub(crate) fn push_prefixes(items: &[DataItem], out: &mut Vec<u8>) -> Result<(), WordsFailing>
+    ensures states { OnOk result
+        (AppendsStated (StatesPrefixes (map raw_item items.now)) out.old.items out.new.items) }
+    ensures fault { IfErr result (IfFault (FailsPrefixes (map raw_item items.now))) }
+{
+    for item in items {
+        let Some(prefix) = prefix_of_item(item.item) else {
+            return Err(WordsFailing::Fault(WordsFault::NoPrefix));
+        };
+        push_prefix(prefix, out)?;
+    }
+    Ok(())
+}
+
+/// Appends a prefix: the zeros that end its address are left out (RFC 3123 4).
+fn push_prefix(prefix: Prefix, out: &mut Vec<u8>) -> Result<(), AllocError>
+    ensures { OnOk result (AppendsStated (IsPrefixOctets prefix) out.old.items out.new.items) }
+{
+    let octets = prefix.address.octets();
+    let len = trimmed_len(octets);
+    out.extend_from_slice(&prefix.address.family().to_be_bytes())?;
+    out.extend_from_slice(&[prefix.bits, sign(prefix.negated) + len as u8])?;
+    out.extend_from_slice(&octets[..len])?;
+    Ok(())
+}
+
+/// The highest bit before the count of the address's octets.
+fn sign(negated: bool) -> u8
+    ensures value { result ≡ sign negated }
+    ensures few { result ≤ 128 }
+{
+    if negated { 128 } else { 0 }
+}
+
+/// The prefix that an item is. `None`: it is quoted, or no prefix.
+fn prefix_of_item(item: Item) -> Option<Prefix>
+    ensures found { IfSome result (IsItemPrefix (raw item.entry)) }
+    ensures none { IfNone result (NothingIs (IsItemPrefix (raw item.entry))) }
+{
+    match item {
+        Item::Bare(text) => prefix_of(text),
+        Item::Quoted(_) => None,
+    }
+}
+
+/// The prefix of a text, as `!1:192.168.38.0/28`. `None`: it is none.
+fn prefix_of(text: &[u8]) -> Option<Prefix>
+    ensures found { IfSome result (SpellsPrefix text.now) }
+    ensures none { IfNone result (NothingIs (SpellsPrefix text.now)) }
+{
+    let (front, len) = cut_at_last(text, b'/')?;
+    let (negated, front) = after_mark(front);
+    let (family, address) = cut_at_first(front, b':')?;
+    let address = address_of(family, address)?;
+    let bits = bits_of(len, address)?;
+    Some(Prefix {
+        negated,
+        address,
+        bits,
+    })
+}
+
+/// Whether the text begins with `!`, and what is after it.
+fn after_mark(text: &[u8]) -> (bool, &[u8])
+    ensures { IsAfterMark text.now result.0 result.1.now }
+{
+    match text {
+        [b'!', rest @ ..] => (true, rest),
+        _ => (false, text),
+    }
+}
+
+/// The address of a family, of which the number is in digits. `None`: it is none, or the family is
+/// another.
+fn address_of(family: &[u8], text: &[u8]) -> Option<Address>
+    ensures found { IfSome result
+        (λ address. IsDecimal family.now (family_of address) × IsAddressText text.now address) }
+    ensures none { IfNone result (NothingIs
+        (λ address. IsDecimal family.now (family_of address) × IsAddressText text.now address)) }
+{
+    match decimal_of(family)? {
+        1 => Some(Address::Ipv4(ipv4_octets_of(text)?)),
+        2 => Some(Address::Ipv6(ipv6_octets_of(text)?)),
+        _ => None,
+    }
+}
+
+/// The length of a prefix in digits. `None`: it is none, or the address has fewer bits.
+fn bits_of(text: &[u8], address: Address) -> Option<u8>
+    ensures found { IfSome result
+        (λ n. IsDecimal text.now n × (n ≤ 8 * length (octets_of address))) }
+    ensures none { IfNone result (NothingIs
+        (λ n. IsDecimal text.now n × (n ≤ 8 * length (octets_of address)))) }
+{
+    let bits = decimal_of(text)?;
+    if bits > 8 * address.octets().len() as u64 {
+        return None;
+    }
+    Some(bits as u8)
+}

@@ -1,0 +1,30 @@
+ghost use Rattle.std.specs.Prelude.{IfErr, OnOk};
+ghost use Rattle.zone_words.specs.Fault.{AppendsStated, IfFault};
+ghost use Rattle.zone_words.specs.Kinds.Salt.{FailsSalt, StatesSalt};
+
+use super::hexadecimal::push_digits;
+use crate::fault::{WordsFailing, WordsFault};
+
+/// The digits of the longest salt, which has 255 octets.
+const MOST_DIGITS: usize = 510;
+
+/// Appends a salt after its length, of one octet: `-` is an empty one, and hexadecimal digits in
+/// either letter case are one of 1 to 255 octets (RFC 5155 3.3).
+///
+/// # Errors
+///
+/// `NoHexadecimal` where the text is neither, and `OutOfMemory` where memory is refused. `out` may
+/// then have some of the octets.
+pub(crate) fn push_salt(text: &[u8], out: &mut Vec<u8>) -> Result<(), WordsFailing>
+    ensures states { OnOk result (AppendsStated (StatesSalt text.now) out.old.items out.new.items) }
+    ensures fault { IfErr result (IfFault (FailsSalt text.now)) }
+{
+    if let [b'-'] = text {
+        return Ok(out.extend_from_slice(&[0])?);
+    }
+    if text.len() > MOST_DIGITS {
+        return Err(WordsFailing::Fault(WordsFault::NoHexadecimal));
+    }
+    out.extend_from_slice(&[(text.len() / 2) as u8])?;
+    push_digits(text, out)
+}

@@ -1,0 +1,44 @@
+//! Tags of properties of certification authorities (RFC 8659 4.1).
+ghost use Rattle.std.specs.Prelude.{◌≡◌, ◌↔◌, true, IsTrue, IfErr, OnOk};
+ghost use Rattle.std.specs.List.{AllByRecursion};
+ghost use Rattle.zone_words.specs.Fault.{AppendsStated, IfFault};
+ghost use Rattle.zone_words.specs.Kinds.Tag.{FailsTag, IsTag, StatesTag, is_letter_or_digit};
+
+use crate::fault::{WordsFailing, WordsFault};
+
+/// Appends a tag of 1 to 255 letters and digits after its length.
+///
+/// # Errors
+///
+/// `NotATag` for any other text; and `OutOfMemory`.
+pub(crate) fn push_tag(text: &[u8], out: &mut Vec<u8>) -> Result<(), WordsFailing>
+    ensures states { OnOk result
+        (AppendsStated (StatesTag text.now) out.old.items out.new.items) }
+    ensures fault { IfErr result (IfFault (FailsTag text.now)) }
+{
+    if !is_tag(text) {
+        return Err(WordsFailing::Fault(WordsFault::NotATag));
+    }
+    out.extend_from_slice(&[text.len() as u8])?;
+    out.extend_from_slice(text)?;
+    Ok(())
+}
+
+/// Whether the text is 1 to 255 letters and digits.
+fn is_tag(text: &[u8]) -> bool
+    ensures { IsTrue result ↔ IsTag text.now }
+{
+    !text.is_empty() && text.len() <= 255 && are_letters_and_digits(text)
+}
+
+/// Whether all octets are letters and digits.
+fn are_letters_and_digits(text: &[u8]) -> bool
+    ensures { IsTrue result ↔ AllByRecursion (λ c. is_letter_or_digit c ≡ true) text.now }
+{
+    for octet in text {
+        if !octet.is_ascii_alphanumeric() {
+            return false;
+        }
+    }
+    true
+}

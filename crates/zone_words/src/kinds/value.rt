@@ -1,0 +1,104 @@
+//! Values up to the end of the data, without a length (RFC 8659 4.1.1, RFC 7553 4.4).
+ghost use Rattle.std.specs.Prelude.{◌≡◌, map, OnOk, IfErr};
+ghost use Rattle.zone_rdata.specs.Item.{raw};
+ghost use Rattle.zone_words.specs.DataItem.{raw_item};
+ghost use Rattle.zone_words.specs.Fault.{AppendsStated, IfFault};
+ghost use Rattle.zone_words.specs.FirstItem.{FirstFails, FirstStates};
+ghost use Rattle.zone_words.specs.Kinds.Value.{ComesToBadEscape, FailsQuotedValue, FailsValue, IsWrittenFor, StatesQuotedValue, StatesValue};
+ghost use Rattle.zone_words.specs.declared.fault.WordsFault.TheVariants.{BadEscape};
+
+use crate::data_item::DataItem;
+use crate::fault::{WordsFailing, WordsFault};
+use zone_name::{NextUnit, next_unit};
+use zone_rdata::Item;
+
+/// Appends the value that the first item is, bare or quoted, its escapes undone.
+///
+/// # Errors
+///
+/// `NothingLeft` where there is no item, and those of `push_value`.
+pub(crate) fn push_first_value(items: &[DataItem], out: &mut Vec<u8>) -> Result<(), WordsFailing>
+    ensures states { OnOk result
+        (AppendsStated (FirstStates StatesValue (map raw_item items.now)) out.old.items
+        out.new.items) }
+    ensures fault { IfErr result (IfFault (FirstFails FailsValue (map raw_item items.now))) }
+{
+    match items.first() {
+        Some(first) => push_value(first.item, out),
+        None => Err(WordsFailing::Fault(WordsFault::NothingLeft)),
+    }
+}
+
+/// Appends the value that the first item is, which has to be quoted, its escapes undone.
+///
+/// # Errors
+///
+/// `NothingLeft` where there is no item, and those of `push_quoted_value`.
+pub(crate) fn push_first_quoted_value(
+    items: &[DataItem],
+    out: &mut Vec<u8>,
+) -> Result<(), WordsFailing>
+    ensures states { OnOk result
+        (AppendsStated (FirstStates StatesQuotedValue (map raw_item items.now)) out.old.items
+        out.new.items) }
+    ensures fault { IfErr result
+        (IfFault (FirstFails FailsQuotedValue (map raw_item items.now))) }
+{
+    match items.first() {
+        Some(first) => push_quoted_value(first.item, out),
+        None => Err(WordsFailing::Fault(WordsFault::NothingLeft)),
+    }
+}
+
+/// Appends the value that an item is, bare or quoted, its escapes undone.
+///
+/// # Errors
+///
+/// `BadEscape` where a backslash begins no escape; and `OutOfMemory`. `out` may have got some of
+/// the octets.
+fn push_value(item: Item, out: &mut Vec<u8>) -> Result<(), WordsFailing>
+    ensures states { OnOk result
+        (AppendsStated (StatesValue (raw item.entry)) out.old.items out.new.items) }
+    ensures fault { IfErr result (IfFault (FailsValue (raw item.entry))) }
+{
+    match item {
+        Item::Bare(text) | Item::Quoted(text) => push_written(text, out),
+    }
+}
+
+/// Appends the value that a quoted item is, its escapes undone.
+///
+/// # Errors
+///
+/// `NotQuoted` for a bare item, `BadEscape` where a backslash begins no escape; and `OutOfMemory`.
+/// `out` may have got some of the octets.
+fn push_quoted_value(item: Item, out: &mut Vec<u8>) -> Result<(), WordsFailing>
+    ensures states { OnOk result
+        (AppendsStated (StatesQuotedValue (raw item.entry)) out.old.items out.new.items) }
+    ensures fault { IfErr result (IfFault (FailsQuotedValue (raw item.entry))) }
+{
+    match item {
+        Item::Bare(_) => Err(WordsFailing::Fault(WordsFault::NotQuoted)),
+        Item::Quoted(text) => push_written(text, out),
+    }
+}
+
+/// Appends the octets that a text is written for.
+fn push_written(text: &[u8], out: &mut Vec<u8>) -> Result<(), WordsFailing>
+    ensures states { OnOk result
+        (AppendsStated (IsWrittenFor text.now) out.old.items out.new.items) }
+    ensures fault { IfErr result
+        (IfFault (λ fault. (fault ≡ BadEscape) × ComesToBadEscape text.now)) }
+{
+    let mut rest = text;
+    loop {
+        match next_unit(rest) {
+            NextUnit::End => return Ok(()),
+            NextUnit::Octet(octet, after) => {
+                out.extend_from_slice(&[octet])?;
+                rest = after;
+            }
+            NextUnit::BadEscape => return Err(WordsFailing::Fault(WordsFault::BadEscape)),
+        }
+    }
+}

@@ -1,0 +1,57 @@
+//! Numbers in digits or by their mnemonics, and types by their words (RFC 4034 A.1, RFC 4398 2.1).
+ghost use Rattle.std.specs.Prelude.{IfErr, OnOk};
+ghost use Rattle.zone_words.specs.Fault.{AppendsStated, IfFault};
+ghost use Rattle.zone_words.specs.Kinds.Word.{FailsAlgorithm, FailsCertificateType, FailsType, StatesAlgorithm, StatesCertificateType, StatesType};
+
+use super::number::{push_one_octet, push_two_octets};
+use crate::fault::{WordsFailing, WordsFault};
+use crate::mnemonics::{ALGORITHMS, CERTIFICATE_TYPES, type_of_word};
+use zone_rdata::number_of_word;
+
+/// Appends an algorithm of DNSSEC, in digits or by its mnemonic in any letter case (RFC 4034 A.1).
+///
+/// # Errors
+///
+/// `NotANumber` where it is neither, `TooLarge` and want of memory.
+pub(crate) fn push_algorithm(text: &[u8], out: &mut Vec<u8>) -> Result<(), WordsFailing>
+    ensures states { OnOk result
+        (AppendsStated (StatesAlgorithm text.now) out.old.items out.new.items) }
+    ensures fault { IfErr result (IfFault (FailsAlgorithm text.now)) }
+{
+    // No name stands before the digits.
+    push_one_octet(number_of_word(ALGORITHMS, b"", text), out)?;
+    Ok(())
+}
+
+/// Appends the type of a certificate, in digits or by its mnemonic in any letter case (RFC 4398
+/// 2.1).
+///
+/// # Errors
+///
+/// `NotANumber` where it is neither, `TooLarge` and want of memory.
+pub(crate) fn push_certificate_type(text: &[u8], out: &mut Vec<u8>) -> Result<(), WordsFailing>
+    ensures states { OnOk result
+        (AppendsStated (StatesCertificateType text.now) out.old.items out.new.items) }
+    ensures fault { IfErr result (IfFault (FailsCertificateType text.now)) }
+{
+    // No name stands before the digits.
+    push_two_octets(number_of_word(CERTIFICATE_TYPES, b"", text), out)?;
+    Ok(())
+}
+
+/// Appends the number of a type by its word (RFC 4034 3.1.1).
+///
+/// # Errors
+///
+/// `NotAType` where it is the word of none of which records can be, and want of memory.
+pub(crate) fn push_type(word: &[u8], out: &mut Vec<u8>) -> Result<(), WordsFailing>
+    ensures states { OnOk result
+        (AppendsStated (StatesType word.now) out.old.items out.new.items) }
+    ensures fault { IfErr result (IfFault (FailsType word.now)) }
+{
+    let Some(number) = type_of_word(word) else {
+        return Err(WordsFailing::Fault(WordsFault::NotAType));
+    };
+    out.extend_from_slice(&number.to_be_bytes())?;
+    Ok(())
+}

@@ -1,0 +1,27 @@
+//! Laws of data in words, over the definitions alone.
+ghost use Rattle.std.specs.Prelude.{◌≡◌, List, ℕ};
+ghost use Rattle.zone_name.specs.Common.{Labels};
+ghost use Rattle.zone_words.specs.Data.{DataFails, StatesData};
+ghost use Rattle.zone_words.specs.DataItem.{TouchingItem};
+ghost use Rattle.zone_words.specs.Table.{FurtherType, IsFurtherWord, NamedField};
+ghost use Rattle.zone_words.specs.declared.fault.WordsFault.{WordsFault};
+
+/// A word is that of one further type at most.
+pub fn a_word_is_one_further_type()
+    ensures { (word : List ℕ) (a b : FurtherType) → IsFurtherWord word a → IsFurtherWord word b
+        → a ≡ b }
+{}
+
+/// Items state at most one list of octets as the data of fields under an origin.
+pub fn data_is_unique()
+    ensures { (origin : Labels) (fields : List NamedField) (items : List TouchingItem)
+        (a b : List ℕ) → StatesData origin fields items a → StatesData origin fields items b
+        → a ≡ b }
+{}
+
+/// Items with which something is wrong state no data.
+pub fn faulty_items_state_none()
+    ensures { (origin : Labels) (fields : List NamedField) (items : List TouchingItem)
+        (octets name : List ℕ) (fault : WordsFault) → StatesData origin fields items octets
+        → DataFails origin fields items name fault → ⊥ }
+{}

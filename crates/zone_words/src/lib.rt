@@ -1,0 +1,28 @@
+//! Master files whose records of further types stand in words, written anew with the data of these
+//! records in the generic form (RFC 1035 5, RFC 3597 5).
+#![tactic(auto)]
+
+mod data;
+mod data_item;
+mod data_items;
+mod entry_writer;
+mod fault;
+mod fault_text;
+mod fed_writer;
+mod field;
+mod further;
+mod inherited;
+mod kinds;
+pub mod laws;
+mod mnemonics;
+mod parameters;
+mod refusal;
+mod rewriter;
+mod table;
+mod turn;
+mod writing;
+
+pub use data_item::DataItem;
+pub use fault::{WordsFailing, WordsFault};
+pub use refusal::{Refusal, Refusals};
+pub use rewriter::{Rewriter, Rewritten, rewrite_file};

@@ -1,0 +1,179 @@
+//! The mnemonics of numbers that stand in data, a row each, their numbers ascending.
+ghost use Rattle.std.specs.Prelude.{◌≡◌, IfSome, IfNone};
+ghost use Rattle.zone_name.specs.Common.{NothingIs};
+ghost use Rattle.zone_rdata.specs.Words.{IsKind};
+ghost use Rattle.zone_words.specs.Mnemonics.{IsTypeWord};
+
+use zone_rdata::{Kind, Row, number_of_word};
+
+/// A number and its mnemonic.
+#[derive(Clone, Copy, Debug)]
+pub(crate) struct Mnemonic(u16, &'static [u8]);
+
+impl Row for Mnemonic {
+    ghost use Rattle.zone_rdata.specs.Table.{Named};
+    ghost use Rattle.zone_words.specs.Mnemonics.{name_of};
+
+    ghost names = { name_of };
+
+    fn number(&self) -> u16 {
+        self.0
+    }
+
+    fn mnemonic(&self) -> &'static [u8] {
+        self.1
+    }
+}
+
+/// The number itself, where it is that of a type that a record can have (RFC 6895 3.1).
+fn number_of_kind(number: u64) -> Option<u16>
+    ensures found { IfSome result (λ n. (n ≡ number) × IsKind number) }
+    ensures none { IfNone result (IsKind number → ⊥) }
+{
+    match Kind::from_number(number) {
+        Ok(kind) => Some(kind.number()),
+        Err(_) => None,
+    }
+}
+
+/// The type of a word in any letter case: a registered mnemonic, or TYPE with a number (RFC 3597
+/// 5). `None`: it is no such word, or no record can have the type (RFC 6895 3.1).
+pub(crate) fn type_of_word(word: &[u8]) -> Option<u16>
+    ensures found { IfSome result (IsTypeWord word.now) }
+    ensures none { IfNone result (NothingIs (IsTypeWord word.now)) }
+{
+    match number_of_word(TYPES, b"TYPE", word) {
+        Some(number) => number_of_kind(number),
+        None => None,
+    }
+}
+
+/// The registered types (RFC 6895 3.1).
+pub(crate) static TYPES: &[Mnemonic] = &[
+    Mnemonic(1, b"A"),
+    Mnemonic(2, b"NS"),
+    Mnemonic(3, b"MD"),
+    Mnemonic(4, b"MF"),
+    Mnemonic(5, b"CNAME"),
+    Mnemonic(6, b"SOA"),
+    Mnemonic(7, b"MB"),
+    Mnemonic(8, b"MG"),
+    Mnemonic(9, b"MR"),
+    Mnemonic(10, b"NULL"),
+    Mnemonic(11, b"WKS"),
+    Mnemonic(12, b"PTR"),
+    Mnemonic(13, b"HINFO"),
+    Mnemonic(14, b"MINFO"),
+    Mnemonic(15, b"MX"),
+    Mnemonic(16, b"TXT"),
+    Mnemonic(17, b"RP"),
+    Mnemonic(18, b"AFSDB"),
+    Mnemonic(19, b"X25"),
+    Mnemonic(20, b"ISDN"),
+    Mnemonic(21, b"RT"),
+    Mnemonic(22, b"NSAP"),
+    Mnemonic(23, b"NSAP-PTR"),
+    Mnemonic(24, b"SIG"),
+    Mnemonic(25, b"KEY"),
+    Mnemonic(26, b"PX"),
+    Mnemonic(27, b"GPOS"),
+    Mnemonic(28, b"AAAA"),
+    Mnemonic(29, b"LOC"),
+    Mnemonic(30, b"NXT"),
+    Mnemonic(31, b"EID"),
+    Mnemonic(32, b"NIMLOC"),
+    Mnemonic(33, b"SRV"),
+    Mnemonic(34, b"ATMA"),
+    Mnemonic(35, b"NAPTR"),
+    Mnemonic(36, b"KX"),
+    Mnemonic(37, b"CERT"),
+    Mnemonic(38, b"A6"),
+    Mnemonic(39, b"DNAME"),
+    Mnemonic(40, b"SINK"),
+    Mnemonic(42, b"APL"),
+    Mnemonic(43, b"DS"),
+    Mnemonic(44, b"SSHFP"),
+    Mnemonic(45, b"IPSECKEY"),
+    Mnemonic(46, b"RRSIG"),
+    Mnemonic(47, b"NSEC"),
+    Mnemonic(48, b"DNSKEY"),
+    Mnemonic(49, b"DHCID"),
+    Mnemonic(50, b"NSEC3"),
+    Mnemonic(51, b"NSEC3PARAM"),
+    Mnemonic(52, b"TLSA"),
+    Mnemonic(53, b"SMIMEA"),
+    Mnemonic(55, b"HIP"),
+    Mnemonic(56, b"NINFO"),
+    Mnemonic(57, b"RKEY"),
+    Mnemonic(58, b"TALINK"),
+    Mnemonic(59, b"CDS"),
+    Mnemonic(60, b"CDNSKEY"),
+    Mnemonic(61, b"OPENPGPKEY"),
+    Mnemonic(62, b"CSYNC"),
+    Mnemonic(63, b"ZONEMD"),
+    Mnemonic(64, b"SVCB"),
+    Mnemonic(65, b"HTTPS"),
+    Mnemonic(66, b"DSYNC"),
+    Mnemonic(67, b"HHIT"),
+    Mnemonic(68, b"BRID"),
+    Mnemonic(99, b"SPF"),
+    Mnemonic(100, b"UINFO"),
+    Mnemonic(101, b"UID"),
+    Mnemonic(102, b"GID"),
+    Mnemonic(103, b"UNSPEC"),
+    Mnemonic(104, b"NID"),
+    Mnemonic(105, b"L32"),
+    Mnemonic(106, b"L64"),
+    Mnemonic(107, b"LP"),
+    Mnemonic(108, b"EUI48"),
+    Mnemonic(109, b"EUI64"),
+    Mnemonic(256, b"URI"),
+    Mnemonic(257, b"CAA"),
+    Mnemonic(258, b"AVC"),
+    Mnemonic(259, b"DOA"),
+    Mnemonic(260, b"AMTRELAY"),
+    Mnemonic(261, b"RESINFO"),
+    Mnemonic(262, b"WALLET"),
+    Mnemonic(263, b"CLA"),
+    Mnemonic(264, b"IPN"),
+    Mnemonic(32768, b"TA"),
+    Mnemonic(32769, b"DLV"),
+];
+
+/// The algorithms of DNSSEC (RFC 4034 A.1).
+pub(crate) static ALGORITHMS: &[Mnemonic] = &[
+    Mnemonic(0, b"DELETE"),
+    Mnemonic(1, b"RSAMD5"),
+    Mnemonic(2, b"DH"),
+    Mnemonic(3, b"DSA"),
+    Mnemonic(4, b"ECC"),
+    Mnemonic(5, b"RSASHA1"),
+    Mnemonic(6, b"DSA-NSEC3-SHA1"),
+    Mnemonic(7, b"RSASHA1-NSEC3-SHA1"),
+    Mnemonic(8, b"RSASHA256"),
+    Mnemonic(10, b"RSASHA512"),
+    Mnemonic(12, b"ECC-GOST"),
+    Mnemonic(13, b"ECDSAP256SHA256"),
+    Mnemonic(14, b"ECDSAP384SHA384"),
+    Mnemonic(15, b"ED25519"),
+    Mnemonic(16, b"ED448"),
+    Mnemonic(17, b"SM2SM3"),
+    Mnemonic(23, b"ECC-GOST12"),
+    Mnemonic(252, b"INDIRECT"),
+    Mnemonic(253, b"PRIVATEDNS"),
+    Mnemonic(254, b"PRIVATEOID"),
+];
+
+/// The types of certificates (RFC 4398 2.1).
+pub(crate) static CERTIFICATE_TYPES: &[Mnemonic] = &[
+    Mnemonic(1, b"PKIX"),
+    Mnemonic(2, b"SPKI"),
+    Mnemonic(3, b"PGP"),
+    Mnemonic(4, b"IPKIX"),
+    Mnemonic(5, b"ISPKI"),
+    Mnemonic(6, b"IPGP"),
+    Mnemonic(7, b"ACPKIX"),
+    Mnemonic(8, b"IACPKIX"),
+    Mnemonic(253, b"URI"),
+    Mnemonic(254, b"OID"),
+];

@@ -1,0 +1,71 @@
+ghost use Rattle.std.specs.Prelude.{IfErr, OnOk};
+ghost use Rattle.zone_words.specs.Fault.{AppendsStated, IfFault, NothingStated};
+ghost use Rattle.zone_words.specs.Machine.Parameters.{IsAddressOf};
+ghost use Rattle.zone_words.specs.Parameters.Value.{ListsAddresses};
+ghost use Rattle.zone_words.specs.declared.fault.WordsFault.TheVariants as faults;
+
+use super::cut::cut_at;
+use crate::fault::{WordsFailing, WordsFault};
+use zone_rdata::{ipv4_octets_of, ipv6_octets_of};
+
+/// The version of an address.
+#[derive(Clone, Copy, Debug)]
+pub(super) enum Version {
+    /// Of four octets.
+    V4,
+    /// Of sixteen octets.
+    V6,
+}
+
+/// Appends the octets of an address.
+///
+/// # Errors
+///
+/// `NotAValue`; and want of memory. Either leaves `out` unchanged.
+fn push_address(version: Version, text: &[u8], out: &mut Vec<u8>) -> Result<(), WordsFailing>
+    ensures stated { OnOk result
+        (AppendsStated (IsAddressOf version text.now) out.old.items out.new.items) }
+    ensures fault { IfErr result
+        (IfFault (NothingStated faults.NotAValue (IsAddressOf version text.now))) }
+{
+    match version {
+        Version::V4 => {
+            let Some(octets) = ipv4_octets_of(text) else {
+                return Err(WordsFault::NotAValue.into());
+            };
+            out.extend_from_slice(&octets)?;
+            Ok(())
+        }
+        Version::V6 => {
+            let Some(octets) = ipv6_octets_of(text) else {
+                return Err(WordsFault::NotAValue.into());
+            };
+            out.extend_from_slice(&octets)?;
+            Ok(())
+        }
+    }
+}
+
+/// Appends the octets of addresses that are parted by commas (RFC 9460 7.3).
+///
+/// # Errors
+///
+/// `NotAValue`; and want of memory. Some of the octets may have been appended.
+pub(super) fn push_addresses(
+    version: Version,
+    text: &[u8],
+    out: &mut Vec<u8>,
+) -> Result<(), WordsFailing>
+    ensures stated { OnOk result (AppendsStated
+        (ListsAddresses (IsAddressOf version) text.now) out.old.items out.new.items) }
+    ensures fault { IfErr result
+        (IfFault (NothingStated faults.NotAValue (ListsAddresses (IsAddressOf version) text.now))) }
+{
+    let mut rest = text;
+    while let Some((address, after)) = cut_at(rest, b',') {
+        push_address(version, address, out)?;
+        rest = after;
+    }
+    push_address(version, rest, out)?;
+    Ok(())
+}

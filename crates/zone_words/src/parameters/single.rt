@@ -1,0 +1,85 @@
+ghost use Rattle.std.specs.Prelude.{IfErr, OnOk};
+ghost use Rattle.zone_words.specs.Fault.{AppendsStated, IfFault, NothingStated};
+ghost use Rattle.zone_words.specs.Machine.Parameters.{FailsEscaped};
+ghost use Rattle.zone_words.specs.Parameters.Value.{StatesEch, StatesNone, StatesPath, StatesPort};
+ghost use Rattle.zone_words.specs.declared.fault.WordsFault.TheVariants as faults;
+
+use super::escapes::push_unescaped;
+use crate::fault::{WordsFailing, WordsFault};
+use base64::DecodeAllocError;
+use base64::engine::general_purpose::STANDARD;
+use zone_rdata::decimal_of;
+
+/// Appends the octets of a port (RFC 9460 7.2).
+///
+/// # Errors
+///
+/// `NotAValue`; and want of memory. Either leaves `out` unchanged.
+pub(super) fn push_port(text: &[u8], out: &mut Vec<u8>) -> Result<(), WordsFailing>
+    ensures stated { OnOk result
+        (AppendsStated (StatesPort text.now) out.old.items out.new.items) }
+    ensures fault { IfErr result
+        (IfFault (NothingStated faults.NotAValue (StatesPort text.now))) }
+{
+    let port = decimal_of(text).ok_or(WordsFault::NotAValue)?;
+    if port > 65535 {
+        return Err(WordsFault::NotAValue.into());
+    }
+    let port = port as u16;
+    out.extend_from_slice(&port.to_be_bytes())?;
+    Ok(())
+}
+
+/// Appends the octets of base64, at least one (RFC 9848).
+///
+/// # Errors
+///
+/// `NotAValue`; and want of memory. Either leaves `out` unchanged.
+pub(super) fn push_ech(text: &[u8], out: &mut Vec<u8>) -> Result<(), WordsFailing>
+    ensures stated { OnOk result
+        (AppendsStated (StatesEch text.now) out.old.items out.new.items) }
+    ensures fault { IfErr result
+        (IfFault (NothingStated faults.NotAValue (StatesEch text.now))) }
+{
+    let before = out.len();
+    match STANDARD.decode_vec(text, out) {
+        Ok(()) if out.len() > before => Ok(()),
+        Err(DecodeAllocError::OutOfMemory) => Err(WordsFailing::OutOfMemory),
+        _ => Err(WordsFault::NotAValue.into()),
+    }
+}
+
+/// Takes the value of a key that has none.
+///
+/// # Errors
+///
+/// `NotAValue` where there is a value.
+pub(super) fn push_none(text: &[u8], out: &mut Vec<u8>) -> Result<(), WordsFailing>
+    ensures stated { OnOk result
+        (AppendsStated (StatesNone text.now) out.old.items out.new.items) }
+    ensures fault { IfErr result
+        (IfFault (NothingStated faults.NotAValue (StatesNone text.now))) }
+{
+    if !text.is_empty() {
+        return Err(WordsFault::NotAValue.into());
+    }
+    Ok(())
+}
+
+/// Appends the octets of a path as they are, at least one (RFC 9461 5).
+///
+/// # Errors
+///
+/// `BadEscape` where an escape of the text is none, `NotAValue` where the text is empty; and want
+/// of memory. Some of the octets may have been appended.
+pub(super) fn push_path(text: &[u8], out: &mut Vec<u8>) -> Result<(), WordsFailing>
+    ensures stated { OnOk result
+        (AppendsStated (StatesPath text.now) out.old.items out.new.items) }
+    ensures fault { IfErr result (IfFault (FailsEscaped StatesPath text.now)) }
+{
+    if text.is_empty() {
+        return Err(WordsFault::NotAValue.into());
+    }
+    push_unescaped(text, out)?;
+    Ok(())
+}

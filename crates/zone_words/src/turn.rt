@@ -1,0 +1,203 @@
+//! What becomes of an entry of a master file (RFC 1035 5.1, RFC 3597 5).
+ghost use Rattle.std.specs.Prelude.{◌≡◌, ℕ, ◌-◌, ◌<◌, List, length, map, IfOk, IfSome, IfNone, OnOk, OnErr};
+ghost use Rattle.zone_name.specs.Common.{Labels};
+ghost use Rattle.zone_rdata.specs.Item.{raw, IsGeneric};
+ghost use Rattle.zone_words.specs.Machine.Turn.{AreInWords, StandsBeside, TakesRecordsTurn, TakesTurn, WritesTurn, refusal_in};
+ghost use Rattle.zone_words.specs.Machine.Walking.{StandsNowhere};
+
+use crate::data::{DataFailing, read_data};
+use crate::data_items::data_items;
+use crate::fault::WordsFault;
+use crate::further::{FurtherRecord, are_on_one_line, further_record};
+use crate::inherited::Inherited;
+use crate::refusal::Refusal;
+use crate::writing::{Around, around_item};
+use std::alloc::{AllocError, Global};
+use zone_name::CasedName;
+use zone_rdata::{Item, is_generic};
+use zone_text::{MOST_ITEMS, statement_of};
+
+/// What becomes of an entry.
+#[derive(Clone, Copy, Debug)]
+pub(crate) enum Turn<'e> {
+    /// It stays as it is.
+    Stays,
+    /// It stays as it is, and this is told.
+    Refused(Refusal),
+    /// `TYPE` and the number take the place of the type's word.
+    Renamed(Around<'e>),
+    /// The type and its data in the generic form take the place of the type's word and the items
+    /// after it. The octets of the data are kept apart.
+    InOctets(Around<'e>),
+}
+
+/// What stands around the word of a record's type, where the entry has so many items.
+fn around_type<'e>(entry: &'e [u8], found: &FurtherRecord, kept: usize) -> Option<Around<'e>>
+    requires { length found.now.items.now < kept }
+    ensures found { IfSome result (StandsBeside entry.now found.now kept) }
+    ensures none { IfNone result
+        (StandsNowhere entry.now (kept - length found.now.items.now - 1)) }
+{
+    let Some((front, back)) = around_item(entry, kept - found.items.len() - 1) else {
+        return None;
+    };
+    Some(Around {
+        front,
+        number: found.further.number,
+        back,
+    })
+}
+
+/// What becomes of a record whose data is in the generic form, of whose entry so many items are
+/// kept.
+fn turn_in_generic_form<'e>(entry: &'e [u8], found: &FurtherRecord, kept: usize) -> Turn<'e>
+    requires { length found.now.items.now < kept }
+    ensures { (line : ℕ) (above : Labels) (stated : List ℕ)
+        → IsGeneric (map raw found.now.items.now)
+        → TakesRecordsTurn entry.now found.now kept line above stated result }
+{
+    if kept >= MOST_ITEMS {
+        return Turn::Stays;
+    }
+    if !found.has_mnemonic() {
+        return Turn::Stays;
+    }
+    if !are_on_one_line(found.items) {
+        return Turn::Stays;
+    }
+    match around_type(entry, found, kept) {
+        Some(around) => Turn::Renamed(around),
+        None => Turn::Stays,
+    }
+}
+
+/// What becomes of a record whose data is in words, under the origin that holds for it. The octets
+/// that it states are put in place of what `stated` held.
+fn turn_in_words<'e>(
+    alloc: Global,
+    entry: &'e [u8],
+    found: &FurtherRecord,
+    kept: usize,
+    line: u64,
+    above: &CasedName,
+    stated: &mut Vec<u8>,
+) -> Result<Turn<'e>, AllocError>
+    requires { length found.now.items.now < kept }
+    ensures { AreInWords found.now kept → IfOk result
+        (TakesRecordsTurn entry.now found.now kept line above.now stated.new.items) }
+{
+    let Some(around) = around_type(entry, found, kept) else {
+        return Ok(Turn::Stays);
+    };
+    let items = data_items(alloc, around.back)?;
+    match read_data(found.further.fields, &items, above, stated) {
+        Ok(()) => Ok(Turn::InOctets(around)),
+        Err(DataFailing::Fault { field, fault }) => {
+            Ok(Turn::Refused(found.refusal(line, field, fault)))
+        }
+        Err(DataFailing::OutOfMemory) => Err(AllocError),
+    }
+}
+
+/// What becomes of a record of whose entry so many items are kept, under the origin that holds for
+/// it. The octets that it states are put in place of what `stated` held.
+fn turn_of_record<'e>(
+    alloc: Global,
+    entry: &'e [u8],
+    found: &FurtherRecord,
+    kept: usize,
+    line: u64,
+    above: &CasedName,
+    stated: &mut Vec<u8>,
+) -> Result<Turn<'e>, AllocError>
+    requires { length found.now.items.now < kept }
+    ensures { IfOk result
+        (TakesRecordsTurn entry.now found.now kept line above.now stated.new.items) }
+{
+    if is_generic(found.items) {
+        return Ok(turn_in_generic_form(entry, found, kept));
+    }
+    if kept >= MOST_ITEMS {
+        return Ok(Turn::Refused(found.refusal(line, "data", WordsFault::TooManyItems)));
+    }
+    if !are_on_one_line(found.items) {
+        let fault = WordsFault::LineFeedWithinQuotes;
+        return Ok(Turn::Refused(found.refusal(line, "data", fault)));
+    }
+    turn_in_words(alloc, entry, found, kept, line, above, stated)
+}
+
+/// What becomes of the entry on a line, of which these items are kept, where it leaves this to the
+/// entries after it. The octets that it states are put in place of what `stated` held.
+///
+/// # Errors
+///
+/// `AllocError`.
+pub(crate) fn turn_of<'e>(
+    alloc: Global,
+    entry: &'e [u8],
+    items: &[Item<'e>],
+    line: u64,
+    left: &Inherited,
+    stated: &mut Vec<u8>,
+) -> Result<Turn<'e>, AllocError>
+    ensures { IfOk result
+        (TakesTurn entry.now (map raw items.now) line left.now stated.new.items) }
+{
+    let statement = statement_of(entry, items);
+    let Some(found) = further_record(statement, left.is_internet) else {
+        return Ok(Turn::Stays);
+    };
+    match &left.origin {
+        Some(above) => turn_of_record(alloc, entry, &found, items.len(), line, above, stated),
+        None => Ok(Turn::Stays),
+    }
+}
+
+impl Turn<'_> {
+    /// What is told of the entry.
+    pub(crate) fn refusal(&self) -> Option<Refusal>
+        ensures { result ≡ refusal_in self.now }
+    {
+        match *self {
+            Turn::Stays => None,
+            Turn::Refused(refusal) => Some(refusal),
+            Turn::Renamed(_) => None,
+            Turn::InOctets(_) => None,
+        }
+    }
+
+    /// Appends what becomes of the entry, with the octets that it states. What is written anew is
+    /// put together in `scratch`.
+    ///
+    /// # Errors
+    ///
+    /// `AllocError`: `out` is unchanged.
+    pub(crate) fn push(
+        &self,
+        entry: &[u8],
+        stated: &[u8],
+        scratch: &mut Vec<u8>,
+        out: &mut Vec<u8>,
+    ) -> Result<(), AllocError>
+        ensures ok { OnOk result
+            (WritesTurn entry.now stated.now self.now out.old.items out.new.items) }
+        ensures err { OnErr result (out.new.items ≡ out.old.items) }
+    {
+        match *self {
+            Turn::Stays => out.extend_from_slice(entry)?,
+            Turn::Refused(_) => out.extend_from_slice(entry)?,
+            Turn::Renamed(around) => {
+                scratch.clear();
+                around.push_renamed(scratch)?;
+                out.extend_from_slice(scratch)?;
+            }
+            Turn::InOctets(around) => {
+                scratch.clear();
+                around.push_in_octets(stated, scratch)?;
+                out.extend_from_slice(scratch)?;
+            }
+        }
+        Ok(())
+    }
+}

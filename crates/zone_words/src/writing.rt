@@ -1,0 +1,145 @@
+//! One entry written anew: its octets, with the type's word and the tokens after it replaced.
+ghost use Rattle.std.specs.Prelude.{◌≡◌, ◌++◌, codes, decimal, length, IfNone, IfSome, OnOk};
+ghost use Rattle.hex.specs.Hex.{encode_lower};
+ghost use Rattle.zone_text.specs.Tokens.{text, token_text};
+ghost use Rattle.zone_words.specs.Machine.Walking.{
+  BeginsBlank,
+  StandsAround,
+  StandsNowhere,
+  StayingAfter,
+  WritesBetween,
+};
+ghost use Rattle.zone_words.specs.Written.{renamed, in_octets, generic_tokens, type_token};
+
+use hex::encode_to_slice;
+use itoa::Buffer;
+use std::alloc::AllocError;
+use zone_text::{first_token, is_blank};
+
+/// What stands before the item after so many, and what after it.
+pub(crate) fn around_item(entry: &[u8], before: usize) -> Option<(&[u8], &[u8])>
+    ensures found { IfSome result (λ found.
+        StandsAround entry.now before found.0.now found.1.now) }
+    ensures none { IfNone result (StandsNowhere entry.now before) }
+{
+    let mut left = before;
+    let mut rest = entry;
+    while let Some((item, after)) = first_token(rest) {
+        if let Some(_item) = item {
+            if left == 0 {
+                let (front, _) = entry.split_at(entry.len() - rest.len());
+                return Some((front, after));
+            }
+            left -= 1;
+        }
+        rest = after;
+    }
+    None
+}
+
+/// Whether the first octet parts items.
+fn begins_with_blank(octets: &[u8]) -> bool
+    ensures { BeginsBlank octets.now result }
+{
+    match octets.split_first() {
+        Some((first, _)) => is_blank(*first),
+        None => false,
+    }
+}
+
+/// Appends the parentheses, comments and line feeds, so that the entry has as many lines as before.
+fn push_staying(octets: &[u8], out: &mut Vec<u8>) -> Result<(), AllocError>
+    ensures { OnOk result (StayingAfter octets.now out.old.items out.new.items) }
+{
+    let mut rest = octets;
+    while let Some((item, after)) = first_token(rest) {
+        if let None = item {
+            if !begins_with_blank(rest) {
+                let (token, _) = rest.split_at(rest.len() - after.len());
+                out.extend_from_slice(token)?;
+            }
+        }
+        rest = after;
+    }
+    Ok(())
+}
+
+/// Appends `TYPE` and a number (RFC 3597 5).
+fn push_type(number: u16, out: &mut Vec<u8>) -> Result<(), AllocError>
+    ensures { OnOk result
+        (out.new.items ≡ out.old.items ++ token_text (type_token number)) }
+{
+    let mut digits = Buffer::new();
+    out.extend_from_slice(b"TYPE")?;
+    out.extend_from_slice(digits.format(number).as_bytes())?;
+    Ok(())
+}
+
+/// Appends octets as hexadecimal digits.
+fn push_hex(octets: &[u8], out: &mut Vec<u8>) -> Result<(), AllocError>
+    ensures { OnOk result (out.new.items ≡ out.old.items ++ encode_lower octets.now) }
+{
+    for octet in octets {
+        let mut pair = [0; 2];
+        let _ = encode_to_slice([*octet], &mut pair);
+        out.extend_from_slice(&pair)?;
+    }
+    Ok(())
+}
+
+/// Appends type and octets in the generic form (RFC 3597 5).
+fn push_generic(number: u16, octets: &[u8], out: &mut Vec<u8>) -> Result<(), AllocError>
+    ensures { OnOk result
+        (out.new.items ≡ out.old.items ++ text (generic_tokens number octets.now)) }
+{
+    let mut digits = Buffer::new();
+    push_type(number, out)?;
+    out.extend_from_slice(b" \\# ")?;
+    out.extend_from_slice(digits.format(octets.len()).as_bytes())?;
+    if octets.is_empty() {
+        return Ok(());
+    }
+    out.push(b' ')?;
+    push_hex(octets, out)
+}
+
+/// What is written anew in an entry: the octets before the type's word, the number of the type, and
+/// the octets after the word.
+#[derive(Clone, Copy, Debug)]
+pub(crate) struct Around<'e> {
+    pub(crate) front: &'e [u8],
+    pub(crate) number: u16,
+    pub(crate) back: &'e [u8],
+}
+
+impl Around<'_> {
+    /// Appends the entry with `TYPE` and the number in place of the type's word.
+    ///
+    /// # Errors
+    ///
+    /// `AllocError`. `out` may have some of the octets.
+    pub(crate) fn push_renamed(&self, out: &mut Vec<u8>) -> Result<(), AllocError>
+        ensures { OnOk result (WritesBetween self.now.front.now self.now.back.now
+            (renamed self.now.number) out.old.items out.new.items) }
+    {
+        out.extend_from_slice(self.front)?;
+        push_type(self.number, out)?;
+        out.extend_from_slice(self.back)?;
+        Ok(())
+    }
+
+    /// Appends the entry with the type and octets in the generic form in place of the type's word
+    /// and the items after it.
+    ///
+    /// # Errors
+    ///
+    /// `AllocError`. `out` may have some of the octets.
+    pub(crate) fn push_in_octets(&self, octets: &[u8], out: &mut Vec<u8>) -> Result<(), AllocError>
+        ensures { OnOk result (WritesBetween self.now.front.now self.now.back.now
+            (in_octets self.now.number octets.now) out.old.items out.new.items) }
+    {
+        out.extend_from_slice(self.front)?;
+        push_generic(self.number, octets, out)?;
+        push_staying(self.back, out)
+    }
+}
