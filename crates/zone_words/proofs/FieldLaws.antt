@@ -5,6 +5,7 @@ use Rattle.zone_name.specs.Common.{Labels}
 use Rattle.zone_rdata.proofs.Addresses.{numbers_unique}
 use Rattle.zone_rdata.specs.Number.{IsDecimal}
 use Rattle.zone_rdata.specs.Spelling.{RawItem, bare, quoted}
+use Rattle.zone_words.proofs.Locations.{location_once, location_or_fault}
 use Rattle.zone_words.proofs.Prefixes.{prefixes_once, prefixes_or_fault}
 use Rattle.zone_words.proofs.Base32Digits.{hash_once, hash_or_fault}
 use Rattle.zone_words.proofs.Base64Texts.{base64_once, base64_or_fault}
@@ -30,7 +31,7 @@ use Rattle.zone_words.specs.declared.fault.WordsFault.{WordsFault}
 use Rattle.zone_words.specs.declared.field.BareKind.{BareKind}
 use Rattle.zone_words.specs.declared.field.BareKind.TheVariants.{Algorithm, CertificateType, Eui48, Eui64, Hash, Ipv4, Name, NodeId, RecordType, Salt, Tag, Time, U8, U16, U32}
 use Rattle.zone_words.specs.declared.field.FieldKind.{FieldKind}
-use Rattle.zone_words.specs.declared.field.FieldKind.TheVariants.{Bare, Base64, Hex, OneString, Parameters, PerhapsOneString, PerhapsTypes, Prefixes, QuotedValue, Strings, Types, Value}
+use Rattle.zone_words.specs.declared.field.FieldKind.TheVariants.{Bare, Base64, Hex, Location, OneString, Parameters, PerhapsOneString, PerhapsTypes, Prefixes, QuotedValue, Strings, Types, Value}
 
 -- ---- a text
 
@@ -108,6 +109,7 @@ field_once origin Base64 items a b p q = base64_once (items_of items) a b p q
 field_once origin Types items a b p q = types_once (items_of items) a b p q
 field_once origin PerhapsTypes items a b p q = perhaps_types_once (items_of items) a b p q
 field_once origin Prefixes items a b p q = prefixes_once (items_of items) a b p q
+field_once origin Location items a b p q = location_once (items_of items) a b p q
 field_once origin Parameters items a b p q = parameters_once items a b p q
 
 pub field_or_fault : (origin : Labels) (kind : FieldKind) (items : List TouchingItem) (octets : List ℕ) (fault : WordsFault) → StatesField origin kind items octets → FailsField origin kind items fault → ⊥
@@ -122,4 +124,5 @@ field_or_fault origin Base64 items octets fault p q = base64_or_fault (items_of 
 field_or_fault origin Types items octets fault p q = types_or_fault (items_of items) octets fault p q
 field_or_fault origin PerhapsTypes items octets fault p q = perhaps_types_or_fault (items_of items) octets fault p q
 field_or_fault origin Prefixes items octets fault p q = prefixes_or_fault (items_of items) octets fault p q
+field_or_fault origin Location items octets fault p q = location_or_fault (items_of items) octets fault p q
 field_or_fault origin Parameters items octets fault p q = parameters_or_fault items octets fault p q

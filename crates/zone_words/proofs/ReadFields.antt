@@ -70,6 +70,10 @@ field_fails origin fields i f d items place count own old now name fault lt is i
 pub data_fault_passed : {T : Type 0} (r : Result T DataFailing) (e : DataFailing) (P Q : List ℕ → WordsFault → Type 0) → IsErrAnd r (λ y. y ≡ e) → ((name : List ℕ) (fault : WordsFault) → P name fault → Q name fault) → IfDataFault P e → IfErr r (IfDataFault Q)
 data_fault_passed r e P Q is goes h = grind (arith, err_from_is_err_and)
 
+-- the answer of a `match`
+pub data_fault_answered : (e : DataFailing) (P Q : List ℕ → WordsFault → Type 0) → ((name : List ℕ) (fault : WordsFault) → P name fault → Q name fault) → IfDataFault P e → IfDataFault Q e
+data_fault_answered e P Q goes h = grind arith
+
 pub fields_read : (origin : Labels) (fields : List Field) (i : ℕ) (items left : List TouchingItem) (old now : List ℕ) → length fields ≤ i → HaveRead origin (map field_of fields) (map field_of (drop i fields)) items left old now → AppendsParts origin (map field_of fields) items left old now
 fields_read origin fields i items left old now past have =
     let done : HaveRead origin (map field_of fields) [] items left old now = subst (λ rest. HaveRead origin (map field_of fields) (map field_of rest) items left old now) (drop_all i fields past) have in

@@ -106,7 +106,8 @@ pub data IsRefused (origin : Labels) (before : List Entry) (entry : Entry) (word
       → DataFails above further.fields data_items field fault
       → IsRefused origin before entry word data_items (refusal entry further field fault)
 
--- what the tokens of an entry say anew, from the type's word on: those before it, and those after it
+-- what the tokens of an entry say anew, from the type's word on: those before it, and those after
+-- it
 pub record TokensSay (origin : Labels) (before : List Entry) (line : ℕ) (tokens : List Token)
     (front back : List Token) (it : Anew) : Type 0 where
   pub word : List Written

@@ -2,6 +2,7 @@
 use Rattle.std.specs.Prelude.{◌≡◌, ℕ, Bool, true, false, if◌then◌else◌, List, [], ◌∷◌, length, map, min, take, drop, None}
 use Rattle.zone_name.specs.Common.{Labels}
 use Rattle.zone_rdata.specs.Spelling.{RawItem, bare, quoted}
+use Rattle.zone_words.specs.Kinds.Location.{FailsLocation, StatesLocation}
 use Rattle.zone_words.specs.Kinds.Prefixes.{FailsPrefixes, StatesPrefixes}
 use Rattle.zone_words.specs.DataItem.{TouchingItem}
 use Rattle.zone_words.specs.FirstItem.{FirstFails, FirstStates}
@@ -26,7 +27,7 @@ use Rattle.zone_words.specs.declared.fault.WordsFault.TheVariants.{NoBase32Hex, 
 use Rattle.zone_words.specs.declared.field.BareKind.{BareKind}
 use Rattle.zone_words.specs.declared.field.BareKind.TheVariants.{Algorithm, CertificateType, Eui48, Eui64, Hash, Ipv4, Name, NodeId, RecordType, Salt, Tag, Time, U8, U16, U32}
 use Rattle.zone_words.specs.declared.field.FieldKind.{FieldKind}
-use Rattle.zone_words.specs.declared.field.FieldKind.TheVariants.{Bare, Base64, Hex, OneString, Parameters, PerhapsOneString, PerhapsTypes, Prefixes, QuotedValue, Strings, Types, Value}
+use Rattle.zone_words.specs.declared.field.FieldKind.TheVariants.{Bare, Base64, Hex, Location, OneString, Parameters, PerhapsOneString, PerhapsTypes, Prefixes, QuotedValue, Strings, Types, Value}
 
 -- what is wrong with a quoted item where a bare one is due
 abbrev pub quoted_fault : BareKind → WordsFault
@@ -125,6 +126,7 @@ StatesField origin Base64 items octets = StatesBase64 (items_of items) octets
 StatesField origin Types items octets = StatesTypes (items_of items) octets
 StatesField origin PerhapsTypes items octets = StatesPerhapsTypes (items_of items) octets
 StatesField origin Prefixes items octets = StatesPrefixes (items_of items) octets
+StatesField origin Location items octets = StatesLocation (items_of items) octets
 StatesField origin Parameters items octets = StatesParameters items octets
 
 -- why they state none
@@ -142,4 +144,5 @@ FailsField origin Base64 items fault = FailsBase64 (items_of items) fault
 FailsField origin Types items fault = FailsTypes (items_of items) fault
 FailsField origin PerhapsTypes items fault = FailsPerhapsTypes (items_of items) fault
 FailsField origin Prefixes items fault = FailsPrefixes (items_of items) fault
+FailsField origin Location items fault = FailsLocation (items_of items) fault
 FailsField origin Parameters items fault = FailsParameters items fault

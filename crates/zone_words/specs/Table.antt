@@ -1,5 +1,5 @@
--- The further types, a row each, their numbers ascending, with the section of the RFC that gives the
--- words of each.
+-- The further types, a row each, their numbers ascending, with the section of the RFC that gives
+-- the words of each.
 use Rattle.std.specs.Prelude.{◌≡◌, ℕ, List, [], ◌∷◌, ◌==◌, Bool, true, false, codes, map, Option, Some}
 use Rattle.std.specs.List.{find}
 use Rattle.zone_rdata.specs.Table.{Named}
@@ -7,7 +7,7 @@ use Rattle.zone_rdata.specs.Words.{IsWordAmong}
 use Rattle.zone_words.specs.declared.field.BareKind.TheVariants.{Algorithm, CertificateType, Eui48, Eui64, Hash, Ipv4, Name, NodeId, RecordType, Salt, Tag, Time, U16, U32, U8}
 use Rattle.zone_words.specs.declared.field.Field.{Field}
 use Rattle.zone_words.specs.declared.field.FieldKind.{FieldKind}
-use Rattle.zone_words.specs.declared.field.FieldKind.TheVariants.{Bare, Base64, Hex, OneString, Parameters, PerhapsOneString, PerhapsTypes, Prefixes, QuotedValue, Strings, Types, Value}
+use Rattle.zone_words.specs.declared.field.FieldKind.TheVariants.{Bare, Base64, Hex, Location, OneString, Parameters, PerhapsOneString, PerhapsTypes, Prefixes, QuotedValue, Strings, Types, Value}
 use Rattle.zone_words.specs.declared.table.FurtherType as code
 
 -- a field by its name in the RFC, in lower case, and what its items state
@@ -46,6 +46,7 @@ further_types =
     (field (codes "isdn-address") OneString ∷ field (codes "sa") PerhapsOneString ∷ [])
     ∷ in_every 21 (codes "RT")  -- RFC 1183 3.3
     (field (codes "preference") (Bare U16) ∷ field (codes "host") (Bare Name) ∷ [])
+    ∷ in_every 29 (codes "LOC") (field (codes "data") Location ∷ [])  -- RFC 1876 3
     ∷ in_internet 36 (codes "KX")  -- RFC 2230 3.1
     (field (codes "preference") (Bare U16) ∷ field (codes "exchanger") (Bare Name) ∷ [])
     ∷ in_every 37 (codes "CERT")  -- RFC 4398 2.2

@@ -48,34 +48,22 @@ pub(crate) fn read_data(
         (IfDataFault (DataFails origin.now (map field_of fields.now) (map given items.now))) }
     ensures emptied { OnErr result (octets.new.items ≡ []) }
 {
-    let read = read_whole(fields, items, origin, octets);
-    if read.is_err() {
-        octets.clear();
-    }
-    read
-}
-
-/// As `read_data`, but `octets` holds anything where there is an error.
-fn read_whole(
-    fields: &[Field],
-    items: &[DataItem],
-    origin: &CasedName,
-    octets: &mut Vec<u8>,
-) -> Result<(), DataFailing>
-    ensures states { OnOk result
-        (StatesData origin.now (map field_of fields.now) (map given items.now)
-        octets.new.items) }
-    ensures fault { IfErr result
-        (IfDataFault (DataFails origin.now (map field_of fields.now) (map given items.now))) }
-{
     octets.clear();
-    let count = push_fields(fields, items, origin, octets)?;
-    match fault_of_whole(items.len() - count, octets.len()) {
-        Some(fault) => Err(DataFailing::Fault {
-            field: last_name(fields),
-            fault,
-        }),
-        None => Ok(()),
+    match push_fields(fields, items, origin, octets) {
+        Ok(count) => match fault_of_whole(items.len() - count, octets.len()) {
+            Some(fault) => {
+                octets.clear();
+                Err(DataFailing::Fault {
+                    field: last_name(fields),
+                    fault,
+                })
+            }
+            None => Ok(()),
+        },
+        Err(failing) => {
+            octets.clear();
+            Err(failing)
+        }
     }
 }
 
@@ -156,6 +144,3 @@ fn last_name(fields: &[Field]) -> &'static str
         None => "data",
     }
 }
-
-#[cfg(test)]
-mod tests;

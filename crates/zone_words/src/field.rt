@@ -10,8 +10,9 @@ use crate::fault::{WordsFailing, WordsFault};
 use crate::kinds::{
     push_algorithm, push_base64, push_certificate_type, push_eui48, push_eui64,
     push_first_quoted_value, push_first_string, push_first_value, push_hash, push_hex, push_ipv4,
-    push_name, push_node_id, push_perhaps_string, push_perhaps_types, push_prefixes, push_salt,
-    push_strings, push_tag, push_time, push_type, push_types, push_u8, push_u16, push_u32,
+    push_location, push_name, push_node_id, push_perhaps_string, push_perhaps_types, push_prefixes,
+    push_salt, push_strings, push_tag, push_time, push_type, push_types, push_u8, push_u16,
+    push_u32,
 };
 use crate::parameters::push_parameters;
 use zone_name::CasedName;
@@ -77,6 +78,8 @@ pub(crate) enum FieldKind {
     PerhapsTypes,
     /// Prefixes of addresses, up to the end, or none (RFC 3123 5).
     Prefixes,
+    /// A location, up to the end (RFC 1876 3).
+    Location,
     /// The parameters of a service, up to the end (RFC 9460 2.1).
     Parameters,
 }
@@ -216,6 +219,7 @@ impl FieldKind {
             FieldKind::Types => push_types(items, out),
             FieldKind::PerhapsTypes => push_perhaps_types(items, out),
             FieldKind::Prefixes => push_prefixes(items, out),
+            FieldKind::Location => push_location(items, out),
             FieldKind::Parameters => push_parameters(items, out),
         }
     }

@@ -3,7 +3,6 @@ mod address;
 mod base32_hex;
 mod base64_text;
 mod bitmap;
-mod cut;
 mod eui;
 mod hexadecimal;
 mod joined;

@@ -11,7 +11,7 @@ use crate::field::BareKind::{
 };
 use crate::field::Field;
 use crate::field::FieldKind::{
-    Bare, Base64, Hex, OneString, Parameters, PerhapsOneString, PerhapsTypes, Prefixes,
+    Bare, Base64, Hex, Location, OneString, Parameters, PerhapsOneString, PerhapsTypes, Prefixes,
     QuotedValue, Strings, Types, Value,
 };
 use zone_rdata::{Row, number_of_word, row_of};
@@ -114,6 +114,13 @@ pub(crate) static FURTHER_TYPES: &[FurtherType] = &[
         mnemonic: "RT",
         in_internet_alone: false,
         fields: &[Field("preference", Bare(U16)), Field("host", Bare(Name))],
+    },
+    // RFC 1876 3
+    FurtherType {
+        number: 29,
+        mnemonic: "LOC",
+        in_internet_alone: false,
+        fields: &[Field("data", Location)],
     },
     // RFC 2230 3.1
     FurtherType {
