@@ -16,7 +16,7 @@ use Rattle.zone_words.specs.Data.{DataFails, StatesData}
 use Rattle.zone_words.specs.DataItem.{TouchingItem, items_of}
 use Rattle.zone_words.specs.Entry.{AreOnOneLine, BecomesUnder, IsFurtherUnder, IsRefused, SaysAnew, TokensFail, TokensSay, anew, in_generic_form, in_words, kept, no_data, on_more_lines, refused, too_many, touching_items}
 use Rattle.zone_words.specs.Rewriting.{Outcome, Refused}
-use Rattle.zone_words.specs.Table.{FurtherType}
+use Rattle.zone_words.specs.Table.{FurtherType, fields_in}
 use Rattle.zone_words.specs.Written.{Anew, in_octets, renamed, written}
 
 -- ---- the type's word stands at one place
@@ -66,13 +66,13 @@ module _ (origin : Labels) (before : List Entry) (entry : Entry) where
     same_above = origin_once origin before above over p.under q.under;
   }
 
-  states_once : (f g : FurtherType) (above over : Labels) (d e : List TouchingItem) (a b : List ℕ) → f ≡ g → above ≡ over → d ≡ e → StatesData above f.fields d a → StatesData over g.fields e b → a ≡ b
+  states_once : (f g : FurtherType) (above over : Labels) (d e : List TouchingItem) (a b : List ℕ) → f ≡ g → above ≡ over → d ≡ e → StatesData above (fields_in f.fields d) d a → StatesData over (fields_in g.fields e) e b → a ≡ b
   states_once f g above over d e a b same one items p q =
-      data_once over g.fields e a b (subst (λ x. StatesData over g.fields x a) items (subst (λ (x : FurtherType). StatesData over x.fields d a) same (subst (λ x. StatesData x f.fields d a) one p))) q
+      data_once over (fields_in g.fields e) e a b (subst (λ x. StatesData over (fields_in g.fields x) x a) items (subst (λ (x : FurtherType). StatesData over (fields_in x.fields d) d a) same (subst (λ x. StatesData x (fields_in f.fields d) d a) one p))) q
 
-  states_or_fails : (f g : FurtherType) (above over : Labels) (d e : List TouchingItem) (a field : List ℕ) (fault : _) → f ≡ g → above ≡ over → d ≡ e → StatesData above f.fields d a → DataFails over g.fields e field fault → ⊥
+  states_or_fails : (f g : FurtherType) (above over : Labels) (d e : List TouchingItem) (a field : List ℕ) (fault : _) → f ≡ g → above ≡ over → d ≡ e → StatesData above (fields_in f.fields d) d a → DataFails over (fields_in g.fields e) e field fault → ⊥
   states_or_fails f g above over d e a field fault same one items p q =
-      data_or_fault over g.fields e a field fault (subst (λ x. StatesData over g.fields x a) items (subst (λ (x : FurtherType). StatesData over x.fields d a) same (subst (λ x. StatesData x f.fields d a) one p))) q
+      data_or_fault over (fields_in g.fields e) e a field fault (subst (λ x. StatesData over (fields_in g.fields x) x a) items (subst (λ (x : FurtherType). StatesData over (fields_in x.fields d) d a) same (subst (λ x. StatesData x (fields_in f.fields d) d a) one p))) q
 
   pub says_once : (word other : List ℕ) (d e : List TouchingItem) (it as_well : Anew) → d ≡ e → SaysAnew origin before entry word d it → SaysAnew origin before entry other e as_well → it ≡ as_well
   says_once word other d e it as_well same (in_generic_form f above is few line generic name) (in_generic_form g over is_too few_too line_too generic_too name_too) =

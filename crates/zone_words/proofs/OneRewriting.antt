@@ -1,5 +1,5 @@
 -- There is one rewriting.
-use Rattle.zone_text.proofs.Common.{Entry, List, Token, [], and_last, ap, append_cancel_left, arith, common_steps, cut_from, entry_of, flat_map, flat_map-append, map, refl, subst, sym, text, zero, ℕ, ◌++◌, ◌+◌, ◌==◌, ◌∙◌, ◌∷◌, ◌≡◌}
+use Rattle.zone_text.proofs.Common.{Entry, List, Token, [], and_last, ap, append_cancel_left, arith, common_steps, cut_from, entry_of, flat_map, map, refl, subst, sym, text, zero, ℕ, ◌++◌, ◌+◌, ◌==◌, ◌∙◌, ◌∷◌, ◌≡◌}
 use Rattle.std.proofs.lemmas.List.{map-append}
 use Rattle.std.specs.Prelude.{count_by}
 use Rattle.zone_name.specs.Common.{Labels}

@@ -11,6 +11,7 @@ mod fault;
 mod fault_text;
 mod fed_writer;
 mod field;
+mod fields;
 mod further;
 mod inherited;
 mod kinds;

@@ -6,7 +6,7 @@ use Rattle.zone_rdata.specs.declared.item.Item.TheVariants.{Bare}
 use Rattle.zone_words.proofs.Cuts.{first_once, stands_in}
 use Rattle.zone_words.specs.DataItem.{given, TouchingItem}
 use Rattle.zone_words.specs.Machine.Cuts.{IsCutFirst, IsMissing}
-use Rattle.zone_words.specs.Parameters.Text.{BeginWith, BeginWithTouchingQuote, HasNoEquals, ParameterText, placed, alone, bare_value, quoted_value}
+use Rattle.zone_words.specs.Parameters.Text.{BeginWith, BeginWithTouchingQuote, ParameterText, placed, alone, bare_value, quoted_value}
 use Rattle.zone_words.specs.declared.data_item.DataItem.{DataItem}
 
 first_bare : (items rest : List DataItem) (first : DataItem) (text : Bor (List ℕ)) → items ≡ first ∷ rest → first.item ≡ Bare text → map given items ≡ placed (bare text.now) first.touches ∷ map given rest

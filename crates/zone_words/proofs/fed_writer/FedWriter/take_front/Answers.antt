@@ -1,8 +1,7 @@
 use Rattle.zone_text.proofs.Begun.{none_left}
-use Rattle.zone_text.proofs.Common.{List, RawItem, map, raw, refl, subst, ◌≡◌}
-use Rattle.zone_text.specs.FirstEntry.{FirstIs, IsFirstEntry}
+use Rattle.zone_text.proofs.Common.{map, raw, refl, subst}
+use Rattle.zone_text.specs.FirstEntry.{FirstIs}
 use Rattle.zone_words.proofs.FedTexts.{IsTaken, broken_taken, ended_taken, open_taken, whole_taken}
-use Rattle.zone_words.specs.Machine.EntryWriting.{PushesEntry}
 use Rattle.zone_words.proofs.fed_writer.FedWriter.take_front.Goals as goal
 use Rattle.zone_words.proofs.fed_writer.FedWriter.take_front.Goals.{in-Open, in-Ended+in_ok-end_entry-in-Ended, in-Broken+in_ok-break_off-in-Broken}
 

@@ -1,6 +1,6 @@
-use Rattle.std.proofs.Common.{arith, map, drop, refl}
+use Rattle.std.proofs.Common.{arith}
 use Rattle.zone_words.proofs.ReadFields.{at_a_field, data_fault_answered, left_count, whole_fails}
-use Rattle.zone_words.proofs.data.read_data.Goals as goal
+use Rattle.zone_words.proofs.data.read_fields.Goals as goal
 
 pub returns-in-Some-clause-fault : goal.returns-in-Some-clause-fault
 returns-in-Some-clause-fault c =
