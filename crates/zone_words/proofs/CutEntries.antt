@@ -59,14 +59,14 @@ line_first tokens entry rest is =
 pub first_of : (d : ℕ) (tokens : List Token) → HaveFirst d tokens (cut_from d tokens).ended
 first_of d [] entry rest is = absurd cc
 first_of zero (line_feed ∷ tokens) entry rest is = line_first tokens entry rest is
-first_of (suc d) (line_feed ∷ tokens) = first_behind (suc d) (suc d) line_feed tokens (λ b. refl) (first_of (suc d) tokens)
-first_of d (opening ∷ tokens) = first_behind d (suc d) opening tokens (opening_goes d) (first_of (suc d) tokens)
-first_of zero (closing ∷ tokens) = first_behind zero zero closing tokens (λ b. refl) (first_of zero tokens)
-first_of (suc d) (closing ∷ tokens) = first_behind (suc d) d closing tokens (λ b. refl) (first_of d tokens)
-first_of d (comment o ∷ tokens) = first_behind d d (comment o) tokens (comment_goes d o) (first_of d tokens)
-first_of d (blank c ∷ tokens) = first_behind d d (blank c) tokens (blank_goes d c) (first_of d tokens)
-first_of d (bare u ∷ tokens) = first_behind d d (bare u) tokens (bare_goes d u) (first_of d tokens)
-first_of d (quoted u ∷ tokens) = first_behind d d (quoted u) tokens (quoted_goes d u) (first_of d tokens)
+first_of (suc d) (line_feed ∷ tokens) entry rest is = first_behind (suc d) (suc d) line_feed tokens (λ b. refl) (first_of (suc d) tokens) entry rest is
+first_of d (opening ∷ tokens) entry rest is = first_behind d (suc d) opening tokens (opening_goes d) (first_of (suc d) tokens) entry rest is
+first_of zero (closing ∷ tokens) entry rest is = first_behind zero zero closing tokens (λ b. refl) (first_of zero tokens) entry rest is
+first_of (suc d) (closing ∷ tokens) entry rest is = first_behind (suc d) d closing tokens (λ b. refl) (first_of d tokens) entry rest is
+first_of d (comment o ∷ tokens) entry rest is = first_behind d d (comment o) tokens (comment_goes d o) (first_of d tokens) entry rest is
+first_of d (blank c ∷ tokens) entry rest is = first_behind d d (blank c) tokens (blank_goes d c) (first_of d tokens) entry rest is
+first_of d (bare u ∷ tokens) entry rest is = first_behind d d (bare u) tokens (bare_goes d u) (first_of d tokens) entry rest is
+first_of d (quoted u ∷ tokens) entry rest is = first_behind d d (quoted u) tokens (quoted_goes d u) (first_of d tokens) entry rest is
 
 -- it ends at depth zero
 one_depth : (d at : ℕ) (entry more : List Token) → IsOne d entry → depth_after d (entry ++ more) ≡ Some at → depth_after d entry ≡ Some zero

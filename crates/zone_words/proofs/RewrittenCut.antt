@@ -71,7 +71,7 @@ pub record HasLast (ended : List (List Token)) (open_tokens : List Token) (all :
   pub are : all ≡ and_last first last
   pub each : AllZip KeepsEntry ended first
   pub keeps : KeepsEntry open_tokens last
-  pub open : (open_tokens ≡ []) ↔ (last ≡ [])
+  pub none_open : (open_tokens ≡ []) ↔ (last ≡ [])
 
 some_last : (first : List (List Token)) (last : List Token) → 0 < length last → first ++ last ∷ [] ≡ and_last first last
 some_last first [] some = absurd (omega arith)
@@ -81,7 +81,7 @@ none_last : (last : List Token) → 0 < length last → last ≡ [] → ⊥
 none_last last some e = omega (arith, some, ap length e)
 
 last_of : (ended : List (List Token)) (open_tokens : List Token) (all : List (List Token)) → AllZip KeepsEntry (and_last ended open_tokens) all → HasLast ended open_tokens all
-last_of ended [] all keep = record { first = all; last = []; are = refl; each = keep; keeps = keeps_itself []; open = ((λ e. refl), (λ e. refl)) }
+last_of ended [] all keep = record { first = all; last = []; are = refl; each = keep; keeps = keeps_itself []; none_open = ((λ e. refl), (λ e. refl)) }
 last_of ended (p ∷ open_tokens) all keep =
     let apart = zip_apart ended (p ∷ open_tokens) all keep in
     let some : 0 < length apart.last = apart.keeps.some (omega arith) in
@@ -91,7 +91,7 @@ last_of ended (p ∷ open_tokens) all keep =
       are = apart.are ∙ some_last apart.first apart.last some;
       each = apart.each;
       keeps = apart.keeps;
-      open = ((λ e. absurd cc), (λ e. absurd (none_last apart.last some e)));
+      none_open = ((λ e. absurd cc), (λ e. absurd (none_last apart.last some e)));
     }
 
 last_text : (first : List (List Token)) (last : List Token) → flat_map text (and_last first last) ≡ flat_map text first ++ text last
@@ -190,13 +190,13 @@ module _ (Alike : List Token → List Token → Type 0) (from : (tokens new : Li
   entries_alike tokens others ended last is each open_each keep keeps open_too = record {
     ended = subst (λ (c : Cut). AllZip Alike (cut_from zero tokens).ended c.ended) (sym is) (each_alike (cut_from zero tokens).ended ended each keep);
     last = subst (λ (c : Cut). Alike (cut_from zero tokens).open_tokens c.open_tokens) (sym is) (from (cut_from zero tokens).open_tokens last open_each keeps);
-    open = subst (λ (c : Cut). ((cut_from zero tokens).open_tokens ≡ []) ↔ (c.open_tokens ≡ [])) (sym is) open_too;
+    none_open = subst (λ (c : Cut). ((cut_from zero tokens).open_tokens ≡ []) ↔ (c.open_tokens ≡ [])) (sym is) open_too;
   }
 
   whole_alike : (octets new : List ℕ) (tokens : List Token) (outcomes : List Outcome) → Cuts octets tokens → IsCutWhole tokens outcomes new → AreCutAlike Alike octets new
   whole_alike octets new tokens outcomes cut found =
       alike.whole tokens found.others cut found.cut
-      (entries_alike tokens found.others found.last.first found.last.last found.is found.each found.open_each found.last.each found.last.keeps found.last.open)
+      (entries_alike tokens found.others found.last.first found.last.last found.is found.each found.open_each found.last.each found.last.keeps found.last.none_open)
 
   broken_alike : (octets new rest : List ℕ) (tokens : List Token) (fault : Fault) (outcomes : List Outcome) (breaks : Breaks octets tokens fault) → IsCutBroken tokens fault outcomes new rest breaks.rest → AreCutAlike Alike octets new
   broken_alike octets new rest tokens fault outcomes breaks found =

@@ -88,9 +88,9 @@ module _ (a b : RawItem) (x y : List RawItem) (none : IsNoWord b) where
 
 -- the type is never the first item of an entry that begins with no blank
 never_owner : (dollar is : Bool) (a : RawItem) (x : List RawItem) (parts : Parts) → is ≡ false → parts_in (if dollar then directive a x else if is then unowned (a ∷ x) else owned a x) ≡ Some parts → parts.rest ≡ a ∷ x → ⊥
-never_owner true is a x parts no e rest = no_directive a x parts e
-never_owner false true a x parts no e rest = absurd cc
-never_owner false false a x parts no e rest = let same : parts_after [] x ≡ parts = cc e in too_short [] a x (ap (λ (p : Parts). p.rest) same ∙ rest)
+never_owner true is a x parts unblank e rest = no_directive a x parts e
+never_owner false true a x parts unblank e rest = absurd cc
+never_owner false false a x parts unblank e rest = let same : parts_after [] x ≡ parts = cc e in too_short [] a x (ap (λ (p : Parts). p.rest) same ∙ rest)
 
 -- ---- the first octet
 

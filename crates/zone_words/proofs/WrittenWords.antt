@@ -1,8 +1,8 @@
 -- The words that are written anew are tokens, and no line feed stands in them.
 use Rattle.zone_text.proofs.Common.{AllByRecursion, AllByRecursion-append, Bool, IsToken, IsUnit, List, Token, Written, [], ap, arith, bare, blank, common_steps, ends_item, escaped, false, if◌then◌else◌, length, map, plain, refl, subst, suc, sym, true, zero, ℕ, ◌++◌, ◌+◌, ◌<◌, ◌==◌, ◌∙◌, ◌∷◌, ◌≡◌, ◌≢◌, ◌≤◌}
 use Rattle.hex.specs.Hex.{encode_lower, encode_with, lower_digits}
-use Rattle.std.proofs.Common.{length-map}
 use Rattle.std.proofs.lemmas.Bool.Decides.{nat_tests}
+use Rattle.std.proofs.lemmas.List.{length-map}
 use Rattle.std.specs.Fmt.{digit_glyph, digits, digits_onto}
 use Rattle.std.specs.Prelude.{codes, decimal, nat_lt, slice_index, ◌/◌, ◌%◌}
 use Rattle.zone_words.specs.Written.{generic_tokens, type_token, word}
@@ -36,21 +36,21 @@ pub plain_decimal : (n : ℕ) → ArePlain (decimal n)
 unfolding digits
 plain_decimal n = plain_onto 64 n [] tt
 
+either_some : (b : Bool) (xs ys : List ℕ) → 0 < length xs → 0 < length ys → 0 < length (if b then xs else ys)
+either_some true xs ys x y = x
+either_some false xs ys x y = y
+
 some_onto : (k n : ℕ) (acc : List ℕ) → 0 < length acc → 0 < length (digits_onto k 10 false n acc)
 some_onto zero n acc some = some
-some_onto (suc k) n acc some = either_some (n / 10 == 0) (digit_glyph false (n % 10) ∷ acc) (digits_onto k 10 false (n / 10) (digit_glyph false (n % 10) ∷ acc)) (omega arith) (some_onto k (n / 10) (digit_glyph false (n % 10) ∷ acc) (omega arith))
-  where
-    either_some : (b : Bool) (xs ys : List ℕ) → 0 < length xs → 0 < length ys → 0 < length (if b then xs else ys)
-    either_some true xs ys x y = x
-    either_some false xs ys x y = y
+some_onto (suc k) n acc some =
+    either_some (n / 10 == 0) (digit_glyph false (n % 10) ∷ acc) (digits_onto k 10 false (n / 10) (digit_glyph false (n % 10) ∷ acc))
+    (omega arith) (some_onto k (n / 10) (digit_glyph false (n % 10) ∷ acc) (omega arith))
 
 some_decimal : (n : ℕ) → 0 < length (decimal n)
 unfolding digits
-some_decimal n = either_some (n / 10 == 0) (digit_glyph false (n % 10) ∷ []) (digits_onto 63 10 false (n / 10) (digit_glyph false (n % 10) ∷ [])) (omega arith) (some_onto 63 (n / 10) (digit_glyph false (n % 10) ∷ []) (omega arith))
-  where
-    either_some : (b : Bool) (xs ys : List ℕ) → 0 < length xs → 0 < length ys → 0 < length (if b then xs else ys)
-    either_some true xs ys x y = x
-    either_some false xs ys x y = y
+some_decimal n =
+    either_some (n / 10 == 0) (digit_glyph false (n % 10) ∷ []) (digits_onto 63 10 false (n / 10) (digit_glyph false (n % 10) ∷ []))
+    (omega arith) (some_onto 63 (n / 10) (digit_glyph false (n % 10) ∷ []) (omega arith))
 
 plain_index : (l : List ℕ) (i : ℕ) → ArePlain l → IsPlain (slice_index l i)
 plain_index l i each = grind (arith, common_steps)
@@ -79,13 +79,13 @@ pub type_is : (number : ℕ) → IsToken (type_token number)
 type_is number = word_token (codes "TYPE" ++ decimal number) (omega arith) (AllByRecursion-append IsPlain (codes "TYPE") (decimal number) (grind arith) (plain_decimal number))
 
 mark_is : IsToken (bare (escaped 35 ∷ []))
-mark_is = (omega arith, ((refl, ((λ e. omega arith), (λ e. omega arith))), tt))
+mark_is = (omega arith, ((refl, (λ e. omega arith), (λ e. omega arith)), tt))
+
+hex_some : (c : ℕ) (octets : List ℕ) → 0 < length (encode_lower (c ∷ octets))
+unfolding encode_with
+hex_some c octets = omega arith
 
 pub generic_are : (number : ℕ) (octets : List ℕ) (more : List Token) → AllByRecursion IsToken more → AllByRecursion IsToken (generic_tokens number octets ++ more)
 generic_are number [] more each = (type_is number, (refl, (mark_is, (refl, (word_token (decimal 0) (some_decimal 0) (plain_decimal 0), each)))))
 generic_are number (c ∷ octets) more each =
     (type_is number, (refl, (mark_is, (refl, (word_token (decimal (length (c ∷ octets))) (some_decimal (length (c ∷ octets))) (plain_decimal (length (c ∷ octets))), (refl, (word_token (encode_lower (c ∷ octets)) (hex_some c octets) (plain_hex (c ∷ octets)), each)))))))
-  where
-    hex_some : (c : ℕ) (octets : List ℕ) → 0 < length (encode_lower (c ∷ octets))
-    unfolding encode_with
-    hex_some c octets = omega arith
