@@ -142,7 +142,7 @@ module _ (origin : Labels) (before : List Entry) (line : ℕ) (tokens : List Tok
   says_on_one_line entry word d it (in_words f above octets is few one_line words states) = one_line
 
   written_feeds : (it : Anew) (back : List Token) → AllByRecursion IsToken back → AreOnOneLine (items_of (touching_items true back)) → feeds back ≡ feeds (written it back)
-  written_feeds (renamed number) back each one_line = omega (arith, one_feeds (type_token number) back, bare_feedless _ (type_is number))
+  written_feeds (renamed number) back each one_line = sym (flat_feeds (type_token number ∷ []) back tt (type_is number, tt))
   written_feeds (in_octets number octets) back each one_line = sym (generic_feeds number octets (filter stays back) ∙ stay_feeds true back each one_line)
 
   anew_feeds : (front back : List Token) (word : List Written) (it : Anew) → AllByRecursion IsToken (front ++ bare word ∷ back) → AreOnOneLine (items_of (touching_items true back)) → HaveAsManyLines (front ++ bare word ∷ back) (front ++ written it back)
