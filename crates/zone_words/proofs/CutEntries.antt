@@ -1,8 +1,8 @@
 -- The entries of a text one by one, and other entries that are put together to a text.
-use Rattle.zone_text.proofs.Common.{AllByRecursion, AllFollow, Breaks, Cut, Cuts, EndInLineFeed, Fault, IsToken, List, Option, Some, Token, Written, [], ap, append-nil, append_assoc, arith, bare, blank, closing, comment, cut_from, depth_after, flat_map, flat_map-append, in_front, in_front_of, length, line_feed, opening, quoted, refl, subst, suc, sym, text, token_text, zero, ℕ, ◌++◌, ◌∙◌, ◌∷◌, ◌≡◌}
+use Rattle.zone_text.proofs.Common.{AllByRecursion, Breaks, Cut, Cuts, EndInLineFeed, Fault, IsOneEntry, List, Some, Token, [], ap, append-nil, append_assoc, bare, blank, closing, comment, cut_from, depth_after, flat_map, in_front, in_front_of, line_feed, opening, quoted, refl, subst, suc, sym, text, zero, ℕ, ◌++◌, ◌∙◌, ◌∷◌, ◌≡◌}
 use Rattle.zone_text.proofs.CutAgain.{AreEnded, again_zero, cut_ended, cut_whole, joined}
 use Rattle.zone_text.proofs.Lasting.{break_joined, break_parted, cut_joined, cut_parted}
-use Rattle.zone_words.proofs.EntryShapes.{IsOne, IsUnended, bare_goes, blank_goes, comment_goes, cut_of, one_off, opening_goes, quoted_goes, single}
+use Rattle.zone_words.proofs.EntryShapes.{IsOne, IsUnended, bare_goes, blank_goes, comment_goes, cut_of, one_off, opening_goes, quoted_goes}
 
 -- ---- the first entry
 
@@ -86,9 +86,8 @@ one_depth d at (quoted u ∷ back) more one e = one_depth d at back more (one_of
 
 -- ---- entries that are ended
 
-pub record IsWholeEntry (tokens : List Token) : Type 0 where
-  pub one : IsOne zero tokens
-  pub cut : Cuts (text tokens) tokens
+abbrev pub IsWholeEntry : List Token → Type 0
+IsWholeEntry tokens = IsOneEntry (text tokens) tokens
 
 one_ended : (entry : List Token) → IsOne zero entry → AreEnded zero (entry ∷ [])
 one_ended entry one = subst (AreEnded zero) (ap (λ (c : Cut). c.ended) one) (cut_ended zero entry)
@@ -131,7 +130,7 @@ module _ (Ends : List ℕ → List Token → Type 0) where
 
   one_parted : (octets : List ℕ) (tokens entry : List Token) (rest : List (List Token)) (first : IsFirst zero tokens entry rest) (front : IsFrontOf octets entry first.more) → IsPartedInto rest front.rest first.more → IsPartedInto (entry ∷ rest) octets tokens
   one_parted octets tokens entry rest first front others = record {
-    each = (record { one = first.one; cut = front.cut }, others.each);
+    each = (record { cut = front.cut; ended = first.one }, others.each);
     rest = others.rest;
     whole = front.whole ∙ ap (λ t. text entry ++ t) others.whole ∙ sym (append_assoc (text entry) (flat_map text rest) others.rest);
     last = subst (Ends others.rest) first.last others.last;
@@ -164,8 +163,8 @@ module _ (Ends : List ℕ → List Token → Type 0) where
       record {
         ends = subst (λ o. Ends o (joined (entry ∷ ended) ++ open_tokens)) octets
             (subst (Ends (text entry ++ (flat_map text ended ++ rest))) same
-            (join (text entry) (flat_map text ended ++ rest) entry (joined ended ++ open_tokens) each.0.cut (one_ends entry each.0.one) more.ends));
-        cut = ap (cut_from zero) (sym same) ∙ one_then entry (joined ended ++ open_tokens) each.0.one ∙ ap (λ (c : Cut). cut_of (entry ∷ c.ended) c.open_tokens) more.cut;
+            (join (text entry) (flat_map text ended ++ rest) entry (joined ended ++ open_tokens) each.0.cut (one_ends entry each.0.ended) more.ends));
+        cut = ap (cut_from zero) (sym same) ∙ one_then entry (joined ended ++ open_tokens) each.0.ended ∙ ap (λ (c : Cut). cut_of (entry ∷ c.ended) c.open_tokens) more.cut;
       }
 
 -- ---- whole texts, and those that break

@@ -1,20 +1,18 @@
 -- Items that state no data have one fault, in one field.
-use Rattle.std.proofs.Common.{[], ◌≡◌, ℕ, ◌<◌, List, ◌∷◌, Some, inl, inr, refl, sym, ap, ◌∙◌, subst}
+use Rattle.std.proofs.Common.{[], ◌≡◌, ℕ, List, ◌∷◌, Some, inl, inr, refl, sym, ap, ◌∙◌}
 use Rattle.std.specs.Int.{Width, w8, w16, w32}
 use Rattle.zone_name.proofs.Answered.{FirstFault-once}
 use Rattle.zone_name.specs.Common.{Labels}
-use Rattle.zone_rdata.proofs.StringLaws.{fault-once, string-never_both}
-use Rattle.zone_rdata.specs.Fields.Strings.{FirstStringFault}
+use Rattle.zone_rdata.proofs.Fields.Strings.{fault_once as leftmost_once}
+use Rattle.zone_rdata.proofs.StringLaws.{fault-once}
 use Rattle.zone_rdata.specs.Item.{RawItem, bare, quoted}
-use Rattle.zone_rdata.specs.declared.fault.Fault.{Fault}
 use Rattle.zone_words.proofs.DataLaws.{none_fails}
 use Rattle.zone_words.proofs.FieldLaws.{field_or_fault}
 use Rattle.zone_words.proofs.OfParameters.OneFault.{parameters_fault_once}
 use Rattle.zone_words.proofs.Times.{time_fault_once}
 use Rattle.zone_words.proofs.Values.{quoted_value_fault_once, value_fault_once}
-use Rattle.zone_words.specs.Data.{AFieldFails, DataFails, StateParts, at_field, items_left, joined, left_over, too_long}
+use Rattle.zone_words.specs.Data.{AFieldFails, DataFails, at_field, items_left, too_long}
 use Rattle.zone_words.specs.DataItem.{TouchingItem}
-use Rattle.zone_words.specs.Fault.{NothingStated}
 use Rattle.zone_words.specs.Field.{FailsBare, FailsField, FailsText, items_after, items_of, own_items}
 use Rattle.zone_words.specs.FirstItem.{FirstFails}
 use Rattle.zone_words.specs.Kinds.Base64.{StatesBase64}
@@ -80,13 +78,6 @@ string_fault_once item a b p q = p.is ∙ ap of_string (fault-once item p.own q.
 perhaps_fault_once : (items : List RawItem) (a b : WordsFault) → FailsPerhaps items a → FailsPerhaps items b → a ≡ b
 perhaps_fault_once [] a b p q = absurd p
 perhaps_fault_once (item ∷ items) a b p q = string_fault_once item a b p q
-
-leftmost_once : (items : List RawItem) (a b : Fault) → FirstStringFault items a → FirstStringFault items b → a ≡ b
-leftmost_once [] a b p q = absurd p
-leftmost_once (item ∷ items) a b (inl p) (inl q) = fault-once item a b p q
-leftmost_once (item ∷ items) a b (inl p) (inr q) = absurd (string-never_both item q.0 a q.1 p)
-leftmost_once (item ∷ items) a b (inr p) (inl q) = absurd (string-never_both item p.0 b p.1 q)
-leftmost_once (item ∷ items) a b (inr p) (inr q) = leftmost_once items a b p.2 q.2
 
 strings_fault_once : (items : List RawItem) (a b : WordsFault) → FailsStrings items a → FailsStrings items b → a ≡ b
 strings_fault_once [] a b p q = p ∙ sym q

@@ -1,8 +1,9 @@
 -- What is written for an entry is cut as the entry is, and has as many line feeds.
 use Rattle.zone_text.proofs.Common.{AllByRecursion, AllByRecursion-append, AllByRecursion-back, AllByRecursion-front, AllFollow, Bool, Cuts, Entry, IsToken, IsUnit, List, Token, Written, [], ap, arith, bare, blank, both_ways, closing, comment, depth_after, ends_item, entry_of, escaped, false, flat_map-append, if◌then◌else◌, is_blank, is_digit, length, line_feed, opening, plain, quoted, refl, subst, sum_by-append, sym, text, text_of, token_text, true, written_text, zero, ℕ, ◌++◌, ◌+◌, ◌<◌, ◌==◌, ◌∙◌, ◌∷◌, ◌≡◌, ◌≢◌}
-use Rattle.std.specs.Prelude.{count_by, filter}
+use Rattle.std.specs.Prelude.{filter}
 use Rattle.zone_name.specs.Common.{Labels}
 use Rattle.zone_name.specs.Spelling.{decimal}
+use Rattle.zone_text.proofs.Left.{line_feeds}
 use Rattle.zone_words.proofs.EntryShapes.{AreFlat, IsOne, IsUnended, anew_depth, anew_follow, anew_one, anew_unended, generic_flat}
 use Rattle.zone_words.proofs.WrittenWords.{generic_are, type_is}
 use Rattle.zone_words.specs.CutAlike.{HaveAsManyLines, IsKeptOrAnew, is_anew, is_kept}
@@ -13,22 +14,19 @@ use Rattle.zone_words.specs.Written.{Anew, generic_tokens, in_octets, renamed, s
 
 -- ---- line feeds
 
-abbrev pub feeds_in : List ℕ → ℕ
-feeds_in octets = count_by (λ c. c == 10) octets
-
 abbrev pub feeds : List Token → ℕ
-feeds tokens = feeds_in (text tokens)
+feeds tokens = line_feeds (text tokens)
 
-append_feeds_in : (octets more : List ℕ) → feeds_in (octets ++ more) ≡ feeds_in octets + feeds_in more
-append_feeds_in octets more = sum_by-append (λ c. if c == 10 then 1 else 0) octets more
+append_octets : (octets more : List ℕ) → line_feeds (octets ++ more) ≡ line_feeds octets + line_feeds more
+append_octets octets more = sum_by-append (λ c. if c == 10 then 1 else 0) octets more
 
-one_feeds : (p : Token) (back : List Token) → feeds (p ∷ back) ≡ feeds_in (token_text p) + feeds back
-one_feeds p back = append_feeds_in (token_text p) (text back)
+one_feeds : (p : Token) (back : List Token) → feeds (p ∷ back) ≡ line_feeds (token_text p) + feeds back
+one_feeds p back = append_octets (token_text p) (text back)
 
 append_feeds : (front back : List Token) → feeds (front ++ back) ≡ feeds front + feeds back
-append_feeds front back = ap feeds_in (flat_map-append token_text front back) ∙ append_feeds_in (text front) (text back)
+append_feeds front back = ap line_feeds (flat_map-append token_text front back) ∙ append_octets (text front) (text back)
 
-none_counted : (octets : List ℕ) → AllByRecursion (λ c. c ≢ 10) octets → feeds_in octets ≡ 0
+none_counted : (octets : List ℕ) → AllByRecursion (λ c. c ≢ 10) octets → line_feeds octets ≡ 0
 none_counted [] each = refl
 none_counted (c ∷ octets) each = let more = none_counted octets each.1 in let own = each.0 in grind arith
 
@@ -42,23 +40,23 @@ no_digit c is e = both_ways (is_digit c) (ap is_digit e) is
 no_blank : (c : ℕ) → is_blank c ≡ true → c ≢ 10
 no_blank c is e = both_ways (is_blank c) (ap is_blank e) is
 
-unit_feedless : (w : Written) → IsUnit ends_item w → feeds_in (text_of w) ≡ 0
+unit_feedless : (w : Written) → IsUnit ends_item w → line_feeds (text_of w) ≡ 0
 unit_feedless (plain c) is = none_counted (c ∷ []) (no_end c is.0, tt)
 unit_feedless (escaped c) is = none_counted (92 ∷ c ∷ []) ((λ e. omega arith), (is.1, tt))
 unit_feedless (decimal x y z) is = none_counted (92 ∷ x ∷ y ∷ z ∷ []) ((λ e. omega arith), (no_digit x is.0, (no_digit y is.1, (no_digit z is.2, tt))))
 
-units_feedless : (units : List Written) → AllByRecursion (IsUnit ends_item) units → feeds_in (written_text units) ≡ 0
+units_feedless : (units : List Written) → AllByRecursion (IsUnit ends_item) units → line_feeds (written_text units) ≡ 0
 units_feedless [] each = refl
-units_feedless (w ∷ units) each = omega (arith, append_feeds_in (text_of w) (written_text units), unit_feedless w each.0, units_feedless units each.1)
+units_feedless (w ∷ units) each = omega (arith, append_octets (text_of w) (written_text units), unit_feedless w each.0, units_feedless units each.1)
 
-blank_feedless : (c : ℕ) → IsToken (blank c) → feeds_in (token_text (blank c)) ≡ 0
+blank_feedless : (c : ℕ) → IsToken (blank c) → line_feeds (token_text (blank c)) ≡ 0
 blank_feedless c is = none_counted (c ∷ []) (no_blank c is, tt)
 
-bare_feedless : (units : List Written) → IsToken (bare units) → feeds_in (token_text (bare units)) ≡ 0
+bare_feedless : (units : List Written) → IsToken (bare units) → line_feeds (token_text (bare units)) ≡ 0
 bare_feedless units is = units_feedless units is.1
 
-quoted_feeds : (units : List Written) → feeds_in (token_text (quoted units)) ≡ feeds_in (written_text units)
-quoted_feeds units = omega (arith, append_feeds_in (34 ∷ []) (written_text units ++ 34 ∷ []), append_feeds_in (written_text units) (34 ∷ []), none_counted (34 ∷ []) ((λ e. omega arith), tt))
+quoted_feeds : (units : List Written) → line_feeds (token_text (quoted units)) ≡ line_feeds (written_text units)
+quoted_feeds units = omega (arith, append_octets (34 ∷ []) (written_text units ++ 34 ∷ []), append_octets (written_text units) (34 ∷ []), none_counted (34 ∷ []) ((λ e. omega arith), tt))
 
 flat_feeds : (tokens more : List Token) → AreFlat tokens → AllByRecursion IsToken tokens → feeds (tokens ++ more) ≡ feeds more
 flat_feeds [] more flat each = refl
@@ -104,9 +102,9 @@ some_written : (it : Anew) (back : List Token) → 0 < length (written it back)
 some_written (renamed number) back = omega arith
 some_written (in_octets number octets) back = omega arith
 
-some_after : (front : List Token) (it : Anew) (back : List Token) → 0 < length (front ++ written it back)
-some_after [] it back = some_written it back
-some_after (p ∷ front) it back = omega arith
+some_anew : (front : List Token) (it : Anew) (back : List Token) → 0 < length (front ++ written it back)
+some_anew [] it back = some_written it back
+some_anew (p ∷ front) it back = omega arith
 
 -- ---- an entry
 
@@ -123,8 +121,14 @@ pub record KeepsEntry (tokens new : List Token) : Type 0 where
 
 pub keeps_itself : (tokens : List Token) → KeepsEntry tokens tokens
 keeps_itself tokens = record {
-  one = λ h. h; unended = λ h. h; depth = refl; follow = λ h. h; each = λ h. h; some = λ h. h;
-  lines = λ h. refl; how = is_kept refl;
+  one = λ h. h;
+  unended = λ h. h;
+  depth = refl;
+  follow = λ h. h;
+  each = λ h. h;
+  some = λ h. h;
+  lines = λ h. refl;
+  how = is_kept refl;
 }
 
 -- where they are cut to the end, so are those
@@ -157,7 +161,7 @@ module _ (origin : Labels) (before : List Entry) (line : ℕ) (tokens : List Tok
     depth = anew_depth front it word back;
     follow = anew_follow it front word back;
     each = λ each. AllByRecursion-append IsToken front (written it back) (AllByRecursion-front IsToken front (bare word ∷ back) each) (written_each it back (AllByRecursion-back IsToken front (bare word ∷ back) each).1);
-    some = λ some. some_after front it back;
+    some = λ some. some_anew front it back;
     lines = λ each. anew_feeds front back word it each one_line;
     how = is_anew front back word it refl refl;
   }

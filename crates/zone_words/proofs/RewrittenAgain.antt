@@ -1,8 +1,8 @@
 -- A rewriting is its own rewriting.
-use Rattle.zone_text.proofs.Common.{AllByRecursion, Breaks, Cut, Cuts, Entry, Fault, IsToken, List, MatchOption, None, Option, Some, Token, Written, [], and_last, ap, bare, class_word, cut_from, entry_of, flat_map, latest, refl, statement_of, subst, sym, text, zero, ℕ, ◌++◌, ◌+◌, ◌==◌, ◌∙◌, ◌∷◌, ◌≡◌}
+use Rattle.zone_text.proofs.Common.{AllByRecursion, Cut, Entry, Fault, IsToken, List, MatchOption, None, Option, Some, Token, [], and_last, ap, class_word, cut_from, entry_of, flat_map, latest, refl, statement_of, subst, sym, text, zero, ℕ, ◌++◌, ◌+◌, ◌==◌, ◌∙◌, ◌∷◌, ◌≡◌}
 use Rattle.std.specs.List.{AllZip}
 use Rattle.std.specs.Option.{option_or}
-use Rattle.std.specs.Prelude.{count_by, true}
+use Rattle.std.specs.Prelude.{count_by}
 use Rattle.zone_name.specs.Common.{Labels}
 use Rattle.zone_name.specs.Spelling.{written_text}
 use Rattle.zone_rdata.specs.Item.{RawItem}
@@ -10,11 +10,9 @@ use Rattle.zone_rdata.specs.Table.{in_class}
 use Rattle.zone_rdata.specs.Words.{IsClassWord}
 use Rattle.zone_text.specs.Inherited.{HasClass}
 use Rattle.zone_words.proofs.CutEntries.{IsWholeEntry}
-use Rattle.zone_words.proofs.EntryShapes.{cut_of}
-use Rattle.zone_words.proofs.RewrittenCut.{IsCutBroken, IsCutWhole, cut_broken_text, cut_whole_text, news, written_news}
-use Rattle.zone_words.proofs.KeptEntries.{KeepsEntry, becomes_keeps}
+use Rattle.zone_words.proofs.RewrittenCut.{IsCutBroken, IsCutWhole, cut_broken_text, cut_whole_text, news}
+use Rattle.zone_words.proofs.KeptEntries.{becomes_keeps}
 use Rattle.zone_words.proofs.SameStatements.{AlikeEntries, anew_again, anew_entry_alike}
-use Rattle.zone_words.specs.CutAlike.{HaveAsManyLines}
 use Rattle.zone_words.specs.DataItem.{TouchingItem, items_of}
 use Rattle.zone_words.specs.Entry.{BecomesUnder, IsFurtherRecord, IsFurtherUnder, IsRefused, IsRewriting, SaysAnew, TokensFail, TokensSay, anew, in_generic_form, in_words, kept, no_data, on_more_lines, refused, too_many}
 use Rattle.zone_words.specs.Origin.{IsCasedOrigin, NamesOrigin, origin_items}
@@ -133,11 +131,10 @@ module _ (origin : Labels) where
   each_again before after line (entry ∷ entries) [] same each becomes = absurd becomes
   each_again before after line (entry ∷ entries) (o ∷ outcomes) same each becomes =
       let now = becomes_again before after line entry o same each.0 becomes.0 in
-      let lines : count_by (λ c. c == 10) (text entry) ≡ count_by (λ c. c == 10) (text o.written) = (becomes_keeps origin before line entry o becomes.0).lines each.0 in
-      (
+      let lines : count_by (λ c. c == 10) (text entry) ≡ count_by (λ c. c == 10) (text o.written) = (becomes_keeps origin before line entry o becomes.0).lines each.0 in (
         now.becomes,
         each_again (entry_of line entry ∷ before) (entry_of line o.written ∷ after) (line + count_by (λ c. c == 10) (text o.written)) entries outcomes (now.alike, same) each.1
-        (subst (λ n. EachBecomes (BecomesUnder origin) (entry_of line entry ∷ before) (line + n) entries outcomes) lines becomes.1),
+            (subst (λ n. EachBecomes (BecomesUnder origin) (entry_of line entry ∷ before) (line + n) entries outcomes) lines becomes.1),
       )
 
   -- ---- the whole text

@@ -1,11 +1,11 @@
 -- A rewriting is cut into entries as its text is.
-use Rattle.zone_text.proofs.Common.{AllByRecursion, Breaks, Cut, Cuts, Entry, Fault, IsToken, List, Token, [], and_last, ap, append-nil, append_assoc, append_cancel_left, arith, common_steps, cut_from, entry_of, flat_map, flat_map-append, length, map, refl, subst, sym, text, token_text, zero, ℕ, ◌++◌, ◌+◌, ◌<◌, ◌==◌, ◌↔◌, ◌∙◌, ◌∷◌, ◌≡◌}
+use Rattle.zone_text.proofs.Common.{AllByRecursion, Breaks, Cut, Cuts, Entry, Fault, IsToken, List, Token, [], and_last, ap, append-nil, append_assoc, append_cancel_left, arith, cut_from, entry_of, flat_map, flat_map-append, length, map, refl, subst, sym, text, token_text, zero, ℕ, ◌++◌, ◌+◌, ◌<◌, ◌==◌, ◌↔◌, ◌∙◌, ◌∷◌, ◌≡◌}
 use Rattle.std.specs.List.{AllZip}
 use Rattle.std.specs.Prelude.{count_by}
 use Rattle.zone_name.specs.Common.{Labels}
 use Rattle.zone_text.proofs.CutAgain.{cut_whole, joined}
 use Rattle.zone_text.proofs.Left.{text_of_entries}
-use Rattle.zone_words.proofs.CutEntries.{BreaksBy, IsPartedInto, IsPutTogether, IsWholeEntry, broken_parted, broken_together, whole_parted, whole_together}
+use Rattle.zone_words.proofs.CutEntries.{BreaksBy, IsPartedInto, IsWholeEntry, broken_parted, broken_together, whole_parted, whole_together}
 use Rattle.zone_words.proofs.EntryShapes.{cut_of}
 use Rattle.zone_words.proofs.KeptEntries.{KeepsEntry, becomes_keeps, keeps_cut, keeps_itself}
 use Rattle.zone_words.specs.CutAlike.{AreCutAlike, HaveAsManyLines, HaveEntriesAlike, IsKeptOrAnew}
@@ -36,7 +36,7 @@ each_whole [] [] each keep = tt
 each_whole [] (new ∷ others) each keep = absurd keep
 each_whole (entry ∷ ended) [] each keep = absurd keep
 each_whole (entry ∷ ended) (new ∷ others) each keep = (
-  record { one = keep.0.one each.0.one; cut = keeps_cut (text entry) entry new keep.0 each.0.cut },
+  record { cut = keeps_cut (text entry) entry new keep.0 each.0.cut; ended = keep.0.one each.0.ended },
   each_whole ended others each.1 keep.1,
 )
 
@@ -131,15 +131,11 @@ module _ (origin : Labels) (octets new : List ℕ) (tokens : List Token) (outcom
 
 -- ---- a text that breaks
 
-left_same : (a b rest other : List ℕ) → a ≡ b → a ++ rest ≡ b ++ other → rest ≡ other
-left_same a b rest other same e = grind (arith, common_steps, append_cancel_left)
-
 -- what stands after the entries that are ended
 after_entries : (octets rest end : List ℕ) (ended : List (List Token)) (open_tokens tokens : List Token) → joined ended ++ open_tokens ≡ tokens → octets ≡ text tokens ++ end → octets ≡ flat_map text ended ++ rest → rest ≡ text open_tokens ++ end
 after_entries octets rest end ended open_tokens tokens is first second =
     let t : text tokens ≡ flat_map text ended ++ text open_tokens = ap text (sym is) ∙ flat_map-append token_text (joined ended) open_tokens ∙ ap (λ t. t ++ text open_tokens) (sym (text_of_entries ended)) in
-    left_same (flat_map text ended) (flat_map text ended) rest (text open_tokens ++ end) refl
-    (sym second ∙ first ∙ ap (λ x. x ++ end) t ∙ append_assoc (flat_map text ended) (text open_tokens) end)
+    append_cancel_left (flat_map text ended) rest (text open_tokens ++ end) (sym second ∙ first ∙ ap (λ x. x ++ end) t ∙ append_assoc (flat_map text ended) (text open_tokens) end)
 
 pub record IsCutBroken (tokens : List Token) (fault : Fault) (outcomes : List Outcome) (new rest end : List ℕ) : Type 0 where
   pub others : List Token
@@ -156,7 +152,7 @@ module _ (origin : Labels) (octets new : List ℕ) (tokens : List Token) (fault 
   broken_by breaks parts_are new_is keep parts =
       let ended : List (List Token) = (cut_from zero tokens).ended in
       let left : List Token = (cut_from zero tokens).open_tokens in
-      let same : parts.rest ≡ rest = left_same (flat_map text ended) (flat_map text ended) parts.rest rest refl (sym parts.whole ∙ parts_are) in
+      let same : parts.rest ≡ rest = append_cancel_left (flat_map text ended) parts.rest rest (sym parts.whole ∙ parts_are) in
       let put = broken_together fault (news outcomes) rest left (each_whole ended (news outcomes) parts.each keep) (subst (λ r. Breaks r left fault) same parts.last) parts.unended in
       let now : new ≡ flat_map text (news outcomes) ++ rest = new_is ∙ ap (λ t. t ++ rest) (written_news outcomes) in
       let again : Breaks new (joined (news outcomes) ++ left) fault = subst (λ o. Breaks o (joined (news outcomes) ++ left) fault) (sym now) put.ends in
@@ -167,7 +163,7 @@ module _ (origin : Labels) (octets new : List ℕ) (tokens : List Token) (fault 
         breaks = again;
         keep = keep;
         is = put.cut;
-        same = left_same (text left) (text left) breaks.rest again.rest refl (sym before ∙ after);
+        same = append_cancel_left (text left) breaks.rest again.rest (sym before ∙ after);
         parted = now;
         each = parts.each;
         open_each = parts.last.each;

@@ -1,5 +1,5 @@
 -- An entry that is written anew says the same of what others inherit, and states no more anew.
-use Rattle.zone_text.proofs.Common.{AllByRecursion, Bool, Entry, IsToken, List, None, Option, RawItem, Some, Token, Written, [], ap, arith, bare, blank, class_among, class_word, closing, comment, ends_item, entry_of, escaped, false, flat_map, flat_map-append, is_blank, item_of, latest, length, length-append, line_feed, map, opening, parts_after, parts_in, plain, quoted, refl, slice_get, statement_by, statement_of, subst, sym, text, token_text, true, word_after, written_text, ℕ, ◌++◌, ◌+◌, ◌<◌, ◌==◌, ◌∙◌, ◌∷◌, ◌≡◌, ◌≤◌}
+use Rattle.zone_text.proofs.Common.{AllByRecursion, Bool, Entry, IsToken, List, None, Option, RawItem, Some, Token, Written, [], ap, arith, bare, blank, class_among, class_word, closing, comment, ends_item, entry_of, escaped, false, flat_map, flat_map-append, is_blank, item_of, length, length-append, line_feed, map, opening, parts_after, parts_in, plain, quoted, refl, slice_get, statement_by, statement_of, subst, sym, text, token_text, true, word_after, written_text, ℕ, ◌++◌, ◌+◌, ◌==◌, ◌∙◌, ◌∷◌, ◌≡◌}
 use Rattle.std.proofs.lemmas.Bool.{not-true}
 use Rattle.std.proofs.lemmas.Slice.Eq.{bytes_eq-Decides}
 use Rattle.std.specs.Prelude.{bytes_eq, codes, decimal, filter, if◌then◌else◌, not, option_and_then, take}
@@ -18,7 +18,7 @@ use Rattle.zone_text.proofs.WordsLeft.{next_part}
 use Rattle.zone_text.specs.Statements.{Parts, Statement, Word, directive, owned, unowned}
 use Rattle.zone_words.proofs.Turns.{fails_in_words, fails_under, items_behind, no_directive, no_origin, says_under}
 use Rattle.zone_words.specs.DataItem.{TouchingItem, items_of}
-use Rattle.zone_words.specs.Entry.{BecomesUnder, IsFurtherRecord, IsRefused, SaysAnew, TokensFail, TokensSay, in_generic_form, in_words, kept, touching_items}
+use Rattle.zone_words.specs.Entry.{BecomesUnder, IsFurtherRecord, IsRefused, SaysAnew, TokensSay, in_generic_form, in_words, kept, touching_items}
 use Rattle.zone_words.specs.Origin.{origin_items}
 use Rattle.zone_words.specs.Rewriting.{Refused}
 use Rattle.zone_words.specs.Table.{FurtherType, further_names}

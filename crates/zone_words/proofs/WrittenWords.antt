@@ -1,5 +1,5 @@
 -- The words that are written anew are tokens, and no line feed stands in them.
-use Rattle.zone_text.proofs.Common.{AllByRecursion, AllByRecursion-append, Bool, IsToken, IsUnit, List, Token, Written, [], ap, arith, bare, blank, common_steps, ends_item, escaped, false, if◌then◌else◌, length, map, plain, refl, subst, suc, sym, true, zero, ℕ, ◌++◌, ◌+◌, ◌<◌, ◌==◌, ◌∙◌, ◌∷◌, ◌≡◌, ◌≢◌, ◌≤◌}
+use Rattle.zone_text.proofs.Common.{AllByRecursion, AllByRecursion-append, Bool, IsToken, IsUnit, List, Token, [], arith, bare, common_steps, ends_item, escaped, false, if◌then◌else◌, length, map, plain, refl, suc, true, zero, ℕ, ◌++◌, ◌+◌, ◌<◌, ◌==◌, ◌∷◌, ◌≡◌, ◌≢◌, ◌≤◌}
 use Rattle.hex.specs.Hex.{encode_lower, encode_with, lower_digits}
 use Rattle.std.proofs.lemmas.Bool.Decides.{nat_tests}
 use Rattle.std.proofs.lemmas.List.{length-map}

@@ -27,7 +27,8 @@ pub record HaveEntriesAlike (Alike : List Token → List Token → Type 0)
     (tokens new : List Token) : Type 0 where
   pub ended : AllZip Alike (cut_from zero tokens).ended (cut_from zero new).ended
   pub last : Alike (cut_from zero tokens).open_tokens (cut_from zero new).open_tokens
-  pub none_open : ((cut_from zero tokens).open_tokens ≡ []) ↔ ((cut_from zero new).open_tokens ≡ [])
+  pub none_open : ((cut_from zero tokens).open_tokens ≡ [])
+      ↔ ((cut_from zero new).open_tokens ≡ [])
 
 -- Both texts are whole; or both break, by the same fault, and the entry that breaks is the same in
 -- both, with all that follows it.

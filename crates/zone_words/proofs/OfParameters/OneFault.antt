@@ -1,5 +1,5 @@
 -- Items that are no parameters have one fault.
-use Rattle.std.proofs.Common.{◌≡◌, ℕ, ◌<◌, ◌⊎◌, inl, inr, List, [], ◌∷◌, ◌++◌, length, map, sym, ap, ◌∙◌, subst, arith, refl}
+use Rattle.std.proofs.Common.{◌≡◌, ℕ, inl, inr, List, [], ◌∷◌, ◌++◌, length, map, sym, ap, ◌∙◌, subst, arith, refl}
 use Rattle.std.specs.List.{AllByRecursion}
 use Rattle.zone_words.proofs.OfParameters.Keys.{key_once}
 use Rattle.zone_words.proofs.OfParameters.Once.{fails_value_not, first_once, new_before, nothing_begins}
