@@ -27,6 +27,12 @@ up_to_or_fault most octets_of text octets fault p (too_great n is over) =
     let few = p.few in
     omega arith
 
+pub up_to_fault_once : (most : ℕ) (text : List ℕ) (a b : WordsFault) → FailsUpTo most text a → FailsUpTo most text b → a ≡ b
+up_to_fault_once most text _ _ (no_digits none) (no_digits none_too) = refl
+up_to_fault_once most text _ _ (no_digits none) (too_great n is over) = absurd (none n is)
+up_to_fault_once most text _ _ (too_great n is over) (no_digits none) = absurd (none n is)
+up_to_fault_once most text _ _ (too_great n is over) (too_great m is_too over_too) = refl
+
 -- a number that is read up to 2 ^ 32
 pub capped_over : (text : List ℕ) (most : ℕ) (number : Option ℕ) (fault : WordsFault) → most < 4294967296 → IfSome number (IsCapped (IsDecimal text)) → IfNone number (NothingIs (IsDecimal text)) → IsOver most number fault → FailsUpTo most text fault
 capped_over text most None fault small found none over = rw over (no_digits none)
