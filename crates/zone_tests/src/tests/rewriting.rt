@@ -48,8 +48,8 @@ impl Question for Rewriting {
 }
 
 /// Records of each type in words, and in the generic form (RFC 3597 5). Most are examples of RFC
-/// 1183, 1876, 2672, 3123, 4034, 4255, 4408, 4701, 5155, 6698, 6742, 7043, 7477, 7553, 8659, 8976
-/// and 9460.
+/// 1183, 1876, 2672, 3123, 4025, 4034, 4255, 4408, 4701, 5155, 6698, 6742, 7043, 7477, 7553, 8659,
+/// 8777, 8976 and 9460.
 const TYPES: &str = "\
 a HINFO PDP-11 UNIX => a TYPE13 \\# 12 065044502d313104554e4958
 a RP louie.trantor.umd.edu. LAM1.people.umd.edu. => \
@@ -77,6 +77,17 @@ a DS 60485 5 1 2BB183AF5F22588179A53B0A 98631FAD1A292118 => \
 a TYPE43 \\# 24 ec4505012bb183af5f22588179a53b0a98631fad1a292118
 a SSHFP 2 1 123456789abcdef67890123456789abcdef67890 => \
 a TYPE44 \\# 22 0201123456789abcdef67890123456789abcdef67890
+a IPSECKEY 10 1 2 192.0.2.38 AQNRU3mG7TVTO2BkR47usntb102uFJtugbo6BSGvgqt4AQ== => \
+a TYPE45 \\# 41 0a0102c0000226010351537986ed35533b6064478eeeb27b5bd74dae149b6e81ba3a0521af82ab7801
+a IPSECKEY 10 0 2 . AQNRU3mG7TVTO2BkR47usntb102uFJtugbo6BSGvgqt4AQ== => \
+a TYPE45 \\# 37 0a0002010351537986ed35533b6064478eeeb27b5bd74dae149b6e81ba3a0521af82ab7801
+a IPSECKEY 10 3 2 mygateway.example.com. AQNRU3mG7TVTO2BkR47usntb102uFJtugbo6BSGvgqt4AQ== => \
+a TYPE45 \\# 60 0a0302096d7967617465776179076578616d706c6503636f6d00010351537986ed35533b6064478eeeb27b5b\
+d74dae149b6e81ba3a0521af82ab7801
+a IPSECKEY 10 2 2 2001:0DB8:0:8002::2000:1 AQNRU3mG7TVTO2BkR47usntb102uFJtugbo6BSGvgqt4AQ== => \
+a TYPE45 \\# 53 0a020220010db8000080020000000020000001010351537986ed35533b6064478eeeb27b5bd74dae149b6e81\
+ba3a0521af82ab7801
+a IPSECKEY 10 1 0 192.0.2.38 => a TYPE45 \\# 7 0a0100c0000226
 a RRSIG A 5 3 86400 20030322173103 20030220173103 2642 example.com. oJB1W6WNGv+ldvQ3WDG0MQkg5IEhjR\
 ip8WTrPYGv07h108dUKGMeDPKijVCHX3DDKdfb+v6oB9wfuh3DTJXUAfI/M0zmO/zz8bW0Rznl8O3tGNazPwQKkRN20XPXV6nw\
 wfoXmJQbsLNrLfkGJ5D6fwFm8nN+6pBzeDQfsS3Ap3o= => \
@@ -134,6 +145,11 @@ a EUI64 00-00-5e-ef-10-00-00-2a => a TYPE109 \\# 8 00005eef1000002a
 a URI 10 1 \"ftp://ftp1.example.com/public\" => \
 a TYPE256 \\# 33 000a00016674703a2f2f667470312e6578616d706c652e636f6d2f7075626c6963
 a CAA 0 issue \"ca1.example.net\" => a TYPE257 \\# 22 000569737375656361312e6578616d706c652e6e6574
+a AMTRELAY 10 0 1 203.0.113.15 => a TYPE260 \\# 6 0a01cb00710f
+a AMTRELAY 10 0 2 2001:DB8::15 => a TYPE260 \\# 18 0a0220010db8000000000000000000000015
+a AMTRELAY 128 1 3 amtrelays.example.com. => \
+a TYPE260 \\# 25 808309616d7472656c617973076578616d706c6503636f6d00
+a AMTRELAY 10 1 0 . => a TYPE260 \\# 2 0a80
 a SMIMEA 3 1 1 d2abde24 => a TYPE53 \\# 7 030101d2abde24
 ";
 
@@ -289,6 +305,15 @@ LOC 90 0 0.001 N 0 W 0m => data: not a location
 LOC 1 N 1 W 42849672.96m => data: not a location
 LOC 1 N 1 W 0m 90000000.01m => data: not a location
 LOC => data: nothing left
+IPSECKEY 10 4 2 . AQ== => gateway type: too large
+IPSECKEY 10 0 2 a. AQ== => gateway: not a name
+IPSECKEY 10 2 2 192.0.2.38 AQ== => gateway: not an address
+IPSECKEY 10 1 2 192.0.2.38 => public key: nothing left
+IPSECKEY 10 1 0 192.0.2.38 AQ== => public key: items left over
+AMTRELAY 10 2 1 203.0.113.15 => discovery optional: too large
+AMTRELAY 10 x 1 203.0.113.15 => discovery optional: not a number
+AMTRELAY 10 0 4 203.0.113.15 => type: too large
+AMTRELAY 10 0 3 a..b => relay: not a name: a label is empty
 SVCB 1 . foo=1 => parameters: not a key
 SVCB 1 . key65535=1 => parameters: not a key
 SVCB 1 . port=1 port=2 => parameters: a repeated key
