@@ -1,5 +1,8 @@
 //! The further types, a row each, their numbers ascending, with the section of the RFC that gives
 //! the words of each.
+//!
+//! HIP isn't among them: the octets of its data stand in another order than its words, with their
+//! numbers before them (RFC 8005 5, 6).
 ghost use Rattle.std.specs.Prelude.{◌≡◌, IfSome, IfNone, option_copied};
 ghost use Rattle.std.specs.Option.{option_map};
 ghost use Rattle.zone_name.specs.Common.{NothingIs};
