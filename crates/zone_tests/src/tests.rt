@@ -15,6 +15,7 @@ mod explained;
 mod failing_reads;
 mod fed_files;
 mod files;
+mod filtered;
 mod generated;
 mod growth;
 mod handed;

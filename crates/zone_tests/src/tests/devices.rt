@@ -103,7 +103,7 @@ fn a_failing_reader_is_told(rt: HostRuntime) -> Result<(), Fail> {
 /// A writer that takes `each` octets a call and `room` in all, and then answers an error or takes
 /// nothing. It can't be flushed.
 #[derive(Drop)]
-struct Narrow {
+pub(super) struct Narrow {
     taken: Vec<u8>,
     each: usize,
     room: usize,
@@ -111,13 +111,23 @@ struct Narrow {
 }
 
 impl Narrow {
-    fn new(alloc: Global, each: usize, room: usize, fails: bool) -> Result<Narrow, AllocError> {
+    pub(super) fn new(
+        alloc: Global,
+        each: usize,
+        room: usize,
+        fails: bool,
+    ) -> Result<Narrow, AllocError> {
         Ok(Narrow {
             taken: roomy(alloc)?,
             each,
             room,
             fails,
         })
+    }
+
+    /// What it has taken.
+    pub(super) fn taken(&self) -> &[u8] {
+        &self.taken
     }
 }
 
