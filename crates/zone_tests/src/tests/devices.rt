@@ -9,6 +9,7 @@ use std::io;
 use std::io::{ErrorKind, Read, Write};
 use std::test::Fail;
 use zone_command::{Order, run};
+use zone_engine::{read_piece, zeros};
 use zone_print::write_zone;
 use zone_rdata::Stop;
 
@@ -98,6 +99,17 @@ static BROKEN_READERS: &[Broken] = &[
 #[test]
 fn a_failing_reader_is_told(rt: HostRuntime) -> Result<(), Fail> {
     check_rows(rt.alloc(), BROKEN_READERS)
+}
+
+#[test]
+fn pieces_are_read(rt: HostRuntime) -> Result<(), Fail> {
+    let mut piece = zeros(rt.alloc(), 4)?;
+    check_octets("room for a piece", &piece, b"\0\0\0\0")?;
+    let mut reader = Supply::at_once(b"abcdef", None);
+    for wanted in [b"abcd".as_slice(), b"ef", b""] {
+        check_octets("a piece", read_piece(&mut reader, &mut piece)?, wanted)?;
+    }
+    Ok(())
 }
 
 /// A writer that takes `each` octets a call and `room` in all, and then answers an error or takes
