@@ -1,13 +1,13 @@
 -- From what `clap` found to the order that the words give.
-use Rattle.words_command.proofs.Common.{◌≡◌, ℕ, Bool, true, false, nat_eq, List, [], sym, ◌∙◌, subst, ap, codes, arith, refl, pointwise, bytes_decides, AllByRecursion, Option, Some, None, Result, IfOk, IfErr, drop, take, option_map, ◌||◌, App, Kinds, IsAmong, Row, Text, fault_of, first_of, subcommand_of, subcommand_name_of, subcommand_rows_of, found_of, first_value, rows_of, NothingIs, program_app, Asks, Call, Calls, command_of, arguments_of, Finds, IsLineFault, IsOriginText, Orders, rules, length, map, ◌⊎◌, ◌-◌, Order}
+use Rattle.words_command.proofs.Common.{◌≡◌, ℕ, List, [], sym, ◌∙◌, subst, ap, codes, arith, AllByRecursion, Option, Some, None, Result, IfOk, IfErr, drop, take, option_map, App, Kinds, IsAmong, Row, Text, fault_of, first_of, subcommand_of, subcommand_name_of, subcommand_rows_of, found_of, first_value, rows_of, NothingIs, program_app, Asks, Call, Calls, command_of, arguments_of, Finds, IsLineFault, IsOriginText, Orders, rules, length, map, ◌⊎◌, ◌-◌, Order}
 use Rattle.std.specs.Borrow.{Bor}
 use Rattle.clap.specs.declared.parser.ArgMatches.{ArgMatches}
 use Rattle.clap.specs.declared.error.kind.ErrorKind.{ErrorKind}
 use Rattle.clap.specs.declared.error.kind.ErrorKind.TheVariants.{OutOfMemory}
 use Rattle.std.proofs.lemmas.List.{take_all}
 use Rattle.clap.proofs.WalkLemmas.{first_value-rows}
-use Rattle.zone_name.specs.Spelling.{Spells}
 use Rattle.words_command.specs.Machine.Calling.{IsOfCall, IsOfClap}
+use Rattle.words_command.specs.Order.{generic, HasBadOrigin}
 use Rattle.words_command.specs.declared.order.LineFault.{LineFault}
 use Rattle.words_command.specs.declared.order.LineFault.TheVariants.{BadOrigin, Clap, Memory}
 
@@ -42,9 +42,9 @@ not_found found word rows is none call finds = grind arith
 pub no_generic : (rows : List Row) → first_of (codes "ORIGIN") rows ≡ None → (call : Call) → command_of call ≡ codes "generic" → Given rows call → ⊥
 no_generic rows none call e given = grind arith
 
--- an argument that is not global leaves a command without any
-pub stays_local : (new old global : Bool) → new ≡ (old || global) → old ≡ false → global ≡ false → new ≡ false
-stays_local new old global e f g = rw (e, f, g) refl
+-- a text that spells no origin is a bad one
+pub bad_origin : (call : Call) (text : Text) → call ≡ generic text → NothingIs (IsOriginText text) → HasBadOrigin call
+bad_origin call text is none = rw is none
 
 -- what a command without faults fails by
 pub for_memory : (kind : ErrorKind) (kinds : Kinds) → (kind ≡ OutOfMemory) ⊎ IsAmong kind kinds → kinds ≡ [] → kind ≡ OutOfMemory

@@ -1,5 +1,5 @@
 -- What was read, fed and written so far.
-use Rattle.words_command.proofs.Halting.{◌≡◌, ℕ, List, [], ◌++◌, length, Bool, true, false, refl, sym, subst, ap, arith, append_assoc, Appends-trans, Consumes-kept, Consumes-trans, Appends, Consumes, IsAtEnd, Keeps, Labels, is_finished, Device, Fails, WorksOn, AppendsPart, part_then, BecomesUnder, IsRewrittenSoFar, RewriterState, StandsForRewriting, StandsInPart, HasReadAll, IsHalted, EndsReading, Failure, Read, Write, Memory, so_far, ◌<◌, most_octets}
+use Rattle.words_command.proofs.Halting.{◌≡◌, ℕ, List, [], ◌++◌, length, true, false, refl, Consumes-kept, Appends, Consumes, Keeps, Labels, is_finished, Device, Fails, WorksOn, AppendsPart, part_then, RewriterState, StandsForRewriting, StandsInPart, IsHalted, Read, Write, Memory, so_far, ◌<◌, most_octets}
 use Rattle.std.proofs.KnownBytes.{Appends-nil, Consumes-nil}
 use Rattle.zone_rdata.specs.declared.fed.FedStatus.{FedStatus}
 use Rattle.zone_rdata.specs.declared.fed.FedStatus.TheVariants.{Open, Finished}

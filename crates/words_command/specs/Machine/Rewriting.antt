@@ -1,5 +1,5 @@
 -- How far a rewriting has come, with what was read and written.
-use Rattle.std.specs.Prelude.{◌≡◌, ℕ, List, [], ◌++◌, ⊤}
+use Rattle.std.specs.Prelude.{ℕ, List, ◌++◌, ⊤}
 use Rattle.std.specs.Io.KnownBytes.{Appends, Consumes, IsAtEnd}
 use Rattle.zone_name.specs.Common.{Labels}
 use Rattle.zone_print.specs.Device.{Device, WorksOn, Fails}

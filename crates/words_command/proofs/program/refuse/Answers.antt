@@ -1,4 +1,3 @@
-use Rattle.words_command.proofs.Halting.{subst}
 use Rattle.words_command.proofs.program.refuse.Goals as goal
 
 pub returns : goal.returns

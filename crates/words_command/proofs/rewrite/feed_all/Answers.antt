@@ -1,5 +1,5 @@
-use Rattle.words_command.proofs.Halting.{◌≡◌, ◌<◌, ◌++◌, [], length, refl, sym, arith, Appends-trans, Consumes-trans, most_octets}
-use Rattle.std.proofs.Common.{◌∙◌, length-append, rules}
+use Rattle.words_command.proofs.Halting.{◌<◌, ◌++◌, [], length, refl, sym, arith, Appends-trans, Consumes-trans, most_octets}
+use Rattle.std.proofs.Common.{◌∙◌, length-append}
 use Rattle.std.proofs.KnownBytes.{Appends-nil, Consumes-nil}
 use Rattle.std.proofs.lemmas.Result.{err_from_is_err_and}
 use Rattle.zone_engine.proofs.Feeding.{consumed_none, no_octets}

@@ -1,5 +1,4 @@
-use Rattle.words_command.proofs.Halting.{◌++◌, [], Appends-trans}
-use Rattle.std.proofs.KnownBytes.{Appends-nil, Consumes-nil}
+use Rattle.words_command.proofs.Halting.{◌++◌, Appends-trans}
 use Rattle.std.proofs.lemmas.Result.{err_from_is_err_and}
 use Rattle.words_command.proofs.Feeding.{halts_begun, halts_memory, halts_at_end}
 use Rattle.words_command.proofs.rewrite.rewrite_all.Goals as goal
@@ -26,7 +25,7 @@ returns-in_err-write_held-clause-halted g c =
     let p = err_from_is_err_and c.from_residual-in_err-write_held.result c.from_residual-in_err-write_held.ensures.1 in
     rw (p.1, p.2, c.in_err-write_held.ensures.write) (λ origin begun.
     let fed = c.in_ok-feed_all.ensures.read origin begun in
-    halts_at_end origin _ _ _ _ _ fed.octets fed.given fed.read fed.written fed.works c.finish.new.self _ (c.in_ok-finish.ensures.stands origin fed.octets fed.given fed.stands) c.in_ok-finish.ensures.finished c.in_err-write_held.ensures.part c.in_err-write_held.ensures.failed)
+    halts_at_end origin _ _ _ (g.W.OctetWriter.state c.feed_all.new.output) _ fed.octets fed.given fed.read fed.written fed.works c.finish.new.self _ (c.in_ok-finish.ensures.stands origin fed.octets fed.given fed.stands) c.in_ok-finish.ensures.finished c.in_err-write_held.ensures.part c.in_err-write_held.ensures.failed)
 
 pub returns-clause-done : goal.returns-clause-done
 returns-clause-done g c = λ origin begun.

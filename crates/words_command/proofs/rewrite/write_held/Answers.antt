@@ -19,4 +19,4 @@ pub returns-in-Err-clause-part : goal.returns-in-Err-clause-part
 returns-in-Err-clause-part g c = rw (← c.written.ensures) c.in-Err.ensures.part
 
 pub returns-in-Err-clause-failed : goal.returns-in-Err-clause-failed
-returns-in-Err-clause-failed g c = failed_write _ _ _ c.in-Err.ensures.failed
+returns-in-Err-clause-failed g c = failed_write (g.W.OctetWriter.state c.args.output.now) (g.W.OctetWriter.state c.write_octets.new.writer) _ c.in-Err.ensures.failed
