@@ -106,10 +106,9 @@ fn pieces_are_read(rt: HostRuntime) -> Result<(), Fail> {
     let mut piece = zeros(rt.alloc(), 4)?;
     check_octets("room for a piece", &piece, b"\0\0\0\0")?;
     let mut reader = Supply::at_once(b"abcdef", None);
-    for wanted in [b"abcd".as_slice(), b"ef", b""] {
-        check_octets("a piece", read_piece(&mut reader, &mut piece)?, wanted)?;
-    }
-    Ok(())
+    check_octets("a piece", read_piece(&mut reader, &mut piece)?, b"abcd")?;
+    check_octets("a rest", read_piece(&mut reader, &mut piece)?, b"ef")?;
+    check_octets("the end", read_piece(&mut reader, &mut piece)?, b"")
 }
 
 /// A writer that takes `each` octets a call and `room` in all, and then answers an error or takes
