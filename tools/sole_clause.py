@@ -25,12 +25,14 @@ class Sole:
         return is_return(goal) if self.clause else goal == self.goal
 
     def contract(self, text):
-        """The text of a function without what else it ensures."""
+        """The text of a function without what else it ensures. A goal of a clause that stands alone is its fact where it has no name."""
         kept, is_kept = [], True
         head, rest = head_and_rest(text)
         for line in head.splitlines(keepends=True):
             if found := CLAUSE.match(line):
                 is_kept = found[1] != "ensures" or found[2] is not None and found[2] == self.clause
+                if found[1] == "ensures" and is_kept:
+                    line = line.replace(f"ensures {self.clause} ", "ensures ", 1)
             if is_kept:
                 kept.append(line)
         return "".join(kept) + rest
@@ -49,7 +51,6 @@ class Sole:
                 kept += comment + [line]
             comment = []
         text = "".join(kept)
-        # A clause that stands alone has no name.
         return re.sub(rf"\b(returns[^\s:.]*)-clause-{self.clause}(?![\w-])", r"\1", text) if self.clause else text
 
     def has(self, goal):
