@@ -31,6 +31,7 @@ mod primitives;
 mod programs;
 mod readings;
 mod records;
+mod rewriting;
 mod runs;
 mod scripts;
 mod shown;
@@ -39,6 +40,7 @@ mod transfers;
 mod vectors;
 mod wire;
 mod words;
+mod words_runs;
 mod zones;
 
 /// A row of a table of few: what is asked, and the answer that it must get.

@@ -7,6 +7,13 @@ pub mod FedTexts
 pub mod Standing
 pub mod OneRewriting
 pub mod OwnRewriting
+mod EntryShapes
+mod CutEntries
+mod WrittenWords
+mod KeptEntries
+pub mod RewrittenCut
+mod SameStatements
+pub mod RewrittenAgain
 mod Base32Digits
 mod Base64Texts
 mod HexDigits
@@ -30,8 +37,10 @@ mod NodeIds
 pub mod TypeItems
 mod Salts
 pub mod FurtherWords
+pub mod Gateways
 pub mod FieldLaws
 pub mod DataLaws
+pub mod FaultsOnce
 mod GivenItems
 pub mod Cuts
 pub mod Prefixes
