@@ -37,6 +37,11 @@ pub(crate) fn hint_of(base: &Name, owner: &NameRef<'_>, kind: Kind) -> u64
     }
 }
 
+/// Whether a hint is that of an owner at or below the base.
+pub(crate) fn is_within(hint: u64) -> bool {
+    WITHIN <= hint && hint < AFTER
+}
+
 /// The first seven digits of the key of the labels before the base's. `None`: the owner doesn't lie
 /// at or below the base.
 fn front_key(base: &Name, owner: &NameRef<'_>) -> Option<u64>

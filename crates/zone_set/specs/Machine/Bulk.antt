@@ -40,6 +40,10 @@ span octets at = take (span_len (drop at octets)) (drop at octets)
 abbrev pub is_repeat : List ℕ → Entry → Entry → Bool
 is_repeat octets a b = bytes_eq (span octets a.at) (span octets b.at)
 
+-- an entry with a hint in the place of its own
+abbrev pub with_hint : ℕ → Entry → Entry
+with_hint hint e = record { hint = hint; at = e.at }
+
 -- octets that keep these records one after another, all of one class, and their places
 pub record IsRow (class : ℕ) (octets : List ℕ) (places : List Place)
     (placed : List Placed) : Type 0 where
