@@ -98,11 +98,12 @@ fn past(octets: &[u8], count: usize) -> &[u8] {
     left
 }
 
-/// Whether the same octets keep the records of two entries, whatever the entries.
+/// Whether the same octets keep the records of two entries of one hint, whatever the entries. Those
+/// of other hints aren't looked at.
 pub(crate) fn is_repeat(octets: &[u8], a: &Entry, b: &Entry) -> bool
     ensures { result ≡ bulk.is_repeat octets.now a.now b.now }
 {
-    span(octets, a.at) == span(octets, b.at)
+    a.hint == b.hint && span(octets, a.at) == span(octets, b.at)
 }
 
 /// The octets that keep the record at a place, as far as there are any.
