@@ -20,7 +20,7 @@ IsPermutation-keyed hint old keyed moved new was places moves stay is =
     let first : map (of hint) (map (λ e. e.at) keyed) ≡ old = ap (map (of hint)) places ∙ sym (of_places hint old) ∙ was in
     let second : map (of hint) (map (λ e. e.at) moved) ≡ new = ap (map (of hint)) (sym stay) ∙ sym (of_places hint new) ∙ is in
     subst (λ l. IsPermutation l new) first (subst (λ l. IsPermutation (map (of hint) (map (λ e. e.at) keyed)) l) second
-        (IsPermutation-map (of hint) (map (λ e. e.at) keyed) (map (λ e. e.at) moved) (IsPermutation-map (λ e. e.at) keyed moved moves)))
+    (IsPermutation-map (of hint) (map (λ e. e.at) keyed) (map (λ e. e.at) moved) (IsPermutation-map (λ e. e.at) keyed moved moves)))
 
 -- one more entry is given the hint
 pub with_hint_more : (hint : ℕ) (es : List Entry) (i at : ℕ) → i < length es → map (with_hint hint) (take i es) ≡ take i es → map (with_hint hint) (take (i + 1) (set es i (of hint at))) ≡ take (i + 1) (set es i (of hint at))

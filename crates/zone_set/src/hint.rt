@@ -3,6 +3,7 @@ ghost use Rattle.zone_name.specs.Name.{IsWithin};
 ghost use Rattle.zone_set.specs.Machine.Hint.{first_digits, IsHint, IsPutBefore};
 ghost use Rattle.zone_set.specs.Machine.LabelKey.{label_key, owner_key};
 
+use crate::order::are_same;
 use std::cmp::Ordering;
 use zone_name::{Name, NameRef};
 use zone_rdata::Kind;
@@ -62,7 +63,11 @@ fn front_key(base: &Name, owner: &NameRef<'_>) -> Option<u64>
         key = put_label(label, key);
     }
     let (_, last) = octets.split_at(octets.len() - len);
-    if last == ending { Some(key) } else { None }
+    if are_same(last, ending) {
+        Some(key)
+    } else {
+        None
+    }
 }
 
 /// Puts a label and its end before the digits of a number.

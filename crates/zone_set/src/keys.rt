@@ -13,13 +13,18 @@ const FEW: usize = 3;
 const FAR: usize = 320;
 
 /// Sorts entries by their hints, and those of one hint by keys, which stand in its place meanwhile:
-/// by the digits of their records that come next. As of `entry_order`, only how soon a zone is made
-/// rests on these.
-pub(crate) fn sort_by_keys(entries: &mut [Entry], octets: &[u8], base_len: usize)
-    ensures { IsPermutation entries.old entries.new }
+/// by the digits of their records that come next. That they ascend is seen later: of this it is
+/// known only that they are the same, and only how soon a zone is made rests on the keys.
+pub(crate) fn sort_by_keys(entries: &mut Vec<Entry>, octets: &[u8], base_len: usize)
+    ensures { IsPermutation entries.old.items entries.new.items }
 {
     // The root's octet is no digit, and a hint has seven after the base's.
-    sort(entries, octets, base_len.saturating_add(6), 0);
+    sort(
+        entries.as_mut_slice(),
+        octets,
+        base_len.saturating_add(6),
+        0,
+    );
 }
 
 /// Sorts entries by their hints, and then each run of one hint. Those of one hint have the same
@@ -42,7 +47,11 @@ fn first_digit(hint: u64, front: usize, digit: usize) -> usize
     ensures { digit ≤ result }
 {
     // At first hints are no keys.
-    if digit == 0 && is_within(hint) { front } else { digit }
+    if digit == 0 && is_within(hint) {
+        front
+    } else {
+        digit
+    }
 }
 
 /// The first entry's hint, and how many entries from it on have that. `None`: there is no entry.

@@ -2,6 +2,7 @@ ghost use Rattle.std.specs.Prelude.{◌≡◌, ◌<◌, length, IfSome, drop};
 ghost use Rattle.zone_set.specs.Machine.Bulk as bulk;
 
 use crate::entry::Entry;
+use crate::order::are_same;
 use std::cmp::Ordering;
 
 /// How the records of entries lie, by which they are sorted. Nothing rests on it but how soon a
@@ -103,7 +104,7 @@ fn past(octets: &[u8], count: usize) -> &[u8] {
 pub(crate) fn is_repeat(octets: &[u8], a: &Entry, b: &Entry) -> bool
     ensures { result ≡ bulk.is_repeat octets.now a.now b.now }
 {
-    a.hint == b.hint && span(octets, a.at) == span(octets, b.at)
+    a.hint == b.hint && are_same(span(octets, a.at), span(octets, b.at))
 }
 
 /// The octets that keep the record at a place, as far as there are any.

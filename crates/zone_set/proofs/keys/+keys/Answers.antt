@@ -1,4 +1,4 @@
-use Rattle.zone_set.proofs.Common.{◌≡◌, ◌≤◌, ◌+◌, ◌-◌, ◌∙◌, arith, common_steps, drop, length, length-drop, take}
+use Rattle.zone_set.proofs.Common.{◌+◌, ◌-◌, ◌∙◌, arith, common_steps, length-drop}
 use Rattle.std.proofs.lemmas.List.Sorted.{IsPermutation-put_mid, IsPermutation-trans, length_permutation}
 use Rattle.zone_set.proofs.Keyed.{IsPermutation-keyed}
 use Rattle.zone_set.proofs.keys.+keys.Goals as goal
