@@ -19,12 +19,8 @@ pub(crate) fn sort_by_keys(entries: &mut Vec<Entry>, octets: &[u8], base_len: us
     ensures { IsPermutation entries.old.items entries.new.items }
 {
     // The root's octet is no digit, and a hint has seven after the base's.
-    sort(
-        entries.as_mut_slice(),
-        octets,
-        base_len.saturating_add(6),
-        0,
-    );
+    let front = base_len.saturating_add(6);
+    sort(entries.as_mut_slice(), octets, front, 0);
 }
 
 /// Sorts entries by their hints, and then each run of one hint. Those of one hint have the same
