@@ -20,9 +20,9 @@ pub use Rattle.zone_engine.specs.Input.{Input}
 pub use Rattle.zone_command.specs.Machine.Telling.{IsReported, TellsVerdict, explained, told, unexplained, untold}
 pub use Rattle.zone_engine.specs.Normalise.{Normalises, StopsNormalise}
 pub use Rattle.zone_command.specs.Order.{Asks, Call, Calls, Finds, IsLineFault, IsOriginText, Orders, argument, arguments_of, bare_app, command_of, compare_app, explain_app, normalise_app, program_app}
-pub use Rattle.zone_command.specs.Run.{AreCompared, Devices, IsStopped, Runs, TellsLine}
+pub use Rattle.zone_command.specs.Run.{AreCompared, Devices, IsStopped, Runs}
 pub use Rattle.zone_engine.specs.Reading.{ReadsToEnd, ReadsWhole, StopsReading, TellsRead}
-pub use Rattle.zone_engine.specs.Telling.{WritesPartOfLine, refusal_line, stop_line, verdict_line, which_words}
+pub use Rattle.zone_engine.specs.Telling.{TellsLine, WritesPartOfLine, refusal_line, stop_line, verdict_line, which_words}
 pub use Rattle.zone_engine.specs.declared.comparison.Verdict.{Verdict}
 pub use Rattle.zone_command.specs.declared.order.Order.{Order}
 pub use Rattle.zone_engine.specs.Form.{read_as_with}

@@ -12,7 +12,7 @@ use Rattle.zone_engine.specs.Explain.{Explains, StopsExplain}
 use Rattle.zone_engine.specs.Form.{read_as_with}
 use Rattle.zone_engine.specs.Normalise.{Normalises, StopsNormalise}
 use Rattle.zone_engine.specs.Reading.{ReadsFew, ReadsToEnd, ReadsWhole, StopsReading, TellsRead}
-use Rattle.zone_engine.specs.Telling.{stop_line, stop_status, verdict_line, verdict_status, which_words, WritesLine, WritesPartOfLine}
+use Rattle.zone_engine.specs.Telling.{stop_line, stop_status, verdict_line, verdict_status, which_words, TellsLine, WritesLine, WritesPartOfLine}
 use Rattle.zone_engine.specs.declared.comparison.Verdict.{Verdict}
 use Rattle.zone_engine.specs.declared.comparison.Which.{Which}
 use Rattle.zone_command.specs.declared.order.Order.{Order}
@@ -35,12 +35,6 @@ pub record Devices : Type 1 where
 abbrev pub devices : Device → Device → Device → Device → Devices
 devices first second output errors =
     record { first = first; second = second; output = output; errors = errors }
-
--- a line was written with this exit status; or the writer failed after a proper prefix of it, and
--- the status is 4
-pub data TellsLine (line : List ℕ) (status : ℕ) (old new : Device) : ℕ → Type 0 where
-  whole : WritesLine line old new → WorksOn old new → TellsLine line status old new status
-  part : WritesPartOfLine line old new → Fails old new → TellsLine line status old new 4
 
 -- this is the verdict on two inputs of known octets, which were read to their ends
 pub record AreCompared (first second : Source) (old new : Devices)

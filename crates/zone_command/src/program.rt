@@ -4,9 +4,9 @@ ghost use Rattle.zone_print.specs.Writing.{IsFailedWrite};
 ghost use Rattle.zone_rdata.specs.declared.fault.Stop.TheVariants.{Memory};
 ghost use Rattle.zone_command.specs.Machine.Telling.{IsReported, TellsVerdict};
 ghost use Rattle.zone_command.specs.Order.{line_status, line_text};
-ghost use Rattle.zone_command.specs.Run.{devices, ReadsSecond, Runs, TellsLine};
+ghost use Rattle.zone_command.specs.Run.{devices, ReadsSecond, Runs};
 ghost use Rattle.zone_engine.specs.Reading.{ReadsFew};
-ghost use Rattle.zone_engine.specs.Telling.{stop_line, verdict_line, verdict_status, which_words, WritesLine, WritesPartOfLine};
+ghost use Rattle.zone_engine.specs.Telling.{stop_line, verdict_line, verdict_status, which_words, TellsLine, WritesLine, WritesPartOfLine};
 
 use crate::order::{LineFault, Order};
 use crate::status;
@@ -14,7 +14,7 @@ use itoa::Buffer;
 use std::alloc::{AllocError, Global};
 use zone_engine::{
     Form, OUT_OF_MEMORY, OctetReader, READ_FAILED, Verdict, WRITE_FAILED, Which, compare, explain,
-    normalise, refusal_line, write_line,
+    normalise, refusal_line, tell, write_line,
 };
 use zone_print::OctetWriter;
 use zone_rdata::Stop;
@@ -138,9 +138,9 @@ fn report<E: OctetWriter>(alloc: Global, words: &str, stop: &Stop, errors: &mut 
         Stop::Refused(fault, place) => {
             tell_refusal(words, refusal_line(alloc, fault, *place), errors)
         }
-        Stop::Read => tell(words, READ_FAILED, status::FAILED, errors),
-        Stop::Write => tell(words, WRITE_FAILED, status::FAILED, errors),
-        Stop::Memory => tell(words, OUT_OF_MEMORY, status::FAILED, errors),
+        Stop::Read => tell(errors, words, READ_FAILED, status::FAILED),
+        Stop::Write => tell(errors, words, WRITE_FAILED, status::FAILED),
+        Stop::Memory => tell(errors, words, OUT_OF_MEMORY, status::FAILED),
     }
 }
 
@@ -153,8 +153,8 @@ fn tell_refusal<E: OctetWriter>(words: &str, line: Result<String, AllocError>, e
         (E.state errors.old) (E.state errors.new) result) }
 {
     match line {
-        Ok(line) => tell(words, line.as_str(), status::REFUSED, errors),
-        Err(_) => tell(words, OUT_OF_MEMORY, status::FAILED, errors),
+        Ok(line) => tell(errors, words, line.as_str(), status::REFUSED),
+        Err(_) => tell(errors, words, OUT_OF_MEMORY, status::FAILED),
     }
 }
 
@@ -163,16 +163,5 @@ pub fn refuse<E: OctetWriter>(fault: &LineFault, errors: &mut E) -> u8
     ensures { TellsLine (line_text fault.now) (line_status fault.now)
         (E.state errors.old) (E.state errors.new) result }
 {
-    tell("", fault.text(), fault.status(), errors)
-}
-
-/// Writes these words and the line, and answers this status: 4 where the writer failed.
-fn tell<E: OctetWriter>(words: &str, line: &str, answer: u8, errors: &mut E) -> u8
-    ensures { TellsLine (words.now ++ line.now) answer
-        (E.state errors.old) (E.state errors.new) result }
-{
-    match write_line(errors, words, line) {
-        Ok(()) => answer,
-        Err(_) => status::FAILED,
-    }
+    tell(errors, "", fault.text(), fault.status())
 }

@@ -1,5 +1,5 @@
 -- Lines that are written piece by piece.
-use Rattle.zone_engine.proofs.Common.{◌≡◌, ℕ, List, ◌++◌, append_assoc, subst, Option, Result, OnErr, OnOk, Appends, Appends-trans, AppendsPart, Device, WritesLine, WritesPartOfLine, arith}
+use Rattle.zone_engine.proofs.Common.{◌≡◌, ℕ, List, ◌++◌, append_assoc, subst, Option, Result, OnErr, OnOk, Appends, Appends-trans, AppendsPart, Device, Fails, IsFailedWrite, Stop, WritesLine, WritesPartOfLine, arith}
 use Rattle.zone_print.proofs.Front.{some_more}
 
 -- a part of the front of a text is a part of the text
@@ -29,3 +29,7 @@ this_line_on_ok r text line old new is h = subst (λ (t : List ℕ). OnOk r (Wri
 
 pub part_of_line_on_err : {X Y : Type 0} (r : Result X Y) (text line : List ℕ) (old new : Device) → text ≡ line → OnErr r (WritesPartOfLine text old new) → OnErr r (WritesPartOfLine line old new)
 part_of_line_on_err r text line old new is h = subst (λ (t : List ℕ). OnErr r (WritesPartOfLine t old new)) is h
+
+-- a write that failed
+pub failed_write : (old new : Device) (stop : Stop) → IsFailedWrite old new stop → Fails old new
+failed_write old new stop h = grind arith

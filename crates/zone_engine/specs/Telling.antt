@@ -10,7 +10,7 @@ use Rattle.zone_rdata.specs.declared.fault.Place.{Place}
 use Rattle.zone_rdata.specs.declared.fault.Place.TheVariants.{Line, Message, Whole}
 use Rattle.zone_rdata.specs.declared.fault.Stop.{Stop}
 use Rattle.zone_rdata.specs.declared.fault.Stop.TheVariants.{Refused, Read, Write, Memory}
-use Rattle.zone_print.specs.Device.{Device}
+use Rattle.zone_print.specs.Device.{Device, WorksOn, Fails}
 use Rattle.zone_print.specs.Writing.{AppendsPart}
 use Rattle.zone_engine.specs.declared.comparison.Verdict.{Verdict}
 use Rattle.zone_engine.specs.declared.comparison.Verdict.TheVariants.{Same, Different}
@@ -75,3 +75,9 @@ WritesLine line old new = Appends old.octets new.octets (line ++ 10 ∷ [])
 -- a proper prefix of that was written
 abbrev pub WritesPartOfLine : List ℕ → Device → Device → Type 0
 WritesPartOfLine line old new = AppendsPart old.octets new.octets (line ++ 10 ∷ [])
+
+-- a line was written with this exit status; or the writer failed after a proper prefix of it, and
+-- the status is 4
+pub data TellsLine (line : List ℕ) (status : ℕ) (old new : Device) : ℕ → Type 0 where
+  whole : WritesLine line old new → WorksOn old new → TellsLine line status old new status
+  part : WritesPartOfLine line old new → Fails old new → TellsLine line status old new 4

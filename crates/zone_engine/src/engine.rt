@@ -10,9 +10,9 @@ ghost use Rattle.zone_engine.specs.Reading.{Reads};
 ghost use Rattle.zone_engine.specs.Refusal.{IfRefused, IsRefusal};
 
 use crate::form::Form;
-use crate::input::{PIECE, read_zone, zeros};
+use crate::input::read_zone;
 use crate::laws::what_is_read_is_stated;
-use crate::octets::{OctetReader, OctetSlice};
+use crate::octets::{OctetReader, OctetSlice, PIECE, zeros};
 use std::alloc::Global;
 use zone_print::{OctetWriter, TEXT_LIMIT, push_zone, text_fits, write_zone};
 use zone_rdata::{Fault, Place, Stop};

@@ -1,27 +1,13 @@
-ghost use Rattle.std.specs.Prelude.{◌≡◌, ◌+◌, ◌^◌, ◌≤◌, ◌<◌, false, [], length, IfOk, IfErr, OnErr, OnOk, replicate};
-ghost use Rattle.std.specs.Io.KnownBytes.{Consumes, IsAtEnd, Keeps};
-ghost use Rattle.zone_print.specs.Device.{WorksOn};
+ghost use Rattle.std.specs.Prelude.{◌≡◌, ◌+◌, ◌^◌, ◌≤◌, ◌<◌, false, length, IfOk, IfErr};
 ghost use Rattle.zone_engine.specs.Machine.Loading.{BeginsAs, ReadsAs, ReadsKnown};
 ghost use Rattle.zone_engine.specs.Normalise.{IsOfReading};
-ghost use Rattle.zone_engine.specs.Reading.{IsFailedRead};
 
 use crate::fed::FedSource;
 use crate::loader::ZoneLoader;
-use crate::octets::OctetReader;
-use std::alloc::{AllocError, Global};
+use crate::octets::{OctetReader, read_piece};
+use std::alloc::Global;
 use zone_rdata::{Fault, Place, Stop};
 use zone_set::Zone;
-
-/// How many octets one read asks for at most.
-pub(crate) const PIECE: usize = 65_536;
-
-/// So many zero octets. The length is a parameter, so that no proof counts up to it.
-pub(crate) fn zeros(alloc: Global, len: usize) -> Result<Vec<u8>, AllocError>
-    ensures zeros { IfOk result (λ octets. octets.items ≡ replicate len 0) }
-    ensures len { IfOk result (λ octets. length octets.items ≡ len) }
-{
-    vec![in alloc; 0u8; len]
-}
 
 /// The zone of what the reader gives up to its end, which is read into `piece` and fed to a source. After a
 /// fault it reads on, since an input that is too long is refused for that.
@@ -62,24 +48,4 @@ pub(crate) fn read_zone<S: FedSource, R: OctetReader>(
         count += given.len() as u64;
     }
     Err(Stop::Refused(Fault::InputTooLong, Place::Whole))
-}
-
-/// What one read into `piece` gives: nothing at the end alone.
-///
-/// # Errors
-///
-/// `Read` where the reader failed.
-fn read_piece<'p, R: OctetReader>(reader: &mut R, piece: &'p mut [u8]) -> Result<&'p [u8], Stop>
-    requires { 0 < length piece.old }
-    ensures taken { IfOk result
-        (λ given. Consumes (R.state reader.old).octets (R.state reader.new).octets given.now) }
-    ensures few { IfOk result (λ given. length given.now ≤ length piece.old) }
-    ensures end { IfOk result (λ given. given.now ≡ [] → IsAtEnd (R.state reader.new).octets) }
-    ensures works { OnOk result (WorksOn (R.state reader.old) (R.state reader.new)) }
-    ensures failed { IfErr result (IsFailedRead (R.state reader.old) (R.state reader.new)) }
-    ensures kept { OnErr result
-        (Keeps (R.state reader.old).octets (R.state reader.new).octets) }
-{
-    let count = reader.read_some(piece)?;
-    Ok(&piece[..count])
 }

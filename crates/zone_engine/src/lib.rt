@@ -20,5 +20,5 @@ pub use explanation::{
     OUT_OF_MEMORY, READ_FAILED, WRITE_FAILED, explain, explain_line, refusal_line,
 };
 pub use form::Form;
-pub use line::write_line;
-pub use octets::{OctetReader, OctetSlice};
+pub use line::{tell, write_line};
+pub use octets::{OctetReader, OctetSlice, PIECE, read_piece, zeros};

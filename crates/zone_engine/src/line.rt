@@ -2,7 +2,7 @@
 ghost use Rattle.std.specs.Prelude.{◌++◌, IfErr, OnErr, OnOk};
 ghost use Rattle.zone_print.specs.Device.{WorksOn};
 ghost use Rattle.zone_print.specs.Writing.{IsFailedWrite};
-ghost use Rattle.zone_engine.specs.Telling.{WritesLine, WritesPartOfLine};
+ghost use Rattle.zone_engine.specs.Telling.{TellsLine, WritesLine, WritesPartOfLine};
 
 use zone_print::{OctetWriter, write_octets};
 use zone_rdata::Stop;
@@ -24,4 +24,18 @@ pub fn write_line<W: OctetWriter>(writer: &mut W, words: &str, line: &str) -> Re
     write_octets(writer, words.as_bytes())?;
     write_octets(writer, line.as_bytes())?;
     write_octets(writer, b"\n")
+}
+
+/// The exit status of a program whose line could not be told.
+const FAILED: u8 = 4;
+
+/// Writes these words and the line, and answers this status: 4 where the writer failed.
+pub fn tell<E: OctetWriter>(errors: &mut E, words: &str, line: &str, answer: u8) -> u8
+    ensures { TellsLine (words.now ++ line.now) answer
+        (E.state errors.old) (E.state errors.new) result }
+{
+    match write_line(errors, words, line) {
+        Ok(()) => answer,
+        Err(_) => FAILED,
+    }
 }

@@ -1,9 +1,10 @@
-ghost use Rattle.std.specs.Prelude.{Some, IfErr, OnOk, ⊤};
+ghost use Rattle.std.specs.Prelude.{◌≡◌, ◌<◌, ◌≤◌, [], Some, IfErr, IfOk, OnErr, OnOk, length, replicate, ⊤};
 ghost use Rattle.std.specs.Io.{ReadsAtMost};
-ghost use Rattle.std.specs.Io.KnownBytes.{ReadConsumes};
+ghost use Rattle.std.specs.Io.KnownBytes.{Consumes, IsAtEnd, Keeps, ReadConsumes};
 ghost use Rattle.zone_print.specs.Device.{Device, WorksOn, of_std};
 ghost use Rattle.zone_engine.specs.Reading.{IsFailedRead};
 
+use std::alloc::{AllocError, Global};
 use std::io::Read;
 use zone_rdata::Stop;
 
@@ -53,4 +54,39 @@ impl OctetReader for OctetSlice<'_> {
     fn read_some(&mut self, piece: &mut [u8]) -> Result<usize, Stop> {
         self.rest.read(piece).map_err(|_| Stop::Read)
     }
+}
+
+/// How many octets one read asks for at most.
+pub const PIECE: usize = 65_536;
+
+/// So many zero octets, to read into. The length is a parameter, so that no proof counts up to it.
+///
+/// # Errors
+///
+/// Want of memory.
+pub fn zeros(alloc: Global, len: usize) -> Result<Vec<u8>, AllocError>
+    ensures zeros { IfOk result (λ octets. octets.items ≡ replicate len 0) }
+    ensures len { IfOk result (λ octets. length octets.items ≡ len) }
+{
+    vec![in alloc; 0u8; len]
+}
+
+/// What one read into `piece` gives: nothing at the end alone.
+///
+/// # Errors
+///
+/// `Read` where the reader failed. Nothing was read.
+pub fn read_piece<'p, R: OctetReader>(reader: &mut R, piece: &'p mut [u8]) -> Result<&'p [u8], Stop>
+    requires { 0 < length piece.old }
+    ensures taken { IfOk result
+        (λ given. Consumes (R.state reader.old).octets (R.state reader.new).octets given.now) }
+    ensures few { IfOk result (λ given. length given.now ≤ length piece.old) }
+    ensures end { IfOk result (λ given. given.now ≡ [] → IsAtEnd (R.state reader.new).octets) }
+    ensures works { OnOk result (WorksOn (R.state reader.old) (R.state reader.new)) }
+    ensures failed { IfErr result (IsFailedRead (R.state reader.old) (R.state reader.new)) }
+    ensures kept { OnErr result
+        (Keeps (R.state reader.old).octets (R.state reader.new).octets) }
+{
+    let count = reader.read_some(piece)?;
+    Ok(&piece[..count])
 }

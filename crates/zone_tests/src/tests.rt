@@ -39,6 +39,7 @@ mod transfers;
 mod vectors;
 mod wire;
 mod words;
+mod words_runs;
 mod zones;
 
 /// A row of a table of few: what is asked, and the answer that it must get.

@@ -1,8 +1,9 @@
 -- One thing becomes of an entry.
-use Rattle.std.proofs.Common.{arith, ap, refl, subst, sym, ◌∙◌, ◌≡◌, ◌∷◌, ◌++◌, ◌+◌, [], List, ℕ, map, true, length}
+use Rattle.std.proofs.Common.{arith, ap, refl, subst, sym, ◌∙◌, ◌≡◌, ◌∷◌, ◌++◌, ◌+◌, [], List, ℕ, true, length}
 use Rattle.std.proofs.lemmas.List.Concat.{flat_map-append}
 use Rattle.std.proofs.lemmas.List.{length-append}
 use Rattle.std.specs.List.{flat_map}
+use Rattle.std.specs.Prelude.{codes}
 use Rattle.zone_name.specs.Common.{Labels}
 use Rattle.zone_name.specs.Spelling.{Written, written_text}
 use Rattle.zone_rdata.specs.Item.{IsGeneric}
@@ -10,14 +11,17 @@ use Rattle.zone_text.specs.Entries.{Entry, entry_of, item_of}
 use Rattle.zone_text.specs.Tokens.{Token}
 use Rattle.zone_text.specs.Tokens as tokens
 use Rattle.zone_words.proofs.DataLaws.{data_once, data_or_fault}
+use Rattle.zone_words.proofs.FaultsOnce.{data_fault_once}
 use Rattle.zone_words.proofs.Origins.{origin_once}
 use Rattle.zone_words.proofs.Turns.{Under, fails_in_words, fails_under, items_behind, record_once, says_under}
 use Rattle.zone_words.specs.Data.{DataFails, StatesData}
 use Rattle.zone_words.specs.DataItem.{TouchingItem, items_of}
-use Rattle.zone_words.specs.Entry.{AreOnOneLine, BecomesUnder, IsFurtherUnder, IsRefused, SaysAnew, TokensFail, TokensSay, anew, in_generic_form, in_words, kept, no_data, on_more_lines, refused, too_many, touching_items}
+use Rattle.zone_words.specs.Entry.{AreOnOneLine, BecomesUnder, IsFurtherUnder, IsRefused, SaysAnew, TokensFail, TokensSay, anew, in_generic_form, in_words, kept, no_data, on_more_lines, refusal, refused, too_many, touching_items}
 use Rattle.zone_words.specs.Rewriting.{Outcome, Refused}
 use Rattle.zone_words.specs.Table.{FurtherType}
 use Rattle.zone_words.specs.Written.{Anew, in_octets, renamed, written}
+use Rattle.zone_words.specs.declared.fault.WordsFault.{WordsFault}
+use Rattle.zone_words.specs.declared.fault.WordsFault.TheVariants.{LineFeedWithinQuotes, TooManyItems}
 
 -- ---- the type's word stands at one place
 
@@ -94,18 +98,35 @@ module _ (origin : Labels) (before : List Entry) (entry : Entry) where
       let one = one_under word other d e f g above over is is_too in
       states_or_fails f g above over d e octets field fault one.same_further one.same_above same states fails
 
-  -- a refusal is of the entry's line
-  pub fails_at : (word : List ℕ) (d : List TouchingItem) (r : Refused) → IsRefused origin before entry word d r → r.line ≡ entry.line
-  fails_at word d r (too_many f above is words many) = refl
-  fails_at word d r (on_more_lines f above is words few lines) = refl
-  fails_at word d r (no_data f above field fault is words few line fails) = refl
+  refusals_once : (f g : FurtherType) (field other : List ℕ) (fault as_well : WordsFault) → f ≡ g → field ≡ other → fault ≡ as_well → refusal entry f field fault ≡ refusal entry g other as_well
+  refusals_once f g field other fault as_well same one too =
+      ap (λ t. refusal entry t field fault) same ∙ ap (λ t. refusal entry g t fault) one ∙ ap (λ t. refusal entry g other t) too
+
+  faults_once : (f g : FurtherType) (above over : Labels) (d e : List TouchingItem) (field other : List ℕ) (fault as_well : WordsFault) → f ≡ g → above ≡ over → d ≡ e → DataFails above f.fields d field fault → DataFails over g.fields e other as_well → refusal entry f field fault ≡ refusal entry g other as_well
+  faults_once f g above over d e field other fault as_well same one items p q =
+      let told = data_fault_once over g.fields e field other fault as_well (subst (λ x. DataFails over g.fields x field fault) items (subst (λ (x : FurtherType). DataFails over x.fields d field fault) same (subst (λ x. DataFails x f.fields d field fault) one p))) q in
+      refusals_once f g field other fault as_well same told.field told.fault_same
+
+  -- and one refusal is told of it
+  pub fails_once : (word other : List ℕ) (d e : List TouchingItem) (r s : Refused) → d ≡ e → IsRefused origin before entry word d r → IsRefused origin before entry other e s → r ≡ s
+  fails_once word other d e r s same (too_many f above is words many) (too_many g over is_too words_too many_too) =
+      refusals_once f g (codes "data") (codes "data") TooManyItems TooManyItems (one_under word other d e f g above over is is_too).same_further refl refl
+  fails_once word other d e r s same (too_many f above is words many) (on_more_lines g over is_too words_too few lines) = absurd (omega (arith, few, many))
+  fails_once word other d e r s same (too_many f above is words many) (no_data g over field fault is_too words_too few line fails) = absurd (omega (arith, few, many))
+  fails_once word other d e r s same (on_more_lines f above is words few lines) (too_many g over is_too words_too many) = absurd (omega (arith, few, many))
+  fails_once word other d e r s same (on_more_lines f above is words few lines) (on_more_lines g over is_too words_too few_too lines_too) =
+      refusals_once f g (codes "data") (codes "data") LineFeedWithinQuotes LineFeedWithinQuotes (one_under word other d e f g above over is is_too).same_further refl refl
+  fails_once word other d e r s same (on_more_lines f above is words few lines) (no_data g over field fault is_too words_too few_too line fails) = absurd (lines (subst (λ x. AreOnOneLine (items_of x)) (sym same) line))
+  fails_once word other d e r s same (no_data f above field fault is words few line fails) (too_many g over is_too words_too many) = absurd (omega (arith, few, many))
+  fails_once word other d e r s same (no_data f above field fault is words few line fails) (on_more_lines g over is_too words_too few_too lines) = absurd (lines (subst (λ x. AreOnOneLine (items_of x)) same line))
+  fails_once word other d e r s same (no_data f above field fault is words few line fails) (no_data g over field_too fault_too is_too words_too few_too line_too fails_too) =
+      let one = one_under word other d e f g above over is is_too in
+      faults_once f g above over d e field field_too fault fault_too one.same_further one.same_above same fails fails_too
 
 -- ---- one thing becomes of an entry
 
--- the same is written, and the same lines are told
-pub record OneOutcome (a b : Outcome) : Type 0 where
-  pub written : a.written ≡ b.written
-  pub lines : map (λ (r : Refused). r.line) a.told ≡ map (λ (r : Refused). r.line) b.told
+abbrev written_as : List Token → List Refused → Outcome
+written_as new refusals = record { written = new; told = refusals }
 
 module _ (origin : Labels) (before : List Entry) (line : ℕ) (all_tokens : List Token) where
   say_under : (front back : List Token) (it : Anew) → (say : TokensSay origin before line all_tokens front back it) → Under origin before (entry_of line all_tokens) (written_text say.word) (items_of (touching_items true back))
@@ -125,22 +146,18 @@ module _ (origin : Labels) (before : List Entry) (line : ℕ) (all_tokens : List
       let at = place_once origin before line all_tokens f q.front b q.back p.word q.word p.split q.split (say_under f b it p) (fail_under r q) in
       says_or_fails origin before (entry_of line all_tokens) (written_text p.word) (written_text q.word) (touching_items true b) (touching_items true q.back) it r (ap (touching_items true) at.back) p.says q.fails
 
-  pub becomes_once : (a b : Outcome) → BecomesUnder origin before line all_tokens a → BecomesUnder origin before line all_tokens b → OneOutcome a b
-  becomes_once a b (anew f back it p e) (anew g other as_well q h) = record {
-    written = ap (λ (o : Outcome). o.written) e ∙ says_written f back g other it as_well p q ∙ sym (ap (λ (o : Outcome). o.written) h);
-    lines = ap (λ (o : Outcome). map (λ (r : Refused). r.line) o.told) e ∙ sym (ap (λ (o : Outcome). map (λ (r : Refused). r.line) o.told) h);
-  }
+  refused_once : (r s : Refused) → TokensFail origin before line all_tokens r → TokensFail origin before line all_tokens s → r ≡ s
+  refused_once r s p q =
+      let at = place_once origin before line all_tokens p.front q.front p.back q.back p.word q.word p.split q.split (fail_under r p) (fail_under s q) in
+      fails_once origin before (entry_of line all_tokens) (written_text p.word) (written_text q.word) (touching_items true p.back) (touching_items true q.back) r s (ap (touching_items true) at.back) p.fails q.fails
+
+  pub becomes_once : (a b : Outcome) → BecomesUnder origin before line all_tokens a → BecomesUnder origin before line all_tokens b → a ≡ b
+  becomes_once a b (anew f back it p e) (anew g other as_well q h) = e ∙ ap (λ t. written_as t []) (says_written f back g other it as_well p q) ∙ sym h
   becomes_once a b (anew f back it p e) (refused r q h) = absurd (never_both f back it r p q)
   becomes_once a b (anew f back it p e) (kept no_say no_fail h) = absurd (no_say f back it p)
   becomes_once a b (refused r q h) (anew f back it p e) = absurd (never_both f back it r p q)
-  becomes_once a b (refused r q h) (refused s p e) = record {
-    written = ap (λ (o : Outcome). o.written) h ∙ sym (ap (λ (o : Outcome). o.written) e);
-    lines = ap (λ (o : Outcome). map (λ (r : Refused). r.line) o.told) h ∙ ap (λ n. n ∷ []) (fails_at origin before (entry_of line all_tokens) (written_text q.word) (touching_items true q.back) r q.fails ∙ sym (fails_at origin before (entry_of line all_tokens) (written_text p.word) (touching_items true p.back) s p.fails)) ∙ sym (ap (λ (o : Outcome). map (λ (r : Refused). r.line) o.told) e);
-  }
+  becomes_once a b (refused r q h) (refused s p e) = h ∙ ap (λ t. written_as all_tokens (t ∷ [])) (refused_once r s q p) ∙ sym e
   becomes_once a b (refused r q h) (kept no_say no_fail e) = absurd (no_fail r q)
   becomes_once a b (kept no_say no_fail h) (anew f back it p e) = absurd (no_say f back it p)
   becomes_once a b (kept no_say no_fail h) (refused r q e) = absurd (no_fail r q)
-  becomes_once a b (kept no_say no_fail h) (kept no_say_too no_fail_too e) = record {
-    written = ap (λ (o : Outcome). o.written) h ∙ sym (ap (λ (o : Outcome). o.written) e);
-    lines = ap (λ (o : Outcome). map (λ (r : Refused). r.line) o.told) h ∙ sym (ap (λ (o : Outcome). map (λ (r : Refused). r.line) o.told) e);
-  }
+  becomes_once a b (kept no_say no_fail h) (kept no_say_too no_fail_too e) = h ∙ sym e

@@ -20,7 +20,7 @@ parts_once origin (f ∷ fields) items (x ∷ a) (y ∷ b) p q = cc (field_once 
 pub data_once : (origin : Labels) (fields : List NamedField) (items : List TouchingItem) (a b : List ℕ) → StatesData origin fields items a → StatesData origin fields items b → a ≡ b
 data_once origin fields items a b p q = p.value ∙ ap joined (parts_once origin fields items p.parts q.parts p.each q.each) ∙ sym q.value
 
-none_fails : (origin : Labels) (fields : List NamedField) (items : List TouchingItem) (parts : List (List ℕ)) (name : List ℕ) (fault : WordsFault) → StateParts origin fields items parts → AFieldFails origin fields items name fault → ⊥
+pub none_fails : (origin : Labels) (fields : List NamedField) (items : List TouchingItem) (parts : List (List ℕ)) (name : List ℕ) (fault : WordsFault) → StateParts origin fields items parts → AFieldFails origin fields items name fault → ⊥
 none_fails origin [] items parts name fault p q = q
 none_fails origin (f ∷ fields) items [] name fault p q = p
 none_fails origin (f ∷ fields) items (x ∷ parts) name fault p (inl bad) = field_or_fault origin f.kind (own_items f.kind items) x fault p.0 bad.0

@@ -7,6 +7,13 @@ pub mod FedTexts
 pub mod Standing
 pub mod OneRewriting
 pub mod OwnRewriting
+mod EntryShapes
+mod CutEntries
+mod WrittenWords
+mod KeptEntries
+pub mod RewrittenCut
+mod SameStatements
+pub mod RewrittenAgain
 mod Base32Digits
 mod Base64Texts
 mod HexDigits
@@ -32,6 +39,7 @@ mod Salts
 pub mod FurtherWords
 pub mod FieldLaws
 pub mod DataLaws
+pub mod FaultsOnce
 mod GivenItems
 pub mod Cuts
 pub mod Prefixes

@@ -9,3 +9,4 @@ pub mod Texts
 pub mod Values
 pub mod Reading
 pub mod Once
+pub mod OneFault

@@ -1,38 +1,26 @@
 -- There is one rewriting.
-use Rattle.zone_text.proofs.Common.{Entry, List, Token, [], and_last, ap, append_cancel_left, arith, common_steps, cut_from, entry_of, flat_map, flat_map-append, map, refl, subst, sym, text, zero, ℕ, ◌++◌, ◌+◌, ◌==◌, ◌∙◌, ◌∷◌, ◌≡◌}
-use Rattle.std.proofs.lemmas.List.{map-append}
+use Rattle.zone_text.proofs.Common.{Entry, List, Token, [], and_last, ap, append_cancel_left, arith, common_steps, cut_from, entry_of, flat_map, refl, subst, sym, text, zero, ℕ, ◌++◌, ◌+◌, ◌==◌, ◌∙◌, ◌∷◌, ◌≡◌}
 use Rattle.std.specs.Prelude.{count_by}
 use Rattle.zone_name.specs.Common.{Labels}
 use Rattle.zone_text.proofs.Cuttings.{cut_not_broken, one_break, one_cut}
-use Rattle.zone_words.proofs.BecomesOnce.{OneOutcome, becomes_once}
+use Rattle.zone_words.proofs.BecomesOnce.{becomes_once}
 use Rattle.zone_words.specs.Entry.{BecomesUnder, IsRewriting}
 use Rattle.zone_words.specs.Rewriting.{EachBecomes, Outcome, Refused, broken, told_of, whole, written_of}
 
-abbrev pub lines_of : List Refused → List ℕ
-lines_of told = map (λ (r : Refused). r.line) told
-
-pub record SameOutcomes (a b : List Outcome) : Type 0 where
-  pub written : written_of a ≡ written_of b
-  pub lines : lines_of (told_of a) ≡ lines_of (told_of b)
-
 pub record SameRewriting (new other : List ℕ) (told others : List Refused) : Type 0 where
   pub written : new ≡ other
-  pub lines : lines_of told ≡ lines_of others
+  pub told_same : told ≡ others
 
 module _ (origin : Labels) where
-  each_once : (before : List Entry) (line : ℕ) (entries : List (List Token)) (a b : List Outcome) → EachBecomes (BecomesUnder origin) before line entries a → EachBecomes (BecomesUnder origin) before line entries b → SameOutcomes a b
-  each_once before line [] [] [] p q = record { written = refl; lines = refl }
+  each_once : (before : List Entry) (line : ℕ) (entries : List (List Token)) (a b : List Outcome) → EachBecomes (BecomesUnder origin) before line entries a → EachBecomes (BecomesUnder origin) before line entries b → a ≡ b
+  each_once before line [] [] [] p q = refl
   each_once before line [] (x ∷ a) b p q = absurd p
   each_once before line [] [] (y ∷ b) p q = absurd q
   each_once before line (entry ∷ entries) [] b p q = absurd p
   each_once before line (entry ∷ entries) (x ∷ a) [] p q = absurd q
   each_once before line (entry ∷ entries) (x ∷ a) (y ∷ b) p q =
-      let one : OneOutcome x y = becomes_once origin before line entry x y p.0 q.0 in
-      let more = each_once (entry_of line entry ∷ before) (line + count_by (λ c. c == 10) (text entry)) entries a b p.1 q.1 in
-      record {
-        written = ap (λ t. text t ++ written_of a) one.written ∙ ap (λ t. text y.written ++ t) more.written;
-        lines = map-append (λ (r : Refused). r.line) x.told (told_of a) ∙ ap (λ t. t ++ lines_of (told_of a)) one.lines ∙ ap (λ t. lines_of y.told ++ t) more.lines ∙ sym (map-append (λ (r : Refused). r.line) y.told (told_of b));
-      }
+      ap (λ t. t ∷ a) (becomes_once origin before line entry x y p.0 q.0)
+      ∙ ap (λ t. y ∷ t) (each_once (entry_of line entry ∷ before) (line + count_by (λ c. c == 10) (text entry)) entries a b p.1 q.1)
 
   left_same : (a b rest other : List ℕ) → a ≡ b → a ++ rest ≡ b ++ other → rest ≡ other
   left_same a b rest other same e = grind (arith, common_steps, append_cancel_left)
@@ -41,7 +29,7 @@ module _ (origin : Labels) where
   one_rewriting octets new other told others (whole t a cut are out tells) (whole t' a' cut' are' out' tells') =
       let same = one_cut octets t t' cut cut' in
       let all = each_once [] 1 _ a a' (subst (λ s. EachBecomes (BecomesUnder origin) [] 1 (and_last (cut_from zero s).ended (cut_from zero s).open_tokens) a) same are) are' in
-      record { written = out ∙ all.written ∙ sym out'; lines = ap lines_of tells ∙ all.lines ∙ sym (ap lines_of tells') }
+      record { written = out ∙ ap written_of all ∙ sym out'; told_same = tells ∙ ap told_of all ∙ sym tells' }
   one_rewriting octets new other told others (whole t a cut are out tells) (broken t' fault a' rest breaks are' parts out' tells') = absurd (cut_not_broken octets t t' fault cut breaks)
   one_rewriting octets new other told others (broken t' fault a' rest breaks are' parts out' tells') (whole t a cut are out tells) = absurd (cut_not_broken octets t t' fault cut breaks)
   one_rewriting octets new other told others (broken t f a r breaks are parts out tells) (broken t' f' a' r' breaks' are' parts' out' tells') =
@@ -49,6 +37,6 @@ module _ (origin : Labels) where
       let all = each_once [] 1 _ a a' (subst (λ s. EachBecomes (BecomesUnder origin) [] 1 (cut_from zero s).ended a) same are) are' in
       let rests : r ≡ r' = left_same _ _ r r' (ap (λ s. flat_map text (cut_from zero s).ended) same) (sym parts ∙ parts') in
       record {
-        written = out ∙ ap (λ t. t ++ r) all.written ∙ ap (λ t. written_of a' ++ t) rests ∙ sym out';
-        lines = ap lines_of tells ∙ all.lines ∙ sym (ap lines_of tells');
+        written = out ∙ ap (λ t. written_of t ++ r) all ∙ ap (λ t. written_of a' ++ t) rests ∙ sym out';
+        told_same = tells ∙ ap told_of all ∙ sym tells';
       }

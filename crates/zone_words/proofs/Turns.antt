@@ -107,7 +107,7 @@ no_parts false true c items parts e = absurd cc
 no_parts false false true items parts e = absurd cc
 no_parts false false false items parts e = absurd cc
 
-no_directive : (item : RawItem) (items : List RawItem) (parts : Parts) → parts_in (directive item items) ≡ Some parts → ⊥
+pub no_directive : (item : RawItem) (items : List RawItem) (parts : Parts) → parts_in (directive item items) ≡ Some parts → ⊥
 no_directive (quoted t) items parts e = absurd cc
 no_directive (bare t) items parts e = no_parts _ _ _ items parts e
 
@@ -141,7 +141,7 @@ fewer items first form parts word rest is split from =
     let count : length items ≡ length b.0 + length (bare word ∷ rest) = ap length whole ∙ length-append b.0 (bare word ∷ rest) in
     omega (arith, count)
 
-no_origin : (form : Statement) (parts : Parts) → parts_in form ≡ Some parts → origin_items form ≡ None
+pub no_origin : (form : Statement) (parts : Parts) → parts_in form ≡ Some parts → origin_items form ≡ None
 no_origin no_items parts e = absurd cc
 no_origin (sets_origin items) parts e = absurd cc
 no_origin (sets_ttl items) parts e = absurd cc

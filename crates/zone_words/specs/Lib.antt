@@ -16,4 +16,5 @@ pub mod Entry
 pub mod Refusal
 pub mod Rewriter
 pub mod NoFurther
+pub mod CutAlike
 pub mod FaultText

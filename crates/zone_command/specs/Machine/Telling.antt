@@ -5,8 +5,7 @@ use Rattle.zone_rdata.specs.declared.fault.Place.{Place}
 use Rattle.zone_rdata.specs.declared.fault.Stop.{Stop}
 use Rattle.zone_rdata.specs.declared.fault.Stop.TheVariants.{Refused, Write, Memory}
 use Rattle.zone_print.specs.Device.{Device, WorksOn, Fails, IsLeft}
-use Rattle.zone_command.specs.Run.{TellsLine}
-use Rattle.zone_engine.specs.Telling.{stop_line, stop_status, verdict_line, verdict_status, WritesLine, WritesPartOfLine}
+use Rattle.zone_engine.specs.Telling.{stop_line, stop_status, verdict_line, verdict_status, TellsLine, WritesLine, WritesPartOfLine}
 use Rattle.zone_engine.specs.declared.comparison.Verdict.{Verdict}
 
 -- why a run stopped is told after these words, or want of memory in place of the line of a refusal

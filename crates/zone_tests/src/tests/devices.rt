@@ -9,6 +9,7 @@ use std::io;
 use std::io::{ErrorKind, Read, Write};
 use std::test::Fail;
 use zone_command::{Order, run};
+use zone_engine::{read_piece, zeros};
 use zone_print::write_zone;
 use zone_rdata::Stop;
 
@@ -100,10 +101,20 @@ fn a_failing_reader_is_told(rt: HostRuntime) -> Result<(), Fail> {
     check_rows(rt.alloc(), BROKEN_READERS)
 }
 
+#[test]
+fn pieces_are_read(rt: HostRuntime) -> Result<(), Fail> {
+    let mut piece = zeros(rt.alloc(), 4)?;
+    check_octets("room for a piece", &piece, b"\0\0\0\0")?;
+    let mut reader = Supply::at_once(b"abcdef", None);
+    check_octets("a piece", read_piece(&mut reader, &mut piece)?, b"abcd")?;
+    check_octets("a rest", read_piece(&mut reader, &mut piece)?, b"ef")?;
+    check_octets("the end", read_piece(&mut reader, &mut piece)?, b"")
+}
+
 /// A writer that takes `each` octets a call and `room` in all, and then answers an error or takes
 /// nothing. It can't be flushed.
 #[derive(Drop)]
-struct Narrow {
+pub(super) struct Narrow {
     taken: Vec<u8>,
     each: usize,
     room: usize,
@@ -111,13 +122,23 @@ struct Narrow {
 }
 
 impl Narrow {
-    fn new(alloc: Global, each: usize, room: usize, fails: bool) -> Result<Narrow, AllocError> {
+    pub(super) fn new(
+        alloc: Global,
+        each: usize,
+        room: usize,
+        fails: bool,
+    ) -> Result<Narrow, AllocError> {
         Ok(Narrow {
             taken: roomy(alloc)?,
             each,
             room,
             fails,
         })
+    }
+
+    /// What it has taken.
+    pub(super) fn taken(&self) -> &[u8] {
+        &self.taken
     }
 }
 

@@ -2,7 +2,7 @@
 use crate::tests::shown::{check_octets, check_same};
 use crate::tests::{push_words, roomy, rooted};
 use std::test::Fail;
-use zone_engine::{explain_line, refusal_line, write_line};
+use zone_engine::{explain_line, refusal_line, tell, write_line};
 use zone_rdata::{Fault, Place, Stop};
 
 #[test]
@@ -51,4 +51,12 @@ fn a_refusal_is_told_in_parts(rt: HostRuntime) -> Result<(), Fail> {
     let wanted =
         b"first: F26 ErrorCode 5 at message 1 offset 0: the message carries an error code\n";
     check_octets("the line as it is written", &written, wanted)
+}
+
+#[test]
+fn a_line_is_told(rt: HostRuntime) -> Result<(), Fail> {
+    let mut told = roomy(rt.alloc())?;
+    let status = tell(&mut told, "first: ", "read failed", 3);
+    check_same("the status", status, 3)?;
+    check_octets("the line", &told, b"first: read failed\n")
 }

@@ -7,7 +7,7 @@ use zone_command::{LineFault, Order, order_after_name, order_of, refuse};
 use zone_name::Name;
 
 /// The words of a line, in which a blank stands between two. An empty line has none.
-fn words_of(alloc: Global, line: &str) -> Result<Vec<String>, AllocError> {
+pub(super) fn words_of(alloc: Global, line: &str) -> Result<Vec<String>, AllocError> {
     let mut words = Vec::new(alloc);
     if !line.is_empty() {
         for word in line.split(' ') {

@@ -66,14 +66,14 @@ fn inputs_of_readers(rt: HostRuntime) -> Result<(), Fail> {
 /// What a run does: its status, its output, and the line that it tells.
 #[derive(Drop)]
 pub(super) struct Run {
-    status: u8,
-    output: Vec<u8>,
-    told: Vec<u8>,
+    pub(super) status: u8,
+    pub(super) output: Vec<u8>,
+    pub(super) told: Vec<u8>,
 }
 
 impl Run {
     /// That a run has this status, output and line.
-    fn check(&self, status: u8, output: &[u8], told: &[u8]) -> Result<(), Fail> {
+    pub(super) fn check(&self, status: u8, output: &[u8], told: &[u8]) -> Result<(), Fail> {
         check_same("the status", self.status, status)?;
         check_octets("the output", &self.output, output)?;
         check_octets("the line that is told", &self.told, told)

@@ -68,13 +68,13 @@ parameter_once text p q x y =
     (required_once x.key text.value p.required q.required x.requires_keys (subst (λ k. RequiresKeys k text.value q.required) same y.requires_keys))
 
 -- the items begin with one parameter
-first_once : (items : List TouchingItem) (s t : ParameterText) (q r : List TouchingItem) (o p : Parameter) → BeginWith items s q → StatesParameter s o → BeginWith items t r → StatesParameter t p → (o ≡ p) × (q ≡ r)
+pub first_once : (items : List TouchingItem) (s t : ParameterText) (q r : List TouchingItem) (o p : Parameter) → BeginWith items s q → StatesParameter s o → BeginWith items t r → StatesParameter t p → (o ≡ p) × (q ≡ r)
 first_once items s t q r o p x u y v =
     let same = begin_once items s t q r x y in
     (parameter_once t o p (subst (λ w. StatesParameter w o) same.0 u) v, same.1)
 
 -- no items are no parameter
-nothing_begins : (text : ParameterText) (rest : List TouchingItem) → BeginWith [] text rest → ⊥
+pub nothing_begins : (text : ParameterText) (rest : List TouchingItem) → BeginWith [] text rest → ⊥
 nothing_begins text rest (alone t l v e) = absurd cc
 nothing_begins text rest (bare_value t l v e) = absurd cc
 nothing_begins text rest (quoted_value t l e) = absurd cc
@@ -184,12 +184,12 @@ new_behind : (k : ℕ) (before more : List Parameter) (p : Parameter) → IsNew 
 new_behind k [] more p new e = new.0 (sym e)
 new_behind k (q ∷ before) more p new e = new_behind k before more p new.1 e
 
-new_before : (before more : List Parameter) (p : Parameter) → AreOnce (before ++ p ∷ more) → IsThere before p.number → ⊥
+pub new_before : (before more : List Parameter) (p : Parameter) → AreOnce (before ++ p ∷ more) → IsThere before p.number → ⊥
 new_before [] more p once there = there
 new_before (q ∷ before) more p once (inl e) = new_behind q.number before more p once.0 e
 new_before (q ∷ before) more p once (inr there) = new_before before more p once.1 there
 
-fails_value_not : (key : Key) (text octets : List ℕ) (fault : WordsFault) → StatesValue key text octets → FailsValue key text fault → ⊥
+pub fails_value_not : (key : Key) (text octets : List ℕ) (fault : WordsFault) → StatesValue key text octets → FailsValue key text fault → ⊥
 fails_value_not key text octets _ is (no_value spelt none) = none octets is
 fails_value_not Mandatory text octets _ is (bad_escape has none) = has
 fails_value_not Alpn text octets _ is (bad_escape has none) = none is.spelt is.unescaped

@@ -25,3 +25,11 @@ pub fn faulty_items_state_none()
         (octets name : List ℕ) (fault : WordsFault) → StatesData origin fields items octets
         → DataFails origin fields items name fault → ⊥ }
 {}
+
+/// Items state at most one fault, of one field, where they state no data.
+pub fn data_has_one_fault()
+    ensures { (origin : Labels) (fields : List NamedField) (items : List TouchingItem)
+        (name other : List ℕ) (fault as_well : WordsFault)
+        → DataFails origin fields items name fault → DataFails origin fields items other as_well
+        → (name ≡ other) × (fault ≡ as_well) }
+{}

@@ -1,6 +1,6 @@
-use Rattle.zone_command.specs.Run.{whole, part}
-use Rattle.zone_command.proofs.Telling.{failed_write}
-use Rattle.zone_command.proofs.program.tell.Goals as goal
+use Rattle.zone_engine.specs.Telling.{whole, part}
+use Rattle.zone_engine.proofs.Lines.{failed_write}
+use Rattle.zone_engine.proofs.line.tell.Goals as goal
 
 pub returns-in-Ok : goal.returns-in-Ok
 returns-in-Ok g c = whole c.in-Ok.ensures.written c.in-Ok.ensures.works

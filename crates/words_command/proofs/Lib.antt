@@ -1,0 +1,5 @@
+pub mod Common
+pub mod Asked
+pub mod Halting
+pub mod Feeding
+pub mod Told

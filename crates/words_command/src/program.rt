@@ -1,0 +1,96 @@
+ghost use Rattle.std.specs.Prelude.{◌≡◌, ◌++◌, IfOk, OnErr, OnOk, string_bytes};
+ghost use Rattle.zone_engine.specs.Telling.{TellsLine};
+ghost use Rattle.words_command.specs.Order.{line_status, line_text};
+ghost use Rattle.words_command.specs.Run.{devices, failure_line, Runs, TellsRefused};
+ghost use Rattle.words_command.specs.Telling.{others_words, refusals_line};
+
+use crate::failure::Failure;
+use crate::order::{LineFault, Order};
+use crate::rewrite::rewrite;
+use crate::status;
+use std::alloc::{AllocError, Global};
+use zone_engine::{OUT_OF_MEMORY, OctetReader, tell};
+use zone_print::OctetWriter;
+use zone_words::{Refusal, Refusals};
+
+/// The whole program over a reader, a writer and an error writer. It answers the exit status: 0
+/// where the rewriting of the whole file was written; 3 where it was, and some entry of a further
+/// type states no data, of which a line on the error writer tells; 4 where reading, writing or memory
+/// failed, with a line that tells which. Where a line can't be told the status is 4: a proper prefix
+/// of it was written, or, where memory was refused for it, the line `out of memory`. With 0 the
+/// error writer got nothing.
+///
+/// Where reading failed, or memory was refused before the rewriting was written, the writer got what
+/// is written for the whole entries before and a last line `$STOPPED`, or a proper prefix of that;
+/// the line is still that of the first failure. Where writing failed it got a proper prefix of what
+/// was being written, and nothing more. A reader that gives more than 2^63 octets is taken for one
+/// that failed. No writer is flushed, and a reader or a writer that failed isn't called again.
+pub fn run<R: OctetReader, W: OctetWriter, E: OctetWriter>(
+    alloc: Global,
+    order: &Order,
+    input: &mut R,
+    output: &mut W,
+    errors: &mut E,
+) -> u8
+    ensures { Runs order.now
+        (devices (R.state input.old) (W.state output.old) (E.state errors.old))
+        (devices (R.state input.new) (W.state output.new) (E.state errors.new)) result }
+{
+    let Order::Generic(origin) = order;
+    match rewrite(alloc, origin, input, output) {
+        Ok(refusals) => tell_refusals(alloc, &refusals, errors),
+        Err(failure) => tell(errors, "", failure.text(), status::FAILED),
+    }
+}
+
+/// Tells of the entries that state no data, and answers the status.
+fn tell_refusals<E: OctetWriter>(alloc: Global, refusals: &Refusals, errors: &mut E) -> u8
+    ensures { TellsRefused refusals.now (E.state errors.old) (E.state errors.new) result }
+{
+    match &refusals.first {
+        None => status::SUCCESS,
+        Some(first) => tell_line(refusals_line(alloc, first, refusals.count), errors),
+    }
+}
+
+/// The line on the first entry that states no data, of so many.
+fn refusals_line(alloc: Global, first: &Refusal, count: u64) -> Result<String, AllocError>
+    ensures { IfOk result (λ line. string_bytes line ≡ refusals_line first.now count) }
+{
+    let mut line = format!(in alloc; "{first}")?;
+    push_others(&mut line, count.saturating_sub(1))?;
+    Ok(line)
+}
+
+/// How many more entries state no data.
+fn push_others(line: &mut String, others: u64) -> Result<(), AllocError>
+    ensures { OnOk result (string_bytes line.new ≡ string_bytes line.old ++ others_words others) }
+{
+    match others {
+        0 => Ok(()),
+        1 => line.push_str(" (and 1 more entry)"),
+        _ => write!(line, " (and {others} more entries)"),
+    }
+}
+
+/// Tells the line on entries that state no data, or that memory was refused for it, and answers the
+/// status.
+fn tell_line<E: OctetWriter>(line: Result<String, AllocError>, errors: &mut E) -> u8
+    ensures told { IfOk line (λ line. TellsLine (string_bytes line) 3
+        (E.state errors.old) (E.state errors.new) result) }
+    ensures untold { OnErr line (TellsLine (failure_line Failure.Memory) 4
+        (E.state errors.old) (E.state errors.new) result) }
+{
+    match line {
+        Ok(line) => tell(errors, "", line.as_str(), status::REFUSED),
+        Err(_) => tell(errors, "", OUT_OF_MEMORY, status::FAILED),
+    }
+}
+
+/// Tells why a command line is no order, and answers the status: 4 where that could not be told.
+pub fn refuse<E: OctetWriter>(fault: &LineFault, errors: &mut E) -> u8
+    ensures { TellsLine (line_text fault.now) (line_status fault.now)
+        (E.state errors.old) (E.state errors.new) result }
+{
+    tell(errors, "", fault.text(), fault.status())
+}
