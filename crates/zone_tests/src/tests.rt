@@ -31,6 +31,7 @@ mod primitives;
 mod programs;
 mod readings;
 mod records;
+mod rewriting;
 mod runs;
 mod scripts;
 mod shown;

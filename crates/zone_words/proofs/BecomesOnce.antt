@@ -18,7 +18,7 @@ use Rattle.zone_words.specs.Data.{DataFails, StatesData}
 use Rattle.zone_words.specs.DataItem.{TouchingItem, items_of}
 use Rattle.zone_words.specs.Entry.{AreOnOneLine, BecomesUnder, IsFurtherUnder, IsRefused, SaysAnew, TokensFail, TokensSay, anew, in_generic_form, in_words, kept, no_data, on_more_lines, refusal, refused, too_many, touching_items}
 use Rattle.zone_words.specs.Rewriting.{Outcome, Refused}
-use Rattle.zone_words.specs.Table.{FurtherType}
+use Rattle.zone_words.specs.Table.{FurtherType, fields_in}
 use Rattle.zone_words.specs.Written.{Anew, in_octets, renamed, written}
 use Rattle.zone_words.specs.declared.fault.WordsFault.{WordsFault}
 use Rattle.zone_words.specs.declared.fault.WordsFault.TheVariants.{LineFeedWithinQuotes, TooManyItems}
@@ -70,13 +70,13 @@ module _ (origin : Labels) (before : List Entry) (entry : Entry) where
     same_above = origin_once origin before above over p.under q.under;
   }
 
-  states_once : (f g : FurtherType) (above over : Labels) (d e : List TouchingItem) (a b : List ℕ) → f ≡ g → above ≡ over → d ≡ e → StatesData above f.fields d a → StatesData over g.fields e b → a ≡ b
+  states_once : (f g : FurtherType) (above over : Labels) (d e : List TouchingItem) (a b : List ℕ) → f ≡ g → above ≡ over → d ≡ e → StatesData above (fields_in f.fields d) d a → StatesData over (fields_in g.fields e) e b → a ≡ b
   states_once f g above over d e a b same one items p q =
-      data_once over g.fields e a b (subst (λ x. StatesData over g.fields x a) items (subst (λ (x : FurtherType). StatesData over x.fields d a) same (subst (λ x. StatesData x f.fields d a) one p))) q
+      data_once over (fields_in g.fields e) e a b (subst (λ x. StatesData over (fields_in g.fields x) x a) items (subst (λ (x : FurtherType). StatesData over (fields_in x.fields d) d a) same (subst (λ x. StatesData x (fields_in f.fields d) d a) one p))) q
 
-  states_or_fails : (f g : FurtherType) (above over : Labels) (d e : List TouchingItem) (a field : List ℕ) (fault : _) → f ≡ g → above ≡ over → d ≡ e → StatesData above f.fields d a → DataFails over g.fields e field fault → ⊥
+  states_or_fails : (f g : FurtherType) (above over : Labels) (d e : List TouchingItem) (a field : List ℕ) (fault : _) → f ≡ g → above ≡ over → d ≡ e → StatesData above (fields_in f.fields d) d a → DataFails over (fields_in g.fields e) e field fault → ⊥
   states_or_fails f g above over d e a field fault same one items p q =
-      data_or_fault over g.fields e a field fault (subst (λ x. StatesData over g.fields x a) items (subst (λ (x : FurtherType). StatesData over x.fields d a) same (subst (λ x. StatesData x f.fields d a) one p))) q
+      data_or_fault over (fields_in g.fields e) e a field fault (subst (λ x. StatesData over (fields_in g.fields x) x a) items (subst (λ (x : FurtherType). StatesData over (fields_in x.fields d) d a) same (subst (λ x. StatesData x (fields_in f.fields d) d a) one p))) q
 
   pub says_once : (word other : List ℕ) (d e : List TouchingItem) (it as_well : Anew) → d ≡ e → SaysAnew origin before entry word d it → SaysAnew origin before entry other e as_well → it ≡ as_well
   says_once word other d e it as_well same (in_generic_form f above is few line generic name) (in_generic_form g over is_too few_too line_too generic_too name_too) =
@@ -102,9 +102,9 @@ module _ (origin : Labels) (before : List Entry) (entry : Entry) where
   refusals_once f g field other fault as_well same one too =
       ap (λ t. refusal entry t field fault) same ∙ ap (λ t. refusal entry g t fault) one ∙ ap (λ t. refusal entry g other t) too
 
-  faults_once : (f g : FurtherType) (above over : Labels) (d e : List TouchingItem) (field other : List ℕ) (fault as_well : WordsFault) → f ≡ g → above ≡ over → d ≡ e → DataFails above f.fields d field fault → DataFails over g.fields e other as_well → refusal entry f field fault ≡ refusal entry g other as_well
+  faults_once : (f g : FurtherType) (above over : Labels) (d e : List TouchingItem) (field other : List ℕ) (fault as_well : WordsFault) → f ≡ g → above ≡ over → d ≡ e → DataFails above (fields_in f.fields d) d field fault → DataFails over (fields_in g.fields e) e other as_well → refusal entry f field fault ≡ refusal entry g other as_well
   faults_once f g above over d e field other fault as_well same one items p q =
-      let told = data_fault_once over g.fields e field other fault as_well (subst (λ x. DataFails over g.fields x field fault) items (subst (λ (x : FurtherType). DataFails over x.fields d field fault) same (subst (λ x. DataFails x f.fields d field fault) one p))) q in
+      let told = data_fault_once over (fields_in g.fields e) e field other fault as_well (subst (λ x. DataFails over (fields_in g.fields x) x field fault) items (subst (λ (x : FurtherType). DataFails over (fields_in x.fields d) d field fault) same (subst (λ x. DataFails x (fields_in f.fields d) d field fault) one p))) q in
       refusals_once f g field other fault as_well same told.field told.fault_same
 
   -- and one refusal is told of it

@@ -1,5 +1,5 @@
 -- Items state one list of octets at most as data, and none where something is wrong with them.
-use Rattle.std.proofs.Common.{[], ◌≡◌, ℕ, ◌<◌, ◌≤◌, List, ◌∷◌, length, inl, inr, refl, sym, ap, ◌∙◌, arith}
+use Rattle.std.proofs.Common.{[], ◌≡◌, ℕ, List, ◌∷◌, length, inl, inr, refl, sym, ap, ◌∙◌, arith}
 use Rattle.zone_name.specs.Common.{Labels}
 use Rattle.zone_words.proofs.FieldLaws.{field_once, field_or_fault}
 use Rattle.zone_words.specs.Data.{AFieldFails, DataFails, StateParts, StatesData, at_field, items_left, joined, too_long}

@@ -8,6 +8,7 @@ use Rattle.zone_rdata.proofs.StringLaws.{fault-once}
 use Rattle.zone_rdata.specs.Item.{RawItem, bare, quoted}
 use Rattle.zone_words.proofs.DataLaws.{none_fails}
 use Rattle.zone_words.proofs.FieldLaws.{field_or_fault}
+use Rattle.zone_words.proofs.Gateways.{up_to_fault_once}
 use Rattle.zone_words.proofs.OfParameters.OneFault.{parameters_fault_once}
 use Rattle.zone_words.proofs.Times.{time_fault_once}
 use Rattle.zone_words.proofs.Values.{quoted_value_fault_once, value_fault_once}
@@ -18,6 +19,7 @@ use Rattle.zone_words.specs.FirstItem.{FirstFails}
 use Rattle.zone_words.specs.Kinds.Base64.{StatesBase64}
 use Rattle.zone_words.specs.Kinds.Hex.{StatesHex}
 use Rattle.zone_words.specs.Kinds.Joined.{FailsAs}
+use Rattle.zone_words.specs.Kinds.Location.{StatesLocation}
 use Rattle.zone_words.specs.Kinds.Name.{FailsName}
 use Rattle.zone_words.specs.Kinds.Number.{NumberFails, no_number, too_large}
 use Rattle.zone_words.specs.Kinds.Strings.{FailsPerhaps, FailsString, FailsStrings, of_string}
@@ -26,9 +28,9 @@ use Rattle.zone_words.specs.Table.{NamedField}
 use Rattle.zone_words.specs.declared.fault.WordsFault.{WordsFault}
 use Rattle.zone_words.specs.declared.fault.WordsFault.TheVariants.{NotAName}
 use Rattle.zone_words.specs.declared.field.BareKind.{BareKind}
-use Rattle.zone_words.specs.declared.field.BareKind.TheVariants.{Algorithm, CertificateType, Eui48, Eui64, Hash, Ipv4, Name, NodeId, RecordType, Salt, Tag, Time, U8, U16, U32}
+use Rattle.zone_words.specs.declared.field.BareKind.TheVariants.{AddressType, Algorithm, CertificateType, Discovery, Eui48, Eui64, Hash, Ipv4, Ipv6, Name, NoAddress, NodeId, RecordType, Salt, Tag, Time, U8, U16, U32}
 use Rattle.zone_words.specs.declared.field.FieldKind.{FieldKind}
-use Rattle.zone_words.specs.declared.field.FieldKind.TheVariants.{Bare, Base64, Hex, OneString, Parameters, PerhapsOneString, PerhapsTypes, Prefixes, QuotedValue, Strings, Types, Value}
+use Rattle.zone_words.specs.declared.field.FieldKind.TheVariants.{Bare, Base64, Hex, Location, Nothing, OneString, Parameters, PerhapsOneString, PerhapsTypes, Prefixes, QuotedValue, Strings, Types, Value}
 
 -- ---- a text
 
@@ -54,6 +56,10 @@ text_fault_once origin Salt text a b p q = p.0 ∙ sym q.0
 text_fault_once origin Hash text a b p q = p.0 ∙ sym q.0
 text_fault_once origin Tag text a b p q = p.0 ∙ sym q.0
 text_fault_once origin Ipv4 text a b p q = p.0 ∙ sym q.0
+text_fault_once origin Ipv6 text a b p q = p.0 ∙ sym q.0
+text_fault_once origin (AddressType optional) text a b p q = up_to_fault_once 3 text a b p q
+text_fault_once origin Discovery text a b p q = up_to_fault_once 1 text a b p q
+text_fault_once origin NoAddress text a b p q = p.1 ∙ sym q.1
 text_fault_once origin NodeId text a b p q = p.0 ∙ sym q.0
 text_fault_once origin Eui48 text a b p q = p.0 ∙ sym q.0
 text_fault_once origin Eui64 text a b p q = p.0 ∙ sym q.0
@@ -97,6 +103,8 @@ field_fault_once origin Base64 items a b p q = own_fault_once _ StatesBase64 (it
 field_fault_once origin Types items a b p q = own_fault_once _ StatesTypes (items_of items) a b p q
 field_fault_once origin PerhapsTypes items a b p q = p.0 ∙ sym q.0
 field_fault_once origin Prefixes items a b p q = p.0 ∙ sym q.0
+field_fault_once origin Location items a b p q = own_fault_once _ StatesLocation (items_of items) a b p q
+field_fault_once origin Nothing items a b p q = p.1 ∙ sym q.1
 field_fault_once origin Parameters items a b p q = parameters_fault_once items a b p q
 
 -- ---- the data

@@ -1,5 +1,5 @@
 -- What was written for octets that are fed, part by part.
-use Rattle.zone_text.proofs.Common.{Bool, Breaks, Cut, Cuts, Entry, Fault, IsOneEntry, List, None, Option, RawItem, Some, Token, [], ap, append-nil, append_assoc, arith, both_ways, common_steps, cut_from, drop, entry_of, false, flat_map, flat_map-append, inl, inr, length, length-append, length-take, numbered, refl, reverse, rules, subst, sum_by-append, sym, take, take-append-drop, text, true, zero, ℕ, ◌++◌, ◌+◌, ◌<◌, ◌⊎◌, ◌==◌, ◌≤◌, ◌∙◌, ◌∷◌, ◌≡◌}
+use Rattle.zone_text.proofs.Common.{Breaks, Cut, Cuts, Entry, Fault, IsOneEntry, List, None, Option, RawItem, Some, Token, [], ap, append-nil, append_assoc, arith, both_ways, cut_from, drop, entry_of, false, flat_map, flat_map-append, inl, inr, length, length-append, length-take, numbered, refl, reverse, subst, sum_by-append, sym, take, take-append-drop, text, true, zero, ℕ, ◌++◌, ◌+◌, ◌<◌, ◌⊎◌, ◌==◌, ◌≤◌, ◌∙◌, ◌∷◌, ◌≡◌}
 use Rattle.std.proofs.lemmas.List.Sums.{count_by-le-length}
 use Rattle.std.proofs.lemmas.List.{reverse-append}
 use Rattle.std.specs.Option.{option_or}
@@ -19,7 +19,7 @@ use Rattle.zone_words.proofs.Files.{HasDone, NextBecomes, broken_last, closed, f
 unfoldable use Rattle.zone_words.proofs.Files.{as_entries, done_entry}
 use Rattle.zone_words.specs.Entry.{BecomesUnder, IsRewriting}
 use Rattle.zone_words.specs.Machine.EntryWriting.{IsPushed, PushesEntry}
-use Rattle.zone_words.specs.Machine.FedWriting.{FollowInPart, FollowOn, HasWritten, HasWrittenAll, HasWrittenInPart, IsFedWriter, IsLeft, PushesOctets, TakesFront, WritesAll, count_reach, held_of, line_reach}
+use Rattle.zone_words.specs.Machine.FedWriting.{FollowInPart, FollowOn, HasWritten, HasWrittenInPart, IsFedWriter, IsLeft, PushesOctets, TakesFront, WritesAll, count_reach, held_of, line_reach}
 use Rattle.zone_words.specs.Inherited.{IsInherited}
 use Rattle.zone_words.specs.Refusal.{AddsTold, AreInShort, first_of, refused_of}
 use Rattle.zone_words.specs.Rewriter.{GoesOn, HeldText, IsSoFar, going, stopped}

@@ -1,13 +1,16 @@
 -- Each field states one list of octets at most, and none where it fails.
-use Rattle.std.proofs.Common.{[], ◌≡◌, ℕ, List, ◌∷◌, refl, sym, ap, ◌∙◌, arith}
+use Rattle.std.proofs.Common.{[], ◌≡◌, ℕ, ◌+◌, List, ◌∷◌, sym, ◌∙◌, arith}
 use Rattle.std.specs.Int.{w8, w16, w32}
 use Rattle.zone_name.specs.Common.{Labels}
+use Rattle.zone_rdata.proofs.AddressGaps.{groups_unique}
 use Rattle.zone_rdata.proofs.Addresses.{numbers_unique}
 use Rattle.zone_rdata.specs.Number.{IsDecimal}
 use Rattle.zone_rdata.specs.Spelling.{RawItem, bare, quoted}
+use Rattle.zone_words.proofs.Locations.{location_once, location_or_fault}
 use Rattle.zone_words.proofs.Prefixes.{prefixes_once, prefixes_or_fault}
 use Rattle.zone_words.proofs.Base32Digits.{hash_once, hash_or_fault}
 use Rattle.zone_words.proofs.Base64Texts.{base64_once, base64_or_fault}
+use Rattle.zone_words.proofs.Gateways.{no_address_once, no_address_or_fault, nothing_once, nothing_or_fault, up_to_once, up_to_or_fault}
 use Rattle.zone_words.proofs.HexDigits.{hex_once, hex_or_fault}
 use Rattle.zone_words.proofs.HexPairs.{eui_once, eui_or_fault}
 use Rattle.zone_words.proofs.NodeIds.{node_id_once, node_id_or_fault}
@@ -24,13 +27,14 @@ use Rattle.zone_words.proofs.Values.{quoted_value_once, quoted_value_or_fault, v
 use Rattle.zone_words.specs.DataItem.{TouchingItem}
 use Rattle.zone_words.specs.Field.{FailsBare, FailsField, FailsText, StatesBare, StatesField, StatesText, items_of}
 use Rattle.zone_words.specs.FirstItem.{FirstFails, FirstStates}
+use Rattle.zone_words.specs.Kinds.Gateway.{discovery_bit}
 use Rattle.zone_words.specs.Kinds.Strings.{FailsPerhaps, StatesPerhaps}
 use Rattle.zone_words.specs.Mnemonics.{IsNumberOrMnemonic, IsTypeWord, algorithms, certificate_types}
 use Rattle.zone_words.specs.declared.fault.WordsFault.{WordsFault}
 use Rattle.zone_words.specs.declared.field.BareKind.{BareKind}
-use Rattle.zone_words.specs.declared.field.BareKind.TheVariants.{Algorithm, CertificateType, Eui48, Eui64, Hash, Ipv4, Name, NodeId, RecordType, Salt, Tag, Time, U8, U16, U32}
+use Rattle.zone_words.specs.declared.field.BareKind.TheVariants.{AddressType, Algorithm, CertificateType, Discovery, Eui48, Eui64, Hash, Ipv4, Ipv6, Name, NoAddress, NodeId, RecordType, Salt, Tag, Time, U8, U16, U32}
 use Rattle.zone_words.specs.declared.field.FieldKind.{FieldKind}
-use Rattle.zone_words.specs.declared.field.FieldKind.TheVariants.{Bare, Base64, Hex, OneString, Parameters, PerhapsOneString, PerhapsTypes, Prefixes, QuotedValue, Strings, Types, Value}
+use Rattle.zone_words.specs.declared.field.FieldKind.TheVariants.{Bare, Base64, Hex, Location, Nothing, OneString, Parameters, PerhapsOneString, PerhapsTypes, Prefixes, QuotedValue, Strings, Types, Value}
 
 -- ---- a text
 
@@ -47,6 +51,10 @@ text_once origin Salt text a b p q = salt_once text a b p q
 text_once origin Hash text a b p q = hash_once text a b p q
 text_once origin Tag text a b p q = tag_once text a b p q
 text_once origin Ipv4 text a b p q = numbers_unique 3 text a b p q
+text_once origin Ipv6 text a b p q = groups_unique text a b p q
+text_once origin (AddressType optional) text a b p q = up_to_once 3 (λ n. (discovery_bit optional + n) ∷ []) text a b p q
+text_once origin Discovery text a b p q = up_to_once 1 (λ n. []) text a b p q
+text_once origin NoAddress text a b p q = no_address_once text a b p q
 text_once origin NodeId text a b p q = node_id_once text a b p q
 text_once origin Eui48 text a b p q = eui_once 6 text a b (omega arith) p q
 text_once origin Eui64 text a b p q = eui_once 8 text a b (omega arith) p q
@@ -64,6 +72,10 @@ text_or_fault origin Salt text octets fault p q = salt_or_fault text octets faul
 text_or_fault origin Hash text octets fault p q = hash_or_fault text octets fault p q
 text_or_fault origin Tag text octets fault p q = tag_or_fault text octets fault p q
 text_or_fault origin Ipv4 text octets fault p q = q.1 octets p
+text_or_fault origin Ipv6 text octets fault p q = q.1 octets p
+text_or_fault origin (AddressType optional) text octets fault p q = up_to_or_fault 3 (λ n. (discovery_bit optional + n) ∷ []) text octets fault p q
+text_or_fault origin Discovery text octets fault p q = up_to_or_fault 1 (λ n. []) text octets fault p q
+text_or_fault origin NoAddress text octets fault p q = no_address_or_fault text octets fault p q
 text_or_fault origin NodeId text octets fault p q = node_id_or_fault text octets fault p q
 text_or_fault origin Eui48 text octets fault p q = eui_or_fault 6 text octets fault p q
 text_or_fault origin Eui64 text octets fault p q = eui_or_fault 8 text octets fault p q
@@ -108,6 +120,8 @@ field_once origin Base64 items a b p q = base64_once (items_of items) a b p q
 field_once origin Types items a b p q = types_once (items_of items) a b p q
 field_once origin PerhapsTypes items a b p q = perhaps_types_once (items_of items) a b p q
 field_once origin Prefixes items a b p q = prefixes_once (items_of items) a b p q
+field_once origin Nothing items a b p q = nothing_once (items_of items) a b p q
+field_once origin Location items a b p q = location_once (items_of items) a b p q
 field_once origin Parameters items a b p q = parameters_once items a b p q
 
 pub field_or_fault : (origin : Labels) (kind : FieldKind) (items : List TouchingItem) (octets : List ℕ) (fault : WordsFault) → StatesField origin kind items octets → FailsField origin kind items fault → ⊥
@@ -122,4 +136,6 @@ field_or_fault origin Base64 items octets fault p q = base64_or_fault (items_of 
 field_or_fault origin Types items octets fault p q = types_or_fault (items_of items) octets fault p q
 field_or_fault origin PerhapsTypes items octets fault p q = perhaps_types_or_fault (items_of items) octets fault p q
 field_or_fault origin Prefixes items octets fault p q = prefixes_or_fault (items_of items) octets fault p q
+field_or_fault origin Nothing items octets fault p q = nothing_or_fault (items_of items) octets fault p q
+field_or_fault origin Location items octets fault p q = location_or_fault (items_of items) octets fault p q
 field_or_fault origin Parameters items octets fault p q = parameters_or_fault items octets fault p q

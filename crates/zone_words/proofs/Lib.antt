@@ -37,6 +37,7 @@ mod NodeIds
 pub mod TypeItems
 mod Salts
 pub mod FurtherWords
+pub mod Gateways
 pub mod FieldLaws
 pub mod DataLaws
 pub mod FaultsOnce

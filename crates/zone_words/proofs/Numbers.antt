@@ -9,7 +9,6 @@ use Rattle.zone_words.specs.Fault.{AppendsStated}
 use Rattle.zone_words.specs.Kinds.Number.{IsInOctets, NumberFails, no_number, too_large}
 use Rattle.zone_words.specs.Machine.Numbers.{FailsToFit, Fits, IsOver}
 use Rattle.zone_words.specs.declared.fault.WordsFault.{WordsFault}
-use Rattle.zone_words.specs.declared.fault.WordsFault.TheVariants.{NotANumber, TooLarge}
 
 -- what is no number of so many octets has no place in them
 pub over_fails : (w : Width) (most : ℕ) (number : Option ℕ) (fault : WordsFault) → most + 1 ≡ 256 ^ byte_len w → IsOver most number fault → FailsToFit w number fault

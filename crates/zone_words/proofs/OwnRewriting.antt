@@ -6,8 +6,7 @@ use Rattle.zone_name.specs.Spelling.{Written, written_text}
 use Rattle.zone_text.proofs.CutAgain.{cut_whole, joined}
 use Rattle.zone_text.proofs.Cuttings.{cut_or_broken}
 use Rattle.zone_text.proofs.Left.{entries_text, text_of_entries}
-use Rattle.zone_text.specs.Decided.{AreTokens}
-use Rattle.zone_words.specs.Entry.{BecomesUnder, IsRefused, IsRewriting, SaysAnew, TokensFail, TokensSay, in_generic_form, in_words, kept, no_data, on_more_lines, too_many}
+use Rattle.zone_words.specs.Entry.{BecomesUnder, IsRefused, IsRewriting, SaysAnew, in_generic_form, in_words, kept, no_data, on_more_lines, too_many}
 use Rattle.zone_words.specs.DataItem.{TouchingItem}
 use Rattle.zone_words.specs.NoFurther.{HasNoFurtherWord, IsNoFurtherWord}
 use Rattle.zone_words.specs.Rewriting.{EachBecomes, Outcome, Refused, broken, told_of, whole, written_of}

@@ -1,12 +1,12 @@
 -- Data of several fields.
-use Rattle.std.proofs.Common.{[], ◌≡◌, ◌≢◌, ℕ, suc, ◌+◌, min, Bool, true, false, ◌-◌, Some, ◌<◌, ◌≤◌, List, ◌∷◌, ◌++◌, length, get_or, take, drop, map, inl, inr, ◌⊎◌, refl, sym, ap, ◌∙◌, subst, arith, append_assoc, Result}
+use Rattle.std.proofs.Common.{[], ◌≡◌, ◌≢◌, ℕ, suc, ◌+◌, min, Bool, true, false, ◌-◌, Some, ◌<◌, ◌≤◌, List, ◌∷◌, ◌++◌, length, get_or, take, drop, map, inl, inr, refl, sym, ap, ◌∙◌, subst, arith, append_assoc, Result}
 use Rattle.std.proofs.lemmas.List.{append-nil, drop-drop, drop_all, length-drop, length-map, drop-map, take-map}
 use Rattle.std.proofs.lemmas.Result.{err_from_is_err_and}
 use Rattle.std.specs.List.{slice_get}
 use Rattle.std.specs.Prelude.{IfErr, IsErrAnd, if◌then◌else◌}
 use Rattle.zone_name.specs.Common.{Labels}
 use Rattle.zone_rdata.proofs.Lists.{from_place}
-use Rattle.zone_words.specs.Data.{AFieldFails, DataFails, IfDataFault, at_field, items_left, joined, last_name, left_over, too_long}
+use Rattle.zone_words.specs.Data.{AFieldFails, DataFails, IfDataFault, at_field, items_left, joined, last_name, too_long}
 use Rattle.zone_words.specs.DataItem.{TouchingItem, given}
 use Rattle.zone_words.specs.Fault.{AppendsStated}
 use Rattle.zone_words.specs.Field.{FailsField, StatesField, items_after, own_count, own_items, takes_one}
@@ -17,7 +17,6 @@ use Rattle.zone_words.specs.declared.data_item.DataItem.{DataItem}
 use Rattle.zone_words.specs.declared.field.Field.{Field}
 use Rattle.zone_words.specs.declared.field.FieldKind.{FieldKind}
 use Rattle.zone_words.specs.declared.fault.WordsFault.{WordsFault}
-use Rattle.zone_words.specs.declared.fault.WordsFault.TheVariants.{ItemsLeftOver, TooLong}
 
 -- fields before others were read: what the others state and where they fail is so of all
 pub record HaveRead (origin : Labels) (fields others : List NamedField) (items left : List TouchingItem) (old now : List ℕ) : Type 0 where
@@ -69,6 +68,10 @@ field_fails origin fields i f d items place count own old now name fault lt is i
 -- the answer of a `?`
 pub data_fault_passed : {T : Type 0} (r : Result T DataFailing) (e : DataFailing) (P Q : List ℕ → WordsFault → Type 0) → IsErrAnd r (λ y. y ≡ e) → ((name : List ℕ) (fault : WordsFault) → P name fault → Q name fault) → IfDataFault P e → IfErr r (IfDataFault Q)
 data_fault_passed r e P Q is goes h = grind (arith, err_from_is_err_and)
+
+-- the answer of a `match`
+pub data_fault_answered : (e : DataFailing) (P Q : List ℕ → WordsFault → Type 0) → ((name : List ℕ) (fault : WordsFault) → P name fault → Q name fault) → IfDataFault P e → IfDataFault Q e
+data_fault_answered e P Q goes h = grind arith
 
 pub fields_read : (origin : Labels) (fields : List Field) (i : ℕ) (items left : List TouchingItem) (old now : List ℕ) → length fields ≤ i → HaveRead origin (map field_of fields) (map field_of (drop i fields)) items left old now → AppendsParts origin (map field_of fields) items left old now
 fields_read origin fields i items left old now past have =

@@ -1,11 +1,11 @@
 -- Numbers with decimals: each text is one of them at most.
-use Rattle.std.proofs.Common.{[], ◌≡◌, ◌≢◌, ℕ, zero, suc, ◌+◌, ◌-◌, ◌*◌, ◌^◌, ◌<◌, ◌≤◌, ◌==◌, ◌||◌, if◌then◌else◌, List, ◌∷◌, ◌++◌, ◌⊎◌, inl, inr, length, min, Bool, true, false, Option, Some, None, refl, sym, ap, ap₂, ◌∙◌, subst, arith}
+use Rattle.std.proofs.Common.{[], ◌≡◌, ℕ, ◌+◌, ◌-◌, ◌*◌, ◌^◌, ◌<◌, ◌≤◌, ◌==◌, ◌||◌, if◌then◌else◌, List, ◌∷◌, ◌++◌, inl, inr, length, Bool, true, false, Option, Some, None, refl, sym, ap, ap₂, ◌∙◌, subst, arith}
 use Rattle.std.proofs.Math.Nat.{mul-le-mul_right}
 use Rattle.std.proofs.lemmas.Bool.{and_parts, cases_lt, leb-true}
 use Rattle.std.specs.Prelude.{IfNone, IfSome}
 use Rattle.zone_name.specs.Common.{NothingIs}
 use Rattle.zone_name.specs.Spelling.{is_digit}
-use Rattle.zone_rdata.specs.Number.{IsCapped, IsDecimal, decimal_value}
+use Rattle.zone_rdata.specs.Number.{IsCapped, IsDecimal}
 use Rattle.zone_words.proofs.Cuts.{digits_lack, first_once, stands_in}
 use Rattle.zone_words.specs.Kinds.Location.{AreCentimetres, IsScaled, whole, with_point, without_m}
 use Rattle.zone_words.specs.Machine.Cuts.{IsCutFirst, IsMissing}

@@ -1,5 +1,5 @@
 -- What a rewriter stands for.
-use Rattle.zone_text.proofs.Common.{List, [], ap, append-nil, append_assoc, arith, both_ways, false, length, length-append, refl, subst, sym, true, ℕ, ◌++◌, ◌+◌, ◌∙◌, ◌≡◌}
+use Rattle.zone_text.proofs.Common.{List, [], ap, append-nil, arith, length, length-append, refl, subst, sym, ℕ, ◌++◌, ◌+◌, ◌≡◌}
 use Rattle.zone_name.specs.Common.{Labels}
 use Rattle.zone_rdata.specs.FedSource.{is_finished}
 use Rattle.zone_rdata.specs.declared.fed.FedStatus.{FedStatus}

@@ -34,7 +34,7 @@ use Rattle.zone_words.specs.Machine.Walking.{StandsNowhere, WritesBetween}
 use Rattle.zone_words.specs.Origin.{IsCasedOrigin, NamesOrigin, origin_items}
 use Rattle.zone_words.specs.Refusal.{AddsTold, refused_of}
 use Rattle.zone_words.specs.Rewriting.{Refused}
-use Rattle.zone_words.specs.Table.{FurtherType, IsFurtherWord, further_names, further_of, further_types}
+use Rattle.zone_words.specs.Table.{FurtherType, IsFurtherWord, fields_in, further_names, further_of, further_types}
 use Rattle.zone_words.specs.Written.{Anew, in_octets, renamed, written}
 use Rattle.zone_words.specs.declared.fault.WordsFault.{WordsFault}
 use Rattle.zone_words.specs.declared.fault.WordsFault.TheVariants.{TooManyItems, LineFeedWithinQuotes}
@@ -369,12 +369,12 @@ renamed_there octets origin before line all_tokens found n above around cut of f
     }
 
 -- words that state octets
-pub stated_there : (octets : List ℕ) (origin : Labels) (before : List Entry) (line : ℕ) (all_tokens : List Token) (found : FurtherRecord) (n : ℕ) (above : Labels) (around : Around) (given_items : List TouchingItem) (stated : List ℕ) → Cuts octets all_tokens → AreOfRecord origin before line all_tokens found n above → AreInWords found n → StandsBeside octets found n around → ((back : List Token) → AreTokensOf around.back.now back → given_items ≡ touching_items true back) → StatesData above (further_of found.further.now).fields given_items stated → SayAround origin before line all_tokens around (in_octets around.number stated)
+pub stated_there : (octets : List ℕ) (origin : Labels) (before : List Entry) (line : ℕ) (all_tokens : List Token) (found : FurtherRecord) (n : ℕ) (above : Labels) (around : Around) (given_items : List TouchingItem) (stated : List ℕ) → Cuts octets all_tokens → AreOfRecord origin before line all_tokens found n above → AreInWords found n → StandsBeside octets found n around → ((back : List Token) → AreTokensOf around.back.now back → given_items ≡ touching_items true back) → StatesData above (fields_in (further_of found.further.now).fields given_items) given_items stated → SayAround origin before line all_tokens around (in_octets around.number stated)
 stated_there octets origin before line all_tokens found n above around given_items stated cut of words stands given_are states =
     let a = around_there octets origin before line all_tokens found n above around cut of words.few stands in
     let f : FurtherType = further_of found.further.now in
     let says = in_words f above stated a.under a.few (subst AreOnOneLine a.items words.on_one_line) (λ g. words.in_words (subst IsGeneric (sym a.items) g))
-    (subst (λ d. StatesData above f.fields d stated) (given_are a.back a.after_are) states) in
+    (subst (λ d. StatesData above (fields_in f.fields d) d stated) (given_are a.back a.after_are) states) in
     record {
       front = a.front;
       back = a.back;
@@ -388,12 +388,12 @@ stated_there octets origin before line all_tokens found n above around given_ite
     }
 
 -- words that state none
-pub fails_there : (octets : List ℕ) (origin : Labels) (before : List Entry) (line : ℕ) (all_tokens : List Token) (found : FurtherRecord) (n : ℕ) (above : Labels) (around : Around) (given_items : List TouchingItem) (field : List ℕ) (fault : WordsFault) (it : Refused) → Cuts octets all_tokens → AreOfRecord origin before line all_tokens found n above → AreInWords found n → StandsBeside octets found n around → ((back : List Token) → AreTokensOf around.back.now back → given_items ≡ touching_items true back) → DataFails above (further_of found.further.now).fields given_items field fault → it ≡ record { line = line; mnemonic = found.further.now.mnemonic.now; field = field; fault = fault } → TokensFail origin before line all_tokens it
+pub fails_there : (octets : List ℕ) (origin : Labels) (before : List Entry) (line : ℕ) (all_tokens : List Token) (found : FurtherRecord) (n : ℕ) (above : Labels) (around : Around) (given_items : List TouchingItem) (field : List ℕ) (fault : WordsFault) (it : Refused) → Cuts octets all_tokens → AreOfRecord origin before line all_tokens found n above → AreInWords found n → StandsBeside octets found n around → ((back : List Token) → AreTokensOf around.back.now back → given_items ≡ touching_items true back) → DataFails above (fields_in (further_of found.further.now).fields given_items) given_items field fault → it ≡ record { line = line; mnemonic = found.further.now.mnemonic.now; field = field; fault = fault } → TokensFail origin before line all_tokens it
 fails_there octets origin before line all_tokens found n above around given_items field fault it cut of words stands given_are fails told_is =
     let a = around_there octets origin before line all_tokens found n above around cut of words.few stands in
     let f : FurtherType = further_of found.further.now in
     let bad = no_data f above field fault a.under (λ g. words.in_words (subst IsGeneric (sym a.items) g)) a.few (subst AreOnOneLine a.items words.on_one_line)
-    (subst (λ d. DataFails above f.fields d field fault) (given_are a.back a.after_are) fails) in
+    (subst (λ d. DataFails above (fields_in f.fields d) d field fault) (given_are a.back a.after_are) fails) in
     subst (λ (r : Refused). TokensFail origin before line all_tokens r) (sym told_is) (record { front = a.front; back = a.back; word = a.units; split = a.whole; fails = bad })
 
 under_split : (origin : Labels) (before : List Entry) (line : ℕ) (all_tokens : List Token) (found : FurtherRecord) (n : ℕ) (above : Labels) → (of : AreOfRecord origin before line all_tokens found n above) → (at : IsSplit all_tokens found.word.now of.is.all) → IsFurtherUnder origin before (entry_of line all_tokens) (written_text at.units) (items_of (touching_items true at.back)) (further_of found.further.now) above

@@ -17,7 +17,7 @@ use Rattle.zone_words.specs.Data.{StatesData, DataFails}
 use Rattle.zone_words.specs.DataItem.{TouchingItem, items_of}
 use Rattle.zone_words.specs.Origin.{IsCasedOrigin}
 use Rattle.zone_words.specs.Rewriting.{Outcome, Refused, IsRewritten}
-use Rattle.zone_words.specs.Table.{FurtherType, further_names, IsFurtherWord}
+use Rattle.zone_words.specs.Table.{FurtherType, fields_in, further_names, IsFurtherWord}
 use Rattle.zone_words.specs.Written.{Anew, renamed, in_octets, written}
 use Rattle.zone_words.specs.declared.fault.WordsFault.{WordsFault}
 use Rattle.zone_words.specs.declared.fault.WordsFault.TheVariants.{TooManyItems, LineFeedWithinQuotes}
@@ -76,7 +76,7 @@ pub data SaysAnew (origin : Labels) (before : List Entry) (entry : Entry) (word 
       → IsFurtherUnder origin before entry word (items_of data_items) further above
       → length entry.items < most_items → AreOnOneLine (items_of data_items)
       → (IsGeneric (items_of data_items) → ⊥)
-      → StatesData above further.fields data_items octets
+      → StatesData above (fields_in further.fields data_items) data_items octets
       → SaysAnew origin before entry word data_items (in_octets further.number octets)
 
 -- the refusal of an entry
@@ -103,10 +103,11 @@ pub data IsRefused (origin : Labels) (before : List Entry) (entry : Entry) (word
       → IsFurtherUnder origin before entry word (items_of data_items) further above
       → (IsGeneric (items_of data_items) → ⊥) → length entry.items < most_items
       → AreOnOneLine (items_of data_items)
-      → DataFails above further.fields data_items field fault
+      → DataFails above (fields_in further.fields data_items) data_items field fault
       → IsRefused origin before entry word data_items (refusal entry further field fault)
 
--- what the tokens of an entry say anew, from the type's word on: those before it, and those after it
+-- what the tokens of an entry say anew, from the type's word on: those before it, and those after
+-- it
 pub record TokensSay (origin : Labels) (before : List Entry) (line : ℕ) (tokens : List Token)
     (front back : List Token) (it : Anew) : Type 0 where
   pub word : List Written

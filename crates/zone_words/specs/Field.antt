@@ -1,11 +1,13 @@
 -- The kinds of fields: which items are a field's own, what they state, and why they state nothing.
-use Rattle.std.specs.Prelude.{◌≡◌, ℕ, Bool, true, false, if◌then◌else◌, List, [], ◌∷◌, length, map, min, take, drop, None}
+use Rattle.std.specs.Prelude.{◌≡◌, ℕ, Bool, true, false, if◌then◌else◌, List, length, map, min, take, drop, None}
 use Rattle.zone_name.specs.Common.{Labels}
 use Rattle.zone_rdata.specs.Spelling.{RawItem, bare, quoted}
+use Rattle.zone_words.specs.Kinds.Gateway.{FailsAddressType, FailsDiscovery, FailsNoAddress, FailsNothing, StatesAddressType, StatesDiscovery, StatesNoAddress, StatesNothing}
+use Rattle.zone_words.specs.Kinds.Location.{FailsLocation, StatesLocation}
 use Rattle.zone_words.specs.Kinds.Prefixes.{FailsPrefixes, StatesPrefixes}
 use Rattle.zone_words.specs.DataItem.{TouchingItem}
 use Rattle.zone_words.specs.FirstItem.{FirstFails, FirstStates}
-use Rattle.zone_words.specs.Kinds.Address.{FailsIpv4, StatesIpv4}
+use Rattle.zone_words.specs.Kinds.Address.{FailsIpv4, FailsIpv6, StatesIpv4, StatesIpv6}
 use Rattle.zone_words.specs.Kinds.Base64.{FailsBase64, StatesBase64}
 use Rattle.zone_words.specs.Kinds.Eui.{FailsEui, StatesEui}
 use Rattle.zone_words.specs.Kinds.Hash.{FailsHash, StatesHash}
@@ -24,9 +26,9 @@ use Rattle.zone_words.specs.Parameters.{FailsParameters, StatesParameters}
 use Rattle.zone_words.specs.declared.fault.WordsFault.{WordsFault}
 use Rattle.zone_words.specs.declared.fault.WordsFault.TheVariants.{NoBase32Hex, NoHexadecimal, NotAName, NotANumber, NotATag, NotATime, NotAType, NotAnAddress}
 use Rattle.zone_words.specs.declared.field.BareKind.{BareKind}
-use Rattle.zone_words.specs.declared.field.BareKind.TheVariants.{Algorithm, CertificateType, Eui48, Eui64, Hash, Ipv4, Name, NodeId, RecordType, Salt, Tag, Time, U8, U16, U32}
+use Rattle.zone_words.specs.declared.field.BareKind.TheVariants.{AddressType, Algorithm, CertificateType, Discovery, Eui48, Eui64, Hash, Ipv4, Ipv6, Name, NoAddress, NodeId, RecordType, Salt, Tag, Time, U8, U16, U32}
 use Rattle.zone_words.specs.declared.field.FieldKind.{FieldKind}
-use Rattle.zone_words.specs.declared.field.FieldKind.TheVariants.{Bare, Base64, Hex, OneString, Parameters, PerhapsOneString, PerhapsTypes, Prefixes, QuotedValue, Strings, Types, Value}
+use Rattle.zone_words.specs.declared.field.FieldKind.TheVariants.{Bare, Base64, Hex, Location, Nothing, OneString, Parameters, PerhapsOneString, PerhapsTypes, Prefixes, QuotedValue, Strings, Types, Value}
 
 -- what is wrong with a quoted item where a bare one is due
 abbrev pub quoted_fault : BareKind → WordsFault
@@ -37,6 +39,8 @@ quoted_fault Salt = NoHexadecimal
 quoted_fault Hash = NoBase32Hex
 quoted_fault Tag = NotATag
 quoted_fault Ipv4 = NotAnAddress
+quoted_fault Ipv6 = NotAnAddress
+quoted_fault NoAddress = NotAName None
 quoted_fault NodeId = NotAnAddress
 quoted_fault Eui48 = NotAnAddress
 quoted_fault Eui64 = NotAnAddress
@@ -56,6 +60,10 @@ StatesText origin Salt text octets = StatesSalt text octets
 StatesText origin Hash text octets = StatesHash text octets
 StatesText origin Tag text octets = StatesTag text octets
 StatesText origin Ipv4 text octets = StatesIpv4 text octets
+StatesText origin Ipv6 text octets = StatesIpv6 text octets
+StatesText origin (AddressType optional) text octets = StatesAddressType optional text octets
+StatesText origin Discovery text octets = StatesDiscovery text octets
+StatesText origin NoAddress text octets = StatesNoAddress text octets
 StatesText origin NodeId text octets = StatesNodeId text octets
 StatesText origin Eui48 text octets = StatesEui 6 text octets
 StatesText origin Eui64 text octets = StatesEui 8 text octets
@@ -74,6 +82,10 @@ FailsText origin Salt text fault = FailsSalt text fault
 FailsText origin Hash text fault = FailsHash text fault
 FailsText origin Tag text fault = FailsTag text fault
 FailsText origin Ipv4 text fault = FailsIpv4 text fault
+FailsText origin Ipv6 text fault = FailsIpv6 text fault
+FailsText origin (AddressType optional) text fault = FailsAddressType text fault
+FailsText origin Discovery text fault = FailsDiscovery text fault
+FailsText origin NoAddress text fault = FailsNoAddress text fault
 FailsText origin NodeId text fault = FailsNodeId text fault
 FailsText origin Eui48 text fault = FailsEui 6 text fault
 FailsText origin Eui64 text fault = FailsEui 8 text fault
@@ -125,6 +137,8 @@ StatesField origin Base64 items octets = StatesBase64 (items_of items) octets
 StatesField origin Types items octets = StatesTypes (items_of items) octets
 StatesField origin PerhapsTypes items octets = StatesPerhapsTypes (items_of items) octets
 StatesField origin Prefixes items octets = StatesPrefixes (items_of items) octets
+StatesField origin Location items octets = StatesLocation (items_of items) octets
+StatesField origin Nothing items octets = StatesNothing (items_of items) octets
 StatesField origin Parameters items octets = StatesParameters items octets
 
 -- why they state none
@@ -142,4 +156,6 @@ FailsField origin Base64 items fault = FailsBase64 (items_of items) fault
 FailsField origin Types items fault = FailsTypes (items_of items) fault
 FailsField origin PerhapsTypes items fault = FailsPerhapsTypes (items_of items) fault
 FailsField origin Prefixes items fault = FailsPrefixes (items_of items) fault
+FailsField origin Location items fault = FailsLocation (items_of items) fault
+FailsField origin Nothing items fault = FailsNothing (items_of items) fault
 FailsField origin Parameters items fault = FailsParameters items fault

@@ -20,3 +20,4 @@ pub mod Eui
 pub mod NodeId
 pub mod Prefixes
 pub mod Location
+pub mod Gateway

@@ -80,13 +80,15 @@ pub record IsStopped (Is : Becomes) (octets new : List ℕ) (told : List Refused
 -- Of octets that are fed, what is written for them whatever follows: the entries that are ended,
 -- and, where what follows them breaks whatever comes after it, that as it is; the octets of an
 -- entry that isn't ended wait.
-pub data IsRewrittenSoFar (Is : Becomes) (fed waiting new : List ℕ) (told : List Refused) : Type 0 where
+pub data IsRewrittenSoFar (Is : Becomes) (fed waiting new : List ℕ) (told : List Refused)
+    : Type 0 where
   going : (done : List ℕ) → AreEntries Is done new told → fed ≡ done ++ waiting → IsOpen waiting
       → IsRewrittenSoFar Is fed waiting new told
   stopped : IsStopped Is fed new told → waiting ≡ [] → IsRewrittenSoFar Is fed waiting new told
 
 -- what is written where memory was refused: it is so for a beginning of the octets
-pub record IsRewrittenInPart (Is : Becomes) (octets new : List ℕ) (told : List Refused) : Type 0 where
+pub record IsRewrittenInPart (Is : Becomes) (octets new : List ℕ) (told : List Refused)
+    : Type 0 where
   pub front : List ℕ
   pub back : List ℕ
   pub whole : octets ≡ front ++ back

@@ -1,13 +1,18 @@
--- The further types, a row each, their numbers ascending, with the section of the RFC that gives the
--- words of each.
-use Rattle.std.specs.Prelude.{◌≡◌, ℕ, List, [], ◌∷◌, ◌==◌, Bool, true, false, codes, map, Option, Some}
-use Rattle.std.specs.List.{find}
+-- The further types, a row each, their numbers ascending, with the section of the RFC that gives
+-- the words of each.
+use Rattle.std.specs.Prelude.{◌≡◌, ℕ, List, [], ◌∷◌, ◌==◌, Bool, true, false, codes, map, Option, Some, None, if◌then◌else◌}
+use Rattle.std.specs.List.{find, slice_get}
 use Rattle.zone_rdata.specs.Table.{Named}
 use Rattle.zone_rdata.specs.Words.{IsWordAmong}
-use Rattle.zone_words.specs.declared.field.BareKind.TheVariants.{Algorithm, CertificateType, Eui48, Eui64, Hash, Ipv4, Name, NodeId, RecordType, Salt, Tag, Time, U16, U32, U8}
+use Rattle.zone_words.specs.DataItem.{TouchingItem}
+use Rattle.zone_words.specs.Kinds.Number.{stated_number}
+use Rattle.zone_words.specs.declared.field.BareKind.{BareKind}
+use Rattle.zone_words.specs.declared.field.BareKind.TheVariants.{AddressType, Algorithm, CertificateType, Discovery, Eui48, Eui64, Hash, Ipv4, Ipv6, Name, NoAddress, NodeId, RecordType, Salt, Tag, Time, U16, U32, U8}
 use Rattle.zone_words.specs.declared.field.Field.{Field}
 use Rattle.zone_words.specs.declared.field.FieldKind.{FieldKind}
-use Rattle.zone_words.specs.declared.field.FieldKind.TheVariants.{Bare, Base64, Hex, OneString, Parameters, PerhapsOneString, PerhapsTypes, Prefixes, QuotedValue, Strings, Types, Value}
+use Rattle.zone_words.specs.declared.field.FieldKind.TheVariants.{Bare, Base64, Hex, Location, Nothing, OneString, Parameters, PerhapsOneString, PerhapsTypes, Prefixes, QuotedValue, Strings, Types, Value}
+use Rattle.zone_words.specs.declared.fields.Fields as coded_fields
+use Rattle.zone_words.specs.declared.fields.Fields.TheVariants as coded
 use Rattle.zone_words.specs.declared.table.FurtherType as code
 
 -- a field by its name in the RFC, in lower case, and what its items state
@@ -15,23 +20,92 @@ pub record NamedField : Type 0 where
   pub name : List ℕ
   pub kind : FieldKind
 
+-- the fields of a type's data: the same for all its data, or some depend on the items before them
+pub data Fields : Type 0 where
+  same : List NamedField → Fields
+  of_ipseckey : Fields
+  of_amtrelay : Fields
+
 -- a type: its number, its mnemonic, whether it is one of class IN alone, and the fields of its data
 pub record FurtherType : Type 0 where
   pub number : ℕ
   pub mnemonic : List ℕ
   pub in_internet_alone : Bool
-  pub fields : List NamedField
+  pub fields : Fields
 
 abbrev pub field : List ℕ → FieldKind → NamedField
 field name kind = record { name = name; kind = kind }
 
 abbrev pub in_every : ℕ → List ℕ → List NamedField → FurtherType
 in_every number mnemonic fields =
-    record { number = number; mnemonic = mnemonic; in_internet_alone = false; fields = fields }
+    record {
+      number = number;
+      mnemonic = mnemonic;
+      in_internet_alone = false;
+      fields = same fields;
+    }
 
 abbrev pub in_internet : ℕ → List ℕ → List NamedField → FurtherType
 in_internet number mnemonic fields =
-    record { number = number; mnemonic = mnemonic; in_internet_alone = true; fields = fields }
+    record {
+      number = number;
+      mnemonic = mnemonic;
+      in_internet_alone = true;
+      fields = same fields;
+    }
+
+abbrev pub by_items : ℕ → List ℕ → Fields → FurtherType
+by_items number mnemonic fields =
+    record { number = number; mnemonic = mnemonic; in_internet_alone = false; fields = fields }
+
+-- ---- fields that depend on the items before them
+
+-- the number that the item at a place states in digits
+abbrev pub number_of_item : Option TouchingItem → Option ℕ
+number_of_item None = None
+number_of_item (Some t) = stated_number t.item
+
+abbrev pub number_at : List TouchingItem → ℕ → Option ℕ
+number_at items place = number_of_item (slice_get items place)
+
+-- what an address of a type is: type 0 none, 1 four octets, 2 sixteen octets, 3 a name; where it is
+-- no type, the field of the type fails
+abbrev pub address_kind : Option ℕ → BareKind
+address_kind None = Name
+address_kind (Some n) =
+    if n == 0 then NoAddress else if n == 1 then Ipv4 else if n == 2 then Ipv6 else Name
+
+-- the key of an algorithm: 0 is none
+abbrev pub key_kind : Option ℕ → FieldKind
+key_kind None = Base64
+key_kind (Some n) = if n == 0 then Nothing else Base64
+
+abbrev pub is_one : Option ℕ → Bool
+is_one None = false
+is_one (Some n) = n == 1
+
+-- RFC 4025 2, 3
+abbrev pub ipseckey_fields : List TouchingItem → List NamedField
+ipseckey_fields items =
+    field (codes "precedence") (Bare U8) ∷ field (codes "gateway type") (Bare (AddressType false))
+    ∷ field (codes "algorithm") (Bare U8)
+    ∷ field (codes "gateway") (Bare (address_kind (number_at items 1)))
+    ∷ field (codes "public key") (key_kind (number_at items 2)) ∷ []
+
+-- RFC 8777 4
+abbrev pub amtrelay_fields : List TouchingItem → List NamedField
+amtrelay_fields items =
+    field (codes "precedence") (Bare U8) ∷ field (codes "discovery optional") (Bare Discovery)
+    ∷ field (codes "type") (Bare (AddressType (is_one (number_at items 1))))
+    ∷ field (codes "relay") (Bare (address_kind (number_at items 2))) ∷ []
+
+-- the fields of data with these items
+abbrev pub fields_in : Fields → List TouchingItem → List NamedField
+fields_in (same fields) items = fields
+fields_in of_ipseckey items = ipseckey_fields items
+fields_in of_amtrelay items = amtrelay_fields items
+
+-- ---- the table
 
 abbrev pub further_types : List FurtherType
 further_types =
@@ -46,6 +120,7 @@ further_types =
     (field (codes "isdn-address") OneString ∷ field (codes "sa") PerhapsOneString ∷ [])
     ∷ in_every 21 (codes "RT")  -- RFC 1183 3.3
     (field (codes "preference") (Bare U16) ∷ field (codes "host") (Bare Name) ∷ [])
+    ∷ in_every 29 (codes "LOC") (field (codes "data") Location ∷ [])  -- RFC 1876 3
     ∷ in_internet 36 (codes "KX")  -- RFC 2230 3.1
     (field (codes "preference") (Bare U16) ∷ field (codes "exchanger") (Bare Name) ∷ [])
     ∷ in_every 37 (codes "CERT")  -- RFC 4398 2.2
@@ -59,6 +134,7 @@ further_types =
     ∷ in_every 44 (codes "SSHFP")  -- RFC 4255 3.2
     (field (codes "algorithm") (Bare U8) ∷ field (codes "type") (Bare U8)
     ∷ field (codes "fingerprint") Hex ∷ [])
+    ∷ by_items 45 (codes "IPSECKEY") of_ipseckey
     ∷ in_every 46 (codes "RRSIG")  -- RFC 4034 3.2
     (field (codes "type covered") (Bare RecordType) ∷ field (codes "algorithm") (Bare Algorithm)
     ∷ field (codes "labels") (Bare U8) ∷ field (codes "original ttl") (Bare U32)
@@ -120,11 +196,17 @@ further_types =
     ∷ in_every 257 (codes "CAA")  -- RFC 8659 4.1.1
     (field (codes "flags") (Bare U8) ∷ field (codes "tag") (Bare Tag)
     ∷ field (codes "value") Value ∷ [])
+    ∷ by_items 260 (codes "AMTRELAY") of_amtrelay
     ∷ []
 
 -- the rows of the code are these
 abbrev pub field_of : Field → NamedField
 field_of f = field f.0.now f.1
+
+abbrev pub of_code : coded_fields.Fields → Fields
+of_code (coded.Same fields) = same (map field_of fields.now)
+of_code coded.Ipseckey = of_ipseckey
+of_code coded.Amtrelay = of_amtrelay
 
 abbrev pub further_of : code.FurtherType → FurtherType
 further_of row =
@@ -132,7 +214,7 @@ further_of row =
       number = row.number;
       mnemonic = row.mnemonic.now;
       in_internet_alone = row.in_internet_alone;
-      fields = map field_of row.fields.now;
+      fields = of_code row.fields;
     }
 
 abbrev pub name_of : code.FurtherType → Named

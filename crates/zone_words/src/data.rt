@@ -5,11 +5,12 @@ ghost use Rattle.zone_words.specs.DataItem.{given};
 ghost use Rattle.zone_words.specs.Fault.{AppendsStated};
 ghost use Rattle.zone_words.specs.Field.{StatesField};
 ghost use Rattle.zone_words.specs.Machine.Fields.{AppendsParts, IsFieldFault, IsWhole, WholeFails};
-ghost use Rattle.zone_words.specs.Table.{field_of};
+ghost use Rattle.zone_words.specs.Table.{field_of, fields_in, of_code};
 
 use crate::data_item::DataItem;
 use crate::fault::{WordsFailing, WordsFault};
 use crate::field::Field;
+use crate::fields::{Fields, amtrelay_fields, ipseckey_fields};
 use zone_name::CasedName;
 
 /// Why items state no data.
@@ -27,6 +28,33 @@ pub(crate) enum DataFailing {
 /// The most octets of data (RFC 1035 3.2.1).
 const MOST: usize = 65_535;
 
+/// Puts the octets that items state under an origin as data of such fields in place of what
+/// `octets` held. On any error `octets` is left empty.
+///
+/// # Errors
+///
+/// Those of `read_fields`.
+pub(crate) fn read_data(
+    fields: &Fields,
+    items: &[DataItem],
+    origin: &CasedName,
+    octets: &mut Vec<u8>,
+) -> Result<(), DataFailing>
+    ensures states { OnOk result
+        (StatesData origin.now (fields_in (of_code fields.now) (map given items.now))
+        (map given items.now) octets.new.items) }
+    ensures fault { IfErr result
+        (IfDataFault (DataFails origin.now (fields_in (of_code fields.now) (map given items.now))
+        (map given items.now))) }
+    ensures emptied { OnErr result (octets.new.items ≡ []) }
+{
+    match fields {
+        Fields::Same(fields) => read_fields(fields, items, origin, octets),
+        Fields::Ipseckey => read_fields(&ipseckey_fields(items), items, origin, octets),
+        Fields::Amtrelay => read_fields(&amtrelay_fields(items), items, origin, octets),
+    }
+}
+
 /// Puts the octets that items state under an origin, field after field, in place of what `octets`
 /// held. On any error `octets` is left empty.
 ///
@@ -35,7 +63,7 @@ const MOST: usize = 65_535;
 /// The first of: what is wrong with the leftmost field that states nothing; `ItemsLeftOver`; and
 /// `TooLong`, of which the last two are told of the last field. Or want of memory, as soon as it is
 /// met.
-pub(crate) fn read_data(
+fn read_fields(
     fields: &[Field],
     items: &[DataItem],
     origin: &CasedName,
@@ -48,34 +76,22 @@ pub(crate) fn read_data(
         (IfDataFault (DataFails origin.now (map field_of fields.now) (map given items.now))) }
     ensures emptied { OnErr result (octets.new.items ≡ []) }
 {
-    let read = read_whole(fields, items, origin, octets);
-    if read.is_err() {
-        octets.clear();
-    }
-    read
-}
-
-/// As `read_data`, but `octets` holds anything where there is an error.
-fn read_whole(
-    fields: &[Field],
-    items: &[DataItem],
-    origin: &CasedName,
-    octets: &mut Vec<u8>,
-) -> Result<(), DataFailing>
-    ensures states { OnOk result
-        (StatesData origin.now (map field_of fields.now) (map given items.now)
-        octets.new.items) }
-    ensures fault { IfErr result
-        (IfDataFault (DataFails origin.now (map field_of fields.now) (map given items.now))) }
-{
     octets.clear();
-    let count = push_fields(fields, items, origin, octets)?;
-    match fault_of_whole(items.len() - count, octets.len()) {
-        Some(fault) => Err(DataFailing::Fault {
-            field: last_name(fields),
-            fault,
-        }),
-        None => Ok(()),
+    match push_fields(fields, items, origin, octets) {
+        Ok(count) => match fault_of_whole(items.len() - count, octets.len()) {
+            Some(fault) => {
+                octets.clear();
+                Err(DataFailing::Fault {
+                    field: last_name(fields),
+                    fault,
+                })
+            }
+            None => Ok(()),
+        },
+        Err(failing) => {
+            octets.clear();
+            Err(failing)
+        }
     }
 }
 
@@ -156,6 +172,3 @@ fn last_name(fields: &[Field]) -> &'static str
         None => "data",
     }
 }
-
-#[cfg(test)]
-mod tests;

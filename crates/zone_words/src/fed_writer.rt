@@ -1,5 +1,5 @@
-//! Octets of a master file as they come in pieces: what is written for the entries that they end, and
-//! the one that they leave open.
+//! Octets of a master file as they come in pieces: what is written for the entries that they end,
+//! and the one that they leave open.
 ghost use Rattle.std.specs.Prelude.{◌≡◌, ◌+◌, ◌<◌, ◌≤◌, ◌^◌, ◌++◌, ◌⊎◌, [], length, IfOk, OnErr, OnOk, true, false};
 ghost use Rattle.zone_text.specs.declared.open_entry.EntryState.TheVariants.{Open};
 ghost use Rattle.zone_words.specs.Machine.FedWriting.{
@@ -78,7 +78,8 @@ impl FedWriter {
         rest.is_empty() || self.is_broken
     }
 
-    /// Takes the entry at the front of octets, or what they have of it, and gives what is left of them.
+    /// Takes the entry at the front of octets, or what they have of the one that isn't ended, and
+    /// gives what is left of them.
     fn take_front<'p>(
         &mut self,
         octets: &'p [u8],
@@ -102,22 +103,6 @@ impl FedWriter {
                 return Ok(left);
             }
         }
-        self.take_part(octets)
-    }
-
-    /// Takes octets of the entry that isn't ended, and gives those after it.
-    fn take_part<'p>(&mut self, octets: &'p [u8]) -> Result<&'p [u8], AllocError>
-        requires is { IsFedWriter self.old }
-        requires going { self.old.is_broken ≡ false }
-        requires some { 0 < length octets.now }
-        requires fits { line_reach self.old + length octets.now < 2 ^ 64 }
-        requires counts { count_reach self.old + length octets.now < 2 ^ 64 }
-        ensures is { OnOk result (IsFedWriter self.new) }
-        ensures front { IfOk result (λ left. TakesFront self.old octets.now left.now self.new) }
-        ensures written { OnErr result
-            (self.new.entries.written.items ≡ self.old.entries.written.items) }
-        ensures told { OnErr result (self.new.entries.refusals ≡ self.old.entries.refusals) }
-    {
         let taken = self.unfinished.take(octets)?;
         match taken.state {
             EntryState::Open => {}

@@ -8,9 +8,10 @@ ghost use Rattle.zone_words.specs.FirstItem.{FirstFails, FirstStates};
 use crate::data_item::DataItem;
 use crate::fault::{WordsFailing, WordsFault};
 use crate::kinds::{
-    push_algorithm, push_base64, push_certificate_type, push_eui48, push_eui64,
-    push_first_quoted_value, push_first_string, push_first_value, push_hash, push_hex, push_ipv4,
-    push_name, push_node_id, push_perhaps_string, push_perhaps_types, push_prefixes, push_salt,
+    push_address_type, push_algorithm, push_base64, push_certificate_type, push_discovery,
+    push_eui48, push_eui64, push_first_quoted_value, push_first_string, push_first_value,
+    push_hash, push_hex, push_ipv4, push_ipv6, push_location, push_name, push_no_address,
+    push_node_id, push_nothing, push_perhaps_string, push_perhaps_types, push_prefixes, push_salt,
     push_strings, push_tag, push_time, push_type, push_types, push_u8, push_u16, push_u32,
 };
 use crate::parameters::push_parameters;
@@ -44,6 +45,15 @@ pub(crate) enum BareKind {
     Tag,
     /// An address of four octets (RFC 1035 3.4.1).
     Ipv4,
+    /// An address of sixteen octets (RFC 4291 2.2).
+    Ipv6,
+    /// Which kind of address a gateway or a relay is, in an octet whose highest bit is set where
+    /// its discovery is optional (RFC 4025 2.3, RFC 8777 4.2.3).
+    AddressType(bool),
+    /// Whether that bit is set, in digits (RFC 8777 4.2.2).
+    Discovery,
+    /// A dot where no address is due (RFC 4025 3.1, RFC 8777 4.3.1).
+    NoAddress,
     /// Four groups of hexadecimal digits (RFC 6742 2.1.2).
     NodeId,
     /// Six pairs of hexadecimal digits (RFC 7043 3.2).
@@ -77,6 +87,10 @@ pub(crate) enum FieldKind {
     PerhapsTypes,
     /// Prefixes of addresses, up to the end, or none (RFC 3123 5).
     Prefixes,
+    /// A location, up to the end (RFC 1876 3).
+    Location,
+    /// No items (RFC 4025 2.6).
+    Nothing,
     /// The parameters of a service, up to the end (RFC 9460 2.1).
     Parameters,
 }
@@ -95,16 +109,20 @@ impl BareKind {
             | BareKind::U16
             | BareKind::U32
             | BareKind::Algorithm
-            | BareKind::CertificateType => WordsFault::NotANumber,
+            | BareKind::CertificateType
+            | BareKind::AddressType(_)
+            | BareKind::Discovery => WordsFault::NotANumber,
             BareKind::RecordType => WordsFault::NotAType,
             BareKind::Time => WordsFault::NotATime,
-            BareKind::Name => WordsFault::NotAName(None),
+            BareKind::Name | BareKind::NoAddress => WordsFault::NotAName(None),
             BareKind::Salt => WordsFault::NoHexadecimal,
             BareKind::Hash => WordsFault::NoBase32Hex,
             BareKind::Tag => WordsFault::NotATag,
-            BareKind::Ipv4 | BareKind::NodeId | BareKind::Eui48 | BareKind::Eui64 => {
-                WordsFault::NotAnAddress
-            }
+            BareKind::Ipv4
+            | BareKind::Ipv6
+            | BareKind::NodeId
+            | BareKind::Eui48
+            | BareKind::Eui64 => WordsFault::NotAnAddress,
         }
     }
 
@@ -131,6 +149,10 @@ impl BareKind {
             BareKind::Hash => push_hash(text, out),
             BareKind::Tag => push_tag(text, out),
             BareKind::Ipv4 => push_ipv4(text, out),
+            BareKind::Ipv6 => push_ipv6(text, out),
+            BareKind::AddressType(optional) => push_address_type(text, optional, out),
+            BareKind::Discovery => push_discovery(text, out),
+            BareKind::NoAddress => push_no_address(text, out),
             BareKind::NodeId => push_node_id(text, out),
             BareKind::Eui48 => push_eui48(text, out),
             BareKind::Eui64 => push_eui64(text, out),
@@ -216,6 +238,8 @@ impl FieldKind {
             FieldKind::Types => push_types(items, out),
             FieldKind::PerhapsTypes => push_perhaps_types(items, out),
             FieldKind::Prefixes => push_prefixes(items, out),
+            FieldKind::Location => push_location(items, out),
+            FieldKind::Nothing => push_nothing(items, out),
             FieldKind::Parameters => push_parameters(items, out),
         }
     }

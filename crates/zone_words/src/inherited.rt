@@ -112,7 +112,8 @@ impl Inherited {
         ensures { (origin : Labels) (before : List Entry) (entry : Entry)
             → IsInherited origin before self.old
             → origin_items (statement_of entry) ≡ None
-            → class_word (statement_of entry) ≡ class_among (parts_after [] (map raw items.now)).words
+            → class_word (statement_of entry)
+            ≡ class_among (parts_after [] (map raw items.now)).words
             → IsInherited origin (entry ∷ before) self.new }
     {
         let parts = record_parts(items);

@@ -2,6 +2,7 @@
 //! records in the generic form (RFC 1035 5, RFC 3597 5).
 #![tactic(auto)]
 
+mod cut;
 mod data;
 mod data_item;
 mod data_items;
@@ -10,6 +11,7 @@ mod fault;
 mod fault_text;
 mod fed_writer;
 mod field;
+mod fields;
 mod further;
 mod inherited;
 mod kinds;

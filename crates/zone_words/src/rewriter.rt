@@ -17,8 +17,8 @@ use std::marker::Model;
 use zone_name::CasedName;
 use zone_rdata::FedStatus;
 
-/// A rewriter of a master file (RFC 1035 5.1) that is fed in pieces. It writes an entry as soon as a
-/// line feed has ended it: an entry of a further type with its data in the generic form (RFC 3597
+/// A rewriter of a master file (RFC 1035 5.1) that is fed in pieces. It writes an entry as soon as
+/// a line feed has ended it: an entry of a further type with its data in the generic form (RFC 3597
 /// 5), every other one as it is. Contracts see what it has written and nobody has taken, what it
 /// tells, and what else it holds.
 ///
@@ -150,8 +150,8 @@ impl Rewriter {
         self.writer.entries.written.clear();
     }
 
-    /// The octets of the file that it keeps: those after the last line feed that ended an entry, and
-    /// none where they broke, the file has ended or the rewriter has failed.
+    /// The octets of the file that it keeps: those after the last line feed that ended an entry,
+    /// and none where they broke, the file has ended or the rewriter has failed.
     pub fn undecided(&self) -> &[u8]
         ensures waiting { result.now ≡ self.now.held.waiting }
         ensures broken { self.now.held.broken ≡ true → result.now ≡ [] }
@@ -200,13 +200,13 @@ impl Rewriter {
 pub struct Rewritten {
     /// What is written: as many lines as the file has, its entries at the lines where they stood.
     pub text: Vec<u8>,
-    /// The first of the entries of further types that state no data, which stay as they are, and how
-    /// many there are.
+    /// The first of the entries of further types that state no data, which stay as they are, and
+    /// how many there are.
     pub refusals: Refusals,
 }
 
-/// Writes a master file anew (RFC 1035 5.1): an entry of a further type with its data in the generic
-/// form (RFC 3597 5), every other one as it is.
+/// Writes a master file anew (RFC 1035 5.1): an entry of a further type with its data in the
+/// generic form (RFC 3597 5), every other one as it is.
 ///
 /// # Errors
 ///

@@ -90,7 +90,7 @@ fn turn_in_words<'e>(
         return Ok(Turn::Stays);
     };
     let items = data_items(alloc, around.back)?;
-    match read_data(found.further.fields, &items, above, stated) {
+    match read_data(&found.further.fields, &items, above, stated) {
         Ok(()) => Ok(Turn::InOctets(around)),
         Err(DataFailing::Fault { field, fault }) => {
             Ok(Turn::Refused(found.refusal(line, field, fault)))

@@ -5,7 +5,7 @@ use Rattle.std.proofs.lemmas.List.{append-nil, flat_map_more}
 use Rattle.zone_name.specs.Common.{NothingIs}
 use Rattle.zone_rdata.proofs.Addresses.{split_cut, split_lacks}
 use Rattle.zone_words.specs.Fault.{AppendsStated}
-use Rattle.zone_words.specs.Machine.Parameters.{IsCutAt, Lacks}
+use Rattle.zone_words.specs.Machine.Cuts.{IsCutFirst, IsMissing}
 use Rattle.zone_words.specs.Parameters.Value.{listed, ListsAddresses}
 
 -- ---- two lists that go together
@@ -33,10 +33,10 @@ zip_once R once (a ∷ ks) (x ∷ xs) (y ∷ ys) p q = cc (once a x y p.0 q.0, z
 
 -- ---- a text up to a comma
 
-listed_cut : (text front back : List ℕ) → IsCutAt 44 text front back → listed text ≡ front ∷ listed back
-listed_cut text front back cut = split_cut 44 text front back (record { parted = cut.parted; lacks = cut.lacks })
+listed_cut : (text front back : List ℕ) → IsCutFirst 44 text front back → listed text ≡ front ∷ listed back
+listed_cut text front back cut = split_cut 44 text front back (record { parted = cut.parts; lacks = cut.missing })
 
-listed_last : (text : List ℕ) → Lacks 44 text → listed text ≡ text ∷ []
+listed_last : (text : List ℕ) → IsMissing 44 text → listed text ≡ text ∷ []
 listed_last text lacks = split_lacks 44 text lacks
 
 -- what the texts up to a place stand for
@@ -48,23 +48,23 @@ pub record HasListed {X : Type 0} (Is : List ℕ → X → Type 0) (text rest : 
 pub lists_none : {X : Type 0} (Is : List ℕ → X → Type 0) (text : List ℕ) → HasListed Is text text []
 lists_none Is text = record { before = []; parts = refl; each = tt }
 
-pub lists_more : {X : Type 0} (Is : List ℕ → X → Type 0) (text rest front back : List ℕ) (done : List X) (x : X) → HasListed Is text rest done → IsCutAt 44 rest front back → Is front x → HasListed Is text back (done ++ x ∷ [])
+pub lists_more : {X : Type 0} (Is : List ℕ → X → Type 0) (text rest front back : List ℕ) (done : List X) (x : X) → HasListed Is text rest done → IsCutFirst 44 rest front back → Is front x → HasListed Is text back (done ++ x ∷ [])
 lists_more Is text rest front back done x has cut is = record {
   before = has.before ++ front ∷ [];
   parts = has.parts ∙ ap (λ t. has.before ++ t) (listed_cut rest front back cut) ∙ sym (append_assoc has.before (front ∷ []) (listed back));
   each = zip_append Is has.before (front ∷ []) done (x ∷ []) has.each (is, tt);
 }
 
-pub lists_all : {X : Type 0} (Is : List ℕ → X → Type 0) (text rest : List ℕ) (done : List X) (x : X) → HasListed Is text rest done → Lacks 44 rest → Is rest x → AllZip Is (listed text) (done ++ x ∷ [])
+pub lists_all : {X : Type 0} (Is : List ℕ → X → Type 0) (text rest : List ℕ) (done : List X) (x : X) → HasListed Is text rest done → IsMissing 44 rest → Is rest x → AllZip Is (listed text) (done ++ x ∷ [])
 lists_all Is text rest done x has lacks is = rw (has.parts, listed_last rest lacks) (zip_append Is has.before (rest ∷ []) done (x ∷ []) has.each (is, tt))
 
-pub lists_stop : {X : Type 0} (Is : List ℕ → X → Type 0) (text rest front back : List ℕ) (done : List X) → HasListed Is text rest done → IsCutAt 44 rest front back → NothingIs (Is front) → NothingIs (AllZip Is (listed text))
+pub lists_stop : {X : Type 0} (Is : List ℕ → X → Type 0) (text rest front back : List ℕ) (done : List X) → HasListed Is text rest done → IsCutFirst 44 rest front back → NothingIs (Is front) → NothingIs (AllZip Is (listed text))
 lists_stop Is text rest front back done has cut none xs each =
     let parts = has.parts ∙ ap (λ t. has.before ++ t) (listed_cut rest front back cut) in
     let found = zip_at Is has.before front (listed back) xs (subst (λ t. AllZip Is t xs) parts each) in
     none found.0 found.1
 
-pub lists_stop_last : {X : Type 0} (Is : List ℕ → X → Type 0) (text rest : List ℕ) (done : List X) → HasListed Is text rest done → Lacks 44 rest → NothingIs (Is rest) → NothingIs (AllZip Is (listed text))
+pub lists_stop_last : {X : Type 0} (Is : List ℕ → X → Type 0) (text rest : List ℕ) (done : List X) → HasListed Is text rest done → IsMissing 44 rest → NothingIs (Is rest) → NothingIs (AllZip Is (listed text))
 lists_stop_last Is text rest done has lacks none xs each =
     let parts = has.parts ∙ ap (λ t. has.before ++ t) (listed_last rest lacks) in
     let found = zip_at Is has.before rest [] xs (subst (λ t. AllZip Is t xs) parts each) in
@@ -83,24 +83,24 @@ addresses_none Is text old = record { done = []; has = lists_none Is text; value
 addresses_grown : (done : List (List ℕ)) (old new next octets : List ℕ) → new ≡ old ++ flat_map (λ address. address) done → next ≡ new ++ octets → next ≡ old ++ flat_map (λ address. address) (done ++ octets ∷ [])
 addresses_grown done old new next octets e f = f ∙ ap (λ t. t ++ octets) e ∙ append_assoc old _ octets ∙ ap (λ t. old ++ t) (flat_map_more (λ address. address) [] done octets)
 
-pub addresses_more : (Is : List ℕ → List ℕ → Type 0) (text rest front back old new next : List ℕ) → HasAddresses Is text rest old new → IsCutAt 44 rest front back → AppendsStated (Is front) new next → HasAddresses Is text back old next
+pub addresses_more : (Is : List ℕ → List ℕ → Type 0) (text rest front back old new next : List ℕ) → HasAddresses Is text rest old new → IsCutFirst 44 rest front back → AppendsStated (Is front) new next → HasAddresses Is text back old next
 addresses_more Is text rest front back old new next read cut added = record {
   done = read.done ++ added.octets ∷ [];
   has = lists_more Is text rest front back read.done added.octets read.has cut added.stated;
   value = addresses_grown read.done old new next added.octets read.value added.written;
 }
 
-pub addresses_all : (Is : List ℕ → List ℕ → Type 0) (text rest old new next : List ℕ) → HasAddresses Is text rest old new → Lacks 44 rest → AppendsStated (Is rest) new next → AppendsStated (ListsAddresses Is text) old next
+pub addresses_all : (Is : List ℕ → List ℕ → Type 0) (text rest old new next : List ℕ) → HasAddresses Is text rest old new → IsMissing 44 rest → AppendsStated (Is rest) new next → AppendsStated (ListsAddresses Is text) old next
 addresses_all Is text rest old new next read lacks added = record {
   octets = flat_map (λ address. address) (read.done ++ added.octets ∷ []);
   stated = record { addresses = read.done ++ added.octets ∷ []; each = lists_all Is text rest read.done added.octets read.has lacks added.stated; value = refl };
   written = addresses_grown read.done old new next added.octets read.value added.written;
 }
 
-pub addresses_stop : (Is : List ℕ → List ℕ → Type 0) (text rest front back old new : List ℕ) → HasAddresses Is text rest old new → IsCutAt 44 rest front back → NothingIs (Is front) → NothingIs (ListsAddresses Is text)
+pub addresses_stop : (Is : List ℕ → List ℕ → Type 0) (text rest front back old new : List ℕ) → HasAddresses Is text rest old new → IsCutFirst 44 rest front back → NothingIs (Is front) → NothingIs (ListsAddresses Is text)
 addresses_stop Is text rest front back old new read cut none octets are = lists_stop Is text rest front back read.done read.has cut none are.addresses are.each
 
-pub addresses_stop_last : (Is : List ℕ → List ℕ → Type 0) (text rest old new : List ℕ) → HasAddresses Is text rest old new → Lacks 44 rest → NothingIs (Is rest) → NothingIs (ListsAddresses Is text)
+pub addresses_stop_last : (Is : List ℕ → List ℕ → Type 0) (text rest old new : List ℕ) → HasAddresses Is text rest old new → IsMissing 44 rest → NothingIs (Is rest) → NothingIs (ListsAddresses Is text)
 addresses_stop_last Is text rest old new read lacks none octets are = lists_stop_last Is text rest read.done read.has lacks none are.addresses are.each
 
 pub addresses_once : (Is : List ℕ → List ℕ → Type 0) → ((text a b : List ℕ) → Is text a → Is text b → a ≡ b) → (text a b : List ℕ) → ListsAddresses Is text a → ListsAddresses Is text b → a ≡ b

@@ -3,9 +3,10 @@ use Rattle.std.proofs.Common.{◌≡◌, ℕ, ◌<◌, List, [], ◌∷◌, ◌+
 use Rattle.zone_rdata.specs.Item.{bare, quoted, raw}
 use Rattle.zone_rdata.specs.Strings.{item_text}
 use Rattle.zone_rdata.specs.declared.item.Item.TheVariants.{Bare}
+use Rattle.zone_words.proofs.Cuts.{first_once, stands_in}
 use Rattle.zone_words.specs.DataItem.{given, TouchingItem}
-use Rattle.zone_words.specs.Machine.Parameters.{IsCutAt, Lacks}
-use Rattle.zone_words.specs.Parameters.Text.{BeginWith, BeginWithTouchingQuote, HasNoEquals, ParameterText, placed, alone, bare_value, quoted_value}
+use Rattle.zone_words.specs.Machine.Cuts.{IsCutFirst, IsMissing}
+use Rattle.zone_words.specs.Parameters.Text.{BeginWith, BeginWithTouchingQuote, ParameterText, placed, alone, bare_value, quoted_value}
 use Rattle.zone_words.specs.declared.data_item.DataItem.{DataItem}
 
 first_bare : (items rest : List DataItem) (first : DataItem) (text : Bor (List ℕ)) → items ≡ first ∷ rest → first.item ≡ Bare text → map given items ≡ placed (bare text.now) first.touches ∷ map given rest
@@ -14,16 +15,16 @@ first_bare items rest first text e is = ap (map given) e ∙ ap (λ i. placed (r
 after_one : (items rest : List DataItem) (first : DataItem) (text : ParameterText) → items ≡ first ∷ rest → BeginWith (map given items) text (map given rest) → BeginWith (map given items) text (map given (drop 1 items))
 after_one items rest first text e begin = subst (λ t. BeginWith (map given items) text (map given t)) (sym (ap (drop 1) e)) begin
 
-pub begin_alone : (items rest : List DataItem) (first : DataItem) (text : Bor (List ℕ)) → items ≡ first ∷ rest → first.item ≡ Bare text → Lacks 61 text.now → BeginWith (map given items) (record { key = text.now; value = [] }) (map given (drop 1 items))
+pub begin_alone : (items rest : List DataItem) (first : DataItem) (text : Bor (List ℕ)) → items ≡ first ∷ rest → first.item ≡ Bare text → IsMissing 61 text.now → BeginWith (map given items) (record { key = text.now; value = [] }) (map given (drop 1 items))
 begin_alone items rest first text e is lacks = after_one items rest first (record { key = text.now; value = [] }) e (alone first.touches lacks refl (first_bare items rest first text e is))
 
-pub begin_bare : (items rest : List DataItem) (first : DataItem) (text : Bor (List ℕ)) (key value : List ℕ) → items ≡ first ∷ rest → first.item ≡ Bare text → IsCutAt 61 text.now key value → (value ≡ [] → BeginWithTouchingQuote (map given rest) → ⊥) → BeginWith (map given items) (record { key = key; value = value }) (map given (drop 1 items))
-begin_bare items rest first text key value e is cut none = after_one items rest first (record { key = key; value = value }) e (bare_value first.touches cut.lacks none (first_bare items rest first text e is ∙ ap (λ t. placed (bare t) first.touches ∷ map given rest) cut.parted))
+pub begin_bare : (items rest : List DataItem) (first : DataItem) (text : Bor (List ℕ)) (key value : List ℕ) → items ≡ first ∷ rest → first.item ≡ Bare text → IsCutFirst 61 text.now key value → (value ≡ [] → BeginWithTouchingQuote (map given rest) → ⊥) → BeginWith (map given items) (record { key = key; value = value }) (map given (drop 1 items))
+begin_bare items rest first text key value e is cut none = after_one items rest first (record { key = key; value = value }) e (bare_value first.touches cut.missing none (first_bare items rest first text e is ∙ ap (λ t. placed (bare t) first.touches ∷ map given rest) cut.parts))
 
-pub begin_quoted : (items rest : List DataItem) (first : DataItem) (text : Bor (List ℕ)) (key value inside : List ℕ) → items ≡ first ∷ rest → first.item ≡ Bare text → IsCutAt 61 text.now key value → value ≡ [] → map given rest ≡ placed (quoted inside) true ∷ map given (drop 1 rest) → BeginWith (map given items) (record { key = key; value = inside }) (map given (drop 2 items))
+pub begin_quoted : (items rest : List DataItem) (first : DataItem) (text : Bor (List ℕ)) (key value inside : List ℕ) → items ≡ first ∷ rest → first.item ≡ Bare text → IsCutFirst 61 text.now key value → value ≡ [] → map given rest ≡ placed (quoted inside) true ∷ map given (drop 1 rest) → BeginWith (map given items) (record { key = key; value = inside }) (map given (drop 2 items))
 begin_quoted items rest first text key value inside e is cut empty found =
     subst (λ t. BeginWith (map given items) (record { key = key; value = inside }) (map given t)) (sym (ap (drop 2) e))
-    (quoted_value first.touches cut.lacks (first_bare items rest first text e is ∙ ap (λ t. placed (bare t) first.touches ∷ map given rest) (cut.parted ∙ ap (λ t. key ++ 61 ∷ t) empty) ∙ ap (λ t. placed (bare (key ++ 61 ∷ [])) first.touches ∷ t) found))
+    (quoted_value first.touches cut.missing (first_bare items rest first text e is ∙ ap (λ t. placed (bare t) first.touches ∷ map given rest) (cut.parts ∙ ap (λ t. key ++ 61 ∷ t) empty) ∙ ap (λ t. placed (bare (key ++ 61 ∷ [])) first.touches ∷ t) found))
 
 pub some_value : (value : List ℕ) → 0 < length value → value ≡ [] → ⊥
 some_value value some e = omega (arith, some, ap length e)
@@ -33,20 +34,6 @@ no_value [] e = refl
 no_value (c ∷ value) e = absurd (omega (arith, e))
 
 -- ---- items begin with one parameter
-
-cut_once : (a b x y : List ℕ) → a ++ 61 ∷ x ≡ b ++ 61 ∷ y → HasNoEquals a → HasNoEquals b → (a ≡ b) × (x ≡ y)
-cut_once [] [] x y e l m = (refl, cc)
-cut_once [] (d ∷ b) x y e l m = absurd (m.0 (cc))
-cut_once (c ∷ a) [] x y e l m = absurd (l.0 (cc))
-cut_once (c ∷ a) (d ∷ b) x y e l m =
-    let more = cut_once a b x y (cc) l.1 m.1 in
-    (cc (more.0), more.1)
-
-no_cut : (a b y : List ℕ) → a ≡ b ++ 61 ∷ y → HasNoEquals a → ⊥
-no_cut [] [] y e l = absurd cc
-no_cut [] (d ∷ b) y e l = absurd cc
-no_cut (c ∷ a) [] y e l = l.0 (cc)
-no_cut (c ∷ a) (d ∷ b) y e l = no_cut a b y (cc) l.1
 
 -- the text of the first item
 abbrev head_text : List TouchingItem → List ℕ
@@ -66,22 +53,22 @@ pub begin_once : (items : List TouchingItem) (s t : ParameterText) (q r : List T
 begin_once items s t q r (alone u l v e) (alone w m x f) =
     let h = heads s.key t.key u w q r (sym e ∙ f) in
     (text_same s t h.0 (v ∙ sym x), h.1)
-begin_once items s t q r (alone u l v e) (bare_value w m x f) = absurd (no_cut s.key t.key t.value (heads s.key (t.key ++ 61 ∷ t.value) u w q r (sym e ∙ f)).0 l)
-begin_once items s t q r (alone u l v e) (quoted_value w m f) = absurd (no_cut s.key t.key [] (heads s.key (t.key ++ 61 ∷ []) u w q (placed (quoted t.value) true ∷ r) (sym e ∙ f)).0 l)
-begin_once items s t q r (bare_value u l v e) (alone w m x f) = absurd (no_cut t.key s.key s.value (heads t.key (s.key ++ 61 ∷ s.value) w u r q (sym f ∙ e)).0 m)
+begin_once items s t q r (alone u l v e) (bare_value w m x f) = absurd (stands_in 61 s.key t.key t.value (heads s.key (t.key ++ 61 ∷ t.value) u w q r (sym e ∙ f)).0 l)
+begin_once items s t q r (alone u l v e) (quoted_value w m f) = absurd (stands_in 61 s.key t.key [] (heads s.key (t.key ++ 61 ∷ []) u w q (placed (quoted t.value) true ∷ r) (sym e ∙ f)).0 l)
+begin_once items s t q r (bare_value u l v e) (alone w m x f) = absurd (stands_in 61 t.key s.key s.value (heads t.key (s.key ++ 61 ∷ s.value) w u r q (sym f ∙ e)).0 m)
 begin_once items s t q r (bare_value u l v e) (bare_value w m x f) =
     let h = heads (s.key ++ 61 ∷ s.value) (t.key ++ 61 ∷ t.value) u w q r (sym e ∙ f) in
-    let k = cut_once s.key t.key s.value t.value h.0 l m in
+    let k = first_once 61 s.key s.value t.key t.value l m h.0 in
     (text_same s t k.0 k.1, h.1)
 begin_once items s t q r (bare_value u l v e) (quoted_value w m f) =
     let h = heads (s.key ++ 61 ∷ s.value) (t.key ++ 61 ∷ []) u w q (placed (quoted t.value) true ∷ r) (sym e ∙ f) in
-    absurd (v (cut_once s.key t.key s.value [] h.0 l m).1 (t.value, r, h.1))
-begin_once items s t q r (quoted_value u l e) (alone w m x f) = absurd (no_cut t.key s.key [] (heads t.key (s.key ++ 61 ∷ []) w u r (placed (quoted s.value) true ∷ q) (sym f ∙ e)).0 m)
+    absurd (v (first_once 61 s.key s.value t.key [] l m h.0).1 (t.value, r, h.1))
+begin_once items s t q r (quoted_value u l e) (alone w m x f) = absurd (stands_in 61 t.key s.key [] (heads t.key (s.key ++ 61 ∷ []) w u r (placed (quoted s.value) true ∷ q) (sym f ∙ e)).0 m)
 begin_once items s t q r (quoted_value u l e) (bare_value w m x f) =
     let h = heads (t.key ++ 61 ∷ t.value) (s.key ++ 61 ∷ []) w u r (placed (quoted s.value) true ∷ q) (sym f ∙ e) in
-    absurd (x (cut_once t.key s.key t.value [] h.0 m l).1 (s.value, q, h.1))
+    absurd (x (first_once 61 t.key t.value s.key [] m l h.0).1 (s.value, q, h.1))
 begin_once items s t q r (quoted_value u l e) (quoted_value w m f) =
     let h = heads (s.key ++ 61 ∷ []) (t.key ++ 61 ∷ []) u w (placed (quoted s.value) true ∷ q) (placed (quoted t.value) true ∷ r) (sym e ∙ f) in
-    let k = cut_once s.key t.key [] [] h.0 l m in
+    let k = first_once 61 s.key [] t.key [] l m h.0 in
     let n = quotes s.value t.value q r h.1 in
     (text_same s t k.0 n.0, n.1)

@@ -1,9 +1,12 @@
 -- Numbers of 8, 16 and 32 bits, in decimal digits with leading zeros or not (RFC 1035 5.1).
-use Rattle.std.specs.Prelude.{◌≡◌, ℕ, ◌≤◌, List}
+use Rattle.std.specs.Prelude.{◌≡◌, ℕ, List, [], ◌∷◌, Option, Some, None, if◌then◌else◌}
+use Rattle.std.specs.List.{list_all}
 use Rattle.std.specs.Int.{Width, w8, w16, w32, to_be_bytes}
 use Rattle.zone_name.specs.Common.{NothingIs}
+use Rattle.zone_name.specs.Spelling.{is_digit}
 use Rattle.zone_rdata.specs.Fields.Number.{IsNumber}
-use Rattle.zone_rdata.specs.Number.{IsDecimal}
+use Rattle.zone_rdata.specs.Item.{RawItem, bare, quoted}
+use Rattle.zone_rdata.specs.Number.{IsDecimal, decimal_value}
 use Rattle.zone_words.specs.declared.fault.WordsFault.{WordsFault}
 use Rattle.zone_words.specs.declared.fault.WordsFault.TheVariants.{NotANumber, TooLarge}
 
@@ -36,3 +39,13 @@ StatesU32 text octets = IsInOctets (IsDecimal text) w32 octets
 
 abbrev pub FailsU32 : List ℕ → WordsFault → Type 0
 FailsU32 text fault = NumberFails (IsDecimal text) w32 fault
+
+-- the number that a bare item states in digits, one or more, if they are
+abbrev pub digits_number : List ℕ → Option ℕ
+digits_number [] = None
+digits_number (c ∷ text) =
+    if list_all is_digit (c ∷ text) then Some (decimal_value (c ∷ text)) else None
+
+abbrev pub stated_number : RawItem → Option ℕ
+stated_number (bare text) = digits_number text
+stated_number (quoted text) = None

@@ -9,8 +9,8 @@ use Rattle.zone_words.specs.declared.fault.WordsFault.{WordsFault}
 use Rattle.zone_words.specs.declared.fault.WordsFault.TheVariants.{ItemsLeftOver, TooLong}
 
 -- the octets that each field states are appended, and these items are left
-pub record AppendsParts (origin : Labels) (fields : List NamedField) (items left : List TouchingItem)
-    (old new : List ℕ) : Type 0 where
+pub record AppendsParts (origin : Labels) (fields : List NamedField)
+    (items left : List TouchingItem) (old new : List ℕ) : Type 0 where
   pub parts : List (List ℕ)
   pub each : StateParts origin fields items parts
   pub rest : left ≡ left_over fields items

@@ -1,5 +1,5 @@
 -- How the code takes parameters apart.
-use Rattle.std.specs.Prelude.{◌≡◌, ◌≢◌, ℕ, ◌<◌, false, List, [], ◌∷◌, ◌++◌, length, decimal, ⊤, Option, Some, None, option_map}
+use Rattle.std.specs.Prelude.{◌≡◌, ℕ, ◌<◌, false, List, [], ◌∷◌, length, decimal, ⊤, Option, Some, None, option_map}
 use Rattle.std.specs.Borrow.{Bor}
 use Rattle.std.specs.List.{AllByRecursion, onto_first}
 use Rattle.zone_name.specs.Common.{NothingIs}
@@ -29,15 +29,6 @@ HasName key = ⊤
 -- the text is the name of the key
 abbrev pub IsNamed : List ℕ → Key → Type 0
 IsNamed text key = (text ≡ key_text key) × HasName key
-
--- the octet isn't in the text
-abbrev pub Lacks : ℕ → List ℕ → Type 0
-Lacks c text = AllByRecursion (λ d. d ≢ c) text
-
--- the text is cut at the first of an octet
-pub record IsCutAt (c : ℕ) (text front back : List ℕ) : Type 0 where
-  pub parted : text ≡ front ++ c ∷ back
-  pub lacks : Lacks c front
 
 -- a key and its value without where they lie in memory
 abbrev pub text_of : ParameterText → texts.ParameterText

@@ -1,5 +1,5 @@
 -- A prefix's text, without the `!` that may begin it.
-use Rattle.std.specs.Prelude.{◌≡◌, ◌≢◌, ℕ, List, [], ◌∷◌, ◌++◌, Bool, true, false, codes, ⊤}
+use Rattle.std.specs.Prelude.{◌≡◌, ℕ, List, [], ◌∷◌, ◌++◌, Bool, false}
 use Rattle.zone_rdata.specs.Item.{RawItem, bare, quoted}
 use Rattle.zone_words.specs.Kinds.Prefixes.{SpellsPrefix, mark}
 use Rattle.zone_words.specs.declared.kinds.prefixes.Prefix.{Prefix}

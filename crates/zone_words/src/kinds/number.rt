@@ -84,7 +84,7 @@ pub(super) fn push_two_octets(number: Option<u64>, out: &mut Vec<u8>) -> Result<
 /// # Errors
 ///
 /// `NotANumber` where there is none, and `TooLarge`.
-fn at_most(most: u32, number: Option<u64>) -> Result<u32, WordsFault>
+pub(super) fn at_most(most: u32, number: Option<u64>) -> Result<u32, WordsFault>
     ensures found { IfOk result (λ n. (number ≡ Some n) × (n ≤ most)) }
     ensures fault { IfErr result (IsOver most number) }
 {

@@ -9,7 +9,7 @@ ghost use Rattle.zone_words.specs.Kinds.Prefixes.{FailsPrefixes, IsAddressText, 
 ghost use Rattle.zone_words.specs.Machine.Prefixes.{IsAfterMark, IsItemPrefix};
 
 use super::bitmap::trimmed_len;
-use super::cut::{cut_at_first, cut_at_last};
+use crate::cut::{cut_at_first, cut_at_last};
 use crate::data_item::DataItem;
 use crate::fault::{WordsFailing, WordsFault};
 use std::alloc::AllocError;

@@ -4,7 +4,7 @@ ghost use Rattle.zone_words.specs.Machine.Parameters.{IsAddressOf};
 ghost use Rattle.zone_words.specs.Parameters.Value.{ListsAddresses};
 ghost use Rattle.zone_words.specs.declared.fault.WordsFault.TheVariants as faults;
 
-use super::cut::cut_at;
+use crate::cut::cut_at_first;
 use crate::fault::{WordsFailing, WordsFault};
 use zone_rdata::{ipv4_octets_of, ipv6_octets_of};
 
@@ -62,7 +62,7 @@ pub(super) fn push_addresses(
         (IfFault (NothingStated faults.NotAValue (ListsAddresses (IsAddressOf version) text.now))) }
 {
     let mut rest = text;
-    while let Some((address, after)) = cut_at(rest, b',') {
+    while let Some((address, after)) = cut_at_first(rest, b',') {
         push_address(version, address, out)?;
         rest = after;
     }

@@ -5,8 +5,8 @@ ghost use Rattle.zone_words.specs.Fault.{AppendsStated, IfFault, NothingStated};
 ghost use Rattle.zone_words.specs.Parameters.Value.{AscendAbove, IsKeyText, listed, ListsKeys, StatesKeys};
 ghost use Rattle.zone_words.specs.declared.fault.WordsFault.TheVariants as faults;
 
-use super::cut::cut_at;
 use super::key::key_of;
+use crate::cut::cut_at_first;
 use crate::fault::{WordsFailing, WordsFault};
 use std::alloc::{AllocError, Global};
 
@@ -27,7 +27,7 @@ fn numbers_of_keys(alloc: Global, text: &[u8]) -> Result<Vec<u16>, WordsFailing>
 {
     let mut numbers = Vec::new(alloc);
     let mut rest = text;
-    while let Some((key, after)) = cut_at(rest, b',') {
+    while let Some((key, after)) = cut_at_first(rest, b',') {
         numbers.extend_from_slice(&[number_of_key(key)?])?;
         rest = after;
     }

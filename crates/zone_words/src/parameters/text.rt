@@ -4,7 +4,7 @@ ghost use Rattle.zone_words.specs.DataItem.{given, TouchingItem};
 ghost use Rattle.zone_words.specs.Machine.Parameters.{text_of};
 ghost use Rattle.zone_words.specs.Parameters.Text as texts;
 
-use super::cut::cut_at;
+use crate::cut::cut_at_first;
 use crate::data_item::DataItem;
 use zone_rdata::Item;
 
@@ -45,7 +45,7 @@ pub(super) fn first_parameter<'e>(items: &[DataItem<'e>]) -> Option<(ParameterTe
     let Item::Bare(text) = first.item else {
         return None;
     };
-    let Some((key, value)) = cut_at(text, b'=') else {
+    let Some((key, value)) = cut_at_first(text, b'=') else {
         return Some((
             ParameterText {
                 key: text,

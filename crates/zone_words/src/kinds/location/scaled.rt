@@ -4,7 +4,7 @@ ghost use Rattle.zone_name.specs.Common.{NothingIs};
 ghost use Rattle.zone_words.specs.Kinds.Location.{IsScaled};
 ghost use Rattle.zone_words.specs.Machine.Locations.{ArePartsIn, IsWholeIn, UpTo};
 
-use crate::kinds::cut::cut_at_first;
+use crate::cut::cut_at_first;
 use zone_rdata::decimal_of;
 
 /// The number of a text, in units of which 10 ^ places make a whole, where it is at most so great.

@@ -1,4 +1,6 @@
 use Rattle.std.specs.Prelude.{IfErr, OnOk}
+use Rattle.zone_words.specs.Kinds.Gateway.{FailsNothing, StatesNothing}
+use Rattle.zone_words.specs.Kinds.Location.{FailsLocation, StatesLocation}
 use Rattle.zone_words.specs.Kinds.Prefixes.{FailsPrefixes, StatesPrefixes}
 use Rattle.zone_words.proofs.GivenItems.{of_items}
 use Rattle.zone_words.specs.Fault.{AppendsStated, IfFault}
@@ -82,3 +84,15 @@ returns-in-Prefixes-clause-states c = rw c.in-Prefixes.is (of_items c.args.items
 
 pub returns-in-Prefixes-clause-fault : goal.returns-in-Prefixes-clause-fault
 returns-in-Prefixes-clause-fault c = rw c.in-Prefixes.is (of_items c.args.items.now (λ items. IfErr c.push_prefixes.result (IfFault (FailsPrefixes items))) c.push_prefixes.ensures.fault)
+
+pub returns-in-Location-clause-states : goal.returns-in-Location-clause-states
+returns-in-Location-clause-states c = rw c.in-Location.is (of_items c.args.items.now (λ items. OnOk c.push_location.result (AppendsStated (StatesLocation items) c.args.out.now.items c.push_location.new.out.items)) c.push_location.ensures.states)
+
+pub returns-in-Location-clause-fault : goal.returns-in-Location-clause-fault
+returns-in-Location-clause-fault c = rw c.in-Location.is (of_items c.args.items.now (λ items. IfErr c.push_location.result (IfFault (FailsLocation items))) c.push_location.ensures.fault)
+
+pub returns-in-Nothing-clause-states : goal.returns-in-Nothing-clause-states
+returns-in-Nothing-clause-states c = rw c.in-Nothing.is (of_items c.args.items.now (λ items. OnOk c.push_nothing.result (AppendsStated (StatesNothing items) c.args.out.now.items c.push_nothing.new.out.items)) c.push_nothing.ensures.states)
+
+pub returns-in-Nothing-clause-fault : goal.returns-in-Nothing-clause-fault
+returns-in-Nothing-clause-fault c = rw c.in-Nothing.is (of_items c.args.items.now (λ items. IfErr c.push_nothing.result (IfFault (FailsNothing items))) c.push_nothing.ensures.fault)

@@ -4,10 +4,10 @@ use Rattle.zone_words.specs.Machine.Parameters.{IsAddressOf}
 use Rattle.zone_words.proofs.parameters.addresses.push_addresses.Goals as goal
 
 pub returns-in_err-push_address-clause-fault : goal.returns-in_err-push_address-clause-fault
-returns-in_err-push_address-clause-fault c = fault_passed c.from_residual.result c.in_err-push_address.field-0.0 _ _ c.from_residual.ensures.1 (λ fault none. (none.0, addresses_stop (IsAddressOf c.args.version) c.args.text.now c.loop-address.rest.now c.in-Some.address.now c.in-Some.after.now c.args.out.now.items c.loop-address.out.items c.loop-address.invariant c.in-Some.ensures.some none.1)) c.in_err-push_address.ensures.fault
+returns-in_err-push_address-clause-fault c = fault_passed c.from_residual.result c.in_err-push_address.field-0.0 _ _ c.from_residual.ensures.1 (λ fault none. (none.0, addresses_stop (IsAddressOf c.args.version) c.args.text.now c.loop-address.rest.now c.in-Some.address.now c.in-Some.after.now c.args.out.now.items c.loop-address.out.items c.loop-address.invariant c.in-Some.ensures.found none.1)) c.in_err-push_address.ensures.fault
 
 pub loop-address-preserved : goal.loop-address-preserved
-loop-address-preserved c = addresses_more (IsAddressOf c.args.version) c.args.text.now c.loop-address.rest.now c.in-Some.address.now c.in-Some.after.now c.args.out.now.items c.loop-address.out.items c.push_address.new.out.items c.loop-address.invariant c.in-Some.ensures.some c.in_ok-push_address.ensures.stated
+loop-address-preserved c = addresses_more (IsAddressOf c.args.version) c.args.text.now c.loop-address.rest.now c.in-Some.address.now c.in-Some.after.now c.args.out.now.items c.loop-address.out.items c.push_address.new.out.items c.loop-address.invariant c.in-Some.ensures.found c.in_ok-push_address.ensures.stated
 
 pub returns-in_err-push_address-2-clause-fault : goal.returns-in_err-push_address-2-clause-fault
 returns-in_err-push_address-2-clause-fault c = fault_passed c.from_residual-in_err-push_address-2.result c.in_err-push_address-2.field-0.0 _ _ c.from_residual-in_err-push_address-2.ensures.1 (λ fault none. (none.0, addresses_stop_last (IsAddressOf c.args.version) c.args.text.now c.loop-address.rest.now c.args.out.now.items c.loop-address.out.items c.loop-address.invariant c.in_default.ensures.none none.1)) c.in_err-push_address-2.ensures.fault

@@ -1,19 +1,22 @@
 //! What is written for files of which records stand in words, whole and fed in two pieces, and what
 //! is told.
+use crate::tests::shown::{check_octets, check_same};
+use crate::tests::{Question, check, check_lines, check_table, push_words};
 use std::alloc::Global;
 use std::test::Fail;
 use zone_name::CasedName;
 use zone_words::{Refusals, Rewriter, Rewritten, rewrite_file};
+
+/// What a file under the origin `Example.` becomes, with what is told after it. It is the same where
+/// the file is cut in two at any octet.
+struct Rewriting;
 
 /// Appends what is told of entries that state no data: how many there are, and the first.
 fn push_told(alloc: Global, told: Refusals, out: &mut Vec<u8>) -> Result<(), Fail> {
     let (count, Some(first)) = (told.count, told.first) else {
         return Ok(());
     };
-    let (line, mnemonic, field) = (first.line, first.mnemonic, first.field);
-    let fault = first.fault;
-    let words = format!(in alloc; "-- {count}: line {line}, {mnemonic}, {field}, {fault:?}\n")?;
-    Ok(out.extend_from_slice(words.as_bytes())?)
+    push_words(alloc, out, format_args!("-- {count}: {first}\n"))
 }
 
 /// That a file becomes the same where it is fed in two pieces.
@@ -27,31 +30,26 @@ fn check_pieces(
     rewriter.feed(front)?;
     rewriter.feed(back)?;
     rewriter.finish()?;
-    if rewriter.written() == whole.text.as_slice() && rewriter.refusals() == whole.refusals {
-        return Ok(());
-    }
-    let (written, first) = (rewriter.written().escape_ascii(), front.len());
-    Err(Fail::new(format_args!("cut at {first}: {written}")))
+    check_octets("a file in two pieces", rewriter.written(), &whole.text)?;
+    check(rewriter.refusals() == whole.refusals, "the same refusals")
 }
 
-/// That a file under the origin `Example.` becomes what is wanted, with what is told after it, and
-/// so where it is cut in two at any octet.
-fn check_row(alloc: Global, file: &[u8], wanted: &[u8]) -> Result<(), Fail> {
-    let origin = CasedName::from_text(b"Example.", None)?;
-    let mut whole = rewrite_file(alloc, &origin, file)?;
-    for first in 0..file.len() {
-        check_pieces(alloc, &origin, file.split_at(first), &whole)?;
+impl Question for Rewriting {
+    fn answer(alloc: Global, asked: &'static str, out: &mut Vec<u8>) -> Result<(), Fail> {
+        let origin = CasedName::from_text(b"Example.", None)?;
+        let file = asked.as_bytes();
+        let whole = rewrite_file(alloc, &origin, file)?;
+        for first in 0..file.len() {
+            check_pieces(alloc, &origin, file.split_at(first), &whole)?;
+        }
+        out.extend_from_slice(&whole.text)?;
+        push_told(alloc, whole.refusals, out)
     }
-    push_told(alloc, whole.refusals, &mut whole.text)?;
-    if whole.text.as_slice() == wanted {
-        return Ok(());
-    }
-    Err(Fail::new(format_args!("{}", whole.text.escape_ascii())))
 }
 
-/// A record of each type in words, and in the generic form (RFC 3597 5). Most are examples of RFC
-/// 1183, 2672, 3123, 4034, 4255, 4408, 4701, 5155, 6698, 6742, 7043, 7477, 7553, 8659, 8976 and
-/// 9460.
+/// Records of each type in words, and in the generic form (RFC 3597 5). Most are examples of RFC
+/// 1183, 1876, 2672, 3123, 4025, 4034, 4255, 4408, 4701, 5155, 6698, 6742, 7043, 7477, 7553, 8659,
+/// 8777, 8976 and 9460.
 const TYPES: &str = "\
 a HINFO PDP-11 UNIX => a TYPE13 \\# 12 065044502d313104554e4958
 a RP louie.trantor.umd.edu. LAM1.people.umd.edu. => \
@@ -60,7 +58,16 @@ a TYPE17 \\# 44 056c6f756965077472616e746f7203756d640365647500044c414d310670656f
 a AFSDB 1 bigbird.toaster.com. => a TYPE18 \\# 23 0001076269676269726407746f617374657203636f6d00
 a X25 311061700956 => a TYPE19 \\# 13 0c333131303631373030393536
 a ISDN 150862028003217 004 => a TYPE20 \\# 20 0f31353038363230323830303332313703303034
+a ISDN 150862028003217 => a TYPE20 \\# 16 0f313530383632303238303033323137
+a ISDN 150 004 => a TYPE20 \\# 8 0331353003303034
 a RT 2 Relay.Prime.COM. => a TYPE21 \\# 19 00020552656c6179055072696d6503434f4d00
+a LOC 42 21 54 N 71 06 18 W -24m 30m => a TYPE29 \\# 16 0033161389172dd070be15f000988d20
+a LOC 42 21 43.952 N 71 5 6.344 W -24m 1m 200m => \
+a TYPE29 \\# 16 001224138917069070bf2dd800988d20
+a LOC 52 14 05 N 00 08 50 E 10m => a TYPE29 \\# 16 001216138b3556c88008165000989a68
+a LOC 32 7 19 S 116 2 25 E 10m => a TYPE29 \\# 16 00121613791b7d2898e6486800989a68
+a LOC 42 21 28.764 N 71 00 51.617 W -44m 2000m => \
+a TYPE29 \\# 16 002516138916cb3c70c310df00988550
 a KX 10 rt1.example.mil. => a TYPE36 \\# 19 000a03727431076578616d706c65036d696c00
 a CERT PGP 0 0 AA== => a TYPE37 \\# 6 000300000000
 a DNAME frobozz-division.acme.example. => \
@@ -70,6 +77,17 @@ a DS 60485 5 1 2BB183AF5F22588179A53B0A 98631FAD1A292118 => \
 a TYPE43 \\# 24 ec4505012bb183af5f22588179a53b0a98631fad1a292118
 a SSHFP 2 1 123456789abcdef67890123456789abcdef67890 => \
 a TYPE44 \\# 22 0201123456789abcdef67890123456789abcdef67890
+a IPSECKEY 10 1 2 192.0.2.38 AQNRU3mG7TVTO2BkR47usntb102uFJtugbo6BSGvgqt4AQ== => \
+a TYPE45 \\# 41 0a0102c0000226010351537986ed35533b6064478eeeb27b5bd74dae149b6e81ba3a0521af82ab7801
+a IPSECKEY 10 0 2 . AQNRU3mG7TVTO2BkR47usntb102uFJtugbo6BSGvgqt4AQ== => \
+a TYPE45 \\# 37 0a0002010351537986ed35533b6064478eeeb27b5bd74dae149b6e81ba3a0521af82ab7801
+a IPSECKEY 10 3 2 mygateway.example.com. AQNRU3mG7TVTO2BkR47usntb102uFJtugbo6BSGvgqt4AQ== => \
+a TYPE45 \\# 60 0a0302096d7967617465776179076578616d706c6503636f6d00010351537986ed35533b6064478eeeb27b5b\
+d74dae149b6e81ba3a0521af82ab7801
+a IPSECKEY 10 2 2 2001:0DB8:0:8002::2000:1 AQNRU3mG7TVTO2BkR47usntb102uFJtugbo6BSGvgqt4AQ== => \
+a TYPE45 \\# 53 0a020220010db8000080020000000020000001010351537986ed35533b6064478eeeb27b5bd74dae149b6e81\
+ba3a0521af82ab7801
+a IPSECKEY 10 1 0 192.0.2.38 => a TYPE45 \\# 7 0a0100c0000226
 a RRSIG A 5 3 86400 20030322173103 20030220173103 2642 example.com. oJB1W6WNGv+ldvQ3WDG0MQkg5IEhjR\
 ip8WTrPYGv07h108dUKGMeDPKijVCHX3DDKdfb+v6oB9wfuh3DTJXUAfI/M0zmO/zz8bW0Rznl8O3tGNazPwQKkRN20XPXV6nw\
 wfoXmJQbsLNrLfkGJ5D6fwFm8nN+6pBzeDQfsS3Ap3o= => \
@@ -78,6 +96,9 @@ a TYPE46 \\# 159 00010503000151803e7c9dd73e5510d70a52076578616d706c6503636f6d00a
 dc34c95d401f23f334ce63bfcf3f1b5b44739e5f0eded18d6b33f040a911376d173d757a9f0c1fa1798941bb0b36b2df90\
 62790fa7f0166f2737eea907378341fb12dc0a77a
 a NSEC host.example.com. A MX RRSIG NSEC TYPE1234 => \
+a TYPE47 \\# 55 04686f7374076578616d706c6503636f6d000006400100000003041b00000000000000000000000000\
+0000000000000000000000000020
+a nsec host.example.com. A MX RRSIG NSEC TYPE1234 => \
 a TYPE47 \\# 55 04686f7374076578616d706c6503636f6d000006400100000003041b00000000000000000000000000\
 0000000000000000000000000020
 a DNSKEY 256 3 5 AQPSKmynfzW4kyBv015MUG2DeIQ3Cbl+BBZH4b/0PY1kxkmvHjcZc8nokfzj31GajIQKY+5CptLr3buXA\
@@ -119,20 +140,22 @@ a L64 10 2001:0DB8:1140:1000 => a TYPE106 \\# 10 000a20010db811401000
 a LP 10 l64-subnet1.example.com. => \
 a TYPE107 \\# 27 000a0b6c36342d7375626e657431076578616d706c6503636f6d00
 a EUI48 00-00-5e-00-53-2a => a TYPE108 \\# 6 00005e00532a
+a TYPE108 00-00-5e-00-53-2a => a TYPE108 \\# 6 00005e00532a
 a EUI64 00-00-5e-ef-10-00-00-2a => a TYPE109 \\# 8 00005eef1000002a
 a URI 10 1 \"ftp://ftp1.example.com/public\" => \
 a TYPE256 \\# 33 000a00016674703a2f2f667470312e6578616d706c652e636f6d2f7075626c6963
 a CAA 0 issue \"ca1.example.net\" => a TYPE257 \\# 22 000569737375656361312e6578616d706c652e6e6574
+a AMTRELAY 10 0 1 203.0.113.15 => a TYPE260 \\# 6 0a01cb00710f
+a AMTRELAY 10 0 2 2001:DB8::15 => a TYPE260 \\# 18 0a0220010db8000000000000000000000015
+a AMTRELAY 128 1 3 amtrelays.example.com. => \
+a TYPE260 \\# 25 808309616d7472656c617973076578616d706c6503636f6d00
+a AMTRELAY 10 1 0 . => a TYPE260 \\# 2 0a80
 a SMIMEA 3 1 1 d2abde24 => a TYPE53 \\# 7 030101d2abde24
 ";
 
 #[test]
 fn records_of_each_type(rt: HostRuntime) -> Result<(), Fail> {
-    for line in TYPES.lines() {
-        let (file, wanted) = line.split_once(" => ").ok_or(line)?;
-        check_row(rt.alloc(), file.as_bytes(), wanted.as_bytes())?;
-    }
-    Ok(())
+    check_lines::<Rewriting>(rt.alloc(), TYPES)
 }
 
 /// Files and what they become: `== ` stands before each file, `=>` after it.
@@ -195,19 +218,19 @@ a DS 1 8 2 0g
 a TYPE43 \\# 5 0001080200
 a TLSA 1 1 256 00
 a TLSA 1 1 1
--- 3: line 2, DS, digest, NoHexadecimal
+-- 3: line 2: DS, digest: no hexadecimal
 == a CAA 0 issue \"a
 b\"
 b CAA 0 issue \";\"
 =>a CAA 0 issue \"a
 b\"
 b TYPE257 \\# 8 000569737375653b
--- 1: line 1, CAA, data, LineFeedWithinQuotes
+-- 1: line 1: CAA, data: a line feed within quotes
 == a SVCB 1 . alpn= \"h2\"
 a SVCB 1 . alpn=\"h2\"
 =>a SVCB 1 . alpn= \"h2\"
 a TYPE64 \\# 10 00010000010003026832
--- 1: line 1, SVCB, parameters, NotAValue
+-- 1: line 1: SVCB, parameters: not a value
 == a TYPE46 \\# 1 00
 a rrsig ( \\# 1 ; of a key
  00 )
@@ -226,12 +249,104 @@ a DS 1 8 2 00
 
 #[test]
 fn whole_files(rt: HostRuntime) -> Result<(), Fail> {
-    for row in FILES.split("== ") {
-        // Nothing stands before the first row.
-        if !row.is_empty() {
-            let (file, wanted) = row.split_once("=>").ok_or(row)?;
-            check_row(rt.alloc(), file.as_bytes(), wanted.as_bytes())?;
-        }
+    check_table::<Rewriting>(rt.alloc(), FILES)
+}
+
+/// What is told of a record's words under the root: the field, and what is wrong with it.
+struct Refusing;
+
+impl Question for Refusing {
+    fn answer(alloc: Global, asked: &'static str, out: &mut Vec<u8>) -> Result<(), Fail> {
+        let file = format!(in alloc; "a {asked}")?;
+        let rewritten = rewrite_file(alloc, &CasedName::root(), file.as_bytes())?;
+        let first = rewritten.refusals.first.ok_or(asked)?;
+        let (field, fault) = (first.field, first.fault);
+        push_words(alloc, out, format_args!("{field}: {fault}"))
     }
-    Ok(())
+}
+
+/// Words that state no data, of each kind of field, and what is told of them.
+const WRONG_WORDS: &str = "\
+DS 60485 RSASHA1 1 => digest: nothing left
+DS 65536 \"5\" 1 00 => key tag: too large
+DS 60485 \"5\" 256 00 => algorithm: not a number
+X25 311061700956 1 => psdn-address: items left over
+RP \"a\" . => mailbox: not a name
+DS 1 8 256 00 => digest type: too large
+CSYNC 4294967296 0 => serial: too large
+DS 1 RSASHA 2 00 => algorithm: not a number
+CERT X509 0 0 AA== => type: not a number
+DS 1 8 2 000 => digest: no hexadecimal
+DS 1 8 2 00 \"00\" => digest: no hexadecimal
+OPENPGPKEY AQ= => key: no base64
+OPENPGPKEY AR== => key: no base64
+OPENPGPKEY AQ== AQ== => key: no base64
+RRSIG ANY 8 2 1 1 1 1 . AQ== => type covered: not a type
+RRSIG A 8 2 1 20010229000000 1 1 . AQ== => expiration: not a time
+RRSIG A 8 2 1 1 4294967296 1 . AQ== => inception: too large
+RRSIG A 8 2 1 1 1 1 a..b AQ== => signer name: not a name: a label is empty
+NSEC . => types: nothing left
+NSEC . A OPT => types: not a type
+NSEC3 1 0 1 abc 2t7b A => salt: no hexadecimal
+NSEC3 1 0 1 - 2t7w A => next: no base32hex
+NSEC3 1 0 1 - 2t7 A => next: no base32hex
+CAA 0 a-b c => tag: not a tag
+CAA 0 issue => value: nothing left
+CAA 0 issue a b => value: items left over
+URI 1 1 a => target: not quoted
+L32 1 10.1.2 => locator32: not an address
+NID 1 1:2:3 => nodeid: not an address
+EUI48 00-00-5e-00-53 => address: not an address
+EUI64 00-00-5e-ef-10-00-00-2g => address: not an address
+APL 1:10.0.0.0/33 => data: no prefix
+APL 3:10.0.0.0/8 => data: no prefix
+LOC 42 21 54 N 71 06 18 => data: not a location
+LOC 90 0 0.001 N 0 W 0m => data: not a location
+LOC 1 N 1 W 42849672.96m => data: not a location
+LOC 1 N 1 W 0m 90000000.01m => data: not a location
+LOC => data: nothing left
+IPSECKEY 10 4 2 . AQ== => gateway type: too large
+IPSECKEY 10 0 2 a. AQ== => gateway: not a name
+IPSECKEY 10 2 2 192.0.2.38 AQ== => gateway: not an address
+IPSECKEY 10 1 2 192.0.2.38 => public key: nothing left
+IPSECKEY 10 1 0 192.0.2.38 AQ== => public key: items left over
+AMTRELAY 10 2 1 203.0.113.15 => discovery optional: too large
+AMTRELAY 10 x 1 203.0.113.15 => discovery optional: not a number
+AMTRELAY 10 0 4 203.0.113.15 => type: too large
+AMTRELAY 10 0 3 a..b => relay: not a name: a label is empty
+SVCB 1 . foo=1 => parameters: not a key
+SVCB 1 . key65535=1 => parameters: not a key
+SVCB 1 . port=1 port=2 => parameters: a repeated key
+SVCB 1 . port=65536 => parameters: not a value
+SVCB 1 . mandatory=port => parameters: a mandatory key is missing
+";
+
+#[test]
+fn words_that_state_no_data(rt: HostRuntime) -> Result<(), Fail> {
+    check_lines::<Refusing>(rt.alloc(), WRONG_WORDS)
+}
+
+/// What is written of a file in two pieces is taken after the first: the entry that a line feed has
+/// ended, while the next one waits.
+#[test]
+fn what_is_written_is_taken(rt: HostRuntime) -> Result<(), Fail> {
+    let mut rewriter = Rewriter::new(rt.alloc(), &CasedName::root());
+    rewriter.feed(b"a DS 1 8 2 00\nb DS 1 ")?;
+    check_octets(
+        "the first entry",
+        rewriter.written(),
+        b"a TYPE43 \\# 5 0001080200\n",
+    )?;
+    check_octets("what waits", rewriter.undecided(), b"b DS 1 ")?;
+    check_same("octets that were fed", rewriter.fed(), 21)?;
+    check(!rewriter.is_finished(), "the file hasn't ended")?;
+    rewriter.clear_written();
+    rewriter.feed(b"8 2 00")?;
+    rewriter.finish()?;
+    check_octets(
+        "the second entry",
+        rewriter.written(),
+        b"b TYPE43 \\# 5 0001080200",
+    )?;
+    check(rewriter.is_finished(), "the file has ended")
 }

@@ -1,6 +1,6 @@
 use Rattle.std.proofs.Common.{take}
 use Rattle.zone_words.specs.Machine.Cuts.{IsMissing}
-use Rattle.zone_words.proofs.kinds.cut.cut_at_first.Given as goal
+use Rattle.zone_words.proofs.cut.cut_at_first.Given as goal
 
 abbrev pub invariant-loop-at : goal.invariant-loop-at
 invariant-loop-at l = IsMissing l.octet (take l.at l.text)

@@ -3,7 +3,7 @@ ghost use Rattle.std.specs.Prelude.{IfNone, IfSome};
 ghost use Rattle.zone_words.specs.Machine.Cuts.{IsCutFirst, IsCutLast, IsMissing};
 
 /// What stands before the first of an octet, and what after it. `None`: the text lacks the octet.
-pub(super) fn cut_at_first(text: &[u8], octet: u8) -> Option<(&[u8], &[u8])>
+pub(crate) fn cut_at_first(text: &[u8], octet: u8) -> Option<(&[u8], &[u8])>
     ensures found { IfSome result (λ parts. IsCutFirst octet text.now parts.0.now parts.1.now) }
     ensures none { IfNone result (IsMissing octet text.now) }
 {
@@ -16,7 +16,7 @@ pub(super) fn cut_at_first(text: &[u8], octet: u8) -> Option<(&[u8], &[u8])>
 }
 
 /// What stands before the last of an octet, and what after it. `None`: the text lacks the octet.
-pub(super) fn cut_at_last(text: &[u8], octet: u8) -> Option<(&[u8], &[u8])>
+pub(crate) fn cut_at_last(text: &[u8], octet: u8) -> Option<(&[u8], &[u8])>
     ensures found { IfSome result (λ parts. IsCutLast octet text.now parts.0.now parts.1.now) }
     ensures none { IfNone result (IsMissing octet text.now) }
 {

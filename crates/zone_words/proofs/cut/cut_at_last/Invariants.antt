@@ -1,6 +1,6 @@
 use Rattle.std.proofs.Common.{◌≤◌, drop, length}
 use Rattle.zone_words.specs.Machine.Cuts.{IsMissing}
-use Rattle.zone_words.proofs.kinds.cut.cut_at_last.Given as goal
+use Rattle.zone_words.proofs.cut.cut_at_last.Given as goal
 
 abbrev pub invariant-loop-end : goal.invariant-loop-end
 invariant-loop-end l = record { inside : l.end ≤ length l.text; missing : IsMissing l.octet (drop l.end l.text) }

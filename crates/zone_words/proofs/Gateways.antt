@@ -1,0 +1,105 @@
+-- Fields that depend on the items before them, and what their items state.
+use Rattle.std.proofs.Common.{[], ◌≡◌, ℕ, ◌<◌, ◌≤◌, ◌==◌, Bool, true, false, List, ◌∷◌, min, Option, Some, None, refl, sym, ap, ◌∙◌, subst, arith}
+use Rattle.std.proofs.lemmas.Bool.{eqb-true}
+use Rattle.std.specs.List.{AllByRecursion, list_all}
+use Rattle.std.specs.Option.{option_map}
+use Rattle.std.specs.Prelude.{IfNone, IfSome}
+use Rattle.zone_name.specs.Common.{NothingIs}
+use Rattle.zone_name.specs.Spelling.{is_digit}
+use Rattle.zone_rdata.specs.Item.{RawItem}
+use Rattle.zone_rdata.specs.Number.{IsCapped, IsDecimal, decimal_value}
+use Rattle.zone_words.proofs.Numbers.{decimal_once}
+use Rattle.zone_words.specs.Kinds.Gateway.{FailsNoAddress, FailsNothing, FailsUpTo, StatesNoAddress, StatesNothing, StatesUpTo, no_digits, too_great}
+use Rattle.zone_words.specs.Kinds.Number.{digits_number}
+use Rattle.zone_words.specs.Machine.Numbers.{IsOver}
+use Rattle.zone_words.specs.Table.{address_kind, is_one, key_kind}
+use Rattle.zone_words.specs.declared.fault.WordsFault.{WordsFault}
+
+-- ---- numbers up to a greatest
+
+pub up_to_once : (most : ℕ) (octets_of : ℕ → List ℕ) (text a b : List ℕ) → StatesUpTo most octets_of text a → StatesUpTo most octets_of text b → a ≡ b
+up_to_once most octets_of text a b p q = p.value ∙ ap octets_of (decimal_once text p.number q.number p.stated q.stated) ∙ sym q.value
+
+pub up_to_or_fault : (most : ℕ) (octets_of : ℕ → List ℕ) (text octets : List ℕ) (fault : WordsFault) → StatesUpTo most octets_of text octets → FailsUpTo most text fault → ⊥
+up_to_or_fault most octets_of text octets fault p (no_digits none) = none p.number p.stated
+up_to_or_fault most octets_of text octets fault p (too_great n is over) =
+    let same : p.number ≡ n = decimal_once text p.number n p.stated is in
+    let few = p.few in
+    omega arith
+
+pub up_to_fault_once : (most : ℕ) (text : List ℕ) (a b : WordsFault) → FailsUpTo most text a → FailsUpTo most text b → a ≡ b
+up_to_fault_once most text _ _ (no_digits none) (no_digits none_too) = refl
+up_to_fault_once most text _ _ (no_digits none) (too_great n is over) = absurd (none n is)
+up_to_fault_once most text _ _ (too_great n is over) (no_digits none) = absurd (none n is)
+up_to_fault_once most text _ _ (too_great n is over) (too_great m is_too over_too) = refl
+
+-- a number that is read up to 2 ^ 32
+pub capped_over : (text : List ℕ) (most : ℕ) (number : Option ℕ) (fault : WordsFault) → most < 4294967296 → IfSome number (IsCapped (IsDecimal text)) → IfNone number (NothingIs (IsDecimal text)) → IsOver most number fault → FailsUpTo most text fault
+capped_over text most None fault small found none over = rw over (no_digits none)
+capped_over text most (Some n) fault small found none over =
+    rw over.0 (too_great found.0 found.1.0 (let e = found.1.1 in let more = over.1 in omega arith))
+
+pub capped_up_to : (text : List ℕ) (most n : ℕ) (number : Option ℕ) (octets_of : ℕ → List ℕ) → most < 4294967296 → IfSome number (IsCapped (IsDecimal text)) → number ≡ Some n → n ≤ most → StatesUpTo most octets_of text (octets_of n)
+capped_up_to text most n None octets_of small found is few = absurd cc
+capped_up_to text most n (Some m) octets_of small found is few =
+    let same : m ≡ n = cc in
+    let own : found.0 ≡ n = let e = found.1.1 in omega arith in
+    record { number = n; stated = subst (IsDecimal text) own found.1.0; few = few; value = refl }
+
+-- ---- no address, and nothing
+
+pub no_address_once : (text a b : List ℕ) → StatesNoAddress text a → StatesNoAddress text b → a ≡ b
+no_address_once text a b p q = p.1 ∙ sym q.1
+
+pub no_address_or_fault : (text octets : List ℕ) (fault : WordsFault) → StatesNoAddress text octets → FailsNoAddress text fault → ⊥
+no_address_or_fault text octets fault p q = q.0 p.0
+
+pub nothing_once : (items : List RawItem) (a b : List ℕ) → StatesNothing items a → StatesNothing items b → a ≡ b
+nothing_once items a b p q = p.1 ∙ sym q.1
+
+pub nothing_or_fault : (items : List RawItem) (octets : List ℕ) (fault : WordsFault) → StatesNothing items octets → FailsNothing items fault → ⊥
+nothing_or_fault items octets fault p q = q.0 p.0
+
+-- ---- the number of an item
+
+each_digit : (text : List ℕ) → list_all is_digit text ≡ true → AllByRecursion (λ c. is_digit c ≡ true) text
+each_digit [] all = tt
+each_digit (c ∷ text) all =
+    let first : is_digit c ≡ true = grind arith in
+    let more : list_all is_digit text ≡ true = grind arith in
+    (first, each_digit text more)
+
+all_digits : (text : List ℕ) → AllByRecursion (λ c. is_digit c ≡ true) text → list_all is_digit text ≡ true
+all_digits [] each = refl
+all_digits (c ∷ text) each = rw (each.0, all_digits text each.1) refl
+
+of_digits : (text : List ℕ) (n : ℕ) → IsDecimal text n → digits_number text ≡ Some n
+of_digits [] n is = absurd (omega (arith, is.some))
+of_digits (c ∷ text) n is = rw (all_digits (c ∷ text) is.digits) (ap Some (sym is.value))
+
+of_others : (text : List ℕ) (all : Bool) → list_all is_digit text ≡ all → NothingIs (IsDecimal text) → digits_number text ≡ None
+of_others [] all is none = refl
+of_others (c ∷ text) false is none = rw is refl
+of_others (c ∷ text) true is none =
+    absurd (none (decimal_value (c ∷ text)) (record { some = omega arith; digits = each_digit (c ∷ text) is; value = refl }))
+
+pub number_read : (text : List ℕ) (number : Option ℕ) → IfSome number (IsCapped (IsDecimal text)) → IfNone number (NothingIs (IsDecimal text)) → number ≡ option_map (min 4294967296) (digits_number text)
+number_read text None found none = rw (of_others text (list_all is_digit text) refl none) refl
+number_read text (Some n) found none = rw (of_digits text found.0 found.1.0) (ap Some found.1.1)
+
+-- ---- a number up to 2 ^ 32 has the kinds of the number itself
+
+small_test : (n k : ℕ) → k < 4294967296 → (min 4294967296 n == k) ≡ (n == k)
+small_test n k small = grind (arith, eqb-true)
+
+pub address_of_capped : (number : Option ℕ) → address_kind (option_map (min 4294967296) number) ≡ address_kind number
+address_of_capped None = refl
+address_of_capped (Some n) = rw (small_test n 0 (omega arith), small_test n 1 (omega arith), small_test n 2 (omega arith)) refl
+
+pub key_of_capped : (number : Option ℕ) → key_kind (option_map (min 4294967296) number) ≡ key_kind number
+key_of_capped None = refl
+key_of_capped (Some n) = rw (small_test n 0 (omega arith)) refl
+
+pub one_of_capped : (number : Option ℕ) → is_one (option_map (min 4294967296) number) ≡ is_one number
+one_of_capped None = refl
+one_of_capped (Some n) = small_test n 1 (omega arith)
