@@ -284,7 +284,7 @@ OPENPGPKEY AQ== AQ== => key: no base64
 RRSIG ANY 8 2 1 1 1 1 . AQ== => type covered: not a type
 RRSIG A 8 2 1 20010229000000 1 1 . AQ== => expiration: not a time
 RRSIG A 8 2 1 1 4294967296 1 . AQ== => inception: too large
-RRSIG A 8 2 1 1 1 1 a..b AQ== => signer name: not a name: a label is empty
+RRSIG A 8 2 1 1 1 1 a..b AQ== => signer: not a name: a label is empty
 NSEC . => types: nothing left
 NSEC . A OPT => types: not a type
 NSEC3 1 0 1 abc 2t7b A => salt: no hexadecimal
