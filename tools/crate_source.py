@@ -41,6 +41,12 @@ class Function:
         return re.search(call, self.text.partition("{\n")[2]) is not None
 
     @property
+    def cycle(self):
+        """The name of the cycle of calls that it is in, if it calls one that calls it."""
+        found = re.search(r"#\[cycle\((\w+)\)\]", self.attributes)
+        return found[1] if found else None
+
+    @property
     def is_method(self):
         return self.text.startswith(" ")
 

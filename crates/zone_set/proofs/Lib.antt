@@ -22,3 +22,4 @@ pub mod Listing
 pub mod Offering
 pub mod ListPush
 pub mod PlaceSteps
+pub mod Keyed

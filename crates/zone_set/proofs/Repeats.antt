@@ -1,5 +1,5 @@
 -- Entries of which those of equal records were dropped, or that were moved.
-use Rattle.zone_set.proofs.Common.{common_steps, ◌≡◌, ℕ, Bool, true, false, List, [], ◌∷◌, ◌++◌, length, map, take, refl, sym, ap, ◌∙◌, subst, inl, inr, ⊎_elim, arith, append_assoc, take_at, AllByRecursion, Record, IsRecord, read_record, length-append, all_records, entry_record, stored, Entry, IsEntry, IsLinked, Has, AreCompatible}
+use Rattle.zone_set.proofs.Common.{common_steps, ◌≡◌, ℕ, Bool, true, false, List, [], ◌∷◌, ◌++◌, length, map, take, refl, sym, ap, ◌∙◌, ◌==◌, false≢true, subst, inl, inr, ⊎_elim, arith, append_assoc, take_at, AllByRecursion, Record, IsRecord, read_record, length-append, all_records, entry_record, stored, Entry, IsEntry, IsLinked, Has, AreCompatible}
 use Rattle.std.proofs.lemmas.List.Elements.{All-from_recursion, recursion_from_All}
 use Rattle.std.proofs.lemmas.List.Sorted.{All-permutation, IsPermutation-sym}
 use Rattle.std.proofs.lemmas.Slice.Eq.{bytes_eq-Decides}
@@ -25,12 +25,16 @@ span_of class octets e linked =
     ∙ ap (λ n. take n (stored r ++ linked.stands.0)) (span_len-stored r linked.stands.0 linked.whole)
     ∙ take_at (stored r) linked.stands.0 (length (stored r)) refl
 
+then_true : (b c : Bool) → (if b then c else false) ≡ true → c ≡ true
+then_true true c is = is
+then_true false c is = absurd (false≢true is)
+
 -- octets that are the same keep one record
 pub repeat_is : (class : ℕ) (octets : List ℕ) (a b : Entry) → IsLinked class octets a → IsLinked class octets b → is_repeat octets a b ≡ true → entry_record class octets a ≡ entry_record class octets b
 repeat_is class octets a b is_a is_b same =
     let r = entry_record class octets a in
     let s = entry_record class octets b in
-    let spans : span octets a.at ≡ span octets b.at = (bytes_eq-Decides (span octets a.at) (span octets b.at)).0 same in
+    let spans : span octets a.at ≡ span octets b.at = (bytes_eq-Decides (span octets a.at) (span octets b.at)).0 (then_true (a.hint == b.hint) _ same) in
     let kept : stored r ≡ stored s = sym (span_of class octets a is_a) ∙ spans ∙ span_of class octets b is_b in
     sym (read_stored r [] is_a.whole) ∙ ap (λ l. read_record class (l ++ [])) kept ∙ read_stored s [] is_b.whole
 

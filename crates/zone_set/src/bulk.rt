@@ -1,30 +1,22 @@
 ghost use Rattle.std.specs.Prelude.{◌≡◌, ◌∷◌, IsTrue};
 ghost use Rattle.std.specs.List.{dedup, AllByRecursion};
-ghost use Rattle.std.specs.List.Sorted.{IsPermutation};
 ghost use Rattle.zone_name.specs.Common.{Labels};
 ghost use Rattle.zone_set.specs.Machine.Bulk.{is_repeat, AreNeighbours, StandNext};
 ghost use Rattle.zone_set.specs.Machine.Held.{all_records, entry_record, IsEntry};
 ghost use Rattle.zone_set.specs.Zone.{AreCompatible, SameRecords};
 
 use crate::entry::Entry;
+use crate::keys::sort_by_keys;
 use crate::offered::canonical_order;
 use crate::put::has_other_ttl;
 use crate::sets::is_other_soa;
 use crate::stored::record_at;
 use crate::tie;
-use crate::tie::entry_order;
 use zone_rdata::Class;
-
-/// Sorts entries. That they ascend is seen later: of this it is known only that they are the same.
-fn arrange(entries: &mut Vec<Entry>, octets: &[u8])
-    ensures { IsPermutation entries.old.items entries.new.items }
-{
-    entries.sort_unstable_by(|a, b| entry_order(octets, a, b));
-}
 
 /// Puts entries in order and drops those of equal records, where their records can stand together.
 /// Else they are of the same records, in any order.
-pub(crate) fn settle(class: Class, octets: &[u8], entries: &mut Vec<Entry>) -> bool
+pub(crate) fn settle(class: Class, base_len: usize, octets: &[u8], entries: &mut Vec<Entry>) -> bool
     ghost base: { Labels }
     requires { AllByRecursion (IsEntry base class octets.now) entries.old.items }
     ensures each { AllByRecursion (IsEntry base class octets.now) entries.new.items }
@@ -37,7 +29,7 @@ pub(crate) fn settle(class: Class, octets: &[u8], entries: &mut Vec<Entry>) -> b
     if are_neighbours(class, octets, entries.as_slice()) {
         return true;
     }
-    arrange(entries, octets);
+    sort_by_keys(entries, octets, base_len);
     drop_repeats(entries, octets);
     are_neighbours(class, octets, entries.as_slice())
 }

@@ -3,6 +3,7 @@ ghost use Rattle.zone_name.specs.Name.{IsWithin};
 ghost use Rattle.zone_set.specs.Machine.Hint.{first_digits, IsHint, IsPutBefore};
 ghost use Rattle.zone_set.specs.Machine.LabelKey.{label_key, owner_key};
 
+use crate::order::are_same;
 use std::cmp::Ordering;
 use zone_name::{Name, NameRef};
 use zone_rdata::Kind;
@@ -37,6 +38,11 @@ pub(crate) fn hint_of(base: &Name, owner: &NameRef<'_>, kind: Kind) -> u64
     }
 }
 
+/// Whether a hint is that of an owner at or below the base.
+pub(crate) fn is_within(hint: u64) -> bool {
+    WITHIN <= hint && hint < AFTER
+}
+
 /// The first seven digits of the key of the labels before the base's. `None`: the owner doesn't lie
 /// at or below the base.
 fn front_key(base: &Name, owner: &NameRef<'_>) -> Option<u64>
@@ -57,7 +63,11 @@ fn front_key(base: &Name, owner: &NameRef<'_>) -> Option<u64>
         key = put_label(label, key);
     }
     let (_, last) = octets.split_at(octets.len() - len);
-    if last == ending { Some(key) } else { None }
+    if are_same(last, ending) {
+        Some(key)
+    } else {
+        None
+    }
 }
 
 /// Puts a label and its end before the digits of a number.

@@ -7,6 +7,7 @@ mod builder;
 mod bulk;
 mod entry;
 mod hint;
+mod keys;
 mod list;
 mod offer;
 mod offered;

@@ -191,7 +191,7 @@ fn settle_parts(
     ensures taken { IfOk result (IsSettledAs known.1) }
     ensures refused { IfErr result (StopsSettling known.1) }
 {
-    if settle(class, octets.as_slice(), &mut entries) {
+    if settle(class, base.wire().len(), octets.as_slice(), &mut entries) {
         let sets = Sets::of_sorted(alloc, class, base, octets, entries)?;
         return Ok(ZoneBuilder { sets });
     }

@@ -1,4 +1,4 @@
-ghost use Rattle.std.specs.Prelude.{◌≡◌, ◌<◌};
+ghost use Rattle.std.specs.Prelude.{◌≡◌, ◌<◌, bytes_eq};
 ghost use Rattle.std.specs.Cmp.Lexicographic.{slice_cmp};
 ghost use Rattle.std.specs.List.{AllByRecursion};
 ghost use Rattle.std.specs.Ordering.{nat_cmp};
@@ -23,6 +23,13 @@ pub(crate) fn octet_order(a: &[u8], b: &[u8]) -> Ordering
         return x.cmp(&y);
     }
     order_after(more, others)
+}
+
+/// Whether octets are the same, by `octet_order`: std's `==` has more to look at before.
+pub(crate) fn are_same(a: &[u8], b: &[u8]) -> bool
+    ensures { result ≡ bytes_eq a.now b.now }
+{
+    octet_order(a, b).is_eq()
 }
 
 /// `octet_order`, eight octets after eight. It is no part of a search, which is shorter without it.

@@ -225,7 +225,8 @@ fn is_none_outside(rr: &Option<RrRef<'_>>, apex: &Name) -> bool
     }
 }
 
-/// Where there is no entry, this owner becomes the base.
+/// Where there is no entry, this owner becomes the base. Only the first record needs this.
+#[inline(never)]
 fn settle_base(base: &mut Name, entries: &SortedChunks<Entry, LIMIT>, owner: &NameRef<'_>)
     ensures { (joined entries.now ≡ []) ⊎ (base.new ≡ base.old) }
 {

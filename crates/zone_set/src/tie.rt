@@ -2,6 +2,7 @@ ghost use Rattle.std.specs.Prelude.{◌≡◌, ◌<◌, length, IfSome, drop};
 ghost use Rattle.zone_set.specs.Machine.Bulk as bulk;
 
 use crate::entry::Entry;
+use crate::order::are_same;
 use std::cmp::Ordering;
 
 /// How the records of entries lie, by which they are sorted. Nothing rests on it but how soon a
@@ -26,14 +27,14 @@ fn tie_order(octets: &[u8], a: usize, b: usize) -> Ordering {
 
 /// What is compared of a record.
 #[derive(Drop)]
-struct StoredParts<'z> {
-    owner: &'z [u8],
-    kind: u16,
-    data: &'z [u8],
+pub(crate) struct StoredParts<'z> {
+    pub(crate) owner: &'z [u8],
+    pub(crate) kind: u16,
+    pub(crate) data: &'z [u8],
 }
 
 /// The parts of what stands at a place, if a whole record does.
-fn stored_at<'z>(octets: &'z [u8], at: usize) -> Option<StoredParts<'z>> {
+pub(crate) fn stored_at<'z>(octets: &'z [u8], at: usize) -> Option<StoredParts<'z>> {
     let (_, from) = octets.split_at_checked(at)?;
     let (head, from) = from.split_first_chunk::<9>()?;
     let [_, _, _, _, k0, k1, owner_len, d0, d1] = *head;
@@ -67,7 +68,7 @@ fn owner_order(a: &[u8], b: &[u8]) -> Ordering {
 }
 
 /// The first label and what follows it.
-fn first_label(octets: &[u8]) -> Option<(&[u8], &[u8])>
+pub(crate) fn first_label(octets: &[u8]) -> Option<(&[u8], &[u8])>
     ensures { IfSome result (λ parts. length parts.1.now < length octets.now) }
 {
     let (len, after) = octets.split_first()?;
@@ -98,11 +99,12 @@ fn past(octets: &[u8], count: usize) -> &[u8] {
     left
 }
 
-/// Whether the same octets keep the records of two entries, whatever the entries.
+/// Whether the same octets keep the records of two entries of one hint, whatever the entries. Those
+/// of other hints aren't looked at.
 pub(crate) fn is_repeat(octets: &[u8], a: &Entry, b: &Entry) -> bool
     ensures { result ≡ bulk.is_repeat octets.now a.now b.now }
 {
-    span(octets, a.at) == span(octets, b.at)
+    a.hint == b.hint && are_same(span(octets, a.at), span(octets, b.at))
 }
 
 /// The octets that keep the record at a place, as far as there are any.

@@ -1,5 +1,5 @@
 -- Entries that were sorted at once: what their neighbours have to show.
-use Rattle.std.specs.Prelude.{◌≡◌, ℕ, ◌+◌, Bool, List, [], ◌∷◌, ⊤, map, flat_map, take, drop, slice_index, bytes_eq}
+use Rattle.std.specs.Prelude.{◌≡◌, ℕ, ◌+◌, ◌==◌, Bool, false, if◌then◌else◌, List, [], ◌∷◌, ⊤, map, flat_map, take, drop, slice_index, bytes_eq}
 use Rattle.std.specs.Int.{from_be_bytes, w16}
 use Rattle.std.specs.declared.cmp.Ordering.TheVariants.{Less}
 use Rattle.std.specs.List.{AllByRecursion}
@@ -36,9 +36,14 @@ span_len octets = 9 + slice_index octets 6 + from_be_bytes w16 (take 2 (drop 7 o
 abbrev pub span : List ℕ → ℕ → List ℕ
 span octets at = take (span_len (drop at octets)) (drop at octets)
 
--- the same octets keep the records of two entries
+-- two entries have one hint, and the same octets keep their records
 abbrev pub is_repeat : List ℕ → Entry → Entry → Bool
-is_repeat octets a b = bytes_eq (span octets a.at) (span octets b.at)
+is_repeat octets a b =
+    if a.hint == b.hint then bytes_eq (span octets a.at) (span octets b.at) else false
+
+-- an entry with a hint in the place of its own
+abbrev pub with_hint : ℕ → Entry → Entry
+with_hint hint e = record { hint = hint; at = e.at }
 
 -- octets that keep these records one after another, all of one class, and their places
 pub record IsRow (class : ℕ) (octets : List ℕ) (places : List Place)

@@ -10,18 +10,18 @@ loop-len-preserved c =
     walked_next c.args.base.now c.args.owner.now c.loop-len.labels c.loop-len.len c.loop-len.key c.loop-len.invariant c.wire-octets.ensures.name c.in-Some.label.now c.next.new.self _ c.put_label-key.result
     c.in-Some.ensures.steps (omega (arith, c.loop-len-test.true, ap length c.wire-ending.ensures.octets)) (omega arith) c.put_label-key.ensures
 
-pub returns-then-eq-clause-within : goal.returns-then-eq-clause-within
-returns-then-eq-clause-within c =
+pub returns-then-are_same-clause-within : goal.returns-then-are_same-clause-within
+returns-then-are_same-clause-within c =
     walked_found c.args.base.now c.args.owner.now c.loop-len.labels c.loop-len.len c.loop-len.key c.loop-len.invariant c.split_at.result.1.now c.wire-octets.ensures.name c.wire-ending.ensures.name
     (c.split_at.ensures.back ∙ ap (λ o. drop (length o - c.loop-len.len) o) c.wire-octets.ensures.octets)
-    ((bytes_decides _ _).0 (sym c.if-eq.ensures) ∙ c.wire-ending.ensures.octets)
+    ((bytes_decides _ _).0 (sym c.if-are_same.ensures) ∙ c.wire-ending.ensures.octets)
 
-pub returns-then-eq-clause-short : goal.returns-then-eq-clause-short
-returns-then-eq-clause-short c = walked_short c.args.base.now c.args.owner.now c.loop-len.labels c.loop-len.len c.loop-len.key c.loop-len.invariant c.wire-octets.ensures.name
+pub returns-then-are_same-clause-short : goal.returns-then-are_same-clause-short
+returns-then-are_same-clause-short c = walked_short c.args.base.now c.args.owner.now c.loop-len.labels c.loop-len.len c.loop-len.key c.loop-len.invariant c.wire-octets.ensures.name
 
-pub returns-else-eq-clause-none : goal.returns-else-eq-clause-none
-returns-else-eq-clause-none c =
+pub returns-else-are_same-clause-none : goal.returns-else-are_same-clause-none
+returns-else-are_same-clause-none c =
     walked_none c.args.base.now c.args.owner.now c.loop-len.labels c.loop-len.len c.loop-len.key c.loop-len.invariant c.split_at.result.1.now c.wire-octets.ensures.name c.wire-ending.ensures.name
     (c.split_at.ensures.back ∙ ap (λ o. drop (length o - c.loop-len.len) o) c.wire-octets.ensures.octets)
     (omega (arith, c.loop-len-test.false, ap length c.wire-ending.ensures.octets))
-    (λ same. false≢true (c.if-eq.ensures ∙ (bytes_decides _ _).1 (same ∙ sym c.wire-ending.ensures.octets)))
+    (λ same. false≢true (c.if-are_same.ensures ∙ (bytes_decides _ _).1 (same ∙ sym c.wire-ending.ensures.octets)))

@@ -1,0 +1,178 @@
+ghost use Rattle.std.specs.Prelude.{◌≡◌, ◌<◌, ◌≤◌, [], length, map, take, IfNone, IfSome};
+ghost use Rattle.std.specs.List.Sorted.{IsPermutation};
+ghost use Rattle.zone_set.specs.Machine.Bulk.{with_hint};
+
+use crate::entry::Entry;
+use crate::hint::is_within;
+use crate::tie::{StoredParts, entry_order, first_label, stored_at};
+
+/// How many entries are at most sorted by their octets alone.
+const FEW: usize = 3;
+
+/// After so many digits octets are compared, and no more keys are made.
+const FAR: usize = 320;
+
+/// Sorts entries by their hints, and those of one hint by keys, which stand in its place meanwhile:
+/// by the digits of their records that come next. That they ascend is seen later: of this it is
+/// known only that they are the same, and only how soon a zone is made rests on the keys.
+pub(crate) fn sort_by_keys(entries: &mut Vec<Entry>, octets: &[u8], base_len: usize)
+    ensures { IsPermutation entries.old.items entries.new.items }
+{
+    // The root's octet is no digit, and a hint has seven after the base's.
+    let front = base_len.saturating_add(6);
+    sort(entries.as_mut_slice(), octets, front, 0);
+}
+
+/// Sorts entries by their hints, and then each run of one hint. Those of one hint have the same
+/// digits before this one.
+#[cycle(keys)]
+fn sort(entries: &mut [Entry], octets: &[u8], front: usize, digit: usize)
+    ensures { IsPermutation entries.old entries.new }
+{
+    entries.sort_unstable_by(|a, b| a.hint.cmp(&b.hint));
+    let mut start = 0;
+    while let Some((hint, len)) = first_run(&entries[start..]) {
+        let run = &mut entries[start..start + len];
+        sort_run(run, octets, front, hint, first_digit(hint, front, digit));
+        start += len;
+    }
+}
+
+/// The first digit in which entries of one hint may differ.
+fn first_digit(hint: u64, front: usize, digit: usize) -> usize
+    ensures { digit ≤ result }
+{
+    // At first hints are no keys.
+    if digit == 0 && is_within(hint) {
+        front
+    } else {
+        digit
+    }
+}
+
+/// The first entry's hint, and how many entries from it on have that. `None`: there is no entry.
+fn first_run(entries: &[Entry]) -> Option<(u64, usize)>
+    ensures none { IfNone result (entries.now ≡ []) }
+    ensures within { IfSome result (λ run. (0 < run.1) × (run.1 ≤ length entries.now)) }
+    ensures same { IfSome result (λ run.
+        map (with_hint run.0) (take run.1 entries.now) ≡ take run.1 entries.now) }
+{
+    let (first, rest) = entries.split_first()?;
+    Some((first.hint, 1 + run_len(rest, first.hint)))
+}
+
+/// How many entries from the first on have a hint.
+fn run_len(entries: &[Entry], hint: u64) -> usize
+    ensures within { result ≤ length entries.now }
+    ensures same { map (with_hint hint) (take result entries.now) ≡ take result entries.now }
+{
+    let mut len = 0;
+    while len < entries.len() && entries[len].hint == hint {
+        len += 1;
+    }
+    len
+}
+
+/// Sorts entries of one hint, whose records have the same digits before this one.
+#[cycle(keys)]
+fn sort_run(run: &mut [Entry], octets: &[u8], front: usize, hint: u64, digit: usize)
+    requires { map (with_hint hint) run.old ≡ run.old }
+    ensures { IsPermutation run.old run.new }
+{
+    if run.len() < 2 {
+        return;
+    }
+    if run.len() <= FEW || digit > FAR {
+        run.sort_unstable_by(|a, b| entry_order(octets, a, b));
+        return;
+    }
+    // Nor are keys made where all are equal.
+    if run.is_sorted_by(|a, b| entry_order(octets, a, b).is_le()) {
+        return;
+    }
+    set_keys(run, octets, front, digit);
+    sort(run, octets, front, digit + 8);
+    set_hint(run, hint);
+}
+
+/// Gives each entry the key of its record.
+fn set_keys(run: &mut [Entry], octets: &[u8], front: usize, digit: usize)
+    ensures { map (λ e. e.at) run.new ≡ map (λ e. e.at) run.old }
+{
+    for entry in run.iter_mut() {
+        entry.hint = key_of(octets, entry.at, front, digit);
+    }
+}
+
+/// Gives each entry one hint.
+fn set_hint(run: &mut [Entry], hint: u64)
+    ensures places { map (λ e. e.at) run.new ≡ map (λ e. e.at) run.old }
+    ensures hints { map (with_hint hint) run.new ≡ run.new }
+{
+    for entry in run.iter_mut() {
+        entry.hint = hint;
+    }
+}
+
+/// Eight of the digits by which records are ordered, from one on: those of the labels of the owner
+/// from the right, each before a 0, further 0 up to the front, and the type and the data.
+#[inline(never)]
+fn key_of(octets: &[u8], at: usize, front: usize, digit: usize) -> u64 {
+    let Some(stored) = stored_at(octets, at) else {
+        return 0;
+    };
+    // The root's octet is no digit.
+    let mut end = stored.owner.len().saturating_sub(1);
+    let mut key = key_of_data(&stored, end, front, digit);
+    let mut labels = stored.owner;
+    while let Some((label, rest)) = first_label(labels) {
+        if end <= digit {
+            break;
+        }
+        end = end.saturating_sub(label.len().saturating_add(1));
+        key = put_label(label, digit.saturating_sub(end), key >> 8);
+        labels = rest;
+    }
+    key
+}
+
+/// Eight of the digits from one on, and none before the owner's end.
+fn key_of_data(stored: &StoredParts<'_>, end: usize, front: usize, digit: usize) -> u64 {
+    let (first, kind_at) = (digit.max(end), front.max(end.saturating_add(1)));
+    let past = first.saturating_sub(kind_at);
+    let data = put(stored.data, past.saturating_sub(2), 0);
+    let key = put(&stored.kind.to_be_bytes(), past, data);
+    let zeros = kind_at.saturating_sub(first);
+    if zeros < 8 { key >> (8 * zeros) } else { 0 }
+}
+
+/// Puts octets from one on before the digits of a key.
+fn put(octets: &[u8], from: usize, after: u64) -> u64 {
+    let mut key = after;
+    for octet in eight(octets, from).iter().rev() {
+        key = key >> 8 | (*octet as u64) << 56;
+    }
+    key
+}
+
+/// Puts the digits of a label from one on before those of a key. No label has a capital letter, so
+/// octets before those count one more, since the end is 0.
+fn put_label(label: &[u8], from: usize, after: u64) -> u64 {
+    let mut key = after;
+    for octet in eight(label, from).iter().rev() {
+        let digit = if *octet < b'[' { *octet + 1 } else { *octet };
+        key = key >> 8 | (digit as u64) << 56;
+    }
+    key
+}
+
+/// The octets from one on, at most eight, after which none counts.
+fn eight(octets: &[u8], from: usize) -> &[u8] {
+    let Some((_, after)) = octets.split_at_checked(from) else {
+        return &octets[..0];
+    };
+    match after.split_at_checked(8) {
+        Some((first, _)) => first,
+        None => after,
+    }
+}
