@@ -1,16 +1,21 @@
 #!/usr/bin/env python3
 """Writes the canonical text of a master file, by dnspython and not by zonenorm.
 
-    make_canonical.py FILE ORIGIN
+    make_canonical.py [--words] FILE ORIGIN
 
-This is how example.canonical was made: it is what zonenorm is compared with. It reads what
-dnspython reads, refuses no zone that zonenorm refuses, and knows the types of the example alone;
-any other is written in the generic form."""
+This is how example.canonical and signed.canonical were made: it is what zonenorm is compared with.
+It reads what dnspython reads, refuses no zone that zonenorm refuses, and knows ten types alone; any
+other is written in the generic form. With --words it is written in dnspython's words, so
+signed.words was made."""
 import ipaddress
+import re
 import sys
 
 import dns.rdatatype
 import dns.zone
+
+# The parameters of HTTPS that zonewords writes without quotes.
+BARE = re.compile(r'\b(mandatory|port|ipv4hint|ech|ipv6hint)="([^"]*)"')
 
 
 def escaped(octets, special, blank):
@@ -56,8 +61,10 @@ def data(rdata):
             return " ".join([name(rdata.mname), name(rdata.rname), *map(str, numbers)])
 
 
-def line(owner, ttl, rdata):
+def line(owner, ttl, rdata, in_words):
     words = data(rdata)
+    if words is None and in_words:
+        words = BARE.sub(r"\1=\2", rdata.to_text(chunksize=0))
     if words is not None:
         return f"{name(owner)} {ttl} IN {dns.rdatatype.to_text(rdata.rdtype)} {words}\n"
     octets = rdata.to_digestable()
@@ -74,10 +81,10 @@ def place(record):
 
 
 def main():
-    path, origin = sys.argv[1:]
+    *options, path, origin = sys.argv[1:]
     zone = dns.zone.from_file(path, origin, relativize=False, check_origin=False)
     for record in sorted(zone.iterate_rdatas(), key=place):
-        sys.stdout.write(line(*record))
+        sys.stdout.write(line(*record, "--words" in options))
 
 
 main()

@@ -2,4 +2,5 @@ pub mod Common
 pub mod Asked
 pub mod Halting
 pub mod Feeding
+pub mod Filters
 pub mod Told

@@ -1,4 +1,5 @@
 pub mod Order
 pub mod Telling
+pub mod Filtering
 pub mod Run
 pub mod Machine

@@ -1,3 +1,4 @@
 -- What only private functions and proofs cite.
 pub mod Calling
-pub mod Rewriting
+pub mod Halting
+pub mod Filters

@@ -1,56 +1,48 @@
 -- What a command line asks for (this project's own).
-use Rattle.std.specs.Prelude.{◌≡◌, ℕ, true, List, [], ◌∷◌, codes, string_bytes, Option, Some, None}
-use Rattle.std.specs.List.{AllByRecursion}
-use Rattle.clap.specs.Words.{App, Row, Rule, Text, new_rule, new_app, with_rule, with_subcommand, subcommand_of, first_of, fault_of}
+use Rattle.std.specs.Prelude.{ℕ, List, [], ◌∷◌, codes, string_bytes, None, refl}
+use Rattle.clap.specs.Words.{App, Text}
+use Rattle.command_line.specs.Calls.{Calls, Commands, command_app, program_of}
+use Rattle.command_line.specs.declared.no_call.NoCall.{NoCall}
+use Rattle.command_line.specs.declared.no_call.NoCall.TheVariants as no_calls
 use Rattle.zone_name.specs.Common.{NothingIs, Labels}
 use Rattle.zone_name.specs.Spelling.{SpellsCased}
 use Rattle.zone_rdata.specs.declared.fault.Stop.TheVariants.{Memory}
 use Rattle.zone_engine.specs.Telling.{stop_line}
 use Rattle.words_command.specs.declared.order.Order.{Order}
-use Rattle.words_command.specs.declared.order.Order.TheVariants.{Generic}
+use Rattle.words_command.specs.declared.order.Order.TheVariants.{Generic, Words}
 use Rattle.words_command.specs.declared.order.LineFault.{LineFault}
 use Rattle.words_command.specs.declared.order.LineFault.TheVariants as line_faults
 
--- an argument of a command: one required word at its position
-abbrev pub argument : Text → Rule
-argument id = record (new_rule id) { required = true }
-
--- the command, with its argument
-abbrev pub generic_app : App
-generic_app = with_rule (new_app (codes "generic")) (argument (codes "ORIGIN"))
-
--- the program without its name, as `clap` sees it; it has a version to tell
-abbrev pub bare_app : App
-bare_app = let app = new_app (codes "zonewords") in
-    record app { top = record app.top { no_binary_name = true; has_version = true } }
-
--- the program with its command
+-- the program with its commands and the argument of the first, as `clap` sees it
 abbrev pub program_app : App
-program_app = with_subcommand bare_app generic_app.top
+program_app =
+    program_of (codes "zonewords")
+    (command_app (codes "generic") (codes "ORIGIN" ∷ []) ∷ command_app (codes "words") [] ∷ [])
 
 -- a command with the texts of its arguments, in their order
 pub data Call : Type 0 where
   generic : Text → Call
+  in_words : Call
 
 -- its word
 abbrev pub command_of : Call → Text
 command_of (generic origin) = codes "generic"
+command_of in_words = codes "words"
 
 -- its arguments, each with its text
 abbrev pub arguments_of : Call → List (Text × Text)
 arguments_of (generic origin) = (codes "ORIGIN", origin) ∷ []
+arguments_of in_words = []
 
--- the subcommand that was found is this one, with these texts
-pub record Finds (found : Option (Text × List Row)) (call : Call) : Type 0 where
-  pub rows : List Row
-  pub entered : found ≡ Some (command_of call, rows)
-  pub texts : AllByRecursion
-      (λ (argument : Text × Text). first_of argument.0 rows ≡ Some argument.1) (arguments_of call)
-
--- `clap` finds no fault in the words, and states this subcommand with these texts for its arguments
-pub record Calls (words : List Text) (call : Call) : Type 0 where
-  pub faultless : fault_of program_app words ≡ []
-  pub finds : Finds (subcommand_of program_app words) call
+-- the program's commands, and what can be called by them
+abbrev pub commands : Commands
+commands = record {
+  app = program_app;
+  Call = Call;
+  command_of = command_of;
+  arguments_of = arguments_of;
+  simple = refl;
+}
 
 -- what a text given as an origin asks for: the name that it spells as an absolute one, with its
 -- letters as they stand (RFC 1035 5.1)
@@ -60,21 +52,29 @@ IsOriginText text origin = SpellsCased None text origin
 -- what a command with its texts asks for
 abbrev pub Asks : Call → Order → Type 0
 Asks (generic text) (Generic origin) = IsOriginText text origin
+Asks in_words Words = Unit {0}
+Asks _ _ = ⊥
 
 -- the text of an origin asks for nothing
 abbrev pub HasBadOrigin : Call → Type 0
 HasBadOrigin (generic origin) = NothingIs (IsOriginText origin)
+HasBadOrigin in_words = ⊥
 
 -- The words give the order: by `clap` they are a command with the texts that ask for it.
 abbrev pub Orders : List Text → Order → Type 0
-Orders words order = (call : Call) × Calls words call × Asks call order
+Orders words order = (call : Call) × Calls commands words call × Asks call order
 
 -- Why the words give no order: the text of an origin is bad, or by `clap` they are no command with
 -- all its arguments.
 abbrev pub IsLineFault : List Text → LineFault → Type 0
-IsLineFault words line_faults.BadOrigin = (call : Call) × Calls words call × HasBadOrigin call
-IsLineFault words (line_faults.Clap told) = NothingIs (Calls words)
+IsLineFault words line_faults.BadOrigin = (call : Call) × Calls commands words call × HasBadOrigin call
+IsLineFault words (line_faults.Clap told) = NothingIs (Calls commands words)
 IsLineFault words line_faults.Memory = Unit {0}
+
+-- what is told of words that call nothing
+abbrev pub told_fault : NoCall → LineFault
+told_fault (no_calls.Told text) = line_faults.Clap text
+told_fault no_calls.Memory = line_faults.Memory
 
 -- the exit status of a command line that gives no order
 abbrev pub line_status : LineFault → ℕ

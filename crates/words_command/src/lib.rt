@@ -1,11 +1,13 @@
 //! The orders of the command line of `zonewords`, and what a run of one reads, writes and answers.
 #![tactic(auto)]
 
+mod carry_out;
 mod command;
 mod failure;
+mod filter;
+mod filtering;
 mod order;
 mod program;
-mod rewrite;
 mod status;
 
 pub use order::{LineFault, Order, order_after_name, order_of};

@@ -1,14 +1,12 @@
-ghost use Rattle.std.specs.Prelude.{◌≡◌, drop, map, IfOk, IfErr, IsErr, IsNone, IfSome, string_bytes};
-ghost use Rattle.clap.specs.Words.{subcommand_rows_of, kind_of};
-ghost use Rattle.clap.specs.declared.error.kind.ErrorKind.TheVariants.{OutOfMemory};
+ghost use Rattle.std.specs.Prelude.{◌≡◌, drop, map, IfOk, IfErr, string_bytes};
 ghost use Rattle.zone_name.specs.Common.{NothingIs};
-ghost use Rattle.words_command.specs.Machine.Calling.{texts_of, IsOfCall, IsOfClap, Tells};
-ghost use Rattle.words_command.specs.Order.{Asks, Finds, IsOriginText, Orders, IsLineFault, line_status, line_text};
+ghost use Rattle.words_command.specs.Machine.Calling.{texts_of, IsOfCall};
+ghost use Rattle.words_command.specs.Order.{Asks, IsOriginText, Orders, IsLineFault, line_status, line_text};
 
-use crate::command::program;
+use crate::command::PROGRAM;
 use crate::status;
-use clap::error::ErrorKind;
-use clap::{ArgMatches, Error};
+use clap::ArgMatches;
+use command_line::{FromMatches, NoCall, Program, after_name, call_of};
 use std::alloc::{AllocError, Global};
 use zone_engine::OUT_OF_MEMORY;
 use zone_name::CasedName;
@@ -19,6 +17,9 @@ pub enum Order {
     /// Write the master file on standard input again, under this origin, with the data of further
     /// types in the generic form (RFC 3597 5).
     Generic(CasedName),
+    /// Write the text on standard input again, line by line, the data of further types in words in
+    /// place of the generic form.
+    Words,
 }
 
 /// Why a command line is no order.
@@ -39,6 +40,19 @@ impl From<AllocError> for LineFault {
 
     fn from(_error: AllocError) -> LineFault {
         LineFault::Memory
+    }
+}
+
+impl From<NoCall> for LineFault {
+    ghost use Rattle.words_command.specs.Order.{told_fault};
+
+    ghost from_gives = { λ no_call fault. fault ≡ told_fault no_call };
+
+    fn from(no_call: NoCall) -> LineFault {
+        match no_call {
+            NoCall::Told(text) => LineFault::Clap(text),
+            NoCall::Memory => LineFault::Memory,
+        }
     }
 }
 
@@ -75,14 +89,7 @@ pub fn order_of(alloc: Global, words: &[String]) -> Result<Order, LineFault>
     ensures ordered { IfOk result (Orders (map string_bytes words.now)) }
     ensures refused { IfErr result (IsLineFault (map string_bytes words.now)) }
 {
-    let matches = match program(alloc)?.try_get_matches_from(words) {
-        Ok(matches) => matches,
-        Err(error) => return Err(refusal(alloc, &error)),
-    };
-    match call_of(&matches) {
-        Some(call) => call.order(),
-        None => Err(without_command(alloc)),
-    }
+    call_of::<Call>(alloc, words)?.order()
 }
 
 /// The order of the program's words, of which the first is its name.
@@ -94,16 +101,38 @@ pub fn order_after_name(alloc: Global, words: &[String]) -> Result<Order, LineFa
     ensures ordered { IfOk result (Orders (drop 1 (map string_bytes words.now))) }
     ensures refused { IfErr result (IsLineFault (drop 1 (map string_bytes words.now))) }
 {
-    match words {
-        [_, words @ ..] => order_of(alloc, words),
-        [] => order_of(alloc, &[]),
-    }
+    order_of(alloc, after_name(words))
 }
 
 /// A command with the texts of its arguments.
 #[derive(Clone, Copy)]
 enum Call<'w> {
     Generic(&'w str),
+    Words,
+}
+
+impl<'w> FromMatches<'w> for Call<'w> {
+    ghost use Rattle.command_line.specs.Program.{app_described};
+    ghost use Rattle.words_command.specs.Order.{commands};
+
+    ghost commands = { commands };
+
+    ghost stated = { texts_of };
+
+    fn program() -> &'static Program
+        ensures { app_described result.now ≡ commands.app }
+    {
+        &PROGRAM
+    }
+
+    fn from_matches(matches: &ArgMatches<'w>) -> Option<Call<'w>> {
+        let (command, found) = matches.subcommand()?;
+        match command {
+            "generic" => Some(Call::Generic(found.get_str("ORIGIN")?)),
+            "words" => Some(Call::Words),
+            _ => None,
+        }
+    }
 }
 
 impl Call<'_> {
@@ -118,6 +147,7 @@ impl Call<'_> {
     {
         match self {
             Call::Generic(origin) => Ok(Order::Generic(origin_of(origin)?)),
+            Call::Words => Ok(Order::Words),
         }
     }
 }
@@ -135,55 +165,5 @@ fn origin_of(text: &str) -> Result<CasedName, LineFault>
     match CasedName::from_text(text.as_bytes(), None) {
         Ok(origin) => Ok(origin),
         Err(_) => Err(LineFault::BadOrigin),
-    }
-}
-
-/// The command that was matched, with the texts of its arguments.
-fn call_of<'w>(matches: &ArgMatches<'w>) -> Option<Call<'w>>
-    ensures found { IfSome result (λ call. Finds (subcommand_rows_of matches.now) (texts_of call)) }
-    ensures none { IsNone result → NothingIs (Finds (subcommand_rows_of matches.now)) }
-{
-    let (command, found) = matches.subcommand()?;
-    match command {
-        "generic" => Some(Call::Generic(found.get_str("ORIGIN")?)),
-        _ => None,
-    }
-}
-
-/// What `clap` tells in place of matches.
-fn refusal(alloc: Global, error: &Error) -> LineFault
-    ensures kind { IsOfClap result }
-    ensures memory { kind_of error.now ≡ OutOfMemory → result ≡ LineFault.Memory }
-{
-    match error.kind() {
-        ErrorKind::OutOfMemory => LineFault::Memory,
-        _ => told(error.to_string(alloc)),
-    }
-}
-
-/// The program's help, for words that name no command.
-fn without_command(alloc: Global) -> LineFault
-    ensures { IsOfClap result }
-{
-    match program(alloc) {
-        Ok(mut program) => told(program.render_help()),
-        Err(_) => LineFault::Memory,
-    }
-}
-
-/// The text without the line feed at its end.
-fn told(text: Result<String, AllocError>) -> LineFault
-    ensures kind { IsOfClap result }
-    ensures told { IfOk text (λ text. Tells (string_bytes text) result) }
-    ensures memory { result ≡ LineFault.Memory → IsErr text }
-{
-    match text {
-        Ok(mut text) => {
-            if text.as_str().ends_with('\n') {
-                text.pop();
-            }
-            LineFault::Clap(text)
-        }
-        Err(_) => LineFault::Memory,
     }
 }

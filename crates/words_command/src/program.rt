@@ -4,9 +4,9 @@ ghost use Rattle.words_command.specs.Order.{line_status, line_text};
 ghost use Rattle.words_command.specs.Run.{devices, failure_line, Runs, TellsRefused};
 ghost use Rattle.words_command.specs.Telling.{others_words, refusals_line};
 
+use crate::carry_out::carry_out;
 use crate::failure::Failure;
 use crate::order::{LineFault, Order};
-use crate::rewrite::rewrite;
 use crate::status;
 use std::alloc::{AllocError, Global};
 use zone_engine::{OUT_OF_MEMORY, OctetReader, tell};
@@ -14,17 +14,18 @@ use zone_print::OctetWriter;
 use zone_words::{Refusal, Refusals};
 
 /// The whole program over a reader, a writer and an error writer. It answers the exit status: 0
-/// where the rewriting of the whole file was written; 3 where it was, and some entry of a further
-/// type states no data, of which a line on the error writer tells; 4 where reading, writing or memory
-/// failed, with a line that tells which. Where a line can't be told the status is 4: a proper prefix
-/// of it was written, or, where memory was refused for it, the line `out of memory`. With 0 the
-/// error writer got nothing.
+/// where the rewriting of the whole file, or all of the text in words, was written; 3 where the
+/// rewriting was, and some entry of a further type states no data, of which a line on the error
+/// writer tells; 4 where reading, writing or memory failed, with a line that tells which. Where a
+/// line can't be told the status is 4: a proper prefix of it was written, or, where memory was
+/// refused for it, the line `out of memory`. With 0 the error writer got nothing.
 ///
-/// Where reading failed, or memory was refused before the rewriting was written, the writer got what
-/// is written for the whole entries before and a last line `$STOPPED`, or a proper prefix of that;
-/// the line is still that of the first failure. Where writing failed it got a proper prefix of what
-/// was being written, and nothing more. A reader that gives more than 2^63 octets is taken for one
-/// that failed. No writer is flushed, and a reader or a writer that failed isn't called again.
+/// Where reading failed, or memory was refused before all was written, the writer got what is
+/// written for the whole entries before and a last line `$STOPPED`, or a proper prefix of that; of
+/// a text in words what is shown for the whole lines before, or a proper prefix of that. The line
+/// is still that of the first failure. Where writing failed it got a proper prefix of what was
+/// being written, and nothing more. A reader that gives more than 2^63 octets is taken for one that
+/// failed. No writer is flushed, and a reader or a writer that failed isn't called again.
 pub fn run<R: OctetReader, W: OctetWriter, E: OctetWriter>(
     alloc: Global,
     order: &Order,
@@ -36,8 +37,7 @@ pub fn run<R: OctetReader, W: OctetWriter, E: OctetWriter>(
         (devices (R.state input.old) (W.state output.old) (E.state errors.old))
         (devices (R.state input.new) (W.state output.new) (E.state errors.new)) result }
 {
-    let Order::Generic(origin) = order;
-    match rewrite(alloc, origin, input, output) {
+    match carry_out(alloc, order, input, output) {
         Ok(refusals) => tell_refusals(alloc, &refusals, errors),
         Err(failure) => tell(errors, "", failure.text(), status::FAILED),
     }

@@ -1,7 +1,9 @@
 -- What a command line asks for (this project's own).
-use Rattle.std.specs.Prelude.{◌≡◌, ℕ, true, List, [], ◌∷◌, codes, string_bytes, Option, Some, None, ◌⊎◌}
-use Rattle.std.specs.List.{AllByRecursion}
-use Rattle.clap.specs.Words.{App, Row, Rule, Text, new_rule, new_app, with_rule, with_subcommand, subcommand_of, first_of, fault_of}
+use Rattle.std.specs.Prelude.{◌≡◌, ℕ, List, [], ◌∷◌, codes, string_bytes, Option, Some, None, ◌⊎◌, refl}
+use Rattle.clap.specs.Words.{App, Text}
+use Rattle.command_line.specs.Calls.{Calls, Commands, command_app, program_of}
+use Rattle.command_line.specs.declared.no_call.NoCall.{NoCall}
+use Rattle.command_line.specs.declared.no_call.NoCall.TheVariants as no_calls
 use Rattle.zone_name.specs.Common.{NothingIs, Labels}
 use Rattle.zone_name.specs.Spelling.{Spells}
 use Rattle.zone_rdata.specs.declared.fault.Stop.TheVariants.{Memory}
@@ -12,34 +14,14 @@ use Rattle.zone_command.specs.declared.order.Order.TheVariants.{Normalise, Expla
 use Rattle.zone_command.specs.declared.order.LineFault.{LineFault}
 use Rattle.zone_command.specs.declared.order.LineFault.TheVariants as line_faults
 
--- an argument of a command: one required word at its position
-abbrev pub argument : Text → Rule
-argument id = record (new_rule id) { required = true }
-
--- the commands, with their arguments in order
-abbrev pub normalise_app : App
-normalise_app = with_rule (new_app (codes "normalise")) (argument (codes "ORIGIN"))
-
-abbrev pub explain_app : App
-explain_app = with_rule (new_app (codes "explain")) (argument (codes "ORIGIN"))
-
-abbrev pub compare_app : App
-compare_app =
-    with_rule
-    (with_rule
-    (with_rule (with_rule (new_app (codes "compare")) (argument (codes "ORIGIN1")))
-    (argument (codes "PATH1"))) (argument (codes "ORIGIN2"))) (argument (codes "PATH2"))
-
--- the program without its name, as `clap` sees it; it has a version to tell
-abbrev pub bare_app : App
-bare_app = let app = new_app (codes "zonenorm") in
-    record app { top = record app.top { no_binary_name = true; has_version = true } }
-
--- the program with its commands
+-- the program with its commands and their arguments, as `clap` sees it
 abbrev pub program_app : App
 program_app =
-    with_subcommand
-    (with_subcommand (with_subcommand bare_app normalise_app.top) explain_app.top) compare_app.top
+    program_of (codes "zonenorm")
+    (command_app (codes "normalise") (codes "ORIGIN" ∷ [])
+    ∷ command_app (codes "explain") (codes "ORIGIN" ∷ [])
+    ∷ command_app (codes "compare") (codes "ORIGIN1" ∷ codes "PATH1" ∷ codes "ORIGIN2" ∷ codes "PATH2" ∷ [])
+    ∷ [])
 
 -- a command with the texts of its arguments, in their order
 pub data Call : Type 0 where
@@ -61,17 +43,15 @@ arguments_of (compare origin path origin' path') =
     (codes "ORIGIN1", origin) ∷ (codes "PATH1", path) ∷ (codes "ORIGIN2", origin') ∷
     (codes "PATH2", path') ∷ []
 
--- the subcommand that was found is this one, with these texts
-pub record Finds (found : Option (Text × List Row)) (call : Call) : Type 0 where
-  pub rows : List Row
-  pub entered : found ≡ Some (command_of call, rows)
-  pub texts : AllByRecursion
-      (λ (argument : Text × Text). first_of argument.0 rows ≡ Some argument.1) (arguments_of call)
-
--- `clap` finds no fault in the words, and states this subcommand with these texts for its arguments
-pub record Calls (words : List Text) (call : Call) : Type 0 where
-  pub faultless : fault_of program_app words ≡ []
-  pub finds : Finds (subcommand_of program_app words) call
+-- the program's commands, and what can be called by them
+abbrev pub commands : Commands
+commands = record {
+  app = program_app;
+  Call = Call;
+  command_of = command_of;
+  arguments_of = arguments_of;
+  simple = refl;
+}
 
 -- what a text given as an origin asks for: the word `transfer` for a transfer, any other
 -- text for a master file under the origin that it spells as an absolute name
@@ -101,14 +81,19 @@ HasBadOrigin (compare origin path origin' path') =
 
 -- The words give the order: by `clap` they are a command with the texts that ask for it.
 abbrev pub Orders : List Text → Order → Type 0
-Orders words order = (call : Call) × Calls words call × Asks call order
+Orders words order = (call : Call) × Calls commands words call × Asks call order
 
 -- Why the words give no order: the text of an origin is bad, or by `clap` they are no command with
 -- all its arguments.
 abbrev pub IsLineFault : List Text → LineFault → Type 0
-IsLineFault words line_faults.BadOrigin = (call : Call) × Calls words call × HasBadOrigin call
-IsLineFault words (line_faults.Clap told) = NothingIs (Calls words)
+IsLineFault words line_faults.BadOrigin = (call : Call) × Calls commands words call × HasBadOrigin call
+IsLineFault words (line_faults.Clap told) = NothingIs (Calls commands words)
 IsLineFault words line_faults.Memory = Unit {0}
+
+-- what is told of words that call nothing
+abbrev pub told_fault : NoCall → LineFault
+told_fault (no_calls.Told text) = line_faults.Clap text
+told_fault no_calls.Memory = line_faults.Memory
 
 -- the exit status of a command line that gives no order
 abbrev pub line_status : LineFault → ℕ

@@ -1,16 +1,62 @@
-//! The program and its commands, as `clap` reads and explains them.
-ghost use Rattle.std.specs.Prelude.{◌≡◌, IfOk};
-ghost use Rattle.clap.specs.Words.{app_of};
-ghost use Rattle.zone_command.specs.Machine.Calling.{IsAddedAs};
-ghost use Rattle.zone_command.specs.Order.{compare_app, explain_app, normalise_app, program_app};
+//! The program as a table: its commands, and the texts of its help.
 
-use clap::{Arg, Command};
-use std::alloc::{AllocError, Global};
+use command_line::{Argument, Program, ProgramCommand, version};
 
-const ABOUT: &str = "Normalises DNS zone data: equal zones give equal bytes";
+/// The program and its commands.
+pub(crate) static PROGRAM: Program = Program {
+    name: "zonenorm",
+    version: VERSION,
+    about: "Normalises DNS zone data: equal zones give equal bytes",
+    usage: USAGE,
+    notes: NOTES,
+    commands: &[
+        ProgramCommand {
+            word: "normalise",
+            about: "Writes the canonical text of the zone on standard input",
+            usage: "zonenorm normalise <ORIGIN> < FILE",
+            arguments: &[Argument {
+                id: "ORIGIN",
+                help: ORIGIN,
+            }],
+        },
+        ProgramCommand {
+            word: "explain",
+            about: "Tells how many records the zone on standard input has, or why it is refused",
+            usage: "zonenorm explain <ORIGIN> < FILE",
+            arguments: &[Argument {
+                id: "ORIGIN",
+                help: ORIGIN,
+            }],
+        },
+        ProgramCommand {
+            word: "compare",
+            about: "Tells whether two files hold one zone, or the first line of canonical text that differs",
+            usage: "zonenorm compare <ORIGIN1> <PATH1> <ORIGIN2> <PATH2>",
+            arguments: &[
+                Argument {
+                    id: "ORIGIN1",
+                    help: ORIGIN,
+                },
+                Argument {
+                    id: "PATH1",
+                    help: PATH,
+                },
+                Argument {
+                    id: "ORIGIN2",
+                    help: ORIGIN,
+                },
+                Argument {
+                    id: "PATH2",
+                    help: PATH,
+                },
+            ],
+        },
+    ],
+};
 
-/// The program's version and that of the canonical text, which a change of any zone's text raises.
-const VERSION: &str = "0.1.0, canonical text 1";
+/// The version of the programs and that of the canonical text, which a change of any zone's text
+/// raises.
+const VERSION: &str = version!(", canonical text 1");
 
 const USAGE: &str = "\
 zonenorm normalise <ORIGIN> < FILE
@@ -28,63 +74,3 @@ is refused, and a line tells why and where; 4 reading, writing or memory failed.
 const ORIGIN: &str = "The file's origin, an absolute name, or the word transfer";
 
 const PATH: &str = "The file that holds the input";
-
-/// The program and its commands. It is handed the words after its name.
-pub(crate) fn program<'a>(alloc: Global) -> Result<Command<'a>, AllocError>
-    ensures { IfOk result (λ command. app_of command ≡ program_app) }
-{
-    let bare = Command::new(alloc, "zonenorm")
-        .no_binary_name(true)
-        .version(VERSION)
-        .about(ABOUT)
-        .override_usage(USAGE)
-        .after_help(NOTES);
-    let with_normalise = bare.subcommand(normalise(alloc)?)?;
-    let with_explain = with_normalise.subcommand(explain(alloc)?)?;
-    let program = with_explain.subcommand(compare(alloc)?)?;
-    Ok(program)
-}
-
-fn normalise<'a>(alloc: Global) -> Result<Command<'a>, AllocError>
-    ensures { IfOk result (IsAddedAs normalise_app) }
-{
-    let origin = Arg::new(alloc, "ORIGIN").required(true).help(ORIGIN);
-    let command = Command::new(alloc, "normalise")
-        .about("Writes the canonical text of the zone on standard input")
-        .override_usage("zonenorm normalise <ORIGIN> < FILE")
-        .after_help(NOTES)
-        .arg(origin)?;
-    Ok(command)
-}
-
-fn explain<'a>(alloc: Global) -> Result<Command<'a>, AllocError>
-    ensures { IfOk result (IsAddedAs explain_app) }
-{
-    let origin = Arg::new(alloc, "ORIGIN").required(true).help(ORIGIN);
-    let command = Command::new(alloc, "explain")
-        .about("Tells how many records the zone on standard input has, or why it is refused")
-        .override_usage("zonenorm explain <ORIGIN> < FILE")
-        .after_help(NOTES)
-        .arg(origin)?;
-    Ok(command)
-}
-
-fn compare<'a>(alloc: Global) -> Result<Command<'a>, AllocError>
-    ensures { IfOk result (IsAddedAs compare_app) }
-{
-    let origin1 = Arg::new(alloc, "ORIGIN1").required(true).help(ORIGIN);
-    let path1 = Arg::new(alloc, "PATH1").required(true).help(PATH);
-    let origin2 = Arg::new(alloc, "ORIGIN2").required(true).help(ORIGIN);
-    let path2 = Arg::new(alloc, "PATH2").required(true).help(PATH);
-    let bare = Command::new(alloc, "compare")
-        .about(
-            "Tells whether two files hold one zone, or the first line of canonical text that differs",
-        )
-        .override_usage("zonenorm compare <ORIGIN1> <PATH1> <ORIGIN2> <PATH2>")
-        .after_help(NOTES);
-    let with_origin1 = bare.arg(origin1)?;
-    let with_path1 = with_origin1.arg(path1)?;
-    let with_origin2 = with_path1.arg(origin2)?;
-    let command = with_origin2.arg(path2)?;
-    Ok(command)
-}

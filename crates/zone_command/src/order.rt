@@ -1,14 +1,12 @@
-ghost use Rattle.std.specs.Prelude.{◌≡◌, drop, map, IfOk, IfErr, IsErr, IsNone, IfSome, string_bytes};
-ghost use Rattle.clap.specs.Words.{subcommand_rows_of, kind_of};
-ghost use Rattle.clap.specs.declared.error.kind.ErrorKind.TheVariants.{OutOfMemory};
+ghost use Rattle.std.specs.Prelude.{◌≡◌, drop, map, IfOk, IfErr, string_bytes};
 ghost use Rattle.zone_name.specs.Common.{NothingIs};
-ghost use Rattle.zone_command.specs.Machine.Calling.{texts_of, IsOfCall, IsOfClap, Tells};
-ghost use Rattle.zone_command.specs.Order.{Asks, Finds, IsOriginText, IsSource, Orders, IsLineFault, line_status, line_text};
+ghost use Rattle.zone_command.specs.Machine.Calling.{texts_of, IsOfCall};
+ghost use Rattle.zone_command.specs.Order.{Asks, IsOriginText, IsSource, Orders, IsLineFault, line_status, line_text};
 
-use crate::command::program;
+use crate::command::PROGRAM;
 use crate::status;
-use clap::error::ErrorKind;
-use clap::{ArgMatches, Error};
+use clap::ArgMatches;
+use command_line::{FromMatches, NoCall, Program, after_name, call_of};
 use std::alloc::{AllocError, Global};
 use zone_engine::OUT_OF_MEMORY;
 use zone_name::Name;
@@ -57,6 +55,19 @@ impl From<AllocError> for LineFault {
     }
 }
 
+impl From<NoCall> for LineFault {
+    ghost use Rattle.zone_command.specs.Order.{told_fault};
+
+    ghost from_gives = { λ no_call fault. fault ≡ told_fault no_call };
+
+    fn from(no_call: NoCall) -> LineFault {
+        match no_call {
+            NoCall::Told(text) => LineFault::Clap(text),
+            NoCall::Memory => LineFault::Memory,
+        }
+    }
+}
+
 impl LineFault {
     /// The text for the user, without a line feed at its end.
     pub fn text(&self) -> &str
@@ -92,14 +103,7 @@ pub fn order_of(alloc: Global, words: &[String]) -> Result<Order, LineFault>
     ensures ordered { IfOk result (Orders (map string_bytes words.now)) }
     ensures refused { IfErr result (IsLineFault (map string_bytes words.now)) }
 {
-    let matches = match program(alloc)?.try_get_matches_from(words) {
-        Ok(matches) => matches,
-        Err(error) => return Err(refusal(alloc, &error)),
-    };
-    match call_of(&matches) {
-        Some(call) => call.order(alloc),
-        None => Err(without_command(alloc)),
-    }
+    call_of::<Call>(alloc, words)?.order(alloc)
 }
 
 /// The order of the program's words, of which the first is its name.
@@ -111,10 +115,7 @@ pub fn order_after_name(alloc: Global, words: &[String]) -> Result<Order, LineFa
     ensures ordered { IfOk result (Orders (drop 1 (map string_bytes words.now))) }
     ensures refused { IfErr result (IsLineFault (drop 1 (map string_bytes words.now))) }
 {
-    match words {
-        [_, words @ ..] => order_of(alloc, words),
-        [] => order_of(alloc, &[]),
-    }
+    order_of(alloc, after_name(words))
 }
 
 /// A command with the texts of its arguments.
@@ -130,6 +131,41 @@ enum Call<'w> {
 struct SourceText<'w> {
     origin: &'w str,
     path: &'w str,
+}
+
+impl<'w> FromMatches<'w> for Call<'w> {
+    ghost use Rattle.command_line.specs.Program.{app_described};
+    ghost use Rattle.zone_command.specs.Order.{commands};
+
+    ghost commands = { commands };
+
+    ghost stated = { texts_of };
+
+    fn program() -> &'static Program
+        ensures { app_described result.now ≡ commands.app }
+    {
+        &PROGRAM
+    }
+
+    fn from_matches(matches: &ArgMatches<'w>) -> Option<Call<'w>> {
+        let (command, found) = matches.subcommand()?;
+        match command {
+            "normalise" => Some(Call::Normalise(found.get_str("ORIGIN")?)),
+            "explain" => Some(Call::Explain(found.get_str("ORIGIN")?)),
+            "compare" => {
+                let first = SourceText {
+                    origin: found.get_str("ORIGIN1")?,
+                    path: found.get_str("PATH1")?,
+                };
+                let second = SourceText {
+                    origin: found.get_str("ORIGIN2")?,
+                    path: found.get_str("PATH2")?,
+                };
+                Some(Call::Compare(first, second))
+            }
+            _ => None,
+        }
+    }
 }
 
 impl Call<'_> {
@@ -177,67 +213,5 @@ fn origin_of(text: &str) -> Result<Option<Name>, LineFault>
     match Name::from_text(text.as_bytes(), None) {
         Ok(origin) => Ok(Some(origin)),
         Err(_) => Err(LineFault::BadOrigin),
-    }
-}
-
-/// The command that was matched, with the texts of its arguments.
-fn call_of<'w>(matches: &ArgMatches<'w>) -> Option<Call<'w>>
-    ensures found { IfSome result (λ call. Finds (subcommand_rows_of matches.now) (texts_of call)) }
-    ensures none { IsNone result → NothingIs (Finds (subcommand_rows_of matches.now)) }
-{
-    let (command, found) = matches.subcommand()?;
-    match command {
-        "normalise" => Some(Call::Normalise(found.get_str("ORIGIN")?)),
-        "explain" => Some(Call::Explain(found.get_str("ORIGIN")?)),
-        "compare" => {
-            let first = SourceText {
-                origin: found.get_str("ORIGIN1")?,
-                path: found.get_str("PATH1")?,
-            };
-            let second = SourceText {
-                origin: found.get_str("ORIGIN2")?,
-                path: found.get_str("PATH2")?,
-            };
-            Some(Call::Compare(first, second))
-        }
-        _ => None,
-    }
-}
-
-/// What `clap` tells in place of matches.
-fn refusal(alloc: Global, error: &Error) -> LineFault
-    ensures kind { IsOfClap result }
-    ensures memory { kind_of error.now ≡ OutOfMemory → result ≡ LineFault.Memory }
-{
-    match error.kind() {
-        ErrorKind::OutOfMemory => LineFault::Memory,
-        _ => told(error.to_string(alloc)),
-    }
-}
-
-/// The program's help, for words that name no command.
-fn without_command(alloc: Global) -> LineFault
-    ensures { IsOfClap result }
-{
-    match program(alloc) {
-        Ok(mut program) => told(program.render_help()),
-        Err(_) => LineFault::Memory,
-    }
-}
-
-/// The text without the line feed at its end.
-fn told(text: Result<String, AllocError>) -> LineFault
-    ensures kind { IsOfClap result }
-    ensures told { IfOk text (λ text. Tells (string_bytes text) result) }
-    ensures memory { result ≡ LineFault.Memory → IsErr text }
-{
-    match text {
-        Ok(mut text) => {
-            if text.as_str().ends_with('\n') {
-                text.pop();
-            }
-            LineFault::Clap(text)
-        }
-        Err(_) => LineFault::Memory,
     }
 }

@@ -144,8 +144,8 @@ fn report<E: OctetWriter>(alloc: Global, words: &str, stop: &Stop, errors: &mut 
     }
 }
 
-/// Tells the line of a refusal after these words, or that memory was refused for it, and answers the
-/// status.
+/// Tells the line of a refusal after these words, or that memory was refused for it, and answers
+/// the status.
 fn tell_refusal<E: OctetWriter>(words: &str, line: Result<String, AllocError>, errors: &mut E) -> u8
     ensures told { IfOk line (λ line. TellsLine (words.now ++ string_bytes line) 3
         (E.state errors.old) (E.state errors.new) result) }

@@ -2,7 +2,7 @@
 use Rattle.zone_engine.proofs.Common.{◌≡◌, ℕ, ◌<◌, ◌≤◌, ◌-◌, ◌^◌, List, length, min, refl, Vec, Global, Option, None, Some, IfSome, Result, IfOk, OnOk, Appends, Octets, ZoneTooLarge, Whole, Stop, Placed, Zone, canon, text_limit, StopsPush, StopsWrite, Input, IsInput, InputDenotes, InputDenotesWithin, InputReads, InputStates, ReadsZoneWithin, IsOfBytes, Normalises, NormalisesTo, StopsNormalise, WorksOn, WritesNothing, WritesPrefix, IfRefused, IsRefusal, IsRefusalWithin, reading, too_large, Device, IsOfReading, Keeps-refl, ReadsToEnd, StopsReading, TellsRead, inl, IfSome_then, arith}
 use Rattle.zone_print.specs.Writing.{TellsWrite}
 use Rattle.zone_rdata.specs.declared.fault.Stop.TheVariants.{Refused, Read, Write, Memory}
-use Rattle.zone_engine.proofs.Readers.{if_refused}
+use Rattle.zone_engine.proofs.Reading.Readers.{if_refused}
 
 abbrev ReadIsStated : Type 0
 ReadIsStated = (input : Input) (placed : List Placed) → IsInput input → InputReads input placed None → InputStates input placed

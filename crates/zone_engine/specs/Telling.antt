@@ -1,5 +1,5 @@
--- The lines that tell people what was found and why a call stopped, and what is written of them (this project's own).
--- `docs/FAULTS.md` lists the faults.
+-- The lines that tell people what was found and why a call stopped, and what is written of them
+-- (this project's own). `docs/FAULTS.md` lists the faults.
 use Rattle.std.specs.Prelude.{ℕ, List, [], ◌∷◌, ◌++◌, codes, decimal}
 use Rattle.std.specs.Io.KnownBytes.{Appends}
 use Rattle.zone_name.specs.Text.{name_text}

@@ -37,8 +37,9 @@ pub enum Which {
 ///
 /// # Errors
 ///
-/// The first input that stops it, and by what: `Refused` where its octets denote no zone, `Read` where its reader failed,
-/// which isn't called again, and `Memory`. Where that is the first input, the second isn't read.
+/// The first input that stops it, and by what: `Refused` where its octets denote no zone, `Read`
+/// where its reader failed, which isn't called again, and `Memory`. Where that is the first input,
+/// the second isn't read.
 pub fn compare<R: OctetReader, S: OctetReader>(
     alloc: Global,
     first_form: Form<'_>,

@@ -26,10 +26,11 @@ use zone_wire::TransferSource;
 ///
 /// # Errors
 ///
-/// `Refused` where they denote none: `InputTooLong` where there are more than [`TEXT_LIMIT`]; else the first fault of
-/// their records in order, of reading or of `ZoneBuilder::add`; else `NoSoa`, `OutOfZone` or `ZoneTooLarge`. `Read` where
-/// the reader failed, an interruption too, and `Write` where the writer did: neither is called again. `Memory`. A refused
-/// input writes nothing, and after the last two a proper prefix of the text was written.
+/// `Refused` where they denote none: `InputTooLong` where there are more than [`TEXT_LIMIT`]; else
+/// the first fault of their records in order, of reading or of `ZoneBuilder::add`; else `NoSoa`,
+/// `OutOfZone` or `ZoneTooLarge`. `Read` where the reader failed, an interruption too, and `Write`
+/// where the writer did: neither is called again. `Memory`. A refused input writes nothing, and
+/// after the last two a proper prefix of the text was written.
 pub fn normalise<R: OctetReader, W: OctetWriter>(
     alloc: Global,
     form: Form<'_>,
@@ -55,8 +56,8 @@ pub fn normalise<R: OctetReader, W: OctetWriter>(
 ///
 /// # Errors
 ///
-/// `Refused` where they denote none, as `normalise` refuses them; `Read` where the reader failed, which isn't called again;
-/// `Memory`.
+/// `Refused` where they denote none, as `normalise` refuses them; `Read` where the reader failed,
+/// which isn't called again; `Memory`.
 pub fn accepted_zone<R: OctetReader>(
     alloc: Global,
     form: Form<'_>,
@@ -72,8 +73,8 @@ pub fn accepted_zone<R: OctetReader>(
     accepted_zone_within(alloc, form, reader, TEXT_LIMIT)
 }
 
-/// The zone that the reader's octets denote, where they are no more than a limit of the caller's. The reader is read to its
-/// end, or to the octet after the limit.
+/// The zone that the reader's octets denote, where they are no more than a limit of the caller's.
+/// The reader is read to its end, or to the octet after the limit.
 ///
 /// # Errors
 ///

@@ -39,8 +39,8 @@ pub const OUT_OF_MEMORY: &str = "out of memory";
 ///
 /// # Errors
 ///
-/// `Read` where the reader failed and `Memory`, which write nothing, and `Write` where the writer failed and a proper
-/// prefix of the line was written. Neither is called again.
+/// `Read` where the reader failed and `Memory`, which write nothing, and `Write` where the writer
+/// failed and a proper prefix of the line was written. Neither is called again.
 pub fn explain<R: OctetReader, W: OctetWriter>(
     alloc: Global,
     form: Form<'_>,

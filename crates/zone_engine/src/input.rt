@@ -9,8 +9,8 @@ use std::alloc::Global;
 use zone_rdata::{Fault, Place, Stop};
 use zone_set::Zone;
 
-/// The zone of what the reader gives up to its end, which is read into `piece` and fed to a source. After a
-/// fault it reads on, since an input that is too long is refused for that.
+/// The zone of what the reader gives up to its end, which is read into `piece` and fed to a source.
+/// After a fault it reads on, since an input that is too long is refused for that.
 ///
 /// # Errors
 ///

@@ -1,5 +1,5 @@
-//! Zones of master files and of captured zone transfers: one canonical text of each, the comparison of two, the line of
-//! a refusal, and the laws of all.
+//! Zones of master files and of captured zone transfers: one canonical text of each, the comparison
+//! of two, the line of a refusal, and the laws of all.
 #![tactic(auto)]
 
 mod comparison;

@@ -1,13 +1,11 @@
 -- What is printed outside quotes is written octets, of which few stand by themselves.
 use Rattle.std.proofs.lemmas.Grind.{common_steps}
-use Rattle.zone_name.proofs.Common.{◌≡◌, ℕ, ◌<◌, ◌==◌, ◌||◌, ◌&&◌, not, Bool, true, List, [], ◌∷◌, ◌++◌, length, refl, sym, ap, arith, append_assoc, flat_map, AllByRecursion, both_ways, append-nil, length-map, IsFoldedOctet, IsLabel, IsName, Written, plain, text_of, IsUnit, written_text, is_special, is_printed, octet_text, label_text, name_text, rules}
+use Rattle.zone_name.proofs.Common.{◌≡◌, ℕ, ◌<◌, not, Bool, true, List, [], ◌∷◌, ◌++◌, length, refl, sym, ap, arith, append_assoc, flat_map, AllByRecursion, both_ways, append-nil, length-map, IsFoldedOctet, IsLabel, IsName, Written, plain, text_of, IsUnit, written_text, is_special, is_printed, octet_text, label_text, name_text, rules}
 use Rattle.std.proofs.Common.{map}
 use Rattle.zone_name.proofs.Lawful.{written_by, printed_text}
+pub use Rattle.zone_name.specs.Machine.Shown.{is_bare}
 
--- an octet that stands by itself outside quotes: a dot, or one from `!` to `~` that is not special
-abbrev pub is_bare : ℕ → Bool
-is_bare c = c == 46 || (not (is_special c) && is_printed c)
-
+-- an octet that doesn't stand by itself outside quotes
 abbrev pub not_bare : ℕ → Bool
 not_bare c = not (is_bare c)
 

@@ -1,5 +1,7 @@
 -- Names whose letters are folded or kept when they are read.
-use Rattle.zone_name.proofs.Common.{◌≡◌, ℕ, ◌+◌, ◌<◌, ◌≤◌, true, false, Option, Some, None, Result, IfOk, IfErr, IfSome, Ok, Err, List, [], ◌∷◌, ◌++◌, length, map, flat_map, refl, sym, ap, ◌∙◌, arith, append_assoc, append-nil, length-append, flat_map-append, AllByRecursion, IsCasedLabel, IsCasedName, IsLabel, IsName, folded, folded_octet, with_length, wire, labels_of, Collects, under_origin, sized, HoldsCasedLabels, HoldsLabelsBy, HoldsNameBy, IsNameBy, lettered, origin_in, NameFault}
+use Rattle.zone_name.proofs.Common.{◌≡◌, ℕ, ◌+◌, ◌<◌, ◌≤◌, Bool, true, false, false≢true, Option, Some, None, Result, IfOk, IfErr, IfSome, Ok, Err, List, [], ◌∷◌, ◌++◌, length, map, flat_map, refl, sym, ap, ◌∙◌, arith, append_assoc, append-nil, length-append, flat_map-append, AllByRecursion, IsCasedLabel, IsCasedName, IsLabel, IsName, folded, folded_octet, with_length, wire, labels_of, Collects, under_origin, sized, HoldsCasedLabels, HoldsLabelsBy, HoldsNameBy, IsNameBy, lettered, lettered_in, name_read, origin_in, NameFault}
+use Rattle.zone_name.specs.Machine.Letters.{IsReadBy}
+use Rattle.zone_name.specs.Machine.Seen.{IsReadInto}
 use Rattle.zone_name.specs.declared.fault.NameFault.TheVariants.{NameTooLong}
 use Rattle.zone_name.specs.declared.reading.Letters.{Letters}
 use Rattle.zone_name.specs.declared.reading.Letters.TheVariants.{Kept, Folded}
@@ -47,9 +49,9 @@ joined Kept octets others new holds name e room = joined_cased (labels_of octets
 joined_long : (octets others : List ℕ) (left right : List (List ℕ)) → flat_map with_length left ≡ octets → others ≡ wire right → 255 < length octets + length others → sized (left ++ right) ≡ Err NameTooLong
 joined_long octets others left right whole text over = sized-long (left ++ right) (omega (arith, over, length-append octets others, ap length (sym (joined_shape octets others (octets ++ others) left right whole text refl))))
 
-pub joined-long : (letters : Letters) (octets others : List ℕ) → HoldsLabelsBy letters octets → HoldsNameBy letters others → 255 < length octets + length others → sized (labels_of octets ++ labels_of others) ≡ Err NameTooLong
-joined-long Folded octets others holds name over = joined_long octets others (labels_of octets) (labels_of others) holds.whole (sym name.whole) over
-joined-long Kept octets others holds name over = joined_long octets others (labels_of octets) (labels_of others) holds.whole (sym name.whole) over
+pub joined-long : (octets others : List ℕ) → 255 < length octets + length others → (letters : Letters) → HoldsLabelsBy letters octets → HoldsNameBy letters others → sized (labels_of octets ++ labels_of others) ≡ Err NameTooLong
+joined-long octets others over Folded holds name = joined_long octets others (labels_of octets) (labels_of others) holds.whole (sym name.whole) over
+joined-long octets others over Kept holds name = joined_long octets others (labels_of octets) (labels_of others) holds.whole (sym name.whole) over
 
 sized_joined : (left right : List (List ℕ)) (new : List ℕ) → length (wire (labels_of new)) ≤ 255 → labels_of new ≡ left ++ right → sized (left ++ right) ≡ Ok (labels_of new)
 sized_joined left right new short is = ap sized (sym is) ∙ sized-name (labels_of new) short
@@ -59,10 +61,10 @@ name_short Folded octets name = name.name.short
 name_short Kept octets name = name.name.short
 
 -- the octets of a name after labels
-pub ended_with : (letters : Letters) (octets set ending new : List ℕ) → HoldsLabelsBy letters set → labels_of set ≡ lettered letters (labels_of octets) → HoldsNameBy letters ending → new ≡ set ++ ending → length set + length ending ≤ 255 → HoldsNameBy letters new × (sized (lettered letters (labels_of octets) ++ labels_of ending) ≡ Ok (labels_of new))
-ended_with letters octets set ending new holds gives name is room =
-    let both = joined letters set ending new holds name is (omega (arith, room, ap length is, length-append set ending)) in
-    (both.holds, rw (← gives) (sized_joined (labels_of set) (labels_of ending) new (name_short letters new both.holds) both.gives))
+pub ended_with : (letters : Letters) (octets ending new : List ℕ) → HoldsLabelsBy letters octets → HoldsNameBy letters ending → new ≡ octets ++ ending → length octets + length ending ≤ 255 → HoldsNameBy letters new × (sized (labels_of octets ++ labels_of ending) ≡ Ok (labels_of new))
+ended_with letters octets ending new holds name is room =
+    let both = joined letters octets ending new holds name is (omega (arith, room, ap length is, length-append octets ending)) in
+    (both.holds, sized_joined (labels_of octets) (labels_of ending) new (name_short letters new both.holds) both.gives)
 
 -- the root is a name, however letters are taken
 pub root_holds : (letters : Letters) (octets : List ℕ) → octets ≡ [] ++ 0 ∷ [] → HoldsNameBy letters octets
@@ -74,17 +76,49 @@ pub lettered_size : (letters : Letters) (labels : List (List ℕ)) → length (w
 lettered_size Folded labels = folded_size labels
 lettered_size Kept labels = refl
 
--- nothing follows the labels of an absolute text
-under_root : (letters : Letters) (origin : Option (List (List ℕ))) (spelled : Spelled) (held labels : List (List ℕ)) (result : Result (List (List ℕ)) NameFault) → spelled.is_absolute ≡ true → spelled.is_too_long ≡ false → sized (lettered letters held ++ labels_of (0 ∷ [])) ≡ result → Collects held spelled.is_too_long labels → under_origin origin (Ok (lettered letters labels, spelled.is_absolute)) ≡ result
-under_root letters origin spelled held labels result absolute short e collects = grind (arith, append-nil, labels_of-root)
+-- labels that are held, or are too long, as their letters are folded
+lettered_collects : (letters : Letters) (held labels : List (List ℕ)) (is_too_long : Bool) → Collects held is_too_long labels → Collects (lettered letters held) is_too_long (lettered letters labels)
+lettered_collects letters held labels true over = rw (lettered_size letters labels) over
+lettered_collects letters held labels false same = ap (lettered letters) same
 
-pub finished : (letters : Letters) (origin : Option (List (List ℕ))) (spelled : Spelled) (held : List (List ℕ)) (new : List ℕ) (result : Result (Unit {0}) NameFault) → spelled.is_absolute ≡ true → spelled.is_too_long ≡ false → IfOk result (λ _. HoldsNameBy letters new × (sized (lettered letters held ++ labels_of (0 ∷ [])) ≡ Ok (labels_of new))) → IfOk result (λ _. HoldsNameBy letters new × ((labels : List (List ℕ)) → Collects held spelled.is_too_long labels → under_origin origin (Ok (lettered letters labels, spelled.is_absolute)) ≡ Ok (labels_of new)))
-finished letters origin spelled held new (Ok done) absolute short is = (is.0, λ labels collects. under_root letters origin spelled held labels (Ok (labels_of new)) absolute short is.1 collects)
-finished letters origin spelled held new (Err fault) absolute short is = tt
+pub read_lettered : (letters : Letters) (text octets new : List ℕ) (spelled : Spelled) → labels_of new ≡ lettered letters (labels_of octets) → IsReadInto text octets spelled → IsReadBy letters text new spelled
+read_lettered letters text octets new spelled gives read =
+    (read.0, read.1, rw gives (lettered_collects letters (labels_of octets) read.0 spelled.is_too_long read.2))
 
-pub unfinished : (letters : Letters) (origin : Option (List (List ℕ))) (spelled : Spelled) (held : List (List ℕ)) (result : Result (Unit {0}) NameFault) → spelled.is_absolute ≡ true → spelled.is_too_long ≡ false → IfErr result (λ fault. sized (lettered letters held ++ labels_of (0 ∷ [])) ≡ Err fault) → IfErr result (λ fault. (labels : List (List ℕ)) → Collects held spelled.is_too_long labels → under_origin origin (Ok (lettered letters labels, spelled.is_absolute)) ≡ Err fault)
-unfinished letters origin spelled held (Ok done) absolute short is = tt
-unfinished letters origin spelled held (Err fault) absolute short is = λ labels collects. under_root letters origin spelled held labels (Err fault) absolute short is collects
+-- what ends the name of the labels that were spelled: the root, or the origin
+pub record Ends (origin : Option (List ℕ)) (spelled : Spelled) (ending : List ℕ) : Type 0 where
+  pub short : spelled.is_too_long ≡ false
+  pub under : (labels : List (List ℕ)) → under_origin (origin_in origin) (Ok (labels, spelled.is_absolute)) ≡ sized (labels ++ labels_of ending)
+  pub name : (letters : Letters) → IfSome origin (HoldsNameBy letters) → HoldsNameBy letters ending
+
+pub ends_root : (origin : Option (List ℕ)) (spelled : Spelled) → spelled.is_absolute ≡ true → spelled.is_too_long ≡ false → Ends origin spelled (0 ∷ [])
+ends_root origin spelled absolute short = record {
+  short = short;
+  under = λ labels. rw (absolute, labels_of-root (0 ∷ []) refl) (ap sized (sym (append-nil labels)));
+  name = λ letters known. root_holds letters (0 ∷ []) refl;
+}
+
+pub ends_above : (origin : Option (List ℕ)) (above : List ℕ) (spelled : Spelled) → spelled.is_absolute ≡ false → origin ≡ Some above → spelled.is_too_long ≡ false → Ends origin spelled above
+ends_above origin above spelled relative is short = record {
+  short = short;
+  under = λ labels. rw (relative, is) refl;
+  name = λ letters known. rw is at known;
+}
+
+held_labels : (held labels : List (List ℕ)) (is_too_long : Bool) → is_too_long ≡ false → Collects held is_too_long labels → held ≡ labels
+held_labels held labels true short collects = absurd (false≢true (sym short))
+held_labels held labels false short same = same
+
+pub finished : (origin : Option (List ℕ)) (spelled : Spelled) (octets ending new : List ℕ) (result : Result (Unit {0}) NameFault) → Ends origin spelled ending → IfOk result (λ _. (letters : Letters) → HoldsLabelsBy letters octets → HoldsNameBy letters ending → HoldsNameBy letters new × (sized (labels_of octets ++ labels_of ending) ≡ Ok (labels_of new))) → IfOk result (λ _. (letters : Letters) → HoldsLabelsBy letters octets → IfSome origin (HoldsNameBy letters) → HoldsNameBy letters new × ((labels : List (List ℕ)) → Collects (labels_of octets) spelled.is_too_long labels → under_origin (origin_in origin) (Ok (labels, spelled.is_absolute)) ≡ Ok (labels_of new)))
+finished origin spelled octets ending new (Ok done) ends is = λ letters holds known.
+    let both = is letters holds (ends.name letters known) in
+    (both.0, λ labels collects. ends.under labels ∙ ap (λ ls. sized (ls ++ labels_of ending)) (sym (held_labels (labels_of octets) labels spelled.is_too_long ends.short collects)) ∙ both.1)
+finished origin spelled octets ending new (Err fault) ends is = tt
+
+pub unfinished : (origin : Option (List ℕ)) (spelled : Spelled) (octets ending : List ℕ) (result : Result (Unit {0}) NameFault) → Ends origin spelled ending → IfErr result (λ fault. (letters : Letters) → HoldsLabelsBy letters octets → HoldsNameBy letters ending → sized (labels_of octets ++ labels_of ending) ≡ Err fault) → IfErr result (λ fault. (letters : Letters) → HoldsLabelsBy letters octets → IfSome origin (HoldsNameBy letters) → (labels : List (List ℕ)) → Collects (labels_of octets) spelled.is_too_long labels → under_origin (origin_in origin) (Ok (labels, spelled.is_absolute)) ≡ Err fault)
+unfinished origin spelled octets ending (Ok done) ends is = tt
+unfinished origin spelled octets ending (Err fault) ends is = λ letters holds known labels collects.
+    ends.under labels ∙ ap (λ ls. sized (ls ++ labels_of ending)) (sym (held_labels (labels_of octets) labels spelled.is_too_long ends.short collects)) ∙ is letters holds (ends.name letters known)
 
 -- the octets of labels after others
 pub joined_size : (labels above : List (List ℕ)) → length (wire (labels ++ above)) + 1 ≡ length (wire labels) + length (wire above)
@@ -94,18 +128,31 @@ wire_some : (labels : List (List ℕ)) → 0 < length (wire labels)
 wire_some labels = omega (arith, length-append (flat_map with_length labels) (0 ∷ []))
 
 -- labels that are too long stay so with more after them
-pub lettered_long : (letters : Letters) (labels above : List (List ℕ)) → 255 < length (wire labels) → sized (lettered letters labels ++ above) ≡ Err NameTooLong
-lettered_long letters labels above over = sized-long (lettered letters labels ++ above) (omega (arith, over, lettered_size letters labels, joined_size (lettered letters labels) above, wire_some above))
+long_joined : (labels above : List (List ℕ)) → 255 < length (wire labels) → sized (labels ++ above) ≡ Err NameTooLong
+long_joined labels above over = sized-long (labels ++ above) (omega (arith, over, joined_size labels above, wire_some above))
 
-pub absolute_long : (letters : Letters) (origin : Option (List (List ℕ))) (spelled : Spelled) (held labels : List (List ℕ)) → spelled.is_absolute ≡ true → spelled.is_too_long ≡ true → Collects held spelled.is_too_long labels → under_origin origin (Ok (lettered letters labels, spelled.is_absolute)) ≡ Err NameTooLong
-absolute_long letters origin spelled held labels absolute long collects =
+pub absolute_long : (origin : Option (List (List ℕ))) (spelled : Spelled) (held labels : List (List ℕ)) → spelled.is_absolute ≡ true → spelled.is_too_long ≡ true → Collects held spelled.is_too_long labels → under_origin origin (Ok (labels, spelled.is_absolute)) ≡ Err NameTooLong
+absolute_long origin spelled held labels absolute long collects =
     let over : 255 < length (wire labels) = rw long at collects in
-    rw absolute (sized-long (lettered letters labels) (rw (lettered_size letters labels) over))
+    rw absolute (sized-long labels over)
 
-pub relative_long : (letters : Letters) (origin : Option (List (List ℕ))) (above : List (List ℕ)) (spelled : Spelled) (held labels : List (List ℕ)) → spelled.is_absolute ≡ false → origin ≡ Some above → spelled.is_too_long ≡ true → Collects held spelled.is_too_long labels → under_origin origin (Ok (lettered letters labels, spelled.is_absolute)) ≡ Err NameTooLong
-relative_long letters origin above spelled held labels relative is long collects =
+pub relative_long : (origin : Option (List (List ℕ))) (above : List (List ℕ)) (spelled : Spelled) (held labels : List (List ℕ)) → spelled.is_absolute ≡ false → origin ≡ Some above → spelled.is_too_long ≡ true → Collects held spelled.is_too_long labels → under_origin origin (Ok (labels, spelled.is_absolute)) ≡ Err NameTooLong
+relative_long origin above spelled held labels relative is long collects =
     let over : 255 < length (wire labels) = rw long at collects in
-    rw (relative, is) (lettered_long letters labels above over)
+    rw (relative, is) (long_joined labels above over)
+
+-- ---- the name that is made of what was read
+
+pub named_ok : (letters : Letters) (origin : Option (List ℕ)) (text octets new : List ℕ) (spelled : Spelled) (result : Result (Unit {0}) NameFault) → HoldsLabelsBy letters octets → IsReadBy letters text octets spelled → IfSome origin (HoldsNameBy letters) → IfOk result (λ _. (by : Letters) → HoldsLabelsBy by octets → IfSome origin (HoldsNameBy by) → HoldsNameBy by new × ((labels : List (List ℕ)) → Collects (labels_of octets) spelled.is_too_long labels → under_origin (origin_in origin) (Ok (labels, spelled.is_absolute)) ≡ Ok (labels_of new))) → IfOk result (λ _. HoldsNameBy letters new × (name_read letters (origin_in origin) text ≡ Ok (labels_of new)))
+named_ok letters origin text octets new spelled (Ok done) holds read known is =
+    let both = is letters holds known in
+    (both.0, ap (λ r. under_origin (origin_in origin) (lettered_in letters r)) read.1 ∙ both.1 (lettered letters read.0) read.2)
+named_ok letters origin text octets new spelled (Err fault) holds read known is = tt
+
+pub named_err : (letters : Letters) (origin : Option (List ℕ)) (text octets : List ℕ) (spelled : Spelled) (result : Result (Unit {0}) NameFault) → HoldsLabelsBy letters octets → IsReadBy letters text octets spelled → IfSome origin (HoldsNameBy letters) → IfErr result (λ fault. (by : Letters) → HoldsLabelsBy by octets → IfSome origin (HoldsNameBy by) → (labels : List (List ℕ)) → Collects (labels_of octets) spelled.is_too_long labels → under_origin (origin_in origin) (Ok (labels, spelled.is_absolute)) ≡ Err fault) → IfErr result (λ fault. name_read letters (origin_in origin) text ≡ Err fault)
+named_err letters origin text octets spelled (Ok done) holds read known is = tt
+named_err letters origin text octets spelled (Err fault) holds read known is =
+    ap (λ r. under_origin (origin_in origin) (lettered_in letters r)) read.1 ∙ is letters holds known (lettered letters read.0) read.2
 
 -- ---- what is known of octets that hold a name
 

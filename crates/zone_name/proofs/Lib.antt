@@ -15,4 +15,6 @@ pub mod Plain
 pub mod Letters
 pub mod Folding
 pub mod Lengths
+pub mod OctetLanes
+pub mod WholeText
 pub mod Common

@@ -1,7 +1,12 @@
 -- A text without escapes, whose labels' lengths are written over the dots before them.
-use Rattle.zone_name.proofs.Common.{◌≡◌, ℕ, zero, suc, ◌+◌, ◌-◌, ◌<◌, ◌≤◌, Bool, true, false, List, [], ◌∷◌, ◌++◌, length, take, drop, get_or, set, Ok, nat_eq, refl, sym, ap, ap₂, ◌∙◌, arith, append_assoc, length-append, map, flat_map, AllByRecursion, pointwise, bytes_decides, append-nil, length-map, length-set, length-take-le, length-drop, map_push, take-append-drop, drop_at, drop_more, set_at, flat_map-append, IsCasedName, labels_of, with_length, Written, plain, IsUnit, is_dot, IsWrittenLabel, written_text, written_octets, dotted, parted, kept, reading, HoldsCasedLabels}
+use Rattle.std.proofs.Common.{get_or-drop}
+use Rattle.std.proofs.lemmas.Bool.{cases_lt, not-true}
+use Rattle.std.proofs.lemmas.Simd.{run_in_chunk_fails, run_in_chunk_le, run_in_chunk_stops, take_more_put_chunk}
+use Rattle.std.specs.List.{prefix_len}
+use lib.Lanes.{chunk, put_chunk}
+use Rattle.zone_name.proofs.Common.{not, subst, inl, inr, ◌||◌, ◌==◌, or_parts, eqb-false, take_at, ◌≡◌, ℕ, zero, suc, ◌+◌, ◌-◌, ◌<◌, ◌≤◌, Bool, true, false, List, [], ◌∷◌, ◌++◌, length, take, drop, get_or, set, Ok, nat_eq, refl, sym, ap, ap₂, ◌∙◌, arith, append_assoc, length-append, map, flat_map, AllByRecursion, pointwise, bytes_decides, append-nil, length-map, length-set, length-take-le, length-drop, map_push, take-append-drop, drop_at, drop_more, set_at, flat_map-append, IsCasedName, labels_of, with_length, Written, plain, IsUnit, is_dot, IsWrittenLabel, written_text, written_octets, dotted, parted, kept, reading, HoldsCasedLabels}
 use Rattle.zone_name.specs.Common.{AreOctets}
-use Rattle.zone_name.specs.Machine.Plain.{after_dots, WritesLengths}
+use Rattle.zone_name.specs.Machine.Plain.{after_dots, is_plain, WritesLengths}
 use Rattle.zone_name.proofs.Octets.{labels_of-open_cased}
 use Rattle.zone_name.proofs.Pushing.{AllByRecursion-append, HoldsCasedLabels-frames, frames_push}
 use Rattle.zone_name.proofs.Spelled.{AreShort, Says}
@@ -46,6 +51,47 @@ lengths_label old now next label rest start w each some short at is =
       lengths = cc (set_at frames 46 (label ++ rest) (length label) start front, append_assoc frames (with_length label) rest, frames_push (map written_octets w.written) label, plain_octets label, map_push written_octets w.written new);
     }
 
+-- ---- octets that are seen to be plain, 16 at a time
+
+abbrev is_mark : ℕ → Bool
+is_mark c = is_dot c || c == 92
+
+plain_unit : (c : ℕ) → is_plain c ≡ true → IsUnit is_dot (plain c)
+plain_unit c e = let parts = or_parts (is_dot c) (c == 92) (not-true (is_mark c) e) in (parts.0, eqb-false c 92 parts.1)
+
+-- each octet from one place to another is plain
+abbrev pub ArePlainFrom : List ℕ → ℕ → ℕ → Type 0
+ArePlainFrom octets start end =
+    (k : ℕ) → start ≤ k → k < end → is_plain (get_or octets k 0) ≡ true
+
+pub no_octets : (octets : List ℕ) (start : ℕ) → ArePlainFrom octets start start
+no_octets octets start k from to = absurd (omega (arith, from, to))
+
+-- those before the first mark of some that are looked at
+pub record PlainRun (octets : List ℕ) (start at n run : ℕ) : Type 0 where
+  pub within : run ≤ n
+  pub each : ArePlainFrom octets start (at + run)
+  pub stops : run < n → is_plain (get_or octets (at + run) 0) ≡ false
+
+pub plain_more : (octets : List ℕ) (start at n run : ℕ) → ArePlainFrom octets start at
+    → at + n ≤ length octets → run ≡ prefix_len is_plain (chunk at n octets)
+    → PlainRun octets start at n run
+plain_more octets start at n run before room counted = record {
+  within = run_in_chunk_le is_mark octets at n run 0 room counted;
+  each = λ k from to. elim (cases_lt k at) [
+    | inl early ↦ before k from early
+    | inr late ↦ ap not (run_in_chunk_fails is_mark octets at n run 0 room counted k late to)
+  ];
+  stops = λ short. ap not (run_in_chunk_stops is_mark octets at n run 0 room counted short);
+}
+
+-- the label after a dot, by its place
+plain_after : (octets : List ℕ) (start end : ℕ) → ArePlainFrom octets (start + 1) end
+    → ArePlain (drop (start + 1) octets) (end - start - 1)
+plain_after octets start end each k h =
+    subst (λ c. IsUnit is_dot (plain c)) (sym (get_or-drop (start + 1) octets k 0))
+    (plain_unit (get_or octets (start + 1 + k) 0) (each (start + 1 + k) (omega arith) (omega (arith, h))))
+
 -- the rest, as it is cut off at its place
 cut_at : (old next rest : List ℕ) (n : ℕ) → WritesLengths old next rest → length next ≡ n + length rest
     → WritesLengths old next (drop n next)
@@ -62,6 +108,46 @@ lengths_more old now next start len w inside dot each fits some short is =
     let count = length-take-le len tail fits in
     let left = drop_more now start 0 inside ∙ ap (λ c. c ∷ tail) dot ∙ ap (λ t. 46 ∷ t) (sym (take-append-drop len tail)) in
     cut_at old next rest (start + (len + 1)) (lengths_label old now next label rest start (rw left at w) (plain_each len tail each) (omega (arith, some, count)) (omega (arith, short, count)) (omega (arith, inside, length-drop start now, ap length left)) (cc)) (omega (arith, inside, fits, ap length is, length-set now start len, length-drop (start + 1) now, length-drop len tail))
+
+-- the same, of a label that ends at a place
+pub lengths_next : (old now next : List ℕ) (start end : ℕ) → WritesLengths old now (drop start now)
+    → start < length now → get_or now start 0 ≡ 46 → ArePlainFrom now (start + 1) end
+    → end ≤ length now → 0 < end - start - 1 → end - start - 1 ≤ 63
+    → next ≡ set now start (end - start - 1) → WritesLengths old next (drop end next)
+lengths_next old now next start end w inside dot each back some short is =
+    let len = end - start - 1 in
+    let at : start + (len + 1) ≡ end = omega (arith, some) in
+    let fits : len ≤ length (drop (start + 1) now) =
+    omega (arith, back, inside, length-drop (start + 1) now) in
+    subst (λ n. WritesLengths old next (drop n next)) at
+    (lengths_more old now next start len w inside dot (plain_after now start end each) fits some short is)
+
+-- what was put after the first octet of the room for it
+pub laid : (rest front now : List ℕ) → length front ≤ length rest → now ≡ put_chunk 1 (46 ∷ rest) front
+    → take (length front + 1) now ≡ 46 ∷ front
+laid rest front now fits e =
+    ap (take (length front + 1)) e
+    ∙ take_more_put_chunk 1 (46 ∷ rest) front (length front + 1) (omega arith) (omega (arith, fits))
+
+-- the front, where the labels end
+pub lengths_front : (old new : List ℕ) (len : ℕ) → WritesLengths old new (drop len new)
+    → len ≤ length new → length old ≡ length new → WritesLengths (take len old) (take len new) []
+lengths_front old new len w fits same =
+    let dots = after_dots w.written in
+    let frames = flat_map with_length (map written_octets w.written) in
+    let count = length-drop len new in
+    let first : length dots ≡ len =
+    omega (arith, same, fits, count, ap length w.dots, length-append dots (drop len new)) in
+    let second : length frames ≡ len =
+    omega (arith, fits, count, ap length w.lengths, length-append frames (drop len new)) in
+    record {
+      written = w.written;
+      each = w.each;
+      short = w.short;
+      dots = ap (take len) w.dots ∙ take_at dots (drop len new) len first ∙ sym (append-nil dots);
+      lengths = ap (take len) w.lengths ∙ take_at frames (drop len new) len second
+          ∙ sym (append-nil frames);
+    }
 
 -- ---- the whole text
 
@@ -114,7 +200,7 @@ pub record PlainRead (text new : List ℕ) (is_absolute : Bool) : Type 0 where
   pub reads : reading text ≡ Ok (labels, is_absolute)
   pub are : labels_of new ≡ labels
 
-pub plain_read : (text front old new : List ℕ) (is_absolute : Bool) → IsCut text front is_absolute
+plain_read : (text front old new : List ℕ) (is_absolute : Bool) → IsCut text front is_absolute
     → AreOctets text → old ≡ 46 ∷ front → WritesLengths old new [] → length old + 1 ≤ 255
     → length new ≡ length old → PlainRead text new is_absolute
 plain_read text front old new is_absolute cut octets start w room same =
@@ -127,3 +213,20 @@ plain_read text front old new is_absolute cut octets start w room same =
       short = omega (arith, room, same, ap length frames, length-append (flat_map with_length labels) (0 ∷ []));
     } in
     grind (arith, HoldsCasedLabels-frames, reading-says_ok, labels_of-open_cased)
+
+-- the same, in the front of the room that the labels were put in after a dot
+pub plain_room : (text front rest before after : List ℕ) (is_absolute : Bool)
+    → IsCut text front is_absolute → AreOctets text → length front + 17 ≤ length before
+    → length before ≤ 255 → length after ≡ length before → length (46 ∷ rest) ≡ length before
+    → before ≡ put_chunk 1 (46 ∷ rest) front
+    → WritesLengths before after (drop (length front + 1) after)
+    → PlainRead text (take (length front + 1) after) is_absolute
+plain_room text front rest before after is_absolute cut octets fits room same long put w =
+    let len = length front + 1 in
+    let first : take len before ≡ 46 ∷ front = laid rest front before (omega (arith, fits, long)) put in
+    let count : length (take len after) ≡ length (take len before) =
+    length-take-le len after (omega (arith, fits, same))
+    ∙ sym (length-take-le len before (omega (arith, fits))) in
+    plain_read text front (take len before) (take len after) is_absolute cut octets first
+    (lengths_front before after len w (omega (arith, fits, same)) (sym same))
+    (omega (arith, fits, room, ap length first)) count

@@ -7,7 +7,9 @@ ghost use Rattle.zone_name.specs.Text.{label_text, name_text, octet_text};
 
 use crate::escape::decimal_escape;
 use crate::labels::Labels;
+use crate::lanes::{LANES, ROOM};
 use crate::name::Name;
+use crate::shown::spell_shown;
 use crate::sink::Sink;
 use crate::text::is_special_octet;
 use std::marker::Model;
@@ -99,6 +101,27 @@ impl<'a> NameRef<'a> {
     ///
     /// `out` refuses octets. A prefix of the spelling may have been appended.
     pub fn print<S: Sink>(&self, out: &mut S) -> Result<(), S::Error>
+        ensures ok { OnOk result (S.takes out.old (name_text self.now) out.new) }
+        ensures err { OnErr result (TakesSome S.takes out.old out.new) }
+    {
+        let len = self.octets.len();
+        if len > 1 && len + LANES <= ROOM {
+            let mut room = [b'a'; ROOM];
+            if spell_shown(&mut room, self.octets) {
+                return out.push(&room[1..len]);
+            }
+        }
+        self.print_labels(out)
+    }
+
+    /// Appends the canonical spelling label by label.
+    ///
+    /// # Errors
+    ///
+    /// `out` refuses octets. A prefix of the spelling may have been appended.
+    // Not inlined: only a name with an octet that takes an escape, a long one and the root need it.
+    #[inline(never)]
+    fn print_labels<S: Sink>(&self, out: &mut S) -> Result<(), S::Error>
         ensures ok { OnOk result (S.takes out.old (name_text self.now) out.new) }
         ensures err { OnErr result (TakesSome S.takes out.old out.new) }
     {

@@ -7,11 +7,13 @@ mod cased;
 mod escape;
 mod fault;
 mod labels;
+mod lanes;
 pub mod laws;
 mod lent;
 mod name;
 mod order;
 mod reading;
+mod shown;
 mod sink;
 mod text;
 

@@ -1,18 +1,19 @@
-ghost use Rattle.std.specs.Prelude.{◌≡◌, ◌≤◌, ◌<◌, ◌↔◌, ◌++◌, ◌∷◌, [], ℕ, List, length, map, slice_index, option_copied};
+ghost use Rattle.std.specs.Prelude.{◌≡◌, ◌≤◌, ◌<◌, ◌+◌, ◌++◌, ◌∷◌, [], ℕ, List, true, false, drop, length, map, slice_index, take, option_copied};
 ghost use Rattle.std.specs.Prelude.{IsOk, IsTrue, IfSome, IfOk, IfErr, OnOk, OnErr, Ok, Err};
 ghost use Rattle.zone_name.specs.Common.{Labels, Octets};
 ghost use Rattle.zone_name.specs.Name.{folded_octet, labels_of};
-ghost use Rattle.zone_name.specs.Spelling.{IsUnit, SpellingFault, is_dot, plain};
+ghost use Rattle.zone_name.specs.Spelling.{SpellingFault};
 ghost use Rattle.zone_name.specs.Machine.LabelWalk.{Collects, reading, under_origin, sized};
-ghost use Rattle.zone_name.specs.Machine.Letters.{HoldsLabelsBy, HoldsNameBy, SpellsBy};
+ghost use Rattle.zone_name.specs.Machine.Letters.{HoldsLabelsBy, HoldsNameBy, IsReadBy, SpellsBy};
 ghost use Rattle.zone_name.specs.Machine.Letters.{lettered, name_read, origin_in};
-ghost use Rattle.zone_name.specs.Machine.Plain.{WritesLengths};
+ghost use Rattle.zone_name.specs.Machine.Plain.{WritesLengths, is_plain};
 ghost use Rattle.zone_name.specs.Machine.Seen.{Closes, EndsLabelAt, HasShape, HoldsCasedLabels, IsClosable};
 ghost use Rattle.zone_name.specs.Machine.Seen.{IsReadInto, EndsInFault, RefusesLabel};
 
 use crate::builder::check_label;
 use crate::escape::{NextUnit, next_unit};
 use crate::fault::NameFault;
+use crate::lanes::{LANES, ROOM, fold_lanes, plain_run, put};
 use crate::name::{MAX_LABEL_LEN, MAX_NAME_LEN};
 use arrayvec::ArrayVec;
 
@@ -56,66 +57,102 @@ struct Spelled {
     is_absolute: bool,
 }
 
-/// Whether the octet stands for itself and parts no labels.
-fn is_plain(octet: u8) -> bool
-    ensures { IsTrue result ↔ IsUnit is_dot (plain octet) }
+/// The place of the first dot or backslash from a place on, as far as 16 octets are left to look
+/// at.
+fn label_end(octets: &[u8], start: usize) -> usize
+    requires { start ≤ length octets.now }
+    ensures front { start ≤ result }
+    ensures back { result ≤ length octets.now }
+    ensures each { (k : ℕ) → start ≤ k → k < result → is_plain (slice_index octets.now k) ≡ true }
+    ensures ends { result + LANES ≤ length octets.now
+        → is_plain (slice_index octets.now result) ≡ false }
 {
-    octet != b'.' && octet != b'\\'
-}
-
-/// How many octets at the beginning of a text are plain.
-fn plain_len(text: &[u8]) -> usize
-    ensures short { result ≤ length text.now }
-    ensures each { (k : ℕ) → k < result → IsUnit is_dot (plain (slice_index text.now k)) }
-    ensures ends { result < length text.now → IsUnit is_dot (plain (slice_index text.now result))
-        → ⊥ }
-{
-    let mut len = 0;
-    while len < text.len() && is_plain(text[len]) {
-        len += 1;
+    let mut end = start;
+    while octets.len() - end >= LANES {
+        let run = plain_run(octets, end);
+        end += run;
+        if run < LANES {
+            return end;
+        }
     }
-    len
+    end
 }
 
-/// Writes the length of each label over the dot before it, and tells whether each label has 1 to 63
-/// octets and all are plain. If not, the octets say nothing.
-fn write_lengths(octets: &mut [u8]) -> bool
-    ensures { IsTrue result → WritesLengths octets.old octets.new [] }
+/// Writes the length of each label over the dot before it, where labels with their dots take the
+/// first `len` octets, and tells whether each label has 1 to 63 octets and all are plain. If not,
+/// the octets say nothing.
+fn write_lengths(octets: &mut [u8], len: usize) -> bool
+    requires { len ≤ length octets.old }
+    ensures { IsTrue result → WritesLengths octets.old octets.new (drop len octets.new) }
 {
     let mut start = 0;
-    while start < octets.len() {
+    while start < len {
         if octets[start] != b'.' {
             return false;
         }
-        let len = plain_len(&octets[start + 1..]);
-        if len == 0 || len > MAX_LABEL_LEN {
+        let end = label_end(octets, start + 1);
+        let label_len = end - start - 1;
+        if label_len == 0 || label_len > MAX_LABEL_LEN {
             return false;
         }
-        octets[start] = len as u8;
-        start += len + 1;
+        octets[start] = label_len as u8;
+        start = end;
     }
-    true
+    start == len
 }
 
-/// Puts the labels of a text without escapes in place by one copy, their letters as they are.
-/// `None`: the text has an escape or a fault, and the octets say nothing.
-fn read_plain(octets: &mut ArrayVec<u8, MAX_NAME_LEN>, text: &[u8]) -> Option<Spelled>
+/// Puts the letters of the first `len` octets in lower case (RFC 4343 3), 16 octets at a time.
+fn fold_front(octets: &mut [u8], len: usize)
+    requires { len + LANES ≤ length octets.old }
+    ensures { take len octets.new ≡ map folded_octet (take len octets.old) }
+{
+    let mut at = 0;
+    while at < len {
+        fold_lanes(octets, at);
+        at += LANES;
+    }
+}
+
+/// Folds the letters of the labels in the first `len` octets, or keeps them.
+fn set_front(octets: &mut [u8], len: usize, letters: Letters)
+    requires { len + LANES ≤ length octets.old }
+    ensures holds { HoldsCasedLabels (take len octets.old)
+        → HoldsLabelsBy letters (take len octets.new) }
+    ensures labels { HoldsCasedLabels (take len octets.old)
+        → labels_of (take len octets.new) ≡ lettered letters (labels_of (take len octets.old)) }
+{
+    match letters {
+        Letters::Kept => (),
+        Letters::Folded => fold_front(octets, len),
+    }
+}
+
+/// Puts the labels of a text without escapes in place by copies, with their letters folded or kept.
+/// `None`: the text has an escape or a fault or is long, and the octets say nothing.
+fn read_plain(
+    octets: &mut ArrayVec<u8, MAX_NAME_LEN>,
+    text: &[u8],
+    letters: Letters,
+) -> Option<Spelled>
     requires { octets.old.items ≡ [] }
-    ensures holds { IfSome result (λ _. HoldsCasedLabels octets.new.items) }
-    ensures labels { IfSome result (λ spelled. IsReadInto text.now octets.new.items spelled) }
+    ensures holds { IfSome result (λ _. HoldsLabelsBy letters octets.new.items) }
+    ensures labels { IfSome result (λ spelled. IsReadBy letters text.now octets.new.items spelled) }
 {
     let (labels, is_absolute) = match text.strip_suffix(b".") {
         Some(labels) => (labels, true),
         None => (text, false),
     };
-    if labels.len() + 2 > MAX_NAME_LEN {
+    let len = labels.len() + 1;
+    if len + LANES > ROOM {
         return None;
     }
-    octets.push(b'.');
-    let _ = octets.try_extend_from_slice(labels);
-    if !write_lengths(octets.as_mut_slice()) {
+    let mut room = [b'.'; ROOM];
+    put(&mut room, 1, labels);
+    if !write_lengths(&mut room, len) {
         return None;
     }
+    set_front(&mut room, len, letters);
+    let _ = octets.try_extend_from_slice(&room[..len]);
     Some(Spelled {
         is_too_long: false,
         is_absolute,
@@ -254,50 +291,46 @@ fn set_letters(octets: &mut ArrayVec<u8, MAX_NAME_LEN>, letters: Letters)
     }
 }
 
-/// Folds the letters of the labels, or keeps them, and appends the octets of a name.
-fn end_with(
-    octets: &mut ArrayVec<u8, MAX_NAME_LEN>,
-    ending: &[u8],
-    letters: Letters,
-) -> Result<(), NameFault>
-    requires holds { HoldsCasedLabels octets.old.items }
-    requires name { HoldsNameBy letters ending.now }
-    ensures ok { IfOk result (λ _. HoldsNameBy letters octets.new.items
-        × (sized (lettered letters (labels_of octets.old.items) ++ labels_of ending.now) ≡ Ok
-        (labels_of octets.new.items))) }
-    ensures err { IfErr result (λ fault.
-        sized (lettered letters (labels_of octets.old.items) ++ labels_of ending.now)
-        ≡ Err fault) }
+/// Appends the octets of a name to those of labels, the letters of both folded or kept.
+fn end_with(octets: &mut ArrayVec<u8, MAX_NAME_LEN>, ending: &[u8]) -> Result<(), NameFault>
+    ensures ok { IfOk result (λ _. (letters : Letters) → HoldsLabelsBy letters octets.old.items
+        → HoldsNameBy letters ending.now → HoldsNameBy letters octets.new.items
+        × (sized (labels_of octets.old.items ++ labels_of ending.now)
+        ≡ Ok (labels_of octets.new.items))) }
+    ensures err { IfErr result (λ fault. (letters : Letters)
+        → HoldsLabelsBy letters octets.old.items → HoldsNameBy letters ending.now
+        → sized (labels_of octets.old.items ++ labels_of ending.now) ≡ Err fault) }
 {
-    set_letters(octets, letters);
     octets
         .try_extend_from_slice(ending)
         .map_err(|_| NameFault::NameTooLong)
 }
 
-/// Ends the name of the labels, followed by the origin's where the text is relative.
+/// Ends the name of the labels, followed by the origin's where the text is relative, the letters of
+/// both folded or kept.
 fn finish(
     octets: &mut ArrayVec<u8, MAX_NAME_LEN>,
     spelled: Spelled,
     origin: Option<&[u8]>,
-    letters: Letters,
 ) -> Result<(), NameFault>
-    requires holds { HoldsCasedLabels octets.old.items }
-    requires origin { IfSome (option_copied origin) (HoldsNameBy letters) }
-    ensures ok { IfOk result (λ _. HoldsNameBy letters octets.new.items × ((labels : Labels)
+    ensures ok { IfOk result (λ _. (letters : Letters) → HoldsLabelsBy letters octets.old.items
+        → IfSome (option_copied origin.entry) (HoldsNameBy letters)
+        → HoldsNameBy letters octets.new.items × ((labels : Labels)
         → Collects (labels_of octets.old.items) spelled.is_too_long labels
-        → under_origin (origin_in (option_copied origin.entry))
-        (Ok (lettered letters labels, spelled.is_absolute)) ≡ Ok (labels_of octets.new.items))) }
-    ensures err { IfErr result (λ fault. (labels : Labels)
+        → under_origin (origin_in (option_copied origin.entry)) (Ok (labels, spelled.is_absolute))
+        ≡ Ok (labels_of octets.new.items))) }
+    ensures err { IfErr result (λ fault. (letters : Letters)
+        → HoldsLabelsBy letters octets.old.items
+        → IfSome (option_copied origin.entry) (HoldsNameBy letters) → (labels : Labels)
         → Collects (labels_of octets.old.items) spelled.is_too_long labels
-        → under_origin (origin_in (option_copied origin.entry))
-        (Ok (lettered letters labels, spelled.is_absolute)) ≡ Err fault) }
+        → under_origin (origin_in (option_copied origin.entry)) (Ok (labels, spelled.is_absolute))
+        ≡ Err fault) }
 {
     if spelled.is_absolute {
         if spelled.is_too_long {
             return Err(NameFault::NameTooLong);
         }
-        return end_with(octets, b"\0", letters);
+        return end_with(octets, b"\0");
     }
     let Some(above) = origin else {
         return Err(NameFault::RelativeName);
@@ -305,7 +338,28 @@ fn finish(
     if spelled.is_too_long {
         return Err(NameFault::NameTooLong);
     }
-    end_with(octets, above, letters)
+    end_with(octets, above)
+}
+
+/// Puts the labels of a text that is neither `.` nor `@` in place, with their letters folded or
+/// kept (RFC 1035 5.1).
+fn read_spelled(
+    octets: &mut ArrayVec<u8, MAX_NAME_LEN>,
+    text: &[u8],
+    letters: Letters,
+) -> Result<Spelled, NameFault>
+    requires { octets.old.items ≡ [] }
+    ensures holds { OnOk result (HoldsLabelsBy letters octets.new.items) }
+    ensures labels { IfOk result (λ spelled. IsReadBy letters text.now octets.new.items spelled) }
+    ensures fault { IfErr result (λ fault. reading text.now ≡ Err fault) }
+{
+    if let Some(spelled) = read_plain(octets, text, letters) {
+        return Ok(spelled);
+    }
+    octets.clear();
+    let spelled = read_labels(octets, text)?;
+    set_letters(octets, letters);
+    Ok(spelled)
 }
 
 /// Puts the octets of the name of a text that is neither `.` nor `@` in place (RFC 1035 5.1).
@@ -325,14 +379,8 @@ fn read_into(
     ensures err { IfErr result (λ fault.
         name_read letters (origin_in (option_copied origin.entry)) text.now ≡ Err fault) }
 {
-    let spelled = match read_plain(octets, text) {
-        Some(spelled) => spelled,
-        None => {
-            octets.clear();
-            read_labels(octets, text)?
-        }
-    };
-    finish(octets, spelled, origin, letters)
+    let spelled = read_spelled(octets, text, letters)?;
+    finish(octets, spelled, origin)
 }
 
 /// Puts the octets of the name of a text that is neither `.` nor `@` in place of those that are

@@ -1,5 +1,5 @@
 -- No part of a line has a line feed.
-use Rattle.zone_print.proofs.Common.{common_steps, ◌≡◌, ◌≢◌, ℕ, zero, suc, ◌+◌, ◌/◌, ◌%◌, ◌==◌, ◌≤◌, List, [], ◌∷◌, ◌++◌, length, drop, map, Bool, true, false, if◌then◌else◌, IsTrue, Option, None, Some, refl, codes, decimal, nat_lt, arith, AllByRecursion, flat_map, join_with_byte, list_all, slice_index, octet_text, label_text, name_text, Data, Record, data_of, data_items, data_text, laid_out_items, written_item, class_mnemonic, laid_out_mnemonic, word_or_numbered, class_text, kind_text, line, HasNoFeed, EndsWithItsFeed}
+use Rattle.zone_print.proofs.Common.{common_steps, ◌≡◌, ◌≢◌, ℕ, zero, suc, ◌+◌, ◌/◌, ◌%◌, ◌==◌, ◌≤◌, List, [], ◌∷◌, ◌++◌, length, drop, map, Bool, true, false, if◌then◌else◌, IsTrue, Option, None, Some, refl, codes, decimal, nat_lt, arith, AllByRecursion, flat_map, join_with_byte, list_all, slice_index, octet_text, label_text, name_text, Data, Record, data_of, data_items, data_text, laid_out_items, written_item, class_mnemonic, laid_out_mnemonic, word_or_numbered, class_text, kind_text, line, HasNoFeed, EndsWithItsFeed, Labels}
 use Rattle.std.specs.Char.{digit_char}
 use Rattle.std.specs.Net.Addr.{segments_of}
 use Rattle.std.specs.Net.Text.{hex, leading_zero_digits, compressed_text, longest_zero_run}
@@ -69,7 +69,7 @@ none_octet c = grind arith
 none_label : (label : List ℕ) → HasNoFeed (label_text label)
 none_label label = none_append (flat_map octet_text label) (46 ∷ []) (none_flat octet_text none_octet label) (none_tested (46 ∷ []) refl)
 
-pub none_name : (labels : List (List ℕ)) → HasNoFeed (name_text labels)
+pub none_name : (labels : Labels) → HasNoFeed (name_text labels)
 none_name [] = none_tested (46 ∷ []) refl
 none_name (label ∷ labels) = none_flat label_text none_label (label ∷ labels)
 

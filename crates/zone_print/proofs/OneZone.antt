@@ -1,5 +1,5 @@
 -- A zone is fixed by its set of records: a strictly ascending list is the only one of its set.
-use Rattle.zone_print.proofs.Common.{◌≡◌, ℕ, List, [], ◌∷◌, Less, Equal, refl, sym, ap, ap₂, ◌∙◌, subst, inl, ⊎_elim, arith, Record, data_of, Placed, FileStates, records_of, Has, SameRecords, Zone, IsZone, Denotes}
+use Rattle.zone_print.proofs.Common.{◌≡◌, ℕ, List, [], ◌∷◌, Less, Equal, refl, sym, ap, ap₂, ◌∙◌, subst, inl, ⊎_elim, arith, Record, data_of, Placed, FileStates, records_of, Has, SameRecords, Zone, IsZone, Denotes, Labels}
 use Rattle.std.proofs.lemmas.Cmp.{on_total, then_total, nat_cmp_total, nat_list_cmp_total, tied_itself}
 use Rattle.std.proofs.lemmas.Map.Lookups.{exact_unsigned, exact_bytes}
 use Rattle.std.specs.Cmp.{IsTotalOrder}
@@ -18,7 +18,7 @@ pub canonical_total : IsTotalOrder canonical_cmp
 canonical_total = then_total (on_total soa_rank nat_cmp_total) (then_total (on_total (λ r. r.owner) name_cmp-total) (on_total data_of data_total))
 
 -- records that the order doesn't tell apart have one owner and one data
-pub canonical_exact : ((a b : List (List ℕ)) → name_cmp a b ≡ Equal → a ≡ b) → (r s : Record) → canonical_cmp r s ≡ Equal → (r.owner ≡ s.owner) × (data_of r ≡ data_of s)
+pub canonical_exact : ((a b : Labels) → name_cmp a b ≡ Equal → a ≡ b) → (r s : Record) → canonical_cmp r s ≡ Equal → (r.owner ≡ s.owner) × (data_of r ≡ data_of s)
 canonical_exact exact r s tied =
     let others = both_equal _ _ (both_equal _ _ tied).1 in
     let of_class = both_equal _ _ others.1 in
@@ -65,7 +65,7 @@ pub one_zone : (z w : Zone) → IsZone z → IsZone w → SameRecords z.records 
 one_zone z w is_z is_w same = grind (arith, one_ascending, each_Has)
 
 -- a file that states one list of records denotes one zone
-pub one_zone_of_file : (origin : List (List ℕ)) (octets : List ℕ) → ((a b : List Placed) → FileStates origin octets a → FileStates origin octets b → a ≡ b) → (z w : Zone) → Denotes origin octets z → Denotes origin octets w → z ≡ w
+pub one_zone_of_file : (origin : Labels) (octets : List ℕ) → ((a b : List Placed) → FileStates origin octets a → FileStates origin octets b → a ≡ b) → (z w : Zone) → Denotes origin octets z → Denotes origin octets w → z ≡ w
 one_zone_of_file origin octets one z w denotes other =
     let placed : denotes.placed ≡ other.placed = one denotes.placed other.placed denotes.states other.states in
     one_zone z w denotes.makes.zone other.makes.zone (λ r. (

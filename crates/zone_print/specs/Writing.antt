@@ -12,14 +12,15 @@ pub data StopsPush (limit : ℕ) (text : List ℕ) : Stop → Type 0 where
   large : limit < length text → StopsPush limit text (Refused ZoneTooLarge Whole)
   memory : StopsPush limit text Memory
 
--- known octets of a writer grew by a proper prefix of the text: a part of it was written, but not all
+-- known octets of a writer grew by a proper prefix of the text: a part of it was written, but not
+-- all
 abbrev pub AppendsPart : Option (List ℕ) → Option (List ℕ) → List ℕ → Type 0
 AppendsPart old new text = (front rest : List ℕ) × (rest ≢ []) × (text ≡ front ++ rest)
     × Appends old new front
 
 -- Why a text was not written, and what that leaves of the writer: a text that is longer than the
--- limit leaves it as it was. One within the limit was written in part, but not all of it: memory was
--- refused and the writer works, or it failed.
+-- limit leaves it as it was. One within the limit was written in part, but not all of it: memory
+-- was refused and the writer works, or it failed.
 pub data StopsWrite (limit : ℕ) (text : List ℕ) (old new : Device) : Stop → Type 0 where
   large : limit < length text → IsLeft old new
       → StopsWrite limit text old new (Refused ZoneTooLarge Whole)

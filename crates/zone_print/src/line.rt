@@ -7,7 +7,8 @@ ghost use Rattle.zone_rdata.specs.Lent.{record_of};
 
 use itoa::Buffer;
 use zone_name::Sink;
-use zone_set::{RrRef, Zone};
+use zone_rdata::RrRef;
+use zone_set::Zone;
 
 /// Appends TTL, class and type of the record between spaces.
 ///

@@ -7,7 +7,7 @@ ghost use Rattle.zone_rdata.specs.Lent.{record_of};
 use crate::line::{push_data, push_middle};
 use std::alloc::{AllocError, Global};
 use std::marker::Model;
-use zone_set::RrRef;
+use zone_rdata::RrRef;
 
 /// Lines that are gathered. What a line has in common with the one before it is copied.
 #[derive(Drop)]

@@ -53,9 +53,9 @@ pub fn push_zone(alloc: Global, zone: &Zone) -> Result<Vec<u8>, Stop>
 ///
 /// # Errors
 ///
-/// `ZoneTooLarge` at the input as a whole where the text has more than [`TEXT_LIMIT`] octets, before the first octet;
-/// `Write` where the writer failed, as one of std does that answers an error or takes no octet; `Memory`. After the last
-/// two a proper prefix of the text was written.
+/// `ZoneTooLarge` at the input as a whole where the text has more than [`TEXT_LIMIT`] octets,
+/// before the first octet; `Write` where the writer failed, as one of std does that answers an
+/// error or takes no octet; `Memory`. After the last two a proper prefix of the text was written.
 pub fn write_zone<W: OctetWriter>(alloc: Global, zone: &Zone, writer: &mut W) -> Result<(), Stop>
     ensures text { OnOk result
         (Appends (W.state writer.old).octets (W.state writer.new).octets (canon zone.now)) }
@@ -113,8 +113,9 @@ pub fn push_zone_within(alloc: Global, zone: &Zone, limit: u64) -> Result<Vec<u8
 ///
 /// # Errors
 ///
-/// `ZoneTooLarge` at the input as a whole where the text has more than `limit` octets, before the first octet; `Write` where
-/// the writer failed; `Memory`. After the last two a proper prefix of the text was written.
+/// `ZoneTooLarge` at the input as a whole where the text has more than `limit` octets, before the
+/// first octet; `Write` where the writer failed; `Memory`. After the last two a proper prefix of
+/// the text was written.
 pub fn write_zone_within<W: OctetWriter>(
     alloc: Global,
     zone: &Zone,

@@ -9,8 +9,8 @@ use zone_rdata::Stop;
 
 /// What octets are written to. Every writer of std is one.
 ///
-/// All that writes is proved for every `state`. So it answers `Write` only where a call of the writer
-/// did, and where one did it answers `Write`, and calls it no more.
+/// All that writes is proved for every `state`. So it answers `Write` only where a call of the
+/// writer did, and where one did it answers `Write`, and calls it no more.
 pub trait OctetWriter {
     /// The octets that it holds, where they are known; that no call of it has failed; and that its
     /// last call failed, and none before.
@@ -45,7 +45,8 @@ impl<W: Write> OctetWriter for W {
     }
 }
 
-/// Writes all these octets. Every error of the writer ends it, `Interrupted` too. It doesn't flush the writer.
+/// Writes all these octets. Every error of the writer ends it, `Interrupted` too. It doesn't flush
+/// the writer.
 ///
 /// # Errors
 ///

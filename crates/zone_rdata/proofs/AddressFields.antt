@@ -1,6 +1,6 @@
 -- An address in text has the octets that its field holds.
-use Rattle.zone_rdata.proofs.Common.{◌≡◌, ℕ, List, sym, ◌∙◌, arith, Err, Option, Some, None, IfNone, ok_or, Failing, IsIpv4Address, IsIpv6Address, AreFixed, IsAddress, of_ipv4, of_ipv6, BadRdata}
-use Rattle.zone_rdata.specs.declared.fault.Failing.TheVariants as failings
+use Rattle.zone_rdata.proofs.Common.{◌≡◌, ℕ, List, ap, sym, ◌∙◌, arith, Err, Option, Some, None, IfNone, ok_or, Cause, fault_for, NoValue, IsIpv4Address, IsIpv6Address, AreFixed, IsAddress, of_ipv4, of_ipv6, BadRdata}
+use Rattle.zone_rdata.specs.declared.cause.Cause.TheVariants as causes
 use Rattle.zone_rdata.proofs.AddressOctets.{ipv4_count, ipv4_bytes, ipv6_count, ipv6_bytes}
 
 -- an address of n octets has n octets
@@ -17,12 +17,12 @@ no_ipv6 n text is none octets (of_ipv4 e h) = absurd (omega arith)
 no_ipv6 n text is none octets (of_ipv6 e h) = none octets h
 
 -- the refusal of an address that no text states
-missing : {A : Type 0} (found : Option A) (refusal e : Failing) (N : Type 0) → Err e ≡ ok_or found refusal → IfNone found N → (e ≡ refusal) × N
+missing : {A : Type 0} (found : Option A) (refusal e : Cause) (N : Type 0) → Err e ≡ ok_or found refusal → IfNone found N → (e ≡ refusal) × N
 missing None refusal e N h none = (cc, none)
 missing (Some a) refusal e N h none = absurd (cc)
 
-pub ipv4_missing : {A : Type 0} (found : Option A) (refusal e : Failing) (n : ℕ) (text : List ℕ) → refusal ≡ failings.Fault BadRdata → n ≡ 4 → Err e ≡ ok_or found refusal → IfNone found ((octets : List ℕ) → IsIpv4Address text octets → ⊥) → (e ≡ failings.Fault BadRdata) × ((octets : List ℕ) → IsAddress n text octets → ⊥)
-ipv4_missing found refusal e n text own is h none = let m = missing found refusal e ((octets : List ℕ) → IsIpv4Address text octets → ⊥) h none in (m.0 ∙ own, no_ipv4 n text is m.1)
+pub ipv4_missing : {A : Type 0} (found : Option A) (e : Cause) (n : ℕ) (text : List ℕ) → n ≡ 4 → Err e ≡ ok_or found causes.BadRdata → IfNone found ((octets : List ℕ) → IsIpv4Address text octets → ⊥) → NoValue BadRdata (IsAddress n text) (fault_for e)
+ipv4_missing found e n text is h none = let m = missing found causes.BadRdata e ((octets : List ℕ) → IsIpv4Address text octets → ⊥) h none in (ap fault_for m.0, no_ipv4 n text is m.1)
 
-pub ipv6_missing : {A : Type 0} (found : Option A) (refusal e : Failing) (n : ℕ) (text : List ℕ) → refusal ≡ failings.Fault BadRdata → n ≡ 16 → Err e ≡ ok_or found refusal → IfNone found ((octets : List ℕ) → IsIpv6Address text octets → ⊥) → (e ≡ failings.Fault BadRdata) × ((octets : List ℕ) → IsAddress n text octets → ⊥)
-ipv6_missing found refusal e n text own is h none = let m = missing found refusal e ((octets : List ℕ) → IsIpv6Address text octets → ⊥) h none in (m.0 ∙ own, no_ipv6 n text is m.1)
+pub ipv6_missing : {A : Type 0} (found : Option A) (e : Cause) (n : ℕ) (text : List ℕ) → n ≡ 16 → Err e ≡ ok_or found causes.BadRdata → IfNone found ((octets : List ℕ) → IsIpv6Address text octets → ⊥) → NoValue BadRdata (IsAddress n text) (fault_for e)
+ipv6_missing found e n text is h none = let m = missing found causes.BadRdata e ((octets : List ℕ) → IsIpv6Address text octets → ⊥) h none in (ap fault_for m.0, no_ipv6 n text is m.1)

@@ -153,24 +153,30 @@ built class kind count octets = record { class = class; kind = kind; parts = par
 grown_octets : (laid : Option (List Field)) (count : ℕ) (octets : List ℕ) (part : FieldValue) → ArePushedParts laid count octets → octets_of (parts_held laid count octets ++ part ∷ []) ≡ octets ++ field_octets part
 grown_octets laid count octets part held = octets_push (parts_held laid count octets) part ∙ ap (λ o. o ++ field_octets part) (parts_octets laid count octets held)
 
-next_parts : (class kind count : ℕ) (octets : List ℕ) (part : FieldValue) → IsBuilt class kind count octets → IsNext (layout class kind) count part → IsNext (layout class kind) (length (parts_held (layout class kind) count octets)) part
-next_parts class kind count octets part is next = subst (λ n. IsNext (layout class kind) n part) (sym (parts_length (layout class kind) count octets is.held)) next
+-- the layout that is held is that of the class and type
+by_layout : (class kind : ℕ) (laid : Option (List Field)) (count : ℕ) (octets : List ℕ) (part : FieldValue) → IsBuilt class kind laid count octets → IsNext laid count part → IsNext (layout class kind) count part
+by_layout class kind laid count octets part is next = subst (λ l. IsNext l count part) is.looked_up next
 
-pub push_misplaced : (class kind count : ℕ) (octets : List ℕ) (b : Built) (part : FieldValue) (r : Bool) → built class kind count octets ≡ b → IsBuilt class kind count octets → r ≡ false → (IsTrue r ↔ IsNext (layout class kind) count part) → IsPushFault b part BadRdata
-push_misplaced class kind count octets b part r e is refused test = grind (arith, parts_length, false, true, misplaced, layout)
+next_parts : (class kind : ℕ) (laid : Option (List Field)) (count : ℕ) (octets : List ℕ) (part : FieldValue) → IsBuilt class kind laid count octets → IsNext laid count part → IsNext (layout class kind) (length (parts_held (layout class kind) count octets)) part
+next_parts class kind laid count octets part is next = subst (λ n. IsNext (layout class kind) n part) (sym (parts_length (layout class kind) count octets is.held)) (by_layout class kind laid count octets part is next)
 
-over_push : (class kind count : ℕ) (octets : List ℕ) (part : FieldValue) (fault : Fault) → IsBuilt class kind count octets → IsNext (layout class kind) count part → IsOver octets part fault → IsPushFault (built class kind count octets) part fault
-over_push class kind count octets part _ is next (over_string none) = long_string (next_parts class kind count octets part is next) none
-over_push class kind count octets part _ is next (over_data fits h) = too_long (next_parts class kind count octets part is next) fits (omega (arith, ap length (grown_octets (layout class kind) count octets part is.held), length-append octets (field_octets part)))
+pub push_misplaced : (class kind : ℕ) (laid : Option (List Field)) (count : ℕ) (octets : List ℕ) (b : Built) (part : FieldValue) (r : Bool) → built class kind count octets ≡ b → IsBuilt class kind laid count octets → r ≡ false → (IsTrue r ↔ IsNext laid count part) → IsPushFault b part BadRdata
+push_misplaced class kind laid count octets b part r e is refused test =
+    let own : IsTrue r ↔ IsNext (layout class kind) count part = subst (λ l. IsTrue r ↔ IsNext l count part) is.looked_up test in
+    grind (arith, parts_length, false, true, misplaced, layout)
 
-pub push_over : (class kind count : ℕ) (octets : List ℕ) (b : Built) (part : FieldValue) (fault : Fault) → built class kind count octets ≡ b → IsBuilt class kind count octets → IsNext (layout class kind) count part → IsOver octets part fault → IsPushFault b part fault
-push_over class kind count octets b part fault e is next over = subst (λ v. IsPushFault v part fault) e (over_push class kind count octets part fault is next over)
+over_push : (class kind : ℕ) (laid : Option (List Field)) (count : ℕ) (octets : List ℕ) (part : FieldValue) (fault : Fault) → IsBuilt class kind laid count octets → IsNext laid count part → IsOver octets part fault → IsPushFault (built class kind count octets) part fault
+over_push class kind laid count octets part _ is next (over_string none) = long_string (next_parts class kind laid count octets part is next) none
+over_push class kind laid count octets part _ is next (over_data fits h) = too_long (next_parts class kind laid count octets part is next) fits (omega (arith, ap length (grown_octets (layout class kind) count octets part is.held), length-append octets (field_octets part)))
 
-pub push_built : (class kind count : ℕ) (octets new : List ℕ) (part : FieldValue) → IsBuilt class kind count octets → IsNext (layout class kind) count part → IsReal part → Grows octets part new → IsBuilt class kind (count + 1) new
-push_built class kind count octets new part is next real g = grind (arith, pushed_part (layout class kind) count octets part is.held next g.string_fits real, length-append octets (field_octets part))
+pub push_over : (class kind : ℕ) (laid : Option (List Field)) (count : ℕ) (octets : List ℕ) (b : Built) (part : FieldValue) (fault : Fault) → built class kind count octets ≡ b → IsBuilt class kind laid count octets → IsNext laid count part → IsOver octets part fault → IsPushFault b part fault
+push_over class kind laid count octets b part fault e is next over = subst (λ v. IsPushFault v part fault) e (over_push class kind laid count octets part fault is next over)
 
-pub push_made : (class kind count : ℕ) (octets new : List ℕ) (b : Built) (part : FieldValue) → built class kind count octets ≡ b → IsBuilt class kind count octets → IsNext (layout class kind) count part → IsReal part → Grows octets part new → Pushes b part (built class kind (count + 1) new)
-push_made class kind count octets new b part e is next real g = grind (arith, pushed_part (layout class kind) count octets part is.held next g.string_fits real, next_parts class kind count octets part is next, grown_octets (layout class kind) count octets part is.held, length-append octets (field_octets part))
+pub push_built : (class kind : ℕ) (laid : Option (List Field)) (count : ℕ) (octets new : List ℕ) (part : FieldValue) → IsBuilt class kind laid count octets → IsNext laid count part → IsReal part → Grows octets part new → IsBuilt class kind laid (count + 1) new
+push_built class kind laid count octets new part is next real g = grind (arith, pushed_part (layout class kind) count octets part is.held (by_layout class kind laid count octets part is next) g.string_fits real, length-append octets (field_octets part))
+
+pub push_made : (class kind : ℕ) (laid : Option (List Field)) (count : ℕ) (octets new : List ℕ) (b : Built) (part : FieldValue) → built class kind count octets ≡ b → IsBuilt class kind laid count octets → IsNext laid count part → IsReal part → Grows octets part new → Pushes b part (built class kind (count + 1) new)
+push_made class kind laid count octets new b part e is next real g = grind (arith, pushed_part (layout class kind) count octets part is.held (by_layout class kind laid count octets part is next) g.string_fits real, next_parts class kind laid count octets part is next, grown_octets (layout class kind) count octets part is.held, length-append octets (field_octets part))
 
 -- ---- the end
 pub whole_parts : (laid : Option (List Field)) (count : ℕ) (octets : List ℕ) → ArePushedParts laid count octets → least_of laid ≤ count → IsWhole laid (parts_held laid count octets)
@@ -182,11 +188,15 @@ missing_part laid count octets held few whole = grind (arith, parts_length)
 parts_for : (class kind : ℕ) (laid : Option (List Field)) (count : ℕ) (octets : List ℕ) → laid ≡ layout class kind → ArePushedParts laid count octets → least_of laid ≤ count → AreFor laid octets
 parts_for class kind laid count octets e held past = grind (arith, whole_laid, table_row)
 
-pub parts_data : (class kind count : ℕ) (octets : List ℕ) → IsBuilt class kind count octets → least_of (layout class kind) ≤ count → AreOctets octets → IsRdata (record { class = class; kind = kind; octets = octets })
-parts_data class kind count octets is past each = grind (arith, parts_for class kind (layout class kind) count octets refl is.held past)
+pub parts_data : (class kind : ℕ) (laid : Option (List Field)) (count : ℕ) (octets : List ℕ) → IsBuilt class kind laid count octets → least_of laid ≤ count → AreOctets octets → IsRdata (record { class = class; kind = kind; octets = octets })
+parts_data class kind laid count octets is past each = grind (arith, parts_for class kind (layout class kind) count octets refl is.held (subst (λ l. least_of l ≤ count) is.looked_up past))
 
-pub finish_missing : (class kind count : ℕ) (octets : List ℕ) (b : Built) → built class kind count octets ≡ b → IsBuilt class kind count octets → count < least_of (layout class kind) → IsWhole (layout b.class b.kind) b.parts → ⊥
-finish_missing class kind count octets b e is few whole = grind (arith, missing_part)
+pub finish_missing : (class kind : ℕ) (laid : Option (List Field)) (count : ℕ) (octets : List ℕ) (b : Built) → built class kind count octets ≡ b → IsBuilt class kind laid count octets → count < least_of laid → IsWhole (layout b.class b.kind) b.parts → ⊥
+finish_missing class kind laid count octets b e is few whole =
+    let fewer : count < least_of (layout class kind) = subst (λ l. count < least_of l) is.looked_up few in
+    grind (arith, missing_part)
 
-pub finish_made : (class kind count : ℕ) (octets : List ℕ) (b : Built) (d : Data) → built class kind count octets ≡ b → IsBuilt class kind count octets → least_of (layout class kind) ≤ count → d ≡ record { class = class; kind = kind; octets = octets } → IsWhole (layout b.class b.kind) b.parts × (d ≡ record { class = b.class; kind = b.kind; octets = octets_of b.parts })
-finish_made class kind count octets b d e is past made = grind (arith, whole_parts, parts_octets)
+pub finish_made : (class kind : ℕ) (laid : Option (List Field)) (count : ℕ) (octets : List ℕ) (b : Built) (d : Data) → built class kind count octets ≡ b → IsBuilt class kind laid count octets → least_of laid ≤ count → d ≡ record { class = class; kind = kind; octets = octets } → IsWhole (layout b.class b.kind) b.parts × (d ≡ record { class = b.class; kind = b.kind; octets = octets_of b.parts })
+finish_made class kind laid count octets b d e is past made =
+    let enough : least_of (layout class kind) ≤ count = subst (λ l. least_of l ≤ count) is.looked_up past in
+    grind (arith, whole_parts, parts_octets)

@@ -30,8 +30,9 @@ pub use Rattle.zone_name.specs.Text.{label_text, name_text, octet_text}
 pub use Rattle.zone_name.specs.declared.fault.NameFault.{NameFault}
 pub use Rattle.zone_rdata.specs.Address.{AddressPart, AreAround, AreNumbers, AreParts, ArePartsOf, IsAddressOctet, IsGroup, IsIpv4Address, IsIpv6Address, IsLastPart, IsOctetNumber, IsShortenedRun, IsZeroRun, eight, fewer, ipv4_text, ipv6_text, parted_groups, parts_octets, parts_text, shortened_groups}
 pub use Rattle.zone_rdata.specs.Builder.{Built, FitsString, IsNext, IsOpaque, IsPushFault, IsWhole, Pushes, ends_with_strings, misplaced, part_at}
+pub use Rattle.zone_rdata.specs.Cause.{fault_for}
 pub use Rattle.zone_rdata.specs.DataFault.{FirstFieldFault, IsDataFault, IsFaultFor, IsGenericDataFault, IsWordsFault, in_generic_form, malformed, no_value, opaque_words, too_long, unspelt}
-pub use Rattle.zone_rdata.specs.Fault.{IfFault, fault_of}
+pub use Rattle.zone_rdata.specs.Fault.{IfFault, NoValue, fault_of}
 pub use Rattle.zone_rdata.specs.Field.{FieldValue, Holds, IsFieldFault, IsSent, SpellsField, Suits, field_at, field_items, field_octets, field_text, fixed, is_strings, items_after, name, octets_of, own_items, string, strings, u16_value, u32_value, values_of}
 pub use Rattle.zone_rdata.specs.Fields.Address.{AreFixed, IsAddress, address_text, of_ipv4, of_ipv6}
 pub use Rattle.zone_rdata.specs.Fields.OneString.{string_at, string_item}
@@ -57,6 +58,7 @@ pub use Rattle.zone_rdata.specs.Table.{Named, NamedType, ascend, ascends, classe
 pub use Rattle.zone_rdata.specs.Text.{data_items, data_text, generic_text, laid_out_items, written_item}
 pub use Rattle.zone_rdata.specs.Uncompressed.{AreSent, IsUncompressed}
 pub use Rattle.zone_rdata.specs.Words.{IsClass, IsClassWord, IsKind, IsKindWord, IsMnemonic, IsNumbered, IsWordAmong, IsWordFault, beyond, by_mnemonic, by_number, class_text, for_queries, is_meta, kind_text, laid_out_mnemonic, nameless, word_or_numbered}
+pub use Rattle.zone_rdata.specs.declared.cause.Cause.{Cause}
 pub use Rattle.zone_rdata.specs.declared.fault.Failing.{Failing}
 pub use Rattle.zone_rdata.specs.declared.fault.Fault.{Fault}
 pub use Rattle.zone_rdata.specs.declared.fault.Fault.TheVariants.{BadEscape, BadGeneric, BadNumber, BadRdata, MetaType, RdataTooLong, StringTooLong, UnknownType}

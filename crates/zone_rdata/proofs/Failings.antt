@@ -22,7 +22,3 @@ stopped e = Err e
 -- likewise where the callee says what each fault is that it answers
 pub each_fault_passed : {T : Type 0} (r : Result T Failing) (e : Failing) (P Q : Fault → Type 0) → IsErrAnd r (λ y. y ≡ e) → ((fault : Fault) → P fault → Q fault) → ((fault : Fault) → stopped e ≡ Err (failings.Fault fault) → P fault) → IfErr r (IfFault Q)
 each_fault_passed r e P Q is goes h = grind (arith, if_fault_passed)
-
--- the answer of a `?` on a failing that is such a fault
-pub same_fault_answered : {T : Type 0} (r : Result T Failing) (e : Failing) (own : Fault) (P : Fault → Type 0) → IsErrAnd r (λ y. y ≡ e) → e ≡ failings.Fault own → P own → IfErr r (IfFault P)
-same_fault_answered r e own P is same holds = grind (arith, if_fault_passed)

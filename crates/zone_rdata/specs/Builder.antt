@@ -8,6 +8,7 @@ use Rattle.zone_rdata.specs.declared.field.Field.{Field}
 use Rattle.zone_rdata.specs.declared.field.Field.TheVariants.{Strings}
 use Rattle.zone_rdata.specs.Field.{FieldValue, fixed, string, Suits, is_strings, octets_of}
 use Rattle.zone_rdata.specs.Layout.{layout}
+use Rattle.zone_rdata.specs.Limits.{longest_data}
 
 -- Class, type and the parts that were pushed, one for each call: a value for each field in order,
 -- each of several strings by itself, and the octets of opaque data as one part
@@ -46,7 +47,7 @@ FitsString part = ⊤
 pub record Pushes (old : Built) (part : FieldValue) (new : Built) : Type 0 where
   pub next : IsNext (layout old.class old.kind) (length old.parts) part
   pub string_fits : FitsString part
-  pub fits : length (octets_of (old.parts ++ part ∷ [])) ≤ 65535
+  pub fits : length (octets_of (old.parts ++ part ∷ [])) ≤ longest_data
   pub made : new ≡ record old { parts = old.parts ++ part ∷ [] }
 
 -- The first fault of a push: the part isn't the next, a string is too long, or all is too long
@@ -56,7 +57,7 @@ pub data IsPushFault (b : Built) (part : FieldValue) : Fault → Type 0 where
   long_string : IsNext (layout b.class b.kind) (length b.parts) part → (FitsString part → ⊥)
       → IsPushFault b part StringTooLong
   too_long : IsNext (layout b.class b.kind) (length b.parts) part → FitsString part
-      → 65535 < length (octets_of (b.parts ++ part ∷ [])) → IsPushFault b part RdataTooLong
+      → longest_data < length (octets_of (b.parts ++ part ∷ [])) → IsPushFault b part RdataTooLong
 
 -- nothing is missing: a part for each field, strings at least one; opaque data its one part
 abbrev pub IsWhole : Option (List Field) → List FieldValue → Type 0

@@ -11,6 +11,7 @@ use Rattle.zone_rdata.specs.Item.{RawItem, IsGeneric}
 use Rattle.zone_rdata.specs.Layout.{layout}
 use Rattle.zone_rdata.specs.Spelling.{SpellEach}
 use Rattle.zone_rdata.specs.Uncompressed.{IsUncompressed}
+use Rattle.zone_rdata.specs.Limits.{longest_data}
 
 -- The first fault of items from the left: the items of the next field spell no value of it, or
 -- after the last field an item is left over
@@ -28,7 +29,7 @@ pub data IsWordsFault (origin : Labels) (fields : List Field)
   unspelt : (fault : Fault) → FirstFieldFault origin fields items fault
       → IsWordsFault origin fields items fault
   too_long : (values : List FieldValue) → SpellEach origin fields items values
-      → 65535 < length (octets_of values) → IsWordsFault origin fields items RdataTooLong
+      → longest_data < length (octets_of values) → IsWordsFault origin fields items RdataTooLong
 
 -- why items in the generic form state no data for a layout, if there is one: the form's own fault,
 -- or octets that are not exactly one value

@@ -1,4 +1,5 @@
--- The table of faults: number, name and what is wrong (this project's own). `docs/FAULTS.md` lists them.
+-- The table of faults: number, name and what is wrong (this project's own). `docs/FAULTS.md` lists
+-- them.
 use Rattle.std.specs.Prelude.{ℕ, List, codes}
 use Rattle.zone_rdata.specs.declared.fault.Fault.{Fault}
 use Rattle.zone_rdata.specs.declared.fault.Fault.TheVariants as faults

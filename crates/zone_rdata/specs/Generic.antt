@@ -5,6 +5,7 @@ use Rattle.zone_rdata.specs.declared.fault.Fault.{Fault}
 use Rattle.zone_rdata.specs.declared.fault.Fault.TheVariants.{BadGeneric, RdataTooLong}
 use Rattle.zone_rdata.specs.Number.{IsDecimal}
 use Rattle.zone_rdata.specs.Item.{RawItem, bare, quoted, generic_mark, IsGeneric}
+use Rattle.zone_rdata.specs.Limits.{longest_data}
 
 -- a bare item of decimal digits that stand for the number
 abbrev pub StatesLength : RawItem → ℕ → Type 0
@@ -29,7 +30,7 @@ JoinTo (quoted text ∷ items) octets = ⊥
 pub record StatesGeneric (items : List RawItem) (octets : List ℕ) : Type 0 where
   pub digits : List RawItem
   pub form : IsGenericForm items (length octets) digits
-  pub short : length octets ≤ 65535
+  pub short : length octets ≤ longest_data
   pub joined : JoinTo digits octets
 
 -- The first fault of items that begin with the mark: no length in decimal, a length over 65,535, or
@@ -37,9 +38,9 @@ pub record StatesGeneric (items : List RawItem) (octets : List ℕ) : Type 0 whe
 pub data GenericFault (items : List RawItem) : Fault → Type 0 where
   no_length : IsGeneric items → ((n : ℕ) (digits : List RawItem) → IsGenericForm items n digits → ⊥)
       → GenericFault items BadGeneric
-  long_length : (n : ℕ) (digits : List RawItem) → IsGenericForm items n digits → 65535 < n
+  long_length : (n : ℕ) (digits : List RawItem) → IsGenericForm items n digits → longest_data < n
       → GenericFault items RdataTooLong
-  bad_digits : (n : ℕ) (digits : List RawItem) → IsGenericForm items n digits → n ≤ 65535
+  bad_digits : (n : ℕ) (digits : List RawItem) → IsGenericForm items n digits → n ≤ longest_data
       → ((octets : List ℕ) → JoinTo digits octets → length octets ≢ n)
       → GenericFault items BadGeneric
 

@@ -7,6 +7,7 @@ use Rattle.zone_rdata.specs.declared.field.Field.TheVariants.{Octets, Strings}
 use Rattle.zone_rdata.specs.declared.layout.Layout.{Layout}
 use Rattle.zone_rdata.specs.Field.{Holds, values_of, octets_of}
 use Rattle.zone_rdata.specs.Table.{NamedType, in_every, in_one, named, types, in_class}
+use Rattle.zone_rdata.specs.Limits.{longest_data}
 
 -- the fields of a layout, in order
 abbrev pub fields_of : Layout → List Field
@@ -48,6 +49,6 @@ pub record AreLaidOut (fields : List Field) (octets : List ℕ) : Type 0 where
 -- the canonical octets of record data: one value of the layout, or opaque octets where there is
 -- none
 pub record IsData (class kind : ℕ) (octets : List ℕ) : Type 0 where
-  pub short : length octets ≤ 65535
+  pub short : length octets ≤ longest_data
   pub each : AreOctets octets
   pub value : MatchOption (layout class kind) (Unit {0}) (λ fields. AreLaidOut fields octets)

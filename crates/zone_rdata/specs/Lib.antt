@@ -3,6 +3,7 @@ pub mod FaultTable
 pub mod Cause
 pub mod Item
 pub mod Appended
+pub mod Limits
 pub mod Strings
 pub mod Address
 pub mod Number

@@ -1,6 +1,5 @@
 -- What private functions and proofs cite, and no public clause.
 pub mod AddressReading
-pub mod NarrowFailing
 pub mod Printing
 pub mod Appending
 pub mod TimeProgress

@@ -4,6 +4,7 @@ use Rattle.zone_name.specs.Common.{Labels}
 use Rattle.zone_name.specs.Name.{IsName}
 use Rattle.zone_rdata.specs.Words.{IsClass, IsKind}
 use Rattle.zone_rdata.specs.Layout.{IsData}
+use Rattle.zone_rdata.specs.Limits.{greatest_ttl}
 
 -- class, type and canonical octets of record data: in one class and type, equal octets are equal
 -- values
@@ -37,5 +38,5 @@ record_with owner ttl d =
 -- a record that can stand in a zone (RFC 2181 8: a TTL has 31 bits)
 pub record IsRecord (r : Record) : Type 0 where
   pub owner : IsName r.owner
-  pub ttl : r.ttl ≤ 2147483647
+  pub ttl : r.ttl ≤ greatest_ttl
   pub rdata : IsRdata (data_of r)

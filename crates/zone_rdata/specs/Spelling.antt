@@ -7,6 +7,7 @@ use Rattle.zone_rdata.specs.Generic.{StatesGeneric}
 use Rattle.zone_rdata.specs.Layout.{layout}
 use Rattle.zone_rdata.specs.Uncompressed.{IsUncompressed}
 pub use Rattle.zone_rdata.specs.Item.{RawItem, bare, quoted, raw, generic_mark, IsGeneric}
+use Rattle.zone_rdata.specs.Limits.{longest_data}
 
 -- one value for each field, in order, and no item is left
 abbrev pub SpellEach : Labels → List Field → List RawItem → List FieldValue → Type 0
@@ -33,7 +34,7 @@ pub data StatesFor (origin : Labels) (laid : Option (List Field)) (items : List 
     (octets : List ℕ) : Type 0 where
   in_words : (fields : List Field) (values : List FieldValue) → laid ≡ Some fields
       → (IsGeneric items → ⊥) → SpellEach origin fields items values → octets ≡ octets_of values
-      → length octets ≤ 65535 → StatesFor origin laid items octets
+      → length octets ≤ longest_data → StatesFor origin laid items octets
   in_octets : StatesInForm laid items octets → StatesFor origin laid items octets
 
 -- the items state data of a class and type, given by its canonical octets, under an origin

@@ -4,15 +4,16 @@ use Rattle.zone_rdata.specs.declared.fault.Fault.{Fault}
 use Rattle.zone_rdata.specs.declared.fault.Fault.TheVariants.{BadRdata, RdataTooLong}
 use Rattle.zone_rdata.specs.declared.field.Field.{Field}
 use Rattle.zone_rdata.specs.Spelling.{IsCanonicalOf}
+use Rattle.zone_rdata.specs.Limits.{longest_data}
 
 -- RDLENGTH has 16 bits: at most 65,535 octets, that stand for data with these canonical octets
 pub record IsWireData (laid : Option (List Field)) (octets canonical : List ℕ) : Type 0 where
-  pub short : length octets ≤ 65535
+  pub short : length octets ≤ longest_data
   pub stands : IsCanonicalOf laid octets canonical
 
 -- more than 65,535 octets, or octets that aren't exactly one value of the layout
 pub data IsWireFault (laid : Option (List Field)) (octets : List ℕ) : Fault → Type 0 where
-  beyond : 65535 < length octets → IsWireFault laid octets RdataTooLong
-  no_value : length octets ≤ 65535
+  beyond : longest_data < length octets → IsWireFault laid octets RdataTooLong
+  no_value : length octets ≤ longest_data
       → ((canonical : List ℕ) → IsCanonicalOf laid octets canonical → ⊥)
       → IsWireFault laid octets BadRdata

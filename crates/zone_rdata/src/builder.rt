@@ -1,20 +1,19 @@
-ghost use Rattle.std.specs.Prelude.{◌≡◌, ◌↔◌, [], ◌≤◌, length, IsTrue, IfOk, IfErr, IfSome, IfNone, OnOk, OnErr};
+ghost use Rattle.std.specs.Prelude.{◌≡◌, ◌↔◌, [], ◌≤◌, length, IsTrue, IfOk, IfErr, IfSome, IfNone, OnOk, OnErr, option_map};
 ghost use Rattle.zone_rdata.specs.Builder.{Built, IsNext, IsPushFault, IsWhole, Pushes};
 ghost use Rattle.zone_rdata.specs.Machine.Building.{Grows, IsOver, IsReal, least_of};
 ghost use Rattle.zone_rdata.specs.Part.{value_of};
 ghost use Rattle.zone_rdata.specs.Fault.{IfFault};
 ghost use Rattle.zone_rdata.specs.Field.{fixed, u32_value, name, octets_of, string, u16_value};
-ghost use Rattle.zone_rdata.specs.Layout.{layout};
+ghost use Rattle.zone_rdata.specs.Layout.{fields_of, layout};
 
 use crate::cause::Cause;
 use crate::class::Class;
 use crate::fault::{Failing, Fault};
 use crate::kind::Kind;
-use crate::layout::layout_of;
+use crate::layout::{Layout, layout_of};
 use crate::narrow_failing::NarrowFailing;
-use crate::rdata::Rdata;
+use crate::rdata::{LONGEST_DATA, Rdata};
 use crate::reading::are_octets;
-use crate::record::LONGEST_DATA;
 use crate::string::push_with_length;
 use std::alloc::Global;
 use std::marker::Model;
@@ -25,6 +24,8 @@ use zone_name::Name;
 pub struct RdataBuilder {
     class: Class,
     kind: Kind,
+    /// Those of the class and type. `None`: the data is opaque.
+    fields: Option<Layout>,
     /// How many parts were pushed.
     count: usize,
     octets: Vec<u8>,
@@ -33,7 +34,8 @@ pub struct RdataBuilder {
 impl Model for RdataBuilder {
     ghost use Rattle.zone_rdata.specs.Builder.{Built};
     ghost use Rattle.zone_rdata.specs.Machine.Building.{IsBuilt, parts_held};
-    ghost use Rattle.zone_rdata.specs.Layout.{layout};
+    ghost use Rattle.std.specs.Option.{option_map};
+    ghost use Rattle.zone_rdata.specs.Layout.{fields_of, layout};
 
     ghost Value = { Built };
 
@@ -44,7 +46,8 @@ impl Model for RdataBuilder {
           parts = parts_held (layout b.class b.kind) b.count b.octets.items;
         } };
 
-    ghost invariant = { λ b. IsBuilt b.class b.kind b.count b.octets.items };
+    ghost invariant = { λ b.
+        IsBuilt b.class b.kind (option_map fields_of b.fields) b.count b.octets.items };
 }
 
 /// A part of data that is pushed (RFC 1035 3.3).
@@ -75,13 +78,12 @@ impl RdataBuilder {
     pub fn in_buffer(buffer: Vec<u8>, class: Class, kind: Kind) -> RdataBuilder
         ensures { result ≡ record { class = class; kind = kind; parts = [] } }
     {
-        class.known();
-        kind.known();
         let mut octets = buffer;
         octets.clear();
         RdataBuilder {
             class,
             kind,
+            fields: layout_of(class, kind),
             count: 0,
             octets,
         }
@@ -168,13 +170,20 @@ impl RdataBuilder {
         ensures fault { IfErr result (IfFault (IsPushFault self.old (value_of part.entry))) }
         ensures err { OnErr result (self.new ≡ self.old) }
     {
-        if !is_next(self.class, self.kind, self.count, part) {
+        if !is_next(self.fields, self.count, part) {
             return Err(NarrowFailing::of(Cause::BadRdata));
         }
         known(part);
         append(part, &mut self.octets)?;
         self.count += 1;
         Ok(())
+    }
+
+    /// The layout of the class and type. `None`: the data is opaque.
+    pub fn layout(&self) -> Option<Layout>
+        ensures { option_map fields_of result ≡ layout self.now.class self.now.kind }
+    {
+        self.fields
     }
 
     /// The data of the parts that were pushed.
@@ -208,7 +217,7 @@ impl RdataBuilder {
         }) }
         ensures none { IfNone result (IsWhole (layout self.class self.kind) self.parts → ⊥) }
     {
-        if self.count < least_parts(self.class, self.kind) {
+        if self.count < least_parts(self.fields) {
             return None;
         }
         are_octets(&self.octets);
@@ -217,20 +226,21 @@ impl RdataBuilder {
 }
 
 /// The fewest parts that are whole.
-fn least_parts(class: Class, kind: Kind) -> usize
-    ensures { result ≡ least_of (layout class kind) }
+fn least_parts(layout: Option<Layout>) -> usize
+    ensures { result ≡ least_of (option_map fields_of layout) }
 {
-    match layout_of(class, kind) {
+    match layout {
         Some(layout) => layout.fields().len(),
         None => 1,
     }
 }
 
 /// Whether the part can be the next after `count` parts.
-fn is_next(class: Class, kind: Kind, count: usize, part: Part) -> bool
-    ensures { IsTrue result ↔ IsNext (layout class kind) count (value_of part.entry) }
+fn is_next(layout: Option<Layout>, count: usize, part: Part) -> bool
+    ensures { IsTrue result
+        ↔ IsNext (option_map fields_of layout) count (value_of part.entry) }
 {
-    let Some(layout) = layout_of(class, kind) else {
+    let Some(layout) = layout else {
         return count == 0 && matches!(part, Part::Octets(_));
     };
     match layout.part_at(count) {

@@ -1,10 +1,12 @@
 ghost use Rattle.std.specs.Prelude.{◌≡◌};
 ghost use Rattle.zone_rdata.specs.Cause.{fault_for};
+ghost use Rattle.zone_rdata.specs.Fault.{fault_of};
 
 use crate::fault::Fault;
 use zone_name::NameFault;
 
-/// What entries, words, items, data and messages are refused for, in two octets: a `Fault` has room for a name.
+/// Why an entry, a word, an item, data or a message is refused, in two octets: a `Fault` has room
+/// for a name.
 #[derive(Clone, Copy, Debug)]
 pub enum Cause {
     EmptyLabel,
@@ -90,9 +92,15 @@ impl Cause {
     }
 }
 
-impl From<NameFault> for Cause {
-    ghost use Rattle.zone_rdata.specs.Fault.{fault_of};
+impl From<Cause> for Fault {
+    ghost from_gives = { λ cause e. e ≡ fault_for cause };
 
+    fn from(cause: Cause) -> Fault {
+        cause.widened()
+    }
+}
+
+impl From<NameFault> for Cause {
     ghost from_gives = { λ fault e. fault_for e ≡ fault_of fault };
 
     fn from(fault: NameFault) -> Cause {
@@ -103,5 +111,13 @@ impl From<NameFault> for Cause {
             NameFault::BadEscape => Cause::BadEscape,
             NameFault::RelativeName => Cause::RelativeName,
         }
+    }
+}
+
+impl From<NameFault> for Fault {
+    ghost from_gives = { λ fault e. e ≡ fault_of fault };
+
+    fn from(fault: NameFault) -> Fault {
+        Cause::from(fault).widened()
     }
 }

@@ -1,10 +1,10 @@
 ghost use Rattle.std.specs.Prelude.{[], ◌≡◌, ◌↔◌, ◌<◌, ℕ, IfSome, IfNone, IfOk, IfErr, OnOk, OnErr};
 ghost use Rattle.zone_name.specs.Common.{NothingIs};
+ghost use Rattle.zone_rdata.specs.Cause.{fault_for};
 ghost use Rattle.zone_rdata.specs.Words.{IsClass, IsClassWord, class_text};
 
 use crate::cause::Cause;
 use crate::fault::Fault;
-use crate::narrow_fault::NarrowFault;
 use crate::table::{CLASSES, row_of};
 use crate::word::{number_of_word, push_numbered};
 use std::marker::Model;
@@ -29,14 +29,25 @@ impl Model for Class {
     ghost inverse = { λ n. record { number = n } };
 }
 
+/// The number of class IN (RFC 1035 3.2.4).
+pub(crate) const IN: u16 = 1;
+
 impl Class {
-    /// As `from_number`, with a fault of few octets.
-    fn admitted(number: u64) -> Result<Class, NarrowFault>
+    /// IN, the class of the Internet (RFC 1035 3.2.4).
+    pub fn internet() -> Class
+        ensures { result ≡ 1 }
+    {
+        Class { number: IN }
+    }
+
+    /// The class of a number, or why no zone data can have it.
+    fn admitted(number: u64) -> Result<Class, Cause>
         ensures ok { IfOk result (λ class. class ≡ number) }
-        ensures err { IfErr result (λ fault. (fault ≡ Fault.BadClass) × (IsClass number → ⊥)) }
+        ensures err { IfErr result
+            (λ cause. (fault_for cause ≡ Fault.BadClass) × (IsClass number → ⊥)) }
     {
         match u16::try_from(number) {
-            Ok(0 | 254 | 255) | Err(_) => Err(NarrowFault::of(Cause::BadClass)),
+            Ok(0 | 254 | 255) | Err(_) => Err(Cause::BadClass),
             Ok(number) => Ok(Class { number }),
         }
     }
@@ -58,10 +69,7 @@ impl Class {
         ensures some { IfSome result (λ class. class ≡ number) }
         ensures none { IfNone result (IsClass number → ⊥) }
     {
-        match number {
-            0 | 254 | 255 => None,
-            _ => Some(Class { number }),
-        }
+        Class::admitted(u64::from(number)).ok()
     }
 
     /// The class of a word in any letter case: IN, CS, CH, HS or CLASS with a number. `None`: it is
@@ -79,15 +87,15 @@ impl Class {
         Ok(Class::read_word(word)?)
     }
 
-    /// As `from_word`, with a fault of few octets.
+    /// As `from_word`, with the cause of the fault.
     ///
     /// # Errors
     ///
     /// `BadClass` where no zone data can have the class.
-    pub fn read_word(word: &[u8]) -> Result<Option<Class>, NarrowFault>
+    pub fn read_word(word: &[u8]) -> Result<Option<Class>, Cause>
         ensures found { IfOk result (λ class. IfSome class (IsClassWord word.now)) }
         ensures none { IfOk result (λ class. IfNone class (NothingIs (IsClassWord word.now))) }
-        ensures err { IfErr result (λ fault. (fault ≡ Fault.BadClass)
+        ensures err { IfErr result (λ cause. (fault_for cause ≡ Fault.BadClass)
             × ((n : ℕ) × (IsClassWord word.now n × (IsClass n → ⊥)))) }
     {
         match number_of_word(CLASSES, b"CLASS", word) {

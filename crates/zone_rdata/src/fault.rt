@@ -167,20 +167,6 @@ impl Fault {
     }
 }
 
-impl From<NameFault> for Fault {
-    ghost from_gives = { λ fault e. e ≡ fault_of fault };
-
-    fn from(fault: NameFault) -> Fault {
-        match fault {
-            NameFault::EmptyLabel => Fault::EmptyLabel,
-            NameFault::LabelTooLong => Fault::LabelTooLong,
-            NameFault::NameTooLong => Fault::NameTooLong,
-            NameFault::BadEscape => Fault::BadEscape,
-            NameFault::RelativeName => Fault::RelativeName,
-        }
-    }
-}
-
 /// Where a refusal stands.
 #[derive(Clone, Copy, Debug, PartialEq, Eq)]
 pub enum Place {

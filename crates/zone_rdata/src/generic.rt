@@ -1,6 +1,7 @@
 ghost use Rattle.std.specs.Prelude.{◌≡◌, ◌≢◌, ◌≤◌, length, map, IfOk, IfErr, OnOk, Ok, Err};
 ghost use Rattle.hex.specs.Hex.{decode_of};
 ghost use Rattle.zone_name.specs.Common.{Octets};
+ghost use Rattle.zone_rdata.specs.Cause.{fault_for};
 ghost use Rattle.zone_rdata.specs.Fault.{IfFault, NoValue};
 ghost use Rattle.zone_rdata.specs.Generic.{GenericFault, JoinTo, StatesGeneric, StatesLength};
 ghost use Rattle.zone_rdata.specs.Appended.{Appends};
@@ -11,9 +12,8 @@ use crate::cause::Cause;
 use crate::fault::Fault;
 use crate::item::Item;
 use crate::narrow_failing::NarrowFailing;
-use crate::narrow_fault::NarrowFault;
 use crate::number::decimal_of;
-use crate::record::LONGEST_DATA;
+use crate::rdata::LONGEST_DATA;
 use hex::decode_to_slice;
 use std::alloc::Global;
 
@@ -40,17 +40,17 @@ pub(crate) fn octets_of_generic(alloc: Global, items: &[Item]) -> Result<Vec<u8>
 }
 
 /// The number of octets that an item states.
-fn length_of(item: Item) -> Result<usize, NarrowFault>
+fn length_of(item: Item) -> Result<usize, Cause>
     ensures found { IfOk result (λ n. StatesLength (raw item.entry) n) }
     ensures short { IfOk result (λ n. n ≤ LONGEST_DATA) }
-    ensures fault { IfErr result (LengthFault (raw item.entry)) }
+    ensures fault { IfErr result (λ cause. LengthFault (raw item.entry) (fault_for cause)) }
 {
     let Item::Bare(text) = item else {
-        return Err(NarrowFault::of(Cause::BadGeneric));
+        return Err(Cause::BadGeneric);
     };
     match decimal_of(text) {
-        None => Err(NarrowFault::of(Cause::BadGeneric)),
-        Some(number) if number > LONGEST_DATA as u64 => Err(NarrowFault::of(Cause::RdataTooLong)),
+        None => Err(Cause::BadGeneric),
+        Some(number) if number > LONGEST_DATA as u64 => Err(Cause::RdataTooLong),
         Some(number) => Ok(number as usize),
     }
 }

@@ -1,11 +1,11 @@
 ghost use Rattle.std.specs.Prelude.{[], ◌≡◌, ◌↔◌, ◌<◌, ℕ, IsTrue, IfSome, IfNone, IfOk, IfErr, OnOk, OnErr, ◌≤◌};
+ghost use Rattle.zone_rdata.specs.Cause.{fault_for};
 ghost use Rattle.zone_rdata.specs.Words.{IsKind, IsKindWord, kind_text, IsWordFault};
 
 use crate::cause::Cause;
 use crate::class::Class;
 use crate::fault::Fault;
 use crate::layout::row_in;
-use crate::narrow_fault::NarrowFault;
 use crate::table::TYPES;
 use crate::word::{number_of_word, push_numbered};
 use std::marker::Model;
@@ -34,16 +34,16 @@ impl Model for Kind {
 const SOA: u16 = 6;
 
 impl Kind {
-    /// As `from_number`, with a fault of few octets.
-    fn admitted(number: u64) -> Result<Kind, NarrowFault>
+    /// The type of a number, or why no record can have it.
+    fn admitted(number: u64) -> Result<Kind, Cause>
         ensures ok { IfOk result (λ kind. kind ≡ number) }
-        ensures err { IfErr result (λ fault. (number < 65536 → fault ≡ Fault.MetaType)
-            × (65536 ≤ number → fault ≡ Fault.UnknownType) × (IsKind number → ⊥)) }
+        ensures err { IfErr result (λ cause. (number < 65536 → fault_for cause ≡ Fault.MetaType)
+            × (65536 ≤ number → fault_for cause ≡ Fault.UnknownType) × (IsKind number → ⊥)) }
     {
         match u16::try_from(number) {
-            Ok(0 | 41 | 128..=255) => Err(NarrowFault::of(Cause::MetaType)),
+            Ok(0 | 41 | 128..=255) => Err(Cause::MetaType),
             Ok(number) => Ok(Kind { number }),
-            Err(_) => Err(NarrowFault::of(Cause::UnknownType)),
+            Err(_) => Err(Cause::UnknownType),
         }
     }
 
@@ -66,10 +66,7 @@ impl Kind {
         ensures some { IfSome result (λ kind. kind ≡ number) }
         ensures none { IfNone result (IsKind number → ⊥) }
     {
-        match number {
-            0 | 41 | 128..=255 => None,
-            _ => Some(Kind { number }),
-        }
+        Kind::admitted(u64::from(number)).ok()
     }
 
     /// The type of this number, which was judged before.
@@ -93,19 +90,19 @@ impl Kind {
         Ok(Kind::read_word(word)?)
     }
 
-    /// As `from_word`, with a fault of few octets.
+    /// As `from_word`, with the cause of the fault.
     ///
     /// # Errors
     ///
     /// `UnknownType` where it is no such word or the number is over 65535, and `MetaType` where no
     /// record can have the type.
-    pub fn read_word(word: &[u8]) -> Result<Kind, NarrowFault>
+    pub fn read_word(word: &[u8]) -> Result<Kind, Cause>
         ensures found { IfOk result (IsKindWord word.now) }
-        ensures err { IfErr result (IsWordFault word.now) }
+        ensures err { IfErr result (λ cause. IsWordFault word.now (fault_for cause)) }
     {
         match number_of_word(TYPES, b"TYPE", word) {
             Some(number) => Kind::admitted(number),
-            None => Err(NarrowFault::of(Cause::UnknownType)),
+            None => Err(Cause::UnknownType),
         }
     }
 

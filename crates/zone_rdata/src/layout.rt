@@ -3,7 +3,7 @@ ghost use Rattle.zone_rdata.specs.Builder.{ends_with_strings, part_at};
 ghost use Rattle.zone_rdata.specs.Layout.{layout, fields_of};
 ghost use Rattle.zone_rdata.specs.Words.{IsClass, IsKind, laid_out_mnemonic};
 
-use crate::class::Class;
+use crate::class::{Class, IN};
 use crate::field::Field;
 use crate::kind::Kind;
 use crate::table::{TYPES, TypeRow, row_of};
@@ -13,9 +13,6 @@ use crate::table::{TYPES, TypeRow, row_of};
 pub struct Layout {
     fields: &'static [Field],
 }
-
-/// The number of class IN (RFC 1035 3.2.4).
-const IN: u16 = 1;
 
 /// The row of a type whose data has a layout in a class.
 pub(crate) fn row_in(class: Class, kind: Kind) -> Option<&'static TypeRow>

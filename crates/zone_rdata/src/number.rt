@@ -1,10 +1,10 @@
 ghost use Rattle.std.specs.Prelude.{[], ◌≡◌, ◌<◌, ◌≤◌, Some, decimal, IfOk, IfErr, IfSome, IfNone, OnErr, OnOk};
 ghost use Rattle.zone_name.specs.Common.{NothingIs};
+ghost use Rattle.zone_rdata.specs.Cause.{fault_for};
 ghost use Rattle.zone_rdata.specs.Number.{IsCapped, IsDecimal};
 
 use crate::cause::Cause;
-use crate::fault::{Failing, Fault};
-use crate::narrow_failing::NarrowFailing;
+use crate::fault::Fault;
 use itoa::Buffer;
 use zone_name::Sink;
 
@@ -31,14 +31,14 @@ pub fn decimal_of(text: &[u8]) -> Option<u64>
 }
 
 /// The number that was read, where it is at most `most`.
-pub(crate) fn at_most(most: u32, number: Option<u64>) -> Result<u32, NarrowFailing>
+pub(crate) fn at_most(most: u32, number: Option<u64>) -> Result<u32, Cause>
     ensures found { IfOk result (λ n. (number ≡ Some n) × (n ≤ most)) }
     ensures fault { IfErr result
-        (λ e. (e ≡ Failing.Fault Fault.BadNumber) × IfSome number (λ n. most < n)) }
+        (λ cause. (fault_for cause ≡ Fault.BadNumber) × IfSome number (λ n. most < n)) }
 {
     match number {
         Some(number) if number <= u64::from(most) => Ok(number as u32),
-        _ => Err(NarrowFailing::of(Cause::BadNumber)),
+        _ => Err(Cause::BadNumber),
     }
 }
 

@@ -1,11 +1,12 @@
 //! The records that a source has decided and not given yet.
-ghost use Rattle.std.specs.Prelude.{◌≡◌, ◌≤◌, ◌∷◌, ◌++◌, [], None, OnOk, OnErr, option_map};
+ghost use Rattle.std.specs.Prelude.{◌≡◌, ◌≤◌, ◌∷◌, ◌++◌, [], None, Some, OnOk, OnErr, option_map};
 ghost use Rattle.zone_rdata.specs.Lent.{placed_of};
 ghost use Rattle.zone_rdata.specs.Record.{IsRecord, record_with};
 ghost use Rattle.zone_rdata.specs.RrSource.{first_record, others};
 
-use crate::fault::{Fault, Place, Stop};
+use crate::fault::{Failing, Fault, Place, Stop};
 use crate::lent::PlacedRef;
+use crate::narrow_failing::NarrowFailing;
 use crate::rdata::Rdata;
 use crate::record::{MAX_TTL, Placed, Rr};
 use crate::rr_source::{LendingSource, Reading, RrSource, record_or_ending};
@@ -137,6 +138,29 @@ impl PendingRecords {
         PendingRecords {
             placed: RecordQueue::new(alloc),
             ending: None,
+        }
+    }
+
+    /// Decides the fault after the records, and passes `Memory` on.
+    ///
+    /// # Errors
+    ///
+    /// `AllocError` where memory was refused. They are unchanged.
+    // Not inlined: a fault has room for a name, and only what is refused needs it.
+    #[cold]
+    #[inline(never)]
+    pub fn refuse(&mut self, failing: NarrowFailing, place: Place) -> Result<(), AllocError>
+        ensures decided { OnOk result ((fault : Fault) × (failing ≡ Failing.Fault fault)
+            × (self.new ≡ record self.old { ending = Some (fault, place) })) }
+        ensures memory { OnErr result (failing ≡ Failing.Memory) }
+        ensures unchanged { OnErr result (self.new ≡ self.old) }
+    {
+        match Failing::from(failing) {
+            Failing::Fault(fault) => {
+                self.ending = Some((fault, place));
+                Ok(())
+            }
+            Failing::Memory => Err(AllocError),
         }
     }
 

@@ -23,11 +23,13 @@ use crate::minimum::last_number_of;
 use crate::narrow_failing::NarrowFailing;
 use crate::printing::push_data;
 use crate::reading::{are_octets, is_generic, octets_of_items};
-use crate::record::LONGEST_DATA;
 use crate::uncompressed::{canonical_for, canonical_of};
 use std::alloc::{AllocError, Global};
 use std::marker::Model;
 use zone_name::{Name, Sink};
+
+/// The most octets of record data: its length is a number of 16 bits (RFC 1035 3.2.1).
+pub(crate) const LONGEST_DATA: usize = 65535;
 
 /// The data of a record: class, type and canonical octets (RFC 1035 3.2.1). Contracts see these
 /// three.
@@ -235,10 +237,10 @@ impl Rdata {
     pub fn soa_minimum(&self) -> Option<u32>
         ensures { result ≡ minimum self.now }
     {
-        match layout_of(self.class, self.kind) {
-            Some(layout) if self.kind.is_soa() => last_number_of(layout, &self.octets),
-            _ => None,
+        if !self.kind.is_soa() {
+            return None;
         }
+        last_number_of(layout_of(self.class, self.kind)?, &self.octets)
     }
 
     /// Appends the canonical text. Where memory is refused, `out` is unchanged.

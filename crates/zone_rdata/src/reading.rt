@@ -11,7 +11,7 @@ use crate::fault::{Failing, Fault};
 use crate::item::Item;
 use crate::layout::Layout;
 use crate::narrow_failing::NarrowFailing;
-use crate::record::LONGEST_DATA;
+use crate::rdata::LONGEST_DATA;
 use zone_name::Name;
 
 /// That octets are below 256.

@@ -13,9 +13,6 @@ use zone_name::{Name, NameRef};
 /// The greatest TTL, in seconds (RFC 2181 8).
 pub const MAX_TTL: u32 = 2147483647;
 
-/// The most octets of record data: its length is a number of 16 bits (RFC 1035 3.2.1).
-pub(crate) const LONGEST_DATA: usize = 65535;
-
 /// A resource record (RFC 1035 3.2.1) with a TTL of 31 bits (RFC 2181 8).
 #[derive(Debug, Drop)]
 pub struct Rr {

@@ -1,10 +1,10 @@
 ghost use Rattle.std.specs.Prelude.{◌≡◌, ◌++◌, ◌≤◌, [], length, IfOk, IfErr, OnOk, OnErr, Err};
 ghost use Rattle.zone_name.specs.Name.{with_length};
 ghost use Rattle.zone_name.specs.Sink.{TakesSome};
+ghost use Rattle.zone_rdata.specs.Cause.{fault_for};
 ghost use Rattle.zone_rdata.specs.Item.{raw};
 ghost use Rattle.zone_rdata.specs.Strings.{SpellsString, StringFault, item_text, string_text, unit_text};
 ghost use Rattle.zone_rdata.specs.Appended.{Appends};
-ghost use Rattle.zone_rdata.specs.Machine.NarrowFailing.{IsFaultOf};
 
 use crate::cause::Cause;
 use crate::fault::{Failing, Fault};
@@ -58,9 +58,9 @@ fn text_of(item: Item<'_>) -> &[u8]
 }
 
 /// The octets of the string that the item spells (RFC 1035 3.3, 5.1).
-fn string_of(item: Item<'_>) -> Result<ArrayVec<u8, 255>, NarrowFailing>
+fn string_of(item: Item<'_>) -> Result<ArrayVec<u8, 255>, Cause>
     ensures found { IfOk result (λ octets. SpellsString (raw item.entry) octets.items) }
-    ensures fault { IfErr result (IsFaultOf (StringFault (raw item.entry))) }
+    ensures fault { IfErr result (λ cause. StringFault (raw item.entry) (fault_for cause)) }
 {
     let mut octets: ArrayVec<u8, 255> = ArrayVec::new();
     let mut rest = text_of(item);
@@ -72,12 +72,12 @@ fn string_of(item: Item<'_>) -> Result<ArrayVec<u8, 255>, NarrowFailing>
             }
             NextUnit::Octet(octet, after) => {
                 if octets.is_full() {
-                    return Err(NarrowFailing::of(Cause::StringTooLong));
+                    return Err(Cause::StringTooLong);
                 }
                 octets.push(octet);
                 rest = after;
             }
-            NextUnit::BadEscape => return Err(NarrowFailing::of(Cause::BadEscape)),
+            NextUnit::BadEscape => return Err(Cause::BadEscape),
         }
     }
 }

@@ -23,3 +23,6 @@ pub mod Offering
 pub mod ListPush
 pub mod PlaceSteps
 pub mod Keyed
+pub mod MessageLens
+pub mod Owners
+pub mod Looking

@@ -88,21 +88,22 @@ module _ (f : Entry → Record) where
     each_dedup [] each = tt
     each_dedup (e ∷ es) each = kept e es each
 
--- entries that were put in another order, and of which repeats were dropped
-module _ (base : List (List ℕ)) (class : ℕ) (octets : List ℕ) (es fs gs : List Entry) (each : AllByRecursion (IsEntry base class octets) es) (moves : IsPermutation es fs) (left : gs ≡ dedup (is_repeat octets) fs) where
-  each_moved : AllByRecursion (IsEntry base class octets) fs
-  each_moved = recursion_from_All (IsEntry base class octets) fs (All-permutation (IsEntry base class octets) es fs moves (All-from_recursion (IsEntry base class octets) es each))
+-- entries that were put in another order
+pub each_moved : (base : List (List ℕ)) (class : ℕ) (octets : List ℕ) (es fs : List Entry) → AllByRecursion (IsEntry base class octets) es → IsPermutation es fs → AllByRecursion (IsEntry base class octets) fs
+each_moved base class octets es fs each moves = recursion_from_All (IsEntry base class octets) fs (All-permutation (IsEntry base class octets) es fs moves (All-from_recursion (IsEntry base class octets) es each))
 
+-- and of which repeats were dropped
+module _ (base : List (List ℕ)) (class : ℕ) (octets : List ℕ) (es fs gs : List Entry) (each : AllByRecursion (IsEntry base class octets) es) (moves : IsPermutation es fs) (left : gs ≡ dedup (is_repeat octets) fs) where
   equal : (a b : Entry) → IsEntry base class octets a → IsEntry base class octets b → is_repeat octets a b ≡ true → entry_record class octets a ≡ entry_record class octets b
   equal a b is_a is_b = repeat_is class octets a b is_a.linked is_b.linked
 
   pub each_left : AllByRecursion (IsEntry base class octets) gs
-  each_left = subst (AllByRecursion (IsEntry base class octets)) (sym left) (each_dedup (entry_record class octets) (is_repeat octets) (IsEntry base class octets) equal fs each_moved)
+  each_left = subst (AllByRecursion (IsEntry base class octets)) (sym left) (each_dedup (entry_record class octets) (is_repeat octets) (IsEntry base class octets) equal fs (each_moved base class octets es fs each moves))
 
   pub same_left : SameRecords (all_records class octets gs) (all_records class octets es)
   same_left r =
       let first = SameRecords-moved (entry_record class octets) es fs moves r in
-      let second = SameRecords-dedup (entry_record class octets) (is_repeat octets) (IsEntry base class octets) equal fs each_moved r in (
+      let second = SameRecords-dedup (entry_record class octets) (is_repeat octets) (IsEntry base class octets) equal fs (each_moved base class octets es fs each moves) r in (
         λ has. first.0 (second.0 (subst (λ l. Has (all_records class octets l) r) left has)),
         λ has. subst (λ l. Has (all_records class octets l) r) (sym left) (second.1 (first.1 has)),
       )

@@ -6,3 +6,4 @@ pub mod Held
 pub mod Refusal
 pub mod Bulk
 pub mod Places
+pub mod Owner

@@ -1,12 +1,13 @@
-ghost use Rattle.std.specs.Prelude.{◌≡◌, ◌∷◌, IsTrue};
+ghost use Rattle.std.specs.Prelude.{◌≡◌, ◌≤◌, ◌∷◌, length, take, IsTrue};
 ghost use Rattle.std.specs.List.{dedup, AllByRecursion};
+ghost use Rattle.std.specs.List.Sorted.{IsPermutation};
 ghost use Rattle.zone_name.specs.Common.{Labels};
 ghost use Rattle.zone_set.specs.Machine.Bulk.{is_repeat, AreNeighbours, StandNext};
 ghost use Rattle.zone_set.specs.Machine.Held.{all_records, entry_record, IsEntry};
 ghost use Rattle.zone_set.specs.Zone.{AreCompatible, SameRecords};
 
 use crate::entry::Entry;
-use crate::keys::sort_by_keys;
+use crate::keys::{first_digit, first_run, sort_by_hint, sort_run};
 use crate::offered::canonical_order;
 use crate::put::has_other_ttl;
 use crate::sets::is_other_soa;
@@ -15,7 +16,8 @@ use crate::tie;
 use zone_rdata::Class;
 
 /// Puts entries in order and drops those of equal records, where their records can stand together.
-/// Else they are of the same records, in any order.
+/// Else they are of the same records, in any order. Where they are as many as before, none was
+/// dropped.
 pub(crate) fn settle(class: Class, base_len: usize, octets: &[u8], entries: &mut Vec<Entry>) -> bool
     ghost base: { Labels }
     requires { AllByRecursion (IsEntry base class octets.now) entries.old.items }
@@ -24,14 +26,67 @@ pub(crate) fn settle(class: Class, base_len: usize, octets: &[u8], entries: &mut
         (all_records class octets.now entries.old.items) }
     ensures compatible { IsTrue result
         → AreCompatible (all_records class octets.now entries.new.items) }
+    ensures whole { length entries.new.items ≡ length entries.old.items
+        → IsPermutation entries.old.items entries.new.items }
 {
     // What came in order isn't sorted.
     if are_neighbours(class, octets, entries.as_slice()) {
         return true;
     }
-    sort_by_keys(entries, octets, base_len);
+    if sort_and_look(class, base_len, octets, entries) {
+        return true;
+    }
     drop_repeats(entries, octets);
     are_neighbours(class, octets, entries.as_slice())
+}
+
+/// Sorts entries, and tells whether each one's record stands before the next one's, and both may
+/// stand in one zone.
+fn sort_and_look(class: Class, base_len: usize, octets: &[u8], entries: &mut Vec<Entry>) -> bool
+    ghost base: { Labels }
+    requires { AllByRecursion (IsEntry base class octets.now) entries.old.items }
+    ensures moved { IsPermutation entries.old.items entries.new.items }
+    ensures next { IsTrue result
+        → AreNeighbours (all_records class octets.now entries.new.items) }
+{
+    // The root's octet is no digit, and a hint has seven after the base's.
+    let front = base_len.saturating_add(6);
+    sort_runs(class, octets, entries.as_mut_slice(), front)
+}
+
+/// `sort_and_look` for hints that have the digits before one. Entries of one hint are looked at as
+/// soon as they are sorted, since then the cache has their records.
+fn sort_runs(class: Class, octets: &[u8], entries: &mut [Entry], front: usize) -> bool
+    ghost base: { Labels }
+    requires { AllByRecursion (IsEntry base class octets.now) entries.old }
+    ensures moved { IsPermutation entries.old entries.new }
+    ensures next { IsTrue result → AreNeighbours (all_records class octets.now entries.new) }
+{
+    sort_by_hint(entries);
+    let (mut start, mut stand) = (0, true);
+    while let Some((hint, len)) = first_run(&entries[start..]) {
+        let run = &mut entries[start..start + len];
+        sort_run(run, octets, front, hint, first_digit(hint, front, 0));
+        stand = stand_after(stand, class, octets, &entries[..start + len], start);
+        start += len;
+    }
+    stand
+}
+
+/// Whether the entries before a place stand, as is told, and those from there on after them.
+fn stand_after(stand: bool, class: Class, octets: &[u8], entries: &[Entry], start: usize) -> bool
+    ghost base: { Labels }
+    requires each { AllByRecursion (IsEntry base class octets.now) entries.now }
+    requires within { start ≤ length entries.now }
+    ensures before { IsTrue result → IsTrue stand }
+    ensures all { IsTrue result
+        → AreNeighbours (all_records class octets.now (take start entries.now))
+        → AreNeighbours (all_records class octets.now entries.now) }
+{
+    if !stand {
+        return false;
+    }
+    are_neighbours(class, octets, &entries[start.saturating_sub(1)..])
 }
 
 /// Drops each entry whose record is that of the one before it.

@@ -4,7 +4,8 @@ ghost use Rattle.zone_set.specs.Machine.Bulk.{with_hint};
 
 use crate::entry::Entry;
 use crate::hint::is_within;
-use crate::tie::{StoredParts, entry_order, first_label, stored_at};
+use crate::owner::first_label;
+use crate::tie::{StoredParts, entry_order, stored_at};
 
 /// How many entries are at most sorted by their octets alone.
 const FEW: usize = 3;
@@ -12,15 +13,11 @@ const FEW: usize = 3;
 /// After so many digits octets are compared, and no more keys are made.
 const FAR: usize = 320;
 
-/// Sorts entries by their hints, and those of one hint by keys, which stand in its place meanwhile:
-/// by the digits of their records that come next. That they ascend is seen later: of this it is
-/// known only that they are the same, and only how soon a zone is made rests on the keys.
-pub(crate) fn sort_by_keys(entries: &mut Vec<Entry>, octets: &[u8], base_len: usize)
-    ensures { IsPermutation entries.old.items entries.new.items }
+/// Sorts entries by their hints.
+pub(crate) fn sort_by_hint(entries: &mut [Entry])
+    ensures { IsPermutation entries.old entries.new }
 {
-    // The root's octet is no digit, and a hint has seven after the base's.
-    let front = base_len.saturating_add(6);
-    sort(entries.as_mut_slice(), octets, front, 0);
+    entries.sort_unstable_by(|a, b| a.hint.cmp(&b.hint));
 }
 
 /// Sorts entries by their hints, and then each run of one hint. Those of one hint have the same
@@ -29,7 +26,7 @@ pub(crate) fn sort_by_keys(entries: &mut Vec<Entry>, octets: &[u8], base_len: us
 fn sort(entries: &mut [Entry], octets: &[u8], front: usize, digit: usize)
     ensures { IsPermutation entries.old entries.new }
 {
-    entries.sort_unstable_by(|a, b| a.hint.cmp(&b.hint));
+    sort_by_hint(entries);
     let mut start = 0;
     while let Some((hint, len)) = first_run(&entries[start..]) {
         let run = &mut entries[start..start + len];
@@ -39,7 +36,7 @@ fn sort(entries: &mut [Entry], octets: &[u8], front: usize, digit: usize)
 }
 
 /// The first digit in which entries of one hint may differ.
-fn first_digit(hint: u64, front: usize, digit: usize) -> usize
+pub(crate) fn first_digit(hint: u64, front: usize, digit: usize) -> usize
     ensures { digit ≤ result }
 {
     // At first hints are no keys.
@@ -51,7 +48,7 @@ fn first_digit(hint: u64, front: usize, digit: usize) -> usize
 }
 
 /// The first entry's hint, and how many entries from it on have that. `None`: there is no entry.
-fn first_run(entries: &[Entry]) -> Option<(u64, usize)>
+pub(crate) fn first_run(entries: &[Entry]) -> Option<(u64, usize)>
     ensures none { IfNone result (entries.now ≡ []) }
     ensures within { IfSome result (λ run. (0 < run.1) × (run.1 ≤ length entries.now)) }
     ensures same { IfSome result (λ run.
@@ -73,9 +70,12 @@ fn run_len(entries: &[Entry], hint: u64) -> usize
     len
 }
 
-/// Sorts entries of one hint, whose records have the same digits before this one.
+/// Sorts entries of one hint, whose records have the same digits before this one, by keys which
+/// stand in its place meanwhile: by the digits of their records that come next. That they ascend is
+/// seen later: of this it is known only that they are the same, and only how soon a zone is made
+/// rests on the keys.
 #[cycle(keys)]
-fn sort_run(run: &mut [Entry], octets: &[u8], front: usize, hint: u64, digit: usize)
+pub(crate) fn sort_run(run: &mut [Entry], octets: &[u8], front: usize, hint: u64, digit: usize)
     requires { map (with_hint hint) run.old ≡ run.old }
     ensures { IsPermutation run.old run.new }
 {

@@ -14,13 +14,14 @@ use crate::builder::ZoneBuilder;
 use crate::bulk::settle;
 use crate::entry::Entry;
 use crate::hint::hint_of;
+use crate::messages::len_of_entries;
 use crate::offer::offer;
 use crate::places::Places;
 use crate::sets::Sets;
 use crate::stored::append;
 use std::alloc::{AllocError, Global};
 use std::marker::Model;
-use zone_name::Name;
+use zone_name::{Name, NameRef};
 use zone_rdata::{Class, Fault, LendingSource, Place, RrRef, Stop};
 
 /// The records of an input as they come, each with its place. Whether they can stand together is
@@ -191,8 +192,10 @@ fn settle_parts(
     ensures taken { IfOk result (IsSettledAs known.1) }
     ensures refused { IfErr result (StopsSettling known.1) }
 {
+    let listed = entries.len();
     if settle(class, base.wire().len(), octets.as_slice(), &mut entries) {
-        let sets = Sets::of_sorted(alloc, class, base, octets, entries)?;
+        let message_len = len_of_entries(class, octets.as_slice(), entries.as_slice(), listed);
+        let sets = Sets::of_sorted(alloc, class, base, octets, entries, message_len)?;
         return Ok(ZoneBuilder { sets });
     }
     // In the order in which they came the first that is refused shows.
@@ -235,8 +238,16 @@ fn first_decides(class: &mut Class, base: &mut Name, is_first: bool, rr: &RrRef<
 {
     if is_first {
         *class = rr.class;
-        *base = rr.owner.to_name();
+        set_base(base, &rr.owner);
     }
+}
+
+/// Makes an owner the base. This stands apart, since each call clears the room of a name.
+#[inline(never)]
+fn set_base(base: &mut Name, owner: &NameRef<'_>)
+    ensures { base.new ≡ owner.now }
+{
+    *base = owner.to_name();
 }
 
 /// Whether there is no entry.

@@ -9,6 +9,7 @@ ghost use Rattle.zone_rdata.specs.Lent.{record_of};
 
 use crate::entry::Entry;
 use crate::order::octet_order;
+use crate::owner::owner_order;
 use crate::stored::record_at;
 use sorted_chunks::Sought;
 use std::cmp::Ordering;
@@ -80,7 +81,7 @@ fn order_by_owner(rr: &RrRef<'_>, other: &RrRef<'_>) -> Ordering
     ensures { result ≡ ordering_then (name_cmp rr.now.owner other.now.owner)
         (data_cmp (data_of (record_of rr.now)) (data_of (record_of other.now))) }
 {
-    match rr.owner.cmp(&other.owner) {
+    match owner_order(&rr.owner, &other.owner) {
         Ordering::Equal => match rr.kind.number().cmp(&other.kind.number()) {
             Ordering::Equal => octet_order(rr.rdata.octets(), other.rdata.octets()),
             kinds => kinds,

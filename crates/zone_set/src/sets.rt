@@ -1,16 +1,17 @@
-ghost use Rattle.std.specs.Prelude.{◌≡◌, ◌⊎◌, ◌+◌, ◌-◌, ◌^◌, ◌↔◌, ◌∷◌, ◌++◌, [], List, length, min, if◌then◌else◌, IsTrue, OnOk, OnErr, IfOk, IfErr, IfNone, IfSome, MatchOption};
+ghost use Rattle.std.specs.Prelude.{◌≡◌, ◌⊎◌, ◌-◌, ◌^◌, ◌↔◌, ◌∷◌, ◌++◌, [], List, length, min, IsTrue, OnOk, OnErr, IfOk, IfErr, IfNone, IfSome, MatchOption};
 ghost use Rattle.std.specs.List.{AllByRecursion};
 ghost use Rattle.sorted_chunks.specs.Chunks.{joined};
 ghost use Rattle.zone_name.specs.Name.{IsWithin};
 ghost use Rattle.zone_rdata.specs.Record.{Record, IsRecord};
 ghost use Rattle.zone_set.specs.Builder.{Accepts, Adds, AreTwoSoas, OtherClass, OtherSoa};
-ghost use Rattle.zone_set.specs.Machine.Held.{all_records, HoldsEntries, IsFirstOutside};
+ghost use Rattle.zone_set.specs.Machine.Held.{all_records, IsFirstOutside, KeepsSets};
 ghost use Rattle.zone_set.specs.Machine.Refusal.{IsRefusal};
-ghost use Rattle.zone_set.specs.Message.{message_len, message_octets};
+ghost use Rattle.zone_set.specs.Message.{message_octets};
 ghost use Rattle.zone_rdata.specs.Lent.{record_of};
 ghost use Rattle.zone_set.specs.Zone.{AreCompatible};
 
 use crate::entry::Entry;
+use crate::messages::octets_with;
 use crate::put::{LIMIT, put};
 use crate::records::Records;
 use crate::refusal::Refusal;
@@ -68,7 +69,7 @@ impl Sets {
         }
     }
 
-    /// The sets of entries in canonical order.
+    /// The sets of entries in canonical order, whose records take so many octets in messages.
     ///
     /// # Errors
     ///
@@ -79,17 +80,11 @@ impl Sets {
         base: Name,
         octets: Vec<u8>,
         entries: Vec<Entry>,
+        message_len: u64,
     ) -> Result<Sets, AllocError>
-        requires { HoldsEntries base class octets.items entries.items }
+        requires { KeepsSets class base octets.items entries.items message_len }
         ensures { IfOk result (λ sets. sets ≡ all_records class octets.items entries.items) }
     {
-        let mut message_len: u64 = 0;
-        let mut left = entries.as_slice();
-        while let Some((entry, rest)) = left.split_first() {
-            let rr = record_at(class, octets.as_slice(), entry.at);
-            message_len = message_len.saturating_add(len_in_messages(&rr));
-            left = rest;
-        }
         Ok(Sets {
             class,
             base,
@@ -243,26 +238,4 @@ pub(crate) fn is_other_soa(first: &RrRef<'_>, rr: &RrRef<'_>) -> bool
         return false;
     }
     !first.owner.is_same(&rr.owner) || first.rdata.octets() != rr.rdata.octets()
-}
-
-/// The octets that records take in messages, and those of one more where it is new.
-fn octets_with(octets: u64, rr: &RrRef<'_>, is_new: bool) -> u64
-    requires { IsRecord (record_of rr.now) }
-    ensures { result ≡ min (octets + (if is_new then message_len (record_of rr.now) else 0))
-        (2 ^ 64 - 1) }
-{
-    if is_new {
-        octets.saturating_add(len_in_messages(rr))
-    } else {
-        octets
-    }
-}
-
-/// The octets that a record takes in messages where no name is compressed (RFC 1035 3.2.1).
-fn len_in_messages(rr: &RrRef<'_>) -> u64
-    requires { IsRecord (record_of rr.now) }
-    ensures { result ≡ message_len (record_of rr.now) }
-{
-    // After the owner type, class, TTL and the length of the data.
-    rr.owner.wire().len() as u64 + 10 + rr.rdata.octets().len() as u64
 }

@@ -1,8 +1,9 @@
-ghost use Rattle.std.specs.Prelude.{◌≡◌, ◌<◌, length, IfSome, drop};
+ghost use Rattle.std.specs.Prelude.{◌≡◌, drop};
 ghost use Rattle.zone_set.specs.Machine.Bulk as bulk;
 
 use crate::entry::Entry;
-use crate::order::are_same;
+use crate::order::{are_same, octet_order};
+use crate::owner::{first_label, first_labels};
 use std::cmp::Ordering;
 
 /// How the records of entries lie, by which they are sorted. Nothing rests on it but how soon a
@@ -22,7 +23,7 @@ fn tie_order(octets: &[u8], a: usize, b: usize) -> Ordering {
     };
     owner_order(x.owner, y.owner)
         .then(x.kind.cmp(&y.kind))
-        .then(x.data.cmp(y.data))
+        .then(octet_order(x.data, y.data))
 }
 
 /// What is compared of a record.
@@ -49,8 +50,8 @@ pub(crate) fn stored_at<'z>(octets: &'z [u8], at: usize) -> Option<StoredParts<'
 
 /// How owners lie, by their labels from the right.
 fn owner_order(a: &[u8], b: &[u8]) -> Ordering {
-    if a == b {
-        return Ordering::Equal;
+    if let Some((label, other)) = first_labels(a, b) {
+        return octet_order(label, other);
     }
     let (len, other_len) = (label_count(a), label_count(b));
     let mut labels = past(a, len.saturating_sub(other_len));
@@ -65,17 +66,6 @@ fn owner_order(a: &[u8], b: &[u8]) -> Ordering {
         others = more;
     }
     order
-}
-
-/// The first label and what follows it.
-pub(crate) fn first_label(octets: &[u8]) -> Option<(&[u8], &[u8])>
-    ensures { IfSome result (λ parts. length parts.1.now < length octets.now) }
-{
-    let (len, after) = octets.split_first()?;
-    if *len == 0 {
-        return None;
-    }
-    after.split_at_checked(*len as usize)
 }
 
 /// How many labels there are.

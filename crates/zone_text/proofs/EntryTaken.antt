@@ -1,5 +1,5 @@
 -- An entry read after others: what it states, or its fault.
-use Rattle.zone_text.proofs.Common.{Cuts, DecidesEntry, DecidesFault, EndedEntries, Entry, EntryFault, Err, IfFault, IsStateAfter, Labels, Line, List, None, Ok, OnOk, ParserState, PendingRecords, Place, Placed, ReadsEntry, ReadsOctets, Result, Token, [], ap, append-nil, arith, decides_fault, decides_none, decides_one, entry_of, length, refl, refused, rules, stated, states_one, sym, text, ℕ, ◌+◌, ◌∙◌, ◌∷◌, ◌≡◌, ◌≤◌}
+use Rattle.zone_text.proofs.Common.{Cuts, DecidesEntry, EndedEntries, Entry, EntryFault, Err, Fault, IfFault, IsStateAfter, Labels, Line, List, None, Some, Ok, OnOk, ParserState, PendingRecords, Place, Placed, ReadsEntry, ReadsOctets, Result, Token, [], ap, append-nil, arith, decides_fault, decides_none, decides_one, entry_of, length, refl, refused, rules, stated, states_one, subst, sym, text, ℕ, ◌+◌, ◌∙◌, ◌∷◌, ◌≡◌, ◌≤◌}
 use Rattle.zone_rdata.specs.declared.fault.Failing.{Failing}
 use Rattle.zone_rdata.specs.declared.fault.Failing.TheVariants as failings
 use Rattle.zone_text.proofs.Left.{line_feeds}
@@ -44,7 +44,7 @@ pub takes_entry : (octets : List ℕ) (old new : EndedEntries) → DecidesOctets
 takes_entry octets old new decides none after = search (rules, entry_read)
 
 -- what is refused decides its fault
-pub refused_entry : {T E : Type 0} (result : Result T E) (origin : Labels) (before : List Entry) (entry : Entry) (place : Place) (old new : PendingRecords) (next : ParserState) (failing : Failing) → IfFault (EntryFault origin before entry) failing → OnOk result (DecidesFault failing place old new) → OnOk result (DecidesEntry origin before entry place old new next)
-refused_entry (Ok x) origin before entry place old new next (failings.Fault fault) bad refuses = decides_fault fault bad refuses.0 refuses.1
-refused_entry (Ok x) origin before entry place old new next failings.Memory bad refuses = absurd refuses
+pub refused_entry : {T E : Type 0} (result : Result T E) (origin : Labels) (before : List Entry) (entry : Entry) (place : Place) (old new : PendingRecords) (next : ParserState) (failing : Failing) → IfFault (EntryFault origin before entry) failing → OnOk result ((fault : Fault) × (failing ≡ failings.Fault fault) × (new ≡ record old { ending = Some (fault, place) })) → OnOk result (DecidesEntry origin before entry place old new next)
+refused_entry (Ok x) origin before entry place old new next failing bad refuses =
+    decides_fault refuses.0 (subst (IfFault (EntryFault origin before entry)) refuses.1 bad) (ap (λ d. d.placed) refuses.2) (ap (λ d. d.ending) refuses.2)
 refused_entry (Err e) origin before entry place old new next failing bad refuses = tt

@@ -1,11 +1,14 @@
 -- The entry at the front of octets, token by token, without parentheses and escapes.
-use Rattle.zone_text.proofs.Common.{All, AllByRecursion, AreKept, Bool, Cuts, EndsAt, EndsBefore, EntrySplitter, IsFirstEntry, IsInFront, IsInside, IsOneEntry, IsQuoted, IsSplitter, IsToken, IsUnit, Keeps, KeepsItems, List, NoUnit, None, RawItem, ReadsOctets, Token, [], ap, append-nil, append_assoc, arith, at_octet, bare, before_line_feed, blank, closing, comment, common_steps, drop, ends_item, eqb-false, false, flat_map, from_line_feed, is_blank, is_quote, item_of, length, length-append, length-map, line_feed, map, ne_eqb, opening, or_parts, plain, quoted, recursion_from_All, refl, rules, subst, sym, take, take-append-drop, take-append_seam, token_text, true, written_text, zero, ℕ, ◌++◌, ◌+◌, ◌-◌, ◌<◌, ◌==◌, ◌||◌, ◌∙◌, ◌∷◌, ◌≡◌, ◌≢◌, ◌≤◌}
+use Rattle.zone_text.proofs.Common.{All, AllByRecursion, AreKept, Bool, Cuts, EndsAt, EndsBefore, EntrySplitter, IsFirstEntry, IsInFront, IsInside, IsOneEntry, IsQuoted, IsSplitter, IsToken, IsUnit, Keeps, KeepsBare, KeepsItems, List, NoUnit, None, RawItem, ReadsOctets, Token, [], ap, append-nil, append_assoc, arith, at_octet, bare, before_line_feed, blank, closing, comment, common_steps, drop, ends_item, eqb-false, false, flat_map, from_line_feed, is_blank, is_quote, item_of, length, length-append, length-map, length-take, line_feed, map, ne_eqb, opening, or_parts, plain, quoted, recursion_from_All, refl, rules, subst, suc, sym, take, take-append-drop, take-append_seam, token_text, true, written_text, zero, ℕ, ◌++◌, ◌+◌, ◌-◌, ◌<◌, ◌==◌, ◌||◌, ◌∙◌, ◌∷◌, ◌≡◌, ◌≢◌}
 use Rattle.zone_rdata.specs.Item as raw
 use Rattle.zone_text.proofs.FedPieces.{FollowsOn, HasFed, fed_more}
 use Rattle.zone_text.proofs.Cuttings.{cuts, is_cut, one_cut, one_token_more, shorter}
 use Rattle.zone_text.proofs.Followed.{follow_one}
 use Rattle.zone_text.proofs.Fronts.{EndsComment, Takes, comment_dropped, comment_each, comment_ends, comment_whole}
 use Rattle.zone_text.proofs.Kept.{keeps_more, none_kept}
+use Rattle.zone_text.proofs.StopMarks.{goes_on, prefix_each, prefix_ends}
+use Rattle.std.proofs.lemmas.List.Sums.{prefix_len-le-length}
+use Rattle.std.specs.List.{prefix_len}
 
 -- ---- plain octets as written ones
 
@@ -40,19 +43,18 @@ comment_in_front octets after rest c n whole is len back =
 stops_or : (a b : Bool) → (a || b) ≡ true → b ≡ false → a ≡ true
 stops_or a b e none = search rules
 
-some_plain : (octets after : List ℕ) (c n : ℕ) → octets ≡ c ∷ after → (ends_item c || c == 92) ≡ false → EndsAt (λ d. ends_item d || d == 92) (drop n octets) → (n ≡ 0) → ⊥
-some_plain octets after c n whole goes ends none = search rules
-
-pub bare_in_front : (octets after item rest more : List ℕ) (c next n : ℕ) → octets ≡ c ∷ after → (ends_item c || c == 92) ≡ false → n ≤ length octets → All (λ d. (ends_item d || d == 92) ≡ false) (take n octets) → EndsAt (λ d. ends_item d || d == 92) (drop n octets) → item ≡ take n octets → rest ≡ drop n octets → length item ≡ n → rest ≡ next ∷ more → next ≢ 92 → IsInFront octets (raw.bare item ∷ []) rest
-bare_in_front octets after item rest more c next n whole goes within each ends front back len first other =
-    let units : AllByRecursion (λ d. (ends_item d || d == 92) ≡ false) item = subst (AllByRecursion (λ d. (ends_item d || d == 92) ≡ false)) (sym front) (recursion_from_All (λ d. (ends_item d || d == 92) ≡ false) _ each) in
+pub bare_in_front : (octets item rest more : List ℕ) (next n : ℕ) → 0 < n → n ≡ prefix_len goes_on octets → item ≡ take n octets → rest ≡ drop n octets → rest ≡ next ∷ more → next ≢ 92 → IsInFront octets (raw.bare item ∷ []) rest
+bare_in_front octets item rest more next n some len front back first other =
+    let each : AllByRecursion (λ d. (ends_item d || d == 92) ≡ false) (take n octets) = subst (λ k. AllByRecursion (λ d. (ends_item d || d == 92) ≡ false) (take k octets)) (sym len) (prefix_each octets) in
+    let ends : EndsAt (λ d. ends_item d || d == 92) (drop n octets) = subst (λ k. EndsAt (λ d. ends_item d || d == 92) (drop k octets)) (sym len) (prefix_ends octets) in
+    let units : AllByRecursion (λ d. (ends_item d || d == 92) ≡ false) item = subst (AllByRecursion (λ d. (ends_item d || d == 92) ≡ false)) (sym front) each in
     let stop : (ends_item next || next == 92) ≡ true = subst (EndsAt (λ d. ends_item d || d == 92)) (sym back ∙ first) ends in
     let ended : ends_item next ≡ true = stops_or (ends_item next) (next == 92) stop (ne_eqb next 92 other) in
-    let some : n ≢ 0 = some_plain octets after c n whole goes ends in
+    let long : length item ≡ n = ap length front ∙ omega (arith, length-take n octets, len, prefix_len-le-length goes_on octets) in
     record {
       token = bare (map plain item);
       whole = sym (take-append-drop n octets) ∙ ap (λ t. t ++ drop n octets) (sym front ∙ sym (plain_text item)) ∙ ap (λ t. written_text (map plain item) ++ t) (sym back);
-      is = (let count : length (map plain item) ≡ length item = length-map item plain in omega (arith, count, len, some), plain_units ends_item item units);
+      is = (let count : length (map plain item) ≡ length item = length-map item plain in omega (arith, count, long, some), plain_units ends_item item units);
       ends = subst (EndsAt ends_item) (sym first) ended;
       inside = tt;
       stated = ap (λ t. raw.bare t ∷ []) (plain_text item);
@@ -136,6 +138,16 @@ cut_more octets rest left kept new item so_far found keeps = grind (arith, more_
 pub cut_on : (octets rest left : List ℕ) (kept : List RawItem) → IsCutTo octets rest kept → IsInFront rest [] left → IsCutTo octets left kept
 cut_on octets rest left kept so_far found =
     more_by octets rest left kept kept [] so_far found (subst (λ t. AreKept t kept) (sym (append-nil so_far.so_far)) so_far.are_kept)
+
+-- a bare item and what stops it, or what stands there in place of an item
+pub cut_bare : (octets rest text stopped after : List ℕ) (kept new : List RawItem) (stop n : ℕ) → IsCutTo octets rest kept → n ≡ prefix_len goes_on rest → text ≡ take n rest → stopped ≡ drop n rest → stopped ≡ stop ∷ after → stop ≢ 92 → KeepsBare text kept new → IsCutTo octets stopped new
+cut_bare octets rest text stopped after kept new stop zero so_far len front back first other keeps =
+    let same : new ≡ kept = subst (λ t. KeepsBare t kept new) front keeps in
+    subst (λ t. IsCutTo octets t new) (sym back) (subst (IsCutTo octets rest) (sym same) so_far)
+cut_bare octets [] text stopped after kept new stop (suc n) so_far len front back first other keeps = absurd (omega (arith, len))
+cut_bare octets (c ∷ rest) text stopped after kept new stop (suc n) so_far len front back first other keeps =
+    let item : Keeps (raw.bare (c ∷ take n rest)) kept new = subst (λ t. KeepsBare t kept new) front keeps in
+    cut_more octets (c ∷ rest) stopped kept new (raw.bare (c ∷ take n rest)) so_far (bare_in_front (c ∷ rest) (c ∷ take n rest) stopped after stop (suc n) (omega arith) len refl back first other) item
 
 pub cut_ended : (octets rest after : List ℕ) (raws : List RawItem) (c n : ℕ) → IsCutTo octets rest raws → rest ≡ c ∷ after → c ≡ 10 → n ≡ length octets - length after → IsFirstEntry octets n raws
 cut_ended octets rest after raws c n so_far first is count =

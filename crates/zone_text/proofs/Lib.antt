@@ -1,5 +1,6 @@
 pub mod Common
 pub mod ClassWords
+pub mod DirectiveWords
 pub mod Inherits
 pub mod Entered
 pub mod EntryOutcome
@@ -40,3 +41,4 @@ pub mod TokensOf
 pub mod PartsLeft
 pub mod OpenEntries
 pub mod ClassHeld
+pub mod StopMarks

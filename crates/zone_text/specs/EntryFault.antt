@@ -14,6 +14,7 @@ use Rattle.zone_text.specs.Entries.{Entry}
 use Rattle.zone_text.specs.Statements.{Statement, no_items, sets_origin, sets_ttl, includes, unknown, owned, unowned, statement_of, Word, ttl, class, Parts, parts_in}
 use Rattle.zone_text.specs.Inherited.{IsOrigin, IsLastOwner, IsOwner, IsTtl}
 use Rattle.zone_text.specs.Records.{HasValue, HasHead, HasContents, HasTtl}
+use Rattle.zone_rdata.specs.Limits.{greatest_ttl}
 
 -- a TTL that is no time of 31 bits, a class that holds no zone data
 abbrev pub WordFault : Word → Fault → Type 0
@@ -54,7 +55,7 @@ PartsFault (word ∷ words) items fault =
 pub data TtlFault (origin : Labels) (before : List Entry) (entry : Entry) : Fault → Type 0 where
   none : ((seconds : ℕ) → HasTtl origin before entry seconds → ⊥)
       → TtlFault origin before entry NoTtl
-  long : (seconds : ℕ) → HasTtl origin before entry seconds → 2147483647 < seconds
+  long : (seconds : ℕ) → HasTtl origin before entry seconds → greatest_ttl < seconds
       → TtlFault origin before entry BadTtl
 
 -- The first fault of an entry, the entries before it known, the latest first: of its statement;

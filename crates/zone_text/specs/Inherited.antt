@@ -9,6 +9,7 @@ use Rattle.zone_rdata.specs.Spelling.{bare}
 use Rattle.zone_rdata.specs.Words.{IsClassWord}
 use Rattle.zone_text.specs.Entries.{Entry}
 use Rattle.zone_text.specs.Statements.{Statement, sets_origin, sets_ttl, owned, unowned, statement_of, Parts, parts_in, ttl_among, class_among}
+use Rattle.zone_rdata.specs.Limits.{greatest_ttl}
 
 -- what the latest of the entries states that states any
 abbrev pub latest : (Statement → Option (List ℕ)) → List Entry → Option (List ℕ)
@@ -78,4 +79,4 @@ stated_ttl before entry =
 -- a time that a TTL may be (RFC 2181 8)
 pub record IsTtl (text : List ℕ) (seconds : ℕ) : Type 0 where
   pub time : IsTime text seconds
-  pub short : seconds ≤ 2147483647
+  pub short : seconds ≤ greatest_ttl

@@ -9,5 +9,6 @@ pub mod Line
 pub mod Lower
 pub mod OpenEntry
 pub mod Scan
+pub mod Stops
 pub mod WordTexts
 pub mod WordValues

@@ -53,8 +53,8 @@ fn find_entry<'t>(octets: &'t [u8], items: &mut Vec<Item<'t>>) -> Result<FirstEn
 }
 
 /// Finds the entry at the front of octets. Where the octets end it, its items come in place of what
-/// `items` held: all, or where it has 65,552 or more those that `entry_items` keeps. Where they don't,
-/// `items` is left empty.
+/// `items` held: all, or where it has 65,552 or more those that `entry_items` keeps. Where they
+/// don't, `items` is left empty.
 ///
 /// It looks at the octets up to the end of the entry. For an entry that comes in many pieces see
 /// `OpenEntry`.
@@ -80,8 +80,9 @@ pub fn first_entry<'t>(
 
 /// Puts the items of octets that are cut into tokens, as a whole entry is, in place of what `items`
 /// held: all of them where they are fewer than `MOST_ITEMS`. Of more than that some that are short
-/// enough for a string (255 octets, RFC 1035 3.3) are left out, so that an entry of many items takes
-/// no more memory than its octets: where `items` then holds fewer than `MOST_ITEMS`, they are all.
+/// enough for a string (255 octets, RFC 1035 3.3) are left out, so that an entry of many items
+/// takes no more memory than its octets: where `items` then holds fewer than `MOST_ITEMS`, they are
+/// all.
 ///
 /// # Errors
 ///
@@ -99,9 +100,10 @@ pub fn entry_items<'t>(entry: &'t [u8], items: &mut Vec<Item<'t>>) -> Result<(),
     }
 }
 
-/// The token at the front of a text that is cut into tokens: its item, if it is one, and the rest of
-/// the text. A token without an item is a blank, which is one octet (`is_blank` tells it by the first
-/// octet), a parenthesis, a comment without its line feed, or a line feed. `None`: the text is empty.
+/// The token at the front of a text that is cut into tokens: its item, if it is one, and the rest
+/// of the text. A token without an item is a blank, which is one octet (`is_blank` tells it by the
+/// first octet), a parenthesis, a comment without its line feed, or a line feed. `None`: the text
+/// is empty.
 pub fn first_token(text: &[u8]) -> Option<(Option<Item<'_>>, &[u8])>
     ensures none { IfNone result (text.now ≡ []) }
     ensures found { IfSome result (λ found. (p : Token) (more : List Token)

@@ -3,7 +3,6 @@
 #![tactic(auto)]
 
 mod blank;
-mod directive;
 mod ended;
 mod entry;
 pub mod examples;
@@ -14,10 +13,10 @@ mod open_entry;
 mod parser_state;
 mod parts;
 mod reader;
-mod record;
 mod scan;
 mod splitter;
 mod statements;
+mod stops;
 mod table;
 mod text_source;
 mod words;

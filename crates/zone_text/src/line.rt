@@ -1,12 +1,13 @@
 //! Entries without parentheses and escapes, cut into items as their end is looked for (RFC 1035
 //! 5.1).
-ghost use Rattle.std.specs.Prelude.{map, length, IfOk, IfSome, option_map, option_to_list};
+ghost use Rattle.std.specs.Prelude.{map, length, IfOk, IfSome, OnOk, option_map, option_to_list};
 ghost use Rattle.zone_rdata.specs.Item.{raw};
 ghost use Rattle.zone_text.specs.FirstEntry.{IsFirstEntry};
+ghost use Rattle.zone_text.specs.Machine.Kept.{KeepsBare};
 ghost use Rattle.zone_text.specs.Machine.Line.{IsInFront, IsQuoted};
 
 use crate::items::{Extent, comment_len, is_blank, keep, plain_len};
-use crate::table::stops_bare;
+use crate::stops::Stops;
 use std::alloc::AllocError;
 use zone_rdata::Item;
 
@@ -23,24 +24,15 @@ fn quoted(octets: &[u8]) -> Option<(&[u8], &[u8])>
     }
 }
 
-/// The token at the front: its item, if it is one, and what follows it. `None`: it is a parenthesis,
-/// a line feed, has a backslash, or isn't seen whole.
+/// The token at the front, which is neither a blank nor a bare item: its item, if it is one, and
+/// what follows it. `None`: it is a parenthesis or a line feed, or isn't seen whole.
 fn token_in_front(octets: &[u8]) -> Option<(Option<Item<'_>>, &[u8])>
     ensures { IfSome result (λ found.
         IsInFront octets.now (option_to_list (option_map raw found.0)) found.1.now) }
 {
     let (first, after) = octets.split_first()?;
     let octet = *first;
-    if !stops_bare(octet) {
-        let (item, rest) = octets.split_at(plain_len(octets, Extent::Bare));
-        let (next, _) = rest.split_first()?;
-        if *next == b'\\' {
-            return None;
-        }
-        Some((Some(Item::Bare(item)), rest))
-    } else if is_blank(octet) {
-        Some((None, after))
-    } else if octet == b'"' {
+    if octet == b'"' {
         let (inside, rest) = quoted(after)?;
         Some((Some(Item::Quoted(inside)), rest))
     } else if octet == b';' {
@@ -49,6 +41,18 @@ fn token_in_front(octets: &[u8]) -> Option<(Option<Item<'_>>, &[u8])>
     } else {
         None
     }
+}
+
+/// Puts a bare item after those before it, where there are octets of it.
+#[inline(always)]
+fn keep_bare<'t>(text: &'t [u8], items: &mut Vec<Item<'t>>) -> Result<(), AllocError>
+    ensures { OnOk result
+        (KeepsBare text.now (map raw items.old.items) (map raw items.new.items)) }
+{
+    if !text.is_empty() {
+        keep(Item::Bare(text), items)?;
+    }
+    Ok(())
 }
 
 /// Puts the items of the entry at the front in place of what `items` held, and gives the number of
@@ -65,18 +69,34 @@ pub(crate) fn cut_line<'t>(
         IsFirstEntry octets.now taken (map raw items.new.items))) }
 {
     items.clear();
+    let mut stops = Stops::unseen(octets);
     let mut rest = octets;
-    while let Some((first, after)) = rest.split_first() {
-        if *first == b'\n' {
-            return Ok(Some(octets.len() - after.len()));
-        }
-        let Some((item, left)) = token_in_front(rest) else {
+    while !rest.is_empty() {
+        let (len, next_stops) = stops.bare_len(rest);
+        let (bare, stopped) = rest.split_at(len);
+        let Some((stop, after)) = stopped.split_first() else {
             return Ok(None);
         };
+        if *stop == b'\\' {
+            return Ok(None);
+        }
+        keep_bare(bare, items)?;
+        if *stop == b'\n' {
+            return Ok(Some(octets.len() - after.len()));
+        }
+        if is_blank(*stop) {
+            rest = after;
+            stops = next_stops;
+            continue;
+        }
+        let Some((item, left)) = token_in_front(stopped) else {
+            return Ok(None);
+        };
+        rest = left;
+        stops = Stops::unseen(rest);
         if let Some(item) = item {
             keep(item, items)?;
         }
-        rest = left;
     }
     Ok(None)
 }

@@ -30,8 +30,8 @@ pub struct Taken {
     pub state: EntryState,
 }
 
-/// An entry that comes in pieces: its octets so far. Each octet is looked at once, however small the
-/// pieces are. Contracts see the octets, and where they leave the entry.
+/// An entry that comes in pieces: its octets so far. Each octet is looked at once, however small
+/// the pieces are. Contracts see the octets, and where they leave the entry.
 #[derive(Drop)]
 pub struct OpenEntry {
     octets: Vec<u8>,
@@ -118,8 +118,9 @@ impl OpenEntry {
         })
     }
 
-    /// What is wrong with the entry where the input ends after its octets: an open quote, parenthesis
-    /// or escape, or what broke it. `None`: the octets are a whole entry, or there are none.
+    /// What is wrong with the entry where the input ends after its octets: an open quote,
+    /// parenthesis or escape, or what broke it. `None`: the octets are a whole entry, or there are
+    /// none.
     pub fn end_fault(&self) -> Option<Fault>
         ensures open { self.now.state ≡ Open → EndIs self.now.octets result }
         ensures ended { self.now.state ≡ Ended → result ≡ None }

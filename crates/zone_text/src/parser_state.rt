@@ -2,6 +2,7 @@ ghost use Rattle.std.specs.Prelude.{◌≡◌, ℕ, List, [], map, Some, IfErr, 
 ghost use Rattle.std.specs.List.{flat_map};
 ghost use Rattle.zone_name.specs.Common.{Labels};
 ghost use Rattle.zone_name.specs.Spelling.{SpellingFault};
+ghost use Rattle.zone_rdata.specs.Cause.{fault_for};
 ghost use Rattle.zone_rdata.specs.Item.{raw};
 ghost use Rattle.zone_text.specs.ParserState.{IsStateAfter};
 ghost use Rattle.zone_text.specs.Entries.{Entry, entry_of, item_of};
@@ -12,11 +13,13 @@ ghost use Rattle.zone_text.specs.Machine.EntryReading.{DecidesEntry, LeavesNoRec
 ghost use Rattle.zone_text.specs.Stated.{directive_in, statement_in};
 ghost use Rattle.zone_text.specs.Kept.{AreKept};
 
-use crate::record::refuse;
+mod directive;
+mod record;
+
 use crate::statements::{Directive, Statement, statement_of};
 use std::alloc::{AllocError, Global};
 use zone_name::{Name, NameFault};
-use zone_rdata::{Cause, Class, Item, NarrowFailing, NarrowFault, PendingRecords, Place};
+use zone_rdata::{Cause, Class, Item, NarrowFailing, PendingRecords, Place};
 
 /// What the entries of a master file leave to those after them (RFC 1035 5.1, RFC 2308 4).
 #[derive(Debug, Drop)]
@@ -35,13 +38,6 @@ pub(crate) struct ParserState {
     pub(crate) minimum: Option<u32>,
 }
 
-/// IN, the class of the Internet (RFC 1035 3.2.4).
-fn internet() -> Class
-    ensures { result ≡ 1 }
-{
-    Class::from_number(1).unwrap()
-}
-
 impl ParserState {
     /// What the first entry of a file finds, under the origin that is handed in with the file.
     pub(crate) fn new(origin: &Name) -> ParserState
@@ -50,7 +46,7 @@ impl ParserState {
         ParserState {
             origin: origin.copy(),
             owner: None,
-            class: internet(),
+            class: Class::internet(),
             default_ttl: None,
             last_ttl: None,
             minimum: None,
@@ -97,7 +93,7 @@ impl ParserState {
             Statement::Blank => Ok(()),
             Statement::Directive(directive) => match self.follow(directive) {
                 Ok(()) => Ok(()),
-                Err(fault) => refuse(NarrowFailing::from(fault), place, decided),
+                Err(cause) => decided.refuse(NarrowFailing::of(cause), place),
             },
             Statement::Owned(owner, items) => self.read_owned(alloc, owner, items, place, decided),
             Statement::Unowned(items) => self.read_record(alloc, items, place, decided),
@@ -106,7 +102,7 @@ impl ParserState {
 
     /// Follows a directive, which states no record.
     #[inline(never)]
-    fn follow(&mut self, directive: Directive) -> Result<(), NarrowFault>
+    fn follow(&mut self, directive: Directive) -> Result<(), Cause>
         ensures found { (origin : Labels) (before : List Entry) (entry : Entry)
             → IsStateAfter origin before self.old
             → statement_of entry ≡ directive_in directive.entry
@@ -114,13 +110,13 @@ impl ParserState {
         ensures fault { (origin : Labels) (before : List Entry) (entry : Entry)
             → IsStateAfter origin before self.old
             → statement_of entry ≡ directive_in directive.entry
-            → IfErr result (EntryFault origin before entry) }
+            → IfErr result (λ cause. EntryFault origin before entry (fault_for cause)) }
     {
         match directive {
             Directive::Origin(items) => self.set_origin(items),
             Directive::Ttl(items) => self.set_default_ttl(items),
-            Directive::Include => Err(NarrowFault::of(Cause::IncludeDirective)),
-            Directive::Unknown => Err(NarrowFault::of(Cause::UnknownDirective)),
+            Directive::Include => Err(Cause::IncludeDirective),
+            Directive::Unknown => Err(Cause::UnknownDirective),
         }
     }
 
@@ -140,11 +136,11 @@ impl ParserState {
             (DecidesEntry origin before entry place decided.old decided.new self.new) }
     {
         let Item::Bare(text) = owner else {
-            return refuse(NarrowFailing::of(Cause::NoOwner), place, decided);
+            return decided.refuse(NarrowFailing::of(Cause::NoOwner), place);
         };
         match self.set_owner(text) {
             Ok(()) => self.read_record(alloc, items, place, decided),
-            Err(fault) => refuse(NarrowFailing::from(fault), place, decided),
+            Err(fault) => decided.refuse(NarrowFailing::from(fault), place),
         }
     }
 

@@ -19,7 +19,8 @@ use zone_rdata::{Class, Item};
 pub struct RecordParts<'i, 't> {
     /// The text of the TTL that is stated. It begins with a digit, and may still be no time.
     pub ttl: Option<&'t [u8]>,
-    /// The word of the class that is stated: IN, CS, CH, HS or CLASS and digits, in any letter case.
+    /// The word of the class that is stated: IN, CS, CH, HS or CLASS and digits, in any letter
+    /// case.
     pub class: Option<&'t [u8]>,
     /// The items from the type on.
     pub rest: &'i [Item<'t>],

@@ -1,11 +1,10 @@
-ghost use Rattle.std.specs.Prelude.{◌≡◌, bytes_eq, map, slice_get};
-ghost use Rattle.zone_name.specs.Name.{folded_label};
+ghost use Rattle.std.specs.Prelude.{◌≡◌, map, slice_get};
 ghost use Rattle.zone_rdata.specs.Item.{raw};
 ghost use Rattle.zone_text.specs.Statements.{directive, statement_by};
 ghost use Rattle.zone_text.specs.Stated.{directive_in, statement_in};
 
 use crate::items::is_blank;
-use zone_rdata::Item;
+use zone_rdata::{Item, is_word};
 
 /// A directive (RFC 1035 5.1; `$TTL` RFC 2308 4).
 #[derive(Clone, Copy)]
@@ -33,14 +32,8 @@ pub enum Statement<'i, 't> {
     Unowned(&'i [Item<'t>]),
 }
 
-/// Whether two words are equal but for the case of their letters.
-fn is_word(word: &[u8], wanted: &[u8]) -> bool
-    ensures { result ≡ bytes_eq (folded_label word.now) (folded_label wanted.now) }
-{
-    word.eq_ignore_ascii_case(wanted)
-}
-
 /// The directive of a word in any letter case.
+#[tactic(auto, using(crate::proofs::DirectiveWords::word_test))]
 fn directive_of<'i, 't>(word: Item<'t>, items: &'i [Item<'t>]) -> Directive<'i, 't>
     ensures { directive_in result ≡ directive (raw word.entry) (map raw items.now) }
 {

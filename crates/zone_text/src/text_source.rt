@@ -93,8 +93,8 @@ impl TextSource {
         }
     }
 
-    /// Takes the end of the file. What the source has still to give is then the rest of what is read
-    /// of the file. It takes no memory where no octets are undecided.
+    /// Takes the end of the file. What the source has still to give is then the rest of what is
+    /// read of the file. It takes no memory where no octets are undecided.
     ///
     /// # Errors
     ///

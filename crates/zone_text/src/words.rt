@@ -1,5 +1,6 @@
 ghost use Rattle.std.specs.Prelude.{◌≡◌, ◌≤◌, drop, length, ℕ, List, [], ◌∷◌, ◌++◌, map, None, IfOk, IfErr, IfSome, IfNone, IsSomeAnd};
 ghost use Rattle.zone_name.specs.Common.{Octets};
+ghost use Rattle.zone_rdata.specs.Cause.{fault_for};
 ghost use Rattle.zone_rdata.specs.Fault.{NoValue};
 ghost use Rattle.zone_rdata.specs.Item.{RawItem, bare, raw};
 ghost use Rattle.zone_text.specs.EntryFault.{WordFault, PartsFault};
@@ -7,7 +8,7 @@ ghost use Rattle.zone_text.specs.Statements.{Word, begins_with_digit, parts_afte
 ghost use Rattle.zone_text.specs.Inherited.{IsTtl};
 ghost use Rattle.zone_text.specs.Machine.WordValues.{AreWordsOf, HaveValues};
 
-use zone_rdata::{Cause, Class, Fault, Item, MAX_TTL, NarrowFault, seconds_of};
+use zone_rdata::{Cause, Class, Fault, Item, MAX_TTL, seconds_of};
 
 /// The text of the first item where that is a bare one, and the items after it. `None`: there is no
 /// item, or the first is quoted.
@@ -36,13 +37,14 @@ pub(crate) fn begins_with_digit(text: &[u8]) -> bool
 /// # Errors
 ///
 /// `BadTtl` for a text that is no time or is over 2147483647.
-pub(crate) fn ttl_in(text: &[u8]) -> Result<u32, NarrowFault>
+pub(crate) fn ttl_in(text: &[u8]) -> Result<u32, Cause>
     ensures found { IfOk result (IsTtl text.now) }
-    ensures fault { IfErr result (NoValue Fault.BadTtl (IsTtl text.now)) }
+    ensures fault { IfErr result
+        (λ cause. NoValue Fault.BadTtl (IsTtl text.now) (fault_for cause)) }
 {
     match seconds_of(text) {
         Some(seconds) if seconds <= u64::from(MAX_TTL) => Ok(seconds as u32),
-        _ => Err(NarrowFault::of(Cause::BadTtl)),
+        _ => Err(Cause::BadTtl),
     }
 }
 
@@ -59,14 +61,15 @@ impl Words {
     /// # Errors
     ///
     /// `BadTtl` and `BadClass` for a word without a value.
-    fn with(&self, text: &[u8]) -> Result<Option<Words>, NarrowFault>
+    fn with(&self, text: &[u8]) -> Result<Option<Words>, Cause>
         ensures found { (words : List Word) → HaveValues words self.now → IfOk result (λ next.
             IfSome next (λ values. IsSomeAnd (word_after words (bare text.now))
             (λ word. HaveValues (words ++ word ∷ []) values))) }
         ensures none { (words : List Word) → HaveValues words self.now → IfOk result (λ next.
             IfNone next (word_after words (bare text.now) ≡ None)) }
-        ensures fault { (words : List Word) → HaveValues words self.now → IfErr result (λ fault.
-            IsSomeAnd (word_after words (bare text.now)) (λ word. WordFault word fault)) }
+        ensures fault { (words : List Word) → HaveValues words self.now → IfErr result (λ cause.
+            IsSomeAnd (word_after words (bare text.now))
+            (λ word. WordFault word (fault_for cause))) }
     {
         if begins_with_digit(text) {
             if self.ttl.is_some() {
@@ -98,13 +101,14 @@ impl Words {
 /// # Errors
 ///
 /// `BadTtl` and `BadClass` for the leftmost word without a value.
-pub(crate) fn words_of(items: &[Item]) -> Result<(Words, usize), NarrowFault>
+pub(crate) fn words_of(items: &[Item]) -> Result<(Words, usize), Cause>
     ensures found { IfOk result (λ found.
         AreWordsOf (parts_after [] (map raw items.now)) found.0
         (drop found.1 (map raw items.now))) }
     ensures within { IfOk result (λ found. found.1 ≤ length items.now) }
-    ensures fault { IfErr result (PartsFault (parts_after [] (map raw items.now)).words
-        (parts_after [] (map raw items.now)).rest) }
+    ensures fault { IfErr result (λ cause. PartsFault
+        (parts_after [] (map raw items.now)).words
+        (parts_after [] (map raw items.now)).rest (fault_for cause)) }
 {
     let mut words = Words {
         ttl: None,

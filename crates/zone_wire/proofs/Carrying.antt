@@ -1,9 +1,6 @@
 -- A walk that is carried on from place to place: the walk from the start is what was met so far and
 -- the walk from here.
-use Rattle.zone_wire.proofs.Common.{Fault, List, None, Option, Outcome, ShortMessage, Some, Spot, Standing, [], after_label, ap, append-nil, arith, at_fault, at_label, at_pointer, at_root, common_steps, drop, label_at, length, named, outcome, outset, past_label, past_pointer, refl, refused, standing_in, subst, suc, sym, take, unwrap_or, walk, wire, zero, ℕ, ◌*◌, ◌++◌, ◌+◌, ◌-◌, ◌<◌, ◌∙◌, ◌∷◌, ◌≡◌, ◌≤◌}
-use Rattle.zone_name.specs.Spelling.{IsLabelFault}
-use Rattle.zone_name.specs.declared.fault.NameFault.{NameFault}
-use Rattle.zone_name.specs.declared.fault.NameFault.TheVariants.{EmptyLabel, LabelTooLong, NameTooLong}
+use Rattle.zone_wire.proofs.Common.{Fault, List, None, Option, Outcome, ShortMessage, Some, Spot, Standing, [], after_label, ap, append-nil, arith, at_fault, at_label, at_pointer, at_root, common_steps, label_at, length, named, outcome, outset, past_label, past_pointer, refl, refused, standing_in, subst, suc, sym, unwrap_or, walk, zero, ℕ, ◌*◌, ◌++◌, ◌+◌, ◌-◌, ◌<◌, ◌∙◌, ◌∷◌, ◌≡◌, ◌≤◌}
 use Rattle.zone_wire.proofs.Spots.{Shows, standing_shows}
 use Rattle.zone_wire.proofs.Walking.{outcome_by, outcome_at, outcome_step, label_octets, label_octets-label}
 
@@ -78,11 +75,3 @@ label_shows message spot size e = subst (Shows message spot) e (standing_shows m
 
 pub pointer_shows : (message : List ℕ) (spot : Spot) (target : ℕ) → standing_in message spot ≡ Some (at_pointer target) → Shows message spot (Some (at_pointer target))
 pointer_shows message spot target e = subst (Shows message spot) e (standing_shows message spot)
-
--- a label that fits a name is pushed
-pub push_fits : (fault : NameFault) (octets : List ℕ) (labels : List (List ℕ)) → IsLabelFault fault → (fault ≡ EmptyLabel → length octets ≡ 0) → (fault ≡ LabelTooLong → 63 < length octets) → (fault ≡ NameTooLong → 255 < length (wire (labels ++ octets ∷ []))) → 0 < length octets → length octets ≤ 63 → label_octets labels + length octets + 2 ≤ 255 → ⊥
-push_fits fault octets labels is empty long too_long some short room = grind (arith, common_steps)
-
--- the octets of a label, as a part of the message
-pub part_length : (message : List ℕ) (offset size : ℕ) → offset + size < length message → length (take (offset + 1 + size - (offset + 1)) (drop (offset + 1) message)) ≡ size
-part_length message offset size h = grind (arith, common_steps)

@@ -61,8 +61,8 @@ pub use Rattle.zone_wire.specs.Machine.Parsing.{AreRecordsAt, HasRecordsFrom, Is
 pub use Rattle.zone_wire.specs.Machine.Sections.{after_header, and_then, at_offset, each_from, inside, question_at, questions_from, record_at, records_from, to_the_end, unless_faulted}
 unfoldable pub use Rattle.zone_wire.specs.Machine.Sections.{header_fault, sections_of}
 pub use Rattle.zone_wire.specs.Machine.Spot.{spot_of}
-pub use Rattle.zone_wire.specs.Machine.Stream.{asks_for, has_first_id, of_answers, of_sections}
-unfoldable pub use Rattle.zone_wire.specs.Machine.Stream.{next_message, stream_records}
+pub use Rattle.zone_wire.proofs.NextMessages.{asks_for, has_first_id, of_answers, of_sections}
+unfoldable pub use Rattle.zone_wire.proofs.NextMessages.{next_message, stream_records}
 pub use Rattle.zone_wire.specs.Machine.Transferring.{Among, Gains, Hands, HeadFault, IfNoMemory, IsAfter, ReadsNext, StopsIn, Takes, TakesEach, TakesHead, TakesMessage, TakesMessageUpTo, TakesUpTo, TakesWhole, other_id, other_zone, zone_held, zone_with}
 pub use Rattle.zone_wire.specs.Machine.Walk.{Spot, label_of, outset, past_label, past_pointer, pointer_of, walk_on}
 unfoldable pub use Rattle.zone_wire.specs.Machine.Walk.{ending, standing_in, walk, walk_by}

@@ -18,9 +18,11 @@ pub mod GivenAnswers
 pub mod GivenMessages
 pub mod GivenStreams
 pub mod GivenTransfers
+pub mod Lanes
 pub mod MessageFaults
 pub mod Messages
 pub mod Naming
+pub mod NextMessages
 pub mod OneFault
 pub mod OneReading
 pub mod Pending
@@ -32,6 +34,8 @@ pub mod ReadRecords
 pub mod ReadSections
 pub mod ReadStreams
 pub mod RecordReading
+pub mod Rooms
+pub mod RunLaws
 pub mod Sectioning
 pub mod Streams
 pub mod StringReading

@@ -1,10 +1,11 @@
 -- Answers and messages that are read one after another.
-use Rattle.zone_wire.proofs.Common.{AfterClosing, AgreeWith, Among, AnswerFault, AnswersGive, AskAfter, Bool, ComesAfter, Err, Failing, Fault, Gains, Hands, HasFirstId, HeadFault, IfFault, IfNoMemory, IsAfter, IsMessage, List, MatchOption, Message, MessageFault, None, Ok, Option, OrderFault, Placed, Question, QuestionAt, RawRecord, ReadsNext, Record, RecordAt, Result, Sections, Some, StatedMessage, StopsIn, Takes, TakesEach, TakesHead, TakesMessage, TakesMessageUpTo, TakesUpTo, TakesWhole, Transfer, [], ap, append-nil, append_assoc, asked, asked_in, fails, false, first_id, handed_on, holds, inl, is_some, length, length-append, map, nat_eq, no_more, not, placed_in, pointwise, raw_at, refl, reverse, reverse-reverse, same_name, states, subst, sym, true, zone_held, zone_with, ℕ, ⊤, ◌++◌, ◌+◌, ◌==◌, ◌∙◌, ◌∷◌, ◌≡◌, common_steps, arith, rules}
+use Rattle.zone_wire.proofs.Common.{AfterClosing, AgreeWith, Among, AnswerFault, AnswersGive, AskAfter, Bool, ComesAfter, Err, Failing, Fault, Gains, Hands, HasFirstId, HeadFault, IfFault, IfNoMemory, IsAfter, IsMessage, List, MatchOption, Message, MessageFault, None, Ok, Option, OrderFault, Placed, Question, QuestionAt, RawRecord, ReadsNext, Record, RecordAt, Result, Sections, Some, StatedMessage, StopsIn, Takes, TakesEach, TakesHead, TakesMessage, TakesMessageUpTo, TakesUpTo, TakesWhole, Transfer, [], ap, append-nil, append_assoc, asked, asked_in, fails, false, first_id, handed_on, holds, inl, is_some, length, length-append, map, nat_eq, no_more, not, placed_in, pointwise, raw_at, refl, reverse, reverse-reverse, same_name, same_record, states, subst, sym, true, zone_held, zone_with, ℕ, ⊤, ◌++◌, ◌+◌, ◌==◌, ◌↔◌, ◌∙◌, ◌∷◌, ◌≡◌, common_steps, arith, rules}
 use Rattle.zone_rdata.specs.declared.fault.Failing.TheVariants as failings
+use Rattle.zone_rdata.specs.declared.queue.PendingRecords.{PendingRecords}
 use Rattle.zone_wire.specs.AnswerFault.{refused}
-use Rattle.zone_wire.proofs.Answering.{names_same}
+use Rattle.zone_wire.proofs.Answering.{names_same, records_same}
 use Rattle.zone_wire.proofs.GivenMessages.{asked_grow, placed_grow}
-use Rattle.zone_wire.proofs.ReadAnswers.{names_equal}
+use Rattle.zone_wire.proofs.ReadAnswers.{names_equal, records_equal}
 
 pub some_of : {X : Type 0} (o : Option X) → is_some o ≡ true → (x : X) × (o ≡ Some x)
 some_of o e = grind arith
@@ -159,9 +160,9 @@ pub stops_in_head : (octets : List ℕ) (before : List StatedMessage) (s : Secti
 stops_in_head octets before s old new e is given decided = grind (arith, hands_nothing, fails, placed_in, holds)
 
 -- a message is refused: its fault at its place ends the records
-pub stopped_next : (octets : List ℕ) (before : List StatedMessage) (old mid new : Transfer) (failing : Failing) (number offset : ℕ) → IsAfter before old → number ≡ old.messages + 1 → IfNoMemory (TakesMessageUpTo octets before old mid) (Err (failing, offset))
-    → (f : Fault) × (failing ≡ failings.Fault f) × (new ≡ record mid { decided = record mid.decided { ending = Some (f, Message number offset) } }) → ReadsNext octets before old new
-stopped_next octets before old mid new failing number offset after count takes e = grind arith
+pub stopped_next : (octets : List ℕ) (before : List StatedMessage) (old mid : Transfer) (decided : PendingRecords) (failing : Failing) (number offset : ℕ) → IsAfter before old → number ≡ old.messages + 1 → IfNoMemory (TakesMessageUpTo octets before old mid) (Err (failing, offset))
+    → (f : Fault) × (failing ≡ failings.Fault f) × (decided ≡ record mid.decided { ending = Some (f, Message number offset) }) → ReadsNext octets before old (record mid { decided = decided })
+stopped_next octets before old mid decided failing number offset after count takes e = grind arith
 
 -- the next answer is refused, or memory is wanting
 pub stopped_by : (octets : List ℕ) (answers : List RecordAt) (first : RawRecord) (left before : List RawRecord) (old mid new : Transfer) (failing : Failing) (offset : ℕ) → Pending octets answers before old mid → before ≡ first ∷ left → offset ≡ first.at.offset
@@ -199,3 +200,7 @@ pub reversed_same : (n m : List (List ℕ)) → pointwise (pointwise nat_eq) (re
 reversed_same n m = same_bool _ _
     (λ e. names_same n m (sym (reverse-reverse n) ∙ ap reverse (names_equal (reverse n) (reverse m) e) ∙ reverse-reverse m))
     (λ e. names_same (reverse n) (reverse m) (ap reverse (names_equal n m e)))
+
+-- a test that tells whether records are equal
+pub told_same : (b : Bool) (r s : Record) → (b ≡ true ↔ r ≡ s) → b ≡ same_record r s
+told_same b r s tells = same_bool b (same_record r s) (λ e. records_same r s (tells.0 e)) (λ e. tells.1 (records_equal r s e))

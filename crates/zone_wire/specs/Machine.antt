@@ -5,8 +5,9 @@ pub mod DataReading
 pub mod Feeding
 pub mod Finding
 pub mod Parsing
+pub mod Room
+pub mod Runs
 pub mod Spot
 pub mod Sections
-pub mod Stream
 pub mod Transferring
 pub mod Walk

@@ -21,8 +21,8 @@ pub record IsLabelAt (message : List ℕ) (offset size : ℕ) : Type 0 where
   pub inside : offset + size < length message
 
 -- A pointer at an offset: two octets of the message of which the first is 192 or more. It leads to
--- at least 12, past the header, and below a bound. RFC 1035 4.1.4 says only that it leads to a prior
--- occurrence of a name; both limits are this project's own choice.
+-- at least 12, past the header, and below a bound. RFC 1035 4.1.4 says only that it leads to a
+-- prior occurrence of a name; both limits are this project's own choice.
 pub record IsPointerAt (message : List ℕ) (offset bound target : ℕ) : Type 0 where
   pub inside : offset + 1 < length message
   pub first : 192 ≤ slice_index message offset

@@ -1,11 +1,12 @@
 ghost use Rattle.std.specs.Prelude.{◌≡◌};
 ghost use Rattle.zone_wire.specs.Message.{RecordAt, IsRecordAt};
 
-use crate::name::read_name;
+use crate::header::RECORD_HEAD_LEN;
+use crate::labels::LabelRoom;
 use crate::number::{u16_at, u32_at};
-use crate::spot::RECORD_HEAD_LEN;
+use crate::runs::read_labels;
 use std::marker::Model;
-use zone_name::{Name, NameBuilder};
+use zone_name::Name;
 
 /// A record of a message as it stands there, its data not read (RFC 1035 4.1.3).
 #[derive(Debug, Drop)]
@@ -141,9 +142,9 @@ fn record_at<'m>(message: &'m [u8], offset: usize) -> RawRr<'m>
     ensures octets { result.octets ≡ message.now }
     ensures at { IsRecordAt message.now offset result.at }
 {
-    let mut owner = NameBuilder::new();
-    match read_name(message, offset, &mut owner) {
-        Ok((end, _)) => RawRr {
+    let mut owner = LabelRoom::new();
+    match read_labels(message, offset, &mut owner) {
+        Ok(end) => RawRr {
             message,
             offset,
             owner: owner.finish(),

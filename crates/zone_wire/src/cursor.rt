@@ -1,9 +1,9 @@
 //! A place in the data of a record, from which its values are read one after another.
 ghost use Rattle.std.specs.Prelude.{ℕ, ◌+◌, ◌<◌, ◌≤◌, length, slice_index};
 
-use crate::name::read_name;
+use crate::labels::LabelRoom;
 use crate::number::{u16_at, u32_at};
-use zone_name::NameBuilder;
+use crate::runs::read_labels;
 use zone_rdata::Cause;
 
 /// What is left to read of the data of a record. After an error no more is read.
@@ -80,17 +80,17 @@ impl<'m> Cursor<'m> {
         self.take(size as usize)
     }
 
-    /// Puts the labels of the name that is next into a builder. The name is followed into the whole
+    /// Puts the labels of the name that is next into a room. The name is followed into the whole
     /// message.
-    pub(crate) fn name(&mut self, labels: &mut NameBuilder) -> Result<(), Cause>
+    pub(crate) fn name(&mut self, labels: &mut LabelRoom) -> Result<(), Cause>
         requires { labels.old ≡ [] }
         ensures found { OnOk result (Reads self.old self.new Name (name labels.new)) }
         ensures fault { IfErr result (λ c. next_value self.old Name ≡ Err (fault_for c)) }
     {
-        match read_name(self.message, self.at, labels) {
-            Err((cause, _)) => Err(cause),
-            Ok((past, _)) if past > self.end => Err(Cause::BadRdata),
-            Ok((past, _)) => {
+        match read_labels(self.message, self.at, labels) {
+            Err(cause) => Err(cause),
+            Ok(past) if past > self.end => Err(Cause::BadRdata),
+            Ok(past) => {
                 self.at = past;
                 Ok(())
             }

@@ -9,11 +9,9 @@ ghost use Rattle.zone_wire.specs.Machine.DataReading.{AwaitsStrings, IsReadyFor,
 
 use crate::answers::RawRr;
 use crate::cursor::Cursor;
+use crate::labels::LabelRoom;
 use crate::octets::are_octets;
-use zone_name::NameBuilder;
-use zone_rdata::{
-    Cause, Class, Field, Kind, Layout, NarrowFailing, Part, Rdata, RdataBuilder, layout_of,
-};
+use zone_rdata::{Cause, Class, Field, Kind, Layout, NarrowFailing, Part, Rdata, RdataBuilder};
 
 /// Pushes the strings that are left, each after its length: one at least.
 fn push_strings(cursor: &mut Cursor, builder: &mut RdataBuilder) -> Result<(), NarrowFailing>
@@ -43,7 +41,7 @@ fn push_field(
 {
     match field {
         Field::Name => {
-            let mut labels = NameBuilder::new();
+            let mut labels = LabelRoom::new();
             cursor.name(&mut labels)?;
             builder.push(Part::Name(&labels.finish()))
         }
@@ -95,7 +93,7 @@ impl<'m> RawRr<'m> {
         ensures fault { IfErr result (IfFault (λ f. data_at self.now.octets self.now.at ≡ Err f)) }
     {
         are_octets(self.message);
-        match layout_of(class, kind) {
+        match builder.layout() {
             Some(layout) => {
                 let mut cursor = Cursor {
                     message: self.message,

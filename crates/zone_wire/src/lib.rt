@@ -1,5 +1,5 @@
-//! Reads DNS messages and zone transfers, whole or in pieces: names with their pointers, records, and
-//! the first fault (RFC 1035 4.1, RFC 5936).
+//! Reads DNS messages and zone transfers, whole or in pieces: names with their pointers, records,
+//! and the first fault (RFC 1035 4.1, RFC 5936).
 #![tactic(auto)]
 
 mod answers;
@@ -7,12 +7,15 @@ mod cursor;
 mod data;
 pub mod examples;
 mod framer;
+mod header;
+mod labels;
 pub mod laws;
 mod message;
 mod name;
 mod number;
 mod octets;
 mod record;
+mod runs;
 mod spot;
 mod structure;
 mod ticks;

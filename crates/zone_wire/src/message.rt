@@ -5,9 +5,9 @@ ghost use Rattle.zone_wire.specs.MessageFault.{MessageFault};
 ghost use Rattle.zone_wire.specs.View.{raw_at, asked};
 
 use crate::answers::Answers;
+use crate::header::{ANCOUNT, HEADER_LEN, QDCOUNT};
 use crate::name::{Decoded, name_at};
 use crate::number::u16_at;
-use crate::spot::{ANCOUNT, HEADER_LEN, QDCOUNT};
 use crate::structure::answers_start;
 use std::marker::Model;
 use zone_name::Name;

@@ -4,9 +4,10 @@ ghost use Rattle.zone_wire.specs.Machine.Finding.{Says, Tells, outcome};
 ghost use Rattle.zone_wire.specs.Walk.{Visit, IsWalk, NameFault};
 ghost use Rattle.zone_wire.specs.Machine.Walk.{walk};
 
-use crate::spot::{Spot, Standing, look_at};
+use crate::labels::LabelRoom;
+use crate::spot::{Spot, Standing, step_at};
 use crate::ticks::Ticks;
-use zone_name::{Name, NameBuilder};
+use zone_name::Name;
 use zone_rdata::{Cause, Fault};
 
 /// A name that was read from a message.
@@ -43,7 +44,7 @@ pub fn name_at(message: &[u8], offset: usize) -> Result<Decoded, (Fault, u16)>
 fn walked(message: &[u8], offset: usize) -> Result<Decoded, (Fault, u16)>
     ensures { Says result (outcome message.now (walk message.now offset)) }
 {
-    let mut labels = NameBuilder::new();
+    let mut labels = LabelRoom::new();
     match read_name(message, offset, &mut labels) {
         Ok((end, steps)) => Ok(Decoded {
             name: labels.finish(),
@@ -54,15 +55,16 @@ fn walked(message: &[u8], offset: usize) -> Result<Decoded, (Fault, u16)>
     }
 }
 
-/// Puts the labels of the name at an offset into a builder, and gives the offset after the name and the steps of the walk.
+/// Puts the labels of the name at an offset into a room, place by place, and gives the offset after
+/// the name and the steps of the walk.
 ///
 /// # Errors
 ///
-/// As `name_at`; the builder then has the labels before the fault.
+/// As `name_at`; the room then has the labels before the fault.
 pub(crate) fn read_name(
     message: &[u8],
     offset: usize,
-    labels: &mut NameBuilder,
+    labels: &mut LabelRoom,
 ) -> Result<(usize, u16), (Cause, u16)>
     requires { labels.old ≡ [] }
     ensures { Tells result labels.new (outcome message.now (walk message.now offset)) }
@@ -71,16 +73,16 @@ pub(crate) fn read_name(
     let mut end = None;
     let mut spot = Spot::outset(offset);
     'places: loop {
-        match look_at(message, spot, &mut ticks) {
+        match step_at(message, spot, &mut ticks) {
             Standing::Outside => return Err((Cause::ShortMessage, ticks.count())),
             Standing::Bad(cause) => return Err((cause, ticks.count())),
             Standing::Root => return Ok((end.unwrap_or(spot.offset + 1), ticks.count())),
             Standing::Label(size) => {
-                let start = spot.offset + 1;
-                match labels.push_label(&message[start..start + size]) {
-                    Ok(()) => spot = spot.past_label(size),
-                    Err(_) => unreachable!(),
+                let past = spot.offset + 1 + size;
+                if !labels.push(message, spot.offset, past) {
+                    unreachable!();
                 }
+                spot = spot.past_label(size);
             }
             Standing::Pointer(target) => {
                 end = Some(end.unwrap_or(spot.offset + 2));

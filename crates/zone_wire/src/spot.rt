@@ -4,29 +4,11 @@ ghost use Rattle.zone_wire.specs.Machine.Spot.{spot_of, standing_of, ticks_at};
 ghost use Rattle.zone_wire.specs.Machine.Walk.{outset, past_label, past_pointer};
 ghost use Rattle.zone_wire.specs.Machine.Walk.{standing_in, label_of, pointer_of};
 
+use crate::header::HEADER_LEN;
 use crate::number::u16_at;
 use crate::ticks::Ticks;
 use zone_name::MAX_NAME_LEN;
 use zone_rdata::Cause;
-
-/// The octets of a message's header (RFC 1035 4.1.1).
-pub(crate) const HEADER_LEN: usize = 12;
-
-/// Where a header says how many questions there are (RFC 1035 4.1.1).
-pub(crate) const QDCOUNT: usize = 4;
-
-/// Where a header says how many answers there are (RFC 1035 4.1.1).
-pub(crate) const ANCOUNT: usize = 6;
-
-/// Where a header says how many authority records there are (RFC 1035 4.1.1).
-pub(crate) const NSCOUNT: usize = 8;
-
-/// Where a header says how many additional records there are (RFC 1035 4.1.1).
-pub(crate) const ARCOUNT: usize = 10;
-
-/// The octets of a record between its name and its data: its type, its class, its TTL and the
-/// data's length (RFC 1035 4.1.3).
-pub(crate) const RECORD_HEAD_LEN: usize = 10;
 
 /// The greatest number of pointers through which a name is followed. RFC 1035 states none; this is
 /// the project's own choice.
@@ -59,19 +41,15 @@ pub(crate) enum Standing {
     Bad(Cause),
 }
 
-/// What stands at a spot, by its first octet. Where there is one, it counts a step before it looks
-/// at it.
+/// What stands at a spot, by its first octet.
 #[tactic(auto, unfolding(crate::specs::Machine::Walk::standing_in))]
-pub(crate) fn look_at(message: &[u8], spot: Spot, ticks: &mut Ticks) -> Standing
-    requires octets { spot.octets < 256 }
-    requires ticks { ticks.old < 256 }
-    ensures place { standing_of result ≡ standing_in message.now (spot_of spot) }
-    ensures ticks { ticks.new ≡ ticks.old + ticks_at (standing_of result) }
+pub(crate) fn look_at(message: &[u8], spot: Spot) -> Standing
+    requires { spot.octets < 256 }
+    ensures { standing_of result ≡ standing_in message.now (spot_of spot) }
 {
     if spot.offset >= message.len() {
         return Standing::Outside;
     }
-    ticks.tick();
     let first = message[spot.offset];
     // The two high bits say the form: 00 is a label's length, 11 a pointer, and the others are
     // reserved (RFC 1035 4.1.4).
@@ -81,6 +59,20 @@ pub(crate) fn look_at(message: &[u8], spot: Spot, ticks: &mut Ticks) -> Standing
         64..=191 => Standing::Bad(Cause::ReservedLabel),
         _ => pointer_at(message, spot),
     }
+}
+
+/// `look_at`, which counts a step before it looks at a spot that lies in the message.
+#[tactic(auto, unfolding(crate::specs::Machine::Walk::standing_in))]
+pub(crate) fn step_at(message: &[u8], spot: Spot, ticks: &mut Ticks) -> Standing
+    requires octets { spot.octets < 256 }
+    requires ticks { ticks.old < 256 }
+    ensures place { standing_of result ≡ standing_in message.now (spot_of spot) }
+    ensures ticks { ticks.new ≡ ticks.old + ticks_at (standing_of result) }
+{
+    if spot.offset < message.len() {
+        ticks.tick();
+    }
+    look_at(message, spot)
 }
 
 /// A label of this many octets.
@@ -128,6 +120,19 @@ impl Spot {
             offset,
             bound: offset,
             pointers: 0,
+            octets: 0,
+        }
+    }
+
+    /// The spot after a run of labels, as a walk comes to it that asks for no label more.
+    pub(crate) fn after_run(start: usize, past: usize, pointers: usize) -> Spot
+        ensures { spot_of result
+            ≡ record { offset = past; bound = start; pointers = pointers; octets = 0 } }
+    {
+        Spot {
+            offset: past,
+            bound: start,
+            pointers,
             octets: 0,
         }
     }

@@ -6,11 +6,9 @@ ghost use Rattle.zone_wire.specs.Machine.Finding.{outcome};
 ghost use Rattle.zone_wire.specs.Machine.Spot.{end_or_fault, offset_or_fault};
 ghost use Rattle.zone_wire.specs.Machine.Walk.{walk};
 
+use crate::header::{ANCOUNT, ARCOUNT, HEADER_LEN, NSCOUNT, QDCOUNT, RECORD_HEAD_LEN};
 use crate::number::u16_at;
-use crate::spot::{
-    ANCOUNT, ARCOUNT, HEADER_LEN, NSCOUNT, QDCOUNT, RECORD_HEAD_LEN, Spot, Standing, look_at,
-};
-use crate::ticks::Ticks;
+use crate::spot::{Spot, Standing, look_at};
 use zone_rdata::Cause;
 
 /// The offset at which the answers of a message begin.
@@ -57,15 +55,15 @@ fn header_cause(octets: &[u8]) -> Option<Cause>
     }
 }
 
-/// The offset after the name at an offset. The walk is the one that `read_name` makes, and keeps no label.
+/// The offset after the name at an offset. The walk is the one that `read_name` makes, and keeps no
+/// label.
 fn walk_to_root(message: &[u8], offset: usize) -> Result<usize, Cause>
     ensures { end_or_fault result ≡ name_end_of (outcome message.now (walk message.now offset)) }
 {
-    let mut ticks = Ticks::new();
     let mut end = None;
     let mut spot = Spot::outset(offset);
     'places: loop {
-        match look_at(message, spot, &mut ticks) {
+        match look_at(message, spot) {
             Standing::Outside => return Err(Cause::ShortMessage),
             Standing::Bad(cause) => return Err(cause),
             Standing::Root => return Ok(end.unwrap_or(spot.offset + 1)),
@@ -89,7 +87,8 @@ fn question_end(message: &[u8], offset: usize) -> Result<usize, Cause>
     Ok(end + 4)
 }
 
-/// The offset after the record at an offset: its name, type, class, TTL, and its data after its length (RFC 1035 4.1.3).
+/// The offset after the record at an offset: its name, type, class, TTL, and its data after its
+/// length (RFC 1035 4.1.3).
 fn record_end(message: &[u8], offset: usize) -> Result<usize, Cause>
     ensures { end_or_fault result ≡ part_end_of (λ r. r.end) (record_at message.now offset) }
 {

@@ -3,24 +3,21 @@ ghost use Rattle.std.specs.Prelude.{◌≡◌, ◌+◌, ◌<◌, ◌≤◌, ◌^
 ghost use Rattle.zone_rdata.specs.Cause.{fault_for};
 ghost use Rattle.zone_rdata.specs.Fault.{IfFault};
 ghost use Rattle.zone_rdata.specs.Record.{Record, record_with};
-ghost use Rattle.zone_rdata.specs.declared.fault.Fault.{Fault};
 ghost use Rattle.zone_rdata.specs.declared.fault.Place.TheVariants.{Message as in_message};
 ghost use Rattle.zone_rdata.specs.declared.record.Placed.{Placed};
 ghost use Rattle.zone_wire.specs.AnswerFault.{AnswerFault};
-ghost use Rattle.zone_wire.specs.Machine.Answers.{agrees, order_fault, same_name, same_record};
+ghost use Rattle.zone_wire.specs.Machine.Answers.{agrees, order_fault, same_record};
 ghost use Rattle.zone_wire.specs.Machine.Transferring.{zone_held, zone_with, Among, IsAfter, Gains, Takes, TakesEach, TakesHead, HeadFault, TakesMessage, ReadsNext};
 ghost use Rattle.zone_wire.specs.Message.{QuestionAt};
 ghost use Rattle.zone_wire.specs.Transfer.{AnswerStates, StatedMessage};
 
 use crate::answers::RawRr;
+use crate::header::HEADER_LEN;
 use crate::message::Message;
 use crate::record::counted_ttl;
-use crate::spot::HEADER_LEN;
 use std::alloc::{AllocError, Global};
 use zone_name::Name;
-use zone_rdata::{
-    Cause, Failing, MAX_TTL, NarrowFailing, PendingRecords, Place, Rdata, Reading, Rr,
-};
+use zone_rdata::{Cause, MAX_TTL, NarrowFailing, PendingRecords, Place, Rdata, Reading, Rr};
 
 /// The number of the query type AXFR, of a whole zone (RFC 5936 2.1.2).
 const AXFR: u16 = 252;
@@ -86,26 +83,10 @@ impl Transfer {
         let number = self.messages + 1;
         match self.take_message(octets) {
             Ok(()) => Ok(()),
-            Err((failing, offset)) => self.stop(failing, Place::Message(number, offset)),
-        }
-    }
-
-    /// Ends the records with the fault at a place, and passes `Memory` on as `AllocError`.
-    // Not inlined: a fault has room for a name, and only what is refused needs it.
-    #[cold]
-    #[inline(never)]
-    fn stop(&mut self, failing: NarrowFailing, place: Place) -> Result<(), AllocError>
-        ensures count { self.new.messages ≡ self.old.messages }
-        ensures stopped { OnOk result ((f : Fault) × (failing ≡ Failing.Fault f) × (self.new
-            ≡ record self.old { decided = record self.old.decided { ending = Some (f, place) } })) }
-        ensures memory { OnErr result (failing ≡ Failing.Memory) }
-    {
-        match Failing::from(failing) {
-            Failing::Fault(fault) => {
-                self.decided.ending = Some((fault, place));
-                Ok(())
+            Err((failing, offset)) => {
+                let place = Place::Message(number, offset);
+                self.decided.refuse(failing, place)
             }
-            Failing::Memory => Err(AllocError),
         }
     }
 
@@ -319,30 +300,20 @@ impl Transfer {
     }
 
     /// Whether a name and a class are those of the zone, if it is fixed.
+    #[tactic(auto, using(crate::proofs::Progress::reversed_same))]
     fn is_of_zone(&self, name: &Name, class: u16) -> bool
         ensures { result ≡ agrees (zone_held self.now.zone) name.now class }
     {
         match &self.zone {
-            Some(zone) => is_same_name(name, &zone.name) && class == zone.class,
+            Some(zone) => *name == zone.name && class == zone.class,
             None => true,
         }
     }
-}
-
-/// Whether names are the same.
-fn is_same_name(name: &Name, other: &Name) -> bool
-    ensures { result ≡ same_name name.now other.now }
-{
-    name == other
 }
 
 /// Whether records are the same in owner, class, type, TTL and data.
 fn is_same(rr: &Rr, other: &Rr) -> bool
     ensures { result ≡ same_record rr.now other.now }
 {
-    is_same_name(rr.owner(), other.owner())
-        && rr.class().number() == other.class().number()
-        && rr.kind().number() == other.kind().number()
-        && rr.ttl() == other.ttl()
-        && rr.rdata().octets() == other.rdata().octets()
+    rr.lend().is_same(&other.lend())
 }

@@ -112,8 +112,8 @@ impl TransferSource {
         }
     }
 
-    /// Takes the end of the stream. What the source has still to give is then the rest of what the stream is read as. It
-    /// takes no memory.
+    /// Takes the end of the stream. What the source has still to give is then the rest of what the
+    /// stream is read as. It takes no memory.
     ///
     /// # Errors
     ///

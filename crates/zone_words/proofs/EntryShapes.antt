@@ -1,5 +1,5 @@
--- Tokens that are written anew are cut where they were: their parentheses, their line feeds outside of
--- them and the order of their tokens are as before.
+-- Tokens that are written anew are cut where they were: their parentheses, their line feeds outside
+-- of them and the order of their tokens are as before.
 use Rattle.zone_text.proofs.Common.{AllFollow, Cut, List, Token, Written, [], ap, bare, blank, closing, comment, cut_from, depth_after, in_front, in_front_of, line_feed, map, opening, plain, quoted, refl, subst, suc, sym, zero, ℕ, ◌++◌, ◌∙◌, ◌∷◌, ◌≡◌}
 use Rattle.hex.specs.Hex.{encode_lower}
 use Rattle.std.specs.Prelude.{codes, decimal, filter, ⊤}

@@ -22,6 +22,7 @@ mod LengthsBefore
 mod PassedFaults
 mod Numbers
 mod TypeWords
+mod MnemonicOf
 mod StringItems
 pub mod OfName
 mod ReadFields
@@ -29,6 +30,7 @@ pub mod Years
 pub mod Times
 pub mod Bits
 pub mod Bitmaps
+pub mod UnescapedTexts
 pub mod Values
 pub mod Tags
 pub mod OfParameters
@@ -51,3 +53,5 @@ pub mod KeptRecords
 pub mod Turns
 pub mod GivenTokens
 pub mod BecomesOnce
+pub mod Moved
+pub mod Registered

@@ -1,87 +1,29 @@
--- Written octets that are appended one by one.
-use Rattle.std.proofs.Common.{[], ◌≡◌, ℕ, List, ◌∷◌, ◌++◌, refl, sym, ap, ◌∙◌}
-use Rattle.std.proofs.lemmas.List.{append-nil, append_assoc, flat_map_more, map_push}
-use Rattle.std.specs.List.{AllByRecursion}
-use Rattle.zone_name.proofs.Pushing.{AllByRecursion-append}
-use Rattle.zone_name.proofs.Units.{at_backslash, at_end, units_first_only}
-use Rattle.zone_name.specs.Machine.Units.{Units}
-use Rattle.zone_name.specs.Spelling.{BeginsWithUnit, IsBadEscape, IsUnit, Written, no_octet, octet_of, text_of, written_octets, written_text}
-use Rattle.zone_words.specs.Fault.{AppendsStated}
+-- A value is stated once, or has one fault.
+use Rattle.std.proofs.Common.{◌≡◌, List, ℕ, sym, ◌∙◌}
 use Rattle.zone_rdata.specs.Item.{RawItem, bare, quoted}
 use Rattle.zone_rdata.specs.Strings.{item_text}
-use Rattle.zone_words.specs.Kinds.Value.{ComesToBadEscape, FailsQuotedValue, FailsValue, IsWrittenFor, StatesQuotedValue, StatesValue}
+use Rattle.zone_words.proofs.UnescapedTexts.{unescaped_once, unescaped_or_bad}
+use Rattle.zone_words.specs.Kinds.Value.{FailsQuotedValue, FailsValue, StatesQuotedValue, StatesValue}
 use Rattle.zone_words.specs.declared.fault.WordsFault.{WordsFault}
 
--- the octets of the units up to a place of the text are appended
-pub record HaveWritten (text rest old new : List ℕ) : Type 0 where
-  pub units : List Written
-  pub each : AllByRecursion (IsUnit no_octet) units
-  pub parts : text ≡ written_text units ++ rest
-  pub written : new ≡ old ++ written_octets units
-
-pub none_written : (text old : List ℕ) → HaveWritten text text old old
-none_written text old =
-    record { units = []; each = tt; parts = refl; written = sym (append-nil old) }
-
-pub more_written : (text rest after old mid new : List ℕ) (c : ℕ) → HaveWritten text rest old mid → BeginsWithUnit no_octet rest c after → new ≡ mid ++ (c ∷ []) → HaveWritten text after old new
-more_written text rest after old mid new c have begins grown = record {
-  units = have.units ++ begins.unit ∷ [];
-  each = AllByRecursion-append (IsUnit no_octet) have.units (begins.unit ∷ []) have.each (begins.is_unit, tt);
-  parts = have.parts ∙ ap (λ t. written_text have.units ++ t) begins.parts ∙ sym (append_assoc (written_text have.units) (text_of begins.unit) after) ∙ ap (λ t. t ++ after) (flat_map_more text_of [] have.units begins.unit);
-  written = grown ∙ ap (λ t. t ++ c ∷ []) have.written ∙ append_assoc old (written_octets have.units) (c ∷ []) ∙ ap (λ (d : ℕ). old ++ (written_octets have.units ++ d ∷ [])) (sym begins.value) ∙ ap (λ t. old ++ t) (sym (map_push octet_of have.units begins.unit));
-}
-
-pub all_written : (text rest old new : List ℕ) → HaveWritten text rest old new → rest ≡ [] → AppendsStated (IsWrittenFor text) old new
-all_written text rest old new have ends =
-    record {
-      octets = written_octets have.units;
-      stated = record {
-        units = have.units;
-        each = have.each;
-        parts = have.parts ∙ ap (λ t. written_text have.units ++ t) ends ∙ append-nil (written_text have.units);
-        value = refl;
-      };
-      written = have.written;
-    }
-
-pub bad_written : (text rest old new : List ℕ) → HaveWritten text rest old new → IsBadEscape rest → ComesToBadEscape text
-bad_written text rest old new have bad =
-    record { units = have.units; each = have.each; rest = rest; parts = have.parts; bad = bad }
-
--- a text is written for one list of octets
-pub written_once : (text a b : List ℕ) → IsWrittenFor text a → IsWrittenFor text b → a ≡ b
-written_once text a b these those =
-    let first = units_first_only no_octet text these.units [] refl (these.parts ∙ sym (append-nil (written_text these.units))) these.each (at_end refl) in
-    let second = units_first_only no_octet text those.units [] refl (those.parts ∙ sym (append-nil (written_text those.units))) those.each (at_end refl) in
-    let same : these.units ≡ those.units = ap (λ (found : Units). found.units) (sym first ∙ second) in
-    these.value ∙ ap written_octets same ∙ sym those.value
-
--- and none where a backslash begins no escape
-pub written_or_bad : (text octets : List ℕ) → IsWrittenFor text octets → ComesToBadEscape text → ⊥
-written_or_bad text octets these bad =
-    let first = units_first_only no_octet text these.units [] refl (these.parts ∙ sym (append-nil (written_text these.units))) these.each (at_end refl) in
-    let second = units_first_only no_octet text bad.units bad.rest refl bad.parts bad.each (at_backslash bad.bad) in
-    let ends : [] ≡ bad.rest = ap (λ (found : Units). found.rest) (sym first ∙ second) in
-    cc (ends, bad.bad.1)
-
 pub value_once : (item : RawItem) (a b : List ℕ) → StatesValue item a → StatesValue item b → a ≡ b
-value_once item a b these those = written_once (item_text item) a b these those
+value_once item a b these those = unescaped_once (item_text item) a b these those
 
 pub value_or_fault : (item : RawItem) (octets : List ℕ) (fault : WordsFault) → StatesValue item octets → FailsValue item fault → ⊥
 value_or_fault item octets fault states fails =
-    written_or_bad (item_text item) octets states fails.1
+    unescaped_or_bad (item_text item) octets states fails.1
 
 pub value_fault_once : (item : RawItem) (a b : WordsFault) → FailsValue item a → FailsValue item b → a ≡ b
 value_fault_once item a b these those = these.0 ∙ sym those.0
 
 pub quoted_value_once : (item : RawItem) (a b : List ℕ) → StatesQuotedValue item a → StatesQuotedValue item b → a ≡ b
 quoted_value_once (bare text) a b these those = absurd these
-quoted_value_once (quoted text) a b these those = written_once text a b these those
+quoted_value_once (quoted text) a b these those = unescaped_once text a b these those
 
 pub quoted_value_or_fault : (item : RawItem) (octets : List ℕ) (fault : WordsFault) → StatesQuotedValue item octets → FailsQuotedValue item fault → ⊥
 quoted_value_or_fault (bare text) octets fault states fails = states
 quoted_value_or_fault (quoted text) octets fault states fails =
-    written_or_bad text octets states fails.1
+    unescaped_or_bad text octets states fails.1
 
 pub quoted_value_fault_once : (item : RawItem) (a b : WordsFault) → FailsQuotedValue item a → FailsQuotedValue item b → a ≡ b
 quoted_value_fault_once (bare text) a b these those = these ∙ sym those

@@ -18,3 +18,4 @@ pub mod Rewriter
 pub mod NoFurther
 pub mod CutAlike
 pub mod FaultText
+pub mod Unescaped

@@ -50,6 +50,20 @@ impl EntryWriter {
         }
     }
 
+    /// Forgets all entries, under the origin of another file.
+    pub(crate) fn restart(&mut self, origin: &CasedName)
+        ensures inherited { IsInherited origin.now [] self.new.inherited }
+        ensures line { self.new.line ≡ 1 }
+        ensures first { self.new.refusals.first ≡ None }
+        ensures count { self.new.refusals.count ≡ 0 }
+        ensures written { self.new.written.items ≡ [] }
+    {
+        self.inherited = Inherited::new(origin);
+        self.line = 1;
+        self.refusals = Refusals::none();
+        self.written.clear();
+    }
+
     /// Writes what becomes of one more entry, of whose items these are kept, and tells of it.
     ///
     /// # Errors

@@ -48,6 +48,19 @@ impl FedWriter {
         }
     }
 
+    /// Forgets all octets, under the origin of another file.
+    pub(crate) fn restart(&mut self, origin: &CasedName)
+        ensures is { IsFedWriter self.new }
+        ensures line { line_reach self.new ≡ 1 }
+        ensures count { count_reach self.new ≡ 0 }
+        ensures none { self.new.unfinished.octets ≡ [] }
+        ensures so_far { HasWritten origin.now self.new [] [] }
+    {
+        self.entries.restart(origin);
+        self.unfinished.clear();
+        self.is_broken = false;
+    }
+
     /// Takes the next piece.
     pub(crate) fn feed(&mut self, piece: &[u8]) -> Result<(), AllocError>
         requires is { IsFedWriter self.old }

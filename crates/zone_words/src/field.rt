@@ -20,7 +20,7 @@ use zone_rdata::Item;
 
 /// What the text of one bare item states.
 #[derive(Clone, Copy, Debug, PartialEq, Eq)]
-pub(crate) enum BareKind {
+pub enum BareKind {
     /// A number of 8 bits in decimal digits.
     U8,
     /// A number of 16 bits in decimal digits.
@@ -64,7 +64,7 @@ pub(crate) enum BareKind {
 
 /// What the items of a field state.
 #[derive(Clone, Copy, Debug, PartialEq, Eq)]
-pub(crate) enum FieldKind {
+pub enum FieldKind {
     /// One bare item.
     Bare(BareKind),
     /// A character-string, bare or quoted (RFC 1035 3.3).
@@ -97,7 +97,7 @@ pub(crate) enum FieldKind {
 
 /// A field: its name in the RFC of its type, in lower case, and what its items state.
 #[derive(Clone, Copy, Debug)]
-pub(crate) struct Field(pub(crate) &'static str, pub(crate) FieldKind);
+pub struct Field(pub &'static str, pub FieldKind);
 
 impl BareKind {
     /// What is wrong with a quoted item.

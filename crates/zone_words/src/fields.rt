@@ -13,7 +13,7 @@ use zone_rdata::{Item, decimal_of};
 
 /// The fields of the data of a type.
 #[derive(Clone, Copy, Debug)]
-pub(crate) enum Fields {
+pub enum Fields {
     /// The same for all its data.
     Same(&'static [Field]),
     /// Those of IPSECKEY: its gateway depends on the type before it, and whether there is a key on

@@ -22,9 +22,14 @@ mod refusal;
 mod rewriter;
 mod table;
 mod turn;
+mod unescaped;
 mod writing;
 
 pub use data_item::DataItem;
 pub use fault::{WordsFailing, WordsFault};
+pub use field::{BareKind, Field, FieldKind};
+pub use fields::Fields;
+pub use mnemonics::{certificate_mnemonic, type_mnemonic};
 pub use refusal::{Refusal, Refusals};
 pub use rewriter::{Rewriter, Rewritten, rewrite_file};
+pub use table::{FurtherType, further_type_of};

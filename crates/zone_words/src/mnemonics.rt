@@ -1,10 +1,11 @@
 //! The mnemonics of numbers that stand in data, a row each, their numbers ascending.
-ghost use Rattle.std.specs.Prelude.{◌≡◌, IfSome, IfNone};
+ghost use Rattle.std.specs.Prelude.{◌≡◌, IfSome, IfNone, map, option_map};
 ghost use Rattle.zone_name.specs.Common.{NothingIs};
 ghost use Rattle.zone_rdata.specs.Words.{IsKind};
-ghost use Rattle.zone_words.specs.Mnemonics.{IsTypeWord};
+ghost use Rattle.zone_rdata.specs.Table.{mnemonic_among};
+ghost use Rattle.zone_words.specs.Mnemonics.{IsTypeWord, certificate_types, name_of, registered_types};
 
-use zone_rdata::{Kind, Row, number_of_word};
+use zone_rdata::{Kind, Row, number_of_word, row_of};
 
 /// A number and its mnemonic.
 #[derive(Clone, Copy, Debug)]
@@ -44,6 +45,33 @@ pub(crate) fn type_of_word(word: &[u8]) -> Option<u16>
 {
     match number_of_word(TYPES, b"TYPE", word) {
         Some(number) => number_of_kind(number),
+        None => None,
+    }
+}
+
+/// The mnemonic of a registered type (RFC 6895 3.1), in upper case. `None`: it has none.
+pub fn type_mnemonic(number: u16) -> Option<&'static [u8]>
+    ensures { option_map (λ text. text.now) result
+        ≡ mnemonic_among registered_types number }
+{
+    mnemonic_in(TYPES, number)
+}
+
+/// The mnemonic of a type of certificates (RFC 4398 2.1), in upper case. `None`: it has none.
+pub fn certificate_mnemonic(number: u16) -> Option<&'static [u8]>
+    ensures { option_map (λ text. text.now) result
+        ≡ mnemonic_among certificate_types number }
+{
+    mnemonic_in(CERTIFICATE_TYPES, number)
+}
+
+/// The mnemonic of a number among rows.
+fn mnemonic_in(rows: &'static [Mnemonic], number: u16) -> Option<&'static [u8]>
+    ensures { option_map (λ text. text.now) result
+        ≡ mnemonic_among (map name_of rows.now) number }
+{
+    match row_of(rows, number) {
+        Some(row) => Some(row.1),
         None => None,
     }
 }

@@ -1,7 +1,6 @@
 //! The parameters of a service: the data of SVCB and HTTPS after the target name (RFC 9460 2.1, 7,
 //! 8, A.1).
 mod addresses;
-mod escapes;
 mod key;
 mod keys;
 mod protocols;

@@ -58,6 +58,18 @@ impl Rewriter {
         }
     }
 
+    /// Becomes a rewriter that was fed nothing, under the origin of another file. It keeps the room
+    /// that it has.
+    pub fn restart(&mut self, origin: &CasedName)
+        ensures stands { StandsForRewriting origin.now self.new [] [] }
+        ensures going { self.new.status ≡ Open }
+        ensures nothing { self.new.fed ≡ 0 }
+    {
+        self.writer.restart(origin);
+        self.fed = 0;
+        self.status = FedStatus::Open;
+    }
+
     /// Takes the next piece of the file, of any length.
     ///
     /// # Errors

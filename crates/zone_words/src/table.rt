@@ -21,12 +21,15 @@ use crate::fields::Fields::{self, Amtrelay, Ipseckey, Same};
 use zone_rdata::{Row, number_of_word, row_of};
 
 /// A type whose data is read in words here.
-pub(crate) struct FurtherType {
-    pub(crate) number: u16,
-    pub(crate) mnemonic: &'static str,
+pub struct FurtherType {
+    /// Its number (RFC 6895 3.1).
+    pub number: u16,
+    /// Its mnemonic, in upper case.
+    pub mnemonic: &'static str,
     /// Whether it is a type of class IN alone.
-    pub(crate) in_internet_alone: bool,
-    pub(crate) fields: Fields,
+    pub in_internet_alone: bool,
+    /// What its data has, in order.
+    pub fields: Fields,
 }
 
 impl Row for FurtherType {
@@ -52,7 +55,7 @@ pub(crate) fn further_type_numbered(number: u16) -> Option<&'static FurtherType>
 
 /// The further type of a word in any letter case: its mnemonic, or TYPE with its number (RFC 3597
 /// 5). `None`: it is the word of none.
-pub(crate) fn further_type_of(word: &[u8]) -> Option<&'static FurtherType>
+pub fn further_type_of(word: &[u8]) -> Option<&'static FurtherType>
     ensures found { IfSome result (λ row. IsFurtherWord word.now (further_of row.now)) }
     ensures none { IfNone result (NothingIs (IsFurtherWord word.now)) }
 {

@@ -1,15 +1,13 @@
-//! The program `zonenorm`: normalises, compares and explains zones that are given as master files or
-//! as captured zone transfers.
+//! The program `zonenorm`: normalises, compares and explains zones that are given as master files
+//! or as captured zone transfers.
 #![tactic(auto)]
-
-ghost use Rattle.std.specs.Prelude.{◌≢◌};
 
 mod opened;
 
+use command_line::given_words;
 use opened::inputs;
 use std::process::ExitCode;
 use std::rt::Env;
-use std::{env, io};
 pub use zone_command::{LineFault, Order, Source, order_of, run};
 use zone_command::{order_after_name, refuse};
 pub use zone_engine::{
@@ -36,21 +34,5 @@ fn main(rt: HostRuntime) -> ExitCode {
 
 /// The order of the program's words.
 fn ordered<R: Env + AllocGlobal>(rt: &R) -> Result<Order, LineFault> {
-    match env::args(rt) {
-        Ok(words) => order_after_name(rt.alloc(), &words.collect::<Vec<String>>(rt.alloc())?),
-        Err(error) => Err(no_words(rt, &error)),
-    }
-}
-
-/// Why there are no words: memory was refused, or one of them is no text.
-fn no_words<R: AllocGlobal>(rt: &R, error: &io::Error) -> LineFault
-    ensures { result ≢ LineFault.BadOrigin }
-{
-    if error.kind() == io::ErrorKind::OutOfMemory {
-        return LineFault::Memory;
-    }
-    match String::from_str(rt.alloc(), "error: a word is no text") {
-        Ok(text) => LineFault::Clap(text),
-        Err(_) => LineFault::Memory,
-    }
+    order_after_name(rt.alloc(), &given_words(rt)?)
 }

@@ -1,7 +1,8 @@
 -- The two halves of a chunk that was full.
 use Rattle.std.specs.Prelude.{◌≡◌, ℕ, ◌<◌, ◌≤◌, List, ◌++◌, length, insert}
 
--- they have the chunk's elements and one more at a place; none is empty, and none is longer than the chunk was
+-- they have the chunk's elements and one more at a place; none is empty, and none is longer than
+-- the chunk was
 pub record AreHalves {X : Type 0} (lower upper chunk : List X) (offset : ℕ)
     (value : X) : Type 0 where
   pub elements : lower ++ upper ≡ insert chunk offset value

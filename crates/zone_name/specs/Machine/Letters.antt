@@ -1,13 +1,14 @@
 -- Names that are read with their letters kept or folded.
-use Rattle.std.specs.Prelude.{ℕ, List, Bool, Option, Result, Ok, Err, option_map}
+use Rattle.std.specs.Prelude.{◌≡◌, ℕ, List, Bool, Option, Result, Ok, Err, option_map}
 use Rattle.zone_name.specs.Common.{Labels}
 use Rattle.zone_name.specs.Name.{folded, labels_of, HoldsCasedName, HoldsLabels, HoldsName, IsCasedLabel, IsCasedName, IsLabel, IsName}
 use Rattle.zone_name.specs.Spelling.{Spells, SpellsCased, Written, kept, named}
-use Rattle.zone_name.specs.Machine.LabelWalk.{reading, under_origin}
+use Rattle.zone_name.specs.Machine.LabelWalk.{Collects, reading, under_origin}
 use Rattle.zone_name.specs.Machine.Seen.{HoldsCasedLabels}
 use Rattle.zone_name.specs.declared.fault.NameFault.{NameFault}
 use Rattle.zone_name.specs.declared.reading.Letters.{Letters}
 use Rattle.zone_name.specs.declared.reading.Letters.TheVariants.{Kept, Folded}
+use Rattle.zone_name.specs.declared.reading.Spelled.{Spelled}
 
 -- what becomes of labels
 abbrev pub lettered : Letters → Labels → Labels
@@ -53,3 +54,10 @@ origin_in = option_map labels_of
 -- the name of the labels that are read
 abbrev pub name_read : Letters → Option Labels → List ℕ → Result Labels NameFault
 name_read letters origin text = under_origin origin (lettered_in letters (reading text))
+
+-- the labels that a text spells are in octets with their letters kept or folded, or take too many
+-- octets for a name
+abbrev pub IsReadBy : Letters → List ℕ → List ℕ → Spelled → Type 0
+IsReadBy letters text octets spelled =
+    (labels : Labels) × (reading text ≡ Ok (labels, spelled.is_absolute))
+    × Collects (labels_of octets) spelled.is_too_long (lettered letters labels)

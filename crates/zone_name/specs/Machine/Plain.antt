@@ -1,9 +1,13 @@
 -- How a text without escapes becomes octets: each label's length takes the place of the dot before
 -- it.
-use Rattle.std.specs.Prelude.{◌≡◌, ℕ, ◌≤◌, List, ◌∷◌, ◌++◌, length, map}
+use Rattle.std.specs.Prelude.{◌≡◌, ℕ, ◌≤◌, List, ◌∷◌, ◌++◌, length, map, Bool, not, ◌||◌, ◌==◌}
 use Rattle.std.specs.List.{flat_map, AllByRecursion}
 use Rattle.zone_name.specs.Name.{with_length}
-use Rattle.zone_name.specs.Spelling.{Written, IsWrittenLabel, written_text, written_octets}
+use Rattle.zone_name.specs.Spelling.{Written, IsWrittenLabel, is_dot, written_text, written_octets}
+
+-- an octet that stands for itself in a label
+abbrev pub is_plain : ℕ → Bool
+is_plain c = not (is_dot c || c == 92)
 
 -- each label with a dot before it
 abbrev pub after_dots : List (List Written) → List ℕ

@@ -10,6 +10,7 @@ use Rattle.zone_rdata.specs.Field.{FieldValue, name, u32_value, u16_value, fixed
 use Rattle.zone_rdata.specs.Layout.{AreLaidOut, layout}
 use Rattle.zone_rdata.specs.Words.{IsClass, IsKind}
 use Rattle.zone_rdata.specs.Builder.{FitsString}
+use Rattle.zone_rdata.specs.Limits.{longest_data}
 
 -- each of several strings is one string
 abbrev pub part_field : Field → Field
@@ -42,10 +43,13 @@ ArePushedParts None (suc n) octets = n ≡ 0
 ArePushedParts (Some fields) n octets =
     (length (part_fields fields n) ≡ n) × AreLaidOut (part_fields fields n) octets
 
-pub record IsBuilt (class kind count : ℕ) (octets : List ℕ) : Type 0 where
+-- what the builder holds: the layout is the one of the class and type
+pub record IsBuilt (class kind : ℕ) (laid : Option (List Field)) (count : ℕ)
+    (octets : List ℕ) : Type 0 where
   pub is_class : IsClass class
   pub is_kind : IsKind kind
-  pub short : length octets ≤ 65535
+  pub looked_up : laid ≡ layout class kind
+  pub short : length octets ≤ longest_data
   pub few : count ≤ length octets + 1
   pub held : ArePushedParts (layout class kind) count octets
 
@@ -61,12 +65,12 @@ IsReal part = ⊤
 -- why a part can't be added after octets
 pub data IsOver (octets : List ℕ) (part : FieldValue) : Fault → Type 0 where
   over_string : (FitsString part → ⊥) → IsOver octets part StringTooLong
-  over_data : FitsString part → 65535 < length octets + length (field_octets part)
+  over_data : FitsString part → longest_data < length octets + length (field_octets part)
       → IsOver octets part RdataTooLong
 
 pub record Grows (octets : List ℕ) (part : FieldValue) (new : List ℕ) : Type 0 where
   pub string_fits : FitsString part
-  pub fits : length octets + length (field_octets part) ≤ 65535
+  pub fits : length octets + length (field_octets part) ≤ longest_data
   pub written : new ≡ octets ++ field_octets part
 
 -- the fewest parts that are whole

@@ -23,11 +23,11 @@ pub(crate) fn push_address(
 {
     match count {
         4 => {
-            let address = ipv4_octets_of(text).ok_or(NarrowFailing::of(Cause::BadRdata))?;
+            let address = ipv4_octets_of(text).ok_or(Cause::BadRdata)?;
             octets.extend_from_slice(&address)?;
         }
         16 => {
-            let address = ipv6_octets_of(text).ok_or(NarrowFailing::of(Cause::BadRdata))?;
+            let address = ipv6_octets_of(text).ok_or(Cause::BadRdata)?;
             octets.extend_from_slice(&address)?;
         }
         _ => return Err(NarrowFailing::of(Cause::BadRdata)),

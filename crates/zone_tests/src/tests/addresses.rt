@@ -1,8 +1,8 @@
 //! Addresses of IPv4 and IPv6, and the short text of the latter (RFC 1035 3.4.1, RFC 4291 2.2, RFC
 //! 5952 4).
-use crate::tests::check_lines;
 use crate::tests::items::Stated;
 use std::test::Fail;
+use test_support::check_lines;
 
 /// Texts that are shortened or written out; the examples of RFC 4291 2.2 and RFC 5952 4, from `::`
 /// on; and what is no address of IPv6, the empty word among it.

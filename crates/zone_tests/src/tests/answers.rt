@@ -1,9 +1,10 @@
 //! Records of messages (RFC 1035 4.1.3).
 use crate::tests::notation::message_of;
 use crate::tests::readings::{line_of, push_numbers};
-use crate::tests::{Question, check_lines, judged, parted, push_fault, push_hex, push_text};
+use crate::tests::{judged, push_fault};
 use std::alloc::Global;
 use std::test::Fail;
+use test_support::{Question, check_lines, parted, push_hex, push_text};
 use zone_rdata::{Fault, Rr};
 use zone_wire::Message;
 

@@ -1,13 +1,14 @@
 //! Readers and writers that fail, and writers that take little at a time.
 use crate::tests::orders::ordered;
+use crate::tests::rooted;
 use crate::tests::runs::check_broken;
-use crate::tests::shown::{check_octets, check_same};
 use crate::tests::zones::{reading_of, taken};
-use crate::tests::{Case, check_rows, had_memory, roomy, rooted};
 use std::alloc::{AllocError, Global};
-use std::io;
 use std::io::{ErrorKind, Read, Write};
 use std::test::Fail;
+use test_support::{
+    BROKEN, Case, Narrow, Supply, check_octets, check_rows, check_same, had_memory, roomy,
+};
 use zone_command::{Order, run};
 use zone_engine::{read_piece, zeros};
 use zone_print::write_zone;
@@ -27,51 +28,6 @@ fn run_first<R: Read, W: Write>(
     let order = Order::Normalise(Some(rooted(b"x.")?));
     let mut second = Supply::at_once(b"", BROKEN);
     Ok(run(alloc, &order, reader, &mut second, writer, errors))
-}
-
-/// A reader that gives its octets, at most so many a read, and then an error, or the end of its
-/// input where it has none.
-#[derive(Drop)]
-pub(super) struct Supply<'o> {
-    pub(super) left: &'o [u8],
-    pub(super) each: usize,
-    pub(super) error: Option<ErrorKind>,
-}
-
-/// The error of a reader that fails.
-pub(super) const BROKEN: Option<ErrorKind> = Some(ErrorKind::Other);
-
-impl<'o> Supply<'o> {
-    /// A reader that gives as many octets as a read takes.
-    pub(super) fn at_once(left: &'o [u8], error: Option<ErrorKind>) -> Supply<'o> {
-        Supply {
-            left,
-            each: usize::MAX,
-            error,
-        }
-    }
-
-    /// A reader that gives its octets one at a time.
-    pub(super) fn singly(left: &'o [u8], error: Option<ErrorKind>) -> Supply<'o> {
-        Supply {
-            left,
-            each: 1,
-            error,
-        }
-    }
-}
-
-impl Read for Supply<'_> {
-    fn read(&mut self, buf: &mut [u8]) -> io::Result<usize> {
-        match self.error {
-            Some(error) if self.left.is_empty() => return Err(io::Error::from(error)),
-            _ => {}
-        }
-        let count = self.left.len().min(self.each).min(buf.len());
-        let (mut piece, rest) = self.left.split_at(count);
-        self.left = rest;
-        piece.read(buf)
-    }
 }
 
 /// What a reader gives before its error, and that error.
@@ -111,54 +67,6 @@ fn pieces_are_read(rt: HostRuntime) -> Result<(), Fail> {
     check_octets("the end", read_piece(&mut reader, &mut piece)?, b"")
 }
 
-/// A writer that takes `each` octets a call and `room` in all, and then answers an error or takes
-/// nothing. It can't be flushed.
-#[derive(Drop)]
-pub(super) struct Narrow {
-    taken: Vec<u8>,
-    each: usize,
-    room: usize,
-    fails: bool,
-}
-
-impl Narrow {
-    pub(super) fn new(
-        alloc: Global,
-        each: usize,
-        room: usize,
-        fails: bool,
-    ) -> Result<Narrow, AllocError> {
-        Ok(Narrow {
-            taken: roomy(alloc)?,
-            each,
-            room,
-            fails,
-        })
-    }
-
-    /// What it has taken.
-    pub(super) fn taken(&self) -> &[u8] {
-        &self.taken
-    }
-}
-
-impl Write for Narrow {
-    fn write(&mut self, octets: &[u8]) -> io::Result<usize> {
-        if self.room == 0 && self.fails {
-            return Err(ErrorKind::Other.into());
-        }
-        let count = octets.len().min(self.each).min(self.room);
-        let (front, _) = octets.split_at(count);
-        self.taken.extend_from_slice(front)?;
-        self.room -= count;
-        Ok(count)
-    }
-
-    fn flush(&mut self) -> io::Result<()> {
-        Err(ErrorKind::Other.into())
-    }
-}
-
 /// How many octets a writer takes a call and in all, whether it answers an error then, and what it
 /// has taken of the text.
 struct Narrowed(usize, usize, bool, &'static [u8]);
@@ -177,7 +85,7 @@ impl Narrowed {
         let zone = taken(alloc, reading_of(alloc, FILE)?)?;
         let mut writer = self.writer(alloc)?;
         self.check_answer(write_zone(alloc, &zone, &mut writer))?;
-        check_octets("what is written of a zone", &writer.taken, self.3)
+        check_octets("what is written of a zone", writer.taken(), self.3)
     }
 
     /// That `write_zone` should answer so.
@@ -213,7 +121,7 @@ impl Narrowed {
         let (ending, told) = self.ending();
         check_same("the status", status, ending)?;
         check_octets("the line that is told", &errors, told)?;
-        check_octets("what a run writes", &writer.taken, self.3)
+        check_octets("what a run writes", writer.taken(), self.3)
     }
 }
 
@@ -262,7 +170,7 @@ impl Case for Mute {
         let status = self.status(alloc, &order, &mut open, &mut mute);
         had_memory(&open)?;
         check_same(self.0, status, self.2)?;
-        check_octets(self.0, &mute.taken, b"")?;
+        check_octets(self.0, mute.taken(), b"")?;
         check_octets(self.0, &open, self.3.unwrap_or(b""))
     }
 }

@@ -1,7 +1,7 @@
 //! The lines that tell a user why a run stopped: one of each form. The table of faults is proved.
-use crate::tests::shown::{check_octets, check_same};
-use crate::tests::{push_words, roomy, rooted};
+use crate::tests::rooted;
 use std::test::Fail;
+use test_support::{check_octets, check_same, push_words, roomy};
 use zone_engine::{explain_line, refusal_line, tell, write_line};
 use zone_rdata::{Fault, Place, Stop};
 

@@ -1,11 +1,12 @@
 //! Inputs whose reader fails at one of its reads, whatever was read before.
+use crate::tests::push_answer;
 use crate::tests::streams::STREAMS;
 use crate::tests::vectors::{check_files, input_of};
-use crate::tests::{Question, check, check_table, push_answer, roomy};
 use std::alloc::Global;
 use std::io;
 use std::io::{ErrorKind, Read};
 use std::test::Fail;
+use test_support::{Question, check, check_table, roomy};
 use zone_engine::{Form, normalise};
 use zone_rdata::Stop;
 

@@ -1,10 +1,11 @@
 //! Master files that are fed in pieces, and what is decided when.
 use crate::tests::pieces::{is_right_in_two, is_right_singly};
+use crate::tests::push_answer;
 use crate::tests::scripts::check_scripts;
 use crate::tests::vectors::{Input, check_files, input_of};
-use crate::tests::{Question, check, push_answer};
 use std::alloc::Global;
 use std::test::Fail;
+use test_support::{Question, check};
 use zone_engine::{Form, normalise_bytes};
 use zone_name::Name;
 use zone_rdata::Reading;

@@ -2,9 +2,10 @@
 use crate::tests::notation::octets_of;
 use crate::tests::readings::{push_numbers, push_place, push_reading};
 use crate::tests::vectors::{file_of, input_of};
-use crate::tests::{Question, check_table, push_stop, push_text, push_words, rooted};
+use crate::tests::{push_stop, rooted};
 use std::alloc::Global;
 use std::test::Fail;
+use test_support::{Question, check_table, push_text, push_words};
 use zone_rdata::{Reading, Stop};
 use zone_text::read_file;
 

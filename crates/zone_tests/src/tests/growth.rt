@@ -1,11 +1,11 @@
 //! Where `rt try --test --fail-alloc N` refuses a growth, that call appends nothing and the next
 //! one goes on.
-use crate::tests::check;
 use crate::tests::items::data_of;
 use crate::tests::names::named;
 use crate::tests::wire::in_class_in;
 use std::alloc::{AllocError, Global};
 use std::test::Fail;
+use test_support::check;
 use zone_name::Name;
 use zone_rdata::{Class, Rdata, RdataBuilder};
 

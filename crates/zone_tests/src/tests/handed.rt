@@ -1,8 +1,8 @@
 //! What `zone_text` hands out: entries, items, tokens, statements and a record's parts (RFC 1035
 //! 5.1).
-use crate::tests::{Question, check, check_table, push_text, push_words};
 use std::alloc::Global;
 use std::test::Fail;
+use test_support::{Question, check, check_octets, check_table, push_text, push_words};
 use zone_rdata::Item;
 use zone_text::{
     Directive, EntryState, FirstEntry, MOST_ITEMS, OpenEntry, RecordParts, Statement, entry_items,
@@ -252,4 +252,57 @@ fn short_items_are_left_out_of_very_many(rt: HostRuntime) -> Result<(), Fail> {
     let mut items = Vec::new(rt.alloc());
     entry_items(&entry, &mut items)?;
     check(items.len() == MOST_ITEMS, "65,552 items of 65,553 are kept")
+}
+
+/// That the entry of a bare item of so many octets, what stands between, and one of 66 octets has
+/// these items and ends at its line feed.
+fn check_items(alloc: Global, len: usize, between: &str) -> Result<(), Fail> {
+    let first = vec![in alloc; b'x'; len]?;
+    let last = vec![in alloc; b'y'; 66]?;
+    let mut entry = Vec::new(alloc);
+    entry.extend_from_slice(&first)?;
+    entry.extend_from_slice(between.as_bytes())?;
+    entry.extend_from_slice(&last)?;
+    entry.push(b'\n')?;
+    let whole = entry.len();
+    entry.push(b'z')?;
+    let mut items = Vec::new(alloc);
+    let found = first_entry(&entry, &mut items)?;
+    check(
+        matches!(found, FirstEntry::Whole(len) if len == whole),
+        "the entry ends at its line feed",
+    )?;
+    let mut wanted = Vec::new(alloc);
+    push_items(&mut wanted, &[Item::Bare(&first), Item::Bare(&last)])?;
+    let mut told = Vec::new(alloc);
+    push_items(&mut told, &items)?;
+    check_octets(len, &told, &wanted)
+}
+
+#[test]
+fn items_stop_at_any_octet(rt: HostRuntime) -> Result<(), Fail> {
+    for len in 1..=130 {
+        check_items(rt.alloc(), len, " ")?;
+        check_items(rt.alloc(), len, "\t")?;
+        check_items(rt.alloc(), len, "\r")?;
+        check_items(rt.alloc(), len, "(\n)")?;
+    }
+    Ok(())
+}
+
+/// An entry of so many quotes and comments in parentheses between long items.
+const LONG_FRONTS: &str = "\
+== abcdefghijklmnopqrstuvwxyzabcdefghijklmnopqrstuvwxyz0123456789a\"b; c\" d;e \"f (g
+h
+=> whole 80: [abcdefghijklmnopqrstuvwxyzabcdefghijklmnopqrstuvwxyz0123456789a] \" [b; c] [d]
+== abcdefghijklmnopqrstuvwxyzabcdefghijklmnopqrstuvwxyz0123456789;abcdefghijklmnopqrstuvwxyz b
+=> whole 92: [abcdefghijklmnopqrstuvwxyzabcdefghijklmnopqrstuvwxyz0123456789]
+== \"abcdefghijklmnopqrstuvwxyzabcdefghijklmnopqrstuvwxyz0123456789 ;abcd (\"\"\" a\\\"b \\032
+=> whole 85: \" [abcdefghijklmnopqrstuvwxyzabcdefghijklmnopqrstuvwxyz0123456789 ;abcd (] \" [] [a\\\"b] [\\032]
+== abcdefghijklmnopqrstuvwxyzabcdefghijklmnopqrstuvwxyz0123456789abc=> open
+";
+
+#[test]
+fn long_entries_are_handed_out(rt: HostRuntime) -> Result<(), Fail> {
+    check_table::<Front>(rt.alloc(), LONG_FRONTS)
 }

@@ -1,9 +1,9 @@
 //! How long an input and a canonical text may be, under small limits. The zone is that of the first
 //! run: its file and its text have 54 octets each.
 use crate::tests::check_stopped;
-use crate::tests::shown::{check_octets, check_same};
 use std::alloc::Global;
 use std::test::Fail;
+use test_support::{check_octets, check_same};
 use zone_engine::{Form, OctetSlice, accepted_zone, accepted_zone_within};
 use zone_name::Name;
 use zone_print::{push_zone_within, write_zone_within};

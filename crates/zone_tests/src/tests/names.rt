@@ -1,10 +1,11 @@
 //! Names: read from text, built, compared and printed (RFC 1035, RFC 4034, RFC 4343).
-use crate::tests::{
-    Question, check, check_lines, check_table, parted, push_hex, push_text, push_words, rooted,
-};
+use crate::tests::rooted;
 use std::alloc::Global;
 use std::cmp::Ordering;
 use std::test::Fail;
+use test_support::{
+    Question, check, check_lines, check_table, parted, push_hex, push_text, push_words,
+};
 use zone_name::{CasedName, Name, NameBuilder, NameFault, NameRef, escape_at};
 
 /// The name of a text under an origin; an empty origin is none.
@@ -87,6 +88,33 @@ a\\046b under x. => #03612e62017800 a\\.b.x.
 \\034\\036\\040\\041\\046\\059\\064\\092\\032\\000\\127\\255\\033\\126. under  => #0e222428292e3b405c20007fff217e00 \\\"\\$\\(\\)\\.\\;\\@\\\\\\032\\000\\127\\255!~.
 ";
 
+/// Texts whose labels end, and whose letters and escapes stand, at and beside the edges of 16
+/// octets; the last names have 112 to 114 octets.
+const EDGES: &str = "\
+AbcdefghijklmN. under  => #0e6162636465666768696a6b6c6d6e00 abcdefghijklmn.
+AbcdefghijklmNO. under  => #0f6162636465666768696a6b6c6d6e6f00 abcdefghijklmno.
+AbcdefghijklmNOP. under  => #106162636465666768696a6b6c6d6e6f7000 abcdefghijklmnop.
+AbcdefghijklmNOPQ. under  => #116162636465666768696a6b6c6d6e6f707100 abcdefghijklmnopq.
+AbcdefghijklmNOPQrstuvwxyz01234. under  => #1f6162636465666768696a6b6c6d6e6f707172737475767778797a303132333400 abcdefghijklmnopqrstuvwxyz01234.
+AbcdefghijklmNOPQrstuvwxyz012345. under  => #206162636465666768696a6b6c6d6e6f707172737475767778797a30313233343500 abcdefghijklmnopqrstuvwxyz012345.
+AbcdefghijklmNOPQrstuvwxyz0123456. under  => #216162636465666768696a6b6c6d6e6f707172737475767778797a3031323334353600 abcdefghijklmnopqrstuvwxyz0123456.
+AbcdefghijklmNOPQrstuvwxyz0123456789-_abcdefghIJKlmnopqrstuvwX. under  => #3e6162636465666768696a6b6c6d6e6f707172737475767778797a303132333435363738392d5f6162636465666768696a6b6c6d6e6f70717273747576777800 abcdefghijklmnopqrstuvwxyz0123456789-_abcdefghijklmnopqrstuvwx.
+AbcdefghijklmNOPQrstuvwxyz0123456789-_abcdefghIJKlmnopqrstuvwxY. under  => #3f6162636465666768696a6b6c6d6e6f707172737475767778797a303132333435363738392d5f6162636465666768696a6b6c6d6e6f7071727374757677787900 abcdefghijklmnopqrstuvwxyz0123456789-_abcdefghijklmnopqrstuvwxy.
+abcdefghijklmnO.abcdefghijklmnoP.Abcdefghijklmnopq. under  => #0f6162636465666768696a6b6c6d6e6f106162636465666768696a6b6c6d6e6f70116162636465666768696a6b6c6d6e6f707100 abcdefghijklmno.abcdefghijklmnop.abcdefghijklmnopq.
+Z[`{zA|aZ[`{zA|aZ[`{zA|aZ[`{zA|aZ. under  => #217a5b607b7a617c617a5b607b7a617c617a5b607b7a617c617a5b607b7a617c617a00 z[`{za|az[`{za|az[`{za|az[`{za|az.
+abcdefghijklmn\\.P. under  => #106162636465666768696a6b6c6d6e2e7000 abcdefghijklmn\\.p.
+abcdefghijklmno\\.Q. under  => #116162636465666768696a6b6c6d6e6f2e7100 abcdefghijklmno\\.q.
+abcdefghijklm\\079\\P. under  => #0f6162636465666768696a6b6c6d6f7000 abcdefghijklmop.
+abcdefghijklmnopqrstuvwxyzabcd\\$F. under  => #206162636465666768696a6b6c6d6e6f707172737475767778797a61626364246600 abcdefghijklmnopqrstuvwxyzabcd\\$f.
+abcdefghijklmnopqrstuvwxyzabcde\\032. under  => #206162636465666768696a6b6c6d6e6f707172737475767778797a61626364652000 abcdefghijklmnopqrstuvwxyzabcde\\032.
+abcdefghijklmn(.a. under  => #0f6162636465666768696a6b6c6d6e28016100 abcdefghijklmn\\(.a.
+abcdefghijklmno;.a. under  => #106162636465666768696a6b6c6d6e6f3b016100 abcdefghijklmno\\;.a.
+abcdefghijklmnopqrstuvwxyz0123456789-_abcdefghijklmnopqrstuvwxy.abcdefghijklmnopqrstuvwxyz0123456789-_abcdefgH. under  => #3f6162636465666768696a6b6c6d6e6f707172737475767778797a303132333435363738392d5f6162636465666768696a6b6c6d6e6f707172737475767778792e6162636465666768696a6b6c6d6e6f707172737475767778797a303132333435363738392d5f616263646566676800 abcdefghijklmnopqrstuvwxyz0123456789-_abcdefghijklmnopqrstuvwxy.abcdefghijklmnopqrstuvwxyz0123456789-_abcdefgh.
+abcdefghijklmnopqrstuvwxyz0123456789-_abcdefghijklmnopqrstuvwxy.abcdefghijklmnopqrstuvwxyz0123456789-_abcdefghI. under  => #3f6162636465666768696a6b6c6d6e6f707172737475767778797a303132333435363738392d5f6162636465666768696a6b6c6d6e6f707172737475767778792f6162636465666768696a6b6c6d6e6f707172737475767778797a303132333435363738392d5f61626364656667686900 abcdefghijklmnopqrstuvwxyz0123456789-_abcdefghijklmnopqrstuvwxy.abcdefghijklmnopqrstuvwxyz0123456789-_abcdefghi.
+abcdefghijklmnopqrstuvwxyz0123456789-_abcdefghijklmnopqrstuvwxy.abcdefghijklmnopqrstuvwxyz0123456789-_abcdefghiJ. under  => #3f6162636465666768696a6b6c6d6e6f707172737475767778797a303132333435363738392d5f6162636465666768696a6b6c6d6e6f70717273747576777879306162636465666768696a6b6c6d6e6f707172737475767778797a303132333435363738392d5f6162636465666768696a00 abcdefghijklmnopqrstuvwxyz0123456789-_abcdefghijklmnopqrstuvwxy.abcdefghijklmnopqrstuvwxyz0123456789-_abcdefghij.
+abcdefghijklmnoP under X. => #106162636465666768696a6b6c6d6e6f70017800 abcdefghijklmnop.x.
+";
+
 /// The octets of the name that a text spells under an origin, with the letters of both.
 struct Cased;
 
@@ -114,6 +142,32 @@ mAIL under Example. => #046d41494c074578616d706c6500
 \\065\\098\\.C. under  => #0441622e4300
 A\\.b under Z. => #03412e62015a00
 . under Example. => #00
+";
+
+/// The same texts, with their letters.
+const CASED_EDGES: &str = "\
+AbcdefghijklmN. under  => #0e4162636465666768696a6b6c6d4e00
+AbcdefghijklmNO. under  => #0f4162636465666768696a6b6c6d4e4f00
+AbcdefghijklmNOP. under  => #104162636465666768696a6b6c6d4e4f5000
+AbcdefghijklmNOPQ. under  => #114162636465666768696a6b6c6d4e4f505100
+AbcdefghijklmNOPQrstuvwxyz01234. under  => #1f4162636465666768696a6b6c6d4e4f505172737475767778797a303132333400
+AbcdefghijklmNOPQrstuvwxyz012345. under  => #204162636465666768696a6b6c6d4e4f505172737475767778797a30313233343500
+AbcdefghijklmNOPQrstuvwxyz0123456. under  => #214162636465666768696a6b6c6d4e4f505172737475767778797a3031323334353600
+AbcdefghijklmNOPQrstuvwxyz0123456789-_abcdefghIJKlmnopqrstuvwX. under  => #3e4162636465666768696a6b6c6d4e4f505172737475767778797a303132333435363738392d5f6162636465666768494a4b6c6d6e6f70717273747576775800
+AbcdefghijklmNOPQrstuvwxyz0123456789-_abcdefghIJKlmnopqrstuvwxY. under  => #3f4162636465666768696a6b6c6d4e4f505172737475767778797a303132333435363738392d5f6162636465666768494a4b6c6d6e6f7071727374757677785900
+abcdefghijklmnO.abcdefghijklmnoP.Abcdefghijklmnopq. under  => #0f6162636465666768696a6b6c6d6e4f106162636465666768696a6b6c6d6e6f50114162636465666768696a6b6c6d6e6f707100
+Z[`{zA|aZ[`{zA|aZ[`{zA|aZ[`{zA|aZ. under  => #215a5b607b7a417c615a5b607b7a417c615a5b607b7a417c615a5b607b7a417c615a00
+abcdefghijklmn\\.P. under  => #106162636465666768696a6b6c6d6e2e5000
+abcdefghijklmno\\.Q. under  => #116162636465666768696a6b6c6d6e6f2e5100
+abcdefghijklm\\079\\P. under  => #0f6162636465666768696a6b6c6d4f5000
+abcdefghijklmnopqrstuvwxyzabcd\\$F. under  => #206162636465666768696a6b6c6d6e6f707172737475767778797a61626364244600
+abcdefghijklmnopqrstuvwxyzabcde\\032. under  => #206162636465666768696a6b6c6d6e6f707172737475767778797a61626364652000
+abcdefghijklmn(.a. under  => #0f6162636465666768696a6b6c6d6e28016100
+abcdefghijklmno;.a. under  => #106162636465666768696a6b6c6d6e6f3b016100
+abcdefghijklmnopqrstuvwxyz0123456789-_abcdefghijklmnopqrstuvwxy.abcdefghijklmnopqrstuvwxyz0123456789-_abcdefgH. under  => #3f6162636465666768696a6b6c6d6e6f707172737475767778797a303132333435363738392d5f6162636465666768696a6b6c6d6e6f707172737475767778792e6162636465666768696a6b6c6d6e6f707172737475767778797a303132333435363738392d5f616263646566674800
+abcdefghijklmnopqrstuvwxyz0123456789-_abcdefghijklmnopqrstuvwxy.abcdefghijklmnopqrstuvwxyz0123456789-_abcdefghI. under  => #3f6162636465666768696a6b6c6d6e6f707172737475767778797a303132333435363738392d5f6162636465666768696a6b6c6d6e6f707172737475767778792f6162636465666768696a6b6c6d6e6f707172737475767778797a303132333435363738392d5f61626364656667684900
+abcdefghijklmnopqrstuvwxyz0123456789-_abcdefghijklmnopqrstuvwxy.abcdefghijklmnopqrstuvwxyz0123456789-_abcdefghiJ. under  => #3f6162636465666768696a6b6c6d6e6f707172737475767778797a303132333435363738392d5f6162636465666768696a6b6c6d6e6f70717273747576777879306162636465666768696a6b6c6d6e6f707172737475767778797a303132333435363738392d5f6162636465666768694a00
+abcdefghijklmnoP under X. => #106162636465666768696a6b6c6d6e6f50015800
 ";
 
 /// The fault of a text that spells no name under an origin, and how it is shown.
@@ -160,6 +214,10 @@ const UNSPELLED: &str = "\
 == a\\\r. under =>BadEscape: a backslash escape is malformed.
 == .. under =>EmptyLabel: a label is empty.
 == .a under x.=>EmptyLabel: a label is empty.
+== abcdefghijklmno..a. under =>EmptyLabel: a label is empty.
+== abcdefghijklmnop..a. under =>EmptyLabel: a label is empty.
+== abcdefghijklmn\\25x. under =>BadEscape: a backslash escape is malformed.
+== a.aaaaaaaaaaaaaaaaaaaaaaaaaaaaaaaaaaaaaaaaaaaaaaaaaaaaaaaaaaaaaaaa.a. under =>LabelTooLong: a label has more than 63 octets.
 ";
 
 #[test]
@@ -167,6 +225,9 @@ fn texts_of_names(rt: HostRuntime) -> Result<(), Fail> {
     check_lines::<Spelled>(rt.alloc(), SPELLED)?;
     check_lines::<Lent>(rt.alloc(), SPELLED)?;
     check_lines::<Cased>(rt.alloc(), CASED)?;
+    check_lines::<Spelled>(rt.alloc(), EDGES)?;
+    check_lines::<Lent>(rt.alloc(), EDGES)?;
+    check_lines::<Cased>(rt.alloc(), CASED_EDGES)?;
     check_table::<Unspelled>(rt.alloc(), UNSPELLED)
 }
 

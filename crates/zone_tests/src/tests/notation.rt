@@ -6,9 +6,9 @@
 //! `n@12` is the label `n` and a pointer to offset 12 (RFC 1035 4.1.4), `#` begins octets in
 //! hexadecimal digits, and a number in data has 32 bits in an SOA and 16 bits elsewhere. The
 //! lengths of messages (RFC 1035 4.2.2), labels and data are counted here.
-use crate::tests::parted;
 use std::alloc::Global;
 use std::test::Fail;
+use test_support::parted;
 
 /// Parts that have a name: the question and the three answers of the transfer of a small zone, at
 /// the offsets 12, 19, 59 and 73 of its message.

@@ -1,21 +1,11 @@
 //! Command lines.
-use crate::tests::shown::{check_octets, check_same};
-use crate::tests::{Question, check_lines, push_text, push_words, roomy};
-use std::alloc::{AllocError, Global};
+use std::alloc::Global;
 use std::test::Fail;
+use test_support::{
+    Question, check_lines, check_octets, check_same, push_text, push_words, roomy, words_of,
+};
 use zone_command::{LineFault, Order, order_after_name, order_of, refuse};
 use zone_name::Name;
-
-/// The words of a line, in which a blank stands between two. An empty line has none.
-pub(super) fn words_of(alloc: Global, line: &str) -> Result<Vec<String>, AllocError> {
-    let mut words = Vec::new(alloc);
-    if !line.is_empty() {
-        for word in line.split(' ') {
-            words.push(String::from_str(alloc, word)?)?;
-        }
-    }
-    Ok(words)
-}
 
 /// The order that a line gives.
 pub(super) fn ordered(alloc: Global, line: &str) -> Result<Order, Fail> {

@@ -1,7 +1,7 @@
-//! What other crates read data with: numbers, words of a table, strings and addresses (RFC 1035 5.1,
-//! RFC 4291 2.2).
-use crate::tests::shown::{check_octets, check_same};
+//! What other crates read data with: numbers, words of a table, strings and addresses (RFC 1035
+//! 5.1, RFC 4291 2.2).
 use std::test::Fail;
+use test_support::{check_octets, check_same};
 use zone_rdata::{
     Item, Row, decimal_of, four_groups_of, ipv4_octets_of, ipv6_octets_of, is_word, number_of_word,
     push_string, row_named, row_of,

@@ -1,7 +1,8 @@
 //! Records as they are read, by their canonical lines.
-use crate::tests::{check, push_hex, push_stop, push_text, push_words};
+use crate::tests::push_stop;
 use std::alloc::Global;
 use std::test::Fail;
+use test_support::{check, push_hex, push_text, push_words};
 use zone_rdata::{Place, Placed, Reading, Rr, Stop};
 
 /// Appends TTL and class of a record, with a blank before and after each.

@@ -1,11 +1,13 @@
 //! Records, and a source of them.
 use crate::tests::items::data_of;
-use crate::tests::shown::check_same;
+use crate::tests::rooted;
 use crate::tests::zones::reading_of;
-use crate::tests::{Case, check, check_rows, rooted};
 use std::alloc::Global;
 use std::test::Fail;
-use zone_rdata::{Fault, LendingSource, PendingRecords, Place, Placed, Rr, RrSource, Stop};
+use test_support::{Case, check, check_rows, check_same};
+use zone_rdata::{
+    Cause, Fault, LendingSource, NarrowFailing, PendingRecords, Place, Placed, Rr, RrSource, Stop,
+};
 
 /// A TTL, and the fault of a record that has it, if it may not.
 struct Ttl(u32, Option<&'static str>);
@@ -110,7 +112,7 @@ fn queue_of_four(alloc: Global) -> Result<PendingRecords, Fail> {
         let data = data_of(alloc, "x.", "IN NS b.")??;
         pending.placed.push(&owner, ttl, data, Place::Line(3))?;
     }
-    pending.ending = Some((Fault::BadTtl, Place::Line(4)));
+    pending.refuse(NarrowFailing::of(Cause::BadTtl), Place::Line(4))?;
     Ok(pending)
 }
 

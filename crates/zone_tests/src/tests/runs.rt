@@ -1,12 +1,13 @@
 //! What `normalise`, `normalise_bytes`, `explain` and `run` answer to each vector, and to its
 //! canonical text.
-use crate::tests::devices::{BROKEN, Supply};
-use crate::tests::shown::{check_octets, check_same};
 use crate::tests::vectors::{check_inputs, input_of};
-use crate::tests::{Question, had_memory, push_answer, push_text, push_words, roomy, rooted};
+use crate::tests::{push_answer, rooted};
 use std::alloc::Global;
 use std::io::Read;
 use std::test::Fail;
+use test_support::{
+    BROKEN, Question, Run, Supply, check_octets, check_same, had_memory, push_words, roomy,
+};
 use zone_command::{Order, run};
 use zone_engine::{Form, Verdict, compare, explain, explain_line, normalise, normalise_bytes};
 use zone_name::Name;
@@ -61,32 +62,6 @@ impl Question for OfAReader {
 #[test]
 fn inputs_of_readers(rt: HostRuntime) -> Result<(), Fail> {
     check_inputs::<OfAReader>(rt.alloc())
-}
-
-/// What a run does: its status, its output, and the line that it tells.
-#[derive(Drop)]
-pub(super) struct Run {
-    pub(super) status: u8,
-    pub(super) output: Vec<u8>,
-    pub(super) told: Vec<u8>,
-}
-
-impl Run {
-    /// That a run has this status, output and line.
-    pub(super) fn check(&self, status: u8, output: &[u8], told: &[u8]) -> Result<(), Fail> {
-        check_same("the status", self.status, status)?;
-        check_octets("the output", &self.output, output)?;
-        check_octets("the line that is told", &self.told, told)
-    }
-}
-
-/// Appends the status of a run, its output, and the line that it tells.
-pub(super) fn push_run(alloc: Global, out: &mut Vec<u8>, ran: &Run) -> Result<(), Fail> {
-    let status = ran.status;
-    push_words(alloc, out, format_args!(" {status}\n"))?;
-    out.extend_from_slice(&ran.output)?;
-    push_text(out, "--\n")?;
-    Ok(out.extend_from_slice(&ran.told)?)
 }
 
 /// What a run of an order over two readers does.

@@ -7,10 +7,10 @@
 use crate::tests::notation::{message_of, octets_of, stream_of};
 use crate::tests::pieces::Fed;
 use crate::tests::readings::push_placed;
-use crate::tests::shown::check_octets;
-use crate::tests::{parted, push_stop, push_text, push_words, roomy, rooted};
+use crate::tests::{push_stop, rooted};
 use std::alloc::Global;
 use std::test::Fail;
+use test_support::{check_octets, parted, push_text, push_words, roomy};
 
 /// A message of 65535 octets in its frame, up to the octets of its last record's data, which are
 /// 65464.

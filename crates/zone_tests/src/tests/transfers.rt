@@ -4,14 +4,12 @@ use crate::tests::notation::{message_of, stream_of};
 use crate::tests::pieces::{Fed, MOST, is_right_in_two, is_right_singly};
 use crate::tests::readings::{push_reading, zeros_line};
 use crate::tests::scripts::{GREATEST, check_scripts};
-use crate::tests::shown::check_octets;
 use crate::tests::streams::{IN_TWO, SMALL, STREAMS};
 use crate::tests::vectors::input_of;
-use crate::tests::{
-    Case, Question, check, check_refused, check_rows, check_table, push_answer, push_text,
-};
+use crate::tests::{check_refused, push_answer};
 use std::alloc::Global;
 use std::test::Fail;
+use test_support::{Case, Question, check, check_octets, check_rows, check_table, push_text};
 use zone_engine::{Form, normalise_bytes};
 use zone_name::Name;
 use zone_wire::{TransferSource, read_transfer};

@@ -1,12 +1,12 @@
 //! Uncompressed octets of data, and data that is built part by part (RFC 1035 3.3, RFC 3597 4).
 use crate::tests::notation::octets_of;
-use crate::tests::{
-    Question, check, check_lines, judged, parted, push_fault, push_hex, push_text, push_words,
-    rooted,
-};
+use crate::tests::{judged, push_fault, rooted};
 use std::alloc::Global;
 use std::test::Fail;
-use zone_rdata::{Class, Fault, Kind, Rdata, RdataBuilder};
+use test_support::{
+    Question, check, check_lines, check_same, parted, push_hex, push_text, push_words,
+};
+use zone_rdata::{Class, Fault, Field, Kind, Rdata, RdataBuilder};
 
 /// What octets of a type and class IN are read as: the data's octets and MINIMUM, or the fault.
 struct Wired;
@@ -14,7 +14,7 @@ struct Wired;
 /// Class IN, and the type of a number.
 pub(super) fn in_class_in(number: &str) -> Result<(Class, Kind), Fail> {
     Ok((
-        Class::from_number(1)?,
+        Class::internet(),
         Kind::from_number(number.parse::<u64>()?)?,
     ))
 }
@@ -136,6 +136,13 @@ const BUILT: &str = "\
 731: octets ; octets  => ok; BadRdata; #
 6: name n.x.; name n.x.; u32 1; u32 2; u32 3; u32 4; u32 5 => ok; ok; ok; ok; ok; ok; ok; #016e017800016e0178000000000100000002000000030000000400000005
 ";
+
+#[test]
+fn a_builder_has_its_layout(rt: HostRuntime) -> Result<(), Fail> {
+    let builder = builder_of(rt.alloc(), "15")?;
+    let layout = builder.layout().ok_or("no layout")?;
+    check_same("MX", layout.field(0), Some(Field::U16))
+}
 
 #[test]
 fn data_of_parts(rt: HostRuntime) -> Result<(), Fail> {

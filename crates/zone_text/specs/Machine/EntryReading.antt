@@ -7,8 +7,6 @@ use Rattle.zone_rdata.specs.Fields.Name.{IsNameFault}
 use Rattle.zone_rdata.specs.Minimum.{minimum}
 use Rattle.zone_rdata.specs.Record.{Data, Record}
 use Rattle.zone_rdata.specs.Spelling.{RawItem, bare, States}
-use Rattle.zone_rdata.specs.declared.fault.Failing.{Failing}
-use Rattle.zone_rdata.specs.declared.fault.Failing.TheVariants as failings
 use Rattle.zone_rdata.specs.declared.fault.Fault.{Fault}
 use Rattle.zone_rdata.specs.declared.fault.Fault.TheVariants.{BadDirective, NoOwner}
 use Rattle.zone_rdata.specs.declared.fault.Place.{Place}
@@ -39,12 +37,6 @@ pub data DecidesEntry (origin : Labels) (before : List Entry) (entry : Entry) (p
   decides_fault : (fault : Fault) → EntryFault origin before entry fault
       → new.placed ≡ old.placed → new.ending ≡ Some (fault, place)
       → DecidesEntry origin before entry place old new next
-
--- the fault is decided, and nothing after it
-abbrev pub DecidesFault : Failing → Place → PendingRecords → PendingRecords → Type 0
-DecidesFault (failings.Fault fault) place old new =
-    (new.placed ≡ old.placed) × (new.ending ≡ Some (fault, place))
-DecidesFault failings.Memory place old new = ⊥
 
 abbrev pub with_owner : Option Labels → ParserState → ParserState
 with_owner owner d = record {

@@ -8,7 +8,7 @@ use Rattle.std.proofs.lemmas.List.Sorted.{All-permutation, IsPermutation-sym, Is
 use Rattle.zone_rdata.proofs.AddressGaps.{groups_unique}
 use Rattle.zone_rdata.proofs.Addresses.{numbers_unique}
 use Rattle.zone_rdata.specs.Address.{IsIpv4Address, IsIpv6Address}
-use Rattle.zone_words.proofs.OfParameters.Escapes.{unescaped_once}
+use Rattle.zone_words.proofs.UnescapedTexts.{unescaped_once}
 use Rattle.zone_words.proofs.OfParameters.KeyLists.{lists_keys_once}
 use Rattle.zone_words.proofs.OfParameters.Keys.{key_once}
 use Rattle.zone_words.proofs.OfParameters.Lists.{addresses_once}

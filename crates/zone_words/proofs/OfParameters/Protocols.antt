@@ -8,8 +8,9 @@ use Rattle.zone_name.specs.Common.{NothingIs}
 use Rattle.zone_name.specs.Name.{with_length}
 use Rattle.zone_words.specs.Fault.{AppendsStated}
 use Rattle.zone_words.specs.Machine.Parameters.{HasNoItems}
-use Rattle.zone_words.proofs.OfParameters.Escapes.{unescaped_once}
-use Rattle.zone_words.specs.Parameters.Value.{items_of, IsProtocol, ListsItems, ListsProtocols, Unescaped}
+use Rattle.zone_words.proofs.UnescapedTexts.{unescaped_once}
+use Rattle.zone_words.specs.Parameters.Value.{items_of, IsProtocol, ListsItems, ListsProtocols}
+use Rattle.zone_words.specs.Unescaped.{Unescaped}
 
 abbrev Items : Type 0
 Items = List (List ℕ)

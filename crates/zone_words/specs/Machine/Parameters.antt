@@ -6,7 +6,8 @@ use Rattle.zone_name.specs.Common.{NothingIs}
 use Rattle.zone_rdata.specs.Address.{IsIpv4Address, IsIpv6Address}
 use Rattle.zone_words.specs.Parameters.Keys.{key_text}
 use Rattle.zone_words.specs.Parameters.Text as texts
-use Rattle.zone_words.specs.Parameters.Value.{IsProtocol, items_of, Unescaped}
+use Rattle.zone_words.specs.Parameters.Value.{IsProtocol, items_of}
+use Rattle.zone_words.specs.Unescaped.{Unescaped}
 use Rattle.zone_words.specs.declared.fault.WordsFault.{WordsFault}
 use Rattle.zone_words.specs.declared.fault.WordsFault.TheVariants as faults
 use Rattle.zone_words.specs.declared.parameters.addresses.Version.{Version}

@@ -8,10 +8,10 @@ use Rattle.base64.specs.Engines.{standard}
 use Rattle.base64.specs.GeneralPurpose.{decode_of}
 use Rattle.zone_name.specs.Common.{NothingIs}
 use Rattle.zone_name.specs.Name.{with_length}
-use Rattle.zone_name.specs.Spelling.{Written, IsUnit, no_octet, written_text, written_octets}
 use Rattle.zone_rdata.specs.Address.{IsIpv4Address, IsIpv6Address}
 use Rattle.zone_rdata.specs.Fields.Number.{SpellsNumber}
 use Rattle.zone_words.specs.Parameters.Keys.{SpellsKey, number_of}
+use Rattle.zone_words.specs.Unescaped.{Unescaped}
 use Rattle.zone_words.specs.declared.fault.WordsFault.{WordsFault}
 use Rattle.zone_words.specs.declared.fault.WordsFault.TheVariants.{BadEscape, NotAValue}
 use Rattle.zone_words.specs.declared.parameters.key.Key.{Key}
@@ -39,13 +39,6 @@ pub record ListsKeys (text numbers : List ℕ) : Type 0 where
   pub each : AllZip IsKeyText (listed text) stated
   pub same : IsPermutation stated numbers
   pub ascend : AscendAbove 0 numbers
-
--- the octets that a text spells, its escapes undone (RFC 1035 5.1)
-pub record Unescaped (text octets : List ℕ) : Type 0 where
-  pub units : List Written
-  pub each : AllByRecursion (IsUnit no_octet) units
-  pub parts : text ≡ written_text units
-  pub value : octets ≡ written_octets units
 
 -- The items of a list, whose octets are parted by commas; a backslash stands before a comma or a
 -- backslash alone, which then means itself (RFC 9460 A.1). `true`: a backslash stands before.

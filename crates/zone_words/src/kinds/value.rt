@@ -1,15 +1,14 @@
 //! Values up to the end of the data, without a length (RFC 8659 4.1.1, RFC 7553 4.4).
-ghost use Rattle.std.specs.Prelude.{◌≡◌, map, OnOk, IfErr};
+ghost use Rattle.std.specs.Prelude.{map, OnOk, IfErr};
 ghost use Rattle.zone_rdata.specs.Item.{raw};
 ghost use Rattle.zone_words.specs.DataItem.{raw_item};
 ghost use Rattle.zone_words.specs.Fault.{AppendsStated, IfFault};
 ghost use Rattle.zone_words.specs.FirstItem.{FirstFails, FirstStates};
-ghost use Rattle.zone_words.specs.Kinds.Value.{ComesToBadEscape, FailsQuotedValue, FailsValue, IsWrittenFor, StatesQuotedValue, StatesValue};
-ghost use Rattle.zone_words.specs.declared.fault.WordsFault.TheVariants.{BadEscape};
+ghost use Rattle.zone_words.specs.Kinds.Value.{FailsQuotedValue, FailsValue, StatesQuotedValue, StatesValue};
 
 use crate::data_item::DataItem;
 use crate::fault::{WordsFailing, WordsFault};
-use zone_name::{NextUnit, next_unit};
+use crate::unescaped::push_unescaped;
 use zone_rdata::Item;
 
 /// Appends the value that the first item is, bare or quoted, its escapes undone.
@@ -62,7 +61,7 @@ fn push_value(item: Item, out: &mut Vec<u8>) -> Result<(), WordsFailing>
     ensures fault { IfErr result (IfFault (FailsValue (raw item.entry))) }
 {
     match item {
-        Item::Bare(text) | Item::Quoted(text) => push_written(text, out),
+        Item::Bare(text) | Item::Quoted(text) => push_unescaped(text, out),
     }
 }
 
@@ -79,26 +78,6 @@ fn push_quoted_value(item: Item, out: &mut Vec<u8>) -> Result<(), WordsFailing>
 {
     match item {
         Item::Bare(_) => Err(WordsFailing::Fault(WordsFault::NotQuoted)),
-        Item::Quoted(text) => push_written(text, out),
-    }
-}
-
-/// Appends the octets that a text is written for.
-fn push_written(text: &[u8], out: &mut Vec<u8>) -> Result<(), WordsFailing>
-    ensures states { OnOk result
-        (AppendsStated (IsWrittenFor text.now) out.old.items out.new.items) }
-    ensures fault { IfErr result
-        (IfFault (λ fault. (fault ≡ BadEscape) × ComesToBadEscape text.now)) }
-{
-    let mut rest = text;
-    loop {
-        match next_unit(rest) {
-            NextUnit::End => return Ok(()),
-            NextUnit::Octet(octet, after) => {
-                out.extend_from_slice(&[octet])?;
-                rest = after;
-            }
-            NextUnit::BadEscape => return Err(WordsFailing::Fault(WordsFault::BadEscape)),
-        }
+        Item::Quoted(text) => push_unescaped(text, out),
     }
 }

@@ -4,8 +4,8 @@ ghost use Rattle.zone_words.specs.Machine.Parameters.{FailsEscaped, HasNoItems, 
 ghost use Rattle.zone_words.specs.Parameters.Value.{ListsItems, ListsProtocols};
 ghost use Rattle.zone_words.specs.declared.fault.WordsFault.TheVariants as faults;
 
-use super::escapes::push_unescaped;
 use crate::fault::{WordsFailing, WordsFault};
+use crate::unescaped::push_unescaped;
 use arrayvec::ArrayVec;
 
 /// What stands at a place of a list (RFC 9460 A.1).

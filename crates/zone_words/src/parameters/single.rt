@@ -4,8 +4,8 @@ ghost use Rattle.zone_words.specs.Machine.Parameters.{FailsEscaped};
 ghost use Rattle.zone_words.specs.Parameters.Value.{StatesEch, StatesNone, StatesPath, StatesPort};
 ghost use Rattle.zone_words.specs.declared.fault.WordsFault.TheVariants as faults;
 
-use super::escapes::push_unescaped;
 use crate::fault::{WordsFailing, WordsFault};
+use crate::unescaped::push_unescaped;
 use base64::DecodeAllocError;
 use base64::engine::general_purpose::STANDARD;
 use zone_rdata::decimal_of;

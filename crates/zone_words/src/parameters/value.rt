@@ -3,12 +3,12 @@ ghost use Rattle.zone_words.specs.Fault.{AppendsStated, IfFault};
 ghost use Rattle.zone_words.specs.Parameters.Value.{FailsValue, RequiresKeys, StatesValue};
 
 use super::addresses::{Version, push_addresses};
-use super::escapes::push_unescaped;
 use super::key::Key;
 use super::keys::push_mandatory;
 use super::protocols::push_protocols;
 use super::single::{push_ech, push_none, push_path, push_port};
 use crate::fault::WordsFailing;
+use crate::unescaped::push_unescaped;
 
 /// Appends the octets of the value of a key, and adds the keys that it makes mandatory to those
 /// that are required.

@@ -1,13 +1,11 @@
-use Rattle.words_command.proofs.Common.{arith}
-use Rattle.words_command.proofs.Told.{carries_out, stops}
 use Rattle.words_command.specs.Run as runs
 use Rattle.words_command.proofs.program.run.Goals as goal
 
 pub returns-in-Ok : goal.returns-in-Ok
 returns-in-Ok g c =
     let d = c.in-Ok.ensures.done in
-    runs.done d.0 c.in-Ok.refusals _ (carries_out _ _ _ _ _ (grind arith) d.2) d.1 c.tell_refusals.ensures
+    runs.done d.0 c.in-Ok.refusals _ d.2 d.1 c.tell_refusals.ensures
 
 pub returns-in-Err : goal.returns-in-Err
 returns-in-Err g c =
-    runs.stopped c.in-Err.failure _ (stops _ _ _ _ _ (grind arith) c.in-Err.ensures.stopped) (rw (← c.text.ensures) c.tell.ensures)
+    runs.stopped c.in-Err.failure _ c.in-Err.ensures.stopped (rw (← c.text.ensures) c.tell.ensures)

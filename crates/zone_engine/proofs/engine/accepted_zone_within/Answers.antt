@@ -1,6 +1,6 @@
 use Rattle.zone_engine.proofs.Common.{◌≤◌, ◌<◌, length, refl, arith, false≢true, canon, text_limit, IfSome_then}
 use Rattle.zone_engine.proofs.Feeding.{is_input}
-use Rattle.zone_engine.proofs.Readers.{stops_refused}
+use Rattle.zone_engine.proofs.Reading.Readers.{stops_refused}
 use Rattle.zone_engine.proofs.Written.{denotes_zone, large}
 use Rattle.zone_engine.proofs.engine.accepted_zone_within.Goals as goal
 

@@ -1,5 +1,5 @@
 use Rattle.zone_engine.proofs.Common.{◌≡◌, [], ◌∷◌, refl, inl, inr, arith, Line, ttl, a_x, soa_of, address_of}
-use Rattle.zone_engine.proofs.Small.{fits, all_of_two, no_other_class, no_other_soa}
+use Rattle.zone_engine.proofs.Refusals.Small.{fits, all_of_two, no_other_class, no_other_soa}
 use Rattle.zone_engine.proofs.examples.a_differing_ttl.Goals as goal
 
 pub returns : goal.returns

@@ -1,5 +1,5 @@
 use Rattle.zone_engine.proofs.Common.{◌≡◌, [], ◌∷◌, refl, inl, arith, Line, class, soa_of}
-use Rattle.zone_engine.proofs.Small.{all_of_one}
+use Rattle.zone_engine.proofs.Refusals.Small.{all_of_one}
 use Rattle.zone_engine.proofs.examples.a_record_of_another_class.Goals as goal
 
 pub returns : goal.returns

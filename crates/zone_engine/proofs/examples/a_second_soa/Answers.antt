@@ -1,5 +1,5 @@
 use Rattle.zone_engine.proofs.Common.{◌≢◌, ℕ, [], ◌∷◌, refl, inl, inr, arith, Line, soa, soa_of}
-use Rattle.zone_engine.proofs.Small.{all_of_one, no_other_class}
+use Rattle.zone_engine.proofs.Refusals.Small.{all_of_one, no_other_class}
 use Rattle.zone_engine.proofs.examples.a_second_soa.Goals as goal
 
 other_serial : (soa_of 1 60 1).octets ≢ (soa_of 1 60 2).octets

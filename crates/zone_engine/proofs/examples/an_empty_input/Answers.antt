@@ -1,6 +1,6 @@
 use Rattle.zone_engine.proofs.Common.{[], refl, arith, None, NoSoa, Whole, no_soa, unfinished, reading}
 use Rattle.zone_text.specs.FileReads.{whole as by_whole}
-use Rattle.zone_engine.proofs.Deciding.{none_before}
+use Rattle.zone_engine.proofs.Refusals.Deciding.{none_before}
 use Rattle.zone_engine.proofs.examples.an_empty_input.Goals as goal
 
 pub returns : goal.returns

@@ -1,7 +1,7 @@
 use Rattle.zone_engine.proofs.Common.{[], ◌∷◌, refl, arith, Some, UnclosedQuote, Line, unread, reading}
 use Rattle.zone_text.specs.Breaks.{no_quote}
 use Rattle.zone_text.specs.FileReads.{broken as by_broken}
-use Rattle.zone_engine.proofs.Deciding.{none_before}
+use Rattle.zone_engine.proofs.Refusals.Deciding.{none_before}
 use Rattle.zone_engine.proofs.examples.an_input_of_an_open_quote.Goals as goal
 
 pub returns : goal.returns

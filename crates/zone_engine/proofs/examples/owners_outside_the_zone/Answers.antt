@@ -1,11 +1,11 @@
-use Rattle.zone_engine.proofs.Common.{◌≡◌, ◌≢◌, ℕ, List, [], ◌∷◌, codes, refl, ap, sym, subst, inl, inr, ⊎_elim, arith, Less, IsWithin, name_cmp, OutOfZone, Whole, outside, top, under, x, soa_of, server_of, unfinished}
-use Rattle.zone_engine.proofs.Small.{fits, all_of_three, outside_of}
+use Rattle.zone_engine.proofs.Common.{◌≡◌, ◌≢◌, ℕ, List, [], ◌∷◌, codes, refl, ap, sym, subst, inl, inr, ⊎_elim, arith, Less, IsWithin, name_cmp, OutOfZone, Whole, outside, top, under, x, soa_of, server_of, unfinished, Labels}
+use Rattle.zone_engine.proofs.Refusals.Small.{fits, all_of_three, outside_of}
 use Rattle.zone_engine.proofs.examples.owners_outside_the_zone.Goals as goal
 
-abbrev y : List (List ℕ)
+abbrev y : Labels
 y = top (codes "y")
 
-abbrev b_y : List (List ℕ)
+abbrev b_y : Labels
 b_y = under (codes "b") y
 
 other_label : codes "y" ≢ codes "x"

@@ -1,5 +1,5 @@
 use Rattle.zone_engine.proofs.Common.{◌++◌, List, ℕ, sym, ap, ◌∙◌, subst, name_text}
-use Rattle.zone_engine.proofs.Ascii.{ascii_name, AreAscii}
+use Rattle.zone_engine.proofs.Telling.Ascii.{ascii_name, AreAscii}
 use Rattle.zone_engine.proofs.explanation.push_owner.Goals as goal
 
 pub push_ascii-requires : goal.push_ascii-requires

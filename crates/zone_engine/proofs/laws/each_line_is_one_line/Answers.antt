@@ -1,4 +1,4 @@
-use Rattle.zone_engine.proofs.OneLine.{line_of_stop, line_of_records, line_of_verdict}
+use Rattle.zone_engine.proofs.Telling.OneLine.{line_of_stop, line_of_records, line_of_verdict}
 use Rattle.zone_engine.proofs.laws.each_line_is_one_line.Goals as goal
 
 pub returns-clause-stop : goal.returns-clause-stop

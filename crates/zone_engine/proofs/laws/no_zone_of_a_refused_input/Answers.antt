@@ -1,4 +1,4 @@
-use Rattle.zone_engine.proofs.Inputs.{one_reading, refused_or_denoted, stated_is_read}
+use Rattle.zone_engine.proofs.Reading.Inputs.{one_reading, refused_or_denoted, stated_is_read}
 use Rattle.zone_engine.proofs.laws.no_zone_of_a_refused_input.Goals as goal
 
 pub returns : goal.returns

@@ -1,4 +1,4 @@
-use Rattle.zone_engine.proofs.Refusing.{one_refusal}
+use Rattle.zone_engine.proofs.Refusals.Refusing.{one_refusal}
 use Rattle.zone_engine.proofs.laws.one_fault_of_a_reading.Goals as goal
 
 pub returns : goal.returns

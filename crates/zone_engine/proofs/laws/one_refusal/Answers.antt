@@ -1,4 +1,4 @@
-use Rattle.zone_engine.proofs.Inputs.{one_reading, one_refusal}
+use Rattle.zone_engine.proofs.Reading.Inputs.{one_reading, one_refusal}
 use Rattle.zone_engine.proofs.laws.one_refusal.Goals as goal
 
 pub returns : goal.returns

@@ -1,4 +1,4 @@
-use Rattle.zone_engine.proofs.Inputs.{one_list, one_zone}
+use Rattle.zone_engine.proofs.Reading.Inputs.{one_list, one_zone}
 use Rattle.zone_engine.proofs.laws.one_zone.Goals as goal
 
 pub returns : goal.returns

@@ -1,5 +1,5 @@
 use Rattle.zone_engine.proofs.Common.{None, file, transfer}
-use Rattle.zone_engine.proofs.Inputs.{file_fits, placed_fit, of_both_forms, Outcome, refusal_or_zone}
+use Rattle.zone_engine.proofs.Reading.Inputs.{file_fits, placed_fit, of_both_forms, Outcome, refusal_or_zone}
 use Rattle.zone_engine.proofs.laws.refusal_or_zone.Goals as goal
 
 pub returns : goal.returns

@@ -1,4 +1,4 @@
-use Rattle.zone_engine.proofs.Making.{every_whole_reading, every_broken_reading}
+use Rattle.zone_engine.proofs.Refusals.Making.{every_whole_reading, every_broken_reading}
 use Rattle.zone_engine.proofs.laws.refusal_or_zone_of_a_reading.Goals as goal
 
 pub returns-clause-whole : goal.returns-clause-whole

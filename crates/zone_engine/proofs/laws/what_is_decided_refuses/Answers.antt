@@ -1,4 +1,4 @@
-use Rattle.zone_engine.proofs.Decided.{refused_by_front}
+use Rattle.zone_engine.proofs.Refusals.Decided.{refused_by_front}
 use Rattle.zone_engine.proofs.laws.what_is_decided_refuses.Goals as goal
 
 pub returns : goal.returns

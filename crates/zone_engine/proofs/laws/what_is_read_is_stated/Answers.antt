@@ -1,4 +1,4 @@
-use Rattle.zone_engine.proofs.Inputs.{read_is_stated}
+use Rattle.zone_engine.proofs.Reading.Inputs.{read_is_stated}
 use Rattle.zone_engine.proofs.laws.what_is_read_is_stated.Goals as goal
 
 pub returns : goal.returns

@@ -13,12 +13,11 @@ mapped (Err f) result Out e given = tt
 pub returns-clause-ok : goal.returns-clause-ok
 returns-clause-ok c =
     let extended = c.try_extend_from_slice in
-    mapped c.map_err.result extended.result _ c.map_err.ensures.variant (λ is.
-    ended_with c.args.letters c.args.octets.now.items c.set_letters.new.octets.items c.args.ending.now extended.new.self.items
-    c.set_letters.ensures.holds c.set_letters.ensures.labels c.requires.name (taken extended.result is extended.ensures.ok) (extended.ensures.variant.0 is))
+    mapped c.map_err.result extended.result _ c.map_err.ensures.variant (λ is. λ letters holds name.
+    ended_with letters c.args.octets.now.items c.args.ending.now extended.new.self.items
+    holds name (taken extended.result is extended.ensures.ok) (extended.ensures.variant.0 is))
 
 pub returns-clause-err : goal.returns-clause-err
 returns-clause-err c =
-    rw (← c.set_letters.ensures.labels) (
-    let long = joined-long c.args.letters c.set_letters.new.octets.items c.args.ending.now c.set_letters.ensures.holds c.requires.name in
-    search (rules, long))
+    let long = joined-long c.args.octets.now.items c.args.ending.now in
+    search (rules, long)

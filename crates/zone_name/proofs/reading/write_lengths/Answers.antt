@@ -1,16 +1,22 @@
-use Rattle.zone_name.proofs.Common.{◌∙◌, ◌+◌, refl, arith, length-drop, length-set, take_rest}
-use Rattle.zone_name.proofs.Plain.{lengths_more}
+use Rattle.zone_name.proofs.Common.{◌<◌, ◌-◌, ◌∙◌, length, drop, arith, subst, refl, length-set, eqb-true}
+use Rattle.zone_name.specs.Machine.Plain.{WritesLengths}
+use Rattle.zone_name.proofs.Plain.{lengths_next}
 use Rattle.zone_name.proofs.reading.write_lengths.Goals as goal
 
 pub loop-start-preserved : goal.loop-start-preserved
 loop-start-preserved c =
     let octets = c.loop-start.octets in
     let start = c.loop-start.start in
-    let len = c.plain_len-len.result in
-    let inside = c.loop-start-test.true in
-    let plain = rw (take_rest octets (start + 1)) at c.plain_len-len.ensures in (
-      lengths_more _ octets _ start len c.loop-start.invariant.0 inside c.if-octets-start-ne46.false
-          plain.each plain.short (omega arith) (omega arith) refl,
-      omega (arith, inside, plain.short, length-set octets start len, length-drop (start + 1) octets),
-      length-set octets start len ∙ c.loop-start.invariant.2,
+    let end = c.label_end-end.result in
+    let found = c.label_end-end.ensures in
+    let same = c.loop-start.invariant.2 in
+    let inside : start < length octets = omega (arith, c.loop-start-test.true, c.requires, same) in (
+      lengths_next _ octets _ start end c.loop-start.invariant.0 inside c.if-octets-start-ne46.false
+          found.each found.back (omega arith) (omega arith) refl,
+      omega (arith, found.back, length-set octets start (end - start - 1)),
+      length-set octets start (end - start - 1) ∙ same,
     )
+
+pub returns : goal.returns
+returns c = λ is.
+    subst (λ n. WritesLengths c.args.octets.now c.loop-start.octets (drop n c.loop-start.octets)) (eqb-true _ _ is) c.loop-start.invariant.0

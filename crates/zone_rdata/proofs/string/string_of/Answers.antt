@@ -3,10 +3,10 @@ use Rattle.zone_rdata.proofs.StringSteps.{read_more, read_full, read_bad}
 use Rattle.zone_rdata.proofs.string.string_of.Goals as goal
 
 pub returns-then-is_full-clause-fault : goal.returns-then-is_full-clause-fault
-returns-then-is_full-clause-fault c = rw c.of.ensures (read_full (raw c.args.item) c.loop-octets.octets.items c.loop-octets.rest.now c.in-Octet.after.now c.in-Octet.octet c.loop-octets.invariant c.in-Octet.ensures (grind (arith, nat_tests, c.is_full.ensures, c.if-is_full.true)))
+returns-then-is_full-clause-fault c = read_full (raw c.args.item) c.loop-octets.octets.items c.loop-octets.rest.now c.in-Octet.after.now c.in-Octet.octet c.loop-octets.invariant c.in-Octet.ensures (grind (arith, nat_tests, c.is_full.ensures, c.if-is_full.true))
 
 pub loop-octets-preserved : goal.loop-octets-preserved
 loop-octets-preserved c = read_more (raw c.args.item) c.loop-octets.octets.items c.loop-octets.rest.now c.in-Octet.after.now c.push.new.self.items c.in-Octet.octet c.loop-octets.invariant c.in-Octet.ensures (grind (arith, nat_tests, c.is_full.ensures, c.if-is_full.false)) c.push.ensures.items
 
 pub returns-in-BadEscape-clause-fault : goal.returns-in-BadEscape-clause-fault
-returns-in-BadEscape-clause-fault c = rw c.of-in-BadEscape.ensures (read_bad (raw c.args.item) c.loop-octets.octets.items c.loop-octets.rest.now c.loop-octets.invariant c.in-BadEscape.ensures)
+returns-in-BadEscape-clause-fault c = read_bad (raw c.args.item) c.loop-octets.octets.items c.loop-octets.rest.now c.loop-octets.invariant c.in-BadEscape.ensures

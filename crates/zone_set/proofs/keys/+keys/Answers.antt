@@ -17,4 +17,4 @@ pub sort_run-returns : goal.sort_run-returns
 sort_run-returns t c = IsPermutation-keyed c.args.hint c.args.run.now c.set_keys.new.run c.sort.new.entries c.set_hint.new.run c.requires c.set_keys.ensures c.sort.ensures c.set_hint.ensures.places c.set_hint.ensures.hints
 
 pub sort-returns : goal.sort-returns
-sort-returns t c = IsPermutation-trans _ _ _ c.sort_unstable_by.ensures.permutation c.loop-hint.invariant.2
+sort-returns t c = IsPermutation-trans _ _ _ c.sort_by_hint.ensures c.loop-hint.invariant.2

@@ -1,9 +1,29 @@
-use Rattle.std.proofs.Common.{◌≡◌, refl, sym, subst}
+use Rattle.std.proofs.Common.{◌≡◌, arith, length, refl, sym, ◌∙◌, subst}
+use Rattle.std.specs.List.{AllByRecursion}
 use Rattle.std.proofs.lemmas.Result.{err_from_is_err_and}
 use Rattle.zone_set.proofs.Listing.{IsSettledAs-sorted}
+use Rattle.zone_set.proofs.MessageLens.{len_of_moved}
 use Rattle.zone_set.specs.Machine.Bulk.{listed, KeepsList}
+use Rattle.zone_set.specs.Machine.Held.{IsEntry}
 use Rattle.zone_set.specs.ZoneList.{IsSettledAs, memory}
 use Rattle.zone_set.proofs.list.settle_parts.Goals as goal
+
+pub len_of_entries-message_len-requires : goal.len_of_entries-message_len-requires
+len_of_entries-message_len-requires g c = (
+  rw (c.as_slice-then-settle.ensures.value, c.as_slice-then-settle-2.ensures.value) (rw c.as_slice.ensures.value at c.settle.ensures.each),
+  rw (c.as_slice-then-settle.ensures.value, c.as_slice-then-settle-2.ensures.value) (λ same.
+      let count : length c.settle.new.entries.items ≡ length c.args.entries.items = omega (arith, same ∙ c.len-listed.ensures, c.args.entries.ok) in
+      len_of_moved c.args.class c.args.base c.args.octets.items c.args.entries.items c.settle.new.entries.items c.args.places c.requires.1.1 (c.settle.ensures.whole count) count),
+)
+
+pub of_sorted-requires : goal.of_sorted-requires
+of_sorted-requires g c = record {
+  holds = record {
+    each = subst (λ b. AllByRecursion (IsEntry b c.args.class c.args.octets.items) c.settle.new.entries.items) c.requires.0 (rw c.as_slice.ensures.value at c.settle.ensures.each);
+    compatible = rw c.as_slice.ensures.value at (c.if-settle.ensures.compatible refl);
+  };
+  counts = rw (c.as_slice-then-settle.ensures.value, c.as_slice-then-settle-2.ensures.value) at c.len_of_entries-message_len.ensures;
+}
 
 pub returns-in_err-sets-clause-refused : goal.returns-in_err-sets-clause-refused
 returns-in_err-sets-clause-refused g c =

@@ -5,3 +5,6 @@ ghost-settle g a = g.known.0
 
 abbrev pub ghost-offer : goal.ghost-offer
 ghost-offer g a = g.known.1
+
+abbrev pub ghost-len_of_entries : goal.ghost-len_of_entries
+ghost-len_of_entries g a = g.known.0

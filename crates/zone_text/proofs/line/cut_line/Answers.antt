@@ -1,20 +1,47 @@
-use Rattle.zone_text.proofs.Common.{ap, map, raw, refl}
-use Rattle.zone_text.proofs.FirstEntries.{cut_ended, cut_more, cut_none, cut_on, in_front_shorter}
+use Rattle.std.proofs.lemmas.List.Sums.{prefix_len-le-length}
+use Rattle.zone_text.proofs.Common.{ap, arith, length, map, raw, refl, suc, sym, ◌∙◌, ◌≡◌}
+use Rattle.zone_text.proofs.FirstEntries.{blank_in_front, cut_bare, cut_ended, cut_more, cut_none, cut_on, in_front_shorter}
+use Rattle.zone_text.proofs.StopMarks.{after_stop, goes_on}
 use Rattle.zone_text.proofs.line.cut_line.Goals as goal
 
-pub loop-first-init : goal.loop-first-init
-loop-first-init c = cut_none _ _ (ap (map raw) c.clear.ensures.items)
+pub loop-rest-init : goal.loop-rest-init
+loop-rest-init c = record { cut = cut_none _ _ (ap (map raw) c.clear.ensures.items); tells = c.unseen-stops.ensures }
 
-pub returns-then-first-eq10 : goal.returns-then-first-eq10
-returns-then-first-eq10 c = cut_ended _ _ _ _ _ _ c.loop-first.invariant c.in-Some.ensures.cases.0 c.if-first-eq10.true refl
+pub bare_len-len-requires : goal.bare_len-len-requires
+bare_len-len-requires c = record { tells = c.loop-rest.invariant.tells }
 
-pub loop-first-smaller-in_ok-keep : goal.loop-first-smaller-in_ok-keep
-loop-first-smaller-in_ok-keep c = in_front_shorter _ _ _ c.in-Some-token_in_front.ensures
+pub split_at-requires : goal.split_at-requires
+split_at-requires c = omega (arith, c.bare_len-len.ensures.len, prefix_len-le-length goes_on c.loop-rest.rest.now)
 
-pub loop-first-preserved-in_ok-keep : goal.loop-first-preserved-in_ok-keep
-loop-first-preserved-in_ok-keep c =
-    cut_more _ _ _ _ _ _ c.loop-first.invariant (rw c.in-Some-item.is at c.in-Some-token_in_front.ensures) c.in_ok-keep.ensures
+pub returns-then-stop-eq10 : goal.returns-then-stop-eq10
+returns-then-stop-eq10 c =
+    cut_ended _ _ _ _ _ _ (cut_bare _ _ _ _ _ _ _ _ _ c.loop-rest.invariant.cut c.bare_len-len.ensures.len c.split_at.ensures.front c.split_at.ensures.back c.in-Some.ensures.cases.0 c.if-stop-eq92.false c.in_ok-keep_bare.ensures) c.in-Some.ensures.cases.0 c.if-stop-eq10.true refl
 
-pub loop-first-preserved : goal.loop-first-preserved
-loop-first-preserved c =
-    cut_on _ _ _ _ c.loop-first.invariant (rw c.in_default-item.is at c.in-Some-token_in_front.ensures)
+pub loop-rest-smaller-then-is_blank : goal.loop-rest-smaller-then-is_blank
+loop-rest-smaller-then-is_blank c =
+    let first : length c.split_at.result.1.now ≡ suc (length c.in-Some.after.now) = ap length c.in-Some.ensures.cases.0 in
+    omega (arith, first, c.split_at.ensures.back_len)
+
+pub loop-rest-preserved-then-is_blank : goal.loop-rest-preserved-then-is_blank
+loop-rest-preserved-then-is_blank c = record {
+  cut = cut_on _ _ _ _ (cut_bare _ _ _ _ _ _ _ _ _ c.loop-rest.invariant.cut c.bare_len-len.ensures.len c.split_at.ensures.front c.split_at.ensures.back c.in-Some.ensures.cases.0 c.if-stop-eq92.false c.in_ok-keep_bare.ensures) (blank_in_front _ _ _ c.in-Some.ensures.cases.0 (sym c.is_blank.ensures ∙ c.if-is_blank.true));
+  tells = after_stop c.bare_len-len.result.1 c.loop-rest.rest.now c.split_at.result.1.now c.in-Some.after.now c.in-Some.stop.now c.bare_len-len.result.0 c.bare_len-len.ensures.tells c.split_at.ensures.back c.in-Some.ensures.cases.0;
+}
+
+pub loop-rest-smaller-in-Continue-branch-2 : goal.loop-rest-smaller-in-Continue-branch-2
+loop-rest-smaller-in-Continue-branch-2 c = omega (arith, in_front_shorter _ _ _ c.in-Some-token_in_front.ensures, c.split_at.ensures.back_len)
+
+pub loop-rest-preserved-in-Continue-branch-2 : goal.loop-rest-preserved-in-Continue-branch-2
+loop-rest-preserved-in-Continue-branch-2 c = record {
+  cut = cut_more _ _ _ _ _ _ (cut_bare _ _ _ _ _ _ _ _ _ c.loop-rest.invariant.cut c.bare_len-len.ensures.len c.split_at.ensures.front c.split_at.ensures.back c.in-Some.ensures.cases.0 c.if-stop-eq92.false c.in_ok-keep_bare.ensures) (rw c.in-Some-item.is at c.in-Some-token_in_front.ensures) c.in_ok-keep.ensures;
+  tells = c.unseen-stops-in-loop-rest.ensures;
+}
+
+pub loop-rest-smaller : goal.loop-rest-smaller
+loop-rest-smaller c = omega (arith, in_front_shorter _ _ _ c.in-Some-token_in_front.ensures, c.split_at.ensures.back_len)
+
+pub loop-rest-preserved : goal.loop-rest-preserved
+loop-rest-preserved c = record {
+  cut = cut_on _ _ _ _ (cut_bare _ _ _ _ _ _ _ _ _ c.loop-rest.invariant.cut c.bare_len-len.ensures.len c.split_at.ensures.front c.split_at.ensures.back c.in-Some.ensures.cases.0 c.if-stop-eq92.false c.in_ok-keep_bare.ensures) (rw c.in_default-item.is at c.in-Some-token_in_front.ensures);
+  tells = c.unseen-stops-in-loop-rest.ensures;
+}

@@ -1,5 +1,5 @@
 use Rattle.std.proofs.Common.{◌++◌}
-use Rattle.zone_engine.proofs.FedSources.{transfer_stands_on}
+use Rattle.zone_engine.proofs.Reading.FedSources.{transfer_stands_on}
 use Rattle.zone_engine.proofs.fed.TransferSourceFedSource.feed.Goals as goal
 
 pub returns-clause-stands : goal.returns-clause-stands

@@ -1,4 +1,4 @@
-use Rattle.zone_engine.proofs.FedSources.{transfer_stands_on}
+use Rattle.zone_engine.proofs.Reading.FedSources.{transfer_stands_on}
 use Rattle.zone_engine.proofs.fed.TransferSourceFedSource.finish.Goals as goal
 
 pub returns-clause-stands : goal.returns-clause-stands

@@ -1,5 +1,5 @@
 use Rattle.std.proofs.lemmas.Result.{err_from_is_err_and, MatchResult-weaker}
-use Rattle.zone_engine.proofs.Taken.{zone_of_records, zone_read, listing_refused, settling_refused, finishing_refused, first_is_of_bytes}
+use Rattle.zone_engine.proofs.Reading.Taken.{zone_of_records, zone_read, listing_refused, settling_refused, finishing_refused, first_is_of_bytes}
 use Rattle.zone_engine.proofs.loader.ZoneLoader.finish.Goals as goal
 
 pub returns-in-Err-clause-fault : goal.returns-in-Err-clause-fault

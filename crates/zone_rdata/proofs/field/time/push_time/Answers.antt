@@ -1,13 +1,13 @@
-use Rattle.zone_rdata.proofs.Common.{refl, ◌∙◌, ap, ◌++◌, arith, IsTime}
-use Rattle.zone_rdata.proofs.Failings.{same_fault_answered}
+use Rattle.zone_rdata.proofs.Common.{◌∙◌, ap, ◌++◌, arith, IsTime}
+use Rattle.zone_rdata.proofs.Failings.{fault_answered}
 use Rattle.zone_rdata.proofs.TimeLaws.{one_time}
 use Rattle.zone_rdata.proofs.Values.{no_number, that_number}
 use Rattle.zone_rdata.proofs.field.time.push_time.Goals as goal
 
 pub returns-in_err-number-clause-fault : goal.returns-in_err-number-clause-fault
 returns-in_err-number-clause-fault c =
-    same_fault_answered c.from_residual.result _ _ _ c.from_residual.ensures.1 c.in_err-number.ensures.fault.0
-    (refl, no_number (IsTime c.args.text.now) 4294967296 4294967295 4294967296 c.seconds_of.result (one_time c.args.text.now) (omega arith) (omega arith) c.seconds_of.ensures.found c.seconds_of.ensures.none c.in_err-number.ensures.fault.1)
+    fault_answered c.from_residual.result _ _ c.from_residual.ensures.1
+    (c.in_err-number.ensures.fault.0, no_number (IsTime c.args.text.now) 4294967296 4294967295 4294967296 c.seconds_of.result (one_time c.args.text.now) (omega arith) (omega arith) c.seconds_of.ensures.found c.seconds_of.ensures.none c.in_err-number.ensures.fault.1)
 
 pub returns-clause-found : goal.returns-clause-found
 returns-clause-found c = record {

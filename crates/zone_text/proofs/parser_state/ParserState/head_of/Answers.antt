@@ -9,9 +9,8 @@ returns-in_err-words-clause-fault c origin before entry owner is =
 
 pub returns-in_default-clause-fault : goal.returns-in_default-clause-fault
 returns-in_default-clause-fault c origin before entry owner is =
-    rw c.of.ensures
-    (kind_missing origin before entry _ owner _ _ _ is c.in_ok-words.ensures.found
-    (λ text more e. c.in_default.ensures.none text more (sym (after_words c.args.items.now c.split_at.result.1.now c.in_ok-words.count _ c.split_at.ensures.back refl) ∙ e)))
+    kind_missing origin before entry _ owner _ _ _ is c.in_ok-words.ensures.found
+    (λ text more e. c.in_default.ensures.none text more (sym (after_words c.args.items.now c.split_at.result.1.now c.in_ok-words.count _ c.split_at.ensures.back refl) ∙ e))
 
 pub returns-in_err-kind-clause-fault : goal.returns-in_err-kind-clause-fault
 returns-in_err-kind-clause-fault c origin before entry owner is =

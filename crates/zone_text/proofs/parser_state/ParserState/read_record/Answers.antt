@@ -5,14 +5,14 @@ use Rattle.zone_text.proofs.parser_state.ParserState.read_record.Goals as goal
 
 pub returns-in_default : goal.returns-in_default
 returns-in_default c origin before entry has =
-    refused_entry c.refuse.result origin before entry c.args.place c.args.decided.now c.refuse.new.decided _ c.of.result
+    refused_entry c.refuse.result origin before entry c.args.place c.args.decided.now c.refuse.new.self _ c.of.result
     (rw c.of.ensures (no_owner origin before entry c.args.self.now _ has c.in_default.is))
     c.refuse.ensures.decided
 
 pub returns-in-Err : goal.returns-in-Err
 returns-in-Err c origin before entry has =
     let one = one_owner origin before entry c.args.self.now _ _ has c.in-Some.is in
-    refused_entry c.refuse-in-Err.result origin before entry c.args.place c.args.decided.now c.refuse-in-Err.new.decided _ c.in-Err.failing
+    refused_entry c.refuse-in-Err.result origin before entry c.args.place c.args.decided.now c.refuse-in-Err.new.self _ c.in-Err.failing
     (c.in-Err.ensures.fault origin before entry _ one.0)
     (rw c.buffer-buffer.ensures at c.refuse-in-Err.ensures.decided)
 
@@ -32,6 +32,6 @@ pub returns-then-contents-gt-MAX_TTL : goal.returns-then-contents-gt-MAX_TTL
 returns-then-contents-gt-MAX_TTL c origin before entry has =
     let one = one_owner origin before entry c.args.self.now _ _ has c.in-Some.is in
     let reads = c.in-Ok.ensures.found origin before entry _ one.0 in
-    refused_entry c.refuse-then-contents-gt-MAX_TTL.result origin before entry c.args.place c.args.decided.now c.refuse-then-contents-gt-MAX_TTL.new.decided _ c.of-then-contents-gt-MAX_TTL.result
+    refused_entry c.refuse-then-contents-gt-MAX_TTL.result origin before entry c.args.place c.args.decided.now c.refuse-then-contents-gt-MAX_TTL.new.self _ c.of-then-contents-gt-MAX_TTL.result
     (rw c.of-then-contents-gt-MAX_TTL.ensures (long_ttl c.lower_laws.ensures origin before entry c.args.self.now reads.head _ _ _ _ reads.read (omega (arith, c.if-contents-gt-MAX_TTL.true))))
     (rw c.buffer-buffer.ensures at c.refuse-then-contents-gt-MAX_TTL.ensures.decided)

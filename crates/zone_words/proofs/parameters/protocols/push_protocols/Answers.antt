@@ -9,5 +9,5 @@ returns-in_err-push_unescaped-clause-fault c = fault_passed c.from_residual.resu
 
 pub returns-in_err-push_items-clause-fault : goal.returns-in_err-push_items-clause-fault
 returns-in_err-push_items-clause-fault c =
-    let spelt = c.in_ok-push_unescaped.ensures.stated in
+    let spelt = c.in_ok-push_unescaped.ensures.states in
     fault_passed c.from_residual-in_err-push_items.result c.in_err-push_items.field-0.0 _ _ c.from_residual-in_err-push_items.ensures.1 (λ fault none. path_nothing ListsProtocols c.args.text.now spelt.octets fault spelt.stated none.0 (protocols_stop c.args.text.now spelt.octets c.as_slice.result.now spelt.stated (cc (c.as_slice.ensures.value, spelt.written, c.new-spelt.ensures.items)) none.1)) c.in_err-push_items.ensures.fault

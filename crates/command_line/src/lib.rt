@@ -1,0 +1,22 @@
+//! What the words of a command line call, by `clap`: a program's commands as a table, and a call of
+//! one of them with the texts of its arguments, or what a user is told in its place.
+#![tactic(auto)]
+
+mod calling;
+mod given;
+mod no_call;
+mod program;
+mod reading;
+
+pub use calling::{FromMatches, after_name, call_of};
+pub use given::given_words;
+pub use no_call::NoCall;
+pub use program::{Argument, Program, ProgramCommand};
+
+/// The version of the programs, and what one of them tells behind it.
+#[macro_export]
+macro_rules! version {
+    ($($behind:literal)?) => {
+        concat!("0.1.0" $(, $behind)?)
+    };
+}

@@ -1,0 +1,23 @@
+//! Why words call no command.
+
+use std::alloc::AllocError;
+
+/// Why words call no command.
+#[derive(Debug, Drop)]
+pub enum NoCall {
+    /// What a user is told in place of a call, help included, without a line feed at its end.
+    Told(String),
+    /// Memory was refused.
+    Memory,
+}
+
+impl From<AllocError> for NoCall {
+    ghost use Rattle.std.specs.Prelude.{◌≡◌};
+    ghost use Rattle.command_line.specs.declared.no_call.NoCall.TheVariants as no_calls;
+
+    ghost from_gives = { λ _ e. e ≡ no_calls.Memory };
+
+    fn from(_error: AllocError) -> NoCall {
+        NoCall::Memory
+    }
+}

@@ -1,0 +1,5 @@
+use Rattle.std.proofs.Common.{length}
+use Rattle.words_print.proofs.kinds.name.push_name.Given as goal
+
+abbrev pub decreases-loop-label : goal.decreases-loop-label
+decreases-loop-label l = length l.rest

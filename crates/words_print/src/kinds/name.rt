@@ -1,0 +1,62 @@
+ghost use Rattle.std.specs.Prelude.{◌+◌, ◌<◌, IfOk, length};
+
+use crate::taking::{take, take_u8};
+use crate::unprinted::Unprinted;
+use std::alloc::AllocError;
+use zone_name::decimal_escape;
+
+/// Whether an octet stands for itself in a name (RFC 1035 5.1).
+fn is_plain(octet: u8) -> bool {
+    match octet {
+        b'"' | b'$' | b'(' | b')' | b'.' | b';' | b'@' | b'\\' => false,
+        _ => octet > b' ' && octet <= b'~',
+    }
+}
+
+/// Appends an octet of a label.
+fn push_octet(octet: u8, out: &mut Vec<u8>) -> Result<(), AllocError> {
+    if is_plain(octet) {
+        out.extend_from_slice(&[octet])
+    } else if octet > b' ' && octet <= b'~' {
+        out.extend_from_slice(&[b'\\', octet])
+    } else {
+        out.extend_from_slice(&decimal_escape(octet))
+    }
+}
+
+/// Appends a label.
+fn push_label(label: &[u8], out: &mut Vec<u8>) -> Result<(), AllocError> {
+    for octet in label {
+        push_octet(*octet, out)?;
+    }
+    Ok(())
+}
+
+/// The longest label (RFC 1035 2.3.4).
+const LONGEST: u8 = 63;
+
+/// The label at the front, the root's without an octet, and what is left.
+fn take_label(octets: &[u8]) -> Result<(&[u8], &[u8]), Unprinted>
+    ensures { IfOk result (λ parts. length parts.1.now < length octets.now) }
+{
+    let (len, rest) = take_u8(octets)?;
+    if len > LONGEST {
+        return Err(Unprinted::NoData);
+    }
+    take(rest, usize::from(len))
+}
+
+/// Appends the name at the front, absolute and with its letters (RFC 1035 3.1), and gives what is
+/// left.
+pub(crate) fn push_name<'o>(octets: &'o [u8], out: &mut Vec<u8>) -> Result<&'o [u8], Unprinted> {
+    let (mut label, mut rest) = take_label(octets)?;
+    if label.is_empty() {
+        out.extend_from_slice(b".")?;
+    }
+    while !label.is_empty() {
+        push_label(label, out)?;
+        out.extend_from_slice(b".")?;
+        (label, rest) = take_label(rest)?;
+    }
+    Ok(rest)
+}

@@ -1,0 +1,18 @@
+//! Canonical texts and differences of them for people: the records of further types in words in
+//! place of the generic form (RFC 3597 5), where these words, read again, are that form.
+#![tactic(auto)]
+
+mod class_stated;
+mod data;
+mod field;
+mod generic_line;
+mod kinds;
+pub mod laws;
+mod line_printer;
+mod parameters;
+mod taking;
+mod unprinted;
+mod words_printer;
+
+pub use line_printer::print_line;
+pub use words_printer::{WordsPrinter, print_words};

@@ -1,0 +1,187 @@
+//! Lines in words.
+ghost use Rattle.std.specs.Prelude.{◌≡◌, ◌++◌, ◌∷◌, [], IfOk, Ok, OnErr, OnOk, true};
+ghost use Rattle.words_print.specs.Machine.Found.{FoundIn};
+ghost use Rattle.words_print.specs.Shown.{IsShownLine};
+ghost use Rattle.zone_words.specs.Entry.{IsRewriting};
+ghost use Rattle.zone_words.specs.Fault.{AppendsStated};
+
+use crate::class_stated::{ClassStated, class_stated};
+use crate::data::push_words;
+use crate::generic_line::{GenericLine, generic_line};
+use crate::unprinted::Unprinted;
+use hex::decode_to_slice;
+use std::alloc::{AllocError, Global};
+use zone_name::CasedName;
+use zone_words::Rewriter;
+
+/// A printer of lines in words. It keeps the room that it needs from line to line.
+#[derive(Drop)]
+pub(crate) struct LinePrinter {
+    alloc: Global,
+    /// Reads what is printed.
+    reader: Rewriter,
+    /// The octets of a record's data.
+    octets: Vec<u8>,
+    /// Their words, with the line feed after them.
+    words: Vec<u8>,
+    /// What is shown.
+    shown: Vec<u8>,
+    /// What it has to be rewritten as.
+    wanted: Vec<u8>,
+}
+
+/// Whether a text is rewritten under the root as another one, and nothing is told of it.
+fn is_rewritten(reader: &mut Rewriter, text: &[u8], wanted: &[u8]) -> Result<bool, AllocError>
+    ensures { result ≡ Ok true → IsRewriting [] text.now wanted.now [] }
+{
+    reader.restart(&CasedName::root());
+    reader.feed(text)?;
+    reader.finish()?;
+    Ok(reader.refusals().count == 0 && reader.written() == wanted)
+}
+
+/// Puts the record of a line in words after octets in place of what `shown` held.
+fn put_shown(
+    begin: &[u8],
+    found: &GenericLine,
+    words: &[u8],
+    shown: &mut Vec<u8>,
+) -> Result<(), AllocError>
+    ensures { OnOk result (shown.new.items ≡ begin.now ++ found.now.class.now
+        ++ found.now.further.now.mnemonic.now ++ words.now) }
+{
+    shown.clear();
+    shown.extend_from_slice(begin)?;
+    shown.extend_from_slice(found.class)?;
+    shown.extend_from_slice(found.further.mnemonic.as_bytes())?;
+    shown.extend_from_slice(words)
+}
+
+/// Puts the record of a line as it stands there after a blank in place of what `wanted` held.
+fn put_wanted(found: &GenericLine, wanted: &mut Vec<u8>) -> Result<(), AllocError>
+    ensures { OnOk result (wanted.new.items ≡ 32 ∷ found.now.class.now ++ found.now.word.now
+        ++ found.now.rest.now) }
+{
+    wanted.clear();
+    wanted.extend_from_slice(b" ")?;
+    wanted.extend_from_slice(found.class)?;
+    wanted.extend_from_slice(found.word)?;
+    wanted.extend_from_slice(found.rest)
+}
+
+impl LinePrinter {
+    /// A printer without any room yet.
+    pub(crate) fn new(alloc: Global) -> LinePrinter {
+        LinePrinter {
+            alloc,
+            reader: Rewriter::new(alloc, &CasedName::root()),
+            octets: Vec::new(alloc),
+            words: Vec::new(alloc),
+            shown: Vec::new(alloc),
+            wanted: Vec::new(alloc),
+        }
+    }
+
+    /// Puts the words of a line's data, and its line feed, in place of what `words` held. `false`:
+    /// its octets have no words.
+    fn find_words(&mut self, found: &GenericLine) -> Result<bool, AllocError> {
+        let digits = found.digits();
+        self.octets.resize(digits.len() / 2, 0)?;
+        if decode_to_slice(digits, self.octets.as_mut_slice()).is_err() {
+            return Ok(false);
+        }
+        self.words.clear();
+        match push_words(found.further.fields, &self.octets, &mut self.words) {
+            Ok(()) => {}
+            Err(Unprinted::NoData) => return Ok(false),
+            Err(Unprinted::OutOfMemory) => return Err(AllocError),
+        }
+        if found.is_ended() {
+            self.words.extend_from_slice(b"\n")?;
+        }
+        Ok(true)
+    }
+
+    /// Puts the line in words in place of what `shown` held. Whether that is one record that states
+    /// its class, and is rewritten as the line.
+    fn shows_whole(&mut self, line: &[u8], found: &GenericLine) -> Result<bool, AllocError>
+        requires { FoundIn line.now found.now }
+        ensures { result ≡ Ok true → IsShownLine line.now self.new.shown.items }
+    {
+        put_shown(found.ahead, found, &self.words, &mut self.shown)?;
+        if !is_rewritten(&mut self.reader, &self.shown, line)? {
+            return Ok(false);
+        }
+        match class_stated(self.alloc, &self.shown)? {
+            ClassStated::Yes => Ok(true),
+            ClassStated::No => Ok(false),
+            ClassStated::Untold => Ok(false),
+        }
+    }
+
+    /// Puts the line in words in place of what `shown` held. Whether the line isn't one record that
+    /// states its class, and its record by itself is rewritten as it stands there.
+    fn shows_after_others(&mut self, line: &[u8], found: &GenericLine) -> Result<bool, AllocError>
+        requires { FoundIn line.now found.now }
+        ensures { result ≡ Ok true → IsShownLine line.now self.new.shown.items }
+    {
+        let ClassStated::No = class_stated(self.alloc, line)? else {
+            return Ok(false);
+        };
+        put_wanted(found, &mut self.wanted)?;
+        put_shown(b" ", found, &self.words, &mut self.shown)?;
+        if !is_rewritten(&mut self.reader, &self.shown, &self.wanted)? {
+            return Ok(false);
+        }
+        put_shown(found.ahead, found, &self.words, &mut self.shown)?;
+        Ok(true)
+    }
+
+    /// Whether the line is shown in words, which come in place of what `shown` held.
+    fn shows(&mut self, line: &[u8]) -> Result<bool, AllocError>
+        ensures { result ≡ Ok true → IsShownLine line.now self.new.shown.items }
+    {
+        let Some(found) = generic_line(line) else {
+            return Ok(false);
+        };
+        if !self.find_words(&found)? {
+            return Ok(false);
+        }
+        if self.shows_whole(line, &found)? {
+            return Ok(true);
+        }
+        self.shows_after_others(line, &found)
+    }
+
+    /// Appends what is shown for a line.
+    ///
+    /// # Errors
+    ///
+    /// `AllocError`, and nothing is appended.
+    pub(crate) fn push_line(&mut self, line: &[u8], out: &mut Vec<u8>) -> Result<(), AllocError>
+        ensures shown { OnOk result
+            (AppendsStated (IsShownLine line.now) out.old.items out.new.items) }
+        ensures err { OnErr result (out.new.items ≡ out.old.items) }
+    {
+        if self.shows(line)? {
+            out.extend_from_slice(&self.shown)
+        } else {
+            out.extend_from_slice(line)
+        }
+    }
+}
+
+/// A line, with its line feed if it has one, or the line in words: where it ends with a class word,
+/// the word of a further type and the generic form, and where the words of that data, read again,
+/// are this form (RFC 3597 5). All before the type stays.
+///
+/// # Errors
+///
+/// `AllocError`.
+pub fn print_line(alloc: Global, line: &[u8]) -> Result<Vec<u8>, AllocError>
+    ensures { IfOk result (λ shown. IsShownLine line.now shown.items) }
+{
+    let mut shown = Vec::new(alloc);
+    LinePrinter::new(alloc).push_line(line, &mut shown)?;
+    Ok(shown)
+}

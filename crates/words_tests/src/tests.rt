@@ -1,0 +1,4 @@
+//! Master files that are written again, texts that are shown in words, and runs of the program.
+mod rewriting;
+mod words_runs;
+mod words_shown;

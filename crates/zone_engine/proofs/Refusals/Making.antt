@@ -1,0 +1,142 @@
+-- Records of which each may stand with all before it have one ascending list, and that is a zone's
+-- or lacks what a zone needs.
+use Rattle.zone_engine.proofs.Common.{◌≡◌, ◌≢◌, ◌⊎◌, ◌↔◌, ℕ, List, [], ◌∷◌, ◌++◌, length, Ordering, Less, Equal, Greater, refl, sym, ap, ◌∙◌, subst, inl, inr, ⊎_elim, append_assoc, append-nil, cases_eq, leb_tells, AllByRecursion, IsWithin, name_cmp, Record, IsRecord, data_of, Fault, NoSoa, OutOfZone, ZoneTooLarge, Place, Whole, Placed, Accepts, Adds, no_soa, outside, AllAccepted, records_of, Has, SameRecords, AreCompatible, Zone, IsZone, canon, text_limit, MakesZone, RefusesReading, refused, unread, unfinished, too_large, accepted_ttl, one_set, each_Has, each_from_Has, arith, Some, None, IsTotalOrder, ordering_reverse, Labels}
+use Rattle.zone_set.specs.Order.{canonical_cmp, Ascends}
+use Rattle.zone_engine.proofs.Refusals.Parting.{all_class, all_ttl, all_soa}
+use Rattle.zone_engine.proofs.Refusals.Deciding.{Settled, not_settled, is_within, some_or_none, one_or_all}
+
+-- ---- the ascending list
+
+-- one more record among those that ascend
+module _ (total : IsTotalOrder canonical_cmp) (r : Record) where
+  added : (held : List Record) → Ascends held → ((s : Record) → Has held s → canonical_cmp r s ≡ Equal → s ≡ r) → (new : List Record) × Adds held r new
+  added [] up exact = (r ∷ [], record { ascend = (tt, tt); same = λ s. (λ has. has, λ has. has) })
+  added (x ∷ held) up exact = by (canonical_cmp r x) refl (added held up.1 (λ s has. exact s (inr has)))
+    where
+      by : (o : Ordering) → canonical_cmp r x ≡ o → (new : List Record) × Adds held r new → (new : List Record) × Adds (x ∷ held) r new
+      by Less is more = (
+        r ∷ x ∷ held,
+        record {
+          ascend = ((is, each_from_Has (λ s. canonical_cmp r s ≡ Less) held (λ s has. total.trans r x s is (each_Has (λ t. canonical_cmp x t ≡ Less) held s up.0 has))), up);
+          same = λ s. (λ has. has, λ has. has);
+        },
+      )
+      by Equal is more = (
+        x ∷ held,
+        record { ascend = up; same = λ s. (λ has. inr has, ⊎_elim (λ e. inl (e ∙ sym (exact x (inl refl) is))) (λ has. has)) },
+      )
+      by Greater is (new, adds) =
+          let before : canonical_cmp x r ≡ Less = total.antisymm x r ∙ ap ordering_reverse is in (
+            x ∷ new,
+            record {
+              ascend = (
+                each_from_Has (λ s. canonical_cmp x s ≡ Less) new (λ s has. ⊎_elim (λ e. subst (λ t. canonical_cmp x t ≡ Less) (sym e) before) (λ old. each_Has (λ t. canonical_cmp x t ≡ Less) held s up.0 old) ((adds.same s).0 has)),
+                adds.ascend,
+              );
+              same = λ s. (
+                ⊎_elim (λ e. inr (inl e)) (λ has. ⊎_elim (λ e. inl e) (λ old. inr (inr old)) ((adds.same s).0 has)),
+                ⊎_elim (λ e. inr ((adds.same s).1 (inl e))) (⊎_elim (λ e. inl e) (λ old. inr ((adds.same s).1 (inr old)))),
+              );
+            },
+          )
+
+pub Has-push : (before : List Placed) (p : Placed) (s : Record) → Has (records_of (before ++ p ∷ [])) s ↔ ((s ≡ p.rr) ⊎ Has (records_of before) s)
+Has-push [] p s = (λ has. has, λ has. has)
+Has-push (q ∷ before) p s =
+    let more = Has-push before p s in (
+      ⊎_elim (λ e. inr (inl e)) (λ has. ⊎_elim (λ e. inl e) (λ old. inr (inr old)) (more.0 has)),
+      ⊎_elim (λ e. inr (more.1 (inl e))) (⊎_elim (λ e. inl e) (λ old. inr (more.1 (inr old)))),
+    )
+
+-- the order tells records apart but for their class and TTL
+abbrev pub TellsApart : Type 0
+TellsApart = (r s : Record) → canonical_cmp r s ≡ Equal → (r.owner ≡ s.owner) × (data_of r ≡ data_of s)
+
+module _ (total : IsTotalOrder canonical_cmp) (apart : TellsApart) (whole : List Placed) (all : AllAccepted whole) where
+  -- an accepted record that ties with one before it is that record
+  tied_is : (held : List Record) (r : Record) → Accepts held r → (s : Record) → Has held s → canonical_cmp r s ≡ Equal → s ≡ r
+  tied_is held r fits s has tied = grind (arith, accepted_ttl, one_set)
+
+  ascending : (before placed : List Placed) → whole ≡ before ++ placed → (now : List Record) → Ascends now → SameRecords now (records_of before) → (new : List Record) × Ascends new × SameRecords new (records_of whole)
+  ascending before [] parts now up same = (now, up, subst (λ ps. SameRecords now (records_of ps)) (sym (parts ∙ append-nil before)) same)
+  ascending before (p ∷ placed) parts now up same =
+      let fits = all before placed p parts in
+      let (next, adds) = added total p.rr now up (λ s has tied. tied_is (records_of before) p.rr fits s ((same s).0 has) tied) in
+      ascending (before ++ p ∷ []) placed (parts ∙ sym (append_assoc before (p ∷ []) placed)) next adds.ascend
+      (λ s. (
+        λ has. (Has-push before p s).1 (⊎_elim (λ e. inl e) (λ old. inr ((same s).0 old)) ((adds.same s).0 has)),
+        λ has. (adds.same s).1 (⊎_elim (λ e. inl e) (λ old. inr ((same s).1 old)) ((Has-push before p s).0 has)),
+      ))
+
+  one_list : (new : List Record) × Ascends new × SameRecords new (records_of whole)
+  one_list = ascending [] whole refl [] tt (λ s. (λ has. has, λ has. has))
+
+-- ---- the least owner outside
+
+-- no other owner of such a record goes before this one
+abbrev IsLeastOf : (Record → Type 0) → List Record → Record → Type 0
+IsLeastOf P held r = (s : Record) → Has held s → P s → s.owner ≢ r.owner → name_cmp r.owner s.owner ≡ Less
+
+abbrev LeastOf : (Record → Type 0) → List Record → Type 0
+LeastOf P held = ((r : Record) × Has held r × P r × IsLeastOf P held r) ⊎ ((r : Record) → Has held r → P r → ⊥)
+
+module _ (names : IsTotalOrder name_cmp) (names_exact : (a b : Labels) → name_cmp a b ≡ Equal → a ≡ b) (P : Record → Type 0) where
+  -- the lesser of two
+  lesser : (s : Record) (records : List Record) → P s → (r : Record) → Has records r → P r → IsLeastOf P records r → (o : Ordering) → name_cmp s.owner r.owner ≡ o → LeastOf P (s ∷ records)
+  lesser s records p_s r has p_r least o is = grind arith
+
+  with_one : (s : Record) (records : List Record) → Settled (P s) → LeastOf P records → LeastOf P (s ∷ records)
+  with_one s records (inl p_s) (inl (r, has, p_r, least)) = lesser s records p_s r has p_r least (name_cmp s.owner r.owner) refl
+  with_one s records (inl p_s) (inr none) = inl (s, inl refl, p_s, λ t has_t p_t other. ⊎_elim (λ e. absurd (other (ap (λ x. x.owner) e))) (λ more. absurd (none t more p_t)) has_t)
+  with_one s records (inr not_s) (inl (r, has, p_r, least)) = inl (r, inr has, p_r, λ t has_t p_t other. ⊎_elim (λ e. absurd (not_s (subst P e p_t))) (λ more. least t more p_t other) has_t)
+  with_one s records (inr not_s) (inr none) = inr (λ r has p. ⊎_elim (λ e. not_s (subst P e p)) (λ more. none r more p) has)
+
+  least_of : ((r : Record) → Settled (P r)) → (records : List Record) → LeastOf P records
+  least_of test [] = inr (λ r has p. has)
+  least_of test (s ∷ records) = with_one s records (test s) (least_of test records)
+
+-- ---- a zone, or why there is none
+
+module _ (names : IsTotalOrder name_cmp) (names_exact : (a b : Labels) → name_cmp a b ≡ Equal → a ≡ b) (total : IsTotalOrder canonical_cmp) (apart : TellsApart) (placed : List Placed) (each : AllByRecursion IsRecord (records_of placed)) where
+  abbrev Outcome : Type 0
+  Outcome = ((f : Fault) × (at : Place) × RefusesReading placed None f at) ⊎ ((z : Zone) × MakesZone placed z)
+
+  module _ (all : AllAccepted placed) where
+    inside : (soa : Record) → Has (records_of placed) soa → soa.kind ≡ 6 → AllByRecursion (λ r. IsWithin r.owner soa.owner) (records_of placed) → Outcome
+    inside soa has is_soa within =
+        let (records, up, same) = one_list total apart placed all in
+        let z : Zone = record { apex = soa.owner; class = soa.class; records = records } in
+        let compatible : AreCompatible records = record {
+          each = each_from_Has IsRecord records (λ r is. each_Has IsRecord (records_of placed) r each ((same r).0 is));
+          ascend = up;
+          one_class = λ r s has_r has_s. all_class placed all r s ((same r).0 has_r) ((same s).0 has_s);
+          one_ttl = λ r s has_r has_s. all_ttl placed all r s ((same r).0 has_r) ((same s).0 has_s);
+          one_soa = λ r s has_r has_s. all_soa placed all r s ((same r).0 has_r) ((same s).0 has_s);
+        } in
+        let zone : IsZone z = record {
+          compatible = compatible;
+          class = each_from_Has (λ r. r.class ≡ soa.class) records (λ r is. all_class placed all r soa ((same r).0 is) has);
+          soa = (soa, (same soa).1 has, is_soa, refl);
+          within = each_from_Has (λ r. IsWithin r.owner soa.owner) records (λ r is. each_Has (λ t. IsWithin t.owner soa.owner) (records_of placed) r within ((same r).0 is));
+        } in
+        ⊎_elim (λ short. inr (z, record { zone = zone; same = same; text_short = short.1 })) (λ long. inl (ZoneTooLarge, Whole, too_large z refl zone same long.1))
+        (leb_tells (length (canon z)) text_limit)
+
+    accepted : Outcome
+    accepted =
+        ⊎_elim (λ (soa, has, is_soa).
+        ⊎_elim (λ (r, has_r, out, least). inl (OutOfZone r.owner, Whole, unfinished (OutOfZone r.owner) Whole all refl (outside r.owner (record { soa = soa; held_soa = (has, is_soa); held_owner = (r, has_r, refl); outside = out; least = least }))))
+        (λ none. inside soa has is_soa (each_from_Has (λ r. IsWithin r.owner soa.owner) (records_of placed) (λ r has_r. ⊎_elim (λ within. within) (λ out. absurd (none r has_r out)) (is_within r.owner soa.owner))))
+        (least_of names names_exact (λ r. IsWithin r.owner soa.owner → ⊥) (λ r. not_settled (is_within r.owner soa.owner)) (records_of placed)))
+        (λ none. inl (NoSoa, Whole, unfinished NoSoa Whole all refl (no_soa none)))
+        (some_or_none (λ r. r.kind ≡ 6) (λ r. cases_eq r.kind 6) (records_of placed))
+
+  whole_reading : Outcome
+  whole_reading = ⊎_elim (λ (f, at, is). inl (f, at, refused f at is)) accepted (one_or_all placed)
+
+pub every_whole_reading : IsTotalOrder name_cmp → ((a b : Labels) → name_cmp a b ≡ Equal → a ≡ b) → IsTotalOrder canonical_cmp → TellsApart → (placed : List Placed) → AllByRecursion IsRecord (records_of placed)
+    → ((f : Fault) × (at : Place) × RefusesReading placed None f at) ⊎ ((z : Zone) × MakesZone placed z)
+every_whole_reading names names_exact total apart placed each = whole_reading names names_exact total apart placed each
+
+pub every_broken_reading : (placed : List Placed) (ending : Fault × Place) → (f : Fault) × (at : Place) × RefusesReading placed (Some ending) f at
+every_broken_reading placed (g, there) = ⊎_elim (λ (f, at, is). (f, at, refused f at is)) (λ all. (g, there, unread g there all refl)) (one_or_all placed)

@@ -1,0 +1,131 @@
+-- Lanes that are computed one by one from octets, and what their masks tell of the octets.
+use Rattle.std.proofs.Common.{◌≡◌, ℕ, ◌+◌, ◌*◌, ◌%◌, ◌^◌, ◌<◌, ◌≤◌, eqb, Bool, true, false, cond, not, ◌&&◌, List, [], ◌∷◌, map, length, take, drop, Fits, w8, refl, sym, ap, ap₂, ◌∙◌, arith, length-drop, take-add, drop-drop, take_at, length-append, ◌++◌}
+use Rattle.std.proofs.lemmas.Bool.{agree_below, agree_below_at, eqb-true, false≢true}
+use Rattle.std.proofs.lemmas.List.{drop_at, length-map, length-take-le, map-append, take-map, take-take}
+use Rattle.std.proofs.lemmas.Simd.{leading_from_mask_l, length-put_chunk, mask_l-mod, put_chunk_is, trailing_mask_l}
+use Rattle.std.specs.List.{list_all, prefix_len}
+use Rattle.zone_name.proofs.Common.{append_assoc}
+use lib.Count.{count_trailing_zeros}
+use lib.Lanes.{Each1, chunk, mask_l, put_chunk, sel_l, top}
+
+-- ---- lanes that were computed by a function of each octet
+
+pub itself : (v : List ℕ) → v ≡ map (λ x. x) v
+itself [] = refl
+itself (x ∷ v) = ap (λ t. x ∷ t) (itself v)
+
+-- one lane or the other, by a test of each octet
+pub chosen : (p : ℕ → Bool) (f g : ℕ → ℕ) (v : List ℕ) {tests : List Bool} {xs ys : List ℕ}
+    → tests ≡ map p v → xs ≡ map f v → ys ≡ map g v
+    → sel_l tests xs ys ≡ map (λ x. cond (p x) (f x) (g x)) v
+chosen p f g v {tests} {xs} {ys} e a b = rw (e, a, b) (by v)
+  where
+    by : (v : List ℕ) → sel_l (map p v) (map f v) (map g v) ≡ map (λ x. cond (p x) (f x) (g x)) v
+    by [] = refl
+    by (x ∷ v) = ap (λ t. cond (p x) (f x) (g x) ∷ t) (by v)
+
+-- two functions that agree on each octet, which is tried
+pub same_lanes : (f g : ℕ → ℕ) (v : List ℕ) → Each1 (Fits w8) v
+    → agree_below (λ x. eqb (f x) (g x)) (λ _. true) 256 ≡ true → map f v ≡ map g v
+same_lanes f g [] fits all = refl
+same_lanes f g (x ∷ v) fits all =
+    ap₂ (λ (a : ℕ) (t : List ℕ). a ∷ t)
+    (eqb-true (f x) (g x) (agree_below_at (λ y. eqb (f y) (g y)) (λ _. true) 256 x all fits.0.fits))
+    (same_lanes f g v fits.1 all)
+
+-- ---- masks: the bits of lanes, z, that were computed by f from the octets v, are a test of each
+-- octet, which is tried for all of them
+
+pub told : (f : ℕ → ℕ) (p : ℕ → Bool) (v : List ℕ) → Each1 (Fits w8) v
+    → agree_below (λ x. top 7 (f x)) p 256 ≡ true → map (top 7) (map f v) ≡ map p v
+told f p [] fits all = refl
+told f p (x ∷ v) fits all =
+    ap₂ (λ (a : Bool) (t : List Bool). a ∷ t)
+    (agree_below_at (λ y. top 7 (f y)) p 256 x all fits.0.fits) (told f p v fits.1 all)
+
+module _ (p : ℕ → Bool) (v : List ℕ) (short : length v ≤ 64) (fits : Each1 (Fits w8) v)
+    (z : List ℕ) (f : ℕ → ℕ) (lanes : z ≡ map f v)
+    (all : agree_below (λ x. top 7 (f x)) p 256 ≡ true) where
+  pub mask_is : mask_l (map (top 7) z) % 2 ^ 64 ≡ mask_l (map p v)
+  mask_is =
+      ap (λ l. mask_l l % 2 ^ 64) (ap (map (top 7)) lanes ∙ told f p v fits all)
+      ∙ mask_l-mod (map p v) 64 (omega (arith, short, length-map v p))
+
+  -- no octet passes the test, or the lowest bit tells how many come before the first that does
+  pub before_none : mask_l (map (top 7) z) % 2 ^ 64 ≡ 0 → length v ≡ prefix_len (λ x. not (p x)) v
+  before_none none = sym (leading_from_mask_l p v (sym mask_is ∙ none))
+
+  pub before_first : (mask_l (map (top 7) z) % 2 ^ 64 ≡ 0 → ⊥)
+      → count_trailing_zeros 64 (mask_l (map (top 7) z) % 2 ^ 64) ≡ prefix_len (λ x. not (p x)) v
+  before_first some =
+      let positive : 0 < mask_l (map p v) = pos (mask_l (map p v)) (λ e. some (mask_is ∙ e)) in
+      ap (count_trailing_zeros 64) mask_is ∙ trailing_mask_l p 64 v short positive
+    where
+      pos : (n : ℕ) → (n ≡ 0 → ⊥) → 0 < n
+      pos n h = grind arith
+
+-- ---- where no octet fails a test, the mask of those that fail is empty, and the other way round
+
+all_step : (b : Bool) (mask : ℕ) (rest : Bool) → (mask ≡ 0 → rest ≡ true)
+    → cond (not b) 1 0 + 2 * mask ≡ 0 → (b && rest) ≡ true
+all_step true mask rest go e = go (omega (arith, e))
+all_step false mask rest go e = absurd (omega (arith, e))
+
+pub all_pass : (q : ℕ → Bool) (v : List ℕ) → mask_l (map (λ x. not (q x)) v) ≡ 0 → list_all q v ≡ true
+all_pass q [] e = refl
+all_pass q (x ∷ v) e = all_step (q x) (mask_l (map (λ y. not (q y)) v)) (list_all q v) (all_pass q v) e
+
+none_step : (b : Bool) (mask : ℕ) (rest : Bool) → (rest ≡ true → mask ≡ 0) → (b && rest) ≡ true
+    → cond (not b) 1 0 + 2 * mask ≡ 0
+none_step true mask rest go e = let none : mask ≡ 0 = go e in omega (arith, none)
+none_step false mask rest go e = absurd (false≢true e)
+
+pub none_fail : (q : ℕ → Bool) (v : List ℕ) → list_all q v ≡ true → mask_l (map (λ x. not (q x)) v) ≡ 0
+none_fail q [] e = refl
+none_fail q (x ∷ v) e =
+    none_step (q x) (mask_l (map (λ y. not (q y)) v)) (list_all q v) (none_fail q v) e
+
+pub some_fail : (q : ℕ → Bool) (v : List ℕ) → (mask_l (map (λ x. not (q x)) v) ≡ 0 → ⊥)
+    → list_all q v ≡ false
+some_fail q v some = by (list_all q v) refl
+  where
+    by : (b : Bool) → list_all q v ≡ b → list_all q v ≡ false
+    by true e = absurd (some (none_fail q v e))
+    by false e = e
+
+-- ---- a walk that changes the octets at the front, some at a time
+
+pub record Mapped (f : ℕ → ℕ) (old now : List ℕ) (at : ℕ) : Type 0 where
+  pub front : take at now ≡ map f (take at old)
+  pub back : drop at now ≡ drop at old
+  pub same : length now ≡ length old
+
+pub mapped_start : (f : ℕ → ℕ) (old : List ℕ) → Mapped f old old 0
+mapped_start f old = record { front = refl; back = refl; same = refl }
+
+pub mapped_more : (f : ℕ → ℕ) (old now next : List ℕ) (at n : ℕ) → Mapped f old now at
+    → at + n ≤ length now → next ≡ put_chunk at now (map f (chunk at n now)) → Mapped f old next (at + n)
+mapped_more f old now next at n walk room is =
+    let part = map f (chunk at n now) in
+    let long : length part ≡ n =
+    length-map (chunk at n now) f ∙ length-take-le n (drop at now) (omega (arith, room, length-drop at now)) in
+    let put : next ≡ take at now ++ (part ++ drop (length part) (drop at now)) =
+    is ∙ put_chunk_is at now part (omega (arith, room, long)) in
+    let whole : next ≡ (take at now ++ part) ++ drop n (drop at now) =
+    put ∙ rw long (sym (append_assoc (take at now) part (drop n (drop at now)))) in
+    let count : length (take at now ++ part) ≡ at + n =
+    omega (arith, long, room, length-append (take at now) part, length-take-le at now (omega (arith, room))) in
+    record {
+      front = ap (take (at + n)) whole ∙ take_at (take at now ++ part) (drop n (drop at now)) (at + n) count
+          ∙ ap₂ (λ (s t : List ℕ). s ++ t) walk.front (ap (λ t. map f (take n t)) walk.back)
+          ∙ sym (map-append f (take at old) (take n (drop at old))) ∙ ap (map f) (sym (take-add at n old));
+      back = ap (drop (at + n)) whole ∙ drop_at (take at now ++ part) (drop n (drop at now)) (at + n) count
+          ∙ ap (drop n) walk.back ∙ drop-drop n at old;
+      same = ap length is ∙ length-put_chunk at now part ∙ walk.same;
+    }
+
+pub mapped_front : (f : ℕ → ℕ) (old now : List ℕ) (at len : ℕ) → Mapped f old now at → len ≤ at
+    → take len now ≡ map f (take len old)
+mapped_front f old now at len walk le =
+    sym (take-take len at now le) ∙ ap (take len) walk.front ∙ take-map f len (take at old)
+    ∙ ap (map f) (take-take len at old le)

@@ -1,0 +1,82 @@
+//! What is seen of octets, and done to them, 16 at a time.
+ghost use Rattle.std.specs.Prelude.{◌≡◌, ◌+◌, ◌≤◌, false, true, length, map, IfSome, IfNone};
+ghost use Rattle.std.specs.List.{count_by, list_all, prefix_len};
+ghost use Rattle.std.specs.Simd.Lanes.{chunk, put_chunk};
+ghost use Rattle.zone_name.specs.Machine.Shown.{is_bare};
+ghost use Rattle.zone_name.specs.Machine.Plain.{is_plain};
+ghost use Rattle.zone_name.specs.Name.{folded_octet};
+ghost use Rattle.zone_name.specs.Spelling.{is_dot};
+
+use std::simd::prelude::*;
+
+/// How many octets are looked at at a time.
+pub(crate) const LANES: usize = 16;
+
+/// The room that most names are read and printed in, with 16 octets after them that may be looked
+/// at.
+pub(crate) const ROOM: usize = 128;
+
+/// Writes octets into the room for them, from a place on.
+#[inline(always)]
+pub(crate) fn put(room: &mut [u8], at: usize, octets: &[u8])
+    requires { at + length octets.now ≤ length room.old }
+    ensures { room.new ≡ put_chunk at room.old octets.now }
+{
+    room[at..at + octets.len()].copy_from_slice(octets);
+}
+
+/// How many of the 16 octets at a place stand before the first dot or backslash.
+#[inline(always)]
+pub(crate) fn plain_run(octets: &[u8], at: usize) -> usize
+    requires { at + LANES ≤ length octets.now }
+    ensures { result ≡ prefix_len is_plain (chunk at LANES octets.now) }
+{
+    let lanes = u8x16::from_slice(&octets[at..]);
+    let marks = lanes.simd_eq(u8x16::splat(b'.')) | lanes.simd_eq(u8x16::splat(b'\\'));
+    let mask = marks.to_bitmask();
+    if mask == 0 {
+        LANES
+    } else {
+        mask.trailing_zeros() as usize
+    }
+}
+
+/// Puts the letters of the 16 octets at a place in lower case (RFC 4343 3).
+#[inline(always)]
+pub(crate) fn fold_lanes(octets: &mut [u8], at: usize)
+    requires { at + LANES ≤ length octets.old }
+    ensures { octets.new
+        ≡ put_chunk at octets.old (map folded_octet (chunk at LANES octets.old)) }
+{
+    let lanes = u8x16::from_slice(&octets[at..]);
+    let capitals = lanes.simd_ge(u8x16::splat(b'A')) & lanes.simd_le(u8x16::splat(b'Z'));
+    let bits = capitals.select(u8x16::splat(0x20), u8x16::splat(0));
+    (lanes | bits).copy_to_slice(&mut octets[at..]);
+}
+
+/// How many of the 16 octets at a place are dots, where each of the others spells itself.
+#[inline(always)]
+pub(crate) fn dots_in(octets: &[u8], at: usize) -> Option<usize>
+    requires { at + LANES ≤ length octets.now }
+    ensures some { IfSome result (λ dots.
+        (list_all is_bare (chunk at LANES octets.now) ≡ true)
+        × (dots ≡ count_by is_dot (chunk at LANES octets.now))) }
+    ensures none { IfNone result
+        (list_all is_bare (chunk at LANES octets.now) ≡ false) }
+{
+    let lanes = u8x16::from_slice(&octets[at..]);
+    // The two parentheses differ in the lowest bit alone.
+    let odd = lanes.simd_lt(u8x16::splat(b'!'))
+        | lanes.simd_gt(u8x16::splat(b'~'))
+        | (lanes | u8x16::splat(1)).simd_eq(u8x16::splat(b')'))
+        | lanes.simd_eq(u8x16::splat(b'"'))
+        | lanes.simd_eq(u8x16::splat(b'$'))
+        | lanes.simd_eq(u8x16::splat(b';'))
+        | lanes.simd_eq(u8x16::splat(b'@'))
+        | lanes.simd_eq(u8x16::splat(b'\\'));
+    if odd.to_bitmask() != 0 {
+        return None;
+    }
+    let dots = lanes.simd_eq(u8x16::splat(b'.'));
+    Some(dots.to_bitmask().count_ones() as usize)
+}

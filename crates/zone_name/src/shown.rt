@@ -1,0 +1,65 @@
+//! The spelling of names whose octets all spell themselves, as most do.
+ghost use Rattle.std.specs.Prelude.{◌≡◌, ◌+◌, ◌≤◌, ◌<◌, ◌++◌, ◌∷◌, ℕ, true, drop, length, take, IfSome, IsTrue};
+ghost use Rattle.std.specs.List.{count_by, flat_map, list_all};
+ghost use Rattle.zone_name.specs.Machine.Shown.{is_bare};
+ghost use Rattle.zone_name.specs.Name.{BeginsWithName, HoldsName, labels_of, wire};
+ghost use Rattle.zone_name.specs.Spelling.{is_dot};
+ghost use Rattle.zone_name.specs.Text.{name_text};
+
+use crate::lanes::{LANES, dots_in, put};
+
+/// Writes a dot and the spelling of a name that isn't the root over the first octets, and tells
+/// whether each octet of its labels spells itself. If not, the octets say nothing.
+// Not inlined: `print` is made anew for each kind of sink, and this is the same for all.
+#[inline(never)]
+pub(crate) fn spell_shown(room: &mut [u8], name: &[u8]) -> bool
+    requires name { HoldsName name.now }
+    requires some { 1 < length name.now }
+    requires room { length name.now + LANES ≤ length room.old }
+    ensures { IsTrue result
+        → take (length name.now) room.new ≡ 46 ∷ name_text (labels_of name.now) }
+{
+    put(room, 0, name);
+    let labels = write_dots(room);
+    match count_dots(room, name.len()) {
+        Some(dots) => dots == labels + 1,
+        None => false,
+    }
+}
+
+/// Writes a dot over the length of each label of the name that the octets begin with and over its
+/// root, and returns how many labels it has.
+fn write_dots(octets: &mut [u8]) -> usize
+    requires { BeginsWithName octets.old }
+    ensures dots { octets.new ≡ flat_map (λ label. 46 ∷ label) (labels_of octets.old)
+        ++ 46 ∷ drop (length (wire (labels_of octets.old))) octets.old }
+    ensures labels { result ≡ length (labels_of octets.old) }
+{
+    let mut at = 0;
+    let mut labels = 0;
+    while octets[at] != 0 {
+        let len = octets[at] as usize;
+        octets[at] = b'.';
+        at += len + 1;
+        labels += 1;
+    }
+    octets[at] = b'.';
+    labels
+}
+
+/// How many dots are among the first octets, where each of the others spells itself. Up to 15
+/// octets after them are looked at too.
+fn count_dots(octets: &[u8], len: usize) -> Option<usize>
+    requires { len + LANES ≤ length octets.now }
+    ensures { IfSome result (λ dots. (seen : ℕ) × (len ≤ seen) × (seen < len + LANES)
+        × (list_all is_bare (take seen octets.now) ≡ true)
+        × (dots ≡ count_by is_dot (take seen octets.now))) }
+{
+    let mut at = 0;
+    let mut dots = 0;
+    while at < len {
+        dots += dots_in(octets, at)?;
+        at += LANES;
+    }
+    Some(dots)
+}

@@ -1,0 +1,53 @@
+-- Entries that are looked at run after run, each run as soon as it is sorted.
+use Rattle.zone_set.proofs.Common.{◌≡◌, ℕ, ◌+◌, ◌-◌, ◌≤◌, zero, suc, List, [], ◌∷◌, ◌++◌, length, map, take, drop, refl, sym, ap, ◌∙◌, subst, arith, append-nil, length-drop, length-take-le, AllByRecursion, Entry, Record}
+use Rattle.std.proofs.Math.Seq.{take-length}
+use Rattle.std.proofs.lemmas.List.{take-append-drop}
+use Rattle.zone_set.specs.Machine.Bulk.{AreNeighbours}
+
+pub each_drop : {X : Type 0} (P : X → Type 0) (n : ℕ) (xs : List X) → AllByRecursion P xs → AllByRecursion P (drop n xs)
+each_drop P zero xs each = each
+each_drop P (suc n) [] each = tt
+each_drop P (suc n) (x ∷ xs) each = each_drop P n xs each.1
+
+pub each_take : {X : Type 0} (P : X → Type 0) (n : ℕ) (xs : List X) → AllByRecursion P xs → AllByRecursion P (take n xs)
+each_take P zero xs each = tt
+each_take P (suc n) [] each = tt
+each_take P (suc n) (x ∷ xs) each = (each.0, each_take P n xs each.1)
+
+pub take_front : {X : Type 0} (n m : ℕ) (xs : List X) → n ≤ m → take n (take m xs) ≡ take n xs
+take_front zero m xs low = refl
+take_front (suc n) zero xs low = absurd (omega (arith, low))
+take_front (suc n) (suc m) [] low = refl
+take_front (suc n) (suc m) (x ∷ xs) low = ap (λ l. x ∷ l) (take_front n m xs (omega (arith, low)))
+
+-- a place before the end of a front is within it
+pub within_front : {X : Type 0} (start len n : ℕ) (xs : List X) → n ≡ start + len → start + len ≤ length xs → start ≤ length (take n xs)
+within_front start len n xs is within =
+    let whole : length (take n xs) ≡ n = length-take-le n xs (omega (arith, is, within)) in
+    omega (arith, whole, is)
+
+-- all from a place on
+pub take_rest : {X : Type 0} (k : ℕ) (xs : List X) → take (length xs - k) (drop k xs) ≡ drop k xs
+take_rest k xs = ap (λ n. take n (drop k xs)) (sym (length-drop k xs)) ∙ take-length (drop k xs)
+
+-- where none is left, all came
+pub take_whole : {X : Type 0} (k : ℕ) (xs : List X) → take (length xs - k) (drop k xs) ≡ [] → take k xs ≡ xs
+take_whole k xs none =
+    let nothing : drop k xs ≡ [] = sym (take_rest k xs) ∙ none in
+    sym (append-nil (take k xs)) ∙ ap (λ l. take k xs ++ l) (sym nothing) ∙ take-append-drop k xs
+
+module _ (f : Entry → Record) where
+  joined : (n : ℕ) (es : List Entry) → AreNeighbours (map f (take (suc n) es)) → AreNeighbours (map f (drop n es)) → AreNeighbours (map f es)
+  joined zero es before after = after
+  joined (suc n) [] before after = tt
+  joined (suc n) (d ∷ []) before after = tt
+  joined (suc n) (d ∷ (e ∷ es)) before after = (before.0, joined n (e ∷ es) before.1 after)
+
+  -- those before a place and those from the last of these on
+  pub AreNeighbours-joined : (n k : ℕ) (es : List Entry) → k ≡ n - 1 → AreNeighbours (map f (take n es)) → AreNeighbours (map f (drop k es)) → AreNeighbours (map f es)
+  AreNeighbours-joined zero k es is before after =
+      let none : k ≡ 0 = omega (arith, is) in
+      subst (λ j. AreNeighbours (map f (drop j es))) none after
+  AreNeighbours-joined (suc n) k es is before after =
+      let one : k ≡ n = omega (arith, is) in
+      joined n es before (subst (λ j. AreNeighbours (map f (drop j es))) one after)

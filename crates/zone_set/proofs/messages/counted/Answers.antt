@@ -1,0 +1,14 @@
+use Rattle.std.proofs.Common.{◌≡◌, ◌+◌, ◌-◌, ◌^◌, ◌≤◌, ℕ, [], min, arith, subst}
+use Rattle.std.proofs.lemmas.List.{nil_from_length}
+use Rattle.zone_set.specs.Machine.Held.{all_records}
+use Rattle.zone_set.specs.Message.{message_octets}
+use Rattle.zone_set.proofs.messages.counted.Goals as goal
+
+at_end : (n sum : ℕ) → n ≤ 2 ^ 64 - 1 → min (n + 0) (2 ^ 64 - 1) ≡ min sum (2 ^ 64 - 1) → n ≡ min sum (2 ^ 64 - 1)
+at_end n sum most is = omega (arith, most, is)
+
+pub returns : goal.returns
+returns g c =
+    let left : c.loop-entry.left.now ≡ [] = nil_from_length c.loop-entry.left.now c.in_default.ensures.cases in
+    at_end c.loop-entry.message_len (message_octets (all_records c.args.class c.args.octets.now c.args.entries.now)) c.loop-entry.invariant.1
+    (subst (λ l. min (c.loop-entry.message_len + message_octets (all_records c.args.class c.args.octets.now l)) (2 ^ 64 - 1) ≡ min (message_octets (all_records c.args.class c.args.octets.now c.args.entries.now)) (2 ^ 64 - 1)) left c.loop-entry.invariant.2)

@@ -1,0 +1,15 @@
+use Rattle.std.proofs.Common.{◌≡◌, ◌+◌, ◌-◌, ◌^◌, ◌≤◌, length, min}
+use Rattle.std.specs.List.{AllByRecursion}
+use Rattle.zone_set.specs.Machine.Held.{all_records, IsEntry}
+use Rattle.zone_set.specs.Message.{message_octets}
+use Rattle.zone_set.proofs.messages.counted.Given as goal
+
+-- what was counted and what the entries that are left count are the whole
+abbrev pub invariant-loop-entry : goal.invariant-loop-entry
+invariant-loop-entry g l =
+    AllByRecursion (IsEntry g.base l.class l.octets) l.left
+    × (l.message_len ≤ 2 ^ 64 - 1)
+    × (min (l.message_len + message_octets (all_records l.class l.octets l.left)) (2 ^ 64 - 1) ≡ min (message_octets (all_records l.class l.octets l.fn.entries)) (2 ^ 64 - 1))
+
+abbrev pub decreases-loop-entry : goal.decreases-loop-entry
+decreases-loop-entry g l = length l.left

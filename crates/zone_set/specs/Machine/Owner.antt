@@ -1,0 +1,17 @@
+-- The first label of an owner, as its octets begin with it.
+use Rattle.std.specs.Prelude.{◌≡◌, ℕ, ◌<◌, List, ◌∷◌, take, drop}
+
+-- octets begin with a label after its length, and these follow it
+pub record IsFirst (octets label rest : List ℕ) : Type 0 where
+  pub len : ℕ
+  pub after : List ℕ
+  pub is : octets ≡ len ∷ after
+  pub some : 0 < len
+  pub first : label ≡ take len after
+  pub follows : rest ≡ drop len after
+
+-- so do both, and the same octets follow the labels
+pub record AreFirst (a b label other : List ℕ) : Type 0 where
+  pub rest : List ℕ
+  pub first : IsFirst a label rest
+  pub second : IsFirst b other rest

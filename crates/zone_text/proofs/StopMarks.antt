@@ -1,0 +1,263 @@
+-- Where bare items stop, as the bits of 64 octets tell it.
+use Rattle.std.proofs.Common.{Fits, ap₂, bit_and, bit_or, eqb, eq-eqb, w8, ◌*◌, ◌/◌, ◌%◌}
+use Rattle.std.proofs.lemmas.Bool.{agree_below}
+use Rattle.std.proofs.lemmas.List.{drop-take, ext_get_or, get_or-map}
+use Rattle.std.proofs.lemmas.List.Folds.{prefix_len-append}
+use Rattle.std.proofs.lemmas.List.Sums.{prefix_len-le-length}
+use Rattle.std.proofs.lemmas.Nat.{and_le_r, shr-shr}
+use Rattle.std.proofs.lemmas.Simd.{Each1-all, Each1-zip2, Each2-splat, SwzOk, SwzOk-from_below, chunk-fits, get_or-swz_l_below, leading_from_mask_l, length-swz_l, length-zip2, map-map, mask_l-mod, swz_l, trailing_mask_l, zip2_of_maps, zip2_splat}
+use Rattle.std.specs.Int.Count.{count_trailing_zeros}
+use Rattle.std.specs.List.{prefix_len}
+use Rattle.std.specs.Prelude.{not}
+use Rattle.std.specs.Simd.Lanes.{mask_l}
+use lib.Lanes.{Each1, top, zip2}
+use lib.ListN.{replicate}
+use Rattle.zone_text.proofs.Common.{All, AllByRecursion, Bool, EndsAt, List, [], agree_below_at, and_parts, ap, arith, cases_lt, cond, drop, drop-drop, drop-map, eqb-true, false, get_or, inl, inr, length, length-drop, length-map, length-take, map, min, ne_eqb, recursion_from_All, refl, stops_bare, subst, suc, sym, take, take-append-drop, true, zero, ℕ, ◌&&◌, ◌⊎◌, ◌++◌, ◌+◌, ◌-◌, ◌<◌, ◌==◌, ◌^◌, ◌∙◌, ◌∷◌, ◌≡◌, ◌≢◌, ◌≤◌}
+use Rattle.zone_text.specs.Machine.Stops.{Tells}
+use Rattle.zone_text.specs.declared.stops.Stops.{Stops}
+
+abbrev pub goes_on : ℕ → Bool
+goes_on c = not (stops_bare c)
+
+-- ---- bits of octets
+
+half : (b : Bool) (n : ℕ) → (cond b 1 0 + 2 * n) / 2 ≡ n
+half true n = omega arith
+half false n = omega arith
+
+-- without the lowest k
+bits_after : (k : ℕ) (ms : List Bool) → mask_l ms / 2 ^ k ≡ mask_l (drop k ms)
+bits_after zero ms = omega arith
+bits_after (suc k) [] = omega arith
+bits_after (suc k) (b ∷ ms) =
+    let one_more : suc k ≡ 1 + k = omega arith in
+    ap (λ j. mask_l (b ∷ ms) / 2 ^ j) one_more ∙ sym (shr-shr (mask_l (b ∷ ms)) 1 k) ∙ ap (λ n. n / 2 ^ k) (half b (mask_l ms)) ∙ bits_after k ms
+
+-- by the first octet
+prefix_step : (x : ℕ) (xs : List ℕ) → ((stops_bare x ≡ true) × (prefix_len goes_on (x ∷ xs) ≡ 0)) ⊎ ((stops_bare x ≡ false) × (prefix_len goes_on (x ∷ xs) ≡ suc (prefix_len goes_on xs)))
+prefix_step x xs = by (stops_bare x) refl
+  where
+    by : (b : Bool) → stops_bare x ≡ b → ((stops_bare x ≡ true) × (prefix_len goes_on (x ∷ xs) ≡ 0)) ⊎ ((stops_bare x ≡ false) × (prefix_len goes_on (x ∷ xs) ≡ suc (prefix_len goes_on xs)))
+    by true e = inl (e, ap (λ (b : Bool). cond (not b) (1 + prefix_len goes_on xs) 0) e)
+    by false e =
+        let one_more : 1 + prefix_len goes_on xs ≡ suc (prefix_len goes_on xs) = omega arith in
+        inr (e, ap (λ (b : Bool). cond (not b) (1 + prefix_len goes_on xs) 0) e ∙ one_more)
+
+-- where no octet stops the item, no bit is set
+no_bits : (xs : List ℕ) → prefix_len goes_on xs ≡ length xs → mask_l (map stops_bare xs) ≡ 0
+no_bits [] all = refl
+no_bits (x ∷ xs) all = elim (prefix_step x xs) [
+  | inl stop ↦ absurd (omega (arith, all, stop.1))
+  | inr on ↦
+      let more : mask_l (map stops_bare xs) ≡ 0 = no_bits xs (omega (arith, all, on.1)) in
+      ap (λ (b : Bool). cond b 1 0 + 2 * mask_l (map stops_bare xs)) on.0 ∙ omega (arith, more)
+]
+
+pub prefix_each : (xs : List ℕ) → AllByRecursion (λ c. stops_bare c ≡ false) (take (prefix_len goes_on xs) xs)
+prefix_each [] = tt
+prefix_each (x ∷ xs) = elim (prefix_step x xs) [
+  | inl stop ↦ subst (λ k. AllByRecursion (λ c. stops_bare c ≡ false) (take k (x ∷ xs))) (sym stop.1) tt
+  | inr on ↦ subst (λ k. AllByRecursion (λ c. stops_bare c ≡ false) (take k (x ∷ xs))) (sym on.1) (on.0, prefix_each xs)
+]
+
+pub prefix_ends : (xs : List ℕ) → EndsAt stops_bare (drop (prefix_len goes_on xs) xs)
+prefix_ends [] = tt
+prefix_ends (x ∷ xs) = elim (prefix_step x xs) [
+  | inl stop ↦ subst (λ k. EndsAt stops_bare (drop k (x ∷ xs))) (sym stop.1) stop.0
+  | inr on ↦ subst (λ k. EndsAt stops_bare (drop k (x ∷ xs))) (sym on.1) (prefix_ends xs)
+]
+
+-- a prefix that ends before the end of the first of two lists, or that goes on past it
+ends_inside : (xs ys : List ℕ) → prefix_len goes_on xs < length xs → prefix_len goes_on (xs ++ ys) ≡ prefix_len goes_on xs
+ends_inside xs ys less = prefix_len-append goes_on xs ys ∙ ap (λ (b : Bool). cond b (length xs + prefix_len goes_on ys) (prefix_len goes_on xs)) (other (prefix_len goes_on xs) (length xs) less)
+  where
+    other : (m n : ℕ) → m < n → eqb m n ≡ false
+    other m n less = ne_eqb m n (λ e. omega arith)
+
+goes_past : (xs ys : List ℕ) → prefix_len goes_on xs ≡ length xs → prefix_len goes_on (xs ++ ys) ≡ length xs + prefix_len goes_on ys
+goes_past xs ys all = prefix_len-append goes_on xs ys ∙ ap (λ (b : Bool). cond b (length xs + prefix_len goes_on ys) (prefix_len goes_on xs)) (eq-eqb (prefix_len goes_on xs) (length xs) all)
+
+-- the first bit that is set is of the first octet that stops the item
+first_inside : (n : ℕ) (octets : List ℕ) → n ≤ 64 → n ≤ length octets → mask_l (map stops_bare (take n octets)) ≢ 0 → (count_trailing_zeros 64 (mask_l (map stops_bare (take n octets))) ≡ prefix_len goes_on octets) × (prefix_len goes_on octets < n)
+first_inside n octets few within some =
+    let front = take n octets in
+    let long : length front ≡ n = omega (arith, length-take n octets) in
+    let pos : 0 < mask_l (map stops_bare front) = omega arith in
+    let first : count_trailing_zeros 64 (mask_l (map stops_bare front)) ≡ prefix_len goes_on front = trailing_mask_l stops_bare 64 front (omega arith) pos in
+    let other : prefix_len goes_on front ≢ length front = λ e. some (no_bits front e) in
+    let less : prefix_len goes_on front < length front = omega (arith, prefix_len-le-length goes_on front, other) in
+    let same : prefix_len goes_on octets ≡ prefix_len goes_on front = sym (ap (prefix_len goes_on) (take-append-drop n octets)) ∙ ends_inside front (drop n octets) less in
+    (first ∙ sym same, omega arith)
+
+none_inside : (n : ℕ) (octets : List ℕ) → n ≤ length octets → mask_l (map stops_bare (take n octets)) ≡ 0 → prefix_len goes_on octets ≡ n + prefix_len goes_on (drop n octets)
+none_inside n octets within none =
+    let front = take n octets in
+    let long : length front ≡ n = omega (arith, length-take n octets) in
+    sym (ap (prefix_len goes_on) (take-append-drop n octets)) ∙ goes_past front (drop n octets) (leading_from_mask_l stops_bare front none) ∙ ap (λ k. k + prefix_len goes_on (drop n octets)) long
+
+-- ---- what the bits tell
+
+pub tells_none : (stops : Stops) (octets : List ℕ) → stops.bits ≡ 0 → stops.unseen ≡ length octets → Tells stops octets
+tells_none stops octets none all = record {
+  bits = none ∙ ap (λ n. mask_l (map stops_bare (take n octets))) (let e : 0 ≡ length octets - stops.unseen = omega arith in e);
+  within = omega arith;
+  few = omega arith;
+}
+
+-- of the octets after the first k + 1
+after_bits : (n k : ℕ) (octets : List ℕ) → k < n → mask_l (map stops_bare (take n octets)) / 2 ^ k / 2 ^ 1 ≡ mask_l (map stops_bare (take (n - (k + 1)) (drop (k + 1) octets)))
+after_bits n k octets less =
+    let m = n - (k + 1) in
+    let e : n ≡ k + 1 + m = omega arith in
+    shr-shr (mask_l (map stops_bare (take n octets))) k 1
+    ∙ bits_after (k + 1) (map stops_bare (take n octets))
+    ∙ ap mask_l (drop-map stops_bare (k + 1) (take n octets) ∙ ap (map stops_bare) (ap (λ j. drop (k + 1) (take j octets)) e ∙ drop-take (k + 1) m octets))
+
+pub tells_after : (stops : Stops) (octets : List ℕ) (n k : ℕ) (bits : ℕ) → bits ≡ mask_l (map stops_bare (take n octets)) → n ≤ 64 → n ≤ length octets → k < n → stops.bits ≡ bits / 2 ^ k / 2 ^ 1 → stops.unseen ≡ length octets - n → Tells stops (drop (k + 1) octets)
+tells_after stops octets n k bits of few within less is unseen =
+    let left : length (drop (k + 1) octets) ≡ length octets - (k + 1) = length-drop (k + 1) octets in
+    let seen : n - (k + 1) ≡ length (drop (k + 1) octets) - stops.unseen = omega arith in
+    record {
+      bits = is ∙ ap (λ b. b / 2 ^ k / 2 ^ 1) of ∙ after_bits n k octets less ∙ ap (λ j. mask_l (map stops_bare (take j (drop (k + 1) octets)))) seen;
+      within = omega arith;
+      few = omega arith;
+    }
+
+-- ---- the first stop
+
+-- the lowest of the bits that are known
+pub known_len : (stops : Stops) (octets : List ℕ) → Tells stops octets → stops.bits ≢ 0 → count_trailing_zeros 64 stops.bits ≡ prefix_len goes_on octets
+known_len stops octets tells some =
+    let n = length octets - stops.unseen in
+    let set : mask_l (map stops_bare (take n octets)) ≢ 0 = λ e. some (tells.bits ∙ e) in
+    ap (count_trailing_zeros 64) tells.bits ∙ (first_inside n octets (omega (arith, tells.few)) (omega arith) set).0
+
+pub known_less : (stops : Stops) (octets : List ℕ) → Tells stops octets → stops.bits ≢ 0 → prefix_len goes_on octets < length octets - stops.unseen
+known_less stops octets tells some =
+    let n = length octets - stops.unseen in
+    (first_inside n octets (omega (arith, tells.few)) (omega arith) (λ e. some (tells.bits ∙ e))).1
+
+pub known_rest : (stops new : Stops) (octets : List ℕ) (k : ℕ) → Tells stops octets → stops.bits ≢ 0 → k ≡ prefix_len goes_on octets → new.bits ≡ stops.bits / 2 ^ k / 2 ^ 1 → new.unseen ≡ stops.unseen → Tells new (drop (k + 1) octets)
+known_rest stops new octets k tells some len is unseen =
+    tells_after new octets (length octets - stops.unseen) k stops.bits tells.bits (omega (arith, tells.few)) (omega arith) (omega (arith, len, known_less stops octets tells some)) is (omega (arith, unseen, tells.within))
+
+-- where no bit is set, the first stop is among the unseen octets
+pub unknown_len : (stops : Stops) (octets ahead : List ℕ) (seen more : ℕ) → Tells stops octets → stops.bits ≡ 0 → seen ≡ length octets - stops.unseen → ahead ≡ drop seen octets → more ≡ prefix_len goes_on ahead → seen + more ≡ prefix_len goes_on octets
+unknown_len stops octets ahead seen more tells none is back len =
+    let zero_bits : mask_l (map stops_bare (take seen octets)) ≡ 0 = ap (λ k. mask_l (map stops_bare (take k octets))) is ∙ sym tells.bits ∙ none in
+    ap (λ k. seen + k) (len ∙ ap (prefix_len goes_on) back) ∙ sym (none_inside seen octets (omega arith) zero_bits)
+
+pub unknown_rest : (new : Stops) (octets ahead : List ℕ) (seen more : ℕ) → ahead ≡ drop seen octets → Tells new (drop (more + 1) ahead) → Tells new (drop (seen + more + 1) octets)
+unknown_rest new octets ahead seen more back tells =
+    subst (Tells new) (ap (drop (more + 1)) back ∙ drop-drop (more + 1) seen octets ∙ ap (λ k. drop k octets) (let e : seen + (more + 1) ≡ seen + more + 1 = omega arith in e)) tells
+
+-- ---- 64 octets beside each other
+
+abbrev pub all_below : (ℕ → Bool) → ℕ → Bool
+all_below p zero = true
+all_below p (suc n) = p n && all_below p n
+
+every_below : (p : ℕ → Bool) (n : ℕ) → all_below p n ≡ true → (i : ℕ) → i < n → p i ≡ true
+every_below p zero all i less = absurd (omega arith)
+every_below p (suc n) all i less =
+    let parts = and_parts (p n) (all_below p n) all in
+    elim (cases_lt i n) [
+      | inl before ↦ every_below p n parts.1 i before
+      | inr at ↦ let e : n ≡ i = omega arith in subst (λ k. p k ≡ true) e parts.0
+    ]
+
+-- the low four bits of each lane are a place in a table of 16
+pub low_places : (v : List ℕ) → length v ≡ 64 → SwzOk w8 16 64 0 (zip2 bit_and v (replicate 64 15))
+low_places v long =
+    let small = Each1-all (λ a. bit_and a 15 < 16) (λ a. omega (arith, and_le_r a 15)) v in
+    SwzOk-from_below w8 16 4 64 0 (zip2 bit_and v (replicate 64 15)) refl (omega (arith, length-zip2 bit_and v (replicate 64 15) long))
+    (Each1-zip2 bit_and (λ j. j < 16) v (replicate 64 15) (Each2-splat (λ a b. bit_and a b < 16) v 64 15 small))
+
+-- a table t that is s four times, read there
+abbrev pub IsFourTimes : List ℕ → List ℕ → Type 0
+IsFourTimes t s = all_below (λ i. all_below (λ j. get_or t (16 * ((0 + i) / 16) + j) 0 == get_or s j 0) 16) 64 ≡ true
+
+looked_up : (t s v js : List ℕ) → length v ≡ 64 → js ≡ map (λ x. bit_and x 15) v → IsFourTimes t s → swz_l w8 16 t 0 js ≡ map (λ x. get_or s (bit_and x 15) 0) v
+looked_up t s v js fits e copies =
+    let long : length js ≡ 64 = ap length e ∙ length-map v (λ x. bit_and x 15) ∙ fits in
+    ext_get_or 0 _ _ (length-swz_l w8 16 t 0 js ∙ long ∙ sym (length-map v (λ x. get_or s (bit_and x 15) 0) ∙ fits)) (λ i h.
+    let less : i < 64 = omega (arith, length-swz_l w8 16 t 0 js) in
+    let within : i < length v = omega (arith, fits) in
+    let is : get_or js i 0 ≡ bit_and (get_or v i 0) 15 = ap (λ l. get_or l i 0) e ∙ get_or-map (λ x. bit_and x 15) v i 0 0 within in
+    let below : get_or js i 0 < 16 = omega (arith, is, and_le_r (get_or v i 0) 15) in
+    let row = every_below (λ a. all_below (λ j. get_or t (16 * ((0 + a) / 16) + j) 0 == get_or s j 0) 16) 64 copies i less in
+    get_or-swz_l_below w8 16 t 0 js i (omega arith) below
+    ∙ eqb-true _ _ (every_below (λ j. get_or t (16 * ((0 + i) / 16) + j) 0 == get_or s j 0) 16 row (get_or js i 0) below)
+    ∙ ap (λ k. get_or s k 0) is ∙ sym (get_or-map (λ x. get_or s (bit_and x 15) 0) v i 0 0 within))
+
+itself : (v : List ℕ) → v ≡ map (λ x. x) v
+itself [] = refl
+itself (x ∷ v) = ap (λ t. x ∷ t) (itself v)
+
+abbrev pub same_mask : ℕ → ℕ → ℕ
+same_mask a b = cond (eqb a b) (2 ^ 8 - 1) 0
+
+-- a lane that is the octet of the table with its low bits, or `)`
+abbrev pub stop_lane : List ℕ → ℕ → ℕ
+stop_lane s x = bit_or (same_mask x (get_or s (bit_and x 15) 0)) (same_mask x 41)
+
+map_agrees : (p q : ℕ → Bool) (v : List ℕ) → agree_below p q 256 ≡ true → Each1 (Fits w8) v → map p v ≡ map q v
+map_agrees p q [] all fits = refl
+map_agrees p q (x ∷ v) all fits = ap₂ (λ b bs. b ∷ bs) (agree_below_at p q 256 x all fits.0.fits) (map_agrees p q v all fits.1)
+
+pub stop_bits_are : (octets t s alike z : List ℕ) → 64 ≤ length octets → ((k : ℕ) → Fits w8 (get_or octets k 0)) → IsFourTimes t s → alike ≡ swz_l w8 16 t 0 (zip2 bit_and (take 64 octets) (replicate 64 15)) → z ≡ zip2 bit_or (zip2 same_mask (take 64 octets) alike) (zip2 same_mask (take 64 octets) (replicate 64 41)) → agree_below (λ x. top 7 (stop_lane s x)) stops_bare 256 ≡ true → mask_l (map (top 7) z) % 2 ^ 64 ≡ mask_l (map stops_bare (take 64 octets))
+stop_bits_are octets t s alike z room fits copies look lanes agree =
+    let v = take 64 octets in
+    let long : length v ≡ 64 = omega (arith, length-take 64 octets) in
+    let read : alike ≡ map (λ x. get_or s (bit_and x 15) 0) v = look ∙ looked_up t s v _ long (zip2_splat bit_and v 64 15 long) copies in
+    let same : zip2 same_mask v alike ≡ map (λ x. same_mask x (get_or s (bit_and x 15) 0)) v = zip2_of_maps same_mask (λ x. x) (λ x. get_or s (bit_and x 15) 0) v (itself v) read in
+    let closing : zip2 same_mask v (replicate 64 41) ≡ map (λ x. same_mask x 41) v = zip2_splat same_mask v 64 41 long in
+    let all : z ≡ map (stop_lane s) v = lanes ∙ zip2_of_maps bit_or (λ x. same_mask x (get_or s (bit_and x 15) 0)) (λ x. same_mask x 41) v same closing in
+    ap (λ l. mask_l (map (top 7) l) % 2 ^ 64) all
+    ∙ ap (λ l. mask_l l % 2 ^ 64) (map-map (top 7) (stop_lane s) v)
+    ∙ mask_l-mod (map (λ x. top 7 (stop_lane s x)) v) 64 (omega (arith, length-map v (λ x. top 7 (stop_lane s x)), long))
+    ∙ ap mask_l (map_agrees (λ x. top 7 (stop_lane s x)) stops_bare v agree (chunk-fits w8 0 64 octets fits))
+
+-- ---- octets looked at one by one
+
+prefix_by : (k : ℕ) (xs : List ℕ) → k ≤ length xs → AllByRecursion (λ c. stops_bare c ≡ false) (take k xs) → EndsAt stops_bare (drop k xs) → prefix_len goes_on xs ≡ k
+prefix_by zero [] within each ends = refl
+prefix_by zero (x ∷ xs) within each ends = ap (λ (b : Bool). cond (not b) (1 + prefix_len goes_on xs) 0) ends
+prefix_by (suc k) [] within each ends = absurd (omega arith)
+prefix_by (suc k) (x ∷ xs) within each ends =
+    let more : prefix_len goes_on xs ≡ k = prefix_by k xs (omega arith) each.1 ends in
+    ap (λ (b : Bool). cond (not b) (1 + prefix_len goes_on xs) 0) each.0 ∙ omega (arith, more)
+
+pub plain_prefix : (k : ℕ) (xs : List ℕ) → k ≤ length xs → All (λ c. stops_bare c ≡ false) (take k xs) → EndsAt stops_bare (drop k xs) → k ≡ prefix_len goes_on xs
+plain_prefix k xs within each ends = sym (prefix_by k xs within (recursion_from_All (λ c. stops_bare c ≡ false) _ each) ends)
+
+-- the octets before one go on with the item
+abbrev pub GoesTo : List ℕ → ℕ → Type 0
+GoesTo octets seen = prefix_len goes_on octets ≡ seen + prefix_len goes_on (drop seen octets)
+
+pub goes_on_64 : (octets ahead : List ℕ) (seen bits : ℕ) → seen ≤ length octets → 64 ≤ length octets - seen → ahead ≡ drop seen octets → bits ≡ mask_l (map stops_bare (take 64 ahead)) → bits ≡ 0 → GoesTo octets seen → GoesTo octets (seen + 64)
+goes_on_64 octets ahead seen bits within room back are none so_far =
+    let left : length (drop seen octets) ≡ length octets - seen = length-drop seen octets in
+    let next : prefix_len goes_on (drop seen octets) ≡ 64 + prefix_len goes_on (drop 64 (drop seen octets)) = none_inside 64 (drop seen octets) (omega arith) (sym (are ∙ ap (λ t. mask_l (map stops_bare (take 64 t))) back) ∙ none) in
+    let after : prefix_len goes_on (drop 64 (drop seen octets)) ≡ prefix_len goes_on (drop (seen + 64) octets) = ap (prefix_len goes_on) (drop-drop 64 seen octets) in
+    omega (arith, so_far, next, after)
+
+pub stop_found : (stops : Stops) (octets ahead : List ℕ) (seen bits more : ℕ) → 64 ≤ length ahead → ahead ≡ drop seen octets → bits ≡ mask_l (map stops_bare (take 64 ahead)) → bits ≢ 0 → more ≡ count_trailing_zeros 64 bits → stops.bits ≡ bits / 2 ^ more / 2 ^ 1 → stops.unseen ≡ length ahead - 64 → GoesTo octets seen → (seen + more ≡ prefix_len goes_on octets) × Tells stops (drop (seen + more + 1) octets)
+stop_found stops octets ahead seen bits more room back are some len is unseen so_far =
+    let found = first_inside 64 ahead (omega arith) room (λ e. some (are ∙ e)) in
+    let first : more ≡ prefix_len goes_on ahead = len ∙ ap (count_trailing_zeros 64) are ∙ found.0 in
+    let there : prefix_len goes_on ahead ≡ prefix_len goes_on (drop seen octets) = ap (prefix_len goes_on) back in
+    (omega (arith, so_far, first, there), unknown_rest stops octets ahead seen more back (tells_after stops ahead 64 more bits are (omega arith) room (omega (arith, first, found.1)) is unseen))
+
+pub last_found : (stops : Stops) (octets rest : List ℕ) (seen more : ℕ) → rest ≡ drop seen octets → more ≤ length rest → All (λ c. stops_bare c ≡ false) (take more rest) → EndsAt stops_bare (drop more rest) → stops.bits ≡ 0 → stops.unseen ≡ length rest - min (length rest) (more + 1) → GoesTo octets seen → (seen + more ≡ prefix_len goes_on octets) × Tells stops (drop (seen + more + 1) octets)
+last_found stops octets rest seen more back within each ends none unseen so_far =
+    let first : more ≡ prefix_len goes_on rest = plain_prefix more rest within each ends in
+    let there : prefix_len goes_on rest ≡ prefix_len goes_on (drop seen octets) = ap (prefix_len goes_on) back in
+    let left : length (drop (more + 1) rest) ≡ length rest - (more + 1) = length-drop (more + 1) rest in
+    (omega (arith, so_far, first, there), unknown_rest stops octets rest seen more back (tells_none stops (drop (more + 1) rest) none (omega arith)))
+
+-- what is known of the octets after the one that stops the item
+pub after_stop : (stops : Stops) (rest stopped after : List ℕ) (stop n : ℕ) → Tells stops (drop (n + 1) rest) → stopped ≡ drop n rest → stopped ≡ stop ∷ after → Tells stops after
+after_stop stops rest stopped after stop n tells back first =
+    let same : drop (n + 1) rest ≡ after = sym (drop-drop 1 n rest) ∙ ap (drop 1) (sym back ∙ first) in
+    subst (Tells stops) same tells

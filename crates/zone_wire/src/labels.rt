@@ -1,0 +1,130 @@
+//! The labels of a name of a message as they are read, 16 octets at a time.
+ghost use Rattle.std.specs.Prelude.{◌≡◌, ◌+◌, ◌-◌, ◌≤◌, ◌++◌, [], false, drop, length, map, take, IsTrue};
+ghost use Rattle.std.specs.List.{flat_map};
+ghost use Rattle.std.specs.Simd.Lanes.{chunk, put_chunk};
+ghost use Rattle.zone_name.specs.Name.{folded, folded_octet, labels_of, with_length, IsName};
+ghost use Rattle.zone_wire.specs.Machine.Runs.{IsRun};
+ghost use Rattle.zone_wire.specs.Transfer.{octets_between};
+
+use std::marker::Model;
+use std::simd::prelude::*;
+use zone_name::{MAX_NAME_LEN, Name, NameRef};
+
+/// How many octets are copied at a time.
+const LANES: usize = 16;
+
+/// The octets of the longest name, and those that are copied after them.
+const ROOM: usize = 271;
+
+/// The labels of a name that were read, their letters in lower case. Contracts see their list.
+#[derive(Drop)]
+pub(crate) struct LabelRoom {
+    /// Each label after its length. The octets after them say nothing.
+    octets: [u8; ROOM],
+    len: usize,
+}
+
+impl Model for LabelRoom {
+    ghost use Rattle.std.specs.Prelude.{ℕ, List, take};
+    ghost use Rattle.zone_name.specs.Name.{labels_of};
+    ghost use Rattle.zone_wire.specs.Machine.Room.{IsRoom};
+
+    ghost Value = { List (List ℕ) };
+
+    ghost view = { λ r. labels_of (take r.len r.octets) };
+
+    ghost invariant = { λ r. IsRoom r.octets r.len };
+}
+
+impl LabelRoom {
+    /// No label yet.
+    pub(crate) fn new() -> LabelRoom
+        ensures { result ≡ [] }
+    {
+        LabelRoom {
+            octets: [0; ROOM],
+            len: 0,
+        }
+    }
+
+    /// Takes all labels out.
+    pub(crate) fn clear(&mut self)
+        ensures { self.new ≡ [] }
+    {
+        self.len = 0;
+    }
+
+    /// Appends the labels that stand in a message from an offset to another, and tells whether they
+    /// fit in a name with those before them. If not, the room is unchanged.
+    pub(crate) fn push(&mut self, message: &[u8], start: usize, past: usize) -> bool
+        requires { IsRun message.now start past }
+        ensures labels { IsTrue result → self.new
+            ≡ self.old ++ folded (labels_of (octets_between message.now start past)) }
+        ensures name { IsTrue result → IsName self.new }
+        ensures full { result ≡ false
+            → 255 ≤ length (flat_map with_length self.old) + (past - start) }
+    {
+        let size = past - start;
+        if size >= MAX_NAME_LEN - self.len {
+            return false;
+        }
+        copy_folded(message, start, size, &mut self.octets, self.len);
+        self.len += size;
+        true
+    }
+
+    /// The name of the labels.
+    pub(crate) fn finish(&mut self) -> Name
+        ensures { result ≡ self.old }
+    {
+        self.octets[self.len] = 0;
+        NameRef::of_wire(&self.octets[..self.len + 1]).to_name()
+    }
+}
+
+/// Copies so many octets of a message to a place of a room, their letters in lower case (RFC 4343
+/// 3). The room's octets after them then say nothing.
+fn copy_folded(message: &[u8], start: usize, size: usize, room: &mut [u8], at: usize)
+    requires part { start + size ≤ length message.now }
+    requires room { at + size + LANES ≤ length room.old }
+    ensures { take (at + size) room.new
+        ≡ take at room.old ++ map folded_octet (take size (drop start message.now)) }
+{
+    if message.len() - start < size + LANES {
+        return copy_each(message, start, size, room, at);
+    }
+    let mut done = 0;
+    while done < size {
+        copy_lanes(message, start + done, room, at + done);
+        done += LANES;
+    }
+}
+
+/// `copy_folded`, octet by octet.
+#[cold]
+#[inline(never)]
+fn copy_each(message: &[u8], start: usize, size: usize, room: &mut [u8], at: usize)
+    requires part { start + size ≤ length message.now }
+    requires room { at + size ≤ length room.old }
+    ensures { take (at + size) room.new
+        ≡ take at room.old ++ map folded_octet (take size (drop start message.now)) }
+{
+    let mut done = 0;
+    while done < size {
+        room[at + done] = message[start + done].to_ascii_lowercase();
+        done += 1;
+    }
+}
+
+/// Copies 16 octets of a message to a place of a room, their letters in lower case.
+#[inline(always)]
+fn copy_lanes(message: &[u8], start: usize, room: &mut [u8], at: usize)
+    requires part { start + LANES ≤ length message.now }
+    requires room { at + LANES ≤ length room.old }
+    ensures { room.new ≡ put_chunk at room.old (map folded_octet (chunk start LANES message.now)) }
+{
+    let lanes = u8x16::from_slice(&message[start..]);
+    let capitals = lanes.simd_ge(u8x16::splat(b'A')) & lanes.simd_le(u8x16::splat(b'Z'));
+    let bits = capitals.select(u8x16::splat(0x20), u8x16::splat(0));
+    (lanes | bits).copy_to_slice(&mut room[at..]);
+}

@@ -1,0 +1,98 @@
+-- Words of further types are words of registered types, and no further type has a layout.
+use Rattle.std.proofs.Common.{◌≡◌, ℕ, Bool, true, false, not, ◌==◌, List, ◌∷◌, ◌++◌, take, codes, refl, sym, ap, ◌∙◌, Option, Some, None, bytes_eq}
+use Rattle.std.proofs.lemmas.Bool.{false≢true, not-true}
+use Rattle.std.proofs.lemmas.List.{map-append}
+use Rattle.std.proofs.lemmas.Slice.Eq.{bytes_eq-Decides}
+use Rattle.std.specs.List.{find, list_all}
+use Rattle.std.specs.Option.{option_map}
+use Rattle.zone_name.specs.Name.{folded_label, folded_octet}
+unfoldable use Rattle.zone_rdata.proofs.OneWord.{is_number, own_numbers, unlike}
+use Rattle.zone_rdata.proofs.OneWord.{word_once}
+use Rattle.zone_rdata.proofs.Tables.{each_mnemonic, find_mapped, found_each}
+use Rattle.zone_rdata.specs.Item.{IsGeneric, RawItem}
+use Rattle.zone_rdata.specs.Layout.{fields_in, layout}
+use Rattle.zone_rdata.specs.Spelling.{States, StatesFor, in_octets, in_words}
+use Rattle.zone_rdata.specs.Table.{Named, NamedType, mnemonic_among, named, type_names, types}
+use Rattle.zone_rdata.specs.Words.{IsKindWord, IsMnemonic, IsNumbered, IsWordAmong, by_mnemonic, by_number}
+use Rattle.zone_words.specs.Mnemonics.{registered_types}
+use Rattle.zone_words.specs.Table.{FurtherType, IsFurtherWord, further_names, further_type, further_types}
+
+is_same : Option (List ℕ) → List ℕ → Bool
+is_same None word = false
+is_same (Some m) word = bytes_eq m word
+
+the_same : (found : Option (List ℕ)) (word : List ℕ) → is_same found word ≡ true → found ≡ Some word
+unfolding is_same
+the_same None word e = absurd (false≢true e)
+the_same (Some m) word e = ap Some ((bytes_eq-Decides m word).0 e)
+
+-- the mnemonics are those of registered types
+abbrev AreRegistered : List Named → Type 0
+AreRegistered rows = list_all (λ (row : Named). is_same (mnemonic_among registered_types row.number) row.mnemonic) rows ≡ true
+
+registered_mnemonic : (rows : List Named) → AreRegistered rows → (word : List ℕ) (n : ℕ) → IsMnemonic rows word n → IsMnemonic registered_types word n
+registered_mnemonic rows all word n is = record {
+  name = is.name;
+  row = the_same (mnemonic_among registered_types n) is.name (each_mnemonic (λ n name. is_same (mnemonic_among registered_types n) name) rows all n is.name is.row);
+  same = is.same;
+}
+
+abbrev IsRegistered : List ℕ → ℕ → Type 0
+IsRegistered = IsWordAmong registered_types (codes "TYPE")
+
+registered_word : (rows : List Named) → AreRegistered rows → (word : List ℕ) (n : ℕ) → IsWordAmong rows (codes "TYPE") word n → IsRegistered word n
+registered_word rows all word n (by_mnemonic is) = by_mnemonic (registered_mnemonic rows all word n is)
+registered_word rows all word n (by_number is) = by_number is
+
+pub same_number : (word : List ℕ) (n : ℕ) (f : FurtherType) → IsKindWord word n → IsFurtherWord word f → n ≡ f.number
+unfolding is_number own_numbers unlike is_same
+same_number word n f kind further = word_once registered_types (codes "TYPE") refl refl word n f.number (registered_word type_names refl word n kind) (registered_word further_names refl word f.number further.named)
+
+-- ---- no further type has a layout
+
+is_missing : {X : Type 0} → Option X → Bool
+is_missing None = true
+is_missing (Some x) = false
+
+missing : {X : Type 0} (found : Option X) → is_missing found ≡ true → found ≡ None
+unfolding is_missing
+missing None e = refl
+missing (Some x) e = absurd (false≢true e)
+
+abbrev row_numbered : ℕ → Option NamedType
+row_numbered n = find (λ (row : NamedType). n == (named row).number) types
+
+no_row : (f : FurtherType) → further_type f.number ≡ Some f → row_numbered f.number ≡ None
+unfolding is_missing
+no_row f e = missing (row_numbered f.number) (found_each (λ (g : FurtherType). is_missing (row_numbered g.number)) (λ (g : FurtherType). f.number == g.number) further_types f refl e)
+
+no_layout : (class : ℕ) (f : FurtherType) → further_type f.number ≡ Some f → layout class f.number ≡ None
+no_layout class f e = ap (fields_in class) (no_row f e)
+
+in_form : (origin : List (List ℕ)) (laid : _) (items : List RawItem) (octets : List ℕ) → laid ≡ None → StatesFor origin laid items octets → IsGeneric items
+in_form origin laid items octets none (in_words fields values some words spell are short) = absurd (let bad : None ≡ Some fields = sym none ∙ some in cc)
+in_form origin laid items octets none (in_octets stated) = (stated.1.form.item ∷ stated.1.digits, stated.1.form.parts)
+
+-- data of a further type stands in the generic form
+pub generic_data : (origin : List (List ℕ)) (word : List ℕ) (class kind : ℕ) (items : List RawItem) (octets : List ℕ) (f : FurtherType) → IsKindWord word kind → IsFurtherWord word f → States origin class kind items octets → IsGeneric items
+generic_data origin word class kind items octets f is further states =
+    in_form origin (layout class kind) items octets (ap (layout class) (same_number word kind f is further) ∙ no_layout class f further.row) states.stated
+
+-- ---- its word is no mnemonic
+
+further_or_numbered : (word : List ℕ) (a b : ℕ) → IsMnemonic further_names word a → IsNumbered (codes "TYPE") word b → ⊥
+further_or_numbered word a b x y =
+    let other = not-true _ (each_mnemonic (λ _ m. not (bytes_eq (take 4 (folded_label m)) (codes "type"))) further_names refl a x.name x.row) in
+    let whole : folded_label x.name ≡ folded_label y.front ++ folded_label y.digits = sym x.same ∙ ap folded_label y.parts ∙ map-append folded_octet y.front y.digits in
+    let front : take 4 (folded_label x.name) ≡ codes "type" = ap (take 4) (whole ∙ ap (λ t. t ++ folded_label y.digits) y.named) in
+    false≢true (sym other ∙ (bytes_eq-Decides (take 4 (folded_label x.name)) (codes "type")).1 front)
+
+no_type_name : (n : ℕ) (name : List ℕ) → row_numbered n ≡ None → mnemonic_among type_names n ≡ Some name → ⊥
+no_type_name n name none some =
+    let empty : mnemonic_among type_names n ≡ None = ap (option_map (λ (row : Named). row.mnemonic)) (find_mapped named (λ (row : Named). n == row.number) types ∙ ap (option_map named) none) in
+    let bad : None ≡ Some name = sym empty ∙ some in
+    cc bad
+
+pub no_mnemonic : (word : List ℕ) (kind n : ℕ) (f : FurtherType) → IsKindWord word kind → IsFurtherWord word f → IsMnemonic further_names word n → ⊥
+no_mnemonic word kind n f (by_number is) further mnemonic = further_or_numbered word n kind mnemonic is
+no_mnemonic word kind n f (by_mnemonic is) further mnemonic = no_type_name kind is.name (ap row_numbered (same_number word kind f (by_mnemonic is) further) ∙ no_row f further.row) is.row
