@@ -59,13 +59,10 @@ impl ZoneList {
     pub fn new(alloc: Global) -> ZoneList
         ensures { result ≡ [] }
     {
-        // With no record it may be any class.
-        let Some(class) = Class::of_number(1) else {
-            unreachable!();
-        };
         ZoneList {
             alloc,
-            class,
+            // With no record it may be any class.
+            class: Class::internet(),
             base: Name::root(),
             octets: Vec::new(alloc),
             entries: Vec::new(alloc),

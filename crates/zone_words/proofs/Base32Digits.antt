@@ -7,8 +7,7 @@ use Rattle.zone_name.proofs.Pushing.{AllByRecursion-append}
 use Rattle.zone_name.specs.Common.{AreOctets}
 use Rattle.zone_words.proofs.LengthsBefore.{after_length_once, appended_after_length}
 use Rattle.zone_words.specs.Fault.{AppendsStated}
-use Rattle.zone_words.specs.Kinds.Hash.{FailsHash, IsBase32Hex, StatesHash, base32_digit, number_of}
-use Rattle.zone_words.specs.declared.fault.WordsFault.{WordsFault}
+use Rattle.zone_words.specs.Kinds.Hash.{IsBase32Hex, StatesHash, base32_digit, number_of}
 
 abbrev pub IsDigit : ℕ → ℕ → Type 0
 IsDigit c d = base32_digit c ≡ Some d
@@ -272,6 +271,3 @@ hash_appended text old mid new few grown more =
 
 pub hash_once : (text a b : List ℕ) → StatesHash text a → StatesHash text b → a ≡ b
 hash_once text a b x y = after_length_once IsBase32Hex one_base32 text a b x y
-
-pub hash_or_fault : (text octets : List ℕ) (fault : WordsFault) → StatesHash text octets → FailsHash text fault → ⊥
-hash_or_fault text octets fault stated fails = fails.1 octets stated

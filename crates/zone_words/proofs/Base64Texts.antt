@@ -7,11 +7,8 @@ use Rattle.base64.specs.GeneralPurpose.{IsBytes, decode_of, encode_of}
 use Rattle.base64.specs.declared.decode.DecodeError.{DecodeError}
 use Rattle.zone_name.specs.Common.{AreOctets}
 use Rattle.zone_rdata.proofs.Lists.{bytes_each, each_below}
-use Rattle.zone_rdata.specs.Item.{RawItem}
-use Rattle.zone_words.proofs.JoinedItems.{joined_once, joined_or_fault}
 use Rattle.zone_words.specs.Fault.{AppendsStated}
-use Rattle.zone_words.specs.Kinds.Base64.{FailsBase64, IsBase64, StatesBase64}
-use Rattle.zone_words.specs.declared.fault.WordsFault.{WordsFault}
+use Rattle.zone_words.specs.Kinds.Base64.{IsBase64}
 
 decodes_again : (octets : List ℕ) → AreOctets octets → decode_of standard (encode_of standard octets) ≡ Ok octets
 decodes_again octets each = decode_of-encode_of standard octets refl (each_below 256 octets (lit< tt) each)
@@ -61,9 +58,3 @@ decoded_appended text old new n texts bytes some decoded front = record {
   stated = decoded_is text (drop n new) texts bytes some decoded;
   written = sym (take-append-drop n new) ∙ ap (λ t. t ++ drop n new) front;
 }
-
-pub base64_once : (items : List RawItem) (a b : List ℕ) → StatesBase64 items a → StatesBase64 items b → a ≡ b
-base64_once items a b x y = joined_once IsBase64 one_base64 items a b x y
-
-pub base64_or_fault : (items : List RawItem) (octets : List ℕ) (fault : WordsFault) → StatesBase64 items octets → FailsBase64 items fault → ⊥
-base64_or_fault items octets fault stated fails = joined_or_fault _ IsBase64 (λ none is. no_base64 [] none refl is) items octets fault stated fails

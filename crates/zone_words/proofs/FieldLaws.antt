@@ -1,141 +1,183 @@
--- Each field states one list of octets at most, and none where it fails.
-use Rattle.std.proofs.Common.{[], ◌≡◌, ℕ, ◌+◌, List, ◌∷◌, sym, ◌∙◌, arith}
-use Rattle.std.specs.Int.{w8, w16, w32}
+-- Each field states one list of octets at most, or has one fault and states none.
+use Rattle.std.proofs.Common.{[], ◌≡◌, ℕ, List, ◌∷◌, Some, refl, sym, ap, ◌∙◌, absurd, arith}
+use Rattle.std.specs.Int.{Width, w8, w16, w32}
+use Rattle.zone_name.proofs.Answered.{FirstFault-once}
 use Rattle.zone_name.specs.Common.{Labels}
 use Rattle.zone_rdata.proofs.AddressGaps.{groups_unique}
 use Rattle.zone_rdata.proofs.Addresses.{numbers_unique}
-use Rattle.zone_rdata.specs.Number.{IsDecimal}
+use Rattle.zone_rdata.proofs.Fields.Strings.{fault_once as leftmost_once}
+use Rattle.zone_rdata.proofs.StringLaws.{fault-once, string-never_both}
 use Rattle.zone_rdata.specs.Spelling.{RawItem, bare, quoted}
-use Rattle.zone_words.proofs.Locations.{location_once, location_or_fault}
-use Rattle.zone_words.proofs.Prefixes.{prefixes_once, prefixes_or_fault}
-use Rattle.zone_words.proofs.Base32Digits.{hash_once, hash_or_fault}
-use Rattle.zone_words.proofs.Base64Texts.{base64_once, base64_or_fault}
-use Rattle.zone_words.proofs.Gateways.{no_address_once, no_address_or_fault, nothing_once, nothing_or_fault, up_to_once, up_to_or_fault}
-use Rattle.zone_words.proofs.HexDigits.{hex_once, hex_or_fault}
-use Rattle.zone_words.proofs.HexPairs.{eui_once, eui_or_fault}
-use Rattle.zone_words.proofs.NodeIds.{node_id_once, node_id_or_fault}
+use Rattle.zone_rdata.specs.Strings.{item_text}
+use Rattle.zone_words.proofs.Base32Digits.{hash_once}
+use Rattle.zone_words.proofs.Base64Texts.{no_base64, one_base64}
+use Rattle.zone_words.proofs.Gateways.{up_to_fault_once, up_to_once, up_to_or_fault}
+use Rattle.zone_words.proofs.HexDigits.{no_digits, one_hex}
+use Rattle.zone_words.proofs.HexPairs.{eui_once}
+use Rattle.zone_words.proofs.JoinedItems.{joined_once}
+use Rattle.zone_words.proofs.Locations.{location_once, no_items}
+use Rattle.zone_words.proofs.NodeIds.{node_id_once}
 use Rattle.zone_words.proofs.Numbers.{decimal_once, in_octets_once, number_or_fault}
 use Rattle.zone_words.proofs.OfName.{name_once, name_or_fault}
 use Rattle.zone_words.proofs.OfParameters.Once.{parameters_once, parameters_or_fault}
-use Rattle.zone_words.proofs.Salts.{salt_once, salt_or_fault}
-use Rattle.zone_words.proofs.StringItems.{string_once, string_or_fault, strings_once, strings_or_fault}
-use Rattle.zone_words.proofs.Tags.{tag_once, tag_or_fault}
-use Rattle.zone_words.proofs.Times.{time_once, time_or_fault}
-use Rattle.zone_words.proofs.TypeItems.{perhaps_types_once, perhaps_types_or_fault, types_once, types_or_fault}
+use Rattle.zone_words.proofs.OfParameters.OneFault.{parameters_fault_once}
+use Rattle.zone_words.proofs.Prefixes.{prefixes_once}
+use Rattle.zone_words.proofs.Salts.{salt_once}
+use Rattle.zone_words.proofs.StringItems.{never_first, string_once, strings_once}
+use Rattle.zone_words.proofs.Times.{time_fault_once, time_once, time_or_fault}
+use Rattle.zone_words.proofs.TypeItems.{perhaps_types_once, types_once}
 use Rattle.zone_words.proofs.TypeWords.{algorithm_once, certificate_type_once, type_word_once}
-use Rattle.zone_words.proofs.Values.{quoted_value_once, quoted_value_or_fault, value_once, value_or_fault}
-use Rattle.zone_words.specs.DataItem.{TouchingItem}
-use Rattle.zone_words.specs.Field.{FailsBare, FailsField, FailsText, StatesBare, StatesField, StatesText, items_of}
+use Rattle.zone_words.proofs.UnescapedTexts.{unescaped_once, unescaped_or_bad}
+use Rattle.zone_words.specs.DataItem.{TouchingItem, items_of}
+use Rattle.zone_words.specs.Fault.{NothingStated}
+use Rattle.zone_words.specs.Field.{FailsBare, FailsField, StatesBare, StatesField, text_meaning}
 use Rattle.zone_words.specs.FirstItem.{FirstFails, FirstStates}
-use Rattle.zone_words.specs.Kinds.Gateway.{discovery_bit}
-use Rattle.zone_words.specs.Kinds.Strings.{FailsPerhaps, StatesPerhaps}
-use Rattle.zone_words.specs.Mnemonics.{IsNumberOrMnemonic, IsTypeWord, algorithms, certificate_types}
+use Rattle.zone_words.specs.Kinds.Base64.{IsBase64}
+use Rattle.zone_words.specs.Kinds.Gateway.{FailsUpTo, StatesUpTo}
+use Rattle.zone_words.specs.Kinds.Hex.{IsHex}
+use Rattle.zone_words.specs.Kinds.Joined.{FailsAs, StatesJoined}
+use Rattle.zone_words.specs.Kinds.Location.{StatesLocation}
+use Rattle.zone_words.specs.Kinds.Name.{FailsName, StatesName}
+use Rattle.zone_words.specs.Kinds.Number.{IsInOctets, NumberFails, no_number, too_large}
+use Rattle.zone_words.specs.Kinds.Strings.{FailsPerhaps, FailsString, FailsStrings, StatesPerhaps, StatesString, StatesStrings, of_string}
+use Rattle.zone_words.specs.Kinds.Types.{StatesTypes}
+use Rattle.zone_words.specs.Kinds.Value.{FailsQuotedValue, StatesQuotedValue}
+use Rattle.zone_words.specs.Unescaped.{ComesToBadEscape, Unescaped}
 use Rattle.zone_words.specs.declared.fault.WordsFault.{WordsFault}
+use Rattle.zone_words.specs.declared.fault.WordsFault.TheVariants.{BadEscape, NotAName}
 use Rattle.zone_words.specs.declared.field.BareKind.{BareKind}
 use Rattle.zone_words.specs.declared.field.BareKind.TheVariants.{AddressType, Algorithm, CertificateType, Discovery, Eui48, Eui64, Hash, Ipv4, Ipv6, Name, NoAddress, NodeId, RecordType, Salt, Tag, Time, U8, U16, U32}
 use Rattle.zone_words.specs.declared.field.FieldKind.{FieldKind}
 use Rattle.zone_words.specs.declared.field.FieldKind.TheVariants.{Bare, Base64, Hex, Location, Nothing, OneString, Parameters, PerhapsOneString, PerhapsTypes, Prefixes, QuotedValue, Strings, Types, Value}
 
+-- ---- what is proved of every kind
+
+-- one list of octets at most is stated, or there is one fault and none is stated
+pub record IsOne (States : List ℕ → Type 0) (Fails : WordsFault → Type 0) : Type 0 where
+  pub once : (a b : List ℕ) → States a → States b → a ≡ b
+  pub or_fault : (octets : List ℕ) (fault : WordsFault) → States octets → Fails fault → ⊥
+  pub fault_once : (a b : WordsFault) → Fails a → Fails b → a ≡ b
+
+-- the fault is the kind's own
+by_own : (own : WordsFault) (States : List ℕ → Type 0) → ((a b : List ℕ) → States a → States b → a ≡ b) → IsOne States (NothingStated own States)
+by_own own States once = record { once = once; or_fault = λ octets fault p q. q.1 octets p; fault_once = λ a b p q. p.0 ∙ sym q.0 }
+
+-- nothing can be stated
+only : (own : WordsFault) (States : List ℕ → Type 0) → ((octets : List ℕ) → States octets → ⊥) → IsOne States (λ fault. fault ≡ own)
+only own States none = record { once = λ a b p q. absurd (none a p); or_fault = λ octets fault p q. none octets p; fault_once = λ a b p q. p ∙ sym q }
+
 -- ---- a text
 
-text_once : (origin : Labels) (kind : BareKind) (text a b : List ℕ) → StatesText origin kind text a → StatesText origin kind text b → a ≡ b
-text_once origin U8 text a b p q = in_octets_once (IsDecimal text) w8 a b (decimal_once text) p q
-text_once origin U16 text a b p q = in_octets_once (IsDecimal text) w16 a b (decimal_once text) p q
-text_once origin U32 text a b p q = in_octets_once (IsDecimal text) w32 a b (decimal_once text) p q
-text_once origin Algorithm text a b p q = in_octets_once (IsNumberOrMnemonic algorithms text) w8 a b (algorithm_once text) p q
-text_once origin CertificateType text a b p q = in_octets_once (IsNumberOrMnemonic certificate_types text) w16 a b (certificate_type_once text) p q
-text_once origin RecordType text a b p q = in_octets_once (IsTypeWord text) w16 a b (type_word_once text) p q
-text_once origin Time text a b p q = time_once text a b p q
-text_once origin Name text a b p q = name_once origin text a b p q
-text_once origin Salt text a b p q = salt_once text a b p q
-text_once origin Hash text a b p q = hash_once text a b p q
-text_once origin Tag text a b p q = tag_once text a b p q
-text_once origin Ipv4 text a b p q = numbers_unique 3 text a b p q
-text_once origin Ipv6 text a b p q = groups_unique text a b p q
-text_once origin (AddressType optional) text a b p q = up_to_once 3 (λ n. (discovery_bit optional + n) ∷ []) text a b p q
-text_once origin Discovery text a b p q = up_to_once 1 (λ n. []) text a b p q
-text_once origin NoAddress text a b p q = no_address_once text a b p q
-text_once origin NodeId text a b p q = node_id_once text a b p q
-text_once origin Eui48 text a b p q = eui_once 6 text a b (omega arith) p q
-text_once origin Eui64 text a b p q = eui_once 8 text a b (omega arith) p q
+number_fault_once : (Stated : ℕ → Type 0) (w : Width) (a b : WordsFault) → NumberFails Stated w a → NumberFails Stated w b → a ≡ b
+number_fault_once Stated w _ _ (no_number none) (no_number none_too) = refl
+number_fault_once Stated w _ _ (no_number none) (too_large n is over) = absurd (none n is)
+number_fault_once Stated w _ _ (too_large n is over) (no_number none) = absurd (none n is)
+number_fault_once Stated w _ _ (too_large n is over) (too_large m is_too over_too) = refl
 
-text_or_fault : (origin : Labels) (kind : BareKind) (text octets : List ℕ) (fault : WordsFault) → StatesText origin kind text octets → FailsText origin kind text fault → ⊥
-text_or_fault origin U8 text octets fault p q = number_or_fault (IsDecimal text) w8 octets fault (decimal_once text) p q
-text_or_fault origin U16 text octets fault p q = number_or_fault (IsDecimal text) w16 octets fault (decimal_once text) p q
-text_or_fault origin U32 text octets fault p q = number_or_fault (IsDecimal text) w32 octets fault (decimal_once text) p q
-text_or_fault origin Algorithm text octets fault p q = number_or_fault (IsNumberOrMnemonic algorithms text) w8 octets fault (algorithm_once text) p q
-text_or_fault origin CertificateType text octets fault p q = number_or_fault (IsNumberOrMnemonic certificate_types text) w16 octets fault (certificate_type_once text) p q
-text_or_fault origin RecordType text octets fault p q = q.1 p.number p.stated
-text_or_fault origin Time text octets fault p q = time_or_fault text octets fault p q
-text_or_fault origin Name text octets fault p q = name_or_fault origin text octets fault p q
-text_or_fault origin Salt text octets fault p q = salt_or_fault text octets fault p q
-text_or_fault origin Hash text octets fault p q = hash_or_fault text octets fault p q
-text_or_fault origin Tag text octets fault p q = tag_or_fault text octets fault p q
-text_or_fault origin Ipv4 text octets fault p q = q.1 octets p
-text_or_fault origin Ipv6 text octets fault p q = q.1 octets p
-text_or_fault origin (AddressType optional) text octets fault p q = up_to_or_fault 3 (λ n. (discovery_bit optional + n) ∷ []) text octets fault p q
-text_or_fault origin Discovery text octets fault p q = up_to_or_fault 1 (λ n. []) text octets fault p q
-text_or_fault origin NoAddress text octets fault p q = no_address_or_fault text octets fault p q
-text_or_fault origin NodeId text octets fault p q = node_id_or_fault text octets fault p q
-text_or_fault origin Eui48 text octets fault p q = eui_or_fault 6 text octets fault p q
-text_or_fault origin Eui64 text octets fault p q = eui_or_fault 8 text octets fault p q
+by_number : (Stated : ℕ → Type 0) (w : Width) → ((m n : ℕ) → Stated m → Stated n → m ≡ n) → IsOne (IsInOctets Stated w) (NumberFails Stated w)
+by_number Stated w one = record { once = λ a b. in_octets_once Stated w a b one; or_fault = λ octets fault. number_or_fault Stated w octets fault one; fault_once = number_fault_once Stated w }
 
-bare_once : (origin : Labels) (kind : BareKind) (item : RawItem) (a b : List ℕ) → StatesBare origin kind item a → StatesBare origin kind item b → a ≡ b
-bare_once origin kind (bare text) a b p q = text_once origin kind text a b p q
-bare_once origin kind (quoted text) a b p q = absurd p
+by_up_to : (most : ℕ) (octets_of : ℕ → List ℕ) (text : List ℕ) → IsOne (StatesUpTo most octets_of text) (FailsUpTo most text)
+by_up_to most octets_of text = record { once = up_to_once most octets_of text; or_fault = up_to_or_fault most octets_of text; fault_once = up_to_fault_once most text }
 
-bare_or_fault : (origin : Labels) (kind : BareKind) (item : RawItem) (octets : List ℕ) (fault : WordsFault) → StatesBare origin kind item octets → FailsBare origin kind item fault → ⊥
-bare_or_fault origin kind (bare text) octets fault p q = text_or_fault origin kind text octets fault p q
-bare_or_fault origin kind (quoted text) octets fault p q = p
+name_is_one : (origin : Labels) (text : List ℕ) → IsOne (StatesName origin text) (FailsName origin text)
+name_is_one origin text = record {
+  once = name_once origin text;
+  or_fault = name_or_fault origin text;
+  fault_once = λ a b p q. p.2 ∙ ap (λ f. NotAName (Some f)) (FirstFault-once (Some origin) text p.0 q.0 p.1 q.1) ∙ sym q.2;
+}
 
--- ---- the first item
+text_is_one : (origin : Labels) (kind : BareKind) (text : List ℕ) → IsOne ((text_meaning origin kind).States text) ((text_meaning origin kind).Fails text)
+text_is_one origin U8 text = by_number _ w8 (decimal_once text)
+text_is_one origin U16 text = by_number _ w16 (decimal_once text)
+text_is_one origin U32 text = by_number _ w32 (decimal_once text)
+text_is_one origin Algorithm text = by_number _ w8 (algorithm_once text)
+text_is_one origin CertificateType text = by_number _ w16 (certificate_type_once text)
+text_is_one origin RecordType text = record { once = λ a b. in_octets_once _ w16 a b (type_word_once text); or_fault = λ octets fault p q. q.1 p.number p.stated; fault_once = λ a b p q. p.0 ∙ sym q.0 }
+text_is_one origin Time text = record { once = time_once text; or_fault = time_or_fault text; fault_once = time_fault_once text }
+text_is_one origin Name text = name_is_one origin text
+text_is_one origin Salt text = by_own _ _ (salt_once text)
+text_is_one origin Hash text = by_own _ _ (hash_once text)
+text_is_one origin Tag text = by_own _ _ (λ a b p q. p.1 ∙ sym q.1)
+text_is_one origin Ipv4 text = by_own _ _ (numbers_unique 3 text)
+text_is_one origin Ipv6 text = by_own _ _ (groups_unique text)
+text_is_one origin (AddressType optional) text = by_up_to 3 _ text
+text_is_one origin Discovery text = by_up_to 1 _ text
+text_is_one origin NoAddress text = record { once = λ a b p q. p.1 ∙ sym q.1; or_fault = λ octets fault p q. q.0 p.0; fault_once = λ a b p q. p.1 ∙ sym q.1 }
+text_is_one origin NodeId text = by_own _ _ (node_id_once text)
+text_is_one origin Eui48 text = by_own _ _ (λ a b. eui_once 6 text a b (omega arith))
+text_is_one origin Eui64 text = by_own _ _ (λ a b. eui_once 8 text a b (omega arith))
 
-first_once : (States : RawItem → List ℕ → Type 0) → ((item : RawItem) (a b : List ℕ) → States item a → States item b → a ≡ b) → (items : List RawItem) (a b : List ℕ) → FirstStates States items a → FirstStates States items b → a ≡ b
-first_once States once [] a b p q = absurd p
-first_once States once (item ∷ items) a b p q = once item a b p q
+-- ---- an item
 
-first_or_fault : (States : RawItem → List ℕ → Type 0) (Fails : RawItem → WordsFault → Type 0) → ((item : RawItem) (octets : List ℕ) (fault : WordsFault) → States item octets → Fails item fault → ⊥) → (items : List RawItem) (octets : List ℕ) (fault : WordsFault) → FirstStates States items octets → FirstFails Fails items fault → ⊥
-first_or_fault States Fails never [] octets fault p q = p
-first_or_fault States Fails never (item ∷ items) octets fault p q = never item octets fault p q
+bare_is_one : (origin : Labels) (kind : BareKind) (item : RawItem) → IsOne (StatesBare origin kind item) (FailsBare origin kind item)
+bare_is_one origin kind (bare text) = text_is_one origin kind text
+bare_is_one origin kind (quoted text) = only _ _ (λ octets p. p)
 
-perhaps_once : (items : List RawItem) (a b : List ℕ) → StatesPerhaps items a → StatesPerhaps items b → a ≡ b
-perhaps_once [] a b p q = p ∙ sym q
-perhaps_once (item ∷ items) a b p q = string_once item a b p q
+string_is_one : (item : RawItem) → IsOne (StatesString item) (FailsString item)
+string_is_one item = record {
+  once = string_once item;
+  or_fault = λ octets fault p q. string-never_both item p.string q.own p.spelt q.first;
+  fault_once = λ a b p q. p.is ∙ ap of_string (fault-once item p.own q.own p.first q.first) ∙ sym q.is;
+}
 
-perhaps_or_fault : (items : List RawItem) (octets : List ℕ) (fault : WordsFault) → StatesPerhaps items octets → FailsPerhaps items fault → ⊥
-perhaps_or_fault [] octets fault p q = q
-perhaps_or_fault (item ∷ items) octets fault p q = string_or_fault item octets fault p q
+value_is_one : (text : List ℕ) → IsOne (Unescaped text) (λ fault. (fault ≡ BadEscape) × ComesToBadEscape text)
+value_is_one text = record { once = unescaped_once text; or_fault = λ octets fault p q. unescaped_or_bad text octets p q.1; fault_once = λ a b p q. p.0 ∙ sym q.0 }
 
--- ---- the items of a field
+quoted_value_is_one : (item : RawItem) → IsOne (StatesQuotedValue item) (FailsQuotedValue item)
+quoted_value_is_one (bare text) = only _ _ (λ octets p. p)
+quoted_value_is_one (quoted text) = value_is_one text
+
+-- ---- items
+
+first_is_one : (States : RawItem → List ℕ → Type 0) (Fails : RawItem → WordsFault → Type 0) → ((item : RawItem) → IsOne (States item) (Fails item)) → (items : List RawItem) → IsOne (FirstStates States items) (FirstFails Fails items)
+first_is_one States Fails one [] = only _ _ (λ octets p. p)
+first_is_one States Fails one (item ∷ items) = one item
+
+perhaps_is_one : (items : List RawItem) → IsOne (StatesPerhaps items) (FailsPerhaps items)
+perhaps_is_one [] = record { once = λ a b p q. p ∙ sym q; or_fault = λ octets fault p q. q; fault_once = λ a b p q. absurd p }
+perhaps_is_one (item ∷ items) = string_is_one item
+
+strings_are_one : (items : List RawItem) → IsOne (StatesStrings items) (FailsStrings items)
+strings_are_one [] = only _ _ (λ octets p. let some = p.spelt.some in omega arith)
+strings_are_one (item ∷ items) = record {
+  once = strings_once (item ∷ items);
+  or_fault = λ octets fault p q. never_first (item ∷ items) p.strings q.own p.spelt.each q.first;
+  fault_once = λ a b p q. p.is ∙ ap of_string (leftmost_once (item ∷ items) p.own q.own p.first q.first) ∙ sym q.is;
+}
+
+-- the fault is the kind's own, but where no item is left
+by_items : (own : WordsFault) (States : List RawItem → List ℕ → Type 0) → ((octets : List ℕ) → States [] octets → ⊥) → ((items : List RawItem) (a b : List ℕ) → States items a → States items b → a ≡ b) → (items : List RawItem) → IsOne (States items) (FailsAs own States items)
+by_items own States none once [] = only _ _ none
+by_items own States none once (item ∷ items) = by_own own _ (once (item ∷ items))
+
+-- items that are joined have a text of octets, one or more
+joined_are_one : (own : WordsFault) (StandsFor : List ℕ → List ℕ → Type 0) → ((octets : List ℕ) → StandsFor [] octets → ⊥) → ((text a b : List ℕ) → StandsFor text a → StandsFor text b → a ≡ b) → (items : List RawItem) → IsOne (StatesJoined StandsFor items) (FailsAs own (StatesJoined StandsFor) items)
+joined_are_one own StandsFor none once = by_items own (StatesJoined StandsFor) (λ octets p. none octets (rw p.joined.joins at p.stands)) (joined_once StandsFor once)
+
+field_is_one : (origin : Labels) (kind : FieldKind) (items : List TouchingItem) → IsOne (StatesField origin kind items) (FailsField origin kind items)
+field_is_one origin (Bare kind) items = first_is_one _ _ (bare_is_one origin kind) (items_of items)
+field_is_one origin OneString items = first_is_one _ _ string_is_one (items_of items)
+field_is_one origin PerhapsOneString items = perhaps_is_one (items_of items)
+field_is_one origin Value items = first_is_one _ _ (λ item. value_is_one (item_text item)) (items_of items)
+field_is_one origin QuotedValue items = first_is_one _ _ quoted_value_is_one (items_of items)
+field_is_one origin Strings items = strings_are_one (items_of items)
+field_is_one origin Hex items = joined_are_one _ IsHex (λ octets. no_digits [] octets refl) one_hex (items_of items)
+field_is_one origin Base64 items = joined_are_one _ IsBase64 (λ octets. no_base64 [] octets refl) one_base64 (items_of items)
+field_is_one origin Types items = by_items _ StatesTypes (λ octets p. omega (arith, p.some)) types_once (items_of items)
+field_is_one origin PerhapsTypes items = by_own _ _ (perhaps_types_once (items_of items))
+field_is_one origin Prefixes items = by_own _ _ (prefixes_once (items_of items))
+field_is_one origin Location items = by_items _ StatesLocation (λ octets p. no_items p.0 p.1.0) location_once (items_of items)
+field_is_one origin Nothing items = record { once = λ a b p q. p.1 ∙ sym q.1; or_fault = λ octets fault p q. q.0 p.0; fault_once = λ a b p q. p.1 ∙ sym q.1 }
+field_is_one origin Parameters items = record { once = parameters_once items; or_fault = parameters_or_fault items; fault_once = parameters_fault_once items }
+
+-- ---- what is cited of a field
 
 pub field_once : (origin : Labels) (kind : FieldKind) (items : List TouchingItem) (a b : List ℕ) → StatesField origin kind items a → StatesField origin kind items b → a ≡ b
-field_once origin (Bare kind) items a b p q = first_once _ (bare_once origin kind) (items_of items) a b p q
-field_once origin OneString items a b p q = first_once _ string_once (items_of items) a b p q
-field_once origin PerhapsOneString items a b p q = perhaps_once (items_of items) a b p q
-field_once origin Value items a b p q = first_once _ value_once (items_of items) a b p q
-field_once origin QuotedValue items a b p q = first_once _ quoted_value_once (items_of items) a b p q
-field_once origin Strings items a b p q = strings_once (items_of items) a b p q
-field_once origin Hex items a b p q = hex_once (items_of items) a b p q
-field_once origin Base64 items a b p q = base64_once (items_of items) a b p q
-field_once origin Types items a b p q = types_once (items_of items) a b p q
-field_once origin PerhapsTypes items a b p q = perhaps_types_once (items_of items) a b p q
-field_once origin Prefixes items a b p q = prefixes_once (items_of items) a b p q
-field_once origin Nothing items a b p q = nothing_once (items_of items) a b p q
-field_once origin Location items a b p q = location_once (items_of items) a b p q
-field_once origin Parameters items a b p q = parameters_once items a b p q
+field_once origin kind items = (field_is_one origin kind items).once
 
 pub field_or_fault : (origin : Labels) (kind : FieldKind) (items : List TouchingItem) (octets : List ℕ) (fault : WordsFault) → StatesField origin kind items octets → FailsField origin kind items fault → ⊥
-field_or_fault origin (Bare kind) items octets fault p q = first_or_fault _ _ (bare_or_fault origin kind) (items_of items) octets fault p q
-field_or_fault origin OneString items octets fault p q = first_or_fault _ _ string_or_fault (items_of items) octets fault p q
-field_or_fault origin PerhapsOneString items octets fault p q = perhaps_or_fault (items_of items) octets fault p q
-field_or_fault origin Value items octets fault p q = first_or_fault _ _ value_or_fault (items_of items) octets fault p q
-field_or_fault origin QuotedValue items octets fault p q = first_or_fault _ _ quoted_value_or_fault (items_of items) octets fault p q
-field_or_fault origin Strings items octets fault p q = strings_or_fault (items_of items) octets fault p q
-field_or_fault origin Hex items octets fault p q = hex_or_fault (items_of items) octets fault p q
-field_or_fault origin Base64 items octets fault p q = base64_or_fault (items_of items) octets fault p q
-field_or_fault origin Types items octets fault p q = types_or_fault (items_of items) octets fault p q
-field_or_fault origin PerhapsTypes items octets fault p q = perhaps_types_or_fault (items_of items) octets fault p q
-field_or_fault origin Prefixes items octets fault p q = prefixes_or_fault (items_of items) octets fault p q
-field_or_fault origin Nothing items octets fault p q = nothing_or_fault (items_of items) octets fault p q
-field_or_fault origin Location items octets fault p q = location_or_fault (items_of items) octets fault p q
-field_or_fault origin Parameters items octets fault p q = parameters_or_fault items octets fault p q
+field_or_fault origin kind items = (field_is_one origin kind items).or_fault
+
+pub field_fault_once : (origin : Labels) (kind : FieldKind) (items : List TouchingItem) (a b : WordsFault) → FailsField origin kind items a → FailsField origin kind items b → a ≡ b
+field_fault_once origin kind items = (field_is_one origin kind items).fault_once

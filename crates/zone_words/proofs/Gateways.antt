@@ -6,10 +6,9 @@ use Rattle.std.specs.Option.{option_map}
 use Rattle.std.specs.Prelude.{IfNone, IfSome}
 use Rattle.zone_name.specs.Common.{NothingIs}
 use Rattle.zone_name.specs.Spelling.{is_digit}
-use Rattle.zone_rdata.specs.Item.{RawItem}
 use Rattle.zone_rdata.specs.Number.{IsCapped, IsDecimal, decimal_value}
 use Rattle.zone_words.proofs.Numbers.{decimal_once}
-use Rattle.zone_words.specs.Kinds.Gateway.{FailsNoAddress, FailsNothing, FailsUpTo, StatesNoAddress, StatesNothing, StatesUpTo, no_digits, too_great}
+use Rattle.zone_words.specs.Kinds.Gateway.{FailsUpTo, StatesUpTo, no_digits, too_great}
 use Rattle.zone_words.specs.Kinds.Number.{digits_number}
 use Rattle.zone_words.specs.Machine.Numbers.{IsOver}
 use Rattle.zone_words.specs.Table.{address_kind, is_one, key_kind}
@@ -45,20 +44,6 @@ capped_up_to text most n (Some m) octets_of small found is few =
     let same : m ≡ n = cc in
     let own : found.0 ≡ n = let e = found.1.1 in omega arith in
     record { number = n; stated = subst (IsDecimal text) own found.1.0; few = few; value = refl }
-
--- ---- no address, and nothing
-
-pub no_address_once : (text a b : List ℕ) → StatesNoAddress text a → StatesNoAddress text b → a ≡ b
-no_address_once text a b p q = p.1 ∙ sym q.1
-
-pub no_address_or_fault : (text octets : List ℕ) (fault : WordsFault) → StatesNoAddress text octets → FailsNoAddress text fault → ⊥
-no_address_or_fault text octets fault p q = q.0 p.0
-
-pub nothing_once : (items : List RawItem) (a b : List ℕ) → StatesNothing items a → StatesNothing items b → a ≡ b
-nothing_once items a b p q = p.1 ∙ sym q.1
-
-pub nothing_or_fault : (items : List RawItem) (octets : List ℕ) (fault : WordsFault) → StatesNothing items octets → FailsNothing items fault → ⊥
-nothing_or_fault items octets fault p q = q.0 p.0
 
 -- ---- the number of an item
 

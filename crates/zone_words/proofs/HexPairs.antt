@@ -4,9 +4,8 @@ use Rattle.std.proofs.lemmas.List.{append-nil}
 use Rattle.std.specs.List.{AllZip, join_with_byte}
 use Rattle.hex.proofs.HexLemmas.{decode_sized-ok}
 use Rattle.zone_words.specs.Fault.{AppendsStated}
-use Rattle.zone_words.specs.Kinds.Eui.{FailsEui, IsPair, StatesEui}
+use Rattle.zone_words.specs.Kinds.Eui.{IsPair, StatesEui}
 use Rattle.zone_words.specs.Machine.Pairs.{BeginsWithPair, IsCutPair}
-use Rattle.zone_words.specs.declared.fault.WordsFault.{WordsFault}
 
 pub pair_length : (text : List ℕ) (octet : ℕ) → IsPair text octet → length text ≡ 2
 pair_length text octet is = decode_sized-ok text 1 (octet ∷ []) is
@@ -172,6 +171,3 @@ eui_once count text a b some x y =
     let p = are_pairs count text a some x in
     let q = are_pairs count text b some y in
     same_octets p.pairs q.pairs a b p.each q.each p.some q.some (sym p.parted ∙ q.parted)
-
-pub eui_or_fault : (count : ℕ) (text octets : List ℕ) (fault : WordsFault) → StatesEui count text octets → FailsEui count text fault → ⊥
-eui_or_fault count text octets fault stated fails = fails.1 octets stated

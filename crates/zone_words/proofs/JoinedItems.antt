@@ -72,8 +72,3 @@ many_fail own (item ∷ items) fault some none = none
 pub join_fails : (own : WordsFault) (StandsFor : List ℕ → List ℕ → Type 0) (items : List RawItem) (fault : WordsFault) → FailsAs own Joined items fault → FailsAs own (StatesJoined StandsFor) items fault
 join_fails own StandsFor [] fault h = h
 join_fails own StandsFor (item ∷ items) fault h = (h.0, λ octets stated. h.1 stated.text stated.joined)
-
--- never both
-pub joined_or_fault : (own : WordsFault) (StandsFor : List ℕ → List ℕ → Type 0) → ((octets : List ℕ) → StandsFor [] octets → ⊥) → (items : List RawItem) (octets : List ℕ) (fault : WordsFault) → StatesJoined StandsFor items octets → FailsAs own (StatesJoined StandsFor) items fault → ⊥
-joined_or_fault own StandsFor empty [] octets fault stated h = empty octets (rw stated.joined.joins at stated.stands)
-joined_or_fault own StandsFor empty (item ∷ items) octets fault stated h = h.1 octets stated

@@ -31,8 +31,6 @@ pub mod Times
 pub mod Bits
 pub mod Bitmaps
 pub mod UnescapedTexts
-pub mod Values
-pub mod Tags
 pub mod OfParameters
 mod HexPairs
 mod NodeIds

@@ -8,7 +8,6 @@ use Rattle.zone_words.proofs.Places.{altitude_once, place_once, size_once}
 use Rattle.zone_words.specs.DataItem.{raw_item}
 use Rattle.zone_words.specs.Kinds.Location.{BeginsWithAltitude, BeginsWithPlace, BeginsWithSize, FailsLocation, IsLocation, StatesLocation, location_octets}
 use Rattle.zone_words.specs.declared.data_item.DataItem.{DataItem}
-use Rattle.zone_words.specs.declared.fault.WordsFault.{WordsFault}
 use Rattle.zone_words.specs.declared.fault.WordsFault.TheVariants.{NotALocation}
 use Rattle.zone_words.specs.declared.kinds.location.Location.{Location}
 use Rattle.zone_words.specs.declared.kinds.location.place.Axis.TheVariants.{Latitude, Longitude}
@@ -132,12 +131,8 @@ nothing_in : (front : List RawItem) (item : RawItem) (rest : List RawItem) → [
 nothing_in [] item rest e = cc e
 nothing_in (x ∷ front) item rest e = cc e
 
-no_items : (l : Location) → IsLocation [] l → ⊥
+pub no_items : (l : Location) → IsLocation [] l → ⊥
 no_items l is = nothing_in is.latitude.angle_items is.latitude.half_item is.after_latitude is.latitude.parts
-
-pub location_or_fault : (items : List RawItem) (octets : List ℕ) (fault : WordsFault) → StatesLocation items octets → FailsLocation items fault → ⊥
-location_or_fault [] octets fault states fails = no_items states.0 states.1.0
-location_or_fault (item ∷ items) octets fault states fails = fails.1 octets states
 
 -- items that are no location
 pub no_location : (items : List DataItem) → 0 < length items → NothingIs (IsLocation (map raw_item items)) → FailsLocation (map raw_item items) NotALocation

@@ -17,7 +17,6 @@ use Rattle.zone_words.specs.Kinds.Prefixes.{FailsPrefixes, IsAddressText, IsPref
 use Rattle.zone_words.specs.Machine.Cuts.{IsCutFirst, IsCutLast, IsMissing}
 use Rattle.zone_words.specs.Machine.Prefixes.{BeginsWithMark, IsAfterMark, IsItemPrefix}
 use Rattle.zone_words.specs.declared.data_item.DataItem.{DataItem}
-use Rattle.zone_words.specs.declared.fault.WordsFault.{WordsFault}
 use Rattle.zone_words.specs.declared.fault.WordsFault.TheVariants.{NoPrefix}
 use Rattle.zone_words.specs.declared.kinds.prefixes.Address.{Address}
 use Rattle.zone_words.specs.declared.kinds.prefixes.Address.TheVariants.{Ipv4, Ipv6}
@@ -256,6 +255,3 @@ pub prefixes_once : (items : List RawItem) (a b : List ℕ) → StatesPrefixes i
 prefixes_once [] a b these those = these ∙ sym those
 prefixes_once (item ∷ items) a b these those =
     these.2.1.1 ∙ ap₂ (λ x y. x ++ y) (item_once item these.0 those.0 these.2.0 those.2.0) (prefixes_once items these.1 those.1 these.2.1.0 those.2.1.0) ∙ sym those.2.1.1
-
-pub prefixes_or_fault : (items : List RawItem) (octets : List ℕ) (fault : WordsFault) → StatesPrefixes items octets → FailsPrefixes items fault → ⊥
-prefixes_or_fault items octets fault states fails = fails.1 octets states

@@ -5,8 +5,7 @@ use Rattle.zone_words.proofs.HexDigits.{one_hex}
 use Rattle.zone_words.proofs.LengthsBefore.{after_length_once, appended_after_length}
 use Rattle.zone_words.specs.Fault.{AppendsStated}
 use Rattle.zone_words.specs.Kinds.Hex.{IsHex}
-use Rattle.zone_words.specs.Kinds.Salt.{FailsSalt, IsSalt, StatesSalt, none, some}
-use Rattle.zone_words.specs.declared.fault.WordsFault.{WordsFault}
+use Rattle.zone_words.specs.Kinds.Salt.{IsSalt, StatesSalt, none, some}
 
 -- two digits for each octet
 twice : (text octets : List ℕ) → IsHex text octets → length text ≡ 2 * length octets
@@ -37,6 +36,3 @@ salt_appended text old mid new few grown more =
 
 pub salt_once : (text a b : List ℕ) → StatesSalt text a → StatesSalt text b → a ≡ b
 salt_once text a b x y = after_length_once IsSalt one_salt text a b x y
-
-pub salt_or_fault : (text octets : List ℕ) (fault : WordsFault) → StatesSalt text octets → FailsSalt text fault → ⊥
-salt_or_fault text octets fault stated fails = fails.1 octets stated

@@ -56,9 +56,6 @@ strings_appended items i old now some past read =
 pub string_once : (item : RawItem) (a b : List ℕ) → StatesString item a → StatesString item b → a ≡ b
 string_once item a b p q = p.value ∙ ap with_length (string-once item p.string q.string p.spelt q.spelt) ∙ sym q.value
 
-pub string_or_fault : (item : RawItem) (octets : List ℕ) (fault : WordsFault) → StatesString item octets → FailsString item fault → ⊥
-string_or_fault item octets fault p q = string-never_both item p.string q.own p.spelt q.first
-
 many_once : (items : List RawItem) (a b : List (List ℕ)) → SpellEachString items a → SpellEachString items b → a ≡ b
 many_once [] [] [] p q = refl
 many_once (item ∷ items) (s ∷ a) (t ∷ b) p q = cc (string-once item s t p.0 q.0, many_once items a b p.1 q.1)
@@ -70,12 +67,8 @@ many_once (item ∷ items) (s ∷ a) [] p q = absurd q
 pub strings_once : (items : List RawItem) (a b : List ℕ) → StatesStrings items a → StatesStrings items b → a ≡ b
 strings_once items a b p q = p.value ∙ ap (flat_map with_length) (many_once items p.strings q.strings p.spelt.each q.spelt.each) ∙ sym q.value
 
-never_first : (items : List RawItem) (many : List (List ℕ)) (own : Fault) → SpellEachString items many → FirstStringFault items own → ⊥
+pub never_first : (items : List RawItem) (many : List (List ℕ)) (own : Fault) → SpellEachString items many → FirstStringFault items own → ⊥
 never_first [] many own p bad = bad
 never_first (item ∷ items) [] own p bad = p
 never_first (item ∷ items) (s ∷ many) own p (inl bad) = string-never_both item s own p.0 bad
 never_first (item ∷ items) (s ∷ many) own p (inr later) = never_first items many own p.1 later.2
-
-pub strings_or_fault : (items : List RawItem) (octets : List ℕ) (fault : WordsFault) → StatesStrings items octets → FailsStrings items fault → ⊥
-strings_or_fault [] octets fault p bad = let some = p.spelt.some in omega arith
-strings_or_fault (item ∷ items) octets fault p bad = never_first (item ∷ items) p.strings bad.own p.spelt.each bad.first

@@ -306,6 +306,13 @@ pub record IsAround (origin : Labels) (before : List Entry) (line : ℕ) (all_to
 tokens_of : (octets : List ℕ) (all_tokens : List Token) → Cuts octets all_tokens → AreTokensOf octets all_tokens
 tokens_of octets all_tokens cut = record { whole = cut.whole; each = cut.each; follow = cut.follow }
 
+under_split : (origin : Labels) (before : List Entry) (line : ℕ) (all_tokens : List Token) (found : FurtherRecord) (n : ℕ) (above : Labels) → (of : AreOfRecord origin before line all_tokens found n above) → (at : IsSplit all_tokens found.word.now of.is.all) → IsFurtherUnder origin before (entry_of line all_tokens) (written_text at.units) (items_of (touching_items true at.back)) (further_of found.further.now) above
+under_split origin before line all_tokens found n above of at = record {
+  stated = subst (λ w. IsFurtherRecord before (entry_of line all_tokens) w (items_of (touching_items true at.back)) (further_of found.further.now)) at.is
+      (subst (λ i. IsFurtherRecord before (entry_of line all_tokens) found.word.now i (further_of found.further.now)) at.items of.is.is);
+  under = of.under;
+}
+
 around_by : (octets : List ℕ) (origin : Labels) (before : List Entry) (line : ℕ) (all_tokens : List Token) (found : FurtherRecord) (n : ℕ) (above : Labels) (around : Around) → Cuts octets all_tokens → (of : AreOfRecord origin before line all_tokens found n above) → n < most_items → StandsBeside octets found n around → of.is.all ≡ map raw found.items.now → IsSplit all_tokens found.word.now of.is.all → IsAround origin before line all_tokens found n above around
 around_by octets origin before line all_tokens found n above around cut of few stands same at =
     let are : AreTokensOf octets (at.front ++ tokens.bare at.units ∷ at.back) = subst (AreTokensOf octets) at.whole (tokens_of octets all_tokens cut) in
@@ -320,11 +327,7 @@ around_by octets origin before line all_tokens found n above around cut of few s
       whole = at.whole;
       before_is = is.0;
       after_are = tokens_behind octets around.back.now at.front at.back at.units are is.1;
-      under = record {
-        stated = subst (λ w. IsFurtherRecord before (entry_of line all_tokens) w (items_of (touching_items true at.back)) (further_of found.further.now)) at.is
-            (subst (λ i. IsFurtherRecord before (entry_of line all_tokens) found.word.now i (further_of found.further.now)) at.items of.is.is);
-        under = of.under;
-      };
+      under = under_split origin before line all_tokens found n above of at;
       few = omega (arith, all_kept, few);
       items = sym same ∙ at.items;
       word = at.is;
@@ -349,43 +352,33 @@ stands_somewhere octets origin before line all_tokens found n above cut of few n
     let place : length (flat_map item_of at.front) ≡ n - length found.items.now - 1 = (let c = at.count in omega (arith, c, len, all_kept)) in
     none at.front at.back at.units are place
 
+-- what is said of the record is said around its type's word
+say_there : (origin : Labels) (before : List Entry) (line : ℕ) (all_tokens : List Token) (found : FurtherRecord) (n : ℕ) (above : Labels) (around : Around) (a : IsAround origin before line all_tokens found n above around) (anew : Anew) → SaysAnew origin before (entry_of line all_tokens) (written_text a.units) (touching_items true a.back) anew → SayAround origin before line all_tokens around anew
+say_there origin before line all_tokens found n above around a anew says = record {
+  front = a.front;
+  back = a.back;
+  before_is = a.before_is;
+  after_are = a.after_are;
+  say = record { word = a.units; split = a.whole; says = says };
+}
+
 -- a mnemonic before the generic form
 pub renamed_there : (octets : List ℕ) (origin : Labels) (before : List Entry) (line : ℕ) (all_tokens : List Token) (found : FurtherRecord) (n : ℕ) (above : Labels) (around : Around) → Cuts octets all_tokens → AreOfRecord origin before line all_tokens found n above → n < most_items → StandsBeside octets found n around → IsGeneric (map raw found.items.now) → folded_label found.word.now ≡ folded_label found.further.now.mnemonic.now → AreOnOneLine (map raw found.items.now) → SayAround origin before line all_tokens around (renamed around.number)
 renamed_there octets origin before line all_tokens found n above around cut of few stands generic same one_line =
     let a = around_there octets origin before line all_tokens found n above around cut of few stands in
     let f : FurtherType = further_of found.further.now in
-    let says = in_generic_form f above a.under a.few (subst AreOnOneLine a.items one_line) (subst IsGeneric a.items generic)
-    (record { name = f.mnemonic; row = own_mnemonic (written_text a.units) f a.under.stated.named; same = ap folded_label (sym a.word) ∙ same }) in
-    record {
-      front = a.front;
-      back = a.back;
-      before_is = a.before_is;
-      after_are = a.after_are;
-      say = record {
-        word = a.units;
-        split = a.whole;
-        says = subst (λ k. SaysAnew origin before (entry_of line all_tokens) (written_text a.units) (touching_items true a.back) (renamed k)) (sym stands.number) says;
-      };
-    }
+    subst (λ k. SayAround origin before line all_tokens around (renamed k)) (sym stands.number)
+    (say_there origin before line all_tokens found n above around a _ (in_generic_form f above a.under a.few (subst AreOnOneLine a.items one_line) (subst IsGeneric a.items generic)
+    (record { name = f.mnemonic; row = own_mnemonic (written_text a.units) f a.under.stated.named; same = ap folded_label (sym a.word) ∙ same })))
 
 -- words that state octets
 pub stated_there : (octets : List ℕ) (origin : Labels) (before : List Entry) (line : ℕ) (all_tokens : List Token) (found : FurtherRecord) (n : ℕ) (above : Labels) (around : Around) (given_items : List TouchingItem) (stated : List ℕ) → Cuts octets all_tokens → AreOfRecord origin before line all_tokens found n above → AreInWords found n → StandsBeside octets found n around → ((back : List Token) → AreTokensOf around.back.now back → given_items ≡ touching_items true back) → StatesData above (fields_in (further_of found.further.now).fields given_items) given_items stated → SayAround origin before line all_tokens around (in_octets around.number stated)
 stated_there octets origin before line all_tokens found n above around given_items stated cut of words stands given_are states =
     let a = around_there octets origin before line all_tokens found n above around cut of words.few stands in
     let f : FurtherType = further_of found.further.now in
-    let says = in_words f above stated a.under a.few (subst AreOnOneLine a.items words.on_one_line) (λ g. words.in_words (subst IsGeneric (sym a.items) g))
-    (subst (λ d. StatesData above (fields_in f.fields d) d stated) (given_are a.back a.after_are) states) in
-    record {
-      front = a.front;
-      back = a.back;
-      before_is = a.before_is;
-      after_are = a.after_are;
-      say = record {
-        word = a.units;
-        split = a.whole;
-        says = subst (λ k. SaysAnew origin before (entry_of line all_tokens) (written_text a.units) (touching_items true a.back) (in_octets k stated)) (sym stands.number) says;
-      };
-    }
+    subst (λ k. SayAround origin before line all_tokens around (in_octets k stated)) (sym stands.number)
+    (say_there origin before line all_tokens found n above around a _ (in_words f above stated a.under a.few (subst AreOnOneLine a.items words.on_one_line) (λ g. words.in_words (subst IsGeneric (sym a.items) g))
+    (subst (λ d. StatesData above (fields_in f.fields d) d stated) (given_are a.back a.after_are) states)))
 
 -- words that state none
 pub fails_there : (octets : List ℕ) (origin : Labels) (before : List Entry) (line : ℕ) (all_tokens : List Token) (found : FurtherRecord) (n : ℕ) (above : Labels) (around : Around) (given_items : List TouchingItem) (field : List ℕ) (fault : WordsFault) (it : Refused) → Cuts octets all_tokens → AreOfRecord origin before line all_tokens found n above → AreInWords found n → StandsBeside octets found n around → ((back : List Token) → AreTokensOf around.back.now back → given_items ≡ touching_items true back) → DataFails above (fields_in (further_of found.further.now).fields given_items) given_items field fault → it ≡ record { line = line; mnemonic = found.further.now.mnemonic.now; field = field; fault = fault } → TokensFail origin before line all_tokens it
@@ -395,13 +388,6 @@ fails_there octets origin before line all_tokens found n above around given_item
     let bad = no_data f above field fault a.under (λ g. words.in_words (subst IsGeneric (sym a.items) g)) a.few (subst AreOnOneLine a.items words.on_one_line)
     (subst (λ d. DataFails above (fields_in f.fields d) d field fault) (given_are a.back a.after_are) fails) in
     subst (λ (r : Refused). TokensFail origin before line all_tokens r) (sym told_is) (record { front = a.front; back = a.back; word = a.units; split = a.whole; fails = bad })
-
-under_split : (origin : Labels) (before : List Entry) (line : ℕ) (all_tokens : List Token) (found : FurtherRecord) (n : ℕ) (above : Labels) → (of : AreOfRecord origin before line all_tokens found n above) → (at : IsSplit all_tokens found.word.now of.is.all) → IsFurtherUnder origin before (entry_of line all_tokens) (written_text at.units) (items_of (touching_items true at.back)) (further_of found.further.now) above
-under_split origin before line all_tokens found n above of at = record {
-  stated = subst (λ w. IsFurtherRecord before (entry_of line all_tokens) w (items_of (touching_items true at.back)) (further_of found.further.now)) at.is
-      (subst (λ i. IsFurtherRecord before (entry_of line all_tokens) found.word.now i (further_of found.further.now)) at.items of.is.is);
-  under = of.under;
-}
 
 -- too many items, and a line feed within quotes
 pub many_fail : (origin : Labels) (before : List Entry) (line : ℕ) (all_tokens : List Token) (found : FurtherRecord) (n : ℕ) (above : Labels) (it : Refused) → AreOfRecord origin before line all_tokens found n above → most_items ≤ n → (IsGeneric (map raw found.items.now) → ⊥) → it ≡ record { line = line; mnemonic = found.further.now.mnemonic.now; field = codes "data"; fault = TooManyItems } → TokensFail origin before line all_tokens it

@@ -116,13 +116,6 @@ perhaps_types_once items a b these those =
 pub types_once : (items : List RawItem) (a b : List ℕ) → StatesTypes items a → StatesTypes items b → a ≡ b
 types_once items a b these those = perhaps_types_once items a b these.types those.types
 
-pub perhaps_types_or_fault : (items : List RawItem) (octets : List ℕ) (fault : WordsFault) → StatesPerhapsTypes items octets → FailsPerhapsTypes items fault → ⊥
-perhaps_types_or_fault items octets fault states fails = fails.1 octets states
-
-pub types_or_fault : (items : List RawItem) (octets : List ℕ) (fault : WordsFault) → StatesTypes items octets → FailsTypes items fault → ⊥
-types_or_fault [] octets fault states fails = omega (arith, states.some)
-types_or_fault (item ∷ items) octets fault states fails = fails.1 octets states
-
 -- items that name no types state none, and an item is left
 pub types_fail : (items : List DataItem) → 0 < length items → (fault : WordsFault) → FailsPerhapsTypes (map raw_item items) fault → FailsTypes (map raw_item items) fault
 types_fail [] some fault fails = absurd (omega arith)

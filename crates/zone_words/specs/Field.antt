@@ -1,11 +1,11 @@
 -- The kinds of fields: which items are a field's own, what they state, and why they state nothing.
-use Rattle.std.specs.Prelude.{◌≡◌, ℕ, Bool, true, false, if◌then◌else◌, List, length, map, min, take, drop, None}
+use Rattle.std.specs.Prelude.{◌≡◌, ℕ, Bool, true, false, if◌then◌else◌, List, length, min, take, drop, None}
 use Rattle.zone_name.specs.Common.{Labels}
 use Rattle.zone_rdata.specs.Spelling.{RawItem, bare, quoted}
 use Rattle.zone_words.specs.Kinds.Gateway.{FailsAddressType, FailsDiscovery, FailsNoAddress, FailsNothing, StatesAddressType, StatesDiscovery, StatesNoAddress, StatesNothing}
 use Rattle.zone_words.specs.Kinds.Location.{FailsLocation, StatesLocation}
 use Rattle.zone_words.specs.Kinds.Prefixes.{FailsPrefixes, StatesPrefixes}
-use Rattle.zone_words.specs.DataItem.{TouchingItem}
+use Rattle.zone_words.specs.DataItem.{TouchingItem, items_of}
 use Rattle.zone_words.specs.FirstItem.{FirstFails, FirstStates}
 use Rattle.zone_words.specs.Kinds.Address.{FailsIpv4, FailsIpv6, StatesIpv4, StatesIpv6}
 use Rattle.zone_words.specs.Kinds.Base64.{FailsBase64, StatesBase64}
@@ -46,57 +46,45 @@ quoted_fault Eui48 = NotAnAddress
 quoted_fault Eui64 = NotAnAddress
 quoted_fault kind = NotANumber
 
--- the octets that a bare text states under an origin
-abbrev pub StatesText : Labels → BareKind → List ℕ → List ℕ → Type 0
-StatesText origin U8 text octets = StatesU8 text octets
-StatesText origin U16 text octets = StatesU16 text octets
-StatesText origin U32 text octets = StatesU32 text octets
-StatesText origin Algorithm text octets = StatesAlgorithm text octets
-StatesText origin CertificateType text octets = StatesCertificateType text octets
-StatesText origin RecordType text octets = StatesType text octets
-StatesText origin Time text octets = StatesTime text octets
-StatesText origin Name text octets = StatesName origin text octets
-StatesText origin Salt text octets = StatesSalt text octets
-StatesText origin Hash text octets = StatesHash text octets
-StatesText origin Tag text octets = StatesTag text octets
-StatesText origin Ipv4 text octets = StatesIpv4 text octets
-StatesText origin Ipv6 text octets = StatesIpv6 text octets
-StatesText origin (AddressType optional) text octets = StatesAddressType optional text octets
-StatesText origin Discovery text octets = StatesDiscovery text octets
-StatesText origin NoAddress text octets = StatesNoAddress text octets
-StatesText origin NodeId text octets = StatesNodeId text octets
-StatesText origin Eui48 text octets = StatesEui 6 text octets
-StatesText origin Eui64 text octets = StatesEui 8 text octets
+-- what a text or items state, and why they state nothing
+pub record Meaning (Given : Type 0) : Type 1 where
+  pub States : Given → List ℕ → Type 0
+  pub Fails : Given → WordsFault → Type 0
 
--- why it states none
-abbrev pub FailsText : Labels → BareKind → List ℕ → WordsFault → Type 0
-FailsText origin U8 text fault = FailsU8 text fault
-FailsText origin U16 text fault = FailsU16 text fault
-FailsText origin U32 text fault = FailsU32 text fault
-FailsText origin Algorithm text fault = FailsAlgorithm text fault
-FailsText origin CertificateType text fault = FailsCertificateType text fault
-FailsText origin RecordType text fault = FailsType text fault
-FailsText origin Time text fault = FailsTime text fault
-FailsText origin Name text fault = FailsName origin text fault
-FailsText origin Salt text fault = FailsSalt text fault
-FailsText origin Hash text fault = FailsHash text fault
-FailsText origin Tag text fault = FailsTag text fault
-FailsText origin Ipv4 text fault = FailsIpv4 text fault
-FailsText origin Ipv6 text fault = FailsIpv6 text fault
-FailsText origin (AddressType optional) text fault = FailsAddressType text fault
-FailsText origin Discovery text fault = FailsDiscovery text fault
-FailsText origin NoAddress text fault = FailsNoAddress text fault
-FailsText origin NodeId text fault = FailsNodeId text fault
-FailsText origin Eui48 text fault = FailsEui 6 text fault
-FailsText origin Eui64 text fault = FailsEui 8 text fault
+abbrev pub meaning : {Given : Type 0} → (Given → List ℕ → Type 0) → (Given → WordsFault → Type 0)
+    → Meaning Given
+meaning States Fails = record { States = States; Fails = Fails }
 
--- the same of an item, which has to be bare
+-- that of a bare text under an origin
+abbrev pub text_meaning : Labels → BareKind → Meaning (List ℕ)
+text_meaning origin U8 = meaning StatesU8 FailsU8
+text_meaning origin U16 = meaning StatesU16 FailsU16
+text_meaning origin U32 = meaning StatesU32 FailsU32
+text_meaning origin Algorithm = meaning StatesAlgorithm FailsAlgorithm
+text_meaning origin CertificateType = meaning StatesCertificateType FailsCertificateType
+text_meaning origin RecordType = meaning StatesType FailsType
+text_meaning origin Time = meaning StatesTime FailsTime
+text_meaning origin Name = meaning (StatesName origin) (FailsName origin)
+text_meaning origin Salt = meaning StatesSalt FailsSalt
+text_meaning origin Hash = meaning StatesHash FailsHash
+text_meaning origin Tag = meaning StatesTag FailsTag
+text_meaning origin Ipv4 = meaning StatesIpv4 FailsIpv4
+text_meaning origin Ipv6 = meaning StatesIpv6 FailsIpv6
+text_meaning origin (AddressType optional) =
+    meaning (StatesAddressType optional) FailsAddressType
+text_meaning origin Discovery = meaning StatesDiscovery FailsDiscovery
+text_meaning origin NoAddress = meaning StatesNoAddress FailsNoAddress
+text_meaning origin NodeId = meaning StatesNodeId FailsNodeId
+text_meaning origin Eui48 = meaning (StatesEui 6) (FailsEui 6)
+text_meaning origin Eui64 = meaning (StatesEui 8) (FailsEui 8)
+
+-- that of an item, which has to be bare
 abbrev pub StatesBare : Labels → BareKind → RawItem → List ℕ → Type 0
-StatesBare origin kind (bare text) octets = StatesText origin kind text octets
+StatesBare origin kind (bare text) octets = (text_meaning origin kind).States text octets
 StatesBare origin kind (quoted text) octets = ⊥
 
 abbrev pub FailsBare : Labels → BareKind → RawItem → WordsFault → Type 0
-FailsBare origin kind (bare text) fault = FailsText origin kind text fault
+FailsBare origin kind (bare text) fault = (text_meaning origin kind).Fails text fault
 FailsBare origin kind (quoted text) fault = fault ≡ quoted_fault kind
 
 -- the field has one item at most
@@ -119,43 +107,43 @@ own_items kind items = take (own_count kind (length items)) items
 abbrev pub items_after : FieldKind → List TouchingItem → List TouchingItem
 items_after kind items = drop (own_count kind (length items)) items
 
-abbrev pub items_of : List TouchingItem → List RawItem
-items_of items = map (λ (t : TouchingItem). t.item) items
+-- that of the first item, where there has to be one
+abbrev pub first : (RawItem → List ℕ → Type 0) → (RawItem → WordsFault → Type 0)
+    → Meaning (List RawItem)
+first States Fails = meaning (FirstStates States) (FirstFails Fails)
 
--- the octets that a field's own items state under an origin
+-- items, without and with whether they touch
+abbrev pub Items : Type 0
+Items = List RawItem × List TouchingItem
+
+-- that of items whether they touch or not
+abbrev pub alone : Meaning (List RawItem) → Meaning Items
+alone m = meaning (λ items. m.States items.0) (λ items. m.Fails items.0)
+
+-- that of a field's own items under an origin
+abbrev pub field_meaning : Labels → FieldKind → Meaning Items
+field_meaning origin (Bare kind) = alone (first (StatesBare origin kind) (FailsBare origin kind))
+field_meaning origin OneString = alone (first StatesString FailsString)
+field_meaning origin PerhapsOneString = alone (meaning StatesPerhaps FailsPerhaps)
+field_meaning origin Value = alone (first StatesValue FailsValue)
+field_meaning origin QuotedValue = alone (first StatesQuotedValue FailsQuotedValue)
+field_meaning origin Strings = alone (meaning StatesStrings FailsStrings)
+field_meaning origin Hex = alone (meaning StatesHex FailsHex)
+field_meaning origin Base64 = alone (meaning StatesBase64 FailsBase64)
+field_meaning origin Types = alone (meaning StatesTypes FailsTypes)
+field_meaning origin PerhapsTypes = alone (meaning StatesPerhapsTypes FailsPerhapsTypes)
+field_meaning origin Prefixes = alone (meaning StatesPrefixes FailsPrefixes)
+field_meaning origin Location = alone (meaning StatesLocation FailsLocation)
+field_meaning origin Nothing = alone (meaning StatesNothing FailsNothing)
+field_meaning origin Parameters =
+    meaning (λ items. StatesParameters items.1) (λ items. FailsParameters items.1)
+
+-- the octets that they state
 abbrev pub StatesField : Labels → FieldKind → List TouchingItem → List ℕ → Type 0
-StatesField origin (Bare kind) items octets =
-    FirstStates (StatesBare origin kind) (items_of items) octets
-StatesField origin OneString items octets = FirstStates StatesString (items_of items) octets
-StatesField origin PerhapsOneString items octets = StatesPerhaps (items_of items) octets
-StatesField origin Value items octets = FirstStates StatesValue (items_of items) octets
-StatesField origin QuotedValue items octets =
-    FirstStates StatesQuotedValue (items_of items) octets
-StatesField origin Strings items octets = StatesStrings (items_of items) octets
-StatesField origin Hex items octets = StatesHex (items_of items) octets
-StatesField origin Base64 items octets = StatesBase64 (items_of items) octets
-StatesField origin Types items octets = StatesTypes (items_of items) octets
-StatesField origin PerhapsTypes items octets = StatesPerhapsTypes (items_of items) octets
-StatesField origin Prefixes items octets = StatesPrefixes (items_of items) octets
-StatesField origin Location items octets = StatesLocation (items_of items) octets
-StatesField origin Nothing items octets = StatesNothing (items_of items) octets
-StatesField origin Parameters items octets = StatesParameters items octets
+StatesField origin kind items octets =
+    (field_meaning origin kind).States (items_of items, items) octets
 
 -- why they state none
 abbrev pub FailsField : Labels → FieldKind → List TouchingItem → WordsFault → Type 0
-FailsField origin (Bare kind) items fault =
-    FirstFails (FailsBare origin kind) (items_of items) fault
-FailsField origin OneString items fault = FirstFails FailsString (items_of items) fault
-FailsField origin PerhapsOneString items fault = FailsPerhaps (items_of items) fault
-FailsField origin Value items fault = FirstFails FailsValue (items_of items) fault
-FailsField origin QuotedValue items fault =
-    FirstFails FailsQuotedValue (items_of items) fault
-FailsField origin Strings items fault = FailsStrings (items_of items) fault
-FailsField origin Hex items fault = FailsHex (items_of items) fault
-FailsField origin Base64 items fault = FailsBase64 (items_of items) fault
-FailsField origin Types items fault = FailsTypes (items_of items) fault
-FailsField origin PerhapsTypes items fault = FailsPerhapsTypes (items_of items) fault
-FailsField origin Prefixes items fault = FailsPrefixes (items_of items) fault
-FailsField origin Location items fault = FailsLocation (items_of items) fault
-FailsField origin Nothing items fault = FailsNothing (items_of items) fault
-FailsField origin Parameters items fault = FailsParameters items fault
+FailsField origin kind items fault =
+    (field_meaning origin kind).Fails (items_of items, items) fault

@@ -2,7 +2,7 @@
 ghost use Rattle.std.specs.Prelude.{◌≡◌, map, IfErr, OnOk};
 ghost use Rattle.zone_words.specs.DataItem.{given, raw_item};
 ghost use Rattle.zone_words.specs.Fault.{AppendsStated, IfFault};
-ghost use Rattle.zone_words.specs.Field.{FailsBare, FailsField, FailsText, StatesBare, StatesField, StatesText, own_count, quoted_fault, takes_one};
+ghost use Rattle.zone_words.specs.Field.{FailsBare, StatesBare, field_meaning, own_count, quoted_fault, takes_one, text_meaning};
 ghost use Rattle.zone_words.specs.FirstItem.{FirstFails, FirstStates};
 
 use crate::data_item::DataItem;
@@ -133,8 +133,9 @@ impl BareKind {
     /// What is wrong with the text, and want of memory. `out` may have got some octets.
     fn push(self, text: &[u8], origin: &CasedName, out: &mut Vec<u8>) -> Result<(), WordsFailing>
         ensures states { OnOk result
-            (AppendsStated (StatesText origin.now self text.now) out.old.items out.new.items) }
-        ensures fault { IfErr result (IfFault (FailsText origin.now self text.now)) }
+            (AppendsStated ((text_meaning origin.now self).States text.now) out.old.items
+            out.new.items) }
+        ensures fault { IfErr result (IfFault ((text_meaning origin.now self).Fails text.now)) }
     {
         match self {
             BareKind::U8 => push_u8(text, out),
@@ -221,10 +222,11 @@ impl FieldKind {
         out: &mut Vec<u8>,
     ) -> Result<(), WordsFailing>
         ensures states { OnOk result
-            (AppendsStated (StatesField origin.now self (map given items.now)) out.old.items
-            out.new.items) }
+            (AppendsStated ((field_meaning origin.now self).States
+            (map raw_item items.now, map given items.now)) out.old.items out.new.items) }
         ensures fault { IfErr result
-            (IfFault (FailsField origin.now self (map given items.now))) }
+            (IfFault ((field_meaning origin.now self).Fails
+            (map raw_item items.now, map given items.now))) }
     {
         match self {
             FieldKind::Bare(kind) => kind.push_first(items, origin, out),
