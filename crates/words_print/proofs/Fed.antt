@@ -1,7 +1,7 @@
 -- What a printer has written for the lines that it was fed.
 use Rattle.zone_text.proofs.Common.{AllByRecursion-append, List, [], ap, append-nil, append_assoc, flat_map-append, refl, subst, sym, ℕ, ◌++◌, ◌∙◌, ◌∷◌, ◌≡◌, ◌≢◌, Bool, false}
 use Rattle.std.proofs.lemmas.Bool.{false≢true}
-use Rattle.std.specs.Prelude.{◌==◌, Err, Ok, OnErr, Result, length}
+use Rattle.std.specs.Prelude.{◌==◌, length}
 use Rattle.zone_print.specs.Laws.{EndsWithItsFeed, HasNoFeed}
 use Rattle.zone_words.specs.Data.{joined}
 use Rattle.zone_words.specs.Fault.{AppendsStated}
@@ -120,10 +120,6 @@ part_again a b fed given same is = record {
 
 pub filled : (octets : List ℕ) (test : Bool) → test ≡ (length octets == 0) → test ≡ false → octets ≡ [] → ⊥
 filled octets test is fails none = false≢true (sym fails ∙ is ∙ ap (λ o. length o == 0) none)
-
-pub on_err : {A B P : Type 0} (r : Result A B) → P → OnErr r P
-on_err (Ok x) p = tt
-on_err (Err e) p = p
 
 -- the end of the text
 pub text_ended : (old new : PrinterState) (fed given : List ℕ) → old.waiting ≡ [] → new.written ≡ old.written → StandsForWords old fed given → IsShownText fed (given ++ new.written)

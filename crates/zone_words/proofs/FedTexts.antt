@@ -373,9 +373,9 @@ whole_taken old new octets entry left n kept is unbroken none same broken front 
           (entry_follows old new (take n octets) unbroken broken (octets_same ∙ none) one);
     }
 
-pub on_err : {T E : Type 0} (result : Result T E) (P : Type 0) → P → OnErr result P
-on_err (Ok x) P p = tt
-on_err (Err e) P p = p
+pub on_err : {T E P : Type 0} (result : Result T E) → P → OnErr result P
+on_err (Ok x) p = tt
+on_err (Err e) p = p
 
 -- ---- a piece
 

@@ -3,6 +3,7 @@ use Rattle.std.proofs.Common.{[], ◌≡◌, ◌≢◌, ℕ, ◌+◌, ◌*◌, �
 use Rattle.std.proofs.lemmas.List.{append-nil}
 use Rattle.std.specs.List.{AllZip, join_with_byte}
 use Rattle.hex.proofs.HexLemmas.{decode_sized-ok}
+use Rattle.zone_rdata.proofs.Sent.{append_same}
 use Rattle.zone_words.specs.Fault.{AppendsStated}
 use Rattle.zone_words.specs.Kinds.Eui.{IsPair, StatesEui}
 use Rattle.zone_words.specs.Machine.Pairs.{BeginsWithPair, IsCutPair}
@@ -36,15 +37,9 @@ put_first text pair rest more octet (p ∷ pairs) is cut each parted some = reco
   some = omega arith;
 }
 
-same_front : (p q xs ys : List ℕ) → length p ≡ length q → p ++ xs ≡ q ++ ys → (p ≡ q) × (xs ≡ ys)
-same_front [] [] xs ys len same = (refl, same)
-same_front [] (d ∷ q) xs ys len same = absurd (omega arith)
-same_front (c ∷ p) [] xs ys len same = absurd (omega arith)
-same_front (c ∷ p) (d ∷ q) xs ys len same = grind (arith, same_front p q xs ys)
-
 after_pair : (pair p a b : List ℕ) (octet n : ℕ) → IsPair pair octet → IsPair p n → pair ++ 45 ∷ a ≡ p ++ 45 ∷ b → (octet ≡ n) × (a ≡ b)
 after_pair pair p a b octet n is other same =
-    let parts = same_front pair p (45 ∷ a) (45 ∷ b) (omega (arith, pair_length pair octet is, pair_length p n other)) same in
+    let parts = append_same pair p (45 ∷ a) (45 ∷ b) (omega (arith, pair_length pair octet is, pair_length p n other)) same in
     (one_pair pair octet n is (rw (sym parts.0) at other), cc parts.1)
 
 -- what is left of octets, after the first

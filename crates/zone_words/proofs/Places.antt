@@ -9,7 +9,8 @@ use Rattle.zone_name.specs.Name.{folded_label, folded_octet}
 use Rattle.zone_name.specs.Spelling.{is_digit}
 use Rattle.zone_rdata.specs.Item.{RawItem, bare, quoted}
 use Rattle.zone_rdata.specs.Number.{IsDecimal}
-use Rattle.zone_words.proofs.Scaled.{BeginsWithDigit, decimal_first, decimal_same, digit_below, no_minus, scaled_first, scaled_once}
+use Rattle.zone_words.proofs.Numbers.{decimal_once}
+use Rattle.zone_words.proofs.Scaled.{BeginsWithDigit, decimal_first, digit_below, no_minus, scaled_first, scaled_once}
 use Rattle.zone_words.specs.DataItem.{raw_item}
 use Rattle.zone_words.specs.Kinds.Location.{AreCentimetres, ArePartsOfDegree, BeginsWithAltitude, BeginsWithPlace, BeginsWithSize, IsAltitude, IsAngle, IsFirstDigit, IsHalfOf, IsScaled, IsSize, OfBareItem, above, below, from_middle, letter, most_degrees, without_m}
 use Rattle.zone_words.specs.Machine.Locations.{BeginsWithMinus, IsAfterMinus, IsCutAtHalf, IsNoHalf, UpTo, minus}
@@ -108,7 +109,7 @@ cut_half axis items at d half inside none is =
 -- ---- one angle
 
 bare_decimal_same : (item : RawItem) (m n : ℕ) → OfBareItem IsDecimal item m → OfBareItem IsDecimal item n → m ≡ n
-bare_decimal_same (bare text) m n a b = decimal_same text m n a b
+bare_decimal_same (bare text) m n a b = decimal_once text m n a b
 bare_decimal_same (quoted text) m n a b = absurd a
 
 bare_scaled_same : (item : RawItem) (m n : ℕ) → OfBareItem (IsScaled 3) item m → OfBareItem (IsScaled 3) item n → m ≡ n

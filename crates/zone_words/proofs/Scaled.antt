@@ -7,12 +7,10 @@ use Rattle.zone_name.specs.Common.{NothingIs}
 use Rattle.zone_name.specs.Spelling.{is_digit}
 use Rattle.zone_rdata.specs.Number.{IsCapped, IsDecimal}
 use Rattle.zone_words.proofs.Cuts.{digits_lack, first_once, stands_in}
+use Rattle.zone_words.proofs.Numbers.{decimal_once}
 use Rattle.zone_words.specs.Kinds.Location.{AreCentimetres, IsScaled, whole, with_point, without_m}
 use Rattle.zone_words.specs.Machine.Cuts.{IsCutFirst, IsMissing}
 use Rattle.zone_words.specs.Machine.Locations.{ArePartsIn, IsWholeIn, UpTo}
-
-pub decimal_same : (text : List ℕ) (m n : ℕ) → IsDecimal text m → IsDecimal text n → m ≡ n
-decimal_same text m n a b = a.value ∙ sym b.value
 
 pub digit_below : (c : ℕ) → is_digit c ≡ true → c ≤ 57
 digit_below c is = grind (arith, and_parts, leb-true)
@@ -47,7 +45,7 @@ whole_found text places most w number below capped value few =
 
 pub whole_none : (text : List ℕ) (places most w number : ℕ) → most < 4294967296 * 10 ^ places → IsCapped (IsDecimal text) w → number ≡ w * 10 ^ places → most < number → NothingIs (UpTo most (IsWholeIn places text))
 whole_none text places most w number below capped value over n is =
-    let own : n ≡ capped.0 * 10 ^ places = is.0.1.1 ∙ ap (λ (m : ℕ). m * 10 ^ places) (decimal_same text is.0.0 capped.0 is.0.1.0 capped.1.0) in
+    let own : n ≡ capped.0 * 10 ^ places = is.0.1.1 ∙ ap (λ (m : ℕ). m * 10 ^ places) (decimal_once text is.0.0 capped.0 is.0.1.0 capped.1.0) in
     elim (cases_lt capped.0 4294967296) [
       | inl small ↦
           let same : capped.0 ≡ w = let e = capped.1.1 in omega arith in
@@ -76,7 +74,7 @@ pub parts_none : (front back : List ℕ) (places most w part number : ℕ) → p
 parts_none front back places most w part number three below short capped more value over n is =
     let small_part = few_digits back more.0 (omega arith) more.1.0 in
     let own_part : more.0 ≡ part = let e = more.1.1 in omega arith in
-    let own : n ≡ capped.0 * 10 ^ places + part * 10 ^ (places - length back) = is.0.2.1.1.1 ∙ ap₂ (λ (a b : ℕ). a * 10 ^ places + b * 10 ^ (places - length back)) (decimal_same front is.0.0 capped.0 is.0.2.0 capped.1.0) (decimal_same back is.0.1 more.0 is.0.2.1.0 more.1.0 ∙ own_part) in
+    let own : n ≡ capped.0 * 10 ^ places + part * 10 ^ (places - length back) = is.0.2.1.1.1 ∙ ap₂ (λ (a b : ℕ). a * 10 ^ places + b * 10 ^ (places - length back)) (decimal_once front is.0.0 capped.0 is.0.2.0 capped.1.0) (decimal_once back is.0.1 more.0 is.0.2.1.0 more.1.0 ∙ own_part) in
     elim (cases_lt capped.0 4294967296) [
       | inl small ↦
           let same : capped.0 ≡ w = let e = capped.1.1 in omega arith in
@@ -135,11 +133,11 @@ parts_lack r text front back places most cut h =
 pub scaled_once : (places : ℕ) (text : List ℕ) (m n : ℕ) → IsScaled places text m → IsScaled places text n → m ≡ n
 scaled_once places text m n (whole w is value) other =
     let more = scaled_whole text places n (digits_lack 46 text refl is.digits) other in
-    value ∙ ap (λ (k : ℕ). k * 10 ^ places) (decimal_same text w more.0 is more.1.0) ∙ sym more.1.1
+    value ∙ ap (λ (k : ℕ). k * 10 ^ places) (decimal_once text w more.0 is more.1.0) ∙ sym more.1.1
 scaled_once places text m n (with_point front back w part parts is more short value) other =
     let cut : IsCutFirst 46 text front back = record { parts = parts; missing = digits_lack 46 front refl is.digits } in
     let same = scaled_parts text front back places n cut other in
-    value ∙ ap₂ (λ (a b : ℕ). a * 10 ^ places + b * 10 ^ (places - length back)) (decimal_same front w same.0 is same.2.0) (decimal_same back part same.1 more same.2.1.0) ∙ sym same.2.1.1.1
+    value ∙ ap₂ (λ (a b : ℕ). a * 10 ^ places + b * 10 ^ (places - length back)) (decimal_once front w same.0 is same.2.0) (decimal_once back part same.1 more same.2.1.0) ∙ sym same.2.1.1.1
 
 -- ---- digits come first
 

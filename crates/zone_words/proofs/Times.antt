@@ -3,14 +3,11 @@ use Rattle.std.proofs.Common.{◌≡◌, ℕ, ◌<◌, ◌≤◌, List, length, 
 use Rattle.std.specs.Int.{w32, to_be_bytes}
 use Rattle.zone_name.specs.Common.{NothingIs}
 use Rattle.zone_rdata.specs.Number.{IsDecimal, IsCapped}
+use Rattle.zone_words.proofs.Numbers.{decimal_once}
 use Rattle.zone_words.specs.Kinds.Calendar.{IsDateTime}
 use Rattle.zone_words.specs.Kinds.Time.{AreFourteenDigits, AreSecondsOf, AreTooManySeconds, FailsTime, StatesTime, shown_in, in_seconds, as_date, too_large, not_a_time}
 use Rattle.zone_words.specs.declared.fault.WordsFault.{WordsFault}
 use Rattle.zone_words.specs.declared.fault.WordsFault.TheVariants.{NotATime, TooLarge}
-
--- digits have one number
-decimal_once : (text : List ℕ) (m n : ℕ) → IsDecimal text m → IsDecimal text n → m ≡ n
-decimal_once text m n a b = a.value ∙ sym b.value
 
 no_seconds : (text : List ℕ) → length text ≤ 10 → NothingIs (IsDecimal text) → NothingIs (AreSecondsOf text)
 no_seconds text few none n (in_seconds short is below) = none n is

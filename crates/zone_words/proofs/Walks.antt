@@ -234,14 +234,14 @@ generic_more number (c ∷ octets) old first second third fourth new some one tw
 
 -- ---- the entry
 
+joined_text : (old a b c : List ℕ) → ((old ++ a) ++ b) ++ c ≡ old ++ (a ++ (b ++ c))
+joined_text old a b c = grind (arith, common_steps)
+
 pub renamed_pushed : (front_text back_text old first second new : List ℕ) (number : ℕ) → first ≡ old ++ front_text → second ≡ first ++ token_text (type_token number) → new ≡ second ++ back_text → WritesBetween front_text back_text (renamed number) old new
 renamed_pushed front_text back_text old first second new number one two three back are =
     three ∙ ap (λ t. t ++ back_text) (two ∙ ap (λ t. t ++ token_text (type_token number)) one)
     ∙ joined_text old front_text (token_text (type_token number)) back_text
     ∙ ap (λ t. old ++ (front_text ++ (token_text (type_token number) ++ t))) are.whole
-  where
-    joined_text : (old a b c : List ℕ) → ((old ++ a) ++ b) ++ c ≡ old ++ (a ++ (b ++ c))
-    joined_text old a b c = grind (arith, common_steps)
 
 pub octets_pushed : (front_text back_text octets old first second new : List ℕ) (number : ℕ) → first ≡ old ++ front_text → second ≡ first ++ text (generic_tokens number octets) → StayingAfter back_text second new → WritesBetween front_text back_text (in_octets number octets) old new
 octets_pushed front_text back_text octets old first second new number one two stay back are =
@@ -249,9 +249,6 @@ octets_pushed front_text back_text octets old first second new number one two st
     ∙ ap (λ t. t ++ text (filter stays back)) (two ∙ ap (λ t. t ++ text (generic_tokens number octets)) one)
     ∙ joined_text old front_text (text (generic_tokens number octets)) (text (filter stays back))
     ∙ ap (λ t. old ++ (front_text ++ t)) (sym (flat_map-append token_text (generic_tokens number octets) (filter stays back)))
-  where
-    joined_text : (old a b c : List ℕ) → ((old ++ a) ++ b) ++ c ≡ old ++ (a ++ (b ++ c))
-    joined_text old a b c = grind (arith, common_steps)
 
 back_each : (front : List Token) (units : List Written) (back : List Token) → AllByRecursion IsToken (front ++ bare units ∷ back) → AllByRecursion IsToken back
 back_each [] units back each = each.1

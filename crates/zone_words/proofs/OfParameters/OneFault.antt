@@ -1,8 +1,9 @@
 -- Items that are no parameters have one fault.
-use Rattle.std.proofs.Common.{◌≡◌, ℕ, inl, inr, List, [], ◌∷◌, ◌++◌, length, map, sym, ap, ◌∙◌, subst, arith, refl}
+use Rattle.std.proofs.Common.{◌≡◌, ℕ, List, [], ◌∷◌, ◌++◌, length, map, sym, ap, ◌∙◌, subst, arith, refl}
 use Rattle.std.specs.List.{AllByRecursion}
 use Rattle.zone_words.proofs.OfParameters.Keys.{key_once}
 use Rattle.zone_words.proofs.OfParameters.Once.{fails_value_not, first_once, new_before, nothing_begins}
+use Rattle.zone_words.proofs.OfParameters.Reading.{never_both}
 use Rattle.zone_words.proofs.OfParameters.Texts.{begin_once}
 use Rattle.zone_words.specs.DataItem.{TouchingItem}
 use Rattle.zone_words.specs.Parameters.{Parameter, sent, StateEach, StatesParameter, FailsParameters, no_key, repeated_key, bad_value, missing_key, long_value, AreComplete, AreOnce, IsNew, IsThere, IsShort, BeginWithNoKey, BeginWithKey, Precede}
@@ -58,11 +59,6 @@ some_begins rest key value begins empty = nothing_begins begins.text begins.rest
 some_left : (rest : List TouchingItem) → BeginWithNoKey rest → rest ≡ [] → ⊥
 some_left rest none empty = omega (arith, none.some, ap length empty)
 
-there_or_new : (number : ℕ) (before : List Parameter) → IsThere before number → IsNew number before → ⊥
-there_or_new number [] there new = there
-there_or_new number (p ∷ before) (inl is) new = new.0 is
-there_or_new number (p ∷ before) (inr there) new = there_or_new number before there new.1
-
 value_fault_once : (key : Key) (text : List ℕ) (a b : WordsFault) → FailsValue key text a → FailsValue key text b → a ≡ b
 value_fault_once key text _ _ (bad_escape has none) (bad_escape as_well none_too) = refl
 value_fault_once key text _ _ (bad_escape has none) (no_value spelt nothing) = absurd (none (spelt has).0 (spelt has).1)
@@ -75,7 +71,7 @@ module _ (before : List Parameter) (rest : List TouchingItem) where
   repeated_or_new : (key other : Key) (value text : List ℕ) → BeginWithKey rest key value → IsThere before (number_of key) → BeginWithKey rest other text → IsNew (number_of other) before → ⊥
   repeated_or_new key other value text x there y new =
       let same = key_begins_once rest key other value text x y in
-      there_or_new (number_of other) before (subst (λ k. IsThere before (number_of k)) same.key_same there) new
+      never_both (number_of other) before (subst (λ k. IsThere before (number_of k)) same.key_same there) new
 
   at_once : (a b : WordsFault) → FailsAt before rest a → FailsAt before rest b → a ≡ b
   at_once _ _ (at_no_key none) (at_no_key none_too) = refl

@@ -143,7 +143,7 @@ found_by stated before k holds found (inr new) = let none = new_not_found stated
 pub found_there : (stated : Stated) (before : List Parameter) (k : ℕ) → Holds stated before → IsFound stated k → IsThere before k
 found_there stated before k holds found = found_by stated before k holds found (there_or_new k before)
 
-never_both : (k : ℕ) (before : List Parameter) → IsThere before k → IsNew k before → ⊥
+pub never_both : (k : ℕ) (before : List Parameter) → IsThere before k → IsNew k before → ⊥
 never_both k [] there new = there
 never_both k (p ∷ before) (inl e) new = new.0 e
 never_both k (p ∷ before) (inr there) new = never_both k before there new.1

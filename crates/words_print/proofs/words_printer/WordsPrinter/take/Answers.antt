@@ -1,5 +1,6 @@
 use Rattle.std.proofs.Common.{ap}
-use Rattle.words_print.proofs.Fed.{on_err, takes_line, takes_part}
+use Rattle.zone_words.proofs.FedTexts.{on_err}
+use Rattle.words_print.proofs.Fed.{takes_line, takes_part}
 use Rattle.words_print.specs.Printer.{PrinterState}
 use Rattle.words_print.proofs.words_printer.WordsPrinter.take.Goals as goal
 

@@ -4,7 +4,7 @@ use Rattle.zone_words.proofs.FedTexts.{fed_in_part, fed_on, on_err, rest_follows
 use Rattle.zone_words.proofs.fed_writer.FedWriter.feed.Goals as goal
 
 pub returns-in_err-rest-clause-in_part : goal.returns-in_err-rest-clause-in_part
-returns-in_err-rest-clause-in_part c = on_err c.from_residual.result _ (fed_in_part _ _ _ _ _ c.loop-self.invariant.fed c.in_err-rest.ensures.told c.in_err-rest.ensures.written)
+returns-in_err-rest-clause-in_part c = on_err c.from_residual.result (fed_in_part _ _ _ _ _ c.loop-self.invariant.fed c.in_err-rest.ensures.told c.in_err-rest.ensures.written)
 
 pub loop-self-preserved : goal.loop-self-preserved
 loop-self-preserved c =
@@ -18,7 +18,7 @@ loop-self-preserved c =
     }
 
 pub returns-in_err-push_as_it_is-clause-in_part : goal.returns-in_err-push_as_it_is-clause-in_part
-returns-in_err-push_as_it_is-clause-in_part c = on_err c.from_residual-in_err-push_as_it_is.result _ (fed_in_part _ _ _ _ _ c.loop-self.invariant.fed c.in_err-push_as_it_is.ensures.refusals c.in_err-push_as_it_is.ensures.written)
+returns-in_err-push_as_it_is-clause-in_part c = on_err c.from_residual-in_err-push_as_it_is.result (fed_in_part _ _ _ _ _ c.loop-self.invariant.fed c.in_err-push_as_it_is.ensures.refusals c.in_err-push_as_it_is.ensures.written)
 
 pub returns-clause-follow : goal.returns-clause-follow
 returns-clause-follow c = rest_follows _ _ _ _ _ c.loop-self.invariant.fed (c.is_settled.ensures.yes c.loop-self-test.false) refl refl c.push_as_it_is.ensures.line c.push_as_it_is.ensures.inherited c.push_as_it_is.ensures.refusals c.in_ok-push_as_it_is.ensures.pushed

@@ -11,10 +11,10 @@ returns-then-self-clause-all c = elim c.then-self.branch [
 ]
 
 pub returns-in_err-end_entry-in-None-clause-in_part : goal.returns-in_err-end_entry-in-None-clause-in_part
-returns-in_err-end_entry-in-None-clause-in_part c = on_err c.from_residual.result _ (refused_in_part _ _ c.in_err-end_entry-in-None.ensures.told c.in_err-end_entry-in-None.ensures.written)
+returns-in_err-end_entry-in-None-clause-in_part c = on_err c.from_residual.result (refused_in_part _ _ c.in_err-end_entry-in-None.ensures.told c.in_err-end_entry-in-None.ensures.written)
 
 pub returns-in_err-break_off-in-Some-clause-in_part : goal.returns-in_err-break_off-in-Some-clause-in_part
-returns-in_err-break_off-in-Some-clause-in_part c = on_err c.from_residual-in_err-break_off-in-Some.result _ (refused_in_part _ _ c.in_err-break_off-in-Some.ensures.told c.in_err-break_off-in-Some.ensures.written)
+returns-in_err-break_off-in-Some-clause-in_part c = on_err c.from_residual-in_err-break_off-in-Some.result (refused_in_part _ _ c.in_err-break_off-in-Some.ensures.told c.in_err-break_off-in-Some.ensures.written)
 
 pub returns-in_ok-end_entry-in-None-clause-all : goal.returns-in_ok-end_entry-in-None-clause-all
 returns-in_ok-end_entry-in-None-clause-all c =
