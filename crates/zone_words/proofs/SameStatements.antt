@@ -10,7 +10,7 @@ use Rattle.zone_name.specs.Common.{Labels}
 use Rattle.zone_name.specs.Name.{folded_label}
 use Rattle.zone_name.specs.Spelling as spelling
 use Rattle.zone_rdata.proofs.Tables.{each_mnemonic}
-use Rattle.zone_rdata.specs.Item.{IsGeneric, generic_mark}
+use Rattle.zone_rdata.specs.Item.{IsGeneric}
 use Rattle.zone_rdata.specs.Item as raw
 use Rattle.zone_rdata.specs.Words.{IsMnemonic}
 use Rattle.zone_text.proofs.PartsLeft.{parts_behind}
