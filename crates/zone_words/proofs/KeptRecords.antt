@@ -107,28 +107,19 @@ from_shown origin before name unknown is = is
 from_shown origin before name (owned owner items) is = is
 from_shown origin before name (unowned items) is = is
 
-none_shown : (form : Statement) → parts_in form ≡ None → parts_in (shown form) ≡ None
-none_shown no_items e = refl
-none_shown (sets_origin items) e = refl
-none_shown (sets_ttl items) e = refl
-none_shown includes e = refl
-none_shown unknown e = refl
-none_shown (owned owner items) e = absurd cc
-none_shown (unowned items) e = absurd cc
-
-shown_none : (form : Statement) → parts_in (shown form) ≡ None → parts_in form ≡ None
-shown_none no_items e = refl
-shown_none (sets_origin items) e = refl
-shown_none (sets_ttl items) e = refl
-shown_none includes e = refl
-shown_none unknown e = refl
-shown_none (owned owner items) e = absurd cc
-shown_none (unowned items) e = absurd cc
+none_alike : (form : Statement) → (parts_in form ≡ None → parts_in (shown form) ≡ None) × (parts_in (shown form) ≡ None → parts_in form ≡ None)
+none_alike no_items = (λ e. refl, λ e. refl)
+none_alike (sets_origin items) = (λ e. refl, λ e. refl)
+none_alike (sets_ttl items) = (λ e. refl, λ e. refl)
+none_alike includes = (λ e. refl, λ e. refl)
+none_alike unknown = (λ e. refl, λ e. refl)
+none_alike (owned owner items) = (λ e. absurd cc, λ e. absurd cc)
+none_alike (unowned items) = (λ e. absurd cc, λ e. absurd cc)
 
 forms_alike : (n : ℕ) (full kept : Statement) → most_items ≤ n → LongForms full kept → AlikeForms n full kept
 forms_alike n full kept many h = record {
   some = λ parts e. (let f = h.parts parts e in (f.parts, f.split, alike_long n f.parts parts many f.long.words f.long.long.short));
-  none = λ e. shown_none full (ap parts_in (sym h.same) ∙ none_shown kept e);
+  none = λ e. (none_alike full).1 (ap parts_in (sym h.same) ∙ (none_alike kept).0 e);
   origin = λ origin before name. (
     λ is. from_shown origin before name full (subst (λ form. OriginAfter origin before form name) h.same (to_shown origin before name kept h.other_long is)),
     λ is. from_shown origin before name kept (subst (λ form. OriginAfter origin before form name) (sym h.same) (to_shown origin before name full h.long is)),
