@@ -1,5 +1,5 @@
 -- Each field states one list of octets at most, or has one fault and states none.
-use Rattle.std.proofs.Common.{[], ◌≡◌, ℕ, List, ◌∷◌, Some, refl, sym, ap, ◌∙◌, absurd, arith}
+use Rattle.std.proofs.Common.{[], ◌≡◌, ℕ, List, ◌∷◌, Some, refl, sym, ap, ◌∙◌, arith}
 use Rattle.std.specs.Int.{Width, w8, w16, w32}
 use Rattle.zone_name.proofs.Answered.{FirstFault-once}
 use Rattle.zone_name.specs.Common.{Labels}

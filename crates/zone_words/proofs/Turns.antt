@@ -353,8 +353,8 @@ stands_somewhere octets origin before line all_tokens found n above cut of few n
     none at.front at.back at.units are place
 
 -- what is said of the record is said around its type's word
-say_there : (origin : Labels) (before : List Entry) (line : ℕ) (all_tokens : List Token) (found : FurtherRecord) (n : ℕ) (above : Labels) (around : Around) (a : IsAround origin before line all_tokens found n above around) (anew : Anew) → SaysAnew origin before (entry_of line all_tokens) (written_text a.units) (touching_items true a.back) anew → SayAround origin before line all_tokens around anew
-say_there origin before line all_tokens found n above around a anew says = record {
+say_there : (origin : Labels) (before : List Entry) (line : ℕ) (all_tokens : List Token) (found : FurtherRecord) (n : ℕ) (above : Labels) (around : Around) (a : IsAround origin before line all_tokens found n above around) (it : Anew) → SaysAnew origin before (entry_of line all_tokens) (written_text a.units) (touching_items true a.back) it → SayAround origin before line all_tokens around it
+say_there origin before line all_tokens found n above around a it says = record {
   front = a.front;
   back = a.back;
   before_is = a.before_is;

@@ -2,3 +2,12 @@ use Rattle.zone_words.proofs.field.BareKind.push.Goals as goal
 
 pub returns-in-Ipv6-clause-states : goal.returns-in-Ipv6-clause-states
 returns-in-Ipv6-clause-states c = rw c.in-Ipv6.is c.push_ipv6.ensures.states
+
+pub returns-in-Time-clause-fault : goal.returns-in-Time-clause-fault
+returns-in-Time-clause-fault c = rw c.in-Time.is c.push_time.ensures.fault
+
+pub returns-in-Eui48-clause-states : goal.returns-in-Eui48-clause-states
+returns-in-Eui48-clause-states c = rw c.in-Eui48.is c.push_eui48.ensures.states
+
+pub returns-in-Eui64-clause-states : goal.returns-in-Eui64-clause-states
+returns-in-Eui64-clause-states c = rw c.in-Eui64.is c.push_eui64.ensures.states
