@@ -42,3 +42,4 @@ pub mod PartsLeft
 pub mod OpenEntries
 pub mod ClassHeld
 pub mod StopMarks
+pub mod OneLine

@@ -62,25 +62,27 @@ impl EndedEntries {
         ensures { OnOk result (ReadsOctets entry.now self.old self.new) }
     {
         cut_items(entry, items)?;
-        self.read_cut(alloc, entry, items)
+        self.read_cut(alloc, entry, items, line_feeds(entry))
     }
 
-    /// Reads the entry after them, of which these are the items.
+    /// Reads the entry after them, of which these are the items and the number of its line feeds.
     pub(crate) fn read_cut<'t>(
         &mut self,
         alloc: Global,
         entry: &'t [u8],
         items: &[Item<'t>],
+        lines: usize,
     ) -> Result<(), AllocError>
         requires undecided { self.old.decided.ending ≡ None }
         requires fits { self.old.line + length entry.now < 2 ^ 64 }
+        requires count { lines ≡ count_by (λ c. c == 10) entry.now }
         ensures { KeepsItems entry.now (map raw items.now)
             → OnOk result (ReadsOctets entry.now self.old self.new) }
     {
         let place = Place::Line(self.line);
         self.state
             .read(alloc, entry, items, place, &mut self.decided)?;
-        self.line += line_feeds(entry) as u64;
+        self.line += lines as u64;
         Ok(())
     }
 

@@ -1,6 +1,6 @@
-//! Entries without parentheses and escapes, cut into items as their end is looked for (RFC 1035
-//! 5.1).
-ghost use Rattle.std.specs.Prelude.{map, length, IfOk, IfSome, OnOk, option_map, option_to_list};
+//! Entries of one line without parentheses and escapes, cut into items as their end is looked for
+//! (RFC 1035 5.1).
+ghost use Rattle.std.specs.Prelude.{◌≡◌, ◌==◌, count_by, map, length, take, IfOk, IfSome, OnOk, option_map, option_to_list};
 ghost use Rattle.zone_rdata.specs.Item.{raw};
 ghost use Rattle.zone_text.specs.FirstEntry.{IsFirstEntry};
 ghost use Rattle.zone_text.specs.Machine.Kept.{KeepsBare};
@@ -56,7 +56,8 @@ fn keep_bare<'t>(text: &'t [u8], items: &mut Vec<Item<'t>>) -> Result<(), AllocE
 }
 
 /// Puts the items of the entry at the front in place of what `items` held, and gives the number of
-/// its octets. `None`: it has a parenthesis or a backslash, or isn't seen to end.
+/// its octets. `None`: it has a parenthesis or a backslash, takes more than one line, or isn't seen
+/// to end.
 ///
 /// # Errors
 ///
@@ -65,8 +66,10 @@ pub(crate) fn cut_line<'t>(
     octets: &'t [u8],
     items: &mut Vec<Item<'t>>,
 ) -> Result<Option<usize>, AllocError>
-    ensures { IfOk result (λ found. IfSome found (λ taken.
+    ensures first { IfOk result (λ found. IfSome found (λ taken.
         IsFirstEntry octets.now taken (map raw items.new.items))) }
+    ensures line { IfOk result (λ found. IfSome found (λ taken.
+        count_by (λ c. c == 10) (take taken octets.now) ≡ 1)) }
 {
     items.clear();
     let mut stops = Stops::unseen(octets);
@@ -92,6 +95,10 @@ pub(crate) fn cut_line<'t>(
         let Some((item, left)) = token_in_front(stopped) else {
             return Ok(None);
         };
+        let (passed, _) = stopped.split_at(stopped.len() - left.len());
+        if passed.contains(&b'\n') {
+            return Ok(None);
+        }
         rest = left;
         stops = Stops::unseen(rest);
         if let Some(item) = item {

@@ -63,7 +63,7 @@ impl EntrySplitter {
                 }
                 if let Some(taken) = cut_line(rest, &mut items)? {
                     let (entry, after) = rest.split_at(taken);
-                    self.ended.read_cut(self.alloc, entry, &items)?;
+                    self.ended.read_cut(self.alloc, entry, &items, 1)?;
                     rest = after;
                     continue;
                 }

@@ -49,8 +49,7 @@ pub use Rattle.zone_wire.specs.Answers.{AgreeWith, ComesAfter, ZoneAsked, handed
 pub use Rattle.zone_wire.specs.DataFault.{DataFault, FieldFault, FieldsFault, IsFieldAt}
 pub use Rattle.zone_wire.specs.Examples.{WalkEnds, after_zeros, answer_header, closing_x, ends_with, first_message, message_with, numbers, opening_x, placed_soa, question_x, record_of_class, record_x, second_message, server_x, small_body, small_message, soa_message}
 pub use Rattle.zone_wire.specs.Frames.{IsFramed}
-pub use Rattle.zone_wire.specs.Machine.Answers.{Answered, agrees, answers_of, before_others, is_no_class, order_fault, same_name, same_record}
-unfoldable pub use Rattle.zone_wire.specs.Machine.Answers.{answer_record, own_record}
+pub use Rattle.zone_wire.specs.Machine.Answers.{agrees, order_fault, same_name, same_record}
 pub use Rattle.zone_wire.specs.Machine.Data.{name_before, sized_before, strings_before, values_at}
 unfoldable pub use Rattle.zone_wire.specs.Machine.Data.{data_at, value_at}
 pub use Rattle.zone_wire.specs.Machine.DataReading.{Awaits, AwaitsStrings, IsRead, IsReadyFor, PutsValue, PutsValues, Reads, TakesOctets, data_of, next_value, parts_for, put_after}
@@ -61,6 +60,8 @@ pub use Rattle.zone_wire.specs.Machine.Parsing.{AreRecordsAt, HasRecordsFrom, Is
 pub use Rattle.zone_wire.specs.Machine.Sections.{after_header, and_then, at_offset, each_from, inside, question_at, questions_from, record_at, records_from, to_the_end, unless_faulted}
 unfoldable pub use Rattle.zone_wire.specs.Machine.Sections.{header_fault, sections_of}
 pub use Rattle.zone_wire.specs.Machine.Spot.{spot_of}
+pub use Rattle.zone_wire.proofs.NextAnswers.{Answered, answers_of, before_others, is_no_class}
+unfoldable pub use Rattle.zone_wire.proofs.NextAnswers.{answer_record, own_record}
 pub use Rattle.zone_wire.proofs.NextMessages.{asks_for, has_first_id, of_answers, of_sections}
 unfoldable pub use Rattle.zone_wire.proofs.NextMessages.{next_message, stream_records}
 pub use Rattle.zone_wire.specs.Machine.Transferring.{Among, Gains, Hands, HeadFault, IfNoMemory, IsAfter, ReadsNext, StopsIn, Takes, TakesEach, TakesHead, TakesMessage, TakesMessageUpTo, TakesUpTo, TakesWhole, other_id, other_zone, zone_held, zone_with}

@@ -18,10 +18,10 @@ pub mod GivenAnswers
 pub mod GivenMessages
 pub mod GivenStreams
 pub mod GivenTransfers
-pub mod Lanes
 pub mod MessageFaults
 pub mod Messages
 pub mod Naming
+pub mod NextAnswers
 pub mod NextMessages
 pub mod OneFault
 pub mod OneReading

@@ -8,7 +8,8 @@ use Rattle.zone_rdata.specs.declared.fault.Place.{Place}
 use Rattle.zone_rdata.specs.declared.fault.Place.TheVariants.{Message}
 use Rattle.zone_rdata.specs.declared.record.Placed.{Placed}
 use Rattle.zone_wire.specs.Answers.{ZoneAsked, zone_of}
-use Rattle.zone_wire.specs.Machine.Answers.{agrees, Answered, answers_of}
+use Rattle.zone_wire.proofs.NextAnswers.{Answered, answers_of}
+use Rattle.zone_wire.specs.Machine.Answers.{agrees}
 use Rattle.zone_wire.specs.Machine.Sections.{sections_of}
 use Rattle.zone_wire.specs.Message.{QuestionAt, Sections}
 use Rattle.zone_wire.specs.Stream.{asked_in, placed_in}

@@ -6,8 +6,11 @@ use Rattle.std.specs.Char.{to_ascii_lowercase}
 use Rattle.zone_name.proofs.Octets.{labels_of-open, labels_of-open_cased}
 use Rattle.zone_name.proofs.Pushing.{HoldsLabels-frames, folded_frames, folded_labels}
 use Rattle.zone_name.specs.Name.{HoldsLabels, IsCasedLabel, folded, labels_of}
-use Rattle.zone_wire.proofs.Common.{AllByRecursion, AllByRecursion-append, IsLabel, IsName, List, [], ap, append-nil, append_assoc, arith, drop, drop-drop, flat_map, flat_map-append, folded_octet, get_or, length, length-append, length-drop, length-map, length-take-le, map, map-append, refl, subst, sym, take, with_length, ℕ, ◌+◌, ◌++◌, ◌<◌, ◌≤◌, ◌∙◌, ◌∷◌, ◌≡◌}
+use Rattle.zone_wire.proofs.Common.{AllByRecursion, AllByRecursion-append, IsLabel, IsName, List, [], ap, append-nil, append_assoc, arith, drop, drop-drop, flat_map, flat_map-append, folded_octet, get_or, length, length-append, length-drop, length-map, length-take-le, map, map-append, octets_between, refl, subst, sym, take, with_length, ℕ, ◌+◌, ◌++◌, ◌-◌, ◌<◌, ◌≤◌, ◌∙◌, ◌∷◌, ◌≡◌}
+use Rattle.zone_wire.proofs.FieldReading.{part_len}
 use Rattle.zone_wire.proofs.Walking.{wire-octets}
+use Rattle.zone_wire.specs.Machine.Room.{IsRoom}
+use Rattle.zone_wire.specs.Machine.Runs.{IsRun}
 use lib.Lanes.{chunk, put_chunk}
 use lib.ListN.{set}
 
@@ -32,6 +35,15 @@ grown front part new labels holds each e room is =
       gives = ap labels_of whole ∙ labels_of-open all each_of
           ∙ ap (λ t. labels_of front ++ folded t) (sym (ap labels_of e ∙ labels_of-open_cased labels each));
     }
+
+-- the octets of a room with those of a run after them
+pub pushed : (message octets new : List ℕ) (len start past : ℕ) → IsRoom octets len → (run : IsRun message start past)
+    → len + (past - start) < 255
+    → take (len + (past - start)) new ≡ take len octets ++ map folded_octet (octets_between message start past)
+    → Grown (take len octets) (octets_between message start past) (take (len + (past - start)) new)
+pushed message octets new len start past room run fits is =
+    grown (take len octets) (octets_between message start past) (take (len + (past - start)) new) run.labels room.holds run.each run.octets
+    (omega (arith, fits, part_len message start past run.inside, length-take-le len octets (omega (arith, room.within)))) is
 
 -- so many octets of a message were copied to a place of a room
 pub record Copied (message : List ℕ) (start : ℕ) (old now : List ℕ) (at done : ℕ) : Type 0 where

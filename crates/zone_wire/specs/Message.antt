@@ -10,6 +10,10 @@ u16_at octets offset = slice_index octets offset * 256 + slice_index octets (off
 abbrev pub u32_at : List ℕ → ℕ → ℕ
 u32_at octets offset = u16_at octets offset * 65536 + u16_at octets (offset + 2)
 
+-- the most octets of a message: in a stream its length is a number of 16 bits (RFC 1035 4.2.2)
+abbrev pub longest_message : ℕ
+longest_message = 65535
+
 -- TC, 1 where a message is truncated, and RCODE, 0 where there is no error (RFC 1035 4.1.1)
 abbrev pub tc_of : List ℕ → ℕ
 tc_of octets = slice_index octets 2 / 2 % 2

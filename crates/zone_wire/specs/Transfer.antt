@@ -4,11 +4,12 @@ use Rattle.std.specs.Prelude.{◌≡◌, ◌≢◌, ℕ, ◌+◌, ◌-◌, ◌/�
 use Rattle.std.specs.List.{flat_map, AllByRecursion, AllZip}
 use Rattle.zone_rdata.specs.Field.{FieldValue, name, field_octets, octets_of, Holds}
 use Rattle.zone_rdata.specs.Layout.{layout}
+use Rattle.zone_rdata.specs.Limits.{greatest_ttl}
 use Rattle.zone_rdata.specs.Record.{Record, IsRecord}
 use Rattle.zone_rdata.specs.declared.fault.Place.TheVariants.{Message}
 use Rattle.zone_rdata.specs.declared.field.Field.{Field}
 use Rattle.zone_rdata.specs.declared.record.Placed.{Placed}
-use Rattle.zone_wire.specs.Message.{QuestionAt, RecordAt, Sections, IsMessage}
+use Rattle.zone_wire.specs.Message.{QuestionAt, RecordAt, Sections, IsMessage, longest_message}
 use Rattle.zone_wire.specs.Name.{Found, IsNameAt}
 
 abbrev pub octets_between : List ℕ → ℕ → ℕ → List ℕ
@@ -45,7 +46,7 @@ IsDataAt octets a canonical =
 
 -- a TTL with its top bit set counts as 0 (RFC 2181 8)
 abbrev pub ttl_of : ℕ → ℕ
-ttl_of n = if nat_lt 2147483647 n then 0 else n
+ttl_of n = if nat_lt greatest_ttl n then 0 else n
 
 -- the types that may hold compressed names and aren't read: MD, MF, MB, MG, MR, MINFO, RP, AFSDB,
 -- RT, SIG, PX, NXT (RFC 1035 3.3, RFC 3597 4)
@@ -85,7 +86,7 @@ pub record AsksFor (zone : Record) (q : QuestionAt) : Type 0 where
 
 -- a message of the transfer, by its number in the stream
 pub record IsStatedMessage (id : ℕ) (zone : Record) (number : ℕ) (p : StatedMessage) : Type 0 where
-  pub short : length p.octets ≤ 65535
+  pub short : length p.octets ≤ longest_message
   pub message : IsMessage p.octets p.sections
   pub same_id : p.sections.id ≡ id
   pub questions : AllByRecursion (AsksFor zone) p.sections.questions

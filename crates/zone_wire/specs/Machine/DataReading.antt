@@ -4,6 +4,7 @@ use Rattle.std.specs.List.{flat_map}
 use Rattle.zone_rdata.specs.Builder.{Built, IsNext, IsWhole}
 use Rattle.zone_rdata.specs.Field.{FieldValue, string, strings, field_octets, octets_of, Suits}
 use Rattle.zone_rdata.specs.Layout.{IsSized, layout}
+use Rattle.zone_rdata.specs.Limits.{longest_data}
 use Rattle.zone_rdata.specs.declared.fault.Fault.{Fault}
 use Rattle.zone_rdata.specs.declared.field.Field.{Field}
 use Rattle.zone_rdata.specs.declared.field.Field.TheVariants.{Strings}
@@ -46,13 +47,13 @@ pub record Awaits (c : Cursor) (b : Built) (field : Field) : Type 0 where
       → IsNext (layout b.class b.kind) (length b.parts) part
   pub sized : IsSized field
   pub room : (value : FieldValue) (past : ℕ) → next_value c field ≡ Ok (value, past)
-      → length (octets_of b.parts) + length (field_octets value) ≤ 65535
+      → length (octets_of b.parts) + length (field_octets value) ≤ longest_data
 
 -- the builder's next parts are strings, however many, and it has room for all that is left
 pub record AwaitsStrings (c : Cursor) (b : Built) : Type 0 where
   pub next : (count : ℕ) (part : FieldValue) → Suits (Some Strings) part
       → IsNext (layout b.class b.kind) (length b.parts + count) part
-  pub room : length (octets_of b.parts) + (c.end - c.at) ≤ 65535
+  pub room : length (octets_of b.parts) + (c.end - c.at) ≤ longest_data
 
 abbrev pub IsReadyFor : Cursor → Built → Field → Type 0
 IsReadyFor c b Strings = AwaitsStrings c b

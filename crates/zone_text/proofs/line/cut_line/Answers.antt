@@ -1,11 +1,12 @@
 use Rattle.std.proofs.lemmas.List.Sums.{prefix_len-le-length}
 use Rattle.zone_text.proofs.Common.{ap, arith, length, map, raw, refl, suc, sym, ◌∙◌, ◌≡◌}
 use Rattle.zone_text.proofs.FirstEntries.{blank_in_front, cut_bare, cut_ended, cut_more, cut_none, cut_on, in_front_shorter}
+use Rattle.zone_text.proofs.OneLine.{one_line, passed_bare, passed_blank, passed_token}
 use Rattle.zone_text.proofs.StopMarks.{after_stop, goes_on}
 use Rattle.zone_text.proofs.line.cut_line.Goals as goal
 
 pub loop-rest-init : goal.loop-rest-init
-loop-rest-init c = record { cut = cut_none _ _ (ap (map raw) c.clear.ensures.items); tells = c.unseen-stops.ensures }
+loop-rest-init c = record { cut = cut_none _ _ (ap (map raw) c.clear.ensures.items); tells = c.unseen-stops.ensures; line = refl }
 
 pub bare_len-len-requires : goal.bare_len-len-requires
 bare_len-len-requires c = record { tells = c.loop-rest.invariant.tells }
@@ -13,9 +14,14 @@ bare_len-len-requires c = record { tells = c.loop-rest.invariant.tells }
 pub split_at-requires : goal.split_at-requires
 split_at-requires c = omega (arith, c.bare_len-len.ensures.len, prefix_len-le-length goes_on c.loop-rest.rest.now)
 
-pub returns-then-stop-eq10 : goal.returns-then-stop-eq10
-returns-then-stop-eq10 c =
+pub returns-then-stop-eq10-clause-first : goal.returns-then-stop-eq10-clause-first
+returns-then-stop-eq10-clause-first c =
     cut_ended _ _ _ _ _ _ (cut_bare _ _ _ _ _ _ _ _ _ c.loop-rest.invariant.cut c.bare_len-len.ensures.len c.split_at.ensures.front c.split_at.ensures.back c.in-Some.ensures.cases.0 c.if-stop-eq92.false c.in_ok-keep_bare.ensures) c.in-Some.ensures.cases.0 c.if-stop-eq10.true refl
+
+pub returns-then-stop-eq10-clause-line : goal.returns-then-stop-eq10-clause-line
+returns-then-stop-eq10-clause-line c =
+    one_line _ _ _ _ _ _ (cut_bare _ _ _ _ _ _ _ _ _ c.loop-rest.invariant.cut c.bare_len-len.ensures.len c.split_at.ensures.front c.split_at.ensures.back c.in-Some.ensures.cases.0 c.if-stop-eq92.false c.in_ok-keep_bare.ensures)
+    (passed_bare _ _ _ c.bare_len-len.ensures.len c.split_at.ensures.back ∙ c.loop-rest.invariant.line) c.in-Some.ensures.cases.0 c.if-stop-eq10.true refl
 
 pub loop-rest-smaller-then-is_blank : goal.loop-rest-smaller-then-is_blank
 loop-rest-smaller-then-is_blank c =
@@ -26,6 +32,7 @@ pub loop-rest-preserved-then-is_blank : goal.loop-rest-preserved-then-is_blank
 loop-rest-preserved-then-is_blank c = record {
   cut = cut_on _ _ _ _ (cut_bare _ _ _ _ _ _ _ _ _ c.loop-rest.invariant.cut c.bare_len-len.ensures.len c.split_at.ensures.front c.split_at.ensures.back c.in-Some.ensures.cases.0 c.if-stop-eq92.false c.in_ok-keep_bare.ensures) (blank_in_front _ _ _ c.in-Some.ensures.cases.0 (sym c.is_blank.ensures ∙ c.if-is_blank.true));
   tells = after_stop c.bare_len-len.result.1 c.loop-rest.rest.now c.split_at.result.1.now c.in-Some.after.now c.in-Some.stop.now c.bare_len-len.result.0 c.bare_len-len.ensures.tells c.split_at.ensures.back c.in-Some.ensures.cases.0;
+  line = passed_blank _ _ _ c.in-Some.ensures.cases.0 (sym c.is_blank.ensures ∙ c.if-is_blank.true) ∙ passed_bare _ _ _ c.bare_len-len.ensures.len c.split_at.ensures.back ∙ c.loop-rest.invariant.line;
 }
 
 pub loop-rest-smaller-in-Continue-branch-2 : goal.loop-rest-smaller-in-Continue-branch-2
@@ -35,6 +42,7 @@ pub loop-rest-preserved-in-Continue-branch-2 : goal.loop-rest-preserved-in-Conti
 loop-rest-preserved-in-Continue-branch-2 c = record {
   cut = cut_more _ _ _ _ _ _ (cut_bare _ _ _ _ _ _ _ _ _ c.loop-rest.invariant.cut c.bare_len-len.ensures.len c.split_at.ensures.front c.split_at.ensures.back c.in-Some.ensures.cases.0 c.if-stop-eq92.false c.in_ok-keep_bare.ensures) (rw c.in-Some-item.is at c.in-Some-token_in_front.ensures) c.in_ok-keep.ensures;
   tells = c.unseen-stops-in-loop-rest.ensures;
+  line = passed_token _ _ _ _ _ c.in-Some-token_in_front.ensures refl c.split_at-in-loop-rest.ensures.front (sym c.contains.ensures.value ∙ c.if-contains.false) ∙ passed_bare _ _ _ c.bare_len-len.ensures.len c.split_at.ensures.back ∙ c.loop-rest.invariant.line;
 }
 
 pub loop-rest-smaller : goal.loop-rest-smaller
@@ -44,4 +52,5 @@ pub loop-rest-preserved : goal.loop-rest-preserved
 loop-rest-preserved c = record {
   cut = cut_on _ _ _ _ (cut_bare _ _ _ _ _ _ _ _ _ c.loop-rest.invariant.cut c.bare_len-len.ensures.len c.split_at.ensures.front c.split_at.ensures.back c.in-Some.ensures.cases.0 c.if-stop-eq92.false c.in_ok-keep_bare.ensures) (rw c.in_default-item.is at c.in-Some-token_in_front.ensures);
   tells = c.unseen-stops-in-loop-rest.ensures;
+  line = passed_token _ _ _ _ _ c.in-Some-token_in_front.ensures refl c.split_at-in-loop-rest.ensures.front (sym c.contains.ensures.value ∙ c.if-contains.false) ∙ passed_bare _ _ _ c.bare_len-len.ensures.len c.split_at.ensures.back ∙ c.loop-rest.invariant.line;
 }

@@ -1,4 +1,4 @@
-use Rattle.zone_text.proofs.Common.{List, [], ap, arith, false, length, refl, sym, take-append-drop, true, ℕ, ◌+◌, ◌==◌, ◌∙◌, ◌≡◌}
+use Rattle.zone_text.proofs.Common.{List, [], ap, arith, count_by, false, length, refl, sym, take-append-drop, true, ℕ, ◌+◌, ◌==◌, ◌∙◌, ◌≡◌}
 use Rattle.zone_text.proofs.BlankLines.{fed_lines}
 use Rattle.zone_text.proofs.FirstEntries.{keeps_items, fed_entry}
 use Rattle.zone_text.proofs.Begun.{none_found, none_left, some_found}
@@ -19,6 +19,10 @@ scan-found-requires c =
 
 pub take_part-requires-clause-scanned : goal.take_part-requires-clause-scanned
 take_part-requires-clause-scanned c = takes_part c.loop-self.self.at c.loop-self.rest.now c.split_at-in-loop-self.result.0.now c.scan-found.result c.scan-found.ensures.found c.split_at-in-loop-self.ensures.front
+
+pub read_cut-requires-clause-count : goal.read_cut-requires-clause-count
+read_cut-requires-clause-count c =
+    sym (rw c.in-Some.is at c.in_ok-taken.ensures.line) ∙ ap (count_by (λ c. c == 10)) (sym c.split_at.ensures.front)
 
 pub loop-self-preserved : goal.loop-self-preserved
 loop-self-preserved c =
@@ -45,7 +49,7 @@ loop-self-preserved-then-blank-gt0 c =
 pub loop-self-preserved-in-Some : goal.loop-self-preserved-in-Some
 loop-self-preserved-in-Some c =
     let mid = c.loop-self.self in
-    let first = rw c.in-Some.is at c.in_ok-taken.ensures in
+    let first = rw c.in-Some.is at c.in_ok-taken.ensures.first in
     record {
       fed = fed_entry c.args.self.now mid _ c.args.piece.now c.loop-self.rest.now c.split_at.result.0.now c.split_at.result.1.now c.in-Some.taken _ c.loop-self.invariant.fed
           (none_found mid.ended.decided.ending c.if-is_none.ensures)
