@@ -17,6 +17,12 @@ part_as old new piece text is part = subst (λ (t : List ℕ). AppendsPart old n
 pub both_written : (a b c : Option (List ℕ)) (piece other text others : List ℕ) → piece ≡ text → other ≡ others → Appends a b piece → Appends b c other → Appends a c (text ++ others)
 both_written a b c piece other text others is are h k = Appends-trans a b c text others (subst (λ (t : List ℕ). Appends a b t) is h) (subst (λ (t : List ℕ). Appends b c t) are k)
 
+pub on_err : {X Y : Type 0} (r : Result X Y) (P Q : Type 0) → (P → Q) → OnErr r P → OnErr r Q
+on_err r P Q then h = grind arith
+
+pub on_any_err : {X Y : Type 0} (r : Result X Y) (P : Type 0) → P → OnErr r P
+on_any_err r P h = grind arith
+
 -- words and digits that were written make this line, and part of them part of it
 pub this_line_on_ok : {X Y : Type 0} (r : Result X Y) (text line : List ℕ) (old new : Device) → text ≡ line → OnOk r (WritesLine text old new) → OnOk r (WritesLine line old new)
 this_line_on_ok r text line old new is h = subst (λ (t : List ℕ). OnOk r (WritesLine t old new)) is h

@@ -11,6 +11,10 @@ use Rattle.zone_set.specs.Refusal.{AllAccepted, records_of}
 use Rattle.zone_set.specs.ZoneList.{IsSettledAs, StopsSettling, refused}
 use Rattle.zone_set.specs.Zone.{SameRecords}
 
+-- nothing was listed
+pub KeepsList-none : (class : ℕ) (base : List (List ℕ)) → KeepsList class base [] [] []
+KeepsList-none class base = record { each = tt; row = record { classes = tt; whole = tt; kept = refl; stand = refl }; all = refl }
+
 -- entries that were settled are of the records that were listed
 pub IsSettledAs-sorted : (class : ℕ) (base : List (List ℕ)) (octets : List ℕ) (es fs : List Entry) (places : List Place) (held : List Record) → KeepsList class base octets es places → SameRecords (all_records class octets fs) (all_records class octets es) → AreCompatible (all_records class octets fs) → held ≡ all_records class octets fs → IsSettledAs (listed class octets es places) held
 IsSettledAs-sorted class base octets es fs places held keeps same compatible is =

@@ -59,10 +59,13 @@ impl ZoneList {
     pub fn new(alloc: Global) -> ZoneList
         ensures { result ≡ [] }
     {
+        // With no record it may be any class.
+        let Some(class) = Class::of_number(1) else {
+            unreachable!();
+        };
         ZoneList {
             alloc,
-            // With no record it may be any class.
-            class: Class::internet(),
+            class,
             base: Name::root(),
             octets: Vec::new(alloc),
             entries: Vec::new(alloc),

@@ -20,8 +20,7 @@ pub(crate) fn len_of_entries(class: Class, octets: &[u8], entries: &[Entry], lis
     requires whole { length entries.now ≡ listed
         → message_octets (all_records class octets.now entries.now)
         ≡ length octets.now + length entries.now }
-    ensures { result
-        ≡ min (message_octets (all_records class octets.now entries.now)) (2 ^ 64 - 1) }
+    ensures { result ≡ min (message_octets (all_records class octets.now entries.now)) (2 ^ 64 - 1) }
 {
     if entries.len() != listed {
         return counted(class, octets, entries);
@@ -34,8 +33,7 @@ pub(crate) fn len_of_entries(class: Class, octets: &[u8], entries: &[Entry], lis
 fn counted(class: Class, octets: &[u8], entries: &[Entry]) -> u64
     ghost base: { Labels }
     requires { AllByRecursion (IsEntry base class octets.now) entries.now }
-    ensures { result
-        ≡ min (message_octets (all_records class octets.now entries.now)) (2 ^ 64 - 1) }
+    ensures { result ≡ min (message_octets (all_records class octets.now entries.now)) (2 ^ 64 - 1) }
 {
     let mut message_len: u64 = 0;
     let mut left = entries;

@@ -56,9 +56,12 @@ impl Sets {
     pub(crate) fn new(alloc: Global) -> Sets
         ensures { result ≡ [] }
     {
+        // With no record it may be any class.
+        let Some(class) = Class::of_number(1) else {
+            unreachable!();
+        };
         Sets {
-            // With no record it may be any class.
-            class: Class::internet(),
+            class,
             base: Name::root(),
             octets: Vec::new(alloc),
             entries: SortedChunks::new(alloc),

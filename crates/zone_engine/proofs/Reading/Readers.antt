@@ -1,5 +1,5 @@
 -- What calls leave of the reader of an input.
-use Rattle.zone_engine.proofs.Common.{◌≡◌, ℕ, ◌≤◌, ◌+◌, length, sym, subst, inl, inr, arith, Option, None, Some, IfSome, Result, Ok, Err, Consumes, Keeps, Octets, Fault, InputTooLong, Place, Whole, Stop, Refused, Input, Device, WorksOn, IsOfBytes, IfRefused, IsRefusalWithin, ConsumesAtMost, IsFailedRead, Reads, ReadsToEnd, StopsReading, TellsRead}
+use Rattle.zone_engine.proofs.Common.{◌≡◌, ℕ, ◌≤◌, ◌+◌, length, [], sym, subst, inl, inr, arith, Option, None, Some, IfSome, Result, Ok, Err, Consumes, Keeps, Consumes-nil, Octets, Fault, InputTooLong, Place, Whole, Stop, Refused, Input, Device, WorksOn, IsOfBytes, IfRefused, IsRefusalWithin, ConsumesAtMost, IsFailedRead, Reads, ReadsToEnd, StopsReading, TellsRead}
 use Rattle.std.specs.Prelude.{IfErr}
 use Rattle.std.proofs.KnownBytes.{Consumes-kept}
 use Rattle.zone_rdata.specs.declared.fault.Stop.TheVariants.{Read, Write, Memory}
@@ -35,6 +35,10 @@ module _ (limit : ℕ) (form : Octets → Input) where
     where
       by_memory : StopsReading limit form old new Memory
       by_memory = record { few = few; fault = unrefused old.octets; whole = tt; tells = works }
+
+  -- memory was refused before anything was read
+  pub stops_before : (reader : Device) → StopsReading limit form reader reader Memory
+  stops_before reader = record { few = ([], omega arith, Consumes-nil _); fault = unrefused reader.octets; whole = tt; tells = λ works. works }
 
   -- an input that was read to its end is judged
   pub judged : {T : Type 0} (old new : Device) (r : Result T Stop) (P : Stop → Type 0) → ReadsToEnd limit old new → IfErr r IsOfBytes → IfErr r P → ((stop : Stop) → P stop → IfSome old.octets (λ octets. IfRefused stop (IsRefusalWithin limit (form octets)))) → Reads limit form old new r
