@@ -1,8 +1,10 @@
 -- Records that state their class are rewritten one after the other as each is alone.
-use Rattle.zone_text.proofs.Common.{AllByRecursion-append, Cut, List, Token, [], and_last, ap, append-nil, append_assoc, cut_from, entry_of, numbered, refl, reverse, subst, sym, text, zero, ℕ, ◌++◌, ◌∙◌, ◌∷◌, ◌≡◌}
+use Rattle.zone_text.proofs.Common.{AllByRecursion, AllByRecursion-append, Cut, List, Token, [], and_last, ap, append-nil, append_assoc, cut_from, entry_of, numbered, refl, reverse, subst, sym, text, zero, ℕ, ◌++◌, ◌∙◌, ◌∷◌, ◌≡◌}
 use Rattle.zone_text.proofs.Cuttings.{cut_not_broken, one_cut}
+use Rattle.zone_text.proofs.Begun.{no_tokens}
+use Rattle.zone_text.proofs.CutAgain.{cut_ended}
 use Rattle.zone_words.proofs.Files.{HasDone, NextBecomes, whole_done}
-unfoldable use Rattle.zone_words.proofs.Files.{done_entry, done_none}
+unfoldable use Rattle.zone_words.proofs.Files.{done_entry}
 use Rattle.zone_words.proofs.Moved.{AreClassed, IsClassed, becomes_moves, before_classed}
 use Rattle.zone_words.specs.Data.{joined}
 use Rattle.zone_words.specs.Entry.{BecomesUnder, IsRewriting}
@@ -70,8 +72,19 @@ all_more octets old (part ∷ many) (new ∷ others) b each =
     (all_more octets (old ++ new) many others (one_more octets (joined (part ∷ many)) part (joined many) old new b refl each.0.0 each.0.1) each.1)
 
 begun_none : (octets : List ℕ) → Begun octets octets []
-unfolding done_none
-begun_none octets = record { has = done_none (BecomesUnder []) octets; classed = tt }
+begun_none octets = record {
+  has = record {
+    done = [];
+    begun = refl;
+    ended = [];
+    outcomes = [];
+    parts = record { whole = refl; front = no_tokens; stays = cut_ended zero [] };
+    each = tt;
+    new_is = refl;
+    told_is = refl;
+  };
+  classed = tt;
+}
 
 pub joined_rewriting : (many others : List (List ℕ)) → EachRewritten many others → IsRewriting [] (joined many) (joined others) []
 joined_rewriting many others each =
