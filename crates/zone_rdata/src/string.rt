@@ -15,6 +15,9 @@ use arrayvec::ArrayVec;
 use std::alloc::AllocError;
 use zone_name::{NextUnit, Sink, decimal_escape, next_unit};
 
+/// The most octets of a string (RFC 1035 3.3).
+const LONGEST_STRING: usize = 255;
+
 /// Appends the string that the item spells, its octets after their number (RFC 1035 3.3, 5.1). If
 /// it is refused, `out` is unchanged.
 ///
@@ -28,6 +31,12 @@ pub fn push_string(item: Item, out: &mut Vec<u8>) -> Result<(), NarrowFailing>
         → StringFault (raw item.entry) fault }
     ensures err { OnErr result (out.new.items ≡ out.old.items) }
 {
+    let text = text_of(item);
+    if text.len() <= LONGEST_STRING && !text.contains(&b'\\') {
+        are_octets(text);
+        push_with_length(text, out)?;
+        return Ok(());
+    }
     let octets = string_of(item)?;
     push_with_length(octets.as_slice(), out)?;
     Ok(())
