@@ -3,7 +3,7 @@ ghost use Rattle.zone_name.specs.Name.{with_length};
 ghost use Rattle.zone_name.specs.Sink.{TakesSome};
 ghost use Rattle.zone_rdata.specs.Cause.{fault_for};
 ghost use Rattle.zone_rdata.specs.Item.{raw};
-ghost use Rattle.zone_rdata.specs.Strings.{SpellsString, StringFault, item_text, string_text, unit_text};
+ghost use Rattle.zone_rdata.specs.Strings.{SpellsString, StringFault, inside_text, item_text, string_text, unit_text};
 ghost use Rattle.zone_rdata.specs.Appended.{Appends};
 
 use crate::cause::Cause;
@@ -11,6 +11,7 @@ use crate::fault::{Failing, Fault};
 use crate::item::Item;
 use crate::narrow_failing::NarrowFailing;
 use crate::reading::are_octets;
+use crate::unescaped::unescaped_len;
 use arrayvec::ArrayVec;
 use std::alloc::AllocError;
 use zone_name::{NextUnit, Sink, decimal_escape, next_unit};
@@ -101,10 +102,25 @@ pub(crate) fn push_string_text<S: Sink>(octets: &[u8], out: &mut S) -> Result<()
     ensures err { OnErr result (TakesSome S.takes out.old out.new) }
 {
     out.push(b"\"")?;
-    for octet in octets {
-        push_unit(*octet, out)?;
-    }
+    push_units(octets, out)?;
     out.push(b"\"")
+}
+
+/// Appends the octets' text between quotes: at once as many as take no escape, then one that does.
+fn push_units<S: Sink>(octets: &[u8], out: &mut S) -> Result<(), S::Error>
+    ensures ok { OnOk result (S.takes out.old (inside_text octets.now) out.new) }
+    ensures err { OnErr result (TakesSome S.takes out.old out.new) }
+{
+    let mut rest = octets;
+    loop {
+        let (plain, after) = rest.split_at(unescaped_len(rest));
+        out.push(plain)?;
+        let Some((octet, following)) = after.split_first() else {
+            return Ok(());
+        };
+        push_unit(*octet, out)?;
+        rest = following;
+    }
 }
 
 /// Appends an octet's text between quotes.
