@@ -77,24 +77,6 @@ impl Kind {
         Kind { number }
     }
 
-    /// The type of a mnemonic in upper case, of those that most records have. `None`: the word is
-    /// another.
-    #[inline(always)]
-    fn of_common_word(word: &[u8]) -> Option<Kind>
-        ensures { IfSome result (IsKindWord word.now) }
-    {
-        match word {
-            [b'A'] => Some(Kind { number: 1 }),
-            [b'N', b'S'] => Some(Kind { number: 2 }),
-            [b'C', b'N', b'A', b'M', b'E'] => Some(Kind { number: 5 }),
-            [b'P', b'T', b'R'] => Some(Kind { number: 12 }),
-            [b'M', b'X'] => Some(Kind { number: 15 }),
-            [b'T', b'X', b'T'] => Some(Kind { number: 16 }),
-            [b'A', b'A', b'A', b'A'] => Some(Kind { number: 28 }),
-            _ => None,
-        }
-    }
-
     /// The type of a word in any letter case: a mnemonic, or TYPE with a number.
     ///
     /// # Errors
@@ -118,9 +100,6 @@ impl Kind {
         ensures found { IfOk result (IsKindWord word.now) }
         ensures err { IfErr result (λ cause. IsWordFault word.now (fault_for cause)) }
     {
-        if let Some(kind) = Kind::of_common_word(word) {
-            return Ok(kind);
-        }
         match number_of_word(TYPES, b"TYPE", word) {
             Some(number) => Kind::admitted(number),
             None => Err(Cause::UnknownType),

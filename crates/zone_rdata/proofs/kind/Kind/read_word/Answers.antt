@@ -2,13 +2,13 @@ use Rattle.zone_rdata.proofs.Common.{◌≡◌, ℕ, min, arith, common_steps, I
 use Rattle.zone_rdata.proofs.Words.{kind_refused}
 use Rattle.zone_rdata.proofs.kind.Kind.read_word.Goals as goal
 
-pub returns-in-Some-number_of_word-clause-err : goal.returns-in-Some-number_of_word-clause-err
-returns-in-Some-number_of_word-clause-err c = IfErr-weaker c.admitted.result _ _ (λ cause. kind_refused c.args.word.now c.in-Some-number_of_word.number c.in-Some-number_of_word.ensures.found (fault_for cause)) c.admitted.ensures.err
+pub returns-in-Some-clause-err : goal.returns-in-Some-clause-err
+returns-in-Some-clause-err c = IfErr-weaker c.admitted.result _ _ (λ cause. kind_refused c.args.word.now c.in-Some.number c.in-Some.ensures.found (fault_for cause)) c.admitted.ensures.err
 
 pub returns-in-None-clause-err : goal.returns-in-None-clause-err
 returns-in-None-clause-err c = nameless c.in-None.ensures.none
 
-pub returns-in-Some-number_of_word-clause-found : goal.returns-in-Some-number_of_word-clause-found
-returns-in-Some-number_of_word-clause-found c =
-    let found : (m : ℕ) × (IsKindWord c.args.word.now m × (c.in-Some-number_of_word.number ≡ min 4294967296 m)) = c.in-Some-number_of_word.ensures.found in
+pub returns-in-Some-clause-found : goal.returns-in-Some-clause-found
+returns-in-Some-clause-found c =
+    let found : (m : ℕ) × (IsKindWord c.args.word.now m × (c.in-Some.number ≡ min 4294967296 m)) = c.in-Some.ensures.found in
     grind (arith, common_steps)
