@@ -1,5 +1,8 @@
 -- The canonical texts of addresses.
-use Rattle.zone_rdata.proofs.Common.{[], ◌≡◌, ℕ, zero, suc, ◌-◌, ◌/◌, ◌%◌, ◌^◌, ◌<◌, Bool, true, ◌&&◌, List, ◌∷◌, take, drop, refl, arith, ◌==◌, inl, inr, slice_index, leading_zero_digits, and_parts, cases_eq, eqb-true, take_rest, encode_lower, lower_digits, digit_char}
+use Rattle.zone_rdata.proofs.Common.{[], ◌≡◌, ℕ, zero, suc, ◌-◌, ◌/◌, ◌%◌, ◌^◌, ◌<◌, Bool, true, ◌&&◌, List, ◌∷◌, ◌++◌, ◌+◌, bytes_eq, decimal, nat_le, nat_tests, if◌then◌else◌, refl, arith, ◌==◌, inl, inr, slice_index, and_parts, cases_eq, eqb-true, encode_lower, lower_digits, digit_char}
+use Rattle.std.proofs.lemmas.Bool.{agree_below_at}
+use Rattle.std.specs.Cmp.Lexicographic.{bytes_decides}
+use Rattle.std.specs.Fmt.{digits}
 use Rattle.std.specs.Net.Text.{hex}
 use Rattle.hex.specs.Hex.{encode_with}
 
@@ -28,6 +31,22 @@ pub four_encoded : (n : ℕ) → n < 2 ^ 16 → encode_lower (n / 256 ∷ n % 25
 unfolding encode_with
 four_encoded n fits = grind (arith, digit_same)
 
-pub group_written : (n zeros : ℕ) (digits bytes : List ℕ) → n < 2 ^ 16 → zeros ≡ leading_zero_digits n → bytes ≡ n / 256 % 256 ∷ n % 256 ∷ [] → digits ≡ encode_lower bytes → take (4 - zeros) (drop zeros digits) ≡ hex n
+-- a digit that isn't a leading zero
+abbrev pub shown : Bool → ℕ → List ℕ
+shown some digit = if some then digit ∷ [] else []
+
+pub group_written : (n : ℕ) → n < 2 ^ 16
+    → shown (nat_le 0x1000 n) (digit_char (n / 0x1000 % 16)) ++ shown (nat_le 0x100 n) (digit_char (n / 0x100 % 16))
+    ++ shown (nat_le 0x10 n) (digit_char (n / 0x10 % 16)) ++ digit_char (n % 16) ∷ [] ≡ hex n
 unfolding hex
-group_written n zeros digits bytes fits z b e = grind (arith, four_encoded n fits, take_rest (four_digits n) zeros)
+group_written n fits = grind (arith, nat_tests)
+
+abbrev number_digits : ℕ → List ℕ
+number_digits n = shown (nat_le 100 n) (48 + n / 100) ++ shown (nat_le 10 n) (48 + n / 10 % 10) ++ (48 + n % 10) ∷ []
+
+-- the decimal digits of an octet, which is tried for all
+pub number_written : (n : ℕ) → n < 256 → number_digits n ≡ decimal n
+unfolding digits
+number_written n fits =
+    (bytes_decides (number_digits n) (decimal n)).0
+    (agree_below_at (λ k. bytes_eq (number_digits k) (decimal k)) (λ _. true) 256 n refl fits)

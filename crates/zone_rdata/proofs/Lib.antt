@@ -23,6 +23,7 @@ pub mod Texts
 pub mod TextItems
 pub mod TextLengths
 pub mod StringTexts
+pub mod UnescapedRuns
 pub mod Times
 pub mod Decimal
 pub mod Failings

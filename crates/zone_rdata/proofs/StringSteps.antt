@@ -1,5 +1,11 @@
 -- The octets of a string as the code reads them, unit by unit.
-use Rattle.zone_rdata.proofs.Common.{[], ◌≡◌, ℕ, ◌<◌, ◌≤◌, List, ◌∷◌, ◌++◌, length, sym, ap, ◌∙◌, subst, arith, append_assoc, length-append, flat_map_more, map_push, length-map, Written, text_of, octet_of, IsUnit, no_octet, IsBadEscape, BeginsWithUnit, written_text, written_octets, RawItem, ReachesUnit, StringFault, bad_escape, long_string, item_text, AllByRecursion-append, BadEscape, StringTooLong}
+use Rattle.zone_rdata.proofs.Common.{[], ◌≡◌, ℕ, ◌<◌, ◌≤◌, List, ◌∷◌, ◌++◌, length, sym, ap, ◌∙◌, subst, arith, append_assoc, length-append, flat_map_more, map_push, length-map, Written, text_of, octet_of, IsUnit, no_octet, IsBadEscape, BeginsWithUnit, written_text, written_octets, RawItem, ReachesUnit, StringFault, bad_escape, long_string, item_text, AllByRecursion-append, BadEscape, StringTooLong, AllByRecursion, Bool, ◌||◌, ◌≢◌, false, map, refl}
+use Rattle.std.proofs.Common.{nat_eq}
+use Rattle.std.proofs.lemmas.Bool.{eqb-false, or_parts}
+use Rattle.std.specs.List.{list_any}
+use Rattle.zone_name.specs.Common.{AreOctets}
+use Rattle.zone_name.specs.Spelling.{plain}
+use Rattle.zone_rdata.specs.Strings.{SpellsString}
 
 -- the octets of the units up to a place of an item's text
 pub record HasRead (item : RawItem) (octets rest : List ℕ) : Type 0 where
@@ -29,3 +35,30 @@ pub read_full : (item : RawItem) (octets rest after : List ℕ) (c : ℕ) → Ha
 read_full item octets rest after c read begins full =
     let P : List ℕ → Type 0 = ReachesUnit (item_text item) read.before in
     long_string read.before begins.unit after (subst P begins.parts read.reaches) (omega (arith, read_length item octets rest read, read.reaches.room)) begins.is_unit
+
+-- ---- a text without a backslash
+
+plain_text : (text : List ℕ) → text ≡ written_text (map plain text)
+plain_text [] = refl
+plain_text (c ∷ text) = ap (λ t. c ∷ t) (plain_text text)
+
+plain_octets : (text : List ℕ) → text ≡ written_octets (map plain text)
+plain_octets [] = refl
+plain_octets (c ∷ text) = ap (λ t. c ∷ t) (plain_octets text)
+
+plain_step : (c : ℕ) (others : Bool) → (nat_eq c 92 || others) ≡ false → (c ≢ 92) × (others ≡ false)
+plain_step c others none = let p = or_parts (nat_eq c 92) others none in (eqb-false c 92 p.0, p.1)
+
+plain_units : (text : List ℕ) → list_any (λ y. nat_eq y 92) text ≡ false → AllByRecursion (IsUnit no_octet) (map plain text)
+plain_units [] none = tt
+plain_units (c ∷ text) none = let p = plain_step c (list_any (λ y. nat_eq y 92) text) none in ((refl, p.0), plain_units text p.1)
+
+-- the text is the string
+pub spells_itself : (item : RawItem) (text : List ℕ) → text ≡ item_text item → list_any (λ y. nat_eq y 92) text ≡ false → length text ≤ 255 → AreOctets text → SpellsString item text
+spells_itself item text e none short octets = record {
+  units = map plain text;
+  each = plain_units text none;
+  text = sym e ∙ plain_text text;
+  value = plain_octets text;
+  string = record { short = short; each = octets };
+}

@@ -1,5 +1,5 @@
 -- The text of data, field after field.
-use Rattle.zone_rdata.proofs.Common.{[], ◌≡◌, ℕ, zero, suc, ◌+◌, ◌<◌, List, ◌∷◌, ◌++◌, length, get_or, take, drop, map, refl, sym, ap, arith, append_assoc, Some, OnOk, IsOk, encode_lower, flat_map, join_with_byte, take_at, drop_at, append-nil, take_more, Field, field_at, values_of, field_text, AreLaidOut, BeginsWithField, after_field, spaced, generic_head, laid_out_text, generic_text, common_steps, Result}
+use Rattle.zone_rdata.proofs.Common.{[], ◌≡◌, ◌∙◌, ◌≤◌, take-append-drop, ℕ, zero, suc, ◌+◌, ◌<◌, List, ◌∷◌, ◌++◌, length, get_or, take, drop, map, refl, sym, ap, arith, append_assoc, Some, OnOk, IsOk, encode_lower, flat_map, join_with_byte, take_at, drop_at, append-nil, take_more, Field, field_at, values_of, field_text, AreLaidOut, BeginsWithField, after_field, spaced, generic_head, laid_out_text, generic_text, common_steps, Result}
 use Rattle.hex.specs.Hex.{encode_with}
 use Rattle.zone_rdata.proofs.Lists.{from_place}
 
@@ -37,14 +37,34 @@ pub generic_whole : (octets : List ℕ) → generic_head octets ++ encode_lower 
 unfolding encode_with
 generic_whole octets = grind (arith, append_assoc)
 
-pub encode_push : (octets : List ℕ) (c : ℕ) → encode_lower (octets ++ c ∷ []) ≡ encode_lower octets ++ encode_lower (c ∷ [])
+encode_append : (front rest : List ℕ) → encode_lower (front ++ rest) ≡ encode_lower front ++ encode_lower rest
 unfolding encode_with
-encode_push [] c = refl
-encode_push (d ∷ octets) c = cc (encode_push octets c)
+encode_append [] rest = refl
+encode_append (c ∷ front) rest = cc (encode_append front rest)
+
+-- octets up to a place are written in digits
+pub record HaveDigits (whole rest text : List ℕ) : Type 0 where
+  pub left : encode_lower whole ≡ text ++ encode_lower rest
+
+pub digits_more : (whole rest text part after : List ℕ) (n : ℕ) → part ≡ take n rest → after ≡ drop n rest
+    → HaveDigits whole rest text → HaveDigits whole after (text ++ encode_lower part)
+digits_more whole rest text part after n front back so_far =
+    let parts : encode_lower rest ≡ encode_lower part ++ encode_lower after =
+    rw (front, back) (ap encode_lower (sym (take-append-drop n rest)) ∙ encode_append (take n rest) (drop n rest)) in
+    record { left = cc (so_far.left, parts, append_assoc text (encode_lower part) (encode_lower after)) }
+
+pub digits_all : (whole rest text : List ℕ) → length rest ≤ 0 → HaveDigits whole rest text
+    → text ≡ encode_lower whole
+unfolding encode_with
+digits_all whole [] text none so_far = sym (so_far.left ∙ append-nil text)
+digits_all whole (c ∷ rest) text none so_far = absurd (omega (arith, none))
+
+pub digits_started : (whole : List ℕ) → HaveDigits whole whole []
+digits_started whole = record { left = refl }
 
 -- one more octet in digits
 pub hex_more : (octets pair : List ℕ) (i c d : ℕ) → i < length octets → c ≡ get_or octets i d → pair ≡ encode_lower (c ∷ []) → encode_lower (take i octets) ++ pair ≡ encode_lower (take (i + 1) octets)
-hex_more octets pair i c d lt at is = cc (take_more octets i d lt, encode_push (take i octets) c)
+hex_more octets pair i c d lt at is = cc (take_more octets i d lt, encode_append (take i octets) (c ∷ []))
 
 pub hex_started : [] ≡ encode_lower []
 unfolding encode_with

@@ -1,5 +1,6 @@
 -- Words that are equal in any case of their letters.
-use Rattle.zone_rdata.proofs.Common.{◌≡◌, ℕ, ◌<◌, ◌≤◌, true, false, List, map, sym, ap, ◌∙◌, arith, IsTrue, ◌↔◌, inl, inr, Some, None, min, subst, bytes_eq, Bool, find, option_map, cases_lt, bytes_eq-Decides, folded_label, Named, ascends, IsKind, IsNumbered, IsWordAmong, by_mnemonic, by_number, IsKindWord, IsWordFault, for_queries, beyond, Fault, rules, to_ascii_lowercase, UnknownType, MetaType}
+use Rattle.zone_rdata.proofs.Common.{mnemonic_among, [], ◌∷◌, get_or, length, refl, suc, ◌≡◌, ℕ, ◌<◌, ◌≤◌, true, false, List, map, sym, ap, ◌∙◌, arith, IsTrue, ◌↔◌, inl, inr, Some, None, min, subst, bytes_eq, Bool, find, option_map, cases_lt, bytes_eq-Decides, folded_label, Named, ascends, IsKind, IsNumbered, IsWordAmong, by_mnemonic, by_number, IsKindWord, IsWordFault, for_queries, beyond, Fault, rules, to_ascii_lowercase, UnknownType, MetaType}
+use Rattle.std.specs.Prelude.{⊤}
 use Rattle.zone_rdata.proofs.Tables.{find_mapped, row_is, no_row}
 
 lowercase_folds_all : (text : List ℕ) → map to_ascii_lowercase text ≡ folded_label text
@@ -19,7 +20,31 @@ test_by word mnemonic t e other = search rules
 pub other_test : (word name mnemonic : List ℕ) → name ≡ mnemonic → (folded_label word ≡ folded_label name → ⊥) → bytes_eq (folded_label word) (folded_label mnemonic) ≡ false
 other_test word name mnemonic e other = grind (arith, test_by, bytes_eq)
 
+-- ---- words by their octets
+
+-- these stand at a place and those after it
+abbrev pub StandAt : List ℕ → ℕ → List ℕ → Type 0
+StandAt xs i [] = ⊤
+StandAt xs i (y ∷ ys) = (get_or xs i 0 ≡ y) × StandAt xs (suc i) ys
+
+one_less : (x : ℕ) (xs ys : List ℕ) (i : ℕ) → StandAt (x ∷ xs) (suc i) ys → StandAt xs i ys
+one_less x xs [] i stand = tt
+one_less x xs (y ∷ ys) i stand = (stand.0, one_less x xs ys (suc i) stand.1)
+
+pub same_octets : (xs ys : List ℕ) → length xs ≡ length ys → StandAt xs 0 ys → xs ≡ ys
+same_octets [] [] len stand = refl
+same_octets [] (y ∷ ys) len stand = absurd (omega (arith, len))
+same_octets (x ∷ xs) [] len stand = absurd (omega (arith, len))
+same_octets (x ∷ xs) (y ∷ ys) len stand =
+    let first : x ≡ y = stand.0 in
+    let rest : xs ≡ ys = same_octets xs ys (omega (arith, len)) (one_less x xs ys 0 stand.1) in
+    cc
+
 -- ---- the number that a word stands for
+
+-- a word that is the mnemonic letter by letter
+pub is_named : (rows : List Named) (name word mnemonic : List ℕ) (n : ℕ) → mnemonic_among rows n ≡ Some mnemonic → word ≡ mnemonic → IsWordAmong rows name word n
+is_named rows name word mnemonic n row e = by_mnemonic (record { name = mnemonic; row = row; same = ap folded_label e })
 
 -- the row that a word finds is that of a number
 pub word_of_row : {R : Type 0} (names : R → Named) (rows : List R) (name word : List ℕ) (row : R) (n : ℕ) → ascends (map names rows) ≡ true → Some row ≡ find (λ row. bytes_eq (folded_label word) (folded_label (names row).mnemonic)) rows → n ≡ (names row).number → n < 65536 → (m : ℕ) × (IsWordAmong (map names rows) name word m × (n ≡ min 4294967296 m))

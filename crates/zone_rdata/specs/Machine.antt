@@ -8,3 +8,4 @@ pub mod Each
 pub mod Fronts
 pub mod GenericLength
 pub mod Written
+pub mod Unescaped

@@ -17,7 +17,7 @@ use crate::reading::are_octets;
 use crate::string::push_with_length;
 use std::alloc::Global;
 use std::marker::Model;
-use zone_name::Name;
+use zone_name::{Name, NameRef};
 
 /// Record data that is made part by part. Contracts see class, type and the parts that were pushed.
 #[derive(Debug, Drop)]
@@ -60,7 +60,7 @@ pub enum Part<'p> {
     /// A number of 32 bits, a serial or a time in seconds.
     U32(u32),
     /// A name.
-    Name(&'p Name),
+    Name(&'p NameRef<'p>),
     /// A string, the next field or one more of several.
     String(&'p [u8]),
 }
@@ -142,7 +142,7 @@ impl RdataBuilder {
         ensures fault { IfErr result (IfFault (IsPushFault self.old (name target.now))) }
         ensures err { OnErr result (self.new ≡ self.old) }
     {
-        Ok(self.push(Part::Name(target))?)
+        Ok(self.push(Part::Name(&NameRef::of_wire(target.wire())))?)
     }
 
     /// Pushes a string, the next field or one more of several. On an error the
@@ -255,7 +255,9 @@ fn known(part: Part)
 {
     match part {
         Part::Octets(octets) | Part::String(octets) => are_octets(octets),
-        Part::Name(name) => name.known(),
+        Part::Name(name) => {
+            let _ = name.wire();
+        }
         Part::U16(_) | Part::U32(_) => {}
     }
 }

@@ -98,6 +98,10 @@ impl Class {
         ensures err { IfErr result (λ cause. (fault_for cause ≡ Fault.BadClass)
             × ((n : ℕ) × (IsClassWord word.now n × (IsClass n → ⊥)))) }
     {
+        // Nearly all records are of this class, and it is mostly written so.
+        if let [b'I', b'N'] = word {
+            return Ok(Some(Class::internet()));
+        }
         match number_of_word(CLASSES, b"CLASS", word) {
             Some(number) => Ok(Some(Class::admitted(number)?)),
             None => Ok(None),

@@ -31,6 +31,7 @@ mod string;
 mod table;
 mod time;
 mod uncompressed;
+mod unescaped;
 mod word;
 
 pub use address::{four_groups_of, ipv4_octets_of, ipv6_octets_of};

@@ -1,4 +1,4 @@
-ghost use Rattle.std.specs.Prelude.{[], OnOk, OnErr, option_map, MatchOption, IfSome, Some};
+ghost use Rattle.std.specs.Prelude.{[], ◌≤◌, length, OnOk, OnErr, option_map, MatchOption, IfSome, Some};
 ghost use Rattle.std.specs.List.{AllByRecursion};
 ghost use Rattle.zone_name.specs.Sink.{TakesSome};
 ghost use Rattle.zone_rdata.specs.Layout.{AreLaidOut, IsSized, fields_of};
@@ -58,17 +58,33 @@ fn push_generic_head<S: Sink>(octets: &[u8], out: &mut S) -> Result<(), S::Error
     out.push(head.as_slice())
 }
 
+/// How many octets are written in digits at a time.
+const HEX_LEN: usize = 32;
+
 /// Appends two hexadecimal digits for each octet.
 fn push_hex<S: Sink>(octets: &[u8], out: &mut S) -> Result<(), S::Error>
     ensures ok { OnOk result (S.takes out.old (encode_lower octets.now) out.new) }
     ensures err { OnErr result (TakesSome S.takes out.old out.new) }
 {
-    for octet in octets {
-        let mut pair = [0; 2];
-        let _ = encode_to_slice([*octet], &mut pair);
-        out.push(&pair)?;
+    let mut rest = octets;
+    while !rest.is_empty() {
+        let (part, after) = rest.split_at(HEX_LEN.min(rest.len()));
+        push_hex_of_few(part, out)?;
+        rest = after;
     }
     Ok(())
+}
+
+/// Appends two hexadecimal digits for each octet of a few.
+fn push_hex_of_few<S: Sink>(octets: &[u8], out: &mut S) -> Result<(), S::Error>
+    requires { length octets.now ≤ HEX_LEN }
+    ensures ok { OnOk result (S.takes out.old (encode_lower octets.now) out.new) }
+    ensures err { OnErr result (S.takes out.old [] out.new) }
+{
+    let mut room = [0; 2 * HEX_LEN];
+    let digits = &mut room[..2 * octets.len()];
+    let _ = encode_to_slice(octets, digits);
+    out.push(digits)
 }
 
 /// Appends octets in the generic form (RFC 3597 5).

@@ -26,7 +26,7 @@ pub fn is_generic(items: &[Item]) -> bool
     ensures { IsTrue result ↔ IsGeneric (map raw items.now) }
 {
     match items.first() {
-        Some(Item::Bare(text)) => *text == b"\\#".as_slice(),
+        Some(Item::Bare(text)) => matches!(text, [b'\\', b'#']),
         _ => false,
     }
 }

@@ -3,7 +3,7 @@ ghost use Rattle.zone_name.specs.Name.{with_length};
 ghost use Rattle.zone_name.specs.Sink.{TakesSome};
 ghost use Rattle.zone_rdata.specs.Cause.{fault_for};
 ghost use Rattle.zone_rdata.specs.Item.{raw};
-ghost use Rattle.zone_rdata.specs.Strings.{SpellsString, StringFault, item_text, string_text, unit_text};
+ghost use Rattle.zone_rdata.specs.Strings.{SpellsString, StringFault, inside_text, item_text, string_text, unit_text};
 ghost use Rattle.zone_rdata.specs.Appended.{Appends};
 
 use crate::cause::Cause;
@@ -11,9 +11,13 @@ use crate::fault::{Failing, Fault};
 use crate::item::Item;
 use crate::narrow_failing::NarrowFailing;
 use crate::reading::are_octets;
+use crate::unescaped::unescaped_len;
 use arrayvec::ArrayVec;
 use std::alloc::AllocError;
 use zone_name::{NextUnit, Sink, decimal_escape, next_unit};
+
+/// The most octets of a string (RFC 1035 3.3).
+const LONGEST_STRING: usize = 255;
 
 /// Appends the string that the item spells, its octets after their number (RFC 1035 3.3, 5.1). If
 /// it is refused, `out` is unchanged.
@@ -28,6 +32,12 @@ pub fn push_string(item: Item, out: &mut Vec<u8>) -> Result<(), NarrowFailing>
         → StringFault (raw item.entry) fault }
     ensures err { OnErr result (out.new.items ≡ out.old.items) }
 {
+    let text = text_of(item);
+    if text.len() <= LONGEST_STRING && !text.contains(&b'\\') {
+        are_octets(text);
+        push_with_length(text, out)?;
+        return Ok(());
+    }
     let octets = string_of(item)?;
     push_with_length(octets.as_slice(), out)?;
     Ok(())
@@ -92,10 +102,25 @@ pub(crate) fn push_string_text<S: Sink>(octets: &[u8], out: &mut S) -> Result<()
     ensures err { OnErr result (TakesSome S.takes out.old out.new) }
 {
     out.push(b"\"")?;
-    for octet in octets {
-        push_unit(*octet, out)?;
-    }
+    push_units(octets, out)?;
     out.push(b"\"")
+}
+
+/// Appends the octets' text between quotes: at once as many as take no escape, then one that does.
+fn push_units<S: Sink>(octets: &[u8], out: &mut S) -> Result<(), S::Error>
+    ensures ok { OnOk result (S.takes out.old (inside_text octets.now) out.new) }
+    ensures err { OnErr result (TakesSome S.takes out.old out.new) }
+{
+    let mut rest = octets;
+    loop {
+        let (plain, after) = rest.split_at(unescaped_len(rest));
+        out.push(plain)?;
+        let Some((octet, following)) = after.split_first() else {
+            return Ok(());
+        };
+        push_unit(*octet, out)?;
+        rest = following;
+    }
 }
 
 /// Appends an octet's text between quotes.

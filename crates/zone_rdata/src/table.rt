@@ -58,103 +58,34 @@ impl Row for TypeRow {
 }
 
 /// The classes, their numbers ascending (RFC 1035 3.2.4).
+#[rattlefmt::skip]
 pub(crate) static CLASSES: &[ClassRow] = &[
-    ClassRow {
-        number: 1,
-        mnemonic: b"IN",
-    },
-    ClassRow {
-        number: 2,
-        mnemonic: b"CS",
-    },
-    ClassRow {
-        number: 3,
-        mnemonic: b"CH",
-    },
-    ClassRow {
-        number: 4,
-        mnemonic: b"HS",
-    },
+    ClassRow { number: 1, mnemonic: b"IN" },
+    ClassRow { number: 2, mnemonic: b"CS" },
+    ClassRow { number: 3, mnemonic: b"CH" },
+    ClassRow { number: 4, mnemonic: b"HS" },
 ];
 
 /// The types, their numbers ascending (RFC 1035 3.3, 3.4.1; AAAA RFC 3596 2.2, SRV RFC 2782, NAPTR
 /// RFC 3403 4.1).
+#[rattlefmt::skip]
 pub(crate) static TYPES: &[TypeRow] = &[
-    TypeRow {
-        number: 1,
-        mnemonic: b"A",
-        in_only: true,
-        fields: &[Field::Octets(4)],
-    },
-    TypeRow {
-        number: 2,
-        mnemonic: b"NS",
-        in_only: false,
-        fields: &[Field::Name],
-    },
-    TypeRow {
-        number: 5,
-        mnemonic: b"CNAME",
-        in_only: false,
-        fields: &[Field::Name],
-    },
-    TypeRow {
-        number: 6,
-        mnemonic: b"SOA",
-        in_only: false,
-        fields: &[
-            Field::Name,
-            Field::Name,
-            Field::Serial,
-            Field::Time,
-            Field::Time,
-            Field::Time,
-            Field::Time,
-        ],
-    },
-    TypeRow {
-        number: 12,
-        mnemonic: b"PTR",
-        in_only: false,
-        fields: &[Field::Name],
-    },
-    TypeRow {
-        number: 15,
-        mnemonic: b"MX",
-        in_only: false,
-        fields: &[Field::U16, Field::Name],
-    },
-    TypeRow {
-        number: 16,
-        mnemonic: b"TXT",
-        in_only: false,
-        fields: &[Field::Strings],
-    },
-    TypeRow {
-        number: 28,
-        mnemonic: b"AAAA",
-        in_only: true,
-        fields: &[Field::Octets(16)],
-    },
-    TypeRow {
-        number: 33,
-        mnemonic: b"SRV",
-        in_only: false,
-        fields: &[Field::U16, Field::U16, Field::U16, Field::Name],
-    },
-    TypeRow {
-        number: 35,
-        mnemonic: b"NAPTR",
-        in_only: false,
-        fields: &[
-            Field::U16,
-            Field::U16,
-            Field::OneString,
-            Field::OneString,
-            Field::OneString,
-            Field::Name,
-        ],
-    },
+    TypeRow { number: 1, mnemonic: b"A", in_only: true, fields: &[Field::Octets(4)] },
+    TypeRow { number: 2, mnemonic: b"NS", in_only: false, fields: &[Field::Name] },
+    TypeRow { number: 5, mnemonic: b"CNAME", in_only: false, fields: &[Field::Name] },
+    TypeRow { number: 6, mnemonic: b"SOA", in_only: false, fields: &[
+        Field::Name, Field::Name, Field::Serial, Field::Time, Field::Time, Field::Time, Field::Time,
+    ] },
+    TypeRow { number: 12, mnemonic: b"PTR", in_only: false, fields: &[Field::Name] },
+    TypeRow { number: 15, mnemonic: b"MX", in_only: false, fields: &[Field::U16, Field::Name] },
+    TypeRow { number: 16, mnemonic: b"TXT", in_only: false, fields: &[Field::Strings] },
+    TypeRow { number: 28, mnemonic: b"AAAA", in_only: true, fields: &[Field::Octets(16)] },
+    TypeRow { number: 33, mnemonic: b"SRV", in_only: false, fields: &[
+        Field::U16, Field::U16, Field::U16, Field::Name,
+    ] },
+    TypeRow { number: 35, mnemonic: b"NAPTR", in_only: false, fields: &[
+        Field::U16, Field::U16, Field::OneString, Field::OneString, Field::OneString, Field::Name,
+    ] },
 ];
 
 /// The first row of a number. `None`: there is none.

@@ -2,7 +2,7 @@ ghost use Rattle.std.specs.Prelude.{◌≡◌, ◌++◌, ◌≤◌, ◌<◌, ◌
 ghost use Rattle.zone_name.specs.Common.{NothingIs, Octets};
 ghost use Rattle.zone_rdata.specs.Number.{IsCapped, IsTime, unit_seconds};
 
-use crate::number::CAP;
+use crate::number::{CAP, decimal_of};
 
 /// The seconds of a unit in any letter case: w, d, h, m or s.
 fn seconds_of_unit(octet: u8) -> Option<u64>
@@ -79,6 +79,10 @@ pub fn seconds_of(text: &[u8]) -> Option<u64>
     ensures found { IfSome result (IsCapped (IsTime text.now)) }
     ensures none { IfNone result (NothingIs (IsTime text.now)) }
 {
+    // Most times are a number of seconds.
+    if let Some(seconds) = decimal_of(text) {
+        return Some(seconds);
+    }
     let mut so_far = Progress {
         total: 0,
         grouped: false,

@@ -8,6 +8,7 @@ pub mod HintOrder
 pub mod HintWalk
 pub mod Together
 pub mod Storing
+pub mod Heads
 pub mod Between
 pub mod Inserting
 pub mod Finishing

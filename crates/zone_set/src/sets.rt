@@ -99,11 +99,7 @@ impl Sets {
         ensures records { result ≡ self.now }
         ensures compatible { AreCompatible self.now }
     {
-        Records {
-            class: self.class,
-            octets: self.octets.as_slice(),
-            entries: self.entries.iter(),
-        }
+        Records::new(self.class, self.octets.as_slice(), self.entries.iter())
     }
 
     /// How many records there are, or 2^64 - 1 where there are more.

@@ -1,7 +1,7 @@
 ghost use Rattle.std.specs.Int.{to_be_bytes, w16, w32};
-ghost use Rattle.std.specs.Prelude.{◌≡◌, ◌++◌, ◌∷◌, length, IfOk, OnOk, OnErr};
+ghost use Rattle.std.specs.Prelude.{◌≡◌, ◌+◌, ◌≤◌, ◌++◌, ◌∷◌, length, IfOk, OnOk, OnErr};
 ghost use Rattle.zone_rdata.specs.Record.{IsRecord};
-ghost use Rattle.zone_set.specs.Machine.Stored.{record_from, stored, IsStored};
+ghost use Rattle.zone_set.specs.Machine.Stored.{record_from, stored, IsHead, IsStored};
 ghost use Rattle.zone_rdata.specs.Lent.{record_of};
 
 use std::alloc::AllocError;
@@ -10,6 +10,13 @@ use zone_rdata::{Class, Kind, RdataRef, RrRef};
 
 /// How many octets of a record stand before its owner.
 const HEAD_LEN: usize = 9;
+
+/// What stands before the owner of a record that is kept, and where.
+#[derive(Clone, Copy, Default)]
+pub(crate) struct Head {
+    pub(crate) at: usize,
+    octets: [u8; HEAD_LEN],
+}
 
 /// Appends the octets that keep a record, and answers where they begin.
 ///
@@ -50,11 +57,32 @@ pub(crate) fn record_at<'z>(class: Class, octets: &'z [u8], at: usize) -> RrRef<
     requires whole { IsRecord (record_from class octets.now at) }
     ensures { record_of result ≡ record_from class octets.now at }
 {
+    record_after(class, octets, head_at(octets, at))
+}
+
+/// The head of the record that stands at a place.
+pub(crate) fn head_at(octets: &[u8], at: usize) -> Head
+    requires { at + HEAD_LEN ≤ length octets.now }
+    ensures at { result.at ≡ at }
+    ensures head { IsHead octets.now result }
+{
     let (_, from) = octets.split_at(at);
-    let Some((head, from)) = from.split_first_chunk::<HEAD_LEN>() else {
+    let Some((head, _)) = from.split_first_chunk::<HEAD_LEN>() else {
         unreachable!();
     };
-    let [t0, t1, t2, t3, k0, k1, owner_len, d0, d1] = *head;
+    Head { at, octets: *head }
+}
+
+/// The record that has a head.
+pub(crate) fn record_after<'z>(class: Class, octets: &'z [u8], head: Head) -> RrRef<'z>
+    requires stands { IsStored class octets.now head.at }
+    requires whole { IsRecord (record_from class octets.now head.at) }
+    requires head { IsHead octets.now head }
+    ensures { record_of result ≡ record_from class octets.now head.at }
+{
+    let [t0, t1, t2, t3, k0, k1, owner_len, d0, d1] = head.octets;
+    let (_, from) = octets.split_at(head.at);
+    let (_, from) = from.split_at(HEAD_LEN);
     let (owner, from) = from.split_at(owner_len as usize);
     let (data, _) = from.split_at(u16::from_be_bytes([d0, d1]) as usize);
     let kind = Kind::of_judged(u16::from_be_bytes([k0, k1]));

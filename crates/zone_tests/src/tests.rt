@@ -1,13 +1,10 @@
 //! What no contract says: worked examples, texts for people, and devices that fail.
 use std::alloc::Global;
 use std::test::Fail;
-use test_support::{check_octets, push_text, push_words, roomy};
+use test_support::{check_octets, push_text, roomy};
 use zone_engine::{Form, explain_line, normalise_bytes};
-use zone_name::Name;
-use zone_rdata::{Failing, Fault, Stop};
+use zone_rdata::Stop;
 
-mod addresses;
-mod answers;
 mod conflicts;
 mod devices;
 mod explained;
@@ -15,52 +12,18 @@ mod failing_reads;
 mod fed_files;
 mod files;
 mod generated;
-mod growth;
-mod handed;
-mod items;
 mod limits;
 mod lists;
-mod messages;
-mod names;
-mod notation;
 mod orders;
-mod parsing;
 mod pieces;
-mod primitives;
 mod programs;
 mod readings;
-mod records;
 mod runs;
 mod scripts;
 mod streams;
 mod transfers;
 mod vectors;
-mod wire;
-mod words;
 mod zones;
-
-/// The name that a text spells without an origin.
-fn rooted(text: &[u8]) -> Result<Name, Fail> {
-    Ok(Name::from_text(text, None)?)
-}
-
-/// Appends the name of a fault.
-fn push_fault(alloc: Global, out: &mut Vec<u8>, fault: &Fault) -> Result<(), Fail> {
-    push_words(alloc, out, format_args!("{fault:?}"))
-}
-
-/// An answer or its fault.
-///
-/// # Errors
-///
-/// Want of memory.
-fn judged<T>(answer: Result<T, Failing>) -> Result<Result<T, Fault>, Fail> {
-    match answer {
-        Ok(answer) => Ok(Ok(answer)),
-        Err(Failing::Fault(fault)) => Ok(Err(fault)),
-        Err(Failing::Memory) => Err(Fail::from("memory")),
-    }
-}
 
 /// Appends the line that explains a stop, up to the colon: number, name, argument and place.
 ///

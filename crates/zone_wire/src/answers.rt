@@ -101,6 +101,8 @@ pub struct Answers<'m> {
     pub(crate) offset: usize,
     /// How many answers are left.
     pub(crate) left: u16,
+    /// Room for the labels of an owner.
+    pub(crate) labels: LabelRoom,
 }
 
 impl<'m> Model for Answers<'m> {
@@ -129,25 +131,24 @@ impl<'m> Iterator for Answers<'m> {
         if self.left == 0 {
             return None;
         }
-        let answer = record_at(self.message, self.offset);
+        let answer = record_at(self.message, self.offset, &mut self.labels);
         self.left -= 1;
         self.offset = answer.end;
         Some(answer)
     }
 }
 
-/// The record that begins at an offset of a message.
-fn record_at<'m>(message: &'m [u8], offset: usize) -> RawRr<'m>
+/// The record that begins at an offset of a message. The room is for the labels of its owner.
+fn record_at<'m>(message: &'m [u8], offset: usize, labels: &mut LabelRoom) -> RawRr<'m>
     requires { (r : RecordAt) × IsRecordAt message.now offset r }
     ensures octets { result.octets ≡ message.now }
     ensures at { IsRecordAt message.now offset result.at }
 {
-    let mut owner = LabelRoom::new();
-    match read_labels(message, offset, &mut owner) {
+    match read_labels(message, offset, labels) {
         Ok(end) => RawRr {
             message,
             offset,
-            owner: owner.finish(),
+            owner: labels.finish(),
             kind: u16_at(message, end),
             class: u16_at(message, end + 2),
             ttl: u32_at(message, end + 4),

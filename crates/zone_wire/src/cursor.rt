@@ -80,10 +80,9 @@ impl<'m> Cursor<'m> {
         self.take(size as usize)
     }
 
-    /// Puts the labels of the name that is next into a room. The name is followed into the whole
-    /// message.
+    /// Puts the labels of the name that is next into a room, in place of those there. The name is
+    /// followed into the whole message.
     pub(crate) fn name(&mut self, labels: &mut LabelRoom) -> Result<(), Cause>
-        requires { labels.old ≡ [] }
         ensures found { OnOk result (Reads self.old self.new Name (name labels.new)) }
         ensures fault { IfErr result (λ c. next_value self.old Name ≡ Err (fault_for c)) }
     {

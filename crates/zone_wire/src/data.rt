@@ -29,10 +29,11 @@ fn push_strings(cursor: &mut Cursor, builder: &mut RdataBuilder) -> Result<(), N
     Ok(())
 }
 
-/// Pushes the value of the field that is next.
+/// Pushes the value of the field that is next. The room is for the labels of a name.
 fn push_field(
     field: Field,
     cursor: &mut Cursor,
+    labels: &mut LabelRoom,
     builder: &mut RdataBuilder,
 ) -> Result<(), NarrowFailing>
     requires next { IsReadyFor cursor.old builder.old field }
@@ -41,9 +42,8 @@ fn push_field(
 {
     match field {
         Field::Name => {
-            let mut labels = LabelRoom::new();
-            cursor.name(&mut labels)?;
-            builder.push(Part::Name(&labels.finish()))
+            cursor.name(labels)?;
+            builder.push(Part::Name(&labels.lend()))
         }
         Field::Serial | Field::Time => builder.push(Part::U32(cursor.u32()?)),
         Field::U16 => builder.push(Part::U16(cursor.u16()?)),
@@ -57,6 +57,7 @@ fn push_field(
 fn push_fields(
     fields: Layout,
     cursor: &mut Cursor,
+    labels: &mut LabelRoom,
     builder: &mut RdataBuilder,
 ) -> Result<(), NarrowFailing>
     requires laid { layout builder.old.class builder.old.kind ≡ Some (fields_of fields) }
@@ -68,7 +69,7 @@ fn push_fields(
 {
     let mut count = 0;
     while let Some(field) = fields.field(count) {
-        push_field(field, cursor, builder)?;
+        push_field(field, cursor, labels, builder)?;
         count += 1;
     }
     if !cursor.is_empty() {
@@ -84,6 +85,7 @@ impl<'m> RawRr<'m> {
         &self,
         class: Class,
         kind: Kind,
+        labels: &mut LabelRoom,
         builder: &mut RdataBuilder,
     ) -> Result<(), NarrowFailing>
         requires class { class ≡ self.now.at.class }
@@ -100,18 +102,20 @@ impl<'m> RawRr<'m> {
                     at: self.start,
                     end: self.end,
                 };
-                push_fields(layout, &mut cursor, builder)
+                push_fields(layout, &mut cursor, labels, builder)
             }
             None => builder.push(Part::Octets(&self.message[self.start..self.end])),
         }
     }
 
-    /// The record's data, in the memory of a buffer, of which the octets go.
+    /// The record's data, in the memory of a buffer, of which the octets go. The room is for the
+    /// labels of names in it.
     pub(crate) fn rdata(
         &self,
         buffer: Vec<u8>,
         class: Class,
         kind: Kind,
+        labels: &mut LabelRoom,
     ) -> Result<Rdata, NarrowFailing>
         requires class { class ≡ self.now.at.class }
         requires kind { kind ≡ self.now.at.kind }
@@ -122,7 +126,7 @@ impl<'m> RawRr<'m> {
     {
         are_octets(self.message);
         let mut builder = RdataBuilder::in_buffer(buffer, class, kind);
-        self.push_data(class, kind, &mut builder)?;
+        self.push_data(class, kind, labels, &mut builder)?;
         match builder.whole() {
             Some(rdata) => Ok(rdata),
             None => Err(NarrowFailing::of(Cause::BadRdata)),

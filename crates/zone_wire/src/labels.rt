@@ -17,7 +17,7 @@ const LANES: usize = 16;
 const ROOM: usize = 271;
 
 /// The labels of a name that were read, their letters in lower case. Contracts see their list.
-#[derive(Drop)]
+#[derive(Debug, Drop)]
 pub(crate) struct LabelRoom {
     /// Each label after its length. The octets after them say nothing.
     octets: [u8; ROOM],
@@ -73,12 +73,19 @@ impl LabelRoom {
         true
     }
 
+    /// The name of the labels, borrowed.
+    pub(crate) fn lend(&mut self) -> NameRef<'_>
+        ensures { result ≡ self.old }
+    {
+        self.octets[self.len] = 0;
+        NameRef::of_wire(&self.octets[..self.len + 1])
+    }
+
     /// The name of the labels.
     pub(crate) fn finish(&mut self) -> Name
         ensures { result ≡ self.old }
     {
-        self.octets[self.len] = 0;
-        NameRef::of_wire(&self.octets[..self.len + 1]).to_name()
+        self.lend().to_name()
     }
 }
 

@@ -55,8 +55,8 @@ fn walked(message: &[u8], offset: usize) -> Result<Decoded, (Fault, u16)>
     }
 }
 
-/// Puts the labels of the name at an offset into a room, place by place, and gives the offset after
-/// the name and the steps of the walk.
+/// Puts the labels of the name at an offset into a room, in place of those there, place by place,
+/// and gives the offset after the name and the steps of the walk.
 ///
 /// # Errors
 ///
@@ -66,9 +66,9 @@ pub(crate) fn read_name(
     offset: usize,
     labels: &mut LabelRoom,
 ) -> Result<(usize, u16), (Cause, u16)>
-    requires { labels.old ≡ [] }
     ensures { Tells result labels.new (outcome message.now (walk message.now offset)) }
 {
+    labels.clear();
     let mut ticks = Ticks::new();
     let mut end = None;
     let mut spot = Spot::outset(offset);

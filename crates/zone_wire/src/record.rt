@@ -7,6 +7,7 @@ ghost use Rattle.zone_wire.specs.AnswerFault.{OwnFault};
 ghost use Rattle.zone_wire.specs.Transfer.{IsReadable, AnswerStates, ttl_of};
 
 use crate::answers::RawRr;
+use crate::labels::LabelRoom;
 use crate::octets::are_octets;
 use std::alloc::Global;
 use zone_rdata::{Cause, Class, Failing, Kind, MAX_TTL, NarrowFailing, Rr};
@@ -87,7 +88,8 @@ impl<'m> RawRr<'m> {
     {
         are_octets(self.message);
         let (class, kind) = self.class_and_kind()?;
-        let rdata = self.rdata(Vec::new(alloc), class, kind)?;
+        let mut labels = LabelRoom::new();
+        let rdata = self.rdata(Vec::new(alloc), class, kind, &mut labels)?;
         Ok(Rr::of_parts(self.owner.copy(), counted_ttl(self.ttl), rdata))
     }
 }

@@ -1,6 +1,6 @@
 //! Names that are read run by run: the labels that stand one after another, up to the root or a
 //! pointer (RFC 1035 4.1.4).
-ghost use Rattle.std.specs.Prelude.{◌≡◌, ◌≤◌, [], length, IfSome};
+ghost use Rattle.std.specs.Prelude.{◌≤◌, length, IfSome};
 ghost use Rattle.zone_wire.specs.Machine.Finding.{outcome};
 ghost use Rattle.zone_wire.specs.Machine.Runs.{Gives, IsNamed, IsRun};
 ghost use Rattle.zone_wire.specs.Machine.Walk.{walk};
@@ -12,7 +12,8 @@ use crate::spot::{Spot, Standing, look_at};
 use zone_name::MAX_LABEL_LEN;
 use zone_rdata::Cause;
 
-/// Puts the labels of the name at an offset into a room, and gives the offset after the name.
+/// Puts the labels of the name at an offset into a room, in place of those there, and gives the
+/// offset after the name.
 ///
 /// # Errors
 ///
@@ -22,25 +23,23 @@ pub(crate) fn read_labels(
     offset: usize,
     labels: &mut LabelRoom,
 ) -> Result<usize, Cause>
-    requires { labels.old ≡ [] }
     ensures { Gives result labels.new (outcome message.now (walk message.now offset)) }
 {
     if let Some(end) = read_runs(message, offset, labels) {
         return Ok(end);
     }
-    labels.clear();
     match read_name(message, offset, labels) {
         Ok((end, _)) => Ok(end),
         Err((cause, _)) => Err(cause),
     }
 }
 
-/// Puts the labels of the name at an offset into a room, run by run, and gives the offset after the
-/// name. `None`: no name stands there.
+/// Puts the labels of the name at an offset into a room, in place of those there, run by run, and
+/// gives the offset after the name. `None`: no name stands there.
 fn read_runs(message: &[u8], offset: usize, labels: &mut LabelRoom) -> Option<usize>
-    requires { labels.old ≡ [] }
     ensures { IfSome result (IsNamed message.now offset labels.new) }
 {
+    labels.clear();
     let mut end = None;
     let mut start = offset;
     let mut pointers = 0;

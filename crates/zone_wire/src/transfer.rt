@@ -13,6 +13,7 @@ ghost use Rattle.zone_wire.specs.Transfer.{AnswerStates, StatedMessage};
 
 use crate::answers::RawRr;
 use crate::header::HEADER_LEN;
+use crate::labels::LabelRoom;
 use crate::message::Message;
 use crate::record::counted_ttl;
 use std::alloc::{AllocError, Global};
@@ -157,9 +158,10 @@ impl Transfer {
         ensures ending { self.new.decided.ending ≡ self.old.decided.ending }
     {
         let mut answers = message.answers();
+        let mut labels = LabelRoom::new();
         while let Some(answer) = answers.next() {
             let offset = answer.offset();
-            match self.take_answer(answer) {
+            match self.take_answer(answer, &mut labels) {
                 Ok(()) => {}
                 Err(failing) => return Err((failing, offset)),
             }
@@ -167,8 +169,12 @@ impl Transfer {
         Ok(())
     }
 
-    /// Takes the record that an answer states.
-    fn take_answer(&mut self, answer: RawRr<'_>) -> Result<(), NarrowFailing>
+    /// Takes the record that an answer states. The room is for the labels of names in its data.
+    fn take_answer(
+        &mut self,
+        answer: RawRr<'_>,
+        labels: &mut LabelRoom,
+    ) -> Result<(), NarrowFailing>
         ensures taken { OnOk result ((questions : List QuestionAt) (placed : List Placed)
             → Among questions placed self.old
             → Takes answer.entry.octets answer.entry.at questions placed self.old self.new) }
@@ -185,7 +191,7 @@ impl Transfer {
         }
         let (class, kind) = answer.class_and_kind()?;
         let buffer = self.decided.placed.buffer(self.alloc);
-        let rdata = answer.rdata(buffer, class, kind)?;
+        let rdata = answer.rdata(buffer, class, kind, labels)?;
         let (ttl, offset) = (counted_ttl(answer.ttl), answer.offset());
         answer.owner.known();
         rdata.known();

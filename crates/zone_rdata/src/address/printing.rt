@@ -1,4 +1,5 @@
-ghost use Rattle.std.specs.Prelude.{◌≡◌, ◌+◌, ◌-◌, ◌*◌, ◌<◌, ◌≤◌, ◌++◌, decimal, [], length, slice_index, OnOk, OnErr};
+ghost use Rattle.std.specs.Prelude.{◌≡◌, ◌+◌, ◌-◌, ◌*◌, ◌%◌, ◌<◌, ◌≤◌, ◌∷◌, ◌++◌, decimal, [], length, slice_index, OnOk, OnErr};
+ghost use Rattle.std.specs.Char.{digit_char};
 ghost use Rattle.std.specs.Net.Addr.{segments_of};
 ghost use Rattle.std.specs.Net.Text as std_text;
 ghost use Rattle.arrayvec.specs.ArrayVec.{array_vec_len};
@@ -6,8 +7,6 @@ ghost use Rattle.zone_rdata.specs.Address.{ipv4_text, ipv6_text, parted_groups};
 
 use arrayvec::ArrayVec;
 use byteorder::{BigEndian, ByteOrder};
-use hex::encode_to_slice;
-use itoa::Buffer;
 use zone_name::Sink;
 
 /// Room for the longest text of an address, which has 39 octets.
@@ -27,8 +26,13 @@ fn push_number(text: &mut ArrayVec<u8, ROOM>, octet: u8)
     ensures written { text.new.items ≡ text.old.items ++ decimal octet }
     ensures short { array_vec_len text.new ≤ array_vec_len text.old + 3 }
 {
-    let mut buffer = Buffer::new();
-    push_octets(text, buffer.format(octet).as_bytes());
+    if octet >= 100 {
+        text.push(b'0' + octet / 100);
+    }
+    if octet >= 10 {
+        text.push(b'0' + octet / 10 % 10);
+    }
+    text.push(b'0' + octet % 10);
 }
 
 /// The text of four octets (RFC 1035 3.4.1).
@@ -48,17 +52,16 @@ fn text_of_ipv4(octets: &[u8]) -> ArrayVec<u8, ROOM>
     text
 }
 
-/// The zeros before a group's first digit; the last digit is never one of them.
-fn leading_zeros(group: u16) -> usize
-    ensures value { result ≡ std_text.leading_zero_digits group }
-    ensures within { result < 4 }
+/// The hexadecimal digits, in lower case (RFC 5952 4.3).
+const DIGITS: &[u8; 16] = b"0123456789abcdef";
+
+/// Appends the digit that stands for the lowest four bits.
+fn push_digit(text: &mut ArrayVec<u8, ROOM>, bits: u16)
+    requires { array_vec_len text.old < ROOM }
+    ensures written { text.new.items ≡ text.old.items ++ digit_char (bits % 16) ∷ [] }
+    ensures len { array_vec_len text.new ≡ array_vec_len text.old + 1 }
 {
-    match group {
-        0x1000.. => 0,
-        0x100.. => 1,
-        0x10.. => 2,
-        _ => 3,
-    }
+    text.push(DIGITS[usize::from(bits % 16)]);
 }
 
 /// Appends a group in lower case without leading zeros (RFC 5952 4.1, 4.3).
@@ -67,9 +70,16 @@ fn push_group(text: &mut ArrayVec<u8, ROOM>, group: u16)
     ensures written { text.new.items ≡ text.old.items ++ std_text.hex group }
     ensures short { array_vec_len text.new ≤ array_vec_len text.old + 4 }
 {
-    let mut digits = [0; 4];
-    let _ = encode_to_slice(group.to_be_bytes(), &mut digits);
-    push_octets(text, &digits[leading_zeros(group)..]);
+    if group >= 0x1000 {
+        push_digit(text, group / 0x1000);
+    }
+    if group >= 0x100 {
+        push_digit(text, group / 0x100);
+    }
+    if group >= 0x10 {
+        push_digit(text, group / 0x10);
+    }
+    push_digit(text, group);
 }
 
 /// Appends groups parted by colons.

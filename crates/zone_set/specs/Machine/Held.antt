@@ -6,11 +6,12 @@ use Rattle.std.specs.declared.cmp.Ordering.TheVariants.{Less}
 use Rattle.zone_name.specs.Name.{IsWithin}
 use Rattle.zone_rdata.specs.Record.{Record, IsRecord}
 use Rattle.zone_set.specs.Machine.Hint.{IsHint}
-use Rattle.zone_set.specs.Machine.Stored.{record_from, IsStored}
+use Rattle.zone_set.specs.Machine.Stored.{record_from, IsHead, IsStored}
 use Rattle.zone_set.specs.Message.{message_octets}
 use Rattle.zone_set.specs.Order.{canonical_cmp, Ascends}
 use Rattle.zone_set.specs.Zone.{Has, AreCompatible, InOneSet}
 use Rattle.zone_set.specs.declared.entry.Entry.{Entry}
+use Rattle.zone_set.specs.declared.stored.Head.{Head}
 
 -- the record of an entry
 abbrev pub entry_record : ℕ → List ℕ → Entry → Record
@@ -23,6 +24,16 @@ all_records class octets entries = map (entry_record class octets) entries
 pub record IsLinked (class : ℕ) (octets : List ℕ) (e : Entry) : Type 0 where
   pub stands : IsStored class octets e.at
   pub whole : IsRecord (entry_record class octets e)
+
+-- the record whose head was read
+abbrev pub seen_record : ℕ → List ℕ → Head → Record
+seen_record class octets h = record_from class octets h.at
+
+-- its head is what the octets have there
+pub record IsSeen (class : ℕ) (octets : List ℕ) (h : Head) : Type 0 where
+  pub stands : IsStored class octets h.at
+  pub whole : IsRecord (seen_record class octets h)
+  pub head : IsHead octets h
 
 -- and its hint is that of the record
 pub record IsEntry (base : List (List ℕ)) (class : ℕ) (octets : List ℕ) (e : Entry) : Type 0 where

@@ -3,6 +3,7 @@ use Rattle.std.specs.Prelude.{◌≡◌, ℕ, List, ◌∷◌, ◌++◌, length,
 use Rattle.std.specs.Int.{from_be_bytes, to_be_bytes, w16, w32}
 use Rattle.zone_name.specs.Name.{labels_of, wire}
 use Rattle.zone_rdata.specs.Record.{Record}
+use Rattle.zone_set.specs.declared.stored.Head.{Head}
 
 -- the octets of a record: TTL, type, the lengths of its owner and of its data, its owner
 -- uncompressed, and its data
@@ -31,3 +32,7 @@ record_from class octets at = read_record class (drop at octets)
 abbrev pub IsStored : ℕ → List ℕ → ℕ → Type 0
 IsStored class octets at =
     (after : List ℕ) × (drop at octets ≡ stored (record_from class octets at) ++ after)
+
+-- the nine octets before the owner of the record at a place
+abbrev pub IsHead : List ℕ → Head → Type 0
+IsHead octets h = h.octets ≡ take 9 (drop h.at octets)

@@ -1,9 +1,9 @@
 //! A set of which one record has another TTL, wherever that one stands: the first record is told
 //! that can't stand with those before it (RFC 2181 5.2).
-use crate::tests::{check_refused, rooted};
+use crate::tests::check_refused;
 use std::alloc::Global;
 use std::test::Fail;
-use test_support::{Case, check_rows, push_text, push_words};
+use test_support::{Case, check_rows, push_text, push_words, rooted};
 use zone_engine::Form;
 
 /// Empty lines before the record with another TTL, more than a short step.

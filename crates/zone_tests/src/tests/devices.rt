@@ -1,13 +1,12 @@
 //! Readers and writers that fail, and writers that take little at a time.
 use crate::tests::orders::ordered;
-use crate::tests::rooted;
 use crate::tests::runs::check_broken;
 use crate::tests::zones::{reading_of, taken};
 use std::alloc::{AllocError, Global};
 use std::io::{ErrorKind, Read, Write};
 use std::test::Fail;
 use test_support::{
-    BROKEN, Case, Narrow, Supply, check_octets, check_rows, check_same, had_memory, roomy,
+    BROKEN, Case, Narrow, Supply, check_octets, check_rows, check_same, had_memory, roomy, rooted,
 };
 use zone_command::{Order, run};
 use zone_engine::{read_piece, zeros};

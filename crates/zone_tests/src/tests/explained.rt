@@ -1,7 +1,6 @@
 //! The lines that tell a user why a run stopped: one of each form. The table of faults is proved.
-use crate::tests::rooted;
 use std::test::Fail;
-use test_support::{check_octets, check_same, push_words, roomy};
+use test_support::{check_octets, check_same, push_words, roomy, rooted};
 use zone_engine::{explain_line, refusal_line, tell, write_line};
 use zone_rdata::{Fault, Place, Stop};
 

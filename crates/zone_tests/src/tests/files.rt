@@ -1,11 +1,10 @@
 //! Master files as records, and the first fault (RFC 1035 5.1).
-use crate::tests::notation::octets_of;
-use crate::tests::readings::{push_numbers, push_place, push_reading};
+use crate::tests::push_stop;
+use crate::tests::readings::{push_place, push_reading};
 use crate::tests::vectors::{file_of, input_of};
-use crate::tests::{push_stop, rooted};
 use std::alloc::Global;
 use std::test::Fail;
-use test_support::{Question, check_table, push_text, push_words};
+use test_support::{Question, check_table, octets_of, push_numbers, push_text, push_words, rooted};
 use zone_rdata::{Reading, Stop};
 use zone_text::read_file;
 

@@ -1,10 +1,12 @@
 //! Files that are too long to be written out, and inputs that have no end.
-use crate::tests::{check_refused, check_stopped, rooted};
+use crate::tests::{check_refused, check_stopped};
 use std::alloc::Global;
 use std::io;
 use std::io::Read;
 use std::test::Fail;
-use test_support::{Case, check, check_octets, check_rows, check_same, push_text, push_words};
+use test_support::{
+    Case, check, check_octets, check_rows, check_same, push_text, push_words, rooted,
+};
 use zone_engine::{Form, accepted_zone_within, normalise_bytes};
 use zone_name::Name;
 

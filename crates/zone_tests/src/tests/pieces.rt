@@ -1,8 +1,7 @@
 //! Inputs that are fed in pieces: however they are cut, the same records and the same fault.
-use crate::tests::push_fault;
 use std::alloc::Global;
 use std::test::Fail;
-use test_support::roomy;
+use test_support::{push_fault, roomy};
 use zone_name::Name;
 use zone_rdata::{Fault, LendingSource, Place, PlacedRef, Reading, Rr, RrRef, Stop};
 use zone_text::TextSource;

@@ -4,14 +4,13 @@
 //! the first line of each says what it is, a broken one ends with an error, and after it stands
 //! the file, or the stream in notation. The answer is the exit status, what is written on standard
 //! output, and after `--` what is written on standard error.
-use crate::tests::notation::stream_of;
 use crate::tests::orders::ordered;
 use crate::tests::runs::ran;
 use crate::tests::vectors::file_of;
 use std::alloc::Global;
 use std::io::ErrorKind;
 use std::test::Fail;
-use test_support::{BROKEN, Question, Supply, check_table, parted, push_run};
+use test_support::{BROKEN, Question, Supply, check_table, parted, push_run, stream_of};
 
 /// What an input gives, and then its error, if it is broken.
 #[derive(Drop)]

@@ -2,26 +2,8 @@
 use crate::tests::push_stop;
 use std::alloc::Global;
 use std::test::Fail;
-use test_support::{check, push_hex, push_text, push_words};
+use test_support::{check, line_of, push_text, push_words};
 use zone_rdata::{Place, Placed, Reading, Rr, Stop};
-
-/// Appends TTL and class of a record, with a blank before and after each.
-fn push_ttl_and_class(alloc: Global, rr: &Rr, line: &mut Vec<u8>) -> Result<(), Fail> {
-    push_words(alloc, line, format_args!(" {} ", rr.ttl()))?;
-    rr.class().push_word(line)?;
-    push_text(line, " ")
-}
-
-/// The canonical line of a record, without its line feed.
-pub(super) fn line_of(alloc: Global, rr: &Rr) -> Result<Vec<u8>, Fail> {
-    let mut line = Vec::new(alloc);
-    rr.owner().push_text(&mut line)?;
-    push_ttl_and_class(alloc, rr, &mut line)?;
-    rr.kind().push_word(rr.class(), &mut line)?;
-    push_text(&mut line, " ")?;
-    rr.rdata().push_text(&mut line)?;
-    Ok(line)
-}
 
 /// The canonical line of the record of type 731 in the greatest message, without its line feed: its
 /// data is 65464 octets 0.
@@ -41,14 +23,6 @@ fn push_line(alloc: Global, out: &mut Vec<u8>, rr: &Rr) -> Result<(), Fail> {
     let is_zeros = line.as_slice() == zeros_line(alloc)?.as_slice();
     check(is_zeros, "a long record has octets 0 alone")?;
     push_text(out, "zeros")
-}
-
-/// Appends a record in numbers: owner, TTL, class, type and data.
-pub(super) fn push_numbers(alloc: Global, out: &mut Vec<u8>, rr: &Rr) -> Result<(), Fail> {
-    push_hex(alloc, out, rr.owner().wire())?;
-    let (ttl, class, kind) = (rr.ttl(), rr.class().number(), rr.kind().number());
-    push_words(alloc, out, format_args!(" {ttl} CLASS{class} TYPE{kind} "))?;
-    push_hex(alloc, out, rr.rdata().octets())
 }
 
 /// Appends a place, with a blank before it.

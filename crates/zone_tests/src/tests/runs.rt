@@ -1,12 +1,12 @@
 //! What `normalise`, `normalise_bytes`, `explain` and `run` answer to each vector, and to its
 //! canonical text.
+use crate::tests::push_answer;
 use crate::tests::vectors::{check_inputs, input_of};
-use crate::tests::{push_answer, rooted};
 use std::alloc::Global;
 use std::io::Read;
 use std::test::Fail;
 use test_support::{
-    BROKEN, Question, Run, Supply, check_octets, check_same, had_memory, push_words, roomy,
+    BROKEN, Question, Run, Supply, check_octets, check_same, had_memory, push_words, roomy, rooted,
 };
 use zone_command::{Order, run};
 use zone_engine::{Form, Verdict, compare, explain, explain_line, normalise, normalise_bytes};

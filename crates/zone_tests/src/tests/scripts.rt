@@ -4,13 +4,14 @@
 //! answer. The calls `feed`, `octets`, `frame`, `front` and `greatest` feed a piece: a text in
 //! which `|` is a line feed; octets in hexadecimal digits; a stream in notation, and all of one but
 //! its last octet; and the greatest message but its last octet.
-use crate::tests::notation::{message_of, octets_of, stream_of};
 use crate::tests::pieces::Fed;
+use crate::tests::push_stop;
 use crate::tests::readings::push_placed;
-use crate::tests::{push_stop, rooted};
 use std::alloc::Global;
 use std::test::Fail;
-use test_support::{check_octets, parted, push_text, push_words, roomy};
+use test_support::{
+    check_octets, message_of, octets_of, parted, push_text, push_words, roomy, rooted, stream_of,
+};
 
 /// A message of 65535 octets in its frame, up to the octets of its last record's data, which are
 /// 65464.

@@ -1,6 +1,5 @@
 //! Zone transfers: what is answered to one that is cut short or has an error code, and what is read
 //! of them in pieces.
-use crate::tests::notation::{message_of, stream_of};
 use crate::tests::pieces::{Fed, MOST, is_right_in_two, is_right_singly};
 use crate::tests::readings::{push_reading, zeros_line};
 use crate::tests::scripts::{GREATEST, check_scripts};
@@ -9,7 +8,9 @@ use crate::tests::vectors::input_of;
 use crate::tests::{check_refused, push_answer};
 use std::alloc::Global;
 use std::test::Fail;
-use test_support::{Case, Question, check, check_octets, check_rows, check_table, push_text};
+use test_support::{
+    Case, Question, check, check_octets, check_rows, check_table, message_of, push_text, stream_of,
+};
 use zone_engine::{Form, normalise_bytes};
 use zone_name::Name;
 use zone_wire::{TransferSource, read_transfer};

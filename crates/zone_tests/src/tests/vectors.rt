@@ -1,11 +1,9 @@
 //! Test vectors of whole inputs: rows of which the answer is the canonical text from the line after
 //! `=>` on, or on that line what explains the refusal.
-use crate::tests::notation::stream_of;
-use crate::tests::rooted;
 use crate::tests::streams::STREAMS;
 use std::alloc::{AllocError, Global};
 use std::test::Fail;
-use test_support::{Question, check_table, parted};
+use test_support::{Question, check_table, parted, rooted, stream_of};
 use zone_engine::{Form, normalise_bytes};
 use zone_name::Name;
 use zone_rdata::Stop;

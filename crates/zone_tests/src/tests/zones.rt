@@ -1,9 +1,11 @@
 //! Records that make a zone, its records in order and its text (RFC 1035 5.2, RFC 2181 5, RFC 4034
 //! 6).
-use crate::tests::{push_stop, rooted};
+use crate::tests::push_stop;
 use std::alloc::Global;
 use std::test::Fail;
-use test_support::{Question, check, check_octets, check_table, push_hex, push_text, push_words};
+use test_support::{
+    Question, check, check_octets, check_table, push_hex, push_text, push_words, rooted,
+};
 use zone_print::{canon_len, push_zone, text_fits, write_zone};
 use zone_rdata::{Fault, Place, Placed, Reading, Stop};
 use zone_set::{Zone, ZoneBuilder, ZoneList};

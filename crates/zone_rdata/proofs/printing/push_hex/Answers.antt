@@ -1,14 +1,17 @@
-use Rattle.zone_rdata.proofs.Common.{refl, subst, stops_after, takes_both}
-use Rattle.zone_rdata.proofs.Texts.{hex_started, hex_more, at_is_ok}
+use Rattle.zone_rdata.proofs.Common.{arith, nat_tests, stops_after, subst, Took-more}
+use Rattle.zone_rdata.proofs.Texts.{digits_all, digits_more}
 use Rattle.zone_rdata.proofs.printing.push_hex.Goals as goal
 
-pub loop-octet-init : goal.loop-octet-init
-loop-octet-init g c = subst (λ t. g.S.Sink.takes c.args.out.now t c.args.out.now) hex_started (g.met.S.Sink.nothing c.args.out.now)
+pub returns-in_err-push_hex_of_few-clause-err : goal.returns-in_err-push_hex_of_few-clause-err
+returns-in_err-push_hex_of_few-clause-err g c =
+    stops_after _ _ g.met.S.Sink.joins _ _ _ _ c.loop-rest.invariant.taken (_, c.in_err-push_hex_of_few.ensures.err)
 
-pub returns-in_err-push-clause-err : goal.returns-in_err-push-clause-err
-returns-in_err-push-clause-err g c = stops_after _ _ g.met.S.Sink.joins _ _ _ _ c.loop-octet.invariant (_, c.in_err-push.ensures.err)
+pub loop-rest-preserved : goal.loop-rest-preserved
+loop-rest-preserved g c =
+    Took-more _ g.met.S.Sink.joins _ _ _ _ _ _ c.loop-rest.invariant c.in_ok-push_hex_of_few.ensures.ok
+    (digits_more _ _ _ _ _ _ c.split_at.ensures.front c.split_at.ensures.back c.loop-rest.invariant.known)
 
-pub loop-octet-preserved : goal.loop-octet-preserved
-loop-octet-preserved g c =
-    takes_both _ g.met.S.Sink.joins _ _ _ _ _ _ c.loop-octet.invariant c.in_ok-push.ensures.ok
-    (hex_more c.args.octets.now _ c.loop-octet.octet-index _ _ c.loop-octet-test.true refl (at_is_ok c.encode_to_slice.result _ (c.encode_to_slice.ensures.fits.1 refl) c.encode_to_slice.ensures.written))
+pub returns-clause-ok : goal.returns-clause-ok
+returns-clause-ok g c =
+    subst (λ t. g.S.Sink.takes c.args.out.now t c.loop-rest.out)
+    (digits_all _ _ _ (grind (arith, nat_tests, c.loop-rest-test.ensures, c.is_empty.ensures)) c.loop-rest.invariant.known) c.loop-rest.invariant.taken

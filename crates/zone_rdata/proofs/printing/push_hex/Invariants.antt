@@ -1,5 +1,9 @@
-use Rattle.zone_rdata.proofs.Common.{take, encode_lower}
+use Rattle.zone_rdata.proofs.Common.{length, Took}
+use Rattle.zone_rdata.proofs.Texts.{HaveDigits}
 use Rattle.zone_rdata.proofs.printing.push_hex.Given as goal
 
-abbrev pub invariant-loop-octet : goal.invariant-loop-octet
-invariant-loop-octet g l = g.S.Sink.takes l.fn.out (encode_lower (take l.octet-index l.octets)) l.out
+abbrev pub invariant-loop-rest : goal.invariant-loop-rest
+invariant-loop-rest g l = Took g.S.Sink.takes l.fn.out l.out (HaveDigits l.octets l.rest)
+
+abbrev pub decreases-loop-rest : goal.decreases-loop-rest
+decreases-loop-rest g l = length l.rest

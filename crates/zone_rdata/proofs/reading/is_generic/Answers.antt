@@ -1,7 +1,10 @@
+use Rattle.std.proofs.Common.{[], ap, arith, bytes_eq, refl, sym, true, ◌∷◌, ◌≡◌}
 use Rattle.zone_rdata.proofs.Items.{generic_first}
+use Rattle.zone_rdata.proofs.Words.{same_octets}
 use Rattle.zone_rdata.proofs.reading.is_generic.Goals as goal
 
-pub returns-in-Some-Bare : goal.returns-in-Some-Bare
-returns-in-Some-Bare c =
+pub returns-in-92 : goal.returns-in-92
+returns-in-92 c =
     let found = c.in-Some-Bare.ensures.item in
-    generic_first c.args.items.now c.in-Some-Bare.field-0.now c.in-Some-Bare.text c.as_slice.result.now c.eq.result found.3.0 (found.3.1 _) c.in-Some-Bare.field-0-is c.as_slice.ensures c.eq.ensures
+    let same : c.in-Some-Bare.text.now ≡ 92 ∷ 35 ∷ [] = same_octets c.in-Some-Bare.text.now (92 ∷ 35 ∷ []) (omega arith) (grind arith, (grind arith, tt)) in
+    generic_first c.args.items.now c.in-Some-Bare.field-0.now c.in-Some-Bare.text (92 ∷ 35 ∷ []) true found.3.0 (found.3.1 _) c.in-Some-Bare.field-0-is refl (ap (λ t. bytes_eq t (92 ∷ 35 ∷ [])) (sym same))

@@ -9,7 +9,7 @@ pub returns-in_err-take-in-Octets-clause-fault : goal.returns-in_err-take-in-Oct
 returns-in_err-take-in-Octets-clause-fault c = search (rules, fault_answered, sized_refused, fixed_sized)
 
 pub returns-in_ok-name-in-Name-clause-fault : goal.returns-in_ok-name-in-Name-clause-fault
-returns-in_ok-name-in-Name-clause-fault c = unrefused c.args.cursor.now c.name.new.self c.args.builder.now Name _ (subst (IsReadyFor c.args.cursor.now c.args.builder.now) c.in-Name.is c.requires.next) tt tt (rw c.finish.ensures c.in_ok-name-in-Name.ensures.found) _ _ c.push.ensures.fault
+returns-in_ok-name-in-Name-clause-fault c = unrefused c.args.cursor.now c.name.new.self c.args.builder.now Name _ (subst (IsReadyFor c.args.cursor.now c.args.builder.now) c.in-Name.is c.requires.next) tt tt (rw c.lend.ensures c.in_ok-name-in-Name.ensures.found) _ _ c.push.ensures.fault
 
 pub returns-in_ok-u32-in-Serial-clause-found : goal.returns-in_ok-u32-in-Serial-clause-found
 returns-in_ok-u32-in-Serial-clause-found c = search (rules, on_ok_weaker, part_put, long_same)

@@ -4,7 +4,7 @@ use Rattle.zone_wire.proofs.Carrying.{carries_start, carries_outside, carries_ba
 use Rattle.zone_wire.proofs.name.read_name.Goals as goal
 
 pub places-init : goal.places-init
-places-init c = rw (c.outset-spot.ensures, c.new-ticks.ensures, c.requires) (carries_start c.args.message.now c.args.offset)
+places-init c = rw (c.outset-spot.ensures, c.new-ticks.ensures, c.clear.ensures) (carries_start c.args.message.now c.args.offset)
 
 pub step_at-requires-clause-octets : goal.step_at-requires-clause-octets
 step_at-requires-clause-octets c = let h = c.places.invariant in omega (arith, h.short)

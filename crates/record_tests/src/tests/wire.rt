@@ -1,10 +1,10 @@
 //! Uncompressed octets of data, and data that is built part by part (RFC 1035 3.3, RFC 3597 4).
-use crate::tests::notation::octets_of;
-use crate::tests::{judged, push_fault, rooted};
+use crate::tests::judged;
 use std::alloc::Global;
 use std::test::Fail;
 use test_support::{
-    Question, check, check_lines, check_same, parted, push_hex, push_text, push_words,
+    Question, check, check_lines, check_same, octets_of, parted, push_fault, push_hex, push_text,
+    push_words, rooted,
 };
 use zone_rdata::{Class, Fault, Field, Kind, Rdata, RdataBuilder};
 

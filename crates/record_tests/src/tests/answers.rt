@@ -1,10 +1,11 @@
 //! Records of messages (RFC 1035 4.1.3).
-use crate::tests::notation::message_of;
-use crate::tests::readings::{line_of, push_numbers};
-use crate::tests::{judged, push_fault};
+use crate::tests::judged;
 use std::alloc::Global;
 use std::test::Fail;
-use test_support::{Question, check_lines, parted, push_hex, push_text};
+use test_support::{
+    Question, check_lines, line_of, message_of, parted, push_fault, push_hex, push_numbers,
+    push_text,
+};
 use zone_rdata::{Fault, Rr};
 use zone_wire::Message;
 

@@ -1,9 +1,11 @@
 //! Record data: from a line of words to its text, its octets and its order (RFC 1035 3.3, RFC 3597,
 //! RFC 4034 6.3).
-use crate::tests::{judged, push_fault, rooted};
+use crate::tests::judged;
 use std::alloc::Global;
 use std::test::Fail;
-use test_support::{Question, check_lines, parted, push_hex, push_text, push_words};
+use test_support::{
+    Question, check_lines, parted, push_fault, push_hex, push_text, push_words, rooted,
+};
 use zone_rdata::{Class, Failing, Fault, Item, Kind, Rdata};
 
 /// What data is made of.

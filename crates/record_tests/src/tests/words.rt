@@ -1,10 +1,9 @@
 //! Words and numbers of classes and types, times, and layouts (RFC 1035 3.2, RFC 3597 5).
-use crate::tests::push_fault;
 use crate::tests::wire::in_class_in;
 use std::alloc::Global;
 use std::test::Fail;
 use test_support::{
-    Case, Question, check_lines, check_rows, check_same, parted, push_text, push_words,
+    Case, Question, check_lines, check_rows, check_same, parted, push_fault, push_text, push_words,
 };
 use zone_rdata::{Class, Fault, Field, Kind, layout_of, seconds_of};
 

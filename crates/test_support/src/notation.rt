@@ -6,9 +6,9 @@
 //! `n@12` is the label `n` and a pointer to offset 12 (RFC 1035 4.1.4), `#` begins octets in
 //! hexadecimal digits, and a number in data has 32 bits in an SOA and 16 bits elsewhere. The
 //! lengths of messages (RFC 1035 4.2.2), labels and data are counted here.
+use crate::tables::parted;
 use std::alloc::Global;
 use std::test::Fail;
-use test_support::parted;
 
 /// Parts that have a name: the question and the three answers of the transfer of a small zone, at
 /// the offsets 12, 19, 59 and 73 of its message.
@@ -84,7 +84,7 @@ fn push_octets(out: &mut Vec<u8>, digits: &str) -> Result<(), Fail> {
 }
 
 /// The octets of hexadecimal digits.
-pub(super) fn octets_of(alloc: Global, digits: &str) -> Result<Vec<u8>, Fail> {
+pub fn octets_of(alloc: Global, digits: &str) -> Result<Vec<u8>, Fail> {
     let mut octets = Vec::new(alloc);
     push_octets(&mut octets, digits)?;
     Ok(octets)
@@ -191,7 +191,7 @@ fn push_part(alloc: Global, message: &mut Vec<u8>, part: &str) -> Result<(), Fai
 }
 
 /// The octets of a message.
-pub(super) fn message_of(alloc: Global, line: &'static str) -> Result<Vec<u8>, Fail> {
+pub fn message_of(alloc: Global, line: &'static str) -> Result<Vec<u8>, Fail> {
     let mut message = Vec::new(alloc);
     for part in line.split("; ") {
         push_part(alloc, &mut message, spelled(part))?;
@@ -208,7 +208,7 @@ fn push_line(alloc: Global, stream: &mut Vec<u8>, line: &'static str) -> Result<
 }
 
 /// The octets of a stream.
-pub(super) fn stream_of(alloc: Global, lines: &'static str) -> Result<Vec<u8>, Fail> {
+pub fn stream_of(alloc: Global, lines: &'static str) -> Result<Vec<u8>, Fail> {
     let mut stream = Vec::new(alloc);
     for line in lines.lines() {
         push_line(alloc, &mut stream, line)?;

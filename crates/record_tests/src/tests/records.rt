@@ -1,13 +1,13 @@
 //! Records, and a source of them.
 use crate::tests::items::data_of;
-use crate::tests::rooted;
-use crate::tests::zones::reading_of;
 use std::alloc::Global;
 use std::test::Fail;
-use test_support::{Case, check, check_rows, check_same};
+use test_support::{Case, check, check_rows, check_same, rooted};
+use zone_name::Name;
 use zone_rdata::{
     Cause, Fault, LendingSource, NarrowFailing, PendingRecords, Place, Placed, Rr, RrSource, Stop,
 };
+use zone_text::read_file;
 
 /// A TTL, and the fault of a record that has it, if it may not.
 struct Ttl(u32, Option<&'static str>);
@@ -56,7 +56,7 @@ fn is_bad_ttl(answer: Result<Option<Placed>, Stop>) -> bool {
 
 #[test]
 fn a_reading_gives_its_fault_again(rt: HostRuntime) -> Result<(), Fail> {
-    let mut reading = reading_of(rt.alloc(), b"example. 1 IN NS b.\n")?;
+    let mut reading = read_file(rt.alloc(), &Name::root(), b"example. 1 IN NS b.\n")?;
     reading.ending = Some((Fault::BadTtl, Place::Line(4)));
     check(reading.next()?.is_some(), "the record is given first")?;
     let is_refused = is_bad_ttl(reading.next());
@@ -92,7 +92,8 @@ static LENT: &[Lent] = &[
 
 #[test]
 fn a_reading_lends_its_records(rt: HostRuntime) -> Result<(), Fail> {
-    let mut reading = reading_of(rt.alloc(), b"a. 1 IN NS b.\nc. 2 IN NS d.\n")?;
+    let file = b"a. 1 IN NS b.\nc. 2 IN NS d.\n";
+    let mut reading = read_file(rt.alloc(), &Name::root(), file)?;
     for lent in LENT {
         check(lent.is_first(&reading), "a record is lent")?;
         reading.skip();

@@ -1,9 +1,9 @@
 //! Whole messages (RFC 1035 4.1).
-use crate::tests::notation::message_of;
-use crate::tests::push_fault;
 use std::alloc::Global;
 use std::test::Fail;
-use test_support::{Question, check_lines, parted, push_hex, push_text, push_words};
+use test_support::{
+    Question, check_lines, message_of, parted, push_fault, push_hex, push_text, push_words,
+};
 use zone_wire::Message;
 
 /// Appends the name, type and class that a message asks for.

@@ -1,10 +1,9 @@
 //! Names: read from text, built, compared and printed (RFC 1035, RFC 4034, RFC 4343).
-use crate::tests::rooted;
 use std::alloc::Global;
 use std::cmp::Ordering;
 use std::test::Fail;
 use test_support::{
-    Question, check, check_lines, check_table, parted, push_hex, push_text, push_words,
+    Question, check, check_lines, check_table, parted, push_hex, push_text, push_words, rooted,
 };
 use zone_name::{CasedName, Name, NameBuilder, NameFault, NameRef, escape_at};
 

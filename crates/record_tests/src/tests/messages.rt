@@ -1,9 +1,7 @@
 //! Names in messages (RFC 1035 4.1.4).
-use crate::tests::notation::octets_of;
-use crate::tests::push_fault;
 use std::alloc::Global;
 use std::test::Fail;
-use test_support::{Question, check_lines, parted, push_hex, push_words};
+use test_support::{Question, check_lines, octets_of, parted, push_fault, push_hex, push_words};
 use zone_wire::name_at;
 
 /// The octets of a message whose header is 12 octets 0.

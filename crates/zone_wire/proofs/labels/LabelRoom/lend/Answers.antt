@@ -1,7 +1,7 @@
 use Rattle.std.proofs.lemmas.List.{take_more_set}
 use Rattle.zone_name.proofs.Pushing.{HoldsName-finish, labels_of-finish}
 use Rattle.zone_wire.proofs.Common.{arith, take, ◌∙◌}
-use Rattle.zone_wire.proofs.labels.LabelRoom.finish.Goals as goal
+use Rattle.zone_wire.proofs.labels.LabelRoom.lend.Goals as goal
 
 pub of_wire-requires : goal.of_wire-requires
 of_wire-requires c =
@@ -10,7 +10,7 @@ of_wire-requires c =
 
 pub returns : goal.returns
 returns c =
-    c.to_name.ensures ∙ c.of_wire.ensures
+    c.of_wire.ensures
     ∙ labels_of-finish (take c.self.inside.len c.self.inside.octets) _ c.self.invariant.holds
     (take_more_set c.self.inside.octets c.self.inside.len 0 (omega (arith, c.self.invariant.within)))
     ∙ c.self.view_is

@@ -1,0 +1,29 @@
+//! Names, words and numbers, record data, records, messages and entries, by worked examples.
+use std::test::Fail;
+use zone_rdata::{Failing, Fault};
+
+mod addresses;
+mod answers;
+mod growth;
+mod handed;
+mod items;
+mod messages;
+mod names;
+mod parsing;
+mod primitives;
+mod records;
+mod wire;
+mod words;
+
+/// An answer or its fault.
+///
+/// # Errors
+///
+/// Want of memory.
+fn judged<T>(answer: Result<T, Failing>) -> Result<Result<T, Fault>, Fail> {
+    match answer {
+        Ok(answer) => Ok(Ok(answer)),
+        Err(Failing::Fault(fault)) => Ok(Err(fault)),
+        Err(Failing::Memory) => Err(Fail::from("memory")),
+    }
+}

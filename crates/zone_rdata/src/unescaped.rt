@@ -1,0 +1,69 @@
+//! How many octets are printed between quotes without an escape, seen 16 at a time.
+ghost use Rattle.std.specs.Prelude.{◌≡◌, ◌+◌, ◌≤◌, length};
+ghost use Rattle.std.specs.List.{prefix_len};
+ghost use Rattle.std.specs.Simd.Lanes.{chunk};
+ghost use Rattle.zone_rdata.specs.Machine.Unescaped.{is_unescaped};
+
+use std::simd::prelude::*;
+
+/// How many octets are looked at at a time.
+const LANES: usize = 16;
+
+/// How many octets stand before the first that takes an escape between quotes.
+// Not inlined: strings are printed for each kind of sink, and this is the same for all.
+#[inline(never)]
+pub(crate) fn unescaped_len(octets: &[u8]) -> usize
+    ensures { result ≡ prefix_len is_unescaped octets.now }
+{
+    if octets.len() < LANES {
+        return unescaped_len_of_few(octets);
+    }
+    let last = octets.len() - LANES;
+    let mut at = 0;
+    while at < last {
+        let run = unescaped_run(octets, at);
+        if run < LANES {
+            return at + run;
+        }
+        at += LANES;
+    }
+    // Some of these octets may have been seen before, and take no escape then.
+    last + unescaped_run(octets, last)
+}
+
+/// How many of the 16 octets at a place stand before the first that takes an escape.
+#[inline(always)]
+fn unescaped_run(octets: &[u8], at: usize) -> usize
+    requires { at + LANES ≤ length octets.now }
+    ensures { result ≡ prefix_len is_unescaped (chunk at LANES octets.now) }
+{
+    let lanes = u8x16::from_slice(&octets[at..]);
+    let escaped = lanes.simd_lt(u8x16::splat(b' '))
+        | lanes.simd_gt(u8x16::splat(b'~'))
+        | lanes.simd_eq(u8x16::splat(b'"'))
+        | lanes.simd_eq(u8x16::splat(b'\\'));
+    let mask = escaped.to_bitmask();
+    if mask == 0 {
+        LANES
+    } else {
+        mask.trailing_zeros() as usize
+    }
+}
+
+/// As `unescaped_len`, octet by octet.
+fn unescaped_len_of_few(octets: &[u8]) -> usize
+    ensures { result ≡ prefix_len is_unescaped octets.now }
+{
+    let mut len = 0;
+    while len < octets.len() && is_unescaped(octets[len]) {
+        len += 1;
+    }
+    len
+}
+
+/// Whether the octet is printed as itself between quotes.
+fn is_unescaped(octet: u8) -> bool
+    ensures { result ≡ is_unescaped octet }
+{
+    octet >= b' ' && octet <= b'~' && octet != b'"' && octet != b'\\'
+}
