@@ -1,6 +1,7 @@
 -- What a line is made of, and the lines to come.
-use Rattle.zone_print.proofs.Common.{common_steps, ◌≡◌, ◌≢◌, ℕ, List, [], ◌∷◌, ◌++◌, ap, append_assoc, arith, name_text, Record, data_of, data_text, line, lines}
-use Rattle.zone_print.specs.Machine.Middle.{line_middle}
+use Rattle.zone_print.proofs.Common.{common_steps, ◌∙◌, length, refl, take, ◌≡◌, ◌≢◌, ℕ, List, [], ◌∷◌, ◌++◌, ap, append_assoc, arith, name_text, Record, data_of, data_text, line, lines}
+use Rattle.std.proofs.lemmas.List.{take_at}
+use Rattle.zone_print.specs.Machine.Middle.{before_kind, kind_column, line_middle, HoldsMiddle}
 use Rattle.zone_print.proofs.Feeds.{line_ends_with_feed}
 use Rattle.zone_print.proofs.Front.{some_after, some_more}
 
@@ -16,9 +17,33 @@ regroup a b c d e f = simp append_assoc
 pub line_parts : (owner ttl class kind rdata : List ℕ) → owner ++ 32 ∷ ttl ++ 32 ∷ class ++ 32 ∷ kind ++ 32 ∷ rdata ++ 10 ∷ [] ≡ owner ++ (32 ∷ (ttl ++ (32 ∷ (class ++ (32 ∷ (kind ++ (32 ∷ (rdata ++ 10 ∷ []))))))))
 line_parts owner ttl class kind rdata = regroup owner (32 ∷ ttl) (32 ∷ class) (32 ∷ kind) (32 ∷ rdata) (10 ∷ [])
 
--- a line is its owner, its middle, the data and a line feed
-pub line_split : (r : Record) → line r ≡ name_text r.owner ++ (line_middle r ++ (data_text (data_of r) ++ 10 ∷ []))
+-- a line is its owner, its middle in two parts, the data and a line feed
+pub line_split : (r : Record) → line r ≡ name_text r.owner ++ (before_kind r ++ (kind_column r ++ (data_text (data_of r) ++ 10 ∷ [])))
 line_split r = grind (arith, common_steps)
+
+middle_parts : (r : Record) → before_kind r ++ kind_column r ≡ line_middle r
+middle_parts r = grind (arith, common_steps)
+
+-- the middle of the last record, of which as much as both have is kept
+pub middle_kept : (text : List ℕ) (kept : ℕ) (last r : Record) → HoldsMiddle text kept last → last.ttl ≡ r.ttl
+    → last.class ≡ r.class → HoldsMiddle (take kept text ++ kind_column r) kept r
+middle_kept text kept last r held ttl class =
+    let same : before_kind last ≡ before_kind r = cc (ttl, class) in
+    let front : take kept text ≡ before_kind last =
+    cc (held.whole, held.len, middle_parts last, take_at (before_kind last) (kind_column last) (length (before_kind last)) refl) in
+    record { whole = cc (front, same, middle_parts r); len = held.len ∙ ap length same }
+
+pub middle_same : (text : List ℕ) (kept : ℕ) (last r : Record) → HoldsMiddle text kept last → last.ttl ≡ r.ttl
+    → last.class ≡ r.class → last.kind ≡ r.kind → HoldsMiddle text kept r
+middle_same text kept last r held ttl class kind =
+    let same : before_kind last ≡ before_kind r = cc (ttl, class) in
+    let whole : line_middle last ≡ line_middle r = cc (ttl, class, kind) in
+    record { whole = held.whole ∙ whole; len = held.len ∙ ap length same }
+
+pub middle_made : (text : List ℕ) (kept : ℕ) (r : Record) → text ≡ before_kind r → kept ≡ length text
+    → HoldsMiddle (text ++ kind_column r) kept r
+middle_made text kept r front len =
+    record { whole = cc (front, middle_parts r); len = len ∙ ap length front }
 
 -- owner, middle and what follows them were pushed
 pub line_pushed : (old named numbered new owner middle : List ℕ) (r : Record) → owner ≡ name_text r.owner → middle ≡ line_middle r

@@ -1,6 +1,6 @@
 ghost use Rattle.std.specs.Prelude.{[], ◌∷◌, ◌++◌, OnOk};
 ghost use Rattle.zone_print.specs.Canonical.{canon, line};
-ghost use Rattle.zone_print.specs.Machine.Middle.{line_middle};
+ghost use Rattle.zone_print.specs.Machine.Middle.{before_kind, kind_column};
 ghost use Rattle.zone_rdata.specs.Record.{data_of};
 ghost use Rattle.zone_rdata.specs.Text.{data_text};
 ghost use Rattle.zone_rdata.specs.Lent.{record_of};
@@ -10,20 +10,30 @@ use zone_name::Sink;
 use zone_rdata::RrRef;
 use zone_set::Zone;
 
-/// Appends TTL, class and type of the record between spaces.
+/// Appends TTL and class of the record, each after a space, and a space.
 ///
 /// # Errors
 ///
 /// `out` refuses octets. A prefix of the text may have been appended.
-pub(crate) fn push_middle<S: Sink>(out: &mut S, rr: &RrRef) -> Result<(), S::Error>
-    ensures { OnOk result (S.takes out.old (line_middle (record_of rr.now)) out.new) }
+pub(crate) fn push_before_kind<S: Sink>(out: &mut S, rr: &RrRef) -> Result<(), S::Error>
+    ensures { OnOk result (S.takes out.old (before_kind (record_of rr.now)) out.new) }
 {
     let mut digits = Buffer::new();
     out.push(b" ")?;
     out.push(digits.format(rr.ttl).as_bytes())?;
     out.push(b" ")?;
     rr.class.push_word(out)?;
-    out.push(b" ")?;
+    out.push(b" ")
+}
+
+/// Appends the record's type and a space.
+///
+/// # Errors
+///
+/// `out` refuses octets. A prefix of the text may have been appended.
+pub(crate) fn push_kind<S: Sink>(out: &mut S, rr: &RrRef) -> Result<(), S::Error>
+    ensures { OnOk result (S.takes out.old (kind_column (record_of rr.now)) out.new) }
+{
     rr.kind.push_word(rr.class, out)?;
     out.push(b" ")
 }
@@ -50,7 +60,8 @@ pub(crate) fn push_line<S: Sink>(out: &mut S, rr: &RrRef) -> Result<(), S::Error
     ensures { OnOk result (S.takes out.old (line (record_of rr.now)) out.new) }
 {
     rr.owner.print(out)?;
-    push_middle(out, rr)?;
+    push_before_kind(out, rr)?;
+    push_kind(out, rr)?;
     push_data(out, rr)
 }
 

@@ -1,10 +1,10 @@
 ghost use Rattle.std.specs.Prelude.{◌≡◌, [], ◌++◌, length, IfOk, IfSome, OnOk};
 ghost use Rattle.zone_name.specs.Text.{name_text};
 ghost use Rattle.zone_print.specs.Canonical.{line};
-ghost use Rattle.zone_print.specs.Machine.Middle.{line_middle};
+ghost use Rattle.zone_print.specs.Machine.Middle.{HoldsMiddle};
 ghost use Rattle.zone_rdata.specs.Lent.{record_of};
 
-use crate::line::{push_data, push_middle};
+use crate::line::{push_before_kind, push_data, push_kind};
 use std::alloc::{AllocError, Global};
 use std::marker::Model;
 use zone_rdata::RrRef;
@@ -19,12 +19,14 @@ pub(crate) struct LineBuffer<'z> {
     owner: Vec<u8>,
     /// What stands between its owner and its data.
     middle: Vec<u8>,
+    /// How many octets of that stand before the type.
+    before_kind: usize,
 }
 
 impl<'z> Model for LineBuffer<'z> {
     ghost use Rattle.std.specs.Prelude.{◌≡◌, List, ℕ, IfSome};
     ghost use Rattle.zone_name.specs.Text.{name_text};
-    ghost use Rattle.zone_print.specs.Machine.Middle.{line_middle};
+    ghost use Rattle.zone_print.specs.Machine.Middle.{HoldsMiddle};
     ghost use Rattle.zone_rdata.specs.Lent.{record_of};
 
     ghost Value = { List ℕ };
@@ -32,7 +34,8 @@ impl<'z> Model for LineBuffer<'z> {
     ghost view = { λ b. b.octets.items };
 
     ghost invariant = { λ b. IfSome b.last (λ r.
-        (b.owner.items ≡ name_text r.owner) × (b.middle.items ≡ line_middle (record_of r))) };
+        (b.owner.items ≡ name_text r.owner)
+        × HoldsMiddle b.middle.items b.before_kind (record_of r)) };
 }
 
 impl<'z> LineBuffer<'z> {
@@ -45,6 +48,7 @@ impl<'z> LineBuffer<'z> {
             last: None,
             owner: Vec::new(alloc),
             middle: Vec::new(alloc),
+            before_kind: 0,
         }
     }
 
@@ -61,6 +65,7 @@ impl<'z> LineBuffer<'z> {
             last: None,
             owner: Vec::new(alloc),
             middle: Vec::new(alloc),
+            before_kind: 0,
         })
     }
 
@@ -102,7 +107,7 @@ impl<'z> LineBuffer<'z> {
     {
         let last = self.last.take();
         hold_owner(&mut self.owner, &last, &rr)?;
-        hold_middle(&mut self.middle, &last, &rr)?;
+        self.before_kind = hold_middle(&mut self.middle, self.before_kind, &last, &rr)?;
         self.octets.extend_from_slice(self.owner.as_slice())?;
         self.octets.extend_from_slice(self.middle.as_slice())?;
         push_data(&mut self.octets, &rr)?;
@@ -125,17 +130,30 @@ fn hold_owner(text: &mut Vec<u8>, last: &Option<RrRef>, rr: &RrRef) -> Result<()
     rr.owner.print(text)
 }
 
-/// Makes the text what stands between the record's owner and its data, where it isn't already the
-/// last one's.
-fn hold_middle(text: &mut Vec<u8>, last: &Option<RrRef>, rr: &RrRef) -> Result<(), AllocError>
-    requires { IfSome last.now (λ last. text.old.items ≡ line_middle (record_of last)) }
-    ensures { OnOk result (text.new.items ≡ line_middle (record_of rr.now)) }
+/// Makes the text what stands between the record's owner and its data, and tells how many octets
+/// of it stand before the type. Only what isn't already the last one's is made.
+fn hold_middle(
+    text: &mut Vec<u8>,
+    before_kind: usize,
+    last: &Option<RrRef>,
+    rr: &RrRef,
+) -> Result<usize, AllocError>
+    requires { IfSome last.now (λ last. HoldsMiddle text.old.items before_kind (record_of last)) }
+    ensures { IfOk result (λ n. HoldsMiddle text.new.items n (record_of rr.now)) }
 {
     if let Some(last) = last {
-        if last.kind == rr.kind && last.ttl == rr.ttl && last.class == rr.class {
-            return Ok(());
+        if last.ttl == rr.ttl && last.class == rr.class {
+            if last.kind == rr.kind {
+                return Ok(before_kind);
+            }
+            text.truncate(before_kind);
+            push_kind(text, rr)?;
+            return Ok(before_kind);
         }
     }
     text.clear();
-    push_middle(text, rr)
+    push_before_kind(text, rr)?;
+    let before_kind = text.len();
+    push_kind(text, rr)?;
+    Ok(before_kind)
 }

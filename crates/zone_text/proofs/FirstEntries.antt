@@ -12,11 +12,11 @@ use Rattle.std.specs.List.{prefix_len}
 
 -- ---- plain octets as written ones
 
-plain_text : (octets : List ℕ) → written_text (map plain octets) ≡ octets
+pub plain_text : (octets : List ℕ) → written_text (map plain octets) ≡ octets
 plain_text [] = refl
 plain_text (c ∷ octets) = ap (λ t. c ∷ t) (plain_text octets)
 
-plain_units : (ends : ℕ → Bool) (octets : List ℕ) → AllByRecursion (λ c. (ends c || c == 92) ≡ false) octets → AllByRecursion (IsUnit ends) (map plain octets)
+pub plain_units : (ends : ℕ → Bool) (octets : List ℕ) → AllByRecursion (λ c. (ends c || c == 92) ≡ false) octets → AllByRecursion (IsUnit ends) (map plain octets)
 plain_units ends [] each = tt
 plain_units ends (c ∷ octets) each = let p = or_parts (ends c) (c == 92) each.0 in ((p.0, eqb-false c 92 p.1), plain_units ends octets each.1)
 
@@ -40,7 +40,7 @@ comment_in_front octets after rest c n whole is len back =
       stated = refl;
     }
 
-stops_or : (a b : Bool) → (a || b) ≡ true → b ≡ false → a ≡ true
+pub stops_or : (a b : Bool) → (a || b) ≡ true → b ≡ false → a ≡ true
 stops_or a b e none = search rules
 
 pub bare_in_front : (octets item rest more : List ℕ) (next n : ℕ) → 0 < n → n ≡ prefix_len goes_on octets → item ≡ take n octets → rest ≡ drop n octets → rest ≡ next ∷ more → next ≢ 92 → IsInFront octets (raw.bare item ∷ []) rest

@@ -43,3 +43,4 @@ pub mod OpenEntries
 pub mod ClassHeld
 pub mod StopMarks
 pub mod OneLine
+pub mod EscapedItems

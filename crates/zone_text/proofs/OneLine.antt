@@ -1,6 +1,6 @@
 -- The line feeds of an entry that is cut as its end is looked for: the one that ends it.
 use Rattle.std.specs.List.{prefix_len}
-use Rattle.zone_text.proofs.Common.{AllByRecursion, Bool, IsInFront, List, RawItem, [], ap, append_assoc, arith, cond, drop, eqb-true, false, is_blank, length, length-append, list_any, nat_eq, refl, stops_bare, subst, sum_by-append, sum_by-cons, sym, take, take-append-drop, take-append_seam, token_text, true, zero-add, ℕ, ◌++◌, ◌+◌, ◌-◌, ◌==◌, ◌||◌, ◌∙◌, ◌∷◌, ◌≡◌}
+use Rattle.zone_text.proofs.Common.{AllByRecursion, Bool, IsInFront, IsUnit, List, RawItem, Written, [], ap, append_assoc, arith, cond, decimal, drop, ends_item, eqb-true, escaped, false, is_blank, is_digit, length, length-append, list_any, nat_eq, ne_eqb, plain, refl, stops_bare, subst, sum_by-append, sum_by-cons, sym, take, take-append-drop, take-append_seam, token_text, true, written_text, zero-add, ℕ, ◌++◌, ◌+◌, ◌-◌, ◌==◌, ◌||◌, ◌∙◌, ◌∷◌, ◌≡◌}
 use Rattle.zone_text.proofs.FirstEntries.{IsCutTo}
 use Rattle.zone_text.proofs.Left.{line_feeds}
 use Rattle.zone_text.proofs.StopMarks.{goes_on, prefix_each}
@@ -16,22 +16,34 @@ pub none_of_any : (xs : List ℕ) → list_any (λ y. nat_eq y 10) xs ≡ false 
 none_of_any [] none = refl
 none_of_any (y ∷ xs) none = sum_by-cons (λ c. cond (c == 10) 1 0) y xs ∙ no_more (nat_eq y 10) (list_any (λ y. nat_eq y 10) xs) (line_feeds xs) none (none_of_any xs)
 
-not_ten : (c : ℕ) → stops_bare c ≡ false → (c == 10) ≡ false
-not_ten c goes = by (c == 10) refl
+other_than_ten : (is : ℕ → Bool) (b : Bool) → (is 10 ≡ b → ⊥) → (c : ℕ) → is c ≡ b → (c == 10) ≡ false
+other_than_ten is b not c e = by (c == 10) refl
   where
-    by : (b : Bool) → (c == 10) ≡ b → (c == 10) ≡ false
-    by false e = e
-    by true e =
-        let stops : stops_bare 10 ≡ false = subst (λ d. stops_bare d ≡ false) (eqb-true c 10 e) goes in
-        absurd cc
+    by : (t : Bool) → (c == 10) ≡ t → (c == 10) ≡ false
+    by false h = h
+    by true h = absurd (not (subst (λ d. is d ≡ b) (eqb-true c 10 h) e))
+
+none_first : (c : ℕ) (xs : List ℕ) → (c == 10) ≡ false → line_feeds (c ∷ xs) ≡ line_feeds xs
+none_first c xs e = sum_by-cons (λ d. cond (d == 10) 1 0) c xs ∙ ap (λ (b : Bool). cond b 1 0 + line_feeds xs) e ∙ zero-add (line_feeds xs)
 
 none_bare : (xs : List ℕ) → AllByRecursion (λ c. stops_bare c ≡ false) xs → line_feeds xs ≡ 0
 none_bare [] each = refl
-none_bare (c ∷ xs) each =
-    sum_by-cons (λ c. cond (c == 10) 1 0) c xs ∙ ap (λ (b : Bool). cond b 1 0 + line_feeds xs) (not_ten c each.0) ∙ zero-add (line_feeds xs) ∙ none_bare xs each.1
+none_bare (c ∷ xs) each = none_first c xs (other_than_ten stops_bare false (λ e. cc) c each.0) ∙ none_bare xs each.1
+
+pub none_written : (units : List Written) → AllByRecursion (IsUnit ends_item) units → line_feeds (written_text units) ≡ 0
+none_written [] each = refl
+none_written (plain c ∷ units) each = none_first c (written_text units) (other_than_ten ends_item false (λ e. cc) c each.0.0) ∙ none_written units each.1
+none_written (escaped c ∷ units) each = none_first 92 (c ∷ written_text units) refl ∙ none_first c (written_text units) (ne_eqb c 10 each.0.1) ∙ none_written units each.1
+none_written (decimal x y z ∷ units) each =
+    let digit = other_than_ten is_digit true (λ e. cc) in
+    none_first 92 (x ∷ y ∷ z ∷ written_text units) refl
+    ∙ none_first x (y ∷ z ∷ written_text units) (digit x each.0.0)
+    ∙ none_first y (z ∷ written_text units) (digit y each.0.1)
+    ∙ none_first z (written_text units) (digit z each.0.2)
+    ∙ none_written units each.1
 
 -- octets without line feeds were passed
-passed_none : (rest front left : List ℕ) → rest ≡ front ++ left → line_feeds front ≡ 0 → line_feeds left ≡ line_feeds rest
+pub passed_none : (rest front left : List ℕ) → rest ≡ front ++ left → line_feeds front ≡ 0 → line_feeds left ≡ line_feeds rest
 passed_none rest front left whole none =
     let both : line_feeds rest ≡ line_feeds front + line_feeds left = ap line_feeds whole ∙ feeds_of_both front left in
     omega (arith, both, none)
@@ -42,13 +54,7 @@ passed_bare rest stopped n len back =
     passed_none rest (take n rest) stopped (sym (take-append-drop n rest) ∙ ap (λ t. take n rest ++ t) (sym back)) (none_bare (take n rest) each)
 
 pub passed_blank : (stopped after : List ℕ) (c : ℕ) → stopped ≡ c ∷ after → is_blank c ≡ true → line_feeds after ≡ line_feeds stopped
-passed_blank stopped after c first blank = passed_none stopped (c ∷ []) after first (by (c == 10) refl)
-  where
-    by : (b : Bool) → (c == 10) ≡ b → line_feeds (c ∷ []) ≡ 0
-    by false e = sum_by-cons (λ d. cond (d == 10) 1 0) c [] ∙ ap (λ (b : Bool). cond b 1 0 + line_feeds []) e
-    by true e =
-        let feed : is_blank 10 ≡ true = subst (λ d. is_blank d ≡ true) (eqb-true c 10 e) blank in
-        absurd cc
+passed_blank stopped after c first blank = passed_none stopped (c ∷ []) after first (none_first c [] (other_than_ten is_blank true (λ e. cc) c blank))
 
 pub passed_token : (stopped passed left : List ℕ) (items : List RawItem) (n : ℕ) → IsInFront stopped items left → n ≡ length stopped - length left → passed ≡ take n stopped → list_any (λ y. nat_eq y 10) passed ≡ false → line_feeds left ≡ line_feeds stopped
 passed_token stopped passed left items n found count front none =

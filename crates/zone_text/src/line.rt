@@ -1,13 +1,14 @@
-//! Entries of one line without parentheses and escapes, cut into items as their end is looked for
-//! (RFC 1035 5.1).
-ghost use Rattle.std.specs.Prelude.{◌≡◌, ◌==◌, count_by, map, length, take, IfOk, IfSome, OnOk, option_map, option_to_list};
-ghost use Rattle.zone_rdata.specs.Item.{raw};
+//! Entries of one line without parentheses, cut into items as their end is looked for (RFC 1035
+//! 5.1). Of escapes they have those of one octet alone, in bare items, as `\#`.
+ghost use Rattle.std.specs.Prelude.{◌≡◌, ◌==◌, ◌∷◌, [], count_by, map, length, take, IfOk, IfSome, OnOk, option_map, option_to_list};
+ghost use Rattle.zone_rdata.specs.Item.{bare, raw};
 ghost use Rattle.zone_text.specs.FirstEntry.{IsFirstEntry};
 ghost use Rattle.zone_text.specs.Machine.Kept.{KeepsBare};
 ghost use Rattle.zone_text.specs.Machine.Line.{IsInFront, IsQuoted};
 
 use crate::items::{Extent, comment_len, is_blank, keep, plain_len};
 use crate::stops::Stops;
+use crate::words::begins_with_digit;
 use std::alloc::AllocError;
 use zone_rdata::Item;
 
@@ -43,6 +44,35 @@ fn token_in_front(octets: &[u8]) -> Option<(Option<Item<'_>>, &[u8])>
     }
 }
 
+/// The bare item at the front, and what follows it. `None`: an octet that is escaped in it is a
+/// digit or ends a line, or it isn't seen to end.
+// Not inlined: few items have a backslash.
+#[inline(never)]
+fn escaped_item(octets: &[u8]) -> Option<(&[u8], &[u8])>
+    ensures front { IfSome result (λ found.
+        IsInFront octets.now (bare found.0.now ∷ []) found.1.now) }
+    ensures line { IfSome result (λ found.
+        count_by (λ c. c == 10) found.1.now ≡ count_by (λ c. c == 10) octets.now) }
+{
+    let mut len = plain_len(octets, Extent::Bare);
+    loop {
+        let (text, after) = octets.split_at(len);
+        let (stop, escape) = after.split_first()?;
+        if *stop != b'\\' {
+            return if text.is_empty() {
+                None
+            } else {
+                Some((text, after))
+            };
+        }
+        let (octet, more) = escape.split_first()?;
+        if begins_with_digit(escape) || *octet == b'\n' || *octet == b'\r' {
+            return None;
+        }
+        len += 2 + plain_len(more, Extent::Bare);
+    }
+}
+
 /// Puts a bare item after those before it, where there are octets of it.
 #[inline(always)]
 fn keep_bare<'t>(text: &'t [u8], items: &mut Vec<Item<'t>>) -> Result<(), AllocError>
@@ -56,8 +86,8 @@ fn keep_bare<'t>(text: &'t [u8], items: &mut Vec<Item<'t>>) -> Result<(), AllocE
 }
 
 /// Puts the items of the entry at the front in place of what `items` held, and gives the number of
-/// its octets. `None`: it has a parenthesis or a backslash, takes more than one line, or isn't seen
-/// to end.
+/// its octets. `None`: it has a parenthesis or an escape of another kind, takes more than one line,
+/// or isn't seen to end.
 ///
 /// # Errors
 ///
@@ -81,7 +111,13 @@ pub(crate) fn cut_line<'t>(
             return Ok(None);
         };
         if *stop == b'\\' {
-            return Ok(None);
+            let Some((item, left)) = escaped_item(rest) else {
+                return Ok(None);
+            };
+            keep(Item::Bare(item), items)?;
+            stops = Stops::unseen(left);
+            rest = left;
+            continue;
         }
         keep_bare(bare, items)?;
         if *stop == b'\n' {

@@ -1,5 +1,5 @@
 -- The part of a line that records of many owners have in common.
-use Rattle.std.specs.Prelude.{ℕ, List, [], ◌∷◌, ◌++◌, decimal}
+use Rattle.std.specs.Prelude.{◌≡◌, ℕ, length, List, [], ◌∷◌, ◌++◌, decimal}
 use Rattle.zone_rdata.specs.Words.{class_text, kind_text}
 use Rattle.zone_rdata.specs.Record.{Record}
 
@@ -7,3 +7,16 @@ use Rattle.zone_rdata.specs.Record.{Record}
 abbrev pub line_middle : Record → List ℕ
 line_middle r =
     32 ∷ decimal r.ttl ++ 32 ∷ class_text r.class ++ 32 ∷ kind_text r.class r.kind ++ 32 ∷ []
+
+-- TTL and class, each after a space, and a space
+abbrev pub before_kind : Record → List ℕ
+before_kind r = 32 ∷ decimal r.ttl ++ 32 ∷ class_text r.class ++ 32 ∷ []
+
+-- the type and a space
+abbrev pub kind_column : Record → List ℕ
+kind_column r = kind_text r.class r.kind ++ 32 ∷ []
+
+-- a text is the record's middle, and so many octets of it stand before the type
+pub record HoldsMiddle (text : List ℕ) (kept : ℕ) (r : Record) : Type 0 where
+  pub whole : text ≡ line_middle r
+  pub len : kept ≡ length (before_kind r)

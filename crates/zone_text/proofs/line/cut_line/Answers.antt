@@ -35,12 +35,22 @@ loop-rest-preserved-then-is_blank c = record {
   line = passed_blank _ _ _ c.in-Some.ensures.cases.0 (sym c.is_blank.ensures ∙ c.if-is_blank.true) ∙ passed_bare _ _ _ c.bare_len-len.ensures.len c.split_at.ensures.back ∙ c.loop-rest.invariant.line;
 }
 
-pub loop-rest-smaller-in-Continue-branch-2 : goal.loop-rest-smaller-in-Continue-branch-2
-loop-rest-smaller-in-Continue-branch-2 c = omega (arith, in_front_shorter _ _ _ c.in-Some-token_in_front.ensures, c.split_at.ensures.back_len)
+pub loop-rest-smaller-then-stop-eq92 : goal.loop-rest-smaller-then-stop-eq92
+loop-rest-smaller-then-stop-eq92 c = omega (arith, in_front_shorter _ _ _ c.in-Some-escaped_item.ensures.front)
 
-pub loop-rest-preserved-in-Continue-branch-2 : goal.loop-rest-preserved-in-Continue-branch-2
-loop-rest-preserved-in-Continue-branch-2 c = record {
-  cut = cut_more _ _ _ _ _ _ (cut_bare _ _ _ _ _ _ _ _ _ c.loop-rest.invariant.cut c.bare_len-len.ensures.len c.split_at.ensures.front c.split_at.ensures.back c.in-Some.ensures.cases.0 c.if-stop-eq92.false c.in_ok-keep_bare.ensures) (rw c.in-Some-item.is at c.in-Some-token_in_front.ensures) c.in_ok-keep.ensures;
+pub loop-rest-preserved-then-stop-eq92 : goal.loop-rest-preserved-then-stop-eq92
+loop-rest-preserved-then-stop-eq92 c = record {
+  cut = cut_more _ _ _ _ _ _ c.loop-rest.invariant.cut c.in-Some-escaped_item.ensures.front c.in_ok-keep.ensures;
+  tells = c.unseen-stops-then-stop-eq92.ensures;
+  line = c.in-Some-escaped_item.ensures.line ∙ c.loop-rest.invariant.line;
+}
+
+pub loop-rest-smaller-in-Continue-branch-3 : goal.loop-rest-smaller-in-Continue-branch-3
+loop-rest-smaller-in-Continue-branch-3 c = omega (arith, in_front_shorter _ _ _ c.in-Some-token_in_front.ensures, c.split_at.ensures.back_len)
+
+pub loop-rest-preserved-in-Continue-branch-3 : goal.loop-rest-preserved-in-Continue-branch-3
+loop-rest-preserved-in-Continue-branch-3 c = record {
+  cut = cut_more _ _ _ _ _ _ (cut_bare _ _ _ _ _ _ _ _ _ c.loop-rest.invariant.cut c.bare_len-len.ensures.len c.split_at.ensures.front c.split_at.ensures.back c.in-Some.ensures.cases.0 c.if-stop-eq92.false c.in_ok-keep_bare.ensures) (rw c.in-Some-item.is at c.in-Some-token_in_front.ensures) c.in_ok-keep-2.ensures;
   tells = c.unseen-stops-in-loop-rest.ensures;
   line = passed_token _ _ _ _ _ c.in-Some-token_in_front.ensures refl c.split_at-in-loop-rest.ensures.front (sym c.contains.ensures.value ∙ c.if-contains.false) ∙ passed_bare _ _ _ c.bare_len-len.ensures.len c.split_at.ensures.back ∙ c.loop-rest.invariant.line;
 }

@@ -1,6 +1,6 @@
--- The parts that are pushed join to the middle.
+-- The parts that are pushed join to what stands before the type.
 use Rattle.zone_print.proofs.Common.{◌∙◌, subst, MatchResult-weaker}
-use Rattle.zone_print.proofs.line.push_middle.Goals as goal
+use Rattle.zone_print.proofs.line.push_before_kind.Goals as goal
 
 pub returns : goal.returns
 returns g c =
@@ -8,5 +8,4 @@ returns g c =
     let digits = subst (λ text. g.S.Sink.takes c.push.new.self text c.push-2.new.self) (c.as_bytes.ensures.value ∙ c.format.ensures.text) c.in_ok-push-2.ensures.ok in
     let ttl = joins _ _ _ _ _ c.in_ok-push.ensures.ok digits in
     let class = joins _ _ _ _ _ ttl (joins _ _ _ _ _ c.in_ok-push-3.ensures.ok c.in_ok-push_word.ensures.ok) in
-    let kind = joins _ _ _ _ _ class (joins _ _ _ _ _ c.in_ok-push-4.ensures.ok c.in_ok-push_word-2.ensures.ok) in
-    MatchResult-weaker c.push-5.result c.push-5.ensures.ok (λ x space. joins _ _ _ _ _ kind space) (λ error nothing. nothing)
+    MatchResult-weaker c.push-4.result c.push-4.ensures.ok (λ x space. joins _ _ _ _ _ class space) (λ error nothing. nothing)

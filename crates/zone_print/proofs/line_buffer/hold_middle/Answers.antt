@@ -1,0 +1,16 @@
+-- The last record's TTL and class are kept.
+use Rattle.zone_print.proofs.Common.{◌≡◌, ◌++◌, ◌∙◌, ap, arith, record_of, rules, subst, sym}
+use Rattle.zone_print.proofs.Lines.{middle_kept}
+use Rattle.zone_print.specs.Machine.Middle.{HoldsMiddle, kind_column}
+use Rattle.zone_print.proofs.line_buffer.hold_middle.Goals as goal
+
+pub returns-then-eq : goal.returns-then-eq
+returns-then-eq c =
+    let last = record_of c.in-Some.last in
+    let r = record_of c.args.rr.now in
+    let held : HoldsMiddle c.args.text.now.items c.args.before_kind last = grind (arith, c.requires, c.in-Some.is) in
+    let ttl : last.ttl ≡ r.ttl = grind (arith, c.if-last-rr.true) in
+    let class : last.class ≡ r.class = search rules in
+    subst (λ t. HoldsMiddle t c.args.before_kind r)
+    (sym (c.in_ok-push_kind.ensures ∙ ap (λ t. t ++ kind_column r) c.truncate.ensures.items))
+    (middle_kept c.args.text.now.items c.args.before_kind last r held ttl class)
