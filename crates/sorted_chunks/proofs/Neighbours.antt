@@ -53,9 +53,6 @@ module _ {X : Type 0} where
   pub last_of_chunk : (cs : List (List X)) (i j : ℕ) (x : X) → j ≡ 0 → 0 < i → i ≤ length cs → 0 < length (get_or cs (i - 1) []) → x ≡ get_or (get_or cs (i - 1) []) (length (get_or cs (i - 1) []) - 1) x → (front : List X) × (before cs (record { chunk = i; offset = j }) ≡ front ++ x ∷ [])
   last_of_chunk cs i j x start some le filled is = grind (arith, last_in, before_chunk)
 
-  pub none_before : (cs : List (List X)) (i j : ℕ) → i ≡ 0 → j ≡ 0 → before cs (record { chunk = i; offset = j }) ≡ []
-  none_before cs i j first start = ap (λ n. joined (take n cs) ++ take j (get_or cs n [])) first ∙ ap (λ n. take n (get_or cs 0 [])) start
-
   -- the element after a place in a chunk
   pub first_in : (cs : List (List X)) (i j : ℕ) (x : X) → j < length (get_or cs i []) → x ≡ get_or (get_or cs i []) j x → (rest : List X) × (after cs (record { chunk = i; offset = j }) ≡ x ∷ rest)
   first_in cs i j x within is =

@@ -93,9 +93,6 @@ same_if_one equal first second verdict is =
     let zones : (canon is.zone ≡ canon is.other) ↔ DenoteOne first second = equal first second is.zone is.other is.denotes is.other_denotes in
     (λ same. zones.0 (same_is_equal verdict (canon is.zone) (canon is.other) is.judged same), λ one. equal_is_same verdict (canon is.zone) (canon is.other) is.judged (zones.1 one))
 
-one_line : (text other : Octets) (n m : ℕ) → DifferFirstAt n text other → DifferFirstAt m text other → n ≡ m
-one_line text other n m at_n at_m = grind arith
-
 one_judgement : (verdict another : Verdict) (text other : Octets) → IsVerdictOnTexts verdict text other → IsVerdictOnTexts another text other → verdict ≡ another
 one_judgement verdict another text other is too = grind arith
 

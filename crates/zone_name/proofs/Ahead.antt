@@ -1,6 +1,5 @@
 -- What is ahead in a text, in the words of its spelling.
-use Rattle.std.proofs.lemmas.Grind.{common_steps}
-use Rattle.zone_name.proofs.Common.{◌≡◌, ℕ, ◌<◌, Bool, false, nat_eq, List, [], ◌∷◌, ◌++◌, length, take, Option, arith, pointwise, cases_Bool, eqb-true, both_ways, cond_both, Written, text_of, octet_of, IsUnit, IsBadEscape, BeginsWithUnit, is_dot, no_octet, Ahead, at_end, at_dot, at_octet, at_fault, unit_ahead, ahead_in}
+use Rattle.zone_name.proofs.Common.{Ahead, BeginsWithUnit, Bool, IsBadEscape, IsUnit, List, Option, Written, [], ahead_in, arith, at_dot, at_end, at_fault, at_octet, both_ways, cases_Bool, common_steps, cond_both, eqb-true, false, is_dot, length, nat_eq, no_octet, octet_of, pointwise, take, text_of, unit_ahead, ℕ, ◌++◌, ◌<◌, ◌∷◌, ◌≡◌}
 use Rattle.zone_name.proofs.Units.{IsFirst, first_is}
 
 -- what is ahead, said of the text there

@@ -1,12 +1,7 @@
 -- The name that a text spells under an origin, its letters folded or kept, or its first fault, as an
 -- answer on lists.
-use Rattle.zone_name.proofs.Common.{◌≡◌, ◌≢◌, ℕ, ◌<◌, ◌≤◌, Bool, true, false, nat_eq, nat_le, if◌then◌else◌, List, [], ◌∷◌, ◌++◌, length, get_or, codes, Result, Ok, Err, Option, Some, None, IfOk, IfErr, IfSome, ◌⊎◌, inl, inr, refl, sym, ap, ◌∙◌, subst, arith, AllByRecursion, pointwise, bytes_decides, length-map, false≢true, folded, folded_label, folded_octet, wire, IsCasedLabel, IsCasedName, IsLabel, IsLabelBy, IsName, IsNameBy, Written, plain, text_of, octet_of, IsUnit, is_dot, IsWrittenLabel, AreWrittenLabels, written_text, written_octets, dotted, parted, kept, WritesBy, root, absolute, at_origin, relative, Spells, SpellsBy, SpellsCased, FaultAt, IsRelative, SpellingFault, within, unfounded, long_name, NameFault, sized, under_origin, lettered, lettered_in, name_read, taken_by, HasShape}
-use Rattle.zone_name.specs.Common.{AreOctets}
-use Rattle.zone_name.specs.declared.fault.NameFault.TheVariants.{EmptyLabel, NameTooLong, RelativeName}
+use Rattle.zone_name.proofs.Common.{AllByRecursion, AreOctets, AreWrittenLabels, Bool, EmptyLabel, Err, FaultAt, Folded, HasShape, IfErr, IfOk, IfSome, IsCasedLabel, IsCasedName, IsLabel, IsLabelBy, IsName, IsNameBy, IsRelative, IsUnit, IsWrittenLabel, Kept, Labels, Letters, List, NameFault, NameTooLong, None, Ok, Option, Origin, RelativeName, Result, Root, Some, SpellingFault, Spells, SpellsBy, SpellsCased, WritesBy, Written, [], absolute, ap, arith, at_origin, bytes_decides, codes, dotted, false, false≢true, folded, folded_label, folded_octet, get_or, if◌then◌else◌, inl, inr, is_dot, kept, length, length-map, lettered, lettered_in, long_name, name_read, nat_eq, nat_le, octet_of, parted, plain, pointwise, refl, relative, root, sized, subst, sym, taken_by, text_of, true, under_origin, unfounded, wire, within, written_octets, written_text, ℕ, ◌++◌, ◌<◌, ◌∙◌, ◌∷◌, ◌≡◌, ◌≢◌, ◌≤◌, ◌⊎◌}
 use Rattle.zone_name.specs.declared.reading.NameShape.{NameShape}
-use Rattle.zone_name.specs.declared.reading.NameShape.TheVariants.{Root, Origin, Labels}
-use Rattle.zone_name.specs.declared.reading.Letters.{Letters}
-use Rattle.zone_name.specs.declared.reading.Letters.TheVariants.{Kept, Folded}
 use Rattle.zone_name.specs.Machine.LabelWalk.{reading}
 use Rattle.zone_name.proofs.Spelled.{AreShort, Says, reading-says}
 use Rattle.zone_name.proofs.Only.{reading-dotted, reading-parted, reading-fault}

@@ -1,6 +1,5 @@
 -- What is printed outside quotes is written octets, of which few stand by themselves.
-use Rattle.std.proofs.lemmas.Grind.{common_steps}
-use Rattle.zone_name.proofs.Common.{◌≡◌, ℕ, ◌<◌, not, Bool, true, List, [], ◌∷◌, ◌++◌, length, refl, sym, ap, arith, append_assoc, flat_map, AllByRecursion, both_ways, append-nil, length-map, IsFoldedOctet, IsLabel, IsName, Written, plain, text_of, IsUnit, written_text, is_special, is_printed, octet_text, label_text, name_text, rules}
+use Rattle.zone_name.proofs.Common.{AllByRecursion, Bool, IsFoldedOctet, IsLabel, IsName, IsUnit, List, Written, [], ap, append-nil, append_assoc, arith, both_ways, common_steps, flat_map, is_printed, is_special, label_text, length, length-map, name_text, not, octet_text, plain, refl, rules, sym, text_of, true, written_text, ℕ, ◌++◌, ◌<◌, ◌∷◌, ◌≡◌}
 use Rattle.std.proofs.Common.{map}
 use Rattle.zone_name.proofs.Lawful.{written_by, printed_text}
 pub use Rattle.zone_name.specs.Machine.Shown.{is_bare}

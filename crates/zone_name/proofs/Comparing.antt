@@ -1,8 +1,7 @@
 -- Equality, order and containment of names, as the code decides them.
-use Rattle.zone_name.proofs.Common.{◌≡◌, ℕ, ◌+◌, ◌-◌, ◌≤◌, ◌↔◌, Bool, IsTrue, List, [], ◌∷◌, ◌++◌, length, take, drop, reverse, Option, Some, None, MatchOption, ap, sym, ◌∙◌, nat_eq, true, arith, length-append, ordering_then, nat_cmp, pointwise, pointwise_decides, bytes_decides, slice_cmp, reverse-append, reverse-reverse, length-reverse, length-take, take-append-drop, drop_at, drop-drop, wire, labels_of, IsWithin, label_cmp, name_cmp, rules}
+use Rattle.zone_name.proofs.Common.{Bool, Equal, IsTrue, IsWithin, List, MatchOption, None, Option, Some, [], ap, arith, bytes_decides, drop, drop-drop, drop_at, label_cmp, labels_of, length, length-append, length-reverse, length-take, name_cmp, nat_cmp, nat_eq, ordering_then, pointwise, pointwise_decides, reverse, reverse-append, reverse-reverse, rules, slice_cmp, sym, take, take-append-drop, true, wire, ℕ, ◌++◌, ◌+◌, ◌-◌, ◌↔◌, ◌∙◌, ◌∷◌, ◌≡◌, ◌≤◌}
 use Rattle.std.proofs.Common.{length-drop}
 use Rattle.std.specs.declared.cmp.Ordering.{Ordering}
-use Rattle.std.specs.declared.cmp.Ordering.TheVariants.{Equal}
 use Rattle.std.specs.Bool.{Decides}
 use Rattle.std.proofs.lemmas.Cmp.{lists_total, nat_list_cmp_total, on_total, tied_itself}
 
@@ -21,10 +20,10 @@ pub name_cmp-same : (a b : List (List ℕ)) (answer : Bool) → answer ≡ point
 name_cmp-same a b answer is same = grind (arith, labels_decide, tied_itself, on_total, ℕ, lists_total, nat_list_cmp_total)
 
 -- the first that decides, of three
-then_assoc : (a b c : Ordering) → ordering_then (ordering_then a b) c ≡ ordering_then a (ordering_then b c)
+pub then_assoc : (a b c : Ordering) → ordering_then (ordering_then a b) c ≡ ordering_then a (ordering_then b c)
 then_assoc a b c = grind arith
 
-then_equal : (a : Ordering) → ordering_then a Equal ≡ a
+pub then_equal : (a : Ordering) → ordering_then a Equal ≡ a
 then_equal a = grind arith
 
 -- fronts that are as long decide first

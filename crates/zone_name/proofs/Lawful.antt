@@ -1,8 +1,6 @@
 -- The laws of the order and of what is printed.
-use Rattle.zone_name.proofs.Common.{◌≡◌, ◌≢◌, ℕ, ◌+◌, ◌/◌, ◌%◌, ◌<◌, Bool, true, false, ◌||◌, nat_eq, if◌then◌else◌, List, [], ◌∷◌, reverse, Option, div-add-mod', refl, sym, arith, map, flat_map, AllByRecursion, nat_cmp, pointwise, pointwise_decides, bytes_decides, slice_cmp, lists_ties, texts_ties, lists_total, reverse-reverse, length-map, nat_tests, IsFoldedOctet, IsLabel, IsName, folded_label, eqb-false, or_parts, name_cmp, Written, plain, escaped, decimal, text_of, octet_of, IsUnit, is_dot, IsWrittenLabel, written_text, written_octets, dotted, named, Writes, root, absolute, Spells, is_digit, is_special, is_printed, decimal_escape, octet_text, label_text, name_text, rules}
-use Rattle.std.specs.declared.cmp.Ordering.TheVariants.{Equal}
+use Rattle.zone_name.proofs.Common.{AllByRecursion, Bool, Equal, IsFoldedOctet, IsLabel, IsName, IsUnit, IsWrittenLabel, List, Option, Spells, Writes, Written, [], absolute, arith, bytes_decides, decimal, decimal_escape, div-add-mod', dotted, eqb-false, escaped, false, flat_map, folded_label, if◌then◌else◌, is_digit, is_dot, is_printed, is_special, label_text, length-map, lists_ties, lists_total, map, name_cmp, name_text, named, nat_cmp, nat_cmp_total, nat_eq, nat_tests, octet_of, octet_text, or_parts, plain, pointwise, pointwise_decides, refl, reverse, reverse-reverse, root, rules, slice_cmp, sym, text_of, texts_ties, true, written_octets, written_text, ℕ, ◌%◌, ◌+◌, ◌/◌, ◌<◌, ◌||◌, ◌∷◌, ◌≡◌, ◌≢◌}
 use Rattle.std.specs.Cmp.{IsTotalOrder, on_total}
-use Rattle.std.proofs.lemmas.Cmp.{nat_cmp_total}
 
 -- names that tie are equal
 pub name_cmp-exact : (a b : List (List ℕ)) → name_cmp a b ≡ Equal → a ≡ b
@@ -32,9 +30,6 @@ text_of-printed : (c : ℕ) → text_of (printed_octet c) ≡ octet_text c
 unfolding printed_octet
 text_of-printed c = printed_text (is_special c) (is_printed c) c
 
-decimal_value : (c : ℕ) → octet_of (decimal (48 + c / 100) (48 + c / 10 % 10) (48 + c % 10)) ≡ c
-decimal_value c = omega (arith, div-add-mod' c 100, div-add-mod' c 10, div-add-mod' (c / 10) 10)
-
 pub value_by : (special printed : Bool) (c : ℕ) → octet_of (written_by special printed c) ≡ c
 unfolding written_by
 value_by special printed c = grind arith
@@ -45,12 +40,6 @@ octet_of-printed c = value_by (is_special c) (is_printed c) c
 
 pub digit_test : (d : ℕ) → d < 10 → is_digit (48 + d) ≡ true
 digit_test d h = grind (arith, nat_tests)
-
-either : (a b : Bool) (P : Type 0) → (a ≡ true → P) → (b ≡ true → P) → (a || b) ≡ true → P
-either a b P f g e = grind arith
-
-plain_octets : (c : ℕ) → is_special c ≡ false → (is_dot c ≡ false) × (c ≢ 92)
-plain_octets c e = grind (arith, or_parts, eqb-false)
 
 written_is : (special printed : Bool) (c : ℕ) → c < 256 → is_special c ≡ special → IsUnit is_dot (written_by special printed c)
 unfolding written_by

@@ -2,10 +2,6 @@
 use Rattle.zone_name.proofs.Common.{ℕ, ◌+◌, ◌*◌, ◌≤◌, Bool, List, [], ◌∷◌, length, arith, length-append, flat_map, wire, with_length, decimal_escape, octet_text, label_text, name_text}
 use Rattle.std.specs.Prelude.{if◌then◌else◌}
 
--- at most a backslash and three digits
-pub octet_by : (special printed : Bool) (c : ℕ) → length (if special then 92 ∷ c ∷ [] else (if printed then c ∷ [] else decimal_escape c)) ≤ 4
-octet_by special printed c = grind arith
-
 octets_length : (label : List ℕ) → length (flat_map octet_text label) ≤ 4 * length label
 octets_length [] = omega arith
 octets_length (c ∷ label) = grind (arith, octets_length label)

@@ -1,10 +1,7 @@
 -- Names whose letters are folded or kept when they are read.
-use Rattle.zone_name.proofs.Common.{◌≡◌, ℕ, ◌+◌, ◌<◌, ◌≤◌, Bool, true, false, false≢true, Option, Some, None, Result, IfOk, IfErr, IfSome, Ok, Err, List, [], ◌∷◌, ◌++◌, length, map, flat_map, refl, sym, ap, ◌∙◌, arith, append_assoc, append-nil, length-append, flat_map-append, AllByRecursion, IsCasedLabel, IsCasedName, IsLabel, IsName, folded, folded_octet, with_length, wire, labels_of, Collects, under_origin, sized, HoldsCasedLabels, HoldsLabelsBy, HoldsNameBy, IsNameBy, lettered, lettered_in, name_read, origin_in, NameFault}
+use Rattle.zone_name.proofs.Common.{AllByRecursion, Bool, Collects, Err, Folded, HoldsCasedLabels, HoldsLabelsBy, HoldsNameBy, IfErr, IfOk, IfSome, IsCasedLabel, IsCasedName, IsLabel, IsName, IsNameBy, Kept, Letters, List, NameFault, NameTooLong, None, Ok, Option, Result, Some, [], ap, append-nil, append_assoc, arith, false, false≢true, flat_map, flat_map-append, folded, folded_octet, labels_of, length, length-append, lettered, lettered_in, map, name_read, origin_in, refl, sized, sym, true, under_origin, wire, with_length, ℕ, ◌++◌, ◌+◌, ◌<◌, ◌∙◌, ◌∷◌, ◌≡◌, ◌≤◌}
 use Rattle.zone_name.specs.Machine.Letters.{IsReadBy}
 use Rattle.zone_name.specs.Machine.Seen.{IsReadInto}
-use Rattle.zone_name.specs.declared.fault.NameFault.TheVariants.{NameTooLong}
-use Rattle.zone_name.specs.declared.reading.Letters.{Letters}
-use Rattle.zone_name.specs.declared.reading.Letters.TheVariants.{Kept, Folded}
 use Rattle.zone_name.specs.declared.reading.Spelled.{Spelled}
 use Rattle.zone_name.proofs.Octets.{labels_of-open, labels_of-root, labels_of-wire, labels_of-wire_cased, HoldsCasedName-root, HoldsCasedName-wire, HoldsName-root, HoldsName-wire}
 use Rattle.zone_name.proofs.Pushing.{AllByRecursion-append, HoldsLabels-frames, folded_frames, folded_labels, folded_size, sized-name, sized-long}

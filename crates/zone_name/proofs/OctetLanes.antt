@@ -1,10 +1,7 @@
 -- Lanes that are computed one by one from octets, and what their masks tell of the octets.
 use Rattle.std.proofs.Common.{◌≡◌, ℕ, ◌+◌, ◌*◌, ◌%◌, ◌^◌, ◌<◌, ◌≤◌, eqb, Bool, true, false, cond, not, ◌&&◌, List, [], ◌∷◌, map, length, take, drop, Fits, w8, refl, sym, ap, ap₂, ◌∙◌, arith, length-drop, take-add, drop-drop, take_at, length-append, ◌++◌}
-use Rattle.std.proofs.lemmas.Bool.{agree_below, agree_below_at, eqb-true, false≢true}
 use Rattle.std.proofs.lemmas.List.{drop_at, length-map, length-take-le, map-append, take-map, take-take}
-use Rattle.std.proofs.lemmas.Simd.{leading_from_mask_l, length-put_chunk, mask_l-mod, put_chunk_is, trailing_mask_l}
-use Rattle.std.specs.List.{list_all, prefix_len}
-use Rattle.zone_name.proofs.Common.{append_assoc}
+use Rattle.zone_name.proofs.Common.{agree_below, agree_below_at, append_assoc, eqb-true, false≢true, leading_from_mask_l, length-put_chunk, list_all, mask_l-mod, prefix_len, put_chunk_is, trailing_mask_l}
 use lib.Count.{count_trailing_zeros}
 use lib.Lanes.{Each1, chunk, mask_l, put_chunk, sel_l, top}
 

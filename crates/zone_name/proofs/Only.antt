@@ -1,6 +1,5 @@
 -- What a text spells, and its own first fault, is what the walk over it finds.
-use Rattle.zone_name.proofs.Common.{◌≡◌, ℕ, zero, suc, ◌+◌, ◌<◌, ◌≤◌, true, false, List, [], ◌∷◌, ◌++◌, length, Ok, Err, inl, inr, refl, sym, ap, ◌∙◌, arith, append_assoc, length-append, AllByRecursion, append-nil, length-map, le-leb, Written, text_of, octet_of, IsUnit, is_dot, IsWrittenLabel, AreWrittenLabels, written_text, written_octets, dotted, parted, kept, EndsLabel, Reaches, FaultAt, empty_label, long_label, bad_escape, NameFault, Ahead, at_dot, at_octet, at_fault, ahead_in, failed, step_at, read}
-use Rattle.zone_name.specs.declared.fault.NameFault.TheVariants.{EmptyLabel, LabelTooLong, BadEscape}
+use Rattle.zone_name.proofs.Common.{Ahead, AllByRecursion, AreWrittenLabels, BadEscape, EmptyLabel, EndsLabel, Err, FaultAt, IsUnit, IsWrittenLabel, LabelTooLong, List, NameFault, Ok, Reaches, Written, [], ahead_in, ap, append-nil, append_assoc, arith, at_dot, at_fault, at_octet, bad_escape, dotted, empty_label, failed, false, inl, inr, is_dot, kept, le-leb, length, length-append, length-map, long_label, octet_of, parted, read, refl, step_at, suc, sym, text_of, true, written_octets, written_text, zero, ℕ, ◌++◌, ◌+◌, ◌<◌, ◌∙◌, ◌∷◌, ◌≡◌, ◌≤◌}
 use Rattle.zone_name.specs.Machine.LabelWalk.{reading}
 use Rattle.zone_name.proofs.Ahead.{ahead-unit, ahead-bad}
 use Rattle.zone_name.proofs.Units.{text_of-some}

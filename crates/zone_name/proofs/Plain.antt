@@ -1,12 +1,6 @@
 -- A text without escapes, whose labels' lengths are written over the dots before them.
-use Rattle.std.proofs.Common.{get_or-drop}
-use Rattle.std.proofs.lemmas.Bool.{cases_lt, not-true}
-use Rattle.std.proofs.lemmas.Simd.{run_in_chunk_fails, run_in_chunk_le, run_in_chunk_stops, take_more_put_chunk}
-use Rattle.std.specs.List.{prefix_len}
 use lib.Lanes.{chunk, put_chunk}
-use Rattle.zone_name.proofs.Common.{not, subst, inl, inr, ◌||◌, ◌==◌, or_parts, eqb-false, take_at, ◌≡◌, ℕ, zero, suc, ◌+◌, ◌-◌, ◌<◌, ◌≤◌, Bool, true, false, List, [], ◌∷◌, ◌++◌, length, take, drop, get_or, set, Ok, nat_eq, refl, sym, ap, ap₂, ◌∙◌, arith, append_assoc, length-append, map, flat_map, AllByRecursion, pointwise, bytes_decides, append-nil, length-map, length-set, length-take-le, length-drop, map_push, take-append-drop, drop_at, drop_more, set_at, flat_map-append, IsCasedName, labels_of, with_length, Written, plain, IsUnit, is_dot, IsWrittenLabel, written_text, written_octets, dotted, parted, kept, reading, HoldsCasedLabels}
-use Rattle.zone_name.specs.Common.{AreOctets}
-use Rattle.zone_name.specs.Machine.Plain.{after_dots, is_plain, WritesLengths}
+use Rattle.zone_name.proofs.Common.{AllByRecursion, AreOctets, Bool, HoldsCasedLabels, IsCasedName, IsUnit, IsWrittenLabel, List, Ok, WritesLengths, Written, [], after_dots, ap, append-nil, append_assoc, ap₂, arith, bytes_decides, cases_lt, dotted, drop, drop_at, drop_more, eqb-false, false, flat_map, flat_map-append, get_or, get_or-drop, inl, inr, is_dot, is_plain, kept, labels_of, length, length-append, length-drop, length-map, length-set, length-take-le, map, map_push, nat_eq, not, not-true, or_parts, parted, plain, pointwise, prefix_len, reading, refl, run_in_chunk_fails, run_in_chunk_le, run_in_chunk_stops, set, set_at, subst, suc, sym, take, take-append-drop, take_at, take_more_put_chunk, true, with_length, written_octets, written_text, zero, ℕ, ◌++◌, ◌+◌, ◌-◌, ◌<◌, ◌==◌, ◌||◌, ◌∙◌, ◌∷◌, ◌≡◌, ◌≤◌}
 use Rattle.zone_name.proofs.Octets.{labels_of-open_cased}
 use Rattle.zone_name.proofs.Pushing.{AllByRecursion-append, HoldsCasedLabels-frames, frames_push}
 use Rattle.zone_name.proofs.Spelled.{AreShort, Says}

@@ -1,7 +1,6 @@
 -- The canonical spelling, label by label.
-use Rattle.zone_name.proofs.Common.{◌≡◌, ℕ, suc, ap₂, List, [], ◌∷◌, ◌++◌, refl, arith, append_assoc, flat_map, slice_index, EachIndex, octet_text, label_text}
+use Rattle.zone_name.proofs.Common.{EachIndex, IsShown, List, [], append_assoc, ap₂, arith, flat_map, label_text, octet_text, refl, slice_index, suc, ℕ, ◌++◌, ◌∷◌, ◌≡◌}
 use Rattle.std.proofs.Common.{le-leb}
-use Rattle.zone_name.specs.Machine.Shown.{IsShown}
 
 -- octets that spell themselves
 octet_text-shown : (c : ℕ) → IsShown c → octet_text c ≡ c ∷ []

@@ -1,9 +1,5 @@
 -- A label that is added after others.
-use Rattle.std.proofs.lemmas.Grind.{common_steps}
-use Rattle.zone_name.proofs.Common.{◌≡◌, ℕ, suc, ◌+◌, ◌<◌, ◌≤◌, Result, Ok, Err, refl, List, [], ◌∷◌, ◌++◌, length, take, drop, get_or, ap, ◌∙◌, arith, append_assoc, length-append, map, flat_map, AllByRecursion, refill, length-map, append-nil, take_all, take_at, map-append, flat_map-append, le-leb, lt-leb, false≢true, nat_tests, IsLabel, IsName, IsFoldedOctet, folded_octet, folded_label, with_length, wire, labels_of, HoldsName, HoldsLabels, HoldsCasedLabels, IsCasedLabel, IsCasedName, folded, sized}
-use Rattle.std.specs.Result.{IsOk, OnOk}
-use Rattle.std.specs.Char.{to_ascii_lowercase}
-use Rattle.zone_name.specs.declared.fault.NameFault.TheVariants.{NameTooLong}
+use Rattle.zone_name.proofs.Common.{AllByRecursion, Err, HoldsCasedLabels, HoldsLabels, HoldsName, IsCasedLabel, IsCasedName, IsFoldedOctet, IsLabel, IsName, IsOk, List, NameTooLong, Ok, OnOk, Result, [], ap, append-nil, append_assoc, arith, common_steps, drop, false≢true, flat_map, flat_map-append, folded, folded_label, folded_octet, get_or, labels_of, le-leb, length, length-append, length-map, lt-leb, map, map-append, nat_tests, refill, refl, sized, suc, take, take_all, take_at, to_ascii_lowercase, wire, with_length, ℕ, ◌++◌, ◌+◌, ◌<◌, ◌∙◌, ◌∷◌, ◌≡◌, ◌≤◌}
 use Rattle.zone_name.proofs.Octets.{labels_of-open, labels_of-open_cased, labels_of-wire, HoldsName-wire}
 
 -- each of the octets, by its place

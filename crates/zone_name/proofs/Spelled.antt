@@ -1,7 +1,5 @@
 -- What the walk over a text finds is what the text spells: from the left, as far as it has come.
-use Rattle.std.proofs.lemmas.Grind.{common_steps}
-use Rattle.zone_name.proofs.Common.{◌≡◌, ◌≢◌, ℕ, zero, suc, ◌<◌, ◌≤◌, Bool, true, false, nat_le, if◌then◌else◌, List, [], ◌∷◌, ◌++◌, length, codes, Result, Ok, Err, refl, sym, ◌∙◌, subst, inl, inr, arith, append_assoc, length-append, AllByRecursion, append-nil, map_push, length-map, nat_tests, Written, text_of, octet_of, IsUnit, is_dot, IsWrittenLabel, AreWrittenLabels, written_text, written_octets, dotted, parted, kept, Reaches, FaultAt, empty_label, long_label, bad_escape, NameFault, Ahead, at_end, at_dot, at_octet, at_fault, failed, goes, step_at, read}
-use Rattle.zone_name.specs.declared.fault.NameFault.TheVariants.{LabelTooLong}
+use Rattle.zone_name.proofs.Common.{Ahead, AllByRecursion, AreWrittenLabels, Bool, Err, FaultAt, IsUnit, IsWrittenLabel, LabelTooLong, List, NameFault, Ok, Reaches, Result, Written, [], append-nil, append_assoc, arith, at_dot, at_end, at_fault, at_octet, bad_escape, codes, common_steps, dotted, empty_label, failed, false, goes, if◌then◌else◌, inl, inr, is_dot, kept, length, length-append, length-map, long_label, map_push, nat_le, nat_tests, octet_of, parted, read, refl, step_at, subst, suc, sym, text_of, true, written_octets, written_text, zero, ℕ, ◌++◌, ◌<◌, ◌∙◌, ◌∷◌, ◌≡◌, ◌≢◌, ◌≤◌}
 use Rattle.zone_name.specs.Machine.LabelWalk.{reading}
 use Rattle.zone_name.proofs.Ahead.{IsAhead, ahead_is, Shrinks, ahead_shrinks}
 use Rattle.zone_name.proofs.Steps.{after_step, read_step}
@@ -37,9 +35,6 @@ parted_push : (before : List (List Written)) (label : List Written) → parted (
 parted_push [] label = refl
 parted_push (l ∷ []) label = join_more (written_text l) [] (written_text label)
 parted_push (l ∷ m ∷ ls) label = grind (arith, join_more, parted_push (m ∷ ls) label)
-
-regroup : (a b more : List ℕ) → a ++ b ++ 46 ∷ more ≡ a ++ (b ++ 46 ∷ []) ++ [] ++ more
-regroup a b more = grind (arith, append-nil, append_assoc)
 
 reaches_label : (text : List ℕ) (before : List (List Written)) (w : Written) (label : List Written) (rest more : List ℕ) → Reaches text before (w ∷ label) rest → rest ≡ 46 ∷ more → Reaches text (before ++ (w ∷ label) ∷ []) [] more
 reaches_label text before w label rest more r e = grind (arith, common_steps)

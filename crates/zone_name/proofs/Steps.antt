@@ -1,7 +1,5 @@
 -- The walk over a text: what was read so far, and what it leads to.
-use Rattle.std.proofs.lemmas.Grind.{common_steps}
-use Rattle.zone_name.proofs.Common.{◌≡◌, ℕ, zero, suc, ◌<◌, ◌≤◌, ◌||◌, Bool, false, List, [], ◌∷◌, ◌++◌, length, Result, Ok, Err, refl, sym, ap, ◌∙◌, inl, inr, arith, length-append, lt-leb, le-leb, flat_map-append, wire, IsBadEscape, EndsLabel, NameFault, Ahead, at_dot, at_octet, at_fault, ahead_in, Step, done, failed, goes, step_at, read, Collects, Closes, Joins, Goes, EndsInFault, RefusesLabel, empty, long, EndsLabelAt}
-use Rattle.zone_name.specs.declared.fault.NameFault.TheVariants.{EmptyLabel, LabelTooLong, NameTooLong, BadEscape, RelativeName}
+use Rattle.zone_name.proofs.Common.{Ahead, BadEscape, Bool, Closes, Collects, EmptyLabel, EndsInFault, EndsLabel, EndsLabelAt, Err, Goes, IsBadEscape, Joins, LabelTooLong, List, NameFault, NameTooLong, Ok, RefusesLabel, RelativeName, Result, Step, [], ahead_in, ap, arith, at_dot, at_fault, at_octet, common_steps, done, empty, failed, false, flat_map-append, goes, inl, inr, le-leb, length, length-append, long, lt-leb, read, refl, step_at, suc, sym, wire, zero, ℕ, ◌++◌, ◌<◌, ◌||◌, ◌∙◌, ◌∷◌, ◌≡◌, ◌≤◌}
 use Rattle.zone_name.specs.Machine.LabelWalk.{reading}
 use Rattle.zone_name.proofs.Ahead.{ahead_shrinks, ahead-bad}
 

@@ -1,6 +1,5 @@
 -- Written octets at the beginning of a text: what is read is so, and what is so is read.
-use Rattle.std.proofs.lemmas.Grind.{common_steps}
-use Rattle.zone_name.proofs.Common.{◌≡◌, ◌≢◌, ℕ, zero, suc, ◌≤◌, ◌<◌, Bool, true, false, ◌&&◌, ◌||◌, ◌==◌, nat_le, if◌then◌else◌, List, [], ◌∷◌, ◌++◌, length, Option, Some, None, refl, sym, ap, subst, arith, append_assoc, length-append, option_map, AllByRecursion, and_parts, or_parts, or_cases, eqb-true, eqb-false, ne_eqb, leb-true, le-leb, both_ways, cond_both, Written, plain, escaped, decimal, text_of, octet_of, written_text, IsEscape, IsUnit, IsBadEscape, BeginsWithEscape, BeginsWithUnit, is_digit, no_octet}
+use Rattle.zone_name.proofs.Common.{AllByRecursion, BeginsWithEscape, BeginsWithUnit, Bool, IsBadEscape, IsEscape, IsUnit, List, None, Option, Some, Written, [], and_parts, ap, append_assoc, arith, both_ways, common_steps, cond_both, decimal, eqb-false, eqb-true, escaped, false, if◌then◌else◌, is_digit, le-leb, leb-true, length, length-append, nat_le, ne_eqb, no_octet, octet_of, option_map, or_cases, or_parts, plain, refl, subst, suc, sym, text_of, true, written_text, zero, ℕ, ◌&&◌, ◌++◌, ◌<◌, ◌==◌, ◌||◌, ◌∷◌, ◌≡◌, ◌≢◌, ◌≤◌}
 use Rattle.std.specs.Prelude.{IfSome}
 use Rattle.zone_name.specs.Machine.Units.{decimal_first, digits_first, escape_first, unit_first, Units, units_then, units_by, units_first, valued}
 
@@ -36,9 +35,6 @@ is_decimal x y z = is_digit x && is_digit y && is_digit z && nat_le (octet_of (d
 
 passes : (x y z : ℕ) → IsEscape (decimal x y z) → is_decimal x y z ≡ true
 passes x y z is = rw (is.0, is.1, is.2) (le-leb (octet_of (decimal x y z)) 255 is.3)
-
-passed : (x y z : ℕ) → is_decimal x y z ≡ true → IsEscape (decimal x y z)
-passed x y z e = grind (arith, and_parts, nat_le, leb-true)
 
 no_escaped : (x : ℕ) (rest : List ℕ) → is_digit x ≡ false → (x == 10 || x == 13) ≡ true → (w : Written) (after : List ℕ) → IsEscape w → 92 ∷ x ∷ rest ≡ text_of w ++ after → ⊥
 no_escaped x rest d t w after is e = grind (arith, or_cases, eqb-true, both_ways)

@@ -1,12 +1,8 @@
 -- The spelling of a whole name: a dot over each length, where the octets of all labels spell
 -- themselves.
-use Rattle.std.proofs.Common.{cond, count_by, take-add}
 use Rattle.std.proofs.lemmas.List.Folds.{list_all-append}
 use Rattle.std.proofs.lemmas.List.Sums.{count_by-le-length, sum_by-append, sum_by-cons}
-use Rattle.std.proofs.lemmas.Simd.{put_chunk_is}
-use Rattle.std.specs.List.{list_all}
-use Rattle.zone_name.proofs.Common.{◌≡◌, ℕ, zero, suc, ◌+◌, ◌-◌, ◌<◌, ◌≤◌, Bool, true, false, ◌&&◌, List, [], ◌∷◌, ◌++◌, length, take, drop, get_or, set, refl, sym, ap, ap₂, ◌∙◌, subst, arith, append_assoc, length-append, flat_map, append-nil, and_parts, cases_Bool, drop_at, drop-drop, length-take, length-take-le, set_at, take-append-drop, take_at, is_dot, octet_text, label_text, name_text, with_length, wire, labels_of, BeginsWithName, HoldsName}
-use Rattle.zone_name.specs.Machine.Shown.{is_bare}
+use Rattle.zone_name.proofs.Common.{BeginsWithName, Bool, HoldsName, List, [], and_parts, ap, append-nil, append_assoc, ap₂, arith, cases_Bool, cond, count_by, drop, drop-drop, drop_at, false, flat_map, get_or, is_bare, is_dot, label_text, labels_of, length, length-append, length-take, length-take-le, list_all, name_text, octet_text, put_chunk_is, refl, set, set_at, subst, suc, sym, take, take-add, take-append-drop, take_at, true, wire, with_length, zero, ℕ, ◌&&◌, ◌++◌, ◌+◌, ◌-◌, ◌<◌, ◌∙◌, ◌∷◌, ◌≡◌, ◌≤◌}
 use lib.Lanes.{put_chunk}
 use Rattle.zone_name.proofs.Octets.{next_label, root_label, BeginsWithName-wire_append, labels_of-wire_append, length-labels}
 
@@ -46,10 +42,6 @@ none_taken (suc n) = refl
 some_left : (left : List ℕ) → BeginsWithName left → 0 < length left
 some_left [] begins = absurd (omega (arith, ap length (sym (none_taken (length (wire (labels_of [])))) ∙ begins.front), length-append (flat_map with_length (labels_of [])) (0 ∷ [])))
 some_left (n ∷ more) begins = omega arith
-
-pub dotted_inside : (old now : List ℕ) (at labels : ℕ) → Dotted old now at labels → at < length now
-dotted_inside old now at labels d =
-    omega (arith, ap length d.parts, length-append d.front d.left, d.place, some_left d.left d.begins)
 
 pub dotted_few : (old now : List ℕ) (at labels : ℕ) → Dotted old now at labels → BeginsWithName old → labels ≤ 127
 dotted_few old now at labels d begins = omega (arith, d.count, length-labels (labels_of old) begins.name)

@@ -33,18 +33,6 @@ middle_kept text kept last r held ttl class =
     cc (held.whole, held.len, middle_parts last, take_at (before_kind last) (kind_column last) (length (before_kind last)) refl) in
     record { whole = cc (front, same, middle_parts r); len = held.len ∙ ap length same }
 
-pub middle_same : (text : List ℕ) (kept : ℕ) (last r : Record) → HoldsMiddle text kept last → last.ttl ≡ r.ttl
-    → last.class ≡ r.class → last.kind ≡ r.kind → HoldsMiddle text kept r
-middle_same text kept last r held ttl class kind =
-    let same : before_kind last ≡ before_kind r = cc (ttl, class) in
-    let whole : line_middle last ≡ line_middle r = cc (ttl, class, kind) in
-    record { whole = held.whole ∙ whole; len = held.len ∙ ap length same }
-
-pub middle_made : (text : List ℕ) (kept : ℕ) (r : Record) → text ≡ before_kind r → kept ≡ length text
-    → HoldsMiddle (text ++ kind_column r) kept r
-middle_made text kept r front len =
-    record { whole = cc (front, middle_parts r); len = len ∙ ap length front }
-
 -- owner, middle and what follows them were pushed
 pub line_pushed : (old named numbered new owner middle : List ℕ) (r : Record) → owner ≡ name_text r.owner → middle ≡ line_middle r
     → named ≡ old ++ owner → numbered ≡ named ++ middle → new ≡ numbered ++ (data_text (data_of r) ++ 10 ∷ []) → new ≡ old ++ line r

@@ -1,10 +1,9 @@
 -- A record and the sets that are held: why it is refused, and what is held with it.
-use Rattle.zone_set.proofs.Common.{common_steps, ◌≡◌, ◌≢◌, ◌⊎◌, ◌↔◌, ℕ, ◌+◌, ◌-◌, ◌^◌, min, Bool, IsTrue, not, ◌==◌, eq-eqb, ne_eqb, if◌then◌else◌, List, [], ◌∷◌, refl, arith, inl, inr, AllByRecursion, Result, OnErr, Record, IsRecord, Placed, all_records, entry_record, HoldsEntries, IsEntry, IsPut, KeepsSets, Entry, Has, AreCompatible}
+use Rattle.zone_set.proofs.Common.{AllByRecursion, AreCompatible, Bool, Entry, Has, HoldsEntries, IsEntry, IsPut, IsRecord, IsTrue, KeepsSets, List, OnErr, Placed, Record, Result, [], all_records, arith, common_steps, entry_record, eq-eqb, if◌then◌else◌, inl, inr, message_len, message_octets, min, ne_eqb, not, refl, ℕ, ◌+◌, ◌-◌, ◌==◌, ◌^◌, ◌↔◌, ◌∷◌, ◌≡◌, ◌≢◌, ◌⊎◌}
 use Rattle.zone_set.proofs.Between.{Has-with}
 use Rattle.zone_set.proofs.Inserting.{AreCompatible-with}
 use Rattle.zone_set.proofs.Together.{each_Has, stable_number}
 use Rattle.zone_set.specs.Builder.{OtherClass, OtherSoa, OtherTtl, Accepts, Adds, StopsAdd, fault, memory, ttl as by_ttl}
-use Rattle.zone_set.specs.Message.{message_len, message_octets}
 use Rattle.zone_set.specs.Machine.Refusal.{IsRefusal, IsSetRefusal, stop_for}
 use Rattle.zone_set.specs.declared.refusal.Refusal.{Refusal}
 

@@ -1,6 +1,5 @@
 -- A record between its neighbours, among records that stand together.
-use Rattle.zone_set.proofs.Common.{◌≡◌, ◌≢◌, ◌⊎◌, ◌↔◌, ℕ, zero, suc, ◌<◌, Bool, true, false, IsTrue, List, [], ◌∷◌, ◌++◌, length, map, get_or, Option, Some, None, MatchOption, Ordering, Less, Equal, Greater, nat_cmp, nat_lt, refl, sym, ap, ◌∙◌, subst, arith, append_assoc, inl, inr, ⊎_elim, Bor, false≢true, nat_tests, ranked, map-append, AllByRecursion, IfSome, option_copied, is_lt, ordering_reverse, MatchOrdering, AllByRecursion-back, Record, OtherTtl, HasOtherTtl, canonical_cmp, Ascends, Has, AreCompatible, InOneSet}
-use Rattle.std.specs.List.Sorted.{IsPartitionedBy}
+use Rattle.zone_set.proofs.Common.{AllByRecursion, AllByRecursion-back, AreCompatible, Ascends, Bool, Bor, Equal, Greater, Has, HasOtherTtl, IfSome, InOneSet, IsPartitionedBy, IsTrue, Less, List, MatchOption, MatchOrdering, None, Option, Ordering, OtherTtl, Record, Some, [], ap, append_assoc, arith, canonical_cmp, false, false≢true, get_or, inl, inr, is_lt, length, map, map-append, nat_cmp, nat_lt, nat_tests, option_copied, ordering_reverse, ranked, refl, subst, suc, sym, true, zero, ⊎_elim, ℕ, ◌++◌, ◌<◌, ◌↔◌, ◌∙◌, ◌∷◌, ◌≡◌, ◌≢◌, ◌⊎◌}
 use Rattle.zone_set.proofs.SetOrder.{between_sets, canonical_total, exact_canonical}
 use Rattle.zone_set.proofs.Storing.{all_with}
 use Rattle.zone_set.proofs.Together.{each_Has, flipped, one_set, stable_number}

@@ -1,7 +1,6 @@
 -- Hints that differ tell that a record stands next to another.
-use Rattle.zone_set.proofs.Common.{◌≡◌, ℕ, ◌<◌, List, arith, Entry, IsEntry, IsHint, soa, before, within, after, entry_record}
+use Rattle.zone_set.proofs.Common.{Entry, IsEntry, IsHint, List, StandNext, after, arith, before, entry_record, soa, within, ℕ, ◌<◌, ◌≡◌}
 use Rattle.zone_set.proofs.Putting.{comparable}
-use Rattle.zone_set.specs.Machine.Bulk.{StandNext}
 
 -- an SOA has no hint but the least
 soa_hint : (base owner : List (List ℕ)) (kind hint : ℕ) → kind ≡ 6 → IsHint base owner kind hint → hint ≡ 0

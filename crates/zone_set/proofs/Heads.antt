@@ -1,9 +1,6 @@
 -- Heads that were read, of which the first are gone, and the next one as a slice lends it.
-use Rattle.zone_set.proofs.Common.{◌≡◌, ℕ, suc, nat_lt, true, List, ◌∷◌, length, take, drop, sym, ap, ◌∙◌, subst, AllByRecursion, AllByRecursion-back}
-use Rattle.std.specs.Prelude.{slice_index_or}
-use Rattle.std.proofs.Math.Seq.{drop-cons}
+use Rattle.zone_set.proofs.Common.{AllByRecursion, AllByRecursion-back, List, ap, drop, drop-cons, length, nat_lt, slice_index_or, subst, suc, sym, take, take-append-drop, true, ℕ, ◌∙◌, ◌∷◌, ◌≡◌}
 use Rattle.std.proofs.lemmas.Bool.{ltb-true}
-use Rattle.std.proofs.lemmas.List.{take-append-drop}
 
 module _ {X : Type 0} (xs lent : List X) (same : lent ≡ xs) (k : ℕ) (x : X) (within : true ≡ nat_lt k (length lent)) (is : x ≡ slice_index_or lent k x) where
   -- it is the first of those that are left

@@ -1,8 +1,7 @@
 -- The hint has the order of records as far as it tells them apart.
-use Rattle.zone_set.proofs.Common.{◌≡◌, ◌≢◌, ◌⊎◌, ℕ, ◌*◌, ◌^◌, ◌<◌, ◌==◌, if◌then◌else◌, List, [], ◌++◌, Ordering, Less, Equal, Greater, nat_cmp, refl, sym, ap, ap₂, ◌∙◌, subst, arith, eq-eqb, ne_eqb, nat_cmp_total, tied_itself, AllByRecursion, ordering_then, ordering_reverse, name_cmp-exact, name_cmp-total, AllByRecursion-front, IsLabel, IsName, IsWithin, name_cmp, data_cmp, Record, data_of, first_digits, IsHint, AreDigits, soa, before, within, after, owner_key, canonical_cmp}
+use Rattle.zone_set.proofs.Common.{AllByRecursion, AllByRecursion-front, AreDigits, Equal, Greater, IsHint, IsLabel, IsName, IsWithin, Less, List, Ordering, Record, [], after, ap, ap₂, arith, before, canonical_cmp, data_cmp, data_of, eq-eqb, first_digits, if◌then◌else◌, name_cmp, name_cmp-exact, name_cmp-total, nat_cmp, nat_cmp_total, ne_eqb, ordering_reverse, ordering_then, owner_key, refl, soa, subst, sym, then_assoc, tied_itself, within, ℕ, ◌*◌, ◌++◌, ◌<◌, ◌==◌, ◌^◌, ◌∙◌, ◌≡◌, ◌≢◌, ◌⊎◌}
 use Rattle.zone_set.proofs.Digits.{first_digits-bound, first_digits-less}
 use Rattle.zone_set.proofs.LabelKey.{owner_low, owners_embed}
-use Rattle.zone_set.proofs.Numbers.{then_assoc}
 use Rattle.zone_set.proofs.Within.{below_after, same_ending, within_between}
 
 -- an owner that is neither below the base nor before it

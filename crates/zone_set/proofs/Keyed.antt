@@ -1,10 +1,6 @@
 -- Entries whose hints were set aside while they were sorted.
-use Rattle.zone_set.proofs.Common.{◌≡◌, ℕ, List, [], ◌∷◌, ◌++◌, ◌<◌, ◌+◌, length, map, map-append, take, refl, sym, ap, ◌∙◌, subst, Entry}
+use Rattle.zone_set.proofs.Common.{Entry, IsPermutation, IsPermutation-map, List, [], ap, length, map, map-append, refl, subst, sym, take, take_more_set, with_hint, ℕ, ◌++◌, ◌+◌, ◌<◌, ◌∙◌, ◌∷◌, ◌≡◌}
 use Rattle.std.proofs.Math.ListN.{set}
-use Rattle.std.proofs.lemmas.List.{take_more_set}
-use Rattle.std.proofs.lemmas.List.Sorted.{IsPermutation-map}
-use Rattle.std.specs.List.Sorted.{IsPermutation}
-use Rattle.zone_set.specs.Machine.Bulk.{with_hint}
 
 -- an entry from its parts
 abbrev pub of : ℕ → ℕ → Entry

@@ -1,6 +1,5 @@
 -- The key of labels has the order of the labels.
-use Rattle.zone_set.proofs.Common.{◌≡◌, ℕ, ◌+◌, ◌<◌, List, [], ◌∷◌, ◌++◌, reverse, nat_cmp, refl, sym, ap, ◌∙◌, subst, arith, nat_tests, reverse-append, slice_cmp, flat_map, AllByRecursion, ordering_then, AreOctets, IsFoldedOctet, IsLabel, label_cmp, name_cmp, AllByRecursion-append, AreDigits, label_key, owner_key}
-use Rattle.zone_set.proofs.Numbers.{then_assoc}
+use Rattle.zone_set.proofs.Common.{AllByRecursion, AllByRecursion-append, AreDigits, AreOctets, IsFoldedOctet, IsLabel, List, [], ap, arith, flat_map, label_cmp, label_key, name_cmp, nat_cmp, nat_tests, ordering_then, owner_key, refl, reverse, reverse-append, slice_cmp, subst, sym, then_assoc, ℕ, ◌++◌, ◌+◌, ◌<◌, ◌∙◌, ◌∷◌, ◌≡◌}
 
 next_cmp : (c d : ℕ) → nat_cmp (c + 1) (d + 1) ≡ nat_cmp c d
 next_cmp c d = grind (arith, nat_tests)

@@ -1,12 +1,7 @@
 -- One more record that is listed.
-use Rattle.zone_set.proofs.Common.{◌≡◌, ℕ, Bool, IsTrue, not, true, false, ◌↔◌, ◌⊎◌, ◌≢◌, ◌==◌, inl, inr, ⊎_elim, eq-eqb, ne_eqb, List, [], ◌∷◌, ◌++◌, length, refl, sym, ap, ap₂, ◌∙◌, subst, arith, append_assoc, append-nil, map-append, if◌then◌else◌, AllByRecursion, AllByRecursion-append, flat_map, Record, IsRecord, Placed, Entry, IsEntry, IsHint, entry_record, stored}
-use Rattle.std.proofs.lemmas.List.{length-map}
-use Rattle.zone_rdata.specs.declared.fault.Place.{Place}
+use Rattle.zone_set.proofs.Common.{AllByRecursion, AllByRecursion-append, Bool, Entry, IsEntry, IsHint, IsRecord, IsRow, IsTrue, KeepsList, List, OtherClass, Place, Placed, Record, [], ap, append-nil, append_assoc, ap₂, arith, entry_record, eq-eqb, false, flat_map, if◌then◌else◌, inl, inr, length, length-map, listed, map-append, ne_eqb, not, records_of, refl, stored, subst, sym, true, ⊎_elim, ℕ, ◌++◌, ◌==◌, ◌↔◌, ◌∙◌, ◌∷◌, ◌≡◌, ◌≢◌, ◌⊎◌}
 use Rattle.zone_set.proofs.Adding.{other_class_told}
-use Rattle.zone_set.specs.Builder.{OtherClass}
 use Rattle.zone_set.proofs.Storing.{each_kept, record_kept, records_kept, entry_appended, record_appended}
-use Rattle.zone_set.specs.Machine.Bulk.{listed, IsRow, KeepsList}
-use Rattle.zone_set.specs.Refusal.{records_of}
 
 -- what is listed stays where more octets follow
 listed_kept : (class : ℕ) (octets more : List ℕ) (base : List (List ℕ)) (es : List Entry) (ps : List Place) → AllByRecursion (IsEntry base class octets) es → listed class (octets ++ more) es ps ≡ listed class octets es ps

@@ -1,19 +1,8 @@
 -- Records that are listed as they come.
-use Rattle.zone_set.proofs.Common.{◌≡◌, ◌↔◌, ◌⊎◌, inl, inr, ⊎_elim, ℕ, List, [], ◌∷◌, ◌++◌, refl, sym, subst, arith, AllByRecursion, Record, IsRecord, Placed, Entry, all_records, AreCompatible, Has, Refused}
-use Rattle.zone_rdata.specs.declared.fault.Place.{Place}
+use Rattle.zone_set.proofs.Common.{AddsEach, AllAccepted, AllByRecursion, AreCompatible, Entry, Fault, Has, IsRecord, IsRefusedFor, IsSettledAs, KeepsList, List, Place, Placed, Record, Refused, SameRecords, StopsSettling, [], all_records, arith, inl, inr, listed, records_of, refl, refused, subst, sym, ⊎_elim, ℕ, ◌++◌, ◌↔◌, ◌∷◌, ◌≡◌, ◌⊎◌}
 use Rattle.zone_set.proofs.Inserting.{AreCompatible-with}
 use Rattle.zone_set.proofs.Neighbours.{AllAccepted-from_compatible}
-use Rattle.zone_rdata.specs.declared.fault.Fault.{Fault}
-use Rattle.zone_set.specs.Builder.{AddsEach, IsRefusedFor}
 use Rattle.zone_set.specs.Builder as builder
-use Rattle.zone_set.specs.Machine.Bulk.{listed, KeepsList}
-use Rattle.zone_set.specs.Refusal.{AllAccepted, records_of}
-use Rattle.zone_set.specs.ZoneList.{IsSettledAs, StopsSettling, refused}
-use Rattle.zone_set.specs.Zone.{SameRecords}
-
--- nothing was listed
-pub KeepsList-none : (class : ℕ) (base : List (List ℕ)) → KeepsList class base [] [] []
-KeepsList-none class base = record { each = tt; row = record { classes = tt; whole = tt; kept = refl; stand = refl }; all = refl }
 
 -- entries that were settled are of the records that were listed
 pub IsSettledAs-sorted : (class : ℕ) (base : List (List ℕ)) (octets : List ℕ) (es fs : List Entry) (places : List Place) (held : List Record) → KeepsList class base octets es places → SameRecords (all_records class octets fs) (all_records class octets es) → AreCompatible (all_records class octets fs) → held ≡ all_records class octets fs → IsSettledAs (listed class octets es places) held

@@ -1,14 +1,6 @@
 -- What records take in messages, told by the octets that keep them.
-use Rattle.zone_set.proofs.Common.{common_steps, ◌≡◌, ℕ, ◌+◌, ◌≤◌, Bool, true, false, List, [], ◌∷◌, length, if◌then◌else◌, refl, sym, ap, ◌∙◌, subst, arith, length-append, flat_map, Record, Placed, Entry, all_records, entry_record, stored}
-use Rattle.std.proofs.lemmas.List.{length-map}
-use Rattle.std.proofs.lemmas.List.Sorted.{sum_by-IsPermutation, IsPermutation-map}
+use Rattle.zone_set.proofs.Common.{Bool, Entry, IsPermutation, IsPermutation-map, KeepsList, List, Place, Placed, Record, [], all_records, ap, arith, common_steps, dedup, dedup_from, entry_record, false, flat_map, if◌then◌else◌, length, length-append, length-map, listed, message_len, message_octets, records_of, refl, stored, subst, sum_by-IsPermutation, sym, true, ℕ, ◌+◌, ◌∙◌, ◌∷◌, ◌≡◌, ◌≤◌}
 use Rattle.std.proofs.lemmas.List.Sums.{sum_by-cons}
-use Rattle.std.specs.List.{dedup, dedup_from}
-use Rattle.std.specs.List.Sorted.{IsPermutation}
-use Rattle.zone_rdata.specs.declared.fault.Place.{Place}
-use Rattle.zone_set.specs.Machine.Bulk.{listed, KeepsList}
-use Rattle.zone_set.specs.Message.{message_len, message_octets}
-use Rattle.zone_set.specs.Refusal.{records_of}
 
 -- a record takes one octet more in a message than what keeps it
 stored_len : (r : Record) → message_len r ≡ length (stored r) + 1

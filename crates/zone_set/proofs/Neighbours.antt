@@ -1,11 +1,8 @@
 -- Records of which the neighbours show that all can stand together, and the list that they came in.
-use Rattle.zone_set.proofs.Common.{◌≡◌, ◌≢◌, ℕ, List, [], ◌∷◌, ◌++◌, Less, Equal, Greater, refl, sym, ap, ◌∙◌, subst, inl, inr, ⊎_elim, map-append, nat_list_cmp_total, exact_bytes, tied_itself, AllByRecursion, Record, IsRecord, Ascends, canonical_cmp, Has, InOneSet, AreCompatible, Placed}
+use Rattle.zone_set.proofs.Common.{AllAccepted, AllByRecursion, AreCompatible, AreNeighbours, Ascends, Equal, Greater, Has, InOneSet, IsRecord, Less, List, Placed, Record, SameRecords, [], ap, canonical_cmp, exact_bytes, inl, inr, map-append, nat_list_cmp_total, records_of, refl, subst, sym, tied_itself, ⊎_elim, ℕ, ◌++◌, ◌∙◌, ◌∷◌, ◌≡◌, ◌≢◌}
 use Rattle.zone_set.proofs.Between.{Has-append, later_all}
 use Rattle.zone_set.proofs.SetOrder.{between_sets, canonical_total, stable}
 use Rattle.zone_set.proofs.Together.{each_Has, flipped, soa_first, stable_number, stable_owner}
-use Rattle.zone_set.specs.Machine.Bulk.{AreNeighbours}
-use Rattle.zone_set.specs.Refusal.{AllAccepted, records_of}
-use Rattle.zone_set.specs.Zone.{SameRecords}
 
 -- each before the next: each before all that follow
 pub Ascends-from_neighbours : (rs : List Record) → AreNeighbours rs → Ascends rs

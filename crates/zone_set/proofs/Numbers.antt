@@ -1,8 +1,5 @@
 -- Octets that are compared as numbers.
-use Rattle.zone_set.proofs.Common.{common_steps, ◌≡◌, ℕ, zero, suc, ◌+◌, ◌*◌, ◌<◌, List, [], ◌∷◌, length, take, drop, Ordering, Equal, nat_cmp, refl, sym, subst, ap, ◌∙◌, arith, length-take-le, nat_cmp_is, slice_cmp, from_be_bytes, w64, ordering_then, AreLow, low_take}
-
-pub then_assoc : (o p q : Ordering) → ordering_then (ordering_then o p) q ≡ ordering_then o (ordering_then p q)
-then_assoc o p q = grind arith
+use Rattle.zone_set.proofs.Common.{AreLow, Equal, List, Ordering, [], ap, arith, common_steps, drop, from_be_bytes, length, length-take-le, low_take, nat_cmp, nat_cmp_is, ordering_then, refl, slice_cmp, subst, suc, sym, take, then_assoc, w64, zero, ℕ, ◌*◌, ◌+◌, ◌<◌, ◌∙◌, ◌∷◌, ◌≡◌}
 
 -- the number of octets that go on from another
 abbrev number_on : ℕ → List ℕ → ℕ

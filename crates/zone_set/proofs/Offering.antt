@@ -1,13 +1,8 @@
 -- Records that are read back in the order in which they came.
-use Rattle.zone_set.proofs.Common.{◌≡◌, ℕ, List, [], ◌∷◌, ◌++◌, length, map, take, drop, refl, sym, ap, ◌∙◌, subst, append_assoc, append-nil, take_at, drop_at, AllByRecursion, AllByRecursion-append, flat_map, Record, IsRecord, read_record, record_from, stored, IsStored, Placed, StopsAdd}
-use Rattle.zone_rdata.specs.declared.fault.Place.{Place}
-use Rattle.zone_rdata.specs.declared.fault.Stop.{Stop}
+use Rattle.zone_set.proofs.Common.{Accepts, Adds, AddsEach, AllByRecursion, AllByRecursion-append, IsRecord, IsRow, IsSettledAs, IsStored, List, Place, Placed, Record, Stop, StopsAdd, StopsSettling, [], ap, append-nil, append_assoc, drop, drop_at, fault, flat_map, length, map, memory, read_record, record_from, refl, span, span_len, stored, subst, sym, take, take_at, ℕ, ◌++◌, ◌∙◌, ◌∷◌, ◌≡◌}
 use Rattle.zone_set.proofs.Repeats.{span_len-stored}
 use Rattle.zone_set.proofs.Storing.{read_stored}
 use Rattle.zone_set.proofs.Taking.{AddsEach-push}
-use Rattle.zone_set.specs.Builder.{Accepts, Adds, AddsEach, memory, fault}
-use Rattle.zone_set.specs.Machine.Bulk.{span, span_len, IsRow}
-use Rattle.zone_set.specs.ZoneList.{IsSettledAs, StopsSettling}
 use Rattle.zone_set.specs.ZoneList as zone_list
 use Rattle.zone_set.proofs.Listing.{IsSettledAs-offered, StopsSettling-offered}
 

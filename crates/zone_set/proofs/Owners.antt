@@ -1,14 +1,8 @@
 -- Owners that differ in their first labels alone.
-use Rattle.zone_set.proofs.Common.{◌≡◌, ℕ, List, [], ◌∷◌, Ordering, Less, Equal, Greater, nat_cmp, refl, sym, ap, ap₂, ◌∙◌, subst, append-nil, slice_cmp, ordering_then, IsName, labels_of, wire, label_cmp, name_cmp}
+use Rattle.zone_set.proofs.Common.{AreFirst, Equal, Greater, IsFirst, IsName, Less, List, Ordering, [], ap, append-nil, ap₂, label_cmp, labels_of, name_cmp, nat_cmp, ordering_then, refl, slice_cmp, subst, sym, then_equal, wire, ℕ, ◌∙◌, ◌∷◌, ◌≡◌}
 use Rattle.zone_name.proofs.Octets.{next_label, BeginsWithName-wire_append}
 use Rattle.zone_name.specs.Name.{BeginsWithName}
 use Rattle.zone_set.proofs.Within.{same_ending}
-use Rattle.zone_set.specs.Machine.Owner.{AreFirst, IsFirst}
-
-then_equal : (o : Ordering) → ordering_then o Equal ≡ o
-then_equal Less = refl
-then_equal Equal = refl
-then_equal Greater = refl
 
 -- a name whose octets begin with a label
 begins_with : (x : List (List ℕ)) (octets label rest : List ℕ) → IsName x → octets ≡ wire x → labels_of octets ≡ x → IsFirst octets label rest → x ≡ label ∷ labels_of rest

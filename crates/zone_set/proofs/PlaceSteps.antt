@@ -1,6 +1,5 @@
 -- Places that are kept as steps: one more at the end.
-use Rattle.zone_set.proofs.Common.{◌≡◌, ◌≢◌, ℕ, List, [], ◌∷◌, ◌++◌, refl, sym, ap, ◌∙◌, arith, append-nil}
-use Rattle.zone_rdata.specs.declared.fault.Place.{Place}
+use Rattle.zone_set.proofs.Common.{List, Place, [], ap, append-nil, arith, refl, sym, ℕ, ◌++◌, ◌∙◌, ◌∷◌, ◌≡◌, ◌≢◌}
 use Rattle.zone_set.specs.Machine.Places.{next_place, far_left, stepped, LeadTo, IsStepTo, near, whole}
 
 -- more far places after those that are there change no step

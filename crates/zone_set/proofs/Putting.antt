@@ -1,6 +1,5 @@
 -- A record that is put among entries: where it is sought, what its neighbours tell, and what is held with it.
-use Rattle.zone_set.proofs.Common.{◌≡◌, ◌≢◌, ℕ, Bool, true, false, List, [], ◌∷◌, ◌++◌, length, map, sym, ap, ◌∙◌, subst, arith, map-append, All, AllByRecursion, AllByRecursion-back, AllByRecursion-front, IsParting, is_lt, Record, IsRecord, data_of, all_records, entry_record, HasOtherTtl, HoldsEntries, IsComparable, IsEntry, IsPut, IsHint, stored, canonical_cmp, Ascends, covered_octets, Entry}
-use Rattle.std.proofs.lemmas.List.Elements.{All-from_recursion, recursion_from_All}
+use Rattle.zone_set.proofs.Common.{All, All-from_recursion, AllByRecursion, AllByRecursion-back, AllByRecursion-front, Ascends, Bool, Entry, HasOtherTtl, HoldsEntries, IsComparable, IsEntry, IsHint, IsParting, IsPut, IsRecord, List, Record, [], all_records, ap, arith, canonical_cmp, covered_octets, data_of, entry_record, false, is_lt, length, map, map-append, recursion_from_All, stored, subst, sym, true, ℕ, ◌++◌, ◌∙◌, ◌∷◌, ◌≡◌, ◌≢◌}
 use Rattle.zone_set.proofs.Adding.{class_of}
 use Rattle.zone_set.proofs.Between.{each_before, none_before, parted, Parts}
 use Rattle.zone_set.proofs.HintOrder.{hint_orders, one_hint}

@@ -1,17 +1,9 @@
 -- Entries of which those of equal records were dropped, or that were moved.
-use Rattle.zone_set.proofs.Common.{common_steps, ◌≡◌, ℕ, Bool, true, false, List, [], ◌∷◌, ◌++◌, length, map, take, refl, sym, ap, ◌∙◌, ◌==◌, false≢true, subst, inl, inr, ⊎_elim, arith, append_assoc, take_at, AllByRecursion, Record, IsRecord, read_record, length-append, all_records, entry_record, stored, Entry, IsEntry, IsLinked, Has, AreCompatible}
-use Rattle.std.proofs.lemmas.List.Elements.{All-from_recursion, recursion_from_All}
-use Rattle.std.proofs.lemmas.List.Sorted.{All-permutation, IsPermutation-sym}
-use Rattle.std.proofs.lemmas.Slice.Eq.{bytes_eq-Decides}
-use Rattle.std.proofs.lemmas.Nat.{from_be_bytes-to_be_bytes_2}
-use Rattle.std.specs.List.{dedup, dedup_from}
+use Rattle.zone_set.proofs.Common.{All-from_recursion, All-permutation, AllByRecursion, AreCompatible, AreNeighbours, Bool, Entry, Has, IsEntry, IsLinked, IsPermutation, IsPermutation-sym, IsRecord, List, Record, SameRecords, [], all_records, ap, append_assoc, arith, bytes_eq-Decides, common_steps, dedup, dedup_from, entry_record, false, false≢true, from_be_bytes-to_be_bytes_2, inl, inr, is_repeat, length, length-append, map, read_record, recursion_from_All, refl, span, span_len, stored, subst, sym, take, take_at, true, ⊎_elim, ℕ, ◌++◌, ◌==◌, ◌∙◌, ◌∷◌, ◌≡◌}
 use Rattle.std.specs.Prelude.{if◌then◌else◌}
-use Rattle.std.specs.List.Sorted.{IsPermutation}
 use Rattle.zone_set.proofs.Adding.{classes}
 use Rattle.zone_set.proofs.Neighbours.{AreCompatible-from_neighbours}
 use Rattle.zone_set.proofs.Storing.{read_stored}
-use Rattle.zone_set.specs.Machine.Bulk.{is_repeat, span, span_len, AreNeighbours}
-use Rattle.zone_set.specs.Zone.{SameRecords}
 
 -- so many octets keep a record
 pub span_len-stored : (r : Record) (after : List ℕ) → IsRecord r → span_len (stored r ++ after) ≡ length (stored r)

@@ -1,6 +1,5 @@
 -- A record is read back from the octets that keep it, and stays where more are appended.
-use Rattle.zone_set.proofs.Common.{common_steps, ◌≡◌, ℕ, ◌<◌, List, [], ◌∷◌, ◌++◌, length, drop, refl, sym, ap, ◌∙◌, arith, append_assoc, append-nil, take_at, drop_at, drop-append-le, AllByRecursion, labels_of-wire, Record, IsRecord, all_records, entry_record, IsEntry, IsLinked, IsHint, record_from, read_record, stored, IsStored, Entry}
-use Rattle.std.proofs.lemmas.Nat.{from_be_bytes-to_be_bytes_2, from_be_bytes-to_be_bytes_4}
+use Rattle.zone_set.proofs.Common.{AllByRecursion, Entry, IsEntry, IsHint, IsLinked, IsRecord, IsStored, List, Record, [], all_records, ap, append-nil, append_assoc, arith, common_steps, drop, drop-append-le, drop_at, entry_record, from_be_bytes-to_be_bytes_2, from_be_bytes-to_be_bytes_4, labels_of-wire, length, read_record, record_from, refl, stored, sym, take_at, ℕ, ◌++◌, ◌<◌, ◌∙◌, ◌∷◌, ◌≡◌}
 
 -- the record whose octets these begin with
 pub read_stored : (r : Record) (after : List ℕ) → IsRecord r → read_record r.class (stored r ++ after) ≡ r

@@ -1,13 +1,9 @@
 -- Records taken from a source, one after another.
-use Rattle.zone_set.proofs.Common.{◌≡◌, Bool, true, false, List, [], ◌∷◌, ◌++◌, Option, Some, None, Ok, Err, refl, ap, sym, ◌∙◌, subst, append_assoc, append-nil, rules, arith, Record, Refused, Memory, Placed}
+use Rattle.zone_set.proofs.Common.{Bool, Err, Fault, List, ListsAll, Memory, None, Ok, Option, Place, Placed, Record, Refused, Some, Stop, StopsListing, [], ap, append-nil, append_assoc, arith, false, refl, rules, subst, sym, true, ◌++◌, ◌∙◌, ◌∷◌, ◌≡◌}
 use Rattle.zone_rdata.specs.RrSource.{Pending, answer_of, after, first_of, others}
-use Rattle.zone_rdata.specs.declared.fault.Fault.{Fault}
-use Rattle.zone_rdata.specs.declared.fault.Place.{Place}
-use Rattle.zone_rdata.specs.declared.fault.Stop.{Stop}
 use Rattle.zone_set.specs.Builder.{Accepts, Adds, AddsEach, StopsAdd, leaves, StopsTaking, fault, failure, memory, refused as by_fault, ending as by_ending}
 use Rattle.zone_set.specs.Machine.Bulk as bulk
 use Rattle.zone_set.specs.ZoneList as zone_list
-use Rattle.zone_set.specs.ZoneList.{ListsAll, StopsListing}
 
 -- one more at the end
 pub AddsEach-push : (old mid : List Record) (taken : List Placed) (p : Placed) (new : List Record) → AddsEach old taken mid → Accepts mid p.rr → Adds mid p.rr new → AddsEach old (taken ++ p ∷ []) new
@@ -28,10 +24,6 @@ first_parts failed records ending p is = grind arith
 -- a record that is lent is the next answer
 pub lent_first : (failed : Bool) (records : List Placed) (ending : Option (Fault × Place)) (p : Placed) → Some p ≡ first_of (record { failed = failed; records = records; ending = ending }) → answer_of (record { failed = failed; records = records; ending = ending }) ≡ Ok (Some p)
 lent_first failed records ending p is = grind arith
-
--- a source that works and has no record left
-none_left : (failed : Bool) (records : List Placed) (ending : Option (Fault × Place)) (o : Option Placed) → None ≡ first_of (record { failed = failed; records = records; ending = ending }) → answer_of (record { failed = failed; records = records; ending = ending }) ≡ Ok o → (failed ≡ false) × (records ≡ []) × (ending ≡ None)
-none_left failed records ending o none is = grind arith
 
 -- an answer with a fault: the source failed, or the fault at its end
 data Stopped (pending : Pending) : Stop → Type 0 where

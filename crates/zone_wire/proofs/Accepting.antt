@@ -2,9 +2,6 @@
 use Rattle.zone_wire.proofs.Common.{AllByRecursion, AreStatedMessages, List, Placed, Record, StatedMessage, [], ap, append-nil, append_assoc, arith, cond-true, false, filter, filter-append, flat_map, frame, handed_on, length, list_any, map, not, or_from, refl, rules, ℕ, ◌++◌, ◌+◌, ◌==◌, ◌||◌, ◌∙◌, ◌∷◌, ◌≡◌, ◌≢◌, ◌≤◌, common_steps}
 use Rattle.zone_wire.proofs.Answering.{OpensWith, is_soa, InOrder, differ}
 
-pub all_append : {X : Type 0} (P : X → Type 0) (xs ys : List X) → AllByRecursion P xs → AllByRecursion P ys → AllByRecursion P (xs ++ ys)
-all_append P xs ys each also = grind (arith, common_steps)
-
 -- records in order, in two parts
 pub in_order_parts : (zone : Record) (before xs ys : List Placed) → InOrder zone before (xs ++ ys) → InOrder zone before xs × InOrder zone (before ++ xs) ys
 in_order_parts zone before [] ys order = search rules

@@ -36,10 +36,6 @@ give_alike {questions = questions} {before = before} others other is (states {p 
 give_alike others other is (refused (inl fault)) = refused (inl fault)
 give_alike {questions = questions} {before = before} others other is (refused {fault = fault} (inr bad)) = refused (inr (bad.0, bad.1, order_alike questions others before other bad.0 fault is bad.2))
 
--- questions more
-zone_more : (asked other more : List QuestionAt) → zone_of asked [] ≡ zone_of other [] → zone_of (asked ++ more) [] ≡ zone_of (other ++ more) []
-zone_more asked other more e = grind arith
-
 module _ (before other : List StatedMessage) (is : AreAlike before other) where
   alike_answers : (questions : List QuestionAt) → Alike (asked_in before ++ questions) (asked_in other ++ questions) (placed_in before) (placed_in other)
   alike_answers questions = grind arith

@@ -16,9 +16,6 @@ record_words octets offset a each is = grind arith
 class_by : (n : ℕ) → n < 65536 → is_no_class n ≡ false → IsClass n
 class_by n few e = grind arith
 
-abbrev record_with : RecordAt → List ℕ → Result Record Fault
-record_with a canonical = Ok (record { owner = a.owner; class = a.class; kind = a.kind; ttl = ttl_of a.ttl; octets = canonical })
-
 -- an answer that stands in octets
 module _ (octets : List ℕ) (each : Bytes octets) (few : length octets ≤ 65535) where
   -- by itself it is refused with its first fault

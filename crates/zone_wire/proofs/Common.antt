@@ -1,21 +1,23 @@
 -- The names that proofs here cite most: of definitions, and of std.
-pub use Rattle.std.proofs.Common.{Bool, List, [], ap, append_assoc, arith, false, get_or-drop, inl, inr, length, length-append, lit<, lit≤, nat_eq, nat_le, nat_lt, refl, rules, subst, suc, sym, true, vec_len, zero, ℕ, ◌%◌, ◌*◌, ◌++◌, ◌+◌, ◌-◌, ◌/◌, ◌<◌, ◌^◌, ◌∙◌, ◌∷◌, ◌≡◌, ◌≢◌, ◌≤◌}
+pub use Rattle.std.proofs.Common.{Bool, List, [], ap, append_assoc, ap₂, arith, false, get_or-drop, inl, inr, length, length-append, lit<, lit≤, nat_eq, nat_le, nat_lt, refl, rules, subst, suc, sym, take-add, true, vec_len, zero, ℕ, ◌%◌, ◌*◌, ◌++◌, ◌+◌, ◌-◌, ◌/◌, ◌<◌, ◌^◌, ◌∙◌, ◌∷◌, ◌≡◌, ◌≢◌, ◌≤◌}
 pub use Rattle.std.proofs.lemmas.Bool.{and_cases, and_from, and_parts, cases_lt, cond-false, cond-true, cond_both, eq-eqb, eqb-true, false_from_ne_true, false≢true, le-leb, le-ltb, leb-false, leb-true, lt-leb, lt-ltb, ltb-false, ltb-true, not-false, not-true, or_cases, or_from, or_left, or_parts, or_right}
 pub use Rattle.std.proofs.lemmas.Bool.Decides.{nat_tests}
 pub use Rattle.std.proofs.lemmas.Grind.{common_steps}
-pub use Rattle.std.proofs.lemmas.List.{append-nil, drop-drop, drop-take, drop_all, drop_more, get_or-take, length-drop, length-map, length-take, length-take-le, map-append, reverse-reverse, take-append-drop, take_all}
+pub use Rattle.std.proofs.lemmas.List.{append-nil, drop-drop, drop-take, drop_all, drop_at, drop_more, get_or-take, length-drop, length-map, length-set, length-take, length-take-le, map-append, reverse-reverse, take-append-drop, take-map, take-take, take_all, take_at, take_more_set}
 pub use Rattle.std.proofs.lemmas.List.Concat.{flat_map-append}
 pub use Rattle.std.proofs.lemmas.List.Elements.{filter-append}
 pub use Rattle.std.proofs.lemmas.Nat.{be_bytes_2, be_bytes_4, from_be_bytes-to_be_bytes_2, from_be_bytes-to_be_bytes_4}
 pub use Rattle.std.proofs.lemmas.Result.{IfOk-weaker, err_from_is_err_and, on_ok_weaker}
+pub use Rattle.std.proofs.lemmas.Simd.{chunk-fits, length-chunk, length-put_chunk, length-replicate, map-map, splat_is_map, take_more_put_chunk, zip2_of_maps, zip2_splat}
 pub use Rattle.std.specs.Cmp.Lexicographic.{bytes_decides, pointwise, pointwise_decides}
 pub use Rattle.std.specs.Int.{from_be_bytes, to_be_bytes, w16, w32}
 pub use Rattle.std.specs.List.{AllByRecursion, filter, flat_map, list_all, list_any}
 pub use Rattle.std.specs.Option.{option_or, unwrap_or}
 pub use Rattle.std.specs.Prelude.{Err, IfErr, IfOk, IfSome, IsErr, IsOk, IsTrue, MatchOption, MatchResult, None, Ok, Option, Result, Some, drop, get_or, if◌then◌else◌, is_some, map, not, reverse, slice_get, slice_index, take, ⊤, ◌&&◌, ◌==◌, ◌||◌, ◌↔◌, ◌⊎◌}
-pub use Rattle.zone_name.proofs.Pushing.{AllByRecursion-append, IsLabel-folded}
+pub use Rattle.zone_name.proofs.Octets.{labels_of-open, labels_of-open_cased, length-frames}
+pub use Rattle.zone_name.proofs.Pushing.{AllByRecursion-append, HoldsLabels-frames, HoldsLabels-nil, HoldsName-finish, IsLabel-folded, folded_frames, folded_labels, frames_push, labels_of-finish, labels_of-none}
 pub use Rattle.zone_name.specs.Common.{EitherIs, IsVerdict}
-pub use Rattle.zone_name.specs.Name.{IsLabel, IsName, folded_octet, wire, with_length}
+pub use Rattle.zone_name.specs.Name.{HoldsLabels, IsCasedLabel, IsLabel, IsName, folded, folded_label, folded_octet, labels_of, wire, with_length}
 pub use Rattle.zone_rdata.proofs.Building.{octets_push}
 pub use Rattle.zone_rdata.proofs.Bytes.{Bytes, back_bytes, bytes_append, front_bytes}
 pub use Rattle.zone_rdata.proofs.Failings.{IfErr-fault, fault_answered, if_fault_passed}
@@ -57,6 +59,7 @@ pub use Rattle.zone_wire.specs.Machine.Feeding.{Follow, Going, IsCut}
 pub use Rattle.zone_wire.specs.Machine.Finding.{Outcome, Says, after_label, after_pointer, named, refused}
 unfoldable pub use Rattle.zone_wire.specs.Machine.Finding.{outcome}
 pub use Rattle.zone_wire.specs.Machine.Parsing.{AreRecordsAt, HasRecordsFrom, IsParsed, name_end_of, parsed, part_end_of, raw_from, records_or_none, run_end_of, sections_or_none}
+pub use Rattle.zone_wire.specs.Machine.Runs.{IsNamed, IsRun, Leads}
 pub use Rattle.zone_wire.specs.Machine.Sections.{after_header, and_then, at_offset, each_from, inside, question_at, questions_from, record_at, records_from, to_the_end, unless_faulted}
 unfoldable pub use Rattle.zone_wire.specs.Machine.Sections.{header_fault, sections_of}
 pub use Rattle.zone_wire.specs.Machine.Spot.{spot_of}

@@ -42,9 +42,6 @@ pub record HaveValues (from to : Cursor) (fields : List Field) (old now : Built)
 plain_ready : (c : Cursor) (b : Built) (field : Field) → field ≢ Strings → Awaits c b field → IsReadyFor c b field
 plain_ready c b field other w = grind arith
 
-strings_next : (n : ℕ) → part_at (Strings ∷ []) n ≡ Some Strings
-strings_next n = grind arith
-
 plain_parts : (field : Field) (value : FieldValue) → field ≢ Strings → Holds field value → parts_for value ≡ value ∷ []
 plain_parts field value other held = grind arith
 
@@ -96,9 +93,6 @@ module _ (from : Cursor) (fields : List Field) (old : Built) (laid : layout old.
 
   pub field_bad : (to : Cursor) (now : Built) (count : ℕ) (field : Field) (fault : Fault) → slice_get fields count ≡ Some field → HaveValues from to fields old now count → next_value to field ≡ Err fault → values_at from.message.now from.end from.at fields ≡ Err fault
   field_bad to now count field fault here h e = h.fails fault (ap (values_at from.message.now from.end to.at) (from_here fields count field here) ∙ and_then_err (value_at from.message.now from.end to.at field) fault _ (from_next to now count field _ h e))
-
-  pub left_over : (to : Cursor) (now : Built) (count : ℕ) → slice_get fields count ≡ None → to.at ≢ to.end → HaveValues from to fields old now count → values_at from.message.now from.end from.at fields ≡ Err BadRdata
-  left_over to now count here some h = grind (arith, common_steps)
 
   parts_whole : (fs : List Field) (values : List FieldValue) → HoldEach fs values → length fs ≤ length (flat_map parts_for values)
   parts_whole [] [] held = omega arith

@@ -10,9 +10,6 @@ ended_inside message offset each (refused fault steps) e end ends = cc
 pub name_ends_inside : (message : List ℕ) (offset : ℕ) → ((k : ℕ) → get_or message k 0 < 256) → (end : ℕ) → Ok end ≡ name_end_of (outcome message (walk message offset)) → end ≤ length message
 name_ends_inside message offset each end ends = grind (arith, ended_inside)
 
-same_end : {X : Type 0} (x : X) (r : Result (List X × ℕ) (Fault × ℕ)) → run_end_of (and_then r (λ others. Ok (x ∷ others.0, others.1))) ≡ run_end_of r
-same_end x r = grind arith
-
 -- one more of so many records
 pub records_go_on : (octets : List ℕ) (count done offset next : ℕ) → done < count → Ok next ≡ part_end_of (λ r. r.end) (record_at octets offset) → run_end_of (records_from octets (count - done) offset) ≡ run_end_of (records_from octets (count - (done + 1)) next)
 records_go_on octets count done offset next h e = grind arith

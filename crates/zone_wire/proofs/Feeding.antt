@@ -115,15 +115,12 @@ fed_more piece rest taken old mid new each s going some within cut dropped count
         let none : ⊥ = cc in
         absurd none
 
-take_whole : {X : Type 0} (xs : List X) → take (length xs) xs ≡ xs
+pub take_whole : {X : Type 0} (xs : List X) → take (length xs) xs ≡ xs
 take_whole xs = grind (arith, common_steps)
 
 -- what a part of a list up to its end is
 pub rest_taken : {X : Type 0} (n : ℕ) (xs : List X) → take (length xs - n) (drop n xs) ≡ drop n xs
 rest_taken n xs = ap (λ k. take k (drop n xs)) (sym (length-drop n xs)) ∙ take_whole (drop n xs)
-
-pub all_taken : {X : Type 0} (xs : List X) → take (length xs) xs ≡ xs
-all_taken xs = take_whole xs
 
 pub empty_of : {X : Type 0} (xs : List X) → length xs ≡ 0 → xs ≡ []
 empty_of xs e = grind (arith, common_steps)

@@ -1,6 +1,5 @@
 -- The data of a record is read as the values that stand there.
-use Rattle.zone_wire.proofs.Common.{AreFieldsAt, AreStrings, AreValuesAt, Fault, Field, FieldValue, Found, HoldEach, Holds, IsDataAt, IsValueAt, List, MatchOption, Name, None, Octets, Ok, OneString, Option, Outcome, RecordAt, Result, Some, Strings, StringsLast, U16, [], and_from, and_then, ap, arith, common_steps, cond-true, data_at, eq-eqb, field_at, field_octets, fixed, flat_map, from_be_bytes, from_be_bytes-to_be_bytes_2, from_be_bytes-to_be_bytes_4, get_or, layout, le-leb, length, lt-ltb, name, name_before, named, octets_between, octets_of, refl, rules, sized_before, slice_index, string, strings, strings_before, suc, sym, table_row, take, take_all, to_be_bytes, u16_value, u32_value, value_at, values_at, w16, w32, with_length, ℕ, ◌+◌, ◌<◌, ◌^◌, ◌∙◌, ◌∷◌, ◌≡◌, ◌≤◌}
-use Rattle.zone_name.proofs.Octets.{length-frames}
+use Rattle.zone_wire.proofs.Common.{AreFieldsAt, AreStrings, AreValuesAt, Fault, Field, FieldValue, Found, HoldEach, Holds, IsDataAt, IsValueAt, List, MatchOption, Name, None, Octets, Ok, OneString, Option, Outcome, RecordAt, Result, Some, Strings, StringsLast, U16, [], and_from, and_then, ap, arith, common_steps, cond-true, data_at, eq-eqb, field_at, field_octets, fixed, flat_map, from_be_bytes, from_be_bytes-to_be_bytes_2, from_be_bytes-to_be_bytes_4, get_or, layout, le-leb, length, length-frames, lt-ltb, name, name_before, named, octets_between, octets_of, refl, rules, sized_before, slice_index, string, strings, strings_before, suc, sym, table_row, take, take_all, to_be_bytes, u16_value, u32_value, value_at, values_at, w16, w32, with_length, ℕ, ◌+◌, ◌<◌, ◌^◌, ◌∙◌, ◌∷◌, ◌≡◌, ◌≤◌}
 use Rattle.zone_rdata.proofs.StringFields.{strings_back}
 use Rattle.zone_wire.proofs.Sectioning.{and_then_ok}
 use Rattle.zone_wire.proofs.Walking.{name_walks}

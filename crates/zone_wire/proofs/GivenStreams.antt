@@ -1,7 +1,6 @@
 -- What a stream is read as is what is found in it, and records.
-use Rattle.zone_wire.proofs.Common.{AllByRecursion, AnswersGive, Bytes, Fault, FaultAfter, IsFramed, IsRecord, List, Option, Place, Placed, QuestionAt, ReadAfter, RecordAt, StatedMessage, StreamDecides, StreamReads, [], flat_map, frame, front_bytes, handed_on, no_more, reads, refl, states, stops, stream_records, subst, sym, whole, ℕ, arith}
+use Rattle.zone_wire.proofs.Common.{AllByRecursion, AnswersGive, Bytes, Fault, FaultAfter, IsFramed, IsRecord, List, Option, Place, Placed, QuestionAt, ReadAfter, RecordAt, StatedMessage, StreamDecides, StreamReads, [], flat_map, frame, front_bytes, handed_on, no_more, reads, refl, states, stops, stream_records, subst, sym, whole, ℕ, arith, AllByRecursion-append}
 use Rattle.zone_wire.specs.AnswerFault.{refused}
-use Rattle.zone_wire.proofs.Accepting.{all_append}
 use Rattle.zone_wire.proofs.Conditions.{unless_each}
 use Rattle.zone_wire.proofs.GivenMessages.{records_show}
 use Rattle.zone_wire.proofs.ReadRecords.{handed_fit}
@@ -32,7 +31,7 @@ fault_fit before octets e given = grind (arith, unless_each, give_fit)
 
 all_fit : {before : List StatedMessage} {messages : List (List ℕ)} {placed : List Placed} {ending : Option (Fault × Place)} → ReadAfter before messages placed ending → Fit placed
 all_fit whole = tt
-all_fit (reads {p = p} {placed = placed} is rest) = all_append (λ (x : Placed). IsRecord x.rr) p.placed placed (give_fit is.gives) (all_fit rest)
+all_fit (reads {p = p} {placed = placed} is rest) = AllByRecursion-append (λ (x : Placed). IsRecord x.rr) p.placed placed (give_fit is.gives) (all_fit rest)
 all_fit (stops {before = before} {octets = octets} {placed = placed} {fault = fault} {offset = offset} is) = fault_fit before octets (placed, fault, offset) is
 
 pub read_fits : (stream : List ℕ) (placed : List Placed) (ending : Option (Fault × Place)) → StreamReads stream placed ending → Fit placed

@@ -1,6 +1,6 @@
 -- A transfer is read as its records.
-use Rattle.zone_wire.proofs.Common.{AllByRecursion, AnswersGive, AnswersState, AreStatedMessages, AsksFor, AsksIn, HasFirstId, IsReadAfter, IsStatedMessage, List, None, Placed, QuestionAt, ReadAfter, Record, RecordAt, Sections, StatedMessage, StreamReads, StreamStates, [], ap, append-nil, arith, asked_in, cond-true, eq-eqb, flat_map, frame, handed_on, is_closed, length, length-append, list_any, lit<, no_more, octets_in, or_left, or_right, placed_in, reads, refl, states, subst, sym, true, whole, zone_of, ℕ, ◌++◌, ◌+◌, ◌∙◌, ◌∷◌, ◌≡◌}
-use Rattle.zone_wire.proofs.Accepting.{all_append, in_order_parts, opens_more, any_append, rest_in_order, framed_parts, short_parts, handed_transfer}
+use Rattle.zone_wire.proofs.Common.{AllByRecursion, AnswersGive, AnswersState, AreStatedMessages, AsksFor, AsksIn, HasFirstId, IsReadAfter, IsStatedMessage, List, None, Placed, QuestionAt, ReadAfter, Record, RecordAt, Sections, StatedMessage, StreamReads, StreamStates, [], ap, append-nil, arith, asked_in, cond-true, eq-eqb, flat_map, frame, handed_on, is_closed, length, length-append, list_any, lit<, no_more, octets_in, or_left, or_right, placed_in, reads, refl, states, subst, sym, true, whole, zone_of, ℕ, ◌++◌, ◌+◌, ◌∙◌, ◌∷◌, ◌≡◌, AllByRecursion-append}
+use Rattle.zone_wire.proofs.Accepting.{in_order_parts, opens_more, any_append, rest_in_order, framed_parts, short_parts, handed_transfer}
 use Rattle.zone_wire.proofs.Answering.{OpensWith, is_soa, InOrder, follows_comes}
 use Rattle.zone_wire.proofs.GivenMessages.{placed_grow, asked_grow}
 
@@ -19,7 +19,7 @@ asks_in zone before placed (q ∷ questions) asked opens ask = grind (arith, ask
 
 -- a message of a transfer after others
 stated_is_read : (id : ℕ) (zone : Record) (number : ℕ) (before : List StatedMessage) (p : StatedMessage) → number ≡ length before + 1 → IsStatedMessage id zone number p → AllByRecursion (λ (q : StatedMessage). q.sections.id ≡ id) before → AllByRecursion (AsksFor zone) (asked_in before) → OpensWith zone (placed_in before) → InOrder zone (placed_in before) p.placed → IsReadAfter before p
-stated_is_read id zone number before p count is ids asked opens order = grind (arith, first_id, asks_in, asked_in, placed_in, give_in_order, all_append)
+stated_is_read id zone number before p count is ids asked opens order = grind (arith, first_id, asks_in, asked_in, placed_in, give_in_order, AllByRecursion-append)
 
 parts_are_read : (id : ℕ) (zone : Record) (parts before : List StatedMessage) (number : ℕ) → number ≡ length before + 1 → AreStatedMessages id zone number parts → AllByRecursion (λ (q : StatedMessage). q.sections.id ≡ id) before → AllByRecursion (AsksFor zone) (asked_in before) → OpensWith zone (placed_in before) → InOrder zone (placed_in before) (placed_in parts) → ReadAfter before (octets_in parts) (placed_in parts) None
 parts_are_read id zone [] before number count are ids asked opens order = whole
@@ -30,8 +30,8 @@ parts_are_read id zone (p ∷ parts) before number count are ids asked opens ord
     let placed = placed_grow before p in
     reads (stated_is_read id zone number before p count are.0 ids asked opens orders.0)
     (parts_are_read id zone parts (before ++ p ∷ []) (number + 1) (omega (arith, count, length-append before (p ∷ []))) are.1
-    (all_append (λ (q : StatedMessage). q.sections.id ≡ id) before (p ∷ []) ids (are.0.same_id, tt))
-    (subst (AllByRecursion (AsksFor zone)) questions (all_append (AsksFor zone) (asked_in before) s.questions asked are.0.questions))
+    (AllByRecursion-append (λ (q : StatedMessage). q.sections.id ≡ id) before (p ∷ []) ids (are.0.same_id, tt))
+    (subst (AllByRecursion (AsksFor zone)) questions (AllByRecursion-append (AsksFor zone) (asked_in before) s.questions asked are.0.questions))
     (subst (OpensWith zone) placed (opens_more zone (placed_in before) p.placed opens orders.0))
     (subst (λ x. InOrder zone x (placed_in parts)) placed orders.1))
 

@@ -7,9 +7,6 @@ use Rattle.zone_wire.proofs.Answering.{names_same, records_same}
 use Rattle.zone_wire.proofs.GivenMessages.{asked_grow, placed_grow}
 use Rattle.zone_wire.proofs.ReadAnswers.{names_equal, records_equal}
 
-pub some_of : {X : Type 0} (o : Option X) → is_some o ≡ true → (x : X) × (o ≡ Some x)
-some_of o e = grind arith
-
 pub none_of : {X : Type 0} (o : Option X) → is_some o ≡ false → o ≡ None
 none_of o e = grind arith
 
@@ -19,9 +16,6 @@ here_at rr number offset = record { rr = rr; place = Message number offset }
 -- the opening SOA is handed on
 pub opening_gains : (questions : List QuestionAt) (placed : List Placed) (rr : Record) (offset : ℕ) (old mid new : Transfer) → Among questions placed old → is_some old.opening ≡ false → mid.opening ≡ Some rr → zone_held mid.zone ≡ zone_with (zone_held old.zone) rr → mid ≡ record old { zone = mid.zone; opening = mid.opening } → new ≡ record mid { decided = new.decided } → new.decided.placed ≡ mid.decided.placed ++ here_at rr mid.messages offset ∷ [] → Gains (here_at rr old.messages offset ∷ []) questions placed old new
 opening_gains questions placed rr offset old mid new among none opening zone mid_is new_is items = grind (arith, common_steps)
-
-abbrev not_soa : Placed → Bool
-not_soa p = not (p.rr.kind == 6)
 
 pub closing_gains : (questions : List QuestionAt) (placed : List Placed) (p : Placed) (old new : Transfer) → Among questions placed old → is_some old.opening ≡ true → p.rr.kind ≡ 6 → new ≡ record old { closed = true } → Gains (p ∷ []) questions placed old new
 closing_gains questions placed p old new among some soa is = grind (arith, common_steps)

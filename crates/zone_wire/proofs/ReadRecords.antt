@@ -9,26 +9,6 @@ abbrev pub IsRow : Option (List Field) → Type 0
 IsRow None = ⊤
 IsRow (Some fields) = AllByRecursion (λ field. field ≢ Strings) fields ⊎ (fields ≡ Strings ∷ [])
 
-abbrev unstrung : List Field → Bool
-unstrung fields = list_all (λ field. not (is_strings field)) fields
-
-abbrev strings_alone : List Field → Bool
-strings_alone [] = false
-strings_alone (field ∷ []) = is_strings field
-strings_alone (field ∷ other ∷ fields) = false
-
-none_strings : (fields : List Field) → unstrung fields ≡ true → AllByRecursion (λ field. field ≢ Strings) fields
-none_strings [] e = tt
-none_strings (field ∷ fields) e =
-    let both = and_parts (not (is_strings field)) (unstrung fields) e in
-    (λ same. cc, none_strings fields both.1)
-
-alone : (fields : List Field) → strings_alone fields ≡ true → fields ≡ Strings ∷ []
-alone fields e = grind arith
-
-row_of : (fields : List Field) → (unstrung fields || strings_alone fields) ≡ true → IsRow (Some fields)
-row_of fields e = grind (arith, none_strings)
-
 pub each_row : (class kind : ℕ) → IsRow (layout class kind)
 each_row class kind = grind arith
 

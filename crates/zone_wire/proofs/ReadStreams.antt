@@ -1,7 +1,7 @@
 -- A stream that is read without a fault is a transfer.
-use Rattle.zone_wire.proofs.Common.{AllByRecursion, AnswersGive, AnswersState, AreRead, AreStatedMessages, AsksFor, AsksIn, Bool, Bytes, ComesAfter, Fault, IsReadAfter, List, None, Option, Place, Placed, QuestionAt, ReadAfter, Record, RecordAt, Some, StatedMessage, StreamReads, StreamStates, ZoneAsked, [], ap, append-nil, append_assoc, arith, asked_in, back_bytes, end_fault, eq-eqb, eqb-true, false, flat_map, frame, front_bytes, is_closed, length, length-append, list_any, no_more, octets_in, option_or, placed_in, reads, refl, states, stops, subst, suc, sym, true, whole, zone_of, ℕ, ⊤, ◌++◌, ◌+◌, ◌||◌, ◌∙◌, ◌∷◌, ◌≡◌, ◌≢◌, ◌≤◌, common_steps}
+use Rattle.zone_wire.proofs.Common.{AllByRecursion, AnswersGive, AnswersState, AreRead, AreStatedMessages, AsksFor, AsksIn, Bool, Bytes, ComesAfter, Fault, IsReadAfter, List, None, Option, Place, Placed, QuestionAt, ReadAfter, Record, RecordAt, Some, StatedMessage, StreamReads, StreamStates, ZoneAsked, [], ap, append-nil, append_assoc, arith, asked_in, back_bytes, end_fault, eq-eqb, eqb-true, false, flat_map, frame, front_bytes, is_closed, length, length-append, list_any, no_more, octets_in, option_or, placed_in, reads, refl, states, stops, subst, suc, sym, true, whole, zone_of, ℕ, ⊤, ◌++◌, ◌+◌, ◌||◌, ◌∙◌, ◌∷◌, ◌≡◌, ◌≢◌, ◌≤◌, common_steps, AllByRecursion-append}
 use Rattle.zone_wire.specs.AnswerFault.{refused}
-use Rattle.zone_wire.proofs.Accepting.{all_append, any_append, framed_parts, handed_transfer}
+use Rattle.zone_wire.proofs.Accepting.{any_append, framed_parts, handed_transfer}
 use Rattle.zone_wire.proofs.Answering.{is_soa}
 use Rattle.zone_wire.proofs.GivenMessages.{placed_grow, asked_grow}
 
@@ -32,7 +32,7 @@ OfOneZone questions placed = (zone : ZoneAsked) × OfZone zone questions placed
 one_question : (questions : List QuestionAt) (placed : List Placed) (q : QuestionAt) → AsksIn (zone_of questions placed) q → OfOneZone questions placed → OfOneZone (questions ++ q ∷ []) placed
 one_question [] [] q ask of = (record { name = q.name; class = q.class }, record { asked = (record { kind = ask.kind; agrees = (refl, refl) }, tt); opens = tt })
 one_question [] (opening ∷ placed) q ask of = grind arith
-one_question (first ∷ questions) placed q ask of = grind (arith, all_append)
+one_question (first ∷ questions) placed q ask of = grind (arith, AllByRecursion-append)
 
 -- at most one question
 questions_in_zone : (questions : List QuestionAt) (placed : List Placed) (asked : List QuestionAt) → length asked ≤ 1 → AllByRecursion (AsksIn (zone_of questions placed)) asked → OfOneZone questions placed → OfOneZone (questions ++ asked) placed
@@ -66,7 +66,7 @@ OfOneId before = (id : ℕ) × AllByRecursion (λ (p : StatedMessage). p.section
 
 id_more : (before : List StatedMessage) (p : StatedMessage) → IsReadAfter before p → OfOneId before → OfOneId (before ++ p ∷ [])
 id_more [] p is of = (p.sections.id, (refl, tt))
-id_more (first ∷ before) p is of = grind (arith, all_append)
+id_more (first ∷ before) p is of = grind (arith, AllByRecursion-append)
 
 zone_more : (before : List StatedMessage) (p : StatedMessage) → IsReadAfter before p → OfOneZone (asked_in before) (placed_in before) → OfOneZone (asked_in (before ++ p ∷ [])) (placed_in (before ++ p ∷ []))
 zone_more before p is of = grind (arith, asked_in, records_in_zone, placed_in, questions_in_zone, asked_grow, placed_grow)

@@ -1,16 +1,9 @@
 -- Labels that are copied into a room, and the name that is made of them.
-use Rattle.std.proofs.Common.{ap₂, take-add}
-use Rattle.std.proofs.lemmas.List.{drop_at, drop_more, length-set, take-map, take-take, take_at, take_more_set}
-use Rattle.std.proofs.lemmas.Simd.{length-put_chunk, take_more_put_chunk}
 use Rattle.std.specs.Char.{to_ascii_lowercase}
-use Rattle.zone_name.proofs.Octets.{labels_of-open, labels_of-open_cased}
-use Rattle.zone_name.proofs.Pushing.{HoldsLabels-frames, folded_frames, folded_labels}
-use Rattle.zone_name.specs.Name.{HoldsLabels, IsCasedLabel, folded, labels_of}
-use Rattle.zone_wire.proofs.Common.{AllByRecursion, AllByRecursion-append, IsLabel, IsName, List, [], ap, append-nil, append_assoc, arith, drop, drop-drop, flat_map, flat_map-append, folded_octet, get_or, length, length-append, length-drop, length-map, length-take-le, map, map-append, octets_between, refl, subst, sym, take, with_length, ℕ, ◌+◌, ◌++◌, ◌-◌, ◌<◌, ◌≤◌, ◌∙◌, ◌∷◌, ◌≡◌}
+use Rattle.zone_wire.proofs.Common.{AllByRecursion, AllByRecursion-append, HoldsLabels, HoldsLabels-frames, IsCasedLabel, IsLabel, IsName, IsRun, List, [], ap, append-nil, append_assoc, ap₂, arith, drop, drop-drop, drop_at, drop_more, flat_map, flat_map-append, folded, folded_frames, folded_labels, folded_octet, get_or, labels_of, labels_of-open, labels_of-open_cased, length, length-append, length-drop, length-map, length-put_chunk, length-set, length-take-le, map, map-append, octets_between, refl, subst, sym, take, take-add, take-map, take-take, take_at, take_more_put_chunk, take_more_set, with_length, ℕ, ◌++◌, ◌+◌, ◌-◌, ◌<◌, ◌∙◌, ◌∷◌, ◌≡◌, ◌≤◌}
 use Rattle.zone_wire.proofs.FieldReading.{part_len}
 use Rattle.zone_wire.proofs.Walking.{wire-octets}
 use Rattle.zone_wire.specs.Machine.Room.{IsRoom}
-use Rattle.zone_wire.specs.Machine.Runs.{IsRun}
 use lib.Lanes.{chunk, put_chunk}
 use lib.ListN.{set}
 

@@ -1,13 +1,8 @@
 -- Runs of labels, and the names that they lead through.
-use Rattle.std.proofs.Common.{ap₂}
-use Rattle.zone_name.proofs.Octets.{labels_of-open_cased}
-use Rattle.zone_name.proofs.Pushing.{frames_push}
-use Rattle.zone_name.specs.Name.{IsCasedLabel, folded, folded_label, labels_of}
-use Rattle.zone_wire.proofs.Common.{AllByRecursion-append, At, Bytes, IsLabelAt, IsName, IsPointerAt, List, None, Option, Some, Spot, [], ap, append-nil, append_assoc, arith, at_pointer, at_root, bytes_each, drop, label, label_at, length, length-append, length-drop, length-take-le, map-append, octets_between, pointer, refl, root, slice_index, standing_in, subst, suc, sym, take, unwrap_or, with_length, ℕ, ◌+◌, ◌-◌, ◌++◌, ◌<◌, ◌≤◌, ◌∙◌, ◌∷◌, ◌≡◌}
+use Rattle.zone_wire.proofs.Common.{AllByRecursion-append, At, Bytes, IsCasedLabel, IsLabelAt, IsName, IsNamed, IsPointerAt, IsRun, Leads, List, None, Option, Some, Spot, [], ap, append-nil, append_assoc, ap₂, arith, at_pointer, at_root, bytes_each, drop, folded, folded_label, frames_push, label, label_at, labels_of, labels_of-open_cased, length, length-append, length-drop, length-take-le, map-append, octets_between, pointer, refl, root, slice_index, standing_in, subst, suc, sym, take, unwrap_or, with_length, ℕ, ◌++◌, ◌+◌, ◌-◌, ◌<◌, ◌∙◌, ◌∷◌, ◌≡◌, ◌≤◌}
 use Rattle.zone_wire.proofs.FieldReading.{between_first, between_join}
 use Rattle.zone_wire.proofs.Spots.{Shows, standing_shows}
 use Rattle.zone_wire.proofs.Walking.{drop_each, take_each}
-use Rattle.zone_wire.specs.Machine.Runs.{IsNamed, IsRun, Leads}
 
 same_at : {message : List ℕ} {offset bound : ℕ} {labels other : List (List ℕ)} {end steps more pointers others : ℕ} → labels ≡ other → steps ≡ more → pointers ≡ others
     → At message offset bound labels end steps pointers → At message offset bound other end more others
@@ -84,14 +79,6 @@ run_alone message offset size each here =
       folds = ap folded (ap labels_of (label_part message offset size here ∙ sym (append-nil (with_length raw)))
           ∙ labels_of-open_cased (raw ∷ []) (cased message offset size each here, tt));
     }
-
--- the start
-pub leads_start : (message : List ℕ) (offset : ℕ) → Leads message offset offset 0 None []
-leads_start message offset = record {
-  steps = 0;
-  few = omega arith;
-  on = λ rest past more others h. same_at refl (let e : more ≡ 0 + more = omega arith in e) (let e : others ≡ 0 + others = omega arith in e) h;
-}
 
 module _ {message : List ℕ} {offset start past pointers : ℕ} {end : Option ℕ} {labels : List (List ℕ)}
     (met : Leads message offset start pointers end labels) (run : IsRun message start past) where

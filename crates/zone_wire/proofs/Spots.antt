@@ -83,9 +83,6 @@ not_long a h = grind (arith, nat_tests)
 high : (a : ℕ) → 192 ≤ a → (nat_eq a 0 ≡ false) × (nat_le a 63 ≡ false) × (nat_lt a 192 ≡ false)
 high a h = (grind (arith, nat_tests), grind (arith, nat_tests), grind (arith, nat_tests))
 
-middle : (a : ℕ) → 64 ≤ a → (nat_eq a 0 ≡ false) × (nat_le a 63 ≡ false)
-middle a h = (grind (arith, nat_tests), grind (arith, nat_tests))
-
 good_target : (a b : ℕ) → 12 ≤ a → a < b → nat_lt a 12 || nat_le b a ≡ false
 good_target a b h k = grind (arith, nat_tests)
 

@@ -36,10 +36,6 @@ module _ (limit : ℕ) (form : Octets → Input) where
       by_memory : StopsReading limit form old new Memory
       by_memory = record { few = few; fault = unrefused old.octets; whole = tt; tells = works }
 
-  -- memory was refused before anything was read
-  pub stops_before : (reader : Device) → StopsReading limit form reader reader Memory
-  stops_before reader = record { few = ([], omega arith, Consumes-nil _); fault = unrefused reader.octets; whole = tt; tells = λ works. works }
-
   -- an input that was read to its end is judged
   pub judged : {T : Type 0} (old new : Device) (r : Result T Stop) (P : Stop → Type 0) → ReadsToEnd limit old new → IfErr r IsOfBytes → IfErr r P → ((stop : Stop) → P stop → IfSome old.octets (λ octets. IfRefused stop (IsRefusalWithin limit (form octets)))) → Reads limit form old new r
   judged old new (Ok x) P end of_bytes p refuses = end

@@ -137,10 +137,3 @@ module _ {Kept : Type 0} (IsOf : ReadAs → Type 0) (Leave : ReadAs → Octets �
         by : (placed : List Placed) → InputReads (input_of form octets) placed p1.ending → AllAccepted placed → (s : Stop) → StopsFinish (records_of placed) s → IfRefused s (RefusesRead (input_of form octets))
         by placed is_read all _ (no_soa without) = record { placed = placed; ending = p1.ending; reads = is_read; refuses = unfinished NoSoa Whole all lists.whole (no_soa without) }
         by placed is_read all _ (outside owner least) = record { placed = placed; ending = p1.ending; reads = is_read; refuses = unfinished (OutOfZone owner) Whole all lists.whole (outside owner least) }
-
--- what a front of the input decided
-abbrev pub FrontRefuses : Type 0
-FrontRefuses = (form : ReadAs) (octets front more : Octets) (placed : List Placed) (ending : Option (Fault × Place)) (fault : Fault) (place : Place) → IsForm form → AllByRecursion (λ c. c < 256) octets → octets ≡ front ++ more → Decides (input_of form front) placed ending → RefusesFront placed ending fault place → RefusesRead (input_of form octets) fault place
-
-pub refused_before : FrontRefuses → (Stands : Octets → List Placed → Type 0) (form : ReadAs) (pending : Pending) (listed : List Placed) (refusal : Option (Fault × Place)) (octets : Octets) (e : Fault × Place) → refusal ≡ Some e → IsForm form → AllByRecursion (λ c. c < 256) octets → IsLoaded Stands form pending listed refusal octets → RefusesRead (input_of form octets) e.0 e.1
-refused_before fronts Stands form pending listed refusal octets e is name each has = grind arith

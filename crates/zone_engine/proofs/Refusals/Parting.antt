@@ -1,6 +1,7 @@
 -- Lists parted at one of their records, and records of which each may stand with all before it.
 use Rattle.zone_engine.proofs.Common.{◌≡◌, ℕ, nat_eq, List, [], ◌∷◌, ◌++◌, refl, sym, ap, ap₂, ◌∙◌, subst, inl, inr, ⊎_elim, pointwise, pointwise_decides, bytes_decides, Record, Placed, Accepts, AllAccepted, records_of, Has, InOneSet, accepted_class, accepted_soa, accepted_ttl, Labels}
 use Rattle.std.proofs.Common.{Decides}
+use Rattle.zone_set.proofs.Together.{flipped}
 
 -- two partings of one list: at one place, or one of them before the other
 pub data Partings (before before' : List Placed) (p q : Placed) : Type 0 where
@@ -68,9 +69,6 @@ module _ (placed : List Placed) (all : AllAccepted placed) where
 
   pub all_ttl : (r s : Record) → Has (records_of placed) r → Has (records_of placed) s → InOneSet r s → r.ttl ≡ s.ttl
   all_ttl = any_two (λ r s. InOneSet r s → r.ttl ≡ s.ttl) (λ r one. refl) (λ r s e one. sym (e (flipped one))) accepted_ttl placed all
-    where
-      flipped : {s t : Record} → InOneSet s t → InOneSet t s
-      flipped one = record { owner = sym one.owner; kind = sym one.kind; covers = sym one.covers }
 
   pub all_soa : (r s : Record) → Has (records_of placed) r → Has (records_of placed) s → r.kind ≡ 6 → s.kind ≡ 6 → r ≡ s
   all_soa = any_two (λ r s. r.kind ≡ 6 → s.kind ≡ 6 → r ≡ s) (λ r soa_r soa_s. refl) (λ r s e soa_r soa_s. sym (e soa_s soa_r)) accepted_soa placed all

@@ -11,12 +11,6 @@ ascii_flat : {X : Type 0} (f : X → List ℕ) (P : X → Type 0) → ((x : X) �
 ascii_flat f P each [] all = tt
 ascii_flat f P each (x ∷ xs) all = ascii_append (f x) (flat_map f xs) (each x all.0) (ascii_flat f P each xs all.1)
 
-either : (P : Type 0) (a b : Bool) → (a ≡ true → P) → (b ≡ true → P) → (a || b) ≡ true → P
-either P a b p q h = grind arith
-
-second : (a b : Bool) → (a && b) ≡ true → b ≡ true
-second a b h = grind arith
-
 ascii_octet : (c : ℕ) → c < 256 → AreAscii (octet_text c)
 ascii_octet c small = grind arith
 

@@ -1,7 +1,4 @@
-use Rattle.std.proofs.Common.{ℕ, Bool, cond, eqb, ltb, not, bit_or, refl, sym, ap, ◌∙◌, arith, w8, count_ones}
-use Rattle.std.proofs.lemmas.Simd.{bitmask_splat, chunk-fits, length-chunk, ones-mask_l, splat_is_map, zip2_of_maps, zip2_splat}
-use Rattle.zone_name.specs.Machine.Shown.{is_bare}
-use Rattle.zone_name.specs.Spelling.{is_dot}
+use Rattle.zone_name.proofs.Common.{Bool, ap, arith, bit_or, bitmask_splat, chunk-fits, cond, count_ones, eqb, is_bare, is_dot, length-chunk, ltb, not, ones-mask_l, refl, splat_is_map, sym, w8, zip2_of_maps, zip2_splat, ℕ, ◌∙◌}
 use Rattle.zone_name.proofs.OctetLanes.{all_pass, itself, mask_is, some_fail}
 use Rattle.zone_name.proofs.lanes.dots_in.Goals as goal
 use lib.Lanes.{chunk}

@@ -1,6 +1,4 @@
-use Rattle.std.proofs.Common.{ℕ, Bool, ◌==◌, ◌||◌, refl, sym, ◌∙◌, arith, w8}
-use Rattle.std.proofs.lemmas.Simd.{chunk-fits, length-chunk, zip2_of_maps, zip2_splat}
-use Rattle.zone_name.specs.Spelling.{is_dot}
+use Rattle.zone_name.proofs.Common.{Bool, arith, chunk-fits, is_dot, length-chunk, refl, sym, w8, zip2_of_maps, zip2_splat, ℕ, ◌==◌, ◌||◌, ◌∙◌}
 use Rattle.zone_name.proofs.OctetLanes.{before_first, before_none}
 use Rattle.zone_name.proofs.lanes.plain_run.Goals as goal
 use lib.Lanes.{chunk}

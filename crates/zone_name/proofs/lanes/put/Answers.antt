@@ -1,5 +1,4 @@
-use Rattle.std.proofs.Common.{◌≡◌, ◌+◌, ◌-◌, length, sym, arith}
-use Rattle.std.proofs.lemmas.Simd.{put_chunk_is}
+use Rattle.zone_name.proofs.Common.{arith, length, put_chunk_is, sym, ◌+◌, ◌-◌, ◌≡◌}
 use Rattle.zone_name.proofs.lanes.put.Goals as goal
 
 pub returns : goal.returns

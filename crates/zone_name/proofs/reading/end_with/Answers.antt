@@ -1,5 +1,4 @@
-use Rattle.std.proofs.Common.{◌≡◌, Result, Ok, Err, IfOk, sym, rules}
-use Rattle.std.specs.Result.{IsOk, is_ok}
+use Rattle.zone_name.proofs.Common.{Err, IfOk, IsOk, Ok, Result, is_ok, rules, sym, ◌≡◌}
 use Rattle.zone_name.proofs.Letters.{ended_with, joined-long}
 use Rattle.zone_name.proofs.Pushing.{taken}
 use Rattle.zone_name.proofs.reading.end_with.Goals as goal

@@ -1,5 +1,4 @@
-use Rattle.std.proofs.Common.{arith}
-use Rattle.zone_name.specs.Name.{folded_octet}
+use Rattle.zone_name.proofs.Common.{arith, folded_octet}
 use Rattle.zone_name.proofs.OctetLanes.{mapped_front, mapped_more, mapped_start}
 use Rattle.zone_name.proofs.reading.fold_front.Goals as goal
 

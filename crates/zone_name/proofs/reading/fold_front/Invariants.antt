@@ -1,5 +1,4 @@
-use Rattle.std.proofs.Common.{◌-◌}
-use Rattle.zone_name.specs.Name.{folded_octet}
+use Rattle.zone_name.proofs.Common.{folded_octet, ◌-◌}
 use Rattle.zone_name.proofs.OctetLanes.{Mapped}
 use Rattle.zone_name.proofs.reading.fold_front.Given as goal
 

@@ -1,5 +1,4 @@
-use Rattle.zone_name.proofs.Common.{◌≤◌, length, ap, subst, arith, RefusesLabel}
-use Rattle.std.proofs.lemmas.Result.{err_from_is_err_and}
+use Rattle.zone_name.proofs.Common.{RefusesLabel, ap, arith, err_from_is_err_and, length, subst, ◌≤◌}
 use Rattle.zone_name.proofs.Steps.{Refuses-label}
 use Rattle.zone_name.proofs.reading.read_label.Goals as goal
 

@@ -1,8 +1,5 @@
-use Rattle.zone_name.proofs.Common.{◌≡◌, ℕ, List, Result, Ok, Err, ap, refl, sym, ◌∙◌, option_copied, labels_of, at_origin, origin_in, root, unfounded, NameFault}
+use Rattle.zone_name.proofs.Common.{Err, IfErr-weaker, Labels, List, NameFault, Ok, Origin, RelativeName, Result, Root, ap, at_origin, labels_of, on_err_weaker, on_ok_weaker, option_copied, origin_in, refl, root, sym, unfounded, ℕ, ◌∙◌, ◌≡◌}
 use Rattle.std.specs.Prelude.{IfErr, IsOk, OnOk}
-use Rattle.std.proofs.lemmas.Result.{IfErr-weaker, on_err_weaker, on_ok_weaker}
-use Rattle.zone_name.specs.declared.fault.NameFault.TheVariants.{RelativeName}
-use Rattle.zone_name.specs.declared.reading.NameShape.TheVariants.{Root, Origin, Labels}
 use Rattle.zone_name.proofs.Answered.{answered, answered-only, answered-origin, decided-found, decided-fault, at-relative, root_is, spells_by}
 use Rattle.zone_name.proofs.Letters.{held_name, held_origin, held_short, root_holds}
 use Rattle.zone_name.proofs.Octets.{labels_of-root}

@@ -1,5 +1,4 @@
-use Rattle.zone_name.proofs.Common.{◌≡◌, ◌<◌, ◌+◌, ◌++◌, ◌∙◌, length, length-take, refl, sym, ap, subst, take, arith, labels_of, lettered, HoldsLabelsBy}
-use Rattle.std.proofs.Common.{replicate}
+use Rattle.zone_name.proofs.Common.{HoldsLabelsBy, ap, arith, labels_of, length, length-take, lettered, refl, replicate, subst, sym, take, ◌++◌, ◌+◌, ◌<◌, ◌∙◌, ◌≡◌}
 use Rattle.zone_name.proofs.Plain.{IsCut, PlainRead, cut_suffix, plain_room}
 use Rattle.zone_name.proofs.Pushing.{AllByRecursion-from_places, taken}
 use Rattle.zone_name.proofs.reading.read_plain.Goals as goal

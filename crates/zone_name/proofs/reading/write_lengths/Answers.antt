@@ -1,5 +1,4 @@
-use Rattle.zone_name.proofs.Common.{◌<◌, ◌-◌, ◌∙◌, length, drop, arith, subst, refl, length-set, eqb-true}
-use Rattle.zone_name.specs.Machine.Plain.{WritesLengths}
+use Rattle.zone_name.proofs.Common.{WritesLengths, arith, drop, eqb-true, length, length-set, refl, subst, ◌-◌, ◌<◌, ◌∙◌}
 use Rattle.zone_name.proofs.Plain.{lengths_next}
 use Rattle.zone_name.proofs.reading.write_lengths.Goals as goal
 

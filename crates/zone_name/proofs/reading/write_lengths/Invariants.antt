@@ -1,5 +1,4 @@
-use Rattle.std.proofs.Common.{◌≡◌, ◌-◌, ◌≤◌, length, drop}
-use Rattle.zone_name.specs.Machine.Plain.{WritesLengths}
+use Rattle.zone_name.proofs.Common.{WritesLengths, drop, length, ◌-◌, ◌≡◌, ◌≤◌}
 use Rattle.zone_name.proofs.reading.write_lengths.Given as goal
 
 abbrev pub invariant-loop-start : goal.invariant-loop-start

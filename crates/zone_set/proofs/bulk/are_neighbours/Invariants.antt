@@ -1,7 +1,4 @@
-use Rattle.std.proofs.Common.{◌∷◌, length}
-use Rattle.std.specs.List.{AllByRecursion}
-use Rattle.zone_set.specs.Machine.Bulk.{AreNeighbours}
-use Rattle.zone_set.specs.Machine.Held.{all_records, IsEntry}
+use Rattle.zone_set.proofs.Common.{AllByRecursion, AreNeighbours, IsEntry, all_records, length, ◌∷◌}
 use Rattle.zone_set.proofs.bulk.are_neighbours.Given as goal
 
 abbrev pub ghost-stand_next : goal.ghost-stand_next

@@ -1,8 +1,4 @@
-use Rattle.std.proofs.Common.{◌≡◌, ◌-◌, ◌≤◌, length, take, IsTrue}
-use Rattle.std.specs.List.{AllByRecursion}
-use Rattle.std.specs.List.Sorted.{IsPermutation}
-use Rattle.zone_set.specs.Machine.Bulk.{AreNeighbours}
-use Rattle.zone_set.specs.Machine.Held.{all_records, IsEntry}
+use Rattle.zone_set.proofs.Common.{AllByRecursion, AreNeighbours, IsEntry, IsPermutation, IsTrue, all_records, length, take, ◌-◌, ◌≡◌, ◌≤◌}
 use Rattle.zone_set.proofs.bulk.sort_runs.Given as goal
 
 abbrev pub ghost-stand_after : goal.ghost-stand_after

@@ -1,7 +1,5 @@
-use Rattle.zone_set.proofs.Common.{sym, subst, map, AllByRecursion}
+use Rattle.zone_set.proofs.Common.{AllByRecursion, AreNeighbours, IsEntry, entry_record, map, subst, sym}
 use Rattle.zone_set.proofs.Looking.{each_drop, take_rest, AreNeighbours-joined}
-use Rattle.zone_set.specs.Machine.Bulk.{AreNeighbours}
-use Rattle.zone_set.specs.Machine.Held.{entry_record, IsEntry}
 use Rattle.zone_set.proofs.bulk.stand_after.Goals as goal
 
 pub are_neighbours-requires : goal.are_neighbours-requires

@@ -1,5 +1,4 @@
-use Rattle.zone_set.proofs.Common.{◌+◌, ◌-◌, ◌∙◌, arith, common_steps, length-drop}
-use Rattle.std.proofs.lemmas.List.Sorted.{IsPermutation-put_mid, IsPermutation-trans, length_permutation}
+use Rattle.zone_set.proofs.Common.{IsPermutation-put_mid, IsPermutation-trans, arith, common_steps, length-drop, length_permutation, ◌+◌, ◌-◌, ◌∙◌}
 use Rattle.zone_set.proofs.Keyed.{IsPermutation-keyed}
 use Rattle.zone_set.proofs.keys.+keys.Goals as goal
 

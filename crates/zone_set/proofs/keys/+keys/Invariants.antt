@@ -1,5 +1,4 @@
-use Rattle.zone_set.proofs.Common.{◌≡◌, ◌+◌, ◌-◌, ◌*◌, ◌≤◌, length}
-use Rattle.std.specs.List.Sorted.{IsPermutation}
+use Rattle.zone_set.proofs.Common.{IsPermutation, length, ◌*◌, ◌+◌, ◌-◌, ◌≡◌, ◌≤◌}
 use Rattle.zone_set.proofs.keys.+keys.Given as goal
 
 abbrev pub decreases-sort : goal.decreases-sort

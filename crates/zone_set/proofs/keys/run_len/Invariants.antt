@@ -1,5 +1,4 @@
-use Rattle.zone_set.proofs.Common.{◌≡◌, ◌≤◌, ◌-◌, length, map, take}
-use Rattle.zone_set.specs.Machine.Bulk.{with_hint}
+use Rattle.zone_set.proofs.Common.{length, map, take, with_hint, ◌-◌, ◌≡◌, ◌≤◌}
 use Rattle.zone_set.proofs.keys.run_len.Given as goal
 
 abbrev pub invariant-loop-len : goal.invariant-loop-len

@@ -1,5 +1,4 @@
-use Rattle.zone_set.proofs.Common.{◌<◌, ◌∙◌, arith, length, refl}
-use Rattle.std.proofs.Math.Seq.{map-set_same}
+use Rattle.zone_set.proofs.Common.{arith, length, map-set_same, refl, ◌<◌, ◌∙◌}
 use Rattle.zone_set.proofs.Keyed.{with_hint_more}
 use Rattle.zone_set.proofs.keys.set_hint.Goals as goal
 

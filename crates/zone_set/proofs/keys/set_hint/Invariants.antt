@@ -1,5 +1,4 @@
-use Rattle.zone_set.proofs.Common.{◌≡◌, map, take}
-use Rattle.zone_set.specs.Machine.Bulk.{with_hint}
+use Rattle.zone_set.proofs.Common.{map, take, with_hint, ◌≡◌}
 use Rattle.zone_set.proofs.keys.set_hint.Given as goal
 
 abbrev pub invariant-loop-entry : goal.invariant-loop-entry

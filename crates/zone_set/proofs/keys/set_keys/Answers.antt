@@ -1,5 +1,4 @@
-use Rattle.zone_set.proofs.Common.{◌∙◌, refl}
-use Rattle.std.proofs.Math.Seq.{map-set_same}
+use Rattle.zone_set.proofs.Common.{map-set_same, refl, ◌∙◌}
 use Rattle.zone_set.proofs.keys.set_keys.Goals as goal
 
 pub loop-entry-preserved : goal.loop-entry-preserved

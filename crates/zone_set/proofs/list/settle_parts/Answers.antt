@@ -1,10 +1,6 @@
-use Rattle.std.proofs.Common.{◌≡◌, arith, length, refl, sym, ◌∙◌, subst}
-use Rattle.std.specs.List.{AllByRecursion}
-use Rattle.std.proofs.lemmas.Result.{err_from_is_err_and}
+use Rattle.zone_set.proofs.Common.{AllByRecursion, IsEntry, KeepsList, arith, err_from_is_err_and, length, listed, refl, subst, sym, ◌∙◌, ◌≡◌}
 use Rattle.zone_set.proofs.Listing.{IsSettledAs-sorted}
 use Rattle.zone_set.proofs.MessageLens.{len_of_moved}
-use Rattle.zone_set.specs.Machine.Bulk.{listed, KeepsList}
-use Rattle.zone_set.specs.Machine.Held.{IsEntry}
 use Rattle.zone_set.specs.ZoneList.{IsSettledAs, memory}
 use Rattle.zone_set.proofs.list.settle_parts.Goals as goal
 

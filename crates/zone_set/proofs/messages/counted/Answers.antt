@@ -1,7 +1,4 @@
-use Rattle.std.proofs.Common.{◌≡◌, ◌+◌, ◌-◌, ◌^◌, ◌≤◌, ℕ, [], min, arith, subst}
-use Rattle.std.proofs.lemmas.List.{nil_from_length}
-use Rattle.zone_set.specs.Machine.Held.{all_records}
-use Rattle.zone_set.specs.Message.{message_octets}
+use Rattle.zone_set.proofs.Common.{[], all_records, arith, message_octets, min, nil_from_length, subst, ℕ, ◌+◌, ◌-◌, ◌^◌, ◌≡◌, ◌≤◌}
 use Rattle.zone_set.proofs.messages.counted.Goals as goal
 
 at_end : (n sum : ℕ) → n ≤ 2 ^ 64 - 1 → min (n + 0) (2 ^ 64 - 1) ≡ min sum (2 ^ 64 - 1) → n ≡ min sum (2 ^ 64 - 1)

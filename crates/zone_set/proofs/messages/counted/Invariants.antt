@@ -1,7 +1,4 @@
-use Rattle.std.proofs.Common.{◌≡◌, ◌+◌, ◌-◌, ◌^◌, ◌≤◌, length, min}
-use Rattle.std.specs.List.{AllByRecursion}
-use Rattle.zone_set.specs.Machine.Held.{all_records, IsEntry}
-use Rattle.zone_set.specs.Message.{message_octets}
+use Rattle.zone_set.proofs.Common.{AllByRecursion, IsEntry, all_records, length, message_octets, min, ◌+◌, ◌-◌, ◌^◌, ◌≡◌, ◌≤◌}
 use Rattle.zone_set.proofs.messages.counted.Given as goal
 
 -- what was counted and what the entries that are left count are the whole

@@ -1,6 +1,4 @@
-use Rattle.zone_set.proofs.Common.{◌≡◌, sym, ◌∙◌, subst}
-use Rattle.std.proofs.lemmas.Slice.Eq.{bytes_eq-Decides}
-use Rattle.zone_set.specs.Machine.Owner.{IsFirst}
+use Rattle.zone_set.proofs.Common.{IsFirst, bytes_eq-Decides, subst, sym, ◌∙◌, ◌≡◌}
 use Rattle.zone_set.proofs.owner.first_labels.Goals as goal
 
 pub returns-then-are_same : goal.returns-then-are_same

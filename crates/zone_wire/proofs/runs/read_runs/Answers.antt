@@ -1,5 +1,4 @@
-use Rattle.zone_name.specs.Name.{folded}
-use Rattle.zone_wire.proofs.Common.{IsName, ap, refl, subst, ◌++◌, ◌∙◌}
+use Rattle.zone_wire.proofs.Common.{IsName, ap, folded, refl, subst, ◌++◌, ◌∙◌}
 use Rattle.zone_wire.proofs.RunLaws.{leads_pointer, leads_root, pointer_stands, root_stands, run_labels}
 use Rattle.zone_wire.proofs.runs.read_runs.Goals as goal
 

@@ -1,5 +1,4 @@
-use Rattle.zone_wire.proofs.Common.{length, ◌-◌}
-use Rattle.zone_wire.specs.Machine.Runs.{IsRun}
+use Rattle.zone_wire.proofs.Common.{IsRun, length, ◌-◌}
 use Rattle.zone_wire.proofs.runs.run_end.Given as goal
 
 abbrev pub invariant-loop-size : goal.invariant-loop-size

@@ -1,9 +1,6 @@
-use Rattle.std.proofs.Common.{◌≡◌, ◌∷◌, ◌++◌, [], List, ℕ, sym, ap, ◌∙◌, subst}
-use Rattle.zone_set.proofs.Common.{record_of, Entry, Placed, Record}
-use Rattle.zone_rdata.specs.declared.fault.Place.{Place}
+use Rattle.zone_set.proofs.Common.{Entry, KeepsList, List, Place, Placed, Record, [], ap, listed, record_of, subst, sym, ℕ, ◌++◌, ◌∙◌, ◌∷◌, ◌≡◌}
 use Rattle.zone_set.proofs.Adding.{on_err}
 use Rattle.zone_set.proofs.ListPush.{decided, Decided, listed_more, KeepsList-more}
-use Rattle.zone_set.specs.Machine.Bulk.{listed, KeepsList}
 use Rattle.zone_set.proofs.list.ZoneList.push.Goals as goal
 use Rattle.zone_set.proofs.list.ZoneList.push.Goals.{After-first_decides}
 

@@ -1,5 +1,5 @@
 use Rattle.zone_wire.proofs.Common.{Follow, IsCut, [], ap, arith, eqb-true, frame, subst, sym, take, vec_len, ◌++◌, ◌∙◌, ◌≡◌}
-use Rattle.zone_wire.proofs.Feeding.{all_taken, empty_of, inside_frame, one_frame}
+use Rattle.zone_wire.proofs.Feeding.{empty_of, inside_frame, one_frame, take_whole}
 use Rattle.zone_wire.proofs.Walking.{take_each}
 use Rattle.zone_wire.proofs.framer.Framer.take_front.Goals as goal
 
@@ -7,7 +7,7 @@ pub returns-in_ok-extend_from_slice-in-None-clause-follow : goal.returns-in_ok-e
 returns-in_ok-extend_from_slice-in-None-clause-follow c = λ fed given follow.
     let cut = subst (λ u. IsCut (u ++ c.args.octets.now)) c.as_slice.ensures.value c.in-None.ensures in
     let longer = inside_frame c.args.self.now.transfer c.args.self.now.unfinished.items fed c.args.octets.now given c.requires.going (λ i. omega (arith, c.type_inv.octets i)) cut follow in
-    subst (λ x. Follow c.args.self.now.transfer c.extend_from_slice.new.self.items (fed ++ x) given) (sym (all_taken c.args.octets.now))
+    subst (λ x. Follow c.args.self.now.transfer c.extend_from_slice.new.self.items (fed ++ x) given) (sym (take_whole c.args.octets.now))
     (subst (λ u. Follow c.args.self.now.transfer u (fed ++ c.args.octets.now) given) (sym c.in_ok-extend_from_slice-in-None.ensures.items) longer)
 
 pub returns-in_ok-read-in-Some-clause-follow : goal.returns-in_ok-read-in-Some-clause-follow

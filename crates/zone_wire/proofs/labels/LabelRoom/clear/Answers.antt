@@ -1,5 +1,4 @@
-use Rattle.zone_name.proofs.Pushing.{HoldsLabels-nil, labels_of-none}
-use Rattle.zone_wire.proofs.Common.{arith, refl}
+use Rattle.zone_wire.proofs.Common.{HoldsLabels-nil, arith, labels_of-none, refl}
 use Rattle.zone_wire.proofs.labels.LabelRoom.clear.Goals as goal
 
 pub invariant_of-self : goal.invariant_of-self

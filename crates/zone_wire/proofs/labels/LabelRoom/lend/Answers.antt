@@ -1,6 +1,4 @@
-use Rattle.std.proofs.lemmas.List.{take_more_set}
-use Rattle.zone_name.proofs.Pushing.{HoldsName-finish, labels_of-finish}
-use Rattle.zone_wire.proofs.Common.{arith, take, ◌∙◌}
+use Rattle.zone_wire.proofs.Common.{HoldsName-finish, arith, labels_of-finish, take, take_more_set, ◌∙◌}
 use Rattle.zone_wire.proofs.labels.LabelRoom.lend.Goals as goal
 
 pub of_wire-requires : goal.of_wire-requires

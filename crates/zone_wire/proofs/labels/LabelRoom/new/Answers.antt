@@ -1,6 +1,4 @@
-use Rattle.std.proofs.lemmas.Simd.{length-replicate}
-use Rattle.zone_name.proofs.Pushing.{HoldsLabels-nil, labels_of-none}
-use Rattle.zone_wire.proofs.Common.{arith, refl, ℕ}
+use Rattle.zone_wire.proofs.Common.{HoldsLabels-nil, arith, labels_of-none, length-replicate, refl, ℕ}
 use Rattle.zone_wire.proofs.labels.LabelRoom.new.Goals as goal
 
 pub invariant_of-result : goal.invariant_of-result

@@ -1,5 +1,4 @@
-use Rattle.zone_name.specs.Name.{folded, labels_of}
-use Rattle.zone_wire.proofs.Common.{ap, arith, octets_between, ◌++◌, ◌∙◌}
+use Rattle.zone_wire.proofs.Common.{ap, arith, folded, labels_of, octets_between, ◌++◌, ◌∙◌}
 use Rattle.zone_wire.proofs.Rooms.{pushed}
 use Rattle.zone_wire.proofs.labels.LabelRoom.push.Goals as goal
 
