@@ -1,5 +1,5 @@
 -- The laws of the order and of what is printed.
-use Rattle.zone_name.proofs.Common.{AllByRecursion, Bool, Equal, IsFoldedOctet, IsLabel, IsName, IsUnit, IsWrittenLabel, List, Option, Spells, Writes, Written, [], absolute, arith, bytes_decides, decimal, decimal_escape, div-add-mod', dotted, eqb-false, escaped, false, flat_map, folded_label, if◌then◌else◌, is_digit, is_dot, is_printed, is_special, label_text, length-map, lists_ties, lists_total, map, name_cmp, name_text, named, nat_cmp, nat_cmp_total, nat_eq, nat_tests, octet_of, octet_text, or_parts, plain, pointwise, pointwise_decides, refl, reverse, reverse-reverse, root, rules, slice_cmp, sym, text_of, texts_ties, true, written_octets, written_text, ℕ, ◌%◌, ◌+◌, ◌/◌, ◌<◌, ◌||◌, ◌∷◌, ◌≡◌, ◌≢◌}
+use Rattle.zone_name.proofs.Common.{AllByRecursion, Bool, Equal, IsFoldedOctet, IsLabel, IsName, IsUnit, IsWrittenLabel, List, Option, Spells, Writes, Written, [], absolute, arith, bytes_decides, decimal, decimal_escape, dotted, escaped, false, flat_map, folded_label, if◌then◌else◌, is_digit, is_dot, is_printed, is_special, label_text, length-map, lists_ties, lists_total, map, name_cmp, name_text, named, nat_cmp, nat_cmp_total, nat_eq, nat_tests, octet_of, octet_text, plain, pointwise, pointwise_decides, refl, reverse, reverse-reverse, root, rules, slice_cmp, sym, text_of, texts_ties, true, written_octets, written_text, ℕ, ◌%◌, ◌+◌, ◌/◌, ◌<◌, ◌∷◌, ◌≡◌}
 use Rattle.std.specs.Cmp.{IsTotalOrder, on_total}
 
 -- names that tie are equal

@@ -1,6 +1,5 @@
 -- How many octets a printed name has, against those that it takes in a message.
-use Rattle.zone_name.proofs.Common.{ℕ, ◌+◌, ◌*◌, ◌≤◌, Bool, List, [], ◌∷◌, length, arith, length-append, flat_map, wire, with_length, decimal_escape, octet_text, label_text, name_text}
-use Rattle.std.specs.Prelude.{if◌then◌else◌}
+use Rattle.zone_name.proofs.Common.{ℕ, ◌+◌, ◌*◌, ◌≤◌, List, [], ◌∷◌, length, arith, length-append, flat_map, wire, with_length, octet_text, label_text, name_text}
 
 octets_length : (label : List ℕ) → length (flat_map octet_text label) ≤ 4 * length label
 octets_length [] = omega arith

@@ -1,5 +1,5 @@
 -- Written octets at the beginning of a text: what is read is so, and what is so is read.
-use Rattle.zone_name.proofs.Common.{AllByRecursion, BeginsWithEscape, BeginsWithUnit, Bool, IsBadEscape, IsEscape, IsUnit, List, None, Option, Some, Written, [], and_parts, ap, append_assoc, arith, both_ways, common_steps, cond_both, decimal, eqb-false, eqb-true, escaped, false, if◌then◌else◌, is_digit, le-leb, leb-true, length, length-append, nat_le, ne_eqb, no_octet, octet_of, option_map, or_cases, or_parts, plain, refl, subst, suc, sym, text_of, true, written_text, zero, ℕ, ◌&&◌, ◌++◌, ◌<◌, ◌==◌, ◌||◌, ◌∷◌, ◌≡◌, ◌≢◌, ◌≤◌}
+use Rattle.zone_name.proofs.Common.{AllByRecursion, BeginsWithEscape, BeginsWithUnit, Bool, IsBadEscape, IsEscape, IsUnit, List, None, Option, Some, Written, [], ap, append_assoc, arith, both_ways, common_steps, cond_both, decimal, eqb-false, eqb-true, escaped, false, if◌then◌else◌, is_digit, le-leb, length, length-append, nat_le, ne_eqb, no_octet, octet_of, option_map, or_cases, or_parts, plain, refl, subst, suc, sym, text_of, true, written_text, zero, ℕ, ◌&&◌, ◌++◌, ◌<◌, ◌==◌, ◌||◌, ◌∷◌, ◌≡◌, ◌≢◌, ◌≤◌}
 use Rattle.std.specs.Prelude.{IfSome}
 use Rattle.zone_name.specs.Machine.Units.{decimal_first, digits_first, escape_first, unit_first, Units, units_then, units_by, units_first, valued}
 
