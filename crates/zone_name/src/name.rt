@@ -7,7 +7,7 @@ ghost use Rattle.zone_name.specs.Machine.Letters.{origin_in};
 use crate::fault::NameFault;
 use crate::labels::Labels;
 use crate::lent::NameRef;
-use crate::reading::{Letters, read_name};
+use crate::reading::{Letters, hold, read_name};
 use arrayvec::ArrayVec;
 use std::marker::Model;
 
@@ -95,6 +95,13 @@ impl Name {
         ensures { result ≡ self.now }
     {
         Name::holding(self.octets.as_slice())
+    }
+
+    /// Becomes a copy of the other, which is written in place.
+    pub fn copy_from(&mut self, other: &Name)
+        ensures { self.new ≡ other.now }
+    {
+        hold(&mut self.octets, other.octets.as_slice());
     }
 
     /// Does nothing, and tells contracts what holds of every name.

@@ -411,7 +411,7 @@ fn replace(
 }
 
 /// Puts other octets in place of those that are held.
-fn hold(octets: &mut ArrayVec<u8, MAX_NAME_LEN>, name: &[u8])
+pub(crate) fn hold(octets: &mut ArrayVec<u8, MAX_NAME_LEN>, name: &[u8])
     requires { length name.now ≤ 255 }
     ensures { octets.new.items ≡ name.now }
 {

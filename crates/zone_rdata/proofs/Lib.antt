@@ -49,4 +49,5 @@ pub mod PrintedWords
 pub mod LeftOut
 pub mod Bytes
 pub mod FedSources
+pub mod Slots
 pub mod Common

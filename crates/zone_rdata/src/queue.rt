@@ -19,22 +19,28 @@ use zone_name::Name;
 /// shorter, and what is kept then goes by the number of records.
 const LONGEST_BUFFER: usize = 512;
 
-/// Records in the order in which they came, each with its place. It keeps the memory of data that
-/// was dropped for the data of records to come. Contracts see the list of records.
+/// Records in the order in which they came, each with its place. Each stands in a slot, in which
+/// another is written once it was skipped, in the memory of its data. Contracts see the list of
+/// records.
 #[derive(Drop)]
 pub struct RecordQueue {
-    placed: VecDeque<Placed>,
-    /// The memory of data that was dropped.
-    buffers: Vec<Vec<u8>>,
+    /// The records, with free slots before and after them.
+    slots: VecDeque<Placed>,
+    /// The slot of the first record.
+    first: usize,
+    /// The slot after that of the last record.
+    end: usize,
 }
 
 impl Model for RecordQueue {
-    ghost use Rattle.std.specs.Prelude.{List};
+    ghost use Rattle.std.specs.Prelude.{List, ◌≤◌, drop, length, take};
     ghost use Rattle.zone_rdata.specs.declared.record.Placed.{Placed};
 
     ghost Value = { List Placed };
 
-    ghost view = { λ q. q.placed.items };
+    ghost view = { λ q. drop q.first (take q.end q.slots.items) };
+
+    ghost invariant = { λ q. (q.first ≤ q.end) × (q.end ≤ length q.slots.items) };
 }
 
 impl RecordQueue {
@@ -43,8 +49,9 @@ impl RecordQueue {
         ensures { result ≡ [] }
     {
         RecordQueue {
-            placed: VecDeque::new(alloc),
-            buffers: Vec::new(alloc),
+            slots: VecDeque::new(alloc),
+            first: 0,
+            end: 0,
         }
     }
 
@@ -67,29 +74,53 @@ impl RecordQueue {
         ensures record { IsRecord (record_with owner.now ttl rdata) }
         ensures unchanged { OnErr result (self.new ≡ self.old) }
     {
-        let rr = Rr::of_parts(owner.copy(), ttl, rdata);
-        self.placed.push_back(Placed { rr, place })?;
+        owner.known();
+        rdata.known();
+        self.turn();
+        match self.slots.get_mut(self.end) {
+            Some(slot) => slot.set(owner, ttl, rdata, place),
+            None => {
+                let rr = Rr::of_parts(owner.copy(), ttl, rdata);
+                self.slots.push_back(Placed { rr, place })?;
+            }
+        }
+        self.end += 1;
         Ok(())
+    }
+
+    /// Where no slot is free after the records, those before them come after them.
+    fn turn(&mut self)
+        ensures { self.new ≡ self.old }
+    {
+        if self.end == self.slots.len() {
+            self.slots.rotate_left(self.first);
+            self.end -= self.first;
+            self.first = 0;
+        }
     }
 
     /// The first record, borrowed. `None`: there is none.
     pub fn first(&self) -> Option<PlacedRef<'_>>
         ensures { option_map placed_of result ≡ first_record self.now }
     {
-        Some(self.placed.front()?.lend())
+        if self.first == self.end {
+            return None;
+        }
+        Some(self.slots[self.first].lend())
     }
 
     /// Drops the first record, if there is one, and keeps the memory of its data.
     pub fn skip(&mut self)
         ensures { self.new ≡ others self.old }
     {
-        if let Some(placed) = self.placed.pop_front() {
-            let (_, _, rdata) = placed.rr.into_parts();
-            let buffer = rdata.into_octets();
-            if buffer.capacity() <= LONGEST_BUFFER {
-                // Where memory is refused the buffer is dropped.
-                let _ = self.buffers.push(buffer);
-            }
+        if self.first == self.end {
+            return;
+        }
+        self.slots[self.first].rr.free(LONGEST_BUFFER);
+        self.first += 1;
+        if self.first == self.end {
+            self.first = 0;
+            self.end = 0;
         }
     }
 
@@ -98,7 +129,13 @@ impl RecordQueue {
         ensures first { result ≡ first_record self.old }
         ensures left { self.new ≡ others self.old }
     {
-        self.placed.pop_front()
+        if self.first == self.end {
+            return None;
+        }
+        self.slots.rotate_left(self.first);
+        self.end -= self.first + 1;
+        self.first = 0;
+        self.slots.pop_front()
     }
 
     /// Memory for the data of a record to come, with any octets in it: that of data that was
@@ -106,8 +143,9 @@ impl RecordQueue {
     pub fn buffer(&mut self, alloc: Global) -> Vec<u8>
         ensures { self.new ≡ self.old }
     {
-        match self.buffers.pop() {
-            Some(buffer) => buffer,
+        self.turn();
+        match self.slots.get_mut(self.end) {
+            Some(slot) => slot.rr.take_octets(),
             None => Vec::new(alloc),
         }
     }
@@ -116,7 +154,14 @@ impl RecordQueue {
     pub fn into_placed(self) -> VecDeque<Placed>
         ensures { result.items ≡ self }
     {
-        self.placed
+        let RecordQueue {
+            mut slots,
+            first,
+            end,
+        } = self;
+        slots.rotate_left(first);
+        slots.truncate(end - first);
+        slots
     }
 }
 

@@ -1,4 +1,4 @@
-ghost use Rattle.std.specs.Prelude.{◌≡◌, ◌++◌, map, IfOk, IfErr, IfSome, OnOk, OnErr, option_map};
+ghost use Rattle.std.specs.Prelude.{◌≡◌, [], ◌++◌, map, IfOk, IfErr, IfSome, OnOk, OnErr, option_map};
 ghost use Rattle.zone_name.specs.Common.{Octets};
 ghost use Rattle.zone_name.specs.Sink.{TakesSome};
 ghost use Rattle.zone_rdata.specs.DataFault.{IsDataFault, IsFaultFor, IsGenericDataFault};
@@ -26,10 +26,14 @@ use crate::reading::{are_octets, is_generic, octets_of_items};
 use crate::uncompressed::{canonical_for, canonical_of};
 use std::alloc::{AllocError, Global};
 use std::marker::Model;
+use std::mem;
 use zone_name::{Name, Sink};
 
 /// The most octets of record data: its length is a number of 16 bits (RFC 1035 3.2.1).
 pub(crate) const LONGEST_DATA: usize = 65535;
+
+/// The number of NULL, of which any octets are data (RFC 1035 3.3.10).
+const NULL: u16 = 10;
 
 /// The data of a record: class, type and canonical octets (RFC 1035 3.2.1). Contracts see these
 /// three.
@@ -219,11 +223,21 @@ impl Rdata {
         self.octets.as_slice()
     }
 
-    /// The canonical octets, in their memory.
-    pub(crate) fn into_octets(self) -> Vec<u8>
-        ensures { result.items ≡ self.octets }
+    /// The number of octets for which the data has memory.
+    pub(crate) fn room(&self) -> usize {
+        self.octets.capacity()
+    }
+
+    /// The canonical octets, in their memory. The data is then without octets, of a type that may
+    /// have any.
+    pub(crate) fn take_octets(&mut self) -> Vec<u8>
+        ensures taken { result.items ≡ self.old.octets }
+        ensures left { self.new ≡ record { class = 1; kind = NULL; octets = [] } }
     {
-        self.octets
+        let octets = Vec::new(*self.octets.allocator());
+        let left = Rdata::of_octets(Class::internet(), Kind::of_judged(NULL), octets);
+        let taken = mem::replace(self, left);
+        taken.octets
     }
 
     /// What holds of all data.

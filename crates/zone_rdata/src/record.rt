@@ -1,6 +1,6 @@
 ghost use Rattle.std.specs.Prelude.{◌≡◌, ◌<◌, ◌≤◌, ◌↔◌, IfOk, IfErr, IsOk, Err};
 ghost use Rattle.zone_rdata.specs.Lent.{placed_of, record_of};
-ghost use Rattle.zone_rdata.specs.Record.{Record, IsRecord, data_of};
+ghost use Rattle.zone_rdata.specs.Record.{Record, IsRecord, data_of, record_with};
 
 use crate::class::Class;
 use crate::fault::{Fault, Place};
@@ -93,6 +93,21 @@ impl Rr {
         Rr { owner, ttl, rdata }
     }
 
+    /// The octets of the data, in their memory. It is then other data, without octets.
+    pub(crate) fn take_octets(&mut self) -> Vec<u8>
+        ensures { result.items ≡ self.old.octets }
+    {
+        self.rdata.take_octets()
+    }
+
+    /// Lets the memory of the data go where it has room for more than `most` octets. It is then
+    /// other data, without octets.
+    pub(crate) fn free(&mut self, most: usize) {
+        if self.rdata.room() > most {
+            let _ = self.rdata.take_octets();
+        }
+    }
+
     /// The name that the record stands at.
     pub fn owner(&self) -> &Name
         ensures { result.now ≡ self.now.owner }
@@ -169,6 +184,21 @@ impl<'a> RrRef<'a> {
 }
 
 impl Placed {
+    /// Becomes the record of an owner, a TTL in seconds that was judged before, and data, with its
+    /// place. The owner is written in place.
+    pub(crate) fn set(&mut self, owner: &Name, ttl: u32, rdata: Rdata, place: Place)
+        requires { ttl ≤ MAX_TTL }
+        ensures { self.new ≡ record { rr = record_with owner.now ttl rdata; place = place } }
+    {
+        owner.known();
+        rdata.known();
+        let rr = &mut self.rr;
+        rr.owner.copy_from(owner);
+        rr.ttl = ttl;
+        rr.rdata = rdata;
+        self.place = place;
+    }
+
     /// The record and its place, borrowed.
     pub fn lend(&self) -> PlacedRef<'_>
         ensures { placed_of result ≡ self.now }

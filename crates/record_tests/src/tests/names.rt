@@ -54,6 +54,9 @@ impl Question for Spelled {
         let mut other = rooted(b"another.name.")?;
         set(&mut other, text.as_bytes(), origin.as_bytes())?;
         check(are_its(&name, &other), "the octets are those of the name")?;
+        let mut copied = rooted(b"another.name.")?;
+        copied.copy_from(&name);
+        check(copied.wire() == name.wire(), "a name becomes a copy of it")?;
         push_hex(alloc, out, name.wire())?;
         push_text(out, " ")?;
         Ok(name.push_text(out)?)

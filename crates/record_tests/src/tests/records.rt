@@ -157,3 +157,47 @@ fn a_queue_gives_what_was_put_in(rt: HostRuntime) -> Result<(), Fail> {
     check(is_given(rest.next()?, 4), "the fourth record is given")?;
     check(is_bad_ttl(rest.next()), "the fault is given after them")
 }
+
+/// The owner of a server with a TTL, in words and its octets.
+fn owner_of(ttl: u16) -> (&'static [u8], &'static [u8]) {
+    if ttl % 2 == 0 {
+        (b"b.", SERVER)
+    } else {
+        (b"example.", b"\x07example\x00")
+    }
+}
+
+/// Appends a server with a TTL.
+fn push_server(alloc: Global, pending: &mut PendingRecords, ttl: u16) -> Result<(), Fail> {
+    let (owner, _) = owner_of(ttl);
+    let data = data_of(alloc, "x.", "IN NS b.")??;
+    pending
+        .placed
+        .push(&rooted(owner)?, u32::from(ttl), data, Place::Line(3))?;
+    Ok(())
+}
+
+/// Whether the server with a TTL is the first.
+fn is_first_server(pending: &PendingRecords, ttl: u16) -> bool {
+    let (_, owner) = owner_of(ttl);
+    Lent(owner, u32::from(ttl), SERVER, 3).is_first(pending)
+}
+
+#[test]
+fn a_queue_that_is_never_empty_keeps_its_order(rt: HostRuntime) -> Result<(), Fail> {
+    let mut pending = PendingRecords::new(rt.alloc());
+    push_server(rt.alloc(), &mut pending, 1)?;
+    for ttl in 2..9 {
+        push_server(rt.alloc(), &mut pending, ttl)?;
+        check(
+            is_first_server(&pending, ttl - 1),
+            "the record before is lent",
+        )?;
+        pending.skip();
+    }
+    check(is_first_server(&pending, 8), "the last record is lent")?;
+    pending.skip();
+    let is_empty = pending.first().is_none();
+    let buffer = pending.placed.buffer(rt.alloc());
+    check(is_empty && !buffer.is_empty(), "its memory is left")
+}
