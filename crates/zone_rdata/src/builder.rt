@@ -14,7 +14,7 @@ use crate::layout::{Layout, layout_of};
 use crate::narrow_failing::NarrowFailing;
 use crate::rdata::{LONGEST_DATA, Rdata};
 use crate::reading::are_octets;
-use crate::string::push_with_length;
+use crate::string::{LONGEST_STRING, push_with_length};
 use std::alloc::Global;
 use std::marker::Model;
 use zone_name::{Name, NameRef};
@@ -299,7 +299,7 @@ fn append_string(octets: &[u8], out: &mut Vec<u8>) -> Result<(), NarrowFailing>
     ensures fault { IfErr result (IfFault (IsOver out.old.items (string octets.now))) }
     ensures err { OnErr result (out.new.items ≡ out.old.items) }
 {
-    if octets.len() > 255 {
+    if octets.len() > LONGEST_STRING {
         return Err(NarrowFailing::of(Cause::StringTooLong));
     }
     if octets.len() + 1 > LONGEST_DATA - out.len() {

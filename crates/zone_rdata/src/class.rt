@@ -98,8 +98,8 @@ impl Class {
         ensures err { IfErr result (λ cause. (fault_for cause ≡ Fault.BadClass)
             × ((n : ℕ) × (IsClassWord word.now n × (IsClass n → ⊥)))) }
     {
-        // Nearly all records are of this class, and it is mostly written so.
-        if let [b'I', b'N'] = word {
+        // Nearly all records are of the first class, and it is mostly written as it is printed.
+        if word == CLASSES[0].mnemonic {
             return Ok(Some(Class::internet()));
         }
         match number_of_word(CLASSES, b"CLASS", word) {

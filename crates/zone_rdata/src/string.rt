@@ -17,7 +17,7 @@ use std::alloc::AllocError;
 use zone_name::{NextUnit, Sink, decimal_escape, next_unit};
 
 /// The most octets of a string (RFC 1035 3.3).
-const LONGEST_STRING: usize = 255;
+pub(crate) const LONGEST_STRING: usize = 255;
 
 /// Appends the string that the item spells, its octets after their number (RFC 1035 3.3, 5.1). If
 /// it is refused, `out` is unchanged.
@@ -45,7 +45,7 @@ pub fn push_string(item: Item, out: &mut Vec<u8>) -> Result<(), NarrowFailing>
 
 /// Appends a string's octets after their number. Where memory is refused, `out` is unchanged.
 pub(crate) fn push_with_length(octets: &[u8], out: &mut Vec<u8>) -> Result<(), AllocError>
-    requires { length octets.now ≤ 255 }
+    requires { length octets.now ≤ LONGEST_STRING }
     ensures ok { OnOk result (out.new.items ≡ out.old.items ++ with_length octets.now) }
     ensures err { OnErr result (out.new.items ≡ out.old.items) }
 {
@@ -68,11 +68,11 @@ fn text_of(item: Item<'_>) -> &[u8]
 }
 
 /// The octets of the string that the item spells (RFC 1035 3.3, 5.1).
-fn string_of(item: Item<'_>) -> Result<ArrayVec<u8, 255>, Cause>
+fn string_of(item: Item<'_>) -> Result<ArrayVec<u8, LONGEST_STRING>, Cause>
     ensures found { IfOk result (λ octets. SpellsString (raw item.entry) octets.items) }
     ensures fault { IfErr result (λ cause. StringFault (raw item.entry) (fault_for cause)) }
 {
-    let mut octets: ArrayVec<u8, 255> = ArrayVec::new();
+    let mut octets: ArrayVec<u8, LONGEST_STRING> = ArrayVec::new();
     let mut rest = text_of(item);
     loop {
         match next_unit(rest) {

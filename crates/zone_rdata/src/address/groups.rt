@@ -15,11 +15,13 @@ fn group_of(text: &[u8]) -> Option<[u8; 2]>
     ensures found { IfSome result (λ octets. IsGroupOf text.now octets) }
     ensures none { IfNone result (NothingIs (IsGroupOf text.now)) }
 {
-    if text.is_empty() || text.len() > 4 {
-        return None;
-    }
-    let mut digits = [b'0'; 4];
-    digits[4 - text.len()..].copy_from_slice(text);
+    let digits = match *text {
+        [last] => [b'0', b'0', b'0', last],
+        [third, last] => [b'0', b'0', third, last],
+        [second, third, last] => [b'0', second, third, last],
+        [first, second, third, last] => [first, second, third, last],
+        _ => return None,
+    };
     let mut octets = [0; 2];
     decode_to_slice(digits, &mut octets).ok()?;
     Some(octets)

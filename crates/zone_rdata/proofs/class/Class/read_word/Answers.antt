@@ -1,7 +1,7 @@
-use Rattle.std.proofs.Common.{arith, codes, refl}
-use Rattle.zone_rdata.proofs.Words.{is_named, same_octets}
+use Rattle.zone_rdata.proofs.Common.{bytes_eq-Decides, refl, sym, ◌∙◌}
+use Rattle.zone_rdata.proofs.Words.{is_named}
 use Rattle.zone_rdata.proofs.class.Class.read_word.Goals as goal
 
-pub returns-in-73-clause-found : goal.returns-in-73-clause-found
-returns-in-73-clause-found c =
-    rw c.internet.ensures (is_named _ _ _ (codes "IN") 1 refl (same_octets c.args.word.now (codes "IN") (omega arith) (grind arith, (grind arith, tt))))
+pub returns-then-eq-clause-found : goal.returns-then-eq-clause-found
+returns-then-eq-clause-found c =
+    rw c.internet.ensures (is_named _ _ _ _ 1 refl ((bytes_eq-Decides c.args.word.now _).0 (sym c.eq.ensures ∙ c.if-eq.true)))
