@@ -34,66 +34,68 @@ bits_after (suc k) (b ∷ ms) =
     ap (λ j. mask_l (b ∷ ms) / 2 ^ j) one_more ∙ sym (shr-shr (mask_l (b ∷ ms)) 1 k) ∙ ap (λ n. n / 2 ^ k) (half b (mask_l ms)) ∙ bits_after k ms
 
 -- by the first octet
-prefix_step : (x : ℕ) (xs : List ℕ) → ((stops_bare x ≡ true) × (prefix_len goes_on (x ∷ xs) ≡ 0)) ⊎ ((stops_bare x ≡ false) × (prefix_len goes_on (x ∷ xs) ≡ suc (prefix_len goes_on xs)))
-prefix_step x xs = by (stops_bare x) refl
+prefix_step : (p : ℕ → Bool) (x : ℕ) (xs : List ℕ) → ((p x ≡ true) × (prefix_len (λ c. not (p c)) (x ∷ xs) ≡ 0)) ⊎ ((p x ≡ false) × (prefix_len (λ c. not (p c)) (x ∷ xs) ≡ suc (prefix_len (λ c. not (p c)) xs)))
+prefix_step p x xs = by (p x) refl
   where
-    by : (b : Bool) → stops_bare x ≡ b → ((stops_bare x ≡ true) × (prefix_len goes_on (x ∷ xs) ≡ 0)) ⊎ ((stops_bare x ≡ false) × (prefix_len goes_on (x ∷ xs) ≡ suc (prefix_len goes_on xs)))
-    by true e = inl (e, ap (λ (b : Bool). cond (not b) (1 + prefix_len goes_on xs) 0) e)
+    by : (b : Bool) → p x ≡ b → ((p x ≡ true) × (prefix_len (λ c. not (p c)) (x ∷ xs) ≡ 0)) ⊎ ((p x ≡ false) × (prefix_len (λ c. not (p c)) (x ∷ xs) ≡ suc (prefix_len (λ c. not (p c)) xs)))
+    by true e = inl (e, ap (λ (b : Bool). cond (not b) (1 + prefix_len (λ c. not (p c)) xs) 0) e)
     by false e =
-        let one_more : 1 + prefix_len goes_on xs ≡ suc (prefix_len goes_on xs) = omega arith in
-        inr (e, ap (λ (b : Bool). cond (not b) (1 + prefix_len goes_on xs) 0) e ∙ one_more)
+        let one_more : 1 + prefix_len (λ c. not (p c)) xs ≡ suc (prefix_len (λ c. not (p c)) xs) = omega arith in
+        inr (e, ap (λ (b : Bool). cond (not b) (1 + prefix_len (λ c. not (p c)) xs) 0) e ∙ one_more)
 
--- where no octet stops the item, no bit is set
-no_bits : (xs : List ℕ) → prefix_len goes_on xs ≡ length xs → mask_l (map stops_bare xs) ≡ 0
-no_bits [] all = refl
-no_bits (x ∷ xs) all = elim (prefix_step x xs) [
+-- where no octet passes the test, no bit is set
+no_bits : (p : ℕ → Bool) (xs : List ℕ) → prefix_len (λ c. not (p c)) xs ≡ length xs → mask_l (map p xs) ≡ 0
+no_bits p [] all = refl
+no_bits p (x ∷ xs) all = elim (prefix_step p x xs) [
   | inl stop ↦ absurd (omega (arith, all, stop.1))
   | inr on ↦
-      let more : mask_l (map stops_bare xs) ≡ 0 = no_bits xs (omega (arith, all, on.1)) in
-      ap (λ (b : Bool). cond b 1 0 + 2 * mask_l (map stops_bare xs)) on.0 ∙ omega (arith, more)
+      let more : mask_l (map p xs) ≡ 0 = no_bits p xs (omega (arith, all, on.1)) in
+      ap (λ (b : Bool). cond b 1 0 + 2 * mask_l (map p xs)) on.0 ∙ omega (arith, more)
 ]
 
 pub prefix_each : (xs : List ℕ) → AllByRecursion (λ c. stops_bare c ≡ false) (take (prefix_len goes_on xs) xs)
 prefix_each [] = tt
-prefix_each (x ∷ xs) = elim (prefix_step x xs) [
+prefix_each (x ∷ xs) = elim (prefix_step stops_bare x xs) [
   | inl stop ↦ subst (λ k. AllByRecursion (λ c. stops_bare c ≡ false) (take k (x ∷ xs))) (sym stop.1) tt
   | inr on ↦ subst (λ k. AllByRecursion (λ c. stops_bare c ≡ false) (take k (x ∷ xs))) (sym on.1) (on.0, prefix_each xs)
 ]
 
 pub prefix_ends : (xs : List ℕ) → EndsAt stops_bare (drop (prefix_len goes_on xs) xs)
 prefix_ends [] = tt
-prefix_ends (x ∷ xs) = elim (prefix_step x xs) [
+prefix_ends (x ∷ xs) = elim (prefix_step stops_bare x xs) [
   | inl stop ↦ subst (λ k. EndsAt stops_bare (drop k (x ∷ xs))) (sym stop.1) stop.0
   | inr on ↦ subst (λ k. EndsAt stops_bare (drop k (x ∷ xs))) (sym on.1) (prefix_ends xs)
 ]
 
 -- a prefix that ends before the end of the first of two lists, or that goes on past it
-ends_inside : (xs ys : List ℕ) → prefix_len goes_on xs < length xs → prefix_len goes_on (xs ++ ys) ≡ prefix_len goes_on xs
-ends_inside xs ys less = prefix_len-append goes_on xs ys ∙ ap (λ (b : Bool). cond b (length xs + prefix_len goes_on ys) (prefix_len goes_on xs)) (other (prefix_len goes_on xs) (length xs) less)
+ends_inside : (q : ℕ → Bool) (xs ys : List ℕ) → prefix_len q xs < length xs → prefix_len q (xs ++ ys) ≡ prefix_len q xs
+ends_inside q xs ys less = prefix_len-append q xs ys ∙ ap (λ (b : Bool). cond b (length xs + prefix_len q ys) (prefix_len q xs)) (other (prefix_len q xs) (length xs) less)
   where
     other : (m n : ℕ) → m < n → eqb m n ≡ false
     other m n less = ne_eqb m n (λ e. omega arith)
 
-goes_past : (xs ys : List ℕ) → prefix_len goes_on xs ≡ length xs → prefix_len goes_on (xs ++ ys) ≡ length xs + prefix_len goes_on ys
-goes_past xs ys all = prefix_len-append goes_on xs ys ∙ ap (λ (b : Bool). cond b (length xs + prefix_len goes_on ys) (prefix_len goes_on xs)) (eq-eqb (prefix_len goes_on xs) (length xs) all)
+goes_past : (q : ℕ → Bool) (xs ys : List ℕ) → prefix_len q xs ≡ length xs → prefix_len q (xs ++ ys) ≡ length xs + prefix_len q ys
+goes_past q xs ys all = prefix_len-append q xs ys ∙ ap (λ (b : Bool). cond b (length xs + prefix_len q ys) (prefix_len q xs)) (eq-eqb (prefix_len q xs) (length xs) all)
 
--- the first bit that is set is of the first octet that stops the item
-first_inside : (n : ℕ) (octets : List ℕ) → n ≤ 64 → n ≤ length octets → mask_l (map stops_bare (take n octets)) ≢ 0 → (count_trailing_zeros 64 (mask_l (map stops_bare (take n octets))) ≡ prefix_len goes_on octets) × (prefix_len goes_on octets < n)
-first_inside n octets few within some =
+-- the first bit that is set is of the first octet that passes the test
+pub first_inside : (p : ℕ → Bool) (n : ℕ) (octets : List ℕ) → n ≤ 64 → n ≤ length octets → mask_l (map p (take n octets)) ≢ 0 → (count_trailing_zeros 64 (mask_l (map p (take n octets))) ≡ prefix_len (λ c. not (p c)) octets) × (prefix_len (λ c. not (p c)) octets < n)
+first_inside p n octets few within some =
+    let q : ℕ → Bool = λ c. not (p c) in
     let front = take n octets in
     let long : length front ≡ n = omega (arith, length-take n octets) in
-    let pos : 0 < mask_l (map stops_bare front) = omega arith in
-    let first : count_trailing_zeros 64 (mask_l (map stops_bare front)) ≡ prefix_len goes_on front = trailing_mask_l stops_bare 64 front (omega arith) pos in
-    let other : prefix_len goes_on front ≢ length front = λ e. some (no_bits front e) in
-    let less : prefix_len goes_on front < length front = omega (arith, prefix_len-le-length goes_on front, other) in
-    let same : prefix_len goes_on octets ≡ prefix_len goes_on front = sym (ap (prefix_len goes_on) (take-append-drop n octets)) ∙ ends_inside front (drop n octets) less in
+    let pos : 0 < mask_l (map p front) = omega arith in
+    let first : count_trailing_zeros 64 (mask_l (map p front)) ≡ prefix_len q front = trailing_mask_l p 64 front (omega arith) pos in
+    let other : prefix_len q front ≢ length front = λ e. some (no_bits p front e) in
+    let less : prefix_len q front < length front = omega (arith, prefix_len-le-length q front, other) in
+    let same : prefix_len q octets ≡ prefix_len q front = sym (ap (prefix_len q) (take-append-drop n octets)) ∙ ends_inside q front (drop n octets) less in
     (first ∙ sym same, omega arith)
 
-none_inside : (n : ℕ) (octets : List ℕ) → n ≤ length octets → mask_l (map stops_bare (take n octets)) ≡ 0 → prefix_len goes_on octets ≡ n + prefix_len goes_on (drop n octets)
-none_inside n octets within none =
+pub none_inside : (p : ℕ → Bool) (n : ℕ) (octets : List ℕ) → n ≤ length octets → mask_l (map p (take n octets)) ≡ 0 → prefix_len (λ c. not (p c)) octets ≡ n + prefix_len (λ c. not (p c)) (drop n octets)
+none_inside p n octets within none =
+    let q : ℕ → Bool = λ c. not (p c) in
     let front = take n octets in
     let long : length front ≡ n = omega (arith, length-take n octets) in
-    sym (ap (prefix_len goes_on) (take-append-drop n octets)) ∙ goes_past front (drop n octets) (leading_from_mask_l stops_bare front none) ∙ ap (λ k. k + prefix_len goes_on (drop n octets)) long
+    sym (ap (prefix_len q) (take-append-drop n octets)) ∙ goes_past q front (drop n octets) (leading_from_mask_l p front none) ∙ ap (λ k. k + prefix_len q (drop n octets)) long
 
 -- ---- what the bits tell
 
@@ -130,12 +132,12 @@ pub known_len : (stops : Stops) (octets : List ℕ) → Tells stops octets → s
 known_len stops octets tells some =
     let n = length octets - stops.unseen in
     let set : mask_l (map stops_bare (take n octets)) ≢ 0 = λ e. some (tells.bits ∙ e) in
-    ap (count_trailing_zeros 64) tells.bits ∙ (first_inside n octets (omega (arith, tells.few)) (omega arith) set).0
+    ap (count_trailing_zeros 64) tells.bits ∙ (first_inside stops_bare n octets (omega (arith, tells.few)) (omega arith) set).0
 
 pub known_less : (stops : Stops) (octets : List ℕ) → Tells stops octets → stops.bits ≢ 0 → prefix_len goes_on octets < length octets - stops.unseen
 known_less stops octets tells some =
     let n = length octets - stops.unseen in
-    (first_inside n octets (omega (arith, tells.few)) (omega arith) (λ e. some (tells.bits ∙ e))).1
+    (first_inside stops_bare n octets (omega (arith, tells.few)) (omega arith) (λ e. some (tells.bits ∙ e))).1
 
 pub known_rest : (stops new : Stops) (octets : List ℕ) (k : ℕ) → Tells stops octets → stops.bits ≢ 0 → k ≡ prefix_len goes_on octets → new.bits ≡ stops.bits / 2 ^ k / 2 ^ 1 → new.unseen ≡ stops.unseen → Tells new (drop (k + 1) octets)
 known_rest stops new octets k tells some len is unseen =
@@ -145,7 +147,7 @@ known_rest stops new octets k tells some len is unseen =
 pub unknown_len : (stops : Stops) (octets ahead : List ℕ) (seen more : ℕ) → Tells stops octets → stops.bits ≡ 0 → seen ≡ length octets - stops.unseen → ahead ≡ drop seen octets → more ≡ prefix_len goes_on ahead → seen + more ≡ prefix_len goes_on octets
 unknown_len stops octets ahead seen more tells none is back len =
     let zero_bits : mask_l (map stops_bare (take seen octets)) ≡ 0 = ap (λ k. mask_l (map stops_bare (take k octets))) is ∙ sym tells.bits ∙ none in
-    ap (λ k. seen + k) (len ∙ ap (prefix_len goes_on) back) ∙ sym (none_inside seen octets (omega arith) zero_bits)
+    ap (λ k. seen + k) (len ∙ ap (prefix_len goes_on) back) ∙ sym (none_inside stops_bare seen octets (omega arith) zero_bits)
 
 pub unknown_rest : (new : Stops) (octets ahead : List ℕ) (seen more : ℕ) → ahead ≡ drop seen octets → Tells new (drop (more + 1) ahead) → Tells new (drop (seen + more + 1) octets)
 unknown_rest new octets ahead seen more back tells =
@@ -238,13 +240,13 @@ GoesTo octets seen = prefix_len goes_on octets ≡ seen + prefix_len goes_on (dr
 pub goes_on_64 : (octets ahead : List ℕ) (seen bits : ℕ) → seen ≤ length octets → 64 ≤ length octets - seen → ahead ≡ drop seen octets → bits ≡ mask_l (map stops_bare (take 64 ahead)) → bits ≡ 0 → GoesTo octets seen → GoesTo octets (seen + 64)
 goes_on_64 octets ahead seen bits within room back are none so_far =
     let left : length (drop seen octets) ≡ length octets - seen = length-drop seen octets in
-    let next : prefix_len goes_on (drop seen octets) ≡ 64 + prefix_len goes_on (drop 64 (drop seen octets)) = none_inside 64 (drop seen octets) (omega arith) (sym (are ∙ ap (λ t. mask_l (map stops_bare (take 64 t))) back) ∙ none) in
+    let next : prefix_len goes_on (drop seen octets) ≡ 64 + prefix_len goes_on (drop 64 (drop seen octets)) = none_inside stops_bare 64 (drop seen octets) (omega arith) (sym (are ∙ ap (λ t. mask_l (map stops_bare (take 64 t))) back) ∙ none) in
     let after : prefix_len goes_on (drop 64 (drop seen octets)) ≡ prefix_len goes_on (drop (seen + 64) octets) = ap (prefix_len goes_on) (drop-drop 64 seen octets) in
     omega (arith, so_far, next, after)
 
 pub stop_found : (stops : Stops) (octets ahead : List ℕ) (seen bits more : ℕ) → 64 ≤ length ahead → ahead ≡ drop seen octets → bits ≡ mask_l (map stops_bare (take 64 ahead)) → bits ≢ 0 → more ≡ count_trailing_zeros 64 bits → stops.bits ≡ bits / 2 ^ more / 2 ^ 1 → stops.unseen ≡ length ahead - 64 → GoesTo octets seen → (seen + more ≡ prefix_len goes_on octets) × Tells stops (drop (seen + more + 1) octets)
 stop_found stops octets ahead seen bits more room back are some len is unseen so_far =
-    let found = first_inside 64 ahead (omega arith) room (λ e. some (are ∙ e)) in
+    let found = first_inside stops_bare 64 ahead (omega arith) room (λ e. some (are ∙ e)) in
     let first : more ≡ prefix_len goes_on ahead = len ∙ ap (count_trailing_zeros 64) are ∙ found.0 in
     let there : prefix_len goes_on ahead ≡ prefix_len goes_on (drop seen octets) = ap (prefix_len goes_on) back in
     (omega (arith, so_far, first, there), unknown_rest stops octets ahead seen more back (tells_after stops ahead 64 more bits are (omega arith) room (omega (arith, first, found.1)) is unseen))

@@ -1,6 +1,11 @@
 -- How far the first token of a text goes.
-use Rattle.zone_text.proofs.Common.{AllByRecursion, Bool, EndsAt, IsUnit, ItemReaches, List, Written, [], add-one, ap, arith, before_line_feed, both_ways, common_steps, drop, drop-cons, drop-drop, drop_of_length-le, ends_item, false, get_or, is_digit, is_quote, item_len, length, length-drop, min, ne_eqb, refl, rules, subst, suc, sym, true, written_text, ℕ, ◌++◌, ◌+◌, ◌-◌, ◌<◌, ◌==◌, ◌||◌, ◌∙◌, ◌∷◌, ◌≡◌, ◌≢◌, ◌≤◌}
+use Rattle.zone_text.proofs.Common.{AllByRecursion, Bool, EndsAt, IsUnit, ItemReaches, List, Written, [], add-one, ap, arith, before_line_feed, both_ways, common_steps, drop, drop-cons, drop-drop, drop_of_length-le, ends_item, false, get_or, is_digit, is_quote, item_len, length, length-drop, map, min, ne_eqb, refl, rules, subst, suc, sym, take, true, written_text, ℕ, ◌++◌, ◌+◌, ◌-◌, ◌<◌, ◌==◌, ◌||◌, ◌∙◌, ◌∷◌, ◌≡◌, ◌≢◌, ◌≤◌}
+use Rattle.std.proofs.Common.{not}
 use Rattle.std.proofs.lemmas.Bool.Decides.{nat_tests}
+use Rattle.std.specs.Int.Count.{count_trailing_zeros}
+use Rattle.std.specs.List.{prefix_len}
+use Rattle.std.specs.Simd.Lanes.{mask_l}
+use Rattle.zone_text.proofs.StopMarks.{first_inside, none_inside}
 
 -- ---- items
 
@@ -92,3 +97,23 @@ comment_ends text i n less is so_far = grind (arith, common_steps)
 pub comment_whole : (text : List ℕ) (i n : ℕ) → length text ≤ i → i ≤ length text → n ≡ i + length (before_line_feed (drop i text)) → length text ≡ n
 unfolding before_line_feed
 comment_whole text i n over within so_far = grind (arith, common_steps)
+
+before_prefix : (xs : List ℕ) → length (before_line_feed xs) ≡ prefix_len (λ c. not (c == 10)) xs
+unfolding before_line_feed
+before_prefix [] = refl
+before_prefix (c ∷ xs) = grind (arith, before_prefix xs)
+
+-- some of the octets after a place, by the bits that tell which are line feeds
+pub comment_past : (text : List ℕ) (i k n bits : ℕ) → k ≤ length text - i → bits ≡ mask_l (map (λ c. c == 10) (take k (drop i text))) → bits ≡ 0 → n ≡ i + length (before_line_feed (drop i text)) → n ≡ i + k + length (before_line_feed (drop (i + k) text))
+comment_past text i k n bits room are none so_far =
+    let left : length (drop i text) ≡ length text - i = length-drop i text in
+    let next : prefix_len (λ c. not (c == 10)) (drop i text) ≡ k + prefix_len (λ c. not (c == 10)) (drop k (drop i text)) = none_inside (λ c. c == 10) k (drop i text) (omega arith) (sym are ∙ none) in
+    let after : prefix_len (λ c. not (c == 10)) (drop k (drop i text)) ≡ prefix_len (λ c. not (c == 10)) (drop (i + k) text) = ap (prefix_len (λ c. not (c == 10))) (drop-drop k i text) in
+    omega (arith, so_far, next, after, before_prefix (drop i text), before_prefix (drop (i + k) text))
+
+pub comment_seen : (text : List ℕ) (i k n bits : ℕ) → k ≤ 64 → k ≤ length text - i → bits ≡ mask_l (map (λ c. c == 10) (take k (drop i text))) → bits ≢ 0 → n ≡ i + length (before_line_feed (drop i text)) → (i + count_trailing_zeros 64 bits ≡ n) × (i + count_trailing_zeros 64 bits ≤ length text)
+comment_seen text i k n bits few room are some so_far =
+    let left : length (drop i text) ≡ length text - i = length-drop i text in
+    let found = first_inside (λ c. c == 10) k (drop i text) few (omega arith) (λ e. some (are ∙ e)) in
+    let first : count_trailing_zeros 64 bits ≡ prefix_len (λ c. not (c == 10)) (drop i text) = ap (count_trailing_zeros 64) are ∙ found.0 in
+    (omega (arith, so_far, first, before_prefix (drop i text)), omega (arith, first, found.1))

@@ -2,7 +2,7 @@
 ghost use Rattle.std.specs.Prelude.{◌≤◌, ◌+◌, length, IfSome};
 ghost use Rattle.zone_text.specs.Machine.Blank.{AreBlankLines, IsBlankLine, IsComment};
 
-use crate::items::comment_len;
+use crate::comment::comment_len;
 
 /// The lines without items at the front of octets.
 #[derive(Drop)]

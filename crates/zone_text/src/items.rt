@@ -4,11 +4,11 @@ ghost use Rattle.zone_name.specs.Common.{AreOctets, Octets};
 ghost use Rattle.zone_rdata.specs.Item.{raw};
 ghost use Rattle.zone_text.specs.Entries.{item_of};
 ghost use Rattle.zone_text.specs.Tokens.{Token, IsToken, ends_item, is_blank, token_text};
-ghost use Rattle.zone_text.specs.Machine.Cutting.{before_line_feed};
 ghost use Rattle.zone_text.specs.Machine.ItemLengths.{EndsAt, EndsBefore, ItemReaches, ends_within, item_len, stops_within};
 ghost use Rattle.zone_text.specs.Machine.Kept.{IsShort, Keeps};
 ghost use Rattle.zone_text.specs.Kept.{KeepsItems};
 
+use crate::comment::comment_len;
 use crate::table::stops_bare;
 use std::alloc::AllocError;
 use zone_rdata::Item;
@@ -89,19 +89,6 @@ fn item_len(text: &[u8], extent: Extent) -> usize
     } else {
         plain
     }
-}
-
-/// The number of octets of the comment at the front, without its semicolon.
-pub(crate) fn comment_len(text: &[u8]) -> usize
-    ensures len { result ≡ length (before_line_feed text.now) }
-    ensures within { result ≤ length text.now }
-{
-    for (index, octet) in text.iter().enumerate() {
-        if *octet == b'\n' {
-            return index;
-        }
-    }
-    text.len()
 }
 
 /// Whether the octet begins a bare item.

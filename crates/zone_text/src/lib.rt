@@ -3,6 +3,7 @@
 #![tactic(auto)]
 
 mod blank;
+mod comment;
 mod ended;
 mod entry;
 pub mod examples;

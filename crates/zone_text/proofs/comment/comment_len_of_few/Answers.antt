@@ -1,5 +1,5 @@
 use Rattle.zone_text.proofs.TokenEnds.{comment_goes_on, comment_ends, comment_whole}
-use Rattle.zone_text.proofs.items.comment_len.Goals as goal
+use Rattle.zone_text.proofs.comment.comment_len_of_few.Goals as goal
 
 pub returns-then-octet-eq10-clause-len : goal.returns-then-octet-eq10-clause-len
 returns-then-octet-eq10-clause-len c = comment_ends _ _ _ c.loop-index-test.true c.if-octet-eq10.true c.loop-index.invariant
