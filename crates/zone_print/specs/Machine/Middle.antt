@@ -3,11 +3,6 @@ use Rattle.std.specs.Prelude.{◌≡◌, ℕ, length, List, [], ◌∷◌, ◌++
 use Rattle.zone_rdata.specs.Words.{class_text, kind_text}
 use Rattle.zone_rdata.specs.Record.{Record}
 
--- TTL, class and type between spaces, after the owner and before the data
-abbrev pub line_middle : Record → List ℕ
-line_middle r =
-    32 ∷ decimal r.ttl ++ 32 ∷ class_text r.class ++ 32 ∷ kind_text r.class r.kind ++ 32 ∷ []
-
 -- TTL and class, each after a space, and a space
 abbrev pub before_kind : Record → List ℕ
 before_kind r = 32 ∷ decimal r.ttl ++ 32 ∷ class_text r.class ++ 32 ∷ []
@@ -15,6 +10,15 @@ before_kind r = 32 ∷ decimal r.ttl ++ 32 ∷ class_text r.class ++ 32 ∷ []
 -- the type and a space
 abbrev pub kind_column : Record → List ℕ
 kind_column r = kind_text r.class r.kind ++ 32 ∷ []
+
+-- both, which stand after the owner and before the data
+abbrev pub line_middle : Record → List ℕ
+line_middle r = before_kind r ++ kind_column r
+
+-- a text is what stands before the record's type, of so many octets
+pub record HoldsBeforeKind (text : List ℕ) (kept : ℕ) (r : Record) : Type 0 where
+  pub whole : text ≡ before_kind r
+  pub len : kept ≡ length (before_kind r)
 
 -- a text is the record's middle, and so many octets of it stand before the type
 pub record HoldsMiddle (text : List ℕ) (kept : ℕ) (r : Record) : Type 0 where
