@@ -1,5 +1,5 @@
 -- Owners that differ in their first labels alone.
-use Rattle.zone_set.proofs.Common.{AreFirst, Equal, Greater, IsFirst, IsName, Less, List, Ordering, [], ap, append-nil, ap₂, label_cmp, labels_of, name_cmp, nat_cmp, ordering_then, refl, slice_cmp, subst, sym, then_equal, wire, ℕ, ◌∙◌, ◌∷◌, ◌≡◌}
+use Rattle.zone_set.proofs.Common.{AreFirst, IsFirst, IsName, List, [], ap, append-nil, ap₂, label_cmp, labels_of, name_cmp, nat_cmp, slice_cmp, subst, sym, then_equal, wire, ℕ, ◌∙◌, ◌∷◌, ◌≡◌}
 use Rattle.zone_name.proofs.Octets.{next_label, BeginsWithName-wire_append}
 use Rattle.zone_name.specs.Name.{BeginsWithName}
 use Rattle.zone_set.proofs.Within.{same_ending}

@@ -1,8 +1,8 @@
 -- Records taken from a source, one after another.
-use Rattle.zone_set.proofs.Common.{Bool, Err, Fault, List, ListsAll, Memory, None, Ok, Option, Place, Placed, Record, Refused, Some, Stop, StopsListing, [], ap, append-nil, append_assoc, arith, false, refl, rules, subst, sym, true, ◌++◌, ◌∙◌, ◌∷◌, ◌≡◌}
+use Rattle.zone_set.proofs.Common.{Bool, ClassMismatch, Err, Fault, List, ListsAll, Memory, None, Ok, Option, OtherClass, Place, Placed, Record, Refused, Some, Stop, StopsListing, [], ap, append-nil, append_assoc, arith, false, refl, rules, subst, sym, true, ◌++◌, ◌∙◌, ◌∷◌, ◌≡◌}
 use Rattle.zone_rdata.specs.RrSource.{Pending, answer_of, after, first_of, others}
+use Rattle.zone_set.specs.Refusal.{records_of}
 use Rattle.zone_set.specs.Builder.{Accepts, Adds, AddsEach, StopsAdd, leaves, StopsTaking, fault, failure, memory, refused as by_fault, ending as by_ending}
-use Rattle.zone_set.specs.Machine.Bulk as bulk
 use Rattle.zone_set.specs.ZoneList as zone_list
 
 -- one more at the end
@@ -149,12 +149,13 @@ module _ (old now : List Placed) (start left : Pending) (had : HasTaken (λ take
       by s (failed_before fails same took) = zone_list.failure fails (took ∙ append-nil old) same
       by s (ended e works found took rest) = zone_list.ending e works found took rest
 
-  pub StopsListing-refused : (p : Placed) (stop : Stop) (new : List Placed) (next : Pending) → answer_of left ≡ Ok (Some p) → next ≡ after left → bulk.StopsList now p stop → new ≡ now → StopsListing old start new next stop
-  StopsListing-refused p stop new next answer is why same = subst (λ listed. StopsListing old start listed next stop) (sym same) (by stop why)
-    where
-      d : Drops Took start p next
-      d = drops Took start left had p next answer is
+  -- where the next record was dropped and not listed
+  module _ (p : Placed) (new : List Placed) (next : Pending) (answer : answer_of left ≡ Ok (Some p)) (is : next ≡ after left) (same : new ≡ now) where
+    dropped : Drops Took start p next
+    dropped = drops Took start left had p next answer is
 
-      by : (s : Stop) → bulk.StopsList now p s → StopsListing old start now next s
-      by s bulk.memory = zone_list.memory d.taken d.later p d.works d.parts d.took d.left
-      by s (bulk.class other) = zone_list.class d.taken d.later p d.works d.parts d.took d.left other
+    pub StopsListing-class : OtherClass (records_of now) p.rr → StopsListing old start new next (Refused ClassMismatch p.place)
+    StopsListing-class other = let d = dropped in subst (λ listed. StopsListing old start listed next (Refused ClassMismatch p.place)) (sym same) (zone_list.class d.taken d.later p d.works d.parts d.took d.left other)
+
+    pub StopsListing-memory : StopsListing old start new next Memory
+    StopsListing-memory = let d = dropped in subst (λ listed. StopsListing old start listed next Memory) (sym same) (zone_list.memory d.taken d.later p d.works d.parts d.took d.left)

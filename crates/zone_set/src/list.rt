@@ -1,10 +1,10 @@
-ghost use Rattle.std.specs.Prelude.{◌≡◌, ◌↔◌, ◌⊎◌, ◌++◌, ◌∷◌, IsTrue, List, [], length, IfOk, IfErr, OnOk, OnErr, if◌then◌else◌};
+ghost use Rattle.std.specs.Prelude.{◌≡◌, ◌↔◌, ◌⊎◌, ◌++◌, ◌∷◌, IsTrue, List, [], true, false, length, IfOk, IfErr, OnOk, OnErr, if◌then◌else◌};
 ghost use Rattle.std.specs.List.{AllByRecursion};
 ghost use Rattle.zone_rdata.specs.Lent.{record_of};
 ghost use Rattle.zone_rdata.specs.Record.{IsRecord};
 ghost use Rattle.zone_name.specs.Common.{Labels};
 ghost use Rattle.zone_rdata.specs.declared.record.Placed.{Placed};
-ghost use Rattle.zone_set.specs.Machine.Bulk.{listed, KeepsList, StopsList};
+ghost use Rattle.zone_set.specs.Machine.Bulk.{listed, KeepsList};
 ghost use Rattle.zone_set.specs.Builder.{OtherClass};
 ghost use Rattle.zone_set.specs.Machine.Stored.{stored};
 ghost use Rattle.zone_set.specs.Refusal.{records_of};
@@ -89,11 +89,11 @@ impl ZoneList {
         ensures beside { S.beside source.new ≡ S.beside source.old }
     {
         while let Some(placed) = source.first() {
-            let listed = self.list(&placed.rr, placed.place);
+            let place = placed.place;
+            let listed = self.list(&placed.rr, place);
             source.skip();
-            match listed {
-                Ok(()) => {}
-                Err(refused) => return Err(refused),
+            if !listed? {
+                return Err(Stop::Refused(Fault::ClassMismatch, place));
             }
         }
         // With no record left the fault at the end, if there is one.
@@ -101,25 +101,25 @@ impl ZoneList {
         Ok(())
     }
 
-    /// Lists a record.
+    /// Lists a record, and tells whether none of another class is listed. If one is, the list is
+    /// unchanged. It answers in few octets: a `Stop` has room for a name.
     ///
     /// # Errors
     ///
-    /// `Refused` with `ClassMismatch` where one of another class is listed, and `Memory`. The list
-    /// is unchanged.
-    fn list(&mut self, rr: &RrRef<'_>, place: Place) -> Result<(), Stop>
-        ensures taken { OnOk result
-            (self.new ≡ self.old ++ record { rr = record_of rr.now; place = place } ∷ []) }
-        ensures refused { IfErr result
-            (StopsList self.old (record { rr = record_of rr.now; place = place })) }
+    /// `AllocError` where memory is refused. The list is unchanged.
+    fn list(&mut self, rr: &RrRef<'_>, place: Place) -> Result<bool, AllocError>
+        ensures taken { IfOk result (λ is_listed. is_listed ≡ true
+            → self.new ≡ self.old ++ record { rr = record_of rr.now; place = place } ∷ []) }
+        ensures refused { IfOk result (λ is_listed. is_listed ≡ false
+            → OtherClass (records_of self.old) (record_of rr.now) × (self.new ≡ self.old)) }
         ensures unchanged { OnErr result (self.new ≡ self.old) }
     {
         if self.has_other_class(rr) {
-            return Err(Stop::Refused(Fault::ClassMismatch, place));
+            return Ok(false);
         }
         rr.known();
         self.push(rr, place)?;
-        Ok(())
+        Ok(true)
     }
 
     /// Whether a record of another class is listed.

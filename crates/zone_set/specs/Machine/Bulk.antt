@@ -4,12 +4,9 @@ use Rattle.std.specs.Int.{from_be_bytes, w16}
 use Rattle.std.specs.declared.cmp.Ordering.TheVariants.{Less}
 use Rattle.std.specs.List.{AllByRecursion}
 use Rattle.zone_rdata.specs.Record.{Record, IsRecord}
-use Rattle.zone_rdata.specs.declared.fault.Fault.TheVariants.{ClassMismatch}
 use Rattle.zone_rdata.specs.declared.fault.Place.{Place}
-use Rattle.zone_rdata.specs.declared.fault.Stop.{Stop}
-use Rattle.zone_rdata.specs.declared.fault.Stop.TheVariants.{Refused, Memory}
 use Rattle.zone_rdata.specs.declared.record.Placed.{Placed}
-use Rattle.zone_set.specs.Builder.{AreTwoSoas, OtherClass}
+use Rattle.zone_set.specs.Builder.{AreTwoSoas}
 use Rattle.zone_set.specs.Machine.Held.{all_records, entry_record, HasOtherTtl, IsEntry}
 use Rattle.zone_set.specs.Machine.Stored.{stored}
 use Rattle.zone_set.specs.Refusal.{records_of}
@@ -66,9 +63,3 @@ pub record KeepsList (class : ℕ) (base : List (List ℕ)) (octets : List ℕ) 
   pub each : AllByRecursion (IsEntry base class octets) entries
   pub row : IsRow class octets places (listed class octets entries places)
   pub all : records_of (listed class octets entries places) ≡ all_records class octets entries
-
--- why a record isn't listed: memory was refused, or one of another class is listed
-pub data StopsList (placed : List Placed) (p : Placed) : Stop → Type 0 where
-  memory : StopsList placed p Memory
-  class : OtherClass (records_of placed) p.rr
-      → StopsList placed p (Refused ClassMismatch p.place)
