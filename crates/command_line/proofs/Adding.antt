@@ -25,17 +25,13 @@ abbrev pub Completes : App → List Text → Command → Type 0
 Completes app [] command = IsAddedAs app command
 Completes app (id ∷ ids) command = (new : Command) (added : Arg) → rule_of added ≡ argument id → added.global ≡ false → AddsArg command added new → Completes app ids new
 
--- an argument that is not global leaves a command without any
-stays_local : (new old global : Bool) → new ≡ (old || global) → old ≡ false → global ≡ false → new ≡ false
-stays_local new old global e f g = rw (e, f, g) refl
-
 -- a command without global arguments, by the field of `clap` that says so
 module _ (has_globals : Command → Bool) (grows : (old new : Command) (added : Arg) → AddsArg old added new → has_globals new ≡ (has_globals old || added.global)) (shape : (above sub new : Command) → AddsSubcommand above sub new → has_globals sub ≡ false → app_of new ≡ with_subcommand (app_of above) (app_of sub).top) where
   pub completes : (app : App) (ids : List Text) (command : Command) → has_globals command ≡ false → app_of command ≡ app → Completes (with_arguments app ids) ids command
   completes app [] command local is = λ above new added. shape above command new added local ∙ ap (λ (a : App). with_subcommand (app_of above) a.top) (is ∙ sym (without_more app))
   completes app (id ∷ ids) command local is = λ new arg rule not_global added.
       subst (λ (a : App). Completes a ids new) (with_one_more app id ids)
-      (completes (with_rule app (argument id)) ids new (stays_local _ _ _ (grows command new arg added) local not_global) (added.shape not_global ∙ ap₂ with_rule is rule))
+      (completes (with_rule app (argument id)) ids new (rw ((grows command new arg added), local, not_global) refl) (added.shape not_global ∙ ap₂ with_rule is rule))
 
 -- ---- commands
 

@@ -17,13 +17,9 @@ use Rattle.command_line.specs.declared.no_call.NoCall.TheVariants.{Told, Memory}
 abbrev both : {X : Type 0} → (X → Text) → (X → List Row) → X → Text × List Row
 both name rows x = (name x, rows x)
 
--- a name and rows that are read apart stand together
-stand_together : {X : Type 0} (o : Option X) (name : X → Text) (rows : X → List Row) (n : Text) (r : List Row) → option_map name o ≡ Some n → option_map (λ (p : Text × List Row). p.1) (option_map (both name rows) o) ≡ Some r → option_map (both name rows) o ≡ Some (n, r)
-stand_together o name rows n r e h = grind arith
-
 -- the subcommand that the getters of `clap` read is what was found
 pub entered : (m found : ArgMatches) (command : Text) → subcommand_name_of m ≡ Some command → option_map (λ (p : Text × List Row). p.1) (subcommand_rows_of m) ≡ Some (rows_of (found_of found)) → subcommand_rows_of m ≡ Some (command, rows_of (found_of found))
-entered m found command name rows = stand_together _ _ _ command (rows_of (found_of found)) name rows
+entered m found command name rows = grind arith
 
 -- and so is the text of an argument
 pub text_found : (found : ArgMatches) (id : Text) (text : Option (Bor (List ℕ))) (t : Bor (List ℕ)) → option_map (λ s. s.now) text ≡ first_value (found_of found) id → text ≡ Some t → first_of id (rows_of (found_of found)) ≡ Some t.now

@@ -81,17 +81,11 @@ written_text input old new count is = (canon is.zone, record { zone = is.zone; d
 
 -- ---- comparisons
 
-equal_is_same : (verdict : Verdict) (text other : Octets) → IsVerdictOnTexts verdict text other → text ≡ other → verdict ≡ Same
-equal_is_same verdict text other is equal = grind arith
-
-same_is_equal : (verdict : Verdict) (text other : Octets) → IsVerdictOnTexts verdict text other → verdict ≡ Same → text ≡ other
-same_is_equal verdict text other is same = subst (λ v. IsVerdictOnTexts v text other) same is
-
 pub same_if_one : ((a b : Input) (z w : Zone) → InputDenotes a z → InputDenotes b w → (canon z ≡ canon w) ↔ DenoteOne a b)
     → (first second : Input) (verdict : Verdict) → Compares first second verdict → (verdict ≡ Same) ↔ DenoteOne first second
 same_if_one equal first second verdict is =
     let zones : (canon is.zone ≡ canon is.other) ↔ DenoteOne first second = equal first second is.zone is.other is.denotes is.other_denotes in
-    (λ same. zones.0 (same_is_equal verdict (canon is.zone) (canon is.other) is.judged same), λ one. equal_is_same verdict (canon is.zone) (canon is.other) is.judged (zones.1 one))
+    (λ same. zones.0 (subst (λ v. IsVerdictOnTexts v (canon is.zone) (canon is.other)) same is.judged), λ one. (grind (arith, is.judged, zones.1 one)))
 
 one_judgement : (verdict another : Verdict) (text other : Octets) → IsVerdictOnTexts verdict text other → IsVerdictOnTexts another text other → verdict ≡ another
 one_judgement verdict another text other is too = grind arith

@@ -37,16 +37,6 @@ normalises input z reads stated is old new count written short counted = record 
 pub normalises_to : (input : Input) (z : Zone) → ReadsZoneWithin text_limit input z → ReadIsStated → IsInput input → (r : Result (Vec ℕ Global) Stop) → IfOk r (λ text. text.items ≡ canon z) → OnOk r (length (canon z) ≤ text_limit) → IfOk r (λ text. NormalisesTo input text.items)
 normalises_to input z reads stated is r same short = grind arith
 
-nothing_written : (limit : ℕ) (text : Octets) (old new : Device) (stop : Stop) → StopsWrite limit text old new stop → WritesNothing stop old.octets new.octets
-nothing_written limit text old new stop given = grind arith
-
-tells_write : (limit : ℕ) (text : Octets) (old new : Device) (stop : Stop) → StopsWrite limit text old new stop → TellsWrite old new stop
-tells_write limit text old new stop given = grind arith
-
--- what stops the printing tells no failed read
-prints_no_read : (reader reader' : Device) (limit : ℕ) (text : Octets) (old new : Device) (stop : Stop) → WorksOn reader reader' → StopsWrite limit text old new stop → TellsRead reader reader' stop
-prints_no_read reader reader' limit text old new stop on given = grind arith
-
 -- a stop of reading leaves the writer as it was
 pub stops_unwritten : (form : Octets → Input) (reader writer : Device) (stop : Stop) → IsOfReading stop → StopsNormalise form reader writer writer stop
 stops_unwritten form reader writer stop is = record { nothing = nothing stop is; prefix = prefix reader.octets; tells = tells stop is }
@@ -71,9 +61,9 @@ stops_unwritten form reader writer stop is = record { nothing = nothing stop is;
 module _ (form : Octets → Input) (reader old new : Device) (z : Zone) (stop : Stop) (reads : IfSome reader.octets (λ octets. ReadsZoneWithin text_limit (form octets) z)) (stops : StopsWrite text_limit (canon z) old new stop) where
   pub stops_writing : ReadIsStated → ((octets : Octets) → ReadsZoneWithin text_limit (form octets) z → IsInput (form octets)) → StopsNormalise form reader old new stop
   stops_writing stated is = record {
-    nothing = nothing_written text_limit (canon z) old new stop stops;
+    nothing = grind arith;
     prefix = IfSome_then _ reads (λ octets r. front_written (form octets) z r stated (is octets r) old new stop stops);
-    tells = tells_write text_limit (canon z) old new stop stops;
+    tells = grind arith;
   }
 
   pub stops_when_read : (reader' : Device) → ReadsToEnd text_limit reader reader' → StopsReading text_limit form reader reader' stop
@@ -81,7 +71,7 @@ module _ (form : Octets → Input) (reader old new : Device) (z : Zone) (stop : 
     few = end.few;
     fault = IfSome_then _ reads (λ octets r. refused_writing (form octets) z r old new stop stops);
     whole = if_refused _ stop (inl end.whole);
-    tells = prints_no_read reader reader' text_limit (canon z) old new stop end.works stops;
+    tells = grind (arith, end.works);
   }
 
 -- printing a text stops for no failed read and no failed write

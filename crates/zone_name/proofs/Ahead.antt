@@ -24,22 +24,16 @@ Shrinks rest (at_dot after) = length after < length rest
 Shrinks rest (at_octet c after) = length after < length rest
 Shrinks rest at_fault = Unit {0}
 
-shrinks_by : (rest : List ℕ) (ahead : Ahead) → IsAhead rest ahead → Shrinks rest ahead
-shrinks_by rest ahead is = grind arith
-
 pub ahead_shrinks : (rest : List ℕ) → Shrinks rest (ahead_in rest)
-ahead_shrinks rest = shrinks_by rest (ahead_in rest) (ahead_is rest)
+ahead_shrinks rest = grind (arith, ahead_is rest)
 
 -- the way back: what is ahead where a written octet stands
 pub ahead-unit : (w : Written) (rest : List ℕ) → IsUnit is_dot w → ahead_in (text_of w ++ rest) ≡ at_octet (octet_of w) rest
 ahead-unit w rest is = grind arith
 
-bad_by : (rest : List ℕ) (ahead : Ahead) → IsBadEscape rest → IsAhead rest ahead → ahead ≡ at_fault
-bad_by rest ahead bad is = grind arith
-
 -- a backslash that begins no escape is a fault ahead
 pub ahead-bad : (rest : List ℕ) → IsBadEscape rest → ahead_in rest ≡ at_fault
-ahead-bad rest bad = bad_by rest (ahead_in rest) bad (ahead_is rest)
+ahead-bad rest bad = grind (arith, ahead_is rest)
 
 -- ---- what the code finds
 

@@ -125,9 +125,6 @@ answered-origin letters (Some origin) text above is known = cc (sized-name origi
 faultless_dot : (text : List ℕ) (fault : NameFault) → text ≡ codes "." → FaultAt text fault → reading text ≡ Err fault → ⊥
 faultless_dot text fault dot h e = grind (arith, reading_dot)
 
-within_answered : (letters : Letters) (origin : Option (List (List ℕ))) (text : List ℕ) (form : NameShape) (fault : NameFault) → HasShape text form → FaultAt text fault → answered letters origin text form ≡ Err fault
-within_answered letters origin text form fault dot at = grind (arith, faultless_dot, reading-fault, err_not_ok, reading_at)
-
 relative_answered : (letters : Letters) (text : List ℕ) (form : NameShape) → HasShape text form → IsRelative text → answered letters None text form ≡ Err RelativeName
 relative_answered letters text form dot is = grind (arith, err_not_ok, reading_dot, reading-parted)
 
@@ -159,7 +156,7 @@ same_fault letters others origin text Labels fault e = same_by letters others or
 
 -- the first fault of a text is its answer
 pub answered-fault : (letters : Letters) (origin : Option (List (List ℕ))) (text : List ℕ) (form : NameShape) (fault : NameFault) → HasShape text form → SpellingFault origin text fault → answered letters origin text form ≡ Err fault
-answered-fault letters origin text form fault has (within f at) = within_answered letters origin text form f has at
+answered-fault letters origin text form fault has (within f at) = grind (arith, faultless_dot, reading-fault, err_not_ok, reading_at)
 answered-fault letters origin text form fault has (unfounded none is) = cc (relative_answered letters text form has is)
 answered-fault letters origin text form fault has (long_name labels writes short long) = same_fault Folded letters origin text form NameTooLong (writes_answered Folded origin text labels form has writes short ∙ sized-long labels long)
 

@@ -24,12 +24,9 @@ bare_append xs ys x y = grind (arith, common_steps)
 pub bare_unit : (w : Written) → IsUnit not_bare w → StandsBare (text_of w)
 bare_unit w is = record { units = w ∷ []; some = omega arith; each = (is, tt); parts = sym (append-nil (text_of w)) }
 
-pub bare_plain : (c : ℕ) → is_bare c ≡ true → IsUnit not_bare (plain c)
-bare_plain c is = (ap not is, λ e. both_ways (is_bare c) (ap is_bare e) is)
-
 plain_units : (text : List ℕ) → AllByRecursion (λ c. is_bare c ≡ true) text → AllByRecursion (IsUnit not_bare) (map plain text)
 plain_units [] each = tt
-plain_units (c ∷ text) each = (bare_plain c each.0, plain_units text each.1)
+plain_units (c ∷ text) each = (((ap not each.0, λ e. both_ways (is_bare c) (ap is_bare e) each.0)), plain_units text each.1)
 
 pub plain_text : (text : List ℕ) → text ≡ written_text (map plain text)
 plain_text [] = refl

@@ -53,9 +53,6 @@ label_each : (label : List ℕ) → AllByRecursion IsFoldedOctet label → AllBy
 label_each [] each = tt
 label_each (c ∷ label) each = (printed_is c each.0.octet, label_each label each.1)
 
-label_written : (label : List ℕ) → IsLabel label → IsWrittenLabel (map printed_octet label)
-label_written label is = grind (arith, length-map, printed_octet, label_each)
-
 label_spelling : (label : List ℕ) → written_text (map printed_octet label) ≡ flat_map octet_text label
 label_spelling [] = refl
 label_spelling (c ∷ label) = cc (text_of-printed c, label_spelling label)
@@ -66,7 +63,7 @@ label_back (c ∷ label) each = cc (octet_of-printed c, label_back label each.1)
 
 name_each : (labels : List (List ℕ)) → AllByRecursion IsLabel labels → AllByRecursion IsWrittenLabel (map (map printed_octet) labels)
 name_each [] each = tt
-name_each (label ∷ labels) each = (label_written label each.0, name_each labels each.1)
+name_each (label ∷ labels) each = ((grind (arith, length-map, printed_octet, label_each, each.0)), name_each labels each.1)
 
 name_spelling : (labels : List (List ℕ)) → dotted (map (map printed_octet) labels) ≡ flat_map label_text labels
 name_spelling [] = refl

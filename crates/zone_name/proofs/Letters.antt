@@ -50,9 +50,6 @@ pub joined-long : (octets others : List ℕ) → 255 < length octets + length ot
 joined-long octets others over Folded holds name = joined_long octets others (labels_of octets) (labels_of others) holds.whole (sym name.whole) over
 joined-long octets others over Kept holds name = joined_long octets others (labels_of octets) (labels_of others) holds.whole (sym name.whole) over
 
-sized_joined : (left right : List (List ℕ)) (new : List ℕ) → length (wire (labels_of new)) ≤ 255 → labels_of new ≡ left ++ right → sized (left ++ right) ≡ Ok (labels_of new)
-sized_joined left right new short is = ap sized (sym is) ∙ sized-name (labels_of new) short
-
 name_short : (letters : Letters) (octets : List ℕ) → HoldsNameBy letters octets → length (wire (labels_of octets)) ≤ 255
 name_short Folded octets name = name.name.short
 name_short Kept octets name = name.name.short
@@ -61,7 +58,7 @@ name_short Kept octets name = name.name.short
 pub ended_with : (letters : Letters) (octets ending new : List ℕ) → HoldsLabelsBy letters octets → HoldsNameBy letters ending → new ≡ octets ++ ending → length octets + length ending ≤ 255 → HoldsNameBy letters new × (sized (labels_of octets ++ labels_of ending) ≡ Ok (labels_of new))
 ended_with letters octets ending new holds name is room =
     let both = joined letters octets ending new holds name is (omega (arith, room, ap length is, length-append octets ending)) in
-    (both.holds, sized_joined (labels_of octets) (labels_of ending) new (name_short letters new both.holds) both.gives)
+    (both.holds, (ap sized (sym both.gives) ∙ sized-name (labels_of new) (name_short letters new both.holds)))
 
 -- the root is a name, however letters are taken
 pub root_holds : (letters : Letters) (octets : List ℕ) → octets ≡ [] ++ 0 ∷ [] → HoldsNameBy letters octets
@@ -124,10 +121,6 @@ joined_size labels above = omega (arith, ap length (flat_map-append with_length 
 wire_some : (labels : List (List ℕ)) → 0 < length (wire labels)
 wire_some labels = omega (arith, length-append (flat_map with_length labels) (0 ∷ []))
 
--- labels that are too long stay so with more after them
-long_joined : (labels above : List (List ℕ)) → 255 < length (wire labels) → sized (labels ++ above) ≡ Err NameTooLong
-long_joined labels above over = sized-long (labels ++ above) (omega (arith, over, joined_size labels above, wire_some above))
-
 pub absolute_long : (origin : Option (List (List ℕ))) (spelled : Spelled) (held labels : List (List ℕ)) → spelled.is_absolute ≡ true → spelled.is_too_long ≡ true → Collects held spelled.is_too_long labels → under_origin origin (Ok (labels, spelled.is_absolute)) ≡ Err NameTooLong
 absolute_long origin spelled held labels absolute long collects =
     let over : 255 < length (wire labels) = rw long at collects in
@@ -136,7 +129,7 @@ absolute_long origin spelled held labels absolute long collects =
 pub relative_long : (origin : Option (List (List ℕ))) (above : List (List ℕ)) (spelled : Spelled) (held labels : List (List ℕ)) → spelled.is_absolute ≡ false → origin ≡ Some above → spelled.is_too_long ≡ true → Collects held spelled.is_too_long labels → under_origin origin (Ok (labels, spelled.is_absolute)) ≡ Err NameTooLong
 relative_long origin above spelled held labels relative is long collects =
     let over : 255 < length (wire labels) = rw long at collects in
-    rw (relative, is) (long_joined labels above over)
+    rw (relative, is) (sized-long (labels ++ above) (omega (arith, over, joined_size labels above, wire_some above)))
 
 -- ---- the name that is made of what was read
 

@@ -41,10 +41,6 @@ labels_of-frames labels rest each =
     let fuel : length (flat_map with_length labels ++ rest) ≡ length labels + n = omega (arith, length-frames labels, length-append (flat_map with_length labels) rest) in
     (n, labels_by-frames labels rest (length (flat_map with_length labels ++ rest)) n fuel each)
 
--- no label follows the root
-pub labels_by-root : (n : ℕ) (rest : List ℕ) → labels_by n (0 ∷ rest) ≡ []
-labels_by-root n rest = grind arith
-
 -- `labels_of` gives back the labels that `wire` writes, whatever follows
 pub labels_of-wire_append : (labels : List (List ℕ)) (rest : List ℕ) → AllByRecursion IsLabel labels → labels_of (wire labels ++ rest) ≡ labels
 labels_of-wire_append labels rest each = grind (arith, labels_of-frames labels (0 ∷ rest) (labels_some labels each), append_assoc (flat_map with_length labels) (0 ∷ []) rest, append-nil labels)
@@ -100,7 +96,7 @@ next_label n more begins positive = next_in (labels_of (n ∷ more)) (drop (leng
 -- at the root no label is left
 pub root_label : (n : ℕ) (more : List ℕ) → n ≡ 0 → labels_of (n ∷ more) ≡ []
 unfolding labels_of
-root_label n more e = rw e (labels_by-root (length (0 ∷ more)) more)
+root_label n more e = rw e (grind arith)
 
 -- the root's octets, as they are pushed
 pub HoldsName-root : (octets : List ℕ) → octets ≡ [] ++ 0 ∷ [] → HoldsName octets

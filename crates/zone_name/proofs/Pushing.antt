@@ -19,15 +19,8 @@ pub AllByRecursion-back : {X : Type 0} (P : X → Type 0) (xs ys : List X) → A
 AllByRecursion-back P [] ys each = each
 AllByRecursion-back P (x ∷ xs) ys each = AllByRecursion-back P xs ys each.1
 
--- folding a folded octet changes nothing
-pub folded_octet-twice : (c : ℕ) → folded_octet (folded_octet c) ≡ folded_octet c
-folded_octet-twice c = grind (arith, nat_tests)
-
-pub folded_octet-short : (c : ℕ) → c < 256 → folded_octet c < 256
-folded_octet-short c h = grind (arith, nat_tests)
-
 pub IsFoldedOctet-folded : (c : ℕ) → c < 256 → IsFoldedOctet (folded_octet c)
-IsFoldedOctet-folded c h = record { octet = folded_octet-short c h; lower = folded_octet-twice c }
+IsFoldedOctet-folded c h = record { octet = (grind (arith, nat_tests)); lower = (grind (arith, nat_tests)) }
 
 folded_each : (label : List ℕ) → AllByRecursion (λ c. c < 256) label → AllByRecursion IsFoldedOctet (folded_label label)
 folded_each [] each = tt

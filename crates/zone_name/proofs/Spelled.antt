@@ -36,16 +36,10 @@ parted_push [] label = refl
 parted_push (l ∷ []) label = join_more (written_text l) [] (written_text label)
 parted_push (l ∷ m ∷ ls) label = grind (arith, join_more, parted_push (m ∷ ls) label)
 
-reaches_label : (text : List ℕ) (before : List (List Written)) (w : Written) (label : List Written) (rest more : List ℕ) → Reaches text before (w ∷ label) rest → rest ≡ 46 ∷ more → Reaches text (before ++ (w ∷ label) ∷ []) [] more
-reaches_label text before w label rest more r e = grind (arith, common_steps)
-
 reaches_octet : (text : List ℕ) (before : List (List Written)) (label : List Written) (w : Written) (rest more : List ℕ) → Reaches text before label rest → IsUnit is_dot w → rest ≡ text_of w ++ more → length label < 63 → Reaches text before (label ++ w ∷ []) more
 reaches_octet text before label w rest more r is e room = grind (arith, common_steps)
 
 -- ---- the ends
-absolute_end : (text : List ℕ) (before : List (List Written)) (rest : List ℕ) → 0 < length text → Reaches text before [] rest → rest ≡ [] → Finds dotted text (kept before)
-absolute_end text before rest some r e = grind (arith, common_steps)
-
 relative_end : (text : List ℕ) (before : List (List Written)) (w : Written) (label : List Written) (rest : List ℕ) → Reaches text before (w ∷ label) rest → rest ≡ [] → Finds parted text (kept before ++ written_octets (w ∷ label) ∷ [])
 relative_end text before w label rest r e = record {
   written = before ++ (w ∷ label) ∷ [];
@@ -74,14 +68,14 @@ full_label n text before label rest more c later r shorter enough w is oc e fals
     below m k same full = grind (arith, nat_tests)
 
 step_says : (n : ℕ) (text : List ℕ) (before : List (List Written)) (label : List Written) (rest : List ℕ) (ahead : Ahead) → text ≢ codes "." → 0 < length text → Later n text → Reaches text before label rest → length rest < suc n → IsAhead rest ahead → Shrinks rest ahead → Says text (after_step n (step_at (kept before) (written_octets label) ahead))
-step_says n text before [] rest at_end other some later r enough is shorter = absolute_end text before rest some r is
+step_says n text before [] rest at_end other some later r enough is shorter = grind (arith, common_steps)
 step_says n text before (w ∷ label) rest at_end other some later r enough is shorter = relative_end text before w label rest r is
 step_says n text before [] rest (at_dot more) other some later r enough is shorter = empty_label before rest r (inr (more, is)) (λ h. absurd (dot_some more (sym is ∙ h))) other
   where
     dot_some : (more : List ℕ) → 46 ∷ more ≡ [] → ⊥
     dot_some more e = cc
 step_says n text before (w ∷ label) rest (at_dot more) other some later r enough is shorter =
-    rw (kept_push before (w ∷ label)) at (later (before ++ (w ∷ label) ∷ []) [] more (reaches_label text before w label rest more r is) (omega arith))
+    rw (kept_push before (w ∷ label)) at (later (before ++ (w ∷ label) ∷ []) [] more (grind (arith, common_steps)) (omega arith))
 step_says n text before [] rest (at_octet c more) other some later r enough is shorter = full_label n text before [] rest more c later r shorter enough is.unit is.is_unit is.value is.parts (nat_le 63 (length (written_octets []))) refl
 step_says n text before (w ∷ label) rest (at_octet c more) other some later r enough is shorter = full_label n text before (w ∷ label) rest more c later r shorter enough is.unit is.is_unit is.value is.parts (nat_le 63 (length (written_octets (w ∷ label)))) refl
 step_says n text before [] rest at_fault other some later r enough is shorter = bad_escape before [] rest r is

@@ -98,9 +98,6 @@ reading-nil text e = grind arith
 wire-more : (labels : List (List ℕ)) (label : List ℕ) → 255 < length (wire labels) → 255 < length (wire (labels ++ label ∷ []))
 wire-more labels label over = grind (arith, flat_map-append, length-append)
 
-joined_collects : (before after labels : List (List ℕ)) (label : List ℕ) (is_too_long is_left_out : Bool) → Collects before is_too_long labels → Joins before label is_left_out after → Collects after (is_too_long || is_left_out) (labels ++ label ∷ [])
-joined_collects before after labels label is_too_long is_left_out collects joins = grind (arith, wire-more)
-
 -- a label's end, as the next step finds it
 end_step : (fuel : ℕ) (labels : List (List ℕ)) (label rest : List ℕ) → length rest < fuel → 0 < length label → rest ≡ [] → read fuel labels label rest ≡ Ok (labels ++ label ∷ [], false)
 end_step fuel labels label rest enough some e = grind (arith, read_step)
@@ -110,14 +107,11 @@ dot_step zero labels label rest more enough some e = absurd (omega arith)
 dot_step (suc n) labels [] rest more enough some e = absurd (omega arith)
 dot_step (suc n) labels (c ∷ label) rest more enough some e = grind (arith, read_step n labels (c ∷ label) rest (at_dot more) (ap ahead_in e))
 
-dot_is : (rest more : List ℕ) (c : ℕ) → EndsLabel rest → rest ≡ c ∷ more → rest ≡ 46 ∷ more
-dot_is rest more c h is = grind arith
-
 -- a label with its dot
 pub Reads-label : (text : List ℕ) (before after : List (List ℕ)) (is_too_long is_left_out : Bool) (rest label following more : List ℕ) (c : ℕ) → Reads text before is_too_long rest → EndsLabelAt rest label following → Closes before label is_left_out after → following ≡ c ∷ more → Reads text after (is_too_long || is_left_out) more
 Reads-label text before after is_too_long is_left_out rest label following more c reads at closes is =
     let reached = at.goes reads.labels reads.fuel reads.enough in
-    let next = dot_step reached.0 reads.labels label following more reached.1 closes.some (dot_is following more c at.ends is) in
+    let next = dot_step reached.0 reads.labels label following more reached.1 closes.some (grind (arith, at.ends)) in
     grind (arith, common_steps)
 
 -- at the end of the text, in a label
@@ -126,5 +120,5 @@ Reads-relative text before after is_too_long is_left_out rest label following re
     let reached = at.goes reads.labels reads.fuel reads.enough in (
       reads.labels ++ label ∷ [],
       cc (end_step reached.0 reads.labels label following reached.1 closes.some is),
-      joined_collects before after reads.labels label is_too_long is_left_out reads.collects closes.joins,
+      (grind (arith, wire-more, reads.collects, closes.joins)),
     )

@@ -25,6 +25,7 @@ use zone_text::laws::line::{
 use zone_text::laws::tokens::{lines_are_cut_by_themselves, one_cut_of_a_text};
 
 /// The line of a record has one line feed, its last octet.
+#[tactic(auto, using(crate::proofs::Feeds::line_ends_with_feed))]
 pub fn each_line_ends()
     ensures { EachLineEnds }
 {}

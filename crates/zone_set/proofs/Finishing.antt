@@ -29,9 +29,6 @@ module _ (whole : List Record) (apex : List (List ℕ)) (left rest : List Record
   pub Walks-found : (IsWithin r.owner apex → ⊥) → IsFirstOutside whole apex r.owner
   Walks-found out = walks.outside r.owner (subst (λ rs. IsFirstOutside rs apex r.owner) (sym step) (record { before = []; first = r; others = rest; parts = refl; inside = tt; named = refl; outside = out }))
 
-pub no_soa_of_none : HasNoSoa []
-no_soa_of_none r has soa = has
-
 pub no_soa_of_first : (first : Record) (others : List Record) → AreCompatible (first ∷ others) → first.kind ≢ 6 → HasNoSoa (first ∷ others)
 no_soa_of_first first others compatible other r has soa = other (soa_first first others compatible.ascend r has soa)
 
@@ -116,4 +113,4 @@ module _ (held : List Record) (first : Record) (others : List Record) (compatibl
       (subst (λ rs. IsZone (record { apex = first.owner; class = first.class; records = rs })) (sym parts) (IsZone-from_first first others known soa whole.1))
 
 pub stops_with_none : (held : List Record) → held ≡ [] → StopsFinish held (Refused NoSoa Whole)
-stops_with_none held none = no_soa (subst HasNoSoa (sym none) no_soa_of_none)
+stops_with_none held none = no_soa (subst HasNoSoa (sym none) (λ r has soa. has))

@@ -1,15 +1,12 @@
 -- The key of labels has the order of the labels.
 use Rattle.zone_set.proofs.Common.{AllByRecursion, AllByRecursion-append, AreDigits, AreOctets, IsFoldedOctet, IsLabel, List, [], ap, arith, flat_map, label_cmp, label_key, name_cmp, nat_cmp, nat_tests, ordering_then, owner_key, refl, reverse, reverse-append, slice_cmp, subst, sym, then_assoc, ℕ, ◌++◌, ◌+◌, ◌<◌, ◌∙◌, ◌∷◌, ◌≡◌}
 
-next_cmp : (c d : ℕ) → nat_cmp (c + 1) (d + 1) ≡ nat_cmp c d
-next_cmp c d = grind (arith, nat_tests)
-
 label_embeds : (a b x y : List ℕ) → slice_cmp nat_cmp (label_key a ++ x) (label_key b ++ y) ≡ ordering_then (label_cmp a b) (slice_cmp nat_cmp x y)
 label_embeds [] [] x y = refl
 label_embeds [] (d ∷ b) x y = grind arith
 label_embeds (c ∷ a) [] x y = grind arith
 label_embeds (c ∷ a) (d ∷ b) x y =
-    ap (λ o. ordering_then o (slice_cmp nat_cmp (label_key a ++ x) (label_key b ++ y))) (next_cmp c d)
+    ap (λ o. ordering_then o (slice_cmp nat_cmp (label_key a ++ x) (label_key b ++ y))) (grind (arith, nat_tests))
     ∙ ap (ordering_then (nat_cmp c d)) (label_embeds a b x y) ∙ sym (then_assoc (nat_cmp c d) (label_cmp a b) (slice_cmp nat_cmp x y))
 
 labels_embed : (a b : List (List ℕ)) → slice_cmp nat_cmp (flat_map label_key a) (flat_map label_key b) ≡ slice_cmp label_cmp a b

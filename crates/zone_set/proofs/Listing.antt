@@ -45,9 +45,6 @@ accepted_offered placed held whole added = AllAccepted-from_compatible held plac
 pub IsSettledAs-offered : (placed : List Placed) (held : List Record) → AllByRecursion (λ p. IsRecord p.rr) placed → AddsEach [] placed held → IsSettledAs placed held
 IsSettledAs-offered placed held whole added = record { accepted = accepted_offered placed held whole added; same = same_offered placed held added }
 
-IsRefusedFor-same : (held others : List Record) (r : Record) (f : Fault) → SameRecords held others → IsRefusedFor held r f → IsRefusedFor others r f
-IsRefusedFor-same held others r f same given = grind (arith, builder.class, builder.soa, builder.ttl)
-
 -- and one of them refused
 pub StopsSettling-offered : (placed taken others : List Placed) (p : Placed) (held : List Record) (f : Fault) → placed ≡ taken ++ p ∷ others → AllByRecursion (λ p. IsRecord p.rr) taken → AddsEach [] taken held → IsRefusedFor held p.rr f → StopsSettling placed (Refused f p.place)
 StopsSettling-offered placed taken others p held f parts whole added why = refused f p.place (record {
@@ -56,6 +53,6 @@ StopsSettling-offered placed taken others p held f parts whole added why = refus
   others = others;
   parts = parts;
   accepted = accepted_offered taken held whole added;
-  why = IsRefusedFor-same held (records_of taken) p.rr f (same_offered taken held added) why;
+  why = grind (arith, builder.class, builder.soa, builder.ttl, same_offered taken held added);
   stands = refl;
 })

@@ -6,16 +6,13 @@ abbrev number_on : ℕ → List ℕ → ℕ
 number_on n [] = n
 number_on n (c ∷ octets) = number_on (n * 256 + c) octets
 
-digits_compare : (m n c d : ℕ) → c < 256 → d < 256 → nat_cmp (m * 256 + c) (n * 256 + d) ≡ ordering_then (nat_cmp m n) (nat_cmp c d)
-digits_compare m n c d low high = grind arith
-
 numbers_compare : (m n : ℕ) (x y : List ℕ) → length x ≡ length y → AreLow x → AreLow y → nat_cmp (number_on m x) (number_on n y) ≡ ordering_then (nat_cmp m n) (slice_cmp nat_cmp x y)
 numbers_compare m n [] [] same p q = grind arith
 numbers_compare m n [] (d ∷ y) same p q = absurd (omega (arith, same))
 numbers_compare m n (c ∷ x) [] same p q = absurd (omega (arith, same))
 numbers_compare m n (c ∷ x) (d ∷ y) same p q =
     numbers_compare (m * 256 + c) (n * 256 + d) x y (omega (arith, same)) p.1 q.1
-    ∙ ap (λ o. ordering_then o (slice_cmp nat_cmp x y)) (digits_compare m n c d p.0 q.0)
+    ∙ ap (λ o. ordering_then o (slice_cmp nat_cmp x y)) (grind (arith, p.0, q.0))
     ∙ then_assoc (nat_cmp m n) (nat_cmp c d) (slice_cmp nat_cmp x y)
 
 -- lists compare by their fronts, and then by what follows

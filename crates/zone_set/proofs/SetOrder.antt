@@ -31,9 +31,6 @@ module _ {K : Type 0} {R : K → K → Ordering} (total : IsTotalOrder R) (exact
   pub squeezed : {A : Type 0} (f : A → K) (S : A → A → Ordering) (a b c : A) → f a ≡ f c → then_cmp (on f R) S a b ≢ Greater → then_cmp (on f R) S b c ≢ Greater → (f a ≡ f b) × (S a b ≢ Greater) × (S b c ≢ Greater)
   squeezed f S a b c same low high = grind arith
 
-covers_between : (rrsig : Bool) (xs ys zs : List ℕ) → (if rrsig then take 2 xs else []) ≡ (if rrsig then take 2 zs else []) → slice_cmp nat_cmp xs ys ≢ Greater → slice_cmp nat_cmp ys zs ≢ Greater → (if rrsig then take 2 xs else []) ≡ (if rrsig then take 2 ys else [])
-covers_between rrsig xs ys zs same low high = search rules
-
 pub between_sets : (low r high : Record) → low.class ≡ high.class → InOneSet low high → canonical_cmp low r ≢ Greater → canonical_cmp r high ≢ Greater → InOneSet low r
 between_sets low r high class one under over =
     let ranks = squeezed nat_cmp_total exact_unsigned soa_rank (then_cmp (on (λ s. s.owner) name_cmp) (on data_of data_cmp)) low r high (ap (λ k. if k == 6 then 0 else 1) one.kind) under over in
@@ -43,6 +40,6 @@ between_sets low r high class one under over =
     record {
       owner = owners.0;
       kind = kinds.0;
-      covers = covers_between (low.kind == 46) low.octets r.octets high.octets (one.covers ∙ ap (λ k. if k == 46 then take 2 high.octets else []) (sym one.kind)) kinds.1 kinds.2
+      covers = search (rules, one.covers ∙ ap (λ k. if k == 46 then take 2 high.octets else []) (sym one.kind), kinds.1, kinds.2)
           ∙ ap (λ k. if k == 46 then take 2 r.octets else []) kinds.0;
     }

@@ -39,9 +39,6 @@ pub record HaveValues (from to : Cursor) (fields : List Field) (old now : Built)
   pub fails : (fault : Fault) → values_at from.message.now from.end to.at (drop count fields) ≡ Err fault → values_at from.message.now from.end from.at fields ≡ Err fault
   pub same : data_of to ≡ data_of from
 
-plain_ready : (c : Cursor) (b : Built) (field : Field) → field ≢ Strings → Awaits c b field → IsReadyFor c b field
-plain_ready c b field other w = grind arith
-
 plain_parts : (field : Field) (value : FieldValue) → field ≢ Strings → Holds field value → parts_for value ≡ value ∷ []
 plain_parts field value other held = grind arith
 
@@ -74,7 +71,7 @@ module _ (from : Cursor) (fields : List Field) (old : Built) (laid : layout old.
 
   pub field_ready : (to : Cursor) (now : Built) (count : ℕ) (field : Field) → slice_get fields count ≡ Some field → HaveValues from to fields old now count → IsReadyFor to now field
   field_ready to now count field here h = elim (subst IsRow laid (each_row old.class old.kind)) [
-    | inl others ↦ plain_ready to now field (field_of (λ f. f ≢ Strings) fields count field here others) (plain_next to now count field others here h)
+    | inl others ↦ (grind (arith, field_of (λ f. f ≢ Strings) fields count field here others, plain_next to now count field others here h))
     | inr alone ↦ strings_ready to now count field alone here h
   ]
 

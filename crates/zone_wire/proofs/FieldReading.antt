@@ -55,12 +55,9 @@ sized_fails c size field fault is e = grind arith
 pub sized_read : (old new : Cursor) (size : ℕ) (field : Field) (part : List ℕ) (value : FieldValue) → IsSizedAt old field size → TakesOctets old new size part → field_at field part ≡ value → Reads old new field value
 sized_read old new size field part value is taken same = record { read = grind (arith, new.order); same = taken.same }
 
-two_value : (part : List ℕ) (n : ℕ) → length part ≡ 2 → n ≡ u16_at part 0 → field_at U16 part ≡ u16_value n
-two_value part n len is = grind (arith, common_steps)
-
 pub two_read : (old new : Cursor) (part : List ℕ) (n : ℕ) → TakesOctets old new 2 part → n ≡ u16_at part 0 → Reads old new U16 (u16_value n)
 unfolding value_at
-two_read old new part n taken is = sized_read old new 2 U16 part (u16_value n) refl taken (two_value part n taken.len is)
+two_read old new part n taken is = sized_read old new 2 U16 part (u16_value n) refl taken (grind (arith, common_steps, taken.len))
 
 pub two_cut : (c : Cursor) (fault : Fault) → (fault ≡ BadRdata) × (c.end < c.at + 2) → next_value c U16 ≡ Err fault
 unfolding value_at
@@ -99,12 +96,8 @@ pub string_uncounted : (c : Cursor) (fault : Fault) → (fault ≡ BadRdata) × 
 string_uncounted c fault bad = sized_refused c _ OneString fault (string_sized c) (bad.0, omega (arith, bad.1))
 
 -- ---- a value that is read and pushed
--- a part that is awaited isn't refused
-unrefused_by : (old new : Cursor) (b : Built) (field : Field) (value : FieldValue) → Awaits old b field → Suits (Some field) value → FitsString value → Reads old new field value → (fault : Fault) → IsPushFault b value fault → ⊥
-unrefused_by old new b field value w suits fits reads fault given = search (rules, octets_push, length-append)
-
 pub unrefused : (old new : Cursor) (b : Built) (field : Field) (value : FieldValue) → Awaits old b field → Suits (Some field) value → FitsString value → Reads old new field value → (P : Fault → Type 0) (r : Result (Unit {0}) Failing) → IfErr r (IfFault (IsPushFault b value)) → IfErr r (IfFault P)
-unrefused old new b field value w suits fits reads P r = IfErr-fault r _ P (λ fault given. absurd (unrefused_by old new b field value w suits fits reads fault given))
+unrefused old new b field value w suits fits reads P r = IfErr-fault r _ P (λ fault given. absurd (search (rules, octets_push, length-append)))
 
 pub part_put : (field like : Field) (old new : Cursor) (b put : Built) (value : FieldValue) → next_value old field ≡ next_value old like → parts_for value ≡ value ∷ [] → Reads old new like value → Pushes b value put → PutsValue field old new b put
 part_put field like old new b put value same one reads pushed = record { value = value; reads = record { read = same ∙ reads.read; same = reads.same }; put = pushed.made ∙ ap (put_after b) (sym one) }

@@ -141,9 +141,6 @@ takes_whole octets before s old mid new after is head decided count takes =
       handed = λ given e. takes.gains.handed given (ap (λ d. given ++ d.placed) decided ∙ e) ∙ ap handed_on (placed_grow before p);
     }
 
-pub stops_in_answers : (octets : List ℕ) (before : List StatedMessage) (s : Sections) (old mid new : Transfer) (e : Fault × ℕ) → IsAfter before old → IsMessage octets s → TakesHead before s old mid → mid.decided ≡ old.decided → TakesUpTo octets s.answers (asked_in before ++ s.questions) (placed_in before) mid new (Some e) → StopsIn octets before old new e
-stops_in_answers octets before s old mid new e after is head decided takes = grind (arith, holds, asked_in, placed_in)
-
 hands_nothing : (placed : List Placed) (old new : Transfer) → new.decided ≡ old.decided → Hands placed (placed ++ []) old new
 hands_nothing placed old new decided = λ given e. ap (λ d. given ++ d.placed) decided ∙ e ∙ ap handed_on (sym (append-nil placed))
 
@@ -168,7 +165,7 @@ stopped_by octets answers first left before old mid new failings.Memory offset p
 -- a message after others, by what its answers give
 module _ (octets : List ℕ) (before : List StatedMessage) (s : Sections) (old mid new : Transfer) (after : IsAfter before old) (is : IsMessage octets s) (head : TakesHead before s old mid) (decided : mid.decided ≡ old.decided) (count : new.messages ≡ mid.messages) where
   failing_taken : (failing : Failing) (offset : ℕ) → IfNoMemory (TakesUpTo octets s.answers (asked_in before ++ s.questions) (placed_in before) mid new) (Err (failing, offset)) → IfNoMemory (TakesMessageUpTo octets before old new) (Err (failing, offset))
-  failing_taken (failings.Fault fault) offset takes = stops_in_answers octets before s old mid new (fault, offset) after is head decided takes
+  failing_taken (failings.Fault fault) offset takes = grind (arith, holds, asked_in, placed_in)
   failing_taken failings.Memory offset takes = tt
 
   pub message_taken : (r : Result (Unit {0}) (Failing × ℕ)) → TakesEach octets s.answers (asked_in before ++ s.questions) (placed_in before) r mid new → TakesMessage octets before r old new

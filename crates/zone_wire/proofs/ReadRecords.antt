@@ -18,9 +18,6 @@ part_short octets start end = grind (arith, common_steps)
 pub no_class_parts : (n : ℕ) → is_no_class n ≡ false → (n ≢ 0) × (n ≢ 254) × (n ≢ 255)
 no_class_parts n e = grind arith
 
-ttl_short : (n : ℕ) → ttl_of n ≤ 2147483647
-ttl_short n = grind arith
-
 abbrev Fit : List Placed → Type 0
 Fit placed = AllByRecursion (λ (p : Placed). IsRecord p.rr) placed
 
@@ -70,7 +67,7 @@ module _ (are_data : HeldAreData) (are_short : UnstrungAreShort) where
         let kind_short : a.kind < 65536 = subst (λ n. n < 65536) (sym (ap (λ (x : RecordAt). x.kind) at.stands)) (word_short at.found.end) in
         subst IsRecord (ok_same _ _ l.goes_on) (record {
           owner = subst IsName (sym (ap (λ (x : RecordAt). x.owner) at.stands)) at.name.name;
-          ttl = ttl_short a.ttl;
+          ttl = grind arith;
           rdata = record {
             class = record { short = class_short; not_zero = not_special.0; not_none = not_special.1; not_any = not_special.2 };
             kind = record { short = kind_short; stored = kind.0 };

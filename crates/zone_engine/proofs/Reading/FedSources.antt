@@ -6,16 +6,13 @@ use Rattle.zone_text.specs.Decided.{FileDecides}
 use Rattle.zone_text.specs.TextSource.{FileKept, StandsForFile}
 use Rattle.zone_wire.specs.TransferSource.{StandsForStream, StreamKept}
 
-pending_is : (pending : Pending) → pending.failed ≡ false → pending.records ≡ [] → pending.ending ≡ None → pending ≡ nothing_pending
-pending_is pending works empty whole = grind arith
-
 -- a source of a file that was fed nothing begins
 pub file_begins : ((origin : Labels) (placed : List Placed) (ending : Option (Fault × Place)) → FileDecides origin [] placed ending → (placed ≡ []) × (ending ≡ None)) → (origin : Labels) (source : SourceState FileKept) → StandsForFile origin source [] [] → source.held.finished ≡ false → BeginsAs IsFile FileLeave source.pending source.held (as_file origin)
 file_begins nothing origin source stands going =
     let none = nothing origin source.pending.records source.pending.ending (stands.decided going) in
     record {
       stands = record { is = tt; stands = stands };
-      nothing = pending_is source.pending stands.works none.0 none.1;
+      nothing = grind (arith, stands.works, none.0, none.1);
     }
 
 -- and so does one of a transfer

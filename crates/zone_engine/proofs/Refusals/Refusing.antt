@@ -111,9 +111,6 @@ one_stop total placed all _ _ (outside owner least) (outside other least') = ap 
 both_from : (f g : Fault) (at there : Place) → Refused f at ≡ Refused g there → (f ≡ g) × (at ≡ there)
 both_from f g at there e = let fault : f ≡ g = cc in let place : at ≡ there = cc in (fault, place)
 
-both_ending : (f g : Fault) (at there : Place) (ending : Option (Fault × Place)) → ending ≡ Some (f, at) → ending ≡ Some (g, there) → (f ≡ g) × (at ≡ there)
-both_ending f g at there ending e e' = grind arith
-
 -- ---- a reading
 
 pub one_refusal : IsTotalOrder name_cmp → (placed : List Placed) (ending : Option (Fault × Place)) (f g : Fault) (at there : Place) → RefusesReading placed ending f at → RefusesReading placed ending g there → (f ≡ g) × (at ≡ there)
@@ -122,7 +119,7 @@ one_refusal total placed ending f g at there (refused f' at' is) (unread g' ther
 one_refusal total placed ending f g at there (refused f' at' is) (unfinished g' there' all ends stops) = absurd (refused_not_accepted placed f' at' is all)
 one_refusal total placed ending f g at there (refused f' at' is) (too_large z ends zone same_records long) = absurd (refused_not_accepted placed f' at' is (zone_accepted z placed zone same_records))
 one_refusal total placed ending f g at there (unread f' at' all ends) (refused g' there' other) = absurd (refused_not_accepted placed g' there' other all)
-one_refusal total placed ending f g at there (unread f' at' all ends) (unread g' there' all' ends') = both_ending f' g' at' there' ending ends ends'
+one_refusal total placed ending f g at there (unread f' at' all ends) (unread g' there' all' ends') = grind arith
 one_refusal total placed ending f g at there (unread f' at' all ends) (unfinished g' there' all' ends' stops) = cc
 one_refusal total placed ending f g at there (unread f' at' all ends) (too_large z ends' zone same_records long) = cc
 one_refusal total placed ending f g at there (unfinished f' at' all ends stops) (refused g' there' other) = absurd (refused_not_accepted placed g' there' other all)
