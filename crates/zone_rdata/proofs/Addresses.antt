@@ -109,9 +109,6 @@ group_lacks c p miss is =
     let here : All (λ c. is_hex_digit c ≡ true) p.text = subst (All (λ c. is_hex_digit c ≡ true)) (drop_at zeros p.text (length zeros) refl) (All-drop (λ c. is_hex_digit c ≡ true) (length zeros) (zeros ++ p.text) passes) in
     each_weaker (λ d. d ≢ c) (λ d hit e. cc (sym hit ∙ ap is_hex_digit e ∙ miss)) p.text (recursion_from_All (λ c. is_hex_digit c ≡ true) p.text here)
 
-ok_same : {E : Type 0} (a b : List ℕ) (r : Result (List ℕ) E) → r ≡ Ok a → r ≡ Ok b → a ≡ b
-ok_same a b r x y = cc
-
 pub group_same : (text a b : List ℕ) → IsGroup (record { text = text; octets = a }) → IsGroup (record { text = text; octets = b }) → a ≡ b
 group_same text a b x y = cc
 

@@ -188,6 +188,3 @@ after_item n item items kept short = record {
 
 pub are_many : (n : ℕ) (items kept : List RawItem) → AreShortened n items kept → (n ≤ length items) × (n ≤ length kept)
 are_many n items kept short = grind (arith, length-append)
-
-pub at_least : (m n : ℕ) (items kept : List RawItem) → n ≤ m → AreShortened m items kept → AreShortened n items kept
-at_least m n items kept less short = grind arith

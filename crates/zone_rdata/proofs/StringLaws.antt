@@ -27,9 +27,6 @@ text_of-printed c = printed_text (is_special c) (is_shown c) c
 octet_of-printed : (c : ℕ) → octet_of (printed_unit c) ≡ c
 octet_of-printed c = value_by (is_special c) (is_shown c) c
 
-no_digit : (c : ℕ) → (c ≡ 34) ⊎ (c ≡ 92) → is_digit c ≡ false
-no_digit c h = grind arith
-
 quoted_by : (special shown : Bool) (c : ℕ) → is_special c ≡ special → is_shown c ≡ shown → c < 256 → IsUnit is_quote (written_by special shown c)
 unfolding written_by
 quoted_by special shown c e s low = grind arith

@@ -19,9 +19,6 @@ found_each p q (y ∷ ys) x all e =
     let both = and_parts (p y) (list_all p ys) all in
     found_by y x (find q ys) (λ z. p z ≡ true) (q y) e (λ t. both.0) (found_each p q ys x both.1)
 
-none_by : {X : Type 0} (y : X) (rest : Option X) (all t : Bool) → cond t (Some y) rest ≡ None → (rest ≡ None → all ≡ true) → (not t && all) ≡ true
-none_by y rest all t e more = grind arith
-
 -- where there is none, none passes
 pub none_passes : {X : Type 0} (q : X → Bool) (xs : List X) → find q xs ≡ None → list_all (λ x. not (q x)) xs ≡ true
 none_passes q [] e = refl

@@ -59,9 +59,6 @@ unfolding encode_with
 digits_all whole [] text none so_far = sym (so_far.left ∙ append-nil text)
 digits_all whole (c ∷ rest) text none so_far = absurd (omega (arith, none))
 
-pub digits_started : (whole : List ℕ) → HaveDigits whole whole []
-digits_started whole = record { left = refl }
-
 -- one more octet in digits
 pub hex_more : (octets pair : List ℕ) (i c d : ℕ) → i < length octets → c ≡ get_or octets i d → pair ≡ encode_lower (c ∷ []) → encode_lower (take i octets) ++ pair ≡ encode_lower (take (i + 1) octets)
 hex_more octets pair i c d lt at is = cc (take_more octets i d lt, encode_append (take i octets) (c ∷ []))

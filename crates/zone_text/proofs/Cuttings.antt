@@ -56,9 +56,6 @@ ends_bare depth rest fault (no_quoted_escape units after each whole bad) = searc
 ends_bare depth rest fault (no_quote units each whole) = at_octet 34 (written_text units) whole refl
 ends_bare depth rest fault (not_closed some whole) = at_end whole
 
-ends_comment : (depth : ℕ) (rest : List ℕ) (fault : Fault) → IsBroken depth rest fault → EndsComment rest → rest ≡ []
-ends_comment depth rest fault broken ends = search rules
-
 stops_at_end : (p : Token) (depth : ℕ) (rest : List ℕ) (fault : Option Fault) → Ends depth rest fault → MayEndBefore (p ∷ []) rest → Stops p rest
 stops_at_end (comment octets) depth rest fault ends last = subst EndsComment (sym last) tt
 stops_at_end (bare units) depth rest None ends last = at_end ends.1

@@ -3,9 +3,6 @@ use Rattle.zone_text.proofs.Common.{Ending, EntriesState, Entry, FileReads, File
 use Rattle.zone_text.proofs.Cuttings.{one_cut, one_break, cut_not_broken}
 use Rattle.zone_text.proofs.Entered.{record_once, fault_once, record_or_fault, nothing_or_record, nothing_or_fault}
 
-pub one_more : (p q : Placed) (a b more others : List Placed) → p.rr ≡ q.rr → p.place ≡ q.place → a ≡ p ∷ more → b ≡ q ∷ others → more ≡ others → a ≡ b
-one_more p q a b more others rr place x y rest = let same : p ≡ q = (rw (rr, place) refl) in cc
-
 -- the readings of entries
 
 abbrev pub Both : List Placed → List Placed → Ending → Ending → Type 0

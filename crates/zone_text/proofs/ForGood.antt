@@ -75,12 +75,6 @@ stays_or_ends depth rest fault (not_closed some whole) = inr (nothing_left whole
 pub break_stays_or_ends : (octets : List ℕ) (tokens : List Token) (fault : Fault) (broken : Breaks octets tokens fault) → StaysBroken broken.rest ⊎ BreaksAtEnd broken.rest
 break_stays_or_ends octets tokens fault broken = search (rules, stays_or_ends)
 
-no_digit : (x c : ℕ) → is_digit x ≡ true → x ≡ c → is_digit c ≡ false → ⊥
-no_digit x c is same is_not = both_ways (is_digit c) is_not (ap is_digit (sym same) ∙ is)
-
-line_end_is_no_digit : (x c : ℕ) → is_digit x ≡ true → x ≡ c → (c ≡ 10) ⊎ (c ≡ 13) → ⊥
-line_end_is_no_digit x c is same e = search rules
-
 -- an escape that further octets can't mend isn't cut off
 lost_not_cut : (rest : List ℕ) → IsLostEscape rest → IsCutOff rest → ⊥
 lost_not_cut rest h h2 = search rules

@@ -6,16 +6,9 @@ use Rattle.zone_text.proofs.EntryOutcome.{states_no_minimum, no_minimum}
 
 -- ---- an entry that is no record
 
-no_word : (origin : Labels) (before : List Entry) (entry : Entry) → parts_in (statement_of entry) ≡ None → (seconds : ℕ) → StatesMinimum origin before entry seconds → ⊥
-no_word origin before entry none seconds (owner, rdata, has, field) = let split = has.head.split in cc
-
 last_minimum : (origin : Labels) (before : List Entry) (entry : Entry) (carried : Option ℕ) → ((seconds : ℕ) → StatesMinimum origin before entry seconds → ⊥) → IsOneOrNone (IsLastMinimum origin before) carried → IsOneOrNone (IsLastMinimum origin (entry ∷ before)) carried
 last_minimum origin before entry None none so_far = no_minimum origin before entry none so_far
 last_minimum origin before entry (Some n) none so_far = inr (none, so_far)
-
--- no owner
-owner_by : (origin : Labels) (before : List Entry) (o : Option (List ℕ)) (owner : Option Labels) → o ≡ None → IsOneOrNone (IsLastOwner origin before) owner → IsOneOrNone (λ name. MatchOption o (IsLastOwner origin before name) (λ text. SpellsAfter origin before text name)) owner
-owner_by origin before o owner e so_far = grind arith
 
 -- a directive or a blank entry leaves what it does not set
 pub leaves : (origin : Labels) (before : List Entry) (entry : Entry) (form : Statement) (d : ParserState) (name : Labels) (seconds : Option ℕ) → statement_of entry ≡ form → parts_in form ≡ None → owner_text form ≡ None → IsStateAfter origin before d → IsOrigin origin (entry ∷ before) name → IsTtlOrNone (latest default_ttl_text (entry ∷ before)) seconds → IsStateAfter origin (entry ∷ before) (record { origin = name; owner = d.owner; class = d.class; default_ttl = seconds; last_ttl = d.last_ttl; minimum = d.minimum })

@@ -86,9 +86,6 @@ break_parted octets tokens more fault balanced broken = grind (arith, parted oct
 
 -- ---- a break that stays
 
-line_end_is_no_digit : (c : ℕ) → (c ≡ 10) ⊎ (c ≡ 13) → is_digit c ≡ false
-line_end_is_no_digit c e = search rules
-
 -- no written octet begins such a text, nor one that it begins
 begins_none : (rest more after : List ℕ) (w : Written) → IsLostEscape rest → IsEscape w → rest ++ more ≡ text_of w ++ after → ⊥
 begins_none rest more after w h2 written h = search rules

@@ -8,9 +8,6 @@ use Rattle.zone_text.specs.declared.parts.WordTexts.{WordTexts}
 
 -- ---- one word more
 
-now_of : Option (Bor (List ℕ)) → Option (List ℕ)
-now_of o = option_map (λ (text : Bor (List ℕ)). text.now) o
-
 stated_too : (o : Option (List ℕ)) (found : Option (Bor (List ℕ))) (is : Bool) → o ≡ option_map (λ (text : Bor (List ℕ)). text.now) found → is_some found ≡ is → is_some o ≡ is
 stated_too o None is e f = ap is_some e ∙ f
 stated_too o (Some text) is e f = ap is_some e ∙ f
@@ -35,24 +32,6 @@ class_found words texts next text have no_digit none is_word own same =
       class = class_pushed words text before ∙ sym own;
     })
 
--- a second TTL, a second class, and any other text
-pub second_ttl : (words : List Word) (texts : WordTexts) (text : List ℕ) → HaveTexts words texts → begins_with_digit text ≡ true → is_some texts.ttl ≡ true → word_after words (bare text) ≡ None
-second_ttl words texts text have digit some =
-    let before : is_some (ttl_among words) ≡ true = stated_too (ttl_among words) texts.ttl true have.ttl some in search rules
-
-second_by : (is_word : Bool) (o : Option (List ℕ)) (word : Word) → is_some o ≡ true → (if is_word then unless_stated o word else None) ≡ None
-second_by true (Some text) word e = refl
-second_by true None word e = absurd cc
-second_by false o word e = refl
-
-pub second_class : (words : List Word) (texts : WordTexts) (text : List ℕ) → HaveTexts words texts → begins_with_digit text ≡ false → is_some texts.class ≡ true → word_after words (bare text) ≡ None
-second_class words texts text have no_digit some =
-    let before : is_some (class_among words) ≡ true = stated_too (class_among words) texts.class true have.class some in
-    rw no_digit (second_by (is_class_word text) (class_among words) (class text) before)
-
-pub other_word : (words : List Word) (text : List ℕ) → begins_with_digit text ≡ false → is_class_word text ≡ false → word_after words (bare text) ≡ None
-other_word words text no_digit no_word = rw (no_digit, no_word) refl
-
 -- ---- all words
 
 -- the words found so far have these texts, and the items left follow them
@@ -68,10 +47,6 @@ found_to items rest texts found reads none same_ttl same_class same_rest =
       class = reads.have.class ∙ ap (option_map (λ (t : Bor (List ℕ)). t.now)) (sym same_class);
       rest = sym same_rest;
     })
-
--- no item is left
-pub found_end : (items rest : List RawItem) (texts : WordTexts) (found : RecordParts) → ReadsTexts items texts rest → rest ≡ [] → found.ttl ≡ texts.ttl → found.class ≡ texts.class → map raw found.rest.now ≡ rest → ArePartsIn (parts_after [] items) found
-found_end items rest texts found reads none = found_to items rest texts found reads (rw none refl)
 
 -- the next item is no word
 pub found_before : (items rest after : List RawItem) (item : RawItem) (texts : WordTexts) (found : RecordParts) → ReadsTexts items texts rest → rest ≡ item ∷ after → ((words : List Word) → HaveTexts words texts → word_after words item ≡ None) → found.ttl ≡ texts.ttl → found.class ≡ texts.class → map raw found.rest.now ≡ rest → ArePartsIn (parts_after [] items) found

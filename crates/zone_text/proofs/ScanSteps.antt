@@ -3,9 +3,6 @@ use Rattle.zone_text.proofs.Common.{AreQuiet, Bool, ClosesNothing, Ends, List, L
 
 -- ---- an octet that leaves the state as it is
 
-stays_open : (depth c : ℕ) → moves Open c ≡ false → open_step depth c ≡ on Open depth
-stays_open depth c e = search rules
-
 stays_in : (mode : Mode) (depth c : ℕ) → moves mode c ≡ false → step_in mode depth c ≡ on mode depth
 stays_in mode depth c e = grind arith
 

@@ -20,9 +20,6 @@ bare_ends = record { backslash = refl; digits = λ c digit. grind (arith, nat_te
 pub quoted_ends : EndsPlainly is_quote
 quoted_ends = record { backslash = refl; digits = λ c digit. grind (arith, nat_tests) }
 
-no_backslash : (c : ℕ) → is_digit c ≡ true → (c == 92) ≡ false
-no_backslash c digit = ne_eqb c 92 (λ e. both_ways (is_digit c) (ap is_digit e) digit)
-
 -- an item's units go up to what ends it
 pub item_len_of : (ends : ℕ → Bool) (units : List Written) (rest : List ℕ) → EndsPlainly ends → AllByRecursion (IsUnit ends) units → EndsAt ends rest → item_len ends false (written_text units ++ rest) ≡ length (written_text units)
 unfolding item_len
@@ -40,9 +37,6 @@ comment_len_of (c ∷ octets) rest each at = rw (ne_eqb c 10 each.0) (ap suc (co
 
 first_at : (text : List ℕ) (i : ℕ) → i < length text → drop i text ≡ get_or text i 0 ∷ drop (i + 1) text
 first_at text i less = rw (add-one, drop-cons text i 0) refl
-
-neither : (a b : Bool) → (a || b) ≡ false → (a ≡ false) × (b ≡ false)
-neither a b none = search rules
 
 -- an octet that neither ends the item nor is a backslash goes on
 pub plain_on : (ends : ℕ → Bool) (text : List ℕ) (i : ℕ) → i < length text → (ends (get_or text i 0) || get_or text i 0 == 92) ≡ false → ItemReaches ends text i → ItemReaches ends text (i + 1)
