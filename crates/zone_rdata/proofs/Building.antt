@@ -53,12 +53,9 @@ more_push : (n : ℕ) → more_fields fields.Strings (suc n) ≡ more_fields fie
 more_push zero = refl
 more_push (suc n) = ap (λ r. fields.OneString ∷ r) (more_push n)
 
-last_push : (f g : Field) (n : ℕ) → part_at (f ∷ []) n ≡ Some g → part_fields (f ∷ []) (suc n) ≡ part_fields (f ∷ []) n ++ part_field g ∷ []
-last_push f g n e = grind (arith, more_push)
-
 fields_push : (row : List Field) (f : Field) (n : ℕ) → part_at row n ≡ Some f → part_fields row (suc n) ≡ part_fields row n ++ part_field f ∷ []
 fields_push [] f n e = absurd (let s : None ≡ Some f = e in cc)
-fields_push (g ∷ []) f n e = last_push g f n e
+fields_push (g ∷ []) f n e = grind (arith, more_push)
 fields_push (g ∷ h ∷ row) f zero e = ap (λ k. part_field k ∷ []) (let s : g ≡ f = cc in s)
 fields_push (g ∷ h ∷ row) f (suc n) e = ap (λ r. part_field g ∷ r) (fields_push (h ∷ row) f n e)
 
@@ -86,11 +83,8 @@ pushed_field row f count octets part held e holds some =
     let last : StringsLast (here ++ part_field f ∷ []) = plain_last (here ++ part_field f ∷ []) (subst (λ r. AllByRecursion (λ g. g ≢ fields.Strings) r) next (plain_fields row (suc count))) in
     grind (arith, length-append, laid_out, values_back)
 
-pushed_opaque : (count : ℕ) (octets : List ℕ) (part : FieldValue) → ArePushedParts None count octets → IsOpaque count part → Pushed None count octets part
-pushed_opaque count octets part held s = grind arith
-
 pub pushed_part : (laid : Option (List Field)) (count : ℕ) (octets : List ℕ) (part : FieldValue) → ArePushedParts laid count octets → IsNext laid count part → FitsString part → IsReal part → Pushed laid count octets part
-pushed_part None count octets part held next fits real = pushed_opaque count octets part held next
+pushed_part None count octets part held next fits real = grind arith
 pushed_part (Some row) count octets part held next fits real =
     let f = some_field (part_at row count) part next in
     let own = field_part f.0 part f.2 fits real in

@@ -7,12 +7,9 @@ Decided P = P ⊎ (P → ⊥)
 pub true_or_not : (b : Bool) → Decided (b ≡ true)
 true_or_not b = grind arith
 
-pub both_or_not : {A B : Type 0} → Decided A → Decided B → Decided (A × B)
-both_or_not h b = grind arith
-
 pub each_or_not : {X : Type 0} (P : X → Type 0) → ((x : X) → Decided (P x)) → (xs : List X) → Decided (AllByRecursion P xs)
 each_or_not P one [] = inl tt
-each_or_not P one (x ∷ xs) = both_or_not (one x) (each_or_not P one xs)
+each_or_not P one (x ∷ xs) = grind (arith, one x, each_or_not P one xs)
 
 abbrev pub Choice : {X : Type 0} → (X → Type 0) → Type 0
 Choice {X = X} P = ((x : X) × P x) ⊎ ((x : X) → P x → ⊥)

@@ -38,11 +38,8 @@ each_spaced [] [] h = refl
 each_spaced (f ∷ row) (v ∷ values) h = grind (arith, each_spaced row values h.1, map-append, flat_map-append, field_spaced)
 each_spaced row values h = absurd h
 
-generic_written : (octets : List ℕ) → generic_text octets ≡ join_with_byte 32 (map written_item (generic_items octets))
-generic_written octets = grind (arith, printed-text)
-
 written_for : (laid : Option (List Field)) (octets : List ℕ) → AreFor laid octets → laid_out_text laid octets ≡ join_with_byte 32 (map written_item (laid_out_items laid octets))
-written_for None octets value = generic_written octets
+written_for None octets value = grind (arith, printed-text)
 written_for (Some row) octets value =
     let values = values_of row octets in
     joined_spaced (map field_text values) ∙ ap (drop 1) (sym (each_spaced row values value.held)) ∙ sym (joined_spaced (map written_item (flat_map field_items values)))

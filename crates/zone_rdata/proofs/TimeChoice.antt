@@ -69,15 +69,12 @@ groups_or_not : (text digits : List ℕ) → AreDigits digits → Decided (AreGr
 groups_or_not [] digits all = end_by digits all
 groups_or_not (c ∷ text) digits all = octet_by digits text c (is_digit c) all refl (groups_or_not text (digits ++ c ∷ [])) (groups_or_not text [] tt)
 
-some_groups : (c : ℕ) (text : List ℕ) (groups : List Group) → c ∷ text ≡ flat_map group_text groups → 0 < length groups
-some_groups c text groups e = grind (arith, common_steps)
-
 grouped_by : (text : List ℕ) → ((n : ℕ) → IsDecimal text n → ⊥) → (AreGroups text → ⊥) → (n : ℕ) → IsTime text n → ⊥
 grouped_by text none no_groups n h = grind arith
 
 time_by : (c : ℕ) (text : List ℕ) → Choice (IsDecimal (c ∷ text)) → Decided (AreGroups (c ∷ text)) → Choice (IsTime (c ∷ text))
 time_by c text (inl found) choice = inl (found.0, plain found.1)
-time_by c text (inr none) (inl are) = inl (sum_by group_seconds are.groups, grouped are.groups (some_groups c text are.groups are.parts) are.each are.parts refl)
+time_by c text (inr none) (inl are) = inl (sum_by group_seconds are.groups, grouped are.groups (grind (arith, common_steps, are.parts)) are.each are.parts refl)
 time_by c text (inr none) (inr no_groups) = inr (grouped_by (c ∷ text) none no_groups)
 
 no_time : (n : ℕ) → IsTime [] n → ⊥

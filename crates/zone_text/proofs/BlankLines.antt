@@ -73,14 +73,10 @@ comment_alone octets each = record {
 abbrev pub with_line : ℕ → EndedEntries → EndedEntries
 with_line line ended = record { decided = ended.decided; state = ended.state; line = line }
 
--- an entry without items states nothing and leaves the state as it is
-states_nothing : (origin : Labels) (before : List Entry) (entry : Entry) (old : EndedEntries) → entry.items ≡ [] → IsStateAfter origin before old.state → LeavesNoRecord origin before entry old.state
-states_nothing origin before entry old none are = search rules
-
 empty_read : (octets : List ℕ) (old : EndedEntries) → IsEmpty octets → old.decided.ending ≡ None → ReadsOctets octets old (with_line (old.line + 1) old)
 empty_read octets old is none =
     takes_entry octets old (with_line (old.line + 1) old)
-    (λ origin before line tokens are cut. decides_none (states_nothing origin before (entry_of line tokens) old (ap (flat_map item_of) (one_cut octets tokens is.tokens cut is.cut) ∙ is.none) are) refl)
+    (λ origin before line tokens are cut. decides_none (search (rules, ap (flat_map item_of) (one_cut octets tokens is.tokens cut is.cut) ∙ is.none)) refl)
     none
     (lines_after octets old (with_line (old.line + 1) old) 1 is.count is.some refl)
 

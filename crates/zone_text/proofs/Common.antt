@@ -22,7 +22,7 @@ unfoldable pub use Rattle.zone_name.specs.Name.{labels_of}
 pub use Rattle.zone_name.specs.Spelling.{IsBadEscape, IsEscape, IsUnit, SpellingFault, Spells, Written, absolute, at_origin, decimal, empty_label, escaped, is_digit, is_dot, no_octet, octet_of, plain, relative, text_of, within, written_octets, written_text}
 pub use Rattle.zone_name.specs.declared.fault.NameFault.TheVariants.{EmptyLabel}
 pub use Rattle.zone_rdata.proofs.FedSources.{stands_given, stands_none, stands_record, stands_stop}
-pub use Rattle.zone_rdata.proofs.LeftOut.{after_item, are_many, at_least, begin_with, fault_of_all, one_kept, one_left_out, state_none}
+pub use Rattle.zone_rdata.proofs.LeftOut.{after_item, are_many, begin_with, fault_of_all, one_kept, one_left_out, state_none}
 pub use Rattle.zone_rdata.specs.DataFault.{IsDataFault}
 pub use Rattle.zone_rdata.specs.Fault.{IfFault, fault_of}
 pub use Rattle.zone_rdata.specs.FedSource.{SourceState, counted, is_finished}

@@ -201,11 +201,8 @@ pub record DirectiveFault (origin : List (List ℕ)) (before : List Entry) (form
   pub bad : StatementFault origin before form fault
   pub none : parts_in form ≡ None
 
-statement_steps : (origin : List (List ℕ)) (before : List Entry) (entry : Entry) (fault : Fault) (split : Option Parts) → parts_in (statement_of entry) ≡ split → StatementFault origin before (statement_of entry) fault → DirectiveFault origin before (statement_of entry) fault ⊎ FaultySteps origin before entry fault
-statement_steps origin before entry fault split e h = grind arith
-
 faulty_steps : (origin : List (List ℕ)) (before : List Entry) (entry : Entry) (fault : Fault) → EntryFault origin before entry fault → DirectiveFault origin before (statement_of entry) fault ⊎ FaultySteps origin before entry fault
-faulty_steps origin before entry fault (of_statement h) = statement_steps origin before entry fault _ refl h
+faulty_steps origin before entry fault (of_statement h) = grind arith
 faulty_steps origin before entry fault (of_parts owner parts is split h) =
     inr (record { parts = parts; split = split; steps = inl (owner, (is, inr (fault, (h, refl)))) })
 faulty_steps origin before entry fault (of_rdata owner number kind items above has under h) =

@@ -134,14 +134,11 @@ no_minimum class kind octets seconds is field = cc
 pub ns_has_no_minimum : ((word : List ℕ) (a b : ℕ) → IsKindWord word a → IsKindWord word b → a ≡ b) → (before : List Entry) (entry : Entry) (words : List Word) (items : List RawItem) (seconds : ℕ) → parts_in (statement_of entry) ≡ Some (record { words = words; rest = bare (codes "NS") ∷ items }) → StatesMinimum x before entry seconds → ⊥
 ns_has_no_minimum once before entry words items seconds split (owner, rdata, contents, field) = grind (arith, common_steps, is_ns, no_minimum)
 
-h_name : IsName (under 104 x)
-h_name = omega arith
-
 n_spells : Spells (Some x) (codes "n") (under 110 x)
 n_spells = one_octet 110 x refl (omega arith) (omega arith) n_name
 
 h_spells : Spells (Some x) (codes "h") (under 104 x)
-h_spells = one_octet 104 x refl (omega arith) (omega arith) h_name
+h_spells = one_octet 104 x refl (omega arith) (omega arith) (omega arith)
 
 digit : (c n : ℕ) → is_digit c ≡ true → n ≡ decimal_value (c ∷ []) → IsDecimal (c ∷ []) n
 digit c n is value = record { some = lit< tt; digits = (is, tt); value = value }
@@ -235,9 +232,6 @@ address_states = record {
 address_kind : IsKind 1
 address_kind = record { short = lit< tt; stored = refl }
 
-address_fits : (owner : List (List ℕ)) (ttl : ℕ) → IsName owner → ttl ≤ 2147483647 → IsRecord (address owner ttl)
-address_fits owner ttl good short = search rules
-
 -- an entry of the items `A 10.0.0.1` after words and an owner
 pub states_address : (before : List Entry) (entry : Entry) (owner : List (List ℕ)) (ttl : ℕ) (words : List Word) → parts_in (statement_of entry) ≡ Some (record { words = words; rest = bare (codes "A") ∷ bare (codes "10.0.0.1") ∷ [] }) → IsOwner x before (statement_of entry) owner → AllByRecursion HasValue words → HasClass before entry 1 → IsOrigin x before x → HasTtl x before entry ttl → IsName owner → ttl ≤ 2147483647 → EntryStates x before entry (address owner ttl)
 states_address before entry owner ttl words split owns values has under_it lasts good short = record {
@@ -251,5 +245,5 @@ states_address before entry owner ttl words split owns values has under_it lasts
     states = address_states;
   };
   ttl = lasts;
-  fits = address_fits owner ttl good short;
+  fits = search rules;
 }

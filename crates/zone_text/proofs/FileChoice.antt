@@ -25,16 +25,10 @@ low_entries : (line : ℕ) (entries : List (List Token)) → AreLow (flat_map te
 low_entries line [] low = tt
 low_entries line (tokens ∷ entries) low = (low_items tokens (AllByRecursion-front _ (text tokens) (flat_map text entries) low), low_entries (line + count_by (λ c. c == 10) (text tokens)) entries (AllByRecursion-back _ (text tokens) (flat_map text entries) low))
 
-low_ended : (ended : List (List Token)) (open_tokens : List Token) → AreLow (flat_map text (and_last ended open_tokens)) → AreLow (flat_map text ended)
-low_ended ended open_tokens low = grind (arith, AllByRecursion-front, flat_map-append)
-
-low_of : (tokens : List Token) → AreLow (text tokens) → AreLowEntries (entries_of tokens)
-low_of tokens low = search (rules, low_entries, entries_text)
-
 low_ended_of : (tokens : List Token) → AreLow (text tokens) → AreLowEntries (ended_entries tokens)
 low_ended_of tokens low =
     let cut : Cut = cut_from zero tokens in
-    low_entries 1 cut.ended (low_ended cut.ended cut.open_tokens (subst AreLow (sym (entries_text tokens)) low))
+    low_entries 1 cut.ended (grind (arith, AllByRecursion-front, flat_map-append, subst AreLow (sym (entries_text tokens)) low))
 
 -- ---- entries are read one after the other
 
@@ -57,7 +51,7 @@ module _ (lower : Lower) (choices : Choices) (origin : List (List ℕ)) where
 
   file_by : (octets : List ℕ) → IsName origin → AreLow octets → ((tokens : List Token) × Cuts octets tokens) ⊎ ((tokens : List Token) × (fault : Fault) × Breaks octets tokens fault) → (placed : List Placed) × ((ending : Ending) × FileReads origin octets placed ending)
   file_by octets is low (inl cut) =
-      let found = readings is None (entries_of cut.0) [] tt (low_of cut.0 (subst AreLow cut.1.whole low)) in
+      let found = readings is None (entries_of cut.0) [] tt (search (rules, low_entries, entries_text, subst AreLow cut.1.whole low)) in
       (found.0, (found.1.0, whole cut.0 cut.1 found.1.1))
   file_by octets is low (inr bad) =
       let after : Ending = Some (bad.1, Line (open_line bad.0)) in

@@ -91,11 +91,8 @@ no_one_bare items many = search rules
 word_long : (a b c : Bool) (items kept : List RawItem) → one_bare items ≡ None → one_bare kept ≡ None → LongForms (if a then sets_origin items else if b then sets_ttl items else if c then includes else unknown) (if a then sets_origin kept else if b then sets_ttl kept else if c then includes else unknown)
 word_long a b c items kept many most = grind arith
 
-directive_long : (word : RawItem) (items kept : List RawItem) → Long 65551 items kept → LongForms (directive word items) (directive word kept)
-directive_long word items kept long = grind (arith, common_steps, are_many, word_long, no_one_bare)
-
 octet_long : (a b : Bool) (item : RawItem) (items kept : List RawItem) → IsWritten item → Long 65551 items kept → LongForms (if a then directive item items else if b then unowned (item ∷ items) else owned item items) (if a then directive item kept else if b then unowned (item ∷ kept) else owned item kept)
-octet_long true b item items kept is long = directive_long item items kept long
+octet_long true b item items kept is long = grind (arith, common_steps, are_many, word_long, no_one_bare)
 octet_long false true item items kept is long = search (rules, kept_parts, after_item)
 octet_long false false item items kept is long = record { same = refl; long = tt; other_long = tt; parts = kept_parts items kept long }
 

@@ -37,10 +37,8 @@ pub mod RecordsRead
 pub mod Lines
 pub mod StandingItems
 pub mod FirstFound
-pub mod TokensOf
 pub mod PartsLeft
 pub mod OpenEntries
-pub mod ClassHeld
 pub mod StopMarks
 pub mod OneLine
 pub mod EscapedItems

@@ -18,13 +18,10 @@ each_token (item ∷ next ∷ items) are = (token_of item are.0, (refl, each_tok
 item_passed : (item : Token) → IsItem item → MayFollow item (blank 32) × MayFollow item line_feed
 item_passed item is = search rules
 
-after_blank : (tokens : List Token) → AllFollow tokens → AllFollow (blank 32 ∷ tokens)
-after_blank tokens follow = search rules
-
 all_follow : (items : List Token) → AllByRecursion IsItem items → AllFollow (line_of items)
 all_follow [] are = tt
 all_follow (item ∷ []) are = ((item_passed item are.0).1, tt)
-all_follow (item ∷ next ∷ items) are = ((item_passed item are.0).0, after_blank (line_of (next ∷ items)) (all_follow (next ∷ items) are.1))
+all_follow (item ∷ next ∷ items) are = ((item_passed item are.0).0, (search (rules, all_follow (next ∷ items) are.1)))
 
 item_depth : (item : Token) (tokens : List Token) → IsItem item → depth_after zero (item ∷ tokens) ≡ depth_after zero tokens
 item_depth item tokens is = search rules
@@ -54,9 +51,6 @@ line_items items = refl
 
 -- ---- the entry that states every part
 
-owned_form : (first : Option ℕ) (item : RawItem) (items : List RawItem) → IfSome first (λ c. (is_blank c ≡ false) × (c ≢ 36)) → statement_by first (item ∷ items) ≡ owned item items
-owned_form first item items plain = search rules
-
 -- after a TTL and a class comes no word
 third_by : (a b : Bool) (s t : List ℕ) (v w : Word) → (if a then unless_stated (Some s) v else if b then unless_stated (Some t) w else None) ≡ None
 third_by a b s t v w = grind arith
@@ -66,7 +60,7 @@ whole_parts ttl_word class_word kind_word items is_ttl no_ttl is_class = cc (nex
 
 -- the form of the entry is that of a record with its owner
 pub whole_form : (entry : Entry) (r : Record) (s : StatesWhole entry r) → statement_of entry ≡ owned (raw.bare s.owner_text) (raw.bare s.ttl_text ∷ raw.bare s.class_word ∷ raw.bare s.kind_word ∷ s.items)
-whole_form entry r s = rw s.whole (owned_form entry.first (raw.bare s.owner_text) _ s.begins)
+whole_form entry r s = rw s.whole (search (rules, s.begins))
 
 pub whole_stated : (origin above : Labels) (before : List Entry) (entry : Entry) (r : Record) → IsOrigin origin before above → StatesWhole entry r → EntryStates origin before entry r
 whole_stated origin above before entry r under s =

@@ -31,14 +31,11 @@ u16_read octets low size =
 pub u16_sized : SizedField U16 u16_value 2
 u16_sized = grind (arith, u16_only, u16_read)
 
-u16_part : (v : FieldValue) → Suits (Some U16) v → FitsString v → IsReal v → Holds U16 v × (0 < length (field_octets v))
-u16_part v s fits real = grind arith
-
 pub u16_laws : FieldLaws U16 u16_value bare_item
 u16_laws = record {
   only = u16_only;
   opens = u16_opens;
-  part = u16_part;
+  part = (λ v s fits real. grind arith);
   back = λ n rest h last. ap u16_value (ap (from_be_bytes w16) (take_at (to_be_bytes w16 n) rest 2 refl) ∙ from_be_bytes-to_be_bytes_2 n h);
   low = λ n short. (omega arith, (omega arith, tt));
   short = λ n many fixed_size h. omega arith;
@@ -72,14 +69,11 @@ serial_read octets low size =
 pub serial_sized : SizedField Serial u32_value 4
 serial_sized = grind (arith, serial_only, serial_read)
 
-serial_part : (v : FieldValue) → Suits (Some Serial) v → FitsString v → IsReal v → Holds Serial v × (0 < length (field_octets v))
-serial_part v s fits real = grind arith
-
 pub serial_laws : FieldLaws Serial u32_value bare_item
 serial_laws = record {
   only = serial_only;
   opens = serial_opens;
-  part = serial_part;
+  part = (λ v s fits real. grind arith);
   back = λ n rest h last. ap u32_value (ap (from_be_bytes w32) (take_at (to_be_bytes w32 n) rest 4 refl) ∙ from_be_bytes-to_be_bytes_4 n h);
   low = λ n short. (omega arith, (omega arith, (omega arith, (omega arith, tt))));
   short = λ n many fixed_size h. omega arith;

@@ -35,11 +35,8 @@ appends_strings octets rest old new framed grows =
     let is = take_all (length octets) octets (omega arith) ∙ framed.2 in
     appends_plain Strings octets rest old new (length octets) (strings framed.0) (λ e. cc) framed.1 is (λ e. grows.following ∙ drop_all (length octets) octets (omega arith)) grows
 
-as_strings : (octets : List ℕ) (v : FieldValue) (rest : List ℕ) → BeginsWithValue Strings octets v rest → AreWithLengths octets
-as_strings octets v rest b = search rules
-
 pub none_strings : (octets : List ℕ) → (AreWithLengths octets → ⊥) → BeginsWithNone Strings octets
-none_strings octets none v rest b = none (as_strings octets v rest b)
+none_strings octets none v rest b = none (search rules)
 
 pub record Framed (octets rest : List ℕ) : Type 0 where
   pub many : List (List ℕ)
