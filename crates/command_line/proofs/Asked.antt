@@ -14,9 +14,6 @@ use Rattle.command_line.specs.Calls.{Calls, Commands, Finds, IsNoCall}
 use Rattle.command_line.specs.declared.no_call.NoCall.{NoCall}
 use Rattle.command_line.specs.declared.no_call.NoCall.TheVariants.{Told, Memory}
 
-abbrev both : {X : Type 0} → (X → Text) → (X → List Row) → X → Text × List Row
-both name rows x = (name x, rows x)
-
 -- the subcommand that the getters of `clap` read is what was found
 pub entered : (m found : ArgMatches) (command : Text) → subcommand_name_of m ≡ Some command → option_map (λ (p : Text × List Row). p.1) (subcommand_rows_of m) ≡ Some (rows_of (found_of found)) → subcommand_rows_of m ≡ Some (command, rows_of (found_of found))
 entered m found command name rows = grind arith
