@@ -7,7 +7,7 @@ use Rattle.hex.specs.Hex.{lower_digits, encode_with, encode_lower}
 use Rattle.std.specs.Fmt.{digit_glyph, digits, digits_onto}
 use Rattle.zone_name.proofs.Pushing.{AllByRecursion-append}
 use Rattle.zone_rdata.specs.declared.field.Field.{Field}
-use Rattle.zone_rdata.specs.Field.{FieldValue, name, values_of, field_items}
+use Rattle.zone_rdata.specs.Field.{FieldValue, values_of, field_items}
 use Rattle.zone_rdata.specs.Fields.OneString.{string_item}
 use Rattle.zone_rdata.specs.Generic.{generic_items}
 use Rattle.zone_rdata.specs.Item.{RawItem}

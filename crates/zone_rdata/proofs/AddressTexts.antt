@@ -1,5 +1,5 @@
 -- The canonical texts of addresses.
-use Rattle.zone_rdata.proofs.Common.{[], ◌≡◌, ℕ, zero, suc, ◌-◌, ◌/◌, ◌%◌, ◌^◌, ◌<◌, Bool, true, ◌&&◌, List, ◌∷◌, ◌++◌, ◌+◌, bytes_eq, decimal, nat_le, nat_tests, if◌then◌else◌, refl, arith, ◌==◌, inl, inr, slice_index, and_parts, cases_eq, eqb-true, encode_lower, lower_digits, digit_char}
+use Rattle.zone_rdata.proofs.Common.{[], ◌≡◌, ℕ, zero, suc, ◌/◌, ◌%◌, ◌^◌, ◌<◌, Bool, true, ◌&&◌, List, ◌∷◌, ◌++◌, ◌+◌, bytes_eq, decimal, nat_le, nat_tests, if◌then◌else◌, refl, arith, ◌==◌, inl, inr, slice_index, and_parts, cases_eq, eqb-true, encode_lower, lower_digits, digit_char}
 use Rattle.std.proofs.lemmas.Bool.{agree_below_at}
 use Rattle.std.specs.Cmp.Lexicographic.{bytes_decides}
 use Rattle.std.specs.Fmt.{digits}
