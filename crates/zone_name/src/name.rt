@@ -97,11 +97,11 @@ impl Name {
         Name::holding(self.octets.as_slice())
     }
 
-    /// Becomes a copy of the other, which is written in place.
-    pub fn copy_from(&mut self, other: &Name)
+    /// Becomes a copy of a name that is lent, which is written in place.
+    pub fn copy_from(&mut self, other: &NameRef<'_>)
         ensures { self.new ≡ other.now }
     {
-        hold(&mut self.octets, other.octets.as_slice());
+        hold(&mut self.octets, other.wire());
     }
 
     /// Does nothing, and tells contracts what holds of every name.

@@ -186,11 +186,11 @@ impl<'a> RrRef<'a> {
 impl Placed {
     /// Becomes the record of an owner, a TTL in seconds that was judged before, and data, with its
     /// place. The owner is written in place.
-    pub(crate) fn set(&mut self, owner: &Name, ttl: u32, rdata: Rdata, place: Place)
+    pub(crate) fn set(&mut self, owner: &NameRef<'_>, ttl: u32, rdata: Rdata, place: Place)
         requires { ttl ≤ MAX_TTL }
         ensures { self.new ≡ record { rr = record_with owner.now ttl rdata; place = place } }
     {
-        owner.known();
+        let _ = owner.wire();
         rdata.known();
         let rr = &mut self.rr;
         rr.owner.copy_from(owner);

@@ -1,8 +1,9 @@
-ghost use Rattle.std.specs.Prelude.{◌≡◌};
+ghost use Rattle.std.specs.Prelude.{◌≡◌, [], ◌∷◌, IfSome, IfNone};
 ghost use Rattle.zone_wire.specs.Message.{RecordAt, IsRecordAt};
 
 use crate::header::RECORD_HEAD_LEN;
 use crate::labels::LabelRoom;
+use crate::lent::RawRrRef;
 use crate::number::{u16_at, u32_at};
 use crate::runs::read_labels;
 use std::marker::Model;
@@ -101,8 +102,6 @@ pub struct Answers<'m> {
     pub(crate) offset: usize,
     /// How many answers are left.
     pub(crate) left: u16,
-    /// Room for the labels of an owner.
-    pub(crate) labels: LabelRoom,
 }
 
 impl<'m> Model for Answers<'m> {
@@ -128,10 +127,21 @@ impl<'m> Iterator for Answers<'m> {
     ghost remaining = { item_count (λ s. s) };
 
     fn next(&mut self) -> Option<RawRr<'m>> {
+        let mut labels = LabelRoom::new();
+        Some(self.next_in(&mut labels)?.to_raw())
+    }
+}
+
+impl<'m> Answers<'m> {
+    /// The next answer, its owner in a room.
+    pub(crate) fn next_in<'r>(&mut self, labels: &'r mut LabelRoom) -> Option<RawRrRef<'m, 'r>>
+        ensures some { IfSome result (λ r. self.old ≡ r ∷ self.new) }
+        ensures none { IfNone result ((self.old ≡ []) × (self.new ≡ [])) }
+    {
         if self.left == 0 {
             return None;
         }
-        let answer = record_at(self.message, self.offset, &mut self.labels);
+        let answer = record_at(self.message, self.offset, labels);
         self.left -= 1;
         self.offset = answer.end;
         Some(answer)
@@ -139,16 +149,20 @@ impl<'m> Iterator for Answers<'m> {
 }
 
 /// The record that begins at an offset of a message. The room is for the labels of its owner.
-fn record_at<'m>(message: &'m [u8], offset: usize, labels: &mut LabelRoom) -> RawRr<'m>
+fn record_at<'m, 'r>(
+    message: &'m [u8],
+    offset: usize,
+    labels: &'r mut LabelRoom,
+) -> RawRrRef<'m, 'r>
     requires { (r : RecordAt) × IsRecordAt message.now offset r }
     ensures octets { result.octets ≡ message.now }
     ensures at { IsRecordAt message.now offset result.at }
 {
     match read_labels(message, offset, labels) {
-        Ok(end) => RawRr {
+        Ok(end) => RawRrRef {
             message,
             offset,
-            owner: labels.finish(),
+            owner: labels.lend(),
             kind: u16_at(message, end),
             class: u16_at(message, end + 2),
             ttl: u32_at(message, end + 4),

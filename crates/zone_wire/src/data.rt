@@ -7,9 +7,9 @@ ghost use Rattle.zone_wire.specs.Transfer.{IsDataAt};
 ghost use Rattle.zone_wire.specs.Machine.Data.{data_at, values_at};
 ghost use Rattle.zone_wire.specs.Machine.DataReading.{AwaitsStrings, IsReadyFor, IsRead, PutsValue, PutsValues, next_value};
 
-use crate::answers::RawRr;
 use crate::cursor::Cursor;
 use crate::labels::LabelRoom;
+use crate::lent::RawRrRef;
 use crate::octets::are_octets;
 use zone_rdata::{Cause, Class, Field, Kind, Layout, NarrowFailing, Part, Rdata, RdataBuilder};
 
@@ -78,7 +78,7 @@ fn push_fields(
     Ok(())
 }
 
-impl<'m> RawRr<'m> {
+impl<'m, 'r> RawRrRef<'m, 'r> {
     /// Pushes the record's data: the values of its layout, or the octets as they are where there is
     /// none (RFC 3597 3, 4).
     fn push_data(

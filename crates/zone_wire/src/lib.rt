@@ -10,6 +10,7 @@ mod framer;
 mod header;
 mod labels;
 pub mod laws;
+mod lent;
 mod message;
 mod name;
 mod number;

@@ -6,7 +6,6 @@ ghost use Rattle.zone_wire.specs.View.{raw_at, asked};
 
 use crate::answers::Answers;
 use crate::header::{ANCOUNT, HEADER_LEN, QDCOUNT};
-use crate::labels::LabelRoom;
 use crate::name::{Decoded, name_at};
 use crate::number::u16_at;
 use crate::structure::answers_start;
@@ -111,7 +110,6 @@ impl<'m> Message<'m> {
             message: self.octets,
             offset: self.answers,
             left: u16_at(self.octets, ANCOUNT),
-            labels: LabelRoom::new(),
         }
     }
 }

@@ -8,6 +8,7 @@ ghost use Rattle.zone_wire.specs.Transfer.{IsReadable, AnswerStates, ttl_of};
 
 use crate::answers::RawRr;
 use crate::labels::LabelRoom;
+use crate::lent::RawRrRef;
 use crate::octets::are_octets;
 use std::alloc::Global;
 use zone_rdata::{Cause, Class, Failing, Kind, MAX_TTL, NarrowFailing, Rr};
@@ -31,7 +32,7 @@ pub(crate) fn counted_ttl(ttl: u32) -> u32
     if ttl > MAX_TTL { 0 } else { ttl }
 }
 
-impl<'m> RawRr<'m> {
+impl<'m, 'r> RawRrRef<'m, 'r> {
     /// Whether the type is SOA (RFC 1035 3.3.13).
     pub(crate) fn is_soa(&self) -> bool
         ensures { IsTrue result ↔ (self.now.at.kind ≡ 6) }
@@ -60,6 +61,22 @@ impl<'m> RawRr<'m> {
         Ok((class, kind))
     }
 
+    /// `to_rr`, with an answer of few octets.
+    pub(crate) fn read(&self, alloc: Global) -> Result<Rr, NarrowFailing>
+        ensures found { IfOk result (AnswerStates self.now.octets self.now.at) }
+        ensures only { (r : Record) → AnswerStates self.now.octets self.now.at r
+            → IfOk result (λ s. s ≡ r) × IfErr result (λ e. e ≡ Failing.Memory) }
+        ensures fault { IfErr result (IfFault (OwnFault self.now.octets self.now.at)) }
+    {
+        are_octets(self.message);
+        let (class, kind) = self.class_and_kind()?;
+        let mut labels = LabelRoom::new();
+        let rdata = self.rdata(Vec::new(alloc), class, kind, &mut labels)?;
+        Ok(Rr::of_parts(self.owner.to_name(), counted_ttl(self.ttl), rdata))
+    }
+}
+
+impl<'m> RawRr<'m> {
     /// The record that the answer states by itself, wherever it stands in a transfer (RFC 1035
     /// 3.2.1, 4.1.3). Names in its data are followed into the whole message. A TTL with its top bit
     /// set counts as 0 (RFC 2181 8).
@@ -76,20 +93,6 @@ impl<'m> RawRr<'m> {
             → IfOk result (λ s. s ≡ r) × IfErr result (λ e. e ≡ Failing.Memory) }
         ensures fault { IfErr result (IfFault (OwnFault self.now.octets self.now.at)) }
     {
-        Ok(self.read(alloc)?)
-    }
-
-    /// `to_rr`, with an answer of few octets.
-    pub(crate) fn read(&self, alloc: Global) -> Result<Rr, NarrowFailing>
-        ensures found { IfOk result (AnswerStates self.now.octets self.now.at) }
-        ensures only { (r : Record) → AnswerStates self.now.octets self.now.at r
-            → IfOk result (λ s. s ≡ r) × IfErr result (λ e. e ≡ Failing.Memory) }
-        ensures fault { IfErr result (IfFault (OwnFault self.now.octets self.now.at)) }
-    {
-        are_octets(self.message);
-        let (class, kind) = self.class_and_kind()?;
-        let mut labels = LabelRoom::new();
-        let rdata = self.rdata(Vec::new(alloc), class, kind, &mut labels)?;
-        Ok(Rr::of_parts(self.owner.copy(), counted_ttl(self.ttl), rdata))
+        Ok(self.lend().read(alloc)?)
     }
 }

@@ -11,13 +11,13 @@ ghost use Rattle.zone_wire.specs.Machine.Transferring.{zone_held, zone_with, Amo
 ghost use Rattle.zone_wire.specs.Message.{QuestionAt};
 ghost use Rattle.zone_wire.specs.Transfer.{AnswerStates, StatedMessage};
 
-use crate::answers::RawRr;
 use crate::header::HEADER_LEN;
 use crate::labels::LabelRoom;
+use crate::lent::RawRrRef;
 use crate::message::Message;
 use crate::record::counted_ttl;
 use std::alloc::{AllocError, Global};
-use zone_name::Name;
+use zone_name::{Name, NameRef};
 use zone_rdata::{Cause, MAX_TTL, NarrowFailing, PendingRecords, Place, Rdata, Reading, Rr};
 
 /// The number of the query type AXFR, of a whole zone (RFC 5936 2.1.2).
@@ -158,10 +158,10 @@ impl Transfer {
         ensures ending { self.new.decided.ending ≡ self.old.decided.ending }
     {
         let mut answers = message.answers();
-        let mut labels = LabelRoom::new();
-        while let Some(answer) = answers.next() {
+        let (mut owner, mut labels) = (LabelRoom::new(), LabelRoom::new());
+        while let Some(answer) = answers.next_in(&mut owner) {
             let offset = answer.offset();
-            match self.take_answer(answer, &mut labels) {
+            match self.take_answer(&answer, &mut labels) {
                 Ok(()) => {}
                 Err(failing) => return Err((failing, offset)),
             }
@@ -172,28 +172,28 @@ impl Transfer {
     /// Takes the record that an answer states. The room is for the labels of names in its data.
     fn take_answer(
         &mut self,
-        answer: RawRr<'_>,
+        answer: &RawRrRef<'_, '_>,
         labels: &mut LabelRoom,
     ) -> Result<(), NarrowFailing>
         ensures taken { OnOk result ((questions : List QuestionAt) (placed : List Placed)
             → Among questions placed self.old
-            → Takes answer.entry.octets answer.entry.at questions placed self.old self.new) }
+            → Takes answer.now.octets answer.now.at questions placed self.old self.new) }
         ensures fault { IfErr result
             (IfFault (λ f. (questions : List QuestionAt) (placed : List Placed)
             → Among questions placed self.old
-            → AnswerFault answer.entry.octets questions placed answer.entry.at f)) }
+            → AnswerFault answer.now.octets questions placed answer.now.at f)) }
         ensures unchanged { IfErr result (IfFault (λ _. self.new ≡ self.old)) }
         ensures count { self.new.messages ≡ self.old.messages }
         ensures ending { self.new.decided.ending ≡ self.old.decided.ending }
     {
         if self.opening.is_none() || answer.is_soa() {
-            return self.take_soa(&answer);
+            return self.take_soa(answer);
         }
         let (class, kind) = answer.class_and_kind()?;
         let buffer = self.decided.placed.buffer(self.alloc);
         let rdata = answer.rdata(buffer, class, kind, labels)?;
         let (ttl, offset) = (counted_ttl(answer.ttl), answer.offset());
-        answer.owner.known();
+        let _ = answer.owner.wire();
         rdata.known();
         if self.closed {
             return Err(NarrowFailing::of(Cause::AfterClosing));
@@ -205,7 +205,7 @@ impl Transfer {
     /// Takes the record that an answer states, where it may open or close the transfer.
     #[cold]
     #[inline(never)]
-    fn take_soa(&mut self, answer: &RawRr<'_>) -> Result<(), NarrowFailing>
+    fn take_soa(&mut self, answer: &RawRrRef<'_, '_>) -> Result<(), NarrowFailing>
         ensures taken { OnOk result ((questions : List QuestionAt) (placed : List Placed)
             → Among questions placed self.old
             → Takes answer.now.octets answer.now.at questions placed self.old self.new) }
@@ -225,7 +225,7 @@ impl Transfer {
     }
 
     /// Takes the record that an answer states after those before it.
-    fn take_record(&mut self, rr: Rr, answer: &RawRr<'_>) -> Result<(), AllocError>
+    fn take_record(&mut self, rr: Rr, answer: &RawRrRef<'_, '_>) -> Result<(), AllocError>
         requires { AnswerStates answer.now.octets answer.now.at rr }
         ensures gains { OnOk result ((questions : List QuestionAt) (placed : List Placed)
             → Among questions placed self.old
@@ -245,14 +245,14 @@ impl Transfer {
             return Ok(());
         }
         let (owner, ttl, rdata) = rr.into_parts();
-        self.hand_on(&owner, ttl, rdata, answer.offset())?;
+        self.hand_on(&NameRef::of_wire(owner.wire()), ttl, rdata, answer.offset())?;
         Ok(())
     }
 
     /// Appends a record to those that are left to hand on.
     fn hand_on(
         &mut self,
-        owner: &Name,
+        owner: &NameRef<'_>,
         ttl: u32,
         rdata: Rdata,
         offset: usize,
@@ -268,7 +268,7 @@ impl Transfer {
         ensures ending { self.new.decided.ending ≡ self.old.decided.ending }
     {
         let place = Place::Message(self.messages, offset);
-        self.decided.placed.push(owner, ttl, rdata, place)
+        self.decided.placed.push_lent(owner, ttl, rdata, place)
     }
 
     /// Takes the opening SOA, which fixes the zone if no question does.

@@ -3,7 +3,7 @@ use crate::tests::items::data_of;
 use std::alloc::Global;
 use std::test::Fail;
 use test_support::{Case, check, check_rows, check_same, rooted};
-use zone_name::Name;
+use zone_name::{Name, NameRef};
 use zone_rdata::{
     Cause, Fault, LendingSource, NarrowFailing, PendingRecords, Place, Placed, Rr, RrSource, Stop,
 };
@@ -171,9 +171,11 @@ fn owner_of(ttl: u16) -> (&'static [u8], &'static [u8]) {
 fn push_server(alloc: Global, pending: &mut PendingRecords, ttl: u16) -> Result<(), Fail> {
     let (owner, _) = owner_of(ttl);
     let data = data_of(alloc, "x.", "IN NS b.")??;
+    let owner = rooted(owner)?;
+    let (lent, _) = NameRef::split_front(owner.wire());
     pending
         .placed
-        .push(&rooted(owner)?, u32::from(ttl), data, Place::Line(3))?;
+        .push_lent(&lent, u32::from(ttl), data, Place::Line(3))?;
     Ok(())
 }
 

@@ -55,12 +55,12 @@ u16_at-requires-in-Ok-2 c =
 
 pub invariant_of-result : goal.invariant_of-result
 invariant_of-result c =
-    rw (c.finish.ensures, c.u16_at.ensures, c.u16_at-in-Ok.ensures, c.u32_at.ensures, c.u16_at-in-Ok-2.ensures)
+    rw (c.lend.ensures, c.u16_at.ensures, c.u16_at-in-Ok.ensures, c.u32_at.ensures, c.u16_at-in-Ok-2.ensures)
     (record_of_name c.args.message.now c.args.offset c.requires.0 c.requires.1 _ (walk_names c.args.message.now c.args.offset _ (λ i. omega (arith, c.type_inv.message i)) c.in-Ok.ensures.2))
 
 pub returns-clause-at : goal.returns-clause-at
 returns-clause-at c =
-    rw (c.finish.ensures, c.u16_at.ensures, c.u16_at-in-Ok.ensures, c.u32_at.ensures, c.u16_at-in-Ok-2.ensures)
+    rw (c.lend.ensures, c.u16_at.ensures, c.u16_at-in-Ok.ensures, c.u32_at.ensures, c.u16_at-in-Ok-2.ensures)
     (record_of_name c.args.message.now c.args.offset c.requires.0 c.requires.1 _ (walk_names c.args.message.now c.args.offset _ (λ i. omega (arith, c.type_inv.message i)) c.in-Ok.ensures.2))
 
 pub unreachable-requires : goal.unreachable-requires

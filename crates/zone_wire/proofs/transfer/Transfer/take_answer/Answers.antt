@@ -9,26 +9,26 @@ returns-in_err-class-clause-fault c = fault_answered c.from_residual.result _ _ 
 pub returns-in_err-rdata-clause-fault : goal.returns-in_err-rdata-clause-fault
 returns-in_err-rdata-clause-fault c =
     if_fault_passed c.from_residual-in_err-rdata.result c.in_err-rdata.field-0.0 _ _ c.from_residual-in_err-rdata.ensures.1
-    (λ fault bad. λ questions placed among. inl (own_data c.args.answer.octets c.args.answer.at fault c.in_ok-class.ensures.class.1 c.in_ok-class.ensures.kind.1 c.in_ok-class.ensures.readable bad))
+    (λ fault bad. λ questions placed among. inl (own_data c.args.answer.now.octets c.args.answer.now.at fault c.in_ok-class.ensures.class.1 c.in_ok-class.ensures.kind.1 c.in_ok-class.ensures.readable bad))
     c.in_err-rdata.ensures.fault
 
 pub returns-then-self-clause-fault : goal.returns-then-self-clause-fault
 returns-then-self-clause-fault c =
     let rr = record_with c.answer.inside.owner c.counted_ttl-ttl.result c.in_ok-rdata.rdata in
-    let fits : IsRecord rr = record { owner = c.known.ensures.name; ttl = c.counted_ttl-ttl.ensures.short; rdata = c.known-2.ensures } in
-    let states = stated _ c.args.answer c.answer.view_is _ _ _ c.in_ok-rdata.rdata rr refl fits c.in_ok-rdata.ensures.class c.in_ok-rdata.ensures.kind c.in_ok-class.ensures.class.0 c.in_ok-class.ensures.kind.0 c.counted_ttl-ttl.ensures.value c.in_ok-rdata.ensures.found c.in_ok-class.ensures.readable in
+    let fits : IsRecord rr = record { owner = c.wire.ensures.name; ttl = c.counted_ttl-ttl.ensures.short; rdata = c.known.ensures } in
+    let states = stated _ c.args.answer.now c.answer.view_is _ _ _ c.in_ok-rdata.rdata rr refl fits c.in_ok-rdata.ensures.class c.in_ok-rdata.ensures.kind c.in_ok-class.ensures.class.0 c.in_ok-class.ensures.kind.0 c.counted_ttl-ttl.ensures.value c.in_ok-rdata.ensures.found c.in_ok-class.ensures.readable in
     rw c.of.ensures (λ questions placed among. inr (rr, states, closed_after questions placed rr c.args.self.now among c.if-self.true))
 
 pub returns-clause-taken : goal.returns-clause-taken
 returns-clause-taken c = λ questions placed among.
     let rr = record_with c.answer.inside.owner c.counted_ttl-ttl.result c.in_ok-rdata.rdata in
-    let fits : IsRecord rr = record { owner = c.known.ensures.name; ttl = c.counted_ttl-ttl.ensures.short; rdata = c.known-2.ensures } in
-    let states = stated _ c.args.answer c.answer.view_is _ _ _ c.in_ok-rdata.rdata rr refl fits c.in_ok-rdata.ensures.class c.in_ok-rdata.ensures.kind c.in_ok-class.ensures.class.0 c.in_ok-class.ensures.kind.0 c.counted_ttl-ttl.ensures.value c.in_ok-rdata.ensures.found c.in_ok-class.ensures.readable in
+    let fits : IsRecord rr = record { owner = c.wire.ensures.name; ttl = c.counted_ttl-ttl.ensures.short; rdata = c.known.ensures } in
+    let states = stated _ c.args.answer.now c.answer.view_is _ _ _ c.in_ok-rdata.rdata rr refl fits c.in_ok-rdata.ensures.class c.in_ok-rdata.ensures.kind c.in_ok-class.ensures.class.0 c.in_ok-class.ensures.kind.0 c.counted_ttl-ttl.ensures.value c.in_ok-rdata.ensures.found c.in_ok-class.ensures.readable in
     let other : rr.kind ≡ 6 → ⊥ = λ soa. (let yes = c.is_soa.ensures.1 (sym states.kind ∙ soa) in let no = c.if-is_soa.false in let none : ⊥ = cc in none) in
     let items = rw (c.offset-offset.ensures, c.buffer-buffer.ensures) at c.in_ok-hand_on.ensures.items in
     record {
       rr = rr;
       states = states;
       stands = stands_after questions placed rr c.args.self.now among c.if-is_none.ensures c.if-self.false other;
-      gains = other_gains questions placed rr c.args.answer.at.offset c.args.self.now c.args.self.now c.hand_on.new.self among c.if-is_none.ensures other refl c.hand_on.ensures.others items;
+      gains = other_gains questions placed rr c.args.answer.now.at.offset c.args.self.now c.args.self.now c.hand_on.new.self among c.if-is_none.ensures other refl c.hand_on.ensures.others items;
     }

@@ -1,6 +1,6 @@
 use Rattle.zone_wire.proofs.Common.{Data, ap, if_fault_passed}
 use Rattle.zone_wire.proofs.RecordReading.{data_is_refused, data_is_read}
-use Rattle.zone_wire.proofs.answers.RawRr.rdata.Goals as goal
+use Rattle.zone_wire.proofs.lent.RawRrRef.rdata.Goals as goal
 
 pub returns-in_err-push_data-clause-fault : goal.returns-in_err-push_data-clause-fault
 returns-in_err-push_data-clause-fault c =

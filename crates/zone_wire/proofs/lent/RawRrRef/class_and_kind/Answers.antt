@@ -1,6 +1,6 @@
 use Rattle.zone_wire.proofs.Common.{IsClass, IsKind, RawRecord, ap, subst, ◌∙◌}
 use Rattle.zone_wire.proofs.RecordReading.{class_fault, kind_fault, unread_fault}
-use Rattle.zone_wire.proofs.answers.RawRr.class_and_kind.Goals as goal
+use Rattle.zone_wire.proofs.lent.RawRrRef.class_and_kind.Goals as goal
 
 pub returns-in_default-clause-fault : goal.returns-in_default-clause-fault
 returns-in_default-clause-fault c = class_fault c.args.self.now.octets c.args.self.now.at c.self.inside.class (ap (λ (v : RawRecord). v.at.class) c.self.view_is) c.in_default.ensures.none
