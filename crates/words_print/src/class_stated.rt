@@ -1,11 +1,14 @@
 //! Whether octets are one record that states its class (RFC 1035 5.1).
-ghost use Rattle.std.specs.Prelude.{◌≡◌, Ok, is_some};
+ghost use Rattle.std.specs.Prelude.{◌≡◌, Ok, is_some, length, map};
 ghost use Rattle.words_print.specs.Shown.{StatesItsClass};
 ghost use Rattle.words_print.specs.declared.class_stated.ClassStated.TheVariants as answers;
+ghost use Rattle.zone_rdata.specs.Item.{raw};
+ghost use Rattle.zone_text.specs.FirstEntry.{IsFirstEntry};
 ghost use Rattle.zone_text.specs.Inherited.{class_word};
 ghost use Rattle.zone_text.specs.Stated.{statement_in};
 
 use std::alloc::{AllocError, Global};
+use zone_rdata::Item;
 use zone_text::{FirstEntry, MOST_ITEMS, Statement, first_entry, record_parts, statement_of};
 
 /// Whether octets are one record of a master file that states its class.
@@ -34,22 +37,36 @@ fn has_class(statement: Statement) -> bool
 /// More items than most records have, so that room for them is made once.
 const USUAL_ITEMS: usize = 16;
 
-/// Whether octets are one record that states its class, and the line feed that ends it.
+/// Room for the items of most records.
 ///
 /// # Errors
 ///
 /// `AllocError`.
-pub(crate) fn class_stated(alloc: Global, octets: &[u8]) -> Result<ClassStated, AllocError>
+pub(crate) fn room_for_items<'t>(alloc: Global) -> Result<Vec<Item<'t>>, AllocError> {
+    Vec::with_capacity(alloc, USUAL_ITEMS)
+}
+
+/// Whether octets are one record that states its class, and the line feed that ends it. If so, its
+/// items come in place of what `items` held.
+///
+/// # Errors
+///
+/// `AllocError`.
+pub(crate) fn class_stated<'t>(
+    octets: &'t [u8],
+    items: &mut Vec<Item<'t>>,
+) -> Result<ClassStated, AllocError>
     ensures yes { result ≡ Ok answers.Yes → StatesItsClass octets.now }
     ensures no { result ≡ Ok answers.No → StatesItsClass octets.now → ⊥ }
+    ensures whole { result ≡ Ok answers.Yes
+        → IsFirstEntry octets.now (length octets.now) (map raw items.new.items) }
 {
-    let mut items = Vec::with_capacity(alloc, USUAL_ITEMS)?;
-    match first_entry(octets, &mut items)? {
+    match first_entry(octets, items)? {
         FirstEntry::Whole(len) => {
             if len != octets.len() || items.len() >= MOST_ITEMS {
                 return Ok(ClassStated::Untold);
             }
-            if has_class(statement_of(octets, &items)) {
+            if has_class(statement_of(octets, items)) {
                 return Ok(ClassStated::Yes);
             }
             Ok(ClassStated::No)

@@ -1,11 +1,12 @@
 //! The words of a field.
 use crate::kinds::{
-    push_base64, push_certificate_type, push_eui, push_hash, push_hex, push_ipv4, push_ipv6,
-    push_location, push_name, push_node_id, push_prefixes, push_quoted, push_salt, push_string,
-    push_strings, push_tag, push_time, push_type, push_types, push_u8, push_u16, push_u32,
+    push_base64, push_certificate_type, push_eui, push_hash, push_ipv4, push_ipv6, push_location,
+    push_name, push_node_id, push_prefixes, push_quoted, push_salt, push_string, push_strings,
+    push_tag, push_time, push_type, push_types, push_u8, push_u16, push_u32,
 };
 use crate::parameters::push_parameters;
 use crate::unprinted::Unprinted;
+use zone_rdata::push_hex;
 use zone_words::{BareKind, FieldKind};
 
 /// Appends the words of the field at the front, a blank before each item, and gives what is left.
@@ -16,16 +17,16 @@ pub(crate) fn push_field<'o>(
 ) -> Result<&'o [u8], Unprinted> {
     match kind {
         FieldKind::Bare(kind) => {
-            out.extend_from_slice(b" ")?;
+            out.push(b' ')?;
             push_bare(kind, octets, out)
         }
         FieldKind::OneString => {
-            out.extend_from_slice(b" ")?;
+            out.push(b' ')?;
             push_string(octets, out)
         }
         FieldKind::PerhapsOneString if octets.is_empty() => Ok(octets),
         FieldKind::PerhapsOneString => {
-            out.extend_from_slice(b" ")?;
+            out.push(b' ')?;
             push_string(octets, out)
         }
         _ => {
@@ -39,17 +40,17 @@ pub(crate) fn push_field<'o>(
 fn push_last(kind: FieldKind, octets: &[u8], out: &mut Vec<u8>) -> Result<(), Unprinted> {
     match kind {
         FieldKind::Value | FieldKind::QuotedValue => {
-            out.extend_from_slice(b" ")?;
+            out.push(b' ')?;
             push_quoted(octets, out)?;
             Ok(())
         }
         FieldKind::Hex => {
-            out.extend_from_slice(b" ")?;
+            out.push(b' ')?;
             push_hex(octets, out)?;
             Ok(())
         }
         FieldKind::Base64 => {
-            out.extend_from_slice(b" ")?;
+            out.push(b' ')?;
             push_base64(octets, out)
         }
         FieldKind::Strings => push_strings(octets, out),

@@ -4,6 +4,7 @@
 
 mod class_stated;
 mod data;
+mod digits;
 mod field;
 mod generic_line;
 mod kinds;

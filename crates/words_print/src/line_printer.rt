@@ -1,17 +1,20 @@
 //! Lines in words.
-ghost use Rattle.std.specs.Prelude.{◌≡◌, ◌++◌, ◌∷◌, [], IfOk, Ok, OnErr, OnOk, true};
+ghost use Rattle.std.specs.Prelude.{◌≡◌, ◌++◌, ◌∷◌, [], IfOk, Ok, OnErr, OnOk, length, map, true};
 ghost use Rattle.words_print.specs.Machine.Found.{FoundIn};
 ghost use Rattle.words_print.specs.Shown.{IsShownLine};
+ghost use Rattle.zone_rdata.specs.Item.{raw};
+ghost use Rattle.zone_text.specs.FirstEntry.{IsFirstEntry};
 ghost use Rattle.zone_words.specs.Entry.{IsRewriting};
 ghost use Rattle.zone_words.specs.Fault.{AppendsStated};
 
-use crate::class_stated::{ClassStated, class_stated};
+use crate::class_stated::{ClassStated, class_stated, room_for_items};
 use crate::data::push_words;
+use crate::digits::read_digits;
 use crate::generic_line::{GenericLine, generic_line};
 use crate::unprinted::Unprinted;
-use hex::decode_to_slice;
 use std::alloc::{AllocError, Global};
 use zone_name::CasedName;
+use zone_rdata::Item;
 use zone_words::Rewriter;
 
 /// A printer of lines in words. It keeps the room that it needs from line to line.
@@ -30,6 +33,14 @@ pub(crate) struct LinePrinter {
     wanted: Vec<u8>,
 }
 
+/// Whether what was read is rewritten as this, and nothing is told of it.
+fn has_read(reader: &Rewriter, wanted: &[u8]) -> bool
+    ensures { result ≡ true → (reader.now.held.told.count ≡ 0)
+        × (reader.now.held.written ≡ wanted.now) }
+{
+    reader.refusals().count == 0 && reader.written() == wanted
+}
+
 /// Whether a text is rewritten under the root as another one, and nothing is told of it.
 fn is_rewritten(reader: &mut Rewriter, text: &[u8], wanted: &[u8]) -> Result<bool, AllocError>
     ensures { result ≡ Ok true → IsRewriting [] text.now wanted.now [] }
@@ -37,7 +48,22 @@ fn is_rewritten(reader: &mut Rewriter, text: &[u8], wanted: &[u8]) -> Result<boo
     reader.restart(&CasedName::root());
     reader.feed(text)?;
     reader.finish()?;
-    Ok(reader.refusals().count == 0 && reader.written() == wanted)
+    Ok(has_read(reader, wanted))
+}
+
+/// Whether a text that is one entry, of which these items are kept, is rewritten under the root as
+/// another one, and nothing is told of it.
+fn is_entry_rewritten(
+    reader: &mut Rewriter,
+    text: &[u8],
+    items: &[Item],
+    wanted: &[u8],
+) -> Result<bool, AllocError>
+    requires { IsFirstEntry text.now (length text.now) (map raw items.now) }
+    ensures { result ≡ Ok true → IsRewriting [] text.now wanted.now [] }
+{
+    reader.rewrite_entry(&CasedName::root(), text, items)?;
+    Ok(has_read(reader, wanted))
 }
 
 /// Puts the record of a line in words after octets in place of what `shown` held.
@@ -85,9 +111,7 @@ impl LinePrinter {
     /// Puts the words of a line's data, and its line feed, in place of what `words` held. `false`:
     /// its octets have no words.
     fn find_words(&mut self, found: &GenericLine) -> Result<bool, AllocError> {
-        let digits = found.digits();
-        self.octets.resize(digits.len() / 2, 0)?;
-        if decode_to_slice(digits, self.octets.as_mut_slice()).is_err() {
+        if !read_digits(found.digits(), &mut self.octets)? {
             return Ok(false);
         }
         self.words.clear();
@@ -109,11 +133,9 @@ impl LinePrinter {
         ensures { result ≡ Ok true → IsShownLine line.now self.new.shown.items }
     {
         put_shown(found.ahead, found, &self.words, &mut self.shown)?;
-        if !is_rewritten(&mut self.reader, &self.shown, line)? {
-            return Ok(false);
-        }
-        match class_stated(self.alloc, &self.shown)? {
-            ClassStated::Yes => Ok(true),
+        let mut items = room_for_items(self.alloc)?;
+        match class_stated(&self.shown, &mut items)? {
+            ClassStated::Yes => is_entry_rewritten(&mut self.reader, &self.shown, &items, line),
             ClassStated::No => Ok(false),
             ClassStated::Untold => Ok(false),
         }
@@ -125,7 +147,8 @@ impl LinePrinter {
         requires { FoundIn line.now found.now }
         ensures { result ≡ Ok true → IsShownLine line.now self.new.shown.items }
     {
-        let ClassStated::No = class_stated(self.alloc, line)? else {
+        let mut items = room_for_items(self.alloc)?;
+        let ClassStated::No = class_stated(line, &mut items)? else {
             return Ok(false);
         };
         put_wanted(found, &mut self.wanted)?;

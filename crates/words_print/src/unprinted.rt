@@ -1,4 +1,4 @@
-use std::alloc::AllocError;
+use std::alloc::{AllocError, AllocFailed};
 
 /// Why octets aren't printed in words.
 #[derive(Debug, Drop)]
@@ -16,6 +16,17 @@ impl From<AllocError> for Unprinted {
     ghost from_gives = { λ _ e. e ≡ answers.OutOfMemory };
 
     fn from(_error: AllocError) -> Unprinted {
+        Unprinted::OutOfMemory
+    }
+}
+
+impl From<AllocFailed<u8>> for Unprinted {
+    ghost use Rattle.std.specs.Prelude.{◌≡◌};
+    ghost use Rattle.words_print.specs.declared.unprinted.Unprinted.TheVariants as answers;
+
+    ghost from_gives = { λ _ e. e ≡ answers.OutOfMemory };
+
+    fn from(_failed: AllocFailed<u8>) -> Unprinted {
         Unprinted::OutOfMemory
     }
 }

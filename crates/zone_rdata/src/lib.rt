@@ -47,6 +47,7 @@ pub use layout::{Layout, layout_of};
 pub use lent::{PlacedRef, RdataRef, RrRef};
 pub use narrow_failing::NarrowFailing;
 pub use number::decimal_of;
+pub use printing::push_hex;
 pub use queue::{PendingRecords, RecordQueue};
 pub use rdata::Rdata;
 pub use reading::is_generic;

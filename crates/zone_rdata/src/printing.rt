@@ -61,8 +61,12 @@ fn push_generic_head<S: Sink>(octets: &[u8], out: &mut S) -> Result<(), S::Error
 /// How many octets are written in digits at a time.
 const HEX_LEN: usize = 32;
 
-/// Appends two hexadecimal digits for each octet.
-fn push_hex<S: Sink>(octets: &[u8], out: &mut S) -> Result<(), S::Error>
+/// Appends two hexadecimal digits for each octet, in lower case (RFC 4648 8).
+///
+/// # Errors
+///
+/// `out` refuses octets. A prefix of the digits may have been appended.
+pub fn push_hex<S: Sink>(octets: &[u8], out: &mut S) -> Result<(), S::Error>
     ensures ok { OnOk result (S.takes out.old (encode_lower octets.now) out.new) }
     ensures err { OnErr result (TakesSome S.takes out.old out.new) }
 {

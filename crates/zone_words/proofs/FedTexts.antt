@@ -1,7 +1,8 @@
 -- What was written for octets that are fed, part by part.
 use Rattle.zone_text.proofs.Common.{Breaks, Cut, Cuts, Entry, Fault, IsOneEntry, List, None, Option, RawItem, Some, Token, [], ap, append-nil, append_assoc, arith, both_ways, cut_from, drop, entry_of, false, flat_map, flat_map-append, inl, inr, length, length-append, length-take, numbered, refl, reverse, subst, sum_by-append, sym, take, take-append-drop, text, true, zero, ℕ, ◌++◌, ◌+◌, ◌<◌, ◌⊎◌, ◌==◌, ◌≤◌, ◌∙◌, ◌∷◌, ◌≡◌}
 use Rattle.std.proofs.lemmas.List.Sums.{count_by-le-length}
-use Rattle.std.proofs.lemmas.List.{reverse-append}
+use Rattle.std.proofs.Math.Seq.{take-length}
+use Rattle.std.proofs.lemmas.List.{drop_all, reverse-append}
 use Rattle.std.specs.Option.{option_or}
 use Rattle.std.specs.Prelude.{Err, Ok, OnErr, Result, option_map}
 use Rattle.zone_name.specs.Common.{Labels}
@@ -19,7 +20,7 @@ use Rattle.zone_words.proofs.Files.{HasDone, NextBecomes, broken_last, closed, f
 unfoldable use Rattle.zone_words.proofs.Files.{as_entries, done_entry}
 use Rattle.zone_words.specs.Entry.{BecomesUnder, IsRewriting}
 use Rattle.zone_words.specs.Machine.EntryWriting.{IsPushed, PushesEntry}
-use Rattle.zone_words.specs.Machine.FedWriting.{FollowInPart, FollowOn, HasWritten, HasWrittenInPart, IsFedWriter, IsLeft, PushesOctets, TakesFront, WritesAll, count_reach, held_of, line_reach}
+use Rattle.zone_words.specs.Machine.FedWriting.{FollowInPart, FollowOn, HasWritten, HasWrittenAll, HasWrittenInPart, IsFedWriter, IsLeft, PushesOctets, TakesFront, WritesAll, count_reach, held_of, line_reach}
 use Rattle.zone_words.specs.Inherited.{IsInherited}
 use Rattle.zone_words.specs.Refusal.{AddsTold, AreInShort, first_of, refused_of}
 use Rattle.zone_words.specs.Rewriter.{GoesOn, HeldText, IsSoFar, going, stopped}
@@ -482,6 +483,17 @@ end_breaks old new found fault is ends some told pushed origin fed given h =
       in_short = subst (AreInShort h.told) (sym told) h.in_short;
       all = broken_last (BecomesUnder origin) fed old.unfinished.octets (given ++ old.entries.written.items) (given ++ new.entries.written.items) h.told fault g.has last.0 last.1 last.2 (ap (λ t. given ++ t) pushed ∙ sym (append_assoc given old.entries.written.items old.unfinished.octets));
     }
+
+-- one entry is the whole file
+pub entry_alone : (origin : Labels) (begun new : FedWriter) (entry : List ℕ) (kept : List RawItem) → IsFedWriter begun → begun.is_broken ≡ false → begun.unfinished.octets ≡ [] → HasWritten origin begun [] [] → new.unfinished ≡ begun.unfinished → new.is_broken ≡ begun.is_broken → IsFirstEntry entry (length entry) kept → PushesEntry entry kept begun.entries new.entries → new.entries.refusals.count ≤ begun.entries.refusals.count + 1 → HasWrittenAll origin new entry []
+entry_alone origin begun new entry kept is unbroken none h same broken first pushes counts =
+    let front = (whole_taken begun new entry entry [] (length entry) kept is unbroken none same broken (sym (take-length entry)) (sym (drop_all (length entry) entry (omega arith))) first pushes counts).front in
+    let whole : [] ++ front.part ≡ entry = sym (front.whole ∙ append-nil front.part) in
+    end_none new (broken ∙ unbroken) (ap (λ (o : HeldEntry). o.octets) same ∙ none) origin entry [] (subst (λ t. HasWritten origin new t []) whole (front.follow origin [] [] h))
+
+pub refused_alone : {T E : Type 0} (result : Result T E) (origin : Labels) (begun new : FedWriter) (entry : List ℕ) → HasWritten origin begun [] [] → OnErr result (new.entries.refusals ≡ begun.entries.refusals) → OnErr result (new.entries.written.items ≡ begun.entries.written.items) → OnErr result (HasWrittenInPart origin new entry [])
+refused_alone (Ok x) origin begun new entry h told written = tt
+refused_alone (Err e) origin begun new entry h told written = in_part origin begun new [] [] entry told written h
 
 pub refused_in_part : (old new : FedWriter) → new.entries.refusals ≡ old.entries.refusals → new.entries.written.items ≡ old.entries.written.items → FollowInPart old [] new
 refused_in_part old new told written origin fed given h = in_part origin old new fed given [] told written h

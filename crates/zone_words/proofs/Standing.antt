@@ -5,7 +5,7 @@ use Rattle.zone_rdata.specs.FedSource.{is_finished}
 use Rattle.zone_rdata.specs.declared.fed.FedStatus.{FedStatus}
 use Rattle.zone_rdata.specs.declared.fed.FedStatus.TheVariants.{Finished, Open, OutOfMemory}
 use Rattle.zone_words.specs.Entry.{BecomesUnder, IsRewriting}
-use Rattle.zone_words.specs.Machine.FedWriting.{FollowInPart, FollowOn, HasWritten, HasWrittenInPart, WritesAll, state_of}
+use Rattle.zone_words.specs.Machine.FedWriting.{FollowInPart, FollowOn, HasWritten, HasWrittenAll, HasWrittenInPart, WritesAll, state_of}
 use Rattle.zone_words.specs.Refusal.{AreInShort}
 use Rattle.zone_words.specs.Rewriter.{HeldText, IsSoFar, RewriterState, RewritesFile, StandsForRewriting, StandsInPart, all_given, going, stopped}
 use Rattle.zone_words.specs.Rewriting.{IsRewrittenInPart, Refused}
@@ -52,6 +52,17 @@ stands_finished status n old new is all origin fed given stands =
       so_far = λ e. absurd cc;
       all = λ _. h.all;
     }
+
+-- one entry was the whole file
+pub stands_alone : (origin : Labels) (n : ℕ) (w : FedWriter) (entry : List ℕ) → n ≡ length entry → HasWrittenAll origin w entry [] → StandsForRewriting origin (state_of Finished n w) entry []
+stands_alone origin n w entry count h = record {
+  works = refl;
+  count = count;
+  told = h.told;
+  in_short = h.in_short;
+  so_far = λ e. absurd cc;
+  all = λ _. h.all;
+}
 
 -- memory was refused
 pub stands_in_part : (status : FedStatus) (n : ℕ) (old mid new : FedWriter) (part : List ℕ) → status ≡ Open → FollowInPart old part mid → new.entries ≡ mid.entries → (origin : Labels) (fed given : List ℕ) → StandsForRewriting origin (state_of status n old) fed given → StandsInPart origin (state_of OutOfMemory n new) (fed ++ part) given

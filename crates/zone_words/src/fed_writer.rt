@@ -1,11 +1,15 @@
 //! Octets of a master file as they come in pieces: what is written for the entries that they end,
 //! and the one that they leave open.
-ghost use Rattle.std.specs.Prelude.{◌≡◌, ◌+◌, ◌<◌, ◌≤◌, ◌^◌, ◌++◌, ◌⊎◌, [], length, IfOk, OnErr, OnOk, true, false};
+ghost use Rattle.std.specs.Prelude.{◌≡◌, ◌+◌, ◌<◌, ◌≤◌, ◌^◌, ◌++◌, ◌⊎◌, [], length, map, IfOk, OnErr, OnOk, true, false};
+ghost use Rattle.zone_rdata.specs.Item.{raw};
+ghost use Rattle.zone_text.specs.FirstEntry.{IsFirstEntry};
 ghost use Rattle.zone_text.specs.declared.open_entry.EntryState.TheVariants.{Open};
 ghost use Rattle.zone_words.specs.Machine.FedWriting.{
   FollowInPart,
   FollowOn,
   HasWritten,
+  HasWrittenAll,
+  HasWrittenInPart,
   IsFedWriter,
   PushesOctets,
   TakesFront,
@@ -54,11 +58,29 @@ impl FedWriter {
         ensures line { line_reach self.new ≡ 1 }
         ensures count { count_reach self.new ≡ 0 }
         ensures none { self.new.unfinished.octets ≡ [] }
+        ensures going { self.new.is_broken ≡ false }
         ensures so_far { HasWritten origin.now self.new [] [] }
     {
         self.entries.restart(origin);
         self.unfinished.clear();
         self.is_broken = false;
+    }
+
+    /// Becomes the writer of one entry, of whose items these are kept, as a whole file.
+    pub(crate) fn rewrite_entry(
+        &mut self,
+        origin: &CasedName,
+        entry: &[u8],
+        items: &[Item],
+    ) -> Result<(), AllocError>
+        requires whole { IsFirstEntry entry.now (length entry.now) (map raw items.now) }
+        requires fits { length entry.now + 1 < 2 ^ 64 }
+        ensures all { OnOk result (HasWrittenAll origin.now self.new entry.now []) }
+        ensures in_part { OnErr result (HasWrittenInPart origin.now self.new entry.now []) }
+        ensures none { self.new.unfinished.octets ≡ [] }
+    {
+        self.restart(origin);
+        self.entries.push(entry, items)
     }
 
     /// Takes the next piece.

@@ -1,8 +1,10 @@
 //! Master files of which the entries of further types are written anew, whole or fed in pieces.
-ghost use Rattle.std.specs.Prelude.{◌≡◌, ◌+◌, ◌<◌, ◌^◌, ◌++◌, ℕ, true, false, [], List, length, IfOk, OnErr, OnOk};
+ghost use Rattle.std.specs.Prelude.{◌≡◌, ◌+◌, ◌<◌, ◌^◌, ◌++◌, ℕ, true, false, [], List, length, map, IfOk, OnErr, OnOk};
 ghost use Rattle.zone_name.specs.Common.{Labels};
 ghost use Rattle.zone_rdata.specs.FedSource.{is_failed, is_finished};
 ghost use Rattle.zone_rdata.specs.declared.fed.FedStatus.TheVariants.{Open, Finished, OutOfMemory};
+ghost use Rattle.zone_rdata.specs.Item.{raw};
+ghost use Rattle.zone_text.specs.FirstEntry.{IsFirstEntry};
 ghost use Rattle.zone_words.specs.Rewriter.{
   RewritesFile,
   StandsForRewriting,
@@ -15,7 +17,7 @@ use crate::refusal::Refusals;
 use std::alloc::{AllocError, Global};
 use std::marker::Model;
 use zone_name::CasedName;
-use zone_rdata::FedStatus;
+use zone_rdata::{FedStatus, Item};
 
 /// A rewriter of a master file (RFC 1035 5.1) that is fed in pieces. It writes an entry as soon as
 /// a line feed has ended it: an entry of a further type with its data in the generic form (RFC 3597
@@ -68,6 +70,38 @@ impl Rewriter {
         self.writer.restart(origin);
         self.fed = 0;
         self.status = FedStatus::Open;
+    }
+
+    /// Becomes the rewriter of a file that has ended and is one entry, which a line feed ends, of
+    /// whose items these are kept (`zone_text::first_entry`). It keeps the room that it has.
+    ///
+    /// # Errors
+    ///
+    /// `AllocError`. The rewriter has failed then.
+    pub fn rewrite_entry(
+        &mut self,
+        origin: &CasedName,
+        entry: &[u8],
+        items: &[Item],
+    ) -> Result<(), AllocError>
+        requires whole { IsFirstEntry entry.now (length entry.now) (map raw items.now) }
+        requires fits { length entry.now + 1 < 2 ^ 64 }
+        ensures stands { OnOk result (StandsForRewriting origin.now self.new entry.now []) }
+        ensures finished { OnOk result (self.new.status ≡ Finished) }
+        ensures in_part { OnErr result (StandsInPart origin.now self.new entry.now []) }
+        ensures failed { OnErr result (self.new.status ≡ OutOfMemory) }
+        ensures uncounted { OnErr result (self.new.fed ≡ 0) }
+    {
+        match self.writer.rewrite_entry(origin, entry, items) {
+            Ok(()) => {
+                (self.status, self.fed) = (FedStatus::Finished, entry.len() as u64);
+                Ok(())
+            }
+            Err(refused) => {
+                (self.status, self.fed) = (FedStatus::OutOfMemory, 0);
+                Err(refused)
+            }
+        }
     }
 
     /// Takes the next piece of the file, of any length.

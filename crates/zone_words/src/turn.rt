@@ -89,7 +89,7 @@ fn turn_in_words<'e>(
     let Some(around) = around_type(entry, found, kept) else {
         return Ok(Turn::Stays);
     };
-    let items = data_items(alloc, around.back)?;
+    let items = data_items(alloc, around.back, found.items.len())?;
     match read_data(&found.further.fields, &items, above, stated) {
         Ok(()) => Ok(Turn::InOctets(around)),
         Err(DataFailing::Fault { field, fault }) => {

@@ -1,6 +1,5 @@
 //! One entry written anew: its octets, with the type's word and the tokens after it replaced.
 ghost use Rattle.std.specs.Prelude.{◌≡◌, ◌++◌, codes, decimal, length, IfNone, IfSome, OnOk};
-ghost use Rattle.hex.specs.Hex.{encode_lower};
 ghost use Rattle.zone_text.specs.Tokens.{text, token_text};
 ghost use Rattle.zone_words.specs.Machine.Walking.{
   BeginsBlank,
@@ -11,9 +10,9 @@ ghost use Rattle.zone_words.specs.Machine.Walking.{
 };
 ghost use Rattle.zone_words.specs.Written.{renamed, in_octets, generic_tokens, type_token};
 
-use hex::encode_to_slice;
 use itoa::Buffer;
 use std::alloc::AllocError;
+use zone_rdata::push_hex;
 use zone_text::{first_token, is_blank};
 
 /// What stands before the item after so many, and what after it.
@@ -72,18 +71,6 @@ fn push_type(number: u16, out: &mut Vec<u8>) -> Result<(), AllocError>
     let mut digits = Buffer::new();
     out.extend_from_slice(b"TYPE")?;
     out.extend_from_slice(digits.format(number).as_bytes())?;
-    Ok(())
-}
-
-/// Appends octets as hexadecimal digits.
-fn push_hex(octets: &[u8], out: &mut Vec<u8>) -> Result<(), AllocError>
-    ensures { OnOk result (out.new.items ≡ out.old.items ++ encode_lower octets.now) }
-{
-    for octet in octets {
-        let mut pair = [0; 2];
-        let _ = encode_to_slice([*octet], &mut pair);
-        out.extend_from_slice(&pair)?;
-    }
     Ok(())
 }
 

@@ -4,7 +4,7 @@ use std::test::Fail;
 use test_support::{check_octets, check_same};
 use zone_rdata::{
     Item, Row, decimal_of, four_groups_of, ipv4_octets_of, ipv6_octets_of, is_word, number_of_word,
-    push_string, row_named, row_of,
+    push_hex, push_string, row_named, row_of,
 };
 
 /// A metal by its number and its sign.
@@ -43,6 +43,16 @@ fn numbers_in_digits(_rt: HostRuntime) -> Result<(), Fail> {
     check_same("leading zeros", decimal_of(b"0065"), Some(65))?;
     check_same("past 2^32", decimal_of(b"99999999999"), Some(4294967296))?;
     check_same("a sign", decimal_of(b"-1"), None)
+}
+
+/// RFC 4648 8; 33 octets are written in two parts.
+#[test]
+fn octets_in_hexadecimal_digits(rt: HostRuntime) -> Result<(), Fail> {
+    let mut out = Vec::new(rt.alloc());
+    push_hex(&[0x0f, 0xa9], &mut out)?;
+    push_hex(&[0xff; 33], &mut out)?;
+    check_octets("the first digits", &out[..6], b"0fa9ff")?;
+    check_same("two for each octet", out.len(), 70)
 }
 
 #[test]

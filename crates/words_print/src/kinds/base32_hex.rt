@@ -2,14 +2,8 @@ use crate::taking::take_counted;
 use crate::unprinted::Unprinted;
 use std::alloc::AllocError;
 
-/// The digit of a value below 32, in lower case (RFC 4648 7).
-fn digit_of(value: u32) -> u8 {
-    match value {
-        0..=9 => b'0' + value as u8,
-        10..=31 => b'a' + (value as u8 - 10),
-        _ => b'-',
-    }
-}
+/// The digits of the values below 32, in lower case (RFC 4648 7).
+const DIGITS: &[u8; 32] = b"0123456789abcdefghijklmnopqrstuv";
 
 /// Appends octets in base32hex without padding.
 fn push_base32_hex(octets: &[u8], out: &mut Vec<u8>) -> Result<(), AllocError> {
@@ -19,13 +13,32 @@ fn push_base32_hex(octets: &[u8], out: &mut Vec<u8>) -> Result<(), AllocError> {
     Ok(())
 }
 
-/// Appends the digits of up to five octets.
-fn push_block(block: &[u8], out: &mut Vec<u8>) -> Result<(), AllocError> {
+/// Up to five octets as one number, in which those that are missing are 0.
+fn number_of(block: &[u8]) -> u64 {
+    if let [a, b, c, d, e] = block {
+        return u64::from_be_bytes([0, 0, 0, *a, *b, *c, *d, *e]);
+    }
     let mut bits: u64 = 0;
     for at in 0..5 {
         let octet = block.get(at).copied().unwrap_or(0);
         bits = bits << 8 | u64::from(octet);
     }
+    bits
+}
+
+/// The eight digits of a number of five octets.
+fn digits_of(bits: u64) -> [u8; 8] {
+    let mut digits = [0; 8];
+    for (at, digit) in digits.iter_mut().enumerate() {
+        let value = bits >> (35 - 5 * at) & 31;
+        *digit = DIGITS[value as usize];
+    }
+    digits
+}
+
+/// Appends the digits of up to five octets.
+fn push_block(block: &[u8], out: &mut Vec<u8>) -> Result<(), AllocError> {
+    let digits = digits_of(number_of(block));
     let count = match block.len() {
         1 => 2,
         2 => 4,
@@ -33,12 +46,7 @@ fn push_block(block: &[u8], out: &mut Vec<u8>) -> Result<(), AllocError> {
         4 => 7,
         _ => 8,
     };
-    for _ in 0..count {
-        let value = (bits >> 35) % 32;
-        out.extend_from_slice(&[digit_of(value as u32)])?;
-        bits = bits % (1 << 35) * 32;
-    }
-    Ok(())
+    out.extend_from_slice(&digits[..count])
 }
 
 /// Appends the hash at the front (RFC 5155 3.3), and gives what is left.

@@ -10,7 +10,7 @@ fn push_window(first: u16, octets: &[u8], out: &mut Vec<u8>) -> Result<(), Alloc
     for octet in octets {
         for bit in [128, 64, 32, 16, 8, 4, 2, 1] {
             if *octet & bit != 0 {
-                out.extend_from_slice(b" ")?;
+                out.push(b' ')?;
                 push_type_word(number, out)?;
             }
             number = number.wrapping_add(1);

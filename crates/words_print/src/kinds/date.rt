@@ -63,16 +63,13 @@ pub(crate) fn push_time<'o>(octets: &'o [u8], out: &mut Vec<u8>) -> Result<&'o [
     let (seconds, rest) = take_u32(octets)?;
     let date = Date::after_1970(seconds / DAY);
     let second = seconds % DAY;
-    for number in [
-        date.year / 100,
-        date.year,
-        date.month,
-        date.day,
-        second / 3600,
-        second / 60 % 60,
-        second % 60,
-    ] {
-        out.extend_from_slice(&two_digits(number))?;
-    }
+    let [y0, y1] = two_digits(date.year / 100);
+    let [y2, y3] = two_digits(date.year);
+    let [m0, m1] = two_digits(date.month);
+    let [d0, d1] = two_digits(date.day);
+    let [h0, h1] = two_digits(second / 3600);
+    let [n0, n1] = two_digits(second / 60);
+    let [s0, s1] = two_digits(second);
+    out.extend_from_slice(&[y0, y1, y2, y3, m0, m1, d0, d1, h0, h1, n0, n1, s0, s1])?;
     Ok(rest)
 }

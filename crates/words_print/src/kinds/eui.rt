@@ -1,6 +1,6 @@
-use super::hexadecimal::push_hex;
 use crate::taking::take;
 use crate::unprinted::Unprinted;
+use zone_rdata::push_hex;
 
 /// Appends the first octets, so many, as pairs of hexadecimal digits parted by hyphens (RFC 7043
 /// 3.2, 4.2), and gives what is left.

@@ -24,8 +24,16 @@ fn push_octet(octet: u8, out: &mut Vec<u8>) -> Result<(), AllocError> {
     }
 }
 
+/// Whether each octet stands for itself in a name.
+fn are_plain(octets: &[u8]) -> bool {
+    octets.iter().all(|octet| is_plain(*octet))
+}
+
 /// Appends a label.
 fn push_label(label: &[u8], out: &mut Vec<u8>) -> Result<(), AllocError> {
+    if are_plain(label) {
+        return out.extend_from_slice(label);
+    }
     for octet in label {
         push_octet(*octet, out)?;
     }
@@ -51,11 +59,11 @@ fn take_label(octets: &[u8]) -> Result<(&[u8], &[u8]), Unprinted>
 pub(crate) fn push_name<'o>(octets: &'o [u8], out: &mut Vec<u8>) -> Result<&'o [u8], Unprinted> {
     let (mut label, mut rest) = take_label(octets)?;
     if label.is_empty() {
-        out.extend_from_slice(b".")?;
+        out.push(b'.')?;
     }
     while !label.is_empty() {
         push_label(label, out)?;
-        out.extend_from_slice(b".")?;
+        out.push(b'.')?;
         (label, rest) = take_label(rest)?;
     }
     Ok(rest)

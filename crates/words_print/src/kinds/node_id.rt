@@ -1,6 +1,6 @@
-use super::hexadecimal::push_hex;
 use crate::taking::take;
 use crate::unprinted::Unprinted;
+use zone_rdata::push_hex;
 
 /// Appends the four groups of four hexadecimal digits at the front (RFC 6742 2.1.2), and gives what
 /// is left.

@@ -6,6 +6,7 @@ use test_support::{
     Question, check, check_lines, check_octets, check_same, check_table, push_words,
 };
 use zone_name::CasedName;
+use zone_text::{FirstEntry, first_entry};
 use zone_words::{
     Refusals, Rewriter, Rewritten, certificate_mnemonic, further_type_of, rewrite_file,
     type_mnemonic,
@@ -368,6 +369,29 @@ fn a_rewriter_begins_anew(rt: HostRuntime) -> Result<(), Fail> {
         rewriter.written(),
         b"a TYPE17 \\# 6 016801790000\n",
     )
+}
+
+/// An entry by itself, of a rewriter that was fed another file before.
+#[test]
+fn an_entry_is_a_whole_file(rt: HostRuntime) -> Result<(), Fail> {
+    let entry = b"a RP h .\n";
+    let mut items = Vec::new(rt.alloc());
+    let FirstEntry::Whole(len) = first_entry(entry, &mut items)? else {
+        return Err(Fail::from("the entry is whole"));
+    };
+    if len != entry.len() {
+        return Err(Fail::from("the entry is all"));
+    }
+    let mut rewriter = Rewriter::new(rt.alloc(), &CasedName::root());
+    rewriter.feed(b"$ORIGIN z.\na RP h .\nb RP")?;
+    rewriter.rewrite_entry(&CasedName::from_text(b"y.", None)?, entry, &items)?;
+    check_octets(
+        "the entry",
+        rewriter.written(),
+        b"a TYPE17 \\# 6 016801790000\n",
+    )?;
+    check_same("octets of the file", rewriter.fed(), 9)?;
+    check(rewriter.is_finished(), "the file has ended")
 }
 
 /// Words of numbers, as RFC 4398 2.1 and the registry of RFC 6895 3.1 have them.

@@ -5,11 +5,11 @@ use Rattle.zone_text.specs.Stated.{statement_in}
 use Rattle.words_print.proofs.Classed.{broken_not_classed, not_classed, open_not_classed}
 use Rattle.words_print.proofs.class_stated.class_stated.Goals as goal
 
-pub returns-in-Whole-clause-no : goal.returns-in-Whole-clause-no
-returns-in-Whole-clause-no c = λ _. not_classed c.args.octets.now c.in-Whole.len (map raw c.first_entry.new.items.items) (statement_in c.statement_of.result) (rw c.in-Whole.is at c.in_ok-len.ensures.found) (omega (arith, c.if-len-octets.false)) (omega (arith, length-map c.first_entry.new.items.items raw, c.len.ensures, c.if-len-ge-MOST_ITEMS.false, c.deref.ensures.len, ap length c.deref.ensures.value)) (rw c.deref.ensures.value at c.statement_of.ensures) (sym c.has_class.ensures ∙ c.if-has_class.false)
+pub returns-else-has_class-clause-no : goal.returns-else-has_class-clause-no
+returns-else-has_class-clause-no c = λ _. not_classed c.args.octets.now c.in-Whole.len (map raw c.first_entry.new.items.items) (statement_in c.statement_of.result) (rw c.in-Whole.is at c.in_ok-len.ensures.found) (omega (arith, c.if-len-octets.false)) (omega (arith, length-map c.first_entry.new.items.items raw, c.len.ensures, c.if-len-ge-MOST_ITEMS.false, c.deref.ensures.len, ap length c.deref.ensures.value)) (rw c.deref.ensures.value at c.statement_of.ensures) (sym c.has_class.ensures ∙ c.if-has_class.false)
 
 pub returns-in-Open-clause-no : goal.returns-in-Open-clause-no
 returns-in-Open-clause-no c = λ _. open_not_classed c.args.octets.now (rw c.in-Open.is at c.in_ok-len.ensures.found).0
 
-pub returns-clause-no : goal.returns-clause-no
-returns-clause-no c = λ _. broken_not_classed c.args.octets.now _ (rw c.in-Broken.is at c.in_ok-len.ensures.found).0
+pub returns-in-Broken-clause-no : goal.returns-in-Broken-clause-no
+returns-in-Broken-clause-no c = λ _. broken_not_classed c.args.octets.now _ (rw c.in-Broken.is at c.in_ok-len.ensures.found).0
