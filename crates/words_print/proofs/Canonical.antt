@@ -7,9 +7,9 @@ use Rattle.zone_print.specs.Laws.{IsLineOf}
 use Rattle.zone_rdata.specs.Item.{IsGeneric, RawItem}
 use Rattle.zone_rdata.specs.Item as raw
 use Rattle.zone_rdata.specs.Record.{IsRecord}
-use Rattle.zone_text.proofs.ClassWords.{class_word_first, class_word_known, time_first}
-use Rattle.zone_text.proofs.Lines.{whole_form}
-use Rattle.zone_text.proofs.WordsLeft.{next_part}
+use Rattle.zone_text.proofs.Heads.ClassWords.{class_word_first, class_word_known, time_first}
+use Rattle.zone_text.proofs.Entries.Lines.{whole_form}
+use Rattle.zone_text.proofs.Heads.WordsLeft.{next_part}
 use Rattle.zone_words.proofs.Registered.{generic_data, no_mnemonic}
 use Rattle.zone_words.specs.Data.{joined}
 use Rattle.zone_words.specs.DataItem.{TouchingItem, items_of}

@@ -2,8 +2,8 @@
 use Rattle.zone_text.proofs.Common.{AreKept, AreTokens, Cut, Cuts, Fault, IsFirstEntry, IsOneEntry, IsOpen, IsBrokenOff, List, RawItem, Statement, Token, [], ap, arith, class_word, cut_from, entry_of, flat_map, inl, inr, is_some, item_of, length, slice_get, statement_by, statement_of, subst, sym, take, true, false, zero, ℕ, ◌<◌, ◌∙◌, ◌∷◌, ◌≡◌}
 use Rattle.std.proofs.lemmas.Bool.{false≢true}
 use Rattle.std.proofs.Math.Seq.{take-length}
-use Rattle.zone_rdata.proofs.LeftOut.{are_many}
-use Rattle.zone_text.proofs.Cuttings.{cut_not_broken, one_cut}
+use Rattle.zone_rdata.proofs.Items.LeftOut.{are_many}
+use Rattle.zone_text.proofs.Tokens.Cuttings.{cut_not_broken, one_cut}
 use Rattle.words_print.specs.Shown.{StatesItsClass}
 
 all_kept : (items kept : List RawItem) → length kept < 65552 → AreKept items kept → kept ≡ items

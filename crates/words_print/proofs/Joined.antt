@@ -1,8 +1,8 @@
 -- Records that state their class are rewritten one after the other as each is alone.
 use Rattle.zone_text.proofs.Common.{AllByRecursion, AllByRecursion-append, Cut, List, Token, [], and_last, ap, append-nil, append_assoc, cut_from, entry_of, numbered, refl, reverse, subst, sym, text, zero, ℕ, ◌++◌, ◌∙◌, ◌∷◌, ◌≡◌}
-use Rattle.zone_text.proofs.Cuttings.{cut_not_broken, one_cut}
-use Rattle.zone_text.proofs.Begun.{no_tokens}
-use Rattle.zone_text.proofs.CutAgain.{cut_ended}
+use Rattle.zone_text.proofs.Tokens.Cuttings.{cut_not_broken, one_cut}
+use Rattle.zone_text.proofs.Entries.Begun.{no_tokens}
+use Rattle.zone_text.proofs.Tokens.CutAgain.{cut_ended}
 use Rattle.zone_words.proofs.Files.{HasDone, NextBecomes, whole_done}
 unfoldable use Rattle.zone_words.proofs.Files.{done_entry}
 use Rattle.zone_words.proofs.Moved.{AreClassed, IsClassed, becomes_moves, before_classed}

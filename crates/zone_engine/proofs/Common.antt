@@ -32,7 +32,7 @@ pub use Rattle.zone_rdata.specs.declared.fault.Place.TheVariants.{Line, Whole}
 pub use Rattle.zone_rdata.specs.declared.fault.Stop.{Stop}
 pub use Rattle.zone_rdata.specs.declared.fault.Stop.TheVariants.{Refused}
 pub use Rattle.zone_rdata.specs.declared.record.Placed.{Placed}
-pub use Rattle.zone_set.proofs.Together.{accepted_class, accepted_soa, accepted_ttl, each_Has, each_from_Has, one_set, stable_owner}
+pub use Rattle.zone_set.proofs.Holding.Together.{accepted_class, accepted_soa, accepted_ttl, each_Has, each_from_Has, one_set, stable_owner}
 pub use Rattle.zone_set.specs.Builder.{Accepts, Adds, AreTwoSoas, HasNoSoa, IsLeastOutside, IsRefusedFor, OtherClass, OtherSoa, OtherTtl, StopsFinish, class, leaves, no_soa, outside, soa, ttl}
 pub use Rattle.zone_set.specs.Refusal.{AllAccepted, IsFirstRefused, records_of}
 pub use Rattle.zone_set.specs.Zone.{AreCompatible, Has, InOneSet, IsZone, SameRecords, Zone, covered_octets}

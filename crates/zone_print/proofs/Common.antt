@@ -6,7 +6,7 @@ pub use Rattle.std.proofs.lemmas.List.{append-nil, length-map}
 pub use Rattle.std.proofs.lemmas.Result.{MatchResult-weaker, err_from_is_err_and}
 pub use Rattle.std.specs.List.{AllByRecursion, count_by, flat_map, join_with_byte, list_all}
 pub use Rattle.std.specs.Prelude.{IfSome, fold, slice_get, slice_index}
-pub use Rattle.zone_name.proofs.Sinks.{Took, Took-more}
+pub use Rattle.zone_name.proofs.Texts.Sinks.{Took, Took-more}
 pub use Rattle.zone_name.specs.Common.{Labels}
 pub use Rattle.zone_name.specs.Text.{decimal_escape, is_printed, is_special, label_text, name_text, octet_text}
 pub use Rattle.zone_print.specs.Canonical.{canon, line, lines, text_limit}

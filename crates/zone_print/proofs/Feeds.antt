@@ -5,7 +5,7 @@ use Rattle.std.specs.Net.Addr.{segments_of}
 use Rattle.std.specs.Net.Text.{hex, leading_zero_digits, compressed_text, longest_zero_run}
 use Rattle.hex.specs.Hex.{lower_digits, encode_with, encode_lower}
 use Rattle.std.specs.Fmt.{digit_glyph, digits, digits_onto}
-use Rattle.zone_name.proofs.Pushing.{AllByRecursion-append}
+use Rattle.zone_name.proofs.InOctets.Pushing.{AllByRecursion-append}
 use Rattle.zone_rdata.specs.declared.field.Field.{Field}
 use Rattle.zone_rdata.specs.Field.{FieldValue, values_of, field_items}
 use Rattle.zone_rdata.specs.Fields.OneString.{string_item}
@@ -15,7 +15,7 @@ use Rattle.zone_rdata.specs.Layout.{layout}
 use Rattle.zone_rdata.specs.Address.{ipv4_text, ipv6_text, parted_groups}
 use Rattle.zone_rdata.specs.Strings.{unit_text, inside_text, string_text}
 use Rattle.zone_rdata.specs.Table.{Named, classes, mnemonic_among}
-use Rattle.zone_rdata.proofs.Tables.{each_mnemonic}
+use Rattle.zone_rdata.proofs.Words.Tables.{each_mnemonic}
 
 pub none_append : (xs ys : List ℕ) → HasNoFeed xs → HasNoFeed ys → HasNoFeed (xs ++ ys)
 none_append xs ys p q = AllByRecursion-append _ xs ys p q

@@ -1,12 +1,12 @@
 -- The line of a record as a line of items of a master file.
 use Rattle.zone_print.proofs.Common.{common_steps, ◌≡◌, ◌≢◌, ℕ, ◌<◌, false, List, [], ◌∷◌, ◌++◌, length, map, decimal, arith, rules, IfSome, flat_map, AllByRecursion, join_with_byte, length-map, name_text, Record, IsRecord, data_of, data_items, written_item, class_text, kind_text, entry_of, item_of, IsItem, line_of, Token, text, is_blank, line, slice_get}
-use Rattle.zone_name.proofs.Bare.{bare_name}
+use Rattle.zone_name.proofs.Texts.Bare.{bare_name}
 use Rattle.zone_rdata.specs.Spelling.{RawItem}
 use Rattle.zone_rdata.specs.Spelling as raw
-use Rattle.zone_rdata.proofs.PrintedWords.{class_bare, kind_bare}
-use Rattle.zone_rdata.proofs.Standing.{IsPrintedItem, bare_decimal}
-use Rattle.zone_rdata.proofs.TextItems.{data_some, data_stands}
-use Rattle.zone_text.proofs.StandingItems.{BeginsOwner, tokens_of, text_begins}
+use Rattle.zone_rdata.proofs.Texts.PrintedWords.{class_bare, kind_bare}
+use Rattle.zone_rdata.proofs.Texts.Standing.{IsPrintedItem, bare_decimal}
+use Rattle.zone_rdata.proofs.Texts.TextItems.{data_some, data_stands}
+use Rattle.zone_text.proofs.Tokens.StandingItems.{BeginsOwner, tokens_of, text_begins}
 use Rattle.zone_print.proofs.Lines.{line_parts}
 
 -- A printed line as a line of items: owner, TTL, class, type and the items of the data. It begins

@@ -2,8 +2,8 @@
 use Rattle.zone_print.proofs.Common.{common_steps, ◌≡◌, ℕ, ◌+◌, ◌*◌, ◌≤◌, List, [], ◌∷◌, ◌++◌, length, decimal, arith, length-append, AllByRecursion, name_text, Record, IsRecord, data_of, data_text, class_text, kind_text, Zone, IsZone, canon, line, lines}
 use Rattle.std.proofs.lemmas.Fmt.{length-decimal-le}
 use Rattle.std.proofs.lemmas.List.Sums.{sum_by-cons}
-use Rattle.zone_name.proofs.Lengths.{name_text_length}
-use Rattle.zone_rdata.proofs.TextLengths.{class_length, data_text_length, kind_length}
+use Rattle.zone_name.proofs.Texts.Lengths.{name_text_length}
+use Rattle.zone_rdata.proofs.Texts.TextLengths.{class_length, data_text_length, kind_length}
 use Rattle.zone_set.specs.Message.{message_len, message_octets}
 
 -- the five parts, four spaces and the line feed

@@ -5,11 +5,11 @@ use Rattle.std.proofs.lemmas.Map.Lookups.{exact_unsigned, exact_bytes}
 use Rattle.std.specs.Cmp.{IsTotalOrder}
 use Rattle.std.specs.Ordering.{ordering_reverse}
 use Rattle.zone_name.specs.Order.{name_cmp}
-use Rattle.zone_name.proofs.Lawful.{name_cmp-total}
+use Rattle.zone_name.proofs.Texts.Lawful.{name_cmp-total}
 use Rattle.zone_rdata.specs.Order.{data_cmp}
 use Rattle.zone_set.specs.Order.{soa_rank, canonical_cmp, Ascends}
-use Rattle.zone_set.proofs.Together.{each_Has}
-use Rattle.zone_set.proofs.SetOrder.{both_equal}
+use Rattle.zone_set.proofs.Holding.Together.{each_Has}
+use Rattle.zone_set.proofs.Ordering.SetOrder.{both_equal}
 
 data_total : IsTotalOrder data_cmp
 data_total = then_total (on_total (λ d. d.class) nat_cmp_total) (then_total (on_total (λ d. d.kind) nat_cmp_total) (on_total (λ d. d.octets) nat_list_cmp_total))

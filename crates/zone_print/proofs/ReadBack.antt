@@ -10,8 +10,8 @@ use Rattle.zone_rdata.specs.Spelling.{States}
 use Rattle.zone_text.specs.Inherited.{IsOrigin}
 use Rattle.zone_text.specs.Lasting.{EndInLineFeed}
 use Rattle.zone_text.specs.Records.{EntryStates}
-use Rattle.zone_text.proofs.CutAgain.{cut_ended, joined}
-use Rattle.zone_text.proofs.DecidedOnce.{cut_after_all}
+use Rattle.zone_text.proofs.Tokens.CutAgain.{cut_ended, joined}
+use Rattle.zone_text.proofs.Files.DecidedOnce.{cut_after_all}
 use Rattle.zone_print.proofs.Feeds.{line_ends_with_feed}
 use Rattle.zone_print.proofs.Items.{LineItems, line_items}
 

@@ -19,10 +19,10 @@ pub use Rattle.std.specs.List.{All, AllByRecursion, AllZip, find, flat_map, join
 pub use Rattle.std.specs.Net.Text.{leading_zero_digits, longest_zero_run, zero_run}
 pub use Rattle.std.specs.Option.{ok_or, option_map}
 pub use Rattle.std.specs.Prelude.{IfErr, IfNone, IfOk, IfSome, IsErrAnd, IsOk, MatchOption, OnOk, fold, if◌then◌else◌, slice_index}
-pub use Rattle.zone_name.proofs.Bare.{StandsBare, bare_append, bare_name, bare_octets, bare_unit, is_bare}
-pub use Rattle.zone_name.proofs.Octets.{labels_of-wire_append, length-frames}
-pub use Rattle.zone_name.proofs.Pushing.{AllByRecursion-append, AllByRecursion-back, AllByRecursion-front}
-pub use Rattle.zone_name.proofs.Sinks.{Took, Took-more, stops_after, stops_last, takes_both}
+pub use Rattle.zone_name.proofs.Texts.Bare.{StandsBare, bare_append, bare_name, bare_octets, bare_unit, is_bare}
+pub use Rattle.zone_name.proofs.InOctets.Octets.{labels_of-wire_append, length-frames}
+pub use Rattle.zone_name.proofs.InOctets.Pushing.{AllByRecursion-append, AllByRecursion-back, AllByRecursion-front}
+pub use Rattle.zone_name.proofs.Texts.Sinks.{Took, Took-more, stops_after, stops_last, takes_both}
 pub use Rattle.zone_name.specs.Common.{AreOctets, Labels}
 pub use Rattle.zone_name.specs.Name.{IsFoldedOctet, IsLabel, IsName, folded, folded_label, folded_octet, wire, with_length}
 pub use Rattle.zone_name.specs.Spelling.{BeginsWithUnit, IsBadEscape, IsLabelFault, IsUnit, SpellingFault, Spells, Written, escaped, is_digit, no_octet, octet_of, text_of, written_octets, written_text}

@@ -21,14 +21,14 @@ pub use Rattle.std.specs.List.Sorted.{IsPartitionedBy, IsPermutation}
 pub use Rattle.std.specs.Option.{IfSome, option_copied}
 pub use Rattle.std.specs.Ordering.{MatchOrdering, is_lt, on, ordering_reverse, ordering_then, then_cmp}
 pub use Rattle.std.specs.Prelude.{Err, IfErr, OnErr, Result, slice_index_or, ⊤}
-pub use Rattle.zone_name.proofs.Comparing.{then_assoc, then_equal}
-pub use Rattle.zone_name.proofs.Lawful.{name_cmp-exact, name_cmp-total}
-pub use Rattle.zone_name.proofs.Octets.{labels_of-wire}
-pub use Rattle.zone_name.proofs.Pushing.{AllByRecursion-append, AllByRecursion-back, AllByRecursion-front}
+pub use Rattle.zone_name.proofs.InOctets.Comparing.{then_assoc, then_equal}
+pub use Rattle.zone_name.proofs.Texts.Lawful.{name_cmp-exact, name_cmp-total}
+pub use Rattle.zone_name.proofs.InOctets.Octets.{labels_of-wire}
+pub use Rattle.zone_name.proofs.InOctets.Pushing.{AllByRecursion-append, AllByRecursion-back, AllByRecursion-front}
 pub use Rattle.zone_name.specs.Common.{AreOctets}
 pub use Rattle.zone_name.specs.Name.{IsFoldedOctet, IsLabel, IsName, IsWithin, labels_of, wire, with_length}
 pub use Rattle.zone_name.specs.Order.{label_cmp, name_cmp}
-pub use Rattle.zone_rdata.proofs.FieldLaws.{AreLow, low_drop, low_take}
+pub use Rattle.zone_rdata.proofs.Fields.FieldLaws.{AreLow, low_drop, low_take}
 pub use Rattle.zone_rdata.proofs.Lists.{bytes_each}
 pub use Rattle.zone_rdata.specs.Lent.{placed_of, record_of}
 pub use Rattle.zone_rdata.specs.Order.{data_cmp}

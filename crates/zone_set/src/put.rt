@@ -77,7 +77,7 @@ pub(crate) fn put(
 
 /// Whether there is an entry, and its record is of the same set with another TTL. The octets of a
 /// record of another hint aren't looked at.
-#[tactic(auto, using(crate::proofs::Putting::other_hint_other_set))]
+#[tactic(auto, using(crate::proofs::Holding::Putting::other_hint_other_set))]
 fn is_of_other_ttl(offered: &Offered<'_, '_>, entry: Option<Entry>) -> bool
     requires { IfSome entry (IsComparable offered.now.octets.now offered.now.hint
         (record_of offered.now.rr.now)) }
@@ -93,7 +93,7 @@ fn is_of_other_ttl(offered: &Offered<'_, '_>, entry: Option<Entry>) -> bool
 }
 
 /// Whether there is an entry, and its record is this one.
-#[tactic(auto, using(crate::proofs::Putting::other_hint_other_record))]
+#[tactic(auto, using(crate::proofs::Holding::Putting::other_hint_other_record))]
 fn is_equal(offered: &Offered<'_, '_>, entry: Option<Entry>) -> bool
     requires { IfSome entry (IsComparable offered.now.octets.now offered.now.hint
         (record_of offered.now.rr.now)) }

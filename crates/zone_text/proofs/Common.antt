@@ -12,8 +12,8 @@ pub use Rattle.std.proofs.lemmas.Slice.Eq.{bytes_eq-Decides}
 pub use Rattle.std.specs.List.{All, AllByRecursion, count_by, flat_map, join_with_byte, list_all, list_any}
 pub use Rattle.std.specs.Option.{option_or}
 pub use Rattle.std.specs.Prelude.{IsSomeAnd, OnOk, is_some, option_and_then, option_map, reverse, slice_get, unwrap_or, ⊤}
-pub use Rattle.zone_name.proofs.Pushing.{AllByRecursion-append, AllByRecursion-back, AllByRecursion-front}
-pub use Rattle.zone_name.proofs.Units.{NoUnit, UnitsAre, at_backslash, at_end, at_octet, text_of-some, unit_of_escape, units_first_are, units_first_only}
+pub use Rattle.zone_name.proofs.InOctets.Pushing.{AllByRecursion-append, AllByRecursion-back, AllByRecursion-front}
+pub use Rattle.zone_name.proofs.Spelling.Units.{NoUnit, UnitsAre, at_backslash, at_end, at_octet, text_of-some, unit_of_escape, units_first_are, units_first_only}
 pub use Rattle.zone_name.specs.Common.{Labels, NothingIs}
 pub use Rattle.zone_name.specs.Machine.Units.{Units}
 unfoldable pub use Rattle.zone_name.specs.Machine.Units.{units_by, units_first}
@@ -22,7 +22,7 @@ unfoldable pub use Rattle.zone_name.specs.Name.{labels_of}
 pub use Rattle.zone_name.specs.Spelling.{IsBadEscape, IsEscape, IsUnit, SpellingFault, Spells, Written, absolute, at_origin, decimal, empty_label, escaped, is_digit, is_dot, no_octet, octet_of, plain, relative, text_of, within, written_octets, written_text}
 pub use Rattle.zone_name.specs.declared.fault.NameFault.TheVariants.{EmptyLabel}
 pub use Rattle.zone_rdata.proofs.FedSources.{stands_given, stands_none, stands_record, stands_stop}
-pub use Rattle.zone_rdata.proofs.LeftOut.{after_item, are_many, begin_with, fault_of_all, one_kept, one_left_out, state_none}
+pub use Rattle.zone_rdata.proofs.Items.LeftOut.{after_item, are_many, begin_with, fault_of_all, one_kept, one_left_out, state_none}
 pub use Rattle.zone_rdata.specs.DataFault.{IsDataFault}
 pub use Rattle.zone_rdata.specs.Fault.{IfFault, fault_of}
 pub use Rattle.zone_rdata.specs.FedSource.{SourceState, counted, is_finished}

@@ -6,7 +6,7 @@ use Rattle.zone_rdata.specs.Field.{FieldValue, name, u32_value, fixed, octets_of
 use Rattle.zone_rdata.specs.Fields.Address.{of_ipv4}
 use Rattle.zone_rdata.specs.Spelling.{RawItem, bare}
 use Rattle.zone_rdata.specs.Number as number
-use Rattle.zone_text.proofs.ClassWords.{time_first}
+use Rattle.zone_text.proofs.Heads.ClassWords.{time_first}
 
 pub x_name : IsName x
 x_name = omega arith

@@ -14,17 +14,17 @@ pub use Rattle.std.specs.Int.{from_be_bytes, to_be_bytes, w16, w32}
 pub use Rattle.std.specs.List.{AllByRecursion, filter, flat_map, list_all, list_any}
 pub use Rattle.std.specs.Option.{option_or, unwrap_or}
 pub use Rattle.std.specs.Prelude.{Err, IfErr, IfOk, IfSome, IsErr, IsOk, IsTrue, MatchOption, MatchResult, None, Ok, Option, Result, Some, drop, get_or, if◌then◌else◌, is_some, map, not, reverse, slice_get, slice_index, take, ⊤, ◌&&◌, ◌==◌, ◌||◌, ◌↔◌, ◌⊎◌}
-pub use Rattle.zone_name.proofs.Octets.{labels_of-open, labels_of-open_cased, length-frames}
-pub use Rattle.zone_name.proofs.Pushing.{AllByRecursion-append, HoldsLabels-frames, HoldsLabels-nil, HoldsName-finish, IsLabel-folded, folded_frames, folded_labels, frames_push, labels_of-finish, labels_of-none}
+pub use Rattle.zone_name.proofs.InOctets.Octets.{labels_of-open, labels_of-open_cased, length-frames}
+pub use Rattle.zone_name.proofs.InOctets.Pushing.{AllByRecursion-append, HoldsLabels-frames, HoldsLabels-nil, HoldsName-finish, IsLabel-folded, folded_frames, folded_labels, frames_push, labels_of-finish, labels_of-none}
 pub use Rattle.zone_name.specs.Common.{EitherIs, IsVerdict}
 pub use Rattle.zone_name.specs.Name.{HoldsLabels, IsCasedLabel, IsLabel, IsName, folded, folded_label, folded_octet, labels_of, wire, with_length}
-pub use Rattle.zone_rdata.proofs.Building.{octets_push}
-pub use Rattle.zone_rdata.proofs.Bytes.{Bytes, back_bytes, bytes_append, front_bytes}
+pub use Rattle.zone_rdata.proofs.Octets.Building.{octets_push}
+pub use Rattle.zone_rdata.proofs.Octets.Bytes.{Bytes, back_bytes, bytes_append, front_bytes}
 pub use Rattle.zone_rdata.proofs.Failings.{IfErr-fault, fault_answered, if_fault_passed}
 pub use Rattle.zone_rdata.proofs.FedSources.{stands_given, stands_none, stands_record, stands_stop}
 pub use Rattle.zone_rdata.proofs.Fields.Strings.{Framed, framed_short, some_frames}
 pub use Rattle.zone_rdata.proofs.Lists.{bytes_each}
-pub use Rattle.zone_rdata.proofs.Tables.{each_layout, table_row}
+pub use Rattle.zone_rdata.proofs.Words.Tables.{each_layout, table_row}
 pub use Rattle.zone_rdata.specs.Builder.{Built, FitsString, IsNext, IsPushFault, IsWhole, Pushes, ends_with_strings, long_string, misplaced, part_at, too_long}
 pub use Rattle.zone_rdata.specs.Cause.{fault_for}
 pub use Rattle.zone_rdata.specs.Fault.{IfFault}
@@ -63,10 +63,10 @@ pub use Rattle.zone_wire.specs.Machine.Runs.{IsNamed, IsRun, Leads}
 pub use Rattle.zone_wire.specs.Machine.Sections.{after_header, and_then, at_offset, each_from, inside, question_at, questions_from, record_at, records_from, to_the_end, unless_faulted}
 unfoldable pub use Rattle.zone_wire.specs.Machine.Sections.{header_fault, sections_of}
 pub use Rattle.zone_wire.specs.Machine.Spot.{spot_of}
-pub use Rattle.zone_wire.proofs.NextAnswers.{Answered, answers_of, before_others, is_no_class}
-unfoldable pub use Rattle.zone_wire.proofs.NextAnswers.{answer_record, own_record}
-pub use Rattle.zone_wire.proofs.NextMessages.{asks_for, has_first_id, of_answers, of_sections}
-unfoldable pub use Rattle.zone_wire.proofs.NextMessages.{next_message, stream_records}
+pub use Rattle.zone_wire.proofs.Records.NextAnswers.{Answered, answers_of, before_others, is_no_class}
+unfoldable pub use Rattle.zone_wire.proofs.Records.NextAnswers.{answer_record, own_record}
+pub use Rattle.zone_wire.proofs.Transfers.NextMessages.{asks_for, has_first_id, of_answers, of_sections}
+unfoldable pub use Rattle.zone_wire.proofs.Transfers.NextMessages.{next_message, stream_records}
 pub use Rattle.zone_wire.specs.Machine.Transferring.{Among, Gains, Hands, HeadFault, IfNoMemory, IsAfter, ReadsNext, StopsIn, Takes, TakesEach, TakesHead, TakesMessage, TakesMessageUpTo, TakesUpTo, TakesWhole, other_id, other_zone, zone_held, zone_with}
 pub use Rattle.zone_wire.specs.Machine.Walk.{Spot, label_of, outset, past_label, past_pointer, pointer_of, walk_on}
 unfoldable pub use Rattle.zone_wire.specs.Machine.Walk.{ending, standing_in, walk, walk_by}

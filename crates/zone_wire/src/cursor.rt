@@ -51,7 +51,7 @@ impl<'m> Cursor<'m> {
     }
 
     /// The number of 16 bits that is next.
-    #[tactic(auto, using(crate::proofs::FieldReading::two_read, crate::proofs::FieldReading::two_cut))]
+    #[tactic(auto, using(crate::proofs::Fields::FieldReading::two_read, crate::proofs::Fields::FieldReading::two_cut))]
     pub(crate) fn u16(&mut self) -> Result<u16, Cause>
         ensures found { IfOk result (λ n. Reads self.old self.new U16 (u16_value n)) }
         ensures fault { IfErr result (λ c. next_value self.old U16 ≡ Err (fault_for c)) }
@@ -60,7 +60,7 @@ impl<'m> Cursor<'m> {
     }
 
     /// The number of 32 bits that is next.
-    #[tactic(auto, using(crate::proofs::FieldReading::long_read, crate::proofs::FieldReading::long_cut))]
+    #[tactic(auto, using(crate::proofs::Fields::FieldReading::long_read, crate::proofs::Fields::FieldReading::long_cut))]
     pub(crate) fn u32(&mut self) -> Result<u32, Cause>
         ensures found { IfOk result (λ n. Reads self.old self.new Serial (u32_value n)) }
         ensures fault { IfErr result (λ c. next_value self.old Serial ≡ Err (fault_for c)) }

@@ -21,13 +21,13 @@ ghost use Rattle.zone_wire.specs.Visits.{labels_in, pointers_in, LeadToLast};
 ghost use Rattle.zone_wire.specs.Walk.{Visit, IsWalk};
 
 /// At most one name stands at an offset of a message.
-#[tactic(auto, using(crate::proofs::Walking::one_name))]
+#[tactic(auto, using(crate::proofs::Names::Walking::one_name))]
 pub fn one_name_at_an_offset()
     ensures { (message : Octets) (offset : ℕ) → AtMostOneIs (IsNameAt message offset) }
 {}
 
 /// A name in a message has at most 127 labels, 128 pointers and 256 steps, and ends in the message.
-#[tactic(auto, using(crate::proofs::Walking::name_bounds))]
+#[tactic(auto, using(crate::proofs::Names::Walking::name_bounds))]
 pub fn a_name_is_bounded()
     ensures labels { (message : Octets) (offset : ℕ) (found : Found) → IsNameAt message offset found
         → length found.labels ≤ 127 }
@@ -80,7 +80,7 @@ pub fn a_name_is_walked()
 {}
 
 /// Where the walk ends at the root, a name stands.
-#[tactic(auto, using(crate::proofs::WalkLaws::root_is_name))]
+#[tactic(auto, using(crate::proofs::Names::WalkLaws::root_is_name))]
 pub fn a_walk_to_the_root_is_a_name()
     ensures { (message : Octets) (offset : ℕ) (visits : List Visit)
         → ((i : ℕ) → slice_index message i < 256)

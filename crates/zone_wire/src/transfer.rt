@@ -306,7 +306,7 @@ impl Transfer {
     }
 
     /// Whether a name and a class are those of the zone, if it is fixed.
-    #[tactic(auto, using(crate::proofs::Progress::reversed_same))]
+    #[tactic(auto, using(crate::proofs::Transfers::Progress::reversed_same))]
     fn is_of_zone(&self, name: &Name, class: u16) -> bool
         ensures { result ≡ agrees (zone_held self.now.zone) name.now class }
     {

@@ -3,7 +3,7 @@ use Rattle.std.proofs.Common.{[], ◌≡◌, ℕ, zero, suc, ◌+◌, ◌-◌, �
 use Rattle.std.proofs.lemmas.List.{append-nil, take_all, take_more}
 use Rattle.std.specs.List.{AllZip}
 use Rattle.std.specs.Prelude.{fold}
-use Rattle.zone_name.proofs.Pushing.{AllByRecursion-append}
+use Rattle.zone_name.proofs.InOctets.Pushing.{AllByRecursion-append}
 use Rattle.zone_name.specs.Common.{AreOctets}
 use Rattle.zone_words.proofs.LengthsBefore.{after_length_once, appended_after_length}
 use Rattle.zone_words.specs.Fault.{AppendsStated}

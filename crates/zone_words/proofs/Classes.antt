@@ -2,7 +2,7 @@
 use Rattle.std.proofs.Common.{arith, ◌≡◌, ◌↔◌, IsTrue, false, refl, subst, sym, List, ℕ, ◌∙◌}
 use Rattle.std.specs.Prelude.{◌==◌}
 use Rattle.zone_name.specs.Common.{NothingIs}
-use Rattle.zone_rdata.proofs.OneWord.{class_word_once}
+use Rattle.zone_rdata.proofs.Words.OneWord.{class_word_once}
 use Rattle.zone_rdata.specs.Table.{in_class}
 use Rattle.zone_rdata.specs.Words.{IsClass, IsClassWord}
 

@@ -1,7 +1,7 @@
 -- The entries of a text one by one, and other entries that are put together to a text.
 use Rattle.zone_text.proofs.Common.{AllByRecursion, Breaks, Cut, Cuts, EndInLineFeed, Fault, IsOneEntry, List, Some, Token, [], ap, append-nil, append_assoc, bare, blank, closing, comment, cut_from, depth_after, flat_map, in_front, in_front_of, line_feed, opening, quoted, refl, subst, suc, sym, text, zero, ℕ, ◌++◌, ◌∙◌, ◌∷◌, ◌≡◌}
-use Rattle.zone_text.proofs.CutAgain.{AreEnded, again_zero, cut_ended, cut_whole, joined}
-use Rattle.zone_text.proofs.Lasting.{break_joined, break_parted, cut_joined, cut_parted}
+use Rattle.zone_text.proofs.Tokens.CutAgain.{AreEnded, again_zero, cut_ended, cut_whole, joined}
+use Rattle.zone_text.proofs.Tokens.Lasting.{break_joined, break_parted, cut_joined, cut_parted}
 use Rattle.zone_words.proofs.EntryShapes.{IsOne, IsUnended, bare_goes, blank_goes, comment_goes, cut_of, one_off, opening_goes, quoted_goes}
 
 -- ---- the first entry

@@ -1,7 +1,7 @@
 -- Texts that are cut at an octet in one place.
 use Rattle.std.proofs.Common.{[], ◌≡◌, ◌≢◌, ℕ, List, ◌∷◌, ◌++◌, true, false, refl, sym, ap, ◌∙◌, subst}
 use Rattle.std.specs.List.{AllByRecursion}
-use Rattle.zone_name.proofs.Pushing.{AllByRecursion-back}
+use Rattle.zone_name.proofs.InOctets.Pushing.{AllByRecursion-back}
 use Rattle.zone_name.specs.Spelling.{is_digit}
 use Rattle.zone_words.specs.Machine.Cuts.{IsMissing}
 

@@ -4,7 +4,7 @@ use Rattle.zone_text.proofs.Common.{AllFollow, Cut, List, Token, Written, [], ap
 use Rattle.hex.specs.Hex.{encode_lower}
 use Rattle.std.specs.Prelude.{codes, decimal, filter, ⊤}
 use Rattle.zone_text.specs.Tokens.{MayFollow}
-use Rattle.zone_text.proofs.Cuttings.{follow_after}
+use Rattle.zone_text.proofs.Tokens.Cuttings.{follow_after}
 use Rattle.zone_words.specs.Written.{Anew, generic_tokens, in_octets, renamed, stays, type_token, written}
 
 -- ---- depths

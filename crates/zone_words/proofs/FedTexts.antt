@@ -6,11 +6,11 @@ use Rattle.std.proofs.lemmas.List.{drop_all, reverse-append}
 use Rattle.std.specs.Option.{option_or}
 use Rattle.std.specs.Prelude.{Err, Ok, OnErr, Result, option_map}
 use Rattle.zone_name.specs.Common.{Labels}
-use Rattle.zone_text.proofs.Begun.{no_tokens}
-use Rattle.zone_text.proofs.CutAgain.{joined}
+use Rattle.zone_text.proofs.Entries.Begun.{no_tokens}
+use Rattle.zone_text.proofs.Tokens.CutAgain.{joined}
 use Rattle.zone_text.specs.Entries.{ended_entries}
-use Rattle.zone_text.proofs.Left.{line_feeds, numbered_then, split}
-use Rattle.zone_text.proofs.Lasting.{breaks_for_good, stays_some}
+use Rattle.zone_text.proofs.Files.Left.{line_feeds, numbered_then, split}
+use Rattle.zone_text.proofs.Tokens.Lasting.{breaks_for_good, stays_some}
 use Rattle.zone_text.specs.FirstEntry.{IsBrokenOff, IsFirstEntry, IsOpen}
 use Rattle.zone_text.specs.OpenEntry.{EndIs, EntryIs, HeldEntry, TakesFrom}
 use Rattle.zone_text.specs.declared.open_entry.Taken.{Taken}

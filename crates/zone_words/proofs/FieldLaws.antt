@@ -1,12 +1,12 @@
 -- Each field states one list of octets at most, or has one fault and states none.
 use Rattle.std.proofs.Common.{[], ◌≡◌, ℕ, List, ◌∷◌, Some, refl, sym, ap, ◌∙◌, arith}
 use Rattle.std.specs.Int.{Width, w8, w16, w32}
-use Rattle.zone_name.proofs.Answered.{FirstFault-once}
+use Rattle.zone_name.proofs.Spelling.Answered.{FirstFault-once}
 use Rattle.zone_name.specs.Common.{Labels}
-use Rattle.zone_rdata.proofs.AddressGaps.{groups_unique}
-use Rattle.zone_rdata.proofs.Addresses.{numbers_unique}
+use Rattle.zone_rdata.proofs.Addresses.AddressGaps.{groups_unique}
+use Rattle.zone_rdata.proofs.Addresses.Cut.{numbers_unique}
 use Rattle.zone_rdata.proofs.Fields.Strings.{fault_once as leftmost_once}
-use Rattle.zone_rdata.proofs.StringLaws.{fault-once, string-never_both}
+use Rattle.zone_rdata.proofs.Strings.StringLaws.{fault-once, string-never_both}
 use Rattle.zone_rdata.specs.Spelling.{RawItem, bare, quoted}
 use Rattle.zone_rdata.specs.Strings.{item_text}
 use Rattle.zone_words.proofs.Base32Digits.{hash_once}

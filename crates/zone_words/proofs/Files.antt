@@ -1,8 +1,8 @@
 -- Entries and what becomes of them, one by one, and the whole text.
 use Rattle.zone_text.proofs.Common.{Breaks, Cut, Cuts, Entry, Fault, IsOneEntry, List, Token, [], add_assoc, and_last, ap, append-nil, append_assoc, arith, cut_from, entry_of, flat_map, flat_map-append, inl, numbered, refl, reverse, rules, subst, sum_by-append, sym, text, zero, ℕ, ◌++◌, ◌+◌, ◌∙◌, ◌∷◌, ◌≡◌}
-use Rattle.zone_text.proofs.CutAgain.{joined, AreEnded, again_zero, cut_whole, cut_ended}
-use Rattle.zone_text.proofs.Left.{IsSplit, break_more, cut_more, ended_as_before, line_feeds, one_ended, split, text_of_entries, turned}
-use Rattle.zone_text.proofs.Begun.{no_tokens}
+use Rattle.zone_text.proofs.Tokens.CutAgain.{joined, AreEnded, again_zero, cut_whole, cut_ended}
+use Rattle.zone_text.proofs.Files.Left.{IsSplit, break_more, cut_more, ended_as_before, line_feeds, one_ended, split, text_of_entries, turned}
+use Rattle.zone_text.proofs.Entries.Begun.{no_tokens}
 use Rattle.zone_words.specs.Rewriting.{AreEntries, Becomes, EachBecomes, IsRewritten, Outcome, Refused, told_of, written_of, whole, broken}
 
 pub whole_cut : (ended : List (List Token)) → AreEnded zero ended → cut_from zero (joined ended) ≡ record { ended = ended; open_tokens = [] }

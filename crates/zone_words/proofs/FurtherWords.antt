@@ -5,8 +5,8 @@ use Rattle.std.proofs.lemmas.Bool.Decides.{nat_tests}
 use Rattle.std.specs.Option.{option_copied, option_map}
 use Rattle.std.specs.Prelude.{IfNone, IfSome}
 use Rattle.zone_name.specs.Common.{NothingIs}
-use Rattle.zone_rdata.proofs.OneWord.{is_number, own_numbers, unlike, word_once}
-use Rattle.zone_rdata.proofs.Tables.{found_each, found_passes}
+use Rattle.zone_rdata.proofs.Words.OneWord.{is_number, own_numbers, unlike, word_once}
+use Rattle.zone_rdata.proofs.Words.Tables.{found_each, found_passes}
 use Rattle.zone_rdata.specs.Number.{IsCapped}
 use Rattle.zone_rdata.specs.Words.{IsWordAmong}
 use Rattle.zone_words.specs.Table.{FurtherType, IsFurtherWord, further_names, further_of, further_type, further_types}

@@ -3,7 +3,7 @@ use Rattle.std.proofs.Common.{[], ◌≡◌, ◌≢◌, ℕ, ◌+◌, ◌*◌, �
 use Rattle.std.proofs.lemmas.List.{append-nil}
 use Rattle.std.specs.List.{AllZip, join_with_byte}
 use Rattle.hex.proofs.HexLemmas.{decode_sized-ok}
-use Rattle.zone_rdata.proofs.Sent.{append_same}
+use Rattle.zone_rdata.proofs.Octets.Sent.{append_same}
 use Rattle.zone_words.specs.Fault.{AppendsStated}
 use Rattle.zone_words.specs.Kinds.Eui.{IsPair, StatesEui}
 use Rattle.zone_words.specs.Machine.Pairs.{BeginsWithPair, IsCutPair}

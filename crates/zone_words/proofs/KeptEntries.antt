@@ -3,7 +3,7 @@ use Rattle.zone_text.proofs.Common.{AllByRecursion, AllByRecursion-append, AllBy
 use Rattle.std.specs.Prelude.{filter}
 use Rattle.zone_name.specs.Common.{Labels}
 use Rattle.zone_name.specs.Spelling.{decimal}
-use Rattle.zone_text.proofs.Left.{line_feeds}
+use Rattle.zone_text.proofs.Files.Left.{line_feeds}
 use Rattle.zone_words.proofs.EntryShapes.{AreFlat, IsOne, IsUnended, anew_depth, anew_follow, anew_one, anew_unended, generic_flat}
 use Rattle.zone_words.proofs.WrittenWords.{generic_are, type_is}
 use Rattle.zone_words.specs.CutAlike.{HaveAsManyLines, IsKeptOrAnew, is_anew, is_kept}

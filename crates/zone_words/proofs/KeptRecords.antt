@@ -4,13 +4,13 @@ use Rattle.std.specs.Prelude.{Option, MatchOption, option_and_then, slice_get}
 use Rattle.std.specs.List.{AllByRecursion, flat_map}
 use Rattle.std.specs.Option.{option_or}
 use Rattle.zone_name.specs.Common.{Labels}
-use Rattle.zone_rdata.proofs.LeftOut.{are_many, begin_with}
+use Rattle.zone_rdata.proofs.Items.LeftOut.{are_many, begin_with}
 use Rattle.zone_rdata.specs.Item.{RawItem, bare, quoted, raw, generic_mark, IsGeneric}
 use Rattle.zone_rdata.specs.LeftOut.{AreShortened}
 use Rattle.zone_rdata.specs.Table.{in_class}
 use Rattle.zone_rdata.specs.Words.{IsClassWord}
-use Rattle.zone_text.proofs.Kept.{items_written}
-use Rattle.zone_text.proofs.KeptEntry.{IsLong, LongForms, forms_long, shown}
+use Rattle.zone_text.proofs.Entries.Kept.{items_written}
+use Rattle.zone_text.proofs.Entries.KeptEntry.{IsLong, LongForms, forms_long, shown}
 use Rattle.zone_text.specs.Entries.{Entry, entry_of, item_of}
 use Rattle.zone_text.specs.Inherited.{latest, class_word}
 use Rattle.zone_text.specs.Kept.{AreKept}

@@ -2,7 +2,7 @@
 use Rattle.std.proofs.Common.{◌≡◌, ℕ, ◌==◌, List, Option, Some, None, refl, sym, ap, ◌∙◌, map}
 use Rattle.std.specs.List.{find}
 use Rattle.std.specs.Option.{option_map}
-use Rattle.zone_rdata.proofs.Tables.{find_mapped}
+use Rattle.zone_rdata.proofs.Words.Tables.{find_mapped}
 use Rattle.zone_rdata.specs.Table.{Named, mnemonic_among}
 use Rattle.zone_words.specs.Mnemonics.{name_of}
 use Rattle.zone_words.specs.declared.mnemonics.Mnemonic.{Mnemonic}

@@ -1,6 +1,6 @@
 -- A node identifier's octets are its own.
 use Rattle.std.proofs.Common.{◌≡◌, ℕ, List, false}
-use Rattle.zone_rdata.proofs.AddressParts.{parts_unique}
+use Rattle.zone_rdata.proofs.Addresses.AddressParts.{parts_unique}
 use Rattle.zone_words.specs.Kinds.NodeId.{StatesNodeId}
 
 pub node_id_once : (text a b : List ℕ) → StatesNodeId text a → StatesNodeId text b → a ≡ b

@@ -2,7 +2,7 @@
 use Rattle.std.proofs.Common.{◌≡◌, ℕ, List, Some, ◌∙◌, ap, sym}
 use Rattle.zone_name.specs.Common.{Labels}
 use Rattle.zone_name.specs.Name.{wire}
-use Rattle.zone_name.proofs.Answered.{SpellsCased-faultless, SpellsCased-once}
+use Rattle.zone_name.proofs.Spelling.Answered.{SpellsCased-faultless, SpellsCased-once}
 use Rattle.zone_words.specs.Kinds.Name.{FailsName, StatesName}
 use Rattle.zone_words.specs.declared.fault.WordsFault.{WordsFault}
 

@@ -2,7 +2,7 @@
 use Rattle.zone_text.proofs.Common.{Entry, List, Token, [], and_last, ap, append_cancel_left, arith, common_steps, cut_from, entry_of, flat_map, refl, subst, sym, text, zero, ℕ, ◌++◌, ◌+◌, ◌==◌, ◌∙◌, ◌∷◌, ◌≡◌}
 use Rattle.std.specs.Prelude.{count_by}
 use Rattle.zone_name.specs.Common.{Labels}
-use Rattle.zone_text.proofs.Cuttings.{cut_not_broken, one_break, one_cut}
+use Rattle.zone_text.proofs.Tokens.Cuttings.{cut_not_broken, one_break, one_cut}
 use Rattle.zone_words.proofs.BecomesOnce.{becomes_once}
 use Rattle.zone_words.specs.Entry.{BecomesUnder, IsRewriting}
 use Rattle.zone_words.specs.Rewriting.{EachBecomes, Outcome, Refused, broken, told_of, whole, written_of}

@@ -1,7 +1,7 @@
 -- There is one origin.
 use Rattle.std.proofs.Common.{subst, sym, ◌∙◌, ◌≡◌, ◌∷◌, [], List, Some, None}
 use Rattle.std.specs.Prelude.{Option, MatchOption}
-use Rattle.zone_name.proofs.Answered.{SpellsCased-once}
+use Rattle.zone_name.proofs.Spelling.Answered.{SpellsCased-once}
 use Rattle.zone_name.specs.Common.{Labels}
 use Rattle.zone_rdata.specs.Item.{RawItem, bare, quoted}
 use Rattle.zone_text.specs.Entries.{Entry}

@@ -3,9 +3,9 @@ use Rattle.zone_text.proofs.Common.{token_text, append-nil, AllByRecursion, AllB
 use Rattle.std.specs.Prelude.{count_by, map}
 use Rattle.zone_name.specs.Common.{Labels}
 use Rattle.zone_name.specs.Spelling.{Written, written_text}
-use Rattle.zone_text.proofs.CutAgain.{cut_whole, joined}
-use Rattle.zone_text.proofs.Cuttings.{cut_or_broken}
-use Rattle.zone_text.proofs.Left.{entries_text, text_of_entries}
+use Rattle.zone_text.proofs.Tokens.CutAgain.{cut_whole, joined}
+use Rattle.zone_text.proofs.Tokens.Cuttings.{cut_or_broken}
+use Rattle.zone_text.proofs.Files.Left.{entries_text, text_of_entries}
 use Rattle.zone_words.specs.Entry.{BecomesUnder, IsRefused, IsRewriting, SaysAnew, in_generic_form, in_words, kept, no_data, on_more_lines, too_many}
 use Rattle.zone_words.specs.DataItem.{TouchingItem}
 use Rattle.zone_words.specs.NoFurther.{HasNoFurtherWord, IsNoFurtherWord}

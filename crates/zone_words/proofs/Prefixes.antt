@@ -5,8 +5,8 @@ use Rattle.std.proofs.lemmas.List.{append-nil, append_assoc, drop_all, drop_more
 use Rattle.std.specs.Int.{w16, to_be_bytes}
 use Rattle.zone_name.specs.Common.{NothingIs}
 use Rattle.zone_name.specs.Spelling.{is_digit}
-use Rattle.zone_rdata.proofs.Addresses.{numbers_unique}
-use Rattle.zone_rdata.proofs.AddressGaps.{groups_unique}
+use Rattle.zone_rdata.proofs.Addresses.Cut.{numbers_unique}
+use Rattle.zone_rdata.proofs.Addresses.AddressGaps.{groups_unique}
 use Rattle.zone_rdata.specs.Address.{IsIpv6Address}
 use Rattle.zone_rdata.specs.Item.{RawItem, bare, quoted}
 use Rattle.zone_rdata.specs.Number.{IsCapped, IsDecimal, decimal_value}

@@ -6,9 +6,9 @@ use Rattle.std.proofs.lemmas.Slice.Eq.{bytes_eq-Decides}
 use Rattle.std.specs.List.{find, list_all}
 use Rattle.std.specs.Option.{option_map}
 use Rattle.zone_name.specs.Name.{folded_label, folded_octet}
-unfoldable use Rattle.zone_rdata.proofs.OneWord.{is_number, own_numbers, unlike}
-use Rattle.zone_rdata.proofs.OneWord.{word_once}
-use Rattle.zone_rdata.proofs.Tables.{each_mnemonic, find_mapped, found_each}
+unfoldable use Rattle.zone_rdata.proofs.Words.OneWord.{is_number, own_numbers, unlike}
+use Rattle.zone_rdata.proofs.Words.OneWord.{word_once}
+use Rattle.zone_rdata.proofs.Words.Tables.{each_mnemonic, find_mapped, found_each}
 use Rattle.zone_rdata.specs.Item.{IsGeneric, RawItem}
 use Rattle.zone_rdata.specs.Layout.{fields_in, layout}
 use Rattle.zone_rdata.specs.Spelling.{States, StatesFor, in_octets, in_words}

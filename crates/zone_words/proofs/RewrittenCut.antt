@@ -3,8 +3,8 @@ use Rattle.zone_text.proofs.Common.{AllByRecursion, Breaks, Cut, Cuts, Entry, Fa
 use Rattle.std.specs.List.{AllZip}
 use Rattle.std.specs.Prelude.{count_by}
 use Rattle.zone_name.specs.Common.{Labels}
-use Rattle.zone_text.proofs.CutAgain.{cut_whole, joined}
-use Rattle.zone_text.proofs.Left.{text_of_entries}
+use Rattle.zone_text.proofs.Tokens.CutAgain.{cut_whole, joined}
+use Rattle.zone_text.proofs.Files.Left.{text_of_entries}
 use Rattle.zone_words.proofs.CutEntries.{BreaksBy, IsPartedInto, IsWholeEntry, broken_parted, broken_together, whole_parted, whole_together}
 use Rattle.zone_words.proofs.EntryShapes.{cut_of}
 use Rattle.zone_words.proofs.KeptEntries.{KeepsEntry, becomes_keeps, keeps_cut, keeps_itself}

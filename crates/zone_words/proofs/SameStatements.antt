@@ -4,17 +4,17 @@ use Rattle.std.proofs.lemmas.Bool.{not-true}
 use Rattle.std.proofs.lemmas.Slice.Eq.{bytes_eq-Decides}
 use Rattle.std.specs.Prelude.{bytes_eq, codes, decimal, filter, if◌then◌else◌, not, option_and_then, take}
 use Rattle.hex.specs.Hex.{encode_lower}
-use Rattle.zone_name.proofs.Bare.{plain_text}
+use Rattle.zone_name.proofs.Texts.Bare.{plain_text}
 use Rattle.zone_name.proofs.Common.{false≢true}
 use Rattle.zone_name.specs.Common.{Labels}
 use Rattle.zone_name.specs.Name.{folded_label}
 use Rattle.zone_name.specs.Spelling as spelling
-use Rattle.zone_rdata.proofs.Tables.{each_mnemonic}
+use Rattle.zone_rdata.proofs.Words.Tables.{each_mnemonic}
 use Rattle.zone_rdata.specs.Item.{IsGeneric}
 use Rattle.zone_rdata.specs.Item as raw
 use Rattle.zone_rdata.specs.Words.{IsMnemonic}
-use Rattle.zone_text.proofs.PartsLeft.{parts_behind}
-use Rattle.zone_text.proofs.WordsLeft.{next_part}
+use Rattle.zone_text.proofs.Heads.PartsLeft.{parts_behind}
+use Rattle.zone_text.proofs.Heads.WordsLeft.{next_part}
 use Rattle.zone_text.specs.Statements.{Parts, Statement, Word, directive, owned, unowned}
 use Rattle.zone_words.proofs.Turns.{fails_in_words, fails_under, items_behind, no_directive, no_origin, says_under}
 use Rattle.zone_words.specs.DataItem.{TouchingItem, items_of}

@@ -4,8 +4,8 @@ use Rattle.std.proofs.lemmas.List.{append-nil, drop_all, length-map}
 use Rattle.std.specs.List.{flat_map}
 use Rattle.zone_name.specs.Name.{with_length}
 use Rattle.zone_rdata.proofs.Lists.{from_place}
-use Rattle.zone_rdata.proofs.StringLaws.{string-never_both, string-once}
-use Rattle.zone_rdata.proofs.Values.{HaveSpelt}
+use Rattle.zone_rdata.proofs.Strings.StringLaws.{string-never_both, string-once}
+use Rattle.zone_rdata.proofs.Items.Values.{HaveSpelt}
 use Rattle.zone_rdata.specs.Appended.{Appends}
 use Rattle.zone_rdata.specs.Fields.Strings.{FirstStringFault}
 use Rattle.zone_rdata.specs.Machine.Each.{SpellEachString}

@@ -11,10 +11,10 @@ use Rattle.zone_rdata.specs.Item.{RawItem, bare, quoted, raw, IsGeneric}
 use Rattle.zone_rdata.specs.Table.{Named, mnemonic_among}
 use Rattle.zone_rdata.specs.declared.item.Item.{Item}
 use Rattle.zone_rdata.specs.Words.{IsMnemonic}
-use Rattle.zone_rdata.proofs.LeftOut.{are_many}
+use Rattle.zone_rdata.proofs.Items.LeftOut.{are_many}
 use Rattle.zone_text.proofs.Common.{get_or}
-use Rattle.zone_text.proofs.Kept.{all_few, few_kept}
-use Rattle.zone_text.proofs.PartsLeft.{parts_behind}
+use Rattle.zone_text.proofs.Entries.Kept.{all_few, few_kept}
+use Rattle.zone_text.proofs.Heads.PartsLeft.{parts_behind}
 use Rattle.zone_text.specs.Entries.{Entry, entry_of, item_of}
 use Rattle.zone_text.specs.Kept.{AreKept}
 use Rattle.zone_text.specs.Statements.{Parts, Statement, directive, includes, no_items, owned, parts_after, parts_in, sets_origin, sets_ttl, statement_by, statement_of, unknown, unowned}

@@ -2,7 +2,7 @@
 use Rattle.std.proofs.Common.{[], ◌≡◌, ℕ, zero, suc, ◌+◌, ◌/◌, ◌<◌, ◌≤◌, ◌↔◌, ◌⊎◌, inl, inr, List, ◌∷◌, ◌++◌, get_or, length, map, take, refl, sym, ap, ◌∙◌, subst, arith}
 use Rattle.std.proofs.lemmas.List.{get_or_past, map_push, take_more}
 use Rattle.std.specs.List.{AllByRecursion}
-use Rattle.zone_name.proofs.Pushing.{AllByRecursion-append}
+use Rattle.zone_name.proofs.InOctets.Pushing.{AllByRecursion-append}
 use Rattle.zone_name.specs.Common.{NothingIs}
 use Rattle.zone_rdata.specs.Item.{RawItem, bare, quoted}
 use Rattle.zone_words.proofs.Bitmaps.{bitmap_once}

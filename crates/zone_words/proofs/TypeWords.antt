@@ -5,8 +5,8 @@ use Rattle.std.proofs.lemmas.Bool.Decides.{nat_tests}
 use Rattle.std.specs.List.{list_all}
 use Rattle.std.specs.Prelude.{IfSome, IfNone}
 use Rattle.zone_name.specs.Common.{NothingIs}
-use Rattle.zone_rdata.proofs.OneWord.{is_number, mnemonic_once, numbered_once, own_numbers, unlike, word_once}
-use Rattle.zone_rdata.proofs.Tables.{each_mnemonic}
+use Rattle.zone_rdata.proofs.Words.OneWord.{is_number, mnemonic_once, numbered_once, own_numbers, unlike, word_once}
+use Rattle.zone_rdata.proofs.Words.Tables.{each_mnemonic}
 use Rattle.zone_rdata.specs.Table.{Named}
 use Rattle.zone_name.specs.Name.{folded_label, folded_octet}
 use Rattle.zone_name.specs.Spelling.{is_digit}

@@ -2,8 +2,8 @@
 use Rattle.std.proofs.Common.{[], ◌≡◌, ℕ, List, ◌∷◌, ◌++◌, refl, sym, ap, ◌∙◌}
 use Rattle.std.proofs.lemmas.List.{append-nil, append_assoc, flat_map_more, map_push}
 use Rattle.std.specs.List.{AllByRecursion}
-use Rattle.zone_name.proofs.Pushing.{AllByRecursion-append}
-use Rattle.zone_name.proofs.Units.{at_backslash, at_end, units_first_only}
+use Rattle.zone_name.proofs.InOctets.Pushing.{AllByRecursion-append}
+use Rattle.zone_name.proofs.Spelling.Units.{at_backslash, at_end, units_first_only}
 use Rattle.zone_name.specs.Machine.Units.{Units}
 use Rattle.zone_name.specs.Spelling.{BeginsWithUnit, IsBadEscape, IsUnit, Written, no_octet, octet_of, text_of, written_octets, written_text}
 use Rattle.zone_words.specs.Fault.{AppendsStated}

@@ -1,7 +1,7 @@
 -- The tokens of octets, walked from the left.
 use Rattle.zone_text.proofs.Common.{AllByRecursion, AllFollow, IsToken, List, RawItem, Token, Written, [], ap, append-nil, append_assoc, arith, bare, blank, closing, comment, common_steps, escaped, false, flat_map, flat_map-append, item_of, length, length-append, line_feed, map, opening, plain, quoted, refl, subst, sym, take, take-append_seam, text, token_text, true, written_text, ℕ, ◌++◌, ◌+◌, ◌-◌, ◌<◌, ◌∙◌, ◌∷◌, ◌≡◌}
 use Rattle.std.specs.Prelude.{codes, decimal, filter}
-use Rattle.zone_text.proofs.Cuttings.{follow_after, shorter}
+use Rattle.zone_text.proofs.Tokens.Cuttings.{follow_after, shorter}
 use Rattle.zone_text.specs.Tokens.{AreTokensOf}
 use Rattle.zone_words.specs.Machine.Walking.{BeginsBlank, StandsAround, StandsNowhere, StayingAfter, WritesBetween}
 use Rattle.zone_words.specs.Written.{digit_tokens, generic_tokens, in_octets, renamed, stays, type_token, word}

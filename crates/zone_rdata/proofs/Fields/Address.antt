@@ -1,14 +1,14 @@
 -- An address of a fixed number of octets.
 use Rattle.zone_rdata.proofs.Common.{[], List, Some, ap, arith, inl, inr, length, refl, subst, sym, ℕ, ◌+◌, ◌*◌, ◌<◌, ◌==◌, ◌∙◌, ◌∷◌, ◌≡◌, ◌≤◌, ◌⊎◌, if◌then◌else◌, take_at, IsAddressOctet, IsIpv6Address, ipv4_text, ipv6_text, FitsString, FieldValue, Holds, SpellsField, Suits, field_octets, fixed, AreFixed, IsAddress, address_text, of_ipv4, of_ipv6, RawItem, bare, IsReal, StandsBare, BadRdata, Octets}
-use Rattle.zone_rdata.proofs.AddressChoice.{address_or_not}
-use Rattle.zone_rdata.proofs.AddressFields.{address_fixed}
-use Rattle.zone_rdata.proofs.AddressGaps.{groups_unique}
-use Rattle.zone_rdata.proofs.AddressLaws.{ipv4_plain, ipv4_printed, ipv6_plain, ipv6_printed, ipv6_some}
-use Rattle.zone_rdata.proofs.Addresses.{numbers_unique}
-use Rattle.zone_rdata.proofs.FieldLaws.{FieldLaws, SizedField, bare_item, bare_or_fault, mark, mark_text, sized_front, value_or_fault}
-use Rattle.zone_rdata.proofs.Standing.{bare_address}
-use Rattle.zone_rdata.proofs.FieldLengths.{ipv4_length, ipv6_length}
-use Rattle.zone_rdata.proofs.AddressParts.{ipv4_some}
+use Rattle.zone_rdata.proofs.Addresses.AddressChoice.{address_or_not}
+use Rattle.zone_rdata.proofs.Addresses.AddressFields.{address_fixed}
+use Rattle.zone_rdata.proofs.Addresses.AddressGaps.{groups_unique}
+use Rattle.zone_rdata.proofs.Addresses.AddressLaws.{ipv4_plain, ipv4_printed, ipv6_plain, ipv6_printed, ipv6_some}
+use Rattle.zone_rdata.proofs.Addresses.Cut.{numbers_unique}
+use Rattle.zone_rdata.proofs.Fields.FieldLaws.{FieldLaws, SizedField, bare_item, bare_or_fault, mark, mark_text, sized_front, value_or_fault}
+use Rattle.zone_rdata.proofs.Texts.Standing.{bare_address}
+use Rattle.zone_rdata.proofs.Fields.FieldLengths.{ipv4_length, ipv6_length}
+use Rattle.zone_rdata.proofs.Addresses.AddressParts.{ipv4_some}
 
 only : (n : ℕ) (v : FieldValue) → Holds (Octets n) v → (octets : List ℕ) × (v ≡ fixed octets)
 only n v h = grind arith

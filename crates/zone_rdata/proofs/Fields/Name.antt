@@ -1,9 +1,9 @@
 -- A domain name.
 use Rattle.zone_rdata.proofs.Common.{[], List, Some, ap, append_assoc, arith, drop, inl, inr, length, length-append, refl, suc, sym, take, zero, ℕ, ◌++◌, ◌<◌, ◌∙◌, ◌∷◌, ◌≡◌, ◌≤◌, ◌⊎◌, AllByRecursion, flat_map, cases_eq, cases_lt, append-nil, length-drop, Labels, IsFoldedOctet, IsLabel, IsName, folded_label, wire, with_length, AllByRecursion-append, AllByRecursion-back, FitsString, fault_of, FieldValue, Holds, SpellsField, Suits, field_octets, name, RawItem, bare, AppendsValue, BeginsWithNone, BeginsWithValue, IsReal, BeginsWithSent, labels_of-wire_append, bare_name, label_text, name_text, octet_text, Name, common_steps}
 use Rattle.zone_rdata.proofs.Choices.{Decided, each_or_not}
-use Rattle.zone_rdata.proofs.FieldLaws.{AreLow, FieldLaws, FrontChoice, bare_item, bare_or_fault, found_front, mark_text}
-use Rattle.zone_rdata.proofs.Sent.{HasCut, cut_more, cut_name, cut_none, folded_some, goes_on, name_by, no_first, no_room, sent_once}
-use Rattle.zone_name.proofs.Lengths.{name_text_length}
+use Rattle.zone_rdata.proofs.Fields.FieldLaws.{AreLow, FieldLaws, FrontChoice, bare_item, bare_or_fault, found_front, mark_text}
+use Rattle.zone_rdata.proofs.Octets.Sent.{HasCut, cut_more, cut_name, cut_none, folded_some, goes_on, name_by, no_first, no_room, sent_once}
+use Rattle.zone_name.proofs.Texts.Lengths.{name_text_length}
 use Rattle.zone_rdata.proofs.Lists.{each_weaker}
 
 only : (v : FieldValue) → Holds Name v → (labels : Labels) × (v ≡ name labels)

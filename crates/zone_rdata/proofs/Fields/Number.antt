@@ -4,9 +4,9 @@ use Rattle.std.specs.Int.{byte_len, from_be_bytes, to_be_bytes, Width, w16, w32}
 use Rattle.std.proofs.lemmas.Nat.{be_bytes_2, be_bytes_4, from_be_bytes-to_be_bytes_2, from_be_bytes-to_be_bytes_4}
 use Rattle.zone_rdata.specs.Fields.Number.{IsNumber, SpellsNumber}
 use Rattle.zone_rdata.proofs.Choices.{Choice, below_or_not}
-use Rattle.zone_rdata.proofs.FieldLaws.{AreLow, FieldLaws, SizedField, bare_item, bare_or_fault, low_at, mark_text, number_unmarked, sized_front, value_or_fault}
-use Rattle.zone_rdata.proofs.GenericLaws.{decimal-is, decimal_or_not}
-use Rattle.zone_rdata.proofs.Standing.{bare_decimal}
+use Rattle.zone_rdata.proofs.Fields.FieldLaws.{AreLow, FieldLaws, SizedField, bare_item, bare_or_fault, low_at, mark_text, number_unmarked, sized_front, value_or_fault}
+use Rattle.zone_rdata.proofs.Items.GenericLaws.{decimal-is, decimal_or_not}
+use Rattle.zone_rdata.proofs.Texts.Standing.{bare_decimal}
 
 -- a text stands for one number of a width at most
 spelled_or_not : (w : Width) (text : List ℕ) → Choice (SpellsNumber w text)

@@ -1,9 +1,9 @@
 -- One character-string.
 use Rattle.zone_rdata.proofs.Common.{[], List, Some, add-one, ap, arith, drop, get_or, inl, inr, length, length-append, refl, subst, take, ℕ, ◌++◌, ◌+◌, ◌<◌, ◌∙◌, ◌∷◌, ◌≡◌, ◌≤◌, cases_lt, length-take, take_at, Labels, with_length, FitsString, FieldValue, Holds, SpellsField, Suits, field_octets, string, RawItem, AppendsPrefix, AppendsValue, BeginsWithNone, BeginsWithValue, IsReal, IsString, BadRdata, OneString}
-use Rattle.zone_rdata.proofs.FieldLaws.{AreLow, AreLowItems, FieldChoice, FieldLaws, FrontChoice, appends_plain, found_front, front_of, low_take}
-use Rattle.zone_rdata.proofs.StringLaws.{printed-spells, printed-stands, string-never_both, string-once}
-use Rattle.zone_rdata.proofs.Strings.{string-or_fault}
-use Rattle.zone_rdata.proofs.FieldLengths.{string_length}
+use Rattle.zone_rdata.proofs.Fields.FieldLaws.{AreLow, AreLowItems, FieldChoice, FieldLaws, FrontChoice, appends_plain, found_front, front_of, low_take}
+use Rattle.zone_rdata.proofs.Strings.StringLaws.{printed-spells, printed-stands, string-never_both, string-once}
+use Rattle.zone_rdata.proofs.Strings.Units.{string-or_fault}
+use Rattle.zone_rdata.proofs.Fields.FieldLengths.{string_length}
 
 only : (v : FieldValue) → Holds OneString v → (octets : List ℕ) × (v ≡ string octets)
 only v h = grind arith

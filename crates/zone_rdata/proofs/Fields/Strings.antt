@@ -1,13 +1,13 @@
 -- One or more character-strings, up to the end of the data.
 use Rattle.zone_rdata.proofs.Common.{[], List, Some, ap, append_assoc, arith, drop, inl, inr, length, length-append, map, refl, subst, suc, sym, take, zero, ℕ, ◌++◌, ◌<◌, ◌∙◌, ◌∷◌, ◌≡◌, ◌≤◌, ◌⊎◌, AllByRecursion, flat_map, cases_lt, append-nil, drop_all, length-drop, length-map, take_all, Labels, with_length, AllByRecursion-append, Fault, FitsString, FieldValue, Holds, SpellsField, Suits, field_octets, strings, string_item, AreStrings, FirstStringFault, SpellEachString, SpellsStrings, StringsFault, strings_of, IsGeneric, RawItem, AppendsPrefix, AppendsValue, BeginsWithNone, BeginsWithValue, IsReal, AreWithLengths, IsString, SpellsString, StringFault, rules, common_steps, BadRdata, OneString, Strings, after}
-use Rattle.zone_rdata.proofs.FieldLaws.{AreLow, AreLowItems, FieldChoice, FieldLaws, FrontChoice, appends_plain, found_front, front_of, low_drop}
+use Rattle.zone_rdata.proofs.Fields.FieldLaws.{AreLow, AreLowItems, FieldChoice, FieldLaws, FrontChoice, appends_plain, found_front, front_of, low_drop}
 use Rattle.zone_rdata.proofs.Fields.OneString.{low_string}
-use Rattle.zone_rdata.proofs.Sent.{frame_at, frame_same, frames_push}
-use Rattle.zone_rdata.proofs.StringFields.{strings_back}
-use Rattle.zone_rdata.proofs.StringLaws.{fault-once, printed-spells, printed-stands, string-never_both, string-once}
-use Rattle.zone_rdata.proofs.Strings.{string-or_fault}
-use Rattle.zone_rdata.proofs.Standing.{IsPrintedItem}
-use Rattle.zone_rdata.proofs.FieldLengths.{strings_length}
+use Rattle.zone_rdata.proofs.Octets.Sent.{frame_at, frame_same, frames_push}
+use Rattle.zone_rdata.proofs.Octets.StringFields.{strings_back}
+use Rattle.zone_rdata.proofs.Strings.StringLaws.{fault-once, printed-spells, printed-stands, string-never_both, string-once}
+use Rattle.zone_rdata.proofs.Strings.Units.{string-or_fault}
+use Rattle.zone_rdata.proofs.Texts.Standing.{IsPrintedItem}
+use Rattle.zone_rdata.proofs.Fields.FieldLengths.{strings_length}
 
 only : (v : FieldValue) → Holds Strings v → (many : List (List ℕ)) × (v ≡ strings many)
 only v h = grind arith

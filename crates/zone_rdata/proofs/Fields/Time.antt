@@ -2,10 +2,10 @@
 use Rattle.zone_rdata.proofs.Common.{[], List, arith, refl, ℕ, ◌∷◌, ◌≡◌, FieldValue, SpellsField, u32_value, RawItem, bare, IsTime, plain, BadNumber, Time}
 use Rattle.zone_rdata.specs.Fields.Time.{SpellsTime}
 use Rattle.zone_rdata.proofs.Choices.{below_or_not}
-use Rattle.zone_rdata.proofs.FieldLaws.{FieldLaws, SizedField, bare_item, bare_or_fault, sized_front, value_or_fault}
-use Rattle.zone_rdata.proofs.GenericLaws.{decimal-is}
-use Rattle.zone_rdata.proofs.TimeChoice.{time_or_not}
-use Rattle.zone_rdata.proofs.TimeLaws.{one_time}
+use Rattle.zone_rdata.proofs.Fields.FieldLaws.{FieldLaws, SizedField, bare_item, bare_or_fault, sized_front, value_or_fault}
+use Rattle.zone_rdata.proofs.Items.GenericLaws.{decimal-is}
+use Rattle.zone_rdata.proofs.Numbers.TimeChoice.{time_or_not}
+use Rattle.zone_rdata.proofs.Numbers.TimeLaws.{one_time}
 use Rattle.zone_rdata.proofs.Fields.Number.{serial_laws, serial_sized}
 
 pub sized : SizedField Time u32_value 4

@@ -15,7 +15,7 @@ use zone_name::laws::{spelling_is_unique, texts_have_one_verdict};
 
 /// A layout has at most seven fields, strings stand last in it, and its addresses have 4 or 16
 /// octets.
-#[tactic(auto, using(crate::proofs::Tables::table_row))]
+#[tactic(auto, using(crate::proofs::Words::Tables::table_row))]
 pub fn layouts_are_sound()
     ensures { (class kind : ℕ) (fields : List Field) → layout class kind ≡ Some fields
         → IsLayout fields }

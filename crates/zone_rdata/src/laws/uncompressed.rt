@@ -13,7 +13,7 @@ pub fn canonical_octets_are_unique()
 {}
 
 /// Octets have a canonical form in the layout of a class and type, or none.
-#[tactic(auto, using(crate::proofs::Taken::canonical_or_not))]
+#[tactic(auto, using(crate::proofs::Octets::Taken::canonical_or_not))]
 pub fn octets_are_canonical_or_none()
     ensures { (class kind : ℕ) (fields : List Field) (octets : Octets)
         → layout class kind ≡ Some fields → AreOctets octets

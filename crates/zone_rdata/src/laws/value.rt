@@ -15,7 +15,7 @@ pub fn held_values_are_data()
 
 /// Values of a layout that does not end in strings are short: at most 7 fields of at most 256
 /// octets each never reach the limit.
-#[tactic(auto, using(crate::proofs::Layouts::stringless_short))]
+#[tactic(auto, using(crate::proofs::Octets::Layouts::stringless_short))]
 pub fn values_without_strings_are_short()
     ensures { (class kind : ℕ) (fields : List Field) (values : List FieldValue)
         → layout class kind ≡ Some fields → AllByRecursion (λ field. field ≢ Strings) fields
@@ -23,7 +23,7 @@ pub fn values_without_strings_are_short()
 {}
 
 /// Values of a layout with the same octets are the same values.
-#[tactic(auto, using(crate::proofs::Layouts::equal_values))]
+#[tactic(auto, using(crate::proofs::Octets::Layouts::equal_values))]
 pub fn equal_octets_are_equal_values()
     ensures { (class kind : ℕ) (fields : List Field) (values others : List FieldValue)
         → layout class kind ≡ Some fields → AllZip Holds fields values → AllZip Holds fields others
@@ -31,7 +31,7 @@ pub fn equal_octets_are_equal_values()
 {}
 
 /// The values of a layout are read back from their octets.
-#[tactic(auto, using(crate::proofs::Layouts::got_back))]
+#[tactic(auto, using(crate::proofs::Octets::Layouts::got_back))]
 pub fn values_are_got_back()
     ensures { (class kind : ℕ) (fields : List Field) (values : List FieldValue)
         → layout class kind ≡ Some fields → AllZip Holds fields values

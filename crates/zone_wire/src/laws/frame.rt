@@ -12,7 +12,7 @@ ghost use Rattle.zone_wire.specs.TransferSource.{AreAlike};
 
 /// The frames of joined octets are those of the first octets, and then those of their rest and the
 /// octets after it.
-#[tactic(auto, using(crate::proofs::FrameLaws::frames_join))]
+#[tactic(auto, using(crate::proofs::Streams::FrameLaws::frames_join))]
 pub fn frames_of_joined_octets()
     ensures { (stream more : Octets) (messages others : List Octets) (rest last : Octets)
         → IsFramed stream messages rest

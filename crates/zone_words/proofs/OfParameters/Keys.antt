@@ -1,7 +1,7 @@
 -- The keys of parameters.
 use Rattle.std.proofs.Common.{◌≡◌, ℕ, ◌++◌, List, decimal, codes, arith, sym, ap, ◌∙◌, subst, refl, Option, Some, None, bytes_eq, cond, get_or}
 use Rattle.std.proofs.lemmas.List.{append_cancel_left}
-use Rattle.zone_rdata.proofs.GenericLaws.{decimal-is}
+use Rattle.zone_rdata.proofs.Items.GenericLaws.{decimal-is}
 use Rattle.zone_rdata.specs.Number.{IsDecimal, IsCapped}
 use Rattle.zone_words.specs.Machine.Parameters.{IsKeyNumber, HasName}
 use Rattle.zone_words.specs.Parameters.Keys.{SpellsKey, key_text}

@@ -3,7 +3,7 @@ use Rattle.std.proofs.Common.{◌≡◌, ℕ, List, [], ◌∷◌, ◌++◌, sym
 use Rattle.std.specs.List.{AllZip, flat_map}
 use Rattle.std.proofs.lemmas.List.{append-nil, flat_map_more}
 use Rattle.zone_name.specs.Common.{NothingIs}
-use Rattle.zone_rdata.proofs.Addresses.{split_cut, split_lacks}
+use Rattle.zone_rdata.proofs.Addresses.Cut.{split_cut, split_lacks}
 use Rattle.zone_words.specs.Fault.{AppendsStated}
 use Rattle.zone_words.specs.Machine.Cuts.{IsCutFirst, IsMissing}
 use Rattle.zone_words.specs.Parameters.Value.{listed, ListsAddresses}

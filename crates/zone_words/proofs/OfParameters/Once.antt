@@ -5,8 +5,8 @@ use Rattle.std.specs.List.{AllByRecursion, flat_map}
 use Rattle.std.specs.List.Sorted.{IsPermutation}
 use Rattle.std.proofs.lemmas.List.Elements.{All-from_recursion, recursion_from_All}
 use Rattle.std.proofs.lemmas.List.Sorted.{All-permutation, IsPermutation-sym, IsPermutation-trans}
-use Rattle.zone_rdata.proofs.AddressGaps.{groups_unique}
-use Rattle.zone_rdata.proofs.Addresses.{numbers_unique}
+use Rattle.zone_rdata.proofs.Addresses.AddressGaps.{groups_unique}
+use Rattle.zone_rdata.proofs.Addresses.Cut.{numbers_unique}
 use Rattle.zone_rdata.specs.Address.{IsIpv4Address, IsIpv6Address}
 use Rattle.zone_words.proofs.UnescapedTexts.{unescaped_once}
 use Rattle.zone_words.proofs.OfParameters.KeyLists.{lists_keys_once}

@@ -14,7 +14,7 @@ use Rattle.std.specs.declared.cmp.Ordering.{Ordering}
 use Rattle.std.specs.declared.cmp.Ordering.TheVariants.{Less, Equal, Greater}
 use Rattle.std.proofs.Common.{cond}
 use Rattle.std.specs.Prelude.{is_some}
-use Rattle.zone_name.proofs.Pushing.{AllByRecursion-append}
+use Rattle.zone_name.proofs.InOctets.Pushing.{AllByRecursion-append}
 use Rattle.zone_words.proofs.OfParameters.Texts.{begin_once}
 use Rattle.zone_words.specs.DataItem.{TouchingItem}
 use Rattle.zone_words.specs.Machine.Stated.{all_sent, AreSent, IsLong, Holds, HasStated, FailsAfter, keyless, again, valueless, AddsParameter}

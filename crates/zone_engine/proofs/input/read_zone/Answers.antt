@@ -1,5 +1,5 @@
 use Rattle.zone_engine.proofs.Common.{◌≡◌, rules, refl, sym, ◌∙◌, ◌<◌, ◌≤◌, ◌+◌, ◌++◌, err_from_is_err_and, [], length, length-append, arith, MatchResult-weaker, input_of, ReadsZoneWithin, IfRefused, IsRefusalWithin, Consumes-nil, Consumes-trans, Consumes-whole}
-use Rattle.zone_name.proofs.Pushing.{AllByRecursion-append}
+use Rattle.zone_name.proofs.InOctets.Pushing.{AllByRecursion-append}
 use Rattle.zone_engine.proofs.Feeding.{begun, within, refused_within, too_many, consumed_none, of_reading, no_octets}
 use Rattle.zone_engine.proofs.Reading.Readers.{judged, stops_failed, stops_memory, stops_too_long}
 use Rattle.zone_engine.proofs.input.read_zone.Goals as goal

@@ -1,5 +1,5 @@
 use Rattle.zone_name.proofs.Common.{◌≢◌, sym, ◌∙◌, arith, nat_tests}
-use Rattle.zone_name.proofs.Units.{valued_escape, escaped_found}
+use Rattle.zone_name.proofs.Spelling.Units.{valued_escape, escaped_found}
 use Rattle.zone_name.proofs.escape.escape_at.Goals as goal
 
 pub returns-then-is_decimal_digit-clause-found : goal.returns-then-is_decimal_digit-clause-found

@@ -1,4 +1,4 @@
-use Rattle.zone_name.proofs.Units.{plain_found}
+use Rattle.zone_name.proofs.Spelling.Units.{plain_found}
 use Rattle.zone_name.proofs.escape.next_unit.Goals as goal
 
 pub returns-then-first-ne92 : goal.returns-then-first-ne92

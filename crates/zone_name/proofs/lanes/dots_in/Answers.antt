@@ -1,5 +1,5 @@
 use Rattle.zone_name.proofs.Common.{Bool, ap, arith, bit_or, bitmask_splat, chunk-fits, cond, count_ones, eqb, is_bare, is_dot, length-chunk, ltb, not, ones-mask_l, refl, splat_is_map, sym, w8, zip2_of_maps, zip2_splat, ℕ, ◌∙◌}
-use Rattle.zone_name.proofs.OctetLanes.{all_pass, itself, mask_is, some_fail}
+use Rattle.zone_name.proofs.InOctets.OctetLanes.{all_pass, itself, mask_is, some_fail}
 use Rattle.zone_name.proofs.lanes.dots_in.Goals as goal
 use lib.Lanes.{chunk}
 

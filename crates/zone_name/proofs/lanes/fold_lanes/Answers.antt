@@ -1,6 +1,6 @@
 use Rattle.std.proofs.Common.{ℕ, get_or, leb, cond, map, refl, ap, ◌∙◌, rules, w8, Fits}
 use Rattle.zone_name.proofs.Common.{chunk-fits, folded_octet, length-chunk, map-map, splat_is_map, zip2_of_maps, zip2_splat}
-use Rattle.zone_name.proofs.OctetLanes.{chosen, itself, same_lanes}
+use Rattle.zone_name.proofs.InOctets.OctetLanes.{chosen, itself, same_lanes}
 use Rattle.zone_name.proofs.lanes.fold_lanes.Goals as goal
 use lib.Lanes.{chunk, put_chunk, top}
 

@@ -1,5 +1,5 @@
 use Rattle.zone_name.proofs.Common.{Bool, arith, chunk-fits, is_dot, length-chunk, refl, sym, w8, zip2_of_maps, zip2_splat, ℕ, ◌==◌, ◌||◌, ◌∙◌}
-use Rattle.zone_name.proofs.OctetLanes.{before_first, before_none}
+use Rattle.zone_name.proofs.InOctets.OctetLanes.{before_first, before_none}
 use Rattle.zone_name.proofs.lanes.plain_run.Goals as goal
 use lib.Lanes.{chunk}
 

@@ -1,4 +1,4 @@
-use Rattle.zone_name.proofs.Answered.{SpellsCased-once, SpellsCased-or-FirstFault, SpellsCased-faultless, FirstFault-once}
+use Rattle.zone_name.proofs.Spelling.Answered.{SpellsCased-once, SpellsCased-or-FirstFault, SpellsCased-faultless, FirstFault-once}
 use Rattle.zone_name.proofs.laws.cased_texts_have_one_verdict.Goals as goal
 
 pub returns : goal.returns

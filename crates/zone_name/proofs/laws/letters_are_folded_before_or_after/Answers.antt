@@ -1,4 +1,4 @@
-use Rattle.zone_name.proofs.Folding.{SpellingFault-folded, Spells-folded, Spells-kept}
+use Rattle.zone_name.proofs.Spelling.Folding.{SpellingFault-folded, Spells-folded, Spells-kept}
 use Rattle.zone_name.proofs.laws.letters_are_folded_before_or_after.Goals as goal
 
 pub returns-clause-folds : goal.returns-clause-folds

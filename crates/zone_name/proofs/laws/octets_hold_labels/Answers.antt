@@ -1,4 +1,4 @@
-use Rattle.zone_name.proofs.Octets.{labels_of-wire_append, BeginsWithName-wire_append}
+use Rattle.zone_name.proofs.InOctets.Octets.{labels_of-wire_append, BeginsWithName-wire_append}
 use Rattle.zone_name.proofs.laws.octets_hold_labels.Goals as goal
 
 pub returns-clause-labels : goal.returns-clause-labels

@@ -1,4 +1,4 @@
-use Rattle.zone_name.proofs.Answered.{Spells-once}
+use Rattle.zone_name.proofs.Spelling.Answered.{Spells-once}
 use Rattle.zone_name.proofs.laws.spelling_is_unique.Goals as goal
 
 pub returns : goal.returns

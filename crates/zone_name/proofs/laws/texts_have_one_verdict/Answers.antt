@@ -1,4 +1,4 @@
-use Rattle.zone_name.proofs.Answered.{Spells-once, Spells-or-FirstFault, Spells-faultless, FirstFault-once}
+use Rattle.zone_name.proofs.Spelling.Answered.{Spells-once, Spells-or-FirstFault, Spells-faultless, FirstFault-once}
 use Rattle.zone_name.proofs.laws.texts_have_one_verdict.Goals as goal
 
 pub returns-clause-one_of : goal.returns-clause-one_of

@@ -1,4 +1,4 @@
-use Rattle.zone_name.proofs.Sinks.{stops_last}
+use Rattle.zone_name.proofs.Texts.Sinks.{stops_last}
 use Rattle.zone_name.proofs.lent.push_label.Goals as goal
 
 pub returns-clause-err : goal.returns-clause-err

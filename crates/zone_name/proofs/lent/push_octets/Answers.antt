@@ -1,6 +1,6 @@
 use Rattle.std.proofs.Common.{OnOk, sym, subst}
-use Rattle.zone_name.proofs.Printing.{flat_map-shown}
-use Rattle.zone_name.proofs.Sinks.{stops_after}
+use Rattle.zone_name.proofs.Texts.Printing.{flat_map-shown}
+use Rattle.zone_name.proofs.Texts.Sinks.{stops_after}
 use Rattle.zone_name.proofs.lent.push_octets.Goals as goal
 
 pub returns-then-is_shown-clause-ok : goal.returns-then-is_shown-clause-ok

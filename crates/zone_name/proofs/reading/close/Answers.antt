@@ -1,5 +1,5 @@
 use Rattle.zone_name.proofs.Common.{◌≡◌, ◌<◌, ◌≤◌, ◌+◌, ◌++◌, length, arith}
-use Rattle.zone_name.proofs.Pushing.{push_cased, PushedCased, taken, AllByRecursion-from_places}
+use Rattle.zone_name.proofs.InOctets.Pushing.{push_cased, PushedCased, taken, AllByRecursion-from_places}
 use Rattle.zone_name.proofs.reading.close.Goals as goal
 
 put : (c : goal.After-try_extend_from_slice) → PushedCased c.args.octets.now.items c.args.label.now c.try_extend_from_slice.new.self.items

@@ -1,6 +1,6 @@
 use Rattle.zone_name.proofs.Common.{Err, IfOk, IsOk, Ok, Result, is_ok, rules, sym, ◌≡◌}
-use Rattle.zone_name.proofs.Letters.{ended_with, joined-long}
-use Rattle.zone_name.proofs.Pushing.{taken}
+use Rattle.zone_name.proofs.Spelling.Letters.{ended_with, joined-long}
+use Rattle.zone_name.proofs.InOctets.Pushing.{taken}
 use Rattle.zone_name.proofs.reading.end_with.Goals as goal
 
 -- an answer whose fault alone was mapped

@@ -1,5 +1,5 @@
 use Rattle.zone_name.proofs.Common.{[], ◌∷◌, ap, option_copied, labels_of, origin_in}
-use Rattle.zone_name.proofs.Letters.{absolute_long, ends_above, ends_root, finished, relative_long, unfinished}
+use Rattle.zone_name.proofs.Spelling.Letters.{absolute_long, ends_above, ends_root, finished, relative_long, unfinished}
 use Rattle.zone_name.proofs.reading.finish.Goals as goal
 
 pub returns-then-spelled-2-clause-err : goal.returns-then-spelled-2-clause-err

@@ -1,5 +1,5 @@
 use Rattle.zone_name.proofs.Common.{ap, map, to_ascii_lowercase, ◌∙◌}
-use Rattle.zone_name.proofs.Pushing.{folded_again}
+use Rattle.zone_name.proofs.InOctets.Pushing.{folded_again}
 use Rattle.zone_name.proofs.reading.fold.Goals as goal
 
 pub returns : goal.returns

@@ -1,5 +1,5 @@
 use Rattle.zone_name.proofs.Common.{arith, folded_octet}
-use Rattle.zone_name.proofs.OctetLanes.{mapped_front, mapped_more, mapped_start}
+use Rattle.zone_name.proofs.InOctets.OctetLanes.{mapped_front, mapped_more, mapped_start}
 use Rattle.zone_name.proofs.reading.fold_front.Goals as goal
 
 pub loop-at-init : goal.loop-at-init

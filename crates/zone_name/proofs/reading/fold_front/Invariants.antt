@@ -1,5 +1,5 @@
 use Rattle.zone_name.proofs.Common.{folded_octet, ◌-◌}
-use Rattle.zone_name.proofs.OctetLanes.{Mapped}
+use Rattle.zone_name.proofs.InOctets.OctetLanes.{Mapped}
 use Rattle.zone_name.proofs.reading.fold_front.Given as goal
 
 abbrev pub invariant-loop-at : goal.invariant-loop-at

@@ -1,5 +1,5 @@
 use Rattle.std.proofs.Common.{◌+◌, ◌≤◌, length, arith}
-use Rattle.zone_name.proofs.Plain.{no_octets, plain_more}
+use Rattle.zone_name.proofs.Spelling.Plain.{no_octets, plain_more}
 use Rattle.zone_name.proofs.reading.label_end.Goals as goal
 
 pub loop-end-init : goal.loop-end-init

@@ -1,5 +1,5 @@
 use Rattle.std.proofs.Common.{length, ◌-◌, ◌≤◌}
-use Rattle.zone_name.proofs.Plain.{ArePlainFrom}
+use Rattle.zone_name.proofs.Spelling.Plain.{ArePlainFrom}
 use Rattle.zone_name.proofs.reading.label_end.Given as goal
 
 abbrev pub invariant-loop-end : goal.invariant-loop-end

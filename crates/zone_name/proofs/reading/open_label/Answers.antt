@@ -1,6 +1,6 @@
 use Rattle.zone_name.proofs.Common.{◌∙◌, ◌≡◌, ◌<◌, ◌∷◌, [], length, length-append, ap, sym, subst, arith, nat_tests, at_octet, ahead_in}
-use Rattle.zone_name.proofs.Ahead.{unit_seen, Shrinks, ahead_shrinks}
-use Rattle.zone_name.proofs.Steps.{Goes-start, Goes-octet, Refuses-full, Refuses-bad}
+use Rattle.zone_name.proofs.Spelling.Ahead.{unit_seen, Shrinks, ahead_shrinks}
+use Rattle.zone_name.proofs.Spelling.Steps.{Goes-start, Goes-octet, Refuses-full, Refuses-bad}
 use Rattle.zone_name.proofs.reading.open_label.Goals as goal
 
 pub loop-rest-init : goal.loop-rest-init

@@ -1,5 +1,5 @@
 use Rattle.zone_name.proofs.Common.{option_copied}
-use Rattle.zone_name.proofs.Letters.{named_err, named_ok}
+use Rattle.zone_name.proofs.Spelling.Letters.{named_err, named_ok}
 use Rattle.zone_name.proofs.reading.read_into.Goals as goal
 
 pub returns-clause-ok : goal.returns-clause-ok

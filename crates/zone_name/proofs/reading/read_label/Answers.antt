@@ -1,5 +1,5 @@
 use Rattle.zone_name.proofs.Common.{RefusesLabel, ap, arith, err_from_is_err_and, length, subst, ◌≤◌}
-use Rattle.zone_name.proofs.Steps.{Refuses-label}
+use Rattle.zone_name.proofs.Spelling.Steps.{Refuses-label}
 use Rattle.zone_name.proofs.reading.read_label.Goals as goal
 
 pub returns-in_err-is_left_out-clause-err : goal.returns-in_err-is_left_out-clause-err

@@ -1,6 +1,6 @@
 use Rattle.zone_name.proofs.Common.{length, ap, arith, nat_tests, nil_from_length, labels_of}
-use Rattle.zone_name.proofs.Pushing.{HoldsCasedLabels-nil, labels_of-none}
-use Rattle.zone_name.proofs.Steps.{reading-nil, Reads-start, Reads-label, Reads-relative}
+use Rattle.zone_name.proofs.InOctets.Pushing.{HoldsCasedLabels-nil, labels_of-none}
+use Rattle.zone_name.proofs.Spelling.Steps.{reading-nil, Reads-start, Reads-label, Reads-relative}
 use Rattle.zone_name.proofs.reading.read_labels.Goals as goal
 
 pub returns-then-is_empty-clause-holds : goal.returns-then-is_empty-clause-holds

@@ -1,5 +1,5 @@
 use Rattle.zone_name.proofs.Common.{length, HoldsCasedLabels, labels_of}
-use Rattle.zone_name.proofs.Steps.{Reads}
+use Rattle.zone_name.proofs.Spelling.Steps.{Reads}
 use Rattle.zone_name.proofs.reading.read_labels.Given as goal
 
 abbrev pub invariant-loop-rest : goal.invariant-loop-rest

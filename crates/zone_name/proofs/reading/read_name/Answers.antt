@@ -1,8 +1,8 @@
 use Rattle.zone_name.proofs.Common.{Err, IfErr-weaker, Labels, List, NameFault, Ok, Origin, RelativeName, Result, Root, ap, at_origin, labels_of, on_err_weaker, on_ok_weaker, option_copied, origin_in, refl, root, sym, unfounded, ℕ, ◌∙◌, ◌≡◌}
 use Rattle.std.specs.Prelude.{IfErr, IsOk, OnOk}
-use Rattle.zone_name.proofs.Answered.{answered, answered-only, answered-origin, decided-found, decided-fault, at-relative, root_is, spells_by}
-use Rattle.zone_name.proofs.Letters.{held_name, held_origin, held_short, root_holds}
-use Rattle.zone_name.proofs.Octets.{labels_of-root}
+use Rattle.zone_name.proofs.Spelling.Answered.{answered, answered-only, answered-origin, decided-found, decided-fault, at-relative, root_is, spells_by}
+use Rattle.zone_name.proofs.Spelling.Letters.{held_name, held_origin, held_short, root_holds}
+use Rattle.zone_name.proofs.InOctets.Octets.{labels_of-root}
 use Rattle.zone_name.proofs.reading.read_name.Goals as goal
 
 abbrev Read : Type 0

@@ -1,6 +1,6 @@
 use Rattle.zone_name.proofs.Common.{HoldsLabelsBy, ap, arith, labels_of, length, length-take, lettered, refl, replicate, subst, sym, take, ◌++◌, ◌+◌, ◌<◌, ◌∙◌, ◌≡◌}
-use Rattle.zone_name.proofs.Plain.{IsCut, PlainRead, cut_suffix, plain_room}
-use Rattle.zone_name.proofs.Pushing.{AllByRecursion-from_places, taken}
+use Rattle.zone_name.proofs.Spelling.Plain.{IsCut, PlainRead, cut_suffix, plain_room}
+use Rattle.zone_name.proofs.InOctets.Pushing.{AllByRecursion-from_places, taken}
 use Rattle.zone_name.proofs.reading.read_plain.Goals as goal
 use Rattle.zone_name.proofs.reading.read_plain.Goals.{in-Some, in-None}
 

@@ -1,4 +1,4 @@
-use Rattle.zone_name.proofs.Letters.{read_lettered}
+use Rattle.zone_name.proofs.Spelling.Letters.{read_lettered}
 use Rattle.zone_name.proofs.reading.read_spelled.Goals as goal
 
 pub returns-clause-labels : goal.returns-clause-labels

@@ -1,5 +1,5 @@
 use Rattle.std.proofs.Common.{[], ◌∷◌, ◌++◌, ap, ◌∙◌}
-use Rattle.zone_name.proofs.Letters.{root_holds}
+use Rattle.zone_name.proofs.Spelling.Letters.{root_holds}
 use Rattle.zone_name.proofs.reading.replace.Goals as goal
 
 pub returns-in-Err-clause-holds : goal.returns-in-Err-clause-holds

@@ -1,5 +1,5 @@
 use Rattle.zone_name.proofs.Common.{take}
-use Rattle.zone_name.proofs.Letters.{fold_letters}
+use Rattle.zone_name.proofs.Spelling.Letters.{fold_letters}
 use Rattle.zone_name.proofs.reading.set_front.Goals as goal
 
 pub returns-in-Kept-clause-holds : goal.returns-in-Kept-clause-holds

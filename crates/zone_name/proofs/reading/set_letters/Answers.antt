@@ -1,4 +1,4 @@
-use Rattle.zone_name.proofs.Letters.{fold_letters}
+use Rattle.zone_name.proofs.Spelling.Letters.{fold_letters}
 use Rattle.zone_name.proofs.reading.set_letters.Goals as goal
 
 pub returns-in-Kept-clause-holds : goal.returns-in-Kept-clause-holds

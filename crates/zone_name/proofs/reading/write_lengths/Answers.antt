@@ -1,5 +1,5 @@
 use Rattle.zone_name.proofs.Common.{WritesLengths, arith, drop, eqb-true, length, length-set, refl, subst, ◌-◌, ◌<◌, ◌∙◌}
-use Rattle.zone_name.proofs.Plain.{lengths_next}
+use Rattle.zone_name.proofs.Spelling.Plain.{lengths_next}
 use Rattle.zone_name.proofs.reading.write_lengths.Goals as goal
 
 pub loop-start-preserved : goal.loop-start-preserved

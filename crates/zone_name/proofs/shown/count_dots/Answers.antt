@@ -1,5 +1,5 @@
 use Rattle.std.proofs.Common.{arith}
-use Rattle.zone_name.proofs.WholeText.{few_dots, seen_more}
+use Rattle.zone_name.proofs.Spelling.WholeText.{few_dots, seen_more}
 use Rattle.zone_name.proofs.shown.count_dots.Goals as goal
 
 pub overflow_add-dots : goal.overflow_add-dots

@@ -1,5 +1,5 @@
 use Rattle.std.proofs.Common.{◌+◌, ◌-◌, ◌<◌}
-use Rattle.zone_name.proofs.WholeText.{Seen}
+use Rattle.zone_name.proofs.Spelling.WholeText.{Seen}
 use Rattle.zone_name.proofs.shown.count_dots.Given as goal
 
 abbrev pub invariant-loop-at : goal.invariant-loop-at

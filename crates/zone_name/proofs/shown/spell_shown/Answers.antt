@@ -1,6 +1,6 @@
 use Rattle.zone_name.proofs.Common.{arith, eqb-true, labels_of}
-use Rattle.zone_name.proofs.Octets.{length-labels}
-use Rattle.zone_name.proofs.WholeText.{begins_with, put_front, spelled_whole}
+use Rattle.zone_name.proofs.InOctets.Octets.{length-labels}
+use Rattle.zone_name.proofs.Spelling.WholeText.{begins_with, put_front, spelled_whole}
 use Rattle.zone_name.proofs.shown.spell_shown.Goals as goal
 
 pub write_dots-labels-requires : goal.write_dots-labels-requires

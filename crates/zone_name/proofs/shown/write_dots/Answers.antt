@@ -1,5 +1,5 @@
 use Rattle.zone_name.proofs.Common.{refl, arith}
-use Rattle.zone_name.proofs.WholeText.{dotted_end, dotted_few, dotted_more, dotted_start}
+use Rattle.zone_name.proofs.Spelling.WholeText.{dotted_end, dotted_few, dotted_more, dotted_start}
 use Rattle.zone_name.proofs.shown.write_dots.Goals as goal
 
 pub loop-octets-init : goal.loop-octets-init

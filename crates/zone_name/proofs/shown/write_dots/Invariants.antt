@@ -1,5 +1,5 @@
 use Rattle.std.proofs.Common.{length, ◌-◌}
-use Rattle.zone_name.proofs.WholeText.{Dotted}
+use Rattle.zone_name.proofs.Spelling.WholeText.{Dotted}
 use Rattle.zone_name.proofs.shown.write_dots.Given as goal
 
 abbrev pub invariant-loop-octets : goal.invariant-loop-octets

@@ -1,5 +1,5 @@
 use Rattle.zone_rdata.proofs.Common.{sym, subst, IsOver, value_of}
-use Rattle.zone_rdata.proofs.Building.{over_as}
+use Rattle.zone_rdata.proofs.Octets.Building.{over_as}
 use Rattle.zone_rdata.proofs.Failings.{IfErr-fault}
 use Rattle.zone_rdata.proofs.builder.append.Goals as goal
 

@@ -1,5 +1,5 @@
 use Rattle.zone_rdata.proofs.Common.{ap, raw}
-use Rattle.zone_rdata.proofs.GenericForm.{length_none, length_quoted, length_beyond}
+use Rattle.zone_rdata.proofs.Items.GenericForm.{length_none, length_quoted, length_beyond}
 use Rattle.zone_rdata.proofs.generic.length_of.Goals as goal
 
 pub returns-in_default-clause-fault : goal.returns-in_default-clause-fault

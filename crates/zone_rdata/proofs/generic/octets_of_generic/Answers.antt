@@ -1,6 +1,6 @@
 use Rattle.zone_rdata.proofs.Common.{sym, subst, arith, map, length-map, err_from_is_err_and, raw, JoinTo}
 use Rattle.zone_rdata.proofs.Failings.{IfErr-fault}
-use Rattle.zone_rdata.proofs.GenericForm.{form_parts, form_faults, form_missing, form_digits, later_two}
+use Rattle.zone_rdata.proofs.Items.GenericForm.{form_parts, form_faults, form_missing, form_digits, later_two}
 use Rattle.zone_rdata.proofs.generic.octets_of_generic.Goals as goal
 
 pub returns-in_err-len-in-len2-up-clause-fault : goal.returns-in_err-len-in-len2-up-clause-fault

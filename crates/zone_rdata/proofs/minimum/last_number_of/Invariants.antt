@@ -1,4 +1,4 @@
-use Rattle.zone_rdata.proofs.Minima.{HaveWalked}
+use Rattle.zone_rdata.proofs.Octets.Minima.{HaveWalked}
 use Rattle.zone_rdata.proofs.minimum.last_number_of.Given as goal
 
 abbrev pub invariant-loop-field : goal.invariant-loop-field

@@ -1,5 +1,5 @@
 use Rattle.std.proofs.Common.{take}
-use Rattle.zone_rdata.proofs.Decimal.{ReadsDigits}
+use Rattle.zone_rdata.proofs.Numbers.Decimal.{ReadsDigits}
 use Rattle.zone_rdata.proofs.number.decimal_of.Given as goal
 
 abbrev pub invariant-loop-octet : goal.invariant-loop-octet

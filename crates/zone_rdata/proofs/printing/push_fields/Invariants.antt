@@ -1,5 +1,5 @@
-use Rattle.zone_name.proofs.Sinks.{Took}
-use Rattle.zone_rdata.proofs.Texts.{HavePrinted}
+use Rattle.zone_name.proofs.Texts.Sinks.{Took}
+use Rattle.zone_rdata.proofs.Texts.FieldTexts.{HavePrinted}
 use Rattle.zone_rdata.proofs.printing.push_fields.Given as goal
 
 abbrev pub invariant-loop-i : goal.invariant-loop-i

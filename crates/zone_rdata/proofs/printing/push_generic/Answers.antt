@@ -1,5 +1,5 @@
 use Rattle.zone_rdata.proofs.Common.{◌++◌, on_err_weaker, on_ok_weaker, takes_both}
-use Rattle.zone_rdata.proofs.Texts.{generic_whole}
+use Rattle.zone_rdata.proofs.Texts.FieldTexts.{generic_whole}
 use Rattle.zone_rdata.proofs.printing.push_generic.Goals as goal
 
 pub returns-clause-err : goal.returns-clause-err

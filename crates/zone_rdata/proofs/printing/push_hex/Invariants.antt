@@ -1,5 +1,5 @@
 use Rattle.zone_rdata.proofs.Common.{length, Took}
-use Rattle.zone_rdata.proofs.Texts.{HaveDigits}
+use Rattle.zone_rdata.proofs.Texts.FieldTexts.{HaveDigits}
 use Rattle.zone_rdata.proofs.printing.push_hex.Given as goal
 
 abbrev pub invariant-loop-rest : goal.invariant-loop-rest

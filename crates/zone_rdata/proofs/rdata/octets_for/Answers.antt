@@ -1,6 +1,6 @@
 use Rattle.zone_rdata.specs.DataFault.{in_generic_form}
 use Rattle.zone_rdata.proofs.Failings.{IfErr-fault}
-use Rattle.zone_rdata.proofs.Forms.{words_read, words_fault, opaque_fault}
+use Rattle.zone_rdata.proofs.Items.Forms.{words_read, words_fault, opaque_fault}
 use Rattle.zone_rdata.proofs.rdata.octets_for.Goals as goal
 
 pub returns-then-is_generic-clause-fault : goal.returns-then-is_generic-clause-fault

@@ -1,6 +1,6 @@
 use Rattle.zone_rdata.specs.DataFault.{malformed}
 use Rattle.zone_rdata.proofs.Failings.{if_fault_passed}
-use Rattle.zone_rdata.proofs.Forms.{form_value}
+use Rattle.zone_rdata.proofs.Items.Forms.{form_value}
 use Rattle.zone_rdata.proofs.rdata.octets_in_form.Goals as goal
 
 pub returns-in-Some-clause-fault : goal.returns-in-Some-clause-fault

@@ -1,6 +1,6 @@
 use Rattle.std.proofs.Common.{[], ap, arith, bytes_eq, refl, sym, true, ◌∷◌, ◌≡◌}
-use Rattle.zone_rdata.proofs.Items.{generic_first}
-use Rattle.zone_rdata.proofs.Words.{same_octets}
+use Rattle.zone_rdata.proofs.Items.FromLeft.{generic_first}
+use Rattle.zone_rdata.proofs.Words.AnyCase.{same_octets}
 use Rattle.zone_rdata.proofs.reading.is_generic.Goals as goal
 
 pub returns-in-92 : goal.returns-in-92

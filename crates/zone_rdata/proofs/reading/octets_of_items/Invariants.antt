@@ -1,5 +1,5 @@
 use Rattle.zone_rdata.proofs.Common.{◌≤◌, length, drop, map, raw}
-use Rattle.zone_rdata.proofs.Items.{HaveRead}
+use Rattle.zone_rdata.proofs.Items.FromLeft.{HaveRead}
 use Rattle.zone_rdata.proofs.reading.octets_of_items.Given as goal
 
 abbrev pub invariant-loop-field : goal.invariant-loop-field

@@ -1,5 +1,5 @@
 use Rattle.zone_rdata.proofs.Common.{raw}
-use Rattle.zone_rdata.proofs.StringSteps.{spells_itself}
+use Rattle.zone_rdata.proofs.Strings.StringSteps.{spells_itself}
 use Rattle.std.proofs.Common.{sym, ◌∙◌}
 use Rattle.zone_rdata.proofs.string.push_string.Goals as goal
 

@@ -1,5 +1,5 @@
 use Rattle.zone_rdata.proofs.Common.{length, Took}
-use Rattle.zone_rdata.proofs.UnescapedRuns.{HaveShown}
+use Rattle.zone_rdata.proofs.Strings.UnescapedRuns.{HaveShown}
 use Rattle.zone_rdata.proofs.string.push_units.Given as goal
 
 abbrev pub invariant-loop-octet : goal.invariant-loop-octet

@@ -1,5 +1,5 @@
 use Rattle.zone_rdata.proofs.Common.{length, raw}
-use Rattle.zone_rdata.proofs.StringSteps.{HasRead}
+use Rattle.zone_rdata.proofs.Strings.StringSteps.{HasRead}
 use Rattle.zone_rdata.proofs.string.string_of.Given as goal
 
 abbrev pub invariant-loop-octets : goal.invariant-loop-octets

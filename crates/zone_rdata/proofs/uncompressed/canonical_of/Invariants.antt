@@ -1,5 +1,5 @@
 use Rattle.std.proofs.Common.{drop}
-use Rattle.zone_rdata.proofs.Taken.{HaveTaken}
+use Rattle.zone_rdata.proofs.Octets.Taken.{HaveTaken}
 use Rattle.zone_rdata.proofs.uncompressed.canonical_of.Given as goal
 
 abbrev pub invariant-loop-field : goal.invariant-loop-field

@@ -1,6 +1,6 @@
 use Rattle.std.proofs.Common.{cond, ltb, refl, sym, ◌∙◌, arith, w8}
 use Rattle.std.proofs.lemmas.Simd.{chunk-fits, length-chunk, splat_is_map, zip2_of_maps, zip2_splat}
-use Rattle.zone_name.proofs.OctetLanes.{before_first, before_none, itself}
+use Rattle.zone_name.proofs.InOctets.OctetLanes.{before_first, before_none, itself}
 use Rattle.zone_rdata.specs.Machine.Unescaped.{is_escaped}
 use Rattle.zone_rdata.proofs.unescaped.unescaped_run.Goals as goal
 use lib.Lanes.{chunk}

@@ -1,4 +1,4 @@
-use Rattle.zone_rdata.proofs.Words.{same_word}
+use Rattle.zone_rdata.proofs.Words.AnyCase.{same_word}
 use Rattle.zone_rdata.proofs.word.is_word.Goals as goal
 
 pub returns : goal.returns

@@ -1,6 +1,6 @@
 use Rattle.std.proofs.Common.{◌∙◌, arith}
 use Rattle.zone_rdata.proofs.Choices.{if_none_weaker}
-use Rattle.zone_rdata.proofs.Words.{word_of_row, no_word}
+use Rattle.zone_rdata.proofs.Words.AnyCase.{word_of_row, no_word}
 use Rattle.zone_rdata.proofs.word.number_of_word.Goals as goal
 
 pub returns-in-Some-clause-found : goal.returns-in-Some-clause-found

@@ -1,5 +1,5 @@
 use Rattle.zone_rdata.proofs.Common.{◌≡◌, true, false, bytes_eq, refl, arith, common_steps, false≢true, folded_label}
-use Rattle.zone_rdata.proofs.Words.{same_test, other_test}
+use Rattle.zone_rdata.proofs.Words.AnyCase.{same_test, other_test}
 use Rattle.zone_rdata.proofs.word.row_named.Goals as goal
 
 pub returns-then-is_word : goal.returns-then-is_word

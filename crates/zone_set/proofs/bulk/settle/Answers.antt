@@ -1,6 +1,6 @@
 use Rattle.zone_set.proofs.Common.{IsPermutation-refl, entry_record, is_repeat, length_permutation}
-use Rattle.zone_set.proofs.MessageLens.{moved_whole}
-use Rattle.zone_set.proofs.Repeats.{each_moved, each_left, same_left, AreCompatible-from_entries, SameRecords-moved}
+use Rattle.zone_set.proofs.Storage.MessageLens.{moved_whole}
+use Rattle.zone_set.proofs.Lists.Repeats.{each_moved, each_left, same_left, AreCompatible-from_entries, SameRecords-moved}
 use Rattle.zone_set.proofs.bulk.settle.Goals as goal
 
 pub returns-then-are_neighbours-clause-compatible : goal.returns-then-are_neighbours-clause-compatible

@@ -1,7 +1,7 @@
 use Rattle.zone_set.proofs.Common.{AreNeighbours, IsEntry, IsPermutation-put_mid, IsPermutation-refl, IsPermutation-trans, all_records, arith, common_steps, length-drop, length_permutation, refl, subst, sym, ◌+◌, ◌-◌, ◌∙◌}
 use Rattle.std.proofs.lemmas.Slice.{take-put_mid_below}
-use Rattle.zone_set.proofs.Looking.{each_take, take_front, take_whole, within_front}
-use Rattle.zone_set.proofs.Repeats.{each_moved}
+use Rattle.zone_set.proofs.Lists.Looking.{each_take, take_front, take_whole, within_front}
+use Rattle.zone_set.proofs.Lists.Repeats.{each_moved}
 use Rattle.zone_set.proofs.bulk.sort_runs.Goals as goal
 
 pub loop-hint-init : goal.loop-hint-init

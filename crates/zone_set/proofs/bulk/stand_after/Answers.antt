@@ -1,5 +1,5 @@
 use Rattle.zone_set.proofs.Common.{AllByRecursion, AreNeighbours, IsEntry, entry_record, map, subst, sym}
-use Rattle.zone_set.proofs.Looking.{each_drop, take_rest, AreNeighbours-joined}
+use Rattle.zone_set.proofs.Lists.Looking.{each_drop, take_rest, AreNeighbours-joined}
 use Rattle.zone_set.proofs.bulk.stand_after.Goals as goal
 
 pub are_neighbours-requires : goal.are_neighbours-requires

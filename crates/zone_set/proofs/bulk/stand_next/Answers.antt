@@ -1,6 +1,6 @@
 use Rattle.zone_set.proofs.Common.{StandNext, ap, false≢true, is_lt, record_of, rules, sym, true, ◌∙◌, ◌≡◌}
-use Rattle.zone_set.proofs.Between.{is_less}
-use Rattle.zone_set.proofs.ByHint.{StandNext-by_hint}
+use Rattle.zone_set.proofs.Ordering.Between.{is_less}
+use Rattle.zone_set.proofs.Hints.ByHint.{StandNext-by_hint}
 use Rattle.zone_set.proofs.bulk.stand_next.Goals as goal
 
 pub returns-then-a-b : goal.returns-then-a-b

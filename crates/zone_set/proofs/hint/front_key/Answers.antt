@@ -1,5 +1,5 @@
 use Rattle.zone_set.proofs.Common.{◌-◌, length, drop, sym, ap, ◌∙◌, arith, false≢true, bytes_decides}
-use Rattle.zone_set.proofs.HintWalk.{walked_start, walked_next, walked_short, walked_found, walked_none}
+use Rattle.zone_set.proofs.Hints.HintWalk.{walked_start, walked_next, walked_short, walked_found, walked_none}
 use Rattle.zone_set.proofs.hint.front_key.Goals as goal
 
 pub loop-len-init : goal.loop-len-init

@@ -1,4 +1,4 @@
-use Rattle.zone_set.proofs.HintWalk.{IsWalked}
+use Rattle.zone_set.proofs.Hints.HintWalk.{IsWalked}
 use Rattle.zone_set.proofs.hint.front_key.Given as goal
 
 abbrev pub invariant-loop-len : goal.invariant-loop-len

@@ -1,5 +1,5 @@
 use Rattle.zone_set.proofs.Common.{◌≡◌, ◌≢◌, ◌+◌, ◌*◌, ◌^◌, refl, sym, ap, ◌∙◌, false≢true, name_cmp, soa, before, within}
-use Rattle.zone_set.proofs.HintOrder.{hint_after}
+use Rattle.zone_set.proofs.Hints.HintOrder.{hint_after}
 use Rattle.zone_set.proofs.hint.hint_of.Goals as goal
 use Rattle.zone_set.proofs.hint.hint_of.Goals.{After-cmp}
 

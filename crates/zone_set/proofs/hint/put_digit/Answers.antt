@@ -1,4 +1,4 @@
-use Rattle.zone_set.proofs.Digits.{put_one}
+use Rattle.zone_set.proofs.Hints.Digits.{put_one}
 use Rattle.zone_set.proofs.hint.put_digit.Goals as goal
 
 pub returns : goal.returns

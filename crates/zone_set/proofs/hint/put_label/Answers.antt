@@ -1,5 +1,5 @@
 use Rattle.zone_set.proofs.Common.{◌∷◌, [], sym, ◌∙◌, arith, append-nil, bytes_each}
-use Rattle.zone_set.proofs.Digits.{put_next, put_all}
+use Rattle.zone_set.proofs.Hints.Digits.{put_next, put_all}
 use Rattle.zone_set.proofs.hint.put_label.Goals as goal
 
 pub loop-octet-init : goal.loop-octet-init

@@ -1,5 +1,5 @@
 use Rattle.zone_set.proofs.Common.{IsPermutation-put_mid, IsPermutation-trans, arith, common_steps, length-drop, length_permutation, ◌+◌, ◌-◌, ◌∙◌}
-use Rattle.zone_set.proofs.Keyed.{IsPermutation-keyed}
+use Rattle.zone_set.proofs.Hints.Keyed.{IsPermutation-keyed}
 use Rattle.zone_set.proofs.keys.+keys.Goals as goal
 
 pub sort-loop-hint-preserved : goal.sort-loop-hint-preserved

@@ -1,5 +1,5 @@
 use Rattle.zone_set.proofs.Common.{arith, length, map-set_same, refl, ◌<◌, ◌∙◌}
-use Rattle.zone_set.proofs.Keyed.{with_hint_more}
+use Rattle.zone_set.proofs.Hints.Keyed.{with_hint_more}
 use Rattle.zone_set.proofs.keys.set_hint.Goals as goal
 
 pub loop-entry-preserved : goal.loop-entry-preserved

@@ -1,6 +1,6 @@
 use Rattle.zone_set.proofs.Common.{AllByRecursion, IsEntry, KeepsList, arith, err_from_is_err_and, length, listed, refl, subst, sym, ◌∙◌, ◌≡◌}
-use Rattle.zone_set.proofs.Listing.{IsSettledAs-sorted}
-use Rattle.zone_set.proofs.MessageLens.{len_of_moved}
+use Rattle.zone_set.proofs.Lists.Listing.{IsSettledAs-sorted}
+use Rattle.zone_set.proofs.Storage.MessageLens.{len_of_moved}
 use Rattle.zone_set.specs.ZoneList.{IsSettledAs, memory}
 use Rattle.zone_set.proofs.list.settle_parts.Goals as goal
 

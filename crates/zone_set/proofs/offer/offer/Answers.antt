@@ -1,5 +1,5 @@
 use Rattle.zone_set.proofs.Common.{IsRow, err_from_is_err_and, record_of, subst, sym, ◌∙◌}
-use Rattle.zone_set.proofs.Offering.{first, stored_first, whole_first, HasOffered, HasOffered-start, HasOffered-more, StopsSettling-now, IsSettledAs-at_end}
+use Rattle.zone_set.proofs.Lists.Offering.{first, stored_first, whole_first, HasOffered, HasOffered-start, HasOffered-more, StopsSettling-now, IsSettledAs-at_end}
 use Rattle.zone_set.proofs.offer.offer.Goals as goal
 
 pub loop-place-init : goal.loop-place-init

@@ -1,4 +1,4 @@
-use Rattle.zone_set.proofs.Offering.{HasOffered}
+use Rattle.zone_set.proofs.Lists.Offering.{HasOffered}
 use Rattle.zone_set.proofs.offer.offer.Given as goal
 
 -- some first records were added, and the octets and places of the others are left

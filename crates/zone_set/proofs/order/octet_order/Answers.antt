@@ -1,5 +1,5 @@
 use Rattle.std.proofs.Common.{sym, ◌∙◌}
-use Rattle.zone_set.proofs.Numbers.{eights_first, then_apart, then_same}
+use Rattle.zone_set.proofs.Hints.Numbers.{eights_first, then_apart, then_same}
 use Rattle.zone_set.proofs.order.octet_order.Goals as goal
 
 pub returns-then-x-y : goal.returns-then-x-y

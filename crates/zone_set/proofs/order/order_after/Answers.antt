@@ -1,5 +1,5 @@
 use Rattle.zone_set.proofs.Common.{refl, sym, subst, ◌∙◌, arith, AreLow, low_drop, bytes_each}
-use Rattle.zone_set.proofs.Numbers.{eights_first, then_apart, then_same}
+use Rattle.zone_set.proofs.Hints.Numbers.{eights_first, then_apart, then_same}
 use Rattle.zone_set.proofs.order.order_after.Goals as goal
 
 pub loop-x-init : goal.loop-x-init

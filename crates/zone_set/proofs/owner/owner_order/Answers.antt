@@ -1,5 +1,5 @@
 use Rattle.zone_set.proofs.Common.{◌∙◌}
-use Rattle.zone_set.proofs.Owners.{order_of_first}
+use Rattle.zone_set.proofs.Ordering.Owners.{order_of_first}
 use Rattle.zone_set.proofs.owner.owner_order.Goals as goal
 
 pub returns-in-Some : goal.returns-in-Some

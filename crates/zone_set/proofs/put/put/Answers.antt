@@ -1,9 +1,9 @@
 use Rattle.zone_set.proofs.Common.{◌≡◌, ℕ, List, [], ◌∷◌, ◌++◌, map, MatchOption, refl, sym, ap, ◌∙◌, subst, arith, AllByRecursion, IfSome, AllByRecursion-back, AllByRecursion-front, Record, OtherTtl, all_records, entry_record, HasOtherTtl, HoldsEntries, IsComparable, IsEntry, stored, Ascends, record_of, Has, Entry}
 use Rattle.sorted_chunks.specs.Chunks.{after, before, joined}
-use Rattle.zone_set.proofs.Adding.{on_err}
-use Rattle.zone_set.proofs.Between.{copied, first_has, first_neighbour, last_has, last_neighbour, one_ttl, told_by, Ascends-between, IsNeighbour, Parts}
-use Rattle.zone_set.proofs.Putting.{all_comparable, each_comparable, each_put, parts_at, was_put}
-use Rattle.zone_set.proofs.Storing.{each_kept, records_kept}
+use Rattle.zone_set.proofs.Holding.Adding.{on_err}
+use Rattle.zone_set.proofs.Ordering.Between.{copied, first_has, first_neighbour, last_has, last_neighbour, one_ttl, told_by, Ascends-between, IsNeighbour, Parts}
+use Rattle.zone_set.proofs.Holding.Putting.{all_comparable, each_comparable, each_put, parts_at, was_put}
+use Rattle.zone_set.proofs.Storage.Storing.{each_kept, records_kept}
 use Rattle.zone_set.proofs.put.put.Goals as goal
 use Rattle.zone_set.proofs.put.put.Goals.{After-copied-first}
 

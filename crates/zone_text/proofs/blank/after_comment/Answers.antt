@@ -1,4 +1,4 @@
-use Rattle.zone_text.proofs.BlankLines.{comment_ended}
+use Rattle.zone_text.proofs.Tokens.BlankLines.{comment_ended}
 use Rattle.zone_text.proofs.blank.after_comment.Goals as goal
 
 pub returns : goal.returns

@@ -1,5 +1,5 @@
 use Rattle.zone_text.proofs.Common.{arith, one_line_more, ◌+◌}
-use Rattle.zone_text.proofs.BlankLines.{line_shorter, lines_joined}
+use Rattle.zone_text.proofs.Tokens.BlankLines.{line_shorter, lines_joined}
 use Rattle.zone_text.proofs.blank.blank_lines.Goals as goal
 
 pub loop-after-preserved : goal.loop-after-preserved

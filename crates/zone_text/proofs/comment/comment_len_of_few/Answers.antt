@@ -1,4 +1,4 @@
-use Rattle.zone_text.proofs.TokenEnds.{comment_goes_on, comment_ends, comment_whole}
+use Rattle.zone_text.proofs.Tokens.TokenEnds.{comment_goes_on, comment_ends, comment_whole}
 use Rattle.zone_text.proofs.comment.comment_len_of_few.Goals as goal
 
 pub returns-then-octet-eq10-clause-len : goal.returns-then-octet-eq10-clause-len

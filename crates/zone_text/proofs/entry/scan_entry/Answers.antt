@@ -1,6 +1,6 @@
 use Rattle.zone_text.proofs.Common.{ap, beginning, map, raw, ◌≡◌}
 unfoldable use Rattle.zone_text.specs.Machine.Scan.{scan_of}
-use Rattle.zone_text.proofs.FirstFound.{first_closing, first_lost, first_whole, open_scanned, scanned_all, some_taken}
+use Rattle.zone_text.proofs.Scanning.FirstFound.{first_closing, first_lost, first_whole, open_scanned, scanned_all, some_taken}
 use Rattle.zone_text.proofs.entry.scan_entry.Goals as goal
 
 pub returns-in_ok-cut_items-in-Ends : goal.returns-in_ok-cut_items-in-Ends

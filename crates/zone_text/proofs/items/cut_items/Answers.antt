@@ -1,5 +1,5 @@
 use Rattle.zone_text.proofs.Common.{arith, length, ◌<◌}
-use Rattle.zone_text.proofs.ItemsLeft.{one_less, none_less, all_taken}
+use Rattle.zone_text.proofs.Tokens.ItemsLeft.{one_less, none_less, all_taken}
 use Rattle.zone_text.proofs.items.cut_items.Goals as goal
 
 pub loop-item-preserved-in_ok-keep : goal.loop-item-preserved-in_ok-keep

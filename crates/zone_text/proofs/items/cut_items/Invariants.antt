@@ -1,5 +1,5 @@
 use Rattle.zone_text.proofs.Common.{length, map, raw}
-use Rattle.zone_text.proofs.ItemsLeft.{LeavesItems}
+use Rattle.zone_text.proofs.Tokens.ItemsLeft.{LeavesItems}
 use Rattle.zone_text.proofs.items.cut_items.Given as goal
 
 abbrev pub invariant-loop-item : goal.invariant-loop-item

@@ -1,5 +1,5 @@
 use Rattle.zone_text.proofs.Common.{ItemReaches, ap, arith, ends_within, length, length-drop, stops_within, ◌+◌, ◌-◌, ◌∙◌, ◌≡◌}
-use Rattle.zone_text.proofs.TokenEnds.{escape_on, reach_on, stops_on, len_reached}
+use Rattle.zone_text.proofs.Tokens.TokenEnds.{escape_on, reach_on, stops_on, len_reached}
 use Rattle.zone_text.proofs.items.escaped_len.Goals as goal
 
 pub loop-len-smaller : goal.loop-len-smaller

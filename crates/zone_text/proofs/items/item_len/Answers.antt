@@ -1,5 +1,5 @@
 use Rattle.zone_text.proofs.Common.{arith, ends_within}
-use Rattle.zone_text.proofs.TokenEnds.{len_reached}
+use Rattle.zone_text.proofs.Tokens.TokenEnds.{len_reached}
 use Rattle.zone_text.proofs.items.item_len.Goals as goal
 use Rattle.zone_text.proofs.items.item_len.Goals.{else-plain-text-via-then-plain-text+else-text-plain-eq92, else-plain-text-via-else-plain-text}
 

@@ -1,5 +1,5 @@
 use Rattle.zone_text.proofs.Common.{All, All-more, arith, ends_within, false, length, stops_within, subst, sym, take, ◌∙◌, ◌≡◌}
-use Rattle.zone_text.proofs.TokenEnds.{plain_on, plain_stops, end_stops, all_reached}
+use Rattle.zone_text.proofs.Tokens.TokenEnds.{plain_on, plain_stops, end_stops, all_reached}
 use Rattle.zone_text.proofs.items.plain_len.Goals as goal
 
 pub returns-then-stops_at-clause-stops : goal.returns-then-stops_at-clause-stops

@@ -1,5 +1,5 @@
 use Rattle.zone_text.proofs.Common.{ends_item, false, not-false, not-true, sym, true, ◌∙◌, ◌≡◌}
-use Rattle.zone_text.proofs.ItemsLeft.{plain_front, comment_front, quoted_front, bare_front, bare_takes}
+use Rattle.zone_text.proofs.Tokens.ItemsLeft.{plain_front, comment_front, quoted_front, bare_front, bare_takes}
 use Rattle.zone_text.proofs.items.split_token.Goals as goal
 
 pub returns-then-begins_bare-clause-found : goal.returns-then-begins_bare-clause-found

@@ -1,8 +1,8 @@
 use Rattle.std.proofs.lemmas.List.Sums.{prefix_len-le-length}
 use Rattle.zone_text.proofs.Common.{ap, arith, length, map, raw, refl, suc, sym, ◌∙◌, ◌≡◌}
-use Rattle.zone_text.proofs.FirstEntries.{blank_in_front, cut_bare, cut_ended, cut_more, cut_none, cut_on, in_front_shorter}
-use Rattle.zone_text.proofs.OneLine.{one_line, passed_bare, passed_blank, passed_token}
-use Rattle.zone_text.proofs.StopMarks.{after_stop, goes_on}
+use Rattle.zone_text.proofs.Scanning.FirstEntries.{blank_in_front, cut_bare, cut_ended, cut_more, cut_none, cut_on, in_front_shorter}
+use Rattle.zone_text.proofs.Tokens.OneLine.{one_line, passed_bare, passed_blank, passed_token}
+use Rattle.zone_text.proofs.Scanning.StopMarks.{after_stop, goes_on}
 use Rattle.zone_text.proofs.line.cut_line.Goals as goal
 
 pub loop-rest-init : goal.loop-rest-init

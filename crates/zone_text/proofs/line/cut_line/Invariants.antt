@@ -1,6 +1,6 @@
 use Rattle.zone_text.proofs.Common.{length, map, raw, ◌≡◌}
-use Rattle.zone_text.proofs.FirstEntries.{IsCutTo}
-use Rattle.zone_text.proofs.Left.{line_feeds}
+use Rattle.zone_text.proofs.Scanning.FirstEntries.{IsCutTo}
+use Rattle.zone_text.proofs.Files.Left.{line_feeds}
 use Rattle.zone_text.specs.Machine.Stops.{Tells}
 use Rattle.zone_text.proofs.line.cut_line.Given as goal
 

@@ -1,5 +1,5 @@
 use Rattle.zone_text.proofs.Common.{ap, begins_with_digit, refl, sym, ◌∙◌}
-use Rattle.zone_text.proofs.EscapedItems.{escaped_in_front, escaped_more, passed_escaped, plain_so_far, some_octets}
+use Rattle.zone_text.proofs.Tokens.EscapedItems.{escaped_in_front, escaped_more, passed_escaped, plain_so_far, some_octets}
 use Rattle.zone_text.proofs.line.escaped_item.Goals as goal
 
 pub loop-stop-init : goal.loop-stop-init

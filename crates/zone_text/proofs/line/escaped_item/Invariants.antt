@@ -1,5 +1,5 @@
 use Rattle.zone_text.proofs.Common.{length, ◌-◌}
-use Rattle.zone_text.proofs.EscapedItems.{IsEscapedTo}
+use Rattle.zone_text.proofs.Tokens.EscapedItems.{IsEscapedTo}
 use Rattle.zone_text.proofs.line.escaped_item.Given as goal
 
 abbrev pub invariant-loop-stop : goal.invariant-loop-stop

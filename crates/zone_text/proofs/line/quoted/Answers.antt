@@ -1,4 +1,4 @@
-use Rattle.zone_text.proofs.FirstEntries.{is_quoted}
+use Rattle.zone_text.proofs.Scanning.FirstEntries.{is_quoted}
 use Rattle.zone_text.proofs.line.quoted.Goals as goal
 
 pub returns-then-quote-eq34 : goal.returns-then-quote-eq34

@@ -1,4 +1,4 @@
-use Rattle.zone_text.proofs.FirstEntries.{comment_in_front, quoted_in_front}
+use Rattle.zone_text.proofs.Scanning.FirstEntries.{comment_in_front, quoted_in_front}
 use Rattle.zone_text.proofs.line.token_in_front.Goals as goal
 
 pub returns-in_ok-inside : goal.returns-in_ok-inside

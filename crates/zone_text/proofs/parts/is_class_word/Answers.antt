@@ -1,6 +1,6 @@
 use Rattle.zone_text.proofs.Common.{is_class_word, refl, sym}
-use Rattle.zone_text.proofs.ClassWords.{class_word_known}
-use Rattle.zone_text.proofs.WordsLeft.{no_class_word}
+use Rattle.zone_text.proofs.Heads.ClassWords.{class_word_known}
+use Rattle.zone_text.proofs.Heads.WordsLeft.{no_class_word}
 use Rattle.zone_text.proofs.parts.is_class_word.Goals as goal
 
 pub returns-in-Ok-None : goal.returns-in-Ok-None

@@ -1,6 +1,6 @@
 use Rattle.zone_text.proofs.Common.{refl}
-use Rattle.zone_text.proofs.PartsLeft.{found_before, found_on}
-use Rattle.zone_text.proofs.WordsLeft.{item_at}
+use Rattle.zone_text.proofs.Heads.PartsLeft.{found_before, found_on}
+use Rattle.zone_text.proofs.Heads.WordsLeft.{item_at}
 use Rattle.zone_text.proofs.parts.record_parts.Goals as goal
 
 pub returns-in_default : goal.returns-in_default

@@ -1,5 +1,5 @@
 use Rattle.zone_text.proofs.Common.{drop, map, raw}
-use Rattle.zone_text.proofs.PartsLeft.{ReadsTexts}
+use Rattle.zone_text.proofs.Heads.PartsLeft.{ReadsTexts}
 use Rattle.zone_text.proofs.parts.record_parts.Given as goal
 
 abbrev pub invariant-loop-index : goal.invariant-loop-index

@@ -1,5 +1,5 @@
 use Rattle.zone_text.proofs.Common.{Err, Ok, OnOk, Result, [], is_ok, ◌≡◌}
-use Rattle.zone_text.proofs.Standing.{reads_whole}
+use Rattle.zone_text.proofs.Files.Standing.{reads_whole}
 use Rattle.zone_text.proofs.reader.read_file.Goals as goal
 
 -- what a call ensures of `Ok`, where `?` after `map_err` found it

@@ -1,4 +1,4 @@
-use Rattle.zone_text.proofs.ScanSteps.{quiet_at}
+use Rattle.zone_text.proofs.Scanning.ScanSteps.{quiet_at}
 use Rattle.zone_text.proofs.scan.quiet_front.Goals as goal
 
 pub returns-in-Open-clause-reaches : goal.returns-in-Open-clause-reaches

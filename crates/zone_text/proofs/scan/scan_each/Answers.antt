@@ -1,5 +1,5 @@
 use Rattle.zone_text.proofs.Common.{arith, sym, ◌∙◌}
-use Rattle.zone_text.proofs.ScanSteps.{stays, one_on, rises, one_stops, all_taken}
+use Rattle.zone_text.proofs.Scanning.ScanSteps.{stays, one_on, rises, one_stops, all_taken}
 use Rattle.zone_text.proofs.scan.scan_each.Goals as goal
 
 pub loop-index-preserved-then-not-moves : goal.loop-index-preserved-then-not-moves

@@ -1,7 +1,7 @@
 use Rattle.std.proofs.Common.{◌/◌}
 use Rattle.std.specs.Int.Count.{count_trailing_zeros}
 use Rattle.zone_text.proofs.Common.{ap, arith, length, refl, ◌-◌, ◌^◌}
-use Rattle.zone_text.proofs.StopMarks.{goes_on_64, last_found, stop_found}
+use Rattle.zone_text.proofs.Scanning.StopMarks.{goes_on_64, last_found, stop_found}
 use Rattle.zone_text.proofs.stops.bare_len.Goals as goal
 
 pub returns-then-bits-ne0-clause-len : goal.returns-then-bits-ne0-clause-len

@@ -1,5 +1,5 @@
 use Rattle.zone_text.proofs.Common.{length, ◌-◌, ◌≤◌}
-use Rattle.zone_text.proofs.StopMarks.{GoesTo}
+use Rattle.zone_text.proofs.Scanning.StopMarks.{GoesTo}
 use Rattle.zone_text.proofs.stops.bare_len.Given as goal
 
 abbrev pub invariant-loop-seen : goal.invariant-loop-seen

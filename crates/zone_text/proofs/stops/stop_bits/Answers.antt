@@ -1,5 +1,5 @@
 use Rattle.zone_text.proofs.Common.{arith, length-take, refl, take}
-use Rattle.zone_text.proofs.StopMarks.{low_places, stop_bits_are}
+use Rattle.zone_text.proofs.Scanning.StopMarks.{low_places, stop_bits_are}
 use Rattle.zone_text.specs.declared.stops.TheConstants.{BY_LOW_BITS}
 use Rattle.zone_text.proofs.stops.stop_bits.Goals as goal
 

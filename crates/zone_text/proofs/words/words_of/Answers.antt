@@ -1,5 +1,5 @@
 use Rattle.zone_text.proofs.Common.{err_from_is_err_and, refl}
-use Rattle.zone_text.proofs.WordsLeft.{read_to, read_on, read_fault, item_at}
+use Rattle.zone_text.proofs.Heads.WordsLeft.{read_to, read_on, read_fault, item_at}
 use Rattle.zone_text.proofs.words.words_of.Goals as goal
 
 pub returns-in_default-clause-found : goal.returns-in_default-clause-found

@@ -1,5 +1,5 @@
 use Rattle.zone_text.proofs.Common.{drop, map, raw}
-use Rattle.zone_text.proofs.WordsLeft.{ReadsWords}
+use Rattle.zone_text.proofs.Heads.WordsLeft.{ReadsWords}
 use Rattle.zone_text.proofs.words.words_of.Given as goal
 
 abbrev pub invariant-loop-index : goal.invariant-loop-index

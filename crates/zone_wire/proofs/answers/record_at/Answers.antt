@@ -1,6 +1,6 @@
 use Rattle.zone_wire.proofs.Common.{arith}
-use Rattle.zone_wire.proofs.Pending.{record_of_name}
-use Rattle.zone_wire.proofs.Walking.{walk_names, name_walks, name_bounds}
+use Rattle.zone_wire.proofs.Records.Pending.{record_of_name}
+use Rattle.zone_wire.proofs.Names.Walking.{walk_names, name_walks, name_bounds}
 use Rattle.zone_wire.proofs.answers.record_at.Goals as goal
 
 pub overflow_add-end : goal.overflow_add-end

@@ -1,5 +1,5 @@
 use Rattle.zone_wire.proofs.Common.{Awaits, IsReadyFor, Name, Octets, OneString, U16, ap, arith, fault_answered, next_value, on_ok_weaker, refl, rules, subst}
-use Rattle.zone_wire.proofs.FieldReading.{fixed_read, fixed_sized, long_ready, long_same, part_put, sized_refused, unrefused}
+use Rattle.zone_wire.proofs.Fields.FieldReading.{fixed_read, fixed_sized, long_ready, long_same, part_put, sized_refused, unrefused}
 use Rattle.zone_wire.proofs.data.push_field.Goals as goal
 
 pub returns-in_err-u32-in-Serial-clause-fault : goal.returns-in_err-u32-in-Serial-clause-fault

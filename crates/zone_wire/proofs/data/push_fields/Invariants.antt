@@ -1,5 +1,5 @@
 use Rattle.zone_wire.proofs.Common.{fields_of, length, ◌-◌}
-use Rattle.zone_wire.proofs.DataReading.{HaveValues}
+use Rattle.zone_wire.proofs.Fields.DataReading.{HaveValues}
 use Rattle.zone_wire.proofs.data.push_fields.Given as goal
 
 abbrev pub invariant-loop-field : goal.invariant-loop-field

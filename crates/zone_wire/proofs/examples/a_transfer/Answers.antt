@@ -1,5 +1,5 @@
 use Rattle.zone_wire.proofs.Common.{[], answer_record, data_at, frame, header_fault, next_message, outcome, own_record, placed_soa, refl, sections_of, soa_message, standing_in, stream_records, strings_of, value_at, walk, walk_by, ◌∷◌}
-use Rattle.zone_wire.proofs.Computing.{octets_below, reads}
+use Rattle.zone_wire.proofs.Names.Computing.{octets_below, reads}
 use Rattle.zone_wire.proofs.examples.a_transfer.Goals as goal
 
 pub returns : goal.returns

@@ -1,5 +1,5 @@
 use Rattle.zone_wire.proofs.Common.{[], answer_header, answer_record, closing_x, data_at, ends_with, header_fault, message_with, next_message, outcome, own_record, question_x, record_of_class, record_x, refl, sections_of, small_body, standing_in, stream_records, strings_of, value_at, walk, walk_by, ◌++◌, ◌∷◌}
-use Rattle.zone_wire.proofs.Computing.{reads}
+use Rattle.zone_wire.proofs.Names.Computing.{reads}
 use Rattle.zone_wire.proofs.examples.answers_with_two_faults.Goals as goal
 
 pub returns : goal.returns

@@ -1,5 +1,5 @@
 use Rattle.zone_wire.proofs.Common.{ending, refl, standing_in, walk, walk_by}
-use Rattle.zone_wire.proofs.Computing.{walk_computes}
+use Rattle.zone_wire.proofs.Names.Computing.{walk_computes}
 use Rattle.zone_wire.proofs.examples.chains_of_pointers.Goals as goal
 
 pub returns : goal.returns

@@ -1,5 +1,5 @@
 use Rattle.zone_wire.proofs.Common.{[], answer_header, answer_record, closing_x, data_at, header_fault, message_with, next_message, opening_x, outcome, own_record, question_x, record_x, refl, sections_of, server_x, small_body, small_message, standing_in, stream_records, strings_of, value_at, walk, walk_by, ◌++◌, ◌∷◌}
-use Rattle.zone_wire.proofs.Computing.{reads}
+use Rattle.zone_wire.proofs.Names.Computing.{reads}
 use Rattle.zone_wire.proofs.examples.faults_of_answers.Goals as goal
 
 pub returns : goal.returns

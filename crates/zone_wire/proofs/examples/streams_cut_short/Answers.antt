@@ -1,5 +1,5 @@
 use Rattle.zone_wire.proofs.Common.{[], answer_header, answer_record, data_at, first_message, header_fault, next_message, outcome, own_record, refl, sections_of, small_message, standing_in, stream_records, strings_of, value_at, walk, walk_by, ◌∷◌}
-use Rattle.zone_wire.proofs.Computing.{reads}
+use Rattle.zone_wire.proofs.Names.Computing.{reads}
 use Rattle.zone_wire.proofs.examples.streams_cut_short.Goals as goal
 
 pub returns : goal.returns

@@ -1,5 +1,5 @@
 use Rattle.zone_wire.proofs.Common.{outcome, refl, standing_in, walk, walk_by}
-use Rattle.zone_wire.proofs.Computing.{name_computes}
+use Rattle.zone_wire.proofs.Names.Computing.{name_computes}
 use Rattle.zone_wire.proofs.examples.the_root.Goals as goal
 
 pub returns : goal.returns

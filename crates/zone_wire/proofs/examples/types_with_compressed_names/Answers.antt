@@ -1,5 +1,5 @@
 use Rattle.zone_wire.proofs.Common.{List, [], answer_record, data_at, ends_with, header_fault, next_message, outcome, own_record, record_x, refl, sections_of, standing_in, stream_records, strings_of, value_at, walk, walk_by, ℕ, ◌∷◌}
-use Rattle.zone_wire.proofs.Computing.{reads}
+use Rattle.zone_wire.proofs.Names.Computing.{reads}
 use Rattle.zone_wire.proofs.examples.types_with_compressed_names.Goals as goal
 
 -- a message that ends with a record of a type, of no data

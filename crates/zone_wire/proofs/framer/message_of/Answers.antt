@@ -1,5 +1,5 @@
 use Rattle.zone_wire.proofs.Common.{ap, arith, frame, sym, ◌∙◌}
-use Rattle.zone_wire.proofs.Feeding.{framed_whole, rest_taken}
+use Rattle.zone_wire.proofs.Streams.Feeding.{framed_whole, rest_taken}
 use Rattle.zone_wire.proofs.framer.message_of.Goals as goal
 
 pub returns-clause-framed : goal.returns-clause-framed

@@ -1,5 +1,5 @@
 use Rattle.zone_wire.proofs.Common.{arith}
-use Rattle.zone_wire.proofs.Rooms.{copied_all, copied_lanes, copied_start}
+use Rattle.zone_wire.proofs.Names.Rooms.{copied_all, copied_lanes, copied_start}
 use Rattle.zone_wire.proofs.labels.copy_folded.Goals as goal
 
 pub loop-done-init : goal.loop-done-init

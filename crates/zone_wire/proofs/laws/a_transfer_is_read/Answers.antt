@@ -1,5 +1,5 @@
-use Rattle.zone_wire.proofs.GivenTransfers.{transfer_reads}
-use Rattle.zone_wire.proofs.ReadStreams.{read_is_transfer}
+use Rattle.zone_wire.proofs.Transfers.GivenTransfers.{transfer_reads}
+use Rattle.zone_wire.proofs.Streams.ReadStreams.{read_is_transfer}
 use Rattle.zone_wire.proofs.laws.a_transfer_is_read.Goals as goal
 
 pub returns : goal.returns

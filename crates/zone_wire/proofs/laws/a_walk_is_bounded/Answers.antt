@@ -1,7 +1,7 @@
 use Rattle.zone_wire.proofs.Common.{AllByRecursion, LeadToLast, labels_in, length, pointers_in, ◌<◌, ◌≤◌}
-use Rattle.zone_wire.proofs.Visits.{few_labels, few_pointers, walk_leads}
-use Rattle.zone_wire.proofs.WalkLaws.{of_walk}
-use Rattle.zone_wire.proofs.Walking.{walk_is_short, walk_lies_inside}
+use Rattle.zone_wire.proofs.Names.Visits.{few_labels, few_pointers, walk_leads}
+use Rattle.zone_wire.proofs.Names.WalkLaws.{of_walk}
+use Rattle.zone_wire.proofs.Names.Walking.{walk_is_short, walk_lies_inside}
 use Rattle.zone_wire.proofs.laws.a_walk_is_bounded.Goals as goal
 
 pub returns : goal.returns

@@ -1,4 +1,4 @@
-use Rattle.zone_wire.proofs.Streams.{some_reading, some_decision}
+use Rattle.zone_wire.proofs.Streams.OneStream.{some_reading, some_decision}
 use Rattle.zone_wire.proofs.laws.each_stream_is_read.Goals as goal
 
 pub returns : goal.returns

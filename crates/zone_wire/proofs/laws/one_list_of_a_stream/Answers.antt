@@ -1,6 +1,6 @@
 use Rattle.zone_wire.proofs.Common.{None}
-use Rattle.zone_wire.proofs.GivenTransfers.{transfer_reads}
-use Rattle.zone_wire.proofs.Streams.{one_reading}
+use Rattle.zone_wire.proofs.Transfers.GivenTransfers.{transfer_reads}
+use Rattle.zone_wire.proofs.Streams.OneStream.{one_reading}
 use Rattle.zone_wire.proofs.laws.one_list_of_a_stream.Goals as goal
 
 pub returns : goal.returns

@@ -1,4 +1,4 @@
-use Rattle.zone_wire.proofs.Streams.{one_reading, one_decision}
+use Rattle.zone_wire.proofs.Streams.OneStream.{one_reading, one_decision}
 use Rattle.zone_wire.proofs.laws.one_reading_of_a_stream.Goals as goal
 
 pub returns : goal.returns

@@ -1,4 +1,4 @@
-use Rattle.zone_wire.proofs.Streams.{records_are_read, fault_is_read}
+use Rattle.zone_wire.proofs.Streams.OneStream.{records_are_read, fault_is_read}
 use Rattle.zone_wire.proofs.laws.what_is_decided_is_read.Goals as goal
 
 pub returns : goal.returns

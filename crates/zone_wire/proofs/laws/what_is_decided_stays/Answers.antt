@@ -1,4 +1,4 @@
-use Rattle.zone_wire.proofs.Streams.{records_stay, fault_stays}
+use Rattle.zone_wire.proofs.Streams.OneStream.{records_stay, fault_stays}
 use Rattle.zone_wire.proofs.laws.what_is_decided_stays.Goals as goal
 
 pub returns : goal.returns

@@ -1,5 +1,5 @@
 use Rattle.zone_wire.proofs.Common.{arith}
-use Rattle.zone_wire.proofs.Naming.{says_found, says_only, says_within, says_fault, says_places, says_few}
+use Rattle.zone_wire.proofs.Names.Naming.{says_found, says_only, says_within, says_fault, says_places, says_few}
 use Rattle.zone_wire.proofs.name.name_at.Goals as goal
 
 pub returns-clause-found : goal.returns-clause-found

@@ -1,6 +1,6 @@
 use Rattle.zone_wire.proofs.Common.{ShortMessage, ap, arith, fault_for, refl, refused, rules, sym, ◌++◌, ◌∙◌}
-use Rattle.zone_wire.proofs.RunLaws.{run_alone}
-use Rattle.zone_wire.proofs.Carrying.{carries_start, carries_outside, carries_bad, carries_root, carries_label, carries_pointer, root_inside, label_shows, pointer_shows}
+use Rattle.zone_wire.proofs.Names.RunLaws.{run_alone}
+use Rattle.zone_wire.proofs.Names.Carrying.{carries_start, carries_outside, carries_bad, carries_root, carries_label, carries_pointer, root_inside, label_shows, pointer_shows}
 use Rattle.zone_wire.proofs.name.read_name.Goals as goal
 
 pub places-init : goal.places-init

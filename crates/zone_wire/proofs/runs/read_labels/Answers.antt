@@ -1,4 +1,4 @@
-use Rattle.zone_wire.proofs.Walking.{name_walks}
+use Rattle.zone_wire.proofs.Names.Walking.{name_walks}
 use Rattle.zone_wire.proofs.runs.read_labels.Goals as goal
 
 pub returns-in-Some : goal.returns-in-Some

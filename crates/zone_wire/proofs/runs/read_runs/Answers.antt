@@ -1,5 +1,5 @@
 use Rattle.zone_wire.proofs.Common.{IsName, ap, folded, refl, subst, ◌++◌, ◌∙◌}
-use Rattle.zone_wire.proofs.RunLaws.{leads_pointer, leads_root, pointer_stands, root_stands, run_labels}
+use Rattle.zone_wire.proofs.Names.RunLaws.{leads_pointer, leads_root, pointer_stands, root_stands, run_labels}
 use Rattle.zone_wire.proofs.runs.read_runs.Goals as goal
 
 pub returns-in-Root : goal.returns-in-Root

@@ -1,5 +1,5 @@
 use Rattle.zone_wire.proofs.Common.{IsRun, arith, subst, ℕ, ◌+◌, ◌≡◌}
-use Rattle.zone_wire.proofs.RunLaws.{run_more, run_start}
+use Rattle.zone_wire.proofs.Names.RunLaws.{run_more, run_start}
 use Rattle.zone_wire.proofs.runs.run_end.Goals as goal
 
 pub loop-size-init : goal.loop-size-init

@@ -1,5 +1,5 @@
 use Rattle.zone_wire.proofs.Common.{arith, err_from_is_err_and, fault_for}
-use Rattle.zone_wire.proofs.Structures.{header_refused, has_header, questions_refused, answers_refused, additional_refused, trailing, parses}
+use Rattle.zone_wire.proofs.Messages.Structures.{header_refused, has_header, questions_refused, answers_refused, additional_refused, trailing, parses}
 use Rattle.zone_wire.proofs.structure.answers_start.Goals as goal
 
 pub returns-in-Some : goal.returns-in-Some

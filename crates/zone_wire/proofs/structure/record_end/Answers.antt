@@ -1,5 +1,5 @@
 use Rattle.zone_wire.proofs.Common.{arith, err_from_is_err_and, rules}
-use Rattle.zone_wire.proofs.Ends.{name_ends_inside}
+use Rattle.zone_wire.proofs.Messages.Ends.{name_ends_inside}
 use Rattle.zone_wire.proofs.structure.record_end.Goals as goal
 
 pub returns-in_err-end : goal.returns-in_err-end

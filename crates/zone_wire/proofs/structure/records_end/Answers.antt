@@ -1,5 +1,5 @@
 use Rattle.zone_wire.proofs.Common.{ap, arith, records_from, run_end_of, sym, ◌∙◌}
-use Rattle.zone_wire.proofs.Ends.{records_go_on, records_refused, records_end_here}
+use Rattle.zone_wire.proofs.Messages.Ends.{records_go_on, records_refused, records_end_here}
 use Rattle.zone_wire.proofs.structure.records_end.Goals as goal
 
 pub loop-init : goal.loop-init

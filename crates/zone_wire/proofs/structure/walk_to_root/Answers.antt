@@ -1,5 +1,5 @@
 use Rattle.zone_wire.proofs.Common.{[], ap, arith, fault_for, name_end_of, rules, sym}
-use Rattle.zone_wire.proofs.Carrying.{carries_start, carries_outside, carries_bad, carries_root, carries_label, carries_pointer, root_inside, label_shows, pointer_shows}
+use Rattle.zone_wire.proofs.Names.Carrying.{carries_start, carries_outside, carries_bad, carries_root, carries_label, carries_pointer, root_inside, label_shows, pointer_shows}
 use Rattle.zone_wire.proofs.structure.walk_to_root.Goals as goal
 
 pub places-init : goal.places-init

@@ -1,5 +1,5 @@
 use Rattle.zone_wire.proofs.Common.{sym}
-use Rattle.zone_wire.proofs.Progress.{told_same}
+use Rattle.zone_wire.proofs.Transfers.Progress.{told_same}
 use Rattle.zone_wire.proofs.transfer.is_same.Goals as goal
 
 pub returns : goal.returns

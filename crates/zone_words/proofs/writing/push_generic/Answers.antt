@@ -1,5 +1,5 @@
 use Rattle.zone_text.proofs.Common.{on_ok_weaker, refl}
-use Rattle.zone_text.proofs.Begun.{none_left, some_left}
+use Rattle.zone_text.proofs.Entries.Begun.{none_left, some_left}
 use Rattle.zone_words.proofs.Walks.{generic_more, generic_none}
 use Rattle.zone_words.proofs.writing.push_generic.Goals as goal
 

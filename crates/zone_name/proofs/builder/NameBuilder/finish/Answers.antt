@@ -1,5 +1,5 @@
 use Rattle.zone_name.proofs.Common.{◌∙◌, sym, subst, IsName}
-use Rattle.zone_name.proofs.Pushing.{HoldsName-finish, labels_of-finish}
+use Rattle.zone_name.proofs.InOctets.Pushing.{HoldsName-finish, labels_of-finish}
 use Rattle.zone_name.proofs.builder.NameBuilder.finish.Goals as goal
 
 pub of_octets-requires : goal.of_octets-requires

@@ -1,4 +1,4 @@
-use Rattle.zone_name.proofs.Pushing.{HoldsLabels-nil, labels_of-none}
+use Rattle.zone_name.proofs.InOctets.Pushing.{HoldsLabels-nil, labels_of-none}
 use Rattle.zone_name.proofs.builder.NameBuilder.new.Goals as goal
 
 pub invariant_of-result : goal.invariant_of-result

@@ -1,5 +1,5 @@
 use Rattle.zone_name.proofs.Common.{◌≡◌, ◌<◌, ◌≤◌, ◌+◌, ◌++◌, ◌∷◌, [], length, ◌∙◌, ap, arith, length-map, folded_label, folded_octet, with_length, IsLabel}
-use Rattle.zone_name.proofs.Pushing.{push_frame, pushed_octets, Pushed, IsLabel-folded, AllByRecursion-from_places}
+use Rattle.zone_name.proofs.InOctets.Pushing.{push_frame, pushed_octets, Pushed, IsLabel-folded, AllByRecursion-from_places}
 use Rattle.zone_name.proofs.builder.NameBuilder.push_label.Goals as goal
 
 pushed : (c : goal.After-loop-octet) → Pushed c.self.inside.octets.items (folded_label c.args.label.now) c.loop-octet.self-inside.octets.items

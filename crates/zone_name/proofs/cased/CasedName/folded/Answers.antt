@@ -1,4 +1,4 @@
-use Rattle.zone_name.proofs.Folding.{HoldsName-folded, labels_of-folded}
+use Rattle.zone_name.proofs.Spelling.Folding.{HoldsName-folded, labels_of-folded}
 use Rattle.zone_name.proofs.cased.CasedName.folded.Goals as goal
 
 pub of_octets-requires : goal.of_octets-requires

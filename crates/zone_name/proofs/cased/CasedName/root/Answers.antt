@@ -1,5 +1,5 @@
 use Rattle.std.proofs.Common.{[], ◌∷◌, ◌++◌, ap, ◌∙◌}
-use Rattle.zone_name.proofs.Octets.{HoldsCasedName-root, labels_of-root}
+use Rattle.zone_name.proofs.InOctets.Octets.{HoldsCasedName-root, labels_of-root}
 use Rattle.zone_name.proofs.cased.CasedName.root.Goals as goal
 
 pub invariant_of-result : goal.invariant_of-result

@@ -1,4 +1,4 @@
-use Rattle.zone_name.proofs.Comparing.{within_decided}
+use Rattle.zone_name.proofs.InOctets.Comparing.{within_decided}
 use Rattle.zone_name.proofs.labels.Labels.ends_with.Goals as goal
 
 pub returns-then-ending_len-len : goal.returns-then-ending_len-len

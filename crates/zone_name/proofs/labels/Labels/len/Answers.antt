@@ -1,5 +1,5 @@
 use Rattle.zone_name.proofs.Common.{◌≡◌, length, ap, arith, labels_of}
-use Rattle.zone_name.proofs.Octets.{length-labels}
+use Rattle.zone_name.proofs.InOctets.Octets.{length-labels}
 use Rattle.zone_name.proofs.labels.Labels.len.Goals as goal
 
 pub overflow_add-len : goal.overflow_add-len

@@ -1,4 +1,4 @@
-use Rattle.zone_name.proofs.Comparing.{drop_next}
+use Rattle.zone_name.proofs.InOctets.Comparing.{drop_next}
 use Rattle.zone_name.proofs.labels.Labels.past.Goals as goal
 
 pub loop-preserved : goal.loop-preserved

@@ -1,5 +1,5 @@
 use Rattle.zone_name.proofs.Common.{◌<◌, ap, ◌∙◌, sym, subst, arith, rules, BeginsWithName, labels_of}
-use Rattle.zone_name.proofs.Octets.{next_label, root_label}
+use Rattle.zone_name.proofs.InOctets.Octets.{next_label, root_label}
 use Rattle.zone_name.proofs.labels.LabelsIterator.next.Goals as goal
 
 pub returns-then-len-eq0-clause-steps : goal.returns-then-len-eq0-clause-steps

@@ -1,5 +1,5 @@
-use Rattle.zone_name.proofs.Printing.{prints_more}
-use Rattle.zone_name.proofs.Sinks.{Took-more, stops_after}
+use Rattle.zone_name.proofs.Texts.Printing.{prints_more}
+use Rattle.zone_name.proofs.Texts.Sinks.{Took-more, stops_after}
 use Rattle.zone_name.proofs.lent.NameRef.print_labels.Goals as goal
 
 pub loop-label-preserved : goal.loop-label-preserved

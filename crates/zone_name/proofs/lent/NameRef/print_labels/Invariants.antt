@@ -1,5 +1,5 @@
 use Rattle.zone_name.proofs.Common.{◌≡◌, ◌++◌, flat_map, label_text, name_text}
-use Rattle.zone_name.proofs.Sinks.{Took}
+use Rattle.zone_name.proofs.Texts.Sinks.{Took}
 use Rattle.zone_name.proofs.lent.NameRef.print_labels.Given as goal
 
 -- the labels so far and those to come are the name

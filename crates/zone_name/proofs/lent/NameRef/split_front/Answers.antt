@@ -1,5 +1,5 @@
 use Rattle.zone_name.proofs.Common.{◌∙◌, sym, ap, subst, drop, HoldsName, labels_of}
-use Rattle.zone_name.proofs.Octets.{HoldsName-front, labels_of-front, counted}
+use Rattle.zone_name.proofs.InOctets.Octets.{HoldsName-front, labels_of-front, counted}
 use Rattle.zone_name.proofs.lent.NameRef.split_front.Goals as goal
 
 pub of_wire-requires : goal.of_wire-requires

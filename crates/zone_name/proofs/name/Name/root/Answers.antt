@@ -1,5 +1,5 @@
 use Rattle.std.proofs.Common.{[], ◌∷◌, ◌++◌, ap, ◌∙◌}
-use Rattle.zone_name.proofs.Octets.{HoldsName-root, labels_of-root}
+use Rattle.zone_name.proofs.InOctets.Octets.{HoldsName-root, labels_of-root}
 use Rattle.zone_name.proofs.name.Name.root.Goals as goal
 
 pub invariant_of-result : goal.invariant_of-result

@@ -1,6 +1,6 @@
 use Rattle.zone_name.proofs.Common.{◌≡◌, ◌∙◌, ℕ, List, [], ◌++◌, length, ap, arith, length-append, IsName, name_text}
 use Rattle.zone_name.specs.Machine.Fitting.{TakesWhatFits}
-use Rattle.zone_name.proofs.Lengths.{name_text_length}
+use Rattle.zone_name.proofs.Texts.Lengths.{name_text_length}
 use Rattle.zone_name.proofs.name.Name.write_text.Goals as goal
 
 spelling_fits : (text next : List ℕ) (labels : List (List ℕ)) → text ≡ [] → IsName labels

@@ -1,5 +1,5 @@
 use Rattle.std.proofs.Common.{ap, ◌∙◌, length}
-use Rattle.zone_name.proofs.Comparing.{name_cmp-more, name_cmp-same, name_cmp-start}
+use Rattle.zone_name.proofs.InOctets.Comparing.{name_cmp-more, name_cmp-same, name_cmp-start}
 use Rattle.zone_name.proofs.order.NameRefOrd.cmp.Goals as goal
 
 pub returns-then-eq : goal.returns-then-eq

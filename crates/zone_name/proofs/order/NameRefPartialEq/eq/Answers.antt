@@ -1,5 +1,5 @@
 use Rattle.zone_name.proofs.Common.{ap, sym, ◌∙◌, labels_of}
-use Rattle.zone_name.proofs.Comparing.{eq-from_octets}
+use Rattle.zone_name.proofs.InOctets.Comparing.{eq-from_octets}
 use Rattle.zone_name.proofs.order.NameRefPartialEq.eq.Goals as goal
 
 pub returns : goal.returns

@@ -1,5 +1,5 @@
 use Rattle.std.proofs.Common.{length, ap, arith, false}
-use Rattle.zone_rdata.proofs.AddressParts.{parts_unique}
+use Rattle.zone_rdata.proofs.Addresses.AddressParts.{parts_unique}
 use Rattle.zone_rdata.proofs.address.groups.four_groups_of.Goals as goal
 
 pub returns-then-len-ne8-clause-none : goal.returns-then-len-ne8-clause-none

@@ -1,6 +1,6 @@
 use Rattle.zone_rdata.proofs.Common.{◌<◌, length, sym, subst, arith, ArePartsOf}
 use Rattle.zone_rdata.proofs.Choices.{if_none_any}
-use Rattle.zone_rdata.proofs.AddressParts.{HaveReadParts, parts_started, parts_more, parts_stop, parts_ended, parts_unended}
+use Rattle.zone_rdata.proofs.Addresses.AddressParts.{HaveReadParts, parts_started, parts_more, parts_stop, parts_ended, parts_unended}
 use Rattle.zone_rdata.proofs.address.groups.octets_of_parts.Goals as goal
 
 pub loop-group-init : goal.loop-group-init

@@ -1,5 +1,5 @@
 use Rattle.std.proofs.Common.{length}
-use Rattle.zone_rdata.proofs.AddressParts.{HaveReadParts}
+use Rattle.zone_rdata.proofs.Addresses.AddressParts.{HaveReadParts}
 use Rattle.zone_rdata.proofs.address.groups.octets_of_parts.Given as goal
 
 abbrev pub invariant-loop-group : goal.invariant-loop-group

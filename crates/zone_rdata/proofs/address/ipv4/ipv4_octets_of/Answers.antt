@@ -1,5 +1,5 @@
 use Rattle.zone_rdata.proofs.Choices.{if_none_any}
-use Rattle.zone_rdata.proofs.Addresses.{numbers_one, numbers_more, rest_refused, last_refused}
+use Rattle.zone_rdata.proofs.Addresses.Cut.{numbers_one, numbers_more, rest_refused, last_refused}
 use Rattle.zone_rdata.proofs.address.ipv4.ipv4_octets_of.Goals as goal
 
 pub returns-in_err-first-clause-none : goal.returns-in_err-first-clause-none

@@ -1,5 +1,5 @@
 use Rattle.zone_rdata.proofs.Choices.{if_none_any}
-use Rattle.zone_rdata.proofs.Addresses.{numbers_none, number_refused}
+use Rattle.zone_rdata.proofs.Addresses.Cut.{numbers_none, number_refused}
 use Rattle.zone_rdata.proofs.address.ipv4.octet_before_dot.Goals as goal
 
 pub returns-in_err-number-clause-none : goal.returns-in_err-number-clause-none

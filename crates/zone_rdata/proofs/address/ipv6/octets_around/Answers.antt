@@ -1,6 +1,6 @@
 use Rattle.std.proofs.Common.{◌≤◌, ◌+◌, length, ap, ◌∙◌, arith, refl, true, false}
-use Rattle.zone_rdata.proofs.AddressParts.{parts_unique}
-use Rattle.zone_rdata.proofs.AddressGaps.{around_written}
+use Rattle.zone_rdata.proofs.Addresses.AddressParts.{parts_unique}
+use Rattle.zone_rdata.proofs.Addresses.AddressGaps.{around_written}
 use Rattle.zone_rdata.proofs.address.ipv6.octets_around.Goals as goal
 
 pub returns-then-len-gt14-clause-none : goal.returns-then-len-gt14-clause-none

@@ -1,5 +1,5 @@
 use Rattle.std.proofs.Common.{length, ap, arith, true}
-use Rattle.zone_rdata.proofs.AddressParts.{parts_unique}
+use Rattle.zone_rdata.proofs.Addresses.AddressParts.{parts_unique}
 use Rattle.zone_rdata.proofs.address.ipv6.octets_of_eight.Goals as goal
 
 pub returns-then-len-ne16-clause-none : goal.returns-then-len-ne16-clause-none

@@ -1,5 +1,5 @@
 use Rattle.zone_rdata.proofs.Common.{AreOctets, subst, arith}
-use Rattle.zone_rdata.proofs.Building.{finish_missing, finish_made, parts_data}
+use Rattle.zone_rdata.proofs.Octets.Building.{finish_missing, finish_made, parts_data}
 use Rattle.zone_rdata.proofs.builder.RdataBuilder.whole.Goals as goal
 
 pub returns-then-self-least_parts-clause-none : goal.returns-then-self-least_parts-clause-none

@@ -1,5 +1,5 @@
 use Rattle.zone_rdata.proofs.Common.{bytes_eq-Decides, refl, sym, ◌∙◌}
-use Rattle.zone_rdata.proofs.Words.{is_named}
+use Rattle.zone_rdata.proofs.Words.AnyCase.{is_named}
 use Rattle.zone_rdata.proofs.class.Class.read_word.Goals as goal
 
 pub returns-then-eq-clause-found : goal.returns-then-eq-clause-found

@@ -1,4 +1,4 @@
-use Rattle.zone_rdata.proofs.StringFields.{nothing_after}
+use Rattle.zone_rdata.proofs.Octets.StringFields.{nothing_after}
 use Rattle.zone_rdata.proofs.field.Field.after.Goals as goal
 
 pub returns-in-Strings : goal.returns-in-Strings

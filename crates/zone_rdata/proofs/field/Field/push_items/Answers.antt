@@ -1,5 +1,5 @@
 use Rattle.zone_rdata.proofs.Common.{refl, rules, fixed, name, string, u16_value, u32_value, Bare}
-use Rattle.zone_rdata.proofs.Values.{all_appended, first_appended}
+use Rattle.zone_rdata.proofs.Items.Values.{all_appended, first_appended}
 use Rattle.zone_rdata.proofs.field.Field.push_items.Goals.{in-OneString-Some+in_ok-push_string-in-OneString-Some, in-Name-Some-Bare+in_ok-push_name-in-Name-Some-Bare, in-Serial-Some-Bare+in_ok-push_u32-in-Serial-Some-Bare, in-Time-Some-Bare+in_ok-push_time-in-Time-Some-Bare, in-U16-Some-Bare+in_ok-push_u16-in-U16-Some-Bare, in-Octets-Some-Bare+in_ok-push_address-in-Octets-Some-Bare}
 use Rattle.zone_rdata.proofs.field.Field.push_items.Goals as goal
 

@@ -1,7 +1,7 @@
 use Rattle.zone_rdata.proofs.Common.{◌≡◌, ◌⊎◌, ℕ, inl, inr, sym, subst, arith, IfOk-weaker, Field, u32_value, u16_value, fixed, BeginsWithNone, Serial, Time, U16, Octets}
 use Rattle.zone_rdata.proofs.Failings.{IfErr-fault}
 use Rattle.zone_rdata.proofs.Lists.{bytes_each}
-use Rattle.zone_rdata.proofs.FieldLaws.{SizedField, appends_sized}
+use Rattle.zone_rdata.proofs.Fields.FieldLaws.{SizedField, appends_sized}
 use Rattle.zone_rdata.proofs.Fields.Address as address
 use Rattle.zone_rdata.proofs.Fields.Number.{serial_sized, u16_sized}
 use Rattle.zone_rdata.proofs.Fields.Time as time

@@ -1,4 +1,4 @@
-use Rattle.zone_rdata.proofs.StringFields.{nothing_after, strings_front, strings_some}
+use Rattle.zone_rdata.proofs.Octets.StringFields.{nothing_after, strings_front, strings_some}
 use Rattle.zone_rdata.proofs.field.Field.push_text.Goals as goal
 
 pub push_strings_text-requires : goal.push_strings_text-requires

@@ -1,6 +1,6 @@
 use Rattle.std.proofs.Common.{◌∷◌, sym, ap, ◌∙◌, arith}
 use Rattle.zone_rdata.proofs.Choices.{if_none_any}
-use Rattle.zone_rdata.proofs.Sent.{cut_more, no_first, no_room, no_label}
+use Rattle.zone_rdata.proofs.Octets.Sent.{cut_more, no_first, no_room, no_label}
 use Rattle.zone_rdata.proofs.field.name.name_at.Goals as goal
 
 pub returns-in_err-first-clause-none : goal.returns-in_err-first-clause-none

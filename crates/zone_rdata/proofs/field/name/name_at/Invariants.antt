@@ -1,5 +1,5 @@
 use Rattle.std.proofs.Common.{length}
-use Rattle.zone_rdata.proofs.Sent.{HasCut}
+use Rattle.zone_rdata.proofs.Octets.Sent.{HasCut}
 use Rattle.zone_rdata.proofs.field.name.name_at.Given as goal
 
 abbrev pub invariant-loop-first : goal.invariant-loop-first

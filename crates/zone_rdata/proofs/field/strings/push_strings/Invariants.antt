@@ -1,5 +1,5 @@
 use Rattle.zone_rdata.proofs.Common.{drop, map, raw}
-use Rattle.zone_rdata.proofs.Values.{HaveSpelt}
+use Rattle.zone_rdata.proofs.Items.Values.{HaveSpelt}
 use Rattle.zone_rdata.proofs.field.strings.push_strings.Given as goal
 
 abbrev pub invariant-loop-item : goal.invariant-loop-item

@@ -1,6 +1,6 @@
 use Rattle.zone_rdata.proofs.Common.{arith, subst, Took-more, stops_after}
-use Rattle.zone_rdata.proofs.StringFields.{first_string}
-use Rattle.zone_rdata.proofs.StringTexts.{quoted_first, quoted_more, quoted_all, first_of_rest}
+use Rattle.zone_rdata.proofs.Octets.StringFields.{first_string}
+use Rattle.zone_rdata.proofs.Texts.StringTexts.{quoted_first, quoted_more, quoted_all, first_of_rest}
 use Rattle.zone_rdata.proofs.field.strings.push_strings_text.Goals as goal
 
 pub split_string-requires : goal.split_string-requires

@@ -1,7 +1,7 @@
 use Rattle.zone_rdata.proofs.Common.{◌∙◌, ap, ◌++◌, arith, IsTime}
 use Rattle.zone_rdata.proofs.Failings.{fault_answered}
-use Rattle.zone_rdata.proofs.TimeLaws.{one_time}
-use Rattle.zone_rdata.proofs.Values.{no_number, that_number}
+use Rattle.zone_rdata.proofs.Numbers.TimeLaws.{one_time}
+use Rattle.zone_rdata.proofs.Items.Values.{no_number, that_number}
 use Rattle.zone_rdata.proofs.field.time.push_time.Goals as goal
 
 pub returns-in_err-number-clause-fault : goal.returns-in_err-number-clause-fault

@@ -1,5 +1,5 @@
 use Rattle.zone_rdata.proofs.Common.{◌≡◌, ℕ, min, arith, common_steps, IfErr-weaker, IsKindWord, fault_for, nameless}
-use Rattle.zone_rdata.proofs.Words.{kind_refused}
+use Rattle.zone_rdata.proofs.Words.AnyCase.{kind_refused}
 use Rattle.zone_rdata.proofs.kind.Kind.read_word.Goals as goal
 
 pub returns-in-Some-clause-err : goal.returns-in-Some-clause-err

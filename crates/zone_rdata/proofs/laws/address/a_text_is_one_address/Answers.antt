@@ -1,5 +1,5 @@
-use Rattle.zone_rdata.proofs.Addresses.{numbers_unique}
-use Rattle.zone_rdata.proofs.AddressGaps.{groups_unique}
+use Rattle.zone_rdata.proofs.Addresses.Cut.{numbers_unique}
+use Rattle.zone_rdata.proofs.Addresses.AddressGaps.{groups_unique}
 use Rattle.zone_rdata.proofs.laws.address.a_text_is_one_address.Goals as goal
 
 pub returns-clause-ipv4 : goal.returns-clause-ipv4

@@ -1,4 +1,4 @@
-use Rattle.zone_rdata.proofs.AddressOctets.{ipv4_count, ipv4_bytes, ipv6_count, ipv6_bytes}
+use Rattle.zone_rdata.proofs.Addresses.AddressOctets.{ipv4_count, ipv4_bytes, ipv6_count, ipv6_bytes}
 use Rattle.zone_rdata.proofs.laws.address.addresses_have_their_octets.Goals as goal
 
 pub returns-clause-ipv4 : goal.returns-clause-ipv4

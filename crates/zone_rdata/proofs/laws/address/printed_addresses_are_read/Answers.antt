@@ -1,4 +1,4 @@
-use Rattle.zone_rdata.proofs.AddressLaws.{ipv4_printed, ipv6_printed}
+use Rattle.zone_rdata.proofs.Addresses.AddressLaws.{ipv4_printed, ipv6_printed}
 use Rattle.zone_rdata.proofs.laws.address.printed_addresses_are_read.Goals as goal
 
 pub returns-clause-ipv4 : goal.returns-clause-ipv4

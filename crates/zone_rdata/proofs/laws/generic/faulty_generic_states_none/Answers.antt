@@ -1,4 +1,4 @@
-use Rattle.zone_rdata.proofs.GenericLaws.{generic-never_both}
+use Rattle.zone_rdata.proofs.Items.GenericLaws.{generic-never_both}
 use Rattle.zone_rdata.proofs.laws.generic.faulty_generic_states_none.Goals as goal
 
 pub returns : goal.returns

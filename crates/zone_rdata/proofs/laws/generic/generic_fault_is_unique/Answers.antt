@@ -1,4 +1,4 @@
-use Rattle.zone_rdata.proofs.GenericLaws.{generic_fault-once}
+use Rattle.zone_rdata.proofs.Items.GenericLaws.{generic_fault-once}
 use Rattle.zone_rdata.proofs.laws.generic.generic_fault_is_unique.Goals as goal
 
 pub returns : goal.returns

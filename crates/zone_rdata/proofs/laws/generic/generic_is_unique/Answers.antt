@@ -1,4 +1,4 @@
-use Rattle.zone_rdata.proofs.GenericLaws.{generic-once}
+use Rattle.zone_rdata.proofs.Items.GenericLaws.{generic-once}
 use Rattle.zone_rdata.proofs.laws.generic.generic_is_unique.Goals as goal
 
 pub returns : goal.returns

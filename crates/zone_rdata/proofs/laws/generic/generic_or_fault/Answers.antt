@@ -1,4 +1,4 @@
-use Rattle.zone_rdata.proofs.GenericLaws.{generic-or_fault}
+use Rattle.zone_rdata.proofs.Items.GenericLaws.{generic-or_fault}
 use Rattle.zone_rdata.proofs.laws.generic.generic_or_fault.Goals as goal
 
 pub returns : goal.returns

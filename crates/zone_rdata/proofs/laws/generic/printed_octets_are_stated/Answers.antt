@@ -1,4 +1,4 @@
-use Rattle.zone_rdata.proofs.GenericLaws.{printed-stated, printed-text}
+use Rattle.zone_rdata.proofs.Items.GenericLaws.{printed-stated, printed-text}
 use Rattle.zone_rdata.proofs.laws.generic.printed_octets_are_stated.Goals as goal
 
 pub returns-clause-text : goal.returns-clause-text

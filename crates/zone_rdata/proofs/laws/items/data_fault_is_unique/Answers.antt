@@ -1,4 +1,4 @@
-use Rattle.zone_rdata.proofs.ItemLaws.{data_fault-once}
+use Rattle.zone_rdata.proofs.Items.ItemLaws.{data_fault-once}
 use Rattle.zone_rdata.proofs.laws.items.data_fault_is_unique.Goals as goal
 
 pub returns : goal.returns

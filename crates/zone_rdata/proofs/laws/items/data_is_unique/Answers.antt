@@ -1,4 +1,4 @@
-use Rattle.zone_rdata.proofs.ItemLaws.{data-once}
+use Rattle.zone_rdata.proofs.Items.ItemLaws.{data-once}
 use Rattle.zone_rdata.proofs.laws.items.data_is_unique.Goals as goal
 
 pub returns : goal.returns

@@ -1,4 +1,4 @@
-use Rattle.zone_rdata.proofs.ItemLaws.{data-never_both}
+use Rattle.zone_rdata.proofs.Items.ItemLaws.{data-never_both}
 use Rattle.zone_rdata.proofs.laws.items.faulty_items_state_none.Goals as goal
 
 pub returns : goal.returns

@@ -1,4 +1,4 @@
-use Rattle.zone_rdata.proofs.StringLaws.{string-never_both}
+use Rattle.zone_rdata.proofs.Strings.StringLaws.{string-never_both}
 use Rattle.zone_rdata.proofs.laws.string.faulty_string_spells_none.Goals as goal
 
 pub returns : goal.returns

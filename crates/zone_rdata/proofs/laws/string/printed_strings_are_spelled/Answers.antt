@@ -1,4 +1,4 @@
-use Rattle.zone_rdata.proofs.StringLaws.{printed-spells, printed-stands}
+use Rattle.zone_rdata.proofs.Strings.StringLaws.{printed-spells, printed-stands}
 use Rattle.zone_rdata.proofs.laws.string.printed_strings_are_spelled.Goals as goal
 
 pub returns-clause-spells : goal.returns-clause-spells

@@ -1,4 +1,4 @@
-use Rattle.zone_rdata.proofs.StringLaws.{fault-once}
+use Rattle.zone_rdata.proofs.Strings.StringLaws.{fault-once}
 use Rattle.zone_rdata.proofs.laws.string.string_fault_is_unique.Goals as goal
 
 pub returns : goal.returns

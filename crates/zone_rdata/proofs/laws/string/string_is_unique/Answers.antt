@@ -1,4 +1,4 @@
-use Rattle.zone_rdata.proofs.StringLaws.{string-once}
+use Rattle.zone_rdata.proofs.Strings.StringLaws.{string-once}
 use Rattle.zone_rdata.proofs.laws.string.string_is_unique.Goals as goal
 
 pub returns : goal.returns

@@ -1,4 +1,4 @@
-use Rattle.zone_rdata.proofs.TextItems.{data_stated}
+use Rattle.zone_rdata.proofs.Texts.TextItems.{data_stated}
 use Rattle.zone_rdata.proofs.laws.text.printed_data_is_stated.Goals as goal
 
 pub returns-clause-stated : goal.returns-clause-stated

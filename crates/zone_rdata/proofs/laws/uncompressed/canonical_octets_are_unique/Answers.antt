@@ -1,4 +1,4 @@
-use Rattle.zone_rdata.proofs.Taken.{canonical-once}
+use Rattle.zone_rdata.proofs.Octets.Taken.{canonical-once}
 use Rattle.zone_rdata.proofs.laws.uncompressed.canonical_octets_are_unique.Goals as goal
 
 pub returns : goal.returns

@@ -1,4 +1,4 @@
-use Rattle.zone_rdata.proofs.OneWord.{kind_word_once}
+use Rattle.zone_rdata.proofs.Words.OneWord.{kind_word_once}
 use Rattle.zone_rdata.proofs.laws.word.kind_word_is_unique.Goals as goal
 
 pub returns : goal.returns

@@ -1,5 +1,5 @@
 use Rattle.zone_rdata.specs.Number.{plain}
-use Rattle.zone_rdata.proofs.GenericLaws.{decimal-is}
+use Rattle.zone_rdata.proofs.Items.GenericLaws.{decimal-is}
 use Rattle.zone_rdata.proofs.laws.word.printed_numbers_are_read.Goals as goal
 
 pub returns-clause-decimal : goal.returns-clause-decimal

@@ -1,5 +1,5 @@
 use Rattle.zone_rdata.proofs.Common.{sym, ap, ◌∙◌, is_strings}
-use Rattle.zone_rdata.proofs.Building.{ends_at}
+use Rattle.zone_rdata.proofs.Octets.Building.{ends_at}
 use Rattle.zone_rdata.proofs.layout.Layout.ends_with_strings.Goals as goal
 
 pub returns-in-Some : goal.returns-in-Some

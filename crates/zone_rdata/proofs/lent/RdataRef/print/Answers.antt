@@ -1,6 +1,6 @@
 use Rattle.zone_rdata.proofs.Common.{List, Option, ap, subst, ◌∙◌, OnOk, Field, laid_out_text, data_text}
-use Rattle.zone_rdata.proofs.TextItems.{data_written}
-use Rattle.zone_rdata.proofs.Wire.{table_sized}
+use Rattle.zone_rdata.proofs.Texts.TextItems.{data_written}
+use Rattle.zone_rdata.proofs.Octets.Wire.{table_sized}
 use Rattle.zone_rdata.proofs.lent.RdataRef.print.Goals as goal
 
 pub returns-clause-ok : goal.returns-clause-ok

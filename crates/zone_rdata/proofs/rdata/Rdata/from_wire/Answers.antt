@@ -1,7 +1,7 @@
 use Rattle.zone_rdata.proofs.Common.{subst, arith, AreOctets}
 use Rattle.zone_rdata.specs.Wire.{beyond}
 use Rattle.zone_rdata.proofs.Failings.{if_fault_passed}
-use Rattle.zone_rdata.proofs.Wire.{canonical_data, canonical_only, wire_fault}
+use Rattle.zone_rdata.proofs.Octets.Wire.{canonical_data, canonical_only, wire_fault}
 use Rattle.zone_rdata.proofs.rdata.Rdata.from_wire.Goals as goal
 
 pub invariant_of-result : goal.invariant_of-result

@@ -1,6 +1,6 @@
 use Rattle.zone_rdata.proofs.Common.{subst, AreOctets}
-use Rattle.zone_rdata.proofs.StatedOctets.{stated_data, states_for, first_for}
-use Rattle.zone_rdata.proofs.Forms.{only_memory}
+use Rattle.zone_rdata.proofs.Items.StatedOctets.{stated_data, states_for, first_for}
+use Rattle.zone_rdata.proofs.Items.Forms.{only_memory}
 use Rattle.zone_rdata.proofs.rdata.Rdata.read_items.Goals as goal
 
 pub invariant_of-result : goal.invariant_of-result

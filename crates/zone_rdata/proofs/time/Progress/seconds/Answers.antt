@@ -1,4 +1,4 @@
-use Rattle.zone_rdata.proofs.Times.{ends_grouped, ends_both, ends_none}
+use Rattle.zone_rdata.proofs.Numbers.Times.{ends_grouped, ends_both, ends_none}
 use Rattle.zone_rdata.proofs.time.Progress.seconds.Goals as goal
 
 pub returns-in-true-false-clause-found : goal.returns-in-true-false-clause-found

@@ -1,5 +1,5 @@
 use Rattle.zone_set.proofs.Common.{refl, sym, subst, ◌∙◌, false≢true, NoSoa, Whole, Refused, StopsFinish, record_of}
-use Rattle.zone_set.proofs.Finishing.{IsZone-from_parts, stops_without_soa}
+use Rattle.zone_set.proofs.Holding.Finishing.{IsZone-from_parts, stops_without_soa}
 use Rattle.zone_set.proofs.builder.ZoneBuilder.finish.Goals as goal
 
 pub returns-then-not-is_soa-clause-stopped : goal.returns-then-not-is_soa-clause-stopped

@@ -1,5 +1,5 @@
 use Rattle.zone_set.proofs.Common.{subst, IfErr, Placed, StopsAdd, record_of}
-use Rattle.zone_set.proofs.Adding.{stops_add}
+use Rattle.zone_set.proofs.Holding.Adding.{stops_add}
 use Rattle.zone_set.proofs.builder.ZoneBuilder.hold.Goals as goal
 use Rattle.zone_set.proofs.builder.ZoneBuilder.hold.Goals.{in-Ok, in-Err}
 

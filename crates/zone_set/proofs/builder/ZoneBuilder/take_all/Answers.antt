@@ -1,5 +1,5 @@
 use Rattle.std.proofs.Common.{refl, sym, ◌∙◌, ap, Ok}
-use Rattle.zone_set.proofs.Taking.{AddsEach-push, HasTaken-start, HasTaken-more, StopsTaking-at_end, StopsTaking-refused}
+use Rattle.zone_set.proofs.Lists.Taking.{AddsEach-push, HasTaken-start, HasTaken-more, StopsTaking-at_end, StopsTaking-refused}
 use Rattle.zone_set.proofs.builder.ZoneBuilder.take_all.Goals as goal
 
 pub loop-placed-init : goal.loop-placed-init

@@ -1,5 +1,5 @@
 use Rattle.zone_set.proofs.Common.{AddsEach, length, ◌≡◌}
-use Rattle.zone_set.proofs.Taking.{HasTaken}
+use Rattle.zone_set.proofs.Lists.Taking.{HasTaken}
 use Rattle.zone_set.proofs.builder.ZoneBuilder.take_all.Given as goal
 
 -- some first records of the source were taken, and nothing else of it changed

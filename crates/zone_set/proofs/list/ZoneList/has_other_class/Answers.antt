@@ -1,5 +1,5 @@
 use Rattle.zone_set.proofs.Common.{sym, ◌∙◌, inr, false≢true, record_of}
-use Rattle.zone_set.proofs.ListPush.{other_listed, same_listed, none_listed}
+use Rattle.zone_set.proofs.Lists.ListPush.{other_listed, same_listed, none_listed}
 use Rattle.zone_set.proofs.list.ZoneList.has_other_class.Goals as goal
 
 pub returns-clause-other : goal.returns-clause-other

@@ -1,6 +1,6 @@
 use Rattle.zone_set.proofs.Common.{Entry, KeepsList, List, Place, Placed, Record, [], ap, listed, record_of, subst, sym, ℕ, ◌++◌, ◌∙◌, ◌∷◌, ◌≡◌}
-use Rattle.zone_set.proofs.Adding.{on_err}
-use Rattle.zone_set.proofs.ListPush.{decided, Decided, listed_more, KeepsList-more}
+use Rattle.zone_set.proofs.Holding.Adding.{on_err}
+use Rattle.zone_set.proofs.Lists.ListPush.{decided, Decided, listed_more, KeepsList-more}
 use Rattle.zone_set.proofs.list.ZoneList.push.Goals as goal
 use Rattle.zone_set.proofs.list.ZoneList.push.Goals.{After-first_decides}
 

@@ -1,5 +1,5 @@
 use Rattle.zone_set.proofs.Common.{option_map, refl, sym, ap, ◌∙◌, append-nil, err_from_is_err_and, placed_of}
-use Rattle.zone_set.proofs.Taking.{lent_first, listed_push, HasTaken-start, HasTaken-more, ListsAll-at_end, StopsListing-at_end, StopsListing-class, StopsListing-memory}
+use Rattle.zone_set.proofs.Lists.Taking.{lent_first, listed_push, HasTaken-start, HasTaken-more, ListsAll-at_end, StopsListing-at_end, StopsListing-class, StopsListing-memory}
 use Rattle.zone_set.proofs.list.ZoneList.take_lent.Goals as goal
 
 pub loop-placed-init : goal.loop-placed-init

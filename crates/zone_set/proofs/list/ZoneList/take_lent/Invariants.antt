@@ -1,5 +1,5 @@
 use Rattle.std.proofs.Common.{length, ◌≡◌, ◌++◌}
-use Rattle.zone_set.proofs.Taking.{HasTaken}
+use Rattle.zone_set.proofs.Lists.Taking.{HasTaken}
 use Rattle.zone_set.proofs.list.ZoneList.take_lent.Given as goal
 
 -- some first records of the source were listed, and nothing else of it changed

@@ -1,4 +1,4 @@
-use Rattle.zone_set.proofs.Between.{hints_tell}
+use Rattle.zone_set.proofs.Ordering.Between.{hints_tell}
 use Rattle.zone_set.proofs.Common.{entry_record, record_of}
 use Rattle.zone_set.proofs.offered.OfferedSoughtEntry.is_after.Goals as goal
 

@@ -1,5 +1,5 @@
 use Rattle.zone_set.proofs.Common.{ap, ◌∙◌, ◌++◌, ◌∷◌, [], Whole}
-use Rattle.zone_set.proofs.PlaceSteps.{found, stepped_more, LeadTo-more}
+use Rattle.zone_set.proofs.Storage.PlaceSteps.{found, stepped_more, LeadTo-more}
 use Rattle.zone_set.proofs.places.Places.push.Goals as goal
 
 pub invariant_of-self-2 : goal.invariant_of-self-2

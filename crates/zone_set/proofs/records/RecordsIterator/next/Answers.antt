@@ -1,5 +1,5 @@
 -- The next head is that of the first record that is left.
-use Rattle.zone_set.proofs.Heads.{next_holds}
+use Rattle.zone_set.proofs.Storage.Heads.{next_holds}
 use Rattle.zone_set.proofs.records.RecordsIterator.next.Goals as goal
 
 pub record_after-requires-clause-stands : goal.record_after-requires-clause-stands

@@ -1,6 +1,6 @@
 -- Nothing speaks against a record that gets as far as its place, but the TTL of its set.
 use Rattle.zone_set.proofs.Common.{List, refl, ◌∙◌, false≢true, err_from_is_err_and, joined, Record, all_records, record_of}
-use Rattle.zone_set.proofs.Adding.{accepted, added, holds_for, on_err, one_class, refused_put, seen, KeepsSets-unchanged, KeepsSets-with}
+use Rattle.zone_set.proofs.Holding.Adding.{accepted, added, holds_for, on_err, one_class, refused_put, seen, KeepsSets-unchanged, KeepsSets-with}
 use Rattle.zone_set.specs.Builder.{OtherClass, OtherSoa, class as by_class, soa as by_soa}
 use Rattle.zone_set.proofs.sets.Sets.add.Goals as goal
 use Rattle.zone_set.proofs.sets.Sets.add.Goals.{After-settle_base}

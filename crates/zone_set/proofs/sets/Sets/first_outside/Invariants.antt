@@ -1,4 +1,4 @@
-use Rattle.zone_set.proofs.Finishing.{Walks}
+use Rattle.zone_set.proofs.Holding.Finishing.{Walks}
 use Rattle.zone_set.proofs.sets.Sets.first_outside.Given as goal
 
 -- the records that are left tell of the whole

@@ -1,5 +1,5 @@
 use Rattle.zone_set.proofs.Common.{◌≡◌, true, sym, ◌∙◌, subst, ◌↔◌, OtherSoa, record_of, AreCompatible}
-use Rattle.zone_set.proofs.Together.{decides_other, one_soa, other_soa}
+use Rattle.zone_set.proofs.Holding.Together.{decides_other, one_soa, other_soa}
 use Rattle.zone_set.proofs.sets.Sets.has_other_soa.Goals as goal
 
 pub returns-in-Some : goal.returns-in-Some

@@ -1,4 +1,4 @@
-use Rattle.zone_set.proofs.Storing.{each_linked}
+use Rattle.zone_set.proofs.Storage.Storing.{each_linked}
 use Rattle.zone_set.proofs.sets.Sets.iter.Goals as goal
 
 pub new-requires : goal.new-requires

@@ -1,5 +1,5 @@
 use Rattle.zone_set.proofs.Common.{Some, joined, IsEntry, IsLinked}
-use Rattle.zone_set.proofs.Between.{last_has}
+use Rattle.zone_set.proofs.Ordering.Between.{last_has}
 use Rattle.zone_set.proofs.sets.Sets.last.Goals as goal
 use Rattle.zone_set.proofs.sets.Sets.last.Goals.{After-as_slice}
 

@@ -1,5 +1,5 @@
 use Rattle.zone_set.proofs.Common.{◌≡◌, true, false, List, [], ◌∷◌, ◌++◌, MatchOption, sym, ◌∙◌, subst, AllByRecursion, IsWithin, Record, record_of, AreCompatible}
-use Rattle.zone_set.proofs.Interval.{ends_tell}
+use Rattle.zone_set.proofs.Ordering.Interval.{ends_tell}
 use Rattle.zone_set.proofs.sets.Sets.lies_within.Goals as goal
 use Rattle.zone_set.proofs.sets.Sets.lies_within.Goals.{then-is_none_outside, else-is_none_outside}
 

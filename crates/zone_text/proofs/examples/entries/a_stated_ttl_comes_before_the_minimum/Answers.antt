@@ -1,5 +1,5 @@
 use Rattle.zone_text.proofs.Common.{before_line_feed, cut_by, cutting, from_line_feed, front_of, lit≤, refl, stated, states_none, states_one, units_by, units_first, whole, x}
-use Rattle.zone_text.proofs.Cuttings.{cut_is_read}
+use Rattle.zone_text.proofs.Tokens.Cuttings.{cut_is_read}
 use Rattle.zone_text.proofs.ExampleRecords.{x_name, at_spells, sixty, three_hundred, states_soa, states_ns_below}
 use Rattle.zone_text.proofs.examples.entries.a_stated_ttl_comes_before_the_minimum.Goals as goal
 

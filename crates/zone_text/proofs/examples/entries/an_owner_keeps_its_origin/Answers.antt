@@ -1,5 +1,5 @@
 use Rattle.zone_text.proofs.Common.{before_line_feed, cut_by, cutting, from_line_feed, front_of, lit≤, refl, stated, states_none, states_one, under, units_by, units_first, whole, x}
-use Rattle.zone_text.proofs.Cuttings.{cut_is_read}
+use Rattle.zone_text.proofs.Tokens.Cuttings.{cut_is_read}
 use Rattle.zone_text.proofs.ExampleRecords.{x_name, at_spells, a_spells, sixty, in_class, states_ns}
 use Rattle.zone_text.proofs.examples.entries.an_owner_keeps_its_origin.Goals as goal
 

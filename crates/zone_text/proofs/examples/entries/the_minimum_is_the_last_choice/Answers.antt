@@ -1,5 +1,5 @@
 use Rattle.zone_text.proofs.Common.{[], before_line_feed, codes, cut_by, cutting, from_line_feed, front_of, inl, inr, lit<, lit≤, refl, stated, states_one, units_by, units_first, whole, x}
-use Rattle.zone_text.proofs.Cuttings.{cut_is_read}
+use Rattle.zone_text.proofs.Tokens.Cuttings.{cut_is_read}
 use Rattle.zone_text.proofs.ExampleRecords.{x_name, at_spells, ns_has_no_minimum, five, states_soa, states_ns_below, states_minimum, minimum_five}
 use Rattle.zone_text.proofs.examples.entries.the_minimum_is_the_last_choice.Goals as goal
 

@@ -1,5 +1,5 @@
 use Rattle.zone_text.proofs.Common.{[], before_line_feed, codes, cut_by, cutting, from_line_feed, front_of, inl, lit<, long, of_ttl, refl, refused, units_by, units_first, whole, x}
-use Rattle.zone_text.proofs.Cuttings.{cut_is_read}
+use Rattle.zone_text.proofs.Tokens.Cuttings.{cut_is_read}
 use Rattle.zone_text.proofs.ExampleRecords.{x_name, at_spells, long_time, states_minimum, minimum_too_long}
 use Rattle.zone_text.proofs.examples.faults.a_minimum_that_is_no_ttl.Goals as goal
 

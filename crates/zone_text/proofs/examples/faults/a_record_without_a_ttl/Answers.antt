@@ -1,5 +1,5 @@
 use Rattle.zone_text.proofs.Common.{[], before_line_feed, codes, cut_by, cutting, from_line_feed, front_of, inl, inr, none, of_ttl, refl, refused, units_by, units_first, whole, x, ◌∷◌}
-use Rattle.zone_text.proofs.Cuttings.{cut_is_read}
+use Rattle.zone_text.proofs.Tokens.Cuttings.{cut_is_read}
 use Rattle.zone_text.proofs.ExampleRecords.{x_name, at_spells, is_ns, ns_kind, ns_states, ns_has_no_minimum}
 use Rattle.zone_rdata.specs.Spelling.{bare}
 use Rattle.zone_text.proofs.examples.faults.a_record_without_a_ttl.Goals as goal

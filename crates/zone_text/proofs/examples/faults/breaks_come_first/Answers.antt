@@ -1,5 +1,5 @@
 use Rattle.zone_text.proofs.Common.{before_line_feed, broken, cut_by, cutting, from_line_feed, front_of, lit≤, refl, stated, states_one, units_by, units_first, x}
-use Rattle.zone_text.proofs.Cuttings.{broken_is_read}
+use Rattle.zone_text.proofs.Tokens.Cuttings.{broken_is_read}
 use Rattle.zone_text.proofs.ExampleRecords.{x_name, at_spells, sixty, in_class, states_ns}
 use Rattle.zone_text.proofs.examples.faults.breaks_come_first.Goals as goal
 

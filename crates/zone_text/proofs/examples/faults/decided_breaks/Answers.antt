@@ -1,7 +1,7 @@
 use Rattle.zone_text.proofs.Common.{after_two_digits, before_line_feed, closing_stays, cut_by, cutting, decided, escape_open, escape_stays, from_line_feed, front_of, inr, lit≤, refl, stated, states_one, two_digits, undecided, units_by, units_first, x}
-use Rattle.zone_text.proofs.Cuttings.{broken_is_read}
+use Rattle.zone_text.proofs.Tokens.Cuttings.{broken_is_read}
 use Rattle.zone_text.proofs.ExampleRecords.{x_name, at_spells, sixty, in_class, states_ns}
-use Rattle.zone_text.proofs.ForGood.{stays_for_good, ends_not_for_good}
+use Rattle.zone_text.proofs.Tokens.ForGood.{stays_for_good, ends_not_for_good}
 use Rattle.zone_text.proofs.examples.faults.decided_breaks.Goals as goal
 
 pub returns : goal.returns

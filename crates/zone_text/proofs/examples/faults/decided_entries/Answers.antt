@@ -1,7 +1,7 @@
 use Rattle.zone_text.proofs.Common.{before_line_feed, cut_by, cutting, from_line_feed, front_of, inl, lit≤, of_statement, refl, refused, stated, states_one, undecided, units_by, units_first, x}
-use Rattle.zone_text.proofs.Cuttings.{cut_is_read}
+use Rattle.zone_text.proofs.Tokens.Cuttings.{cut_is_read}
 use Rattle.zone_text.proofs.ExampleRecords.{x_name, at_spells, sixty, in_class, states_ns}
-use Rattle.zone_text.proofs.Cuttings.{cut_not_broken}
+use Rattle.zone_text.proofs.Tokens.Cuttings.{cut_not_broken}
 use Rattle.zone_text.proofs.examples.faults.decided_entries.Goals as goal
 
 pub returns : goal.returns

@@ -1,5 +1,5 @@
 use Rattle.zone_text.proofs.Common.{EmptyLabel, before_line_feed, cut_by, cutting, from_line_feed, front_of, lit≤, of_statement, refl, refused, stated, states_one, units_by, units_first, whole, x}
-use Rattle.zone_text.proofs.Cuttings.{cut_is_read}
+use Rattle.zone_text.proofs.Tokens.Cuttings.{cut_is_read}
 use Rattle.zone_text.proofs.ExampleRecords.{x_name, at_spells, sixty, in_class, states_ns, too_long, no_digit, empty_label_between}
 use Rattle.zone_text.proofs.examples.faults.directives_that_are_refused.Goals as goal
 

@@ -1,5 +1,5 @@
 use Rattle.zone_text.proofs.Common.{before_line_feed, broken, cut_by, cutting, from_line_feed, front_of, lit≤, refl, stated, states_one, under, units_by, units_first, x}
-use Rattle.zone_text.proofs.Cuttings.{broken_is_read}
+use Rattle.zone_text.proofs.Tokens.Cuttings.{broken_is_read}
 use Rattle.zone_text.proofs.ExampleRecords.{x_name, ax_name, at_spells, a_spells, sixty, sixty_one, states_soa, states_address}
 use Rattle.zone_text.proofs.examples.faults.records_before_an_open_quote.Goals as goal
 

@@ -1,5 +1,5 @@
 use Rattle.zone_text.proofs.Common.{before_line_feed, cut_by, cutting, from_line_feed, front_of, of_statement, refl, refused, units_by, units_first, whole}
-use Rattle.zone_text.proofs.Cuttings.{cut_is_read}
+use Rattle.zone_text.proofs.Tokens.Cuttings.{cut_is_read}
 use Rattle.zone_text.proofs.examples.faults.records_without_an_owner.Goals as goal
 
 pub returns : goal.returns

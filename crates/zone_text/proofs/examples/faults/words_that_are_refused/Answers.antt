@@ -1,5 +1,5 @@
 use Rattle.zone_text.proofs.Common.{before_line_feed, cut_by, cutting, from_line_feed, front_of, inl, inr, lit≤, of_parts, refl, refused, units_by, units_first, whole, x}
-use Rattle.zone_text.proofs.Cuttings.{cut_is_read}
+use Rattle.zone_text.proofs.Tokens.Cuttings.{cut_is_read}
 use Rattle.zone_text.proofs.ExampleRecords.{x_name, at_spells, sixty, too_long, class_zero_word, type_65536, type_41}
 use Rattle.zone_text.proofs.examples.faults.words_that_are_refused.Goals as goal
 

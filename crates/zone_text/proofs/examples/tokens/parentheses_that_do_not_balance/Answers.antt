@@ -1,5 +1,5 @@
 use Rattle.zone_text.proofs.Common.{before_line_feed, cut_by, cutting, from_line_feed, front_of, refl, units_by, units_first}
-use Rattle.zone_text.proofs.Cuttings.{broken_is_read}
+use Rattle.zone_text.proofs.Tokens.Cuttings.{broken_is_read}
 use Rattle.zone_text.proofs.examples.tokens.parentheses_that_do_not_balance.Goals as goal
 
 pub returns : goal.returns

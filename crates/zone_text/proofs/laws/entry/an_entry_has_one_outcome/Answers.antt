@@ -1,4 +1,4 @@
-use Rattle.zone_text.proofs.Entered.{record_or_fault, nothing_or_record, nothing_or_fault}
+use Rattle.zone_text.proofs.Entries.Entered.{record_or_fault, nothing_or_record, nothing_or_fault}
 use Rattle.zone_text.proofs.laws.entry.an_entry_has_one_outcome.Goals as goal
 
 pub returns : goal.returns

@@ -1,4 +1,4 @@
-use Rattle.zone_text.proofs.Entered.{record_once}
+use Rattle.zone_text.proofs.Entries.Entered.{record_once}
 use Rattle.zone_text.proofs.laws.entry.an_entry_states_one_record.Goals as goal
 
 pub returns : goal.returns

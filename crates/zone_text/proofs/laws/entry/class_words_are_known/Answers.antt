@@ -1,4 +1,4 @@
-use Rattle.zone_text.proofs.ClassWords.{class_word_of, class_word_known, class_word_first}
+use Rattle.zone_text.proofs.Heads.ClassWords.{class_word_of, class_word_known, class_word_first}
 use Rattle.zone_text.proofs.laws.entry.class_words_are_known.Goals as goal
 
 pub returns : goal.returns

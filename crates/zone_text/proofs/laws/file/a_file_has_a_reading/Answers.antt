@@ -1,4 +1,4 @@
-use Rattle.zone_text.proofs.FileChoice.{file_reads}
+use Rattle.zone_text.proofs.Files.FileChoice.{file_reads}
 use Rattle.zone_text.proofs.laws.file.a_file_has_a_reading.Goals as goal
 
 pub returns : goal.returns

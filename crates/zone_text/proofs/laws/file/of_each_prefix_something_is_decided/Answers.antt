@@ -1,4 +1,4 @@
-use Rattle.zone_text.proofs.FileChoice.{file_is_decided}
+use Rattle.zone_text.proofs.Files.FileChoice.{file_is_decided}
 use Rattle.zone_text.proofs.laws.file.of_each_prefix_something_is_decided.Goals as goal
 
 pub returns : goal.returns

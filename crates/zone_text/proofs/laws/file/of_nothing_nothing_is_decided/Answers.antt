@@ -1,4 +1,4 @@
-use Rattle.zone_text.proofs.DecidedOnce.{of_nothing}
+use Rattle.zone_text.proofs.Files.DecidedOnce.{of_nothing}
 use Rattle.zone_text.proofs.laws.file.of_nothing_nothing_is_decided.Goals as goal
 
 pub returns : goal.returns

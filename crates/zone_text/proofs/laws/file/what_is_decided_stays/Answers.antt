@@ -1,4 +1,4 @@
-use Rattle.zone_text.proofs.Decides.{decided_stays, decided_stays_at_end}
+use Rattle.zone_text.proofs.Files.Decides.{decided_stays, decided_stays_at_end}
 use Rattle.zone_text.proofs.laws.file.what_is_decided_stays.Goals as goal
 
 pub returns : goal.returns

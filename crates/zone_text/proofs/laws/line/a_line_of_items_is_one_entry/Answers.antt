@@ -1,4 +1,4 @@
-use Rattle.zone_text.proofs.Lines.{line_cut, line_ended, line_entry, line_items}
+use Rattle.zone_text.proofs.Entries.Lines.{line_cut, line_ended, line_entry, line_items}
 use Rattle.zone_text.proofs.laws.line.a_line_of_items_is_one_entry.Goals as goal
 
 pub returns-clause-cut : goal.returns-clause-cut

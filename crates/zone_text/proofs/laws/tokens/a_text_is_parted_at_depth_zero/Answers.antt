@@ -1,4 +1,4 @@
-use Rattle.zone_text.proofs.Lasting.{cut_parted, break_parted}
+use Rattle.zone_text.proofs.Tokens.Lasting.{cut_parted, break_parted}
 use Rattle.zone_text.proofs.laws.tokens.a_text_is_parted_at_depth_zero.Goals as goal
 
 pub returns : goal.returns

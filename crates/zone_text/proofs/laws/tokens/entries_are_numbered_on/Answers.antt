@@ -1,4 +1,4 @@
-use Rattle.zone_text.proofs.DecidedOnce.{ended_on_after, entries_on_after}
+use Rattle.zone_text.proofs.Files.DecidedOnce.{ended_on_after, entries_on_after}
 use Rattle.zone_text.proofs.laws.tokens.entries_are_numbered_on.Goals as goal
 
 pub returns : goal.returns

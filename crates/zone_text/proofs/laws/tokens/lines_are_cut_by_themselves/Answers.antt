@@ -1,4 +1,4 @@
-use Rattle.zone_text.proofs.Lasting.{cut_joined, break_joined}
+use Rattle.zone_text.proofs.Tokens.Lasting.{cut_joined, break_joined}
 use Rattle.zone_text.proofs.laws.tokens.lines_are_cut_by_themselves.Goals as goal
 
 pub returns : goal.returns

@@ -1,4 +1,4 @@
-use Rattle.zone_text.proofs.OpenEntries.{none_held}
+use Rattle.zone_text.proofs.Scanning.OpenEntries.{none_held}
 use Rattle.zone_text.proofs.open_entry.OpenEntry.clear.Goals as goal
 
 pub invariant_of-self : goal.invariant_of-self

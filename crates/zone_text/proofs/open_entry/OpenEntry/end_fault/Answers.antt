@@ -1,5 +1,5 @@
 use Rattle.zone_text.proofs.Common.{sym}
-use Rattle.zone_text.proofs.OpenEntries.{end_is}
+use Rattle.zone_text.proofs.Scanning.OpenEntries.{end_is}
 use Rattle.zone_text.proofs.open_entry.OpenEntry.end_fault.Goals as goal
 
 pub returns-in-On-clause-open : goal.returns-in-On-clause-open

@@ -1,4 +1,4 @@
-use Rattle.zone_text.proofs.OpenEntries.{none_held}
+use Rattle.zone_text.proofs.Scanning.OpenEntries.{none_held}
 use Rattle.zone_text.proofs.open_entry.OpenEntry.new.Goals as goal
 
 pub invariant_of-result : goal.invariant_of-result

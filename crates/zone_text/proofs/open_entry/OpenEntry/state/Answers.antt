@@ -1,5 +1,5 @@
 use Rattle.zone_text.proofs.Common.{sym}
-use Rattle.zone_text.proofs.OpenEntries.{entry_is}
+use Rattle.zone_text.proofs.Scanning.OpenEntries.{entry_is}
 use Rattle.zone_text.proofs.open_entry.OpenEntry.state.Goals as goal
 
 pub returns-clause-is : goal.returns-clause-is

@@ -1,6 +1,6 @@
 use Rattle.zone_text.proofs.Common.{err_from_is_err_and, map, raw, refl}
 use Rattle.zone_rdata.proofs.Failings.{IfFault-weaker}
-use Rattle.zone_text.proofs.RecordsRead.{read_to, rdata_refused, no_ttl}
+use Rattle.zone_text.proofs.Entries.RecordsRead.{read_to, rdata_refused, no_ttl}
 use Rattle.zone_text.proofs.parser_state.ParserState.contents_of.Goals as goal
 
 pub returns-in-Err-clause-fault : goal.returns-in-Err-clause-fault

@@ -1,5 +1,5 @@
 use Rattle.zone_text.proofs.Common.{err_from_is_err_and, refl, sym, ◌∙◌}
-use Rattle.zone_text.proofs.Heads.{words_refused, kind_missing, kind_unknown, has_head, has_own_ttl, after_words}
+use Rattle.zone_text.proofs.Heads.KnownHeads.{words_refused, kind_missing, kind_unknown, has_head, has_own_ttl, after_words}
 use Rattle.zone_text.proofs.parser_state.ParserState.head_of.Goals as goal
 
 pub returns-in_err-words-clause-fault : goal.returns-in_err-words-clause-fault

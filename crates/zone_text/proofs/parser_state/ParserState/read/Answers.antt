@@ -1,5 +1,5 @@
 use Rattle.zone_text.proofs.Common.{sym}
-use Rattle.zone_text.proofs.KeptEntry.{entry_kept}
+use Rattle.zone_text.proofs.Entries.KeptEntry.{entry_kept}
 use Rattle.zone_text.proofs.parser_state.ParserState.read.Goals as goal
 
 pub returns : goal.returns

@@ -1,6 +1,6 @@
 use Rattle.zone_text.proofs.Common.{HasOwnerOrNone, map, of_statement, raw, refl, subst, sym}
-use Rattle.zone_text.proofs.EntryTaken.{refused_entry}
-use Rattle.zone_text.proofs.RecordsRead.{has_stated_owner}
+use Rattle.zone_text.proofs.Entries.EntryTaken.{refused_entry}
+use Rattle.zone_text.proofs.Entries.RecordsRead.{has_stated_owner}
 use Rattle.zone_text.proofs.parser_state.ParserState.read_owned.Goals as goal
 
 pub returns-in_default : goal.returns-in_default

@@ -1,5 +1,5 @@
 use Rattle.zone_text.proofs.Common.{ap, statement_in, ◌∙◌}
-use Rattle.zone_text.proofs.EntryTaken.{refused_entry}
+use Rattle.zone_text.proofs.Entries.EntryTaken.{refused_entry}
 use Rattle.zone_text.proofs.parser_state.ParserState.read_parsed.Goals as goal
 
 pub returns-in-Err : goal.returns-in-Err

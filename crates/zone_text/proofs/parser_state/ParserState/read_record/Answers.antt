@@ -1,6 +1,6 @@
 use Rattle.zone_text.proofs.Common.{IsLastOwner, IsOneOrNone, Labels, Record, ap, arith, decides_one, refl, subst, sym, ◌∙◌, ◌∷◌}
-use Rattle.zone_text.proofs.EntryTaken.{refused_entry}
-use Rattle.zone_text.proofs.RecordsRead.{long_ttl, no_owner, one_owner, record_left, states_record}
+use Rattle.zone_text.proofs.Entries.EntryTaken.{refused_entry}
+use Rattle.zone_text.proofs.Entries.RecordsRead.{long_ttl, no_owner, one_owner, record_left, states_record}
 use Rattle.zone_text.proofs.parser_state.ParserState.read_record.Goals as goal
 
 pub returns-in_default : goal.returns-in_default

@@ -1,4 +1,4 @@
-use Rattle.zone_text.proofs.PartsLeft.{all_have, no_class_value, no_ttl_value}
+use Rattle.zone_text.proofs.Heads.PartsLeft.{all_have, no_class_value, no_ttl_value}
 use Rattle.zone_text.proofs.parts.RecordParts.have_values.Goals as goal
 
 pub returns-then-ttl_has_value-clause-yes : goal.returns-then-ttl_has_value-clause-yes

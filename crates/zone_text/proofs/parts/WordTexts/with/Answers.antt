@@ -1,5 +1,5 @@
 use Rattle.zone_text.proofs.Common.{refl, sym, ◌∙◌}
-use Rattle.zone_text.proofs.PartsLeft.{class_found, ttl_found}
+use Rattle.zone_text.proofs.Heads.PartsLeft.{class_found, ttl_found}
 use Rattle.zone_text.proofs.parts.WordTexts.with.Goals as goal
 
 pub returns-then-begins_with_digit-clause-found : goal.returns-then-begins_with_digit-clause-found

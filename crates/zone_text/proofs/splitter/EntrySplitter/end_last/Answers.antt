@@ -1,6 +1,6 @@
 use Rattle.zone_text.proofs.Common.{sym, ◌∙◌}
-use Rattle.zone_text.proofs.Begun.{none_left, some_left}
-use Rattle.zone_text.proofs.Followed.{end_of_break, end_of_lines, end_of_some}
+use Rattle.zone_text.proofs.Entries.Begun.{none_left, some_left}
+use Rattle.zone_text.proofs.Files.Followed.{end_of_break, end_of_lines, end_of_some}
 use Rattle.zone_text.proofs.splitter.EntrySplitter.end_last.Goals as goal
 
 pub returns-in-Some-clause-reads : goal.returns-in-Some-clause-reads

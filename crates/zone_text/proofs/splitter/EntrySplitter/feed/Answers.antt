@@ -1,8 +1,8 @@
 use Rattle.zone_text.proofs.Common.{List, [], ap, arith, count_by, false, length, refl, sym, take-append-drop, true, ℕ, ◌+◌, ◌==◌, ◌∙◌, ◌≡◌}
-use Rattle.zone_text.proofs.BlankLines.{fed_lines}
-use Rattle.zone_text.proofs.FirstEntries.{keeps_items, fed_entry}
-use Rattle.zone_text.proofs.Begun.{none_found, none_left, some_found}
-use Rattle.zone_text.proofs.FedPieces.{fed_more, fed_all, fed_fault, fed_settled, takes_part, depth_within}
+use Rattle.zone_text.proofs.Tokens.BlankLines.{fed_lines}
+use Rattle.zone_text.proofs.Scanning.FirstEntries.{keeps_items, fed_entry}
+use Rattle.zone_text.proofs.Entries.Begun.{none_found, none_left, some_found}
+use Rattle.zone_text.proofs.Scanning.FedPieces.{fed_more, fed_all, fed_fault, fed_settled, takes_part, depth_within}
 use Rattle.zone_text.proofs.splitter.EntrySplitter.feed.Goals as goal
 use Rattle.zone_text.proofs.splitter.EntrySplitter.feed.Goals.{then-loop-self-test+else-is_none, else-loop-self-test}
 

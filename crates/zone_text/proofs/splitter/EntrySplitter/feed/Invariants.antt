@@ -1,5 +1,5 @@
 use Rattle.zone_text.proofs.Common.{[], length, ◌≡◌}
-use Rattle.zone_text.proofs.FedPieces.{HasFed}
+use Rattle.zone_text.proofs.Scanning.FedPieces.{HasFed}
 use Rattle.zone_text.proofs.splitter.EntrySplitter.feed.Given as goal
 
 abbrev pub decreases-loop-self : goal.decreases-loop-self

@@ -1,6 +1,6 @@
 use Rattle.zone_text.proofs.Common.{EndedEntries, EntrySplitter, arith, subst, sym, ◌≤◌}
-use Rattle.zone_text.proofs.Begun.{nothing_taken, some_found}
-use Rattle.zone_text.proofs.Followed.{end_of_fault, Reads}
+use Rattle.zone_text.proofs.Entries.Begun.{nothing_taken, some_found}
+use Rattle.zone_text.proofs.Files.Followed.{end_of_fault, Reads}
 use Rattle.zone_text.proofs.splitter.EntrySplitter.finish.Goals as goal
 use Rattle.zone_text.proofs.splitter.EntrySplitter.finish.Goals.{then-is_none+in_ok-end_last, else-is_none}
 

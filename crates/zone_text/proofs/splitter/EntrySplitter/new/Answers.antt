@@ -1,5 +1,5 @@
 use Rattle.zone_text.proofs.Common.{arith, ◌≤◌}
-use Rattle.zone_text.proofs.Begun.{nothing_taken, nothing_follows}
+use Rattle.zone_text.proofs.Entries.Begun.{nothing_taken, nothing_follows}
 use Rattle.zone_text.proofs.splitter.EntrySplitter.new.Goals as goal
 
 pub returns-clause-is : goal.returns-clause-is

@@ -1,4 +1,4 @@
-use Rattle.zone_text.proofs.FedPieces.{is_on, follows_on, is_ended, follows_entry, is_refused, follows_lost_escape, follows_lost_closing}
+use Rattle.zone_text.proofs.Scanning.FedPieces.{is_on, follows_on, is_ended, follows_entry, is_refused, follows_lost_escape, follows_lost_closing}
 use Rattle.zone_text.proofs.splitter.EntrySplitter.take_part.Goals as goal
 
 pub returns-in_ok-extend_from_slice-in-On-clause-is : goal.returns-in_ok-extend_from_slice-in-On-clause-is

@@ -1,6 +1,6 @@
 use Rattle.zone_text.proofs.Common.{arith, length, refl, ◌-◌}
 use Rattle.std.proofs.lemmas.List.Sums.{prefix_len-le-length}
-use Rattle.zone_text.proofs.StopMarks.{goes_on, known_len, known_rest, unknown_len, unknown_rest}
+use Rattle.zone_text.proofs.Scanning.StopMarks.{goes_on, known_len, known_rest, unknown_len, unknown_rest}
 use Rattle.zone_text.proofs.stops.Stops.bare_len.Goals as goal
 
 pub overflow_add-result : goal.overflow_add-result

@@ -1,5 +1,5 @@
 use Rattle.zone_text.proofs.Common.{FileKept, IfSome, SourceState, StandsForFile, arith, counted, false, length, refl, state_of, subst, sym, true, ◌+◌, ◌≡◌}
-use Rattle.zone_text.proofs.Standing.{stands_more, counts_alone}
+use Rattle.zone_text.proofs.Files.Standing.{stands_more, counts_alone}
 use Rattle.zone_text.proofs.text_source.TextSource.feed.Goals as goal
 
 pub returns-in-Ok-clause-stands : goal.returns-in-Ok-clause-stands

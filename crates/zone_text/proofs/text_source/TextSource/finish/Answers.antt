@@ -1,5 +1,5 @@
 use Rattle.zone_text.proofs.Common.{FileKept, SourceState, StandsForFile, false, subst, sym, ◌≡◌}
-use Rattle.zone_text.proofs.Standing.{stands_finished}
+use Rattle.zone_text.proofs.Files.Standing.{stands_finished}
 use Rattle.zone_text.proofs.text_source.TextSource.finish.Goals as goal
 
 pub returns-in-Ok-clause-stands : goal.returns-in-Ok-clause-stands

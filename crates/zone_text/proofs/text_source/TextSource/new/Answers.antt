@@ -1,4 +1,4 @@
-use Rattle.zone_text.proofs.Standing.{stands_begun}
+use Rattle.zone_text.proofs.Files.Standing.{stands_begun}
 use Rattle.zone_text.proofs.text_source.TextSource.new.Goals as goal
 
 pub returns-clause-stands : goal.returns-clause-stands

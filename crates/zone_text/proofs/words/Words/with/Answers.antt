@@ -1,5 +1,5 @@
 use Rattle.zone_text.proofs.Common.{err_from_is_err_and, refl, sym, ◌∙◌}
-use Rattle.zone_text.proofs.WordsLeft.{takes_ttl, takes_class, refuses_class, no_word}
+use Rattle.zone_text.proofs.Heads.WordsLeft.{takes_ttl, takes_class, refuses_class, no_word}
 use Rattle.zone_text.proofs.words.Words.with.Goals as goal
 
 pub returns-then-begins_with_digit-clause-found : goal.returns-then-begins_with_digit-clause-found

@@ -1,5 +1,5 @@
 use Rattle.zone_wire.proofs.Common.{ap, raw_from, sym, ◌-◌, ◌∙◌, ◌∷◌}
-use Rattle.zone_wire.proofs.Pending.{one_more, one_more_is}
+use Rattle.zone_wire.proofs.Records.Pending.{one_more, one_more_is}
 use Rattle.zone_wire.proofs.answers.Answers.next_in.Goals as goal
 
 pub record_at-answer-requires : goal.record_at-answer-requires

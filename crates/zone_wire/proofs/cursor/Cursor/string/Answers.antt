@@ -1,5 +1,5 @@
 use Rattle.zone_wire.proofs.Common.{IfOk-weaker, arith, err_from_is_err_and, rules}
-use Rattle.zone_wire.proofs.FieldReading.{string_read, string_uncounted, string_cut}
+use Rattle.zone_wire.proofs.Fields.FieldReading.{string_read, string_uncounted, string_cut}
 use Rattle.zone_wire.proofs.cursor.Cursor.string.Goals as goal
 
 pub returns-in_err-size-clause-fault : goal.returns-in_err-size-clause-fault

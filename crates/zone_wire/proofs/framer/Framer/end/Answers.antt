@@ -1,5 +1,5 @@
 use Rattle.zone_wire.proofs.Common.{List, Message, Placed, ShortFrame, Some, [], ap, arith, cond-false, cond-true, end_fault, eq-eqb, eqb-true, length, refl, sym, true, vec_len, ℕ, ◌==◌, ◌∙◌, ◌∷◌, ◌≡◌, ◌≢◌}
-use Rattle.zone_wire.proofs.Feeding.{empty_of}
+use Rattle.zone_wire.proofs.Streams.Feeding.{empty_of}
 use Rattle.zone_wire.proofs.framer.Framer.end.Goals as goal
 
 in_frame : (number : ℕ) (placed : List Placed) (rest : List ℕ) → rest ≢ [] → Some (ShortFrame, Message number 0) ≡ end_fault number placed rest

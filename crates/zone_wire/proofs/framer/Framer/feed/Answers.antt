@@ -1,6 +1,6 @@
 use Rattle.zone_wire.proofs.Common.{Bytes, Follow, None, ap, append_assoc, arith, back_bytes, false, is_some, length, subst, sym, true, ◌++◌, ◌∙◌, ◌≡◌}
-use Rattle.zone_wire.proofs.Feeding.{FedSoFar, after_fault, fed_more, rest_taken}
-use Rattle.zone_wire.proofs.Progress.{none_of}
+use Rattle.zone_wire.proofs.Streams.Feeding.{FedSoFar, after_fault, fed_more, rest_taken}
+use Rattle.zone_wire.proofs.Transfers.Progress.{none_of}
 use Rattle.zone_wire.proofs.framer.Framer.feed.Goals as goal
 
 pub loop-self-preserved : goal.loop-self-preserved

@@ -1,5 +1,5 @@
 use Rattle.zone_wire.proofs.Common.{[], length, ◌≡◌}
-use Rattle.zone_wire.proofs.Feeding.{FedSoFar}
+use Rattle.zone_wire.proofs.Streams.Feeding.{FedSoFar}
 use Rattle.zone_wire.proofs.framer.Framer.feed.Given as goal
 
 abbrev pub invariant-loop-self : goal.invariant-loop-self

@@ -1,6 +1,6 @@
 use Rattle.zone_wire.proofs.Common.{StreamReads, ap, false, is_some, subst, sym, true, ◌++◌, ◌≡◌}
-use Rattle.zone_wire.proofs.Feeding.{finishes, ends_after_fault}
-use Rattle.zone_wire.proofs.Progress.{none_of}
+use Rattle.zone_wire.proofs.Streams.Feeding.{finishes, ends_after_fault}
+use Rattle.zone_wire.proofs.Transfers.Progress.{none_of}
 use Rattle.zone_wire.proofs.framer.Framer.finish.Goals as goal
 use Rattle.zone_wire.proofs.framer.Framer.finish.Goals.{then-is_none, else-is_none}
 

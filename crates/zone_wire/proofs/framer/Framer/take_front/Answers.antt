@@ -1,6 +1,6 @@
 use Rattle.zone_wire.proofs.Common.{Follow, IsCut, [], ap, arith, eqb-true, frame, subst, sym, take, vec_len, ◌++◌, ◌∙◌, ◌≡◌}
-use Rattle.zone_wire.proofs.Feeding.{empty_of, inside_frame, one_frame, take_whole}
-use Rattle.zone_wire.proofs.Walking.{take_each}
+use Rattle.zone_wire.proofs.Streams.Feeding.{empty_of, inside_frame, one_frame, take_whole}
+use Rattle.zone_wire.proofs.Names.Walking.{take_each}
 use Rattle.zone_wire.proofs.framer.Framer.take_front.Goals as goal
 
 pub returns-in_ok-extend_from_slice-in-None-clause-follow : goal.returns-in_ok-extend_from_slice-in-None-clause-follow

@@ -1,5 +1,5 @@
 use Rattle.zone_wire.proofs.Common.{ap, arith, folded, labels_of, octets_between, ◌++◌, ◌∙◌}
-use Rattle.zone_wire.proofs.Rooms.{pushed}
+use Rattle.zone_wire.proofs.Names.Rooms.{pushed}
 use Rattle.zone_wire.proofs.labels.LabelRoom.push.Goals as goal
 
 pub invariant_of-self : goal.invariant_of-self

@@ -1,5 +1,5 @@
-use Rattle.zone_wire.proofs.FrameLaws.{frame_read, frame_refused}
-use Rattle.zone_wire.proofs.Streams.{handed_more}
+use Rattle.zone_wire.proofs.Streams.FrameLaws.{frame_read, frame_refused}
+use Rattle.zone_wire.proofs.Streams.OneStream.{handed_more}
 use Rattle.zone_wire.proofs.laws.frame.one_frame_more.Goals as goal
 
 pub returns : goal.returns

@@ -1,4 +1,4 @@
-use Rattle.zone_wire.proofs.AlikeMessages.{read_alike, fault_alike, alike_grows}
+use Rattle.zone_wire.proofs.Messages.AlikeMessages.{read_alike, fault_alike, alike_grows}
 use Rattle.zone_wire.proofs.laws.frame.what_a_message_is_judged_by.Goals as goal
 
 pub returns : goal.returns

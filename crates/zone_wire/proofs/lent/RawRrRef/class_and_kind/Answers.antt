@@ -1,5 +1,5 @@
 use Rattle.zone_wire.proofs.Common.{IsClass, IsKind, RawRecord, ap, subst, ◌∙◌}
-use Rattle.zone_wire.proofs.RecordReading.{class_fault, kind_fault, unread_fault}
+use Rattle.zone_wire.proofs.Records.RecordReading.{class_fault, kind_fault, unread_fault}
 use Rattle.zone_wire.proofs.lent.RawRrRef.class_and_kind.Goals as goal
 
 pub returns-in_default-clause-fault : goal.returns-in_default-clause-fault

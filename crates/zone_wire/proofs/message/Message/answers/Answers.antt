@@ -1,5 +1,5 @@
 use Rattle.zone_wire.proofs.Common.{rules}
-use Rattle.zone_wire.proofs.Pending.{answers_shown}
+use Rattle.zone_wire.proofs.Records.Pending.{answers_shown}
 use Rattle.zone_wire.proofs.message.Message.answers.Goals as goal
 
 pub invariant_of-result : goal.invariant_of-result

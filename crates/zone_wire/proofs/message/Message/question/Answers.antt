@@ -1,5 +1,5 @@
 use Rattle.zone_wire.proofs.Common.{ap, arith, asked, found_by, map, u16_at, ◌≡◌}
-use Rattle.zone_wire.proofs.Pending.{has_one_question, question_of_name}
+use Rattle.zone_wire.proofs.Records.Pending.{has_one_question, question_of_name}
 use Rattle.zone_wire.proofs.message.Message.question.Goals as goal
 
 pub u16_at-requires-in-Ok : goal.u16_at-requires-in-Ok

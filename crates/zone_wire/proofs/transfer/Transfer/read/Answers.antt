@@ -1,5 +1,5 @@
 use Rattle.zone_wire.proofs.Common.{on_ok_weaker, refl, ◌+◌}
-use Rattle.zone_wire.proofs.Progress.{stopped_next}
+use Rattle.zone_wire.proofs.Transfers.Progress.{stopped_next}
 use Rattle.zone_wire.proofs.transfer.Transfer.read.Goals as goal
 
 pub returns-in-Err-clause-next : goal.returns-in-Err-clause-next

@@ -1,6 +1,6 @@
 use Rattle.zone_wire.proofs.Common.{IsRecord, fault_answered, if_fault_passed, inl, inr, record_with, refl, sym, ◌∙◌, ◌≡◌}
-use Rattle.zone_wire.proofs.Progress.{other_gains, stands_after, closed_after}
-use Rattle.zone_wire.proofs.RecordReading.{own_data, stated}
+use Rattle.zone_wire.proofs.Transfers.Progress.{other_gains, stands_after, closed_after}
+use Rattle.zone_wire.proofs.Records.RecordReading.{own_data, stated}
 use Rattle.zone_wire.proofs.transfer.Transfer.take_answer.Goals as goal
 
 pub returns-in_err-class-clause-fault : goal.returns-in_err-class-clause-fault

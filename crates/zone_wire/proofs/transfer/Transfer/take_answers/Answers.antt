@@ -1,4 +1,4 @@
-use Rattle.zone_wire.proofs.Progress.{pending_all, pending_more, takes_all, stopped_by}
+use Rattle.zone_wire.proofs.Transfers.Progress.{pending_all, pending_more, takes_all, stopped_by}
 use Rattle.zone_wire.proofs.transfer.Transfer.take_answers.Goals as goal
 
 pub loop-answer-init : goal.loop-answer-init

@@ -1,5 +1,5 @@
 use Rattle.zone_wire.proofs.Common.{length}
-use Rattle.zone_wire.proofs.Progress.{Pending}
+use Rattle.zone_wire.proofs.Transfers.Progress.{Pending}
 use Rattle.zone_wire.proofs.transfer.Transfer.take_answers.Given as goal
 
 abbrev pub invariant-loop-answer : goal.invariant-loop-answer

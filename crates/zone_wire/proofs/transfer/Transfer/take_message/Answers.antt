@@ -1,5 +1,5 @@
 use Rattle.zone_wire.proofs.Common.{TakesEach, asked_in, fault_for, placed_in, subst, ◌++◌}
-use Rattle.zone_wire.proofs.Progress.{stops_in_structure, stops_in_head, message_taken}
+use Rattle.zone_wire.proofs.Transfers.Progress.{stops_in_structure, stops_in_head, message_taken}
 use Rattle.zone_wire.proofs.transfer.Transfer.take_message.Goals as goal
 
 pub returns-in-Err-clause-taken : goal.returns-in-Err-clause-taken

@@ -1,5 +1,5 @@
 use Rattle.zone_wire.proofs.Common.{Some, [], ap, record_with, refl, sym, zone_held, zone_with, ◌++◌, ◌∙◌, ◌∷◌, ◌≡◌}
-use Rattle.zone_wire.proofs.Progress.{here_at, closing_gains, opening_gains, other_gains}
+use Rattle.zone_wire.proofs.Transfers.Progress.{here_at, closing_gains, opening_gains, other_gains}
 use Rattle.zone_wire.proofs.transfer.Transfer.take_record.Goals as goal
 use Rattle.zone_wire.proofs.transfer.Transfer.take_record.Goals.{then-is_none+in-Ok, else-is_none+else-is_soa}
 

@@ -1,5 +1,5 @@
 use Rattle.zone_wire.proofs.Common.{fault_for, inr, sym}
-use Rattle.zone_wire.proofs.AnswerFaults.{order_faults, order_stands}
+use Rattle.zone_wire.proofs.Records.AnswerFaults.{order_faults, order_stands}
 use Rattle.zone_wire.proofs.transfer.Transfer.take_soa.Goals as goal
 
 pub returns-in-Some-clause-fault : goal.returns-in-Some-clause-fault

@@ -1,5 +1,5 @@
 use Rattle.zone_wire.proofs.Common.{StandsForStream, ap, arith, length-append, subst, sym, ◌++◌, ◌∙◌}
-use Rattle.zone_wire.proofs.Feeding.{stands_follow, follow_stands}
+use Rattle.zone_wire.proofs.Streams.Feeding.{stands_follow, follow_stands}
 use Rattle.zone_wire.proofs.transfer_source.TransferSource.feed.Goals as goal
 
 pub returns-in-Ok-clause-stands : goal.returns-in-Ok-clause-stands

@@ -1,5 +1,5 @@
 use Rattle.zone_wire.proofs.Common.{StandsForStream, ap, subst, sym, ◌∙◌}
-use Rattle.zone_wire.proofs.Feeding.{stands_follow, finished_stands}
+use Rattle.zone_wire.proofs.Streams.Feeding.{stands_follow, finished_stands}
 use Rattle.zone_wire.proofs.transfer_source.TransferSource.finish.Goals as goal
 
 pub returns-clause-stands : goal.returns-clause-stands

@@ -1,5 +1,5 @@
 use Rattle.zone_wire.proofs.Common.{Open, [], refl}
-use Rattle.zone_wire.proofs.Feeding.{follow_stands}
+use Rattle.zone_wire.proofs.Streams.Feeding.{follow_stands}
 use Rattle.zone_wire.proofs.transfer_source.TransferSource.new.Goals as goal
 
 pub returns-clause-stands : goal.returns-clause-stands

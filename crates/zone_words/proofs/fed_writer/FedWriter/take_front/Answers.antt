@@ -1,4 +1,4 @@
-use Rattle.zone_text.proofs.Begun.{none_left}
+use Rattle.zone_text.proofs.Entries.Begun.{none_left}
 use Rattle.zone_text.proofs.Common.{map, raw, refl, subst}
 use Rattle.zone_text.specs.FirstEntry.{FirstIs}
 use Rattle.zone_words.proofs.FedTexts.{IsTaken, broken_taken, ended_taken, open_taken, whole_taken}

@@ -1,0 +1,5 @@
+-- Names as octets, and how they compare.
+pub mod Comparing
+pub mod OctetLanes
+pub mod Octets
+pub mod Pushing

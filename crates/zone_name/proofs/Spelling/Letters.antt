@@ -1,0 +1,159 @@
+-- Names whose letters are folded or kept when they are read.
+use Rattle.zone_name.proofs.Common.{AllByRecursion, Bool, Collects, Err, Folded, HoldsCasedLabels, HoldsLabelsBy, HoldsNameBy, IfErr, IfOk, IfSome, IsCasedLabel, IsCasedName, IsLabel, IsName, IsNameBy, Kept, Letters, List, NameFault, NameTooLong, None, Ok, Option, Result, Some, [], ap, append-nil, append_assoc, arith, false, false≢true, flat_map, flat_map-append, folded, folded_octet, labels_of, length, length-append, lettered, lettered_in, map, name_read, origin_in, refl, sized, sym, true, under_origin, wire, with_length, ℕ, ◌++◌, ◌+◌, ◌<◌, ◌∙◌, ◌∷◌, ◌≡◌, ◌≤◌}
+use Rattle.zone_name.specs.Machine.Letters.{IsReadBy}
+use Rattle.zone_name.specs.Machine.Seen.{IsReadInto}
+use Rattle.zone_name.specs.declared.reading.Spelled.{Spelled}
+use Rattle.zone_name.proofs.InOctets.Octets.{labels_of-open, labels_of-root, labels_of-wire, labels_of-wire_cased, HoldsCasedName-root, HoldsCasedName-wire, HoldsName-root, HoldsName-wire}
+use Rattle.zone_name.proofs.InOctets.Pushing.{AllByRecursion-append, HoldsLabels-frames, folded_frames, folded_labels, folded_size, sized-name, sized-long}
+
+-- labels whose letters are folded or kept
+pub record SetLetters (letters : Letters) (octets new : List ℕ) : Type 0 where
+  pub holds : HoldsLabelsBy letters new
+  pub gives : labels_of new ≡ lettered letters (labels_of octets)
+
+pub fold_letters : (octets new : List ℕ) → HoldsCasedLabels octets → new ≡ map folded_octet octets → SetLetters Folded octets new
+fold_letters octets new holds e =
+    let labels = labels_of octets in
+    let each = folded_labels labels holds.name.each in
+    let shape : new ≡ flat_map with_length (folded labels) = e ∙ ap (map folded_octet) (sym holds.whole) ∙ folded_frames labels holds.name.each in
+    let name : IsName (folded labels) = record { each = each; short = omega (arith, folded_size labels, holds.name.short) } in
+    record { holds = rw shape (HoldsLabels-frames (folded labels) name); gives = ap labels_of shape ∙ labels_of-open (folded labels) each }
+
+-- the labels of two names, one after the other
+pub record Joined (letters : Letters) (left right : List (List ℕ)) (new : List ℕ) : Type 0 where
+  pub holds : HoldsNameBy letters new
+  pub gives : labels_of new ≡ left ++ right
+
+joined_shape : (octets others new : List ℕ) (left right : List (List ℕ)) → flat_map with_length left ≡ octets → others ≡ wire right → new ≡ octets ++ others → new ≡ wire (left ++ right)
+joined_shape octets others new left right whole text e = cc (flat_map-append with_length left right, append_assoc (flat_map with_length left) (flat_map with_length right) (0 ∷ []))
+
+joined_name : (left right : List (List ℕ)) (new : List ℕ) → AllByRecursion IsLabel left → AllByRecursion IsLabel right → new ≡ wire (left ++ right) → length new ≤ 255 → Joined Folded left right new
+joined_name left right new each rest shape room =
+    let both = AllByRecursion-append IsLabel left right each rest in
+    let name : IsName (left ++ right) = record { each = both; short = omega (arith, ap length shape) } in
+    record { holds = rw shape (HoldsName-wire (left ++ right) name); gives = ap labels_of shape ∙ labels_of-wire (left ++ right) both }
+
+joined_cased : (left right : List (List ℕ)) (new : List ℕ) → AllByRecursion IsCasedLabel left → AllByRecursion IsCasedLabel right → new ≡ wire (left ++ right) → length new ≤ 255 → Joined Kept left right new
+joined_cased left right new each rest shape room =
+    let both = AllByRecursion-append IsCasedLabel left right each rest in
+    let name : IsCasedName (left ++ right) = record { each = both; short = omega (arith, ap length shape) } in
+    record { holds = rw shape (HoldsCasedName-wire (left ++ right) name); gives = ap labels_of shape ∙ labels_of-wire_cased (left ++ right) both }
+
+pub joined : (letters : Letters) (octets others new : List ℕ) → HoldsLabelsBy letters octets → HoldsNameBy letters others → new ≡ octets ++ others → length new ≤ 255 → Joined letters (labels_of octets) (labels_of others) new
+joined Folded octets others new holds name e room = joined_name (labels_of octets) (labels_of others) new holds.name.each name.name.each (joined_shape octets others new (labels_of octets) (labels_of others) holds.whole (sym name.whole) e) room
+joined Kept octets others new holds name e room = joined_cased (labels_of octets) (labels_of others) new holds.name.each name.name.each (joined_shape octets others new (labels_of octets) (labels_of others) holds.whole (sym name.whole) e) room
+
+joined_long : (octets others : List ℕ) (left right : List (List ℕ)) → flat_map with_length left ≡ octets → others ≡ wire right → 255 < length octets + length others → sized (left ++ right) ≡ Err NameTooLong
+joined_long octets others left right whole text over = sized-long (left ++ right) (omega (arith, over, length-append octets others, ap length (sym (joined_shape octets others (octets ++ others) left right whole text refl))))
+
+pub joined-long : (octets others : List ℕ) → 255 < length octets + length others → (letters : Letters) → HoldsLabelsBy letters octets → HoldsNameBy letters others → sized (labels_of octets ++ labels_of others) ≡ Err NameTooLong
+joined-long octets others over Folded holds name = joined_long octets others (labels_of octets) (labels_of others) holds.whole (sym name.whole) over
+joined-long octets others over Kept holds name = joined_long octets others (labels_of octets) (labels_of others) holds.whole (sym name.whole) over
+
+name_short : (letters : Letters) (octets : List ℕ) → HoldsNameBy letters octets → length (wire (labels_of octets)) ≤ 255
+name_short Folded octets name = name.name.short
+name_short Kept octets name = name.name.short
+
+-- the octets of a name after labels
+pub ended_with : (letters : Letters) (octets ending new : List ℕ) → HoldsLabelsBy letters octets → HoldsNameBy letters ending → new ≡ octets ++ ending → length octets + length ending ≤ 255 → HoldsNameBy letters new × (sized (labels_of octets ++ labels_of ending) ≡ Ok (labels_of new))
+ended_with letters octets ending new holds name is room =
+    let both = joined letters octets ending new holds name is (omega (arith, room, ap length is, length-append octets ending)) in
+    (both.holds, (ap sized (sym both.gives) ∙ sized-name (labels_of new) (name_short letters new both.holds)))
+
+-- the root is a name, however letters are taken
+pub root_holds : (letters : Letters) (octets : List ℕ) → octets ≡ [] ++ 0 ∷ [] → HoldsNameBy letters octets
+root_holds Folded octets e = HoldsName-root octets e
+root_holds Kept octets e = HoldsCasedName-root octets e
+
+-- labels take as many octets with letters folded
+pub lettered_size : (letters : Letters) (labels : List (List ℕ)) → length (wire (lettered letters labels)) ≡ length (wire labels)
+lettered_size Folded labels = folded_size labels
+lettered_size Kept labels = refl
+
+-- labels that are held, or are too long, as their letters are folded
+lettered_collects : (letters : Letters) (held labels : List (List ℕ)) (is_too_long : Bool) → Collects held is_too_long labels → Collects (lettered letters held) is_too_long (lettered letters labels)
+lettered_collects letters held labels true over = rw (lettered_size letters labels) over
+lettered_collects letters held labels false same = ap (lettered letters) same
+
+pub read_lettered : (letters : Letters) (text octets new : List ℕ) (spelled : Spelled) → labels_of new ≡ lettered letters (labels_of octets) → IsReadInto text octets spelled → IsReadBy letters text new spelled
+read_lettered letters text octets new spelled gives read =
+    (read.0, read.1, rw gives (lettered_collects letters (labels_of octets) read.0 spelled.is_too_long read.2))
+
+-- what ends the name of the labels that were spelled: the root, or the origin
+pub record Ends (origin : Option (List ℕ)) (spelled : Spelled) (ending : List ℕ) : Type 0 where
+  pub short : spelled.is_too_long ≡ false
+  pub under : (labels : List (List ℕ)) → under_origin (origin_in origin) (Ok (labels, spelled.is_absolute)) ≡ sized (labels ++ labels_of ending)
+  pub name : (letters : Letters) → IfSome origin (HoldsNameBy letters) → HoldsNameBy letters ending
+
+pub ends_root : (origin : Option (List ℕ)) (spelled : Spelled) → spelled.is_absolute ≡ true → spelled.is_too_long ≡ false → Ends origin spelled (0 ∷ [])
+ends_root origin spelled absolute short = record {
+  short = short;
+  under = λ labels. rw (absolute, labels_of-root (0 ∷ []) refl) (ap sized (sym (append-nil labels)));
+  name = λ letters known. root_holds letters (0 ∷ []) refl;
+}
+
+pub ends_above : (origin : Option (List ℕ)) (above : List ℕ) (spelled : Spelled) → spelled.is_absolute ≡ false → origin ≡ Some above → spelled.is_too_long ≡ false → Ends origin spelled above
+ends_above origin above spelled relative is short = record {
+  short = short;
+  under = λ labels. rw (relative, is) refl;
+  name = λ letters known. rw is at known;
+}
+
+held_labels : (held labels : List (List ℕ)) (is_too_long : Bool) → is_too_long ≡ false → Collects held is_too_long labels → held ≡ labels
+held_labels held labels true short collects = absurd (false≢true (sym short))
+held_labels held labels false short same = same
+
+pub finished : (origin : Option (List ℕ)) (spelled : Spelled) (octets ending new : List ℕ) (result : Result (Unit {0}) NameFault) → Ends origin spelled ending → IfOk result (λ _. (letters : Letters) → HoldsLabelsBy letters octets → HoldsNameBy letters ending → HoldsNameBy letters new × (sized (labels_of octets ++ labels_of ending) ≡ Ok (labels_of new))) → IfOk result (λ _. (letters : Letters) → HoldsLabelsBy letters octets → IfSome origin (HoldsNameBy letters) → HoldsNameBy letters new × ((labels : List (List ℕ)) → Collects (labels_of octets) spelled.is_too_long labels → under_origin (origin_in origin) (Ok (labels, spelled.is_absolute)) ≡ Ok (labels_of new)))
+finished origin spelled octets ending new (Ok done) ends is = λ letters holds known.
+    let both = is letters holds (ends.name letters known) in
+    (both.0, λ labels collects. ends.under labels ∙ ap (λ ls. sized (ls ++ labels_of ending)) (sym (held_labels (labels_of octets) labels spelled.is_too_long ends.short collects)) ∙ both.1)
+finished origin spelled octets ending new (Err fault) ends is = tt
+
+pub unfinished : (origin : Option (List ℕ)) (spelled : Spelled) (octets ending : List ℕ) (result : Result (Unit {0}) NameFault) → Ends origin spelled ending → IfErr result (λ fault. (letters : Letters) → HoldsLabelsBy letters octets → HoldsNameBy letters ending → sized (labels_of octets ++ labels_of ending) ≡ Err fault) → IfErr result (λ fault. (letters : Letters) → HoldsLabelsBy letters octets → IfSome origin (HoldsNameBy letters) → (labels : List (List ℕ)) → Collects (labels_of octets) spelled.is_too_long labels → under_origin (origin_in origin) (Ok (labels, spelled.is_absolute)) ≡ Err fault)
+unfinished origin spelled octets ending (Ok done) ends is = tt
+unfinished origin spelled octets ending (Err fault) ends is = λ letters holds known labels collects.
+    ends.under labels ∙ ap (λ ls. sized (ls ++ labels_of ending)) (sym (held_labels (labels_of octets) labels spelled.is_too_long ends.short collects)) ∙ is letters holds (ends.name letters known)
+
+-- the octets of labels after others
+pub joined_size : (labels above : List (List ℕ)) → length (wire (labels ++ above)) + 1 ≡ length (wire labels) + length (wire above)
+joined_size labels above = omega (arith, ap length (flat_map-append with_length labels above), length-append (flat_map with_length labels) (flat_map with_length above), length-append (flat_map with_length labels) (0 ∷ []), length-append (flat_map with_length above) (0 ∷ []), length-append (flat_map with_length (labels ++ above)) (0 ∷ []))
+
+wire_some : (labels : List (List ℕ)) → 0 < length (wire labels)
+wire_some labels = omega (arith, length-append (flat_map with_length labels) (0 ∷ []))
+
+pub absolute_long : (origin : Option (List (List ℕ))) (spelled : Spelled) (held labels : List (List ℕ)) → spelled.is_absolute ≡ true → spelled.is_too_long ≡ true → Collects held spelled.is_too_long labels → under_origin origin (Ok (labels, spelled.is_absolute)) ≡ Err NameTooLong
+absolute_long origin spelled held labels absolute long collects =
+    let over : 255 < length (wire labels) = rw long at collects in
+    rw absolute (sized-long labels over)
+
+pub relative_long : (origin : Option (List (List ℕ))) (above : List (List ℕ)) (spelled : Spelled) (held labels : List (List ℕ)) → spelled.is_absolute ≡ false → origin ≡ Some above → spelled.is_too_long ≡ true → Collects held spelled.is_too_long labels → under_origin origin (Ok (labels, spelled.is_absolute)) ≡ Err NameTooLong
+relative_long origin above spelled held labels relative is long collects =
+    let over : 255 < length (wire labels) = rw long at collects in
+    rw (relative, is) (sized-long (labels ++ above) (omega (arith, over, joined_size labels above, wire_some above)))
+
+-- ---- the name that is made of what was read
+
+pub named_ok : (letters : Letters) (origin : Option (List ℕ)) (text octets new : List ℕ) (spelled : Spelled) (result : Result (Unit {0}) NameFault) → HoldsLabelsBy letters octets → IsReadBy letters text octets spelled → IfSome origin (HoldsNameBy letters) → IfOk result (λ _. (by : Letters) → HoldsLabelsBy by octets → IfSome origin (HoldsNameBy by) → HoldsNameBy by new × ((labels : List (List ℕ)) → Collects (labels_of octets) spelled.is_too_long labels → under_origin (origin_in origin) (Ok (labels, spelled.is_absolute)) ≡ Ok (labels_of new))) → IfOk result (λ _. HoldsNameBy letters new × (name_read letters (origin_in origin) text ≡ Ok (labels_of new)))
+named_ok letters origin text octets new spelled (Ok done) holds read known is =
+    let both = is letters holds known in
+    (both.0, ap (λ r. under_origin (origin_in origin) (lettered_in letters r)) read.1 ∙ both.1 (lettered letters read.0) read.2)
+named_ok letters origin text octets new spelled (Err fault) holds read known is = tt
+
+pub named_err : (letters : Letters) (origin : Option (List ℕ)) (text octets : List ℕ) (spelled : Spelled) (result : Result (Unit {0}) NameFault) → HoldsLabelsBy letters octets → IsReadBy letters text octets spelled → IfSome origin (HoldsNameBy letters) → IfErr result (λ fault. (by : Letters) → HoldsLabelsBy by octets → IfSome origin (HoldsNameBy by) → (labels : List (List ℕ)) → Collects (labels_of octets) spelled.is_too_long labels → under_origin (origin_in origin) (Ok (labels, spelled.is_absolute)) ≡ Err fault) → IfErr result (λ fault. name_read letters (origin_in origin) text ≡ Err fault)
+named_err letters origin text octets spelled (Ok done) holds read known is = tt
+named_err letters origin text octets spelled (Err fault) holds read known is =
+    ap (λ r. under_origin (origin_in origin) (lettered_in letters r)) read.1 ∙ is letters holds known (lettered letters read.0) read.2
+
+-- ---- what is known of octets that hold a name
+
+pub held_name : (letters : Letters) (octets : List ℕ) → HoldsNameBy letters octets → IsNameBy letters (labels_of octets)
+held_name Kept octets holds = holds.name
+held_name Folded octets holds = holds.name
+
+pub held_short : (letters : Letters) (octets : List ℕ) → HoldsNameBy letters octets → length octets ≤ 255
+held_short Kept octets holds = rw holds.whole at holds.name.short
+held_short Folded octets holds = rw holds.whole at holds.name.short
+
+pub held_origin : (letters : Letters) (origin : Option (List ℕ)) → IfSome origin (HoldsNameBy letters) → IfSome (origin_in origin) (IsNameBy letters)
+held_origin letters None known = tt
+held_origin letters (Some above) known = held_name letters above known

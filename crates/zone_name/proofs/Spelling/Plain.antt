@@ -1,0 +1,226 @@
+-- A text without escapes, whose labels' lengths are written over the dots before them.
+use lib.Lanes.{chunk, put_chunk}
+use Rattle.zone_name.proofs.Common.{AllByRecursion, AreOctets, Bool, HoldsCasedLabels, IsCasedName, IsUnit, IsWrittenLabel, List, Ok, WritesLengths, Written, [], after_dots, ap, append-nil, append_assoc, ap₂, arith, bytes_decides, cases_lt, dotted, drop, drop_at, drop_more, eqb-false, false, flat_map, flat_map-append, get_or, get_or-drop, inl, inr, is_dot, is_plain, kept, labels_of, length, length-append, length-drop, length-map, length-set, length-take-le, map, map_push, nat_eq, not, not-true, or_parts, parted, plain, pointwise, prefix_len, reading, refl, run_in_chunk_fails, run_in_chunk_le, run_in_chunk_stops, set, set_at, subst, suc, sym, take, take-append-drop, take_at, take_more_put_chunk, true, with_length, written_octets, written_text, zero, ℕ, ◌++◌, ◌+◌, ◌-◌, ◌<◌, ◌==◌, ◌||◌, ◌∙◌, ◌∷◌, ◌≡◌, ◌≤◌}
+use Rattle.zone_name.proofs.InOctets.Octets.{labels_of-open_cased}
+use Rattle.zone_name.proofs.InOctets.Pushing.{AllByRecursion-append, HoldsCasedLabels-frames, frames_push}
+use Rattle.zone_name.proofs.Spelling.Spelled.{AreShort, Says}
+use Rattle.zone_name.proofs.Spelling.Answered.{reading-says_ok, labels-says_ok}
+use Rattle.zone_name.proofs.Texts.Bare.{plain_text}
+
+-- ---- one label more
+
+-- each of the octets at the beginning is plain
+abbrev pub ArePlain : List ℕ → ℕ → Type 0
+ArePlain text len = (k : ℕ) → k < len → IsUnit is_dot (plain (get_or text k 0))
+
+plain_each : (len : ℕ) (text : List ℕ) → ArePlain text len
+    → AllByRecursion (IsUnit is_dot) (map plain (take len text))
+plain_each zero text each = tt
+plain_each (suc len) [] each = tt
+plain_each (suc len) (c ∷ text) each =
+    (each 0 (omega arith), plain_each len text (λ k h. each (suc k) (omega (arith, h))))
+
+plain_octets : (text : List ℕ) → written_octets (map plain text) ≡ text
+plain_octets [] = refl
+plain_octets (c ∷ text) = ap (λ t. c ∷ t) (plain_octets text)
+
+-- a label of plain octets, whose length takes the place of the dot before it
+lengths_label : (old now next label rest : List ℕ) (start : ℕ)
+    → WritesLengths old now (46 ∷ (label ++ rest)) → AllByRecursion (IsUnit is_dot) (map plain label)
+    → 0 < length label → length label ≤ 63 → length now ≡ start + length (46 ∷ (label ++ rest))
+    → next ≡ set now start (length label) → WritesLengths old next rest
+lengths_label old now next label rest start w each some short at is =
+    let new : List Written = map plain label in
+    let all = w.written ++ new ∷ [] in
+    let dots = after_dots w.written in
+    let frames = flat_map with_length (map written_octets w.written) in
+    let front : length frames ≡ start = omega (arith, ap length w.lengths, length-append frames (46 ∷ (label ++ rest))) in
+    record {
+      written = all;
+      each = AllByRecursion-append IsWrittenLabel w.written (new ∷ []) w.each
+          (record { some = omega (arith, some, length-map label plain); each = each }, tt);
+      short = AllByRecursion-append (λ l. length l ≤ 63) w.written (new ∷ []) w.short
+          (omega (arith, short, length-map label plain), tt);
+      dots = cc (plain_text label, append_assoc dots (46 ∷ written_text new) rest, append-nil (46 ∷ written_text new), flat_map-append (λ (l : List Written). 46 ∷ written_text l) w.written (new ∷ []));
+      lengths = cc (set_at frames 46 (label ++ rest) (length label) start front, append_assoc frames (with_length label) rest, frames_push (map written_octets w.written) label, plain_octets label, map_push written_octets w.written new);
+    }
+
+-- ---- octets that are seen to be plain, 16 at a time
+
+abbrev is_mark : ℕ → Bool
+is_mark c = is_dot c || c == 92
+
+plain_unit : (c : ℕ) → is_plain c ≡ true → IsUnit is_dot (plain c)
+plain_unit c e = let parts = or_parts (is_dot c) (c == 92) (not-true (is_mark c) e) in (parts.0, eqb-false c 92 parts.1)
+
+-- each octet from one place to another is plain
+abbrev pub ArePlainFrom : List ℕ → ℕ → ℕ → Type 0
+ArePlainFrom octets start end =
+    (k : ℕ) → start ≤ k → k < end → is_plain (get_or octets k 0) ≡ true
+
+pub no_octets : (octets : List ℕ) (start : ℕ) → ArePlainFrom octets start start
+no_octets octets start k from to = absurd (omega (arith, from, to))
+
+-- those before the first mark of some that are looked at
+pub record PlainRun (octets : List ℕ) (start at n run : ℕ) : Type 0 where
+  pub within : run ≤ n
+  pub each : ArePlainFrom octets start (at + run)
+  pub stops : run < n → is_plain (get_or octets (at + run) 0) ≡ false
+
+pub plain_more : (octets : List ℕ) (start at n run : ℕ) → ArePlainFrom octets start at
+    → at + n ≤ length octets → run ≡ prefix_len is_plain (chunk at n octets)
+    → PlainRun octets start at n run
+plain_more octets start at n run before room counted = record {
+  within = run_in_chunk_le is_mark octets at n run 0 room counted;
+  each = λ k from to. elim (cases_lt k at) [
+    | inl early ↦ before k from early
+    | inr late ↦ ap not (run_in_chunk_fails is_mark octets at n run 0 room counted k late to)
+  ];
+  stops = λ short. ap not (run_in_chunk_stops is_mark octets at n run 0 room counted short);
+}
+
+-- the label after a dot, by its place
+plain_after : (octets : List ℕ) (start end : ℕ) → ArePlainFrom octets (start + 1) end
+    → ArePlain (drop (start + 1) octets) (end - start - 1)
+plain_after octets start end each k h =
+    subst (λ c. IsUnit is_dot (plain c)) (sym (get_or-drop (start + 1) octets k 0))
+    (plain_unit (get_or octets (start + 1 + k) 0) (each (start + 1 + k) (omega arith) (omega (arith, h))))
+
+-- the rest, as it is cut off at its place
+cut_at : (old next rest : List ℕ) (n : ℕ) → WritesLengths old next rest → length next ≡ n + length rest
+    → WritesLengths old next (drop n next)
+cut_at old next rest n w e = grind (arith, length-append, drop_at)
+
+pub lengths_more : (old now next : List ℕ) (start len : ℕ) → WritesLengths old now (drop start now)
+    → start < length now → get_or now start 0 ≡ 46 → ArePlain (drop (start + 1) now) len
+    → len ≤ length (drop (start + 1) now) → 0 < len → len ≤ 63 → next ≡ set now start len
+    → WritesLengths old next (drop (start + (len + 1)) next)
+lengths_more old now next start len w inside dot each fits some short is =
+    let tail = drop (start + 1) now in
+    let label = take len tail in
+    let rest = drop len tail in
+    let count = length-take-le len tail fits in
+    let left = drop_more now start 0 inside ∙ ap (λ c. c ∷ tail) dot ∙ ap (λ t. 46 ∷ t) (sym (take-append-drop len tail)) in
+    cut_at old next rest (start + (len + 1)) (lengths_label old now next label rest start (rw left at w) (plain_each len tail each) (omega (arith, some, count)) (omega (arith, short, count)) (omega (arith, inside, length-drop start now, ap length left)) (cc)) (omega (arith, inside, fits, ap length is, length-set now start len, length-drop (start + 1) now, length-drop len tail))
+
+-- the same, of a label that ends at a place
+pub lengths_next : (old now next : List ℕ) (start end : ℕ) → WritesLengths old now (drop start now)
+    → start < length now → get_or now start 0 ≡ 46 → ArePlainFrom now (start + 1) end
+    → end ≤ length now → 0 < end - start - 1 → end - start - 1 ≤ 63
+    → next ≡ set now start (end - start - 1) → WritesLengths old next (drop end next)
+lengths_next old now next start end w inside dot each back some short is =
+    let len = end - start - 1 in
+    let at : start + (len + 1) ≡ end = omega (arith, some) in
+    let fits : len ≤ length (drop (start + 1) now) =
+    omega (arith, back, inside, length-drop (start + 1) now) in
+    subst (λ n. WritesLengths old next (drop n next)) at
+    (lengths_more old now next start len w inside dot (plain_after now start end each) fits some short is)
+
+-- what was put after the first octet of the room for it
+pub laid : (rest front now : List ℕ) → length front ≤ length rest → now ≡ put_chunk 1 (46 ∷ rest) front
+    → take (length front + 1) now ≡ 46 ∷ front
+laid rest front now fits e =
+    ap (take (length front + 1)) e
+    ∙ take_more_put_chunk 1 (46 ∷ rest) front (length front + 1) (omega arith) (omega (arith, fits))
+
+-- the front, where the labels end
+pub lengths_front : (old new : List ℕ) (len : ℕ) → WritesLengths old new (drop len new)
+    → len ≤ length new → length old ≡ length new → WritesLengths (take len old) (take len new) []
+lengths_front old new len w fits same =
+    let dots = after_dots w.written in
+    let frames = flat_map with_length (map written_octets w.written) in
+    let count = length-drop len new in
+    let first : length dots ≡ len =
+    omega (arith, same, fits, count, ap length w.dots, length-append dots (drop len new)) in
+    let second : length frames ≡ len =
+    omega (arith, fits, count, ap length w.lengths, length-append frames (drop len new)) in
+    record {
+      written = w.written;
+      each = w.each;
+      short = w.short;
+      dots = ap (take len) w.dots ∙ take_at dots (drop len new) len first ∙ sym (append-nil dots);
+      lengths = ap (take len) w.lengths ∙ take_at frames (drop len new) len second
+          ∙ sym (append-nil frames);
+    }
+
+-- ---- the whole text
+
+dots-parted : (label : List Written) (labels : List (List Written))
+    → after_dots (label ∷ labels) ≡ 46 ∷ parted (label ∷ labels)
+dots-parted label [] = append-nil (46 ∷ written_text label)
+dots-parted label (next ∷ labels) = cc (dots-parted next labels)
+
+parted-dotted : (label : List Written) (labels : List (List Written))
+    → parted (label ∷ labels) ++ 46 ∷ [] ≡ dotted (label ∷ labels)
+parted-dotted label [] = sym (append-nil (written_text label ++ 46 ∷ []))
+parted-dotted label (next ∷ labels) = grind (arith, append_assoc, parted-dotted next labels)
+
+-- a text, and what of it stands before a dot at its end
+abbrev pub IsCut : List ℕ → List ℕ → Bool → Type 0
+IsCut text front true = text ≡ front ++ 46 ∷ []
+IsCut text front false = text ≡ front
+
+pub cut_suffix : (text front : List ℕ) → pointwise nat_eq (drop (length text - 1) text) (46 ∷ []) ≡ true
+    → front ≡ take (length text - 1) text → text ≡ front ++ 46 ∷ []
+cut_suffix text front dot e = cc (take-append-drop (length text - 1) text, ap₂ (λ (s t : List ℕ). s ++ t) (sym e) ((bytes_decides (drop (length text - 1) text) (46 ∷ [])).0 dot))
+
+says_by : (text front : List ℕ) (is_absolute : Bool) (written : List (List Written))
+    → IsCut text front is_absolute → AllByRecursion IsWrittenLabel written → AreShort written
+    → 46 ∷ front ≡ after_dots written → Says text (Ok (kept written, is_absolute))
+says_by text front is_absolute [] cut each short dots = absurd (cc)
+says_by text front true (label ∷ labels) cut each short dots =
+    let same : front ≡ parted (label ∷ labels) = cc (dots-parted label labels) in
+    record {
+      written = label ∷ labels;
+      are = record { some = omega arith; each = each };
+      short = short;
+      text_is = cc (parted-dotted label labels);
+      labels_are = refl;
+    }
+says_by text front false (label ∷ labels) cut each short dots =
+    let same : front ≡ parted (label ∷ labels) = cc (dots-parted label labels) in
+    record {
+      written = label ∷ labels;
+      are = record { some = omega arith; each = each };
+      short = short;
+      text_is = cut ∙ same;
+      labels_are = refl;
+    }
+
+-- what was read into octets, and what the text reads as
+pub record PlainRead (text new : List ℕ) (is_absolute : Bool) : Type 0 where
+  pub labels : List (List ℕ)
+  pub holds : HoldsCasedLabels new
+  pub reads : reading text ≡ Ok (labels, is_absolute)
+  pub are : labels_of new ≡ labels
+
+plain_read : (text front old new : List ℕ) (is_absolute : Bool) → IsCut text front is_absolute
+    → AreOctets text → old ≡ 46 ∷ front → WritesLengths old new [] → length old + 1 ≤ 255
+    → length new ≡ length old → PlainRead text new is_absolute
+plain_read text front old new is_absolute cut octets start w room same =
+    let labels = kept w.written in
+    let says = says_by text front is_absolute w.written cut w.each w.short
+    (cc (append-nil (after_dots w.written))) in
+    let frames : new ≡ flat_map with_length labels = w.lengths ∙ append-nil (flat_map with_length labels) in
+    let name : IsCasedName labels = record {
+      each = labels-says_ok text labels is_absolute octets says;
+      short = omega (arith, room, same, ap length frames, length-append (flat_map with_length labels) (0 ∷ []));
+    } in
+    grind (arith, HoldsCasedLabels-frames, reading-says_ok, labels_of-open_cased)
+
+-- the same, in the front of the room that the labels were put in after a dot
+pub plain_room : (text front rest before after : List ℕ) (is_absolute : Bool)
+    → IsCut text front is_absolute → AreOctets text → length front + 17 ≤ length before
+    → length before ≤ 255 → length after ≡ length before → length (46 ∷ rest) ≡ length before
+    → before ≡ put_chunk 1 (46 ∷ rest) front
+    → WritesLengths before after (drop (length front + 1) after)
+    → PlainRead text (take (length front + 1) after) is_absolute
+plain_room text front rest before after is_absolute cut octets fits room same long put w =
+    let len = length front + 1 in
+    let first : take len before ≡ 46 ∷ front = laid rest front before (omega (arith, fits, long)) put in
+    let count : length (take len after) ≡ length (take len before) =
+    length-take-le len after (omega (arith, fits, same))
+    ∙ sym (length-take-le len before (omega (arith, fits))) in
+    plain_read text front (take len before) (take len after) is_absolute cut octets first
+    (lengths_front before after len w (omega (arith, fits, same)) (sym same))
+    (omega (arith, fits, room, ap length first)) count

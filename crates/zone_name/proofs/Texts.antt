@@ -1,0 +1,6 @@
+-- The canonical text of names.
+pub mod Bare
+pub mod Lawful
+pub mod Lengths
+pub mod Printing
+pub mod Sinks

@@ -1,0 +1,151 @@
+-- What is proved of every kind of field, and what kinds share.
+use Rattle.zone_rdata.proofs.Common.{[], List, Option, Some, arith, decimal, drop, get_or, inl, inr, length, length-append, refl, subst, take, true, ℕ, ◌++◌, ◌+◌, ◌*◌, ◌<◌, ◌^◌, ◌∷◌, ◌≡◌, ◌≢◌, ◌≤◌, ◌⊎◌, AllByRecursion, IfSome, cases_lt, false≢true, take-append-drop, Labels, IsName, SpellingFault, Spells, is_digit, Fault, Field, FitsString, FieldValue, Holds, IsFieldFault, IsSent, SpellsField, Suits, field_at, field_items, field_octets, field_text, items_after, own_items, IsGeneric, RawItem, bare, quoted, IsSized, AppendsPrefix, AppendsValue, BeginsWithNone, BeginsWithValue, IsReal, part_field, item_text, common_steps, name_text, NameFault, BadRdata, Name, OneString, Strings}
+use Rattle.zone_name.specs.Text.{name_text}
+use Rattle.zone_name.specs.declared.fault.NameFault.{NameFault}
+use Rattle.zone_rdata.specs.declared.fault.Fault.TheVariants.{BadRdata}
+use Rattle.zone_rdata.specs.declared.field.Field.TheVariants.{Name, OneString, Strings}
+use Rattle.zone_rdata.proofs.Choices.{Choice}
+use Rattle.zone_rdata.proofs.Items.GenericLaws.{decimal-is}
+use Rattle.zone_rdata.proofs.Texts.Standing.{IsPrintedItem}
+
+-- ---- what the crate of names proves of them
+
+-- a text spells at most one name
+abbrev pub NamesOnce : Type 0
+NamesOnce = (origin : Option (List (List ℕ))) (text : List ℕ) (a b : Labels) → Spells origin text a → Spells origin text b → a ≡ b
+
+-- a text that has a first fault spells no name
+abbrev pub NamesNever : Type 0
+NamesNever = (origin : Option (List (List ℕ))) (text : List ℕ) (labels : Labels) (fault : NameFault) → Spells origin text labels → SpellingFault origin text fault → ⊥
+
+-- a text has at most one first fault
+abbrev pub NameFaultOnce : Type 0
+NameFaultOnce = (origin : Option (List (List ℕ))) (text : List ℕ) (f g : NameFault) → SpellingFault origin text f → SpellingFault origin text g → f ≡ g
+
+-- a text of octets spells a name under an origin or has a first fault
+abbrev pub NameOrFault : Type 0
+NameOrFault = (origin : Option (List (List ℕ))) (text : List ℕ) → IfSome origin IsName → AllByRecursion (λ c. c < 256) text → ((labels : Labels) × Spells origin text labels) ⊎ ((fault : NameFault) × SpellingFault origin text fault)
+
+-- a name that is printed is spelled under any origin
+abbrev pub NamesPrinted : Type 0
+NamesPrinted = (origin : Option (List (List ℕ))) (labels : Labels) → IsName labels → Spells origin (name_text labels) labels
+
+-- ---- octets below 256
+
+abbrev pub AreLow : List ℕ → Type 0
+AreLow octets = AllByRecursion (λ c. c < 256) octets
+
+abbrev pub AreLowItems : List RawItem → Type 0
+AreLowItems items = AllByRecursion (λ item. AreLow (item_text item)) items
+
+pub low_at : (octets : List ℕ) → AreLow octets → (i : ℕ) → get_or octets i 0 < 256
+low_at octets low i = grind (arith, common_steps)
+
+pub low_take : (n : ℕ) (octets : List ℕ) → AreLow octets → AreLow (take n octets)
+low_take n octets low = grind (arith, common_steps)
+
+pub low_drop : (n : ℕ) (octets : List ℕ) → AreLow octets → AreLow (drop n octets)
+low_drop n octets low = grind (arith, common_steps)
+
+-- ---- the laws of a kind
+
+-- items spell a value of the field or have a fault
+abbrev pub FieldChoice : List (List ℕ) → Field → List RawItem → Type 0
+FieldChoice origin f items = ((value : FieldValue) × SpellsField origin f items value) ⊎ ((fault : Fault) × IsFieldFault origin f items fault)
+
+-- octets begin with a value of the field or with none
+abbrev pub FrontChoice : Field → List ℕ → Type 0
+FrontChoice f octets = ((value : FieldValue) × ((rest : List ℕ) × BeginsWithValue f octets value rest)) ⊎ BeginsWithNone f octets
+
+-- the laws of a kind whose values are `value` of something and spelled by `items` of something
+pub record FieldLaws {X I : Type 0} (f : Field) (value : X → FieldValue) (items : I → List RawItem) : Type 0 where
+  -- it holds no other value, and no other items spell one
+  pub only : (v : FieldValue) → Holds f v → (x : X) × (v ≡ value x)
+  pub opens : (origin : Labels) (all : List RawItem) (v : FieldValue) → SpellsField origin f all v → (i : I) × (x : X) × (all ≡ items i) × (v ≡ value x)
+  -- a part for it is a value, of one octet at least
+  pub part : (v : FieldValue) → Suits (Some f) v → FitsString v → IsReal v → Holds (part_field f) v × (0 < length (field_octets v))
+  -- its octets are read back, are octets, and few
+  pub back : (x : X) (rest : List ℕ) → Holds f (value x) → (f ≡ Strings → rest ≡ []) → field_at f (field_octets (value x) ++ rest) ≡ value x
+  pub low : (x : X) → Holds f (value x) → AreLow (field_octets (value x))
+  pub short : (x : X) → f ≢ Strings → IsSized f → Holds f (value x) → length (field_octets (value x)) ≤ 256
+  pub front : (octets : List ℕ) → AreLow octets → FrontChoice f octets
+  -- items spell a value that it holds, and one alone, or have a fault
+  pub holds : (origin : Labels) (i : I) (x : X) → SpellsField origin f (items i) (value x) → Holds f (value x)
+  pub once : NamesOnce → (origin : Labels) (i : I) (x y : X) → SpellsField origin f (items i) (value x) → SpellsField origin f (items i) (value y) → x ≡ y
+  pub never : NamesNever → (origin : Labels) (i : I) (x : X) (fault : Fault) → SpellsField origin f (items i) (value x) → IsFieldFault origin f (items i) fault → ⊥
+  pub or_fault : NameOrFault → (origin : Labels) → IsName origin → (all : List RawItem) → AreLowItems all → FieldChoice origin f (own_items f all)
+  -- the items that are printed spell the value, stand in a file as they are, and are not in the
+  -- generic form
+  pub printed : NamesPrinted → (origin : Labels) (x : X) (rest : List RawItem) → IsSized f → Holds f (value x) → (f ≡ Strings → rest ≡ []) → SpellsField origin f (own_items f (field_items (value x) ++ rest)) (value x) × (items_after f (field_items (value x) ++ rest) ≡ rest)
+  pub stands : (x : X) → IsSized f → Holds f (value x) → AllByRecursion IsPrintedItem (field_items (value x))
+  pub unmarked : (x : X) (rest : List RawItem) → IsSized f → Holds f (value x) → IsGeneric (field_items (value x) ++ rest) → ⊥
+  -- its text and a space have at most four octets for each of its own
+  pub few : (x : X) → IsSized f → Holds f (value x) → length (field_text (value x)) + 1 ≤ 4 * length (field_octets (value x))
+
+-- ---- one bare item
+
+abbrev pub bare_item : List ℕ → List RawItem
+bare_item text = bare text ∷ []
+
+no_item : (origin : Labels) (f : Field) → IsFieldFault origin f [] BadRdata
+no_item origin f = grind arith
+
+quoted_item : (origin : Labels) (f : Field) (text : List ℕ) → f ≢ Strings → f ≢ OneString → IsFieldFault origin f (quoted text ∷ []) BadRdata
+quoted_item origin f text many one = grind arith
+
+pub bare_or_fault : (origin : Labels) (f : Field) → f ≢ Strings → f ≢ OneString → ((text : List ℕ) → AreLow text → FieldChoice origin f (bare text ∷ [])) → (items : List RawItem) → AreLowItems items → FieldChoice origin f (take 1 items)
+bare_or_fault origin f many one own [] low = inr (BadRdata, no_item origin f)
+bare_or_fault origin f many one own (quoted text ∷ items) low = inr (BadRdata, quoted_item origin f text many one)
+bare_or_fault origin f many one own (bare text ∷ items) low = own text low.0
+
+pub value_or_fault : {X : Type 0} (origin : Labels) (f : Field) (text : List ℕ) (value : X → FieldValue) (own : Fault) (Stated : X → Type 0) → ((x : X) → Stated x → SpellsField origin f (bare text ∷ []) (value x)) → (((x : X) → Stated x → ⊥) → IsFieldFault origin f (bare text ∷ []) own) → Choice Stated → FieldChoice origin f (bare text ∷ [])
+value_or_fault origin f text value own Stated spelt bad h = grind arith
+
+-- the mark of the generic form as a text
+abbrev pub mark : List ℕ
+mark = 92 ∷ 35 ∷ []
+
+pub mark_text : (text : List ℕ) (items : List RawItem) → IsGeneric (bare text ∷ items) → text ≡ mark
+mark_text text items g = cc g.1
+
+pub number_unmarked : (n : ℕ) → n < 2 ^ 64 → decimal n ≡ mark → ⊥
+number_unmarked n fits e = false≢true (subst (λ t. AllByRecursion (λ c. is_digit c ≡ true) t) e (decimal-is n fits).digits).0
+
+-- ---- values that are sent as they are kept: all but names
+
+pub plain_front : (f : Field) (v : FieldValue) (front : List ℕ) → f ≢ Name → Holds f v → IsSent v front → front ≡ field_octets v
+plain_front f v front other h s = grind arith
+
+plain_sent : (f : Field) (v : FieldValue) (front : List ℕ) → f ≢ Name → Holds f v → front ≡ field_octets v → IsSent v front
+plain_sent f v front other h s = grind arith
+
+-- so many octets at the beginning of octets are a value, and appended
+pub appends_plain : (f : Field) (octets rest old new : List ℕ) (count : ℕ) (v : FieldValue) → f ≢ Name → Holds f v → take count octets ≡ field_octets v → (f ≡ Strings → rest ≡ []) → AppendsPrefix count octets rest old new → AppendsValue f octets rest old new
+appends_plain f octets rest old new count v other held is last grows = grind (arith, plain_sent f v (take count octets) other held is, take-append-drop count octets)
+
+pub found_front : (f : Field) (octets rest new : List ℕ) → AppendsValue f octets rest [] new → FrontChoice f octets
+found_front f octets rest new grows = inl (grows.value, (rest, grows.begins))
+
+pub front_of : (count : ℕ) (octets : List ℕ) → count ≤ length octets → AppendsPrefix count octets (drop count octets) [] (take count octets)
+front_of count octets fits = record { fits = fits; following = refl; written = refl }
+
+-- ---- kinds of a fixed number of octets
+
+pub record SizedField {X : Type 0} (f : Field) (value : X → FieldValue) (count : ℕ) : Type 0 where
+  pub plain : f ≢ Name
+  pub single : f ≢ Strings
+  pub only : (v : FieldValue) → Holds f v → (x : X) × (v ≡ value x)
+  pub size : (x : X) → Holds f (value x) → length (field_octets (value x)) ≡ count
+  pub read : (octets : List ℕ) → AreLow octets → length octets ≡ count → (x : X) × Holds f (value x) × (octets ≡ field_octets (value x))
+
+pub appends_sized : {X : Type 0} {value : X → FieldValue} (f : Field) (count : ℕ) → SizedField f value count → (octets rest old new : List ℕ) → AreLow octets → AppendsPrefix count octets rest old new → AppendsValue f octets rest old new
+appends_sized {value = value} f count sized octets rest old new low grows = grind (arith, common_steps)
+
+pub none_sized : {X : Type 0} {value : X → FieldValue} (f : Field) (count : ℕ) → SizedField f value count → (octets : List ℕ) → length octets < count → BeginsWithNone f octets
+none_sized {value = value} f count sized octets few v rest b = grind (arith, plain_front, length-append)
+
+pub sized_front : {X : Type 0} {value : X → FieldValue} (f : Field) (count : ℕ) → SizedField f value count → (octets : List ℕ) → AreLow octets → FrontChoice f octets
+sized_front f count sized octets low = elim (cases_lt (length octets) count) [
+  | inl few ↦ inr (none_sized f count sized octets few)
+  | inr fits ↦ found_front f octets (drop count octets) (take count octets) (appends_sized f count sized octets (drop count octets) [] (take count octets) low (front_of count octets fits))
+]

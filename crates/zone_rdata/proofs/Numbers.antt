@@ -1,0 +1,5 @@
+-- Decimal numbers and times.
+pub mod Decimal
+pub mod TimeChoice
+pub mod TimeLaws
+pub mod Times

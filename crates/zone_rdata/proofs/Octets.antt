@@ -1,0 +1,9 @@
+-- Data as octets: read, made and taken field after field.
+pub mod Building
+pub mod Bytes
+pub mod Layouts
+pub mod Minima
+pub mod Sent
+pub mod StringFields
+pub mod Taken
+pub mod Wire

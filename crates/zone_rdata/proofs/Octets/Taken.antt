@@ -1,0 +1,133 @@
+-- Uncompressed octets, field after field.
+use Rattle.zone_rdata.proofs.Common.{[], Option, ◌≡◌, ℕ, ◌+◌, ◌<◌, ◌≤◌, List, ◌∷◌, ◌++◌, length, get_or, drop, Some, refl, sym, ap, ◌∙◌, subst, arith, append_assoc, inl, inr, length-append, append-nil, drop_all, length-map, Field, FieldValue, field_octets, octets_of, HoldEach, IsSent, StringsLast, layout, IsCanonicalOf, AreSent, IsUncompressed, BeginsWithValue, BeginsWithNone, AppendsValue, AllByRecursion-back, flat_map, folded_octet, folded_label, folded, with_length, common_steps}
+use Rattle.zone_rdata.proofs.Lists.{from_place}
+use Rattle.zone_rdata.proofs.Words.Tables.{table_row}
+use Rattle.zone_rdata.proofs.Fields.AnyField.{front_once, front_or_none}
+use Rattle.zone_rdata.proofs.Choices.{Choice, choice_as}
+use Rattle.zone_rdata.proofs.Fields.FieldLaws.{AreLow, FrontChoice}
+
+-- octets that are a value for each field, one after another, and their canonical octets
+abbrev pub Reads : List Field → List ℕ → List ℕ → Type 0
+Reads [] octets canonical = (octets ≡ []) × (canonical ≡ [])
+Reads (f ∷ row) octets canonical = (value : FieldValue) × ((rest more : List ℕ) × BeginsWithValue f octets value rest × (canonical ≡ field_octets value ++ more) × Reads row rest more)
+
+reads_by : (row : List Field) (values : List FieldValue) (octets : List ℕ) → StringsLast row → HoldEach row values → AreSent values octets → Reads row octets (octets_of values)
+reads_by [] [] octets last held sent = (sent, refl)
+reads_by (f ∷ []) (v ∷ []) octets last held sent = grind arith
+reads_by (f ∷ []) (v ∷ w ∷ values) octets last held sent = absurd held.1
+reads_by (f ∷ g ∷ row) (v ∷ values) octets last held sent = grind (arith, reads_by (g ∷ row) values sent.1 last.1 held.1 sent.4)
+reads_by row values octets last held sent = absurd held
+
+pub to_reads : (row : List Field) (octets canonical : List ℕ) → StringsLast row → IsUncompressed row octets canonical → Reads row octets canonical
+to_reads row octets canonical last u = subst (Reads row octets) (sym u.whole) (reads_by row u.values octets last u.held u.sent)
+
+pub from_reads : (row : List Field) (octets canonical : List ℕ) → Reads row octets canonical → IsUncompressed row octets canonical
+from_reads [] octets canonical r = record { values = []; held = tt; sent = r.0; whole = r.1 }
+from_reads (f ∷ row) octets canonical r =
+    let n = r.1 in
+    let b = n.2 in
+    let rest = from_reads row n.0 n.1 n.4 in
+    record {
+      values = r.0 ∷ rest.values;
+      held = (b.held, rest.held);
+      sent = (b.front, n.0, b.sent, b.parts, rest.sent);
+      whole = n.3 ∙ ap (λ t. field_octets r.0 ++ t) rest.whole;
+    }
+
+reads_once : (row : List Field) (octets a b : List ℕ) → Reads row octets a → Reads row octets b → a ≡ b
+reads_once [] octets a b x y = x.1 ∙ sym y.1
+reads_once (f ∷ row) octets a b x y =
+    let same = front_once f octets x.0 y.0 x.1.0 y.1.0 x.1.2 y.1.2 in
+    let after = reads_once row y.1.0 x.1.1 y.1.1 (subst (λ r. Reads row r x.1.1) same.1 x.1.4) y.1.4 in
+    x.1.3 ∙ ap (λ v. field_octets v ++ x.1.1) same.0 ∙ ap (λ t. field_octets y.0 ++ t) after ∙ sym y.1.3
+
+-- octets have one canonical form in a layout of the table
+pub canonical-once : (class kind : ℕ) (row : List Field) (octets a b : List ℕ) → layout class kind ≡ Some row → IsUncompressed row octets a → IsUncompressed row octets b → a ≡ b
+canonical-once class kind row octets a b e x y =
+    let last = (table_row class kind row e).last in
+    reads_once row octets a b (to_reads row octets a last x) (to_reads row octets b last y)
+
+pub canonical_same : (class kind : ℕ) (laid : Option (List Field)) (octets a b : List ℕ) → laid ≡ layout class kind → IsCanonicalOf laid octets a → IsCanonicalOf laid octets b → a ≡ b
+canonical_same class kind laid octets a b e x y = grind (arith, canonical-once)
+
+-- the fields up to a place were read, and whatever the others read goes on from there
+pub record HaveTaken (row : List Field) (octets : List ℕ) (later : List Field) (rest out : List ℕ) : Type 0 where
+  pub leads : (more : List ℕ) → Reads later rest more → Reads row octets (out ++ more)
+  pub back : (whole : List ℕ) → Reads row octets whole → (more : List ℕ) × Reads later rest more × (whole ≡ out ++ more)
+
+taken_step : (row : List Field) (octets : List ℕ) (f : Field) (later : List Field) (rest after out new : List ℕ) → HaveTaken row octets (f ∷ later) rest out → AppendsValue f rest after out new → HaveTaken row octets later after new
+taken_step row octets f later rest after out new taken grows =
+    let v = grows.value in
+    record {
+      leads = λ more h.
+          subst (Reads row octets) (sym (ap (λ t. t ++ more) grows.written ∙ append_assoc out (field_octets v) more)) (taken.leads (field_octets v ++ more) (v, (after, more, grows.begins, refl, h)));
+      back = λ whole h.
+          let b = taken.back whole h in
+          let j = b.1 in
+          let n = j.1 in
+          let same = front_once f rest j.0 v n.0 after n.2 grows.begins in
+          (n.1, subst (λ r. Reads later r n.1) same.1 n.4, b.2 ∙ ap (λ t. out ++ t) (n.3 ∙ ap (λ u. field_octets u ++ n.1) same.0) ∙ sym (append_assoc out (field_octets v) n.1) ∙ ap (λ t. t ++ n.1) (sym grows.written));
+    }
+
+pub taken_more : (row : List Field) (octets : List ℕ) (i : ℕ) (f d : Field) (rest after out new : List ℕ) → i < length row → f ≡ get_or row i d → HaveTaken row octets (drop i row) rest out → AppendsValue f rest after out new → HaveTaken row octets (drop (i + 1) row) after new
+taken_more row octets i f d rest after out new lt found taken grows = grind (arith, common_steps, taken_step, from_place)
+
+pub taken_bad : (row own : List Field) (octets : List ℕ) (i : ℕ) (f d : Field) (rest out : List ℕ) → row ≡ own → StringsLast own → i < length row → f ≡ get_or row i d → HaveTaken row octets (drop i row) rest out → BeginsWithNone f rest → (canonical : List ℕ) → IsUncompressed own octets canonical → ⊥
+taken_bad row own octets i f d rest out same last lt found taken none canonical u =
+    let reads = to_reads row octets canonical (subst StringsLast (sym same) last) (subst (λ r. IsUncompressed r octets canonical) (sym same) u) in
+    let b = (subst (λ r. HaveTaken row octets r rest out) (from_place row i f d lt found) taken).back canonical reads in
+    none b.1.0 b.1.1.0 b.1.1.2
+
+nothing_later : (row : List Field) (octets : List ℕ) (i : ℕ) (rest out : List ℕ) → length row ≤ i → HaveTaken row octets (drop i row) rest out → HaveTaken row octets [] rest out
+nothing_later row octets i rest out past taken = subst (λ r. HaveTaken row octets r rest out) (drop_all i row past) taken
+
+pub taken_all : (row own : List Field) (octets : List ℕ) (i : ℕ) (rest out : List ℕ) → row ≡ own → length row ≤ i → HaveTaken row octets (drop i row) rest out → length rest ≡ 0 → IsUncompressed own octets out
+taken_all row own octets i rest out same past taken none =
+    subst (λ r. IsUncompressed r octets out) same
+    (from_reads row octets out (subst (Reads row octets) (append-nil out) ((nothing_later row octets i rest out past taken).leads [] (nil_is rest none, refl))))
+  where
+    nil_is : (xs : List ℕ) → length xs ≡ 0 → xs ≡ []
+    nil_is [] e = refl
+    nil_is (x ∷ xs) e = absurd (omega arith)
+
+pub taken_over : (row own : List Field) (octets : List ℕ) (i : ℕ) (rest out : List ℕ) → row ≡ own → StringsLast own → length row ≤ i → HaveTaken row octets (drop i row) rest out → 0 < length rest → (canonical : List ℕ) → IsUncompressed own octets canonical → ⊥
+taken_over row own octets i rest out same last past taken some canonical u =
+    let reads = to_reads row octets canonical (subst StringsLast (sym same) last) (subst (λ r. IsUncompressed r octets canonical) (sym same) u) in
+    grind (arith, common_steps)
+
+-- ---- as many octets are kept as are sent
+length_frames_folded : (sent : List (List ℕ)) → length (flat_map with_length (folded sent)) ≡ length (flat_map with_length sent)
+length_frames_folded [] = refl
+length_frames_folded (label ∷ sent) = omega (arith, length-append (folded_label label) (flat_map with_length (folded sent)), length-append label (flat_map with_length sent), length-map label folded_octet, length_frames_folded sent)
+
+sent_length : (v : FieldValue) (front : List ℕ) → IsSent v front → length (field_octets v) ≡ length front
+sent_length v front s = grind (arith, length_frames_folded, length-append)
+
+are_sent_length : (values : List FieldValue) (octets : List ℕ) → AreSent values octets → length (octets_of values) ≡ length octets
+are_sent_length [] octets s = ap length (sym s)
+are_sent_length (v ∷ values) octets s = omega (arith, sent_length v s.0 s.2, are_sent_length values s.1 s.4, ap length s.3, length-append s.0 s.1, length-append (field_octets v) (octets_of values))
+
+pub uncompressed_length : (fields : List Field) (octets canonical : List ℕ) → IsUncompressed fields octets canonical → length canonical ≡ length octets
+uncompressed_length fields octets canonical u = ap length u.whole ∙ are_sent_length u.values octets u.sent
+
+-- ---- octets have a canonical form in a layout or none
+after_value : (f : Field) (row : List Field) (octets : List ℕ) (value : FieldValue) (rest : List ℕ) → BeginsWithValue f octets value rest → Choice (Reads row rest) → Choice (Reads (f ∷ row) octets)
+after_value f row octets value rest begins (inl found) = inl (field_octets value ++ found.0, (value, (rest, found.0, begins, refl, found.1)))
+after_value f row octets value rest begins (inr none) = inr (λ canonical h. none h.1.1 (subst (λ r. Reads row r h.1.1) (front_once f octets h.0 value h.1.0 rest h.1.2 begins).1 h.1.4))
+
+first_value : (f : Field) (row : List Field) (octets : List ℕ) → AreLow octets → FrontChoice f octets → ((rest : List ℕ) → AreLow rest → Choice (Reads row rest)) → Choice (Reads (f ∷ row) octets)
+first_value f row octets low (inr none) others = inr (λ canonical h. none h.0 h.1.0 h.1.2)
+first_value f row octets low (inl found) others =
+    let begins = found.1.1 in
+    after_value f row octets found.0 found.1.0 begins (others found.1.0 (AllByRecursion-back _ begins.front found.1.0 (subst AreLow begins.parts low)))
+
+nothing_left : (octets : List ℕ) → Choice (Reads [] octets)
+nothing_left [] = inl ([], (refl, refl))
+nothing_left (c ∷ octets) = inr (λ canonical h. absurd (omega (arith, ap length h.0)))
+
+reads_or_not : (row : List Field) (octets : List ℕ) → AreLow octets → Choice (Reads row octets)
+reads_or_not [] octets low = nothing_left octets
+reads_or_not (f ∷ row) octets low = first_value f row octets low (front_or_none f octets low) (λ rest below. reads_or_not row rest below)
+
+pub canonical_or_not : (class kind : ℕ) (row : List Field) (octets : List ℕ) → layout class kind ≡ Some row → AreLow octets → Choice (IsUncompressed row octets)
+canonical_or_not class kind row octets e low = choice_as (λ canonical. canonical) (from_reads row octets) (λ none canonical u. none canonical (to_reads row octets canonical (table_row class kind row e).last u)) (reads_or_not row octets low)

@@ -1,0 +1,71 @@
+-- The text of data, field after field.
+use Rattle.zone_rdata.proofs.Common.{[], ◌≡◌, ◌∙◌, ◌≤◌, take-append-drop, ℕ, zero, suc, ◌+◌, ◌<◌, List, ◌∷◌, ◌++◌, length, get_or, take, drop, map, refl, sym, ap, arith, append_assoc, Some, OnOk, IsOk, encode_lower, flat_map, join_with_byte, take_at, drop_at, append-nil, take_more, Field, field_at, values_of, field_text, AreLaidOut, BeginsWithField, after_field, spaced, generic_head, laid_out_text, generic_text, common_steps, Result}
+use Rattle.hex.specs.Hex.{encode_with}
+use Rattle.zone_rdata.proofs.Lists.{from_place}
+
+-- octets of a layout begin with its first field, and go on with the others
+pub first_field : (f : Field) (row : List Field) (octets : List ℕ) → AreLaidOut (f ∷ row) octets → BeginsWithField f octets × AreLaidOut row (after_field f octets)
+first_field f row octets laid = grind (arith, drop_at, take_at)
+
+-- what is left to print: the texts one after another, each but the very first with a space before
+-- it
+abbrev pub still : ℕ → List (List ℕ) → List ℕ
+still zero texts = join_with_byte 32 texts
+still (suc i) texts = flat_map (λ t. 32 ∷ t) texts
+
+pub joined_more : (text : List ℕ) (texts : List (List ℕ)) → join_with_byte 32 (text ∷ texts) ≡ text ++ flat_map (λ t. 32 ∷ t) texts
+joined_more text [] = sym (append-nil text)
+joined_more text (next ∷ texts) = ap (λ t. text ++ 32 ∷ t) (joined_more next texts)
+
+still_more : (i : ℕ) (text : List ℕ) (texts : List (List ℕ)) → still i (text ∷ texts) ≡ spaced i text ++ still (suc i) texts
+still_more i text texts = grind (arith, joined_more)
+
+-- a space, and the text after it
+spaced_text : (i : ℕ) (text : List ℕ) → spaced i [] ++ text ≡ spaced i text
+spaced_text i text = grind arith
+
+-- the fields up to a place are printed: the rest is laid out, and its text is what is left of the
+-- whole
+pub record HavePrinted (row : List Field) (whole : List ℕ) (i : ℕ) (rest text : List ℕ) : Type 0 where
+  pub laid : AreLaidOut (drop i row) rest
+  pub left : laid_out_text (Some row) whole ≡ text ++ still i (map field_text (values_of (drop i row) rest))
+
+pub printed_more : (row : List Field) (whole rest text after : List ℕ) (i : ℕ) (f d : Field) → i < length row → f ≡ get_or row i d → HavePrinted row whole i rest text → after ≡ after_field f rest → HavePrinted row whole (i + 1) after (text ++ (spaced i [] ++ field_text (field_at f rest)))
+printed_more row whole rest text after i f d lt at so_far is = grind (arith, common_steps, from_place, first_field, still_more, append_assoc, spaced_text)
+
+pub generic_whole : (octets : List ℕ) → generic_head octets ++ encode_lower octets ≡ generic_text octets
+unfolding encode_with
+generic_whole octets = grind (arith, append_assoc)
+
+encode_append : (front rest : List ℕ) → encode_lower (front ++ rest) ≡ encode_lower front ++ encode_lower rest
+unfolding encode_with
+encode_append [] rest = refl
+encode_append (c ∷ front) rest = cc (encode_append front rest)
+
+-- octets up to a place are written in digits
+pub record HaveDigits (whole rest text : List ℕ) : Type 0 where
+  pub left : encode_lower whole ≡ text ++ encode_lower rest
+
+pub digits_more : (whole rest text part after : List ℕ) (n : ℕ) → part ≡ take n rest → after ≡ drop n rest
+    → HaveDigits whole rest text → HaveDigits whole after (text ++ encode_lower part)
+digits_more whole rest text part after n front back so_far =
+    let parts : encode_lower rest ≡ encode_lower part ++ encode_lower after =
+    rw (front, back) (ap encode_lower (sym (take-append-drop n rest)) ∙ encode_append (take n rest) (drop n rest)) in
+    record { left = cc (so_far.left, parts, append_assoc text (encode_lower part) (encode_lower after)) }
+
+pub digits_all : (whole rest text : List ℕ) → length rest ≤ 0 → HaveDigits whole rest text
+    → text ≡ encode_lower whole
+unfolding encode_with
+digits_all whole [] text none so_far = sym (so_far.left ∙ append-nil text)
+digits_all whole (c ∷ rest) text none so_far = absurd (omega (arith, none))
+
+-- one more octet in digits
+pub hex_more : (octets pair : List ℕ) (i c d : ℕ) → i < length octets → c ≡ get_or octets i d → pair ≡ encode_lower (c ∷ []) → encode_lower (take i octets) ++ pair ≡ encode_lower (take (i + 1) octets)
+hex_more octets pair i c d lt at is = cc (take_more octets i d lt, encode_append (take i octets) (c ∷ []))
+
+pub hex_started : [] ≡ encode_lower []
+unfolding encode_with
+hex_started = refl
+
+pub at_is_ok : {T E : Type 0} (r : Result T E) (P : Type 0) → IsOk r → OnOk r P → P
+at_is_ok r P h p = grind arith

@@ -1,0 +1,60 @@
+-- How many octets printed words and data have at most.
+use Rattle.zone_rdata.proofs.Common.{[], ◌≡◌, ℕ, ◌+◌, ◌*◌, ◌<◌, ◌≤◌, true, List, ◌∷◌, ◌++◌, length, map, nat_le, codes, decimal, Option, Some, None, refl, ap, arith, length-append, AllByRecursion, flat_map, join_with_byte, list_all, nat_tests, length-decimal-le, encode_lower, lower_digits, length-encode_with, Field, FieldValue, HoldEach, field_text, octets_of, values_of, IsLayout, IsSized, layout, laid_out_text, Data, IsRdata, Named, classes, type_names, mnemonic_among, data_text, generic_text, IsClass, IsKind, class_text, kind_text, laid_out_mnemonic, word_or_numbered}
+use Rattle.zone_rdata.proofs.Fields.AnyField.{field_few}
+use Rattle.zone_rdata.proofs.Octets.Layouts.{AreFor}
+use Rattle.zone_rdata.proofs.Words.Tables.{each_mnemonic, table_row}
+use Rattle.zone_rdata.proofs.Texts.TextItems.{data_written}
+use Rattle.zone_rdata.proofs.Texts.FieldTexts.{joined_more}
+
+-- ---- words
+
+-- a name of at most five octets and a number after it
+numbered_length : (name : List ℕ) (n : ℕ) → length name ≤ 5 → n < 65536 → length (name ++ decimal n) ≤ 10
+numbered_length name n few short = omega (arith, length-append name (decimal n), length-decimal-le 5 n (omega arith) (omega arith) (omega arith))
+
+word_length : (rows : List Named) (name : List ℕ) (row : Option (List ℕ)) (n : ℕ) → list_all (λ row. nat_le (length row.mnemonic) 10) rows ≡ true → length name ≤ 5 → mnemonic_among rows n ≡ row → n < 65536 → length (word_or_numbered row name n) ≤ 10
+word_length rows name None n all few e short = numbered_length name n few short
+word_length rows name (Some word) n all few e short = by (length word) (each_mnemonic (λ _ mnemonic. nat_le (length mnemonic) 10) rows all n word e)
+  where
+    by : (count : ℕ) → nat_le count 10 ≡ true → count ≤ 10
+    by count e = grind (arith, nat_tests)
+
+pub class_length : (n : ℕ) → IsClass n → length (class_text n) ≤ 10
+class_length n is = word_length classes (codes "CLASS") (mnemonic_among classes n) n refl (omega arith) refl is.short
+
+laid_out_length : (laid : Option (List Field)) (n : ℕ) → n < 65536 → length (word_or_numbered (laid_out_mnemonic laid n) (codes "TYPE") n) ≤ 10
+laid_out_length None n short = numbered_length (codes "TYPE") n (omega arith) short
+laid_out_length (Some fields) n short = word_length type_names (codes "TYPE") (mnemonic_among type_names n) n refl (omega arith) refl short
+
+pub kind_length : (class n : ℕ) → IsKind n → length (kind_text class n) ≤ 10
+kind_length class n is = laid_out_length (layout class n) n is.short
+
+-- ---- data
+
+-- the texts of values with a space before each
+each_few : (row : List Field) (values : List FieldValue) → AllByRecursion IsSized row → HoldEach row values → length (flat_map (λ t. 32 ∷ t) (map field_text values)) ≤ 4 * length (octets_of values)
+each_few [] [] sized h = omega arith
+each_few (f ∷ row) (v ∷ values) sized h = grind (arith, each_few row values sized.1 h.1, length-append, field_few)
+each_few row values sized h = absurd h
+
+joined_length : (texts : List (List ℕ)) → length (join_with_byte 32 texts) ≤ length (flat_map (λ t. 32 ∷ t) texts)
+joined_length [] = omega arith
+joined_length (text ∷ texts) = omega (arith, ap length (joined_more text texts))
+
+-- the mark, a number of at most five digits, two spaces, and two digits for each octet
+generic_length : (octets : List ℕ) → length octets ≤ 65535 → length (generic_text octets) ≤ 4 * length octets + 8
+generic_length [] short = omega arith
+generic_length (c ∷ octets) short =
+    let digits = encode_lower (c ∷ octets) in
+    let count = decimal (length (c ∷ octets)) in
+    omega (arith, length-append (codes "\\# " ++ count) (32 ∷ digits), length-append (codes "\\# ") count, length-encode_with lower_digits (c ∷ octets), length-decimal-le 5 (length (c ∷ octets)) (omega arith) (omega arith) (omega arith))
+
+text_length : (laid : Option (List Field)) (octets : List ℕ) → ((row : List Field) → laid ≡ Some row → IsLayout row) → length octets ≤ 65535 → AreFor laid octets → length (laid_out_text laid octets) ≤ 4 * length octets + 8
+text_length None octets table short value = generic_length octets short
+text_length (Some row) octets table short value =
+    let values = values_of row octets in
+    omega (arith, joined_length (map field_text values), each_few row values (table row refl).sized value.held, ap length value.whole)
+
+-- four for each octet of the data, and eight
+pub data_text_length : (d : Data) → IsRdata d → length (data_text d) ≤ 4 * length d.octets + 8
+data_text_length d is = grind (arith, data_written d is, text_length (layout d.class d.kind) d.octets (table_row d.class d.kind) is.octets.short is.octets.value)

@@ -1,0 +1,7 @@
+-- Records that are listed as they come, settled, and read back.
+pub mod ListPush
+pub mod Listing
+pub mod Looking
+pub mod Offering
+pub mod Repeats
+pub mod Taking

@@ -1,0 +1,58 @@
+-- Records that are listed as they come.
+use Rattle.zone_set.proofs.Common.{AddsEach, AllAccepted, AllByRecursion, AreCompatible, Entry, Fault, Has, IsRecord, IsRefusedFor, IsSettledAs, KeepsList, List, Place, Placed, Record, Refused, SameRecords, StopsSettling, [], all_records, arith, inl, inr, listed, records_of, refl, refused, subst, sym, ⊎_elim, ℕ, ◌++◌, ◌↔◌, ◌∷◌, ◌≡◌, ◌⊎◌}
+use Rattle.zone_set.proofs.Holding.Inserting.{AreCompatible-with}
+use Rattle.zone_set.proofs.Ordering.Neighbours.{AllAccepted-from_compatible}
+use Rattle.zone_set.specs.Builder as builder
+
+-- entries that were settled are of the records that were listed
+pub IsSettledAs-sorted : (class : ℕ) (base : List (List ℕ)) (octets : List ℕ) (es fs : List Entry) (places : List Place) (held : List Record) → KeepsList class base octets es places → SameRecords (all_records class octets fs) (all_records class octets es) → AreCompatible (all_records class octets fs) → held ≡ all_records class octets fs → IsSettledAs (listed class octets es places) held
+IsSettledAs-sorted class base octets es fs places held keeps same compatible is =
+    let placed = listed class octets es places in
+    let own : SameRecords (all_records class octets fs) (records_of placed) = subst (λ rs. SameRecords (all_records class octets fs) rs) (sym keeps.all) same in
+    record {
+      accepted = AllAccepted-from_compatible (all_records class octets fs) placed compatible own;
+      same = subst (λ rs. SameRecords rs (records_of placed)) (sym is) own;
+    }
+
+none_compatible : AreCompatible []
+none_compatible = record { each = tt; ascend = tt; one_class = λ r s has_r has_s. absurd has_r; one_ttl = λ r s has_r has_s one. absurd has_r; one_soa = λ r s has_r has_s soa_r soa_s. absurd has_r }
+
+-- records that were added one after another stand together
+compatible_each : (placed : List Placed) (old new : List Record) → AreCompatible old → AllByRecursion (λ p. IsRecord p.rr) placed → AddsEach old placed new → AreCompatible new
+compatible_each [] old new compatible whole added = subst AreCompatible (sym added) compatible
+compatible_each (p ∷ placed) old new compatible whole (next, fits, adds, rest) = compatible_each placed next new (AreCompatible-with old next p.rr compatible fits whole.0 (λ s. (adds.same s).0) adds.ascend) whole.1 rest
+
+-- what is held is what was added and what was held before
+same_each : (placed : List Placed) (old new : List Record) → AddsEach old placed new → (r : Record) → Has new r ↔ (Has (records_of placed) r ⊎ Has old r)
+same_each [] old new h r = rw h ((λ t. inr t), (λ s. ⊎_elim (λ b. absurd b) (λ t. t) s))
+same_each (p ∷ placed) old new (next, accepts, adds, rest) r =
+    let later = same_each placed next new rest r in
+    let here = adds.same r in (
+      (λ t. ⊎_elim (λ s. inl (inr s)) (λ s. ⊎_elim (λ e. inl (inl e)) (λ s. inr s) (here.0 s)) (later.0 t)),
+      (λ t. ⊎_elim (⊎_elim (λ e. later.1 (inr (here.1 (inl e)))) (λ s. later.1 (inl s))) (λ s. later.1 (inr (here.1 (inr s)))) t),
+    )
+
+-- what is held are the records that were offered
+same_offered : (placed : List Placed) (held : List Record) → AddsEach [] placed held → SameRecords held (records_of placed)
+same_offered placed held added r =
+    let both = same_each placed [] held added r in
+    (λ has. ⊎_elim (λ s. s) (λ b. absurd b) (both.0 has), λ has. both.1 (inl has))
+
+accepted_offered : (placed : List Placed) (held : List Record) → AllByRecursion (λ p. IsRecord p.rr) placed → AddsEach [] placed held → AllAccepted placed
+accepted_offered placed held whole added = AllAccepted-from_compatible held placed (compatible_each placed [] held none_compatible whole added) (same_offered placed held added)
+
+-- records that were offered in the order in which they came, and all taken
+pub IsSettledAs-offered : (placed : List Placed) (held : List Record) → AllByRecursion (λ p. IsRecord p.rr) placed → AddsEach [] placed held → IsSettledAs placed held
+IsSettledAs-offered placed held whole added = record { accepted = accepted_offered placed held whole added; same = same_offered placed held added }
+
+-- and one of them refused
+pub StopsSettling-offered : (placed taken others : List Placed) (p : Placed) (held : List Record) (f : Fault) → placed ≡ taken ++ p ∷ others → AllByRecursion (λ p. IsRecord p.rr) taken → AddsEach [] taken held → IsRefusedFor held p.rr f → StopsSettling placed (Refused f p.place)
+StopsSettling-offered placed taken others p held f parts whole added why = refused f p.place (record {
+  before = taken;
+  refused = p;
+  others = others;
+  parts = parts;
+  accepted = accepted_offered taken held whole added;
+  why = grind (arith, builder.class, builder.soa, builder.ttl, same_offered taken held added);
+  stands = refl;
+})

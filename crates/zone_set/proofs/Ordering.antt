@@ -1,0 +1,7 @@
+-- The canonical order, and what stands together in it.
+pub mod Between
+pub mod Interval
+pub mod Neighbours
+pub mod Owners
+pub mod SetOrder
+pub mod Within

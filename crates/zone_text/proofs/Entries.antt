@@ -1,0 +1,11 @@
+-- One entry: what it inherits, and its record or its fault.
+pub mod Begun
+pub mod Entered
+pub mod EntryOutcome
+pub mod EntryTaken
+pub mod Inheriting
+pub mod Inherits
+pub mod Kept
+pub mod KeptEntry
+pub mod Lines
+pub mod RecordsRead

@@ -1,0 +1,124 @@
+-- What is decided of a prefix stays, whatever octets follow it.
+use Rattle.zone_text.proofs.Common.{AreTokens, Breaks, BreaksForGood, Cuts, Ending, Entry, Fault, FileDecides, FileReads, Line, List, Lower, None, Placed, ReadEach, Some, Stays, Token, [], and_last, ap, append-nil, append_assoc, broken, cut_from, decided, ended_entries, entries_of, inl, inr, open_line, refused, rules, stated, states_none, states_one, subst, sym, text, undecided, whole, zero, ℕ, ◌++◌, ◌∙◌, ◌∷◌, ◌≡◌, arith}
+use Rattle.zone_text.proofs.Tokens.Cuttings.{one_cut, one_break, cut_not_broken, cut_or_broken}
+use Rattle.zone_text.proofs.Tokens.Lasting.{cut_joined, break_joined, cut_parted, break_parted, breaks_for_good}
+use Rattle.zone_text.proofs.Tokens.CutAgain.{joined, cut_whole, cut_ended, cut_again, ended_at_zero, and_last_after, numbered_front}
+use Rattle.zone_text.proofs.Entries.Entered.{record_once, fault_once, record_or_fault, nothing_or_record, nothing_or_fault}
+use Rattle.zone_text.proofs.Files.OneFile.{reads_once}
+
+-- ---- the readings of entries and of the same with others after them
+
+stays_on : (p q : Placed) (a b more others : List Placed) (e f : Ending) → p.rr ≡ q.rr → p.place ≡ q.place → a ≡ p ∷ more → b ≡ q ∷ others → Stays more e others f → Stays a e b f
+stays_on p q a b more others e f rr place x y stays = search rules
+
+pub reads_on : Lower → (origin : List (List ℕ)) (after : Ending) (before entries others : List Entry) (a b : List Placed) (e f : Ending) → ReadEach origin None before entries a e → ReadEach origin after before (entries ++ others) b f → Stays a e b f
+reads_on lower origin after before [] others a b e f x y = record {
+  others = b;
+  first = ap (λ t. t ++ b) (sym x.0);
+  fault = λ found is. let end = x.1 in absurd cc;
+}
+reads_on lower origin after before (entry ∷ entries) others a b e f (stated (states_none n xs)) (stated (states_none m ys)) = reads_on lower origin after (entry ∷ before) entries others a b e f xs ys
+reads_on lower origin after before (entry ∷ entries) others a b e f (stated (states_none n xs)) (stated (states_one q more r at w ys)) = absurd (nothing_or_record origin before entry q.rr n r)
+reads_on lower origin after before (entry ∷ entries) others a b e f (stated (states_none n xs)) (refused fault h u v) = absurd (nothing_or_fault lower origin before entry fault n h)
+reads_on lower origin after before (entry ∷ entries) others a b e f (stated (states_one p more r at w xs)) (stated (states_none m ys)) = absurd (nothing_or_record origin before entry p.rr m r)
+reads_on lower origin after before (entry ∷ entries) others a b e f (stated (states_one p more r at w xs)) (stated (states_one q left s place v ys)) = grind (arith, reads_on lower origin after (entry ∷ before) entries others more left e f xs ys, stays_on p q a b more left e f (record_once lower origin before entry p.rr q.rr r s) (at ∙ sym place) w v (reads_on lower origin after (entry ∷ before) entries others more left e f xs ys))
+reads_on lower origin after before (entry ∷ entries) others a b e f (stated (states_one p more r at w xs)) (refused fault h u v) = absurd (record_or_fault lower origin before entry p.rr fault r h)
+reads_on lower origin after before (entry ∷ entries) others a b e f (refused fault h u v) (stated (states_none m ys)) = absurd (nothing_or_fault lower origin before entry fault m h)
+reads_on lower origin after before (entry ∷ entries) others a b e f (refused fault h u v) (stated (states_one q more s place w ys)) = absurd (record_or_fault lower origin before entry q.rr fault s h)
+reads_on lower origin after before (entry ∷ entries) others a b e f (refused fault h u v) (refused other k s t) = grind (arith, append-nil a, fault_once lower origin before entry fault other h k)
+
+-- ---- the tokens of a prefix and of a text that goes on
+
+-- the ended entries of a prefix stand by themselves before what is left of it
+pub record IsParted (octets : List ℕ) (tokens : List Token) : Type 0 where
+  pub rest : List ℕ
+  pub parted : octets ≡ text (joined (cut_from zero tokens).ended) ++ rest
+  pub front : Cuts (text (joined (cut_from zero tokens).ended)) (joined (cut_from zero tokens).ended)
+
+parted_cut : (octets : List ℕ) (tokens : List Token) → Cuts octets tokens → IsParted octets tokens
+parted_cut octets tokens cut =
+    let ended = joined (cut_from zero tokens).ended in
+    let found = cut_parted octets ended (cut_from zero tokens).open_tokens (ended_at_zero zero tokens cut.balanced) (rw (cut_whole) cut) in
+    record { rest = found.0; parted = found.1; front = found.2 }
+
+parted_break : (octets : List ℕ) (tokens : List Token) (fault : Fault) → Breaks octets tokens fault → IsParted octets tokens
+parted_break octets tokens fault breaks =
+    let ended = joined (cut_from zero tokens).ended in
+    let found = break_parted octets ended (cut_from zero tokens).open_tokens fault (ended_at_zero breaks.depth tokens breaks.parentheses) (rw (cut_whole) breaks) in
+    record { rest = found.0; parted = found.1; front = found.2 }
+
+pub parted : (octets : List ℕ) (tokens : List Token) → AreTokens octets tokens → IsParted octets tokens
+parted octets tokens (inl cut) = parted_cut octets tokens cut
+parted octets tokens (inr (fault, breaks)) = parted_break octets tokens fault breaks
+
+-- the tokens of a text that goes on are those of the ended entries of its beginning, and others
+abbrev pub GoesOn : List Token → List Token → Type 0
+GoesOn tokens all = (others : List Token) × (all ≡ joined (cut_from zero tokens).ended ++ others)
+
+pub tokens_of : (octets : List ℕ) (all other : List Token) → AreTokens octets all → AreTokens octets other → all ≡ other
+tokens_of octets all other (inl x) (inl y) = one_cut octets all other x y
+tokens_of octets all other (inl x) (inr (fault, y)) = search (rules, cut_not_broken)
+tokens_of octets all other (inr (fault, x)) (inl y) = search (rules, cut_not_broken)
+tokens_of octets all other (inr (fault, x)) (inr (another, y)) = (one_break octets all other fault another x y).0
+
+joined_tokens : (front rest : List ℕ) (tokens : List Token) → Cuts front (joined (cut_from zero tokens).ended) → (others : List Token) × AreTokens (front ++ rest) (joined (cut_from zero tokens).ended ++ others)
+joined_tokens front rest tokens cut =
+    elim (cut_or_broken rest) [
+      | inl found ↦ (found.0, inl (cut_joined front rest (joined (cut_from zero tokens).ended) found.0 cut (cut_ended zero tokens).ends found.1))
+      | inr found ↦ (found.0, inr (found.1, break_joined front rest (joined (cut_from zero tokens).ended) found.0 found.1 cut (cut_ended zero tokens).ends found.2))
+    ]
+
+pub goes_on : (octets more : List ℕ) (tokens all : List Token) → AreTokens octets tokens → AreTokens (octets ++ more) all → GoesOn tokens all
+goes_on octets more tokens all x y =
+    let front = parted octets tokens x in
+    let after = joined_tokens (text (joined (cut_from zero tokens).ended)) (front.rest ++ more) tokens front.front in
+    let split : octets ++ more ≡ text (joined (cut_from zero tokens).ended) ++ (front.rest ++ more) = ap (λ t. t ++ more) front.parted ∙ append_assoc (text (joined (cut_from zero tokens).ended)) front.rest more in
+    (after.0, tokens_of (octets ++ more) all (joined (cut_from zero tokens).ended ++ after.0) y (rw split (after.1)))
+
+-- so its entries are the ended ones of the beginning, and others
+pub ended_on : (tokens all : List Token) → GoesOn tokens all → (others : List Entry) × (ended_entries all ≡ ended_entries tokens ++ others)
+ended_on tokens all (others, e) =
+    let more = numbered_front 1 (cut_from zero tokens).ended (cut_from zero others).ended in
+    (more.0, rw (e, cut_again) (more.1))
+
+pub entries_on : (tokens all : List Token) → GoesOn tokens all → (others : List Entry) × (entries_of all ≡ ended_entries tokens ++ others)
+entries_on tokens all (others, e) =
+    let more = numbered_front 1 (cut_from zero tokens).ended (and_last (cut_from zero others).ended (cut_from zero others).open_tokens) in
+    (more.0, rw (e, cut_again, and_last_after) (more.1))
+
+-- ---- a prefix and a text that goes on
+
+-- the same reading stays
+same_stays : (a b : List Placed) (e f : Ending) → (a ≡ b) × (e ≡ f) → Stays a e b f
+same_stays a b e f same = search rules
+
+pub broken_once : Lower → (origin : List (List ℕ)) (octets : List ℕ) (tokens all : List Token) (fault other : Fault) (a b : List Placed) (e f : Ending) → Breaks octets tokens fault → Breaks octets all other → ReadEach origin (Some (fault, Line (open_line tokens))) [] (ended_entries tokens) a e → ReadEach origin (Some (other, Line (open_line all))) [] (ended_entries all) b f → (a ≡ b) × (e ≡ f)
+broken_once lower origin octets tokens all fault other a b e f x y xs ys =
+    let same = one_break octets tokens all fault other x y in
+    grind (arith, one_break, reads_once)
+
+module _ (lower : Lower) (origin : List (List ℕ)) (octets : List ℕ) where
+  pub decided_stays : (more : List ℕ) (a b : List Placed) (e f : Ending) → FileDecides origin octets a e → FileDecides origin (octets ++ more) b f → Stays a e b f
+  decided_stays more a b e f (undecided ps are absent xs) (undecided qs others none ys) =
+      let on = ended_on ps qs (goes_on octets more ps qs are others) in
+      reads_on lower origin None [] (ended_entries ps) on.0 a b e f xs (subst (λ es. ReadEach origin None [] es b f) on.1 ys)
+  decided_stays more a b e f (undecided ps are absent xs) (decided qs fault good ys) =
+      let on = ended_on ps qs (goes_on octets more ps qs are (inr (fault, good.breaks))) in
+      reads_on lower origin (Some (fault, Line (open_line qs))) [] (ended_entries ps) on.0 a b e f xs (subst (λ es. ReadEach origin (Some (fault, Line (open_line qs))) [] es b f) on.1 ys)
+  decided_stays more a b e f (decided ps fault good xs) (undecided qs others none ys) =
+      let still = breaks_for_good octets more ps fault good in
+      let same : ps ≡ qs = tokens_of (octets ++ more) ps qs (inr (fault, still.breaks)) others in
+      absurd (none fault (subst (λ p. BreaksForGood (octets ++ more) p fault) same still))
+  decided_stays more a b e f (decided ps fault good xs) (decided qs other better ys) =
+      let still = breaks_for_good octets more ps fault good in
+      same_stays a b e f (broken_once lower origin (octets ++ more) ps qs fault other a b e f still.breaks better.breaks xs ys)
+
+  pub decided_stays_at_end : (more : List ℕ) (a b : List Placed) (e f : Ending) → FileDecides origin octets a e → FileReads origin (octets ++ more) b f → Stays a e b f
+  decided_stays_at_end more a b e f (undecided ps are absent xs) (whole qs cut ys) =
+      let on = entries_on ps qs (goes_on octets more ps qs are (inl cut)) in
+      reads_on lower origin None [] (ended_entries ps) on.0 a b e f xs (subst (λ es. ReadEach origin None [] es b f) on.1 ys)
+  decided_stays_at_end more a b e f (undecided ps are absent xs) (broken qs fault breaks ys) =
+      let on = ended_on ps qs (goes_on octets more ps qs are (inr (fault, breaks))) in
+      reads_on lower origin (Some (fault, Line (open_line qs))) [] (ended_entries ps) on.0 a b e f xs (subst (λ es. ReadEach origin (Some (fault, Line (open_line qs))) [] es b f) on.1 ys)
+  decided_stays_at_end more a b e f (decided ps fault good xs) (whole qs cut ys) = grind (arith, cut_not_broken (octets ++ more) qs ps fault cut (breaks_for_good octets more ps fault good).breaks)
+  decided_stays_at_end more a b e f (decided ps fault good xs) (broken qs other breaks ys) = grind (arith, same_stays a b e f (broken_once lower origin (octets ++ more) ps qs fault other a b e f (breaks_for_good octets more ps fault good).breaks breaks xs ys))

@@ -1,0 +1,82 @@
+-- The words of classes among items, and the digits with which a time begins.
+use Rattle.zone_text.proofs.Common.{AllByRecursion, Bool, Group, IsClassWord, IsDecimal, IsNumbered, IsTime, IsTimeGroup, List, None, Option, Some, [], ap, append_assoc, are_digits, arith, begins_with_digit, by_mnemonic, by_number, bytes_eq, bytes_eq-Decides, codes, decimal_value, drop, drop-append_seam, false, flat_map, folded_label, folded_octet, group_text, inl, inr, is_class_word, is_digit, is_some, length, length-map, list_all, map-append, or_cases, refl, rules, sym, take, take-append-drop, take-map, true, ℕ, ◌&&◌, ◌++◌, ◌<◌, ◌∙◌, ◌∷◌, ◌≡◌}
+use Rattle.std.proofs.Math.Bool.{or-true}
+use Rattle.zone_rdata.specs.Table.{classes, number_among}
+use Rattle.zone_rdata.proofs.Words.OneWord.{class_number}
+use Rattle.zone_rdata.proofs.Words.Tables.{number_is}
+
+all_true : (text : List ℕ) → AllByRecursion (λ c. is_digit c ≡ true) text → list_all is_digit text ≡ true
+all_true [] each = refl
+all_true (c ∷ text) each = rw (each.0) (all_true text each.1)
+
+all_digits : (text : List ℕ) → 0 < length text → AllByRecursion (λ c. is_digit c ≡ true) text → are_digits text ≡ true
+all_digits text some each = grind (arith, all_true)
+
+numbered_word : (word : List ℕ) (n : ℕ) → IsNumbered (codes "CLASS") word n → is_class_word word ≡ true
+numbered_word word n is =
+    let five : length is.front ≡ 5 = (let h : length (folded_label is.front) ≡ length is.front = simp length-map in sym h ∙ ap length is.named) in
+    let rest : drop 5 word ≡ is.digits = rw (is.parts, ← five) (drop-append_seam is.front is.digits) in
+    let front : take 5 (folded_label word) ≡ codes "class" = rw (is.parts, map-append, is.named) refl in
+    grind (arith, length-map, drop-append_seam, true, all_digits, map-append, or-true)
+
+-- a class word is known by its letters
+pub class_word_known : (word : List ℕ) (n : ℕ) → IsClassWord word n → is_class_word word ≡ true
+class_word_known word n (by_mnemonic is) = rw (class_number word n is) refl
+class_word_known word n (by_number is) = numbered_word word n is
+
+first_folded : (word : List ℕ) → begins_with_digit (folded_label word) ≡ begins_with_digit word
+first_folded word = search rules
+
+-- and begins with no digit
+pub class_word_first : (word : List ℕ) (n : ℕ) → IsClassWord word n → begins_with_digit word ≡ false
+class_word_first word n (by_mnemonic is) = search rules
+class_word_first word n (by_number is) = sym (first_folded word) ∙ (rw (is.parts, map-append, is.named) refl)
+
+digits_first : (text rest : List ℕ) → 0 < length text → AllByRecursion (λ c. is_digit c ≡ true) text → begins_with_digit (text ++ rest) ≡ true
+digits_first [] rest some each = absurd (omega arith)
+digits_first (c ∷ text) rest some each = each.0
+
+groups_first : (groups : List Group) → 0 < length groups → AllByRecursion IsTimeGroup groups → begins_with_digit (flat_map group_text groups) ≡ true
+groups_first [] some each = absurd (omega arith)
+groups_first (g ∷ groups) some each = search (rules, append_assoc, digits_first)
+
+decimal_first : (text : List ℕ) (n : ℕ) → IsDecimal text n → begins_with_digit text ≡ true
+decimal_first text n is = search rules
+
+-- a time begins with a digit
+pub time_first : (text : List ℕ) (n : ℕ) → IsTime text n → begins_with_digit text ≡ true
+time_first text n h = search (rules, decimal_first, groups_first)
+
+-- what is taken for a class word is one
+
+both_true : (a b : Bool) → (a && b) ≡ true → (a ≡ true) × (b ≡ true)
+both_true a b e = grind arith
+
+each_digit : (text : List ℕ) → list_all is_digit text ≡ true → AllByRecursion (λ c. is_digit c ≡ true) text
+each_digit [] e = tt
+each_digit (c ∷ text) e = let both = both_true (is_digit c) (list_all is_digit text) e in (both.0, each_digit text both.1)
+
+digits_all : (text : List ℕ) → are_digits text ≡ true → (0 < length text) × AllByRecursion (λ c. is_digit c ≡ true) text
+digits_all text e = grind (arith, both_true, each_digit)
+
+named_class : (text : List ℕ) (found : Option ℕ) → number_among classes text ≡ found → is_some found ≡ true → (m : ℕ) × IsClassWord text m
+named_class text None e some = absurd cc
+named_class text (Some n) e some = (n, by_mnemonic (number_is classes refl text n e))
+
+numbered_class : (text : List ℕ) → (bytes_eq (take 5 (folded_label text)) (codes "class") && are_digits (drop 5 text)) ≡ true → (m : ℕ) × IsClassWord text m
+numbered_class text e =
+    let both = both_true (bytes_eq (take 5 (folded_label text)) (codes "class")) (are_digits (drop 5 text)) e in
+    let name : take 5 (folded_label text) ≡ codes "class" = (bytes_eq-Decides (take 5 (folded_label text)) (codes "class")).0 both.0 in
+    let digits = digits_all (drop 5 text) both.1 in (
+      decimal_value (drop 5 text),
+      by_number (record {
+        front = take 5 text;
+        digits = drop 5 text;
+        parts = sym (take-append-drop 5 text);
+        named = sym (take-map folded_octet 5 text) ∙ name;
+        number = record { some = digits.0; digits = digits.1; value = refl };
+      }),
+    )
+
+pub class_word_of : (text : List ℕ) → is_class_word text ≡ true → (m : ℕ) × IsClassWord text m
+class_word_of text e = elim (or_cases _ _ e) [ inl named ↦ named_class text (number_among classes text) refl named | inr numbered ↦ numbered_class text numbered ]

@@ -1,0 +1,131 @@
+-- The words before a record's type, read from the left.
+use Rattle.zone_text.proofs.Common.{AllByRecursion, AllByRecursion-append, AreWordsOf, Bool, Fault, HasValue, HaveValues, IsClass, IsClassWord, IsSomeAnd, IsTtl, Item, List, MatchOption, None, NothingIs, Option, Parts, PartsFault, RawItem, Some, Word, WordFault, Words, [], add-one, ap, append-nil, append_assoc, begins_with_digit, class, class_among, drop, drop-cons, drop-map, false, get_or, inl, inr, is_class_word, is_some, length, map, parts_after, raw, refl, rules, subst, sym, true, ttl, ttl_among, word_after, ℕ, ◌++◌, ◌+◌, ◌<◌, ◌∙◌, ◌∷◌, ◌≡◌, arith}
+use Rattle.zone_rdata.specs.Item.{bare}
+use Rattle.zone_text.proofs.Heads.ClassWords.{class_word_of, class_word_known}
+
+-- ---- whether a word was stated before
+
+-- a value is there where its text is
+stated_too : (o : Option (List ℕ)) (v : Option ℕ) (Is : List ℕ → ℕ → Type 0) → MatchOption o (v ≡ None) (λ text. IsSomeAnd v (Is text)) → is_some o ≡ is_some v
+stated_too o v Is h = search rules
+
+ttl_word : (words : List Word) (v : Words) (text : List ℕ) → HaveValues words v → begins_with_digit text ≡ true → is_some v.ttl ≡ false → word_after words (bare text) ≡ Some (ttl text)
+ttl_word words v text have digit none = search rules
+
+class_after : (words : List Word) (v : Words) (text : List ℕ) → HaveValues words v → begins_with_digit text ≡ false → is_some v.class ≡ false → is_class_word text ≡ true → word_after words (bare text) ≡ Some (class text)
+class_after words v text have no_digit none is = search rules
+
+-- ---- one word more
+
+pub ttl_pushed : (words : List Word) (text : List ℕ) → is_some (ttl_among words) ≡ false → ttl_among (words ++ ttl text ∷ []) ≡ Some text
+ttl_pushed [] text none = refl
+ttl_pushed (ttl other ∷ words) text none = absurd (let clash : ⊥ = cc in clash)
+ttl_pushed (class other ∷ words) text none = ttl_pushed words text none
+
+pub class_kept : (words : List Word) (text : List ℕ) → class_among (words ++ ttl text ∷ []) ≡ class_among words
+class_kept (ttl other ∷ words) text = class_kept words text
+class_kept words text = refl
+
+pub class_pushed : (words : List Word) (text : List ℕ) → is_some (class_among words) ≡ false → class_among (words ++ class text ∷ []) ≡ Some text
+class_pushed [] text none = refl
+class_pushed (class other ∷ words) text none = absurd (let clash : ⊥ = cc in clash)
+class_pushed (ttl other ∷ words) text none = class_pushed words text none
+
+pub ttl_kept : (words : List Word) (text : List ℕ) → ttl_among (words ++ class text ∷ []) ≡ ttl_among words
+ttl_kept (class other ∷ words) text = ttl_kept words text
+ttl_kept words text = refl
+
+abbrev NextHas : List Word → Words → Word → Type 0
+NextHas words next word = HaveValues (words ++ word ∷ []) next
+
+pub takes_ttl : (words : List Word) (v next : Words) (text : List ℕ) (n : ℕ) → HaveValues words v → begins_with_digit text ≡ true → is_some v.ttl ≡ false → IsTtl text n → next.ttl ≡ Some n → next.class ≡ v.class → IsSomeAnd (word_after words (bare text)) (λ word. HaveValues (words ++ word ∷ []) next)
+takes_ttl words v next text n have digit none is own same =
+    let before : is_some (ttl_among words) ≡ false = stated_too (ttl_among words) v.ttl IsTtl have.ttl ∙ none in
+    let P : Option Word → Type 0 = λ o. IsSomeAnd o (NextHas words next) in
+    subst P (sym (ttl_word words v text have digit none)) (record {
+      each = AllByRecursion-append HasValue words (ttl text ∷ []) have.each ((n, is), tt);
+      ttl = rw (ttl_pushed words text before, own) is;
+      class = rw (class_kept words text, same) (have.class);
+    })
+
+pub takes_class : (words : List Word) (v next : Words) (text : List ℕ) (n : ℕ) → HaveValues words v → begins_with_digit text ≡ false → is_some v.class ≡ false → IsClassWord text n → IsClass n → next.class ≡ Some n → next.ttl ≡ v.ttl → IsSomeAnd (word_after words (bare text)) (λ word. HaveValues (words ++ word ∷ []) next)
+takes_class words v next text n have no_digit none is good own same =
+    let before : is_some (class_among words) ≡ false = stated_too (class_among words) v.class IsClassWord have.class ∙ none in
+    let P : Option Word → Type 0 = λ o. IsSomeAnd o (NextHas words next) in
+    subst P (sym (class_after words v text have no_digit none (class_word_known text n is))) (record {
+      each = AllByRecursion-append HasValue words (class text ∷ []) have.each ((n, (is, good)), tt);
+      ttl = rw (ttl_kept words text, same) (have.ttl);
+      class = rw (class_pushed words text before, own) is;
+    })
+
+-- a class that holds no zone data
+pub refuses_class : (words : List Word) (v : Words) (text : List ℕ) (n : ℕ) (fault : Fault) → HaveValues words v → begins_with_digit text ≡ false → is_some v.class ≡ false → IsClassWord text n → WordFault (class text) fault → IsSomeAnd (word_after words (bare text)) (λ word. WordFault word fault)
+refuses_class words v text n fault have no_digit none is bad = grind (arith, class_after words v text have no_digit none (class_word_known text n is))
+
+pub no_class_word : (text : List ℕ) (b : Bool) → is_class_word text ≡ b → NothingIs (IsClassWord text) → b ≡ false
+no_class_word text true e none = let found = class_word_of text e in absurd (none found.0 found.1)
+no_class_word text false e none = refl
+
+-- neither a digit nor a class's word
+pub no_word : (words : List Word) (text : List ℕ) → begins_with_digit text ≡ false → NothingIs (IsClassWord text) → word_after words (bare text) ≡ None
+no_word words text no_digit none = rw (no_digit, no_class_word text (is_class_word text) refl none) refl
+
+-- ---- all words
+
+-- the parts by what the next item is
+abbrev pub parts_by : List Word → RawItem → List RawItem → Option Word → Parts
+parts_by words item items None = record { words = words; rest = item ∷ items }
+parts_by words item items (Some word) = parts_after (words ++ word ∷ []) items
+
+pub next_part : (words : List Word) (item : RawItem) (items : List RawItem) (o : Option Word) → word_after words item ≡ o → parts_after words (item ∷ items) ≡ parts_by words item items o
+next_part words item items o e = ap (parts_by words item items) e
+
+-- the words read so far have these values, and the items left follow them
+pub record ReadsWords (items : List RawItem) (values : Words) (rest : List RawItem) : Type 0 where
+  pub words : List Word
+  pub have : HaveValues words values
+  pub parts : parts_after [] items ≡ parts_after words rest
+
+-- the next item is no word
+pub read_to : (items rest more : List RawItem) (v : Words) (item : RawItem) → ReadsWords items v rest → rest ≡ item ∷ more → ((words : List Word) → HaveValues words v → word_after words item ≡ None) → AreWordsOf (parts_after [] items) v rest
+read_to items rest more v item reads front none = search rules
+
+pub some_of : (P : Word → Type 0) (o : Option Word) → IsSomeAnd o P → (word : Word) × ((o ≡ Some word) × P word)
+some_of P o h = search rules
+
+-- the next item is a word
+pub read_on : (items rest more : List RawItem) (v next : Words) (item : RawItem) → ReadsWords items v rest → rest ≡ item ∷ more → ((words : List Word) → HaveValues words v → IsSomeAnd (word_after words item) (λ word. HaveValues (words ++ word ∷ []) next)) → ReadsWords items next more
+read_on items rest more v next item reads front some = search (rules, some_of, next_part)
+
+-- whatever follows words, they stand before it
+abbrev Extends : List RawItem → Type 0
+Extends items = (words : List Word) → (others : List Word) × ((parts_after words items).words ≡ words ++ others)
+
+extend_by : (words : List Word) (item : RawItem) (items : List RawItem) (o : Option Word) → Extends items → (others : List Word) × ((parts_by words item items o).words ≡ words ++ others)
+extend_by words item items None goes = ([], sym (append-nil words))
+extend_by words item items (Some word) goes =
+    let more = goes (words ++ word ∷ []) in
+    (word ∷ more.0, more.1 ∙ append_assoc words (word ∷ []) more.0)
+
+extends : (items : List RawItem) → Extends items
+extends [] words = ([], sym (append-nil words))
+extends (item ∷ items) words = extend_by words item items (word_after words item) (extends items)
+
+leftmost : (words others : List Word) (word : Word) (rest : List RawItem) (fault : Fault) → AllByRecursion HasValue words → WordFault word fault → PartsFault (words ++ word ∷ others) rest fault
+leftmost [] others word rest fault have bad = inl bad
+leftmost (w ∷ words) others word rest fault have bad = inr (have.0, leftmost words others word rest fault have.1 bad)
+
+-- the next item is a word without a value
+pub read_fault : (items rest more : List RawItem) (v : Words) (item : RawItem) (fault : Fault) → ReadsWords items v rest → rest ≡ item ∷ more → ((words : List Word) → HaveValues words v → IsSomeAnd (word_after words item) (λ word. WordFault word fault)) → PartsFault (parts_after [] items).words (parts_after [] items).rest fault
+read_fault items rest more v item fault reads front some =
+    let found = some_of (λ word. WordFault word fault) (word_after reads.words item) (some reads.words reads.have) in
+    let parts : parts_after [] items ≡ parts_after (reads.words ++ found.0 ∷ []) more =
+    reads.parts ∙ (ap (parts_after reads.words) front ∙ next_part reads.words item more (Some found.0) found.1.0)
+    in
+    let others = extends more (reads.words ++ found.0 ∷ []) in
+    let P : List Word → Type 0 = λ ws. PartsFault ws (parts_after [] items).rest fault in
+    grind (arith, some_of, next_part, extends, append_assoc, leftmost)
+
+-- the item at an index is the first of those from there on
+pub item_at : (items : List Item) (i : ℕ) (d x : Item) → i < length items → get_or items i d ≡ x → drop i (map raw items) ≡ raw x ∷ drop (i + 1) (map raw items)
+item_at items i d x less is = search (rules, add-one, drop-cons, drop-map)

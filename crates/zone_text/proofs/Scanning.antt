@@ -1,0 +1,9 @@
+-- What a scan finds of octets: where entries end, and which are read at one look.
+pub mod FedPieces
+pub mod FirstEntries
+pub mod FirstFound
+pub mod OpenEntries
+pub mod ScanReads
+pub mod ScanSteps
+pub mod Scanned
+pub mod StopMarks

@@ -1,0 +1,181 @@
+-- The entry at the front of octets, token by token, without parentheses and escapes.
+use Rattle.zone_text.proofs.Common.{All, AllByRecursion, AreKept, Bool, Cuts, EndsAt, EndsBefore, EntrySplitter, IsFirstEntry, IsInFront, IsInside, IsOneEntry, IsQuoted, IsSplitter, IsToken, IsUnit, Keeps, KeepsBare, KeepsItems, List, NoUnit, None, RawItem, ReadsOctets, Token, [], ap, append-nil, append_assoc, arith, at_octet, bare, before_line_feed, blank, closing, comment, common_steps, drop, ends_item, eqb-false, false, flat_map, from_line_feed, is_blank, is_quote, item_of, length, length-append, length-map, length-take, line_feed, map, ne_eqb, opening, or_parts, plain, quoted, recursion_from_All, refl, rules, subst, suc, sym, take, take-append-drop, take-append_seam, token_text, true, written_text, zero, ℕ, ◌++◌, ◌+◌, ◌-◌, ◌<◌, ◌==◌, ◌||◌, ◌∙◌, ◌∷◌, ◌≡◌, ◌≢◌}
+use Rattle.zone_rdata.specs.Item as raw
+use Rattle.zone_text.proofs.Scanning.FedPieces.{FollowsOn, HasFed, fed_more}
+use Rattle.zone_text.proofs.Tokens.Cuttings.{cuts, is_cut, one_cut, one_token_more, shorter}
+use Rattle.zone_text.proofs.Files.Followed.{follow_one}
+use Rattle.zone_text.proofs.Tokens.Fronts.{EndsComment, Takes, comment_dropped, comment_each, comment_ends, comment_whole}
+use Rattle.zone_text.proofs.Entries.Kept.{keeps_more, none_kept}
+use Rattle.zone_text.proofs.Scanning.StopMarks.{goes_on, prefix_each, prefix_ends}
+use Rattle.std.proofs.lemmas.List.Sums.{prefix_len-le-length}
+use Rattle.std.specs.List.{prefix_len}
+
+-- ---- plain octets as written ones
+
+pub plain_text : (octets : List ℕ) → written_text (map plain octets) ≡ octets
+plain_text [] = refl
+plain_text (c ∷ octets) = ap (λ t. c ∷ t) (plain_text octets)
+
+pub plain_units : (ends : ℕ → Bool) (octets : List ℕ) → AllByRecursion (λ c. (ends c || c == 92) ≡ false) octets → AllByRecursion (IsUnit ends) (map plain octets)
+plain_units ends [] each = tt
+plain_units ends (c ∷ octets) each = let p = or_parts (ends c) (c == 92) each.0 in ((p.0, eqb-false c 92 p.1), plain_units ends octets each.1)
+
+-- ---- the token at the front
+
+pub blank_in_front : (octets rest : List ℕ) (c : ℕ) → octets ≡ c ∷ rest → is_blank c ≡ true → IsInFront octets [] rest
+blank_in_front octets rest c whole is = record { token = blank c; whole = whole; is = is; ends = tt; inside = tt; stated = refl }
+
+ends_at : (octets : List ℕ) → EndsComment octets → EndsAt (λ c. c == 10) octets
+ends_at octets ends = grind arith
+
+pub comment_in_front : (octets after rest : List ℕ) (c n : ℕ) → octets ≡ c ∷ after → c ≡ 59 → n ≡ length (before_line_feed after) → rest ≡ drop n after → IsInFront octets [] rest
+comment_in_front octets after rest c n whole is len back =
+    let left : rest ≡ from_line_feed after = back ∙ ap (λ k. drop k after) len ∙ comment_dropped after in
+    record {
+      token = comment (before_line_feed after);
+      whole = whole ∙ ap (λ d. d ∷ after) is ∙ ap (λ t. 59 ∷ t) (comment_whole after ∙ ap (λ t. before_line_feed after ++ t) (sym left));
+      is = comment_each after;
+      ends = subst (EndsAt (λ c. c == 10)) (sym left) (ends_at (from_line_feed after) (comment_ends after));
+      inside = tt;
+      stated = refl;
+    }
+
+pub stops_or : (a b : Bool) → (a || b) ≡ true → b ≡ false → a ≡ true
+stops_or a b e none = search rules
+
+pub bare_in_front : (octets item rest more : List ℕ) (next n : ℕ) → 0 < n → n ≡ prefix_len goes_on octets → item ≡ take n octets → rest ≡ drop n octets → rest ≡ next ∷ more → next ≢ 92 → IsInFront octets (raw.bare item ∷ []) rest
+bare_in_front octets item rest more next n some len front back first other =
+    let each : AllByRecursion (λ d. (ends_item d || d == 92) ≡ false) (take n octets) = subst (λ k. AllByRecursion (λ d. (ends_item d || d == 92) ≡ false) (take k octets)) (sym len) (prefix_each octets) in
+    let ends : EndsAt (λ d. ends_item d || d == 92) (drop n octets) = subst (λ k. EndsAt (λ d. ends_item d || d == 92) (drop k octets)) (sym len) (prefix_ends octets) in
+    let units : AllByRecursion (λ d. (ends_item d || d == 92) ≡ false) item = subst (AllByRecursion (λ d. (ends_item d || d == 92) ≡ false)) (sym front) each in
+    let stop : (ends_item next || next == 92) ≡ true = subst (EndsAt (λ d. ends_item d || d == 92)) (sym back ∙ first) ends in
+    let ended : ends_item next ≡ true = stops_or (ends_item next) (next == 92) stop (ne_eqb next 92 other) in
+    let long : length item ≡ n = ap length front ∙ omega (arith, length-take n octets, len, prefix_len-le-length goes_on octets) in
+    record {
+      token = bare (map plain item);
+      whole = sym (take-append-drop n octets) ∙ ap (λ t. t ++ drop n octets) (sym front ∙ sym (plain_text item)) ∙ ap (λ t. written_text (map plain item) ++ t) (sym back);
+      is = (let count : length (map plain item) ≡ length item = length-map item plain in omega (arith, count, long, some), plain_units ends_item item units);
+      ends = subst (EndsAt ends_item) (sym first) ended;
+      inside = tt;
+      stated = ap (λ t. raw.bare t ∷ []) (plain_text item);
+    }
+
+pub is_quoted : (octets inside close rest : List ℕ) (c n : ℕ) → All (λ d. (is_quote d || d == 92) ≡ false) (take n octets) → inside ≡ take n octets → close ≡ drop n octets → close ≡ c ∷ rest → c ≡ 34 → IsQuoted octets inside rest
+is_quoted octets inside close rest c n each front back first is = grind (arith, common_steps)
+
+pub quoted_in_front : (octets after inside rest : List ℕ) (c : ℕ) → octets ≡ c ∷ after → c ≡ 34 → IsQuoted after inside rest → IsInFront octets (raw.quoted inside ∷ []) rest
+quoted_in_front octets after inside rest c whole is found = record {
+  token = quoted (map plain inside);
+  whole = whole ∙ ap (λ d. d ∷ after) is ∙ ap (λ t. 34 ∷ t) (found.whole ∙ sym (append_assoc inside (34 ∷ []) rest) ∙ ap (λ t. (t ++ 34 ∷ []) ++ rest) (sym (plain_text inside)));
+  is = plain_units is_quote inside (recursion_from_All (λ d. (is_quote d || d == 92) ≡ false) _ found.plain);
+  ends = tt;
+  inside = tt;
+  stated = ap (λ t. raw.quoted t ∷ []) (plain_text inside);
+}
+
+pub in_front_shorter : (octets rest : List ℕ) (items : List RawItem) → IsInFront octets items rest → length rest < length octets
+in_front_shorter octets rest items found = shorter octets rest found.token found.is found.whole
+
+-- ---- tokens up to the line feed
+
+-- what stands before the rest, the items of it, of which these are kept, and what an entry that
+-- begins with it and ends within the rest states
+pub record IsCutTo (octets rest : List ℕ) (kept : List RawItem) : Type 0 where
+  pub front : List ℕ
+  pub whole : octets ≡ front ++ rest
+  pub so_far : List RawItem
+  pub are_kept : AreKept so_far kept
+  pub goes : (tail after : List ℕ) (more : List Token) → rest ≡ tail ++ after → 0 < length tail → IsOneEntry tail more → (tokens : List Token) × IsOneEntry (front ++ tail) tokens × (flat_map item_of tokens ≡ so_far ++ flat_map item_of more)
+
+pub cut_none : (octets : List ℕ) (kept : List RawItem) → kept ≡ [] → IsCutTo octets octets kept
+cut_none octets kept none = record {
+  front = [];
+  whole = refl;
+  so_far = [];
+  are_kept = subst (AreKept []) (sym none) none_kept;
+  goes = λ tail after more e some one. (more, one, refl);
+}
+
+ends_within : (ends : ℕ → Bool) (rest tail after : List ℕ) → rest ≡ tail ++ after → 0 < length tail → EndsAt ends rest → EndsAt ends tail
+ends_within ends rest tail after e some at = search rules
+
+bare_stops : (tail : List ℕ) → 0 < length tail → EndsAt ends_item tail → NoUnit ends_item tail
+bare_stops [] some at = absurd (omega (arith, some))
+bare_stops (c ∷ tail) some at = at_octet c tail refl at
+
+takes_token : (p : Token) (rest tail after : List ℕ) → IsToken p → IsInside p → EndsBefore p rest → rest ≡ tail ++ after → 0 < length tail → Takes zero (token_text p ++ tail) p tail
+takes_token (blank c) rest tail after is inside at e some = search rules
+takes_token (comment octets) rest tail after is inside at e some = search rules
+takes_token (bare units) rest tail after is inside at e some = record { whole = refl; token = is; stop = bare_stops tail some (ends_within _ rest tail after e some at); room = tt }
+takes_token (quoted units) rest tail after is inside at e some = search rules
+takes_token p rest tail after is inside at e some = absurd inside
+
+more_cut : (p : Token) (tail : List ℕ) (more : List Token) → IsInside p → Takes zero (token_text p ++ tail) p tail → IsOneEntry tail more → IsOneEntry (token_text p ++ tail) (p ∷ more)
+more_cut opening tail more inside takes one = absurd inside
+more_cut closing tail more inside takes one = absurd inside
+more_cut line_feed tail more inside takes one = absurd inside
+more_cut p tail more inside takes one = search (rules, cuts, one_token_more, is_cut)
+
+more_by : (octets rest left : List ℕ) (kept new items : List RawItem) (so_far : IsCutTo octets rest kept) → IsInFront rest items left → AreKept (so_far.so_far ++ items) new → IsCutTo octets left new
+more_by octets rest left kept new items so_far found are_kept = record {
+  front = so_far.front ++ token_text found.token;
+  whole = so_far.whole ∙ ap (λ t. so_far.front ++ t) found.whole ∙ sym (append_assoc so_far.front (token_text found.token) left);
+  so_far = so_far.so_far ++ items;
+  are_kept = are_kept;
+  goes = λ tail after more e some one.
+      let takes = takes_token found.token left tail after found.is found.inside found.ends e some in
+      let next = more_cut found.token tail more found.inside takes one in
+      let whole : rest ≡ (token_text found.token ++ tail) ++ after = found.whole ∙ ap (λ t. token_text found.token ++ t) e ∙ sym (append_assoc (token_text found.token) tail after) in
+      let long : 0 < length (token_text found.token ++ tail) = omega (arith, some, length-append (token_text found.token) tail) in
+      let before = so_far.goes (token_text found.token ++ tail) after (found.token ∷ more) whole long next in
+      let stated : so_far.so_far ++ (item_of found.token ++ flat_map item_of more) ≡ (so_far.so_far ++ items) ++ flat_map item_of more = ap (λ t. so_far.so_far ++ (t ++ flat_map item_of more)) found.stated ∙ sym (append_assoc so_far.so_far items (flat_map item_of more)) in
+      (before.0, subst (λ t. IsOneEntry t before.0) (sym (append_assoc so_far.front (token_text found.token) tail)) before.1, before.2 ∙ stated);
+}
+
+pub cut_more : (octets rest left : List ℕ) (kept new : List RawItem) (item : RawItem) → IsCutTo octets rest kept → IsInFront rest (item ∷ []) left → Keeps item kept new → IsCutTo octets left new
+cut_more octets rest left kept new item so_far found keeps = grind (arith, more_by octets rest left kept new (item ∷ []) so_far found (keeps_more found.token so_far.so_far kept new item found.is (sym found.stated) so_far.are_kept keeps))
+
+pub cut_on : (octets rest left : List ℕ) (kept : List RawItem) → IsCutTo octets rest kept → IsInFront rest [] left → IsCutTo octets left kept
+cut_on octets rest left kept so_far found =
+    more_by octets rest left kept kept [] so_far found (subst (λ t. AreKept t kept) (sym (append-nil so_far.so_far)) so_far.are_kept)
+
+-- a bare item and what stops it, or what stands there in place of an item
+pub cut_bare : (octets rest text stopped after : List ℕ) (kept new : List RawItem) (stop n : ℕ) → IsCutTo octets rest kept → n ≡ prefix_len goes_on rest → text ≡ take n rest → stopped ≡ drop n rest → stopped ≡ stop ∷ after → stop ≢ 92 → KeepsBare text kept new → IsCutTo octets stopped new
+cut_bare octets rest text stopped after kept new stop zero so_far len front back first other keeps =
+    let same : new ≡ kept = subst (λ t. KeepsBare t kept new) front keeps in
+    subst (λ t. IsCutTo octets t new) (sym back) (subst (IsCutTo octets rest) (sym same) so_far)
+cut_bare octets [] text stopped after kept new stop (suc n) so_far len front back first other keeps = absurd (omega (arith, len))
+cut_bare octets (c ∷ rest) text stopped after kept new stop (suc n) so_far len front back first other keeps =
+    let item : Keeps (raw.bare (c ∷ take n rest)) kept new = subst (λ t. KeepsBare t kept new) front keeps in
+    cut_more octets (c ∷ rest) stopped kept new (raw.bare (c ∷ take n rest)) so_far (bare_in_front (c ∷ rest) (c ∷ take n rest) stopped after stop (suc n) (omega arith) len refl back first other) item
+
+pub cut_ended : (octets rest after : List ℕ) (raws : List RawItem) (c n : ℕ) → IsCutTo octets rest raws → rest ≡ c ∷ after → c ≡ 10 → n ≡ length octets - length after → IsFirstEntry octets n raws
+cut_ended octets rest after raws c n so_far first is count =
+    let fed : List ℕ = 10 ∷ [] in
+    let e : rest ≡ fed ++ after = first ∙ ap (λ d. d ∷ after) is in
+    let some : 0 < length fed = omega arith in
+    let found = so_far.goes fed after (line_feed ∷ []) e some (record { cut = record { whole = refl; each = (tt, tt); follow = tt; balanced = refl }; ended = refl }) in
+    let whole : octets ≡ (so_far.front ++ fed) ++ after = so_far.whole ∙ ap (λ t. so_far.front ++ t) e ∙ sym (append_assoc so_far.front fed after) in
+    let len : length octets ≡ length (so_far.front ++ fed) + length after = ap length whole ∙ length-append (so_far.front ++ fed) after in
+    let last : length (so_far.front ++ fed) ≡ length so_far.front + length fed = length-append so_far.front fed in
+    let taken : n ≡ length (so_far.front ++ fed) = omega (arith, count, len) in
+    let entry : take n octets ≡ so_far.front ++ fed = rw (taken, whole) (take-append_seam (so_far.front ++ fed) after) in
+    search rules
+
+pub keeps_items : (octets part : List ℕ) (n : ℕ) (kept : List RawItem) → IsFirstEntry octets n kept → part ≡ take n octets → KeepsItems part kept
+keeps_items octets part n kept first front tokens cut =
+    subst (λ t. AreKept (flat_map item_of t) kept) (one_cut part first.tokens tokens (subst (λ t. Cuts t first.tokens) (sym front) first.one.cut) cut) first.stated
+
+-- ---- the entry at the front of a piece
+
+pub fed_entry : (old mid new : EntrySplitter) (piece rest part after : List ℕ) (n : ℕ) (raws : List RawItem) → HasFed old mid piece rest → mid.ended.decided.ending ≡ None → mid.unfinished.items ≡ [] → IsFirstEntry rest n raws → part ≡ take n rest → after ≡ drop n rest → ReadsOctets part mid.ended new.ended → new.at ≡ mid.at → new.unfinished.items ≡ mid.unfinished.items → HasFed old new piece after
+fed_entry old mid new piece rest part after n raws before none empty first front back reads at unfinished =
+    let whole : rest ≡ part ++ after = sym (take-append-drop n rest) ∙ ap (λ t. t ++ drop n rest) (sym front) ∙ ap (λ t. part ++ t) (sym back) in
+    let len : length rest ≡ length part + length after = ap length whole ∙ length-append part after in
+    let left : length new.unfinished.items ≡ length mid.unfinished.items = ap length unfinished in
+    let one : IsOneEntry part first.tokens = subst (λ t. IsOneEntry t first.tokens) (sym front) first.one in
+    let follow : FollowsOn mid.ended [] new.ended [] part = λ origin fed given f. follow_one origin mid.ended new.ended [] part fed given first.tokens one none reads f in
+    let is : IsSplitter new.ended new.at new.unfinished.items = grind arith in
+    fed_more old mid new piece rest part after before none whole len is
+    (omega (arith, reads.near, left, len))
+    (rw (unfinished, empty) follow)

@@ -1,0 +1,82 @@
+-- An entry that comes in pieces, by what scans of them found.
+use Rattle.zone_text.proofs.Common.{Breaks, ClosesNothing, Cuts, Ends, Fault, List, LostEscape, MatchOption, None, On, Option, ScanState, Scanned, ScansTo, Some, Step, Token, [], ap, append-nil, arith, beginning, cut_from, end_fault_of, length, refl, scan_of, subst, sym, take, zero, ℕ, ◌++◌, ◌+◌, ◌<◌, ◌∙◌, ◌≡◌, ◌≤◌}
+use Rattle.zone_text.proofs.Scanning.FedPieces.{takes_part}
+use Rattle.zone_text.proofs.Scanning.FirstFound.{closing_scanned, lost_scanned, open_scanned}
+use Rattle.zone_text.proofs.Files.Followed.{scans_on}
+use Rattle.zone_text.proofs.Scanning.Scanned.{at_end, ends_entry, step_goes_on, unfinished_depth}
+use Rattle.zone_text.specs.Machine.OpenEntry.{state_of}
+use Rattle.zone_text.specs.OpenEntry.{EndIs, EntryIs, HeldEntry, TakesFrom}
+use Rattle.zone_text.specs.declared.open_entry.EntryState.TheVariants as states
+use Rattle.zone_text.specs.declared.open_entry.Taken.{Taken}
+
+-- where the octets leave the entry
+pub entry_is : (octets : List ℕ) (step : Step) → ScansTo beginning octets step → EntryIs octets (state_of step)
+entry_is octets (On at) scanned = open_scanned octets at scanned
+entry_is octets Ends scanned = ends_entry octets scanned
+entry_is octets LostEscape scanned = lost_scanned octets scanned
+entry_is octets ClosesNothing scanned = closing_scanned octets scanned
+
+-- where the input ends
+by_end : (octets : List ℕ) (fault : Option Fault) → MatchOption fault ((tokens : List Token) × Cuts octets tokens × ((cut_from zero tokens).ended ≡ [])) (λ f. (tokens : List Token) × Breaks octets tokens f × ((cut_from zero tokens).ended ≡ [])) → EndIs octets fault
+by_end octets None end = end
+by_end octets (Some fault) end = end
+
+pub end_is : (octets : List ℕ) (at : ScanState) (fault : Option Fault) → ScansTo beginning octets (On at) → fault ≡ end_fault_of at → EndIs octets fault
+end_is octets at fault scanned is = subst (EndIs octets) (sym is) (by_end octets (end_fault_of at) (at_end octets at scanned))
+
+-- a scan that goes on took all octets
+all_taken : (at next : ScanState) (octets : List ℕ) (found : Scanned) → found ≡ scan_of at octets → found.step ≡ On next → found.taken ≡ length octets
+unfolding scan_of
+all_taken at next octets found is on =
+    ap (λ (f : Scanned). f.taken)
+    (is ∙ ap (scan_of at) (sym (append-nil octets)) ∙ step_goes_on at next octets [] (ap (λ (f : Scanned). f.step) (sym is) ∙ on))
+    ∙ (let h : length octets + 0 ≡ length octets = omega arith in h)
+
+open_takes_all : (at : ScanState) (octets : List ℕ) (found : Scanned) (step : Step) → found ≡ scan_of at octets → found.step ≡ step → state_of step ≡ states.Open → found.taken ≡ length octets
+open_takes_all at octets found (On next) is e open_is = all_taken at next octets found is e
+open_takes_all at octets found step is e open_is = absurd cc
+
+-- no octets are held
+pub none_held : (octets : List ℕ) (at : ScanState) → octets ≡ [] → at ≡ beginning → ScansTo beginning octets (On at)
+unfolding scan_of
+none_held octets at none first = rw (none, first) refl
+
+-- a part of a piece goes on with the octets held
+pub part_scanned : (held piece part : List ℕ) (at : ScanState) (step : Step) (found : Scanned) → ScansTo beginning held step → step ≡ On at → found ≡ scan_of at piece → part ≡ take found.taken piece → ScansTo beginning (held ++ part) found.step
+part_scanned held piece part at step found before on is front = scans_on at held part found.step (subst (ScansTo beginning held) on before) (takes_part at piece part found is front)
+
+-- the entry was open
+pub takes_on : (old new : HeldEntry) (piece part held : List ℕ) (at : ScanState) (step : Step) (found : Scanned) (taken : Taken) → ScansTo beginning held step → step ≡ On at → old ≡ record { octets = held; state = state_of step } → found ≡ scan_of at piece → part ≡ take found.taken piece → found.taken ≤ length piece → (0 < length piece → 0 < found.taken) → taken.len ≡ found.taken → taken.state ≡ state_of found.step → new ≡ record { octets = held ++ part; state = state_of found.step } → TakesFrom old piece taken new
+takes_on old new piece part held at step found taken before on old_is is front within moves len state new_is =
+    let scanned : ScansTo beginning (held ++ part) found.step = part_scanned held piece part at step found before on is front in
+    rw (old_is, new_is, on) (record {
+      within = subst (λ n. n ≤ length piece) (sym len) within;
+      octets = ap (λ t. held ++ t) (front ∙ ap (λ n. take n piece) (sym len));
+      state = sym state;
+      is = entry_is (held ++ part) found.step scanned;
+      all = λ open_is. len ∙ open_takes_all at piece found found.step is refl (sym state ∙ open_is);
+      some = λ open_is some. subst (λ n. 0 < n) (sym len) (moves some);
+      settled = λ open_not. absurd (open_not refl);
+    })
+
+-- or ended or broken
+pub takes_none : (old new : HeldEntry) (piece held : List ℕ) (step : Step) (taken : Taken) → ScansTo beginning held step → ((at : ScanState) → step ≡ On at → ⊥) → old ≡ record { octets = held; state = state_of step } → new ≡ old → taken.len ≡ 0 → taken.state ≡ state_of step → TakesFrom old piece taken new
+takes_none old new piece held step taken before settled old_is new_is len state =
+    rw (new_is, old_is) (record {
+      within = omega (arith, len);
+      octets = sym (ap (λ n. held ++ take n piece) len ∙ append-nil held);
+      state = sym state;
+      is = entry_is held step before;
+      all = λ open_is. absurd (no_open step settled (sym state ∙ open_is));
+      some = λ open_is some. absurd (no_open step settled open_is);
+      settled = λ open_not. (len, refl);
+    })
+  where
+    no_open : (step : Step) → ((at : ScanState) → step ≡ On at → ⊥) → state_of step ≡ states.Open → ⊥
+    no_open (On at) none open_is = none at refl
+    no_open step none open_is = absurd cc
+
+-- the parentheses that are open are no more than the octets
+pub depth_fits : (held : List ℕ) (at : ScanState) (step : Step) → ScansTo beginning held step → step ≡ On at → at.depth ≤ length held
+depth_fits held at step before on =
+    let h = unfinished_depth beginning at held (ap (λ (f : Scanned). f.step) before ∙ on) in omega (arith, h)

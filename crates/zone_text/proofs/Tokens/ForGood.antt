@@ -1,0 +1,114 @@
+-- A break stays or stands at the end of the text, and not both. So does a backslash that begins no
+-- escape, by what follows it.
+use Rattle.zone_text.proofs.Common.{AllByRecursion, Breaks, BreaksAtEnd, BreaksForGood, Fault, IsBadEscape, IsBroken, IsCutOff, IsEscape, IsLostEscape, IsUnit, List, NoUnit, StaysBroken, Token, Written, [], after_backslash, after_digit, after_two_digits, ap, append-nil, append_cancel_left, arith, at_backslash, at_end, at_line_end, both_ways, cases_Bool, cases_eq, cases_lt, closes_nothing, closing_stays, decimal, escape_open, escape_stays, escaped, false, inl, inr, is_digit, is_quote, no_escape, no_quote, no_quoted_escape, not_closed, nothing_left, octet_of, one_digit, quote_open, quoted_escape_open, quoted_escape_stays, refl, rules, subst, sym, text, text_of, too_great, true, two_digits, units_first_only, written_text, ℕ, ◌++◌, ◌∙◌, ◌∷◌, ◌≡◌, ◌⊎◌}
+use Rattle.zone_text.proofs.Tokens.Lasting.{stays_some}
+
+-- what is malformed is lost or cut off
+abbrev Malformed : List ℕ → Type 0
+Malformed rest = IsLostEscape rest ⊎ IsCutOff rest
+
+-- no written octet stands at the beginning
+abbrev NoneWritten : List ℕ → Type 0
+NoneWritten rest = (w : Written) (after : List ℕ) → IsEscape w → rest ≡ text_of w ++ after → ⊥
+
+three_digits : (x y z : ℕ) (more : List ℕ) → is_digit x ≡ true → is_digit y ≡ true → is_digit z ≡ true → NoneWritten (92 ∷ x ∷ y ∷ z ∷ more) → Malformed (92 ∷ x ∷ y ∷ z ∷ more)
+three_digits x y z more dx dy dz none = elim (cases_lt 255 (octet_of (decimal x y z))) as (λ s. Malformed (92 ∷ x ∷ y ∷ z ∷ more)) [
+  | inl great ↦ inl (too_great x y z more refl dx dy dz great)
+  | inr few ↦ absurd (none (decimal x y z) more (dx, dy, dz, few) refl)
+]
+
+after_two : (x y : ℕ) (more : List ℕ) → is_digit x ≡ true → is_digit y ≡ true → NoneWritten (92 ∷ x ∷ y ∷ more) → Malformed (92 ∷ x ∷ y ∷ more)
+after_two x y [] dx dy none = inr (after_two_digits x y refl dx dy)
+after_two x y (z ∷ more) dx dy none = elim (cases_Bool (is_digit z)) as (λ s. Malformed (92 ∷ x ∷ y ∷ z ∷ more)) [
+  | inl dz ↦ three_digits x y z more dx dy dz none
+  | inr nz ↦ inl (two_digits x y z more refl dx dy nz)
+]
+
+after_one : (x : ℕ) (more : List ℕ) → is_digit x ≡ true → NoneWritten (92 ∷ x ∷ more) → Malformed (92 ∷ x ∷ more)
+after_one x [] dx none = inr (after_digit x refl dx)
+after_one x (y ∷ more) dx none = elim (cases_Bool (is_digit y)) as (λ s. Malformed (92 ∷ x ∷ y ∷ more)) [
+  | inl dy ↦ after_two x y more dx dy none
+  | inr ny ↦ inl (one_digit x y more refl dx ny)
+]
+
+after_other : (x : ℕ) (more : List ℕ) → is_digit x ≡ false → NoneWritten (92 ∷ x ∷ more) → Malformed (92 ∷ x ∷ more)
+after_other x more nx none = elim (cases_eq x 10) as (λ s. Malformed (92 ∷ x ∷ more)) [
+  | inl feed ↦ inl (at_line_end x more refl (inl feed))
+  | inr no_feed ↦ elim (cases_eq x 13) as (λ s. Malformed (92 ∷ x ∷ more)) [
+    | inl return ↦ inl (at_line_end x more refl (inr return))
+    | inr no_return ↦ absurd (none (escaped x) more (nx, no_feed, no_return) refl)
+  ]
+]
+
+malformed_after : (more : List ℕ) → NoneWritten (92 ∷ more) → Malformed (92 ∷ more)
+malformed_after [] none = inr (after_backslash refl)
+malformed_after (x ∷ more) none = elim (cases_Bool (is_digit x)) as (λ s. Malformed (92 ∷ x ∷ more)) [
+  | inl dx ↦ after_one x more dx none
+  | inr nx ↦ after_other x more nx none
+]
+
+pub bad_is_malformed : (rest : List ℕ) → IsBadEscape rest → IsLostEscape rest ⊎ IsCutOff rest
+bad_is_malformed rest bad = subst Malformed (sym bad.1) (malformed_after bad.0 (λ w after written e. bad.2 w after written (bad.1 ∙ e)))
+
+pub malformed_is_bad : (rest : List ℕ) → IsLostEscape rest ⊎ IsCutOff rest → IsBadEscape rest
+malformed_is_bad rest h = search rules
+
+-- a break stays, or stands at the end
+abbrev StaysOrEnds : List ℕ → Type 0
+StaysOrEnds rest = StaysBroken rest ⊎ BreaksAtEnd rest
+
+bare_escape : (rest : List ℕ) → IsLostEscape rest ⊎ IsCutOff rest → StaysOrEnds rest
+bare_escape rest (inl lost) = inl (escape_stays lost)
+bare_escape rest (inr cut) = inr (escape_open cut)
+
+quoted_escape : (rest : List ℕ) (units : List Written) (after : List ℕ) → IsLostEscape after ⊎ IsCutOff after → (IsLostEscape after → StaysBroken rest) → (IsCutOff after → BreaksAtEnd rest) → StaysOrEnds rest
+quoted_escape rest units after (inl lost) stays ends = inl (stays lost)
+quoted_escape rest units after (inr cut) stays ends = inr (ends cut)
+
+stays_or_ends : (depth : ℕ) (rest : List ℕ) (fault : Fault) → IsBroken depth rest fault → StaysOrEnds rest
+stays_or_ends depth rest fault (closes_nothing after zero_is whole) = inl (closing_stays after whole)
+stays_or_ends depth rest fault (no_escape bad) = bare_escape rest (bad_is_malformed rest bad)
+stays_or_ends depth rest fault (no_quoted_escape units after each whole bad) = search (rules, quoted_escape, bad_is_malformed, quoted_escape_stays, quoted_escape_open)
+stays_or_ends depth rest fault (no_quote units each whole) = inr (quote_open units each whole)
+stays_or_ends depth rest fault (not_closed some whole) = inr (nothing_left whole)
+
+pub break_stays_or_ends : (octets : List ℕ) (tokens : List Token) (fault : Fault) (broken : Breaks octets tokens fault) → StaysBroken broken.rest ⊎ BreaksAtEnd broken.rest
+break_stays_or_ends octets tokens fault broken = search (rules, stays_or_ends)
+
+-- an escape that further octets can't mend isn't cut off
+lost_not_cut : (rest : List ℕ) → IsLostEscape rest → IsCutOff rest → ⊥
+lost_not_cut rest h h2 = search rules
+
+-- what follows the quoted units of a text is one thing
+after_units : (units other : List Written) (after rest : List ℕ) → AllByRecursion (IsUnit is_quote) units → AllByRecursion (IsUnit is_quote) other → NoUnit is_quote after → NoUnit is_quote rest → written_text units ++ after ≡ written_text other ++ rest → after ≡ rest
+after_units units other after rest each another none no_more e = grind (arith, units_first_only is_quote (written_text units ++ after) units after refl refl each none, units_first_only is_quote (written_text units ++ after) other rest refl e another no_more)
+
+lost_begins_none : (rest : List ℕ) → IsLostEscape rest → NoUnit is_quote rest
+lost_begins_none rest lost = at_backslash (malformed_is_bad rest (inl lost))
+
+other_first : (c d : ℕ) (rest more after : List ℕ) → rest ≡ c ∷ more → rest ≡ d ∷ after → (c ≡ d → ⊥) → ⊥
+other_first c d rest more after e f apart = apart (cc)
+
+after_quote : (rest more after : List ℕ) → rest ≡ 34 ∷ more → rest ≡ 34 ∷ after → more ≡ after
+after_quote rest more after e f = cc
+
+pub stays_or_ends_alone : (rest : List ℕ) → StaysBroken rest → BreaksAtEnd rest → ⊥
+stays_or_ends_alone rest stays (nothing_left none) = stays_some rest stays none
+stays_or_ends_alone rest (closing_stays after e) (quote_open units each f) = search rules
+stays_or_ends_alone rest (escape_stays lost) (quote_open units each f) = search rules
+stays_or_ends_alone rest (quoted_escape_stays other after another e lost) (quote_open units each f) =
+    let same : written_text other ++ after ≡ written_text units ++ [] = after_quote rest (written_text other ++ after) (written_text units) e f ∙ sym (append-nil (written_text units)) in
+    grind (arith, after_quote, append-nil, after_units, lost_begins_none, at_end, stays_some)
+stays_or_ends_alone rest stays (escape_open cut) = grind arith
+stays_or_ends_alone rest stays (quoted_escape_open units more each f cut) = grind (arith, other_first, after_quote, after_units, lost_begins_none, at_backslash, malformed_is_bad, lost_not_cut)
+
+-- ---- a break of a text whose rest after its tokens is known
+
+rest_is : (octets : List ℕ) (tokens : List Token) (fault : Fault) (breaks : Breaks octets tokens fault) (rest : List ℕ) → octets ≡ text tokens ++ rest → rest ≡ breaks.rest
+rest_is octets tokens fault breaks rest e = search (rules, append_cancel_left)
+
+pub stays_for_good : (octets : List ℕ) (tokens : List Token) (fault : Fault) → Breaks octets tokens fault → (rest : List ℕ) → octets ≡ text tokens ++ rest → StaysBroken rest → BreaksForGood octets tokens fault
+stays_for_good octets tokens fault breaks rest e stays = record { breaks = breaks; stays = subst StaysBroken (rest_is octets tokens fault breaks rest e) stays }
+
+pub ends_not_for_good : (octets : List ℕ) (tokens : List Token) (rest : List ℕ) → octets ≡ text tokens ++ rest → BreaksAtEnd rest → (fault : Fault) → BreaksForGood octets tokens fault → ⊥
+ends_not_for_good octets tokens rest e ends fault good = stays_or_ends_alone rest (subst StaysBroken (sym (rest_is octets tokens fault good.breaks rest e)) good.stays) ends

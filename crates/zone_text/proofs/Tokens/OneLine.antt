@@ -1,0 +1,78 @@
+-- The line feeds of an entry that is cut as its end is looked for: the one that ends it.
+use Rattle.std.specs.List.{prefix_len}
+use Rattle.zone_text.proofs.Common.{AllByRecursion, Bool, IsInFront, IsUnit, List, RawItem, Written, [], ap, append_assoc, arith, cond, decimal, drop, ends_item, eqb-true, escaped, false, is_blank, is_digit, length, length-append, list_any, nat_eq, ne_eqb, plain, refl, stops_bare, subst, sum_by-append, sum_by-cons, sym, take, take-append-drop, take-append_seam, token_text, true, written_text, zero-add, ℕ, ◌++◌, ◌+◌, ◌-◌, ◌==◌, ◌||◌, ◌∙◌, ◌∷◌, ◌≡◌}
+use Rattle.zone_text.proofs.Scanning.FirstEntries.{IsCutTo}
+use Rattle.zone_text.proofs.Files.Left.{line_feeds}
+use Rattle.zone_text.proofs.Scanning.StopMarks.{goes_on, prefix_each}
+
+feeds_of_both : (xs ys : List ℕ) → line_feeds (xs ++ ys) ≡ line_feeds xs + line_feeds ys
+feeds_of_both xs ys = sum_by-append (λ c. cond (c == 10) 1 0) xs ys
+
+no_more : (b others : Bool) (n : ℕ) → (b || others) ≡ false → (others ≡ false → n ≡ 0) → cond b 1 0 + n ≡ 0
+no_more true others n none rest = absurd cc
+no_more false others n none rest = zero-add n ∙ rest none
+
+pub none_of_any : (xs : List ℕ) → list_any (λ y. nat_eq y 10) xs ≡ false → line_feeds xs ≡ 0
+none_of_any [] none = refl
+none_of_any (y ∷ xs) none = sum_by-cons (λ c. cond (c == 10) 1 0) y xs ∙ no_more (nat_eq y 10) (list_any (λ y. nat_eq y 10) xs) (line_feeds xs) none (none_of_any xs)
+
+other_than_ten : (is : ℕ → Bool) (b : Bool) → (is 10 ≡ b → ⊥) → (c : ℕ) → is c ≡ b → (c == 10) ≡ false
+other_than_ten is b not c e = by (c == 10) refl
+  where
+    by : (t : Bool) → (c == 10) ≡ t → (c == 10) ≡ false
+    by false h = h
+    by true h = absurd (not (subst (λ d. is d ≡ b) (eqb-true c 10 h) e))
+
+none_first : (c : ℕ) (xs : List ℕ) → (c == 10) ≡ false → line_feeds (c ∷ xs) ≡ line_feeds xs
+none_first c xs e = sum_by-cons (λ d. cond (d == 10) 1 0) c xs ∙ ap (λ (b : Bool). cond b 1 0 + line_feeds xs) e ∙ zero-add (line_feeds xs)
+
+none_bare : (xs : List ℕ) → AllByRecursion (λ c. stops_bare c ≡ false) xs → line_feeds xs ≡ 0
+none_bare [] each = refl
+none_bare (c ∷ xs) each = none_first c xs (other_than_ten stops_bare false (λ e. cc) c each.0) ∙ none_bare xs each.1
+
+pub none_written : (units : List Written) → AllByRecursion (IsUnit ends_item) units → line_feeds (written_text units) ≡ 0
+none_written [] each = refl
+none_written (plain c ∷ units) each = none_first c (written_text units) (other_than_ten ends_item false (λ e. cc) c each.0.0) ∙ none_written units each.1
+none_written (escaped c ∷ units) each = none_first 92 (c ∷ written_text units) refl ∙ none_first c (written_text units) (ne_eqb c 10 each.0.1) ∙ none_written units each.1
+none_written (decimal x y z ∷ units) each =
+    let digit = other_than_ten is_digit true (λ e. cc) in
+    none_first 92 (x ∷ y ∷ z ∷ written_text units) refl
+    ∙ none_first x (y ∷ z ∷ written_text units) (digit x each.0.0)
+    ∙ none_first y (z ∷ written_text units) (digit y each.0.1)
+    ∙ none_first z (written_text units) (digit z each.0.2)
+    ∙ none_written units each.1
+
+-- octets without line feeds were passed
+pub passed_none : (rest front left : List ℕ) → rest ≡ front ++ left → line_feeds front ≡ 0 → line_feeds left ≡ line_feeds rest
+passed_none rest front left whole none =
+    let both : line_feeds rest ≡ line_feeds front + line_feeds left = ap line_feeds whole ∙ feeds_of_both front left in
+    omega (arith, both, none)
+
+pub passed_bare : (rest stopped : List ℕ) (n : ℕ) → n ≡ prefix_len goes_on rest → stopped ≡ drop n rest → line_feeds stopped ≡ line_feeds rest
+passed_bare rest stopped n len back =
+    let each : AllByRecursion (λ c. stops_bare c ≡ false) (take n rest) = subst (λ k. AllByRecursion (λ c. stops_bare c ≡ false) (take k rest)) (sym len) (prefix_each rest) in
+    passed_none rest (take n rest) stopped (sym (take-append-drop n rest) ∙ ap (λ t. take n rest ++ t) (sym back)) (none_bare (take n rest) each)
+
+pub passed_blank : (stopped after : List ℕ) (c : ℕ) → stopped ≡ c ∷ after → is_blank c ≡ true → line_feeds after ≡ line_feeds stopped
+passed_blank stopped after c first blank = passed_none stopped (c ∷ []) after first (none_first c [] (other_than_ten is_blank true (λ e. cc) c blank))
+
+pub passed_token : (stopped passed left : List ℕ) (items : List RawItem) (n : ℕ) → IsInFront stopped items left → n ≡ length stopped - length left → passed ≡ take n stopped → list_any (λ y. nat_eq y 10) passed ≡ false → line_feeds left ≡ line_feeds stopped
+passed_token stopped passed left items n found count front none =
+    let token : List ℕ = token_text found.token in
+    let len : length stopped ≡ length token + length left = ap length found.whole ∙ length-append token left in
+    let taken : n ≡ length token = omega (arith, count, len) in
+    let same : passed ≡ token = front ∙ rw (taken, found.whole) (take-append_seam token left) in
+    passed_none stopped token left found.whole (none_of_any token (subst (λ t. list_any (λ y. nat_eq y 10) t ≡ false) same none))
+
+pub one_line : (octets stopped after : List ℕ) (kept : List RawItem) (c n : ℕ) → IsCutTo octets stopped kept → line_feeds stopped ≡ line_feeds octets → stopped ≡ c ∷ after → c ≡ 10 → n ≡ length octets - length after → line_feeds (take n octets) ≡ 1
+one_line octets stopped after kept c n so_far same first is count =
+    let fed : List ℕ = 10 ∷ [] in
+    let e : stopped ≡ fed ++ after = first ∙ ap (λ d. d ∷ after) is in
+    let front : List ℕ = so_far.front in
+    let none : line_feeds octets ≡ line_feeds front + line_feeds stopped = ap line_feeds so_far.whole ∙ feeds_of_both front stopped in
+    let whole : octets ≡ (front ++ fed) ++ after = so_far.whole ∙ ap (λ t. front ++ t) e ∙ sym (append_assoc front fed after) in
+    let len : length octets ≡ length (front ++ fed) + length after = ap length whole ∙ length-append (front ++ fed) after in
+    let taken : n ≡ length (front ++ fed) = omega (arith, count, len) in
+    let entry : take n octets ≡ front ++ fed = rw (taken, whole) (take-append_seam (front ++ fed) after) in
+    let feeds : line_feeds (take n octets) ≡ line_feeds front + 1 = ap line_feeds entry ∙ feeds_of_both front fed in
+    omega (arith, feeds, none, same)

@@ -1,0 +1,199 @@
+-- The data of a record is read into a builder.
+use Rattle.zone_wire.proofs.Common.{AllByRecursion, Awaits, BadRdata, Built, Err, Fault, Field, FieldValue, HoldEach, Holds, IsNext, IsPushFault, IsRead, IsReadyFor, IsRecordAt, IsSized, IsWhole, List, None, Ok, Option, Pushes, PutsValue, PutsValues, RawRecord, RecordAt, Result, Some, Strings, Suits, [], and_then, ap, append-nil, append_assoc, arith, cond-true, data_at, drop, drop_all, ends_with_strings, eq-eqb, field_octets, fixed, flat_map, flat_map-append, get_or, inl, inr, layout, length, length-append, length-take, long_string, misplaced, name, octets_between, octets_of, octets_push, option_or, part_at, parts_for, put_after, refl, slice_get, strings, subst, suc, sym, table_row, too_long, u16_value, u32_value, value_at, values_at, zero, ℕ, ◌*◌, ◌++◌, ◌+◌, ◌-◌, ◌<◌, ◌∙◌, ◌∷◌, ◌≡◌, ◌≢◌, ◌≤◌, common_steps, Cursor, data_of, next_value, if◌then◌else◌}
+use Rattle.zone_rdata.proofs.Fields.AnyField.{field_short}
+use Rattle.zone_wire.proofs.Fields.ReadFields.{values_show}
+use Rattle.zone_wire.proofs.Messages.MessageFaults.{and_then_err}
+use Rattle.zone_wire.proofs.Records.ReadRecords.{IsRow, each_row}
+use Rattle.zone_wire.proofs.Messages.Sectioning.{and_then_ok}
+use Rattle.zone_wire.proofs.Fields.StringReading.{length-strings, octets_of_strings, shown}
+
+-- ---- the fields of a layout
+from_here : (fields : List Field) (i : ℕ) (field : Field) → slice_get fields i ≡ Some field → drop i fields ≡ field ∷ drop (i + 1) fields
+from_here [] i field e = absurd (let t : ⊥ = cc in t)
+from_here (f ∷ fields) zero field e = let same : f ≡ field = cc in ap (λ g. g ∷ fields) same
+from_here (f ∷ fields) (suc i) field e = rw (let n : suc i + 1 ≡ suc (i + 1) = omega arith in n) (from_here fields i field e)
+
+none_here : (fields : List Field) (i : ℕ) → slice_get fields i ≡ None → drop i fields ≡ []
+none_here [] i e = drop_all i (let fs : List Field = [] in fs) (omega arith)
+none_here (f ∷ fields) zero e = absurd (let t : ⊥ = cc in t)
+none_here (f ∷ fields) (suc i) e = none_here fields i e
+
+-- what holds of each field holds of this one
+field_of : (P : Field → Type 0) (fields : List Field) (i : ℕ) (field : Field) → slice_get fields i ≡ Some field → AllByRecursion P fields → P field
+field_of P [] i field e each = absurd (let t : ⊥ = cc in t)
+field_of P (f ∷ fields) zero field e each = let same : f ≡ field = cc in subst P same each.0
+field_of P (f ∷ fields) (suc i) field e each = field_of P fields i field e each.1
+
+within_fields : (fields : List Field) (i : ℕ) (field : Field) → slice_get fields i ≡ Some field → i < length fields
+within_fields [] i field e = absurd (let t : ⊥ = cc in t)
+within_fields (f ∷ fields) zero field e = omega arith
+within_fields (f ∷ fields) (suc i) field e = let h = within_fields fields i field e in omega arith
+
+-- the values of the fields before a place were put
+pub record HaveValues (from to : Cursor) (fields : List Field) (old now : Built) (count : ℕ) : Type 0 where
+  pub values : List FieldValue
+  pub number : length values ≡ count
+  pub put : now ≡ put_after old (flat_map parts_for values)
+  pub plain : AllByRecursion (λ f. f ≢ Strings) fields → (length (flat_map parts_for values) ≡ count) × (length (octets_of (flat_map parts_for values)) ≤ 256 * count)
+  pub leads : (others : List FieldValue) → values_at from.message.now from.end to.at (drop count fields) ≡ Ok others → values_at from.message.now from.end from.at fields ≡ Ok (values ++ others)
+  pub fails : (fault : Fault) → values_at from.message.now from.end to.at (drop count fields) ≡ Err fault → values_at from.message.now from.end from.at fields ≡ Err fault
+  pub same : data_of to ≡ data_of from
+
+plain_parts : (field : Field) (value : FieldValue) → field ≢ Strings → Holds field value → parts_for value ≡ value ∷ []
+plain_parts field value other held = grind arith
+
+module _ (from : Cursor) (fields : List Field) (old : Built) (laid : layout old.class old.kind ≡ Some fields) (new : old.parts ≡ []) where
+  own_parts : (to : Cursor) (now : Built) (count : ℕ) (h : HaveValues from to fields old now count) → now.parts ≡ flat_map parts_for h.values
+  own_parts to now count h = ap (λ (b : Built). b.parts) h.put ∙ ap (λ ps. ps ++ flat_map parts_for h.values) new
+
+  same_laid : (to : Cursor) (now : Built) (count : ℕ) → HaveValues from to fields old now count → layout now.class now.kind ≡ Some fields
+  same_laid to now count h = ap (λ (b : Built). layout b.class b.kind) h.put ∙ laid
+
+  plain_next : (to : Cursor) (now : Built) (count : ℕ) (field : Field) → AllByRecursion (λ f. f ≢ Strings) fields → slice_get fields count ≡ Some field → HaveValues from to fields old now count → Awaits to now field
+  plain_next to now count field others here h =
+      let table = table_row old.class old.kind fields laid in
+      let sized = field_of IsSized fields count field here table.sized in
+      let other = field_of (λ f. f ≢ Strings) fields count field here others in
+      let plain = h.plain others in
+      let parts = own_parts to now count h in
+      let number : length now.parts ≡ count = ap length parts ∙ plain.0 in
+      let at : part_at fields (length now.parts) ≡ Some field = ap (part_at fields) number ∙ ap (λ o. option_or o (if ends_with_strings fields then Some Strings else None)) here in
+      record {
+        next = λ part suits. subst (λ o. IsNext o (length now.parts) part) (sym (same_laid to now count h)) (subst (λ o. Suits o part) (sym at) suits);
+        sized = sized;
+        room = λ value past read.
+            let one = field_short field value other sized (shown from to field (value, past) h.same read).0 in
+            omega (arith, one, plain.1, table.few, within_fields fields count field here, ap (λ ps. length (octets_of ps)) parts);
+      }
+
+  strings_ready : (to : Cursor) (now : Built) (count : ℕ) (field : Field) → fields ≡ Strings ∷ [] → slice_get fields count ≡ Some field → HaveValues from to fields old now count → IsReadyFor to now field
+  strings_ready to now count field alone here h = grind (arith, common_steps, to.short)
+
+  pub field_ready : (to : Cursor) (now : Built) (count : ℕ) (field : Field) → slice_get fields count ≡ Some field → HaveValues from to fields old now count → IsReadyFor to now field
+  field_ready to now count field here h = elim (subst IsRow laid (each_row old.class old.kind)) [
+    | inl others ↦ (grind (arith, field_of (λ f. f ≢ Strings) fields count field here others, plain_next to now count field others here h))
+    | inr alone ↦ strings_ready to now count field alone here h
+  ]
+
+  -- the value of the next field is that of the field at a later place
+  from_next : (to : Cursor) (now : Built) (count : ℕ) (field : Field) (v : Result (FieldValue × ℕ) Fault) → HaveValues from to fields old now count → next_value to field ≡ v → value_at from.message.now from.end to.at field ≡ v
+  from_next to now count field v h e = subst (λ (d : List ℕ × ℕ). value_at d.0 d.1 to.at field ≡ v) h.same e
+
+  pub field_put : (to past : Cursor) (now next : Built) (count : ℕ) (field : Field) → slice_get fields count ≡ Some field → HaveValues from to fields old now count → PutsValue field to past now next → HaveValues from past fields old next (count + 1)
+  field_put to past now next count field here h p =
+      let shows = shown from to field (p.value, past.at) h.same p.reads.read in
+      let rest : List Field = drop (count + 1) fields in
+      let more : flat_map parts_for (h.values ++ p.value ∷ []) ≡ flat_map parts_for h.values ++ parts_for p.value = flat_map-append parts_for h.values (p.value ∷ []) ∙ ap (λ t. flat_map parts_for h.values ++ t) (append-nil (parts_for p.value)) in
+      let goes : values_at from.message.now from.end to.at (drop count fields) ≡ and_then (values_at from.message.now from.end past.at rest) (λ others. Ok (p.value ∷ others)) = ap (values_at from.message.now from.end to.at) (from_here fields count field here) ∙ and_then_ok (value_at from.message.now from.end to.at field) (p.value, past.at) _ (from_next to now count field _ h p.reads.read) in
+      let same : data_of past ≡ data_of from = p.reads.same ∙ h.same in
+      grind (arith, length-append, append_assoc, field_of, plain_parts, field_short, table_row, octets_push)
+
+  pub field_bad : (to : Cursor) (now : Built) (count : ℕ) (field : Field) (fault : Fault) → slice_get fields count ≡ Some field → HaveValues from to fields old now count → next_value to field ≡ Err fault → values_at from.message.now from.end from.at fields ≡ Err fault
+  field_bad to now count field fault here h e = h.fails fault (ap (values_at from.message.now from.end to.at) (from_here fields count field here) ∙ and_then_err (value_at from.message.now from.end to.at field) fault _ (from_next to now count field _ h e))
+
+  parts_whole : (fs : List Field) (values : List FieldValue) → HoldEach fs values → length fs ≤ length (flat_map parts_for values)
+  parts_whole [] [] held = omega arith
+  parts_whole [] (v ∷ values) held = absurd held
+  parts_whole (f ∷ fs) [] held = absurd held
+  parts_whole (f ∷ fs) (v ∷ values) held = omega (arith, some_part f v held.0, parts_whole fs values held.1, length-append (parts_for v) (flat_map parts_for values))
+    where
+      some_part : (f : Field) (v : FieldValue) → Holds f v → 0 < length (parts_for v)
+      some_part Strings (strings many) held = omega (arith, held.some, length-strings many)
+      some_part f (strings many) held = absurd held
+      some_part f v held = omega arith
+
+  pub all_values : (to : Cursor) (now : Built) (count : ℕ) → slice_get fields count ≡ None → to.at ≡ to.end → HaveValues from to fields old now count → PutsValues from.message.now from.end from.at fields old now
+  all_values to now count here done h =
+      let same : to.at ≡ from.end = done ∙ ap (λ (d : List ℕ × ℕ). d.1) h.same in
+      let read : values_at from.message.now from.end from.at fields ≡ Ok h.values = h.leads [] (ap (values_at from.message.now from.end to.at) (none_here fields count here) ∙ cond-true _ _ _ (eq-eqb to.at from.end same)) ∙ ap Ok (append-nil h.values) in
+      record {
+        values = h.values;
+        read = read;
+        put = h.put;
+        whole = omega (arith, parts_whole fields h.values (values_show from.message.now from.octets from.end from.inside fields from.at h.values read).0, ap length (own_parts to now count h));
+      }
+
+-- ---- the data of a record
+-- its length is a number of 16 bits
+pub data_short : (octets : List ℕ) (offset : ℕ) (a : RecordAt) → ((k : ℕ) → get_or octets k 0 < 256) → IsRecordAt octets offset a → (a.start ≤ a.end) × (a.end ≤ a.start + 65535)
+data_short octets offset a each is = grind arith
+
+-- the data of a record whose values are read
+laid_data : (octets : List ℕ) (a : RecordAt) (fields : List Field) → layout a.class a.kind ≡ Some fields → data_at octets a ≡ and_then (values_at octets a.end a.start fields) (λ values. Ok (octets_of values))
+unfolding data_at
+laid_data octets a fields e = ap (λ (o : Option (List Field)). let r : Result (List ℕ) Fault = elim o [ None ↦ Ok (octets_between octets a.start a.end) | Some fs ↦ and_then (values_at octets a.end a.start fs) (λ values. Ok (octets_of values)) ] in r) e
+
+opaque_data : (octets : List ℕ) (a : RecordAt) → layout a.class a.kind ≡ None → data_at octets a ≡ Ok (octets_between octets a.start a.end)
+unfolding data_at
+opaque_data octets a e = ap (λ (o : Option (List Field)). let r : Result (List ℕ) Fault = elim o [ None ↦ Ok (octets_between octets a.start a.end) | Some fs ↦ and_then (values_at octets a.end a.start fs) (λ values. Ok (octets_of values)) ] in r) e
+
+part_octets : (v : FieldValue) → octets_of (parts_for v) ≡ field_octets v
+part_octets v = grind (arith, octets_of_strings, append-nil, field_octets, name, u32_value, u16_value)
+
+all_octets : (values : List FieldValue) → octets_of (flat_map parts_for values) ≡ octets_of values
+all_octets [] = refl
+all_octets (v ∷ values) = flat_map-append field_octets (parts_for v) (flat_map parts_for values) ∙ ap (λ t. t ++ octets_of (flat_map parts_for values)) (part_octets v) ∙ ap (λ t. field_octets v ++ t) (all_octets values)
+
+module _ (octets : List ℕ) (a : RecordAt) (class kind : ℕ) (same_class : class ≡ a.class) (same_kind : kind ≡ a.kind) (old : Built) (new : old ≡ record { class = class; kind = kind; parts = [] }) where
+  own_class : (now : Built) (parts : List FieldValue) → now ≡ put_after old parts → (now.class ≡ a.class) × (now.kind ≡ a.kind)
+  own_class now parts e = (ap (λ (b : Built). b.class) e ∙ ap (λ (b : Built). b.class) new ∙ same_class, ap (λ (b : Built). b.kind) e ∙ ap (λ (b : Built). b.kind) new ∙ same_kind)
+
+  no_parts : (now : Built) (parts : List FieldValue) → now ≡ put_after old parts → now.parts ≡ parts
+  no_parts now parts e = ap (λ (b : Built). b.parts) e ∙ ap (λ (b : Built). b.parts ++ parts) new
+
+  record_laid : (laid : Option (List Field)) → laid ≡ layout class kind → layout a.class a.kind ≡ laid
+  record_laid laid e = ap (λ n. layout n a.kind) (sym same_class) ∙ ap (λ n. layout class n) (sym same_kind) ∙ sym e
+
+  pub builder_laid : (laid : Option (List Field)) → laid ≡ layout class kind → layout old.class old.kind ≡ laid
+  builder_laid laid e = ap (λ (b : Built). layout b.class b.kind) new ∙ sym e
+
+  pub values_are_read : (fields : List Field) (now : Built) → Some fields ≡ layout class kind → PutsValues octets a.end a.start fields old now → IsRead octets a now
+  values_are_read fields now row p =
+      let own = own_class now (flat_map parts_for p.values) p.put in
+      let laid = record_laid (Some fields) row in
+      record {
+        class = own.0;
+        kind = own.1;
+        read = laid_data octets a fields laid ∙ and_then_ok (values_at octets a.end a.start fields) p.values _ p.read ∙ ap Ok (sym (all_octets p.values) ∙ ap octets_of (sym (no_parts now (flat_map parts_for p.values) p.put)));
+        whole = subst (λ o. IsWhole o now.parts) (sym laid ∙ ap (λ n. layout n a.kind) (sym own.0) ∙ ap (λ n. layout now.class n) (sym own.1)) p.whole;
+      }
+
+  pub values_are_refused : (fields : List Field) (fault : Fault) → Some fields ≡ layout class kind → values_at octets a.end a.start fields ≡ Err fault → data_at octets a ≡ Err fault
+  values_are_refused fields fault row e = laid_data octets a fields (record_laid (Some fields) row) ∙ and_then_err (values_at octets a.end a.start fields) fault _ e
+
+  pub octets_are_read : (now : Built) → None ≡ layout class kind → Pushes old (fixed (octets_between octets a.start a.end)) now → IsRead octets a now
+  octets_are_read now row p = grind (arith, own_class, record_laid, no_parts, opaque_data, append-nil)
+
+  -- opaque data is at most 65,535 octets
+  pub octets_are_taken : (fault : Fault) → None ≡ layout class kind → a.end ≤ a.start + 65535 → IsPushFault old (fixed (octets_between octets a.start a.end)) fault → ⊥
+  octets_are_taken fault row short bad = by fault bad
+    where
+      part : FieldValue
+      part = fixed (octets_between octets a.start a.end)
+
+      none : old.parts ≡ []
+      none = ap (λ (b : Built). b.parts) new
+
+      next : IsNext (layout old.class old.kind) (length old.parts) (fixed (octets_between octets a.start a.end))
+      next = subst (λ o. IsNext o (length old.parts) (fixed (octets_between octets a.start a.end))) (sym (builder_laid None row)) (subst (λ (ps : List FieldValue). IsNext None (length ps) (fixed (octets_between octets a.start a.end))) (sym none) tt)
+
+      by : (fault : Fault) → IsPushFault old (fixed (octets_between octets a.start a.end)) fault → ⊥
+      by _ (misplaced wrong) = wrong next
+      by _ (long_string n long) = long tt
+      by _ (too_long n fits over) =
+          let size : length (octets_of (old.parts ++ fixed (octets_between octets a.start a.end) ∷ [])) ≡ length (octets_between octets a.start a.end) = ap (λ ps. length (octets_of (ps ++ fixed (octets_between octets a.start a.end) ∷ []))) none ∙ ap length (append-nil (octets_between octets a.start a.end)) in
+          omega (arith, over, size, short, length-take (a.end - a.start) (drop a.start octets))
+
+-- likewise of a record as it is kept
+module _ (raw now : RawRecord) (view : raw ≡ now) (class kind : ℕ) (same_class : class ≡ now.at.class) (same_kind : kind ≡ now.at.kind) (old : Built) (new : old ≡ record { class = class; kind = kind; parts = [] }) where
+  pub laid_read : (fields : List Field) (built : Built) → Some fields ≡ layout class kind → PutsValues raw.octets raw.at.end raw.at.start fields old built → IsRead now.octets now.at built
+  laid_read fields built row p = values_are_read now.octets now.at class kind same_class same_kind old new fields built row (subst (λ (v : RawRecord). PutsValues v.octets v.at.end v.at.start fields old built) view p)
+
+  pub laid_refused : (fields : List Field) (fault : Fault) → Some fields ≡ layout class kind → values_at raw.octets raw.at.end raw.at.start fields ≡ Err fault → data_at now.octets now.at ≡ Err fault
+  laid_refused fields fault row e = values_are_refused now.octets now.at class kind same_class same_kind old new fields fault row (subst (λ (v : RawRecord). values_at v.octets v.at.end v.at.start fields ≡ Err fault) view e)
+
+  pub opaque_read : (built : Built) → None ≡ layout class kind → Pushes old (fixed (octets_between raw.octets raw.at.start raw.at.end)) built → IsRead now.octets now.at built
+  opaque_read built row p = octets_are_read now.octets now.at class kind same_class same_kind old new built row (subst (λ (v : RawRecord). Pushes old (fixed (octets_between v.octets v.at.start v.at.end)) built) view p)
+
+  pub opaque_taken : (fault : Fault) → None ≡ layout class kind → raw.at.end ≤ raw.at.start + 65535 → IsPushFault old (fixed (octets_between raw.octets raw.at.start raw.at.end)) fault → ⊥
+  opaque_taken fault row short bad = octets_are_taken raw.octets raw.at class kind (same_class ∙ ap (λ (v : RawRecord). v.at.class) (sym view)) (same_kind ∙ ap (λ (v : RawRecord). v.at.kind) (sym view)) old new fault row short bad
