@@ -51,8 +51,11 @@ fn octets_in_hexadecimal_digits(rt: HostRuntime) -> Result<(), Fail> {
     let mut out = Vec::new(rt.alloc());
     push_hex(&[0x0f, 0xa9], &mut out)?;
     push_hex(&[0xff; 33], &mut out)?;
-    check_octets("the first digits", &out[..6], b"0fa9ff")?;
-    check_same("two for each octet", out.len(), 70)
+    check_octets(
+        "two digits for each octet",
+        &out,
+        b"0fa9ffffffffffffffffffffffffffffffffffffffffffffffffffffffffffffffffff",
+    )
 }
 
 #[test]
