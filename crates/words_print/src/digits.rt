@@ -2,7 +2,6 @@
 //! before it is shown, so nothing is said of them here.
 ghost use Rattle.std.specs.Prelude.{◌≤◌, length};
 
-use hex::decode_to_slice;
 use std::alloc::AllocError;
 use std::simd::prelude::*;
 
@@ -64,8 +63,14 @@ pub(crate) fn read_digits(digits: &[u8], octets: &mut Vec<u8>) -> Result<bool, A
         octets.extend_from_slice(&block)?;
         (_, rest) = rest.split_at(BLOCK);
     }
-    let before = octets.len();
-    octets.resize(before + rest.len() / 2, 0)?;
-    let (_, room) = octets.as_mut_slice().split_at_mut(before);
-    Ok(decode_to_slice(rest, room).is_ok())
+    if rest.len() % 2 != 0 {
+        return Ok(false);
+    }
+    let mut last = [b'0'; BLOCK];
+    last[..rest.len()].copy_from_slice(rest);
+    let Some(block) = octets_of_block(&last) else {
+        return Ok(false);
+    };
+    octets.extend_from_slice(&block[..rest.len() / 2])?;
+    Ok(true)
 }

@@ -68,8 +68,8 @@ pub(crate) fn push_time<'o>(octets: &'o [u8], out: &mut Vec<u8>) -> Result<&'o [
     let [m0, m1] = two_digits(date.month);
     let [d0, d1] = two_digits(date.day);
     let [h0, h1] = two_digits(second / 3600);
-    let [n0, n1] = two_digits(second / 60);
-    let [s0, s1] = two_digits(second);
+    let [n0, n1] = two_digits(second / 60 % 60);
+    let [s0, s1] = two_digits(second % 60);
     out.extend_from_slice(&[y0, y1, y2, y3, m0, m1, d0, d1, h0, h1, n0, n1, s0, s1])?;
     Ok(rest)
 }
