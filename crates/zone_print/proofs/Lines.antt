@@ -1,7 +1,7 @@
 -- What a line is made of, and the lines to come.
 use Rattle.zone_print.proofs.Common.{common_steps, ◌∙◌, length, refl, take, ◌≡◌, ◌≢◌, ℕ, List, [], ◌∷◌, ◌++◌, ap, append_assoc, arith, name_text, Record, data_of, data_text, line, lines}
 use Rattle.std.proofs.lemmas.List.{take_at}
-use Rattle.zone_print.specs.Machine.Middle.{before_kind, kind_column, line_middle, HoldsBeforeKind, HoldsMiddle}
+use Rattle.zone_print.specs.Machine.Middle.{before_kind, kind_column, line_middle, HoldsMiddle}
 use Rattle.zone_print.proofs.Feeds.{line_ends_with_feed}
 use Rattle.zone_print.proofs.Front.{some_after, some_more}
 
@@ -21,14 +21,14 @@ line_parts owner ttl class kind rdata = regroup owner (32 ∷ ttl) (32 ∷ class
 pub line_split : (r : Record) → line r ≡ name_text r.owner ++ (before_kind r ++ (kind_column r ++ (data_text (data_of r) ++ 10 ∷ [])))
 line_split r = grind (arith, common_steps)
 
--- of the middle of the last record as much as both have is kept
+-- of the middle of the last record what stands before its type is kept
 pub middle_kept : (text : List ℕ) (kept : ℕ) (last r : Record) → HoldsMiddle text kept last → last.ttl ≡ r.ttl
-    → last.class ≡ r.class → HoldsBeforeKind (take kept text) kept r
+    → last.class ≡ r.class → HoldsMiddle (take kept text ++ kind_column r) kept r
 middle_kept text kept last r held ttl class =
     let same : before_kind last ≡ before_kind r = cc (ttl, class) in
     let front : take kept text ≡ before_kind last =
     cc (held.whole, held.len, take_at (before_kind last) (kind_column last) (length (before_kind last)) refl) in
-    record { whole = front ∙ same; len = held.len ∙ ap length same }
+    record { whole = ap (λ t. t ++ kind_column r) (front ∙ same); len = held.len ∙ ap length same }
 
 -- owner, middle and what follows them were pushed
 pub line_pushed : (old named numbered new owner middle : List ℕ) (r : Record) → owner ≡ name_text r.owner → middle ≡ line_middle r

@@ -1,7 +1,7 @@
 ghost use Rattle.std.specs.Prelude.{◌≡◌, [], ◌++◌, length, IfOk, IfSome, OnOk};
 ghost use Rattle.zone_name.specs.Text.{name_text};
 ghost use Rattle.zone_print.specs.Canonical.{line};
-ghost use Rattle.zone_print.specs.Machine.Middle.{HoldsBeforeKind, HoldsMiddle};
+ghost use Rattle.zone_print.specs.Machine.Middle.{HoldsMiddle};
 ghost use Rattle.zone_rdata.specs.Lent.{record_of};
 
 use crate::line::{push_before_kind, push_data, push_kind};
@@ -130,30 +130,8 @@ fn hold_owner(text: &mut Vec<u8>, last: &Option<RrRef>, rr: &RrRef) -> Result<()
     rr.owner.print(text)
 }
 
-/// Makes the text what stands between the record's owner and its type, and tells how many octets
-/// that is. What was already the last record's stays.
-fn hold_before_kind(
-    text: &mut Vec<u8>,
-    before_kind: usize,
-    last: &Option<RrRef>,
-    rr: &RrRef,
-) -> Result<usize, AllocError>
-    requires { IfSome last.now (λ last. HoldsMiddle text.old.items before_kind (record_of last)) }
-    ensures { IfOk result (λ n. HoldsBeforeKind text.new.items n (record_of rr.now)) }
-{
-    if let Some(last) = last {
-        if last.ttl == rr.ttl && last.class == rr.class {
-            text.truncate(before_kind);
-            return Ok(before_kind);
-        }
-    }
-    text.clear();
-    push_before_kind(text, rr)?;
-    Ok(text.len())
-}
-
 /// Makes the text what stands between the record's owner and its data, and tells how many octets
-/// of it stand before the type. Only what isn't already the last one's is made.
+/// of it stand before the type. What is already the last one's stays.
 fn hold_middle(
     text: &mut Vec<u8>,
     before_kind: usize,
@@ -164,11 +142,18 @@ fn hold_middle(
     ensures { IfOk result (λ n. HoldsMiddle text.new.items n (record_of rr.now)) }
 {
     if let Some(last) = last {
-        if last.ttl == rr.ttl && last.class == rr.class && last.kind == rr.kind {
+        if last.ttl == rr.ttl && last.class == rr.class {
+            if last.kind == rr.kind {
+                return Ok(before_kind);
+            }
+            text.truncate(before_kind);
+            push_kind(text, rr)?;
             return Ok(before_kind);
         }
     }
-    let before_kind = hold_before_kind(text, before_kind, last, rr)?;
+    text.clear();
+    push_before_kind(text, rr)?;
+    let before_kind = text.len();
     push_kind(text, rr)?;
     Ok(before_kind)
 }

@@ -15,11 +15,6 @@ kind_column r = kind_text r.class r.kind ++ 32 ∷ []
 abbrev pub line_middle : Record → List ℕ
 line_middle r = before_kind r ++ kind_column r
 
--- a text is what stands before the record's type, of so many octets
-pub record HoldsBeforeKind (text : List ℕ) (kept : ℕ) (r : Record) : Type 0 where
-  pub whole : text ≡ before_kind r
-  pub len : kept ≡ length (before_kind r)
-
 -- a text is the record's middle, and so many octets of it stand before the type
 pub record HoldsMiddle (text : List ℕ) (kept : ℕ) (r : Record) : Type 0 where
   pub whole : text ≡ line_middle r

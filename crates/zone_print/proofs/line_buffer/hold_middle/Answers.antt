@@ -1,8 +1,8 @@
 -- The last record's TTL and class are kept.
-use Rattle.zone_print.proofs.Common.{◌≡◌, arith, record_of, rules, subst, sym}
+use Rattle.zone_print.proofs.Common.{◌≡◌, arith, record_of, rules}
 use Rattle.zone_print.proofs.Lines.{middle_kept}
-use Rattle.zone_print.specs.Machine.Middle.{HoldsBeforeKind, HoldsMiddle}
-use Rattle.zone_print.proofs.line_buffer.hold_before_kind.Goals as goal
+use Rattle.zone_print.specs.Machine.Middle.{HoldsMiddle}
+use Rattle.zone_print.proofs.line_buffer.hold_middle.Goals as goal
 
 pub returns-then-eq : goal.returns-then-eq
 returns-then-eq c =
@@ -11,5 +11,4 @@ returns-then-eq c =
     let held : HoldsMiddle c.args.text.now.items c.args.before_kind last = grind (arith, c.requires, c.in-Some.is) in
     let ttl : last.ttl ≡ r.ttl = grind (arith, c.if-last-rr.true) in
     let class : last.class ≡ r.class = search rules in
-    subst (λ t. HoldsBeforeKind t c.args.before_kind r) (sym c.truncate.ensures.items)
-    (middle_kept c.args.text.now.items c.args.before_kind last r held ttl class)
+    rw (c.in_ok-push_kind.ensures, c.truncate.ensures.items) (middle_kept c.args.text.now.items c.args.before_kind last r held ttl class)
