@@ -130,7 +130,7 @@ impl Name {
     }
 
     /// The same name, borrowed.
-    pub(crate) fn lend(&self) -> NameRef<'_>
+    pub fn lend(&self) -> NameRef<'_>
         ensures value { result ≡ self.now }
         ensures name { IsName self.now }
     {

@@ -142,7 +142,7 @@ impl RdataBuilder {
         ensures fault { IfErr result (IfFault (IsPushFault self.old (name target.now))) }
         ensures err { OnErr result (self.new ≡ self.old) }
     {
-        Ok(self.push(Part::Name(&NameRef::of_wire(target.wire())))?)
+        Ok(self.push(Part::Name(&target.lend()))?)
     }
 
     /// Pushes a string, the next field or one more of several. On an error the

@@ -13,7 +13,7 @@ use crate::rr_source::{LendingSource, Reading, RrSource, record_or_ending};
 use std::alloc::{AllocError, Global};
 use std::collections::VecDeque;
 use std::marker::Model;
-use zone_name::{Name, NameRef};
+use zone_name::NameRef;
 
 /// The greatest number of octets for which the memory of dropped data is kept. Nearly all data is
 /// shorter, and what is kept then goes by the number of records.
@@ -62,27 +62,6 @@ impl RecordQueue {
     ///
     /// `AllocError` where memory is refused. The queue is unchanged.
     pub fn push(
-        &mut self,
-        owner: &Name,
-        ttl: u32,
-        rdata: Rdata,
-        place: Place,
-    ) -> Result<(), AllocError>
-        requires { ttl ≤ MAX_TTL }
-        ensures appended { OnOk result (self.new ≡ self.old
-            ++ record { rr = record_with owner.now ttl rdata; place = place } ∷ []) }
-        ensures record { IsRecord (record_with owner.now ttl rdata) }
-        ensures unchanged { OnErr result (self.new ≡ self.old) }
-    {
-        self.push_lent(&NameRef::of_wire(owner.wire()), ttl, rdata, place)
-    }
-
-    /// `push`, of an owner that is lent.
-    ///
-    /// # Errors
-    ///
-    /// Those of `push`.
-    pub fn push_lent(
         &mut self,
         owner: &NameRef<'_>,
         ttl: u32,

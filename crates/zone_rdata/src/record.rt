@@ -149,11 +149,10 @@ impl Rr {
         ensures record { record_of result ≡ self.now }
         ensures whole { IsRecord self.now }
     {
-        self.owner.known();
         self.rdata.known();
         let (class, kind) = (self.class(), self.kind());
         RrRef {
-            owner: NameRef::of_wire(self.owner.wire()),
+            owner: self.owner.lend(),
             class,
             kind,
             ttl: self.ttl(),

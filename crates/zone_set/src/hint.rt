@@ -31,7 +31,7 @@ pub(crate) fn hint_of(base: &Name, owner: &NameRef<'_>, kind: Kind) -> u64
     }
     match front_key(base, owner) {
         Some(key) => WITHIN + key,
-        None => match owner.cmp(&NameRef::of_wire(base.wire())) {
+        None => match owner.cmp(&base.lend()) {
             Ordering::Less => BEFORE,
             Ordering::Equal | Ordering::Greater => AFTER,
         },

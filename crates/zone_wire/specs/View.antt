@@ -1,6 +1,8 @@
 -- Messages and their records as contracts see them (RFC 1035 4.1).
 use Rattle.std.specs.Prelude.{ℕ, List}
+use Rattle.zone_name.specs.Common.{Labels}
 use Rattle.zone_wire.specs.Message.{QuestionAt, RecordAt, Sections}
+use Rattle.zone_wire.specs.declared.answers.RawFields.{RawFields}
 use Rattle.zone_wire.specs.declared.message.Question.{Question}
 
 -- a message: its octets, and what stands in them
@@ -15,6 +17,21 @@ pub record RawRecord : Type 0 where
 
 abbrev pub raw_at : List ℕ → RecordAt → RawRecord
 raw_at octets r = record { octets = octets; at = r }
+
+-- the record of an owner and of what stands after it
+abbrev pub raw_with : Labels → RawFields → RawRecord
+raw_with owner fields = record {
+  octets = fields.message.now;
+  at = record {
+    offset = fields.offset;
+    owner = owner;
+    kind = fields.kind;
+    class = fields.class;
+    ttl = fields.ttl;
+    start = fields.start;
+    end = fields.end;
+  };
+}
 
 -- a question without the offset after it
 abbrev pub asked : QuestionAt → Question

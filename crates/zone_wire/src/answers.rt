@@ -1,5 +1,7 @@
-ghost use Rattle.std.specs.Prelude.{◌≡◌, [], ◌∷◌, IfSome, IfNone};
-ghost use Rattle.zone_wire.specs.Message.{RecordAt, IsRecordAt};
+ghost use Rattle.std.specs.Prelude.{◌≡◌, ◌+◌, ◌≤◌, [], ◌∷◌, length, IfSome, IfNone};
+ghost use Rattle.zone_wire.specs.Message.{RecordAt, IsRecordAt, record_by};
+ghost use Rattle.zone_wire.specs.Name.{Found};
+ghost use Rattle.zone_wire.specs.View.{raw_at, raw_with};
 
 use crate::header::RECORD_HEAD_LEN;
 use crate::labels::LabelRoom;
@@ -9,13 +11,13 @@ use crate::runs::read_labels;
 use std::marker::Model;
 use zone_name::Name;
 
-/// A record of a message as it stands there, its data not read (RFC 1035 4.1.3).
-#[derive(Debug, Drop)]
-pub struct RawRr<'m> {
+/// What a record of a message has but its owner (RFC 1035 4.1.3).
+#[derive(Debug, Clone, Copy)]
+pub(crate) struct RawFields<'m> {
     /// The octets of the whole message.
     pub(crate) message: &'m [u8],
+    /// The offset at which the record begins.
     pub(crate) offset: usize,
-    pub(crate) owner: Name,
     pub(crate) kind: u16,
     pub(crate) class: u16,
     pub(crate) ttl: u32,
@@ -25,34 +27,23 @@ pub struct RawRr<'m> {
     pub(crate) end: usize,
 }
 
+/// A record of a message as it stands there, its data not read (RFC 1035 4.1.3).
+#[derive(Debug, Drop)]
+pub struct RawRr<'m> {
+    pub(crate) owner: Name,
+    pub(crate) fields: RawFields<'m>,
+}
+
 impl<'m> Model for RawRr<'m> {
     ghost use Rattle.zone_wire.specs.Message.{IsRecordAt};
-    ghost use Rattle.zone_wire.specs.View.{RawRecord};
+    ghost use Rattle.zone_wire.specs.View.{RawRecord, raw_with};
 
     ghost Value = { RawRecord };
 
-    ghost view = { λ r. record {
-      octets = r.message.now;
-      at = record {
-        offset = r.offset;
-        owner = r.owner;
-        kind = r.kind;
-        class = r.class;
-        ttl = r.ttl;
-        start = r.start;
-        end = r.end;
-      };
-    } };
+    ghost view = { λ r. raw_with r.owner r.fields };
 
-    ghost invariant = { λ r. IsRecordAt r.message.now r.offset (record {
-      offset = r.offset;
-      owner = r.owner;
-      kind = r.kind;
-      class = r.class;
-      ttl = r.ttl;
-      start = r.start;
-      end = r.end;
-    }) };
+    ghost invariant = { λ r.
+        IsRecordAt r.fields.message.now r.fields.offset (raw_with r.owner r.fields).at };
 }
 
 impl<'m> RawRr<'m> {
@@ -60,7 +51,7 @@ impl<'m> RawRr<'m> {
     pub fn offset(&self) -> usize
         ensures { result ≡ self.now.at.offset }
     {
-        self.offset
+        self.fields.offset
     }
 
     /// The name that the record stands at.
@@ -74,21 +65,21 @@ impl<'m> RawRr<'m> {
     pub fn class(&self) -> u16
         ensures { result ≡ self.now.at.class }
     {
-        self.class
+        self.fields.class
     }
 
     /// The number of the record's type, which need be none that zone data has.
     pub fn kind(&self) -> u16
         ensures { result ≡ self.now.at.kind }
     {
-        self.kind
+        self.fields.kind
     }
 
     /// The TTL in seconds as it stands there, which may be over 2147483647.
     pub fn ttl(&self) -> u32
         ensures { result ≡ self.now.at.ttl }
     {
-        self.ttl
+        self.fields.ttl
     }
 }
 
@@ -143,7 +134,7 @@ impl<'m> Answers<'m> {
         }
         let answer = record_at(self.message, self.offset, labels);
         self.left -= 1;
-        self.offset = answer.end;
+        self.offset = answer.fields.end;
         Some(answer)
     }
 }
@@ -160,15 +151,27 @@ fn record_at<'m, 'r>(
 {
     match read_labels(message, offset, labels) {
         Ok(end) => RawRrRef {
-            message,
-            offset,
             owner: labels.lend(),
-            kind: u16_at(message, end),
-            class: u16_at(message, end + 2),
-            ttl: u32_at(message, end + 4),
-            start: end + RECORD_HEAD_LEN,
-            end: end + RECORD_HEAD_LEN + u16_at(message, end + 8) as usize,
+            fields: fields_after(message, offset, end),
         },
         Err(_) => unreachable!(),
+    }
+}
+
+/// What the record that begins at an offset has after its owner, which ends at another.
+fn fields_after(message: &[u8], offset: usize, end: usize) -> RawFields<'_>
+    requires { end + RECORD_HEAD_LEN ≤ length message.now }
+    ensures { (found : Found) → found.end ≡ end → raw_with found.labels result
+        ≡ raw_at message.now (record_by message.now offset found) }
+{
+    let start = end + RECORD_HEAD_LEN;
+    RawFields {
+        message,
+        offset,
+        kind: u16_at(message, end),
+        class: u16_at(message, end + 2),
+        ttl: u32_at(message, end + 4),
+        start,
+        end: start + u16_at(message, end + 8) as usize,
     }
 }

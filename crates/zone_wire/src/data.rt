@@ -94,17 +94,18 @@ impl<'m, 'r> RawRrRef<'m, 'r> {
         ensures found { OnOk result (IsRead self.now.octets self.now.at builder.new) }
         ensures fault { IfErr result (IfFault (λ f. data_at self.now.octets self.now.at ≡ Err f)) }
     {
-        are_octets(self.message);
+        are_octets(self.fields.message);
+        let fields = &self.fields;
         match builder.layout() {
             Some(layout) => {
                 let mut cursor = Cursor {
-                    message: self.message,
-                    at: self.start,
-                    end: self.end,
+                    message: fields.message,
+                    at: fields.start,
+                    end: fields.end,
                 };
                 push_fields(layout, &mut cursor, labels, builder)
             }
-            None => builder.push(Part::Octets(&self.message[self.start..self.end])),
+            None => builder.push(Part::Octets(&fields.message[fields.start..fields.end])),
         }
     }
 
@@ -124,7 +125,7 @@ impl<'m, 'r> RawRrRef<'m, 'r> {
         ensures found { IfOk result (λ d. IsDataAt self.now.octets self.now.at d.octets) }
         ensures fault { IfErr result (IfFault (DataFault self.now.octets self.now.at)) }
     {
-        are_octets(self.message);
+        are_octets(self.fields.message);
         let mut builder = RdataBuilder::in_buffer(buffer, class, kind);
         self.push_data(class, kind, labels, &mut builder)?;
         match builder.whole() {

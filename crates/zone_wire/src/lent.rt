@@ -1,6 +1,6 @@
 ghost use Rattle.std.specs.Prelude.{◌≡◌};
 
-use crate::answers::RawRr;
+use crate::answers::{RawFields, RawRr};
 use std::marker::Model;
 use zone_name::NameRef;
 
@@ -8,47 +8,20 @@ use zone_name::NameRef;
 /// 4.1.3).
 #[derive(Debug, Drop)]
 pub(crate) struct RawRrRef<'m, 'r> {
-    /// The octets of the whole message.
-    pub(crate) message: &'m [u8],
-    pub(crate) offset: usize,
     pub(crate) owner: NameRef<'r>,
-    pub(crate) kind: u16,
-    pub(crate) class: u16,
-    pub(crate) ttl: u32,
-    /// The offset at which the data begins.
-    pub(crate) start: usize,
-    /// The offset after the data.
-    pub(crate) end: usize,
+    pub(crate) fields: RawFields<'m>,
 }
 
 impl<'m, 'r> Model for RawRrRef<'m, 'r> {
     ghost use Rattle.zone_wire.specs.Message.{IsRecordAt};
-    ghost use Rattle.zone_wire.specs.View.{RawRecord};
+    ghost use Rattle.zone_wire.specs.View.{RawRecord, raw_with};
 
     ghost Value = { RawRecord };
 
-    ghost view = { λ r. record {
-      octets = r.message.now;
-      at = record {
-        offset = r.offset;
-        owner = r.owner;
-        kind = r.kind;
-        class = r.class;
-        ttl = r.ttl;
-        start = r.start;
-        end = r.end;
-      };
-    } };
+    ghost view = { λ r. raw_with r.owner r.fields };
 
-    ghost invariant = { λ r. IsRecordAt r.message.now r.offset (record {
-      offset = r.offset;
-      owner = r.owner;
-      kind = r.kind;
-      class = r.class;
-      ttl = r.ttl;
-      start = r.start;
-      end = r.end;
-    }) };
+    ghost invariant = { λ r.
+        IsRecordAt r.fields.message.now r.fields.offset (raw_with r.owner r.fields).at };
 }
 
 impl<'m, 'r> RawRrRef<'m, 'r> {
@@ -56,7 +29,7 @@ impl<'m, 'r> RawRrRef<'m, 'r> {
     pub(crate) fn offset(&self) -> usize
         ensures { result ≡ self.now.at.offset }
     {
-        self.offset
+        self.fields.offset
     }
 
     /// The same record, which owns its owner.
@@ -64,14 +37,8 @@ impl<'m, 'r> RawRrRef<'m, 'r> {
         ensures { result ≡ self.now }
     {
         RawRr {
-            message: self.message,
-            offset: self.offset,
             owner: self.owner.to_name(),
-            kind: self.kind,
-            class: self.class,
-            ttl: self.ttl,
-            start: self.start,
-            end: self.end,
+            fields: self.fields,
         }
     }
 }
@@ -82,14 +49,8 @@ impl<'m> RawRr<'m> {
         ensures { result ≡ self.now }
     {
         RawRrRef {
-            message: self.message,
-            offset: self.offset,
-            owner: NameRef::of_wire(self.owner.wire()),
-            kind: self.kind,
-            class: self.class,
-            ttl: self.ttl,
-            start: self.start,
-            end: self.end,
+            owner: self.owner.lend(),
+            fields: self.fields,
         }
     }
 }

@@ -37,7 +37,7 @@ impl<'m, 'r> RawRrRef<'m, 'r> {
     pub(crate) fn is_soa(&self) -> bool
         ensures { IsTrue result ↔ (self.now.at.kind ≡ 6) }
     {
-        self.kind == 6
+        self.fields.kind == 6
     }
 
     /// The class and the type, if a zone can have them and the type is read.
@@ -47,15 +47,15 @@ impl<'m, 'r> RawRrRef<'m, 'r> {
         ensures readable { IfOk result (λ _. IsReadable self.now.at.kind) }
         ensures fault { IfErr result (λ c. OwnFault self.now.octets self.now.at (fault_for c)) }
     {
-        let Some(class) = Class::of_number(self.class) else {
+        let Some(class) = Class::of_number(self.fields.class) else {
             return Err(Cause::BadClass);
         };
         class.known();
-        let Some(kind) = Kind::of_number(self.kind) else {
+        let Some(kind) = Kind::of_number(self.fields.kind) else {
             return Err(Cause::MetaType);
         };
         kind.known();
-        if !is_readable(self.kind) {
+        if !is_readable(self.fields.kind) {
             return Err(Cause::CompressibleType);
         }
         Ok((class, kind))
@@ -68,11 +68,11 @@ impl<'m, 'r> RawRrRef<'m, 'r> {
             → IfOk result (λ s. s ≡ r) × IfErr result (λ e. e ≡ Failing.Memory) }
         ensures fault { IfErr result (IfFault (OwnFault self.now.octets self.now.at)) }
     {
-        are_octets(self.message);
+        are_octets(self.fields.message);
         let (class, kind) = self.class_and_kind()?;
         let mut labels = LabelRoom::new();
         let rdata = self.rdata(Vec::new(alloc), class, kind, &mut labels)?;
-        Ok(Rr::of_parts(self.owner.to_name(), counted_ttl(self.ttl), rdata))
+        Ok(Rr::of_parts(self.owner.to_name(), counted_ttl(self.fields.ttl), rdata))
     }
 }
 

@@ -192,7 +192,7 @@ impl Transfer {
         let (class, kind) = answer.class_and_kind()?;
         let buffer = self.decided.placed.buffer(self.alloc);
         let rdata = answer.rdata(buffer, class, kind, labels)?;
-        let (ttl, offset) = (counted_ttl(answer.ttl), answer.offset());
+        let (ttl, offset) = (counted_ttl(answer.fields.ttl), answer.offset());
         let _ = answer.owner.wire();
         rdata.known();
         if self.closed {
@@ -245,7 +245,7 @@ impl Transfer {
             return Ok(());
         }
         let (owner, ttl, rdata) = rr.into_parts();
-        self.hand_on(&NameRef::of_wire(owner.wire()), ttl, rdata, answer.offset())?;
+        self.hand_on(&owner.lend(), ttl, rdata, answer.offset())?;
         Ok(())
     }
 
@@ -268,7 +268,7 @@ impl Transfer {
         ensures ending { self.new.decided.ending ≡ self.old.decided.ending }
     {
         let place = Place::Message(self.messages, offset);
-        self.decided.placed.push_lent(owner, ttl, rdata, place)
+        self.decided.placed.push(owner, ttl, rdata, place)
     }
 
     /// Takes the opening SOA, which fixes the zone if no question does.

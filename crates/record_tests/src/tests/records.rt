@@ -3,7 +3,7 @@ use crate::tests::items::data_of;
 use std::alloc::Global;
 use std::test::Fail;
 use test_support::{Case, check, check_rows, check_same, rooted};
-use zone_name::{Name, NameRef};
+use zone_name::Name;
 use zone_rdata::{
     Cause, Fault, LendingSource, NarrowFailing, PendingRecords, Place, Placed, Rr, RrSource, Stop,
 };
@@ -111,7 +111,9 @@ fn queue_of_four(alloc: Global) -> Result<PendingRecords, Fail> {
     let mut pending = PendingRecords::new(alloc);
     for ttl in 1..5 {
         let data = data_of(alloc, "x.", "IN NS b.")??;
-        pending.placed.push(&owner, ttl, data, Place::Line(3))?;
+        pending
+            .placed
+            .push(&owner.lend(), ttl, data, Place::Line(3))?;
     }
     pending.refuse(NarrowFailing::of(Cause::BadTtl), Place::Line(4))?;
     Ok(pending)
@@ -172,10 +174,9 @@ fn push_server(alloc: Global, pending: &mut PendingRecords, ttl: u16) -> Result<
     let (owner, _) = owner_of(ttl);
     let data = data_of(alloc, "x.", "IN NS b.")??;
     let owner = rooted(owner)?;
-    let (lent, _) = NameRef::split_front(owner.wire());
     pending
         .placed
-        .push_lent(&lent, u32::from(ttl), data, Place::Line(3))?;
+        .push(&owner.lend(), u32::from(ttl), data, Place::Line(3))?;
     Ok(())
 }
 

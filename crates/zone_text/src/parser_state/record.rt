@@ -72,7 +72,7 @@ impl ParserState {
         let class = contents.rdata.class();
         decided
             .placed
-            .push(owner, contents.ttl, contents.rdata, place)?;
+            .push(&owner.lend(), contents.ttl, contents.rdata, place)?;
         self.class = class;
         self.last_ttl = contents.stated_ttl.or(self.last_ttl);
         self.minimum = contents.minimum;

@@ -1,9 +1,9 @@
 -- The question and the answers of a message that was parsed, and the answers that are still to
 -- come.
-use Rattle.zone_wire.proofs.Common.{AreAt, AreRecordsAt, Found, HasRecordsFrom, IsMessage, IsNameAt, IsParsed, IsQuestionAt, IsRecordAt, List, QuestionAt, RecordAt, Sections, [], ap, arith, length, map, parsed, question_by, raw_at, raw_from, record_at, record_by, refl, sym, u16_at, ℕ, ◌-◌, ◌∙◌, ◌∷◌, ◌≡◌}
+use Rattle.zone_wire.proofs.Common.{AreAt, AreRecordsAt, Found, HasRecordsFrom, IsMessage, IsNameAt, IsParsed, IsQuestionAt, IsRecordAt, List, QuestionAt, RecordAt, Sections, [], ap, arith, get_or, length, map, named, outcome, parsed, question_by, raw_at, raw_from, record_at, record_by, refl, sym, u16_at, walk, ℕ, ◌-◌, ◌<◌, ◌∙◌, ◌∷◌, ◌≡◌}
 use Rattle.zone_wire.proofs.Messages.OneMessage.{one_part}
 use Rattle.zone_wire.proofs.Messages.Sectioning.{part_reads, each_reads}
-use Rattle.zone_wire.proofs.Names.Walking.{one_name}
+use Rattle.zone_wire.proofs.Names.Walking.{one_name, walk_names}
 
 -- records that stand somewhere are read there
 pub stand_read : (octets : List ℕ) (count offset : ℕ) (s : HasRecordsFrom octets count offset) → raw_from octets count offset ≡ map (raw_at octets) s.records
@@ -35,6 +35,10 @@ one_more_is octets count offset s some r is end e =
 -- the record after this name, where a record stands
 pub record_of_name : (octets : List ℕ) (offset : ℕ) (r : RecordAt) → IsRecordAt octets offset r → (found : Found) → IsNameAt octets offset found → IsRecordAt octets offset (record_by octets offset found)
 record_of_name octets offset r is found name = grind (arith, one_name)
+
+-- the same, of the name that a walk finds
+pub record_walked : (octets : List ℕ) (offset : ℕ) → ((k : ℕ) → get_or octets k 0 < 256) → (r : RecordAt) → IsRecordAt octets offset r → (found : Found) → outcome octets (walk octets offset) ≡ named found → IsRecordAt octets offset (record_by octets offset found)
+record_walked octets offset each r is found e = record_of_name octets offset r is found (walk_names octets offset found each e)
 
 -- the answers of a message that was parsed
 pub answers_stand : (octets : List ℕ) (answers : ℕ) → IsParsed octets answers → HasRecordsFrom octets (u16_at octets 6) answers

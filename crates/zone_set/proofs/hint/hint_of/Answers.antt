@@ -5,7 +5,7 @@ use Rattle.zone_set.proofs.hint.hint_of.Goals.{After-cmp}
 
 -- how the owner lies to the base
 lies : (c : After-cmp) → name_cmp c.args.owner.now c.args.base.now ≡ c.cmp.result
-lies c = ap (name_cmp c.args.owner.now) (sym (c.of_wire.ensures ∙ c.wire.ensures.back)) ∙ sym c.cmp.ensures
+lies c = ap (name_cmp c.args.owner.now) (sym c.lend.ensures.value) ∙ sym c.cmp.ensures
 
 other : (c : After-cmp) → c.args.kind ≢ 6
 other c e = false≢true (c.if-is_soa.ensures.1 e)

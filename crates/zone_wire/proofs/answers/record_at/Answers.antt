@@ -1,67 +1,29 @@
-use Rattle.zone_wire.proofs.Common.{arith}
-use Rattle.zone_wire.proofs.Records.Pending.{record_of_name}
-use Rattle.zone_wire.proofs.Names.Walking.{walk_names, name_walks, name_bounds}
+use Rattle.zone_wire.proofs.Common.{Found, IsRecordAt, RawRecord, ap, arith, refl, subst, sym}
+use Rattle.zone_wire.proofs.Records.Pending.{record_walked}
+use Rattle.zone_wire.proofs.Names.Walking.{name_walks}
 use Rattle.zone_wire.proofs.answers.record_at.Goals as goal
 
-pub overflow_add-end : goal.overflow_add-end
-overflow_add-end c =
-    let bounds = name_bounds c.args.message.now c.args.offset _ (walk_names c.args.message.now c.args.offset _ (λ i. omega (arith, c.type_inv.message i)) c.in-Ok.ensures.2) in
-    omega (arith, bounds.end)
+-- what is found of the owner
+abbrev owner : (c : goal.After-fields_after) → Found
+owner c = record { labels = c.read_labels.new.labels; end = c.in-Ok.end; steps = c.in-Ok.ensures.0; pointers = c.in-Ok.ensures.1 }
 
-pub overflow_add-end-in-Ok : goal.overflow_add-end-in-Ok
-overflow_add-end-in-Ok c =
-    let bounds = name_bounds c.args.message.now c.args.offset _ (walk_names c.args.message.now c.args.offset _ (λ i. omega (arith, c.type_inv.message i)) c.in-Ok.ensures.2) in
-    omega (arith, bounds.end)
-
-pub overflow_add-result : goal.overflow_add-result
-overflow_add-result c =
-    let bounds = name_bounds c.args.message.now c.args.offset _ (walk_names c.args.message.now c.args.offset _ (λ i. omega (arith, c.type_inv.message i)) c.in-Ok.ensures.2) in
-    omega (arith, bounds.end)
-
-pub overflow_add-result-in-Ok : goal.overflow_add-result-in-Ok
-overflow_add-result-in-Ok c =
-    let bounds = name_bounds c.args.message.now c.args.offset _ (walk_names c.args.message.now c.args.offset _ (λ i. omega (arith, c.type_inv.message i)) c.in-Ok.ensures.2) in
-    omega (arith, bounds.end)
-
-pub overflow_add-end-in-Ok-2 : goal.overflow_add-end-in-Ok-2
-overflow_add-end-in-Ok-2 c =
-    let bounds = name_bounds c.args.message.now c.args.offset _ (walk_names c.args.message.now c.args.offset _ (λ i. omega (arith, c.type_inv.message i)) c.in-Ok.ensures.2) in
-    omega (arith, bounds.end)
-
-pub overflow_add-result-in-Ok-2 : goal.overflow_add-result-in-Ok-2
-overflow_add-result-in-Ok-2 c =
-    let bounds = name_bounds c.args.message.now c.args.offset _ (walk_names c.args.message.now c.args.offset _ (λ i. omega (arith, c.type_inv.message i)) c.in-Ok.ensures.2) in
-    omega (arith, bounds.end)
-
-pub u16_at-requires : goal.u16_at-requires
-u16_at-requires c =
-    let is = record_of_name c.args.message.now c.args.offset c.requires.0 c.requires.1 _ (walk_names c.args.message.now c.args.offset _ (λ i. omega (arith, c.type_inv.message i)) c.in-Ok.ensures.2) in
-    omega (arith, is.inside)
-
-pub u16_at-requires-in-Ok : goal.u16_at-requires-in-Ok
-u16_at-requires-in-Ok c =
-    let is = record_of_name c.args.message.now c.args.offset c.requires.0 c.requires.1 _ (walk_names c.args.message.now c.args.offset _ (λ i. omega (arith, c.type_inv.message i)) c.in-Ok.ensures.2) in
-    omega (arith, is.inside)
-
-pub u32_at-requires : goal.u32_at-requires
-u32_at-requires c =
-    let is = record_of_name c.args.message.now c.args.offset c.requires.0 c.requires.1 _ (walk_names c.args.message.now c.args.offset _ (λ i. omega (arith, c.type_inv.message i)) c.in-Ok.ensures.2) in
-    omega (arith, is.inside)
-
-pub u16_at-requires-in-Ok-2 : goal.u16_at-requires-in-Ok-2
-u16_at-requires-in-Ok-2 c =
-    let is = record_of_name c.args.message.now c.args.offset c.requires.0 c.requires.1 _ (walk_names c.args.message.now c.args.offset _ (λ i. omega (arith, c.type_inv.message i)) c.in-Ok.ensures.2) in
+pub fields_after-requires : goal.fields_after-requires
+fields_after-requires c =
+    let is = record_walked c.args.message.now c.args.offset (λ i. omega (arith, c.type_inv.message i)) c.requires.0 c.requires.1 _ c.in-Ok.ensures.2 in
     omega (arith, is.inside)
 
 pub invariant_of-result : goal.invariant_of-result
 invariant_of-result c =
-    rw (c.lend.ensures, c.u16_at.ensures, c.u16_at-in-Ok.ensures, c.u32_at.ensures, c.u16_at-in-Ok-2.ensures)
-    (record_of_name c.args.message.now c.args.offset c.requires.0 c.requires.1 _ (walk_names c.args.message.now c.args.offset _ (λ i. omega (arith, c.type_inv.message i)) c.in-Ok.ensures.2))
+    rw c.lend.ensures (subst (λ (r : RawRecord). IsRecordAt r.octets r.at.offset r.at) (sym (c.fields_after.ensures (owner c) refl))
+    (record_walked c.args.message.now c.args.offset (λ i. omega (arith, c.type_inv.message i)) c.requires.0 c.requires.1 _ c.in-Ok.ensures.2))
+
+pub returns-clause-octets : goal.returns-clause-octets
+returns-clause-octets c = ap (λ (r : RawRecord). r.octets) (c.fields_after.ensures (owner c) refl)
 
 pub returns-clause-at : goal.returns-clause-at
 returns-clause-at c =
-    rw (c.lend.ensures, c.u16_at.ensures, c.u16_at-in-Ok.ensures, c.u32_at.ensures, c.u16_at-in-Ok-2.ensures)
-    (record_of_name c.args.message.now c.args.offset c.requires.0 c.requires.1 _ (walk_names c.args.message.now c.args.offset _ (λ i. omega (arith, c.type_inv.message i)) c.in-Ok.ensures.2))
+    rw c.lend.ensures (subst (λ (r : RawRecord). IsRecordAt c.args.message.now c.args.offset r.at) (sym (c.fields_after.ensures (owner c) refl))
+    (record_walked c.args.message.now c.args.offset (λ i. omega (arith, c.type_inv.message i)) c.requires.0 c.requires.1 _ c.in-Ok.ensures.2))
 
 pub unreachable-requires : goal.unreachable-requires
 unreachable-requires c =

@@ -23,9 +23,9 @@ returns c origin before entry has =
     let rdata = c.in-Ok.contents.rdata in
     let named : Labels → Record = λ owner. record { owner = owner; class = rdata.class; kind = rdata.kind; ttl = c.in-Ok.contents.ttl; octets = rdata.octets } in
     decides_one (named c.in-Some.owner)
-    (states_record c.lower_laws.ensures origin before entry c.args.self.now reads.head _ _ _ _ _ reads.read (ap named (sym reads.named)) c.in_ok-push.ensures.record)
+    (states_record c.lower_laws.ensures origin before entry c.args.self.now reads.head _ _ _ _ _ reads.read (ap named (sym reads.named)) (rw c.lend.ensures.value at c.in_ok-push.ensures.record))
     (record_left c.lower_laws.ensures origin before entry c.args.self.now (record { origin = c.args.self.now.origin; owner = c.args.self.now.owner; class = c.class-class.result; default_ttl = c.args.self.now.default_ttl; last_ttl = c.or-self.result; minimum = c.in-Ok.contents.minimum }) reads.head _ _ _ _ c.args.self.now.owner reads.read refl (c.class-class.ensures ∙ reads.read.class) refl c.or-self.ensures refl (subst (IsOneOrNone (IsLastOwner origin (entry ∷ before))) (sym c.in-Some.is) one.1))
-    (rw c.buffer-buffer.ensures at c.in_ok-push.ensures.appended)
+    (rw (c.buffer-buffer.ensures, c.lend.ensures.value) at c.in_ok-push.ensures.appended)
     refl
 
 pub returns-then-contents-gt-MAX_TTL : goal.returns-then-contents-gt-MAX_TTL

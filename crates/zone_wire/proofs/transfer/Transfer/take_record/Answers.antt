@@ -11,8 +11,8 @@ pub returns-clause-gains : goal.returns-clause-gains
 returns-clause-gains c = λ questions placed among.
     let parts = c.into_parts-owner.result in
     let its_parts = c.into_parts-owner.ensures in
-    let same : record_with c.of_wire.result parts.1 parts.2 ≡ c.args.rr =
-    ap (λ o. record_with o parts.1 parts.2) (c.of_wire.ensures ∙ c.wire.ensures.back ∙ its_parts.owner) ∙ ap (λ t. record_with c.args.rr.owner t parts.2) its_parts.ttl ∙ ap (λ d. record_with c.args.rr.owner c.args.rr.ttl d) its_parts.rdata in
+    let same : record_with c.lend.result parts.1 parts.2 ≡ c.args.rr =
+    ap (λ o. record_with o parts.1 parts.2) (c.lend.ensures.value ∙ its_parts.owner) ∙ ap (λ t. record_with c.args.rr.owner t parts.2) its_parts.ttl ∙ ap (λ d. record_with c.args.rr.owner c.args.rr.ttl d) its_parts.rdata in
     let handed = rw c.offset.ensures at c.in_ok-hand_on.ensures.items in
     let items = handed ∙ ap (λ r. c.if-is_none.self.decided.placed ++ here_at r c.if-is_none.self.messages c.args.answer.now.at.offset ∷ []) same in
     elim c.if-is_none.branch [
