@@ -7,3 +7,4 @@ pub mod Refusal
 pub mod Bulk
 pub mod Places
 pub mod Owner
+pub mod Octets

@@ -8,7 +8,7 @@ use crate::owner::first_label;
 use crate::tie::{StoredParts, entry_order, stored_at};
 
 /// How many entries are at most sorted by their octets alone.
-const FEW: usize = 3;
+const FEW: usize = 8;
 
 /// After so many digits octets are compared, and no more keys are made.
 const FAR: usize = 320;

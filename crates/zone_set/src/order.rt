@@ -1,7 +1,8 @@
-ghost use Rattle.std.specs.Prelude.{◌≡◌, ◌<◌, bytes_eq};
+ghost use Rattle.std.specs.Prelude.{◌≡◌, ◌≢◌, ◌⊎◌, ◌<◌, bytes_eq, IsTrue};
 ghost use Rattle.std.specs.Cmp.Lexicographic.{slice_cmp};
 ghost use Rattle.std.specs.List.{AllByRecursion};
 ghost use Rattle.std.specs.Ordering.{nat_cmp};
+ghost use Rattle.zone_set.specs.Machine.Octets.{AreSameButForFew};
 
 use std::cmp::Ordering;
 
@@ -25,11 +26,38 @@ pub(crate) fn octet_order(a: &[u8], b: &[u8]) -> Ordering
     order_after(more, others)
 }
 
-/// Whether octets are the same, by `octet_order`: std's `==` has more to look at before.
+/// Whether octets are the same. None is looked at where the lengths differ, and else eight at a
+/// time: std's `==` has more to look at before.
 pub(crate) fn are_same(a: &[u8], b: &[u8]) -> bool
     ensures { result ≡ bytes_eq a.now b.now }
 {
-    octet_order(a, b).is_eq()
+    if a.len() != b.len() {
+        return false;
+    }
+    let (Some(last), Some(other)) = (a.last_chunk::<8>(), b.last_chunk::<8>()) else {
+        return a == b;
+    };
+    // The last eight have those that are left after the others.
+    last == other && have_same_eights(a, b)
+}
+
+/// Whether octets are the same as far as there are eight in both.
+fn have_same_eights(a: &[u8], b: &[u8]) -> bool
+    ensures same { IsTrue result → AreSameButForFew a.now b.now }
+    ensures other { IsTrue result ⊎ (a.now ≢ b.now) }
+{
+    let (mut left, mut right) = (a, b);
+    while let (Some((x, more)), Some((y, others))) = (
+        left.split_first_chunk::<8>(),
+        right.split_first_chunk::<8>(),
+    ) {
+        if x != y {
+            return false;
+        }
+        left = more;
+        right = others;
+    }
+    true
 }
 
 /// `octet_order`, eight octets after eight. It is no part of a search, which is shorter without it.

@@ -1,4 +1,4 @@
-ghost use Rattle.std.specs.Prelude.{◌≡◌, ◌<◌, length, IfSome};
+ghost use Rattle.std.specs.Prelude.{◌≡◌, ◌<◌, List, ℕ, length, IfSome, IsTrue};
 ghost use Rattle.zone_name.specs.Order.{name_cmp};
 ghost use Rattle.zone_set.specs.Machine.Owner.{AreFirst, IsFirst};
 
@@ -6,12 +6,18 @@ use crate::order::{are_same, octet_order};
 use std::cmp::Ordering;
 use zone_name::NameRef;
 
-/// How owners lie. Those of one hint mostly differ in their first label alone.
+/// How owners lie. Those of one hint mostly are the same, or differ in their first label alone, or
+/// one has a label before those of the other.
 pub(crate) fn owner_order(owner: &NameRef<'_>, other: &NameRef<'_>) -> Ordering
     ensures { result ≡ name_cmp owner.now other.now }
 {
-    match first_labels(owner.wire(), other.wire()) {
+    let (a, b) = (owner.wire(), other.wire());
+    if are_same(a, b) {
+        return Ordering::Equal;
+    }
+    match first_labels(a, b) {
         Some((label, theirs)) => octet_order(label, theirs),
+        None if is_child(a, b) => Ordering::Less,
         None => owner.cmp(other),
     }
 }
@@ -26,6 +32,16 @@ pub(crate) fn first_labels<'a, 'b>(a: &'a [u8], b: &'b [u8]) -> Option<(&'a [u8]
         Some((label, other))
     } else {
         None
+    }
+}
+
+/// Whether the other owner has one label before those of this one.
+pub(crate) fn is_child(owner: &[u8], other: &[u8]) -> bool
+    ensures { IsTrue result → (label : List ℕ) × IsFirst other.now label owner.now }
+{
+    match first_label(other) {
+        Some((_, rest)) => are_same(rest, owner),
+        None => false,
     }
 }
 
