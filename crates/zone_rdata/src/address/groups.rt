@@ -5,7 +5,7 @@ ghost use Rattle.zone_rdata.specs.Machine.AddressReading.{AppendsSome, IsGroupOf
 
 use super::ipv4::{cut_at, ipv4_octets_of};
 use arrayvec::ArrayVec;
-use hex::decode_to_slice;
+use hex::FromHex;
 
 /// The octets of an address of sixteen.
 const LENGTH: usize = 16;
@@ -22,9 +22,7 @@ fn group_of(text: &[u8]) -> Option<[u8; 2]>
         [first, second, third, last] => [first, second, third, last],
         _ => return None,
     };
-    let mut octets = [0; 2];
-    decode_to_slice(digits, &mut octets).ok()?;
-    Some(octets)
+    <[u8; 2]>::from_hex(digits).ok()
 }
 
 /// Appends octets. `None`: there is no room.

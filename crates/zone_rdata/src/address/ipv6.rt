@@ -57,8 +57,9 @@ pub fn ipv6_octets_of(text: &[u8]) -> Option<[u8; 16]>
     ensures found { IfSome result (λ octets. IsIpv6Address text.now octets) }
     ensures none { IfNone result (NothingIs (IsIpv6Address text.now)) }
 {
-    match gap_in(text) {
-        None => octets_of_eight(text),
-        Some(at) => octets_around(&text[..at], &text[at + 2..]),
+    if let Some(octets) = octets_of_eight(text) {
+        return Some(octets);
     }
+    let at = gap_in(text)?;
+    octets_around(&text[..at], &text[at + 2..])
 }
