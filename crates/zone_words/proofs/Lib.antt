@@ -50,6 +50,7 @@ pub mod Locations
 pub mod KeptRecords
 pub mod Turns
 pub mod GivenTokens
+mod PlainLines
 pub mod BecomesOnce
 pub mod Moved
 pub mod Registered

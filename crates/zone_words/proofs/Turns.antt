@@ -3,7 +3,7 @@ use Rattle.std.proofs.Common.{arith, inl, inr, ap, refl, subst, sym, ◌∙◌, 
 use Rattle.std.proofs.lemmas.List.Concat.{flat_map-append}
 use Rattle.std.proofs.lemmas.List.{length-append}
 use Rattle.std.specs.Prelude.{Option, MatchOption, IfNone, IfOk, Result, option_map, option_to_list, count_by, slice_get, ◌==◌, if◌then◌else◌}
-use Rattle.std.specs.List.{find, flat_map}
+use Rattle.std.specs.List.{filter, find, flat_map}
 use Rattle.zone_name.specs.Common.{Labels, NothingIs}
 use Rattle.zone_name.specs.Name.{folded_label}
 use Rattle.zone_name.specs.Spelling.{Written, written_text}
@@ -30,18 +30,19 @@ use Rattle.zone_words.specs.Machine.EntryWriting.{PushesEntry}
 use Rattle.zone_words.specs.Machine.Further.{FindsParts, NoneIsFurther}
 use Rattle.zone_words.specs.Inherited.{IsInherited, IsOneOrNone}
 use Rattle.zone_words.specs.Machine.Turn.{AreInWords, AreOfRecord, IsTurnWritten, SayAround, StandsBeside, TakesRecordsTurn, TakesTurn, TurnIs, WritesTurn, refusal_in, told_by}
-use Rattle.zone_words.specs.Machine.Walking.{StandsNowhere, WritesBetween}
+use Rattle.zone_words.specs.Machine.Walking.{StandsNowhere}
 use Rattle.zone_words.specs.Origin.{IsCasedOrigin, NamesOrigin, origin_items}
 use Rattle.zone_words.specs.Refusal.{AddsTold, refused_of}
 use Rattle.zone_words.specs.Rewriting.{Refused}
 use Rattle.zone_words.specs.Table.{FurtherType, IsFurtherWord, fields_in, further_names, further_of, further_types}
-use Rattle.zone_words.specs.Written.{Anew, in_octets, renamed, written}
+use Rattle.zone_words.specs.Written.{Anew, in_octets, renamed, stays, written}
 use Rattle.zone_words.specs.declared.fault.WordsFault.{WordsFault}
 use Rattle.zone_words.specs.declared.fault.WordsFault.TheVariants.{TooManyItems, LineFeedWithinQuotes}
 use Rattle.zone_words.specs.declared.entry_writer.EntryWriter.{EntryWriter}
 use Rattle.zone_words.specs.declared.further.FurtherRecord.{FurtherRecord}
 use Rattle.zone_words.specs.declared.inherited.Inherited.{Inherited}
 use Rattle.zone_words.specs.declared.refusal.Refusal.{Refusal}
+use Rattle.zone_words.specs.declared.turn.EntryData.{EntryData}
 use Rattle.zone_words.specs.declared.turn.Turn.{Turn}
 use Rattle.zone_words.specs.declared.turn.Turn.TheVariants as turns
 use Rattle.zone_words.specs.declared.writing.Around.{Around}
@@ -221,13 +222,13 @@ fails_in_words origin before entry word data_items it (on_more_lines further abo
 fails_in_words origin before entry word data_items it (no_data further above field fault is words few line fails) = words
 
 -- no record, or no origin: the entry stays
-pub stays_no_record : (origin : Labels) (before : List Entry) (line : ℕ) (all_tokens : List Token) (stated : List ℕ) → ((word : List ℕ) (all : List RawItem) (further : FurtherType) → IsFurtherRecord before (entry_of line all_tokens) word all further → ⊥) → TurnIs origin before line all_tokens stated turns.Stays
+pub stays_no_record : (origin : Labels) (before : List Entry) (line : ℕ) (all_tokens : List Token) (stated : EntryData) → ((word : List ℕ) (all : List RawItem) (further : FurtherType) → IsFurtherRecord before (entry_of line all_tokens) word all further → ⊥) → TurnIs origin before line all_tokens stated turns.Stays
 stays_no_record origin before line all_tokens stated none = (
   λ front back it say. (let u = says_under origin before (entry_of line all_tokens) (written_text say.word) (touching_items true back) it say.says in none (written_text say.word) (items_of (touching_items true back)) u.further u.is.stated),
   λ it fail. (let u = fails_under origin before (entry_of line all_tokens) (written_text fail.word) (touching_items true fail.back) it fail.fails in none (written_text fail.word) (items_of (touching_items true fail.back)) u.further u.is.stated),
 )
 
-pub stays_no_origin : (origin : Labels) (before : List Entry) (line : ℕ) (all_tokens : List Token) (stated : List ℕ) → NothingIs (IsCasedOrigin origin (entry_of line all_tokens ∷ before)) → TurnIs origin before line all_tokens stated turns.Stays
+pub stays_no_origin : (origin : Labels) (before : List Entry) (line : ℕ) (all_tokens : List Token) (stated : EntryData) → NothingIs (IsCasedOrigin origin (entry_of line all_tokens ∷ before)) → TurnIs origin before line all_tokens stated turns.Stays
 stays_no_origin origin before line all_tokens stated none = (
   λ front back it say. (let u = says_under origin before (entry_of line all_tokens) (written_text say.word) (touching_items true back) it say.says in there (written_text say.word) (items_of (touching_items true back)) u),
   λ it fail. (let u = fails_under origin before (entry_of line all_tokens) (written_text fail.word) (touching_items true fail.back) it fail.fails in there (written_text fail.word) (items_of (touching_items true fail.back)) u),
@@ -255,7 +256,7 @@ generic_fails origin before line all_tokens found n above of generic word data_i
     let same = record_once before (entry_of line all_tokens) word found.word.now (items_of data_items) of.is.all u.further (further_of found.further.now) u.is.stated of.is.is in
     fails_in_words origin before (entry_of line all_tokens) word data_items it fails (subst IsGeneric (sym same.same_items) (of.is.generic.1 generic))
 
-pub stays_generic : (origin : Labels) (before : List Entry) (line : ℕ) (all_tokens : List Token) (found : FurtherRecord) (n : ℕ) (above : Labels) (stated : List ℕ) → AreOfRecord origin before line all_tokens found n above → IsGeneric (map raw found.items.now) → (n < most_items → (folded_label found.word.now ≡ folded_label found.further.now.mnemonic.now) → AreOnOneLine (map raw found.items.now) → ⊥) → TurnIs origin before line all_tokens stated turns.Stays
+pub stays_generic : (origin : Labels) (before : List Entry) (line : ℕ) (all_tokens : List Token) (found : FurtherRecord) (n : ℕ) (above : Labels) (stated : EntryData) → AreOfRecord origin before line all_tokens found n above → IsGeneric (map raw found.items.now) → (n < most_items → (folded_label found.word.now ≡ folded_label found.further.now.mnemonic.now) → AreOnOneLine (map raw found.items.now) → ⊥) → TurnIs origin before line all_tokens stated turns.Stays
 stays_generic origin before line all_tokens found n above stated of generic none = (
   λ front back it say. generic_says origin before line all_tokens found n above of generic none (written_text say.word) (touching_items true back) it say.says,
   λ it fail. generic_fails origin before line all_tokens found n above of generic (written_text fail.word) (touching_items true fail.back) it fail.fails,
@@ -372,21 +373,24 @@ renamed_there octets origin before line all_tokens found n above around cut of f
     (record { name = f.mnemonic; row = own_mnemonic (written_text a.units) f a.under.stated.named; same = ap folded_label (sym a.word) ∙ same })))
 
 -- words that state octets
-pub stated_there : (octets : List ℕ) (origin : Labels) (before : List Entry) (line : ℕ) (all_tokens : List Token) (found : FurtherRecord) (n : ℕ) (above : Labels) (around : Around) (given_items : List TouchingItem) (stated : List ℕ) → Cuts octets all_tokens → AreOfRecord origin before line all_tokens found n above → AreInWords found n → StandsBeside octets found n around → ((back : List Token) → AreTokensOf around.back.now back → given_items ≡ touching_items true back) → StatesData above (fields_in (further_of found.further.now).fields given_items) given_items stated → SayAround origin before line all_tokens around (in_octets around.number stated)
-stated_there octets origin before line all_tokens found n above around given_items stated cut of words stands given_are states =
+pub stated_there : (octets : List ℕ) (origin : Labels) (before : List Entry) (line : ℕ) (all_tokens : List Token) (found : FurtherRecord) (n : ℕ) (above : Labels) (around : Around) (given_items : List TouchingItem) (stated : EntryData) → Cuts octets all_tokens → AreOfRecord origin before line all_tokens found n above → AreInWords found n → StandsBeside octets found n around → ((back : List Token) → AreTokensOf around.back.now back → map raw found.items.now ≡ items_of (touching_items true back) → given_items ≡ touching_items true back) → ((back : List Token) → AreTokensOf around.back.now back → map raw found.items.now ≡ items_of (touching_items true back) → AreOnOneLine (map raw found.items.now) → stated.staying.items ≡ text (filter stays back)) → StatesData above (fields_in (further_of found.further.now).fields given_items) given_items stated.octets.items → TurnIs origin before line all_tokens stated (turns.InOctets around)
+unfolding say_there
+stated_there octets origin before line all_tokens found n above around given_items stated cut of words stands given_are stays_are states =
     let a = around_there octets origin before line all_tokens found n above around cut of words.few stands in
     let f : FurtherType = further_of found.further.now in
-    subst (λ k. SayAround origin before line all_tokens around (in_octets k stated)) (sym stands.number)
-    (say_there origin before line all_tokens found n above around a _ (in_words f above stated a.under a.few (subst AreOnOneLine a.items words.on_one_line) (λ g. words.in_words (subst IsGeneric (sym a.items) g))
-    (subst (λ d. StatesData above (fields_in f.fields d) d stated) (given_are a.back a.after_are) states)))
+    subst (λ k. (said : SayAround origin before line all_tokens around (in_octets k stated.octets.items)) × (stated.staying.items ≡ text (filter stays said.back))) (sym stands.number) (
+      say_there origin before line all_tokens found n above around a _ (in_words f above stated.octets.items a.under a.few (subst AreOnOneLine a.items words.on_one_line) (λ g. words.in_words (subst IsGeneric (sym a.items) g))
+          (subst (λ d. StatesData above (fields_in f.fields d) d stated.octets.items) (given_are a.back a.after_are a.items) states)),
+      stays_are a.back a.after_are a.items words.on_one_line,
+    )
 
 -- words that state none
-pub fails_there : (octets : List ℕ) (origin : Labels) (before : List Entry) (line : ℕ) (all_tokens : List Token) (found : FurtherRecord) (n : ℕ) (above : Labels) (around : Around) (given_items : List TouchingItem) (field : List ℕ) (fault : WordsFault) (it : Refused) → Cuts octets all_tokens → AreOfRecord origin before line all_tokens found n above → AreInWords found n → StandsBeside octets found n around → ((back : List Token) → AreTokensOf around.back.now back → given_items ≡ touching_items true back) → DataFails above (fields_in (further_of found.further.now).fields given_items) given_items field fault → it ≡ record { line = line; mnemonic = found.further.now.mnemonic.now; field = field; fault = fault } → TokensFail origin before line all_tokens it
+pub fails_there : (octets : List ℕ) (origin : Labels) (before : List Entry) (line : ℕ) (all_tokens : List Token) (found : FurtherRecord) (n : ℕ) (above : Labels) (around : Around) (given_items : List TouchingItem) (field : List ℕ) (fault : WordsFault) (it : Refused) → Cuts octets all_tokens → AreOfRecord origin before line all_tokens found n above → AreInWords found n → StandsBeside octets found n around → ((back : List Token) → AreTokensOf around.back.now back → map raw found.items.now ≡ items_of (touching_items true back) → given_items ≡ touching_items true back) → DataFails above (fields_in (further_of found.further.now).fields given_items) given_items field fault → it ≡ record { line = line; mnemonic = found.further.now.mnemonic.now; field = field; fault = fault } → TokensFail origin before line all_tokens it
 fails_there octets origin before line all_tokens found n above around given_items field fault it cut of words stands given_are fails told_is =
     let a = around_there octets origin before line all_tokens found n above around cut of words.few stands in
     let f : FurtherType = further_of found.further.now in
     let bad = no_data f above field fault a.under (λ g. words.in_words (subst IsGeneric (sym a.items) g)) a.few (subst AreOnOneLine a.items words.on_one_line)
-    (subst (λ d. DataFails above (fields_in f.fields d) d field fault) (given_are a.back a.after_are) fails) in
+    (subst (λ d. DataFails above (fields_in f.fields d) d field fault) (given_are a.back a.after_are a.items) fails) in
     subst (λ (r : Refused). TokensFail origin before line all_tokens r) (sym told_is) (record { front = a.front; back = a.back; word = a.units; split = a.whole; fails = bad })
 
 -- too many items, and a line feed within quotes
@@ -421,8 +425,8 @@ lines_fail origin before line all_tokens found n above it of few words lines tol
 
 -- ---- what is written
 
-pub turn_stays : (octets stated old new : List ℕ) (turn : Turn) → told_by turn ≡ [] → ((origin : Labels) (before : List Entry) (line : ℕ) (all_tokens : List Token) → TurnIs origin before line all_tokens stated turn → TurnIs origin before line all_tokens stated turns.Stays) → new ≡ old ++ octets → WritesTurn octets stated turn old new
-turn_stays octets stated old new turn silent stays pushed origin before line all_tokens cut is =
+pub turn_stays : (octets old new : List ℕ) (stated : EntryData) (turn : Turn) → told_by turn ≡ [] → ((origin : Labels) (before : List Entry) (line : ℕ) (all_tokens : List Token) → TurnIs origin before line all_tokens stated turn → TurnIs origin before line all_tokens stated turns.Stays) → new ≡ old ++ octets → WritesTurn octets stated turn old new
+turn_stays octets old new stated turn silent stays pushed origin before line all_tokens cut is =
     let none = stays origin before line all_tokens is in
     record {
       outcome = record { written = all_tokens; told = [] };
@@ -431,19 +435,19 @@ turn_stays octets stated old new turn silent stays pushed origin before line all
       told = sym silent;
     }
 
-pub turn_refused : (octets stated old new : List ℕ) (told_of : Refusal) → new ≡ old ++ octets → WritesTurn octets stated (turns.Refused told_of) old new
-turn_refused octets stated old new told_of pushed origin before line all_tokens cut is = record {
+pub turn_refused : (octets old new : List ℕ) (stated : EntryData) (told_of : Refusal) → new ≡ old ++ octets → WritesTurn octets stated (turns.Refused told_of) old new
+turn_refused octets old new stated told_of pushed origin before line all_tokens cut is = record {
   outcome = record { written = all_tokens; told = refused_of told_of ∷ [] };
   becomes = refused (refused_of told_of) is refl;
   written = pushed ∙ ap (λ t. old ++ t) cut.whole;
   told = refl;
 }
 
-pub says_written : (old scratch new : List ℕ) (origin : Labels) (before : List Entry) (line : ℕ) (all_tokens : List Token) (around : Around) (it : Anew) (turn : Turn) → told_by turn ≡ [] → SayAround origin before line all_tokens around it → WritesBetween around.front.now around.back.now it [] scratch → new ≡ old ++ scratch → IsTurnWritten origin before line all_tokens turn old new
-says_written old scratch new origin before line all_tokens around it turn silent at writes pushed = record {
+pub says_written : (old scratch new : List ℕ) (origin : Labels) (before : List Entry) (line : ℕ) (all_tokens : List Token) (around : Around) (it : Anew) (turn : Turn) → told_by turn ≡ [] → (at : SayAround origin before line all_tokens around it) → scratch ≡ around.front.now ++ text (written it at.back) → new ≡ old ++ scratch → IsTurnWritten origin before line all_tokens turn old new
+says_written old scratch new origin before line all_tokens around it turn silent at is pushed = record {
   outcome = record { written = at.front ++ written it at.back; told = [] };
   becomes = anew at.front at.back it at.say refl;
-  written = pushed ∙ ap (λ t. old ++ t) (writes at.back at.after_are ∙ ap (λ t. t ++ text (written it at.back)) at.before_is ∙ sym (flat_map-append tokens.token_text at.front (written it at.back)));
+  written = pushed ∙ ap (λ t. old ++ t) (is ∙ ap (λ t. t ++ text (written it at.back)) at.before_is ∙ sym (flat_map-append tokens.token_text at.front (written it at.back)));
   told = sym silent;
 }
 
@@ -500,18 +504,18 @@ pub under_none : (origin : Labels) (before : List Entry) (o : Option Labels) →
 under_none origin before o e is = subst (λ x. IsOneOrNone (IsCasedOrigin origin before) x) e is
 
 -- where no record was found
-pub turn_of_none : (octets : List ℕ) (kept_items : List RawItem) (line : ℕ) (left : Inherited) (stated : List ℕ) (form : Statement) → form ≡ statement_by (slice_get octets 0) kept_items → ((parts : Parts) → parts_in form ≡ Some parts → NoneIsFurther parts left.is_internet) → TakesTurn octets kept_items line left stated turns.Stays
+pub turn_of_none : (octets : List ℕ) (kept_items : List RawItem) (line : ℕ) (left : Inherited) (stated : EntryData) (form : Statement) → form ≡ statement_by (slice_get octets 0) kept_items → ((parts : Parts) → parts_in form ≡ Some parts → NoneIsFurther parts left.is_internet) → TakesTurn octets kept_items line left stated turns.Stays
 turn_of_none octets kept_items line left stated form is none origin before all_tokens has cut are =
     stays_no_record origin before line all_tokens stated
     (none_there origin before line all_tokens form left (forms_there octets all_tokens line kept_items form is cut are) has none)
 
 -- where no origin holds
-pub turn_of_lost : (octets : List ℕ) (kept_items : List RawItem) (line : ℕ) (left : Inherited) (stated : List ℕ) → left.origin ≡ None → TakesTurn octets kept_items line left stated turns.Stays
+pub turn_of_lost : (octets : List ℕ) (kept_items : List RawItem) (line : ℕ) (left : Inherited) (stated : EntryData) → left.origin ≡ None → TakesTurn octets kept_items line left stated turns.Stays
 turn_of_lost octets kept_items line left stated e origin before all_tokens has cut are =
     stays_no_origin origin before line all_tokens stated (under_none origin (entry_of line all_tokens ∷ before) left.origin e has.under)
 
 -- where a record was found
-pub turn_of_found : (octets : List ℕ) (items : List Item) (line : ℕ) (left : Inherited) (stated : List ℕ) (form : Statement) (parts : Parts) (found : FurtherRecord) (above : Labels) (turn : Turn) → form ≡ statement_by (slice_get octets 0) (map raw items) → parts_in form ≡ Some parts → FindsParts parts left.is_internet found → left.origin ≡ Some above → TakesRecordsTurn octets found (length items) line above stated turn → TakesTurn octets (map raw items) line left stated turn
+pub turn_of_found : (octets : List ℕ) (items : List Item) (line : ℕ) (left : Inherited) (stated : EntryData) (form : Statement) (parts : Parts) (found : FurtherRecord) (above : Labels) (turn : Turn) → form ≡ statement_by (slice_get octets 0) (map raw items) → parts_in form ≡ Some parts → FindsParts parts left.is_internet found → left.origin ≡ Some above → TakesRecordsTurn octets found (length items) line above stated turn → TakesTurn octets (map raw items) line left stated turn
 turn_of_found octets items line left stated form parts found above turn is split finds some takes origin before all_tokens has cut are =
     let alike = forms_there octets all_tokens line (map raw items) form is cut are in
     let there = record_there origin before line all_tokens form left parts found alike has split finds in
@@ -533,7 +537,7 @@ told_is (turns.Refused told_of) = refl
 told_is (turns.Renamed around) = refl
 told_is (turns.InOctets around) = refl
 
-pub entry_pushed : (octets : List ℕ) (kept_items : List RawItem) (old new : EntryWriter) (form : Statement) (turn : Turn) (stated : List ℕ) → form ≡ statement_by (slice_get octets 0) kept_items → ((origin : Labels) (before : List Entry) (entry : Entry) → IsInherited origin before old.inherited → statement_of entry ≡ form → IsInherited origin (entry ∷ before) new.inherited) → TakesTurn octets kept_items old.line new.inherited stated turn → WritesTurn octets stated turn old.written.items new.written.items → AddsTold (option_to_list (option_map refused_of (refusal_in turn))) old.refusals new.refusals → new.line ≡ old.line + count_by (λ c. c == 10) octets → PushesEntry octets kept_items old new
+pub entry_pushed : (octets : List ℕ) (kept_items : List RawItem) (old new : EntryWriter) (form : Statement) (turn : Turn) (stated : EntryData) → form ≡ statement_by (slice_get octets 0) kept_items → ((origin : Labels) (before : List Entry) (entry : Entry) → IsInherited origin before old.inherited → statement_of entry ≡ form → IsInherited origin (entry ∷ before) new.inherited) → TakesTurn octets kept_items old.line new.inherited stated turn → WritesTurn octets stated turn old.written.items new.written.items → AddsTold (option_to_list (option_map refused_of (refusal_in turn))) old.refusals new.refusals → new.line ≡ old.line + count_by (λ c. c == 10) octets → PushesEntry octets kept_items old new
 entry_pushed octets kept_items old new form turn stated is follows takes writes adds lines origin before all_tokens has cut are =
     let kept_entry : Entry = record { line = old.line; first = slice_get octets 0; items = kept_items } in
     let alike = kept_forms octets all_tokens old.line kept_items cut are in

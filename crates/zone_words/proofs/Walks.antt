@@ -4,7 +4,7 @@ use Rattle.std.specs.Prelude.{codes, decimal, filter}
 use Rattle.zone_text.proofs.Tokens.Cuttings.{follow_after, shorter}
 use Rattle.zone_text.specs.Tokens.{AreTokensOf}
 use Rattle.zone_words.specs.Machine.Walking.{BeginsBlank, StandsAround, StandsNowhere, StayingAfter, WritesBetween}
-use Rattle.zone_words.specs.Written.{digit_tokens, generic_tokens, in_octets, renamed, stays, type_token, word}
+use Rattle.zone_words.specs.Written.{digit_tokens, generic_tokens, in_octets, renamed, stays, type_token, word, written}
 use Rattle.hex.specs.Hex.{encode_lower}
 
 -- the items of the first token, and the octets after it
@@ -237,18 +237,20 @@ generic_more number (c ∷ octets) old first second third fourth new some one tw
 joined_text : (old a b c : List ℕ) → ((old ++ a) ++ b) ++ c ≡ old ++ (a ++ (b ++ c))
 joined_text old a b c = grind (arith, common_steps)
 
+pub three_pushed : (old a b c first second new : List ℕ) → first ≡ old ++ a → second ≡ first ++ b → new ≡ second ++ c → new ≡ old ++ (a ++ (b ++ c))
+three_pushed old a b c first second new one two three =
+    three ∙ ap (λ t. t ++ c) (two ∙ ap (λ t. t ++ b) one) ∙ joined_text old a b c
+
 pub renamed_pushed : (front_text back_text old first second new : List ℕ) (number : ℕ) → first ≡ old ++ front_text → second ≡ first ++ token_text (type_token number) → new ≡ second ++ back_text → WritesBetween front_text back_text (renamed number) old new
 renamed_pushed front_text back_text old first second new number one two three back are =
-    three ∙ ap (λ t. t ++ back_text) (two ∙ ap (λ t. t ++ token_text (type_token number)) one)
-    ∙ joined_text old front_text (token_text (type_token number)) back_text
+    three_pushed old front_text (token_text (type_token number)) back_text first second new one two three
     ∙ ap (λ t. old ++ (front_text ++ (token_text (type_token number) ++ t))) are.whole
 
-pub octets_pushed : (front_text back_text octets old first second new : List ℕ) (number : ℕ) → first ≡ old ++ front_text → second ≡ first ++ text (generic_tokens number octets) → StayingAfter back_text second new → WritesBetween front_text back_text (in_octets number octets) old new
-octets_pushed front_text back_text octets old first second new number one two stay back are =
-    stay back are
-    ∙ ap (λ t. t ++ text (filter stays back)) (two ∙ ap (λ t. t ++ text (generic_tokens number octets)) one)
-    ∙ joined_text old front_text (text (generic_tokens number octets)) (text (filter stays back))
-    ∙ ap (λ t. old ++ (front_text ++ t)) (sym (flat_map-append token_text (generic_tokens number octets) (filter stays back)))
+pub octets_pushed : (front_text octets staying new : List ℕ) (number : ℕ) (back : List Token) → new ≡ front_text ++ (text (generic_tokens number octets) ++ staying) → staying ≡ text (filter stays back) → new ≡ front_text ++ text (written (in_octets number octets) back)
+octets_pushed front_text octets staying new number back pushed stay =
+    pushed
+    ∙ ap (λ t. front_text ++ (text (generic_tokens number octets) ++ t)) stay
+    ∙ ap (λ t. front_text ++ t) (sym (flat_map-append token_text (generic_tokens number octets) (filter stays back)))
 
 back_each : (front : List Token) (units : List Written) (back : List Token) → AllByRecursion IsToken (front ++ bare units ∷ back) → AllByRecursion IsToken back
 back_each [] units back each = each.1

@@ -1,6 +1,7 @@
 -- What only private functions and proofs cite.
 pub mod Windows
 pub mod Walking
+pub mod PlainLines
 pub mod Numbers
 pub mod Strings
 pub mod TypeBits

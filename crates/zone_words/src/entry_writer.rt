@@ -6,7 +6,7 @@ ghost use Rattle.zone_words.specs.Inherited.{IsInherited};
 
 use crate::inherited::Inherited;
 use crate::refusal::Refusals;
-use crate::turn::turn_of;
+use crate::turn::{EntryData, turn_of};
 use std::alloc::{AllocError, Global};
 use zone_name::CasedName;
 use zone_rdata::Item;
@@ -20,8 +20,8 @@ pub(crate) struct EntryWriter {
     inherited: Inherited,
     /// The line of the next entry, from 1.
     line: u64,
-    /// The octets of one record's data.
-    stated: Vec<u8>,
+    /// The data of one record.
+    stated: EntryData,
     /// One entry that is written anew.
     scratch: Vec<u8>,
     /// What is told of the entries so far.
@@ -43,7 +43,10 @@ impl EntryWriter {
             alloc,
             inherited: Inherited::new(origin),
             line: 1,
-            stated: Vec::new(alloc),
+            stated: EntryData {
+                octets: Vec::new(alloc),
+                staying: Vec::new(alloc),
+            },
             scratch: Vec::new(alloc),
             refusals: Refusals::none(),
             written: Vec::new(alloc),

@@ -1,5 +1,6 @@
 //! The records of further types among the entries of a master file (RFC 1035 5.1).
-ghost use Rattle.std.specs.Prelude.{◌≡◌, ◌↔◌, IsTrue, IfSome, IfNone, Some, [], map};
+ghost use Rattle.std.specs.List.{count_by};
+ghost use Rattle.std.specs.Prelude.{◌≡◌, ◌↔◌, ◌==◌, IsTrue, IfSome, IfNone, Some, [], map};
 ghost use Rattle.zone_name.specs.Name.{folded_label};
 ghost use Rattle.zone_rdata.specs.Item.{raw};
 ghost use Rattle.zone_text.specs.Stated.{statement_in};
@@ -12,7 +13,7 @@ use crate::fault::WordsFault;
 use crate::refusal::Refusal;
 use crate::table::{FurtherType, further_type_of};
 use zone_rdata::{Item, is_word};
-use zone_text::{Statement, line_feeds, record_parts, split_bare};
+use zone_text::{Statement, record_parts, split_bare};
 
 /// A record of a further type: its row of the table, the type's word and the items of the data.
 #[derive(Clone, Copy)]
@@ -98,12 +99,19 @@ impl FurtherRecord<'_, '_> {
     }
 }
 
+/// Whether no line feed stands in octets.
+fn has_no_line_feed(octets: &[u8]) -> bool
+    ensures { IsTrue result ↔ (count_by (λ c. c == 10) octets.now ≡ 0) }
+{
+    !octets.contains(&b'\n')
+}
+
 /// Whether no line feed stands in an item.
 fn is_on_one_line(item: &Item) -> bool
     ensures { IsTrue result ↔ (line_feeds_in (raw item.now) ≡ 0) }
 {
     let (Item::Bare(text) | Item::Quoted(text)) = *item;
-    line_feeds(text) == 0
+    has_no_line_feed(text)
 }
 
 /// Whether no line feed stands in the items.

@@ -4,6 +4,7 @@ ghost use Rattle.zone_name.specs.Common.{Labels};
 ghost use Rattle.zone_rdata.specs.Item.{raw, IsGeneric};
 ghost use Rattle.zone_words.specs.Machine.Turn.{AreInWords, StandsBeside, TakesRecordsTurn, TakesTurn, WritesTurn, refusal_in};
 ghost use Rattle.zone_words.specs.Machine.Walking.{StandsNowhere};
+ghost use Rattle.zone_words.specs.declared.turn.EntryData.{EntryData};
 
 use crate::data::{DataFailing, read_data};
 use crate::data_items::data_items;
@@ -27,8 +28,17 @@ pub(crate) enum Turn<'e> {
     /// `TYPE` and the number take the place of the type's word.
     Renamed(Around<'e>),
     /// The type and its data in the generic form take the place of the type's word and the items
-    /// after it. The octets of the data are kept apart.
+    /// after it. The data is kept apart.
     InOctets(Around<'e>),
+}
+
+/// The data of an entry that is written anew in the generic form.
+#[derive(Drop)]
+pub(crate) struct EntryData {
+    /// The octets that its words state.
+    pub(crate) octets: Vec<u8>,
+    /// The parentheses, comments and line feeds between its words and after them, which stay.
+    pub(crate) staying: Vec<u8>,
 }
 
 /// What stands around the word of a record's type, where the entry has so many items.
@@ -52,7 +62,7 @@ fn around_type<'e>(entry: &'e [u8], found: &FurtherRecord, kept: usize) -> Optio
 /// kept.
 fn turn_in_generic_form<'e>(entry: &'e [u8], found: &FurtherRecord, kept: usize) -> Turn<'e>
     requires { length found.now.items.now < kept }
-    ensures { (line : ℕ) (above : Labels) (stated : List ℕ)
+    ensures { (line : ℕ) (above : Labels) (stated : EntryData)
         → IsGeneric (map raw found.now.items.now)
         → TakesRecordsTurn entry.now found.now kept line above stated result }
 {
@@ -71,8 +81,8 @@ fn turn_in_generic_form<'e>(entry: &'e [u8], found: &FurtherRecord, kept: usize)
     }
 }
 
-/// What becomes of a record whose data is in words, under the origin that holds for it. The octets
-/// that it states are put in place of what `stated` held.
+/// What becomes of a record whose data is in words, under the origin that holds for it. The data that
+/// it states is put in place of what `stated` held.
 fn turn_in_words<'e>(
     alloc: Global,
     entry: &'e [u8],
@@ -80,17 +90,17 @@ fn turn_in_words<'e>(
     kept: usize,
     line: u64,
     above: &CasedName,
-    stated: &mut Vec<u8>,
+    stated: &mut EntryData,
 ) -> Result<Turn<'e>, AllocError>
     requires { length found.now.items.now < kept }
     ensures { AreInWords found.now kept → IfOk result
-        (TakesRecordsTurn entry.now found.now kept line above.now stated.new.items) }
+        (TakesRecordsTurn entry.now found.now kept line above.now stated.new) }
 {
     let Some(around) = around_type(entry, found, kept) else {
         return Ok(Turn::Stays);
     };
-    let items = data_items(alloc, around.back, found.items.len())?;
-    match read_data(&found.further.fields, &items, above, stated) {
+    let items = data_items(alloc, around.back, found.items, &mut stated.staying)?;
+    match read_data(&found.further.fields, &items, above, &mut stated.octets) {
         Ok(()) => Ok(Turn::InOctets(around)),
         Err(DataFailing::Fault { field, fault }) => {
             Ok(Turn::Refused(found.refusal(line, field, fault)))
@@ -100,7 +110,7 @@ fn turn_in_words<'e>(
 }
 
 /// What becomes of a record of whose entry so many items are kept, under the origin that holds for
-/// it. The octets that it states are put in place of what `stated` held.
+/// it. The data that it states is put in place of what `stated` held.
 fn turn_of_record<'e>(
     alloc: Global,
     entry: &'e [u8],
@@ -108,11 +118,11 @@ fn turn_of_record<'e>(
     kept: usize,
     line: u64,
     above: &CasedName,
-    stated: &mut Vec<u8>,
+    stated: &mut EntryData,
 ) -> Result<Turn<'e>, AllocError>
     requires { length found.now.items.now < kept }
     ensures { IfOk result
-        (TakesRecordsTurn entry.now found.now kept line above.now stated.new.items) }
+        (TakesRecordsTurn entry.now found.now kept line above.now stated.new) }
 {
     if is_generic(found.items) {
         return Ok(turn_in_generic_form(entry, found, kept));
@@ -128,7 +138,7 @@ fn turn_of_record<'e>(
 }
 
 /// What becomes of the entry on a line, of which these items are kept, where it leaves this to the
-/// entries after it. The octets that it states are put in place of what `stated` held.
+/// entries after it. The data that it states is put in place of what `stated` held.
 ///
 /// # Errors
 ///
@@ -139,10 +149,10 @@ pub(crate) fn turn_of<'e>(
     items: &[Item<'e>],
     line: u64,
     left: &Inherited,
-    stated: &mut Vec<u8>,
+    stated: &mut EntryData,
 ) -> Result<Turn<'e>, AllocError>
     ensures { IfOk result
-        (TakesTurn entry.now (map raw items.now) line left.now stated.new.items) }
+        (TakesTurn entry.now (map raw items.now) line left.now stated.new) }
 {
     let statement = statement_of(entry, items);
     let Some(found) = further_record(statement, left.is_internet) else {
@@ -167,8 +177,8 @@ impl Turn<'_> {
         }
     }
 
-    /// Appends what becomes of the entry, with the octets that it states. What is written anew is
-    /// put together in `scratch`.
+    /// Appends what becomes of the entry, with the data that it states. What is written anew is put
+    /// together in `scratch`.
     ///
     /// # Errors
     ///
@@ -176,7 +186,7 @@ impl Turn<'_> {
     pub(crate) fn push(
         &self,
         entry: &[u8],
-        stated: &[u8],
+        stated: &EntryData,
         scratch: &mut Vec<u8>,
         out: &mut Vec<u8>,
     ) -> Result<(), AllocError>
@@ -194,7 +204,7 @@ impl Turn<'_> {
             }
             Turn::InOctets(around) => {
                 scratch.clear();
-                around.push_in_octets(stated, scratch)?;
+                around.push_in_octets(&stated.octets, &stated.staying, scratch)?;
                 out.extend_from_slice(scratch)?;
             }
         }

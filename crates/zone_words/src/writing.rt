@@ -1,19 +1,13 @@
 //! One entry written anew: its octets, with the type's word and the tokens after it replaced.
 ghost use Rattle.std.specs.Prelude.{◌≡◌, ◌++◌, codes, decimal, length, IfNone, IfSome, OnOk};
 ghost use Rattle.zone_text.specs.Tokens.{text, token_text};
-ghost use Rattle.zone_words.specs.Machine.Walking.{
-  BeginsBlank,
-  StandsAround,
-  StandsNowhere,
-  StayingAfter,
-  WritesBetween,
-};
-ghost use Rattle.zone_words.specs.Written.{renamed, in_octets, generic_tokens, type_token};
+ghost use Rattle.zone_words.specs.Machine.Walking.{StandsAround, StandsNowhere, WritesBetween};
+ghost use Rattle.zone_words.specs.Written.{renamed, generic_tokens, type_token};
 
 use itoa::Buffer;
 use std::alloc::AllocError;
 use zone_rdata::push_hex;
-use zone_text::{first_token, is_blank};
+use zone_text::first_token;
 
 /// What stands before the item after so many, and what after it.
 pub(crate) fn around_item(entry: &[u8], before: usize) -> Option<(&[u8], &[u8])>
@@ -34,33 +28,6 @@ pub(crate) fn around_item(entry: &[u8], before: usize) -> Option<(&[u8], &[u8])>
         rest = after;
     }
     None
-}
-
-/// Whether the first octet parts items.
-fn begins_with_blank(octets: &[u8]) -> bool
-    ensures { BeginsBlank octets.now result }
-{
-    match octets.split_first() {
-        Some((first, _)) => is_blank(*first),
-        None => false,
-    }
-}
-
-/// Appends the parentheses, comments and line feeds, so that the entry has as many lines as before.
-fn push_staying(octets: &[u8], out: &mut Vec<u8>) -> Result<(), AllocError>
-    ensures { OnOk result (StayingAfter octets.now out.old.items out.new.items) }
-{
-    let mut rest = octets;
-    while let Some((item, after)) = first_token(rest) {
-        if let None = item {
-            if !begins_with_blank(rest) {
-                let (token, _) = rest.split_at(rest.len() - after.len());
-                out.extend_from_slice(token)?;
-            }
-        }
-        rest = after;
-    }
-    Ok(())
 }
 
 /// Appends `TYPE` and a number (RFC 3597 5).
@@ -116,17 +83,23 @@ impl Around<'_> {
     }
 
     /// Appends the entry with the type and octets in the generic form in place of the type's word
-    /// and the items after it.
+    /// and the items after it, of which this stays.
     ///
     /// # Errors
     ///
     /// `AllocError`. `out` may have some of the octets.
-    pub(crate) fn push_in_octets(&self, octets: &[u8], out: &mut Vec<u8>) -> Result<(), AllocError>
-        ensures { OnOk result (WritesBetween self.now.front.now self.now.back.now
-            (in_octets self.now.number octets.now) out.old.items out.new.items) }
+    pub(crate) fn push_in_octets(
+        &self,
+        octets: &[u8],
+        staying: &[u8],
+        out: &mut Vec<u8>,
+    ) -> Result<(), AllocError>
+        ensures { OnOk result (out.new.items ≡ out.old.items ++ (self.now.front.now
+            ++ (text (generic_tokens self.now.number octets.now) ++ staying.now))) }
     {
         out.extend_from_slice(self.front)?;
         push_generic(self.number, octets, out)?;
-        push_staying(self.back, out)
+        out.extend_from_slice(staying)?;
+        Ok(())
     }
 }

@@ -1,5 +1,5 @@
 -- What becomes of an entry, as the code holds it.
-use Rattle.std.specs.Prelude.{◌≡◌, ℕ, ◌-◌, ◌<◌, ◌≤◌, List, [], ◌∷◌, ◌++◌, length, map, Option, Some, None}
+use Rattle.std.specs.Prelude.{◌≡◌, ℕ, ◌-◌, ◌<◌, ◌≤◌, List, [], ◌∷◌, ◌++◌, filter, length, map, Option, Some, None}
 use Rattle.std.specs.List.{flat_map}
 use Rattle.zone_name.specs.Common.{Labels}
 use Rattle.zone_rdata.specs.Item.{RawItem, raw, IsGeneric}
@@ -13,10 +13,11 @@ use Rattle.zone_words.specs.Machine.Walking.{StandsAround}
 use Rattle.zone_words.specs.Origin.{IsCasedOrigin}
 use Rattle.zone_words.specs.Refusal.{refused_of}
 use Rattle.zone_words.specs.Rewriting.{Outcome, Refused}
-use Rattle.zone_words.specs.Written.{Anew, renamed, in_octets}
+use Rattle.zone_words.specs.Written.{Anew, renamed, in_octets, stays}
 use Rattle.zone_words.specs.declared.further.FurtherRecord.{FurtherRecord}
 use Rattle.zone_words.specs.declared.inherited.Inherited.{Inherited}
 use Rattle.zone_words.specs.declared.refusal.Refusal.{Refusal}
+use Rattle.zone_words.specs.declared.turn.EntryData.{EntryData}
 use Rattle.zone_words.specs.declared.turn.Turn.{Turn}
 use Rattle.zone_words.specs.declared.turn.Turn.TheVariants as turns
 use Rattle.zone_words.specs.declared.writing.Around.{Around}
@@ -30,22 +31,23 @@ pub record SayAround (origin : Labels) (before : List Entry) (line : ℕ) (token
   pub after_are : AreTokensOf around.back.now back
   pub say : TokensSay origin before line tokens front back it
 
--- what the tokens say, and what is wrong with them; `octets` are those that are stated
-abbrev pub TurnIs : Labels → List Entry → ℕ → List Token → List ℕ → Turn → Type 0
-TurnIs origin before line tokens octets turns.Stays =
+-- what the tokens say, and what is wrong with them
+abbrev pub TurnIs : Labels → List Entry → ℕ → List Token → EntryData → Turn → Type 0
+TurnIs origin before line tokens stated turns.Stays =
     ((front back : List Token) (it : Anew)
     → TokensSay origin before line tokens front back it → ⊥)
     × ((it : Refused) → TokensFail origin before line tokens it → ⊥)
-TurnIs origin before line tokens octets (turns.Refused refusal) =
+TurnIs origin before line tokens stated (turns.Refused refusal) =
     TokensFail origin before line tokens (refused_of refusal)
-TurnIs origin before line tokens octets (turns.Renamed around) =
+TurnIs origin before line tokens stated (turns.Renamed around) =
     SayAround origin before line tokens around (renamed around.number)
-TurnIs origin before line tokens octets (turns.InOctets around) =
-    SayAround origin before line tokens around (in_octets around.number octets)
+TurnIs origin before line tokens stated (turns.InOctets around) =
+    (said : SayAround origin before line tokens around (in_octets around.number stated.octets.items))
+    × (stated.staying.items ≡ text (filter stays said.back))
 
 -- it is so for whatever tokens the octets are cut into, of whose items these are kept, where the
 -- entry leaves what is held
-abbrev pub TakesTurn : List ℕ → List RawItem → ℕ → Inherited → List ℕ → Turn → Type 0
+abbrev pub TakesTurn : List ℕ → List RawItem → ℕ → Inherited → EntryData → Turn → Type 0
 TakesTurn octets kept line left stated turn =
     (origin : Labels) (before : List Entry) (tokens : List Token)
     → IsInherited origin (entry_of line tokens ∷ before) left → Cuts octets tokens
@@ -62,7 +64,7 @@ pub record AreOfRecord (origin : Labels) (before : List Entry) (line : ℕ) (tok
 
 -- it is so for whatever tokens of the record the octets are cut into
 abbrev pub TakesRecordsTurn
-    : List ℕ → FurtherRecord → ℕ → ℕ → Labels → List ℕ → Turn → Type 0
+    : List ℕ → FurtherRecord → ℕ → ℕ → Labels → EntryData → Turn → Type 0
 TakesRecordsTurn octets found kept line above stated turn =
     (origin : Labels) (before : List Entry) (tokens : List Token) → Cuts octets tokens
     → AreOfRecord origin before line tokens found kept above
@@ -98,7 +100,7 @@ pub record IsTurnWritten (origin : Labels) (before : List Entry) (line : ℕ) (t
   pub written : new ≡ old ++ text outcome.written
   pub told : outcome.told ≡ told_by turn
 
-abbrev pub WritesTurn : List ℕ → List ℕ → Turn → List ℕ → List ℕ → Type 0
+abbrev pub WritesTurn : List ℕ → EntryData → Turn → List ℕ → List ℕ → Type 0
 WritesTurn octets stated turn old new =
     (origin : Labels) (before : List Entry) (line : ℕ) (tokens : List Token)
     → Cuts octets tokens → TurnIs origin before line tokens stated turn

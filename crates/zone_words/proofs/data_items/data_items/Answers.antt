@@ -1,16 +1,20 @@
-use Rattle.std.proofs.Common.{arith, length, refl, ◌<◌}
-use Rattle.zone_words.proofs.GivenTokens.{all_found, finds_item, finds_none}
+use Rattle.std.proofs.Common.{ap, ◌++◌, ◌∷◌, [], ◌∙◌}
+use Rattle.zone_text.proofs.Common.{on_ok_weaker}
+use Rattle.zone_words.proofs.PlainLines.{line_given, line_stays}
+use Rattle.zone_words.proofs.Turns.{ok_weaker}
 use Rattle.zone_words.proofs.data_items.data_items.Goals as goal
 
-pub loop-item-preserved-in-Some-item : goal.loop-item-preserved-in-Some-item
-loop-item-preserved-in-Some-item c =
-    let some : 0 < length c.loop-item.rest.now = omega (arith, c.in-Some.ensures.shorter) in
-    finds_item _ _ _ c.loop-item.touches _ _ _ some (rw c.in-Some-item.is at c.in-Some.ensures.found) c.in_ok-push.ensures.items refl c.loop-item.invariant
+pub returns-then-is_plain_line-clause-found : goal.returns-then-is_plain_line-clause-found
+returns-then-is_plain_line-clause-found c all_tokens are same =
+    line_given c.args.octets.now c.args.items.now _ all_tokens (c.is_plain_line.ensures c.if-is_plain_line.true) c.in_ok-found.ensures are same
 
-pub loop-item-preserved : goal.loop-item-preserved
-loop-item-preserved c =
-    let some : 0 < length c.loop-item.rest.now = omega (arith, c.in-Some.ensures.shorter) in
-    finds_none _ _ _ c.loop-item.touches _ some (rw c.in_default-item.is at c.in-Some.ensures.found) c.loop-item.invariant
+pub returns-then-is_plain_line-clause-staying : goal.returns-then-is_plain_line-clause-staying
+returns-then-is_plain_line-clause-staying c all_tokens are same one =
+    line_stays c.args.octets.now _ c.args.items.now all_tokens (c.is_plain_line.ensures c.if-is_plain_line.true)
+    (c.in_ok-push.ensures.items ∙ ap (λ t. t ++ 10 ∷ []) c.clear.ensures.items) are same one
 
-pub returns : goal.returns
-returns c = all_found _ _ _ _ c.in_default.ensures.none c.loop-item.invariant
+pub returns-clause-found : goal.returns-clause-found
+returns-clause-found c = ok_weaker _ _ c.walked_items.result (λ found is all_tokens are same. is all_tokens are) c.walked_items.ensures.found
+
+pub returns-clause-staying : goal.returns-clause-staying
+returns-clause-staying c = on_ok_weaker c.walked_items.result (λ is all_tokens are same one. is all_tokens are) c.walked_items.ensures.staying

@@ -10,10 +10,10 @@ returns-in_default c words origin before tokens cut there =
 
 pub returns-in-Ok : goal.returns-in-Ok
 returns-in-Ok c words origin before tokens cut there =
-    stated_there c.args.entry.now origin before c.args.line tokens c.args.found.now c.args.kept c.args.above.now c.in-Some.around (map given c.in_ok-items.items.items) c.read_data.new.octets.items cut there words c.in-Some.ensures.found c.in_ok-items.ensures
+    stated_there c.args.entry.now origin before c.args.line tokens c.args.found.now c.args.kept c.args.above.now c.in-Some.around (map given c.in_ok-items.items.items) (record { octets = c.read_data.new.octets; staying = c.data_items.new.staying }) cut there words c.in-Some.ensures.found c.in_ok-items.ensures.found c.in_ok-items.ensures.staying
     (rw (c.deref.ensures.value) at c.in-Ok.ensures.states)
 
 pub returns-in-Err-Fault : goal.returns-in-Err-Fault
 returns-in-Err-Fault c words origin before tokens cut there =
-    fails_there c.args.entry.now origin before c.args.line tokens c.args.found.now c.args.kept c.args.above.now c.in-Some.around (map given c.in_ok-items.items.items) c.in-Err-Fault.field.now c.in-Err-Fault.fault (refused_of c.refusal.result) cut there words c.in-Some.ensures.found c.in_ok-items.ensures
+    fails_there c.args.entry.now origin before c.args.line tokens c.args.found.now c.args.kept c.args.above.now c.in-Some.around (map given c.in_ok-items.items.items) c.in-Err-Fault.field.now c.in-Err-Fault.fault (refused_of c.refusal.result) cut there words c.in-Some.ensures.found c.in_ok-items.ensures.found
     (rw (c.deref.ensures.value, c.in-Err-Fault.field-0-is) at c.in-Err-Fault.ensures.fault) (rw (c.in-Err-Fault.field-0-is) at c.refusal.ensures)

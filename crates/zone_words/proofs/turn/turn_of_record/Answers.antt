@@ -4,7 +4,7 @@ use Rattle.zone_words.proofs.turn.turn_of_record.Goals as goal
 
 pub returns-then-is_generic : goal.returns-then-is_generic
 returns-then-is_generic c =
-    c.turn_in_generic_form.ensures c.args.line c.args.above.now c.args.stated.now.items (true_is c.is_generic.result _ c.is_generic.ensures c.if-is_generic.true)
+    c.turn_in_generic_form.ensures c.args.line c.args.above.now c.args.stated.now (true_is c.is_generic.result _ c.is_generic.ensures c.if-is_generic.true)
 
 pub returns-then-kept-ge-MOST_ITEMS : goal.returns-then-kept-ge-MOST_ITEMS
 returns-then-kept-ge-MOST_ITEMS c origin before tokens cut there =
