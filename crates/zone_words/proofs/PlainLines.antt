@@ -5,7 +5,7 @@ use Rattle.std.proofs.lemmas.List.{drop_all}
 use Rattle.std.proofs.lemmas.List.Elements.{filter-append}
 use Rattle.std.proofs.lemmas.List.Folds.{list_any-append}
 use Rattle.std.proofs.lemmas.List.Sums.{length-filter}
-use Rattle.std.specs.Prelude.{count_by, filter}
+use Rattle.std.specs.Prelude.{filter}
 use Rattle.std.specs.List.{AllByRecursion, list_any}
 use Rattle.zone_name.specs.Spelling.{Written, decimal, escaped, plain, written_text}
 use Rattle.zone_rdata.proofs.Lists.{from_place}
@@ -13,10 +13,10 @@ use Rattle.zone_rdata.specs.Item.{raw}
 use Rattle.zone_rdata.specs.Item as items
 use Rattle.zone_rdata.specs.declared.item.Item.{Item}
 use Rattle.zone_text.proofs.Tokens.Cuttings.{follow_after}
-use Rattle.zone_text.specs.Tokens.{AllFollow, AreTokensOf, IsToken, Token, bare, blank, closing, comment, ends_item, is_blank, line_feed, opening, quoted, text, token_text}
+use Rattle.zone_text.specs.Tokens.{AllFollow, AreTokensOf, IsToken, Token, bare, blank, closing, comment, ends_item, is_blank, line_feed, opening, quoted, text}
 use Rattle.zone_words.specs.DataItem.{TouchingItem, given, items_of}
 use Rattle.zone_words.specs.Entry.{AreOnOneLine, touching_items}
-use Rattle.zone_words.specs.Machine.PlainLines.{ArePlain, IsPlainLine, Lacks, parted}
+use Rattle.zone_words.specs.Machine.PlainLines.{IsPlainLine, Lacks, parted}
 use Rattle.zone_words.specs.Machine.Walking.{BeginsBlank}
 use Rattle.zone_words.specs.Written.{stays}
 use Rattle.zone_words.specs.declared.data_item.DataItem.{DataItem}

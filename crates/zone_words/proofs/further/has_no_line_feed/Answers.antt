@@ -1,4 +1,4 @@
-use Rattle.std.proofs.Common.{Bool, IsTrue, List, [], arith, cond, count_by, false, nat_eq, not, refl, sym, true, zero-add, ℕ, ◌+◌, ◌==◌, ◌||◌, ◌∙◌, ◌∷◌, ◌≡◌, ◌↔◌}
+use Rattle.std.proofs.Common.{Bool, IsTrue, List, [], arith, cond, count_by, false, nat_eq, not, refl, sym, true, zero-add, ℕ, ◌+◌, ◌==◌, ◌||◌, ◌∙◌, ◌∷◌, ◌≡◌}
 use Rattle.std.proofs.lemmas.List.Sums.{sum_by-cons}
 use Rattle.std.specs.List.{list_any}
 use Rattle.zone_words.proofs.further.has_no_line_feed.Goals as goal

@@ -1,4 +1,4 @@
-use Rattle.zone_text.proofs.Common.{[], length, map, on_ok_weaker, raw, refl}
+use Rattle.zone_text.proofs.Common.{map, on_ok_weaker, raw, refl}
 use Rattle.zone_words.proofs.FedTexts.{entry_alone, refused_alone}
 use Rattle.zone_words.proofs.fed_writer.FedWriter.rewrite_entry.Goals as goal
 
