@@ -84,3 +84,14 @@ impl From<AllocError> for WordsFailing {
         WordsFailing::OutOfMemory
     }
 }
+
+impl From<AllocFailed<u8>> for WordsFailing {
+    ghost use Rattle.std.specs.Prelude.{◌≡◌};
+    ghost use Rattle.zone_words.specs.declared.fault.WordsFailing.TheVariants as failings;
+
+    ghost from_gives = { λ _ e. e ≡ failings.OutOfMemory };
+
+    fn from(_failed: AllocFailed<u8>) -> WordsFailing {
+        WordsFailing::OutOfMemory
+    }
+}

@@ -13,17 +13,12 @@ fn push_base32_hex(octets: &[u8], out: &mut Vec<u8>) -> Result<(), AllocError> {
     Ok(())
 }
 
-/// Up to five octets as one number, in which those that are missing are 0.
+/// The first five octets as one number, in which those that are missing are 0.
 fn number_of(block: &[u8]) -> u64 {
-    if let [a, b, c, d, e] = block {
-        return u64::from_be_bytes([0, 0, 0, *a, *b, *c, *d, *e]);
-    }
-    let mut bits: u64 = 0;
-    for at in 0..5 {
-        let octet = block.get(at).copied().unwrap_or(0);
-        bits = bits << 8 | u64::from(octet);
-    }
-    bits
+    let mut octets = [0; 8];
+    let count = block.len().min(5);
+    octets[3..3 + count].copy_from_slice(&block[..count]);
+    u64::from_be_bytes(octets)
 }
 
 /// The eight digits of a number of five octets.

@@ -3,18 +3,30 @@ use crate::taking::{take_counted, take_u8};
 use crate::unprinted::Unprinted;
 use std::alloc::AllocError;
 
+/// Appends the words of the types whose bits are set in an octet, the first of which is that of
+/// this type, a blank before each.
+fn push_octet(first: u16, octet: u8, out: &mut Vec<u8>) -> Result<(), AllocError> {
+    let mut number = first;
+    for bit in [128, 64, 32, 16, 8, 4, 2, 1] {
+        if octet & bit != 0 {
+            out.push(b' ')?;
+            push_type_word(number, out)?;
+        }
+        number = number.wrapping_add(1);
+    }
+    Ok(())
+}
+
 /// Appends the words of the types whose bits are set in octets, the first of which has the bit of
 /// this type, a blank before each.
 fn push_window(first: u16, octets: &[u8], out: &mut Vec<u8>) -> Result<(), AllocError> {
     let mut number = first;
     for octet in octets {
-        for bit in [128, 64, 32, 16, 8, 4, 2, 1] {
-            if *octet & bit != 0 {
-                out.push(b' ')?;
-                push_type_word(number, out)?;
-            }
-            number = number.wrapping_add(1);
+        // Most are zero.
+        if *octet != 0 {
+            push_octet(number, *octet, out)?;
         }
+        number = number.wrapping_add(8);
     }
     Ok(())
 }

@@ -23,7 +23,7 @@ pub(crate) fn push_hash(text: &[u8], out: &mut Vec<u8>) -> Result<(), WordsFaili
     if text.is_empty() || text.len() > MOST_DIGITS {
         return Err(WordsFailing::Fault(WordsFault::NoBase32Hex));
     }
-    out.extend_from_slice(&[(text.len() * 5 / 8) as u8])?;
+    out.push((text.len() * 5 / 8) as u8)?;
     push_octets(text, out)
 }
 
@@ -56,7 +56,7 @@ fn push_octets(text: &[u8], out: &mut Vec<u8>) -> Result<(), WordsFailing>
         count += 5;
         if count >= 8 {
             count -= 8;
-            out.extend_from_slice(&[(bits >> count) as u8])?;
+            out.push((bits >> count) as u8)?;
             bits %= 1 << count;
         }
     }

@@ -61,7 +61,7 @@ pub(super) fn push_one_octet(number: Option<u64>, out: &mut Vec<u8>) -> Result<(
     ensures fault { IfErr result (IfFault (FailsToFit w8 number)) }
 {
     let number = at_most(u32::from(u8::MAX), number)?;
-    out.extend_from_slice(&[number as u8])?;
+    out.push(number as u8)?;
     Ok(())
 }
 

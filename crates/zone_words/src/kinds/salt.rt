@@ -25,6 +25,6 @@ pub(crate) fn push_salt(text: &[u8], out: &mut Vec<u8>) -> Result<(), WordsFaili
     if text.len() > MOST_DIGITS {
         return Err(WordsFailing::Fault(WordsFault::NoHexadecimal));
     }
-    out.extend_from_slice(&[(text.len() / 2) as u8])?;
+    out.push((text.len() / 2) as u8)?;
     push_digits(text, out)
 }

@@ -8,7 +8,7 @@ use Rattle.zone_words.proofs.kinds.base32_hex.push_hash.Goals as goal
 
 pub returns-clause-states : goal.returns-clause-states
 returns-clause-states c =
-    on_ok_weaker c.push_octets.result (hash_appended c.args.text.now c.args.out.now.items c.extend_from_slice.new.self.items c.push_octets.new.out.items c.if-text-gt-MOST_DIGITS.false c.in_ok-extend_from_slice.ensures.items) c.push_octets.ensures.states
+    on_ok_weaker c.push_octets.result (hash_appended c.args.text.now c.args.out.now.items c.push.new.self.items c.push_octets.new.out.items c.if-text-gt-MOST_DIGITS.false c.in_ok-push.ensures.items) c.push_octets.ensures.states
 
 pub returns-clause-fault : goal.returns-clause-fault
 returns-clause-fault c = fault_answered c.push_octets.result _ _ (nothing_after_length NoBase32Hex IsBase32Hex c.args.text.now) c.push_octets.ensures.fault

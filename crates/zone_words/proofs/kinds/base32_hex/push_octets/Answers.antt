@@ -1,7 +1,7 @@
 use Rattle.std.proofs.Common.{get_or, refl, arith}
 use Rattle.zone_words.proofs.Base32Digits.{bad_digit, begun, is_digit, no_digit, octet_fits, reads_filled, reads_kept, reads_whole, unused_bits}
 use Rattle.zone_words.proofs.kinds.base32_hex.push_octets.Goals as goal
-use Rattle.zone_words.proofs.kinds.base32_hex.push_octets.Goals.{then-count-ge8+in_ok-extend_from_slice, else-count-ge8, then-count-ge5-via-then-count-ge5, then-count-ge5-via-else-count-ge5+then-bits-ne0}
+use Rattle.zone_words.proofs.kinds.base32_hex.push_octets.Goals.{then-count-ge8+in_ok-push, else-count-ge8, then-count-ge5-via-then-count-ge5, then-count-ge5-via-else-count-ge5+then-bits-ne0}
 
 pub loop-digit-init : goal.loop-digit-init
 loop-digit-init c = begun c.args.text.now c.args.out.now.items
@@ -17,7 +17,7 @@ overflow_cast-bits c =
 pub loop-digit-preserved : goal.loop-digit-preserved
 loop-digit-preserved c =
     elim c.if-count-ge8.branch [
-      | then-count-ge8+in_ok-extend_from_slice w ↦
+      | then-count-ge8+in_ok-push w ↦
           reads_filled c.args.text.now c.args.out.now.items c.loop-digit.out.items c.if-count-ge8.out.items c.loop-digit.digit-index (get_or c.args.text.now c.loop-digit.digit-index 0) 0 c.from.result c.loop-digit.bits c.loop-digit.count c.if-count-ge8.bits c.if-count-ge8.count c.loop-digit-test.true refl (is_digit (get_or c.args.text.now c.loop-digit.digit-index 0) c.from.result _ c.value_of.result c.value_of.ensures c.in-Some.is c.from.ensures) c.loop-digit.invariant w.if-count-ge8.true (grind arith) w.bits-is w.count-is
       | else-count-ge8 w ↦
           reads_kept c.args.text.now c.args.out.now.items c.loop-digit.out.items c.if-count-ge8.out.items c.loop-digit.digit-index (get_or c.args.text.now c.loop-digit.digit-index 0) 0 c.from.result c.loop-digit.bits c.loop-digit.count c.if-count-ge8.bits c.if-count-ge8.count c.loop-digit-test.true refl (is_digit (get_or c.args.text.now c.loop-digit.digit-index 0) c.from.result _ c.value_of.result c.value_of.ensures c.in-Some.is c.from.ensures) c.loop-digit.invariant w.if-count-ge8.false (grind arith) w.bits-is w.count-is

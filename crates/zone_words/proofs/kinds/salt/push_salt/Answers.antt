@@ -8,4 +8,4 @@ returns-then-text-gt-MOST_DIGITS-clause-fault c = (refl, λ octets. long_salt c.
 
 pub returns-clause-states : goal.returns-clause-states
 returns-clause-states c =
-    on_ok_weaker c.push_digits.result (salt_appended c.args.text.now c.args.out.now.items c.extend_from_slice-2.new.self.items c.push_digits.new.out.items c.if-text-gt-MOST_DIGITS.false c.in_ok-extend_from_slice-2.ensures.items) c.push_digits.ensures.states
+    on_ok_weaker c.push_digits.result (salt_appended c.args.text.now c.args.out.now.items c.push.new.self.items c.push_digits.new.out.items c.if-text-gt-MOST_DIGITS.false c.in_ok-push.ensures.items) c.push_digits.ensures.states
