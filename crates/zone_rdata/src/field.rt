@@ -1,4 +1,4 @@
-ghost use Rattle.std.specs.Prelude.{◌≡◌, ◌↔◌, ◌≤◌, Some, drop, length, map, IsTrue, IfOk, IfErr, OnOk, OnErr};
+ghost use Rattle.std.specs.Prelude.{[], ◌≡◌, ◌↔◌, ◌≤◌, Some, drop, length, map, IsTrue, IfOk, IfErr, OnOk, OnErr};
 ghost use Rattle.zone_rdata.specs.Field.{Suits, is_strings, IsFieldFault, field_at, own_items, field_text};
 ghost use Rattle.zone_rdata.specs.Part.{value_of};
 ghost use Rattle.zone_rdata.specs.Fault.{IfFault};
@@ -26,7 +26,7 @@ use crate::narrow_failing::NarrowFailing;
 use crate::number::push_decimal;
 use crate::string::{push_string, push_string_text};
 use address::{push_address, push_address_text};
-use name::{push_name, push_sent_name};
+use name::{push_name, push_sent_name, split_name};
 use number::{push_u16, push_u32, split_u16, split_u32};
 use prefix::push_prefix;
 use string::{push_sent_string, split_string};
@@ -141,20 +141,23 @@ impl Field {
     }
 
     /// Appends the text of the field at the beginning of octets, and gives the octets after it.
+    /// After the last there are none.
     pub(crate) fn push_text<'o, S: Sink>(
         self,
         octets: &'o [u8],
+        is_last: bool,
         out: &mut S,
     ) -> Result<&'o [u8], S::Error>
         requires sized { IsSized self }
         requires front { BeginsWithField self octets.now }
+        requires last { IsTrue is_last → after_field self octets.now ≡ [] }
         ensures ok { OnOk result (S.takes out.old (field_text (field_at self octets.now)) out.new) }
         ensures rest { IfOk result (λ rest. rest.now ≡ after_field self octets.now) }
         ensures err { OnErr result (TakesSome S.takes out.old out.new) }
     {
         match self {
             Field::Name => {
-                let (name, rest) = NameRef::split_front(octets);
+                let (name, rest) = split_name(octets, is_last);
                 name.print(out)?;
                 Ok(rest)
             }

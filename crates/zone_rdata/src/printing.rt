@@ -31,10 +31,11 @@ fn push_fields<S: Sink>(layout: Layout, octets: &[u8], out: &mut S) -> Result<()
         (S.takes out.old (laid_out_text (Some (fields_of layout)) octets.now) out.new) }
     ensures err { OnErr result (TakesSome S.takes out.old out.new) }
 {
+    let fields = layout.fields();
     let mut rest = octets;
-    for (i, field) in layout.fields().iter().enumerate() {
+    for (i, field) in fields.iter().enumerate() {
         push_space(i, out)?;
-        rest = field.push_text(rest, out)?;
+        rest = field.push_text(rest, i + 1 == fields.len(), out)?;
     }
     Ok(())
 }

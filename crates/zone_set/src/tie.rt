@@ -21,9 +21,11 @@ fn tie_order(octets: &[u8], a: usize, b: usize) -> Ordering {
     let (Some(x), Some(y)) = (stored_at(octets, a), stored_at(octets, b)) else {
         return Ordering::Equal;
     };
-    owner_order(x.owner, y.owner)
-        .then(x.kind.cmp(&y.kind))
-        .then(octet_order(x.data, y.data))
+    match owner_order(x.owner, y.owner) {
+        Ordering::Equal if x.kind == y.kind => octet_order(x.data, y.data),
+        Ordering::Equal => x.kind.cmp(&y.kind),
+        owners => owners,
+    }
 }
 
 /// What is compared of a record.

@@ -1,6 +1,8 @@
 -- The text of data, field after field.
 use Rattle.zone_rdata.proofs.Common.{[], ◌≡◌, ◌∙◌, ◌≤◌, take-append-drop, ℕ, zero, suc, ◌+◌, ◌<◌, List, ◌∷◌, ◌++◌, length, get_or, take, drop, map, refl, sym, ap, arith, append_assoc, Some, OnOk, IsOk, encode_lower, flat_map, join_with_byte, take_at, drop_at, append-nil, take_more, Field, field_at, values_of, field_text, AreLaidOut, BeginsWithField, after_field, spaced, generic_head, laid_out_text, generic_text, common_steps, Result}
 use Rattle.hex.specs.Hex.{encode_with}
+use Rattle.zone_name.specs.Name.{labels_of, wire, HoldsName}
+use Rattle.zone_rdata.specs.declared.field.Field.TheVariants.{Name}
 use Rattle.zone_rdata.proofs.Lists.{from_place}
 
 -- octets of a layout begin with its first field, and go on with the others
@@ -32,6 +34,17 @@ pub record HavePrinted (row : List Field) (whole : List ℕ) (i : ℕ) (rest tex
 
 pub printed_more : (row : List Field) (whole rest text after : List ℕ) (i : ℕ) (f d : Field) → i < length row → f ≡ get_or row i d → HavePrinted row whole i rest text → after ≡ after_field f rest → HavePrinted row whole (i + 1) after (text ++ (spaced i [] ++ field_text (field_at f rest)))
 printed_more row whole rest text after i f d lt at so_far is = grind (arith, common_steps, from_place, first_field, still_more, append_assoc, spaced_text)
+
+-- after the last field there are no octets
+pub nothing_follows : (row : List Field) (whole rest text : List ℕ) (i : ℕ) (f d : Field) → i < length row → f ≡ get_or row i d → HavePrinted row whole i rest text → i + 1 ≡ length row → after_field f rest ≡ []
+nothing_follows row whole rest text i f d lt at so_far last = grind (arith, common_steps, from_place, first_field)
+
+-- a name with no octets after it is held by all of them
+pub last_name : (octets : List ℕ) → BeginsWithField Name octets → after_field Name octets ≡ [] → HoldsName octets
+last_name octets begins last = record {
+  whole = sym begins.front ∙ sym (append-nil _) ∙ ap (λ t. take (length (wire (labels_of octets))) octets ++ t) (sym last) ∙ take-append-drop (length (wire (labels_of octets))) octets;
+  name = begins.held;
+}
 
 pub generic_whole : (octets : List ℕ) → generic_head octets ++ encode_lower octets ≡ generic_text octets
 unfolding encode_with

@@ -1,17 +1,18 @@
-ghost use Rattle.std.specs.Prelude.{◌≡◌, ◌<◌, ℕ, List, Some, IfOk, IfErr, IfSome, IfNone, OnOk};
-ghost use Rattle.zone_name.specs.Name.{wire};
+ghost use Rattle.std.specs.Prelude.{[], ◌≡◌, ◌<◌, ℕ, List, Some, IfOk, IfErr, IfSome, IfNone, IsTrue, OnOk};
+ghost use Rattle.zone_name.specs.Name.{labels_of, wire};
 ghost use Rattle.zone_name.specs.Spelling.{Spells};
 ghost use Rattle.zone_rdata.specs.Fault.{IfFault};
 ghost use Rattle.zone_rdata.specs.Fields.Name.{IsNameFault};
 ghost use Rattle.zone_rdata.specs.Appended.{Appends};
 ghost use Rattle.zone_rdata.specs.Machine.Appending.{AppendsValue, BeginsWithNone};
 ghost use Rattle.zone_rdata.specs.Machine.Fronts.{BeginsWithSent};
+ghost use Rattle.zone_rdata.specs.Machine.Printing.{BeginsWithField, after_field};
 
 use super::Field;
 use crate::cause::Cause;
 use crate::fault::Fault;
 use crate::narrow_failing::NarrowFailing;
-use zone_name::{Name, NameBuilder};
+use zone_name::{Name, NameBuilder, NameRef};
 
 /// Appends the octets of the name that a text spells under the origin.
 pub(crate) fn push_name(
@@ -69,4 +70,18 @@ fn name_at(octets: &[u8]) -> Option<(Name, &[u8])>
             Err(_) => return None,
         }
     }
+}
+
+/// The name at the beginning of octets, and the octets after it. Where it is said that there are
+/// none no label is looked at.
+pub(crate) fn split_name(octets: &[u8], is_last: bool) -> (NameRef<'_>, &[u8])
+    requires front { BeginsWithField Field.Name octets.now }
+    requires last { IsTrue is_last → after_field Field.Name octets.now ≡ [] }
+    ensures name { result.0 ≡ labels_of octets.now }
+    ensures rest { result.1.now ≡ after_field Field.Name octets.now }
+{
+    if is_last {
+        return (NameRef::of_wire(octets), &octets[octets.len()..]);
+    }
+    NameRef::split_front(octets)
 }

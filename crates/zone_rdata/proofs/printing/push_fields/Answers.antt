@@ -1,5 +1,5 @@
-use Rattle.zone_rdata.proofs.Common.{refl, Took-more, stops_after}
-use Rattle.zone_rdata.proofs.Texts.FieldTexts.{printed_more}
+use Rattle.zone_rdata.proofs.Common.{eqb-true, refl, Took-more, stops_after}
+use Rattle.zone_rdata.proofs.Texts.FieldTexts.{nothing_follows, printed_more}
 use Rattle.zone_rdata.proofs.printing.push_fields.Goals as goal
 
 pub returns-in_err-push_space-clause-err : goal.returns-in_err-push_space-clause-err
@@ -13,3 +13,6 @@ pub loop-i-preserved : goal.loop-i-preserved
 loop-i-preserved g c =
     Took-more _ g.met.S.Sink.joins _ _ _ _ _ _ c.loop-i.invariant (g.met.S.Sink.joins _ _ _ _ _ c.in_ok-push_space.ensures.ok c.in_ok-rest.ensures.ok)
     (printed_more _ _ _ _ _ c.loop-i.i _ _ c.loop-i-test.true refl c.loop-i.invariant.known c.in_ok-rest.ensures.rest)
+
+pub push_text-requires-clause-last : goal.push_text-requires-clause-last
+push_text-requires-clause-last g c = λ last. nothing_follows _ _ _ _ c.loop-i.i _ _ c.loop-i-test.true refl c.loop-i.invariant.known (eqb-true _ _ last)
