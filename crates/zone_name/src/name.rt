@@ -1,4 +1,4 @@
-ghost use Rattle.std.specs.Prelude.{◌≡◌, ◌≤◌, ◌↔◌, List, [], length, IsOk, IsTrue, IfOk, IfErr, IfSome, OnOk, OnErr, Ok, option_copied};
+ghost use Rattle.std.specs.Prelude.{◌≡◌, ◌≤◌, ◌↔◌, ◌++◌, List, [], length, IsOk, IsTrue, IfOk, IfErr, IfSome, OnOk, OnErr, Ok, option_copied};
 ghost use Rattle.zone_name.specs.Common.{Octets};
 ghost use Rattle.zone_name.specs.Name.{wire, labels_of, IsName, HoldsName, IsWithin, BeginsWithName};
 ghost use Rattle.zone_name.specs.Spelling.{Spells, SpellingFault};
@@ -7,8 +7,9 @@ ghost use Rattle.zone_name.specs.Machine.Letters.{origin_in};
 use crate::fault::NameFault;
 use crate::labels::Labels;
 use crate::lent::NameRef;
-use crate::reading::{Letters, hold, read_name};
+use crate::reading::{Letters, hold, push_plain, read_name};
 use arrayvec::ArrayVec;
+use std::alloc::AllocError;
 use std::marker::Model;
 
 /// The most octets that a label has (RFC 1035 2.3.4).
@@ -69,6 +70,32 @@ impl Name {
     {
         let above = octets_of(origin);
         read_name(&mut self.octets, text, above, Letters::Folded)
+    }
+
+    /// Appends the uncompressed octets, in lower case, of the name that the text spells under the
+    /// origin (RFC 1035 5.1).
+    ///
+    /// # Errors
+    ///
+    /// The inner one is that of `from_text`, and the outer one that memory is refused. Nothing is
+    /// said of `out` then.
+    pub fn push_spelled(
+        text: &[u8],
+        origin: Option<&Name>,
+        out: &mut Vec<u8>,
+    ) -> Result<Result<(), NameFault>, AllocError>
+        ensures found { IfOk result (λ read. OnOk read ((name : List Octets)
+            × Spells (option_copied origin.entry) text.now name
+            × (out.new.items ≡ out.old.items ++ wire name))) }
+        ensures only { (name : List Octets) → Spells (option_copied origin.entry) text.now name
+            → IfOk result IsOk }
+        ensures fault { IfOk result (λ read.
+            IfErr read (SpellingFault (option_copied origin.entry) text.now)) }
+    {
+        if push_plain(text, octets_of(origin), out)? {
+            return Ok(Ok(()));
+        }
+        push_read(text, origin, out)
     }
 
     /// The root of all names: no label (RFC 1035 3.1).
@@ -172,5 +199,30 @@ fn octets_of<'o>(origin: Option<&'o Name>) -> Option<&'o [u8]>
     match origin {
         Some(name) => Some(name.wire()),
         None => None,
+    }
+}
+
+/// As `Name::push_spelled`, by a name of its own.
+// Not inlined: few names need the room for one.
+#[inline(never)]
+fn push_read(
+    text: &[u8],
+    origin: Option<&Name>,
+    out: &mut Vec<u8>,
+) -> Result<Result<(), NameFault>, AllocError>
+    ensures found { IfOk result (λ read. OnOk read ((name : List Octets)
+        × Spells (option_copied origin.entry) text.now name
+        × (out.new.items ≡ out.old.items ++ wire name))) }
+    ensures only { (name : List Octets) → Spells (option_copied origin.entry) text.now name
+        → IfOk result IsOk }
+    ensures fault { IfOk result (λ read.
+        IfErr read (SpellingFault (option_copied origin.entry) text.now)) }
+{
+    match Name::from_text(text, origin) {
+        Ok(name) => {
+            out.extend_from_slice(name.wire())?;
+            Ok(Ok(()))
+        }
+        Err(fault) => Ok(Err(fault)),
     }
 }

@@ -1,8 +1,8 @@
-ghost use Rattle.std.specs.Prelude.{◌≡◌, ◌≤◌, ◌<◌, ◌+◌, ◌++◌, ◌∷◌, [], ℕ, List, true, false, drop, length, map, slice_index, take, option_copied};
+ghost use Rattle.std.specs.Prelude.{◌≡◌, ◌≤◌, ◌<◌, ◌+◌, ◌++◌, ◌∷◌, [], ℕ, List, true, false, drop, length, map, replicate, slice_index, take, option_copied};
 ghost use Rattle.std.specs.Prelude.{IsOk, IsTrue, IfSome, IfOk, IfErr, OnOk, OnErr, Ok, Err};
 ghost use Rattle.zone_name.specs.Common.{Labels, Octets};
-ghost use Rattle.zone_name.specs.Name.{folded_octet, labels_of};
-ghost use Rattle.zone_name.specs.Spelling.{SpellingFault};
+ghost use Rattle.zone_name.specs.Name.{HoldsName, folded_octet, labels_of, wire};
+ghost use Rattle.zone_name.specs.Spelling.{SpellingFault, Spells};
 ghost use Rattle.zone_name.specs.Machine.LabelWalk.{Collects, reading, under_origin, sized};
 ghost use Rattle.zone_name.specs.Machine.Letters.{HoldsLabelsBy, HoldsNameBy, IsReadBy, SpellsBy};
 ghost use Rattle.zone_name.specs.Machine.Letters.{lettered, name_read, origin_in};
@@ -16,6 +16,7 @@ use crate::fault::NameFault;
 use crate::lanes::{LANES, ROOM, fold_lanes, plain_run, put};
 use crate::name::{MAX_LABEL_LEN, MAX_NAME_LEN};
 use arrayvec::ArrayVec;
+use std::alloc::AllocError;
 
 /// How a name's text is read (RFC 1035 5.1).
 #[derive(Drop)]
@@ -127,16 +128,24 @@ fn set_front(octets: &mut [u8], len: usize, letters: Letters)
     }
 }
 
-/// Puts the labels of a text without escapes in place by copies, with their letters folded or kept.
-/// `None`: the text has an escape or a fault or is long, and the octets say nothing.
-fn read_plain(
-    octets: &mut ArrayVec<u8, MAX_NAME_LEN>,
-    text: &[u8],
-    letters: Letters,
-) -> Option<Spelled>
-    requires { octets.old.items ≡ [] }
-    ensures holds { IfSome result (λ _. HoldsLabelsBy letters octets.new.items) }
-    ensures labels { IfSome result (λ spelled. IsReadBy letters text.now octets.new.items spelled) }
+/// Labels that were read in a room for octets.
+#[derive(Drop)]
+struct PlainLabels {
+    /// How many octets of the room they take.
+    len: usize,
+    /// The text ends with a dot that parts labels.
+    is_absolute: bool,
+}
+
+/// Puts the labels of a text without escapes into a room of dots, with their letters folded or
+/// kept. `None`: the text has an escape or a fault or is long, and the room says nothing.
+#[inline(always)]
+fn read_plain_labels(room: &mut [u8; ROOM], text: &[u8], letters: Letters) -> Option<PlainLabels>
+    requires { room.old ≡ replicate 128 46 }
+    ensures within { IfSome result (λ plain. plain.len + LANES ≤ 128) }
+    ensures holds { IfSome result (λ plain. HoldsLabelsBy letters (take plain.len room.new)) }
+    ensures labels { IfSome result (λ plain. IsReadBy letters text.now (take plain.len room.new)
+        (record { is_too_long = false; is_absolute = plain.is_absolute })) }
 {
     let (labels, is_absolute) = match text.strip_suffix(b".") {
         Some(labels) => (labels, true),
@@ -146,17 +155,52 @@ fn read_plain(
     if len + LANES > ROOM {
         return None;
     }
-    let mut room = [b'.'; ROOM];
-    put(&mut room, 1, labels);
-    if !write_lengths(&mut room, len) {
+    put(room, 1, labels);
+    if !write_lengths(room, len) {
         return None;
     }
-    set_front(&mut room, len, letters);
-    let _ = octets.try_extend_from_slice(&room[..len]);
-    Some(Spelled {
-        is_too_long: false,
-        is_absolute,
-    })
+    set_front(room, len, letters);
+    Some(PlainLabels { len, is_absolute })
+}
+
+/// Puts the octets of a name after labels in a room, and gives the number of all. `None`: there is
+/// no room for them.
+#[inline(always)]
+fn end_in_room(room: &mut [u8; ROOM], len: usize, ending: &[u8]) -> Option<usize>
+    requires { len ≤ 128 }
+    ensures within { IfSome result (λ whole. whole ≤ 128) }
+    ensures ended { IfSome result (λ whole. take whole room.new ≡ take len room.old ++ ending.now) }
+{
+    if ending.len() > ROOM - len {
+        return None;
+    }
+    put(room, len, ending);
+    Some(len + ending.len())
+}
+
+/// Puts the name of a text without escapes, which is neither `.` nor `@`, into a room of dots, and
+/// gives the number of its octets. `None`: the text has an escape or a fault or the name is long,
+/// and the room says nothing.
+#[inline(always)]
+fn read_plain(
+    room: &mut [u8; ROOM],
+    text: &[u8],
+    origin: Option<&[u8]>,
+    letters: Letters,
+) -> Option<usize>
+    requires dots { room.old ≡ replicate 128 46 }
+    requires origin { IfSome (option_copied origin) (HoldsNameBy letters) }
+    ensures within { IfSome result (λ len. len ≤ 128) }
+    ensures name { IfSome result (λ len. HoldsNameBy letters (take len room.new)
+        × (name_read letters (origin_in (option_copied origin.entry)) text.now
+        ≡ Ok (labels_of (take len room.new)))) }
+{
+    let plain = read_plain_labels(room, text, letters)?;
+    if plain.is_absolute {
+        end_in_room(room, plain.len, b"\0")
+    } else {
+        end_in_room(room, plain.len, origin?)
+    }
 }
 
 /// Appends a label to the others, its letters as they are, and tells whether there was no room for
@@ -342,7 +386,7 @@ fn finish(
 }
 
 /// Puts the labels of a text that is neither `.` nor `@` in place, with their letters folded or
-/// kept (RFC 1035 5.1).
+/// kept (RFC 1035 5.1), octet by octet.
 fn read_spelled(
     octets: &mut ArrayVec<u8, MAX_NAME_LEN>,
     text: &[u8],
@@ -353,10 +397,6 @@ fn read_spelled(
     ensures labels { IfOk result (λ spelled. IsReadBy letters text.now octets.new.items spelled) }
     ensures fault { IfErr result (λ fault. reading text.now ≡ Err fault) }
 {
-    if let Some(spelled) = read_plain(octets, text, letters) {
-        return Ok(spelled);
-    }
-    octets.clear();
     let spelled = read_labels(octets, text)?;
     set_letters(octets, letters);
     Ok(spelled)
@@ -379,6 +419,11 @@ fn read_into(
     ensures err { IfErr result (λ fault.
         name_read letters (origin_in (option_copied origin.entry)) text.now ≡ Err fault) }
 {
+    let mut room = [b'.'; ROOM];
+    if let Some(len) = read_plain(&mut room, text, origin, letters) {
+        let _ = octets.try_extend_from_slice(&room[..len]);
+        return Ok(());
+    }
     let spelled = read_spelled(octets, text, letters)?;
     finish(octets, spelled, origin)
 }
@@ -455,4 +500,33 @@ pub(crate) fn read_name(
         },
         NameShape::Labels => replace(octets, text, origin, letters),
     }
+}
+
+/// Appends the octets of the name, in lower case, that a text without escapes spells under an
+/// origin, and tells whether it did. If not, nothing is appended: the text has an escape or a fault,
+/// the name is long, or it is the root or the origin itself.
+///
+/// # Errors
+///
+/// `AllocError` where memory is refused.
+pub(crate) fn push_plain(
+    text: &[u8],
+    origin: Option<&[u8]>,
+    out: &mut Vec<u8>,
+) -> Result<bool, AllocError>
+    requires { IfSome (option_copied origin) HoldsName }
+    ensures done { IfOk result (λ done. IsTrue done → (name : Labels)
+        × Spells (origin_in (option_copied origin.entry)) text.now name
+        × (out.new.items ≡ out.old.items ++ wire name)) }
+    ensures left { IfOk result (λ done. done ≡ false → out.new.items ≡ out.old.items) }
+{
+    let NameShape::Labels = shape_of(text) else {
+        return Ok(false);
+    };
+    let mut room = [b'.'; ROOM];
+    let Some(len) = read_plain(&mut room, text, origin, Letters::Folded) else {
+        return Ok(false);
+    };
+    out.extend_from_slice(&room[..len])?;
+    Ok(true)
 }

@@ -124,7 +124,8 @@ pub(crate) fn cut_line<'t>(
         if *stop == b'\n' {
             return Ok(Some(octets.len() - after.len()));
         }
-        if is_blank(*stop) {
+        // Of what stops an item, the others of these are blanks.
+        if *stop <= b' ' {
             rest = after;
             stops = next_stops;
             continue;

@@ -1,5 +1,5 @@
 -- Names whose letters are folded or kept when they are read.
-use Rattle.zone_name.proofs.Common.{AllByRecursion, Bool, Collects, Err, Folded, HoldsCasedLabels, HoldsLabelsBy, HoldsNameBy, IfErr, IfOk, IfSome, IsCasedLabel, IsCasedName, IsLabel, IsName, IsNameBy, Kept, Letters, List, NameFault, NameTooLong, None, Ok, Option, Result, Some, [], ap, append-nil, append_assoc, arith, false, false≢true, flat_map, flat_map-append, folded, folded_octet, labels_of, length, length-append, lettered, lettered_in, map, name_read, origin_in, refl, sized, sym, true, under_origin, wire, with_length, ℕ, ◌++◌, ◌+◌, ◌<◌, ◌∙◌, ◌∷◌, ◌≡◌, ◌≤◌}
+use Rattle.zone_name.proofs.Common.{AllByRecursion, Bool, Collects, Err, Folded, HoldsCasedLabels, HoldsLabelsBy, HoldsNameBy, IfErr, IfOk, IfSome, IsCasedLabel, IsCasedName, IsLabel, IsName, IsNameBy, Kept, Letters, List, NameFault, NameTooLong, None, Ok, Option, Result, Some, [], ap, append-nil, append_assoc, arith, false, false≢true, flat_map, flat_map-append, folded, folded_octet, labels_of, length, length-append, length-take, lettered, lettered_in, map, name_read, origin_in, refl, sized, sym, take, true, under_origin, wire, with_length, ℕ, ◌++◌, ◌+◌, ◌<◌, ◌∙◌, ◌∷◌, ◌≡◌, ◌≤◌}
 use Rattle.zone_name.specs.Machine.Letters.{IsReadBy}
 use Rattle.zone_name.specs.Machine.Seen.{IsReadInto}
 use Rattle.zone_name.specs.declared.reading.Spelled.{Spelled}
@@ -143,6 +143,14 @@ pub named_err : (letters : Letters) (origin : Option (List ℕ)) (text octets : 
 named_err letters origin text octets spelled (Ok done) holds read known is = tt
 named_err letters origin text octets spelled (Err fault) holds read known is =
     ap (λ r. under_origin (origin_in origin) (lettered_in letters r)) read.1 ∙ is letters holds known (lettered letters read.0) read.2
+
+-- where an ending that there is room for comes after the labels
+pub ended_name : (letters : Letters) (origin : Option (List ℕ)) (text octets ending room : List ℕ) (spelled : Spelled) (result : Option ℕ) → HoldsLabelsBy letters octets → IsReadBy letters text octets spelled → IfSome origin (HoldsNameBy letters) → Ends origin spelled ending → IfSome result (λ n. n ≤ 128) → IfSome result (λ n. take n room ≡ octets ++ ending) → IfSome result (λ n. HoldsNameBy letters (take n room) × (name_read letters (origin_in origin) text ≡ Ok (labels_of (take n room))))
+ended_name letters origin text octets ending room spelled (Some n) holds read known ends within is =
+    let few : length octets + length ending ≤ 255 = omega (arith, within, length-take n room, ap length is, length-append octets ending) in
+    named_ok letters origin text octets (take n room) spelled (Ok tt) holds read known
+    (finished origin spelled octets ending (take n room) (Ok tt) ends (λ by labels name. ended_with by octets ending (take n room) labels name is few))
+ended_name letters origin text octets ending room spelled None holds read known ends within is = tt
 
 -- ---- what is known of octets that hold a name
 

@@ -1,5 +1,5 @@
 -- The walk over a text: what was read so far, and what it leads to.
-use Rattle.zone_name.proofs.Common.{Ahead, BadEscape, Bool, Closes, Collects, EmptyLabel, EndsInFault, EndsLabel, EndsLabelAt, Err, Goes, IsBadEscape, Joins, LabelTooLong, List, NameFault, NameTooLong, Ok, RefusesLabel, RelativeName, Result, Step, [], ahead_in, ap, arith, at_dot, at_fault, at_octet, common_steps, done, empty, failed, false, flat_map-append, goes, inl, inr, le-leb, length, length-append, long, lt-leb, read, refl, step_at, suc, sym, wire, zero, ℕ, ◌++◌, ◌<◌, ◌||◌, ◌∙◌, ◌∷◌, ◌≡◌, ◌≤◌}
+use Rattle.zone_name.proofs.Common.{Ahead, BadEscape, Bool, Closes, Collects, EmptyLabel, EndsInFault, EndsLabel, EndsLabelAt, Err, Goes, IsBadEscape, LabelTooLong, List, NameFault, NameTooLong, Ok, RefusesLabel, RelativeName, Result, Step, [], ahead_in, ap, arith, at_dot, at_fault, at_octet, common_steps, done, empty, failed, false, flat_map-append, goes, inl, inr, le-leb, length, length-append, long, lt-leb, read, refl, step_at, suc, sym, wire, zero, ℕ, ◌++◌, ◌<◌, ◌||◌, ◌∙◌, ◌∷◌, ◌≡◌, ◌≤◌}
 use Rattle.zone_name.specs.Machine.LabelWalk.{reading}
 use Rattle.zone_name.proofs.Spelling.Ahead.{ahead_shrinks, ahead-bad}
 

@@ -24,9 +24,7 @@ pub(crate) fn push_name(
         (Appends (Spells (Some origin.now) text.now) wire octets.old.items octets.new.items) }
     ensures fault { IfErr result (IfFault (IsNameFault origin.now text.now)) }
 {
-    let mut name = Name::root();
-    name.set_from_text(text, Some(origin))?;
-    octets.extend_from_slice(name.wire())?;
+    Name::push_spelled(text, Some(origin), octets)??;
     Ok(())
 }
 
