@@ -138,9 +138,6 @@ fn fit_string(text: &[u8]) -> bool
 }
 
 /// Whether an item's text is no longer than a string may be.
-// Not inlined: only an entry of very many items asks it.
-#[cold]
-#[inline(never)]
 fn is_short(item: Item) -> bool
     ensures { IsTrue result → IsShort (raw item.entry) }
 {
@@ -152,7 +149,6 @@ fn is_short(item: Item) -> bool
 /// Puts an item of an entry after those before it. After very many items a short one is left out:
 /// the entry has a fault, and it doesn't hang on this item. So an entry of many items takes no more
 /// memory than its octets.
-#[inline(always)]
 pub(crate) fn keep<'t>(item: Item<'t>, items: &mut Vec<Item<'t>>) -> Result<(), AllocError>
     ensures { OnOk result
         (Keeps (raw item.entry) (map raw items.old.items) (map raw items.new.items)) }
