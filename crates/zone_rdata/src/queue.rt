@@ -61,6 +61,7 @@ impl RecordQueue {
     /// # Errors
     ///
     /// `AllocError` where memory is refused. The queue is unchanged.
+    #[inline(always)]
     pub fn push(
         &mut self,
         owner: &NameRef<'_>,
@@ -79,10 +80,7 @@ impl RecordQueue {
         self.turn();
         match self.slots.get_mut(self.end) {
             Some(slot) => slot.set(owner, ttl, rdata, place),
-            None => {
-                let rr = Rr::of_parts(owner.to_name(), ttl, rdata);
-                self.slots.push_back(Placed { rr, place })?;
-            }
+            None => push_slot(&mut self.slots, owner, ttl, rdata, place)?,
         }
         self.end += 1;
         Ok(())
@@ -163,6 +161,31 @@ impl RecordQueue {
         slots.truncate(end - first);
         slots
     }
+}
+
+/// Appends a slot with the record of an owner, a TTL in seconds that was judged before, and data.
+///
+/// # Errors
+///
+/// `AllocError` where memory is refused. The slots are unchanged.
+// Not inlined: it has room for a name, and nearly all records find a free slot.
+#[cold]
+#[inline(never)]
+fn push_slot(
+    slots: &mut VecDeque<Placed>,
+    owner: &NameRef<'_>,
+    ttl: u32,
+    rdata: Rdata,
+    place: Place,
+) -> Result<(), AllocError>
+    requires { ttl ≤ MAX_TTL }
+    ensures appended { OnOk result (slots.new.items ≡ slots.old.items
+        ++ record { rr = record_with owner.now ttl rdata; place = place } ∷ []) }
+    ensures unchanged { OnErr result (slots.new.items ≡ slots.old.items) }
+{
+    let rr = Rr::of_parts(owner.to_name(), ttl, rdata);
+    slots.push_back(Placed { rr, place })?;
+    Ok(())
 }
 
 /// The records that a source has still to give, and the fault after them.

@@ -7,7 +7,7 @@ ghost use Rattle.zone_text.specs.Machine.Kept.{KeepsBare};
 ghost use Rattle.zone_text.specs.Machine.Line.{IsInFront, IsQuoted};
 
 use crate::comment::comment_len;
-use crate::items::{Extent, is_blank, keep, plain_len};
+use crate::items::{Extent, keep, plain_len};
 use crate::stops::Stops;
 use crate::words::begins_with_digit;
 use std::alloc::AllocError;

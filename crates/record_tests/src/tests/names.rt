@@ -34,6 +34,18 @@ fn set(name: &mut Name, text: &[u8], origin: &[u8]) -> Result<(), NameFault> {
     name.set_from_text(text, Some(&origin))
 }
 
+/// The octets of the name of a text under an origin, pushed to none; an empty origin is none.
+fn pushed(alloc: Global, text: &[u8], origin: &[u8]) -> Result<Vec<u8>, Fail> {
+    let mut octets = Vec::new(alloc);
+    if origin.is_empty() {
+        Name::push_spelled(text, None, &mut octets)??;
+    } else {
+        let origin = Name::from_text(origin, None)?;
+        Name::push_spelled(text, Some(&origin), &mut octets)??;
+    }
+    Ok(octets)
+}
+
 /// Whether these are the octets of a copy of the name, of another name that becomes it, and of the
 /// name that is lent from their front.
 fn are_its(name: &Name, other: &Name) -> bool {
@@ -58,6 +70,8 @@ impl Question for Spelled {
         let (lent, _) = NameRef::split_front(name.wire());
         copied.copy_from(&lent);
         check(copied.wire() == name.wire(), "a name becomes a copy of it")?;
+        let octets = pushed(alloc, text.as_bytes(), origin.as_bytes())?;
+        check(octets.as_slice() == name.wire(), "its octets are pushed")?;
         push_hex(alloc, out, name.wire())?;
         push_text(out, " ")?;
         Ok(name.push_text(out)?)

@@ -8,12 +8,13 @@ use Rattle.std.proofs.lemmas.Nat.{and_le_r, shr-shr}
 use Rattle.std.proofs.lemmas.Simd.{Each1-all, Each1-zip2, Each2-splat, SwzOk, SwzOk-from_below, chunk-fits, get_or-swz_l_below, leading_from_mask_l, length-swz_l, length-zip2, map-map, mask_l-mod, swz_l, trailing_mask_l, zip2_of_maps, zip2_splat}
 use Rattle.std.specs.Int.Count.{count_trailing_zeros}
 use Rattle.std.specs.List.{prefix_len}
-use Rattle.std.specs.Prelude.{not}
+use Rattle.std.specs.Prelude.{not, ◌||◌}
 use Rattle.std.specs.Simd.Lanes.{mask_l}
 use lib.Lanes.{Each1, top, zip2}
 use lib.ListN.{replicate}
 use Rattle.zone_text.proofs.Common.{All, AllByRecursion, Bool, EndsAt, List, [], agree_below_at, and_parts, ap, arith, cases_lt, cond, drop, drop-drop, drop-map, eqb-true, false, get_or, inl, inr, length, length-drop, length-map, length-take, map, min, ne_eqb, recursion_from_All, refl, stops_bare, subst, suc, sym, take, take-append-drop, true, zero, ℕ, ◌&&◌, ◌⊎◌, ◌++◌, ◌+◌, ◌-◌, ◌<◌, ◌==◌, ◌^◌, ◌∙◌, ◌∷◌, ◌≡◌, ◌≢◌, ◌≤◌}
 use Rattle.zone_text.specs.Machine.Stops.{Tells}
+use Rattle.zone_text.specs.Tokens.{is_blank}
 use Rattle.zone_text.specs.declared.stops.Stops.{Stops}
 
 abbrev pub goes_on : ℕ → Bool
@@ -167,6 +168,20 @@ every_below p (suc n) all i less =
       | inl before ↦ every_below p n parts.1 i before
       | inr at ↦ let e : n ≡ i = omega arith in subst (λ k. p k ≡ true) e parts.0
     ]
+
+-- of what stops an item, all that is no greater than a space but a line feed is a blank
+abbrev pub is_low_blank : ℕ → Bool
+is_low_blank c = not (stops_bare c) || (eqb c 10 || is_blank c)
+
+low_stop : (c : ℕ) → stops_bare c ≡ true → c ≤ 32 → c ≢ 10 → is_blank c ≡ true
+low_stop c stops low other =
+    let row : is_low_blank c ≡ true = every_below is_low_blank 33 refl c (omega arith) in
+    rw (stops, ne_eqb c 10 other) at row
+
+pub blank_stop : (rest stopped after : List ℕ) (stop len : ℕ) → len ≡ prefix_len goes_on rest → stopped ≡ drop len rest → stopped ≡ stop ∷ after → stop ≤ 32 → stop ≢ 10 → is_blank stop ≡ true
+blank_stop rest stopped after stop len is back first low other =
+    let ends : EndsAt stops_bare stopped = subst (EndsAt stops_bare) (sym (back ∙ ap (λ k. drop k rest) is)) (prefix_ends rest) in
+    low_stop stop (subst (EndsAt stops_bare) first ends) low other
 
 -- the low four bits of each lane are a place in a table of 16
 pub low_places : (v : List ℕ) → length v ≡ 64 → SwzOk w8 16 64 0 (zip2 bit_and v (replicate 64 15))

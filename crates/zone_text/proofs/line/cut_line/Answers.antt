@@ -2,7 +2,7 @@ use Rattle.std.proofs.lemmas.List.Sums.{prefix_len-le-length}
 use Rattle.zone_text.proofs.Common.{ap, arith, length, map, raw, refl, suc, sym, ◌∙◌, ◌≡◌}
 use Rattle.zone_text.proofs.Scanning.FirstEntries.{blank_in_front, cut_bare, cut_ended, cut_more, cut_none, cut_on, in_front_shorter}
 use Rattle.zone_text.proofs.Tokens.OneLine.{one_line, passed_bare, passed_blank, passed_token}
-use Rattle.zone_text.proofs.Scanning.StopMarks.{after_stop, goes_on}
+use Rattle.zone_text.proofs.Scanning.StopMarks.{after_stop, blank_stop, goes_on}
 use Rattle.zone_text.proofs.line.cut_line.Goals as goal
 
 pub loop-rest-init : goal.loop-rest-init
@@ -23,16 +23,16 @@ returns-then-stop-eq10-clause-line c =
     one_line _ _ _ _ _ _ (cut_bare _ _ _ _ _ _ _ _ _ c.loop-rest.invariant.cut c.bare_len-len.ensures.len c.split_at.ensures.front c.split_at.ensures.back c.in-Some.ensures.cases.0 c.if-stop-eq92.false c.in_ok-keep_bare.ensures)
     (passed_bare _ _ _ c.bare_len-len.ensures.len c.split_at.ensures.back ∙ c.loop-rest.invariant.line) c.in-Some.ensures.cases.0 c.if-stop-eq10.true refl
 
-pub loop-rest-smaller-then-is_blank : goal.loop-rest-smaller-then-is_blank
-loop-rest-smaller-then-is_blank c =
+pub loop-rest-smaller-then-stop-le32 : goal.loop-rest-smaller-then-stop-le32
+loop-rest-smaller-then-stop-le32 c =
     let first : length c.split_at.result.1.now ≡ suc (length c.in-Some.after.now) = ap length c.in-Some.ensures.cases.0 in
     omega (arith, first, c.split_at.ensures.back_len)
 
-pub loop-rest-preserved-then-is_blank : goal.loop-rest-preserved-then-is_blank
-loop-rest-preserved-then-is_blank c = record {
-  cut = cut_on _ _ _ _ (cut_bare _ _ _ _ _ _ _ _ _ c.loop-rest.invariant.cut c.bare_len-len.ensures.len c.split_at.ensures.front c.split_at.ensures.back c.in-Some.ensures.cases.0 c.if-stop-eq92.false c.in_ok-keep_bare.ensures) (blank_in_front _ _ _ c.in-Some.ensures.cases.0 (sym c.is_blank.ensures ∙ c.if-is_blank.true));
+pub loop-rest-preserved-then-stop-le32 : goal.loop-rest-preserved-then-stop-le32
+loop-rest-preserved-then-stop-le32 c = record {
+  cut = cut_on _ _ _ _ (cut_bare _ _ _ _ _ _ _ _ _ c.loop-rest.invariant.cut c.bare_len-len.ensures.len c.split_at.ensures.front c.split_at.ensures.back c.in-Some.ensures.cases.0 c.if-stop-eq92.false c.in_ok-keep_bare.ensures) (blank_in_front _ _ _ c.in-Some.ensures.cases.0 (blank_stop _ _ _ _ _ c.bare_len-len.ensures.len c.split_at.ensures.back c.in-Some.ensures.cases.0 c.if-stop-le32.true c.if-stop-eq10.false));
   tells = after_stop c.bare_len-len.result.1 c.loop-rest.rest.now c.split_at.result.1.now c.in-Some.after.now c.in-Some.stop.now c.bare_len-len.result.0 c.bare_len-len.ensures.tells c.split_at.ensures.back c.in-Some.ensures.cases.0;
-  line = passed_blank _ _ _ c.in-Some.ensures.cases.0 (sym c.is_blank.ensures ∙ c.if-is_blank.true) ∙ passed_bare _ _ _ c.bare_len-len.ensures.len c.split_at.ensures.back ∙ c.loop-rest.invariant.line;
+  line = passed_blank _ _ _ c.in-Some.ensures.cases.0 (blank_stop _ _ _ _ _ c.bare_len-len.ensures.len c.split_at.ensures.back c.in-Some.ensures.cases.0 c.if-stop-le32.true c.if-stop-eq10.false) ∙ passed_bare _ _ _ c.bare_len-len.ensures.len c.split_at.ensures.back ∙ c.loop-rest.invariant.line;
 }
 
 pub loop-rest-smaller-then-stop-eq92 : goal.loop-rest-smaller-then-stop-eq92
