@@ -491,9 +491,5 @@ entry_alone origin begun new entry kept is unbroken none h same broken first pus
     let whole : [] ++ front.part ≡ entry = sym (front.whole ∙ append-nil front.part) in
     end_none new (broken ∙ unbroken) (ap (λ (o : HeldEntry). o.octets) same ∙ none) origin entry [] (subst (λ t. HasWritten origin new t []) whole (front.follow origin [] [] h))
 
-pub refused_alone : {T E : Type 0} (result : Result T E) (origin : Labels) (begun new : FedWriter) (entry : List ℕ) → HasWritten origin begun [] [] → OnErr result (new.entries.refusals ≡ begun.entries.refusals) → OnErr result (new.entries.written.items ≡ begun.entries.written.items) → OnErr result (HasWrittenInPart origin new entry [])
-refused_alone (Ok x) origin begun new entry h told written = tt
-refused_alone (Err e) origin begun new entry h told written = in_part origin begun new [] [] entry told written h
-
 pub refused_in_part : (old new : FedWriter) → new.entries.refusals ≡ old.entries.refusals → new.entries.written.items ≡ old.entries.written.items → FollowInPart old [] new
 refused_in_part old new told written origin fed given h = in_part origin old new fed given [] told written h

@@ -4,6 +4,7 @@ use Rattle.zone_name.specs.Common.{Labels}
 use Rattle.zone_rdata.specs.FedSource.{is_finished}
 use Rattle.zone_rdata.specs.declared.fed.FedStatus.{FedStatus}
 use Rattle.zone_rdata.specs.declared.fed.FedStatus.TheVariants.{Finished, Open, OutOfMemory}
+use Rattle.zone_words.proofs.FedTexts.{in_part}
 use Rattle.zone_words.specs.Entry.{BecomesUnder, IsRewriting}
 use Rattle.zone_words.specs.Machine.FedWriting.{FollowInPart, FollowOn, HasWritten, HasWrittenAll, HasWrittenInPart, WritesAll, state_of}
 use Rattle.zone_words.specs.Refusal.{AreInShort}
@@ -63,6 +64,11 @@ stands_alone origin n w entry count h = record {
   so_far = λ e. absurd cc;
   all = λ _. h.all;
 }
+
+pub refused_alone : (origin : Labels) (n : ℕ) (begun new : FedWriter) (entry : List ℕ) → HasWritten origin begun [] [] → new.entries.refusals ≡ begun.entries.refusals → new.entries.written.items ≡ begun.entries.written.items → StandsInPart origin (state_of OutOfMemory n new) entry []
+refused_alone origin n begun new entry h told written =
+    let part = in_part origin begun new [] [] entry told written h in
+    record { told = part.told; in_short = part.in_short; part = part.part }
 
 -- memory was refused
 pub stands_in_part : (status : FedStatus) (n : ℕ) (old mid new : FedWriter) (part : List ℕ) → status ≡ Open → FollowInPart old part mid → new.entries ≡ mid.entries → (origin : Labels) (fed given : List ℕ) → StandsForRewriting origin (state_of status n old) fed given → StandsInPart origin (state_of OutOfMemory n new) (fed ++ part) given

@@ -1,15 +1,11 @@
 //! Octets of a master file as they come in pieces: what is written for the entries that they end,
 //! and the one that they leave open.
-ghost use Rattle.std.specs.Prelude.{◌≡◌, ◌+◌, ◌<◌, ◌≤◌, ◌^◌, ◌++◌, ◌⊎◌, [], length, map, IfOk, OnErr, OnOk, true, false};
-ghost use Rattle.zone_rdata.specs.Item.{raw};
-ghost use Rattle.zone_text.specs.FirstEntry.{IsFirstEntry};
+ghost use Rattle.std.specs.Prelude.{◌≡◌, ◌+◌, ◌<◌, ◌≤◌, ◌^◌, ◌++◌, ◌⊎◌, [], length, IfOk, OnErr, OnOk, true, false};
 ghost use Rattle.zone_text.specs.declared.open_entry.EntryState.TheVariants.{Open};
 ghost use Rattle.zone_words.specs.Machine.FedWriting.{
   FollowInPart,
   FollowOn,
   HasWritten,
-  HasWrittenAll,
-  HasWrittenInPart,
   IsFedWriter,
   PushesOctets,
   TakesFront,
@@ -64,23 +60,6 @@ impl FedWriter {
         self.entries.restart(origin);
         self.unfinished.clear();
         self.is_broken = false;
-    }
-
-    /// Becomes the writer of one entry, of whose items these are kept, as a whole file.
-    pub(crate) fn rewrite_entry(
-        &mut self,
-        origin: &CasedName,
-        entry: &[u8],
-        items: &[Item],
-    ) -> Result<(), AllocError>
-        requires whole { IsFirstEntry entry.now (length entry.now) (map raw items.now) }
-        requires fits { length entry.now + 1 < 2 ^ 64 }
-        ensures all { OnOk result (HasWrittenAll origin.now self.new entry.now []) }
-        ensures in_part { OnErr result (HasWrittenInPart origin.now self.new entry.now []) }
-        ensures none { self.new.unfinished.octets ≡ [] }
-    {
-        self.restart(origin);
-        self.entries.push(entry, items)
     }
 
     /// Takes the next piece.

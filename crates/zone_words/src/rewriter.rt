@@ -92,7 +92,9 @@ impl Rewriter {
         ensures failed { OnErr result (self.new.status ≡ OutOfMemory) }
         ensures uncounted { OnErr result (self.new.fed ≡ 0) }
     {
-        match self.writer.rewrite_entry(origin, entry, items) {
+        let writer = &mut self.writer;
+        writer.restart(origin);
+        match writer.entries.push(entry, items) {
             Ok(()) => {
                 (self.status, self.fed) = (FedStatus::Finished, entry.len() as u64);
                 Ok(())
