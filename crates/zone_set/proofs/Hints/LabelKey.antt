@@ -1,5 +1,5 @@
 -- The key of labels has the order of the labels.
-use Rattle.zone_set.proofs.Common.{AllByRecursion, AllByRecursion-append, AreDigits, AreOctets, IsFoldedOctet, IsLabel, List, [], ap, arith, flat_map, label_cmp, label_key, name_cmp, nat_cmp, nat_tests, ordering_then, owner_key, refl, reverse, reverse-append, slice_cmp, subst, sym, then_assoc, ℕ, ◌++◌, ◌+◌, ◌<◌, ◌∙◌, ◌∷◌, ◌≡◌}
+use Rattle.zone_set.proofs.Common.{AllByRecursion, AllByRecursion-append, AreDigits, AreOctets, IsFoldedOctet, IsLabel, List, [], ap, arith, flat_map, label_cmp, label_key, name_cmp, nat_cmp, nat_tests, ordering_then, owner_key, refl, reverse, reverse-append, slice_cmp, subst, sym, then_assoc, ℕ, ◌++◌, ◌<◌, ◌∙◌, ◌∷◌, ◌≡◌}
 
 label_embeds : (a b x y : List ℕ) → slice_cmp nat_cmp (label_key a ++ x) (label_key b ++ y) ≡ ordering_then (label_cmp a b) (slice_cmp nat_cmp x y)
 label_embeds [] [] x y = refl

@@ -1,5 +1,5 @@
 -- Octets that are compared as numbers.
-use Rattle.zone_set.proofs.Common.{AreLow, Equal, List, Ordering, [], ap, arith, common_steps, drop, from_be_bytes, length, length-take-le, low_take, nat_cmp, nat_cmp_is, ordering_then, refl, slice_cmp, subst, suc, sym, take, then_assoc, w64, zero, ℕ, ◌*◌, ◌+◌, ◌<◌, ◌∙◌, ◌∷◌, ◌≡◌}
+use Rattle.zone_set.proofs.Common.{AreLow, Equal, List, Ordering, [], ap, arith, common_steps, drop, from_be_bytes, length, length-take-le, low_take, nat_cmp, nat_cmp_is, ordering_then, refl, slice_cmp, subst, suc, sym, take, then_assoc, w64, zero, ℕ, ◌*◌, ◌+◌, ◌∙◌, ◌∷◌, ◌≡◌}
 
 -- the number of octets that go on from another
 abbrev number_on : ℕ → List ℕ → ℕ

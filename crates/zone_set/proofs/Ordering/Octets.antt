@@ -1,7 +1,7 @@
 -- Octets that are compared eight at a time.
 use Rattle.std.proofs.Common.{bytes_eq, length-append}
 use Rattle.std.proofs.lemmas.List.{append_cancel_left, drop-drop}
-use Rattle.zone_set.proofs.Common.{Bool, IsTrue, List, bytes_eq-Decides, false, true, ap, ap₂, append_assoc, arith, drop, drop_at, inl, inr, length, refl, subst, sym, take, take-append-drop, ℕ, ◌++◌, ◌+◌, ◌-◌, ◌<◌, ◌∙◌, ◌≡◌, ◌≢◌, ◌≤◌, ◌⊎◌}
+use Rattle.zone_set.proofs.Common.{Bool, IsTrue, List, bytes_eq-Decides, false, true, ap, ap₂, append_assoc, arith, drop, drop_at, length, refl, sym, take, take-append-drop, ℕ, ◌++◌, ◌+◌, ◌-◌, ◌∙◌, ◌≡◌, ◌≢◌, ◌≤◌, ◌⊎◌}
 use Rattle.zone_set.specs.Machine.Octets.{AreSameButForFew}
 
 -- the same octets stand before what is left

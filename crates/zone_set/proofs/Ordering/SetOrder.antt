@@ -1,5 +1,5 @@
 -- The canonical order of records: it is total, and what lies between two records of a set is of the set.
-use Rattle.zone_set.proofs.Common.{◌≡◌, ◌≢◌, ℕ, Bool, ◌==◌, if◌then◌else◌, List, [], take, Ordering, Less, Equal, Greater, nat_cmp, refl, sym, ap, ◌∙◌, rules, arith, nat_cmp_total, nat_list_cmp_total, tied_itself, on_total, then_total, CmpEqualImpliesEq, exact_unsigned, exact_bytes, IsTotalOrder, slice_cmp, on, ordering_then, then_cmp, name_cmp-exact, name_cmp-total, name_cmp, data_cmp, Data, Record, data_of, soa_rank, canonical_cmp, InOneSet}
+use Rattle.zone_set.proofs.Common.{◌≡◌, ◌≢◌, ◌==◌, if◌then◌else◌, [], take, Ordering, Less, Equal, Greater, nat_cmp, refl, sym, ap, ◌∙◌, rules, arith, nat_cmp_total, nat_list_cmp_total, tied_itself, on_total, then_total, CmpEqualImpliesEq, exact_unsigned, exact_bytes, IsTotalOrder, slice_cmp, on, ordering_then, then_cmp, name_cmp-exact, name_cmp-total, name_cmp, data_cmp, Data, Record, data_of, soa_rank, canonical_cmp, InOneSet}
 
 pub both_equal : (o p : Ordering) → ordering_then o p ≡ Equal → (o ≡ Equal) × (p ≡ Equal)
 both_equal o p h = grind arith

@@ -1,5 +1,5 @@
 use Rattle.std.proofs.Common.{inr}
-use Rattle.zone_set.proofs.Common.{◌≡◌, arith, bytes_eq-Decides}
+use Rattle.zone_set.proofs.Common.{arith, bytes_eq-Decides}
 use Rattle.zone_set.proofs.Ordering.Octets.{eights_apart, eights_passed}
 use Rattle.zone_set.proofs.order.have_same_eights.Goals as goal
 
