@@ -1,4 +1,4 @@
-ghost use Rattle.std.specs.Prelude.{◌≡◌, ◌≢◌, ◌⊎◌, ◌<◌, bytes_eq, IsTrue};
+ghost use Rattle.std.specs.Prelude.{◌≡◌, ◌≢◌, ◌⊎◌, ◌<◌, bytes_eq, length, IsTrue};
 ghost use Rattle.std.specs.Cmp.Lexicographic.{slice_cmp};
 ghost use Rattle.std.specs.List.{AllByRecursion};
 ghost use Rattle.std.specs.Ordering.{nat_cmp};
@@ -35,10 +35,25 @@ pub(crate) fn are_same(a: &[u8], b: &[u8]) -> bool
         return false;
     }
     let (Some(last), Some(other)) = (a.last_chunk::<8>(), b.last_chunk::<8>()) else {
-        return a == b;
+        return are_same_few(a, b);
     };
     // The last eight have those that are left after the others.
     last == other && have_same_eights(a, b)
+}
+
+/// Whether octets are the same, of which there are as many, and fewer than eight.
+fn are_same_few(a: &[u8], b: &[u8]) -> bool
+    requires as_many { length a.now ≡ length b.now }
+    requires few { length a.now < 8 }
+    ensures { result ≡ bytes_eq a.now b.now }
+{
+    let (Some(x), Some(y)) = (a.first_chunk::<4>(), b.first_chunk::<4>()) else {
+        return a == b;
+    };
+    let (Some(last), Some(other)) = (a.last_chunk::<4>(), b.last_chunk::<4>()) else {
+        return a == b;
+    };
+    x == y && last == other
 }
 
 /// Whether octets are the same as far as there are eight in both.
