@@ -1,5 +1,5 @@
 -- A number of 16 or of 32 bits, written in decimal digits.
-use Rattle.zone_rdata.proofs.Common.{[], List, Some, ap, arith, decimal, length, refl, sym, ℕ, ◌^◌, ◌<◌, ◌∙◌, ◌∷◌, ◌≡◌, take_at, Labels, FitsString, FieldValue, Holds, SpellsField, Suits, field_octets, u16_value, u32_value, RawItem, bare, IsReal, IsDecimal, length-decimal-le, BadNumber, Serial, U16}
+use Rattle.zone_rdata.proofs.Common.{[], List, ap, arith, decimal, length, refl, sym, ℕ, ◌^◌, ◌∙◌, ◌∷◌, ◌≡◌, take_at, Labels, FieldValue, Holds, SpellsField, u16_value, u32_value, RawItem, bare, IsDecimal, length-decimal-le, BadNumber, Serial, U16}
 use Rattle.std.specs.Int.{byte_len, from_be_bytes, to_be_bytes, Width, w16, w32}
 use Rattle.std.proofs.lemmas.Nat.{be_bytes_2, be_bytes_4, from_be_bytes-to_be_bytes_2, from_be_bytes-to_be_bytes_4}
 use Rattle.zone_rdata.specs.Fields.Number.{IsNumber, SpellsNumber}

@@ -1,5 +1,5 @@
 -- The laws of strings.
-use Rattle.zone_rdata.proofs.Common.{[], ◌≡◌, ◌≢◌, ℕ, ◌<◌, Bool, false, ◌||◌, ◌==◌, List, ◌∷◌, ◌⊎◌, refl, sym, ◌∙◌, arith, AllByRecursion, AreOctets, Written, text_of, octet_of, IsUnit, no_octet, written_text, written_octets, is_digit, Fault, RawItem, quoted, IsString, SpellsString, StringFault, StandsInQuotes, is_quote, inside_text, is_shown, unit_text, map}
+use Rattle.zone_rdata.proofs.Common.{[], ◌≡◌, ◌≢◌, ℕ, ◌<◌, Bool, ◌||◌, ◌==◌, List, ◌∷◌, refl, sym, ◌∙◌, arith, AllByRecursion, AreOctets, Written, text_of, octet_of, IsUnit, no_octet, written_text, written_octets, Fault, RawItem, quoted, IsString, SpellsString, StringFault, StandsInQuotes, is_quote, inside_text, is_shown, unit_text, map}
 use Rattle.zone_name.proofs.Texts.Lawful.{written_by, printed_text, value_by}
 use Rattle.zone_rdata.proofs.Strings.Units.{string_reads, fault_reads}
 use Rattle.zone_rdata.proofs.Lists.{each_weaker}

@@ -1,6 +1,6 @@
 -- The canonical text of data is its items, they stand in a file as they are, and they state that
 -- data.
-use Rattle.zone_rdata.proofs.Common.{[], List, None, Option, Some, ap, arith, drop, length, map, refl, sym, ℕ, ◌++◌, ◌<◌, ◌∙◌, ◌∷◌, ◌≡◌, ◌≤◌, AllByRecursion, flat_map, join_with_byte, append-nil, map-append, flat_map-append, AllByRecursion-append, AreOctets, Labels, Field, FieldValue, HoldEach, Holds, field_items, field_text, strings, values_of, string_item, digit_items, generic_items, IsGeneric, RawItem, IsLayout, IsSized, StringsLast, layout, laid_out_text, Data, IsRdata, SpellEach, States, StatesFor, in_octets, in_words, string_text, data_items, data_text, generic_text, laid_out_items, written_item, common_steps, Strings}
+use Rattle.zone_rdata.proofs.Common.{[], List, None, Option, Some, ap, arith, drop, length, map, refl, sym, ℕ, ◌++◌, ◌<◌, ◌∙◌, ◌∷◌, ◌≡◌, ◌≤◌, AllByRecursion, flat_map, join_with_byte, append-nil, map-append, flat_map-append, AllByRecursion-append, AreOctets, Labels, Field, FieldValue, HoldEach, Holds, field_items, field_text, strings, values_of, string_item, digit_items, IsGeneric, RawItem, IsLayout, IsSized, StringsLast, layout, laid_out_text, Data, IsRdata, SpellEach, States, StatesFor, in_octets, in_words, string_text, data_items, data_text, laid_out_items, written_item, common_steps, Strings}
 use Rattle.zone_rdata.proofs.Fields.AnyField.{field_printed, field_stands, field_unmarked}
 use Rattle.zone_rdata.proofs.Fields.FieldLaws.{NamesPrinted}
 use Rattle.zone_rdata.proofs.Items.GenericLaws.{printed-stated, printed-text}
