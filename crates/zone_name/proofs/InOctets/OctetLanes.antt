@@ -1,7 +1,7 @@
 -- Lanes that are computed one by one from octets, and what their masks tell of the octets.
 use Rattle.std.proofs.Common.{◌≡◌, ℕ, ◌+◌, ◌*◌, ◌%◌, ◌^◌, ◌<◌, ◌≤◌, eqb, Bool, true, false, cond, not, ◌&&◌, List, [], ◌∷◌, map, length, take, drop, Fits, w8, refl, sym, ap, ap₂, ◌∙◌, arith, length-drop, take-add, drop-drop, take_at, length-append, ◌++◌}
 use Rattle.std.proofs.lemmas.List.{drop_at, length-map, length-take-le, map-append, take-map, take-take}
-use Rattle.zone_name.proofs.Common.{agree_below, agree_below_at, append_assoc, eqb-true, false≢true, leading_from_mask_l, length-put_chunk, list_all, mask_l-mod, prefix_len, put_chunk_is, trailing_mask_l}
+use Rattle.zone_name.proofs.Common.{common_steps, agree_below, agree_below_at, append_assoc, eqb-true, false≢true, leading_from_mask_l, length-put_chunk, list_all, mask_l-mod, prefix_len, put_chunk_is, trailing_mask_l}
 use lib.Count.{count_trailing_zeros}
 use lib.Lanes.{Each1, chunk, mask_l, put_chunk, sel_l, top}
 
@@ -84,11 +84,7 @@ none_fail q (x ∷ v) e =
 
 pub some_fail : (q : ℕ → Bool) (v : List ℕ) → (mask_l (map (λ x. not (q x)) v) ≡ 0 → ⊥)
     → list_all q v ≡ false
-some_fail q v some = by (list_all q v) refl
-  where
-    by : (b : Bool) → list_all q v ≡ b → list_all q v ≡ false
-    by true e = absurd (some (none_fail q v e))
-    by false e = e
+some_fail q v some = grind (arith, common_steps, none_fail)
 
 -- ---- a walk that changes the octets at the front, some at a time
 

@@ -1,6 +1,6 @@
 -- The name that a text spells under an origin, its letters folded or kept, or its first fault, as an
 -- answer on lists.
-use Rattle.zone_name.proofs.Common.{AllByRecursion, AreOctets, AreWrittenLabels, Bool, EmptyLabel, Err, FaultAt, Folded, HasShape, IfErr, IfOk, IfSome, IsCasedLabel, IsCasedName, IsLabel, IsLabelBy, IsName, IsNameBy, IsRelative, IsUnit, IsWrittenLabel, Kept, Labels, Letters, List, NameFault, NameTooLong, None, Ok, Option, Origin, RelativeName, Result, Root, Some, SpellingFault, Spells, SpellsBy, SpellsCased, WritesBy, Written, [], absolute, ap, arith, at_origin, bytes_decides, codes, dotted, false, false≢true, folded, folded_label, folded_octet, get_or, if◌then◌else◌, inl, inr, is_dot, kept, length, length-map, lettered, lettered_in, long_name, name_read, nat_eq, nat_le, octet_of, parted, plain, pointwise, refl, relative, root, sized, subst, sym, taken_by, text_of, true, under_origin, unfounded, wire, within, written_octets, written_text, ℕ, ◌++◌, ◌<◌, ◌∙◌, ◌∷◌, ◌≡◌, ◌≢◌, ◌≤◌, ◌⊎◌}
+use Rattle.zone_name.proofs.Common.{common_steps, AllByRecursion, AreOctets, AreWrittenLabels, Bool, EmptyLabel, Err, FaultAt, Folded, HasShape, IfErr, IfOk, IfSome, IsCasedLabel, IsCasedName, IsLabel, IsLabelBy, IsName, IsNameBy, IsRelative, IsUnit, IsWrittenLabel, Kept, Labels, Letters, List, NameFault, NameTooLong, None, Ok, Option, Origin, RelativeName, Result, Root, Some, SpellingFault, Spells, SpellsBy, SpellsCased, WritesBy, Written, [], absolute, ap, arith, at_origin, bytes_decides, codes, dotted, false, false≢true, folded, folded_label, folded_octet, get_or, if◌then◌else◌, inl, inr, is_dot, kept, length, length-map, lettered, lettered_in, long_name, name_read, nat_eq, nat_le, octet_of, parted, plain, pointwise, refl, relative, root, sized, subst, sym, taken_by, text_of, true, under_origin, unfounded, wire, within, written_octets, written_text, ℕ, ◌++◌, ◌<◌, ◌∙◌, ◌∷◌, ◌≡◌, ◌≢◌, ◌≤◌, ◌⊎◌}
 use Rattle.zone_name.specs.declared.reading.NameShape.{NameShape}
 use Rattle.zone_name.specs.Machine.LabelWalk.{reading}
 use Rattle.zone_name.proofs.Spelling.Spelled.{AreShort, Says, reading-says}
@@ -130,11 +130,7 @@ relative_answered letters text form dot is = grind (arith, err_not_ok, reading_d
 
 -- a fault is the same whether letters are folded or kept
 sized_same : (left right : List (List ℕ)) (fault : NameFault) → length (wire left) ≡ length (wire right) → sized left ≡ Err fault → sized right ≡ Err fault
-sized_same left right fault same e = by (nat_le (length (wire left)) 255) refl
-  where
-    by : (fits : Bool) → nat_le (length (wire left)) 255 ≡ fits → sized right ≡ Err fault
-    by true fits = absurd (cc)
-    by false over = cc
+sized_same left right fault same e = grind (arith, common_steps, sized)
 
 same_size : (letters others : Letters) (labels : List (List ℕ)) → length (wire (lettered letters labels)) ≡ length (wire (lettered others labels))
 same_size letters others labels = lettered_size letters labels ∙ sym (lettered_size others labels)
@@ -224,11 +220,7 @@ octets_short [] is each = tt
 octets_short (w ∷ label) is each = grind (arith, octets_short label is.1 (AllByRecursion-back (λ c. c < 256) (text_of w) (written_text label) each))
 
 label_is : (label : List Written) → IsWrittenLabel label → length label ≤ 63 → AreOctets (written_text label) → IsCasedLabel (written_octets label)
-label_is label is short each = record {
-  some = omega (arith, is.some, length_label label);
-  short = omega (arith, short, length_label label);
-  each = octets_short label is.each each;
-}
+label_is label is short each = grind (arith, common_steps, length_label, octets_short)
 
 dotted_are : (written : List (List Written)) → AllByRecursion IsWrittenLabel written → AreShort written → AreOctets (dotted written) → AllByRecursion IsCasedLabel (kept written)
 dotted_are [] is short each = tt

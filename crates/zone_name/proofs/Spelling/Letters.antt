@@ -1,5 +1,5 @@
 -- Names whose letters are folded or kept when they are read.
-use Rattle.zone_name.proofs.Common.{AllByRecursion, Bool, Collects, Err, Folded, HoldsCasedLabels, HoldsLabelsBy, HoldsNameBy, IfErr, IfOk, IfSome, IsCasedLabel, IsCasedName, IsLabel, IsName, IsNameBy, Kept, Letters, List, NameFault, NameTooLong, None, Ok, Option, Result, Some, [], ap, append-nil, append_assoc, arith, false, false≢true, flat_map, flat_map-append, folded, folded_octet, labels_of, length, length-append, length-take, lettered, lettered_in, map, name_read, origin_in, refl, sized, sym, take, true, under_origin, wire, with_length, ℕ, ◌++◌, ◌+◌, ◌<◌, ◌∙◌, ◌∷◌, ◌≡◌, ◌≤◌}
+use Rattle.zone_name.proofs.Common.{common_steps, AllByRecursion, Bool, Collects, Err, Folded, HoldsCasedLabels, HoldsLabelsBy, HoldsNameBy, IfErr, IfOk, IfSome, IsCasedLabel, IsCasedName, IsLabel, IsName, IsNameBy, Kept, Letters, List, NameFault, NameTooLong, None, Ok, Option, Result, Some, [], ap, append-nil, append_assoc, arith, false, false≢true, flat_map, flat_map-append, folded, folded_octet, labels_of, length, length-append, length-take, lettered, lettered_in, map, name_read, origin_in, refl, sized, sym, take, true, under_origin, wire, with_length, ℕ, ◌++◌, ◌+◌, ◌<◌, ◌∙◌, ◌∷◌, ◌≡◌, ◌≤◌}
 use Rattle.zone_name.specs.Machine.Letters.{IsReadBy}
 use Rattle.zone_name.specs.Machine.Seen.{IsReadInto}
 use Rattle.zone_name.specs.declared.reading.Spelled.{Spelled}
@@ -13,11 +13,7 @@ pub record SetLetters (letters : Letters) (octets new : List ℕ) : Type 0 where
 
 pub fold_letters : (octets new : List ℕ) → HoldsCasedLabels octets → new ≡ map folded_octet octets → SetLetters Folded octets new
 fold_letters octets new holds e =
-    let labels = labels_of octets in
-    let each = folded_labels labels holds.name.each in
-    let shape : new ≡ flat_map with_length (folded labels) = e ∙ ap (map folded_octet) (sym holds.whole) ∙ folded_frames labels holds.name.each in
-    let name : IsName (folded labels) = record { each = each; short = omega (arith, folded_size labels, holds.name.short) } in
-    record { holds = rw shape (HoldsLabels-frames (folded labels) name); gives = ap labels_of shape ∙ labels_of-open (folded labels) each }
+    grind (arith, common_steps, folded_labels, folded, folded_frames, folded_size, labels_of-open)
 
 -- the labels of two names, one after the other
 pub record Joined (letters : Letters) (left right : List (List ℕ)) (new : List ℕ) : Type 0 where
@@ -28,16 +24,10 @@ joined_shape : (octets others new : List ℕ) (left right : List (List ℕ)) →
 joined_shape octets others new left right whole text e = cc (flat_map-append with_length left right, append_assoc (flat_map with_length left) (flat_map with_length right) (0 ∷ []))
 
 joined_name : (left right : List (List ℕ)) (new : List ℕ) → AllByRecursion IsLabel left → AllByRecursion IsLabel right → new ≡ wire (left ++ right) → length new ≤ 255 → Joined Folded left right new
-joined_name left right new each rest shape room =
-    let both = AllByRecursion-append IsLabel left right each rest in
-    let name : IsName (left ++ right) = record { each = both; short = omega (arith, ap length shape) } in
-    record { holds = rw shape (HoldsName-wire (left ++ right) name); gives = ap labels_of shape ∙ labels_of-wire (left ++ right) both }
+joined_name left right new each rest shape room = grind (arith, common_steps, labels_of-wire)
 
 joined_cased : (left right : List (List ℕ)) (new : List ℕ) → AllByRecursion IsCasedLabel left → AllByRecursion IsCasedLabel right → new ≡ wire (left ++ right) → length new ≤ 255 → Joined Kept left right new
-joined_cased left right new each rest shape room =
-    let both = AllByRecursion-append IsCasedLabel left right each rest in
-    let name : IsCasedName (left ++ right) = record { each = both; short = omega (arith, ap length shape) } in
-    record { holds = rw shape (HoldsCasedName-wire (left ++ right) name); gives = ap labels_of shape ∙ labels_of-wire_cased (left ++ right) both }
+joined_cased left right new each rest shape room = grind (arith, common_steps, labels_of-wire_cased)
 
 pub joined : (letters : Letters) (octets others new : List ℕ) → HoldsLabelsBy letters octets → HoldsNameBy letters others → new ≡ octets ++ others → length new ≤ 255 → Joined letters (labels_of octets) (labels_of others) new
 joined Folded octets others new holds name e room = joined_name (labels_of octets) (labels_of others) new holds.name.each name.name.each (joined_shape octets others new (labels_of octets) (labels_of others) holds.whole (sym name.whole) e) room
@@ -86,18 +76,11 @@ pub record Ends (origin : Option (List ℕ)) (spelled : Spelled) (ending : List 
   pub name : (letters : Letters) → IfSome origin (HoldsNameBy letters) → HoldsNameBy letters ending
 
 pub ends_root : (origin : Option (List ℕ)) (spelled : Spelled) → spelled.is_absolute ≡ true → spelled.is_too_long ≡ false → Ends origin spelled (0 ∷ [])
-ends_root origin spelled absolute short = record {
-  short = short;
-  under = λ labels. rw (absolute, labels_of-root (0 ∷ []) refl) (ap sized (sym (append-nil labels)));
-  name = λ letters known. root_holds letters (0 ∷ []) refl;
-}
+ends_root origin spelled absolute short =
+    grind (arith, common_steps, labels_of-root, sized, append-nil, root_holds)
 
 pub ends_above : (origin : Option (List ℕ)) (above : List ℕ) (spelled : Spelled) → spelled.is_absolute ≡ false → origin ≡ Some above → spelled.is_too_long ≡ false → Ends origin spelled above
-ends_above origin above spelled relative is short = record {
-  short = short;
-  under = λ labels. rw (relative, is) refl;
-  name = λ letters known. rw is at known;
-}
+ends_above origin above spelled relative is short = grind (arith, common_steps)
 
 held_labels : (held labels : List (List ℕ)) (is_too_long : Bool) → is_too_long ≡ false → Collects held is_too_long labels → held ≡ labels
 held_labels held labels true short collects = absurd (false≢true (sym short))
@@ -123,13 +106,11 @@ wire_some labels = omega (arith, length-append (flat_map with_length labels) (0 
 
 pub absolute_long : (origin : Option (List (List ℕ))) (spelled : Spelled) (held labels : List (List ℕ)) → spelled.is_absolute ≡ true → spelled.is_too_long ≡ true → Collects held spelled.is_too_long labels → under_origin origin (Ok (labels, spelled.is_absolute)) ≡ Err NameTooLong
 absolute_long origin spelled held labels absolute long collects =
-    let over : 255 < length (wire labels) = rw long at collects in
-    rw absolute (sized-long labels over)
+    grind (arith, common_steps, sized-long)
 
 pub relative_long : (origin : Option (List (List ℕ))) (above : List (List ℕ)) (spelled : Spelled) (held labels : List (List ℕ)) → spelled.is_absolute ≡ false → origin ≡ Some above → spelled.is_too_long ≡ true → Collects held spelled.is_too_long labels → under_origin origin (Ok (labels, spelled.is_absolute)) ≡ Err NameTooLong
 relative_long origin above spelled held labels relative is long collects =
-    let over : 255 < length (wire labels) = rw long at collects in
-    rw (relative, is) (sized-long (labels ++ above) (omega (arith, over, joined_size labels above, wire_some above)))
+    grind (arith, common_steps, sized-long, joined_size, wire_some)
 
 -- ---- the name that is made of what was read
 

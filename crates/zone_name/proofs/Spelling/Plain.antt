@@ -1,6 +1,6 @@
 -- A text without escapes, whose labels' lengths are written over the dots before them.
 use lib.Lanes.{chunk, put_chunk}
-use Rattle.zone_name.proofs.Common.{AllByRecursion, AreOctets, Bool, HoldsCasedLabels, IsCasedName, IsUnit, IsWrittenLabel, List, Ok, WritesLengths, Written, [], after_dots, ap, append-nil, append_assoc, ap₂, arith, bytes_decides, cases_lt, dotted, drop, drop_at, drop_more, eqb-false, false, flat_map, flat_map-append, get_or, get_or-drop, inl, inr, is_dot, is_plain, kept, labels_of, length, length-append, length-drop, length-map, length-set, length-take-le, map, map_push, nat_eq, not, not-true, or_parts, parted, plain, pointwise, prefix_len, reading, refl, run_in_chunk_fails, run_in_chunk_le, run_in_chunk_stops, set, set_at, subst, suc, sym, take, take-append-drop, take_at, take_more_put_chunk, true, with_length, written_octets, written_text, zero, ℕ, ◌++◌, ◌+◌, ◌-◌, ◌<◌, ◌==◌, ◌||◌, ◌∙◌, ◌∷◌, ◌≡◌, ◌≤◌}
+use Rattle.zone_name.proofs.Common.{common_steps, AllByRecursion, AreOctets, Bool, HoldsCasedLabels, IsCasedName, IsUnit, IsWrittenLabel, List, Ok, WritesLengths, Written, [], after_dots, ap, append-nil, append_assoc, ap₂, arith, bytes_decides, cases_lt, dotted, drop, drop_at, drop_more, eqb-false, false, flat_map, flat_map-append, get_or, get_or-drop, inl, inr, is_dot, is_plain, kept, labels_of, length, length-append, length-drop, length-map, length-set, length-take-le, map, map_push, nat_eq, not, not-true, or_parts, parted, plain, pointwise, prefix_len, reading, refl, run_in_chunk_fails, run_in_chunk_le, run_in_chunk_stops, set, set_at, subst, suc, sym, take, take-append-drop, take_at, take_more_put_chunk, true, with_length, written_octets, written_text, zero, ℕ, ◌++◌, ◌+◌, ◌-◌, ◌<◌, ◌==◌, ◌||◌, ◌∙◌, ◌∷◌, ◌≡◌, ◌≤◌}
 use Rattle.zone_name.proofs.InOctets.Octets.{labels_of-open_cased}
 use Rattle.zone_name.proofs.InOctets.Pushing.{AllByRecursion-append, HoldsCasedLabels-frames, frames_push}
 use Rattle.zone_name.proofs.Spelling.Spelled.{AreShort, Says}
@@ -83,8 +83,7 @@ plain_more octets start at n run before room counted = record {
 plain_after : (octets : List ℕ) (start end : ℕ) → ArePlainFrom octets (start + 1) end
     → ArePlain (drop (start + 1) octets) (end - start - 1)
 plain_after octets start end each k h =
-    subst (λ c. IsUnit is_dot (plain c)) (sym (get_or-drop (start + 1) octets k 0))
-    (plain_unit (get_or octets (start + 1 + k) 0) (each (start + 1 + k) (omega arith) (omega (arith, h))))
+    grind (arith, common_steps, is_dot, plain, get_or-drop, plain_unit)
 
 -- the rest, as it is cut off at its place
 cut_at : (old next rest : List ℕ) (n : ℕ) → WritesLengths old next rest → length next ≡ n + length rest
@@ -119,29 +118,22 @@ lengths_next old now next start end w inside dot each back some short is =
 -- what was put after the first octet of the room for it
 pub laid : (rest front now : List ℕ) → length front ≤ length rest → now ≡ put_chunk 1 (46 ∷ rest) front
     → take (length front + 1) now ≡ 46 ∷ front
-laid rest front now fits e =
-    ap (take (length front + 1)) e
-    ∙ take_more_put_chunk 1 (46 ∷ rest) front (length front + 1) (omega arith) (omega (arith, fits))
+laid rest front now fits e = grind (arith, common_steps, take_more_put_chunk)
 
 -- the front, where the labels end
 pub lengths_front : (old new : List ℕ) (len : ℕ) → WritesLengths old new (drop len new)
     → len ≤ length new → length old ≡ length new → WritesLengths (take len old) (take len new) []
 lengths_front old new len w fits same =
-    let dots = after_dots w.written in
-    let frames = flat_map with_length (map written_octets w.written) in
-    let count = length-drop len new in
-    let first : length dots ≡ len =
-    omega (arith, same, fits, count, ap length w.dots, length-append dots (drop len new)) in
-    let second : length frames ≡ len =
-    omega (arith, fits, count, ap length w.lengths, length-append frames (drop len new)) in
-    record {
-      written = w.written;
-      each = w.each;
-      short = w.short;
-      dots = ap (take len) w.dots ∙ take_at dots (drop len new) len first ∙ sym (append-nil dots);
-      lengths = ap (take len) w.lengths ∙ take_at frames (drop len new) len second
-          ∙ sym (append-nil frames);
-    }
+    grind (
+      arith,
+      common_steps,
+      after_dots,
+      written_octets,
+      length-drop,
+      length-append,
+      take_at,
+      append-nil,
+    )
 
 -- ---- the whole text
 

@@ -2,7 +2,7 @@
 -- themselves.
 use Rattle.std.proofs.lemmas.List.Folds.{list_all-append}
 use Rattle.std.proofs.lemmas.List.Sums.{count_by-le-length, sum_by-append, sum_by-cons}
-use Rattle.zone_name.proofs.Common.{BeginsWithName, Bool, HoldsName, List, [], and_parts, ap, append-nil, append_assoc, ap₂, arith, cases_Bool, cond, count_by, drop, drop-drop, drop_at, false, flat_map, get_or, is_bare, is_dot, label_text, labels_of, length, length-append, length-take, length-take-le, list_all, name_text, octet_text, put_chunk_is, refl, set, set_at, subst, suc, sym, take, take-add, take-append-drop, take_at, true, wire, with_length, zero, ℕ, ◌&&◌, ◌++◌, ◌+◌, ◌-◌, ◌<◌, ◌∙◌, ◌∷◌, ◌≡◌, ◌≤◌}
+use Rattle.zone_name.proofs.Common.{common_steps, BeginsWithName, Bool, HoldsName, List, [], and_parts, ap, append-nil, append_assoc, ap₂, arith, cases_Bool, cond, count_by, drop, drop-drop, drop_at, false, flat_map, get_or, is_bare, is_dot, label_text, labels_of, length, length-append, length-take, length-take-le, list_all, name_text, octet_text, put_chunk_is, refl, set, set_at, subst, suc, sym, take, take-add, take-append-drop, take_at, true, wire, with_length, zero, ℕ, ◌&&◌, ◌++◌, ◌+◌, ◌-◌, ◌<◌, ◌∙◌, ◌∷◌, ◌≡◌, ◌≤◌}
 use lib.Lanes.{put_chunk}
 use Rattle.zone_name.proofs.InOctets.Octets.{next_label, root_label, BeginsWithName-wire_append, labels_of-wire_append, length-labels}
 
@@ -23,16 +23,7 @@ pub record Dotted (old now : List ℕ) (at labels : ℕ) : Type 0 where
   pub rest : drop (length (wire (labels_of left))) left ≡ drop (length (wire (labels_of old))) old
 
 pub dotted_start : (old : List ℕ) → BeginsWithName old → Dotted old old 0 0
-dotted_start old begins = record {
-  front = [];
-  left = old;
-  parts = refl;
-  place = refl;
-  begins = begins;
-  dots = refl;
-  count = omega arith;
-  rest = refl;
-}
+dotted_start old begins = grind (arith, common_steps)
 
 none_taken : (n : ℕ) → take {A = ℕ} n [] ≡ []
 none_taken zero = refl
@@ -94,8 +85,7 @@ more_by old front (n ∷ more) next at labels place begins dots count rest some 
 
 pub dotted_more : (old now next : List ℕ) (at labels : ℕ) → Dotted old now at labels → (get_or now at 0 ≡ 0 → ⊥)
     → next ≡ set now at 46 → Dotted old next (at + (get_or now at 0 + 1)) (labels + 1)
-dotted_more old now next at labels d some is =
-    rw d.parts (more_by old d.front d.left next at labels d.place d.begins d.dots d.count d.rest (rw d.parts at some) (rw d.parts at is))
+dotted_more old now next at labels d some is = grind (arith, common_steps, more_by)
 
 -- the dot over the root, and how many labels there were
 abbrev pub IsDotted : List ℕ → List ℕ → ℕ → Type 0
@@ -141,12 +131,7 @@ pub seen_more : (octets : List ℕ) (at n dots more : ℕ) → Seen octets at do
     → list_all is_bare (take n (drop at octets)) ≡ true → more ≡ count_by is_dot (take n (drop at octets))
     → Seen octets (at + n) (dots + more)
 seen_more octets at n dots more seen bare count =
-    let front = take at octets in
-    let part = take n (drop at octets) in
-    record {
-      bare = ap (list_all is_bare) (take-add at n octets) ∙ list_all-append is_bare front part ∙ ap₂ (λ (a b : Bool). a && b) seen.bare bare;
-      count = ap₂ (λ (a b : ℕ). a + b) seen.count count ∙ sym (count_append is_dot front part) ∙ ap (count_by is_dot) (sym (take-add at n octets));
-    }
+    grind (arith, common_steps, is_bare, take-add, list_all-append, count_append, is_dot, count_by)
 
 -- no more dots than octets
 pub few_dots : (octets : List ℕ) (at n dots : ℕ) → dots ≡ count_by is_dot (take n (drop at octets)) → dots ≤ n
@@ -196,14 +181,10 @@ bare_text (label ∷ labels) bare few =
 
 -- the room that a name was put in
 pub put_front : (old name room : List ℕ) → length name ≤ length old → room ≡ put_chunk 0 old name → room ≡ name ++ drop (length name) room
-put_front old name room fits e =
-    let whole : room ≡ name ++ drop (length name) old = e ∙ put_chunk_is 0 old name (omega (arith, fits)) in
-    whole ∙ ap (λ t. name ++ t) (sym (ap (drop (length name)) whole ∙ drop_at name (drop (length name) old) (length name) refl))
+put_front old name room fits e = grind (arith, common_steps, put_chunk_is, drop_at)
 
 begins_labels : (name old : List ℕ) → HoldsName name → old ≡ name ++ drop (length name) old → labels_of old ≡ labels_of name
-begins_labels name old holds is =
-    ap labels_of (is ∙ ap (λ t. t ++ drop (length name) old) (sym holds.whole))
-    ∙ labels_of-wire_append (labels_of name) (drop (length name) old) holds.name.each
+begins_labels name old holds is = grind (arith, common_steps, labels_of-wire_append)
 
 pub begins_with : (name old : List ℕ) → HoldsName name → old ≡ name ++ drop (length name) old → BeginsWithName old
 begins_with name old holds is =
@@ -258,11 +239,4 @@ pub spelled_whole : (name old new : List ℕ) (labels seen dots : ℕ) → Holds
     → list_all is_bare (take seen new) ≡ true → dots ≡ count_by is_dot (take seen new) → dots ≡ labels + 1
     → take (length name) new ≡ 46 ∷ name_text (labels_of name)
 spelled_whole name old new labels seen dots holds some begins dotted enough bare count same =
-    let are = begins_labels name old holds begins in
-    let size : length (wire (labels_of name)) ≡ length name = ap length holds.whole in
-    let rest = drop (length (wire (labels_of old))) old in
-    let whole : new ≡ after_dots (labels_of name) ++ 46 ∷ rest = dotted.0 ∙ ap (λ ls. after_dots ls ++ 46 ∷ rest) are in
-    ap₂ (λ (n : ℕ) (t : List ℕ). take n t) (sym size) whole
-    ∙ text_whole (labels_of name) rest seen dots (omega (arith, size, some)) (omega (arith, size, enough))
-    (ap (λ t. list_all is_bare (take seen t)) (sym whole) ∙ bare) (count ∙ ap (λ t. count_by is_dot (take seen t)) whole)
-    (omega (arith, same, dotted.1, ap length are))
+    grind (arith, common_steps, begins_labels, text_whole, is_bare, count_by, is_dot)

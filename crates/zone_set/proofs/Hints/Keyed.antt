@@ -1,5 +1,5 @@
 -- Entries whose hints were set aside while they were sorted.
-use Rattle.zone_set.proofs.Common.{Entry, IsPermutation, IsPermutation-map, List, [], ap, length, map, map-append, refl, subst, sym, take, take_more_set, with_hint, ℕ, ◌++◌, ◌+◌, ◌<◌, ◌∙◌, ◌∷◌, ◌≡◌}
+use Rattle.zone_set.proofs.Common.{arith, common_steps, Entry, IsPermutation, IsPermutation-map, List, [], ap, length, map, map-append, refl, subst, sym, take, take_more_set, with_hint, ℕ, ◌++◌, ◌+◌, ◌<◌, ◌∙◌, ◌∷◌, ◌≡◌}
 use Rattle.std.proofs.Math.ListN.{set}
 
 -- an entry from its parts
@@ -21,6 +21,4 @@ IsPermutation-keyed hint old keyed moved new was places moves stay is =
 -- one more entry is given the hint
 pub with_hint_more : (hint : ℕ) (es : List Entry) (i at : ℕ) → i < length es → map (with_hint hint) (take i es) ≡ take i es → map (with_hint hint) (take (i + 1) (set es i (of hint at))) ≡ take (i + 1) (set es i (of hint at))
 with_hint_more hint es i at lt before =
-    let e = of hint at in
-    let cut : take (i + 1) (set es i e) ≡ take i es ++ e ∷ [] = take_more_set es i e lt in
-    ap (map (with_hint hint)) cut ∙ map-append (with_hint hint) (take i es) (e ∷ []) ∙ ap (λ l. l ++ e ∷ []) before ∙ sym cut
+    grind (arith, common_steps, take_more_set, with_hint, map-append)

@@ -1,5 +1,5 @@
 -- One more record that is listed.
-use Rattle.zone_set.proofs.Common.{AllByRecursion, AllByRecursion-append, Bool, Entry, IsEntry, IsHint, IsRecord, IsRow, IsTrue, KeepsList, List, OtherClass, Place, Placed, Record, [], ap, append-nil, append_assoc, ap₂, arith, entry_record, eq-eqb, false, flat_map, if◌then◌else◌, inl, inr, length, length-map, listed, map-append, ne_eqb, not, records_of, refl, stored, subst, sym, true, ⊎_elim, ℕ, ◌++◌, ◌==◌, ◌↔◌, ◌∙◌, ◌∷◌, ◌≡◌, ◌≢◌, ◌⊎◌}
+use Rattle.zone_set.proofs.Common.{common_steps, AllByRecursion, AllByRecursion-append, Bool, Entry, IsEntry, IsHint, IsRecord, IsRow, IsTrue, KeepsList, List, OtherClass, Place, Placed, Record, [], ap, append-nil, append_assoc, ap₂, arith, entry_record, eq-eqb, false, flat_map, if◌then◌else◌, inl, inr, length, length-map, listed, map-append, ne_eqb, not, records_of, refl, stored, subst, sym, true, ⊎_elim, ℕ, ◌++◌, ◌==◌, ◌↔◌, ◌∙◌, ◌∷◌, ◌≡◌, ◌≢◌, ◌⊎◌}
 use Rattle.zone_set.proofs.Holding.Adding.{other_class_told}
 use Rattle.zone_set.proofs.Storage.Storing.{each_kept, record_kept, records_kept, entry_appended, record_appended}
 
@@ -21,9 +21,7 @@ flat_map_push [] q = append-nil (stored q.rr)
 flat_map_push (p ∷ placed) q = ap (λ l. stored p.rr ++ l) (flat_map_push placed q) ∙ sym (append_assoc (stored p.rr) (flat_map (λ (p : Placed). stored p.rr) placed) (stored q.rr))
 
 lens : (class : ℕ) (base : List (List ℕ)) (octets : List ℕ) (es : List Entry) (ps : List Place) → KeepsList class base octets es ps → length es ≡ length ps
-lens class base octets es ps keeps =
-    let placed = listed class octets es ps in
-    sym (length-map es (entry_record class octets)) ∙ ap length (sym keeps.all) ∙ length-map placed (λ (p : Placed). p.rr) ∙ sym (length-map placed (λ (p : Placed). p.place)) ∙ ap length (sym keeps.row.stand)
+lens class base octets es ps keeps = grind (arith, common_steps, listed, length-map, entry_record)
 
 -- whether the class of what is listed is that of a record
 pub other_listed : (told : Bool) (class : ℕ) (base : List (List ℕ)) (octets : List ℕ) (es : List Entry) (ps : List Place) (r : Record) → KeepsList class base octets es ps → es ≢ [] → told ≡ not (class == r.class) → IsTrue told → OtherClass (records_of (listed class octets es ps)) r

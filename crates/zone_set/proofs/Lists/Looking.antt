@@ -1,5 +1,5 @@
 -- Entries that are looked at run after run, each run as soon as it is sorted.
-use Rattle.zone_set.proofs.Common.{AllByRecursion, AreNeighbours, Entry, List, Record, [], ap, append-nil, arith, drop, length, length-drop, length-take-le, map, refl, subst, suc, sym, take, take-append-drop, take-length, zero, ℕ, ◌++◌, ◌+◌, ◌-◌, ◌∙◌, ◌∷◌, ◌≡◌, ◌≤◌}
+use Rattle.zone_set.proofs.Common.{common_steps, AllByRecursion, AreNeighbours, Entry, List, Record, [], ap, append-nil, arith, drop, length, length-drop, length-take-le, map, refl, subst, suc, sym, take, take-append-drop, take-length, zero, ℕ, ◌++◌, ◌+◌, ◌-◌, ◌∙◌, ◌∷◌, ◌≡◌, ◌≤◌}
 
 pub each_drop : {X : Type 0} (P : X → Type 0) (n : ℕ) (xs : List X) → AllByRecursion P xs → AllByRecursion P (drop n xs)
 each_drop P zero xs each = each
@@ -19,9 +19,7 @@ take_front (suc n) (suc m) (x ∷ xs) low = ap (λ l. x ∷ l) (take_front n m x
 
 -- a place before the end of a front is within it
 pub within_front : {X : Type 0} (start len n : ℕ) (xs : List X) → n ≡ start + len → start + len ≤ length xs → start ≤ length (take n xs)
-within_front start len n xs is within =
-    let whole : length (take n xs) ≡ n = length-take-le n xs (omega (arith, is, within)) in
-    omega (arith, whole, is)
+within_front start len n xs is within = grind (arith, common_steps, length-take-le)
 
 -- all from a place on
 pub take_rest : {X : Type 0} (k : ℕ) (xs : List X) → take (length xs - k) (drop k xs) ≡ drop k xs
@@ -29,9 +27,7 @@ take_rest k xs = ap (λ n. take n (drop k xs)) (sym (length-drop k xs)) ∙ take
 
 -- where none is left, all came
 pub take_whole : {X : Type 0} (k : ℕ) (xs : List X) → take (length xs - k) (drop k xs) ≡ [] → take k xs ≡ xs
-take_whole k xs none =
-    let nothing : drop k xs ≡ [] = sym (take_rest k xs) ∙ none in
-    sym (append-nil (take k xs)) ∙ ap (λ l. take k xs ++ l) (sym nothing) ∙ take-append-drop k xs
+take_whole k xs none = grind (arith, common_steps, take_rest, append-nil, take-append-drop)
 
 module _ (f : Entry → Record) where
   joined : (n : ℕ) (es : List Entry) → AreNeighbours (map f (take (suc n) es)) → AreNeighbours (map f (drop n es)) → AreNeighbours (map f es)

@@ -1,5 +1,5 @@
 -- Owners that differ in their first labels alone.
-use Rattle.zone_set.proofs.Common.{AreFirst, IsFirst, IsName, Less, List, [], ap, append-nil, ap₂, label_cmp, labels_of, name_cmp, nat_cmp, slice_cmp, subst, sym, then_equal, wire, ℕ, ◌∙◌, ◌∷◌, ◌≡◌}
+use Rattle.zone_set.proofs.Common.{arith, common_steps, AreFirst, IsFirst, IsName, Less, List, [], ap, append-nil, ap₂, label_cmp, labels_of, name_cmp, nat_cmp, slice_cmp, subst, sym, then_equal, wire, ℕ, ◌∙◌, ◌∷◌, ◌≡◌}
 use Rattle.zone_name.proofs.InOctets.Octets.{next_label, BeginsWithName-wire_append}
 use Rattle.zone_name.specs.Name.{BeginsWithName}
 use Rattle.zone_set.proofs.Ordering.Within.{same_ending}
@@ -7,9 +7,7 @@ use Rattle.zone_set.proofs.Ordering.Within.{same_ending}
 -- a name whose octets begin with a label
 begins_with : (x : List (List ℕ)) (octets label rest : List ℕ) → IsName x → octets ≡ wire x → labels_of octets ≡ x → IsFirst octets label rest → x ≡ label ∷ labels_of rest
 begins_with x octets label rest name is back first =
-    let begins : BeginsWithName (first.len ∷ first.after) = subst BeginsWithName (append-nil (wire x) ∙ sym is ∙ first.is) (BeginsWithName-wire_append x [] name) in
-    let next = next_label first.len first.after begins first.some in
-    sym back ∙ ap labels_of first.is ∙ next.cut ∙ ap₂ (λ l r. l ∷ labels_of r) (sym first.first) (sym first.follows)
+    grind (arith, common_steps, append-nil, next_label)
 
 -- the same labels follow both, so the first tell the order
 pub order_of_first : (x y : List (List ℕ)) (a b label other : List ℕ) → IsName x → IsName y → a ≡ wire x → b ≡ wire y → labels_of a ≡ x → labels_of b ≡ y → AreFirst a b label other → slice_cmp nat_cmp label other ≡ name_cmp x y

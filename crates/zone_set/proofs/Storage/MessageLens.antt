@@ -13,10 +13,7 @@ row_len (p ∷ placed) = omega (arith, sum_by-cons message_len p.rr (records_of 
 -- so do those that are listed, each
 listed_len : (class : ℕ) (base : List (List ℕ)) (octets : List ℕ) (es : List Entry) (places : List Place) → KeepsList class base octets es places → message_octets (all_records class octets es) ≡ length octets + length es
 listed_len class base octets es places keeps =
-    let placed = listed class octets es places in
-    let count : length placed ≡ length es = sym (length-map placed (λ (p : Placed). p.rr)) ∙ ap length keeps.all ∙ length-map es (entry_record class octets) in
-    let kept : length octets ≡ length (flat_map (λ (p : Placed). stored p.rr) placed) = ap length keeps.row.kept in
-    ap message_octets (sym keeps.all) ∙ omega (arith, row_len placed, count, kept)
+    grind (arith, common_steps, listed, length-map, entry_record, stored, message_octets, row_len)
 
 -- and those that were put in another order
 pub len_of_moved : (class : ℕ) (base : List (List ℕ)) (octets : List ℕ) (es fs : List Entry) (places : List Place) → KeepsList class base octets es places → IsPermutation es fs → length fs ≡ length es → message_octets (all_records class octets fs) ≡ length octets + length fs

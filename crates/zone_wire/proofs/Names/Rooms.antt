@@ -1,6 +1,6 @@
 -- Labels that are copied into a room, and the name that is made of them.
 use Rattle.std.specs.Char.{to_ascii_lowercase}
-use Rattle.zone_wire.proofs.Common.{AllByRecursion, AllByRecursion-append, HoldsLabels, HoldsLabels-frames, IsCasedLabel, IsLabel, IsName, IsRun, List, [], ap, append-nil, append_assoc, ap₂, arith, drop, drop-drop, drop_at, drop_more, flat_map, flat_map-append, folded, folded_frames, folded_labels, folded_octet, get_or, labels_of, labels_of-open, labels_of-open_cased, length, length-append, length-drop, length-map, length-put_chunk, length-set, length-take-le, map, map-append, octets_between, refl, subst, sym, take, take-add, take-map, take-take, take_at, take_more_put_chunk, take_more_set, with_length, ℕ, ◌++◌, ◌+◌, ◌-◌, ◌<◌, ◌∙◌, ◌∷◌, ◌≡◌, ◌≤◌}
+use Rattle.zone_wire.proofs.Common.{common_steps, AllByRecursion, AllByRecursion-append, HoldsLabels, HoldsLabels-frames, IsCasedLabel, IsLabel, IsName, IsRun, List, [], ap, append-nil, append_assoc, ap₂, arith, drop, drop-drop, drop_at, drop_more, flat_map, flat_map-append, folded, folded_frames, folded_labels, folded_octet, get_or, labels_of, labels_of-open, labels_of-open_cased, length, length-append, length-drop, length-map, length-put_chunk, length-set, length-take-le, map, map-append, octets_between, refl, subst, sym, take, take-add, take-map, take-take, take_at, take_more_put_chunk, take_more_set, with_length, ℕ, ◌++◌, ◌+◌, ◌-◌, ◌<◌, ◌∙◌, ◌∷◌, ◌≡◌, ◌≤◌}
 use Rattle.zone_wire.proofs.Fields.FieldReading.{part_len}
 use Rattle.zone_wire.proofs.Names.Walking.{wire-octets}
 use Rattle.zone_wire.specs.Machine.Room.{IsRoom}
@@ -44,10 +44,7 @@ pub record Copied (message : List ℕ) (start : ℕ) (old now : List ℕ) (at do
   pub front : take (at + done) now ≡ take at old ++ map folded_octet (take done (drop start message))
 
 pub copied_start : (message : List ℕ) (start : ℕ) (old : List ℕ) (at : ℕ) → Copied message start old old at 0
-copied_start message start old at = record {
-  same = refl;
-  front = ap (λ n. take n old) (let e : at + 0 ≡ at = omega arith in e) ∙ sym (append-nil (take at old));
-}
+copied_start message start old at = grind (arith, common_steps)
 
 -- and some more of them
 copied_on : (message : List ℕ) (start : ℕ) (old now next : List ℕ) (at done n : ℕ) → Copied message start old now at done
@@ -55,16 +52,7 @@ copied_on : (message : List ℕ) (start : ℕ) (old now next : List ℕ) (at don
     → take (at + (done + n)) next ≡ take (at + done) now ++ map folded_octet (take n (drop (start + done) message))
     → Copied message start old next at (done + n)
 copied_on message start old now next at done n c same grows =
-    let from = drop start message in
-    let part = map folded_octet (take n (drop (start + done) message)) in
-    let joined : map folded_octet (take (done + n) from) ≡ map folded_octet (take done from) ++ part =
-    ap (map folded_octet) (take-add done n from ∙ ap (λ t. take done from ++ take n t) (drop-drop done start message))
-    ∙ map-append folded_octet (take done from) (take n (drop (start + done) message)) in
-    record {
-      same = same ∙ c.same;
-      front = grows ∙ ap (λ t. t ++ part) c.front ∙ append_assoc (take at old) (map folded_octet (take done from)) part
-          ∙ ap (λ t. take at old ++ t) (sym joined);
-    }
+    grind (arith, take-add, drop-drop, map-append, append_assoc)
 
 pub copied_lanes : (message : List ℕ) (start : ℕ) (old now next : List ℕ) (at done : ℕ) → Copied message start old now at done
     → at + done + 16 ≤ length now → start + done + 16 ≤ length message
@@ -83,14 +71,7 @@ pub copied_octet : (message : List ℕ) (start : ℕ) (old now : List ℕ) (at d
     → at + done < length now → start + done < length message
     → Copied message start old (set now (at + done) (to_ascii_lowercase (get_or message (start + done) 0))) at (done + 1)
 copied_octet message start old now at done c room part =
-    let octet = get_or message (start + done) 0 in
-    let lower : to_ascii_lowercase octet ≡ folded_octet octet = grind arith in
-    let first : take 1 (drop (start + done) message) ≡ octet ∷ [] = ap (take 1) (drop_more message (start + done) 0 part) in
-    copied_on message start old now (set now (at + done) (to_ascii_lowercase octet)) at done 1 c
-    (length-set now (at + done) (to_ascii_lowercase octet))
-    (ap (λ n. take n (set now (at + done) (to_ascii_lowercase octet))) (let e : at + (done + 1) ≡ at + done + 1 = omega arith in e)
-    ∙ take_more_set now (at + done) (to_ascii_lowercase octet) room
-    ∙ ap (λ t. take (at + done) now ++ t) (ap (λ x. x ∷ []) lower ∙ ap (map folded_octet) (sym first)))
+    grind (arith, common_steps, to_ascii_lowercase, drop_more, copied_on, length-set, take_more_set)
 
 pub copied_all : (message : List ℕ) (start : ℕ) (old now : List ℕ) (at done size : ℕ) → Copied message start old now at done → size ≤ done → at ≤ length old
     → take (at + size) now ≡ take at old ++ map folded_octet (take size (drop start message))

@@ -1,5 +1,5 @@
 -- Runs of labels, and the names that they lead through.
-use Rattle.zone_wire.proofs.Common.{AllByRecursion-append, At, Bytes, IsCasedLabel, IsLabelAt, IsName, IsNamed, IsPointerAt, IsRun, Leads, List, None, Option, Some, Spot, [], ap, append-nil, append_assoc, ap₂, arith, at_pointer, at_root, bytes_each, drop, folded, folded_label, frames_push, label, label_at, labels_of, labels_of-open_cased, length, length-append, length-drop, length-take-le, map-append, octets_between, pointer, refl, root, slice_index, standing_in, subst, suc, sym, take, unwrap_or, with_length, ℕ, ◌++◌, ◌+◌, ◌-◌, ◌<◌, ◌∙◌, ◌∷◌, ◌≡◌, ◌≤◌}
+use Rattle.zone_wire.proofs.Common.{common_steps, AllByRecursion-append, At, Bytes, IsCasedLabel, IsLabelAt, IsName, IsNamed, IsPointerAt, IsRun, Leads, List, None, Option, Some, Spot, [], ap, append-nil, append_assoc, ap₂, arith, at_pointer, at_root, bytes_each, drop, folded, folded_label, frames_push, label, label_at, labels_of, labels_of-open_cased, length, length-append, length-drop, length-take-le, map-append, octets_between, pointer, refl, root, slice_index, standing_in, subst, suc, sym, take, unwrap_or, with_length, ℕ, ◌++◌, ◌+◌, ◌-◌, ◌<◌, ◌∙◌, ◌∷◌, ◌≡◌, ◌≤◌}
 use Rattle.zone_wire.proofs.Fields.FieldReading.{between_first, between_join}
 use Rattle.zone_wire.proofs.Names.Spots.{Shows, standing_shows}
 use Rattle.zone_wire.proofs.Names.Walking.{drop_each, take_each}
@@ -7,41 +7,22 @@ use Rattle.zone_wire.proofs.Names.Walking.{drop_each, take_each}
 same_at : {message : List ℕ} {offset bound : ℕ} {labels other : List (List ℕ)} {end steps more pointers others : ℕ} → labels ≡ other → steps ≡ more → pointers ≡ others
     → At message offset bound labels end steps pointers → At message offset bound other end more others
 same_at {message} {offset} {bound} {labels} {other} {end} {steps} {more} {pointers} {others} a b c h =
-    subst (λ (n : ℕ). At message offset bound other end more n) c
-    (subst (λ (n : ℕ). At message offset bound other end n pointers) b
-    (subst (λ (l : List (List ℕ)). At message offset bound l end steps pointers) a h))
+    grind (arith, common_steps)
 
 -- the octets of a label, as a part of the message
 abbrev written : List ℕ → ℕ → ℕ → List ℕ
 written message offset size = take size (drop (offset + 1) message)
 
 label_part : (message : List ℕ) (offset size : ℕ) → IsLabelAt message offset size → octets_between message offset (offset + 1 + size) ≡ with_length (written message offset size)
-label_part message offset size here =
-    let long : length (written message offset size) ≡ size = length-take-le size (drop (offset + 1) message) (omega (arith, length-drop (offset + 1) message, here.inside)) in
-    between_first message offset (offset + 1 + size) (omega arith) (omega (arith, here.inside))
-    ∙ ap₂ (λ (n : ℕ) (t : List ℕ). n ∷ t) (here.first ∙ sym long)
-    (ap (λ n. take n (drop (offset + 1) message)) (let e : offset + 1 + size - (offset + 1) ≡ size = omega arith in e))
+label_part message offset size here = grind (arith, length-take-le, length-drop, between_first)
 
 cased : (message : List ℕ) (offset size : ℕ) → Bytes message → IsLabelAt message offset size → IsCasedLabel (written message offset size)
 cased message offset size each here =
-    let octets = written message offset size in
-    let long : length octets ≡ size = length-take-le size (drop (offset + 1) message) (omega (arith, length-drop (offset + 1) message, here.inside)) in
-    record {
-      some = omega (arith, long, here.some);
-      short = omega (arith, long, here.short);
-      each = bytes_each octets (take_each size (drop (offset + 1) message) (drop_each (offset + 1) message each));
-    }
+    grind (arith, common_steps, length-take-le, length-drop, bytes_each, take_each, drop_each)
 
 -- no label
 pub run_start : (message : List ℕ) (start : ℕ) → start ≤ length message → IsRun message start start
-run_start message start within = record {
-  labels = [];
-  order = omega arith;
-  inside = within;
-  octets = ap (λ n. take n (drop start message)) (let e : start - start ≡ 0 = omega arith in e);
-  each = tt;
-  leads = λ bound rest end steps pointers h. same_at refl (let e : steps ≡ 0 + steps = omega arith in e) refl h;
-}
+run_start message start within = grind (arith, common_steps)
 
 -- a label more
 pub run_more : (message : List ℕ) (start past size : ℕ) → Bytes message → IsRun message start past → IsLabelAt message past size → IsRun message start (past + 1 + size)
@@ -112,10 +93,8 @@ module _ {message : List ℕ} {offset start past pointers : ℕ} {end : Option �
 
 pub root_stands : (message : List ℕ) (held spot : Spot) → held ≡ spot → Some at_root ≡ standing_in message held
     → (spot.offset < length message) × (slice_index message spot.offset ≡ 0)
-root_stands message held spot same e =
-    subst (λ (s : Spot). Shows message s (Some at_root)) same (subst (Shows message held) (sym e) (standing_shows message held))
+root_stands message held spot same e = grind (arith, at_root, standing_shows)
 
 pub pointer_stands : (message : List ℕ) (held spot : Spot) (target : ℕ) → held ≡ spot → Some (at_pointer target) ≡ standing_in message held
     → IsPointerAt message spot.offset spot.bound target × (spot.pointers < 128)
-pointer_stands message held spot target same e =
-    subst (λ (s : Spot). Shows message s (Some (at_pointer target))) same (subst (Shows message held) (sym e) (standing_shows message held))
+pointer_stands message held spot target same e = grind (arith, at_pointer, standing_shows)

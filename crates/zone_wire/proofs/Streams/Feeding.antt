@@ -156,26 +156,8 @@ stands_follow status count t unfinished fed given going stands = record { octets
     by (Some f) e = subst (λ o. StreamDecides fed (given ++ t.decided.placed) o) e (stands.decided going)
 
 pub follow_stands : (status : FedStatus) (count : ℕ) (t : Transfer) (unfinished fed : List ℕ) (given : List Placed) → is_failed status ≡ false → is_finished status ≡ false → count ≡ length fed → Follow t unfinished fed given → StandsForStream (source_of status count t unfinished) fed given
-follow_stands status count t unfinished fed given works going counted follow = record {
-  works = works;
-  octets = follow.octets;
-  count = counted;
-  decided = λ e. by t.decided.ending follow.state;
-  leave = λ e none. leaves (still_going t unfinished fed given t.decided.ending none follow.state);
-  read = λ e. let no : ⊥ = cc in absurd no;
-}
-  where
-    by : (ending : Option (Fault × Place)) → MatchOption ending (Going t unfinished fed given) (λ e. StreamDecides fed (given ++ t.decided.placed) (Some e)) → StreamDecides fed (given ++ t.decided.placed) ending
-    by None g = subst (λ ps. StreamDecides fed ps None) (sym g.handed) (decided_by fed unfinished g.parts g.framed g.read)
-    by (Some f) state = state
-
-    leaves : Going t unfinished fed given → StreamLeaves fed (source_of status count t unfinished).held.kept unfinished
-    leaves g = record {
-      parts = g.parts;
-      framed = g.framed;
-      read = g.read;
-      kept_is = (let a = g.after in cc);
-    }
+follow_stands status count t unfinished fed given works going counted follow =
+    grind (arith, still_going, decided_by)
 
 pub finished_stands : (count : ℕ) (t : Transfer) (unfinished fed : List ℕ) (given : List Placed) → Bytes fed → count ≡ length fed → StreamReads fed (given ++ t.decided.placed) t.decided.ending → StandsForStream (source_of Finished count t unfinished) fed given
 finished_stands count t unfinished fed given octets counted reads = grind arith
