@@ -1,5 +1,5 @@
 -- From the zone that an input is read as to the canonical text that is written of it.
-use Rattle.zone_engine.proofs.Common.{◌≡◌, ℕ, ◌<◌, ◌≤◌, ◌-◌, ◌^◌, List, length, min, refl, Vec, Global, Option, None, Some, IfSome, Result, IfOk, OnOk, Appends, Octets, ZoneTooLarge, Whole, Stop, Placed, Zone, canon, text_limit, StopsPush, StopsWrite, Input, IsInput, InputDenotes, InputDenotesWithin, InputReads, InputStates, ReadsZoneWithin, IsOfBytes, Normalises, NormalisesTo, StopsNormalise, WorksOn, WritesNothing, WritesPrefix, IfRefused, IsRefusal, IsRefusalWithin, reading, too_large, Device, IsOfReading, Keeps-refl, ReadsToEnd, StopsReading, TellsRead, inl, IfSome_then, arith}
+use Rattle.zone_engine.proofs.Common.{common_steps, ◌≡◌, ℕ, ◌<◌, ◌≤◌, ◌-◌, ◌^◌, List, length, min, refl, Vec, Global, Option, None, Some, IfSome, Result, IfOk, OnOk, Appends, Octets, ZoneTooLarge, Whole, Stop, Placed, Zone, canon, text_limit, StopsPush, StopsWrite, Input, IsInput, InputDenotes, InputDenotesWithin, InputReads, InputStates, ReadsZoneWithin, IsOfBytes, Normalises, NormalisesTo, StopsNormalise, WorksOn, WritesNothing, WritesPrefix, IfRefused, IsRefusal, IsRefusalWithin, reading, too_large, Device, IsOfReading, Keeps-refl, ReadsToEnd, StopsReading, TellsRead, inl, IfSome_then, arith}
 use Rattle.zone_print.specs.Writing.{TellsWrite}
 use Rattle.zone_rdata.specs.declared.fault.Stop.TheVariants.{Refused, Read, Write, Memory}
 use Rattle.zone_engine.proofs.Reading.Readers.{if_refused}
@@ -39,23 +39,7 @@ normalises_to input z reads stated is r same short = grind arith
 
 -- a stop of reading leaves the writer as it was
 pub stops_unwritten : (form : Octets → Input) (reader writer : Device) (stop : Stop) → IsOfReading stop → StopsNormalise form reader writer writer stop
-stops_unwritten form reader writer stop is = record { nothing = nothing stop is; prefix = prefix reader.octets; tells = tells stop is }
-  where
-    nothing : (stop : Stop) → IsOfReading stop → WritesNothing stop writer.octets writer.octets
-    nothing (Refused fault place) is = Keeps-refl _
-    nothing Read is = Keeps-refl _
-    nothing Write is = absurd is
-    nothing Memory is = tt
-
-    prefix : (known : Option Octets) → IfSome known (λ octets. WritesPrefix (form octets) writer.octets writer.octets)
-    prefix None = tt
-    prefix (Some octets) = inl (Keeps-refl _)
-
-    tells : (stop : Stop) → IsOfReading stop → TellsWrite writer writer stop
-    tells (Refused fault place) is = λ works. works
-    tells Read is = λ works. works
-    tells Write is = absurd is
-    tells Memory is = λ works. works
+stops_unwritten form reader writer stop is = grind (arith, common_steps)
 
 -- what stops the writing of a zone that is read, of the writer and of the reader
 module _ (form : Octets → Input) (reader old new : Device) (z : Zone) (stop : Stop) (reads : IfSome reader.octets (λ octets. ReadsZoneWithin text_limit (form octets) z)) (stops : StopsWrite text_limit (canon z) old new stop) where

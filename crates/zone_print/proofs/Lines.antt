@@ -25,10 +25,7 @@ line_split r = grind (arith, common_steps)
 pub middle_kept : (text : List ℕ) (kept : ℕ) (last r : Record) → HoldsMiddle text kept last → last.ttl ≡ r.ttl
     → last.class ≡ r.class → HoldsMiddle (take kept text ++ kind_column r) kept r
 middle_kept text kept last r held ttl class =
-    let same : before_kind last ≡ before_kind r = cc (ttl, class) in
-    let front : take kept text ≡ before_kind last =
-    cc (held.whole, held.len, take_at (before_kind last) (kind_column last) (length (before_kind last)) refl) in
-    record { whole = ap (λ t. t ++ kind_column r) (front ∙ same); len = held.len ∙ ap length same }
+    grind (arith, common_steps, before_kind, take_at, kind_column)
 
 -- owner, middle and what follows them were pushed
 pub line_pushed : (old named numbered new owner middle : List ℕ) (r : Record) → owner ≡ name_text r.owner → middle ≡ line_middle r

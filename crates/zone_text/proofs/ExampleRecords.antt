@@ -167,17 +167,8 @@ soa_fits ttl short = search rules
 
 -- the entry's head, by its words, its owner, its class and its type
 has_head : (before : List Entry) (entry : Entry) (owner : List (List ℕ)) (words : List Word) (word : List ℕ) (kind : ℕ) (items : List RawItem) → parts_in (statement_of entry) ≡ Some (record { words = words; rest = bare word ∷ items }) → IsOwner x before (statement_of entry) owner → AllByRecursion HasValue words → HasClass before entry 1 → IsKindWord word kind → IsKind kind → HasHead x before entry owner 1 kind items
-has_head before entry owner words word kind items split owns values has named is = record {
-  parts = record { words = words; rest = bare word ∷ items };
-  word = word;
-  split = split;
-  owner = owns;
-  words = values;
-  class = has;
-  rest = refl;
-  named = named;
-  kind = is;
-}
+has_head before entry owner words word kind items split owns values has named is =
+    grind (arith, common_steps, bare)
 
 pub soa_head : (text : List ℕ) (before : List Entry) (entry : Entry) (words : List Word) → parts_in (statement_of entry) ≡ Some (record { words = words; rest = bare (codes "SOA") ∷ soa_items text }) → IsOwner x before (statement_of entry) x → AllByRecursion HasValue words → HasClass before entry 1 → HasHead x before entry x 1 6 (soa_items text)
 soa_head text before entry words split owns values has =

@@ -1,5 +1,5 @@
 -- The words before a record's type as they are written, found from the left.
-use Rattle.zone_text.proofs.Common.{AllByRecursion, AllByRecursion-append, Bool, Bor, HasValue, HaveTexts, IfSome, IsSomeAnd, List, None, Option, RawItem, Some, Word, [], ap, begins_with_digit, class, class_among, false, is_class_word, if◌then◌else◌, is_some, option_map, parts_after, refl, rules, subst, sym, true, ttl, ttl_among, unless_stated, word_after, map, raw, ℕ, ◌++◌, ◌∙◌, ◌∷◌, ◌≡◌}
+use Rattle.zone_text.proofs.Common.{arith, common_steps, AllByRecursion, AllByRecursion-append, Bool, Bor, HasValue, HaveTexts, IfSome, IsSomeAnd, List, None, Option, RawItem, Some, Word, [], ap, begins_with_digit, class, class_among, false, is_class_word, if◌then◌else◌, is_some, option_map, parts_after, refl, rules, subst, sym, true, ttl, ttl_among, unless_stated, word_after, map, raw, ℕ, ◌++◌, ◌∙◌, ◌∷◌, ◌≡◌}
 use Rattle.zone_rdata.specs.Item.{bare, quoted}
 use Rattle.zone_text.proofs.Heads.WordsLeft.{class_kept, class_pushed, next_part, some_of, ttl_kept, ttl_pushed}
 use Rattle.zone_text.specs.PartsIn.{ArePartsIn}
@@ -42,11 +42,7 @@ pub record ReadsTexts (items : List RawItem) (texts : WordTexts) (rest : List Ra
 
 found_to : (items rest : List RawItem) (texts : WordTexts) (found : RecordParts) (reads : ReadsTexts items texts rest) → parts_after reads.words rest ≡ record { words = reads.words; rest = rest } → found.ttl ≡ texts.ttl → found.class ≡ texts.class → map raw found.rest.now ≡ rest → ArePartsIn (parts_after [] items) found
 found_to items rest texts found reads none same_ttl same_class same_rest =
-    subst (λ parts. ArePartsIn parts found) (sym (reads.parts ∙ none)) (record {
-      ttl = reads.have.ttl ∙ ap (option_map (λ (t : Bor (List ℕ)). t.now)) (sym same_ttl);
-      class = reads.have.class ∙ ap (option_map (λ (t : Bor (List ℕ)). t.now)) (sym same_class);
-      rest = sym same_rest;
-    })
+    grind (arith, common_steps, ttl, option_map, class)
 
 -- the next item is no word
 pub found_before : (items rest after : List RawItem) (item : RawItem) (texts : WordTexts) (found : RecordParts) → ReadsTexts items texts rest → rest ≡ item ∷ after → ((words : List Word) → HaveTexts words texts → word_after words item ≡ None) → found.ttl ≡ texts.ttl → found.class ≡ texts.class → map raw found.rest.now ≡ rest → ArePartsIn (parts_after [] items) found
@@ -56,12 +52,7 @@ found_before items rest after item texts found reads front none =
 -- the next item is one
 pub found_on : (items rest after : List RawItem) (text : List ℕ) (texts next : WordTexts) → ReadsTexts items texts rest → rest ≡ bare text ∷ after → ((words : List Word) → HaveTexts words texts → IsSomeAnd (word_after words (bare text)) (λ word. HaveTexts (words ++ word ∷ []) next)) → ReadsTexts items next after
 found_on items rest after text texts next reads front some =
-    let found = some_of (λ word. HaveTexts (reads.words ++ word ∷ []) next) (word_after reads.words (bare text)) (some reads.words reads.have) in
-    record {
-      words = reads.words ++ found.0 ∷ [];
-      have = found.1.1;
-      parts = reads.parts ∙ (ap (parts_after reads.words) front ∙ next_part reads.words (bare text) after (Some found.0) found.1.0);
-    }
+    grind (arith, common_steps, some_of, word_after, bare, parts_after, next_part)
 
 -- ---- whether the words have values
 
@@ -78,23 +69,11 @@ AreAll words = HasTtl words → HasClass words → AllByRecursion HasValue words
 
 all_ttl : (words : List Word) (text : List ℕ) → is_some (ttl_among words) ≡ false → AreAll words → AreAll (words ++ ttl text ∷ [])
 all_ttl words text none all has_ttl has_class =
-    let own : HasValue (ttl text) = subst (λ o. IfSome o (λ t. HasValue (ttl t))) (ttl_pushed words text none) has_ttl in
-    let others : HasClass words = subst (λ o. IfSome o (λ t. HasValue (class t))) (class_kept words text) has_class in
-    AllByRecursion-append HasValue words (ttl text ∷ []) (all (nothing (ttl_among words) none) others) (own, tt)
-  where
-    nothing : (o : Option (List ℕ)) → is_some o ≡ false → IfSome o (λ t. HasValue (ttl t))
-    nothing None e = tt
-    nothing (Some t) e = absurd cc
+    grind (arith, common_steps, ttl, ttl_pushed, class, class_kept, ttl_among)
 
 all_class : (words : List Word) (text : List ℕ) → is_some (class_among words) ≡ false → AreAll words → AreAll (words ++ class text ∷ [])
 all_class words text none all has_ttl has_class =
-    let own : HasValue (class text) = subst (λ o. IfSome o (λ t. HasValue (class t))) (class_pushed words text none) has_class in
-    let others : HasTtl words = subst (λ o. IfSome o (λ t. HasValue (ttl t))) (ttl_kept words text) has_ttl in
-    AllByRecursion-append HasValue words (class text ∷ []) (all others (nothing (class_among words) none)) (own, tt)
-  where
-    nothing : (o : Option (List ℕ)) → is_some o ≡ false → IfSome o (λ t. HasValue (class t))
-    nothing None e = tt
-    nothing (Some t) e = absurd cc
+    grind (arith, common_steps, class, class_pushed, ttl, ttl_kept, class_among)
 
 -- a word comes where none of its kind stood before
 abbrev WordBy : Bool → Bool → Option (List ℕ) → Option (List ℕ) → List ℕ → Option Word

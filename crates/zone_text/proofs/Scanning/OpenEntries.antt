@@ -1,5 +1,5 @@
 -- An entry that comes in pieces, by what scans of them found.
-use Rattle.zone_text.proofs.Common.{Breaks, ClosesNothing, Cuts, Ends, Fault, List, LostEscape, MatchOption, None, On, Option, ScanState, Scanned, ScansTo, Some, Step, Token, [], ap, append-nil, arith, beginning, cut_from, end_fault_of, length, refl, scan_of, subst, sym, take, zero, ℕ, ◌++◌, ◌+◌, ◌<◌, ◌∙◌, ◌≡◌, ◌≤◌}
+use Rattle.zone_text.proofs.Common.{common_steps, Breaks, ClosesNothing, Cuts, Ends, Fault, List, LostEscape, MatchOption, None, On, Option, ScanState, Scanned, ScansTo, Some, Step, Token, [], ap, append-nil, arith, beginning, cut_from, end_fault_of, length, refl, scan_of, subst, sym, take, zero, ℕ, ◌++◌, ◌+◌, ◌<◌, ◌∙◌, ◌≡◌, ◌≤◌}
 use Rattle.zone_text.proofs.Scanning.FedPieces.{takes_part}
 use Rattle.zone_text.proofs.Scanning.FirstFound.{closing_scanned, lost_scanned, open_scanned}
 use Rattle.zone_text.proofs.Files.Followed.{scans_on}
@@ -62,19 +62,7 @@ takes_on old new piece part held at step found taken before on old_is is front w
 -- or ended or broken
 pub takes_none : (old new : HeldEntry) (piece held : List ℕ) (step : Step) (taken : Taken) → ScansTo beginning held step → ((at : ScanState) → step ≡ On at → ⊥) → old ≡ record { octets = held; state = state_of step } → new ≡ old → taken.len ≡ 0 → taken.state ≡ state_of step → TakesFrom old piece taken new
 takes_none old new piece held step taken before settled old_is new_is len state =
-    rw (new_is, old_is) (record {
-      within = omega (arith, len);
-      octets = sym (ap (λ n. held ++ take n piece) len ∙ append-nil held);
-      state = sym state;
-      is = entry_is held step before;
-      all = λ open_is. absurd (no_open step settled (sym state ∙ open_is));
-      some = λ open_is some. absurd (no_open step settled open_is);
-      settled = λ open_not. (len, refl);
-    })
-  where
-    no_open : (step : Step) → ((at : ScanState) → step ≡ On at → ⊥) → state_of step ≡ states.Open → ⊥
-    no_open (On at) none open_is = none at refl
-    no_open step none open_is = absurd cc
+    grind (arith, common_steps, append-nil, entry_is, state_of)
 
 -- the parentheses that are open are no more than the octets
 pub depth_fits : (held : List ℕ) (at : ScanState) (step : Step) → ScansTo beginning held step → step ≡ On at → at.depth ≤ length held

@@ -12,7 +12,7 @@ use Rattle.std.specs.Prelude.{not, ◌||◌}
 use Rattle.std.specs.Simd.Lanes.{mask_l}
 use lib.Lanes.{Each1, top, zip2}
 use lib.ListN.{replicate}
-use Rattle.zone_text.proofs.Common.{All, AllByRecursion, Bool, EndsAt, List, [], agree_below_at, and_parts, ap, arith, cases_lt, cond, drop, drop-drop, drop-map, eqb-true, false, get_or, inl, inr, length, length-drop, length-map, length-take, map, min, ne_eqb, recursion_from_All, refl, stops_bare, subst, suc, sym, take, take-append-drop, true, zero, ℕ, ◌&&◌, ◌⊎◌, ◌++◌, ◌+◌, ◌-◌, ◌<◌, ◌==◌, ◌^◌, ◌∙◌, ◌∷◌, ◌≡◌, ◌≢◌, ◌≤◌}
+use Rattle.zone_text.proofs.Common.{common_steps, All, AllByRecursion, Bool, EndsAt, List, [], agree_below_at, and_parts, ap, arith, cases_lt, cond, drop, drop-drop, drop-map, eqb-true, false, get_or, inl, inr, length, length-drop, length-map, length-take, map, min, ne_eqb, recursion_from_All, refl, stops_bare, subst, suc, sym, take, take-append-drop, true, zero, ℕ, ◌&&◌, ◌⊎◌, ◌++◌, ◌+◌, ◌-◌, ◌<◌, ◌==◌, ◌^◌, ◌∙◌, ◌∷◌, ◌≡◌, ◌≢◌, ◌≤◌}
 use Rattle.zone_text.specs.Machine.Stops.{Tells}
 use Rattle.zone_text.specs.Tokens.{is_blank}
 use Rattle.zone_text.specs.declared.stops.Stops.{Stops}
@@ -36,13 +36,7 @@ bits_after (suc k) (b ∷ ms) =
 
 -- by the first octet
 prefix_step : (p : ℕ → Bool) (x : ℕ) (xs : List ℕ) → ((p x ≡ true) × (prefix_len (λ c. not (p c)) (x ∷ xs) ≡ 0)) ⊎ ((p x ≡ false) × (prefix_len (λ c. not (p c)) (x ∷ xs) ≡ suc (prefix_len (λ c. not (p c)) xs)))
-prefix_step p x xs = by (p x) refl
-  where
-    by : (b : Bool) → p x ≡ b → ((p x ≡ true) × (prefix_len (λ c. not (p c)) (x ∷ xs) ≡ 0)) ⊎ ((p x ≡ false) × (prefix_len (λ c. not (p c)) (x ∷ xs) ≡ suc (prefix_len (λ c. not (p c)) xs)))
-    by true e = inl (e, ap (λ (b : Bool). cond (not b) (1 + prefix_len (λ c. not (p c)) xs) 0) e)
-    by false e =
-        let one_more : 1 + prefix_len (λ c. not (p c)) xs ≡ suc (prefix_len (λ c. not (p c)) xs) = omega arith in
-        inr (e, ap (λ (b : Bool). cond (not b) (1 + prefix_len (λ c. not (p c)) xs) 0) e ∙ one_more)
+prefix_step p x xs = grind (arith, common_steps, prefix_len)
 
 -- where no octet passes the test, no bit is set
 no_bits : (p : ℕ → Bool) (xs : List ℕ) → prefix_len (λ c. not (p c)) xs ≡ length xs → mask_l (map p xs) ≡ 0
@@ -70,10 +64,7 @@ prefix_ends (x ∷ xs) = elim (prefix_step stops_bare x xs) [
 
 -- a prefix that ends before the end of the first of two lists, or that goes on past it
 ends_inside : (q : ℕ → Bool) (xs ys : List ℕ) → prefix_len q xs < length xs → prefix_len q (xs ++ ys) ≡ prefix_len q xs
-ends_inside q xs ys less = prefix_len-append q xs ys ∙ ap (λ (b : Bool). cond b (length xs + prefix_len q ys) (prefix_len q xs)) (other (prefix_len q xs) (length xs) less)
-  where
-    other : (m n : ℕ) → m < n → eqb m n ≡ false
-    other m n less = ne_eqb m n (λ e. omega arith)
+ends_inside q xs ys less = grind (arith, common_steps, prefix_len-append, prefix_len, eqb, ne_eqb)
 
 goes_past : (q : ℕ → Bool) (xs ys : List ℕ) → prefix_len q xs ≡ length xs → prefix_len q (xs ++ ys) ≡ length xs + prefix_len q ys
 goes_past q xs ys all = prefix_len-append q xs ys ∙ ap (λ (b : Bool). cond b (length xs + prefix_len q ys) (prefix_len q xs)) (eq-eqb (prefix_len q xs) (length xs) all)
@@ -101,11 +92,7 @@ none_inside p n octets within none =
 -- ---- what the bits tell
 
 pub tells_none : (stops : Stops) (octets : List ℕ) → stops.bits ≡ 0 → stops.unseen ≡ length octets → Tells stops octets
-tells_none stops octets none all = record {
-  bits = none ∙ ap (λ n. mask_l (map stops_bare (take n octets))) (let e : 0 ≡ length octets - stops.unseen = omega arith in e);
-  within = omega arith;
-  few = omega arith;
-}
+tells_none stops octets none all = grind (arith, common_steps, mask_l, stops_bare)
 
 -- of the octets after the first k + 1
 after_bits : (n k : ℕ) (octets : List ℕ) → k < n → mask_l (map stops_bare (take n octets)) / 2 ^ k / 2 ^ 1 ≡ mask_l (map stops_bare (take (n - (k + 1)) (drop (k + 1) octets)))
@@ -118,22 +105,14 @@ after_bits n k octets less =
 
 pub tells_after : (stops : Stops) (octets : List ℕ) (n k : ℕ) (bits : ℕ) → bits ≡ mask_l (map stops_bare (take n octets)) → n ≤ 64 → n ≤ length octets → k < n → stops.bits ≡ bits / 2 ^ k / 2 ^ 1 → stops.unseen ≡ length octets - n → Tells stops (drop (k + 1) octets)
 tells_after stops octets n k bits of few within less is unseen =
-    let left : length (drop (k + 1) octets) ≡ length octets - (k + 1) = length-drop (k + 1) octets in
-    let seen : n - (k + 1) ≡ length (drop (k + 1) octets) - stops.unseen = omega arith in
-    record {
-      bits = is ∙ ap (λ b. b / 2 ^ k / 2 ^ 1) of ∙ after_bits n k octets less ∙ ap (λ j. mask_l (map stops_bare (take j (drop (k + 1) octets)))) seen;
-      within = omega arith;
-      few = omega arith;
-    }
+    grind (arith, common_steps, length-drop, after_bits, mask_l, stops_bare)
 
 -- ---- the first stop
 
 -- the lowest of the bits that are known
 pub known_len : (stops : Stops) (octets : List ℕ) → Tells stops octets → stops.bits ≢ 0 → count_trailing_zeros 64 stops.bits ≡ prefix_len goes_on octets
 known_len stops octets tells some =
-    let n = length octets - stops.unseen in
-    let set : mask_l (map stops_bare (take n octets)) ≢ 0 = λ e. some (tells.bits ∙ e) in
-    ap (count_trailing_zeros 64) tells.bits ∙ (first_inside stops_bare n octets (omega (arith, tells.few)) (omega arith) set).0
+    grind (arith, common_steps, mask_l, stops_bare, count_trailing_zeros, first_inside)
 
 pub known_less : (stops : Stops) (octets : List ℕ) → Tells stops octets → stops.bits ≢ 0 → prefix_len goes_on octets < length octets - stops.unseen
 known_less stops octets tells some =
@@ -151,8 +130,7 @@ unknown_len stops octets ahead seen more tells none is back len =
     ap (λ k. seen + k) (len ∙ ap (prefix_len goes_on) back) ∙ sym (none_inside stops_bare seen octets (omega arith) zero_bits)
 
 pub unknown_rest : (new : Stops) (octets ahead : List ℕ) (seen more : ℕ) → ahead ≡ drop seen octets → Tells new (drop (more + 1) ahead) → Tells new (drop (seen + more + 1) octets)
-unknown_rest new octets ahead seen more back tells =
-    subst (Tells new) (ap (drop (more + 1)) back ∙ drop-drop (more + 1) seen octets ∙ ap (λ k. drop k octets) (let e : seen + (more + 1) ≡ seen + more + 1 = omega arith in e)) tells
+unknown_rest new octets ahead seen more back tells = grind (arith, common_steps, drop-drop)
 
 -- ---- 64 octets beside each other
 

@@ -1,6 +1,6 @@
 -- The line feeds of an entry that is cut as its end is looked for: the one that ends it.
 use Rattle.std.specs.List.{prefix_len}
-use Rattle.zone_text.proofs.Common.{AllByRecursion, Bool, IsInFront, IsUnit, List, RawItem, Written, [], ap, append_assoc, arith, cond, decimal, drop, ends_item, eqb-true, escaped, false, is_blank, is_digit, length, length-append, list_any, nat_eq, ne_eqb, plain, refl, stops_bare, subst, sum_by-append, sum_by-cons, sym, take, take-append-drop, take-append_seam, token_text, true, written_text, zero-add, ℕ, ◌++◌, ◌+◌, ◌-◌, ◌==◌, ◌||◌, ◌∙◌, ◌∷◌, ◌≡◌}
+use Rattle.zone_text.proofs.Common.{common_steps, AllByRecursion, Bool, IsInFront, IsUnit, List, RawItem, Written, [], ap, append_assoc, arith, cond, decimal, drop, ends_item, eqb-true, escaped, false, is_blank, is_digit, length, length-append, list_any, nat_eq, ne_eqb, plain, refl, stops_bare, subst, sum_by-append, sum_by-cons, sym, take, take-append-drop, take-append_seam, token_text, true, written_text, zero-add, ℕ, ◌++◌, ◌+◌, ◌-◌, ◌==◌, ◌||◌, ◌∙◌, ◌∷◌, ◌≡◌}
 use Rattle.zone_text.proofs.Scanning.FirstEntries.{IsCutTo}
 use Rattle.zone_text.proofs.Files.Left.{line_feeds}
 use Rattle.zone_text.proofs.Scanning.StopMarks.{goes_on, prefix_each}
@@ -17,11 +17,7 @@ none_of_any [] none = refl
 none_of_any (y ∷ xs) none = sum_by-cons (λ c. cond (c == 10) 1 0) y xs ∙ no_more (nat_eq y 10) (list_any (λ y. nat_eq y 10) xs) (line_feeds xs) none (none_of_any xs)
 
 other_than_ten : (is : ℕ → Bool) (b : Bool) → (is 10 ≡ b → ⊥) → (c : ℕ) → is c ≡ b → (c == 10) ≡ false
-other_than_ten is b not c e = by (c == 10) refl
-  where
-    by : (t : Bool) → (c == 10) ≡ t → (c == 10) ≡ false
-    by false h = h
-    by true h = absurd (not (subst (λ d. is d ≡ b) (eqb-true c 10 h) e))
+other_than_ten is b not c e = grind (arith, common_steps, eqb-true)
 
 none_first : (c : ℕ) (xs : List ℕ) → (c == 10) ≡ false → line_feeds (c ∷ xs) ≡ line_feeds xs
 none_first c xs e = sum_by-cons (λ d. cond (d == 10) 1 0) c xs ∙ ap (λ (b : Bool). cond b 1 0 + line_feeds xs) e ∙ zero-add (line_feeds xs)
@@ -44,9 +40,7 @@ none_written (decimal x y z ∷ units) each =
 
 -- octets without line feeds were passed
 pub passed_none : (rest front left : List ℕ) → rest ≡ front ++ left → line_feeds front ≡ 0 → line_feeds left ≡ line_feeds rest
-passed_none rest front left whole none =
-    let both : line_feeds rest ≡ line_feeds front + line_feeds left = ap line_feeds whole ∙ feeds_of_both front left in
-    omega (arith, both, none)
+passed_none rest front left whole none = grind (arith, common_steps, line_feeds, feeds_of_both)
 
 pub passed_bare : (rest stopped : List ℕ) (n : ℕ) → n ≡ prefix_len goes_on rest → stopped ≡ drop n rest → line_feeds stopped ≡ line_feeds rest
 passed_bare rest stopped n len back =
