@@ -1,7 +1,7 @@
 -- Arguments and commands that are added one after another.
 use Rattle.std.proofs.Common.{arith, ◌≡◌, Bool, false, List, [], ◌∷◌, ◌++◌, refl, sym, ap, ap₂, subst, ◌∙◌, map, append_assoc, ◌||◌, ℕ, ◌+◌, ◌<◌, length, take, get_or}
 use Rattle.std.proofs.lemmas.List.{append-nil, map_push, take_more}
-use Rattle.clap.specs.Words.{App, AddsArg, AddsSubcommand, Rule, Shape, Text, app_of, rule_of, with_rule, with_subcommand}
+use Rattle.clap.specs.Words.{App, AddsArg, AddsSubcommand, Rule, Text, app_of, rule_of, with_rule, with_subcommand}
 use Rattle.clap.specs.Walk.{is_empty}
 use Rattle.clap.specs.declared.builder.Arg.{Arg}
 use Rattle.clap.specs.declared.builder.Command.{Command}

@@ -1,5 +1,5 @@
 -- From what `clap` found to the call that words are.
-use Rattle.std.proofs.Common.{◌≡◌, ℕ, true, Bool, List, [], sym, subst, ap, ◌∙◌, arith, ◌&&◌, ◌⊎◌, rules}
+use Rattle.std.proofs.Common.{◌≡◌, ℕ, true, List, [], sym, subst, ap, ◌∙◌, arith, ◌⊎◌}
 use Rattle.std.proofs.lemmas.Bool.{and_parts}
 use Rattle.std.specs.Borrow.{Bor}
 use Rattle.std.specs.List.{AllByRecursion}

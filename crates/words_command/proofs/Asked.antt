@@ -1,5 +1,5 @@
 -- From what `clap` found to the order that the words give.
-use Rattle.words_command.proofs.Common.{◌≡◌, List, codes, arith, None, Result, IfOk, IfErr, Row, Text, first_of, NothingIs, Asks, Call, Calls, command_of, commands, arguments_of, IsLineFault, IsOriginText, Orders, Order}
+use Rattle.words_command.proofs.Common.{◌≡◌, List, codes, arith, None, Row, Text, first_of, NothingIs, Call, command_of, arguments_of, IsOriginText}
 use Rattle.command_line.proofs.Asked.{Given}
 use Rattle.words_command.specs.Order.{generic, HasBadOrigin}
 

@@ -1,5 +1,5 @@
 -- Records that state their class are rewritten one after the other as each is alone.
-use Rattle.zone_text.proofs.Common.{AllByRecursion, AllByRecursion-append, Cut, List, Token, [], and_last, ap, append-nil, append_assoc, cut_from, entry_of, numbered, refl, reverse, subst, sym, text, zero, ℕ, ◌++◌, ◌∙◌, ◌∷◌, ◌≡◌}
+use Rattle.zone_text.proofs.Common.{AllByRecursion-append, Cut, List, Token, [], and_last, ap, append-nil, append_assoc, cut_from, entry_of, numbered, refl, reverse, subst, sym, text, zero, ℕ, ◌++◌, ◌∙◌, ◌∷◌, ◌≡◌}
 use Rattle.zone_text.proofs.Tokens.Cuttings.{cut_not_broken, one_cut}
 use Rattle.zone_text.proofs.Entries.Begun.{no_tokens}
 use Rattle.zone_text.proofs.Tokens.CutAgain.{cut_ended}

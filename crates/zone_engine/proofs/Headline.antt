@@ -1,5 +1,5 @@
 -- The parts of the sentence that the program stands for.
-use Rattle.zone_engine.proofs.Common.{◌≡◌, ◌↔◌, ◌⊎◌, ℕ, ◌<◌, ◌≤◌, List, length, refl, sym, ap, ◌∙◌, subst, ⊎_elim, arith, Appends, AllByRecursion, AtMostOneIs, Labels, NothingIs, Octets, Fault, Place, IsZone, Zone, canon, text_limit, Denotes, Verdict, Compares, DifferFirstAt, IsVerdictOnTexts, file, Input, InputDenotes, IsInput, Normalises, NormalisesTo, IsRefusal, IsRefused, rules, Option, Same}
+use Rattle.zone_engine.proofs.Common.{◌≡◌, ◌↔◌, ◌⊎◌, ℕ, ◌<◌, ◌≤◌, List, length, refl, sym, ap, ◌∙◌, subst, ⊎_elim, arith, Appends, AllByRecursion, AtMostOneIs, Labels, NothingIs, Octets, Fault, Place, IsZone, Zone, canon, text_limit, Denotes, Verdict, Compares, IsVerdictOnTexts, file, Input, InputDenotes, IsInput, Normalises, NormalisesTo, IsRefusal, IsRefused, rules, Option, Same}
 use Rattle.zone_wire.specs.Name.{Found, IsNameAt}
 use Rattle.zone_wire.specs.Walk.{Visit, IsWalk}
 use Rattle.zone_engine.specs.Headline.{DenoteOne, DenotesOnly, IsBoundedWalk, NormalisesOnlyTo}

@@ -1,7 +1,5 @@
 -- From the zone that an input is read as to the canonical text that is written of it.
-use Rattle.zone_engine.proofs.Common.{common_steps, ◌≡◌, ℕ, ◌<◌, ◌≤◌, ◌-◌, ◌^◌, List, length, min, refl, Vec, Global, Option, None, Some, IfSome, Result, IfOk, OnOk, Appends, Octets, ZoneTooLarge, Whole, Stop, Placed, Zone, canon, text_limit, StopsPush, StopsWrite, Input, IsInput, InputDenotes, InputDenotesWithin, InputReads, InputStates, ReadsZoneWithin, IsOfBytes, Normalises, NormalisesTo, StopsNormalise, WorksOn, WritesNothing, WritesPrefix, IfRefused, IsRefusal, IsRefusalWithin, reading, too_large, Device, IsOfReading, Keeps-refl, ReadsToEnd, StopsReading, TellsRead, inl, IfSome_then, arith}
-use Rattle.zone_print.specs.Writing.{TellsWrite}
-use Rattle.zone_rdata.specs.declared.fault.Stop.TheVariants.{Refused, Read, Write, Memory}
+use Rattle.zone_engine.proofs.Common.{common_steps, ◌≡◌, ℕ, ◌<◌, ◌≤◌, ◌-◌, ◌^◌, List, length, min, refl, Vec, Global, Option, None, IfSome, Result, IfOk, OnOk, Appends, Octets, ZoneTooLarge, Whole, Stop, Placed, Zone, canon, text_limit, StopsPush, StopsWrite, Input, IsInput, InputDenotes, InputDenotesWithin, InputReads, InputStates, ReadsZoneWithin, IsOfBytes, Normalises, NormalisesTo, StopsNormalise, WritesPrefix, IfRefused, IsRefusal, IsRefusalWithin, reading, too_large, Device, IsOfReading, ReadsToEnd, StopsReading, inl, IfSome_then, arith}
 use Rattle.zone_engine.proofs.Reading.Readers.{if_refused}
 
 abbrev ReadIsStated : Type 0

@@ -1,5 +1,5 @@
 -- What a line is made of, and the lines to come.
-use Rattle.zone_print.proofs.Common.{common_steps, ◌∙◌, length, refl, take, ◌≡◌, ◌≢◌, ℕ, List, [], ◌∷◌, ◌++◌, ap, append_assoc, arith, name_text, Record, data_of, data_text, line, lines}
+use Rattle.zone_print.proofs.Common.{common_steps, take, ◌≡◌, ◌≢◌, ℕ, List, [], ◌∷◌, ◌++◌, ap, append_assoc, arith, name_text, Record, data_of, data_text, line, lines}
 use Rattle.std.proofs.lemmas.List.{take_at}
 use Rattle.zone_print.specs.Machine.Middle.{before_kind, kind_column, line_middle, HoldsMiddle}
 use Rattle.zone_print.proofs.Feeds.{line_ends_with_feed}

@@ -124,7 +124,7 @@ pub(crate) fn cut_line<'t>(
         if *stop == b'\n' {
             return Ok(Some(octets.len() - after.len()));
         }
-        // Of what stops an item, the others of these are blanks.
+        // Of what stops a bare item, the other octets up to a space are blanks.
         if *stop <= b' ' {
             rest = after;
             stops = next_stops;

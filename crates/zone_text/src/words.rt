@@ -42,14 +42,9 @@ pub(crate) fn ttl_in(text: &[u8]) -> Result<u32, Cause>
     ensures fault { IfErr result
         (λ cause. NoValue Fault.BadTtl (IsTtl text.now) (fault_for cause)) }
 {
-    match text {
-        // Most TTLs are one hour or one day.
-        [b'3', b'6', b'0', b'0'] => Ok(3600),
-        [b'8', b'6', b'4', b'0', b'0'] => Ok(86400),
-        _ => match seconds_of(text) {
-            Some(seconds) if seconds <= u64::from(MAX_TTL) => Ok(seconds as u32),
-            _ => Err(Cause::BadTtl),
-        },
+    match seconds_of(text) {
+        Some(seconds) if seconds <= u64::from(MAX_TTL) => Ok(seconds as u32),
+        _ => Err(Cause::BadTtl),
     }
 }
 

@@ -1,6 +1,6 @@
 -- A source of a master file or of a transfer that begins, or goes on, does so as a source of an
 -- input.
-use Rattle.zone_engine.proofs.Common.{◌≡◌, List, [], false, Option, None, Result, OnOk, Labels, Octets, SourceState, Pending, Fault, Place, Stop, Placed, ReadAs, as_file, as_transfer, BeginsAs, nothing_pending, arith, Ok, Err, FileDecides, FileLeave, IsFile, IsTransfer, StandsForInput, TransferLeave}
+use Rattle.zone_engine.proofs.Common.{◌≡◌, List, [], false, Option, None, Result, OnOk, Labels, Octets, SourceState, Fault, Place, Stop, Placed, ReadAs, as_file, as_transfer, BeginsAs, arith, Ok, Err, FileDecides, FileLeave, IsFile, IsTransfer, StandsForInput, TransferLeave}
 use Rattle.std.proofs.Common.{Ok, Err}
 use Rattle.zone_text.specs.Decided.{FileDecides}
 use Rattle.zone_text.specs.TextSource.{FileKept, StandsForFile}

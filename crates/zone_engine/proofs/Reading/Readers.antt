@@ -1,5 +1,5 @@
 -- What calls leave of the reader of an input.
-use Rattle.zone_engine.proofs.Common.{◌≡◌, ℕ, ◌≤◌, ◌+◌, length, [], sym, subst, inl, inr, arith, Option, None, Some, IfSome, Result, Ok, Err, Consumes, Keeps, Consumes-nil, Octets, Fault, InputTooLong, Place, Whole, Stop, Refused, Input, Device, WorksOn, IsOfBytes, IfRefused, IsRefusalWithin, ConsumesAtMost, IsFailedRead, Reads, ReadsToEnd, StopsReading, TellsRead}
+use Rattle.zone_engine.proofs.Common.{◌≡◌, ℕ, ◌≤◌, ◌+◌, length, sym, subst, inl, inr, arith, Option, None, Some, IfSome, Result, Ok, Err, Consumes, Keeps, Octets, Fault, InputTooLong, Place, Whole, Stop, Refused, Input, Device, WorksOn, IsOfBytes, IfRefused, IsRefusalWithin, ConsumesAtMost, IsFailedRead, Reads, ReadsToEnd, StopsReading, TellsRead}
 use Rattle.std.specs.Prelude.{IfErr}
 use Rattle.std.proofs.KnownBytes.{Consumes-kept}
 use Rattle.zone_rdata.specs.declared.fault.Stop.TheVariants.{Read, Write, Memory}

@@ -1,5 +1,5 @@
 -- What is taken of an input that a source is fed.
-use Rattle.zone_engine.proofs.Common.{◌≡◌, ◌≢◌, ◌<◌, true, false, List, [], ◌∷◌, ◌++◌, refl, sym, ap, ◌∙◌, subst, append_assoc, append-nil, Option, Some, None, is_some, Result, IfOk, AllByRecursion, Octets, Record, Held, Pending, Fault, NoSoa, OutOfZone, Place, Whole, Stop, Refused, Placed, class, leaves, StopsFinish, soa, no_soa, outside, AllAccepted, SameRecords, records_of, Zone, IsZone, ReadAs, input_of, InputReads, Decides, IsForm, IsLoaded, all_taken, front_refuses, nothing_pending, IsFirstStop, earlier, itself, RefusesFront, by_record, by_ending, ReadsZone, RefusesRead, IsOfBytes, RefusesReading, refused, unread, unfinished, IfRefused, arith, rules, StandsForInput}
+use Rattle.zone_engine.proofs.Common.{◌≡◌, ◌≢◌, true, false, List, [], ◌∷◌, ◌++◌, refl, sym, ap, ◌∙◌, subst, append_assoc, append-nil, Option, Some, None, is_some, Result, IfOk, Octets, Record, Held, Pending, Fault, NoSoa, OutOfZone, Place, Whole, Stop, Refused, Placed, class, leaves, StopsFinish, soa, no_soa, outside, AllAccepted, SameRecords, records_of, Zone, IsZone, ReadAs, input_of, InputReads, IsLoaded, all_taken, front_refuses, nothing_pending, IsFirstStop, earlier, itself, RefusesFront, by_record, by_ending, ReadsZone, RefusesRead, IsOfBytes, RefusesReading, refused, unread, unfinished, IfRefused, arith, rules, StandsForInput}
 use Rattle.zone_rdata.specs.declared.fault.Fault.TheVariants.{ClassMismatch}
 use Rattle.zone_rdata.specs.declared.fault.Stop.TheVariants.{Memory}
 use Rattle.zone_set.specs.ZoneList.{ListsAll, StopsListing, failure, memory, class as of_class, ending as ending_fault, IsSettledAs, StopsSettling, memory as unsettled, refused as refused_record}

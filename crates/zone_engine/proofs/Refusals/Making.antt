@@ -1,6 +1,6 @@
 -- Records of which each may stand with all before it have one ascending list, and that is a zone's
 -- or lacks what a zone needs.
-use Rattle.zone_engine.proofs.Common.{◌≡◌, ◌≢◌, ◌⊎◌, ◌↔◌, ℕ, List, [], ◌∷◌, ◌++◌, length, Ordering, Less, Equal, Greater, refl, sym, ap, ◌∙◌, subst, inl, inr, ⊎_elim, append_assoc, append-nil, cases_eq, leb_tells, AllByRecursion, IsWithin, name_cmp, Record, IsRecord, data_of, Fault, NoSoa, OutOfZone, ZoneTooLarge, Place, Whole, Placed, Accepts, Adds, no_soa, outside, AllAccepted, records_of, Has, SameRecords, AreCompatible, Zone, IsZone, canon, text_limit, MakesZone, RefusesReading, refused, unread, unfinished, too_large, accepted_ttl, one_set, each_Has, each_from_Has, arith, Some, None, IsTotalOrder, ordering_reverse, Labels}
+use Rattle.zone_engine.proofs.Common.{◌≡◌, ◌≢◌, ◌⊎◌, ◌↔◌, List, [], ◌∷◌, ◌++◌, length, Ordering, Less, Equal, Greater, refl, sym, ap, ◌∙◌, subst, inl, inr, ⊎_elim, append_assoc, append-nil, cases_eq, leb_tells, AllByRecursion, IsWithin, name_cmp, Record, IsRecord, data_of, Fault, NoSoa, OutOfZone, ZoneTooLarge, Place, Whole, Placed, Accepts, Adds, no_soa, outside, AllAccepted, records_of, Has, SameRecords, AreCompatible, Zone, IsZone, canon, text_limit, MakesZone, RefusesReading, refused, unread, unfinished, too_large, accepted_ttl, one_set, each_Has, each_from_Has, arith, Some, None, IsTotalOrder, ordering_reverse, Labels}
 use Rattle.zone_set.specs.Order.{canonical_cmp, Ascends}
 use Rattle.zone_engine.proofs.Refusals.Parting.{all_class, all_ttl, all_soa}
 use Rattle.zone_engine.proofs.Refusals.Deciding.{Settled, not_settled, is_within, some_or_none, one_or_all}

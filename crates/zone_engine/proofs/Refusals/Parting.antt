@@ -1,5 +1,5 @@
 -- Lists parted at one of their records, and records of which each may stand with all before it.
-use Rattle.zone_engine.proofs.Common.{◌≡◌, ℕ, nat_eq, List, [], ◌∷◌, ◌++◌, refl, sym, ap, ap₂, ◌∙◌, subst, inl, inr, ⊎_elim, pointwise, pointwise_decides, bytes_decides, Record, Placed, Accepts, AllAccepted, records_of, Has, InOneSet, accepted_class, accepted_soa, accepted_ttl, Labels}
+use Rattle.zone_engine.proofs.Common.{◌≡◌, nat_eq, List, [], ◌∷◌, ◌++◌, refl, sym, ap, ap₂, ◌∙◌, subst, inl, inr, ⊎_elim, pointwise, pointwise_decides, bytes_decides, Record, Placed, Accepts, AllAccepted, records_of, Has, InOneSet, accepted_class, accepted_soa, accepted_ttl, Labels}
 use Rattle.std.proofs.Common.{Decides}
 use Rattle.zone_set.proofs.Holding.Together.{flipped}
 

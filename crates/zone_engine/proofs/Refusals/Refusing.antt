@@ -1,5 +1,5 @@
 -- A reading is refused for one fault at one place, and no zone has the records of a refused one.
-use Rattle.zone_engine.proofs.Common.{◌≡◌, ℕ, ◌≤◌, List, [], ◌∷◌, ◌++◌, length, Less, refl, sym, ap, ◌∙◌, subst, inl, inr, ⊎_elim, arith, IsWithin, name_cmp, Record, Fault, OutOfZone, Place, Whole, Stop, Refused, Placed, Accepts, IsRefusedFor, class, soa, ttl, HasNoSoa, IsLeastOutside, StopsFinish, no_soa, outside, AllAccepted, IsFirstRefused, records_of, Has, SameRecords, Zone, IsZone, canon, text_limit, MakesZone, RefusesReading, refused, unread, unfinished, too_large, stable_owner, each_Has, Option, Some, None, IsTotalOrder, ordering_reverse, Labels}
+use Rattle.zone_engine.proofs.Common.{◌≡◌, ◌≤◌, List, [], ◌∷◌, ◌++◌, length, Less, refl, sym, ap, ◌∙◌, subst, inl, inr, ⊎_elim, arith, IsWithin, name_cmp, Record, Fault, OutOfZone, Place, Whole, Stop, Refused, Placed, Accepts, IsRefusedFor, class, soa, ttl, HasNoSoa, IsLeastOutside, StopsFinish, no_soa, outside, AllAccepted, IsFirstRefused, records_of, Has, SameRecords, Zone, IsZone, canon, text_limit, MakesZone, RefusesReading, refused, unread, unfinished, too_large, stable_owner, each_Has, Option, None, IsTotalOrder, ordering_reverse, Labels}
 use Rattle.zone_engine.proofs.Refusals.Parting.{Partings, same, first, second, two_partings, Has-part, all_soa}
 
 -- ---- the first record that is refused

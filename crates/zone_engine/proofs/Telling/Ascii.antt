@@ -1,5 +1,5 @@
 -- The text of a name is ASCII.
-use Rattle.zone_engine.proofs.Common.{◌≡◌, ℕ, ◌<◌, List, [], ◌∷◌, ◌++◌, ◌&&◌, Bool, true, arith, AllByRecursion, flat_map, IsFoldedOctet, IsLabel, common_steps, ◌||◌, octet_text, label_text, name_text, Labels}
+use Rattle.zone_engine.proofs.Common.{ℕ, ◌<◌, List, [], ◌∷◌, ◌++◌, arith, AllByRecursion, flat_map, IsFoldedOctet, IsLabel, common_steps, octet_text, label_text, name_text, Labels}
 
 abbrev pub AreAscii : List ℕ → Type 0
 AreAscii octets = AllByRecursion (λ c. c < 128) octets

@@ -1,10 +1,10 @@
 -- Names whose letters are folded or kept when they are read.
-use Rattle.zone_name.proofs.Common.{common_steps, AllByRecursion, Bool, Collects, Err, Folded, HoldsCasedLabels, HoldsLabelsBy, HoldsNameBy, IfErr, IfOk, IfSome, IsCasedLabel, IsCasedName, IsLabel, IsName, IsNameBy, Kept, Letters, List, NameFault, NameTooLong, None, Ok, Option, Result, Some, [], ap, append-nil, append_assoc, arith, false, false≢true, flat_map, flat_map-append, folded, folded_octet, labels_of, length, length-append, length-take, lettered, lettered_in, map, name_read, origin_in, refl, sized, sym, take, true, under_origin, wire, with_length, ℕ, ◌++◌, ◌+◌, ◌<◌, ◌∙◌, ◌∷◌, ◌≡◌, ◌≤◌}
+use Rattle.zone_name.proofs.Common.{common_steps, AllByRecursion, Bool, Collects, Err, Folded, HoldsCasedLabels, HoldsLabelsBy, HoldsNameBy, IfErr, IfOk, IfSome, IsCasedLabel, IsLabel, IsNameBy, Kept, Letters, List, NameFault, NameTooLong, None, Ok, Option, Result, Some, [], ap, append-nil, append_assoc, arith, false, false≢true, flat_map, flat_map-append, folded, folded_octet, labels_of, length, length-append, length-take, lettered, lettered_in, map, name_read, origin_in, refl, sized, sym, take, true, under_origin, wire, with_length, ℕ, ◌++◌, ◌+◌, ◌<◌, ◌∙◌, ◌∷◌, ◌≡◌, ◌≤◌}
 use Rattle.zone_name.specs.Machine.Letters.{IsReadBy}
 use Rattle.zone_name.specs.Machine.Seen.{IsReadInto}
 use Rattle.zone_name.specs.declared.reading.Spelled.{Spelled}
-use Rattle.zone_name.proofs.InOctets.Octets.{labels_of-open, labels_of-root, labels_of-wire, labels_of-wire_cased, HoldsCasedName-root, HoldsCasedName-wire, HoldsName-root, HoldsName-wire}
-use Rattle.zone_name.proofs.InOctets.Pushing.{AllByRecursion-append, HoldsLabels-frames, folded_frames, folded_labels, folded_size, sized-name, sized-long}
+use Rattle.zone_name.proofs.InOctets.Octets.{labels_of-open, labels_of-root, labels_of-wire, labels_of-wire_cased, HoldsCasedName-root, HoldsName-root}
+use Rattle.zone_name.proofs.InOctets.Pushing.{folded_frames, folded_labels, folded_size, sized-name, sized-long}
 
 -- labels whose letters are folded or kept
 pub record SetLetters (letters : Letters) (octets new : List ℕ) : Type 0 where

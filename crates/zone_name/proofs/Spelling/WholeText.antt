@@ -2,7 +2,7 @@
 -- themselves.
 use Rattle.std.proofs.lemmas.List.Folds.{list_all-append}
 use Rattle.std.proofs.lemmas.List.Sums.{count_by-le-length, sum_by-append, sum_by-cons}
-use Rattle.zone_name.proofs.Common.{common_steps, BeginsWithName, Bool, HoldsName, List, [], and_parts, ap, append-nil, append_assoc, ap₂, arith, cases_Bool, cond, count_by, drop, drop-drop, drop_at, false, flat_map, get_or, is_bare, is_dot, label_text, labels_of, length, length-append, length-take, length-take-le, list_all, name_text, octet_text, put_chunk_is, refl, set, set_at, subst, suc, sym, take, take-add, take-append-drop, take_at, true, wire, with_length, zero, ℕ, ◌&&◌, ◌++◌, ◌+◌, ◌-◌, ◌<◌, ◌∙◌, ◌∷◌, ◌≡◌, ◌≤◌}
+use Rattle.zone_name.proofs.Common.{common_steps, BeginsWithName, Bool, HoldsName, List, [], and_parts, ap, append-nil, append_assoc, ap₂, arith, cases_Bool, cond, count_by, drop, drop-drop, drop_at, false, flat_map, get_or, is_bare, is_dot, label_text, labels_of, length, length-append, length-take, length-take-le, list_all, name_text, octet_text, put_chunk_is, refl, set, set_at, subst, suc, sym, take, take-add, take-append-drop, take_at, true, wire, with_length, zero, ℕ, ◌++◌, ◌+◌, ◌-◌, ◌<◌, ◌∙◌, ◌∷◌, ◌≡◌, ◌≤◌}
 use lib.Lanes.{put_chunk}
 use Rattle.zone_name.proofs.InOctets.Octets.{next_label, root_label, BeginsWithName-wire_append, labels_of-wire_append, length-labels}
 

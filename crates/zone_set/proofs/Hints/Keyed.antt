@@ -1,5 +1,5 @@
 -- Entries whose hints were set aside while they were sorted.
-use Rattle.zone_set.proofs.Common.{arith, common_steps, Entry, IsPermutation, IsPermutation-map, List, [], ap, length, map, map-append, refl, subst, sym, take, take_more_set, with_hint, ℕ, ◌++◌, ◌+◌, ◌<◌, ◌∙◌, ◌∷◌, ◌≡◌}
+use Rattle.zone_set.proofs.Common.{arith, common_steps, Entry, IsPermutation, IsPermutation-map, List, [], ap, length, map, map-append, refl, subst, sym, take, take_more_set, with_hint, ℕ, ◌+◌, ◌<◌, ◌∙◌, ◌∷◌, ◌≡◌}
 use Rattle.std.proofs.Math.ListN.{set}
 
 -- an entry from its parts

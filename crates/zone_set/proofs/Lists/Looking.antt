@@ -1,5 +1,5 @@
 -- Entries that are looked at run after run, each run as soon as it is sorted.
-use Rattle.zone_set.proofs.Common.{common_steps, AllByRecursion, AreNeighbours, Entry, List, Record, [], ap, append-nil, arith, drop, length, length-drop, length-take-le, map, refl, subst, suc, sym, take, take-append-drop, take-length, zero, ℕ, ◌++◌, ◌+◌, ◌-◌, ◌∙◌, ◌∷◌, ◌≡◌, ◌≤◌}
+use Rattle.zone_set.proofs.Common.{common_steps, AllByRecursion, AreNeighbours, Entry, List, Record, [], ap, append-nil, arith, drop, length, length-drop, length-take-le, map, refl, subst, suc, sym, take, take-append-drop, take-length, zero, ℕ, ◌+◌, ◌-◌, ◌∙◌, ◌∷◌, ◌≡◌, ◌≤◌}
 
 pub each_drop : {X : Type 0} (P : X → Type 0) (n : ℕ) (xs : List X) → AllByRecursion P xs → AllByRecursion P (drop n xs)
 each_drop P zero xs each = each

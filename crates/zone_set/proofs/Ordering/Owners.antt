@@ -1,7 +1,6 @@
 -- Owners that differ in their first labels alone.
-use Rattle.zone_set.proofs.Common.{arith, common_steps, AreFirst, IsFirst, IsName, Less, List, [], ap, append-nil, ap₂, label_cmp, labels_of, name_cmp, nat_cmp, slice_cmp, subst, sym, then_equal, wire, ℕ, ◌∙◌, ◌∷◌, ◌≡◌}
-use Rattle.zone_name.proofs.InOctets.Octets.{next_label, BeginsWithName-wire_append}
-use Rattle.zone_name.specs.Name.{BeginsWithName}
+use Rattle.zone_set.proofs.Common.{arith, common_steps, AreFirst, IsFirst, IsName, Less, List, [], ap, append-nil, ap₂, label_cmp, labels_of, name_cmp, nat_cmp, slice_cmp, sym, then_equal, wire, ℕ, ◌∙◌, ◌∷◌, ◌≡◌}
+use Rattle.zone_name.proofs.InOctets.Octets.{next_label}
 use Rattle.zone_set.proofs.Ordering.Within.{same_ending}
 
 -- a name whose octets begin with a label

@@ -1,5 +1,5 @@
 -- An entry states a record, states nothing or has a fault: one of the three at most, and each once.
-use Rattle.zone_text.proofs.Common.{AllByRecursion, BadTtl, Entry, EntryFault, EntryStates, Err, Fault, HasClass, HasTtl, HasValue, IsClass, IsDataFault, IsKind, IsKindWord, IsNameFaultAfter, IsOrigin, IsOwner, List, Lower, NoTtl, None, Ok, Once, Option, Parts, PartsFault, Record, Result, Some, SpellingFault, SpellsAfter, Statement, StatementFault, States, StatesNothing, TtlFault, Word, WordFault, [], ap, class, inl, inr, long, no_items, none, of_parts, of_rdata, of_statement, of_ttl, owned, parts_in, refl, rules, sets_origin, sets_ttl, statement_of, subst, sym, ttl, unowned, ℕ, ◌∙◌, ◌∷◌, ◌≡◌, ◌≤◌, ◌⊎◌, arith}
+use Rattle.zone_text.proofs.Common.{AllByRecursion, BadTtl, Entry, EntryFault, EntryStates, Err, Fault, HasClass, HasTtl, HasValue, IsClass, IsDataFault, IsKind, IsKindWord, IsNameFaultAfter, IsOrigin, IsOwner, List, Lower, NoTtl, None, Ok, Once, Parts, PartsFault, Record, Result, Some, SpellingFault, SpellsAfter, Statement, StatementFault, States, StatesNothing, TtlFault, Word, WordFault, [], ap, class, inl, inr, long, no_items, none, of_parts, of_rdata, of_statement, of_ttl, owned, parts_in, refl, rules, sets_origin, sets_ttl, statement_of, subst, sym, ttl, unowned, ℕ, ◌∙◌, ◌∷◌, ◌≡◌, ◌≤◌, ◌⊎◌, arith}
 use Rattle.zone_rdata.specs.Spelling.{bare, RawItem}
 use Rattle.zone_text.proofs.Entries.Inherits.{Then, then_once, origin_once, owner_once, class_once, ttl_once}
 

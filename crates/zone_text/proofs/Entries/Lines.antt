@@ -1,5 +1,5 @@
 -- Lines of items, and entries that state every part of a record.
-use Rattle.zone_text.proofs.Common.{AllByRecursion, AllFollow, Bool, Cuts, Entry, EntryStates, IfSome, IsItem, IsOrigin, IsToken, Labels, List, MayFollow, None, Option, Parts, Record, Some, StatesWhole, Token, Word, [], begins_with_digit, blank, class, cut_from, depth_after, entries_of, entry_of, false, flat_map, if◌then◌else◌, in_front_of, is_blank, is_class_word, item_of, line_feed, line_of, owned, parts_after, parts_in, refl, rules, statement_by, statement_of, text, true, ttl, unless_stated, zero, ℕ, ◌∙◌, ◌∷◌, ◌≡◌, ◌≢◌, arith}
+use Rattle.zone_text.proofs.Common.{AllByRecursion, AllFollow, Bool, Cuts, Entry, EntryStates, IsItem, IsOrigin, IsToken, Labels, List, MayFollow, None, Parts, Record, Some, StatesWhole, Token, Word, [], begins_with_digit, blank, class, cut_from, depth_after, entries_of, entry_of, false, flat_map, if◌then◌else◌, in_front_of, is_class_word, item_of, line_feed, line_of, owned, parts_after, parts_in, refl, rules, statement_of, text, true, ttl, unless_stated, zero, ℕ, ◌∙◌, ◌∷◌, ◌≡◌, arith}
 use Rattle.zone_rdata.specs.Spelling.{RawItem}
 use Rattle.zone_rdata.specs.Spelling as raw
 use Rattle.zone_text.proofs.Heads.ClassWords.{time_first, class_word_first, class_word_known}

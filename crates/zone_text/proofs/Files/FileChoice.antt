@@ -1,5 +1,5 @@
 -- A file of octets has a reading, and something is decided of it.
-use Rattle.zone_text.proofs.Common.{AllByRecursion, AllByRecursion-back, AllByRecursion-front, AllState, AreOctetItems, Breaks, BreaksAtEnd, Choices, Cut, Cuts, Ending, Entry, Fault, FileDecides, FileReads, IsName, Line, List, Lower, None, Placed, ReadEach, Some, StaysBroken, Token, [], and_last, broken, count_by, cut_from, decided, ended_entries, entries_of, flat_map, flat_map-append, inl, inr, item_of, numbered, open_line, refl, refused, rules, stated, states_one, subst, sym, text, token_text, undecided, whole, zero, ℕ, ◌++◌, ◌+◌, ◌<◌, ◌==◌, ◌∷◌, ◌⊎◌, arith}
+use Rattle.zone_text.proofs.Common.{AllByRecursion, AllByRecursion-back, AllByRecursion-front, AllState, AreOctetItems, Breaks, BreaksAtEnd, Choices, Cut, Cuts, Ending, Entry, Fault, FileDecides, FileReads, IsName, Line, List, Lower, None, Placed, ReadEach, Some, StaysBroken, Token, [], broken, count_by, cut_from, decided, ended_entries, entries_of, flat_map, flat_map-append, inl, inr, item_of, numbered, open_line, refl, refused, rules, stated, states_one, subst, sym, text, token_text, undecided, whole, zero, ℕ, ◌++◌, ◌+◌, ◌<◌, ◌==◌, ◌∷◌, ◌⊎◌, arith}
 use Rattle.zone_rdata.specs.Spelling.{RawItem}
 use Rattle.zone_text.proofs.Tokens.Cuttings.{cut_not_broken, cut_or_broken}
 use Rattle.zone_text.proofs.Files.Left.{entries_text}

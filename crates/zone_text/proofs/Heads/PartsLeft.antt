@@ -1,5 +1,5 @@
 -- The words before a record's type as they are written, found from the left.
-use Rattle.zone_text.proofs.Common.{arith, common_steps, AllByRecursion, AllByRecursion-append, Bool, Bor, HasValue, HaveTexts, IfSome, IsSomeAnd, List, None, Option, RawItem, Some, Word, [], ap, begins_with_digit, class, class_among, false, is_class_word, if◌then◌else◌, is_some, option_map, parts_after, refl, rules, subst, sym, true, ttl, ttl_among, unless_stated, word_after, map, raw, ℕ, ◌++◌, ◌∙◌, ◌∷◌, ◌≡◌}
+use Rattle.zone_text.proofs.Common.{arith, common_steps, AllByRecursion, Bool, Bor, HasValue, HaveTexts, IfSome, IsSomeAnd, List, None, Option, RawItem, Some, Word, [], ap, begins_with_digit, class, class_among, false, is_class_word, if◌then◌else◌, is_some, option_map, parts_after, refl, rules, subst, sym, true, ttl, ttl_among, unless_stated, word_after, map, raw, ℕ, ◌++◌, ◌∙◌, ◌∷◌, ◌≡◌}
 use Rattle.zone_rdata.specs.Item.{bare, quoted}
 use Rattle.zone_text.proofs.Heads.WordsLeft.{class_kept, class_pushed, next_part, some_of, ttl_kept, ttl_pushed}
 use Rattle.zone_text.specs.PartsIn.{ArePartsIn}

@@ -1,5 +1,5 @@
 -- One octet of a scan, and how answers of scans are joined.
-use Rattle.zone_text.proofs.Common.{AreQuiet, Bool, ClosesNothing, Ends, List, LostEscape, Mode, On, Open, ScanState, Scanned, Step, arith, common_steps, drop, false, further, get_or, length, moves, on, open_at, open_step, or_parts, rules, scan_of, scan_on, step_in, step_of, subst, sym, ℕ, ◌+◌, ◌-◌, ◌<◌, ◌||◌, ◌∙◌, ◌≡◌, ◌≤◌}
+use Rattle.zone_text.proofs.Common.{AreQuiet, Bool, ClosesNothing, Ends, List, LostEscape, Mode, On, Open, ScanState, Scanned, Step, arith, common_steps, drop, false, further, get_or, length, moves, on, open_at, or_parts, rules, scan_of, scan_on, step_in, step_of, subst, sym, ℕ, ◌+◌, ◌-◌, ◌<◌, ◌||◌, ◌∙◌, ◌≡◌, ◌≤◌}
 
 -- ---- an octet that leaves the state as it is
 

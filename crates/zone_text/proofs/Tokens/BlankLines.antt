@@ -1,5 +1,5 @@
 -- Lines without items: what is cut of them, and what follows from octets with such lines after them.
-use Rattle.zone_text.proofs.Common.{AllByRecursion, AreBlankLines, Comment, Cuts, EndedEntries, Ends, Entry, EntrySplitter, Follow, IsBlankLine, IsComment, IsSplitter, IsStateAfter, Labels, LeavesNoRecord, List, None, ReadsOctets, ScansTo, Token, [], ap, append_assoc, arith, before_line_feed, beginning, comment, commented, common_steps, decides_none, drop, entry_of, flat_map, further, if◌then◌else◌, item_of, length, length-append, line_feed, ne_eqb, no_lines, one_line_more, refl, rules, scan_of, subst, suc, sum_by-cons, sym, ℕ, ◌++◌, ◌+◌, ◌<◌, ◌==◌, ◌∙◌, ◌∷◌, ◌≡◌, ◌≢◌, ◌≤◌}
+use Rattle.zone_text.proofs.Common.{AllByRecursion, AreBlankLines, Comment, Cuts, EndedEntries, Ends, EntrySplitter, Follow, IsBlankLine, IsComment, IsSplitter, List, None, ReadsOctets, ScansTo, Token, [], ap, append_assoc, arith, before_line_feed, beginning, comment, commented, common_steps, decides_none, drop, flat_map, further, if◌then◌else◌, item_of, length, length-append, line_feed, ne_eqb, no_lines, one_line_more, refl, rules, scan_of, subst, suc, sum_by-cons, sym, ℕ, ◌++◌, ◌+◌, ◌<◌, ◌==◌, ◌∙◌, ◌∷◌, ◌≡◌, ◌≢◌, ◌≤◌}
 use Rattle.zone_text.specs.Machine.Blank.{line_feed as fed_line}
 use Rattle.zone_text.proofs.Tokens.Cuttings.{one_cut}
 use Rattle.zone_text.proofs.Entries.EntryTaken.{lines_after, takes_entry}

@@ -1,6 +1,6 @@
 -- A break stays or stands at the end of the text, and not both. So does a backslash that begins no
 -- escape, by what follows it.
-use Rattle.zone_text.proofs.Common.{AllByRecursion, Breaks, BreaksAtEnd, BreaksForGood, Fault, IsBadEscape, IsBroken, IsCutOff, IsEscape, IsLostEscape, IsUnit, List, NoUnit, StaysBroken, Token, Written, [], after_backslash, after_digit, after_two_digits, ap, append-nil, append_cancel_left, arith, at_backslash, at_end, at_line_end, both_ways, cases_Bool, cases_eq, cases_lt, closes_nothing, closing_stays, decimal, escape_open, escape_stays, escaped, false, inl, inr, is_digit, is_quote, no_escape, no_quote, no_quoted_escape, not_closed, nothing_left, octet_of, one_digit, quote_open, quoted_escape_open, quoted_escape_stays, refl, rules, subst, sym, text, text_of, too_great, true, two_digits, units_first_only, written_text, ℕ, ◌++◌, ◌∙◌, ◌∷◌, ◌≡◌, ◌⊎◌}
+use Rattle.zone_text.proofs.Common.{AllByRecursion, Breaks, BreaksAtEnd, BreaksForGood, Fault, IsBadEscape, IsBroken, IsCutOff, IsEscape, IsLostEscape, IsUnit, List, NoUnit, StaysBroken, Token, Written, [], after_backslash, after_digit, after_two_digits, append-nil, append_cancel_left, arith, at_backslash, at_end, at_line_end, cases_Bool, cases_eq, cases_lt, closes_nothing, closing_stays, decimal, escape_open, escape_stays, escaped, false, inl, inr, is_digit, is_quote, no_escape, no_quote, no_quoted_escape, not_closed, nothing_left, octet_of, one_digit, quote_open, quoted_escape_open, quoted_escape_stays, refl, rules, subst, sym, text, text_of, too_great, true, two_digits, units_first_only, written_text, ℕ, ◌++◌, ◌∙◌, ◌∷◌, ◌≡◌, ◌⊎◌}
 use Rattle.zone_text.proofs.Tokens.Lasting.{stays_some}
 
 -- what is malformed is lost or cut off

@@ -1,5 +1,5 @@
 -- How far the first token of a text goes.
-use Rattle.zone_text.proofs.Common.{AllByRecursion, Bool, EndsAt, IsUnit, ItemReaches, List, Written, [], add-one, ap, arith, before_line_feed, both_ways, common_steps, drop, drop-cons, drop-drop, drop_of_length-le, ends_item, false, get_or, is_digit, is_quote, item_len, length, length-drop, map, min, ne_eqb, refl, rules, subst, suc, sym, take, true, written_text, ℕ, ◌++◌, ◌+◌, ◌-◌, ◌<◌, ◌==◌, ◌||◌, ◌∙◌, ◌∷◌, ◌≡◌, ◌≢◌, ◌≤◌}
+use Rattle.zone_text.proofs.Common.{AllByRecursion, Bool, EndsAt, IsUnit, ItemReaches, List, Written, [], add-one, ap, arith, before_line_feed, common_steps, drop, drop-cons, drop-drop, drop_of_length-le, ends_item, false, get_or, is_digit, is_quote, item_len, length, length-drop, map, min, ne_eqb, refl, rules, subst, suc, sym, take, true, written_text, ℕ, ◌++◌, ◌+◌, ◌-◌, ◌<◌, ◌==◌, ◌||◌, ◌∙◌, ◌∷◌, ◌≡◌, ◌≢◌, ◌≤◌}
 use Rattle.std.proofs.Common.{not}
 use Rattle.std.proofs.lemmas.Bool.Decides.{nat_tests}
 use Rattle.std.specs.Int.Count.{count_trailing_zeros}

@@ -1,5 +1,5 @@
 -- The data of a record is read into a builder.
-use Rattle.zone_wire.proofs.Common.{AllByRecursion, Awaits, BadRdata, Built, Err, Fault, Field, FieldValue, HoldEach, Holds, IsNext, IsPushFault, IsRead, IsReadyFor, IsRecordAt, IsSized, IsWhole, List, None, Ok, Option, Pushes, PutsValue, PutsValues, RawRecord, RecordAt, Result, Some, Strings, Suits, [], and_then, ap, append-nil, append_assoc, arith, cond-true, data_at, drop, drop_all, ends_with_strings, eq-eqb, field_octets, fixed, flat_map, flat_map-append, get_or, inl, inr, layout, length, length-append, length-take, long_string, misplaced, name, octets_between, octets_of, octets_push, option_or, part_at, parts_for, put_after, refl, slice_get, strings, subst, suc, sym, table_row, too_long, u16_value, u32_value, value_at, values_at, zero, ℕ, ◌*◌, ◌++◌, ◌+◌, ◌-◌, ◌<◌, ◌∙◌, ◌∷◌, ◌≡◌, ◌≢◌, ◌≤◌, common_steps, Cursor, data_of, next_value, if◌then◌else◌}
+use Rattle.zone_wire.proofs.Common.{AllByRecursion, Awaits, Built, Err, Fault, Field, FieldValue, HoldEach, Holds, IsNext, IsPushFault, IsRead, IsReadyFor, IsRecordAt, IsSized, IsWhole, List, None, Ok, Option, Pushes, PutsValue, PutsValues, RawRecord, RecordAt, Result, Some, Strings, Suits, [], and_then, ap, append-nil, append_assoc, arith, cond-true, data_at, drop, drop_all, ends_with_strings, eq-eqb, field_octets, fixed, flat_map, flat_map-append, get_or, inl, inr, layout, length, length-append, length-take, long_string, misplaced, name, octets_between, octets_of, octets_push, option_or, part_at, parts_for, put_after, refl, slice_get, strings, subst, suc, sym, table_row, too_long, u16_value, u32_value, value_at, values_at, zero, ℕ, ◌*◌, ◌++◌, ◌+◌, ◌-◌, ◌<◌, ◌∙◌, ◌∷◌, ◌≡◌, ◌≢◌, ◌≤◌, common_steps, Cursor, data_of, next_value, if◌then◌else◌}
 use Rattle.zone_rdata.proofs.Fields.AnyField.{field_short}
 use Rattle.zone_wire.proofs.Fields.ReadFields.{values_show}
 use Rattle.zone_wire.proofs.Messages.MessageFaults.{and_then_err}

@@ -1,5 +1,5 @@
 -- Where names, questions and records of a message end, and the first fault before that.
-use Rattle.zone_wire.proofs.Common.{Err, Fault, List, Ok, Outcome, Result, and_then, ap, arith, get_or, length, name_end_of, named, outcome, part_end_of, record_at, records_from, refused, run_end_of, walk, ℕ, ◌+◌, ◌-◌, ◌<◌, ◌∷◌, ◌≡◌, ◌≤◌}
+use Rattle.zone_wire.proofs.Common.{Err, Fault, List, Ok, Outcome, ap, arith, get_or, length, name_end_of, named, outcome, part_end_of, record_at, records_from, refused, run_end_of, walk, ℕ, ◌+◌, ◌-◌, ◌<◌, ◌≡◌, ◌≤◌}
 use Rattle.zone_wire.proofs.Names.Walking.{walk_names, name_bounds}
 
 ended_inside : (message : List ℕ) (offset : ℕ) → ((k : ℕ) → get_or message k 0 < 256) → (o : Outcome) → outcome message (walk message offset) ≡ o → (end : ℕ) → Ok end ≡ name_end_of o → end ≤ length message

@@ -1,6 +1,6 @@
 -- A walk that is carried on from place to place: the walk from the start is what was met so far and
 -- the walk from here.
-use Rattle.zone_wire.proofs.Common.{Fault, List, None, Option, Outcome, ShortMessage, Some, Spot, Standing, [], after_label, ap, append-nil, arith, at_fault, at_label, at_pointer, at_root, common_steps, label_at, length, named, outcome, outset, past_label, past_pointer, refl, refused, standing_in, subst, suc, sym, unwrap_or, walk, zero, ℕ, ◌*◌, ◌++◌, ◌+◌, ◌-◌, ◌<◌, ◌∙◌, ◌∷◌, ◌≡◌, ◌≤◌}
+use Rattle.zone_wire.proofs.Common.{Fault, List, None, Option, Outcome, ShortMessage, Some, Spot, Standing, [], after_label, ap, append-nil, arith, at_fault, at_label, at_pointer, at_root, common_steps, label_at, length, named, outcome, outset, past_label, past_pointer, refl, refused, standing_in, subst, suc, sym, unwrap_or, walk, zero, ℕ, ◌*◌, ◌++◌, ◌+◌, ◌<◌, ◌∙◌, ◌∷◌, ◌≡◌, ◌≤◌}
 use Rattle.zone_wire.proofs.Names.Spots.{Shows, standing_shows}
 use Rattle.zone_wire.proofs.Names.Walking.{outcome_by, outcome_at, outcome_step, label_octets, label_octets-label}
 

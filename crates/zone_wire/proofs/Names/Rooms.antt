@@ -1,6 +1,6 @@
 -- Labels that are copied into a room, and the name that is made of them.
 use Rattle.std.specs.Char.{to_ascii_lowercase}
-use Rattle.zone_wire.proofs.Common.{common_steps, AllByRecursion, AllByRecursion-append, HoldsLabels, HoldsLabels-frames, IsCasedLabel, IsLabel, IsName, IsRun, List, [], ap, append-nil, append_assoc, ap₂, arith, drop, drop-drop, drop_at, drop_more, flat_map, flat_map-append, folded, folded_frames, folded_labels, folded_octet, get_or, labels_of, labels_of-open, labels_of-open_cased, length, length-append, length-drop, length-map, length-put_chunk, length-set, length-take-le, map, map-append, octets_between, refl, subst, sym, take, take-add, take-map, take-take, take_at, take_more_put_chunk, take_more_set, with_length, ℕ, ◌++◌, ◌+◌, ◌-◌, ◌<◌, ◌∙◌, ◌∷◌, ◌≡◌, ◌≤◌}
+use Rattle.zone_wire.proofs.Common.{common_steps, AllByRecursion, AllByRecursion-append, HoldsLabels, HoldsLabels-frames, IsCasedLabel, IsLabel, IsName, IsRun, List, ap, append_assoc, ap₂, arith, drop, drop-drop, drop_at, drop_more, flat_map, flat_map-append, folded, folded_frames, folded_labels, folded_octet, get_or, labels_of, labels_of-open, labels_of-open_cased, length, length-append, length-drop, length-map, length-put_chunk, length-set, length-take-le, map, map-append, octets_between, subst, sym, take, take-add, take-map, take-take, take_at, take_more_put_chunk, take_more_set, with_length, ℕ, ◌++◌, ◌+◌, ◌-◌, ◌<◌, ◌∙◌, ◌≡◌, ◌≤◌}
 use Rattle.zone_wire.proofs.Fields.FieldReading.{part_len}
 use Rattle.zone_wire.proofs.Names.Walking.{wire-octets}
 use Rattle.zone_wire.specs.Machine.Room.{IsRoom}

@@ -1,7 +1,7 @@
 -- Runs of labels, and the names that they lead through.
-use Rattle.zone_wire.proofs.Common.{common_steps, AllByRecursion-append, At, Bytes, IsCasedLabel, IsLabelAt, IsName, IsNamed, IsPointerAt, IsRun, Leads, List, None, Option, Some, Spot, [], ap, append-nil, append_assoc, ap₂, arith, at_pointer, at_root, bytes_each, drop, folded, folded_label, frames_push, label, label_at, labels_of, labels_of-open_cased, length, length-append, length-drop, length-take-le, map-append, octets_between, pointer, refl, root, slice_index, standing_in, subst, suc, sym, take, unwrap_or, with_length, ℕ, ◌++◌, ◌+◌, ◌-◌, ◌<◌, ◌∙◌, ◌∷◌, ◌≡◌, ◌≤◌}
+use Rattle.zone_wire.proofs.Common.{common_steps, AllByRecursion-append, At, Bytes, IsCasedLabel, IsLabelAt, IsName, IsNamed, IsPointerAt, IsRun, Leads, List, Option, Some, Spot, [], ap, append-nil, append_assoc, ap₂, arith, at_pointer, at_root, bytes_each, drop, folded, folded_label, frames_push, label, label_at, labels_of, labels_of-open_cased, length, length-append, length-drop, length-take-le, map-append, octets_between, pointer, refl, root, slice_index, standing_in, suc, sym, take, unwrap_or, with_length, ℕ, ◌++◌, ◌+◌, ◌<◌, ◌∙◌, ◌∷◌, ◌≡◌, ◌≤◌}
 use Rattle.zone_wire.proofs.Fields.FieldReading.{between_first, between_join}
-use Rattle.zone_wire.proofs.Names.Spots.{Shows, standing_shows}
+use Rattle.zone_wire.proofs.Names.Spots.{standing_shows}
 use Rattle.zone_wire.proofs.Names.Walking.{drop_each, take_each}
 
 same_at : {message : List ℕ} {offset bound : ℕ} {labels other : List (List ℕ)} {end steps more pointers others : ℕ} → labels ≡ other → steps ≡ more → pointers ≡ others

@@ -1,5 +1,5 @@
 -- The faults of answers are those at which their records stop being read.
-use Rattle.zone_wire.proofs.Common.{AgreeWith, AnswerStates, Bool, Bytes, ComesAfter, Err, Fault, IsClass, IsRecordAt, List, None, Ok, Option, OrderFault, OwnFault, Placed, QuestionAt, Record, RecordAt, Result, Some, ZoneAsked, agrees, and_cases, arith, eq-eqb, fails, false, if◌then◌else◌, is_no_class, length, not, not-false, order_fault, own_record, refl, same_record, true, ttl_of, zone_of, ℕ, ◌&&◌, ◌<◌, ◌==◌, ◌≡◌, ◌≢◌, ◌≤◌, rules}
+use Rattle.zone_wire.proofs.Common.{AgreeWith, AnswerStates, Bool, Bytes, ComesAfter, Err, Fault, IsClass, IsRecordAt, List, None, Ok, Option, OrderFault, OwnFault, Placed, QuestionAt, Record, RecordAt, Some, ZoneAsked, agrees, and_cases, arith, eq-eqb, fails, false, if◌then◌else◌, is_no_class, length, not, not-false, order_fault, own_record, refl, same_record, true, zone_of, ℕ, ◌&&◌, ◌<◌, ◌==◌, ◌≡◌, ◌≢◌, ◌≤◌, rules}
 use Rattle.zone_rdata.proofs.Octets.Layouts.{held_data, stringless_short}
 use Rattle.zone_wire.proofs.Records.Answering.{holds_data, none_of, names_same, records_same}
 use Rattle.zone_wire.proofs.Fields.DataFaults.{data_faults}

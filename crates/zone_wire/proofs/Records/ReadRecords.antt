@@ -1,5 +1,5 @@
 -- The record that an answer states is one.
-use Rattle.zone_wire.proofs.Common.{AllByRecursion, AreFieldsAt, AreValuesAt, BadClass, Bool, Bytes, CompressibleType, Field, FieldValue, HoldEach, IsData, IsName, IsRecord, IsRecordAt, List, MatchOption, MetaType, None, Ok, Option, Placed, Record, RecordAt, Some, Strings, [], and_parts, ap, arith, bytes_each, common_steps, compressible, data_at, false, filter, handed_on, if◌then◌else◌, is_meta, is_no_class, is_strings, layout, length, list_all, list_any, nat_eq, not, octets_between, octets_of, own_record, refl, subst, sym, true, ttl_of, u16_at, ℕ, ⊤, ◌+◌, ◌<◌, ◌||◌, ◌∷◌, ◌≡◌, ◌≢◌, ◌≤◌, ◌⊎◌}
+use Rattle.zone_wire.proofs.Common.{AllByRecursion, AreFieldsAt, AreValuesAt, BadClass, Bool, Bytes, CompressibleType, Field, FieldValue, HoldEach, IsData, IsName, IsRecord, IsRecordAt, List, MatchOption, MetaType, None, Ok, Option, Placed, Record, RecordAt, Some, Strings, [], ap, arith, bytes_each, common_steps, compressible, data_at, false, filter, handed_on, if◌then◌else◌, is_meta, is_no_class, layout, length, list_any, nat_eq, octets_between, octets_of, own_record, refl, subst, sym, true, u16_at, ℕ, ⊤, ◌+◌, ◌<◌, ◌∷◌, ◌≡◌, ◌≢◌, ◌≤◌, ◌⊎◌}
 use Rattle.zone_wire.proofs.Fields.ReadFields.{data_shown}
 use Rattle.zone_wire.proofs.Messages.ReadSections.{ok_same, leads, passes_on}
 use Rattle.zone_wire.proofs.Names.Walking.{take_each, drop_each}

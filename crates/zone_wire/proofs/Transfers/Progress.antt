@@ -1,5 +1,5 @@
 -- Answers and messages that are read one after another.
-use Rattle.zone_wire.proofs.Common.{AfterClosing, AgreeWith, Among, AnswerFault, AnswersGive, AskAfter, Bool, ComesAfter, Err, Failing, Fault, Gains, Hands, HasFirstId, HeadFault, IfFault, IfNoMemory, IsAfter, IsMessage, List, MatchOption, Message, MessageFault, None, Ok, Option, OrderFault, Placed, Question, QuestionAt, RawRecord, ReadsNext, Record, RecordAt, Result, Sections, Some, StatedMessage, StopsIn, Takes, TakesEach, TakesHead, TakesMessage, TakesMessageUpTo, TakesUpTo, TakesWhole, Transfer, [], ap, append-nil, append_assoc, asked, asked_in, fails, false, first_id, handed_on, holds, inl, is_some, length, length-append, map, nat_eq, no_more, not, placed_in, pointwise, raw_at, refl, reverse, reverse-reverse, same_name, same_record, states, subst, sym, true, zone_held, zone_with, ℕ, ⊤, ◌++◌, ◌+◌, ◌==◌, ◌↔◌, ◌∙◌, ◌∷◌, ◌≡◌, common_steps, arith, rules}
+use Rattle.zone_wire.proofs.Common.{AfterClosing, AgreeWith, Among, AnswerFault, AnswersGive, AskAfter, Bool, ComesAfter, Err, Failing, Fault, Gains, Hands, HasFirstId, HeadFault, IfFault, IfNoMemory, IsAfter, IsMessage, List, MatchOption, Message, MessageFault, None, Ok, Option, OrderFault, Placed, Question, QuestionAt, RawRecord, ReadsNext, Record, RecordAt, Result, Sections, Some, StatedMessage, StopsIn, Takes, TakesEach, TakesHead, TakesMessage, TakesMessageUpTo, TakesUpTo, TakesWhole, Transfer, [], ap, append-nil, append_assoc, asked, asked_in, fails, false, first_id, handed_on, holds, inl, is_some, length, length-append, map, nat_eq, no_more, placed_in, pointwise, raw_at, refl, reverse, reverse-reverse, same_name, same_record, states, subst, sym, true, zone_held, zone_with, ℕ, ⊤, ◌++◌, ◌+◌, ◌↔◌, ◌∙◌, ◌∷◌, ◌≡◌, common_steps, arith, rules}
 use Rattle.zone_rdata.specs.declared.fault.Failing.TheVariants as failings
 use Rattle.zone_rdata.specs.declared.queue.PendingRecords.{PendingRecords}
 use Rattle.zone_wire.specs.AnswerFault.{refused}

@@ -1,4 +1,4 @@
-use Rattle.std.proofs.Common.{◌≡◌, ◌∙◌, List, ap, codes, drop, map, subst, true}
+use Rattle.std.proofs.Common.{◌≡◌, ◌∙◌, List, ap, map, subst, true}
 use Rattle.std.proofs.lemmas.List.{at_drop_all, drop_more}
 use Rattle.clap.specs.Simple.{app_of_fields}
 use Rattle.clap.specs.Words.{Rule, app_of, new_app, rule_of}

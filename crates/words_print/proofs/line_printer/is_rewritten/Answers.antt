@@ -1,4 +1,4 @@
-use Rattle.std.proofs.Common.{◌≡◌, [], sym, true}
+use Rattle.std.proofs.Common.{◌≡◌, [], true}
 use Rattle.words_print.proofs.Read.{read_as}
 use Rattle.words_print.proofs.line_printer.is_rewritten.Goals as goal
 

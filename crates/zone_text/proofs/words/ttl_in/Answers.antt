@@ -7,8 +7,8 @@ returns-in-Some-clause-found c =
     let short : c.in-Some.seconds ≤ 2147483647 = omega arith in
     record { time = time_within _ _ c.in-Some.ensures.found short; short = short }
 
-pub returns-in_default-seconds_of-clause-fault : goal.returns-in_default-seconds_of-clause-fault
-returns-in_default-seconds_of-clause-fault c = (refl, time_over _ c.in-Some.seconds c.in-Some.ensures.found (omega arith))
+pub returns-in_default-clause-fault : goal.returns-in_default-clause-fault
+returns-in_default-clause-fault c = (refl, time_over _ c.in-Some.seconds c.in-Some.ensures.found (omega arith))
 
-pub returns-in_default-seconds_of-2-clause-fault : goal.returns-in_default-seconds_of-2-clause-fault
-returns-in_default-seconds_of-2-clause-fault c = (refl, λ value ttl. c.in_default-seconds_of.ensures.none value ttl.time)
+pub returns-in_default-2-clause-fault : goal.returns-in_default-2-clause-fault
+returns-in_default-2-clause-fault c = (refl, λ value ttl. c.in_default.ensures.none value ttl.time)
