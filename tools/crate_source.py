@@ -127,7 +127,7 @@ def owner_of(block, module, types):
     if not found["trait"]:
         return [*types.get(words[0], module), words[0]]
     # A method of a trait has the module of the `impl`, and after the words of the type those of the trait.
-    arguments = words_in(re.sub(r"(?<=\w)<.*>(?=>)", "", found["arguments"] or ""))
+    arguments = words_in(found["arguments"] or "")
     return [*module, "".join([*words, found["trait"].rsplit("::", 1)[-1], *arguments])]
 
 
