@@ -115,6 +115,11 @@ pub record Spells (origin : Option Labels) (text : List ℕ) (labels : Labels) :
   pub written : Writes origin text labels
   pub name : IsName labels
 
+-- after the octets that were there stand those of the name that the text spells under the origin
+abbrev pub AppendsSpelled : Option Labels → List ℕ → List ℕ → List ℕ → Type 0
+AppendsSpelled origin text old new =
+    (labels : Labels) × Spells origin text labels × (new ≡ old ++ wire labels)
+
 -- the text spells the name under the origin, and all letters stay as they are written
 pub record SpellsCased (origin : Option Labels) (text : List ℕ) (labels : Labels) : Type 0 where
   pub written : WritesCased origin text labels

@@ -1,7 +1,7 @@
-ghost use Rattle.std.specs.Prelude.{◌≡◌, ◌≤◌, ◌↔◌, ◌++◌, List, [], length, IsOk, IsTrue, IfOk, IfErr, IfSome, OnOk, OnErr, Ok, option_copied};
+ghost use Rattle.std.specs.Prelude.{◌≡◌, ◌≤◌, ◌↔◌, List, [], length, IsOk, IsTrue, IfOk, IfErr, IfSome, OnOk, OnErr, Ok, option_copied};
 ghost use Rattle.zone_name.specs.Common.{Octets};
 ghost use Rattle.zone_name.specs.Name.{wire, labels_of, IsName, HoldsName, IsWithin, BeginsWithName};
-ghost use Rattle.zone_name.specs.Spelling.{Spells, SpellingFault};
+ghost use Rattle.zone_name.specs.Spelling.{AppendsSpelled, Spells, SpellingFault};
 ghost use Rattle.zone_name.specs.Machine.Letters.{origin_in};
 
 use crate::fault::NameFault;
@@ -84,9 +84,8 @@ impl Name {
         origin: Option<&Name>,
         out: &mut Vec<u8>,
     ) -> Result<Result<(), NameFault>, AllocError>
-        ensures found { IfOk result (λ read. OnOk read ((name : List Octets)
-            × Spells (option_copied origin.entry) text.now name
-            × (out.new.items ≡ out.old.items ++ wire name))) }
+        ensures found { IfOk result (λ read. OnOk read (AppendsSpelled
+            (option_copied origin.entry) text.now out.old.items out.new.items)) }
         ensures only { (name : List Octets) → Spells (option_copied origin.entry) text.now name
             → IfOk result IsOk }
         ensures fault { IfOk result (λ read.
@@ -210,11 +209,8 @@ fn push_read(
     origin: Option<&Name>,
     out: &mut Vec<u8>,
 ) -> Result<Result<(), NameFault>, AllocError>
-    ensures found { IfOk result (λ read. OnOk read ((name : List Octets)
-        × Spells (option_copied origin.entry) text.now name
-        × (out.new.items ≡ out.old.items ++ wire name))) }
-    ensures only { (name : List Octets) → Spells (option_copied origin.entry) text.now name
-        → IfOk result IsOk }
+    ensures found { IfOk result (λ read. OnOk read (AppendsSpelled
+        (option_copied origin.entry) text.now out.old.items out.new.items)) }
     ensures fault { IfOk result (λ read.
         IfErr read (SpellingFault (option_copied origin.entry) text.now)) }
 {

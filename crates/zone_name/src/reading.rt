@@ -1,8 +1,8 @@
 ghost use Rattle.std.specs.Prelude.{◌≡◌, ◌≤◌, ◌<◌, ◌+◌, ◌++◌, ◌∷◌, [], ℕ, List, true, false, drop, length, map, replicate, slice_index, take, option_copied};
 ghost use Rattle.std.specs.Prelude.{IsOk, IsTrue, IfSome, IfOk, IfErr, OnOk, OnErr, Ok, Err};
 ghost use Rattle.zone_name.specs.Common.{Labels, Octets};
-ghost use Rattle.zone_name.specs.Name.{HoldsName, folded_octet, labels_of, wire};
-ghost use Rattle.zone_name.specs.Spelling.{SpellingFault, Spells};
+ghost use Rattle.zone_name.specs.Name.{HoldsName, folded_octet, labels_of};
+ghost use Rattle.zone_name.specs.Spelling.{AppendsSpelled, SpellingFault};
 ghost use Rattle.zone_name.specs.Machine.LabelWalk.{Collects, reading, under_origin, sized};
 ghost use Rattle.zone_name.specs.Machine.Letters.{HoldsLabelsBy, HoldsNameBy, IsReadBy, SpellsBy};
 ghost use Rattle.zone_name.specs.Machine.Letters.{lettered, name_read, origin_in};
@@ -515,9 +515,8 @@ pub(crate) fn push_plain(
     out: &mut Vec<u8>,
 ) -> Result<bool, AllocError>
     requires { IfSome (option_copied origin) HoldsName }
-    ensures done { IfOk result (λ done. IsTrue done → (name : Labels)
-        × Spells (origin_in (option_copied origin.entry)) text.now name
-        × (out.new.items ≡ out.old.items ++ wire name)) }
+    ensures done { IfOk result (λ done. IsTrue done → AppendsSpelled
+        (origin_in (option_copied origin.entry)) text.now out.old.items out.new.items) }
     ensures left { IfOk result (λ done. done ≡ false → out.new.items ≡ out.old.items) }
 {
     let NameShape::Labels = shape_of(text) else {

@@ -1,6 +1,6 @@
 //! The records that a source has decided and not given yet.
 ghost use Rattle.std.specs.Prelude.{◌≡◌, ◌≤◌, ◌∷◌, ◌++◌, [], None, Some, OnOk, OnErr, option_map};
-ghost use Rattle.zone_rdata.specs.Lent.{placed_of};
+ghost use Rattle.zone_rdata.specs.Lent.{placed_of, placed_with};
 ghost use Rattle.zone_rdata.specs.Record.{IsRecord, record_with};
 ghost use Rattle.zone_rdata.specs.RrSource.{first_record, others};
 
@@ -70,8 +70,8 @@ impl RecordQueue {
         place: Place,
     ) -> Result<(), AllocError>
         requires { ttl ≤ MAX_TTL }
-        ensures appended { OnOk result (self.new ≡ self.old
-            ++ record { rr = record_with owner.now ttl rdata; place = place } ∷ []) }
+        ensures appended { OnOk result (self.new
+            ≡ self.old ++ placed_with owner.now ttl rdata place ∷ []) }
         ensures record { IsRecord (record_with owner.now ttl rdata) }
         ensures unchanged { OnErr result (self.new ≡ self.old) }
     {
@@ -179,8 +179,8 @@ fn push_slot(
     place: Place,
 ) -> Result<(), AllocError>
     requires { ttl ≤ MAX_TTL }
-    ensures appended { OnOk result (slots.new.items ≡ slots.old.items
-        ++ record { rr = record_with owner.now ttl rdata; place = place } ∷ []) }
+    ensures appended { OnOk result (slots.new.items
+        ≡ slots.old.items ++ placed_with owner.now ttl rdata place ∷ []) }
     ensures unchanged { OnErr result (slots.new.items ≡ slots.old.items) }
 {
     let rr = Rr::of_parts(owner.to_name(), ttl, rdata);

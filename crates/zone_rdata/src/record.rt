@@ -1,6 +1,6 @@
 ghost use Rattle.std.specs.Prelude.{◌≡◌, ◌<◌, ◌≤◌, ◌↔◌, IfOk, IfErr, IsOk, Err};
-ghost use Rattle.zone_rdata.specs.Lent.{placed_of, record_of};
-ghost use Rattle.zone_rdata.specs.Record.{Record, IsRecord, data_of, record_with};
+ghost use Rattle.zone_rdata.specs.Lent.{placed_of, placed_with, record_of};
+ghost use Rattle.zone_rdata.specs.Record.{Record, IsRecord, data_of};
 
 use crate::class::Class;
 use crate::fault::{Fault, Place};
@@ -187,7 +187,7 @@ impl Placed {
     /// place. The owner is written in place.
     pub(crate) fn set(&mut self, owner: &NameRef<'_>, ttl: u32, rdata: Rdata, place: Place)
         requires { ttl ≤ MAX_TTL }
-        ensures { self.new ≡ record { rr = record_with owner.now ttl rdata; place = place } }
+        ensures { self.new ≡ placed_with owner.now ttl rdata place }
     {
         let _ = owner.wire();
         rdata.known();

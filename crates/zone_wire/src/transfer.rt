@@ -2,7 +2,8 @@
 ghost use Rattle.std.specs.Prelude.{◌≡◌, ◌+◌, ◌<◌, ◌≤◌, ◌^◌, [], ◌∷◌, ◌++◌, length, ◌↔◌, List, Some, None, IfErr, IsTrue, MatchOption, OnErr, OnOk, ⊤, option_map};
 ghost use Rattle.zone_rdata.specs.Cause.{fault_for};
 ghost use Rattle.zone_rdata.specs.Fault.{IfFault};
-ghost use Rattle.zone_rdata.specs.Record.{Record, record_with};
+ghost use Rattle.zone_rdata.specs.Lent.{placed_with};
+ghost use Rattle.zone_rdata.specs.Record.{Record};
 ghost use Rattle.zone_rdata.specs.declared.fault.Place.TheVariants.{Message as in_message};
 ghost use Rattle.zone_rdata.specs.declared.record.Placed.{Placed};
 ghost use Rattle.zone_wire.specs.AnswerFault.{AnswerFault};
@@ -260,10 +261,7 @@ impl Transfer {
         requires { ttl ≤ MAX_TTL }
         ensures items { OnOk result (self.new.decided.placed
             ≡ self.old.decided.placed
-            ++ record {
-              rr = record_with owner.now ttl rdata;
-              place = in_message self.old.messages offset;
-            } ∷ []) }
+            ++ placed_with owner.now ttl rdata (in_message self.old.messages offset) ∷ []) }
         ensures others { self.new ≡ record self.old { decided = self.new.decided } }
         ensures ending { self.new.decided.ending ≡ self.old.decided.ending }
     {
