@@ -1,5 +1,5 @@
 //! Laws of names, each the contract of a function that does nothing.
-ghost use Rattle.std.specs.Prelude.{◌≡◌, ◌++◌, Option, IfSome, option_map};
+ghost use Rattle.std.specs.Prelude.{◌≡◌, ◌<◌, ◌++◌, ℕ, Option, IfSome, option_map, slice_index};
 ghost use Rattle.std.specs.Cmp.{IsTotalOrder};
 ghost use Rattle.std.specs.declared.cmp.Ordering.TheVariants.{Equal};
 ghost use Rattle.zone_name.specs.Common.{AreOctets, AtMostOneIs, EitherIs, IsVerdict, Labels, NeverBothAre, Octets};
@@ -8,6 +8,15 @@ ghost use Rattle.zone_name.specs.Order.{name_cmp};
 ghost use Rattle.zone_name.specs.Spelling.{SpellingFault, Spells, SpellsCased};
 ghost use Rattle.zone_name.specs.Text.{name_text};
 ghost use Rattle.zone_name.specs.declared.fault.NameFault.{NameFault};
+
+/// Octets are below 256.
+#[inline(always)]
+pub fn are_octets(octets: &[u8])
+    ensures each { AreOctets octets.now }
+    ensures at { (i : ℕ) → slice_index octets.now i < 256 }
+{
+    let _ = octets;
+}
 
 /// Names that compare as equal are equal.
 pub fn order_is_exact()

@@ -13,10 +13,10 @@ use crate::kind::Kind;
 use crate::layout::{Layout, layout_of};
 use crate::narrow_failing::NarrowFailing;
 use crate::rdata::{LONGEST_DATA, Rdata};
-use crate::reading::are_octets;
 use crate::string::{LONGEST_STRING, push_with_length};
 use std::alloc::Global;
 use std::marker::Model;
+use zone_name::laws::are_octets;
 use zone_name::{Name, NameRef};
 
 /// Record data that is made part by part. Contracts see class, type and the parts that were pushed.

@@ -22,11 +22,12 @@ use crate::layout::{Layout, layout_of};
 use crate::minimum::last_number_of;
 use crate::narrow_failing::NarrowFailing;
 use crate::printing::push_data;
-use crate::reading::{are_octets, is_generic, octets_of_items};
+use crate::reading::{is_generic, octets_of_items};
 use crate::uncompressed::{canonical_for, canonical_of};
 use std::alloc::{AllocError, Global};
 use std::marker::Model;
 use std::mem;
+use zone_name::laws::are_octets;
 use zone_name::{Name, Sink};
 
 /// The most octets of record data: its length is a number of 16 bits (RFC 1035 3.2.1).

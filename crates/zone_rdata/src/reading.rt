@@ -1,5 +1,4 @@
 ghost use Rattle.std.specs.Prelude.{◌↔◌, ◌<◌, ◌≤◌, IsTrue, length, map, IfOk, IfErr};
-ghost use Rattle.zone_name.specs.Common.{AreOctets};
 ghost use Rattle.zone_rdata.specs.DataFault.{IsWordsFault};
 ghost use Rattle.zone_rdata.specs.Fault.{IfFault};
 ghost use Rattle.zone_rdata.specs.Item.{raw, IsGeneric};
@@ -13,13 +12,6 @@ use crate::layout::Layout;
 use crate::narrow_failing::NarrowFailing;
 use crate::rdata::LONGEST_DATA;
 use zone_name::Name;
-
-/// That octets are below 256.
-pub(crate) fn are_octets(octets: &[u8])
-    ensures { AreOctets octets.now }
-{
-    let _ = octets;
-}
 
 /// Whether the first item is the mark of the generic form, `\#` (RFC 3597 5).
 pub fn is_generic(items: &[Item]) -> bool

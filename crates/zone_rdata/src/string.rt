@@ -10,10 +10,10 @@ use crate::cause::Cause;
 use crate::fault::{Failing, Fault};
 use crate::item::Item;
 use crate::narrow_failing::NarrowFailing;
-use crate::reading::are_octets;
 use crate::unescaped::unescaped_len;
 use arrayvec::ArrayVec;
 use std::alloc::AllocError;
+use zone_name::laws::are_octets;
 use zone_name::{NextUnit, Sink, decimal_escape, next_unit};
 
 /// The most octets of a string (RFC 1035 3.3).

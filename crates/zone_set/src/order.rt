@@ -1,10 +1,10 @@
 ghost use Rattle.std.specs.Prelude.{◌≡◌, ◌≢◌, ◌⊎◌, ◌<◌, bytes_eq, length, IsTrue};
 ghost use Rattle.std.specs.Cmp.Lexicographic.{slice_cmp};
-ghost use Rattle.std.specs.List.{AllByRecursion};
 ghost use Rattle.std.specs.Ordering.{nat_cmp};
 ghost use Rattle.zone_set.specs.Machine.Octets.{AreSameButForFew};
 
 use std::cmp::Ordering;
+use zone_name::laws::are_octets;
 
 /// How octets lie as unsigned strings, a missing octet first. Mostly the first eight tell, which
 /// are compared as numbers.
@@ -93,11 +93,4 @@ fn order_after(a: &[u8], b: &[u8]) -> Ordering
         right = others;
     }
     left.cmp(right)
-}
-
-/// Does nothing, and tells contracts that octets are less than 256.
-fn are_octets(octets: &[u8])
-    ensures { AllByRecursion (λ c. c < 256) octets.now }
-{
-    let _ = octets;
 }

@@ -10,7 +10,7 @@ ghost use Rattle.zone_wire.specs.Machine.DataReading.{AwaitsStrings, IsReadyFor,
 use crate::cursor::Cursor;
 use crate::labels::LabelRoom;
 use crate::lent::RawRrRef;
-use crate::octets::are_octets;
+use zone_name::laws::are_octets;
 use zone_rdata::{Cause, Class, Field, Kind, Layout, NarrowFailing, Part, Rdata, RdataBuilder};
 
 /// Pushes the strings that are left, each after its length: one at least.

@@ -14,7 +14,6 @@ mod lent;
 mod message;
 mod name;
 mod number;
-mod octets;
 mod record;
 mod runs;
 mod spot;

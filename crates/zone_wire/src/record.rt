@@ -9,8 +9,8 @@ ghost use Rattle.zone_wire.specs.Transfer.{IsReadable, AnswerStates, ttl_of};
 use crate::answers::RawRr;
 use crate::labels::LabelRoom;
 use crate::lent::RawRrRef;
-use crate::octets::are_octets;
 use std::alloc::Global;
+use zone_name::laws::are_octets;
 use zone_rdata::{Cause, Class, Failing, Kind, MAX_TTL, NarrowFailing, Rr};
 
 /// The types whose data may hold compressed names and isn't read: MD, MF, MB, MG, MR and MINFO (RFC

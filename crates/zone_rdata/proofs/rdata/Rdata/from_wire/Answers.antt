@@ -8,7 +8,7 @@ pub invariant_of-result : goal.invariant_of-result
 invariant_of-result c = record {
   class = c.layout_of.ensures.class;
   kind = c.layout_of.ensures.kind;
-  octets = canonical_data c.args.class c.args.kind _ c.args.octets.now _ c.layout_of.ensures.fields c.in_ok-octets.ensures.found (omega arith) (subst AreOctets c.deref.ensures.value c.are_octets.ensures);
+  octets = canonical_data c.args.class c.args.kind _ c.args.octets.now _ c.layout_of.ensures.fields c.in_ok-octets.ensures.found (omega arith) (subst AreOctets c.deref.ensures.value c.are_octets.ensures.each);
 }
 
 pub returns-clause-only : goal.returns-clause-only

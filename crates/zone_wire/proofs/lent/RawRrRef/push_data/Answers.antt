@@ -17,5 +17,5 @@ returns-in-None-clause-found c =
 pub returns-in-None-clause-fault : goal.returns-in-None-clause-fault
 returns-in-None-clause-fault c =
     IfErr-fault c.push.result _ _
-    (λ fault bad. absurd (opaque_taken _ c.args.self.now c.self.view_is c.args.class c.args.kind c.requires.class c.requires.kind c.args.builder.now c.requires.new fault (rw c.requires.new at c.in-None.ensures) (data_short c.self.inside.fields.message.now c.self.inside.fields.offset _ c.are_octets.ensures c.self.invariant).1 bad))
+    (λ fault bad. absurd (opaque_taken _ c.args.self.now c.self.view_is c.args.class c.args.kind c.requires.class c.requires.kind c.args.builder.now c.requires.new fault (rw c.requires.new at c.in-None.ensures) (data_short c.self.inside.fields.message.now c.self.inside.fields.offset _ c.are_octets.ensures.at c.self.invariant).1 bad))
     c.push.ensures.fault

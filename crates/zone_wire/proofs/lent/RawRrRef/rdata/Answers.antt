@@ -5,8 +5,8 @@ use Rattle.zone_wire.proofs.lent.RawRrRef.rdata.Goals as goal
 pub returns-in_err-push_data-clause-fault : goal.returns-in_err-push_data-clause-fault
 returns-in_err-push_data-clause-fault c =
     if_fault_passed c.from_residual.result c.in_err-push_data.field-0.0 _ _ c.from_residual.ensures.1
-    (λ fault bad. data_is_refused _ c.args.self.now c.self.view_is c.self.inside.fields.offset c.are_octets.ensures c.self.invariant fault bad)
+    (λ fault bad. data_is_refused _ c.args.self.now c.self.view_is c.self.inside.fields.offset c.are_octets.ensures.at c.self.invariant fault bad)
     c.in_err-push_data.ensures.fault
 
 pub returns-in-Some-clause-found : goal.returns-in-Some-clause-found
-returns-in-Some-clause-found c = data_is_read _ c.args.self.now c.self.view_is c.self.inside.fields.offset c.are_octets.ensures c.self.invariant c.push_data.new.builder c.in-Some.rdata.octets c.in_ok-push_data.ensures.found (ap (λ (d : Data). d.octets) c.in-Some.ensures.some)
+returns-in-Some-clause-found c = data_is_read _ c.args.self.now c.self.view_is c.self.inside.fields.offset c.are_octets.ensures.at c.self.invariant c.push_data.new.builder c.in-Some.rdata.octets c.in_ok-push_data.ensures.found (ap (λ (d : Data). d.octets) c.in-Some.ensures.some)
