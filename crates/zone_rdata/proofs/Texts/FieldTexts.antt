@@ -1,5 +1,5 @@
 -- The text of data, field after field.
-use Rattle.zone_rdata.proofs.Common.{[], ◌≡◌, ◌∙◌, ◌≤◌, take-append-drop, ℕ, zero, suc, ◌+◌, ◌<◌, List, ◌∷◌, ◌++◌, length, get_or, take, drop, map, refl, sym, ap, arith, append_assoc, Some, OnOk, IsOk, encode_lower, flat_map, join_with_byte, take_at, drop_at, append-nil, take_more, Field, field_at, values_of, field_text, AreLaidOut, BeginsWithField, after_field, spaced, generic_head, laid_out_text, generic_text, common_steps, Result}
+use Rattle.zone_rdata.proofs.Common.{[], ◌≡◌, ◌∙◌, ◌≤◌, take-append-drop, ℕ, zero, suc, ◌+◌, ◌<◌, List, ◌∷◌, ◌++◌, length, get_or, take, drop, map, refl, sym, ap, arith, append_assoc, Some, encode_lower, flat_map, join_with_byte, take_at, drop_at, append-nil, Field, field_at, values_of, field_text, AreLaidOut, BeginsWithField, after_field, spaced, generic_head, laid_out_text, generic_text, common_steps}
 use Rattle.hex.specs.Hex.{encode_with}
 use Rattle.zone_name.specs.Name.{labels_of, wire, HoldsName}
 use Rattle.zone_rdata.specs.declared.field.Field.TheVariants.{Name}
@@ -71,14 +71,3 @@ pub digits_all : (whole rest text : List ℕ) → length rest ≤ 0 → HaveDigi
 unfolding encode_with
 digits_all whole [] text none so_far = sym (so_far.left ∙ append-nil text)
 digits_all whole (c ∷ rest) text none so_far = absurd (omega (arith, none))
-
--- one more octet in digits
-pub hex_more : (octets pair : List ℕ) (i c d : ℕ) → i < length octets → c ≡ get_or octets i d → pair ≡ encode_lower (c ∷ []) → encode_lower (take i octets) ++ pair ≡ encode_lower (take (i + 1) octets)
-hex_more octets pair i c d lt at is = cc (take_more octets i d lt, encode_append (take i octets) (c ∷ []))
-
-pub hex_started : [] ≡ encode_lower []
-unfolding encode_with
-hex_started = refl
-
-pub at_is_ok : {T E : Type 0} (r : Result T E) (P : Type 0) → IsOk r → OnOk r P → P
-at_is_ok r P h p = grind arith
