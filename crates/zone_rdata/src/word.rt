@@ -21,7 +21,7 @@ pub fn is_word(word: &[u8], wanted: &[u8]) -> bool
 
 /// The decimal number right after the name in any letter case, at most `CAP`. `None`: it is no such
 /// word.
-pub(crate) fn numbered(name: &[u8], word: &[u8]) -> Option<u64>
+fn numbered(name: &[u8], word: &[u8]) -> Option<u64>
     ensures found { IfSome result (IsCapped (IsNumbered name.now word.now)) }
     ensures none { IfNone result (NothingIs (IsNumbered name.now word.now)) }
 {
@@ -29,10 +29,11 @@ pub(crate) fn numbered(name: &[u8], word: &[u8]) -> Option<u64>
         return None;
     }
     let (front, digits) = word.split_at(name.len());
-    if !is_word(front, name) {
-        return None;
+    // Few words end in a digit, so this is seen first.
+    match decimal_of(digits) {
+        Some(number) if is_word(front, name) => Some(number),
+        _ => None,
     }
-    decimal_of(digits)
 }
 
 /// The first row whose mnemonic a word is, in any letter case. `None`: there is none.
@@ -59,10 +60,11 @@ pub fn number_of_word<R: Row>(rows: &[R], name: &[u8], word: &[u8]) -> Option<u6
     ensures none { IfNone result
         (NothingIs (IsWordAmong (map R.names rows.now) name.now word.now)) }
 {
-    match row_named(rows, word) {
-        Some(row) => Some(u64::from(row.number())),
-        None => numbered(name, word),
+    if let Some(number) = numbered(name, word) {
+        return Some(number);
     }
+    let row = row_named(rows, word)?;
+    Some(u64::from(row.number()))
 }
 
 /// The octets of the longest word with its number, `CLASS65535`.

@@ -1,5 +1,5 @@
 -- Words of further types: each is that of one type at most.
-use Rattle.std.proofs.Common.{[], ◌≡◌, ℕ, ◌<◌, Bool, true, ◌==◌, List, codes, Bor, Option, Some, None, refl, sym, ap, ◌∙◌, subst, arith, nat_lt}
+use Rattle.std.proofs.Common.{◌≡◌, ℕ, ◌<◌, Bool, true, ◌==◌, List, codes, Bor, Option, Some, None, refl, sym, ap, ◌∙◌, subst, arith, nat_lt}
 use Rattle.std.proofs.lemmas.Bool.{eqb-true}
 use Rattle.std.proofs.lemmas.Bool.Decides.{nat_tests}
 use Rattle.std.specs.Option.{option_copied, option_map}
@@ -8,7 +8,7 @@ use Rattle.zone_name.specs.Common.{NothingIs}
 use Rattle.zone_rdata.proofs.Words.OneWord.{is_number, own_numbers, unlike, word_once}
 use Rattle.zone_rdata.proofs.Words.Tables.{found_each, found_passes}
 use Rattle.zone_rdata.specs.Number.{IsCapped}
-use Rattle.zone_rdata.specs.Words.{IsWordAmong, by_mnemonic, by_number}
+use Rattle.zone_rdata.specs.Words.{IsWordAmong}
 use Rattle.zone_words.specs.Table.{FurtherType, IsFurtherWord, further_names, further_of, further_type, further_types}
 use Rattle.zone_words.specs.declared.table.FurtherType as code
 
@@ -57,14 +57,6 @@ no_row word n capped e f p =
 pub no_further_found : (word : List ℕ) (n : ℕ) (r : Option (Bor code.FurtherType)) → IsCapped (IsWord word) n → option_map further_of (option_copied r) ≡ further_type n → IfNone r (NothingIs (IsFurtherWord word))
 no_further_found word n None capped e = no_row word n capped (sym e)
 no_further_found word n (Some row) capped e = tt
-
--- the word of a number
-pub by_its_number : (word : List ℕ) (n : ℕ) → IsCapped (IsWordAmong [] (codes "TYPE") word) n → IsCapped (IsWord word) n
-by_its_number word n capped = (capped.0, (among capped.0 capped.1.0, capped.1.1))
-  where
-    among : (m : ℕ) → IsWordAmong [] (codes "TYPE") word m → IsWord word m
-    among m (by_mnemonic is) = absurd (let none : None ≡ Some is.name = is.row in cc)
-    among m (by_number is) = by_number is
 
 pub no_further : (word : List ℕ) → NothingIs (IsWord word) → NothingIs (IsFurtherWord word)
 no_further word none f p = none f.number p.named

@@ -55,26 +55,13 @@ pub(crate) fn further_type_numbered(number: u16) -> Option<&'static FurtherType>
     row_of(FURTHER_TYPES, number)
 }
 
-/// The number that a word stands for as a type, as `number_of_word` has it. TYPE with a number is
-/// compared with no mnemonics.
-fn number_of(word: &[u8]) -> Option<u64>
-    ensures found { IfSome result
-        (IsCapped (IsWordAmong further_names (codes "TYPE") word.now)) }
-    ensures none { IfNone result (NothingIs (IsWordAmong further_names (codes "TYPE") word.now)) }
-{
-    match number_of_word(NO_TYPES, b"TYPE", word) {
-        Some(number) => Some(number),
-        None => number_of_word(FURTHER_TYPES, b"TYPE", word),
-    }
-}
-
 /// The further type of a word in any letter case: its mnemonic, or TYPE with its number (RFC 3597
 /// 5). `None`: it is the word of none.
 pub fn further_type_of(word: &[u8]) -> Option<&'static FurtherType>
     ensures found { IfSome result (λ row. IsFurtherWord word.now (further_of row.now)) }
     ensures none { IfNone result (NothingIs (IsFurtherWord word.now)) }
 {
-    match number_of(word) {
+    match number_of_word(FURTHER_TYPES, b"TYPE", word) {
         Some(number) => further_type_counted(number),
         None => None,
     }
@@ -89,9 +76,6 @@ fn further_type_counted(number: u64) -> Option<&'static FurtherType>
         Err(_) => None,
     }
 }
-
-/// No types.
-static NO_TYPES: &[FurtherType] = &[];
 
 /// The types. The definitions have the same rows.
 #[rattlefmt::skip]
