@@ -51,6 +51,7 @@ pub mod KeptRecords
 pub mod Turns
 pub mod GivenTokens
 mod PlainLines
+mod PlainOctets
 pub mod BecomesOnce
 pub mod Moved
 pub mod Registered

@@ -1,14 +1,12 @@
 -- The tokens of octets of which all items are bare and parted by blanks, and a line feed.
-use Rattle.std.proofs.Common.{[], Bool, List, ap, cond, false, length, map, nat_eq, refl, subst, sym, true, ℕ, ◌++◌, ◌+◌, ◌<◌, ◌≤◌, ◌==◌, ◌||◌, ◌∙◌, ◌∷◌, ◌≡◌, arith, append-nil, drop, get_or}
-use Rattle.std.proofs.lemmas.Bool.{eqb-true}
-use Rattle.std.proofs.lemmas.List.{drop_all}
+use Rattle.std.proofs.Common.{[], Bool, List, ap, cond, false, length, map, not, refl, subst, sym, true, ℕ, ◌++◌, ◌==◌, ◌&&◌, ◌∙◌, ◌∷◌, ◌≡◌, arith}
+use Rattle.std.proofs.lemmas.Bool.{and_parts, eqb-true, false≢true}
 use Rattle.std.proofs.lemmas.List.Elements.{filter-append}
-use Rattle.std.proofs.lemmas.List.Folds.{list_any-append}
+use Rattle.std.proofs.lemmas.List.Folds.{list_all-append}
 use Rattle.std.proofs.lemmas.List.Sums.{length-filter}
 use Rattle.std.specs.Prelude.{filter}
-use Rattle.std.specs.List.{AllByRecursion, list_any}
+use Rattle.std.specs.List.{AllByRecursion, list_all}
 use Rattle.zone_name.specs.Spelling.{Written, decimal, escaped, plain, written_text}
-use Rattle.zone_rdata.proofs.Lists.{from_place}
 use Rattle.zone_rdata.specs.Item.{raw}
 use Rattle.zone_rdata.specs.Item as items
 use Rattle.zone_rdata.specs.declared.item.Item.{Item}
@@ -16,47 +14,29 @@ use Rattle.zone_text.proofs.Tokens.Cuttings.{follow_after}
 use Rattle.zone_text.specs.Tokens.{AllFollow, AreTokensOf, IsToken, Token, bare, blank, closing, comment, ends_item, is_blank, line_feed, opening, quoted, text}
 use Rattle.zone_words.specs.DataItem.{TouchingItem, given, items_of}
 use Rattle.zone_words.specs.Entry.{AreOnOneLine, touching_items}
-use Rattle.zone_words.specs.Machine.PlainLines.{IsPlainLine, Lacks, parted}
+use Rattle.zone_words.specs.Machine.PlainLines.{ArePlain, IsPlainLine, is_plain, is_unmarked, parted}
 use Rattle.zone_words.specs.Machine.Walking.{BeginsBlank}
 use Rattle.zone_words.specs.Written.{stays}
 use Rattle.zone_words.specs.declared.data_item.DataItem.{DataItem}
 
--- ---- octets that are lacking
-
-or_right : (a b : Bool) → (a || b) ≡ false → b ≡ false
-or_right true b none = absurd cc
-or_right false b none = none
-
-lacks_back : (c : ℕ) (front back : List ℕ) → Lacks c (front ++ back) → Lacks c back
-lacks_back c front back none =
-    or_right (list_any (λ y. nat_eq y c) front) (list_any (λ y. nat_eq y c) back) (sym (list_any-append (λ y. nat_eq y c) front back) ∙ none)
-
-both_lack : (c : ℕ) (front back : List ℕ) → Lacks c front → Lacks c back → Lacks c (front ++ back)
-both_lack c front back one two =
-    list_any-append (λ y. nat_eq y c) front back ∙ ap (λ b. b || list_any (λ y. nat_eq y c) back) one ∙ two
+-- ---- octets without marks
 
 -- no quote, parenthesis or semicolon is among the octets
-record HaveNoMarks (octets : List ℕ) : Type 0 where
-  quote : Lacks 34 octets
-  opening : Lacks 40 octets
-  closing : Lacks 41 octets
-  semicolon : Lacks 59 octets
+abbrev HaveNoMarks : List ℕ → Type 0
+HaveNoMarks octets = list_all is_unmarked octets ≡ true
 
 marks_behind : (front back : List ℕ) → HaveNoMarks (front ++ back) → HaveNoMarks back
-marks_behind front back none = record {
-  quote = lacks_back 34 front back none.quote;
-  opening = lacks_back 40 front back none.opening;
-  closing = lacks_back 41 front back none.closing;
-  semicolon = lacks_back 59 front back none.semicolon;
-}
+marks_behind front back none = (and_parts (list_all is_unmarked front) (list_all is_unmarked back) (sym (list_all-append is_unmarked front back) ∙ none)).1
+
+unmarked : (octets : List ℕ) → ArePlain octets → HaveNoMarks octets
+unmarked [] all = refl
+unmarked (c ∷ octets) all =
+    let parts = and_parts (is_plain c) (list_all is_plain octets) all in
+    rw ((and_parts (is_unmarked c) (not (c == 10)) parts.0).0) (unmarked octets parts.1)
 
 no_marks : (octets : List ℕ) → IsPlainLine octets → HaveNoMarks octets
-no_marks octets line = subst HaveNoMarks (sym line.whole) (record {
-  quote = both_lack 34 line.front (10 ∷ []) line.plain.quote refl;
-  opening = both_lack 40 line.front (10 ∷ []) line.plain.opening refl;
-  closing = both_lack 41 line.front (10 ∷ []) line.plain.closing refl;
-  semicolon = both_lack 59 line.front (10 ∷ []) line.plain.semicolon refl;
-})
+no_marks octets line = subst HaveNoMarks (sym line.whole)
+    (list_all-append is_unmarked line.front (10 ∷ []) ∙ ap (λ b. b && true) (unmarked line.front line.plain))
 
 -- ---- no item directly follows another
 
@@ -85,10 +65,10 @@ items_apart touches (bare units ∷ more) none follow first =
     let rest = items_apart true more (marks_behind (written_text units) (text more) none) (follow_after (bare units) more follow) (λ is. absurd (bare_after units more follow is)) in
     ap (λ t. parted (items.bare (written_text units)) ∷ t) rest
     ∙ ap (λ b. record { item = items.bare (written_text units); touches = b } ∷ touching_items true more) (sym (first refl))
-items_apart touches (opening ∷ more) none follow first = absurd (let clash = none.opening in cc)
-items_apart touches (closing ∷ more) none follow first = absurd (let clash = none.closing in cc)
-items_apart touches (comment octets ∷ more) none follow first = absurd (let clash = none.semicolon in cc)
-items_apart touches (quoted units ∷ more) none follow first = absurd (let clash = none.quote in cc)
+items_apart touches (opening ∷ more) none follow first = absurd (false≢true none)
+items_apart touches (closing ∷ more) none follow first = absurd (false≢true none)
+items_apart touches (comment octets ∷ more) none follow first = absurd (false≢true none)
+items_apart touches (quoted units ∷ more) none follow first = absurd (false≢true none)
 
 blank_first : (tokens : List Token) (octets : List ℕ) → octets ≡ text tokens → BeginsBlank octets true → AllByRecursion IsToken tokens → begins_bare tokens ≡ true → ⊥
 blank_first (bare [] ∷ more) octets whole begins each is = omega (arith, each.0.0)
@@ -123,17 +103,6 @@ given_more (first ∷ found) item others = ap (λ t. given first ∷ t) (given_m
 abbrev pub ArePartedTo : List Item → List Item → List DataItem → Type 0
 ArePartedTo items rest found = map given found ++ map parted (map raw rest) ≡ map parted (map raw items)
 
-pub parted_more : (items : List Item) (i : ℕ) (item d : Item) (found more_found : List DataItem) → i < length items → item ≡ get_or items i d → more_found ≡ found ++ record { item = item; touches = false } ∷ [] → ArePartedTo items (drop i items) found → ArePartedTo items (drop (i + 1) items) more_found
-parted_more items i item d found more_found lt at pushed have =
-    ap (λ t. map given t ++ map parted (map raw (drop (i + 1) items))) pushed
-    ∙ given_more found (record { item = item; touches = false }) (map parted (map raw (drop (i + 1) items)))
-    ∙ ap (λ t. map given found ++ map parted (map raw t)) (sym (from_place items i item d lt at))
-    ∙ have
-
-pub parted_all : (items : List Item) (i : ℕ) (found : List DataItem) → length items ≤ i → ArePartedTo items (drop i items) found → map given found ≡ map parted (map raw items)
-parted_all items i found past have =
-    sym (append-nil (map given found)) ∙ ap (λ t. map given found ++ map parted (map raw t)) (sym (drop_all i items past)) ∙ have
-
 -- ---- the line feed stays
 
 abbrev is_feed : ℕ → Bool
@@ -158,23 +127,25 @@ feeds_stay touches (bare units ∷ more) each one none =
     feeds_stay true more each.1 one.1 (marks_behind (written_text units) (text more) none)
     ∙ ap (λ t. t ++ filter is_feed (text more)) (sym (none_long (filter is_feed (written_text units)) (length-filter is_feed (written_text units) ∙ one.0)))
     ∙ sym (filter-append is_feed (written_text units) (text more))
-feeds_stay touches (opening ∷ more) each one none = absurd (let clash = none.opening in cc)
-feeds_stay touches (closing ∷ more) each one none = absurd (let clash = none.closing in cc)
-feeds_stay touches (comment octets ∷ more) each one none = absurd (let clash = none.semicolon in cc)
-feeds_stay touches (quoted units ∷ more) each one none = absurd (let clash = none.quote in cc)
+feeds_stay touches (opening ∷ more) each one none = absurd (false≢true none)
+feeds_stay touches (closing ∷ more) each one none = absurd (false≢true none)
+feeds_stay touches (comment octets ∷ more) each one none = absurd (false≢true none)
+feeds_stay touches (quoted units ∷ more) each one none = absurd (false≢true none)
 
-none_step : (b others : Bool) (c : ℕ) (rest : List ℕ) → (b || others) ≡ false → (others ≡ false → rest ≡ []) → cond b (c ∷ rest) rest ≡ []
-none_step true others c rest none more = absurd cc
-none_step false others c rest none more = more none
+none_step : (b : Bool) (c : ℕ) (rest : List ℕ) → not b ≡ true → rest ≡ [] → cond b (c ∷ rest) rest ≡ []
+none_step true c rest none more = absurd (false≢true none)
+none_step false c rest none more = more
 
-no_feeds : (octets : List ℕ) → Lacks 10 octets → filter is_feed octets ≡ []
-no_feeds [] none = refl
-no_feeds (c ∷ octets) none = none_step (nat_eq c 10) (list_any (λ y. nat_eq y 10) octets) c (filter is_feed octets) none (no_feeds octets)
+no_feeds : (octets : List ℕ) → ArePlain octets → filter is_feed octets ≡ []
+no_feeds [] all = refl
+no_feeds (c ∷ octets) all =
+    let parts = and_parts (is_plain c) (list_all is_plain octets) all in
+    none_step (is_feed c) c (filter is_feed octets) (and_parts (is_unmarked c) (not (c == 10)) parts.0).1 (no_feeds octets parts.1)
 
 pub line_stays : (octets staying : List ℕ) (items : List Item) (all_tokens : List Token) → IsPlainLine octets → staying ≡ 10 ∷ [] → AreTokensOf octets all_tokens → map raw items ≡ items_of (touching_items true all_tokens) → AreOnOneLine (map raw items) → staying ≡ text (filter stays all_tokens)
 line_stays octets staying items all_tokens line is are same one =
     is
-    ∙ ap (λ t. t ++ 10 ∷ []) (sym (no_feeds line.front line.plain.line_feed))
+    ∙ ap (λ t. t ++ 10 ∷ []) (sym (no_feeds line.front line.plain))
     ∙ sym (filter-append is_feed line.front (10 ∷ []))
     ∙ ap (filter is_feed) (sym line.whole ∙ are.whole)
     ∙ sym (feeds_stay true all_tokens are.each (subst AreOnOneLine same one) (subst HaveNoMarks are.whole (no_marks octets line)))

@@ -4,11 +4,12 @@ ghost use Rattle.zone_rdata.specs.Item.{raw};
 ghost use Rattle.zone_text.specs.Tokens.{Token, AreTokensOf, text};
 ghost use Rattle.zone_words.specs.DataItem.{given, items_of};
 ghost use Rattle.zone_words.specs.Entry.{AreOnOneLine, touching_items};
-ghost use Rattle.zone_words.specs.Machine.PlainLines.{ArePlain, IsPlainLine, parted};
+ghost use Rattle.zone_words.specs.Machine.PlainLines.{IsPlainLine, parted};
 ghost use Rattle.zone_words.specs.Machine.Walking.{BeginsBlank, StayingAfter};
 ghost use Rattle.zone_words.specs.Written.{stays};
 
 use crate::data_item::DataItem;
+use crate::plain_octets::are_plain;
 use std::alloc::{AllocError, Global};
 use zone_rdata::Item;
 use zone_text::{first_token, is_blank};
@@ -21,17 +22,6 @@ fn begins_with_blank(octets: &[u8]) -> bool
         Some((first, _)) => is_blank(*first),
         None => false,
     }
-}
-
-/// Whether octets have no quote, parenthesis, semicolon or line feed.
-fn are_plain(octets: &[u8]) -> bool
-    ensures { result ≡ true → ArePlain octets.now }
-{
-    !octets.contains(&b'"')
-        && !octets.contains(&b'(')
-        && !octets.contains(&b')')
-        && !octets.contains(&b';')
-        && !octets.contains(&b'\n')
 }
 
 /// Whether octets are bare items with blanks before them, and a line feed.

@@ -18,6 +18,7 @@ mod kinds;
 pub mod laws;
 mod mnemonics;
 mod parameters;
+mod plain_octets;
 mod refusal;
 mod rewriter;
 mod table;

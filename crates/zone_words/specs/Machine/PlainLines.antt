@@ -1,21 +1,20 @@
 -- Octets of which all items are bare and parted by blanks.
-use Rattle.std.specs.Prelude.{◌≡◌, ℕ, List, [], ◌∷◌, ◌++◌, true, false, nat_eq}
-use Rattle.std.specs.List.{list_any}
+use Rattle.std.specs.Prelude.{◌≡◌, ℕ, List, [], ◌∷◌, ◌++◌, Bool, true, false, not, ◌==◌, ◌||◌, ◌&&◌}
+use Rattle.std.specs.List.{list_all}
 use Rattle.zone_rdata.specs.Item.{RawItem}
 use Rattle.zone_words.specs.DataItem.{TouchingItem}
 use Rattle.zone_words.specs.Machine.Walking.{BeginsBlank}
 
--- the octet isn't among the octets
-abbrev pub Lacks : ℕ → List ℕ → Type 0
-Lacks c octets = list_any (λ y. nat_eq y c) octets ≡ false
+-- no quote, parenthesis or semicolon
+abbrev pub is_unmarked : ℕ → Bool
+is_unmarked c = not (c == 34 || c == 40 || c == 41 || c == 59)
 
--- no quote, parenthesis, semicolon or line feed is among them
-pub record ArePlain (octets : List ℕ) : Type 0 where
-  pub quote : Lacks 34 octets
-  pub opening : Lacks 40 octets
-  pub closing : Lacks 41 octets
-  pub semicolon : Lacks 59 octets
-  pub line_feed : Lacks 10 octets
+-- nor a line feed
+abbrev pub is_plain : ℕ → Bool
+is_plain c = is_unmarked c && not (c == 10)
+
+abbrev pub ArePlain : List ℕ → Type 0
+ArePlain octets = list_all is_plain octets ≡ true
 
 -- a blank, such octets, and a line feed
 pub record IsPlainLine (octets : List ℕ) : Type 0 where
