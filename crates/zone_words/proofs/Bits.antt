@@ -11,8 +11,7 @@ use Rattle.std.specs.Int.Bits.{bit_or}
 use Rattle.std.specs.List.{AllByRecursion, flat_map}
 use Rattle.zone_name.proofs.InOctets.Pushing.{AllByRecursion-append}
 use Rattle.zone_name.specs.Common.{AreOctets}
-use Rattle.zone_words.specs.Fault.{AppendsStated}
-use Rattle.zone_words.specs.Kinds.Bitmap.{AscendFrom, HasBit, HaveType, IsBitmapOf, IsWindow, Window, window_octets}
+use Rattle.zone_words.specs.Kinds.Bitmap.{AscendFrom, HasBit, HaveType, IsWindow, Window, window_octets}
 use Rattle.zone_words.specs.Machine.Windows.{AppendsWindow, nothing, window}
 
 -- ---- one bit more
@@ -73,10 +72,6 @@ bit_set bits old new at number place inside written same n =
 pub no_bit_in_zero : (j : ℕ) → bit_at 0 j ≡ 1 → ⊥
 no_bit_in_zero j h = grind arith
 
-pub no_window : (number : ℕ) (bits old : List ℕ) (len : ℕ) → len ≡ 0 → ((k : ℕ) → len ≤ k → get_or bits k 0 ≡ 0) → AppendsWindow number bits old old
-no_window number bits old len none zeros =
-    nothing (λ n h. no_bit_in_zero (7 - n % 8) (let z = zeros (n / 8) (omega arith) in rw z at h)) refl
-
 -- the octets up to the last that isn't 0 have all bits
 cut_octet : (bits : List ℕ) (len k : ℕ) → ((k : ℕ) → len ≤ k → get_or bits k 0 ≡ 0) → get_or (take len bits) k 0 ≡ get_or bits k 0
 cut_octet bits len k zeros =
@@ -115,17 +110,6 @@ pub record HavePushed (bits old new : List ℕ) (count : ℕ) : Type 0 where
   pub ascend : AscendFrom 0 windows
   pub below : AllByRecursion (λ w. w.number < count) windows
   pub types : (n : ℕ) → HaveType windows n ↔ ((n / 256 < count) × HasBit bits n)
-
-pub none_pushed : (bits old : List ℕ) → HavePushed bits old old 0
-none_pushed bits old =
-    record {
-      windows = [];
-      written = sym (append-nil old);
-      each = tt;
-      ascend = tt;
-      below = tt;
-      types = λ n. (λ none. absurd none, λ has. absurd (omega (arith, has.0)));
-    }
 
 ascend_more : (least count : ℕ) (windows : List Window) (w : Window) → AscendFrom least windows → AllByRecursion (λ v. v.number < count) windows → least ≤ w.number → count ≤ w.number → AscendFrom least (windows ++ w ∷ [])
 ascend_more least count [] w up below from more = (from, tt)
@@ -212,26 +196,6 @@ more_pushed bits octets old mid new count those have (window w is number same wr
               inr (here ∙ sym number, (same (n % 256)).1 (those_bits octets bits count n those here ∙ has.1))
         ]),
       );
-    }
-
-pub all_pushed : (bits old new : List ℕ) (count : ℕ) → length bits ≤ count * 32 → HavePushed bits old new count → AppendsStated (IsBitmapOf (HasBit bits)) old new
-all_pushed bits old new count all have =
-    record {
-      octets = flat_map window_octets have.windows;
-      stated = record {
-        windows = have.windows;
-        parts = refl;
-        each = have.each;
-        ascend = have.ascend;
-        types = λ n. (
-          λ among. ((have.types n).0 among).1,
-          λ has. (have.types n).1 (elim (cases_lt (n / 8) (length bits)) [
-            | inl inside ↦ (omega arith, has)
-            | inr past ↦ absurd (no_bit_in_zero (7 - n % 8) (let z = get_or_past bits (n / 8) 0 past in rw z at has))
-          ]),
-        );
-      };
-      written = have.written;
     }
 
 pub those_of : (bits : List ℕ) (count first end : ℕ) → first ≡ count * 32 → end ≡ min (length bits) (first + 32) → AreThose (take (end - first) (drop first bits)) bits count

@@ -386,9 +386,6 @@ pub record HasFed (old now : FedWriter) (piece rest : List ℕ) : Type 0 where
   pub whole : piece ≡ front ++ rest
   pub follow : FollowOn old front now
 
-pub fed_none : (w : FedWriter) (piece : List ℕ) → HasFed w w piece piece
-fed_none w piece = record { front = []; whole = refl; follow = λ origin fed given h. subst (λ t. HasWritten origin w t given) (sym (append-nil fed)) h }
-
 pub fed_on : (old now new : FedWriter) (piece rest left : List ℕ) → HasFed old now piece rest → TakesFront now rest left new → HasFed old new piece left
 fed_on old now new piece rest left has front = record {
   front = has.front ++ front.part;

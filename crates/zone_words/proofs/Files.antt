@@ -1,6 +1,6 @@
 -- Entries and what becomes of them, one by one, and the whole text.
 use Rattle.zone_text.proofs.Common.{Breaks, Cut, Cuts, Entry, Fault, IsOneEntry, List, Token, [], add_assoc, and_last, ap, append-nil, append_assoc, arith, cut_from, entry_of, flat_map, flat_map-append, inl, numbered, refl, reverse, rules, subst, sum_by-append, sym, text, zero, ℕ, ◌++◌, ◌+◌, ◌∙◌, ◌∷◌, ◌≡◌}
-use Rattle.zone_text.proofs.Tokens.CutAgain.{joined, AreEnded, again_zero, cut_whole, cut_ended}
+use Rattle.zone_text.proofs.Tokens.CutAgain.{joined, AreEnded, again_zero, cut_whole}
 use Rattle.zone_text.proofs.Files.Left.{IsSplit, break_more, cut_more, ended_as_before, line_feeds, one_ended, split, text_of_entries, turned}
 use Rattle.zone_text.proofs.Entries.Begun.{no_tokens}
 use Rattle.zone_words.specs.Rewriting.{AreEntries, Becomes, EachBecomes, IsRewritten, Outcome, Refused, told_of, written_of, whole, broken}
@@ -42,18 +42,6 @@ module _ (Is : Becomes) where
     where
       lines_on : (line : ℕ) (a b : List ℕ) → line + line_feeds (a ++ b) ≡ line + line_feeds a + line_feeds b
       lines_on line a b = search (rules, add_assoc, sum_by-append)
-
-  pub done_none : (octets : List ℕ) → HasDone octets octets [] []
-  done_none octets = record {
-    done = [];
-    begun = refl;
-    ended = [];
-    outcomes = [];
-    parts = record { whole = refl; front = no_tokens; stays = cut_ended zero [] };
-    each = tt;
-    new_is = refl;
-    told_is = refl;
-  }
 
   -- what becomes of an entry after those before the rest
   pub record NextBecomes (ended : List (List Token)) (entry : List Token) (old new : List ℕ) (told now : List Refused) : Type 0 where

@@ -25,10 +25,6 @@ OriginAfter origin before items name =
 pub origin_stays : (origin : Labels) (before : List Entry) (entry : Entry) (found : Option Labels) → origin_items (statement_of entry) ≡ None → IsOneOrNone (IsCasedOrigin origin before) found → IsOneOrNone (IsCasedOrigin origin (entry ∷ before)) found
 origin_stays origin before entry found other is = subst (λ items. IsOneOrNone (OriginAfter origin before items) found) (sym other) is
 
--- the class where it is no record
-pub class_stays : (before : List Entry) (entry : Entry) (is : Bool) → class_word (statement_of entry) ≡ None → IsInternetAfter (latest class_word before) true is → IsInternetAfter (latest class_word (entry ∷ before)) true is
-class_stays before entry is other internet = rw other internet
-
 class_next : (word last : Option (List ℕ)) (was is : Bool) → IsInternetAfter last true was → IsInternetAfter word was is → IsInternetAfter (option_or word last) true is
 class_next None None was is before after = after ∙ before
 class_next None (Some text) was is before after = subst (λ b. IsInternetAfter (Some text) true b) (sym after) before
@@ -39,13 +35,6 @@ pub record_follows : (origin : Labels) (before : List Entry) (entry : Entry) (wa
 record_follows origin before entry was next items parts word same other stated are is after has = record {
   under = subst (IsOneOrNone (IsCasedOrigin origin (entry ∷ before))) (sym same) (origin_stays origin before entry was.origin other has.under);
   internet = (let w : class_word (statement_of entry) ≡ word = stated ∙ are.class ∙ sym is in subst (λ t. IsInternetAfter (option_or t (latest class_word before)) true next.is_internet) (sym w) (class_next word (latest class_word before) was.is_internet next.is_internet has.internet after));
-}
-
--- another entry, which is no `$ORIGIN`
-pub other_follows : (origin : Labels) (before : List Entry) (entry : Entry) (i : Inherited) → origin_items (statement_of entry) ≡ None → class_word (statement_of entry) ≡ None → IsInherited origin before i → IsInherited origin (entry ∷ before) i
-other_follows origin before entry i none other has = record {
-  under = origin_stays origin before entry i.origin none has.under;
-  internet = class_stays before entry i.is_internet other has.internet;
 }
 
 next_under : (origin : Labels) (before : List Entry) (items : List RawItem) (was found : Option Labels) → IsOneOrNone (IsCasedOrigin origin before) was → ((a b : Labels) → IsCasedOrigin origin before a → IsCasedOrigin origin before b → a ≡ b) → IsOneOrNone (λ name. (held : Labels) × (was ≡ Some held) × NamesOrigin held items name) found → IsOneOrNone (λ name. (above : Labels) × IsCasedOrigin origin before above × NamesOrigin above items name) found

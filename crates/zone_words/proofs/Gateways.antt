@@ -1,5 +1,5 @@
 -- Fields that depend on the items before them, and what their items state.
-use Rattle.std.proofs.Common.{[], ◌≡◌, ℕ, ◌<◌, ◌≤◌, ◌==◌, Bool, true, false, List, ◌∷◌, min, Option, Some, None, refl, sym, ap, ◌∙◌, subst, arith}
+use Rattle.std.proofs.Common.{[], ◌≡◌, ℕ, ◌<◌, ◌==◌, Bool, true, false, List, ◌∷◌, min, Option, Some, None, refl, sym, ap, ◌∙◌, arith}
 use Rattle.std.proofs.lemmas.Bool.{eqb-true}
 use Rattle.std.specs.List.{AllByRecursion, list_all}
 use Rattle.std.specs.Option.{option_map}
@@ -37,13 +37,6 @@ pub capped_over : (text : List ℕ) (most : ℕ) (number : Option ℕ) (fault : 
 capped_over text most None fault small found none over = rw over (no_digits none)
 capped_over text most (Some n) fault small found none over =
     rw over.0 (too_great found.0 found.1.0 (let e = found.1.1 in let more = over.1 in omega arith))
-
-pub capped_up_to : (text : List ℕ) (most n : ℕ) (number : Option ℕ) (octets_of : ℕ → List ℕ) → most < 4294967296 → IfSome number (IsCapped (IsDecimal text)) → number ≡ Some n → n ≤ most → StatesUpTo most octets_of text (octets_of n)
-capped_up_to text most n None octets_of small found is few = absurd cc
-capped_up_to text most n (Some m) octets_of small found is few =
-    let same : m ≡ n = cc in
-    let own : found.0 ≡ n = let e = found.1.1 in omega arith in
-    record { number = n; stated = subst (IsDecimal text) own found.1.0; few = few; value = refl }
 
 -- ---- the number of an item
 

@@ -19,9 +19,6 @@ pub record AreFound (rest : List ℕ) (touches : Bool) (found : List DataItem) (
 abbrev pub FindsTo : List ℕ → List ℕ → Bool → List DataItem → Type 0
 FindsTo octets rest touches found = (all : List Token) → AreTokensOf octets all → AreFound rest touches found all
 
-pub finds_first : (octets : List ℕ) → FindsTo octets octets true []
-finds_first octets all are = record { more = all; are = are; whole = refl }
-
 finds_by : (octets rest left : List ℕ) (raws : List RawItem) (touches after : Bool) (found more_found : List DataItem) (all : List Token) → 0 < length rest → FrontIs rest raws left → ((p : Token) (more : List Token) → raws ≡ item_of p → map given more_found ++ touching_items after more ≡ map given found ++ touching_items touches (p ∷ more)) → (at : AreFound rest touches found all) → (more : List Token) → at.more ≡ more → AreFound left after more_found all
 finds_by octets rest left raws touches after found more_found all some first step at [] e = absurd (no_tokens rest some (subst (AreTokensOf rest) e at.are))
 finds_by octets rest left raws touches after found more_found all some first step at (p ∷ more) e =

@@ -31,19 +31,8 @@ joined_more items i item d piece text new lt found is have grown = grind (arith,
 quoted_front : (items rest : List RawItem) (piece text : List ℕ) → HaveJoined items (quoted piece ∷ rest) text → (whole : List ℕ) → Joined items whole → ⊥
 quoted_front items rest piece text have whole joined = (have.front joined.each).0
 
--- a quoted item joins to no text
-pub joined_quoted : (items : List DataItem) (i : ℕ) (item d : DataItem) (piece text : List ℕ) → i < length items → item ≡ get_or items i d → raw_item item ≡ quoted piece → HaveJoined (map raw_item items) (map raw_item (drop i items)) text → (whole : List ℕ) → Joined (map raw_item items) whole → ⊥
-joined_quoted items i item d piece text lt found is have = grind (arith, common_steps, from_place, quoted_front)
-
 pub joined_all : (items : List DataItem) (i : ℕ) (text : List ℕ) → length items ≤ i → HaveJoined (map raw_item items) (map raw_item (drop i items)) text → Joined (map raw_item items) text
 joined_all items i text past have = grind (arith, drop_all i items past, append-nil text)
-
--- one item alone
-pub joined_single : (items : List RawItem) (text : List ℕ) → items ≡ bare text ∷ [] → Joined items text
-joined_single items text is = rw is (record { each = (tt, tt); joins = sym (append-nil text) })
-
-pub single_quoted : (items : List RawItem) (text : List ℕ) → items ≡ quoted text ∷ [] → (whole : List ℕ) → Joined items whole → ⊥
-single_quoted items text is whole joined = let each = rw is at joined.each in each.0
 
 pub one_text : (items : List RawItem) (a b : List ℕ) → Joined items a → Joined items b → a ≡ b
 one_text items a b x y = x.joins ∙ sym y.joins
@@ -53,22 +42,7 @@ pub joined_once : (StandsFor : List ℕ → List ℕ → Type 0) → ((text a b 
 joined_once StandsFor once items a b x y =
     once y.text a b (rw (one_text items x.text y.text x.joined y.joined) at x.stands) y.stands
 
--- what stands for nothing is stated by nothing
-nothing_joined : (own : WordsFault) (StandsFor : List ℕ → List ℕ → Type 0) (items : List RawItem) (text : List ℕ) (fault : WordsFault) → Joined items text → NothingStated own (StandsFor text) fault → NothingStated own (StatesJoined StandsFor items) fault
-nothing_joined own StandsFor items text fault joined none =
-    (none.0, λ octets h. none.1 octets (rw (one_text items h.text text h.joined joined) at h.stands))
-
--- so do items fail whose text stands for nothing
-pub text_fails : (own : WordsFault) (StandsFor : List ℕ → List ℕ → Type 0) (items : List RawItem) (text : List ℕ) (fault : WordsFault) → 0 < length items → Joined items text → NothingStated own (StandsFor text) fault → FailsAs own (StatesJoined StandsFor) items fault
-text_fails own StandsFor [] text fault some joined none = absurd (omega arith)
-text_fails own StandsFor (item ∷ items) text fault some joined none = nothing_joined own StandsFor (item ∷ items) text fault joined none
-
 -- likewise for items that join to no text
 pub many_fail : (own : WordsFault) (items : List RawItem) (fault : WordsFault) → 0 < length items → NothingStated own (Joined items) fault → FailsAs own Joined items fault
 many_fail own [] fault some none = absurd (omega arith)
 many_fail own (item ∷ items) fault some none = none
-
--- a fault of joining is one of the field
-pub join_fails : (own : WordsFault) (StandsFor : List ℕ → List ℕ → Type 0) (items : List RawItem) (fault : WordsFault) → FailsAs own Joined items fault → FailsAs own (StatesJoined StandsFor) items fault
-join_fails own StandsFor [] fault h = h
-join_fails own StandsFor (item ∷ items) fault h = (h.0, λ octets stated. h.1 stated.text stated.joined)

@@ -98,19 +98,6 @@ no_bits_of text marked front family address len negated a cut after first own no
     let e = address_once family address a p.address own (own_of text front family address len negated p s same first) in
     none p.bits (subst (λ (t : List ℕ). IsDecimal t p.bits) (sym same.len_is) s.bits, subst (λ (x : Address). p.bits ≤ 8 * length (octets_of x)) (sym e) s.few)
 
-pub prefix_spelt : (text marked front family address len : List ℕ) (p : Prefix) → IsCutLast 47 text marked len → IsAfterMark marked p.negated front → IsCutFirst 58 front family address → IsOwnAddress family address p.address → AreOwnBits len p.address p.bits → SpellsPrefix text p
-prefix_spelt text marked front family address len p cut after first own bits =
-    record {
-      family = family;
-      address = address;
-      len = len;
-      parts = cut.parts ∙ ap (λ t. t ++ 47 ∷ len) (after.parts ∙ ap (λ t. mark p.negated ++ t) first.parts);
-      number = own.0;
-      is = own.1;
-      bits = bits.0;
-      few = bits.1;
-    }
-
 same_prefix : (p q : Prefix) → p.negated ≡ q.negated → p.address ≡ q.address → p.bits ≡ q.bits → p ≡ q
 same_prefix p q sign address bits =
     ap₂ (λ (x : Bool × Address) (n : ℕ). let r : Prefix = record { negated = x.0; address = x.1; bits = n } in r) (ap₂ (λ (s : Bool) (a : Address). (s, a)) sign address) bits
@@ -200,10 +187,6 @@ pub record LeadToPrefixes (items rest : List RawItem) (old new : List ℕ) : Typ
   pub octets : List ℕ
   pub written : new ≡ old ++ octets
   pub leads : (more : List ℕ) → StatesPrefixes rest more → StatesPrefixes items (octets ++ more)
-
-pub no_prefixes : (items : List RawItem) (old : List ℕ) → LeadToPrefixes items items old old
-no_prefixes items old =
-    record { octets = []; written = sym (append-nil old); leads = λ more states. states }
 
 more_by : (items rest : List RawItem) (item : RawItem) (p : Prefix) (old mid new : List ℕ) → LeadToPrefixes items (item ∷ rest) old mid → IsItemPrefix item p → AppendsStated (IsPrefixOctets p) mid new → LeadToPrefixes items rest old new
 more_by items rest item p old mid new have spells appends =

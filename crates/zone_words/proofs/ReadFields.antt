@@ -1,6 +1,6 @@
 -- Data of several fields.
 use Rattle.std.proofs.Common.{[], ◌≡◌, ◌≢◌, ℕ, suc, ◌+◌, min, Bool, true, false, ◌-◌, Some, ◌<◌, ◌≤◌, List, ◌∷◌, ◌++◌, length, get_or, take, drop, map, inl, inr, refl, sym, ap, ◌∙◌, subst, arith, append_assoc, Result}
-use Rattle.std.proofs.lemmas.List.{append-nil, drop-drop, drop_all, length-drop, length-map, drop-map, take-map}
+use Rattle.std.proofs.lemmas.List.{drop-drop, length-drop, length-map, drop-map, take-map}
 use Rattle.std.proofs.lemmas.Result.{err_from_is_err_and}
 use Rattle.std.specs.List.{slice_get}
 use Rattle.std.specs.Prelude.{IfErr, IsErrAnd, if◌then◌else◌}
@@ -22,9 +22,6 @@ use Rattle.zone_words.specs.declared.fault.WordsFault.{WordsFault}
 pub record HaveRead (origin : Labels) (fields others : List NamedField) (items left : List TouchingItem) (old now : List ℕ) : Type 0 where
   pub leads : (new : List ℕ) (rest : List TouchingItem) → AppendsParts origin others left rest now new → AppendsParts origin fields items rest old new
   pub fails : (name : List ℕ) (fault : WordsFault) → AFieldFails origin others left name fault → AFieldFails origin fields items name fault
-
-pub read_none : (origin : Labels) (fields : List NamedField) (items : List TouchingItem) (old : List ℕ) → HaveRead origin fields fields items items old old
-read_none origin fields items old = record { leads = λ new rest h. h; fails = λ name fault h. h }
 
 one_read : (origin : Labels) (fields others : List NamedField) (f : NamedField) (items left : List TouchingItem) (old now new : List ℕ) → HaveRead origin fields (f ∷ others) items left old now → AppendsStated (StatesField origin f.kind (own_items f.kind left)) now new → HaveRead origin fields others items (items_after f.kind left) old new
 one_read origin fields others f items left old now new have h = record {
@@ -72,11 +69,6 @@ data_fault_passed r e P Q is goes h = grind (arith, err_from_is_err_and)
 -- the answer of a `match`
 pub data_fault_answered : (e : DataFailing) (P Q : List ℕ → WordsFault → Type 0) → ((name : List ℕ) (fault : WordsFault) → P name fault → Q name fault) → IfDataFault P e → IfDataFault Q e
 data_fault_answered e P Q goes h = grind arith
-
-pub fields_read : (origin : Labels) (fields : List Field) (i : ℕ) (items left : List TouchingItem) (old now : List ℕ) → length fields ≤ i → HaveRead origin (map field_of fields) (map field_of (drop i fields)) items left old now → AppendsParts origin (map field_of fields) items left old now
-fields_read origin fields i items left old now past have =
-    let done : HaveRead origin (map field_of fields) [] items left old now = subst (λ rest. HaveRead origin (map field_of fields) (map field_of rest) items left old now) (drop_all i fields past) have in
-    done.leads now left (record { parts = []; each = tt; rest = refl; written = sym (append-nil now) })
 
 -- ---- what is left after the last field
 

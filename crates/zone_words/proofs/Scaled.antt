@@ -179,7 +179,3 @@ pub m_missing : (front : List ℕ) (c : ℕ) → (c == 109 || c == 77) ≡ false
 m_missing [] c is = ap (λ b. if b then [] else c ∷ []) is
 m_missing (x ∷ []) c is = ap (λ b. x ∷ (if b then [] else c ∷ [])) is
 m_missing (x ∷ y ∷ front) c is = ap (λ l. x ∷ l) (m_missing (y ∷ front) c is)
-
-pub m_absent : (text : List ℕ) → length text ≡ 0 → text ≡ without_m text
-m_absent [] none = refl
-m_absent (c ∷ text) none = absurd (omega arith)

@@ -5,11 +5,11 @@ use Rattle.zone_rdata.specs.FedSource.{is_finished}
 use Rattle.zone_rdata.specs.declared.fed.FedStatus.{FedStatus}
 use Rattle.zone_rdata.specs.declared.fed.FedStatus.TheVariants.{Finished, Open, OutOfMemory}
 use Rattle.zone_words.proofs.FedTexts.{in_part}
-use Rattle.zone_words.specs.Entry.{BecomesUnder, IsRewriting}
+use Rattle.zone_words.specs.Entry.{IsRewriting}
 use Rattle.zone_words.specs.Machine.FedWriting.{FollowInPart, FollowOn, HasWritten, HasWrittenAll, HasWrittenInPart, WritesAll, state_of}
 use Rattle.zone_words.specs.Refusal.{AreInShort}
 use Rattle.zone_words.specs.Rewriter.{HeldText, IsSoFar, RewriterState, RewritesFile, StandsForRewriting, StandsInPart, all_given, going, stopped}
-use Rattle.zone_words.specs.Rewriting.{IsRewrittenInPart, Refused}
+use Rattle.zone_words.specs.Rewriting.{Refused}
 use Rattle.zone_words.specs.declared.fed_writer.FedWriter.{FedWriter}
 use Rattle.zone_words.specs.declared.refusal.Refusals.{Refusals}
 
@@ -93,13 +93,6 @@ stands_given origin old fed given stands =
       so_far = λ e. subst (λ t. IsSoFar origin (all_given old).held fed t stands.told) same (so_given origin old.held fed (given ++ old.held.written) stands.told (stands.so_far e));
       all = λ e. subst (λ t. IsRewriting origin fed t stands.told) same (stands.all e);
     }
-
-pub part_given : (origin : Labels) (old : RewriterState) (fed given : List ℕ) → StandsInPart origin old fed given → StandsInPart origin (all_given old) fed (given ++ old.held.written)
-part_given origin old fed given stands = record {
-  told = stands.told;
-  in_short = stands.in_short;
-  part = subst (λ t. IsRewrittenInPart (BecomesUnder origin) fed t stands.told) (sym (append-nil (given ++ old.held.written))) stands.part;
-}
 
 pub stands_cleared : (origin : Labels) (held : HeldText) (n : ℕ) (status : FedStatus) (written : List ℕ) → written ≡ [] → (fed given : List ℕ) → StandsForRewriting origin (record { held = held; fed = n; status = status }) fed given → StandsForRewriting origin (record { held = record held { written = written }; fed = n; status = status }) fed (given ++ held.written)
 stands_cleared origin held n status written none fed given stands =

@@ -9,8 +9,7 @@ use Rattle.zone_words.proofs.Bitmaps.{bitmap_once}
 use Rattle.zone_words.proofs.Bits.{no_bit_in_zero}
 use Rattle.zone_words.proofs.TypeWords.{type_word_once}
 use Rattle.zone_words.specs.DataItem.{raw_item}
-use Rattle.zone_words.specs.Fault.{AppendsStated}
-use Rattle.zone_words.specs.Kinds.Bitmap.{HasBit, IsBitmapOf}
+use Rattle.zone_words.specs.Kinds.Bitmap.{HasBit}
 use Rattle.zone_words.specs.Kinds.Types.{FailsPerhapsTypes, FailsTypes, NameType, NamesAType, NamesType, StatesPerhapsTypes, StatesTypes}
 use Rattle.zone_words.specs.Machine.TypeBits.{AreBitsOf}
 use Rattle.zone_words.specs.declared.data_item.DataItem.{DataItem}
@@ -88,24 +87,6 @@ no_types items i d inside none =
     (refl, λ octets states. let has = each_at items i d inside states.each in none has.0 has.1)
 
 -- ---- the bitmap of the bits
-
-same_types : (Is Has : ℕ → Type 0) (octets : List ℕ) → ((n : ℕ) → Has n ↔ Is n) → IsBitmapOf Has octets → IsBitmapOf Is octets
-same_types Is Has octets same bitmap =
-    record {
-      windows = bitmap.windows;
-      parts = bitmap.parts;
-      each = bitmap.each;
-      ascend = bitmap.ascend;
-      types = λ n. (λ h. (same n).0 ((bitmap.types n).0 h), λ h. (bitmap.types n).1 ((same n).1 h));
-    }
-
-pub types_stated : (items : List RawItem) (bits old new : List ℕ) → AreBitsOf items bits → AppendsStated (IsBitmapOf (HasBit bits)) old new → AppendsStated (StatesPerhapsTypes items) old new
-types_stated items bits old new are appends =
-    record {
-      octets = appends.octets;
-      stated = record { each = are.each; bitmap = same_types (NameType items) (HasBit bits) appends.octets are.types appends.stated };
-      written = appends.written;
-    }
 
 -- ---- items state one bitmap
 

@@ -5,7 +5,7 @@ use Rattle.std.specs.List.{AllByRecursion}
 use Rattle.zone_name.proofs.InOctets.Pushing.{AllByRecursion-append}
 use Rattle.zone_name.proofs.Spelling.Units.{at_backslash, at_end, units_first_only}
 use Rattle.zone_name.specs.Machine.Units.{Units}
-use Rattle.zone_name.specs.Spelling.{BeginsWithUnit, IsBadEscape, IsUnit, Written, no_octet, octet_of, text_of, written_octets, written_text}
+use Rattle.zone_name.specs.Spelling.{BeginsWithUnit, IsUnit, Written, no_octet, octet_of, text_of, written_octets, written_text}
 use Rattle.zone_words.specs.Fault.{AppendsStated}
 use Rattle.zone_words.specs.Unescaped.{ComesToBadEscape, Unescaped}
 
@@ -40,10 +40,6 @@ all_written text rest old new have ends =
       };
       written = have.written;
     }
-
-pub bad_written : (text rest old new : List ℕ) → HaveWritten text rest old new → IsBadEscape rest → ComesToBadEscape text
-bad_written text rest old new have bad =
-    record { units = have.units; each = have.each; rest = rest; parts = have.parts; bad = bad }
 
 -- a text is written for one list of octets
 pub unescaped_once : (text a b : List ℕ) → Unescaped text a → Unescaped text b → a ≡ b

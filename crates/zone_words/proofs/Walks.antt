@@ -51,9 +51,6 @@ LiesAhead entry rest before left =
     → AreTokensOf entry (front ++ bare units ∷ back) → length (flat_map item_of front) ≡ before
     → IsAhead entry rest left front back units
 
-pub ahead_first : (entry : List ℕ) (before : ℕ) → LiesAhead entry entry before before
-ahead_first entry before front back units are count = record { done = []; more = front; split = refl; whole = refl; are = are; count = count }
-
 text_more : (done : List Token) (p : Token) (entry rest left : List ℕ) → entry ≡ text done ++ rest → rest ≡ token_text p ++ left → entry ≡ text (done ++ p ∷ []) ++ left
 text_more done p entry rest left whole first = grind (arith, common_steps, flat_map-append)
 
@@ -197,9 +194,6 @@ word_text octets = plain_text octets
 
 pub type_pushed : (number : ℕ) (old first new : List ℕ) → first ≡ old ++ codes "TYPE" → new ≡ first ++ decimal number → new ≡ old ++ token_text (type_token number)
 type_pushed number old first new one two = two ∙ ap (λ t. t ++ decimal number) one ∙ append_assoc old (codes "TYPE") (decimal number) ∙ ap (λ t. old ++ t) (sym (word_text (codes "TYPE" ++ decimal number)))
-
-pub hex_pushed : (old out new pair done more : List ℕ) → out ≡ old ++ done → new ≡ out ++ pair → done ++ pair ≡ more → new ≡ old ++ more
-hex_pushed old out new pair done more one two three = grind (arith, common_steps)
 
 -- the generic form, piece by piece
 generic_text : (number : ℕ) (d : List ℕ) (tokens : List Token) → text (type_token number ∷ blank 32 ∷ bare (escaped 35 ∷ []) ∷ blank 32 ∷ word d ∷ tokens) ≡ token_text (type_token number) ++ (32 ∷ 92 ∷ 35 ∷ 32 ∷ (d ++ text tokens))

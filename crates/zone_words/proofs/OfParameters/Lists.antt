@@ -1,7 +1,7 @@
 -- Lists whose texts are parted by commas.
 use Rattle.std.proofs.Common.{◌≡◌, ℕ, List, [], ◌∷◌, ◌++◌, sym, ap, ◌∙◌, subst, append_assoc, refl}
 use Rattle.std.specs.List.{AllZip, flat_map}
-use Rattle.std.proofs.lemmas.List.{append-nil, flat_map_more}
+use Rattle.std.proofs.lemmas.List.{flat_map_more}
 use Rattle.zone_name.specs.Common.{NothingIs}
 use Rattle.zone_rdata.proofs.Addresses.Cut.{split_cut, split_lacks}
 use Rattle.zone_words.specs.Fault.{AppendsStated}
@@ -45,9 +45,6 @@ pub record HasListed {X : Type 0} (Is : List ℕ → X → Type 0) (text rest : 
   pub parts : listed text ≡ before ++ listed rest
   pub each : AllZip Is before done
 
-pub lists_none : {X : Type 0} (Is : List ℕ → X → Type 0) (text : List ℕ) → HasListed Is text text []
-lists_none Is text = record { before = []; parts = refl; each = tt }
-
 pub lists_more : {X : Type 0} (Is : List ℕ → X → Type 0) (text rest front back : List ℕ) (done : List X) (x : X) → HasListed Is text rest done → IsCutFirst 44 rest front back → Is front x → HasListed Is text back (done ++ x ∷ [])
 lists_more Is text rest front back done x has cut is = record {
   before = has.before ++ front ∷ [];
@@ -76,9 +73,6 @@ pub record HasAddresses (Is : List ℕ → List ℕ → Type 0) (text rest old n
   pub done : List (List ℕ)
   pub has : HasListed Is text rest done
   pub value : new ≡ old ++ flat_map (λ address. address) done
-
-pub addresses_none : (Is : List ℕ → List ℕ → Type 0) (text old : List ℕ) → HasAddresses Is text text old old
-addresses_none Is text old = record { done = []; has = lists_none Is text; value = sym (append-nil old) }
 
 addresses_grown : (done : List (List ℕ)) (old new next octets : List ℕ) → new ≡ old ++ flat_map (λ address. address) done → next ≡ new ++ octets → next ≡ old ++ flat_map (λ address. address) (done ++ octets ∷ [])
 addresses_grown done old new next octets e f = f ∙ ap (λ t. t ++ octets) e ∙ append_assoc old _ octets ∙ ap (λ t. old ++ t) (flat_map_more (λ address. address) [] done octets)

@@ -6,7 +6,6 @@ use Rattle.std.specs.Option.{option_map}
 use Rattle.zone_name.proofs.InOctets.Pushing.{AllByRecursion-append}
 use Rattle.zone_name.specs.Common.{NothingIs}
 use Rattle.zone_name.specs.Name.{with_length}
-use Rattle.zone_words.specs.Fault.{AppendsStated}
 use Rattle.zone_words.specs.Machine.Parameters.{HasNoItems}
 use Rattle.zone_words.proofs.UnescapedTexts.{unescaped_once}
 use Rattle.zone_words.specs.Parameters.Value.{items_of, IsProtocol, ListsItems, ListsProtocols}
@@ -36,18 +35,11 @@ map_first : (octets : List ℕ) (items : Option Items) → option_map (prefixed 
 map_first octets None = refl
 map_first octets (Some items) = ap Some (prefixed_first octets [] items ∙ ap (λ t. t ∷ items) (append-nil octets))
 
-map_nothing : (items : Option Items) → items ≡ option_map (prefixed []) items
-map_nothing None = refl
-map_nothing (Some items) = refl
-
 -- the octets of the first item up to a place
 pub record HasItem (text rest item : List ℕ) : Type 0 where
   pub items : items_of false text ≡ option_map (prefixed item) (items_of false rest)
   pub within : length rest ≤ length text
   pub short : length item ≤ 255
-
-pub item_none : (text : List ℕ) → HasItem text text []
-item_none text = record { items = map_nothing (items_of false text); within = omega arith; short = omega arith }
 
 pub item_more : (text rest after item : List ℕ) (c : ℕ) → HasItem text rest item → (items_of false rest ≡ option_map (onto_first c) (items_of false after)) × (length after < length rest) → length item < 255 → HasItem text after (item ++ c ∷ [])
 item_more text rest after item c has next room = record {
@@ -76,16 +68,8 @@ none_at_first item None found stops e each = absurd cc
 none_at_first item (Some items) [] stops e each = absurd cc
 none_at_first item (Some items) (first ∷ found) stops e each = stops (subst IsProtocol (let same : Some (item ∷ items) ≡ Some (first ∷ found) = e in cc) each.0)
 
-pub empty_ends : (text rest item : List ℕ) → HasItem text rest item → rest ≡ [] → length item ≡ 0 → HasNoItems text
-empty_ends text rest item has ended empty found e each = none_at_first item (Some []) found (λ is. omega (arith, is.0, empty)) (sym (first_ended text rest item has ended) ∙ e) each
-
 pub empty_parts : (text rest after item : List ℕ) → HasItem text rest item → rest ≡ 44 ∷ after → length item ≡ 0 → HasNoItems text
 empty_parts text rest after item has comma empty found e each = none_at_first item (items_of false after) found (λ is. omega (arith, is.0, empty)) (sym (first_parted text rest after item has comma) ∙ e) each
-
-pub item_stops : (text rest item : List ℕ) → HasItem text rest item → items_of false rest ≡ None → HasNoItems text
-item_stops text rest item has none found e each =
-    let nothing : items_of false text ≡ None = has.items ∙ ap (option_map (prefixed item)) none in
-    absurd cc
 
 long_first : (item : List ℕ) (items : Option Items) (found : Items) (c : ℕ) → length item ≡ 255 → option_map (prefixed (item ++ c ∷ [])) items ≡ Some found → AllByRecursion IsProtocol found → ⊥
 long_first item None found c full e each = absurd cc
@@ -131,18 +115,6 @@ items_more text rest after item old new next has first grown = record {
   items = has.items ∙ ap (option_map (λ more. has.done ++ more)) first.2 ∙ map_append has.done item (items_of false after);
   each = AllByRecursion-append IsProtocol has.done (item ∷ []) has.each (first.0, tt);
   value = items_grown has.done item old new next has.value grown;
-}
-
-pub items_all : (text rest item old new next : List ℕ) → HasItems text rest old new → IsProtocol item × (items_of false rest ≡ Some (item ∷ [])) → next ≡ (new ++ length item ∷ []) ++ item → AppendsStated (ListsItems text) old next
-items_all text rest item old new next has first grown = record {
-  octets = flat_map with_length (has.done ++ item ∷ []);
-  stated = record {
-    protocols = has.done ++ item ∷ [];
-    items = has.items ∙ ap (option_map (λ more. has.done ++ more)) first.1;
-    each = AllByRecursion-append IsProtocol has.done (item ∷ []) has.each (first.0, tt);
-    value = refl;
-  };
-  written = items_grown has.done item old new next has.value grown;
 }
 
 each_back : (done items : Items) → AllByRecursion IsProtocol (done ++ items) → AllByRecursion IsProtocol items
