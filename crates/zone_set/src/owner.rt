@@ -1,4 +1,5 @@
 ghost use Rattle.std.specs.Prelude.{◌≡◌, ◌<◌, List, ℕ, length, IfSome, IsTrue};
+ghost use Rattle.zone_name.specs.Name.{labels_of};
 ghost use Rattle.zone_name.specs.Order.{name_cmp};
 ghost use Rattle.zone_set.specs.Machine.Owner.{AreFirst, IsFirst};
 
@@ -6,24 +7,37 @@ use crate::order::{are_same, octet_order};
 use std::cmp::Ordering;
 use zone_name::NameRef;
 
-/// How owners lie. Those of one hint mostly are the same, or differ in their first label alone, or
-/// one has a label before those of the other.
+/// How owners lie.
 pub(crate) fn owner_order(owner: &NameRef<'_>, other: &NameRef<'_>) -> Ordering
     ensures { result ≡ name_cmp owner.now other.now }
 {
-    let (a, b) = (owner.wire(), other.wire());
-    if are_same(a, b) {
-        return Ordering::Equal;
-    }
-    match first_labels(a, b) {
-        Some((label, theirs)) => octet_order(label, theirs),
-        None if is_child(a, b) => Ordering::Less,
+    match order_by_first_label(owner.wire(), other.wire()) {
+        Some(order) => order,
         None => owner.cmp(other),
     }
 }
 
+/// How owners lie, if their first labels tell it. Those of one hint mostly are the same, or differ
+/// in their first label alone, or one has a label before those of the other.
+#[inline(always)]
+pub(crate) fn order_by_first_label(a: &[u8], b: &[u8]) -> Option<Ordering>
+    ensures { IfSome result (λ order. order ≡ name_cmp (labels_of a.now) (labels_of b.now)) }
+{
+    if are_same(a, b) {
+        Some(Ordering::Equal)
+    } else if let Some((label, other)) = first_labels(a, b) {
+        Some(octet_order(label, other))
+    } else if is_child(a, b) {
+        Some(Ordering::Less)
+    } else if is_child(b, a) {
+        Some(Ordering::Greater)
+    } else {
+        None
+    }
+}
+
 /// The first label of each of two names, where the same labels follow both.
-pub(crate) fn first_labels<'a, 'b>(a: &'a [u8], b: &'b [u8]) -> Option<(&'a [u8], &'b [u8])>
+fn first_labels<'a, 'b>(a: &'a [u8], b: &'b [u8]) -> Option<(&'a [u8], &'b [u8])>
     ensures { IfSome result (λ labels. AreFirst a.now b.now labels.0.now labels.1.now) }
 {
     let (label, rest) = first_label(a)?;
@@ -36,7 +50,7 @@ pub(crate) fn first_labels<'a, 'b>(a: &'a [u8], b: &'b [u8]) -> Option<(&'a [u8]
 }
 
 /// Whether the other owner has one label before those of this one.
-pub(crate) fn is_child(owner: &[u8], other: &[u8]) -> bool
+fn is_child(owner: &[u8], other: &[u8]) -> bool
     ensures { IsTrue result → (label : List ℕ) × IsFirst other.now label owner.now }
 {
     match first_label(other) {

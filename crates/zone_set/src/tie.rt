@@ -3,7 +3,7 @@ ghost use Rattle.zone_set.specs.Machine.Bulk as bulk;
 
 use crate::entry::Entry;
 use crate::order::{are_same, octet_order};
-use crate::owner::{first_label, first_labels, is_child};
+use crate::owner::{first_label, order_by_first_label};
 use std::cmp::Ordering;
 
 /// How the records of entries lie, by which they are sorted. Nothing rests on it but how soon a
@@ -52,17 +52,8 @@ pub(crate) fn stored_at<'z>(octets: &'z [u8], at: usize) -> Option<StoredParts<'
 
 /// How owners lie, by their labels from the right.
 fn owner_order(a: &[u8], b: &[u8]) -> Ordering {
-    if are_same(a, b) {
-        return Ordering::Equal;
-    }
-    if let Some((label, other)) = first_labels(a, b) {
-        return octet_order(label, other);
-    }
-    if is_child(a, b) {
-        return Ordering::Less;
-    }
-    if is_child(b, a) {
-        return Ordering::Greater;
+    if let Some(order) = order_by_first_label(a, b) {
+        return order;
     }
     let (len, other_len) = (label_count(a), label_count(b));
     let mut labels = past(a, len.saturating_sub(other_len));
