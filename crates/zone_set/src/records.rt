@@ -68,6 +68,7 @@ impl<'z> Iterator for Records<'z> {
 
     ghost remaining = { item_count (λ s. s) };
 
+    #[inline(always)]
     fn next(&mut self) -> Option<RrRef<'z>> {
         let (heads, entries) = (&mut self.heads, &mut self.entries);
         self.gone = read_ahead(self.class, self.octets, heads, self.gone, entries);
@@ -77,7 +78,8 @@ impl<'z> Iterator for Records<'z> {
     }
 }
 
-/// Reads the next heads where all are gone, and answers how many are gone then.
+/// Reads the next heads where all are gone, and answers how many are gone then. There is none only
+/// where no entry is left.
 fn read_ahead(
     class: Class,
     octets: &[u8],
@@ -98,26 +100,12 @@ fn read_ahead(
     if gone < heads.len() {
         return gone;
     }
-    *heads = next_heads(class, octets, entries);
-    0
-}
-
-/// The heads of the next records. There is none only where no entry is left.
-fn next_heads(class: Class, octets: &[u8], entries: &mut Iter<'_, Entry>) -> ArrayVec<Head, AHEAD>
-    requires { AllByRecursion (IsLinked class octets.now) entries.old }
-    ensures each { AllByRecursion (IsSeen class octets.now) result.items }
-    ensures left { AllByRecursion (IsLinked class octets.now) entries.new }
-    ensures same { all_records class octets.now entries.old
-        ≡ map (seen_record class octets.now) result.items
-        ++ all_records class octets.now entries.new }
-    ensures end { result.items ≡ [] → entries.new ≡ [] }
-{
-    let mut heads: ArrayVec<Head, AHEAD> = ArrayVec::new();
+    heads.clear();
     while !heads.is_full() {
         let Some(entry) = entries.next() else {
             break;
         };
         heads.push(head_at(octets, entry.at));
     }
-    heads
+    0
 }

@@ -2,7 +2,7 @@
 use Rattle.zone_set.proofs.Common.{◌≡◌, ◌-◌, ◌++◌, map, AllByRecursion, all_records, IsLinked}
 use Rattle.arrayvec.specs.ArrayVec.{array_vec_len}
 use Rattle.zone_set.specs.Machine.Held.{IsSeen, seen_record}
-use Rattle.zone_set.proofs.records.next_heads.Given as goal
+use Rattle.zone_set.proofs.records.read_ahead.Given as goal
 
 abbrev pub invariant-loop-entries : goal.invariant-loop-entries
 invariant-loop-entries l = record {
