@@ -3,3 +3,4 @@ pub mod Comparing
 pub mod OctetLanes
 pub mod Octets
 pub mod Pushing
+pub mod Runs

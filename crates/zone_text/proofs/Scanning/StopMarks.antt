@@ -1,52 +1,23 @@
 -- Where bare items stop, as the bits of 64 octets tell it.
-use Rattle.std.proofs.Common.{Fits, ap₂, bit_and, bit_or, eqb, eq-eqb, w8, ◌*◌, ◌/◌, ◌%◌}
+use Rattle.std.proofs.Common.{Fits, ap₂, bit_and, bit_or, eqb, w8, ◌*◌, ◌/◌, ◌%◌}
 use Rattle.std.proofs.lemmas.Bool.{agree_below}
-use Rattle.std.proofs.lemmas.List.{drop-take, ext_get_or, get_or-map}
-use Rattle.std.proofs.lemmas.List.Folds.{prefix_len-append}
-use Rattle.std.proofs.lemmas.List.Sums.{prefix_len-le-length}
-use Rattle.std.proofs.lemmas.Nat.{and_le_r, shr-shr}
-use Rattle.std.proofs.lemmas.Simd.{Each1-all, Each1-zip2, Each2-splat, SwzOk, SwzOk-from_below, chunk-fits, get_or-swz_l_below, leading_from_mask_l, length-swz_l, length-zip2, map-map, mask_l-mod, swz_l, trailing_mask_l, zip2_of_maps, zip2_splat}
+use Rattle.std.proofs.lemmas.List.{ext_get_or, get_or-map}
+use Rattle.std.proofs.lemmas.Nat.{and_le_r}
+use Rattle.std.proofs.lemmas.Simd.{Each1-all, Each1-zip2, Each2-splat, SwzOk, SwzOk-from_below, chunk-fits, get_or-swz_l_below, length-swz_l, length-zip2, map-map, mask_l-mod, swz_l, zip2_of_maps, zip2_splat}
 use Rattle.std.specs.Int.Count.{count_trailing_zeros}
 use Rattle.std.specs.List.{prefix_len}
 use Rattle.std.specs.Prelude.{not, ◌||◌}
 use Rattle.std.specs.Simd.Lanes.{mask_l}
 use lib.Lanes.{Each1, top, zip2}
 use lib.ListN.{replicate}
-use Rattle.zone_text.proofs.Common.{common_steps, All, AllByRecursion, Bool, EndsAt, List, [], agree_below_at, and_parts, ap, arith, cases_lt, cond, drop, drop-drop, drop-map, eqb-true, false, get_or, inl, inr, length, length-drop, length-map, length-take, map, min, ne_eqb, recursion_from_All, refl, stops_bare, subst, suc, sym, take, take-append-drop, true, zero, ℕ, ◌&&◌, ◌⊎◌, ◌++◌, ◌+◌, ◌-◌, ◌<◌, ◌==◌, ◌^◌, ◌∙◌, ◌∷◌, ◌≡◌, ◌≢◌, ◌≤◌}
+use Rattle.zone_text.proofs.Common.{common_steps, All, AllByRecursion, Bool, EndsAt, List, [], agree_below_at, and_parts, ap, arith, cases_lt, cond, drop, drop-drop, eqb-true, false, get_or, inl, inr, length, length-drop, length-map, length-take, map, min, ne_eqb, recursion_from_All, refl, stops_bare, subst, suc, sym, take, true, zero, ℕ, ◌&&◌, ◌+◌, ◌-◌, ◌<◌, ◌==◌, ◌^◌, ◌∙◌, ◌∷◌, ◌≡◌, ◌≢◌, ◌≤◌}
+use Rattle.zone_name.proofs.InOctets.Runs.{after_bits, first_inside, none_inside, prefix_step}
 use Rattle.zone_text.specs.Machine.Stops.{Tells}
 use Rattle.zone_text.specs.Tokens.{is_blank}
 use Rattle.zone_text.specs.declared.stops.Stops.{Stops}
 
 abbrev pub goes_on : ℕ → Bool
 goes_on c = not (stops_bare c)
-
--- ---- bits of octets
-
-half : (b : Bool) (n : ℕ) → (cond b 1 0 + 2 * n) / 2 ≡ n
-half true n = omega arith
-half false n = omega arith
-
--- without the lowest k
-bits_after : (k : ℕ) (ms : List Bool) → mask_l ms / 2 ^ k ≡ mask_l (drop k ms)
-bits_after zero ms = omega arith
-bits_after (suc k) [] = omega arith
-bits_after (suc k) (b ∷ ms) =
-    let one_more : suc k ≡ 1 + k = omega arith in
-    ap (λ j. mask_l (b ∷ ms) / 2 ^ j) one_more ∙ sym (shr-shr (mask_l (b ∷ ms)) 1 k) ∙ ap (λ n. n / 2 ^ k) (half b (mask_l ms)) ∙ bits_after k ms
-
--- by the first octet
-prefix_step : (p : ℕ → Bool) (x : ℕ) (xs : List ℕ) → ((p x ≡ true) × (prefix_len (λ c. not (p c)) (x ∷ xs) ≡ 0)) ⊎ ((p x ≡ false) × (prefix_len (λ c. not (p c)) (x ∷ xs) ≡ suc (prefix_len (λ c. not (p c)) xs)))
-prefix_step p x xs = grind (arith, common_steps, prefix_len)
-
--- where no octet passes the test, no bit is set
-no_bits : (p : ℕ → Bool) (xs : List ℕ) → prefix_len (λ c. not (p c)) xs ≡ length xs → mask_l (map p xs) ≡ 0
-no_bits p [] all = refl
-no_bits p (x ∷ xs) all = elim (prefix_step p x xs) [
-  | inl stop ↦ absurd (omega (arith, all, stop.1))
-  | inr on ↦
-      let more : mask_l (map p xs) ≡ 0 = no_bits p xs (omega (arith, all, on.1)) in
-      ap (λ (b : Bool). cond b 1 0 + 2 * mask_l (map p xs)) on.0 ∙ omega (arith, more)
-]
 
 pub prefix_each : (xs : List ℕ) → AllByRecursion (λ c. stops_bare c ≡ false) (take (prefix_len goes_on xs) xs)
 prefix_each [] = tt
@@ -62,46 +33,10 @@ prefix_ends (x ∷ xs) = elim (prefix_step stops_bare x xs) [
   | inr on ↦ subst (λ k. EndsAt stops_bare (drop k (x ∷ xs))) (sym on.1) (prefix_ends xs)
 ]
 
--- a prefix that ends before the end of the first of two lists, or that goes on past it
-ends_inside : (q : ℕ → Bool) (xs ys : List ℕ) → prefix_len q xs < length xs → prefix_len q (xs ++ ys) ≡ prefix_len q xs
-ends_inside q xs ys less = grind (arith, common_steps, prefix_len-append, prefix_len, eqb, ne_eqb)
-
-goes_past : (q : ℕ → Bool) (xs ys : List ℕ) → prefix_len q xs ≡ length xs → prefix_len q (xs ++ ys) ≡ length xs + prefix_len q ys
-goes_past q xs ys all = prefix_len-append q xs ys ∙ ap (λ (b : Bool). cond b (length xs + prefix_len q ys) (prefix_len q xs)) (eq-eqb (prefix_len q xs) (length xs) all)
-
--- the first bit that is set is of the first octet that passes the test
-pub first_inside : (p : ℕ → Bool) (n : ℕ) (octets : List ℕ) → n ≤ 64 → n ≤ length octets → mask_l (map p (take n octets)) ≢ 0 → (count_trailing_zeros 64 (mask_l (map p (take n octets))) ≡ prefix_len (λ c. not (p c)) octets) × (prefix_len (λ c. not (p c)) octets < n)
-first_inside p n octets few within some =
-    let q : ℕ → Bool = λ c. not (p c) in
-    let front = take n octets in
-    let long : length front ≡ n = omega (arith, length-take n octets) in
-    let pos : 0 < mask_l (map p front) = omega arith in
-    let first : count_trailing_zeros 64 (mask_l (map p front)) ≡ prefix_len q front = trailing_mask_l p 64 front (omega arith) pos in
-    let other : prefix_len q front ≢ length front = λ e. some (no_bits p front e) in
-    let less : prefix_len q front < length front = omega (arith, prefix_len-le-length q front, other) in
-    let same : prefix_len q octets ≡ prefix_len q front = sym (ap (prefix_len q) (take-append-drop n octets)) ∙ ends_inside q front (drop n octets) less in
-    (first ∙ sym same, omega arith)
-
-pub none_inside : (p : ℕ → Bool) (n : ℕ) (octets : List ℕ) → n ≤ length octets → mask_l (map p (take n octets)) ≡ 0 → prefix_len (λ c. not (p c)) octets ≡ n + prefix_len (λ c. not (p c)) (drop n octets)
-none_inside p n octets within none =
-    let q : ℕ → Bool = λ c. not (p c) in
-    let front = take n octets in
-    let long : length front ≡ n = omega (arith, length-take n octets) in
-    sym (ap (prefix_len q) (take-append-drop n octets)) ∙ goes_past q front (drop n octets) (leading_from_mask_l p front none) ∙ ap (λ k. k + prefix_len q (drop n octets)) long
-
 -- ---- what the bits tell
 
 pub tells_none : (stops : Stops) (octets : List ℕ) → stops.bits ≡ 0 → stops.unseen ≡ length octets → Tells stops octets
 tells_none stops octets none all = grind (arith, common_steps, mask_l, stops_bare)
-
--- of the octets after the first k + 1
-after_bits : (n k : ℕ) (octets : List ℕ) → k < n → mask_l (map stops_bare (take n octets)) / 2 ^ k / 2 ^ 1 ≡ mask_l (map stops_bare (take (n - (k + 1)) (drop (k + 1) octets)))
-after_bits n k octets less =
-    let m = n - (k + 1) in
-    let e : n ≡ k + 1 + m = omega arith in
-    shr-shr (mask_l (map stops_bare (take n octets))) k 1
-    ∙ bits_after (k + 1) (map stops_bare (take n octets))
-    ∙ ap mask_l (drop-map stops_bare (k + 1) (take n octets) ∙ ap (map stops_bare) (ap (λ j. drop (k + 1) (take j octets)) e ∙ drop-take (k + 1) m octets))
 
 pub tells_after : (stops : Stops) (octets : List ℕ) (n k : ℕ) (bits : ℕ) → bits ≡ mask_l (map stops_bare (take n octets)) → n ≤ 64 → n ≤ length octets → k < n → stops.bits ≡ bits / 2 ^ k / 2 ^ 1 → stops.unseen ≡ length octets - n → Tells stops (drop (k + 1) octets)
 tells_after stops octets n k bits of few within less is unseen =
@@ -117,7 +52,7 @@ known_len stops octets tells some =
 pub known_less : (stops : Stops) (octets : List ℕ) → Tells stops octets → stops.bits ≢ 0 → prefix_len goes_on octets < length octets - stops.unseen
 known_less stops octets tells some =
     let n = length octets - stops.unseen in
-    (first_inside stops_bare n octets (omega (arith, tells.few)) (omega arith) (λ e. some (tells.bits ∙ e))).1
+    (first_inside stops_bare n octets (omega arith) (omega (arith, tells.few)) (λ e. some (tells.bits ∙ e))).1
 
 pub known_rest : (stops new : Stops) (octets : List ℕ) (k : ℕ) → Tells stops octets → stops.bits ≢ 0 → k ≡ prefix_len goes_on octets → new.bits ≡ stops.bits / 2 ^ k / 2 ^ 1 → new.unseen ≡ stops.unseen → Tells new (drop (k + 1) octets)
 known_rest stops new octets k tells some len is unseen =
@@ -239,7 +174,7 @@ goes_on_64 octets ahead seen bits within room back are none so_far =
 
 pub stop_found : (stops : Stops) (octets ahead : List ℕ) (seen bits more : ℕ) → 64 ≤ length ahead → ahead ≡ drop seen octets → bits ≡ mask_l (map stops_bare (take 64 ahead)) → bits ≢ 0 → more ≡ count_trailing_zeros 64 bits → stops.bits ≡ bits / 2 ^ more / 2 ^ 1 → stops.unseen ≡ length ahead - 64 → GoesTo octets seen → (seen + more ≡ prefix_len goes_on octets) × Tells stops (drop (seen + more + 1) octets)
 stop_found stops octets ahead seen bits more room back are some len is unseen so_far =
-    let found = first_inside stops_bare 64 ahead (omega arith) room (λ e. some (are ∙ e)) in
+    let found = first_inside stops_bare 64 ahead room (omega arith) (λ e. some (are ∙ e)) in
     let first : more ≡ prefix_len goes_on ahead = len ∙ ap (count_trailing_zeros 64) are ∙ found.0 in
     let there : prefix_len goes_on ahead ≡ prefix_len goes_on (drop seen octets) = ap (prefix_len goes_on) back in
     (omega (arith, so_far, first, there), unknown_rest stops octets ahead seen more back (tells_after stops ahead 64 more bits are (omega arith) room (omega (arith, first, found.1)) is unseen))

@@ -1,7 +1,7 @@
 use Rattle.std.proofs.Common.{length, ◌-◌, arith}
 use Rattle.std.proofs.lemmas.List.Sums.{prefix_len-le-length}
 use Rattle.zone_rdata.specs.Machine.Unescaped.{is_unescaped}
-use Rattle.zone_rdata.proofs.Strings.UnescapedRuns.{run_tells}
+use Rattle.zone_name.proofs.InOctets.Runs.{run_tells}
 use Rattle.zone_rdata.proofs.unescaped.unescaped_len.Goals as goal
 
 pub returns-then-run-lt-LANES : goal.returns-then-run-lt-LANES
