@@ -7,7 +7,7 @@ pub use Rattle.std.proofs.lemmas.Grind.{common_steps}
 pub use Rattle.std.proofs.lemmas.List.{append-nil, drop-drop, drop_at, drop_more, length-drop, length-map, length-reverse, length-set, length-take, length-take-le, map-append, map_push, nil_from_length, reverse-append, reverse-reverse, set_at, take-append-drop, take_all, take_at, take_rest}
 pub use Rattle.std.proofs.lemmas.List.Concat.{flat_map-append}
 pub use Rattle.std.proofs.lemmas.Result.{IfErr-weaker, err_from_is_err_and, on_err_weaker, on_ok_weaker}
-pub use Rattle.std.proofs.lemmas.Simd.{bitmask_splat, chunk-fits, leading_from_mask_l, length-chunk, length-put_chunk, map-map, mask_l-mod, ones-mask_l, put_chunk_is, run_in_chunk_fails, run_in_chunk_le, run_in_chunk_stops, splat_is_map, take_more_put_chunk, trailing_mask_l, zip2_of_maps, zip2_splat}
+pub use Rattle.std.proofs.lemmas.Simd.{bitmask_splat, chunk-fits, leading_from_mask_l, length-chunk, length-put_chunk, map-map, mask_l-mod, ones-mask_l, put_chunk_is, run_in_chunk_fails, run_in_chunk_stops, splat_is_map, take_more_put_chunk, trailing_mask_l, zip2_of_maps, zip2_splat}
 pub use Rattle.std.specs.Char.{to_ascii_lowercase}
 pub use Rattle.std.specs.Cmp.Lexicographic.{bytes_decides, lists_ties, lists_total, pointwise, pointwise_decides, slice_cmp, texts_ties}
 pub use Rattle.std.specs.List.{AllByRecursion, flat_map, list_all, prefix_len, refill}
@@ -17,7 +17,7 @@ pub use Rattle.std.specs.Result.{IsOk, OnOk, is_ok}
 pub use Rattle.std.specs.declared.cmp.Ordering.TheVariants.{Equal}
 pub use Rattle.zone_name.specs.Common.{AreOctets}
 pub use Rattle.zone_name.specs.Machine.LabelWalk.{Ahead, Collects, Step, ahead_in, at_dot, at_end, at_fault, at_octet, done, failed, goes, read, reading, sized, step_at, under_origin, unit_ahead}
-pub use Rattle.zone_name.specs.Machine.Plain.{WritesLengths, after_dots, is_plain}
+pub use Rattle.zone_name.specs.Machine.Plain.{TellsMarks, WritesLengths, after_dots, is_mark, is_plain}
 pub use Rattle.zone_name.specs.Machine.Seen.{Closes, EndsInFault, EndsLabelAt, Goes, HasShape, HoldsCasedLabels, Joins, RefusesLabel, empty, long}
 pub use Rattle.zone_name.specs.Machine.Letters.{HoldsLabelsBy, HoldsNameBy, IsLabelBy, IsNameBy, SpellsBy, lettered, lettered_in, name_read, origin_in, taken_by}
 pub use Rattle.zone_name.specs.Machine.Shown.{IsShown, is_bare}

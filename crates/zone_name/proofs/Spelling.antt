@@ -3,6 +3,7 @@ pub mod Ahead
 pub mod Answered
 pub mod Folding
 pub mod Letters
+pub mod Marks
 pub mod Only
 pub mod Plain
 pub mod Spelled

@@ -1,9 +1,9 @@
 //! What is seen of octets, and done to them, 16 at a time.
 ghost use Rattle.std.specs.Prelude.{◌≡◌, ◌+◌, ◌≤◌, false, true, length, map, IfSome, IfNone};
-ghost use Rattle.std.specs.List.{count_by, list_all, prefix_len};
-ghost use Rattle.std.specs.Simd.Lanes.{chunk, put_chunk};
+ghost use Rattle.std.specs.List.{count_by, list_all};
+ghost use Rattle.std.specs.Simd.Lanes.{chunk, mask_l, put_chunk};
 ghost use Rattle.zone_name.specs.Machine.Shown.{is_bare};
-ghost use Rattle.zone_name.specs.Machine.Plain.{is_plain};
+ghost use Rattle.zone_name.specs.Machine.Plain.{is_mark};
 ghost use Rattle.zone_name.specs.Name.{folded_octet};
 ghost use Rattle.zone_name.specs.Spelling.{is_dot};
 
@@ -25,20 +25,15 @@ pub(crate) fn put(room: &mut [u8], at: usize, octets: &[u8])
     room[at..at + octets.len()].copy_from_slice(octets);
 }
 
-/// How many of the 16 octets at a place stand before the first dot or backslash.
+/// Which of the 16 octets at a place are dots or backslashes, as bits, the lowest that of the first.
 #[inline(always)]
-pub(crate) fn plain_run(octets: &[u8], at: usize) -> usize
+pub(crate) fn mark_bits(octets: &[u8], at: usize) -> u64
     requires { at + LANES ≤ length octets.now }
-    ensures { result ≡ prefix_len is_plain (chunk at LANES octets.now) }
+    ensures { result ≡ mask_l (map is_mark (chunk at LANES octets.now)) }
 {
     let lanes = u8x16::from_slice(&octets[at..]);
     let marks = lanes.simd_eq(u8x16::splat(b'.')) | lanes.simd_eq(u8x16::splat(b'\\'));
-    let mask = marks.to_bitmask();
-    if mask == 0 {
-        LANES
-    } else {
-        mask.trailing_zeros() as usize
-    }
+    marks.to_bitmask()
 }
 
 /// Puts the letters of the 16 octets at a place in lower case (RFC 4343 3).

@@ -6,14 +6,14 @@ ghost use Rattle.zone_name.specs.Spelling.{AppendsSpelled, SpellingFault};
 ghost use Rattle.zone_name.specs.Machine.LabelWalk.{Collects, reading, under_origin, sized};
 ghost use Rattle.zone_name.specs.Machine.Letters.{HoldsLabelsBy, HoldsNameBy, IsReadBy, SpellsBy};
 ghost use Rattle.zone_name.specs.Machine.Letters.{lettered, name_read, origin_in};
-ghost use Rattle.zone_name.specs.Machine.Plain.{WritesLengths, is_plain};
+ghost use Rattle.zone_name.specs.Machine.Plain.{TellsMarks, WritesLengths, is_plain};
 ghost use Rattle.zone_name.specs.Machine.Seen.{Closes, EndsLabelAt, HasShape, HoldsCasedLabels, IsClosable};
 ghost use Rattle.zone_name.specs.Machine.Seen.{IsReadInto, EndsInFault, RefusesLabel};
 
 use crate::builder::check_label;
 use crate::escape::{NextUnit, next_unit};
 use crate::fault::NameFault;
-use crate::lanes::{LANES, ROOM, fold_lanes, plain_run, put};
+use crate::lanes::{LANES, ROOM, fold_lanes, mark_bits, put};
 use crate::name::{MAX_LABEL_LEN, MAX_NAME_LEN};
 use arrayvec::ArrayVec;
 use std::alloc::AllocError;
@@ -58,25 +58,43 @@ struct Spelled {
     is_absolute: bool,
 }
 
+/// Which of the octets ahead are dots or backslashes.
+#[derive(Clone, Copy, Drop)]
+struct Marks {
+    /// As bits, the lowest that of the first octet.
+    bits: u64,
+    /// The place after the octets that the bits tell of.
+    seen: usize,
+}
+
 /// The place of the first dot or backslash from a place on, as far as 16 octets are left to look
-/// at.
-fn label_end(octets: &[u8], start: usize) -> usize
-    requires { start ≤ length octets.now }
-    ensures front { start ≤ result }
-    ensures back { result ≤ length octets.now }
-    ensures each { (k : ℕ) → start ≤ k → k < result → is_plain (slice_index octets.now k) ≡ true }
-    ensures ends { result + LANES ≤ length octets.now
-        → is_plain (slice_index octets.now result) ≡ false }
+/// at, and which of the octets after it are further ones.
+fn label_end(octets: &[u8], start: usize, marks: Marks) -> (usize, Marks)
+    requires within { start ≤ length octets.now }
+    requires tells { TellsMarks marks octets.now start }
+    ensures front { start ≤ result.0 }
+    ensures back { result.0 ≤ length octets.now }
+    ensures each { (k : ℕ) → start ≤ k → k < result.0 → is_plain (slice_index octets.now k) ≡ true }
+    ensures ends { result.0 + LANES ≤ length octets.now
+        → is_plain (slice_index octets.now result.0) ≡ false }
+    ensures tells { TellsMarks result.1 octets.now (result.0 + 1) }
 {
     let mut end = start;
-    while octets.len() - end >= LANES {
-        let run = plain_run(octets, end);
-        end += run;
-        if run < LANES {
-            return end;
+    let mut marks = marks;
+    while marks.bits == 0 {
+        end = marks.seen;
+        if octets.len() - end < LANES {
+            let seen = end + 1;
+            return (end, Marks { bits: 0, seen });
         }
+        marks = Marks {
+            bits: mark_bits(octets, end),
+            seen: end + LANES,
+        };
     }
-    end
+    let run = marks.bits.trailing_zeros() as usize;
+    let bits = marks.bits >> run >> 1;
+    (end + run, Marks { bits, ..marks })
 }
 
 /// Writes the length of each label over the dot before it, where labels with their dots take the
@@ -86,18 +104,20 @@ fn write_lengths(octets: &mut [u8], len: usize) -> bool
     requires { len ≤ length octets.old }
     ensures { IsTrue result → WritesLengths octets.old octets.new (drop len octets.new) }
 {
+    let mut marks = Marks { bits: 0, seen: 1 };
     let mut start = 0;
     while start < len {
         if octets[start] != b'.' {
             return false;
         }
-        let end = label_end(octets, start + 1);
+        let (end, ahead) = label_end(octets, start + 1, marks);
         let label_len = end - start - 1;
         if label_len == 0 || label_len > MAX_LABEL_LEN {
             return false;
         }
         octets[start] = label_len as u8;
         start = end;
+        marks = ahead;
     }
     start == len
 }

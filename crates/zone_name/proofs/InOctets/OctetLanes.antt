@@ -1,8 +1,7 @@
 -- Lanes that are computed one by one from octets, and what their masks tell of the octets.
-use Rattle.std.proofs.Common.{◌≡◌, ℕ, ◌+◌, ◌*◌, ◌%◌, ◌^◌, ◌<◌, ◌≤◌, eqb, Bool, true, false, cond, not, ◌&&◌, List, [], ◌∷◌, map, length, take, drop, Fits, w8, refl, sym, ap, ap₂, ◌∙◌, arith, length-drop, take-add, drop-drop, take_at, length-append, ◌++◌}
+use Rattle.std.proofs.Common.{◌≡◌, ℕ, ◌+◌, ◌*◌, ◌%◌, ◌^◌, ◌≤◌, eqb, Bool, true, false, cond, not, ◌&&◌, List, [], ◌∷◌, map, length, take, drop, Fits, w8, refl, sym, ap, ap₂, ◌∙◌, arith, length-drop, take-add, drop-drop, take_at, length-append, ◌++◌}
 use Rattle.std.proofs.lemmas.List.{drop_at, length-map, length-take-le, map-append, take-map, take-take}
-use Rattle.zone_name.proofs.Common.{common_steps, agree_below, agree_below_at, append_assoc, eqb-true, false≢true, leading_from_mask_l, length-put_chunk, list_all, mask_l-mod, prefix_len, put_chunk_is, trailing_mask_l}
-use lib.Count.{count_trailing_zeros}
+use Rattle.zone_name.proofs.Common.{common_steps, agree_below, agree_below_at, append_assoc, eqb-true, false≢true, length-put_chunk, list_all, mask_l-mod, put_chunk_is}
 use lib.Lanes.{Each1, chunk, mask_l, put_chunk, sel_l, top}
 
 -- ---- lanes that were computed by a function of each octet
@@ -47,19 +46,6 @@ module _ (p : ℕ → Bool) (v : List ℕ) (short : length v ≤ 64) (fits : Eac
   mask_is =
       ap (λ l. mask_l l % 2 ^ 64) (ap (map (top 7)) lanes ∙ told f p v fits all)
       ∙ mask_l-mod (map p v) 64 (omega (arith, short, length-map v p))
-
-  -- no octet passes the test, or the lowest bit tells how many come before the first that does
-  pub before_none : mask_l (map (top 7) z) % 2 ^ 64 ≡ 0 → length v ≡ prefix_len (λ x. not (p x)) v
-  before_none none = sym (leading_from_mask_l p v (sym mask_is ∙ none))
-
-  pub before_first : (mask_l (map (top 7) z) % 2 ^ 64 ≡ 0 → ⊥)
-      → count_trailing_zeros 64 (mask_l (map (top 7) z) % 2 ^ 64) ≡ prefix_len (λ x. not (p x)) v
-  before_first some =
-      let positive : 0 < mask_l (map p v) = pos (mask_l (map p v)) (λ e. some (mask_is ∙ e)) in
-      ap (count_trailing_zeros 64) mask_is ∙ trailing_mask_l p 64 v short positive
-    where
-      pos : (n : ℕ) → (n ≡ 0 → ⊥) → 0 < n
-      pos n h = grind arith
 
 -- ---- where no octet fails a test, the mask of those that fail is empty, and the other way round
 

@@ -1,8 +1,9 @@
 -- A text without escapes, whose labels' lengths are written over the dots before them.
-use lib.Lanes.{chunk, put_chunk}
-use Rattle.zone_name.proofs.Common.{common_steps, AllByRecursion, AreOctets, Bool, HoldsCasedLabels, IsCasedName, IsUnit, IsWrittenLabel, List, Ok, WritesLengths, Written, [], after_dots, ap, append-nil, append_assoc, ap₂, arith, bytes_decides, cases_lt, dotted, drop, drop_at, drop_more, eqb-false, false, flat_map, flat_map-append, get_or, get_or-drop, inl, inr, is_dot, is_plain, kept, labels_of, length, length-append, length-drop, length-map, length-set, length-take-le, map, map_push, nat_eq, not, not-true, or_parts, parted, plain, pointwise, prefix_len, reading, refl, run_in_chunk_fails, run_in_chunk_le, run_in_chunk_stops, set, set_at, subst, suc, sym, take, take-append-drop, take_at, take_more_put_chunk, true, with_length, written_octets, written_text, zero, ℕ, ◌++◌, ◌+◌, ◌-◌, ◌<◌, ◌==◌, ◌||◌, ◌∙◌, ◌∷◌, ◌≡◌, ◌≤◌}
+use lib.Lanes.{put_chunk}
+use Rattle.zone_name.proofs.Common.{common_steps, AllByRecursion, AreOctets, Bool, HoldsCasedLabels, IsCasedName, IsUnit, IsWrittenLabel, List, Ok, WritesLengths, Written, [], after_dots, ap, append-nil, append_assoc, ap₂, arith, bytes_decides, dotted, drop, drop_at, drop_more, eqb-false, false, flat_map, flat_map-append, get_or, get_or-drop, is_dot, is_mark, is_plain, kept, labels_of, length, length-append, length-drop, length-map, length-set, length-take-le, map, map_push, nat_eq, not-true, or_parts, parted, plain, pointwise, reading, refl, set, set_at, subst, suc, sym, take, take-append-drop, take_at, take_more_put_chunk, true, with_length, written_octets, written_text, zero, ℕ, ◌++◌, ◌+◌, ◌-◌, ◌<◌, ◌==◌, ◌∙◌, ◌∷◌, ◌≡◌, ◌≤◌}
 use Rattle.zone_name.proofs.InOctets.Octets.{labels_of-open_cased}
 use Rattle.zone_name.proofs.InOctets.Pushing.{AllByRecursion-append, HoldsCasedLabels-frames, frames_push}
+use Rattle.zone_name.proofs.Spelling.Marks.{ArePlainFrom}
 use Rattle.zone_name.proofs.Spelling.Spelled.{AreShort, Says}
 use Rattle.zone_name.proofs.Spelling.Answered.{reading-says_ok, labels-says_ok}
 use Rattle.zone_name.proofs.Texts.Bare.{plain_text}
@@ -47,37 +48,8 @@ lengths_label old now next label rest start w each some short at is =
 
 -- ---- octets that are seen to be plain, 16 at a time
 
-abbrev is_mark : ℕ → Bool
-is_mark c = is_dot c || c == 92
-
 plain_unit : (c : ℕ) → is_plain c ≡ true → IsUnit is_dot (plain c)
 plain_unit c e = let parts = or_parts (is_dot c) (c == 92) (not-true (is_mark c) e) in (parts.0, eqb-false c 92 parts.1)
-
--- each octet from one place to another is plain
-abbrev pub ArePlainFrom : List ℕ → ℕ → ℕ → Type 0
-ArePlainFrom octets start end =
-    (k : ℕ) → start ≤ k → k < end → is_plain (get_or octets k 0) ≡ true
-
-pub no_octets : (octets : List ℕ) (start : ℕ) → ArePlainFrom octets start start
-no_octets octets start k from to = absurd (omega (arith, from, to))
-
--- those before the first mark of some that are looked at
-pub record PlainRun (octets : List ℕ) (start at n run : ℕ) : Type 0 where
-  pub within : run ≤ n
-  pub each : ArePlainFrom octets start (at + run)
-  pub stops : run < n → is_plain (get_or octets (at + run) 0) ≡ false
-
-pub plain_more : (octets : List ℕ) (start at n run : ℕ) → ArePlainFrom octets start at
-    → at + n ≤ length octets → run ≡ prefix_len is_plain (chunk at n octets)
-    → PlainRun octets start at n run
-plain_more octets start at n run before room counted = record {
-  within = run_in_chunk_le is_mark octets at n run 0 room counted;
-  each = λ k from to. elim (cases_lt k at) [
-    | inl early ↦ before k from early
-    | inr late ↦ ap not (run_in_chunk_fails is_mark octets at n run 0 room counted k late to)
-  ];
-  stops = λ short. ap not (run_in_chunk_stops is_mark octets at n run 0 room counted short);
-}
 
 -- the label after a dot, by its place
 plain_after : (octets : List ℕ) (start end : ℕ) → ArePlainFrom octets (start + 1) end

@@ -1,13 +1,26 @@
 -- How a text without escapes becomes octets: each label's length takes the place of the dot before
 -- it.
-use Rattle.std.specs.Prelude.{◌≡◌, ℕ, ◌≤◌, List, ◌∷◌, ◌++◌, length, map, Bool, not, ◌||◌, ◌==◌}
+use Rattle.std.specs.Prelude.{◌≡◌, ℕ, ◌≤◌, ◌-◌, List, ◌∷◌, ◌++◌, length, map, Bool, not, ◌||◌, ◌==◌}
 use Rattle.std.specs.List.{flat_map, AllByRecursion}
+use Rattle.std.specs.Simd.Lanes.{chunk, mask_l}
 use Rattle.zone_name.specs.Name.{with_length}
 use Rattle.zone_name.specs.Spelling.{Written, IsWrittenLabel, is_dot, written_text, written_octets}
+use Rattle.zone_name.specs.declared.reading.Marks.{Marks}
+
+-- a dot or a backslash
+abbrev pub is_mark : ℕ → Bool
+is_mark c = is_dot c || c == 92
 
 -- an octet that stands for itself in a label
 abbrev pub is_plain : ℕ → Bool
-is_plain c = not (is_dot c || c == 92)
+is_plain c = not (is_mark c)
+
+-- the bits tell which of the octets from a place on, of 16 at most, are dots or backslashes
+pub record TellsMarks (marks : Marks) (octets : List ℕ) (start : ℕ) : Type 0 where
+  pub front : start ≤ marks.seen
+  pub few : marks.seen - start ≤ 16
+  pub within : marks.seen - start ≤ length octets - start
+  pub bits : marks.bits ≡ mask_l (map is_mark (chunk start (marks.seen - start) octets))
 
 -- each label with a dot before it
 abbrev pub after_dots : List (List Written) → List ℕ

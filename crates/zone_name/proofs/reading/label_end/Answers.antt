@@ -1,22 +1,39 @@
-use Rattle.std.proofs.Common.{◌+◌, ◌≤◌, length, arith}
-use Rattle.zone_name.proofs.Spelling.Plain.{no_octets, plain_more}
+use Rattle.zone_name.proofs.Common.{arith, refl, ◌+◌}
+use Rattle.zone_name.proofs.Spelling.Marks.{all_plain, looked, next_mark, no_octets, seen_within}
 use Rattle.zone_name.proofs.reading.label_end.Goals as goal
 
-pub loop-end-init : goal.loop-end-init
-loop-end-init c = (omega arith, c.requires, no_octets c.args.octets.now c.args.start)
+pub loop-marks-init : goal.loop-marks-init
+loop-marks-init c = record {
+  front = omega arith;
+  within = c.requires.within;
+  each = no_octets c.args.octets.now c.args.start;
+  tells = c.requires.tells;
+}
 
-pub returns-then-run-lt-LANES-clause-each : goal.returns-then-run-lt-LANES-clause-each
-returns-then-run-lt-LANES-clause-each c =
-    let room : c.loop-end.end + 16 ≤ length c.args.octets.now = omega (arith, c.loop-end-test.true, c.loop-end.invariant.1) in
-    (plain_more c.args.octets.now c.args.start c.loop-end.end 16 c.plain_run-run.result c.loop-end.invariant.2 room c.plain_run-run.ensures).each
+pub returns-then-octets-end-lt-LANES-clause-each : goal.returns-then-octets-end-lt-LANES-clause-each
+returns-then-octets-end-lt-LANES-clause-each c =
+    all_plain c.loop-marks.marks c.args.octets.now c.args.start c.loop-marks.end c.loop-marks.invariant c.loop-marks-test.true
 
-pub returns-then-run-lt-LANES-clause-ends : goal.returns-then-run-lt-LANES-clause-ends
-returns-then-run-lt-LANES-clause-ends c = λ more.
-    let room : c.loop-end.end + 16 ≤ length c.args.octets.now = omega (arith, c.loop-end-test.true, c.loop-end.invariant.1) in
-    (plain_more c.args.octets.now c.args.start c.loop-end.end 16 c.plain_run-run.result c.loop-end.invariant.2 room c.plain_run-run.ensures).stops c.if-run-lt-LANES.true
+pub loop-marks-preserved : goal.loop-marks-preserved
+loop-marks-preserved c =
+    let marks = c.loop-marks.marks in
+    let octets = c.args.octets.now in
+    let within = seen_within marks octets c.args.start c.loop-marks.end c.loop-marks.invariant in
+    record {
+      front = omega (arith, c.loop-marks.invariant.front, c.loop-marks.invariant.tells.front);
+      within = within;
+      each = all_plain marks octets c.args.start c.loop-marks.end c.loop-marks.invariant c.loop-marks-test.true;
+      tells = looked (record { bits = c.mark_bits.result; seen = marks.seen + 16 }) octets marks.seen (omega (arith, within, c.if-octets-end-lt-LANES.false)) c.mark_bits.ensures refl;
+    }
 
-pub loop-end-preserved : goal.loop-end-preserved
-loop-end-preserved c =
-    let room : c.loop-end.end + 16 ≤ length c.args.octets.now = omega (arith, c.loop-end-test.true, c.loop-end.invariant.1) in
-    let run = plain_more c.args.octets.now c.args.start c.loop-end.end 16 c.plain_run-run.result c.loop-end.invariant.2 room c.plain_run-run.ensures in
-    (omega (arith, c.loop-end.invariant.0), omega (arith, room, run.within), run.each)
+pub returns-clause-back : goal.returns-clause-back
+returns-clause-back c = omega (arith, (next_mark c.loop-marks.marks c.args.octets.now c.args.start c.loop-marks.end c.loop-marks.invariant c.loop-marks-test.false).within)
+
+pub returns-clause-each : goal.returns-clause-each
+returns-clause-each c = (next_mark c.loop-marks.marks c.args.octets.now c.args.start c.loop-marks.end c.loop-marks.invariant c.loop-marks-test.false).each
+
+pub returns-clause-ends : goal.returns-clause-ends
+returns-clause-ends c = λ room. (next_mark c.loop-marks.marks c.args.octets.now c.args.start c.loop-marks.end c.loop-marks.invariant c.loop-marks-test.false).stops
+
+pub returns-clause-tells : goal.returns-clause-tells
+returns-clause-tells c = (next_mark c.loop-marks.marks c.args.octets.now c.args.start c.loop-marks.end c.loop-marks.invariant c.loop-marks-test.false).tells

@@ -1,10 +1,9 @@
-use Rattle.std.proofs.Common.{length, ◌-◌, ◌≤◌}
-use Rattle.zone_name.proofs.Spelling.Plain.{ArePlainFrom}
+use Rattle.std.proofs.Common.{length, ◌-◌}
+use Rattle.zone_name.proofs.Spelling.Marks.{Walked}
 use Rattle.zone_name.proofs.reading.label_end.Given as goal
 
-abbrev pub invariant-loop-end : goal.invariant-loop-end
-invariant-loop-end l =
-    (l.start ≤ l.end) × (l.end ≤ length l.octets) × ArePlainFrom l.octets l.start l.end
+abbrev pub invariant-loop-marks : goal.invariant-loop-marks
+invariant-loop-marks l = Walked l.marks l.octets l.start l.end
 
-abbrev pub decreases-loop-end : goal.decreases-loop-end
-decreases-loop-end l = length l.octets - l.end
+abbrev pub decreases-loop-marks : goal.decreases-loop-marks
+decreases-loop-marks l = length l.octets - l.marks.seen

@@ -1,4 +1,5 @@
-use Rattle.zone_name.proofs.Common.{WritesLengths, arith, drop, eqb-true, length, length-set, refl, subst, ◌-◌, ◌<◌, ◌∙◌}
+use Rattle.zone_name.proofs.Common.{WritesLengths, arith, drop, eqb-true, length, length-set, refl, subst, ◌+◌, ◌-◌, ◌<◌, ◌∙◌}
+use Rattle.zone_name.proofs.Spelling.Marks.{tells_set}
 use Rattle.zone_name.proofs.Spelling.Plain.{lengths_next}
 use Rattle.zone_name.proofs.reading.write_lengths.Goals as goal
 
@@ -6,7 +7,7 @@ pub loop-start-preserved : goal.loop-start-preserved
 loop-start-preserved c =
     let octets = c.loop-start.octets in
     let start = c.loop-start.start in
-    let end = c.label_end-end.result in
+    let end = c.label_end-end.result.0 in
     let found = c.label_end-end.ensures in
     let same = c.loop-start.invariant.2 in
     let inside : start < length octets = omega (arith, c.loop-start-test.true, c.requires, same) in (
@@ -14,6 +15,7 @@ loop-start-preserved c =
           found.each found.back (omega arith) (omega arith) refl,
       omega (arith, found.back, length-set octets start (end - start - 1)),
       length-set octets start (end - start - 1) ∙ same,
+      tells_set c.label_end-end.result.1 octets (end + 1) start (end - start - 1) (omega (arith, found.front)) found.tells,
     )
 
 pub returns : goal.returns

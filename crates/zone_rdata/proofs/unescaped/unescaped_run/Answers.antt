@@ -1,26 +1,17 @@
-use Rattle.std.proofs.Common.{cond, ltb, refl, sym, ◌∙◌, arith, w8}
-use Rattle.std.proofs.lemmas.Simd.{chunk-fits, length-chunk, splat_is_map, zip2_of_maps, zip2_splat}
-use Rattle.zone_name.proofs.InOctets.OctetLanes.{before_first, before_none, itself}
+use Rattle.std.proofs.Common.{ap, arith, sym, ◌∙◌}
+use Rattle.std.proofs.lemmas.Simd.{leading_from_mask_l, length-chunk, trailing_mask_l}
+use Rattle.std.specs.Int.Count.{count_trailing_zeros}
 use Rattle.zone_rdata.specs.Machine.Unescaped.{is_escaped}
 use Rattle.zone_rdata.proofs.unescaped.unescaped_run.Goals as goal
 use lib.Lanes.{chunk}
 
-pub returns-then-mask-eq0 : goal.returns-then-mask-eq0
-returns-then-mask-eq0 c =
-    let v = chunk c.args.at 16 c.args.octets.now in
-    let long = length-chunk c.args.at 16 c.args.octets.now c.requires in
-    sym long ∙ before_none is_escaped v (omega (arith, long)) (chunk-fits w8 c.args.at 16 c.args.octets.now c.type_inv.octets) _ _
-    (zip2_of_maps _ _ _ v (zip2_of_maps _ _ _ v (zip2_of_maps _ _ _ v
-    (zip2_splat _ v 16 32 long)
-    (zip2_of_maps (λ a b. cond (ltb a b) 255 0) _ _ v (splat_is_map v 16 126 long) (itself v)))
-    (zip2_splat _ v 16 34 long)) (zip2_splat _ v 16 92 long)) refl c.if-mask-eq0.true
+pub returns-then-bits-eq0 : goal.returns-then-bits-eq0
+returns-then-bits-eq0 c =
+    sym (leading_from_mask_l is_escaped (chunk c.args.at 16 c.args.octets.now) (sym c.escape_bits-bits.ensures ∙ c.if-bits-eq0.true)
+    ∙ length-chunk c.args.at 16 c.args.octets.now c.requires)
 
-pub returns-else-mask-eq0 : goal.returns-else-mask-eq0
-returns-else-mask-eq0 c =
-    let v = chunk c.args.at 16 c.args.octets.now in
+pub returns-else-bits-eq0 : goal.returns-else-bits-eq0
+returns-else-bits-eq0 c =
     let long = length-chunk c.args.at 16 c.args.octets.now c.requires in
-    before_first is_escaped v (omega (arith, long)) (chunk-fits w8 c.args.at 16 c.args.octets.now c.type_inv.octets) _ _
-    (zip2_of_maps _ _ _ v (zip2_of_maps _ _ _ v (zip2_of_maps _ _ _ v
-    (zip2_splat _ v 16 32 long)
-    (zip2_of_maps (λ a b. cond (ltb a b) 255 0) _ _ v (splat_is_map v 16 126 long) (itself v)))
-    (zip2_splat _ v 16 34 long)) (zip2_splat _ v 16 92 long)) refl c.if-mask-eq0.false
+    ap (count_trailing_zeros 64) c.escape_bits-bits.ensures
+    ∙ trailing_mask_l is_escaped 64 (chunk c.args.at 16 c.args.octets.now) (omega (arith, long)) (omega (arith, c.escape_bits-bits.ensures, c.if-bits-eq0.false))

@@ -1,0 +1,16 @@
+use Rattle.std.proofs.Common.{cond, ltb, refl, arith, w8}
+use Rattle.std.proofs.lemmas.Simd.{chunk-fits, length-chunk, splat_is_map, zip2_of_maps, zip2_splat}
+use Rattle.zone_name.proofs.InOctets.OctetLanes.{itself, mask_is}
+use Rattle.zone_rdata.specs.Machine.Unescaped.{is_escaped}
+use Rattle.zone_rdata.proofs.unescaped.escape_bits.Goals as goal
+use lib.Lanes.{chunk}
+
+pub returns : goal.returns
+returns c =
+    let v = chunk c.args.at 16 c.args.octets.now in
+    let long = length-chunk c.args.at 16 c.args.octets.now c.requires in
+    mask_is is_escaped v (omega (arith, long)) (chunk-fits w8 c.args.at 16 c.args.octets.now c.type_inv.octets) _ _
+    (zip2_of_maps _ _ _ v (zip2_of_maps _ _ _ v (zip2_of_maps _ _ _ v
+    (zip2_splat _ v 16 32 long)
+    (zip2_of_maps (λ a b. cond (ltb a b) 255 0) _ _ v (splat_is_map v 16 126 long) (itself v)))
+    (zip2_splat _ v 16 34 long)) (zip2_splat _ v 16 92 long)) refl
