@@ -1,5 +1,5 @@
 -- Whether octets are one record that states its class.
-use Rattle.zone_text.proofs.Common.{AreKept, AreTokens, Cut, Cuts, Fault, IsFirstEntry, IsOneEntry, IsOpen, IsBrokenOff, List, RawItem, Statement, Token, [], ap, arith, class_word, cut_from, entry_of, flat_map, inl, inr, is_some, item_of, length, slice_get, statement_by, statement_of, subst, sym, take, true, false, zero, ℕ, ◌<◌, ◌∙◌, ◌∷◌, ◌≡◌}
+use Rattle.zone_text.proofs.Common.{AreKept, AreTokens, Cut, Cuts, Fault, IsFirstEntry, IsOneEntry, IsOpen, IsBrokenOff, List, RawItem, Statement, Token, [], ap, arith, class_word, cut_from, entry_of, flat_map, inl, inr, is_some, item_of, length, slice_get, statement_by, statement_of, subst, sym, take, false, zero, ℕ, ◌<◌, ◌∙◌, ◌∷◌, ◌≡◌}
 use Rattle.std.proofs.lemmas.Bool.{false≢true}
 use Rattle.std.proofs.Math.Seq.{take-length}
 use Rattle.zone_rdata.proofs.Items.LeftOut.{are_many}
@@ -23,11 +23,6 @@ one_record octets len kept form first whole few is =
       one = one;
       form_is = is ∙ ap (statement_by (slice_get octets 0)) (all_kept (flat_map item_of first.tokens) kept few first.stated) ∙ ap (λ o. statement_by (slice_get o 0) (flat_map item_of first.tokens)) one.cut.whole;
     }
-
-pub is_classed : (octets : List ℕ) (len : ℕ) (kept : List RawItem) (form : Statement) → IsFirstEntry octets len kept → len ≡ length octets → length kept < 65552 → form ≡ statement_by (slice_get octets 0) kept → is_some (class_word form) ≡ true → StatesItsClass octets
-is_classed octets len kept form first whole few is some =
-    let r = one_record octets len kept form first whole few is in
-    record { tokens = r.tokens; one = r.one; class = subst (λ f. is_some (class_word f) ≡ true) r.form_is some }
 
 pub not_classed : (octets : List ℕ) (len : ℕ) (kept : List RawItem) (form : Statement) → IsFirstEntry octets len kept → len ≡ length octets → length kept < 65552 → form ≡ statement_by (slice_get octets 0) kept → is_some (class_word form) ≡ false → StatesItsClass octets → ⊥
 not_classed octets len kept form first whole few is none states =

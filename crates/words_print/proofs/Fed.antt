@@ -7,7 +7,7 @@ use Rattle.zone_words.specs.Data.{joined}
 use Rattle.zone_words.specs.Fault.{AppendsStated}
 use Rattle.words_print.specs.Machine.Found.{IsFirstLine}
 use Rattle.words_print.specs.Printer.{PrinterState, StandsForWords, StandsInPart}
-use Rattle.words_print.specs.Shown.{AreShown, EachIsShown, IsShownLine, IsShownText, ended, unended}
+use Rattle.words_print.specs.Shown.{AreShown, EachIsShown, IsShownLine, IsShownText, unended}
 
 pub none_shown : AreShown [] []
 none_shown = record { lines = []; ends = tt; whole = refl; others = []; each = tt; shown_is = refl }
@@ -121,31 +121,7 @@ part_again a b fed given same is = record {
 pub filled : (octets : List ℕ) (test : Bool) → test ≡ (length octets == 0) → test ≡ false → octets ≡ [] → ⊥
 filled octets test is fails none = false≢true (sym fails ∙ is ∙ ap (λ o. length o == 0) none)
 
--- the end of the text
-pub text_ended : (old new : PrinterState) (fed given : List ℕ) → old.waiting ≡ [] → new.written ≡ old.written → StandsForWords old fed given → IsShownText fed (given ++ new.written)
-text_ended old new fed given none same is =
-    subst (λ w. IsShownText fed (given ++ w)) (sym same)
-    (ended (subst (λ f. AreShown f (given ++ old.written)) (sym (is.whole ∙ ap (λ t. is.done ++ t) none ∙ append-nil is.done)) is.shown))
-
 pub last_ended : (old new : PrinterState) (fed given : List ℕ) → old.waiting ≢ [] → AppendsStated (IsShownLine (old.waiting ++ [])) old.written new.written → StandsForWords old fed given → IsShownText fed (given ++ new.written)
 last_ended old new fed given some shows is =
     unended is.done old.waiting (given ++ old.written) shows.octets is.whole (ap (λ t. given ++ t) shows.written ∙ sym (append_assoc given old.written shows.octets))
     is.shown is.unended some (subst (λ l. IsShownLine l shows.octets) (append-nil old.waiting) shows.stated)
-
--- what was given
-pub given_stands : (old new : PrinterState) (fed given : List ℕ) → new.written ≡ [] → new.waiting ≡ old.waiting → new.has_failed ≡ old.has_failed → StandsForWords old fed given → StandsForWords new fed (given ++ old.written)
-given_stands old new fed given empty waits works is = record {
-  works = works ∙ is.works;
-  done = is.done;
-  whole = is.whole ∙ ap (λ t. is.done ++ t) (sym waits);
-  unended = subst HasNoFeed (sym waits) is.unended;
-  shown = subst (AreShown is.done) (sym (ap (λ t. (given ++ old.written) ++ t) empty ∙ append-nil (given ++ old.written))) is.shown;
-}
-
-pub given_in_part : (old new : PrinterState) (fed given : List ℕ) → new.written ≡ [] → StandsInPart old fed given → StandsInPart new fed (given ++ old.written)
-given_in_part old new fed given empty is = record {
-  done = is.done;
-  rest = is.rest;
-  whole = is.whole;
-  shown = subst (AreShown is.done) (sym (ap (λ t. (given ++ old.written) ++ t) empty ∙ append-nil (given ++ old.written))) is.shown;
-}
