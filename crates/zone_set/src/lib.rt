@@ -7,6 +7,7 @@ mod builder;
 mod bulk;
 mod entry;
 mod hint;
+mod kept_records;
 mod keys;
 mod list;
 mod messages;
@@ -24,6 +25,7 @@ mod tie;
 mod zone;
 
 pub use builder::ZoneBuilder;
+pub use kept_records::KeptRecords;
 pub use list::ZoneList;
 pub use records::Records;
 pub use zone::Zone;

@@ -195,7 +195,8 @@ fn settle_parts(
     let listed = entries.len();
     if settle(class, base.wire().len(), octets.as_slice(), &mut entries) {
         let message_len = len_of_entries(class, octets.as_slice(), entries.as_slice(), listed);
-        let sets = Sets::of_sorted(alloc, class, base, octets, entries, message_len)?;
+        let alone = entries.len() == listed;
+        let sets = Sets::of_sorted(alloc, class, base, octets, entries, message_len, alone)?;
         return Ok(ZoneBuilder { sets });
     }
     // In the order in which they came the first that is refused shows.

@@ -38,7 +38,7 @@ pub(crate) fn offer(
 }
 
 /// The octets after those of the first record.
-fn after_first(octets: &[u8]) -> &[u8]
+pub(crate) fn after_first(octets: &[u8]) -> &[u8]
     ensures { result.now ≡ drop (length (bulk.span octets.now 0)) octets.now }
 {
     let (_, rest) = octets.split_at(span(octets, 0).len());

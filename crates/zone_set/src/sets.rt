@@ -1,5 +1,6 @@
 ghost use Rattle.std.specs.Prelude.{◌≡◌, ◌⊎◌, ◌-◌, ◌^◌, ◌↔◌, ◌∷◌, ◌++◌, [], List, length, min, IsTrue, OnOk, OnErr, IfOk, IfErr, IfNone, IfSome, MatchOption};
 ghost use Rattle.std.specs.List.{AllByRecursion};
+ghost use Rattle.std.specs.List.Sorted.{IsPermutation};
 ghost use Rattle.sorted_chunks.specs.Chunks.{joined};
 ghost use Rattle.zone_name.specs.Name.{IsWithin};
 ghost use Rattle.zone_rdata.specs.Record.{Record, IsRecord};
@@ -11,6 +12,7 @@ ghost use Rattle.zone_rdata.specs.Lent.{record_of};
 ghost use Rattle.zone_set.specs.Zone.{AreCompatible};
 
 use crate::entry::Entry;
+use crate::kept_records::KeptRecords;
 use crate::messages::octets_with;
 use crate::put::{LIMIT, put};
 use crate::records::Records;
@@ -35,6 +37,8 @@ pub(crate) struct Sets {
     entries: SortedChunks<Entry, LIMIT>,
     /// What the records take in messages, or 2^64 - 1 where it is more.
     message_len: u64,
+    /// Whether the octets are known to keep these records alone.
+    alone: bool,
 }
 
 impl Model for Sets {
@@ -48,7 +52,7 @@ impl Model for Sets {
     ghost view = { λ s. all_records s.class s.octets.items (joined s.entries) };
 
     ghost invariant = { λ s.
-        KeepsSets s.class s.base s.octets.items (joined s.entries) s.message_len };
+        KeepsSets s.class s.base s.octets.items (joined s.entries) s.message_len s.alone };
 }
 
 impl Sets {
@@ -66,10 +70,12 @@ impl Sets {
             octets: Vec::new(alloc),
             entries: SortedChunks::new(alloc),
             message_len: 0,
+            alone: true,
         }
     }
 
     /// The sets of entries in canonical order, whose records take so many octets in messages.
+    /// `alone` tells whether the octets keep these records alone.
     ///
     /// # Errors
     ///
@@ -81,8 +87,9 @@ impl Sets {
         octets: Vec<u8>,
         entries: Vec<Entry>,
         message_len: u64,
+        alone: bool,
     ) -> Result<Sets, AllocError>
-        requires { KeepsSets class base octets.items entries.items message_len }
+        requires { KeepsSets class base octets.items entries.items message_len alone }
         ensures { IfOk result (λ sets. sets ≡ all_records class octets.items entries.items) }
     {
         Ok(Sets {
@@ -91,6 +98,7 @@ impl Sets {
             octets,
             entries: SortedChunks::of_sorted(alloc, entries)?,
             message_len,
+            alone,
         })
     }
 
@@ -100,6 +108,16 @@ impl Sets {
         ensures compatible { AreCompatible self.now }
     {
         Records::new(self.class, self.octets.as_slice(), self.entries.iter())
+    }
+
+    /// The records in the order in which they are kept. `None`: the octets may keep others too.
+    pub(crate) fn kept(&self) -> Option<KeptRecords<'_>>
+        ensures { IfSome result (λ kept. IsPermutation kept self.now) }
+    {
+        if !self.alone {
+            return None;
+        }
+        Some(KeptRecords::new(self.class, self.octets.as_slice()))
     }
 
     /// How many records there are, or 2^64 - 1 where there are more.
@@ -174,6 +192,8 @@ impl Sets {
         if self.has_other_soa(rr) {
             return Err(Refusal::OtherSoa);
         }
+        // Nothing is known of octets to which one record after another is added.
+        self.alone = false;
         self.class = rr.class;
         settle_base(&mut self.base, &self.entries, &rr.owner);
         let is_new = put(&mut self.entries, &mut self.octets, &self.base, rr)?;

@@ -1,7 +1,9 @@
-ghost use Rattle.std.specs.Prelude.{◌≡◌, ◌-◌, ◌^◌, length, min};
+ghost use Rattle.std.specs.Prelude.{◌≡◌, ◌-◌, ◌^◌, length, min, IfSome};
+ghost use Rattle.std.specs.List.Sorted.{IsPermutation};
 ghost use Rattle.zone_set.specs.Message.{message_octets};
 ghost use Rattle.zone_set.specs.Zone.{IsZone};
 
+use crate::kept_records::KeptRecords;
 use crate::records::Records;
 use crate::sets::Sets;
 use std::marker::Model;
@@ -55,6 +57,14 @@ impl Zone {
         ensures zone { IsZone self.now }
     {
         self.sets.message_len()
+    }
+
+    /// The records in the order in which memory holds them, in which they are passed over soonest.
+    /// `None`: memory may hold others between them, as where equal records came.
+    pub fn kept_records(&self) -> Option<KeptRecords<'_>>
+        ensures { IfSome result (λ kept. IsPermutation kept self.now.records) }
+    {
+        self.sets.kept()
     }
 
     /// The records in canonical order.

@@ -1,5 +1,5 @@
 -- A record and the sets that are held: why it is refused, and what is held with it.
-use Rattle.zone_set.proofs.Common.{AllByRecursion, AreCompatible, Bool, Entry, Has, HoldsEntries, IsEntry, IsPut, IsRecord, IsTrue, KeepsSets, List, OnErr, Placed, Record, Result, [], all_records, arith, common_steps, entry_record, eq-eqb, if◌then◌else◌, inl, inr, message_len, message_octets, min, ne_eqb, not, refl, ℕ, ◌+◌, ◌-◌, ◌==◌, ◌^◌, ◌↔◌, ◌∷◌, ◌≡◌, ◌≢◌, ◌⊎◌}
+use Rattle.zone_set.proofs.Common.{AllByRecursion, AreCompatible, Bool, Entry, Has, HoldsEntries, IsEntry, IsPut, IsRecord, IsTrue, KeepsSets, List, OnErr, Placed, Record, Result, [], all_records, arith, common_steps, entry_record, eq-eqb, false, if◌then◌else◌, inl, inr, message_len, message_octets, min, ne_eqb, not, refl, ℕ, ◌+◌, ◌-◌, ◌==◌, ◌^◌, ◌↔◌, ◌∷◌, ◌≡◌, ◌≢◌, ◌⊎◌}
 use Rattle.zone_set.proofs.Ordering.Between.{Has-with}
 use Rattle.zone_set.proofs.Holding.Inserting.{AreCompatible-with}
 use Rattle.zone_set.proofs.Holding.Together.{each_Has, stable_number}
@@ -47,7 +47,7 @@ octets_put old r is_new new put = grind (arith, common_steps)
 octets_counted : (sum new more octets counted : ℕ) → octets ≡ min sum (2 ^ 64 - 1) → new ≡ sum + more → counted ≡ min (octets + more) (2 ^ 64 - 1) → counted ≡ min new (2 ^ 64 - 1)
 octets_counted sum new more octets counted is is_new is_counted = omega arith
 
-module _ {class : ℕ} {base : List (List ℕ)} {octets : List ℕ} {es : List Entry} {counted : ℕ} (r : Record) (keeps : KeepsSets class base octets es counted) (no_class : OtherClass (all_records class octets es) r → ⊥) (no_soa : OtherSoa (all_records class octets es) r → ⊥) where
+module _ {class : ℕ} {base : List (List ℕ)} {octets : List ℕ} {es : List Entry} {counted : ℕ} (r : Record) {alone : Bool} (keeps : KeepsSets class base octets es counted alone) (no_class : OtherClass (all_records class octets es) r → ⊥) (no_soa : OtherSoa (all_records class octets es) r → ⊥) where
   abbrev Old : List Record
   Old = all_records class octets es
 
@@ -58,7 +58,7 @@ module _ {class : ℕ} {base : List (List ℕ)} {octets : List ℕ} {es : List E
   refused_put e why = grind (arith, seen, by_ttl)
 
   -- where memory was refused, the records are as before
-  pub KeepsSets-unchanged : (name : List (List ℕ)) (now : List ℕ) (fs : List Entry) → AllByRecursion (IsEntry name r.class now) fs → all_records r.class now fs ≡ all_records r.class octets es → KeepsSets r.class name now fs counted
+  pub KeepsSets-unchanged : (name : List (List ℕ)) (now : List ℕ) (fs : List Entry) → AllByRecursion (IsEntry name r.class now) fs → all_records r.class now fs ≡ all_records r.class octets es → KeepsSets r.class name now fs counted false
   KeepsSets-unchanged name now fs each records = grind (arith, seen)
 
   module _ (one_ttl : OtherTtl (all_records r.class octets es) r → ⊥) (whole : IsRecord r) (name : List (List ℕ)) (now : List ℕ) (fs : List Entry) (is_new : Bool) (each : AllByRecursion (IsEntry name r.class now) fs) (told : IsPut (all_records r.class octets es) r is_new (all_records r.class now fs)) where
@@ -74,10 +74,11 @@ module _ {class : ℕ} {base : List (List ℕ)} {octets : List ℕ} {es : List E
     pub added : Adds Old r New
     added = Adds-put Old r is_new New keeps.holds.compatible was_put
 
-    pub KeepsSets-with : (after : ℕ) → after ≡ min (counted + (if is_new then message_len r else 0)) (2 ^ 64 - 1) → KeepsSets r.class name now fs after
+    pub KeepsSets-with : (after : ℕ) → after ≡ min (counted + (if is_new then message_len r else 0)) (2 ^ 64 - 1) → KeepsSets r.class name now fs after false
     KeepsSets-with after is_after = record {
       holds = record { each = each; compatible = AreCompatible-with Old New r keeps.holds.compatible accepted whole (λ s. (added.same s).0) added.ascend };
       counts = octets_counted (message_octets Old) (message_octets New) (if is_new then message_len r else 0) counted after keeps.counts (octets_put Old r is_new New was_put) is_after;
+      kept = λ is. cc;
     }
 
 -- the stop for a record that is handed back

@@ -1,7 +1,6 @@
 -- Records that are read back in the order in which they came.
 use Rattle.zone_set.proofs.Common.{Accepts, Adds, AddsEach, AllByRecursion, AllByRecursion-append, IsRecord, IsRow, IsSettledAs, IsStored, List, Place, Placed, Record, Stop, StopsAdd, StopsSettling, [], ap, append-nil, append_assoc, drop, drop_at, fault, flat_map, length, map, memory, read_record, record_from, refl, span, span_len, stored, subst, sym, take, take_at, ℕ, ◌++◌, ◌∙◌, ◌∷◌, ◌≡◌}
-use Rattle.zone_set.proofs.Lists.Repeats.{span_len-stored}
-use Rattle.zone_set.proofs.Storage.Storing.{read_stored}
+use Rattle.zone_set.proofs.Storage.Kept as kept
 use Rattle.zone_set.proofs.Lists.Taking.{AddsEach-push}
 use Rattle.zone_set.specs.ZoneList as zone_list
 use Rattle.zone_set.proofs.Lists.Listing.{IsSettledAs-offered, StopsSettling-offered}
@@ -39,22 +38,13 @@ first class octets place places (p ∷ others) row =
 
 module _ {class : ℕ} {octets : List ℕ} {place : Place} {places : List Place} {placed : List Placed} (f : First class octets place places placed) where
   pub read : record_from class octets 0 ≡ f.p.rr
-  read = ap (λ k. read_record k octets) (sym f.class_of) ∙ ap (read_record f.p.rr.class) f.kept ∙ read_stored f.p.rr (row_octets f.others) f.whole
+  read = kept.read f.p.rr (row_octets f.others) f.whole f.class_of f.kept
 
   pub stored_first : IsStored class octets 0
-  stored_first = (row_octets f.others, f.kept ∙ ap (λ r. stored r ++ row_octets f.others) (sym read))
+  stored_first = kept.stored_first f.p.rr (row_octets f.others) f.whole f.class_of f.kept
 
   pub whole_first : IsRecord (record_from class octets 0)
-  whole_first = subst IsRecord (sym read) f.whole
-
-  pub span_first : span octets 0 ≡ stored f.p.rr
-  span_first =
-      ap (λ l. take (span_len l) l) f.kept
-      ∙ ap (λ n. take n (stored f.p.rr ++ row_octets f.others)) (span_len-stored f.p.rr (row_octets f.others) f.whole)
-      ∙ take_at (stored f.p.rr) (row_octets f.others) (length (stored f.p.rr)) refl
-
-  pub rest_first : (n : ℕ) → n ≡ length (stored f.p.rr) → drop n octets ≡ row_octets f.others
-  rest_first n is = ap (drop n) f.kept ∙ drop_at (stored f.p.rr) (row_octets f.others) n (sym is)
+  whole_first = kept.whole_first f.p.rr (row_octets f.others) f.whole f.class_of f.kept
 
 -- some first records were taken, and these are left
 pub record HasOffered (class : ℕ) (placed : List Placed) (held : List Record) (octets : List ℕ) (places : List Place) : Type 0 where
@@ -78,7 +68,7 @@ module _ (class : ℕ) (placed : List Placed) (held : List Record) (octets : Lis
   pub HasOffered-more : (r : Record) (new : List Record) (rest : List ℕ) → r ≡ record_from class octets 0 → rest ≡ drop (length (span octets 0)) octets → Accepts held r → Adds held r new → HasOffered class placed new rest places
   HasOffered-more r new rest is left fits adds =
       let own : r ≡ now.p.rr = is ∙ read now in
-      let now_left : rest ≡ row_octets now.others = left ∙ rest_first now (length (span octets 0)) (ap length (span_first now)) in
+      let now_left : rest ≡ row_octets now.others = left ∙ kept.rest_first now.p.rr (row_octets now.others) now.whole now.class_of now.kept (length (span octets 0)) (ap length (kept.span_first now.p.rr (row_octets now.others) now.whole now.class_of now.kept)) in
       record {
         taken = had.taken ++ now.p ∷ [];
         left = now.others;

@@ -2,11 +2,12 @@
 -- each record stands in them.
 use Rattle.std.specs.Prelude.{◌≡◌, ◌≢◌, ℕ, ◌-◌, ◌^◌, ◌<◌, min, Bool, true, false, List, ◌∷◌, ◌++◌, map}
 use Rattle.std.specs.List.{AllByRecursion}
+use Rattle.std.specs.List.Sorted.{IsPermutation}
 use Rattle.std.specs.declared.cmp.Ordering.TheVariants.{Less}
 use Rattle.zone_name.specs.Name.{IsWithin}
 use Rattle.zone_rdata.specs.Record.{Record, IsRecord}
 use Rattle.zone_set.specs.Machine.Hint.{IsHint}
-use Rattle.zone_set.specs.Machine.Stored.{record_from, IsHead, IsStored}
+use Rattle.zone_set.specs.Machine.Stored.{record_from, AreKept, IsHead, IsStored}
 use Rattle.zone_set.specs.Message.{message_octets}
 use Rattle.zone_set.specs.Order.{canonical_cmp, Ascends}
 use Rattle.zone_set.specs.Zone.{Has, AreCompatible, InOneSet}
@@ -55,11 +56,18 @@ pub record HoldsEntries (base : List (List ℕ)) (class : ℕ) (octets : List �
   pub each : AllByRecursion (IsEntry base class octets) entries
   pub compatible : AreCompatible (all_records class octets entries)
 
--- such entries, and the octets that their records take in messages, as far as 64 bits count them
+-- the octets keep these records and no others, one after another in some order
+abbrev pub AreAllKept : ℕ → List ℕ → List Record → Type 0
+AreAllKept class octets records =
+    (kept : List Record) × AreKept class octets kept × IsPermutation kept records
+
+-- such entries, the octets that their records take in messages, as far as 64 bits count them, and
+-- whether the octets are known to keep these records alone
 pub record KeepsSets (class : ℕ) (base : List (List ℕ)) (octets : List ℕ) (entries : List Entry)
-    (counted : ℕ) : Type 0 where
+    (counted : ℕ) (alone : Bool) : Type 0 where
   pub holds : HoldsEntries base class octets entries
   pub counts : counted ≡ min (message_octets (all_records class octets entries)) (2 ^ 64 - 1)
+  pub kept : alone ≡ true → AreAllKept class octets (all_records class octets entries)
 
 -- records of one set whose TTLs differ
 abbrev pub HasOtherTtl : Record → Record → Type 0

@@ -1,8 +1,9 @@
 -- The octets that keep records, one after another. All are of one class, which is kept once.
-use Rattle.std.specs.Prelude.{◌≡◌, ℕ, List, ◌∷◌, ◌++◌, length, take, drop, slice_index}
+use Rattle.std.specs.Prelude.{◌≡◌, ℕ, zero, suc, List, [], ◌∷◌, ◌++◌, length, flat_map, take, drop, slice_index}
+use Rattle.std.specs.List.{AllByRecursion}
 use Rattle.std.specs.Int.{from_be_bytes, to_be_bytes, w16, w32}
 use Rattle.zone_name.specs.Name.{labels_of, wire}
-use Rattle.zone_rdata.specs.Record.{Record}
+use Rattle.zone_rdata.specs.Record.{Record, IsRecord}
 use Rattle.zone_set.specs.declared.stored.Head.{Head}
 
 -- the octets of a record: TTL, type, the lengths of its owner and of its data, its owner
@@ -32,6 +33,20 @@ record_from class octets at = read_record class (drop at octets)
 abbrev pub IsStored : ℕ → List ℕ → ℕ → Type 0
 IsStored class octets at =
     (after : List ℕ) × (drop at octets ≡ stored (record_from class octets at) ++ after)
+
+-- the octets keep these records of a class, one after another
+pub record AreKept (class : ℕ) (octets : List ℕ) (records : List Record) : Type 0 where
+  pub classes : AllByRecursion (λ r. r.class ≡ class) records
+  pub whole : AllByRecursion IsRecord records
+  pub kept : octets ≡ flat_map stored records
+
+-- the records of a class that octets keep one after another, of which there are at most n
+unfoldable pub kept_records : ℕ → ℕ → List ℕ → List Record
+kept_records class zero octets = []
+kept_records class (suc n) [] = []
+kept_records class (suc n) (c ∷ octets) =
+    read_record class (c ∷ octets)
+    ∷ kept_records class n (drop (length (stored (read_record class (c ∷ octets)))) (c ∷ octets))
 
 -- the nine octets before the owner of the record at a place
 abbrev pub IsHead : List ℕ → Head → Type 0

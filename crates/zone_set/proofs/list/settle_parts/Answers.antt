@@ -1,5 +1,6 @@
-use Rattle.zone_set.proofs.Common.{AllByRecursion, IsEntry, KeepsList, arith, err_from_is_err_and, length, listed, refl, subst, sym, ◌∙◌, ◌≡◌}
+use Rattle.zone_set.proofs.Common.{AllByRecursion, AreKept, IsEntry, IsPermutation-map, KeepsList, all_records, arith, entry_record, eqb-true, err_from_is_err_and, length, listed, refl, subst, sym, ◌∙◌, ◌≡◌}
 use Rattle.zone_set.proofs.Lists.Listing.{IsSettledAs-sorted}
+use Rattle.zone_set.proofs.Storage.Kept.{row_kept}
 use Rattle.zone_set.proofs.Storage.MessageLens.{len_of_moved}
 use Rattle.zone_set.specs.ZoneList.{IsSettledAs, memory}
 use Rattle.zone_set.proofs.list.settle_parts.Goals as goal
@@ -19,6 +20,13 @@ of_sorted-requires g c = record {
     compatible = rw c.as_slice.ensures.value at (c.if-settle.ensures.compatible refl);
   };
   counts = rw (c.as_slice-then-settle.ensures.value, c.as_slice-then-settle-2.ensures.value) at c.len_of_entries-message_len.ensures;
+  kept = λ all.
+      let keeps : KeepsList c.args.class c.args.base c.args.octets.items c.args.entries.items c.args.places = c.requires.1.1 in
+      let count : length c.settle.new.entries.items ≡ length c.args.entries.items = omega (arith, eqb-true _ _ all, c.len.ensures, c.len-listed.ensures, c.args.entries.ok, c.settle.new.entries.ok) in (
+        all_records c.args.class c.args.octets.items c.args.entries.items,
+        subst (AreKept c.args.class c.args.octets.items) keeps.all (row_kept _ _ _ _ keeps.row),
+        IsPermutation-map (entry_record c.args.class c.args.octets.items) _ _ (c.settle.ensures.whole count),
+      );
 }
 
 pub returns-in_err-sets-clause-refused : goal.returns-in_err-sets-clause-refused
