@@ -1,7 +1,10 @@
 -- How many octets lines have, against those that their records take in messages.
-use Rattle.zone_print.proofs.Common.{common_steps, ◌≡◌, ℕ, ◌+◌, ◌*◌, ◌≤◌, List, [], ◌∷◌, ◌++◌, length, decimal, arith, length-append, AllByRecursion, name_text, Record, IsRecord, data_of, data_text, class_text, kind_text, Zone, IsZone, canon, line, lines}
+use Rattle.zone_print.proofs.Common.{common_steps, refl, sym, ◌∙◌, ◌≡◌, ℕ, ◌+◌, ◌*◌, ◌≤◌, List, [], ◌∷◌, ◌++◌, length, decimal, arith, length-append, AllByRecursion, name_text, Record, IsRecord, data_of, data_text, class_text, kind_text, Zone, IsZone, canon, line, lines}
 use Rattle.std.proofs.lemmas.Fmt.{length-decimal-le}
+use Rattle.std.proofs.lemmas.List.Sorted.{sum_by-IsPermutation}
 use Rattle.std.proofs.lemmas.List.Sums.{sum_by-cons}
+use Rattle.std.specs.List.{sum_by}
+use Rattle.std.specs.List.Sorted.{IsPermutation}
 use Rattle.zone_name.proofs.Texts.Lengths.{name_text_length}
 use Rattle.zone_rdata.proofs.Texts.TextLengths.{class_length, data_text_length, kind_length}
 use Rattle.zone_set.specs.Message.{message_len, message_octets}
@@ -27,3 +30,12 @@ lines_length (r ∷ records) each = omega (arith, sum_by-cons message_len r reco
 
 pub canon_length : (z : Zone) → IsZone z → length (canon z) ≤ 4 * message_octets z.records
 canon_length z is = lines_length z.records is.compatible.each
+
+lines_counted : (records : List Record) → length (lines records) ≡ sum_by (λ r. length (line r)) records
+lines_counted [] = refl
+lines_counted (r ∷ records) = omega (arith, sum_by-cons (λ r. length (line r)) r records, length-append (line r) (lines records), lines_counted records)
+
+-- in any order the lines are as long
+pub moved_length : (records others : List Record) → IsPermutation records others → length (lines records) ≡ length (lines others)
+moved_length records others moves =
+    lines_counted records ∙ sym (sum_by-IsPermutation (λ r. length (line r)) records others moves) ∙ sym (lines_counted others)

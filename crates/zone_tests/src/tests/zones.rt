@@ -219,3 +219,14 @@ fn a_refused_record_comes_back(rt: HostRuntime) -> Result<(), Fail> {
     check(comes_back(&mut builder, last), "the record comes back")?;
     check(builder.finish()?.len() == 2, "the others stay")
 }
+
+#[test]
+fn records_in_the_order_of_memory(rt: HostRuntime) -> Result<(), Fail> {
+    let file = b"x. 3600 IN NS n.x.\nx. 3600 IN SOA n.x. h.x. 1 2 3 4 5\n";
+    let zone = lent(rt.alloc(), reading_of(rt.alloc(), file)?)?;
+    let mut kept = zone.kept_records().ok_or("no record was dropped")?;
+    let first = kept.next().ok_or("a record is held")?;
+    let second = kept.next().ok_or("another is held")?;
+    check(first.kind.is_soa() != second.kind.is_soa(), "one is the SOA")?;
+    check(kept.next().is_none(), "no third is held")
+}
