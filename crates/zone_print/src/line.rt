@@ -84,7 +84,10 @@ pub(crate) fn push_lines<S: Sink>(out: &mut S, zone: &Zone) -> Result<(), S::Err
 /// # Errors
 ///
 /// `out` refuses octets. A prefix of the text may have been appended.
-pub(crate) fn push_kept_lines<S: Sink>(out: &mut S, records: KeptRecords<'_>) -> Result<(), S::Error>
+pub(crate) fn push_kept_lines<S: Sink>(
+    out: &mut S,
+    records: KeptRecords<'_>,
+) -> Result<(), S::Error>
     ensures { OnOk result (S.takes out.old (lines records.entry) out.new) }
 {
     for rr in records {

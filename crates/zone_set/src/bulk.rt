@@ -15,6 +15,9 @@ use crate::stored::record_at;
 use crate::tie;
 use zone_rdata::Class;
 
+/// How many entries are looked at at once.
+const AHEAD: usize = 16;
+
 /// Puts entries in order and drops those of equal records, where their records can stand together.
 /// Else they are of the same records, in any order. Where they are as many as before, none was
 /// dropped.
@@ -63,14 +66,40 @@ fn sort_runs(class: Class, octets: &[u8], entries: &mut [Entry], front: usize) -
     ensures next { IsTrue result → AreNeighbours (all_records class octets.now entries.new) }
 {
     sort_by_hint(entries);
-    let (mut start, mut stand) = (0, true);
+    let (mut start, mut stand, mut seen) = (0, true, 0usize);
     while let Some((hint, len)) = first_run(&entries[start..]) {
+        if start >= seen {
+            stand = stand & records_stand(octets, &entries[start..]);
+            seen = start.saturating_add(AHEAD);
+        }
         let run = &mut entries[start..start + len];
         sort_run(run, octets, front, hint, first_digit(hint, front, 0));
         stand = stand_after(stand, class, octets, &entries[..start + len], start);
         start += len;
     }
     stand
+}
+
+/// Whether records stand where the next entries say that share a hint, as they do. By the question
+/// their octets come out of memory side by side, and not one after another as they are compared.
+fn records_stand(octets: &[u8], entries: &[Entry]) -> bool {
+    let ahead = &entries[..entries.len().min(AHEAD + 1)];
+    let mut stand = true;
+    for next in 1..ahead.len() {
+        let (a, b) = (ahead[next - 1], ahead[next]);
+        if a.hint == b.hint {
+            stand = stand & stands(octets, a.at) & stands(octets, b.at);
+        }
+    }
+    stand
+}
+
+/// Whether a record stands at a place, told by its owner's length, which is never 0.
+fn stands(octets: &[u8], at: usize) -> bool {
+    match octets.get(at.saturating_add(6)) {
+        Some(owner_len) => *owner_len != 0,
+        None => false,
+    }
 }
 
 /// Whether the entries before a place stand, as is told, and those from there on after them.

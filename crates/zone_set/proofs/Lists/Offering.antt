@@ -1,5 +1,5 @@
 -- Records that are read back in the order in which they came.
-use Rattle.zone_set.proofs.Common.{Accepts, Adds, AddsEach, AllByRecursion, AllByRecursion-append, IsRecord, IsRow, IsSettledAs, IsStored, List, Place, Placed, Record, Stop, StopsAdd, StopsSettling, [], ap, append-nil, append_assoc, drop, drop_at, fault, flat_map, length, map, memory, read_record, record_from, refl, span, span_len, stored, subst, sym, take, take_at, ℕ, ◌++◌, ◌∙◌, ◌∷◌, ◌≡◌}
+use Rattle.zone_set.proofs.Common.{Accepts, Adds, AddsEach, AllByRecursion, AllByRecursion-append, IsRecord, IsRow, IsSettledAs, IsStored, List, Place, Placed, Record, Stop, StopsAdd, StopsSettling, [], ap, append-nil, append_assoc, drop, fault, flat_map, length, map, memory, record_from, refl, span, stored, subst, sym, ℕ, ◌++◌, ◌∙◌, ◌∷◌, ◌≡◌}
 use Rattle.zone_set.proofs.Storage.Kept as kept
 use Rattle.zone_set.proofs.Lists.Taking.{AddsEach-push}
 use Rattle.zone_set.specs.ZoneList as zone_list

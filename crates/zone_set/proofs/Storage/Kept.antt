@@ -76,7 +76,7 @@ kept_are zero class (c ∷ octets) (r ∷ records) are few = absurd (omega (arit
 kept_are (suc n) class (c ∷ octets) (r ∷ records) are few =
     let is : read_record class (c ∷ octets) ≡ r = read r (flat_map stored records) are.whole.0 are.classes.0 are.kept in
     let left : drop (length (stored (read_record class (c ∷ octets)))) (c ∷ octets) ≡ flat_map stored records =
-        ap (λ s. drop (length (stored s)) (c ∷ octets)) is ∙ rest_first r (flat_map stored records) are.whole.0 are.classes.0 are.kept (length (stored r)) refl in
+    ap (λ s. drop (length (stored s)) (c ∷ octets)) is ∙ rest_first r (flat_map stored records) are.whole.0 are.classes.0 are.kept (length (stored r)) refl in
     let rest : AreKept class (flat_map stored records) records = record { classes = are.classes.1; whole = are.whole.1; kept = refl } in
     ap₂ (λ s others. s ∷ kept_records class n others) is left
     ∙ ap (λ rs. r ∷ rs) (kept_are n class (flat_map stored records) records rest (omega (arith, few, ap length are.kept, length-append (stored r) (flat_map stored records), stored_some r)))

@@ -227,6 +227,9 @@ fn records_in_the_order_of_memory(rt: HostRuntime) -> Result<(), Fail> {
     let mut kept = zone.kept_records().ok_or("no record was dropped")?;
     let first = kept.next().ok_or("a record is held")?;
     let second = kept.next().ok_or("another is held")?;
-    check(first.kind.is_soa() != second.kind.is_soa(), "one is the SOA")?;
+    check(
+        first.kind.is_soa() != second.kind.is_soa(),
+        "one is the SOA",
+    )?;
     check(kept.next().is_none(), "no third is held")
 }

@@ -1,6 +1,6 @@
 -- The record at the front is the first of those that are kept.
 use Rattle.zone_set.proofs.Common.{rules, sym, ◌∙◌}
-use Rattle.zone_set.proofs.Storage.Kept.{Passed, first_kept, none_left, passed, some_left, stored_first, whole_first}
+use Rattle.zone_set.proofs.Storage.Kept.{first_kept, none_left, passed, some_left, stored_first, whole_first}
 use Rattle.zone_set.proofs.kept_records.KeptRecordsIterator.next.Goals as goal
 
 pub returns-then-is_empty-clause-steps : goal.returns-then-is_empty-clause-steps
