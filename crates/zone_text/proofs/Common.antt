@@ -56,14 +56,12 @@ pub use Rattle.zone_text.specs.Inherited.{HasClass, IsLastOwner, IsOrigin, IsOwn
 pub use Rattle.zone_text.specs.Lasting.{BreaksAtEnd, BreaksForGood, EndInLineFeed, IsCutOff, IsLostEscape, StaysBroken, after_backslash, after_digit, after_two_digits, at_line_end, closing_stays, escape_open, escape_stays, nothing_left, one_digit, quote_open, quoted_escape_open, quoted_escape_stays, too_great, two_digits}
 pub use Rattle.zone_text.specs.Line.{IsItem, StatesWhole, line_of}
 pub use Rattle.zone_text.specs.Machine.Blank.{AreBlankLines, IsBlankLine, IsComment, commented, no_lines, one_line_more}
-pub use Rattle.zone_text.specs.Machine.Cutting.{Cutting, Front, Sign, a_blank, a_closing, a_line_feed, a_quote, a_semicolon, an_opening, bare_front, cut_on, depth_past, end_front, front_by, of_item, quoted_front, sign_of, stops, takes}
+pub use Rattle.zone_text.specs.Machine.Cutting.{Cutting, Front, IsInFront, IsNoToken, Sign, a_blank, a_closing, a_line_feed, a_quote, a_semicolon, an_opening, bare_front, cut_on, depth_past, end_front, front_by, of_item, quoted_front, sign_of, stops, takes}
 unfoldable pub use Rattle.zone_text.specs.Machine.Cutting.{before_line_feed, cut_by, cutting, from_line_feed, front_of}
 pub use Rattle.zone_text.specs.Machine.EntryReading.{DecidesEntry, DefaultTtlFault, HasHeadOf, HasOwnerOrNone, Head, IsReadTo, IsRecordEntry, LeavesNoRecord, OriginFaultUnder, SetsOrigin, SetsTtl, decides_fault, decides_none, decides_one, one_bare, with_owner}
 pub use Rattle.zone_text.specs.Machine.Feeding.{Follow, IsSplitter, ReadsEntry, ReadsOctets, ScansTo, state_of}
-pub use Rattle.zone_text.specs.Machine.ItemLengths.{EndsAt, EndsBefore, ItemReaches, ends_within, stops_bare, stops_within}
-unfoldable pub use Rattle.zone_text.specs.Machine.ItemLengths.{item_len}
+pub use Rattle.zone_text.specs.Machine.ItemLengths.{EndsAt, ends_within, item_len, stops_bare, stops_within}
 pub use Rattle.zone_text.specs.Machine.Kept.{IsShort, Keeps, KeepsBare}
-pub use Rattle.zone_text.specs.Machine.Line.{IsInFront, IsInside, IsQuoted}
 pub use Rattle.zone_text.specs.Machine.Lower.{Choices, Lower, Once}
 pub use Rattle.zone_text.specs.Machine.Scan.{AreQuiet, beginning, closed, comment_step, end_fault_of, ends_number, escape_step, fed_line, further, moves, on, open_at, open_step, quoted_step, scan_on, step_in, step_of, unclosed}
 unfoldable pub use Rattle.zone_text.specs.Machine.Scan.{scan_of}

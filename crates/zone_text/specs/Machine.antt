@@ -5,7 +5,6 @@ pub mod EntryReading
 pub mod Feeding
 pub mod ItemLengths
 pub mod Kept
-pub mod Line
 pub mod Lower
 pub mod OpenEntry
 pub mod Scan

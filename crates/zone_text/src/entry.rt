@@ -111,5 +111,9 @@ pub fn first_token(text: &[u8]) -> Option<(Option<Item<'_>>, &[u8])>
         → (option_to_list (option_map raw found.0) ≡ item_of p) × AreTokensOf found.1.now more) }
     ensures shorter { IfSome result (λ found. length found.1.now < length text.now) }
 {
-    split_token(text)
+    match split_token(text) {
+        Some(found) => Some(found),
+        None if text.is_empty() => None,
+        None => Some((None, &[])),
+    }
 }

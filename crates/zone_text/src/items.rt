@@ -1,16 +1,17 @@
-ghost use Rattle.std.specs.Prelude.{◌≡◌, ◌≤◌, ◌<◌, List, [], ◌∷◌, ◌++◌, map, length, drop, take, false, not, IsTrue, IfNone, IfSome, OnOk, option_map, option_to_list};
+ghost use Rattle.std.specs.Prelude.{◌≡◌, ◌≤◌, map, length, drop, take, false, not, IsTrue, IfNone, IfSome, OnOk, option_map, option_to_list};
 ghost use Rattle.std.specs.List.{All};
-ghost use Rattle.zone_name.specs.Common.{AreOctets, Octets};
+ghost use Rattle.zone_name.specs.Common.{AreOctets};
 ghost use Rattle.zone_rdata.specs.Item.{raw};
-ghost use Rattle.zone_text.specs.Entries.{item_of};
-ghost use Rattle.zone_text.specs.Tokens.{Token, IsToken, ends_item, is_blank, token_text};
-ghost use Rattle.zone_text.specs.Machine.ItemLengths.{EndsAt, EndsBefore, ItemReaches, ends_within, item_len, stops_within};
+ghost use Rattle.zone_text.specs.Tokens.{ends_item, is_blank};
+ghost use Rattle.zone_text.specs.Machine.Cutting.{IsInFront, IsNoToken, front_of};
+ghost use Rattle.zone_text.specs.Machine.ItemLengths.{EndsAt, ends_within, item_len, stops_within};
 ghost use Rattle.zone_text.specs.Machine.Kept.{IsShort, Keeps};
 ghost use Rattle.zone_text.specs.Kept.{KeepsItems};
 
 use crate::comment::comment_len;
 use crate::table::stops_bare;
 use std::alloc::AllocError;
+use zone_name::escape_at;
 use zone_rdata::Item;
 
 /// Whether the octet parts items: a space, a tab or a carriage return.
@@ -46,7 +47,6 @@ impl Extent {
 pub(crate) fn plain_len(text: &[u8], extent: Extent) -> usize
     ensures within { result ≤ length text.now }
     ensures plain { All (λ c. stops_within extent c ≡ false) (take result text.now) }
-    ensures reaches { ItemReaches (ends_within extent) text.now result }
     ensures stops { EndsAt (stops_within extent) (drop result text.now) }
 {
     for (index, octet) in text.iter().enumerate() {
@@ -62,17 +62,18 @@ pub(crate) fn plain_len(text: &[u8], extent: Extent) -> usize
 #[inline(never)]
 fn escaped_len(text: &[u8], plain: usize, extent: Extent) -> usize
     requires within { plain ≤ length text.now }
-    requires reaches { ItemReaches (ends_within extent) text.now plain }
+    requires plain { All (λ c. stops_within extent c ≡ false) (take plain text.now) }
     requires stops { EndsAt (stops_within extent) (drop plain text.now) }
-    ensures len { result ≡ item_len (ends_within extent) false text.now }
+    ensures len { result ≡ item_len (ends_within extent) text.now }
     ensures within { result ≤ length text.now }
 {
     let mut len = plain;
     while len < text.len() && text[len] == b'\\' {
-        // The octet after a backslash goes with it.
-        len += (text.len() - len).min(2);
-        let (_, rest) = text.split_at(len);
-        len += plain_len(rest, extent);
+        let (_, escape) = text.split_at(len + 1);
+        let Some((_, rest)) = escape_at(escape) else {
+            return len;
+        };
+        len = text.len() - rest.len() + plain_len(rest, extent);
     }
     len
 }
@@ -80,7 +81,7 @@ fn escaped_len(text: &[u8], plain: usize, extent: Extent) -> usize
 /// The number of octets of the item at the beginning, without quotes.
 #[inline(always)]
 fn item_len(text: &[u8], extent: Extent) -> usize
-    ensures len { result ≡ item_len (ends_within extent) false text.now }
+    ensures len { result ≡ item_len (ends_within extent) text.now }
     ensures within { result ≤ length text.now }
 {
     let plain = plain_len(text, extent);
@@ -99,24 +100,31 @@ fn begins_bare(octet: u8) -> bool
     !stops_bare(octet) || octet == b'\\'
 }
 
-/// The first token of a text that is cut into tokens: its item, if it is one, and the rest. `None`:
-/// the text ends.
+/// The first token of a text: its item, if it is one, and the rest. `None`: the text ends, or it
+/// breaks where a token would begin, by a backslash that begins no escape or a quote that isn't
+/// closed.
 pub(crate) fn split_token(text: &[u8]) -> Option<(Option<Item<'_>>, &[u8])>
-    ensures end { IfNone result (text.now ≡ []) }
-    ensures found { IfSome result (λ found. (p : Token) (rest : Octets)
-        → IsToken p → EndsBefore p rest → text.now ≡ token_text p ++ rest
-        → (option_to_list (option_map raw found.0) ≡ item_of p) × (found.1.now ≡ rest)) }
-    ensures shorter { IfSome result (λ found. length found.1.now < length text.now) }
+    ensures found { IfSome result (λ found.
+        IsInFront text.now (option_to_list (option_map raw found.0)) found.1.now) }
+    ensures none { IfNone result (IsNoToken (front_of 1 text.now)) }
 {
     let (first, after) = text.split_first()?;
     let octet = *first;
     if begins_bare(octet) {
         let (item, rest) = text.split_at(item_len(text, Extent::Bare));
-        Some((Some(Item::Bare(item)), rest))
+        if item.is_empty() {
+            None
+        } else {
+            Some((Some(Item::Bare(item)), rest))
+        }
     } else if octet == b'"' {
         let (inside, closing) = after.split_at(item_len(after, Extent::Quoted));
-        let (_, rest) = closing.split_at(closing.len().min(1));
-        Some((Some(Item::Quoted(inside)), rest))
+        let (quote, rest) = closing.split_first()?;
+        if *quote == b'"' {
+            Some((Some(Item::Quoted(inside)), rest))
+        } else {
+            None
+        }
     } else if octet == b';' {
         let (_, rest) = after.split_at(comment_len(after));
         Some((None, rest))

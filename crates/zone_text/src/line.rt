@@ -1,78 +1,15 @@
 //! Entries of one line without parentheses, cut into items as their end is looked for (RFC 1035
-//! 5.1). Of escapes they have those of one octet alone, in bare items, as `\#`.
-ghost use Rattle.std.specs.Prelude.{◌≡◌, ◌==◌, ◌∷◌, [], count_by, map, length, take, IfOk, IfSome, OnOk, option_map, option_to_list};
-ghost use Rattle.zone_rdata.specs.Item.{bare, raw};
+//! 5.1).
+ghost use Rattle.std.specs.Prelude.{◌≡◌, ◌==◌, count_by, map, take, IfOk, IfSome, IsTrue, OnOk};
+ghost use Rattle.zone_rdata.specs.Item.{raw};
+ghost use Rattle.zone_rdata.specs.Strings.{item_text};
 ghost use Rattle.zone_text.specs.FirstEntry.{IsFirstEntry};
 ghost use Rattle.zone_text.specs.Machine.Kept.{KeepsBare};
-ghost use Rattle.zone_text.specs.Machine.Line.{IsInFront, IsQuoted};
 
-use crate::comment::comment_len;
-use crate::items::{Extent, keep, plain_len};
+use crate::items::{keep, split_token};
 use crate::stops::Stops;
-use crate::words::begins_with_digit;
 use std::alloc::AllocError;
 use zone_rdata::Item;
-
-/// The quoted item whose opening quote stands before these octets, and what follows it.
-fn quoted(octets: &[u8]) -> Option<(&[u8], &[u8])>
-    ensures { IfSome result (λ found. IsQuoted octets.now found.0.now found.1.now) }
-{
-    let (inside, closing) = octets.split_at(plain_len(octets, Extent::Quoted));
-    let (quote, rest) = closing.split_first()?;
-    if *quote == b'"' {
-        Some((inside, rest))
-    } else {
-        None
-    }
-}
-
-/// The token at the front, which is neither a blank nor a bare item: its item, if it is one, and
-/// what follows it. `None`: it is a parenthesis or a line feed, or isn't seen whole.
-fn token_in_front(octets: &[u8]) -> Option<(Option<Item<'_>>, &[u8])>
-    ensures { IfSome result (λ found.
-        IsInFront octets.now (option_to_list (option_map raw found.0)) found.1.now) }
-{
-    let (first, after) = octets.split_first()?;
-    let octet = *first;
-    if octet == b'"' {
-        let (inside, rest) = quoted(after)?;
-        Some((Some(Item::Quoted(inside)), rest))
-    } else if octet == b';' {
-        let (_, rest) = after.split_at(comment_len(after));
-        Some((None, rest))
-    } else {
-        None
-    }
-}
-
-/// The bare item at the front, and what follows it. `None`: an octet that is escaped in it is a
-/// digit or ends a line, or it isn't seen to end.
-// Not inlined: few items have a backslash.
-#[inline(never)]
-fn escaped_item(octets: &[u8]) -> Option<(&[u8], &[u8])>
-    ensures front { IfSome result (λ found.
-        IsInFront octets.now (bare found.0.now ∷ []) found.1.now) }
-    ensures line { IfSome result (λ found.
-        count_by (λ c. c == 10) found.1.now ≡ count_by (λ c. c == 10) octets.now) }
-{
-    let mut len = plain_len(octets, Extent::Bare);
-    loop {
-        let (text, after) = octets.split_at(len);
-        let (stop, escape) = after.split_first()?;
-        if *stop != b'\\' {
-            return if text.is_empty() {
-                None
-            } else {
-                Some((text, after))
-            };
-        }
-        let (octet, more) = escape.split_first()?;
-        if begins_with_digit(escape) || *octet == b'\n' || *octet == b'\r' {
-            return None;
-        }
-        len += 2 + plain_len(more, Extent::Bare);
-    }
-}
 
 /// Puts a bare item after those before it, where there are octets of it.
 #[inline(always)]
@@ -86,9 +23,17 @@ fn keep_bare<'t>(text: &'t [u8], items: &mut Vec<Item<'t>>) -> Result<(), AllocE
     Ok(())
 }
 
+/// Whether no line feed stands in the item, as may in a quoted one.
+fn is_on_one_line(item: Item) -> bool
+    ensures { IsTrue result → count_by (λ c. c == 10) (item_text (raw item.entry)) ≡ 0 }
+{
+    match item {
+        Item::Bare(text) | Item::Quoted(text) => !text.contains(&b'\n'),
+    }
+}
+
 /// Puts the items of the entry at the front in place of what `items` held, and gives the number of
-/// its octets. `None`: it has a parenthesis or an escape of another kind, takes more than one line,
-/// or isn't seen to end.
+/// its octets. `None`: it has a parenthesis, takes more than one line, breaks or isn't seen to end.
 ///
 /// # Errors
 ///
@@ -111,37 +56,30 @@ pub(crate) fn cut_line<'t>(
         let Some((stop, after)) = stopped.split_first() else {
             return Ok(None);
         };
-        if *stop == b'\\' {
-            let Some((item, left)) = escaped_item(rest) else {
-                return Ok(None);
-            };
-            keep(Item::Bare(item), items)?;
-            stops = Stops::unseen(left);
-            rest = left;
-            continue;
+        let mut front = rest;
+        if *stop != b'\\' {
+            keep_bare(bare, items)?;
+            if *stop == b'\n' {
+                return Ok(Some(octets.len() - after.len()));
+            }
+            // Of what stops a bare item, the other octets up to a space are blanks.
+            if *stop <= b' ' {
+                rest = after;
+                stops = next_stops;
+                continue;
+            }
+            front = stopped;
         }
-        keep_bare(bare, items)?;
-        if *stop == b'\n' {
-            return Ok(Some(octets.len() - after.len()));
-        }
-        // Of what stops a bare item, the other octets up to a space are blanks.
-        if *stop <= b' ' {
-            rest = after;
-            stops = next_stops;
-            continue;
-        }
-        let Some((item, left)) = token_in_front(stopped) else {
+        let Some((item, left)) = split_token(front) else {
             return Ok(None);
         };
-        let (passed, _) = stopped.split_at(stopped.len() - left.len());
-        if passed.contains(&b'\n') {
-            return Ok(None);
+        match item {
+            Some(item) if is_on_one_line(item) => keep(item, items)?,
+            None if *stop == b';' => {}
+            _ => return Ok(None),
         }
         rest = left;
         stops = Stops::unseen(rest);
-        if let Some(item) = item {
-            keep(item, items)?;
-        }
     }
     Ok(None)
 }

@@ -1,10 +1,11 @@
--- The entry at the front of octets, token by token, without parentheses and escapes.
-use Rattle.zone_text.proofs.Common.{All, AllByRecursion, AreKept, Bool, Cuts, EndsAt, EndsBefore, EntrySplitter, IsFirstEntry, IsInFront, IsInside, IsOneEntry, IsQuoted, IsSplitter, IsToken, IsUnit, Keeps, KeepsBare, KeepsItems, List, NoUnit, None, RawItem, ReadsOctets, Token, [], ap, append-nil, append_assoc, arith, at_octet, bare, before_line_feed, blank, closing, comment, common_steps, drop, ends_item, eqb-false, false, flat_map, from_line_feed, is_blank, is_quote, item_of, length, length-append, length-map, length-take, line_feed, map, ne_eqb, opening, or_parts, plain, quoted, recursion_from_All, refl, rules, subst, suc, sym, take, take-append-drop, take-append_seam, token_text, true, written_text, zero, ℕ, ◌++◌, ◌+◌, ◌-◌, ◌<◌, ◌==◌, ◌||◌, ◌∙◌, ◌∷◌, ◌≡◌, ◌≢◌}
+-- The entry at the front of octets, token by token, without parentheses.
+use Rattle.zone_text.proofs.Common.{AllByRecursion, AreKept, Bool, Cuts, EndsAt, EntrySplitter, IsFirstEntry, IsBadEscape, IsInFront, IsOneEntry, IsSplitter, IsUnit, Keeps, KeepsBare, KeepsItems, List, None, RawItem, ReadsOctets, Token, [], ap, append-nil, append_assoc, arith, at_backslash, at_end, at_octet, bare, blank, closing, comment, drop, ends_item, eqb-false, false, flat_map, is_blank, item_of, length, length-append, length-map, length-take, line_feed, map, ne_eqb, opening, or_parts, plain, refl, rules, subst, suc, sym, take, text_of, take-append-drop, take-append_seam, token_text, true, written_text, zero, ℕ, ◌++◌, ◌+◌, ◌-◌, ◌<◌, ◌==◌, ◌||◌, ◌∙◌, ◌∷◌, ◌≡◌, ◌≢◌, ⊤}
 use Rattle.zone_rdata.specs.Item as raw
 use Rattle.zone_text.proofs.Scanning.FedPieces.{FollowsOn, HasFed, fed_more}
-use Rattle.zone_text.proofs.Tokens.Cuttings.{cuts, is_cut, one_cut, one_token_more, shorter}
+use Rattle.zone_text.proofs.Tokens.Cuttings.{cuts, is_cut, one_cut, one_token_more}
 use Rattle.zone_text.proofs.Files.Followed.{follow_one}
-use Rattle.zone_text.proofs.Tokens.Fronts.{EndsComment, Takes, comment_dropped, comment_each, comment_ends, comment_whole}
+use Rattle.zone_text.proofs.Tokens.Fronts.{Begins, HasRoom, Stops, Takes, begins}
+use Rattle.zone_text.proofs.Tokens.ItemsLeft.{in_front_takes}
 use Rattle.zone_text.proofs.Entries.Kept.{keeps_more, none_kept}
 use Rattle.zone_text.proofs.Scanning.StopMarks.{goes_on, prefix_each, prefix_ends}
 use Rattle.std.proofs.lemmas.List.Sums.{prefix_len-le-length}
@@ -22,29 +23,57 @@ plain_units ends (c ∷ octets) each = let p = or_parts (ends c) (c == 92) each.
 
 -- ---- the token at the front
 
-pub blank_in_front : (octets rest : List ℕ) (c : ℕ) → octets ≡ c ∷ rest → is_blank c ≡ true → IsInFront octets [] rest
-blank_in_front octets rest c whole is = record { token = blank c; whole = whole; is = is; ends = tt; inside = tt; stated = refl }
+-- neither a parenthesis nor a line feed
+abbrev pub IsInside : Token → Type 0
+IsInside opening = ⊥
+IsInside closing = ⊥
+IsInside line_feed = ⊥
+IsInside p = ⊤
 
-ends_at : (octets : List ℕ) → EndsComment octets → EndsAt (λ c. c == 10) octets
-ends_at octets ends = grind arith
+-- such a token at the front of octets, its items and the rest
+pub record IsPassed (octets : List ℕ) (items : List RawItem) (rest : List ℕ) : Type 0 where
+  pub token : Token
+  pub takes : Takes zero octets token rest
+  pub inside : IsInside token
+  pub stated : item_of token ≡ items
 
-pub comment_in_front : (octets after rest : List ℕ) (c n : ℕ) → octets ≡ c ∷ after → c ≡ 59 → n ≡ length (before_line_feed after) → rest ≡ drop n after → IsInFront octets [] rest
-comment_in_front octets after rest c n whole is len back =
-    let left : rest ≡ from_line_feed after = back ∙ ap (λ k. drop k after) len ∙ comment_dropped after in
-    record {
-      token = comment (before_line_feed after);
-      whole = whole ∙ ap (λ d. d ∷ after) is ∙ ap (λ t. 59 ∷ t) (comment_whole after ∙ ap (λ t. before_line_feed after ++ t) (sym left));
-      is = comment_each after;
-      ends = subst (EndsAt (λ c. c == 10)) (sym left) (ends_at (from_line_feed after) (comment_ends after));
-      inside = tt;
-      stated = refl;
-    }
+pub blank_passed : (octets rest : List ℕ) (c : ℕ) → octets ≡ c ∷ rest → is_blank c ≡ true → IsPassed octets [] rest
+blank_passed octets rest c whole is = record { token = blank c; takes = record { whole = whole; token = is; stop = tt; room = tt }; inside = tt; stated = refl }
+
+passed_by : (octets rest : List ℕ) (items : List RawItem) (found : IsInFront octets items rest) → IsInside found.token → IsPassed octets items rest
+passed_by octets rest items found inside =
+    let takes = in_front_takes octets rest items found in
+    record { token = found.token; takes = record { whole = takes.whole; token = takes.token; stop = takes.stop; room = room found.token inside }; inside = inside; stated = found.stated }
+  where
+    room : (p : Token) → IsInside p → HasRoom zero p
+    room closing inside = absurd inside
+    room p inside = tt
+
+pub item_passed : (octets rest : List ℕ) (item : RawItem) → IsInFront octets (item ∷ []) rest → IsPassed octets (item ∷ []) rest
+item_passed octets rest item found = passed_by octets rest (item ∷ []) found (by found.token found.stated)
+  where
+    by : (p : Token) → item_of p ≡ item ∷ [] → IsInside p
+    by opening e = absurd cc
+    by closing e = absurd cc
+    by line_feed e = absurd cc
+    by p e = tt
+
+pub comment_passed : (octets after rest : List ℕ) (c : ℕ) → octets ≡ c ∷ after → c ≡ 59 → IsInFront octets [] rest → IsPassed octets [] rest
+comment_passed octets after rest c whole is found =
+    let takes = in_front_takes octets rest [] found in
+    passed_by octets rest [] found (by found.token (begins c after found.token rest takes.token (sym whole ∙ takes.whole)))
+  where
+    by : (p : Token) → Begins c p → IsInside p
+    by opening first = absurd (omega arith)
+    by closing first = absurd (omega arith)
+    by line_feed first = absurd (omega arith)
+    by p first = tt
 
 pub stops_or : (a b : Bool) → (a || b) ≡ true → b ≡ false → a ≡ true
 stops_or a b e none = search rules
 
-pub bare_in_front : (octets item rest more : List ℕ) (next n : ℕ) → 0 < n → n ≡ prefix_len goes_on octets → item ≡ take n octets → rest ≡ drop n octets → rest ≡ next ∷ more → next ≢ 92 → IsInFront octets (raw.bare item ∷ []) rest
-bare_in_front octets item rest more next n some len front back first other =
+pub bare_passed : (octets item rest more : List ℕ) (next n : ℕ) → 0 < n → n ≡ prefix_len goes_on octets → item ≡ take n octets → rest ≡ drop n octets → rest ≡ next ∷ more → next ≢ 92 → IsPassed octets (raw.bare item ∷ []) rest
+bare_passed octets item rest more next n some len front back first other =
     let each : AllByRecursion (λ d. (ends_item d || d == 92) ≡ false) (take n octets) = subst (λ k. AllByRecursion (λ d. (ends_item d || d == 92) ≡ false) (take k octets)) (sym len) (prefix_each octets) in
     let ends : EndsAt (λ d. ends_item d || d == 92) (drop n octets) = subst (λ k. EndsAt (λ d. ends_item d || d == 92) (drop k octets)) (sym len) (prefix_ends octets) in
     let units : AllByRecursion (λ d. (ends_item d || d == 92) ≡ false) item = subst (AllByRecursion (λ d. (ends_item d || d == 92) ≡ false)) (sym front) each in
@@ -53,28 +82,15 @@ bare_in_front octets item rest more next n some len front back first other =
     let long : length item ≡ n = ap length front ∙ omega (arith, length-take n octets, len, prefix_len-le-length goes_on octets) in
     record {
       token = bare (map plain item);
-      whole = sym (take-append-drop n octets) ∙ ap (λ t. t ++ drop n octets) (sym front ∙ sym (plain_text item)) ∙ ap (λ t. written_text (map plain item) ++ t) (sym back);
-      is = (let count : length (map plain item) ≡ length item = length-map item plain in omega (arith, count, long, some), plain_units ends_item item units);
-      ends = subst (EndsAt ends_item) (sym first) ended;
+      takes = record {
+        whole = sym (take-append-drop n octets) ∙ ap (λ t. t ++ drop n octets) (sym front ∙ sym (plain_text item)) ∙ ap (λ t. written_text (map plain item) ++ t) (sym back);
+        token = (let count : length (map plain item) ≡ length item = length-map item plain in omega (arith, count, long, some), plain_units ends_item item units);
+        stop = at_octet next more first ended;
+        room = tt;
+      };
       inside = tt;
       stated = ap (λ t. raw.bare t ∷ []) (plain_text item);
     }
-
-pub is_quoted : (octets inside close rest : List ℕ) (c n : ℕ) → All (λ d. (is_quote d || d == 92) ≡ false) (take n octets) → inside ≡ take n octets → close ≡ drop n octets → close ≡ c ∷ rest → c ≡ 34 → IsQuoted octets inside rest
-is_quoted octets inside close rest c n each front back first is = grind (arith, common_steps)
-
-pub quoted_in_front : (octets after inside rest : List ℕ) (c : ℕ) → octets ≡ c ∷ after → c ≡ 34 → IsQuoted after inside rest → IsInFront octets (raw.quoted inside ∷ []) rest
-quoted_in_front octets after inside rest c whole is found = record {
-  token = quoted (map plain inside);
-  whole = whole ∙ ap (λ d. d ∷ after) is ∙ ap (λ t. 34 ∷ t) (found.whole ∙ sym (append_assoc inside (34 ∷ []) rest) ∙ ap (λ t. (t ++ 34 ∷ []) ++ rest) (sym (plain_text inside)));
-  is = plain_units is_quote inside (recursion_from_All (λ d. (is_quote d || d == 92) ≡ false) _ found.plain);
-  ends = tt;
-  inside = tt;
-  stated = ap (λ t. raw.quoted t ∷ []) (plain_text inside);
-}
-
-pub in_front_shorter : (octets rest : List ℕ) (items : List RawItem) → IsInFront octets items rest → length rest < length octets
-in_front_shorter octets rest items found = shorter octets rest found.token found.is found.whole
 
 -- ---- tokens up to the line feed
 
@@ -96,19 +112,20 @@ cut_none octets kept none = record {
   goes = λ tail after more e some one. (more, one, refl);
 }
 
-ends_within : (ends : ℕ → Bool) (rest tail after : List ℕ) → rest ≡ tail ++ after → 0 < length tail → EndsAt ends rest → EndsAt ends tail
-ends_within ends rest tail after e some at = search rules
+bad_in_front : (tail after : List ℕ) (c : ℕ) → IsBadEscape (c ∷ tail ++ after) → IsBadEscape (c ∷ tail)
+bad_in_front tail after c bad = (tail, cc bad.1, λ w more is e. bad.2 w (more ++ after) is (ap (λ t. t ++ after) e ∙ append_assoc (text_of w) more after))
 
-bare_stops : (tail : List ℕ) → 0 < length tail → EndsAt ends_item tail → NoUnit ends_item tail
-bare_stops [] some at = absurd (omega (arith, some))
-bare_stops (c ∷ tail) some at = at_octet c tail refl at
+-- what stops a token stops it where less is seen
+stops_in_front : (p : Token) (c : ℕ) (tail after : List ℕ) → Stops p (c ∷ tail ++ after) → Stops p (c ∷ tail)
+stops_in_front (bare units) c tail after (at_end e) = absurd cc
+stops_in_front (bare units) c tail after (at_octet d rest e ends) = let same : c ≡ d = cc in at_octet c tail refl (ap ends_item same ∙ ends)
+stops_in_front (bare units) c tail after (at_backslash bad) = at_backslash (bad_in_front tail after c bad)
+stops_in_front (comment octets) c tail after stop = stop
+stops_in_front p c tail after stop = search rules
 
-takes_token : (p : Token) (rest tail after : List ℕ) → IsToken p → IsInside p → EndsBefore p rest → rest ≡ tail ++ after → 0 < length tail → Takes zero (token_text p ++ tail) p tail
-takes_token (blank c) rest tail after is inside at e some = search rules
-takes_token (comment octets) rest tail after is inside at e some = search rules
-takes_token (bare units) rest tail after is inside at e some = record { whole = refl; token = is; stop = bare_stops tail some (ends_within _ rest tail after e some at); room = tt }
-takes_token (quoted units) rest tail after is inside at e some = search rules
-takes_token p rest tail after is inside at e some = absurd inside
+takes_token : (p : Token) (octets rest tail after : List ℕ) → Takes zero octets p rest → rest ≡ tail ++ after → 0 < length tail → Takes zero (token_text p ++ tail) p tail
+takes_token p octets rest [] after takes e some = absurd (omega (arith, some))
+takes_token p octets rest (c ∷ tail) after takes e some = record { whole = refl; token = takes.token; stop = stops_in_front p c tail after (subst (Stops p) e takes.stop); room = takes.room }
 
 more_cut : (p : Token) (tail : List ℕ) (more : List Token) → IsInside p → Takes zero (token_text p ++ tail) p tail → IsOneEntry tail more → IsOneEntry (token_text p ++ tail) (p ∷ more)
 more_cut opening tail more inside takes one = absurd inside
@@ -116,26 +133,26 @@ more_cut closing tail more inside takes one = absurd inside
 more_cut line_feed tail more inside takes one = absurd inside
 more_cut p tail more inside takes one = search (rules, cuts, one_token_more, is_cut)
 
-more_by : (octets rest left : List ℕ) (kept new items : List RawItem) (so_far : IsCutTo octets rest kept) → IsInFront rest items left → AreKept (so_far.so_far ++ items) new → IsCutTo octets left new
+more_by : (octets rest left : List ℕ) (kept new items : List RawItem) (so_far : IsCutTo octets rest kept) → IsPassed rest items left → AreKept (so_far.so_far ++ items) new → IsCutTo octets left new
 more_by octets rest left kept new items so_far found are_kept = record {
   front = so_far.front ++ token_text found.token;
-  whole = so_far.whole ∙ ap (λ t. so_far.front ++ t) found.whole ∙ sym (append_assoc so_far.front (token_text found.token) left);
+  whole = so_far.whole ∙ ap (λ t. so_far.front ++ t) found.takes.whole ∙ sym (append_assoc so_far.front (token_text found.token) left);
   so_far = so_far.so_far ++ items;
   are_kept = are_kept;
   goes = λ tail after more e some one.
-      let takes = takes_token found.token left tail after found.is found.inside found.ends e some in
+      let takes = takes_token found.token rest left tail after found.takes e some in
       let next = more_cut found.token tail more found.inside takes one in
-      let whole : rest ≡ (token_text found.token ++ tail) ++ after = found.whole ∙ ap (λ t. token_text found.token ++ t) e ∙ sym (append_assoc (token_text found.token) tail after) in
+      let whole : rest ≡ (token_text found.token ++ tail) ++ after = found.takes.whole ∙ ap (λ t. token_text found.token ++ t) e ∙ sym (append_assoc (token_text found.token) tail after) in
       let long : 0 < length (token_text found.token ++ tail) = omega (arith, some, length-append (token_text found.token) tail) in
       let before = so_far.goes (token_text found.token ++ tail) after (found.token ∷ more) whole long next in
       let stated : so_far.so_far ++ (item_of found.token ++ flat_map item_of more) ≡ (so_far.so_far ++ items) ++ flat_map item_of more = ap (λ t. so_far.so_far ++ (t ++ flat_map item_of more)) found.stated ∙ sym (append_assoc so_far.so_far items (flat_map item_of more)) in
       (before.0, subst (λ t. IsOneEntry t before.0) (sym (append_assoc so_far.front (token_text found.token) tail)) before.1, before.2 ∙ stated);
 }
 
-pub cut_more : (octets rest left : List ℕ) (kept new : List RawItem) (item : RawItem) → IsCutTo octets rest kept → IsInFront rest (item ∷ []) left → Keeps item kept new → IsCutTo octets left new
-cut_more octets rest left kept new item so_far found keeps = grind (arith, more_by octets rest left kept new (item ∷ []) so_far found (keeps_more found.token so_far.so_far kept new item found.is (sym found.stated) so_far.are_kept keeps))
+pub cut_more : (octets rest left : List ℕ) (kept new : List RawItem) (item : RawItem) → IsCutTo octets rest kept → IsPassed rest (item ∷ []) left → Keeps item kept new → IsCutTo octets left new
+cut_more octets rest left kept new item so_far found keeps = grind (arith, more_by octets rest left kept new (item ∷ []) so_far found (keeps_more found.token so_far.so_far kept new item found.takes.token (sym found.stated) so_far.are_kept keeps))
 
-pub cut_on : (octets rest left : List ℕ) (kept : List RawItem) → IsCutTo octets rest kept → IsInFront rest [] left → IsCutTo octets left kept
+pub cut_on : (octets rest left : List ℕ) (kept : List RawItem) → IsCutTo octets rest kept → IsPassed rest [] left → IsCutTo octets left kept
 cut_on octets rest left kept so_far found =
     more_by octets rest left kept kept [] so_far found (subst (λ t. AreKept t kept) (sym (append-nil so_far.so_far)) so_far.are_kept)
 
@@ -147,7 +164,7 @@ cut_bare octets rest text stopped after kept new stop zero so_far len front back
 cut_bare octets [] text stopped after kept new stop (suc n) so_far len front back first other keeps = absurd (omega (arith, len))
 cut_bare octets (c ∷ rest) text stopped after kept new stop (suc n) so_far len front back first other keeps =
     let item : Keeps (raw.bare (c ∷ take n rest)) kept new = subst (λ t. KeepsBare t kept new) front keeps in
-    cut_more octets (c ∷ rest) stopped kept new (raw.bare (c ∷ take n rest)) so_far (bare_in_front (c ∷ rest) (c ∷ take n rest) stopped after stop (suc n) (omega arith) len refl back first other) item
+    cut_more octets (c ∷ rest) stopped kept new (raw.bare (c ∷ take n rest)) so_far (bare_passed (c ∷ rest) (c ∷ take n rest) stopped after stop (suc n) (omega arith) len refl back first other) item
 
 pub cut_ended : (octets rest after : List ℕ) (raws : List RawItem) (c n : ℕ) → IsCutTo octets rest raws → rest ≡ c ∷ after → c ≡ 10 → n ≡ length octets - length after → IsFirstEntry octets n raws
 cut_ended octets rest after raws c n so_far first is count =

@@ -42,7 +42,7 @@ after_bare units (quoted more) rest is may = at_octet 34 ((written_text more ++ 
 comment_passed : (octets : List ℕ) (q : Token) (rest : List ℕ) → MayFollow (comment octets) q → EndsComment (token_text q ++ rest)
 comment_passed octets q rest may = search rules
 
-next_stops : (p q : Token) (rest : List ℕ) → IsToken q → MayFollow p q → Stops p (token_text q ++ rest)
+pub next_stops : (p q : Token) (rest : List ℕ) → IsToken q → MayFollow p q → Stops p (token_text q ++ rest)
 next_stops (comment octets) q rest is may = comment_passed octets q rest may
 next_stops (bare units) q rest is may = after_bare units q rest is may
 next_stops p q rest is may = tt

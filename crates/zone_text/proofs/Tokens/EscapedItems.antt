@@ -1,70 +1,74 @@
--- Bare items in which backslashes stand before single octets.
-use Rattle.zone_text.proofs.Common.{All, AllByRecursion, AllByRecursion-append, EndsAt, IsInFront, IsUnit, List, Written, [], ap, append_assoc, arith, bare, drop, drop-append_seam, ends_item, escaped, flat_map-append, is_digit, length, length-append, length-take, map, ne_eqb, plain, recursion_from_All, stops_bare, subst, sym, take, take-append-drop, take-append_seam, text_of, written_text, ℕ, ◌++◌, ◌+◌, ◌<◌, ◌==◌, ◌∙◌, ◌∷◌, ◌≡◌, ◌≢◌, ◌≤◌, false, true}
-use Rattle.zone_rdata.specs.Item as raw
+-- Items in which escapes stand among octets by themselves.
+use Rattle.zone_text.proofs.Common.{All, AllByRecursion, AllByRecursion-append, Bool, EndsAt, IsBadEscape, IsUnit, List, NoUnit, Units, Written, [], ap, append_assoc, arith, at_backslash, at_end, at_octet, drop, drop-append_seam, ends_within, flat_map-append, get_or, item_len, length, length-append, length-drop, length-take, map, ne_eqb, plain, recursion_from_All, refl, subst, sym, take, take-append-drop, take-append_seam, text_of, unit_of_escape, units_first_only, written_text, ℕ, ◌++◌, ◌+◌, ◌-◌, ◌<◌, ◌==◌, ◌||◌, ◌∙◌, ◌∷◌, ◌≡◌, ◌≢◌, ◌≤◌, false}
+use Rattle.zone_name.specs.Spelling.{BeginsWithEscape}
 use Rattle.zone_text.proofs.Scanning.FirstEntries.{plain_text, plain_units, stops_or}
-use Rattle.zone_text.proofs.Files.Left.{line_feeds}
-use Rattle.zone_text.proofs.Tokens.OneLine.{none_written, passed_none}
+use Rattle.zone_text.proofs.Tokens.TokenEnds.{first_at}
+use Rattle.zone_text.specs.declared.items.Extent.{Extent}
+use Rattle.zone_text.specs.declared.items.Extent.TheVariants.{Bare, Quoted}
 
--- the first octets are written octets of a bare item, and what follows ends it or is a backslash
-pub record IsEscapedTo (octets : List ℕ) (len : ℕ) : Type 0 where
+-- the first octets are written octets of an item, and what follows ends it or is a backslash
+pub record IsWrittenTo (ends : ℕ → Bool) (octets : List ℕ) (len : ℕ) : Type 0 where
   pub units : List Written
-  pub each : AllByRecursion (IsUnit ends_item) units
+  pub each : AllByRecursion (IsUnit ends) units
   pub text : take len octets ≡ written_text units
-  pub stops : EndsAt stops_bare (drop len octets)
+  pub stops : EndsAt (λ c. ends c || c == 92) (drop len octets)
   pub within : len ≤ length octets
 
-each_plain : (octets : List ℕ) → All (λ c. stops_bare c ≡ false) octets → AllByRecursion (IsUnit ends_item) (map plain octets)
-each_plain octets each = plain_units ends_item octets (recursion_from_All (λ c. stops_bare c ≡ false) octets each)
+each_plain : (ends : ℕ → Bool) (octets : List ℕ) → All (λ c. (ends c || c == 92) ≡ false) octets → AllByRecursion (IsUnit ends) (map plain octets)
+each_plain ends octets each = plain_units ends octets (recursion_from_All (λ c. (ends c || c == 92) ≡ false) octets each)
 
-pub plain_so_far : (octets : List ℕ) (n : ℕ) → n ≤ length octets → All (λ c. stops_bare c ≡ false) (take n octets) → EndsAt stops_bare (drop n octets) → IsEscapedTo octets n
-plain_so_far octets n within each stops = record {
+pub plain_so_far : (ends : ℕ → Bool) (octets : List ℕ) (n : ℕ) → n ≤ length octets → All (λ c. (ends c || c == 92) ≡ false) (take n octets) → EndsAt (λ c. ends c || c == 92) (drop n octets) → IsWrittenTo ends octets n
+plain_so_far ends octets n within each stops = record {
   units = map plain (take n octets);
-  each = each_plain (take n octets) each;
+  each = each_plain ends (take n octets) each;
   text = sym (plain_text (take n octets));
   stops = stops;
   within = within;
 }
 
-pub escaped_more : (octets after escape more : List ℕ) (mark c len k n : ℕ) → IsEscapedTo octets len → after ≡ drop len octets → after ≡ mark ∷ escape → mark ≡ 92 → escape ≡ c ∷ more → is_digit c ≡ false → c ≢ 10 → c ≢ 13 → k ≤ length more → All (λ c. stops_bare c ≡ false) (take k more) → EndsAt stops_bare (drop k more) → n ≡ len + (2 + k) → IsEscapedTo octets n
-escaped_more octets after escape more mark c len k n so_far back first is next no_digit no_feed no_return fits each stops count =
-    let more_text : List ℕ = 92 ∷ c ∷ take k more in
+at_mark : (octets escape : List ℕ) (len : ℕ) → len < length octets → get_or octets len 0 ≡ 92 → escape ≡ drop (len + 1) octets → drop len octets ≡ 92 ∷ escape
+at_mark octets escape len less is back = first_at octets len less ∙ ap (λ m. m ∷ drop (len + 1) octets) is ∙ ap (λ t. 92 ∷ t) (sym back)
+
+pub escape_more : (ends : ℕ → Bool) (octets escape rest : List ℕ) (octet len k n : ℕ) → IsWrittenTo ends octets len → len < length octets → get_or octets len 0 ≡ 92 → escape ≡ drop (len + 1) octets → BeginsWithEscape (92 ∷ escape) octet rest → k ≤ length rest → All (λ c. (ends c || c == 92) ≡ false) (take k rest) → EndsAt (λ c. ends c || c == 92) (drop k rest) → n ≡ length octets - length rest + k → IsWrittenTo ends octets n
+escape_more ends octets escape rest octet len k n so_far less is back found fits each stops count =
+    let more_text : List ℕ = text_of found.escape ++ take k rest in
     let front : List ℕ = take len octets ++ more_text in
-    let new : List Written = escaped c ∷ map plain (take k more) in
-    let behind : drop len octets ≡ more_text ++ drop k more = sym back ∙ first ∙ ap (λ m. m ∷ escape) is ∙ ap (λ t. 92 ∷ t) next ∙ ap (λ t. 92 ∷ c ∷ t) (sym (take-append-drop k more)) in
-    let whole : octets ≡ front ++ drop k more = sym (take-append-drop len octets) ∙ ap (λ t. take len octets ++ t) behind ∙ sym (append_assoc (take len octets) more_text (drop k more)) in
-    let all : length octets ≡ length front + length (drop k more) = ap length whole ∙ length-append front (drop k more) in
-    let size : n ≡ length front = omega (arith, count, length-append (take len octets) more_text, length-take len octets, length-take k more, so_far.within, fits) in
-    let taken : take n octets ≡ front = ap (λ m. take m octets) size ∙ ap (take (length front)) whole ∙ take-append_seam front (drop k more) in
-    let left : drop n octets ≡ drop k more = ap (λ m. drop m octets) size ∙ ap (drop (length front)) whole ∙ drop-append_seam front (drop k more) in
+    let new : List Written = found.escape ∷ map plain (take k rest) in
+    let behind : drop len octets ≡ more_text ++ drop k rest = at_mark octets escape len less is back ∙ found.parts ∙ ap (λ t. text_of found.escape ++ t) (sym (take-append-drop k rest)) ∙ sym (append_assoc (text_of found.escape) (take k rest) (drop k rest)) in
+    let whole : octets ≡ front ++ drop k rest = sym (take-append-drop len octets) ∙ ap (λ t. take len octets ++ t) behind ∙ sym (append_assoc (take len octets) more_text (drop k rest)) in
+    let all : length octets ≡ length front + length (drop k rest) = ap length whole ∙ length-append front (drop k rest) in
+    let size : n ≡ length front = omega (arith, count, all, length-append (take len octets) more_text, length-append (text_of found.escape) (take k rest), length-take k rest, length-drop k rest, fits) in
+    let taken : take n octets ≡ front = ap (λ m. take m octets) size ∙ ap (take (length front)) whole ∙ take-append_seam front (drop k rest) in
+    let left : drop n octets ≡ drop k rest = ap (λ m. drop m octets) size ∙ ap (drop (length front)) whole ∙ drop-append_seam front (drop k rest) in
     record {
       units = so_far.units ++ new;
-      each = AllByRecursion-append (IsUnit ends_item) so_far.units new so_far.each ((no_digit, no_feed, no_return), each_plain (take k more) each);
-      text = taken ∙ ap (λ t. t ++ more_text) so_far.text ∙ ap (λ t. written_text so_far.units ++ 92 ∷ c ∷ t) (sym (plain_text (take k more))) ∙ sym (flat_map-append text_of so_far.units new);
-      stops = subst (EndsAt stops_bare) (sym left) stops;
+      each = AllByRecursion-append (IsUnit ends) so_far.units new so_far.each (unit_of_escape ends found.escape found.is_escape, each_plain ends (take k rest) each);
+      text = taken ∙ ap (λ t. t ++ more_text) so_far.text ∙ ap (λ t. written_text so_far.units ++ (text_of found.escape ++ t)) (sym (plain_text (take k rest))) ∙ sym (flat_map-append text_of so_far.units new);
+      stops = subst (EndsAt (λ c. ends c || c == 92)) (sym left) stops;
       within = omega (arith, size, all);
     }
 
-some_units : (units : List Written) (len : ℕ) (octets : List ℕ) → take len octets ≡ written_text units → 0 < length (take len octets) → 0 < length units
-some_units [] len octets text some = absurd (omega (arith, some, ap length text))
-some_units (u ∷ units) len octets text some = omega arith
+-- ---- the end of the item
 
-pub escaped_in_front : (octets text after rest : List ℕ) (stop len : ℕ) → IsEscapedTo octets len → text ≡ take len octets → after ≡ drop len octets → 0 < length text → after ≡ stop ∷ rest → stop ≢ 92 → IsInFront octets (raw.bare text ∷ []) after
-escaped_in_front octets text after rest stop len so_far front back some first other =
-    let stopped : stops_bare stop ≡ true = subst (EndsAt stops_bare) (sym back ∙ first) so_far.stops in
-    let ended : ends_item stop ≡ true = stops_or (ends_item stop) (stop == 92) stopped (ne_eqb stop 92 other) in
-    record {
-      token = bare so_far.units;
-      whole = sym (take-append-drop len octets) ∙ ap (λ t. t ++ drop len octets) so_far.text ∙ ap (λ t. written_text so_far.units ++ t) (sym back);
-      is = (some_units so_far.units len octets so_far.text (subst (λ t. 0 < length t) front some), so_far.each);
-      ends = subst (EndsAt ends_item) (sym first) ended;
-      inside = tt;
-      stated = ap (λ t. raw.bare t ∷ []) (sym so_far.text ∙ sym front);
-    }
+backslash : (extent : Extent) → ends_within extent 92 ≡ false
+backslash Bare = refl
+backslash Quoted = refl
 
-pub passed_escaped : (octets text after : List ℕ) (len : ℕ) → IsEscapedTo octets len → text ≡ take len octets → after ≡ drop len octets → line_feeds after ≡ line_feeds octets
-passed_escaped octets text after len so_far front back =
-    passed_none octets (take len octets) after (sym (take-append-drop len octets) ∙ ap (λ t. take len octets ++ t) (sym back)) (ap line_feeds so_far.text ∙ none_written so_far.units so_far.each)
+len_is : (extent : Extent) (octets : List ℕ) (len : ℕ) → IsWrittenTo (ends_within extent) octets len → NoUnit (ends_within extent) (drop len octets) → len ≡ item_len (ends_within extent) octets
+len_is extent octets len is none =
+    let whole : octets ≡ written_text is.units ++ drop len octets = sym (take-append-drop len octets) ∙ ap (λ t. t ++ drop len octets) is.text in
+    let size : len ≡ length (written_text is.units) = omega (arith, length-take len octets, is.within, ap length is.text) in
+    size ∙ sym (ap (λ (found : Units). length (written_text found.units)) (units_first_only (ends_within extent) octets is.units (drop len octets) (backslash extent) whole is.each none))
 
-pub some_octets : (octets : List ℕ) → (length octets == 0) ≡ false → 0 < length octets
-some_octets [] none = absurd cc
-some_octets (c ∷ octets) none = omega arith
+ended_by : (ends : ℕ → Bool) (rest : List ℕ) → EndsAt (λ c. ends c || c == 92) rest → ((c : ℕ) (more : List ℕ) → rest ≡ c ∷ more → c ≢ 92) → NoUnit ends rest
+ended_by ends [] at other = at_end refl
+ended_by ends (c ∷ more) at other = at_octet c more refl (stops_or (ends c) (c == 92) at (ne_eqb c 92 (other c more refl)))
+
+pub ended : (extent : Extent) (octets : List ℕ) (len : ℕ) → IsWrittenTo (ends_within extent) octets len → (len < length octets → get_or octets len 0 ≢ 92) → len ≡ item_len (ends_within extent) octets
+ended extent octets len is other = len_is extent octets len is (ended_by (ends_within extent) (drop len octets) is.stops (λ c more e mark.
+    let less : len < length octets = omega (arith, length-drop len octets, ap length e) in
+    let first : get_or octets len 0 ∷ drop (len + 1) octets ≡ c ∷ more = sym (first_at octets len less) ∙ e in
+    other less (let same : get_or octets len 0 ≡ c = cc in same ∙ mark)))
+
+pub ended_badly : (extent : Extent) (octets escape : List ℕ) (len : ℕ) → IsWrittenTo (ends_within extent) octets len → len < length octets → get_or octets len 0 ≡ 92 → escape ≡ drop (len + 1) octets → IsBadEscape (92 ∷ escape) → len ≡ item_len (ends_within extent) octets
+ended_badly extent octets escape len is less mark back bad = len_is extent octets len is (at_backslash (subst IsBadEscape (sym (at_mark octets escape len less mark back)) bad))

@@ -36,7 +36,7 @@ comment_only (c ∷ octets) rest each ends = grind (arith, comment_only octets r
 
 -- ---- what an octet is where no item, comment or quote is open
 
-abbrev IsSign : ℕ → Sign → Type 0
+abbrev pub IsSign : ℕ → Sign → Type 0
 IsSign c a_blank = is_blank c ≡ true
 IsSign c a_line_feed = c ≡ 10
 IsSign c a_quote = c ≡ 34
@@ -45,7 +45,7 @@ IsSign c a_closing = c ≡ 41
 IsSign c a_semicolon = c ≡ 59
 IsSign c of_item = ends_item c ≡ false
 
-sign_is : (c : ℕ) → IsSign c (sign_of c)
+pub sign_is : (c : ℕ) → IsSign c (sign_of c)
 sign_is c = search rules
 
 sign_of_item : (c : ℕ) → ends_item c ≡ false → sign_of c ≡ of_item
@@ -153,7 +153,7 @@ at_sign : (depth c : ℕ) (rest : List ℕ) (sign : Sign) → sign_of c ≡ sign
 unfolding front_of
 at_sign depth c rest sign e = ap (front_by depth c rest) e
 
-front_of_units : (depth c : ℕ) (octets : List ℕ) (units : List Written) (rest : List ℕ) → ends_item c ≡ false → c ∷ octets ≡ written_text units ++ rest → AllByRecursion (IsUnit ends_item) units → NoUnit ends_item rest → front_of depth (c ∷ octets) ≡ bare_front units rest
+pub front_of_units : (depth c : ℕ) (octets : List ℕ) (units : List Written) (rest : List ℕ) → ends_item c ≡ false → c ∷ octets ≡ written_text units ++ rest → AllByRecursion (IsUnit ends_item) units → NoUnit ends_item rest → front_of depth (c ∷ octets) ≡ bare_front units rest
 front_of_units depth c octets units rest goes_on whole each none = cc (at_sign depth c octets of_item (sign_of_item c goes_on), units_first_only ends_item (c ∷ octets) units rest refl whole each none)
 
 front_of_bare : (depth : ℕ) (w : Written) (units : List Written) (rest : List ℕ) → AllByRecursion (IsUnit ends_item) (w ∷ units) → NoUnit ends_item rest → front_of depth (written_text (w ∷ units) ++ rest) ≡ takes (bare (w ∷ units)) rest
@@ -161,7 +161,7 @@ front_of_bare depth (plain c) units rest each none = cc (front_of_units depth c 
 front_of_bare depth (escaped c) units rest each none = cc (front_of_units depth 92 (c ∷ (written_text units ++ rest)) (escaped c ∷ units) rest refl refl each none)
 front_of_bare depth (decimal x y z) units rest each none = cc (front_of_units depth 92 (x ∷ y ∷ z ∷ (written_text units ++ rest)) (decimal x y z ∷ units) rest refl refl each none)
 
-front_of_quote : (depth : ℕ) (octets : List ℕ) (units : List Written) (rest : List ℕ) → octets ≡ written_text units ++ rest → AllByRecursion (IsUnit is_quote) units → NoUnit is_quote rest → front_of depth (34 ∷ octets) ≡ quoted_front units rest
+pub front_of_quote : (depth : ℕ) (octets : List ℕ) (units : List Written) (rest : List ℕ) → octets ≡ written_text units ++ rest → AllByRecursion (IsUnit is_quote) units → NoUnit is_quote rest → front_of depth (34 ∷ octets) ≡ quoted_front units rest
 front_of_quote depth octets units rest whole each none = cc (at_sign depth 34 octets a_quote refl, units_first_only is_quote octets units rest refl whole each none)
 
 pub front_takes : (depth : ℕ) (p : Token) (rest : List ℕ) → IsToken p → Stops p rest → HasRoom depth p → front_of depth (token_text p ++ rest) ≡ takes p rest

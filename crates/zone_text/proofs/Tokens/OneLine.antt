@@ -1,7 +1,8 @@
 -- The line feeds of an entry that is cut as its end is looked for: the one that ends it.
 use Rattle.std.specs.List.{prefix_len}
-use Rattle.zone_text.proofs.Common.{common_steps, AllByRecursion, Bool, IsInFront, IsUnit, List, RawItem, Written, [], ap, append_assoc, arith, cond, decimal, drop, ends_item, eqb-true, escaped, false, is_blank, is_digit, length, length-append, list_any, nat_eq, ne_eqb, plain, refl, stops_bare, subst, sum_by-append, sum_by-cons, sym, take, take-append-drop, take-append_seam, token_text, true, written_text, zero-add, ℕ, ◌++◌, ◌+◌, ◌-◌, ◌==◌, ◌||◌, ◌∙◌, ◌∷◌, ◌≡◌}
-use Rattle.zone_text.proofs.Scanning.FirstEntries.{IsCutTo}
+use Rattle.zone_rdata.specs.Item as raw
+use Rattle.zone_text.proofs.Common.{common_steps, AllByRecursion, Bool, IsToken, List, RawItem, Token, [], ap, append_assoc, arith, bare, blank, comment, cond, drop, eqb-true, false, is_blank, item_of, item_text, length, length-append, list_any, nat_eq, ne_eqb, quoted, refl, stops_bare, subst, sum_by-append, sum_by-cons, sym, take, take-append-drop, take-append_seam, token_text, true, written_text, zero-add, ℕ, ◌++◌, ◌+◌, ◌-◌, ◌==◌, ◌||◌, ◌∙◌, ◌∷◌, ◌≡◌, ◌≢◌}
+use Rattle.zone_text.proofs.Scanning.FirstEntries.{IsCutTo, IsInside, IsPassed}
 use Rattle.zone_text.proofs.Files.Left.{line_feeds}
 use Rattle.zone_text.proofs.Scanning.StopMarks.{goes_on, prefix_each}
 
@@ -26,20 +27,8 @@ none_bare : (xs : List ℕ) → AllByRecursion (λ c. stops_bare c ≡ false) xs
 none_bare [] each = refl
 none_bare (c ∷ xs) each = none_first c xs (other_than_ten stops_bare false (λ e. cc) c each.0) ∙ none_bare xs each.1
 
-pub none_written : (units : List Written) → AllByRecursion (IsUnit ends_item) units → line_feeds (written_text units) ≡ 0
-none_written [] each = refl
-none_written (plain c ∷ units) each = none_first c (written_text units) (other_than_ten ends_item false (λ e. cc) c each.0.0) ∙ none_written units each.1
-none_written (escaped c ∷ units) each = none_first 92 (c ∷ written_text units) refl ∙ none_first c (written_text units) (ne_eqb c 10 each.0.1) ∙ none_written units each.1
-none_written (decimal x y z ∷ units) each =
-    let digit = other_than_ten is_digit true (λ e. cc) in
-    none_first 92 (x ∷ y ∷ z ∷ written_text units) refl
-    ∙ none_first x (y ∷ z ∷ written_text units) (digit x each.0.0)
-    ∙ none_first y (z ∷ written_text units) (digit y each.0.1)
-    ∙ none_first z (written_text units) (digit z each.0.2)
-    ∙ none_written units each.1
-
 -- octets without line feeds were passed
-pub passed_none : (rest front left : List ℕ) → rest ≡ front ++ left → line_feeds front ≡ 0 → line_feeds left ≡ line_feeds rest
+passed_none : (rest front left : List ℕ) → rest ≡ front ++ left → line_feeds front ≡ 0 → line_feeds left ≡ line_feeds rest
 passed_none rest front left whole none = grind (arith, common_steps, line_feeds, feeds_of_both)
 
 pub passed_bare : (rest stopped : List ℕ) (n : ℕ) → n ≡ prefix_len goes_on rest → stopped ≡ drop n rest → line_feeds stopped ≡ line_feeds rest
@@ -47,16 +36,30 @@ passed_bare rest stopped n len back =
     let each : AllByRecursion (λ c. stops_bare c ≡ false) (take n rest) = subst (λ k. AllByRecursion (λ c. stops_bare c ≡ false) (take k rest)) (sym len) (prefix_each rest) in
     passed_none rest (take n rest) stopped (sym (take-append-drop n rest) ∙ ap (λ t. take n rest ++ t) (sym back)) (none_bare (take n rest) each)
 
-pub passed_blank : (stopped after : List ℕ) (c : ℕ) → stopped ≡ c ∷ after → is_blank c ≡ true → line_feeds after ≡ line_feeds stopped
-passed_blank stopped after c first blank = passed_none stopped (c ∷ []) after first (none_first c [] (other_than_ten is_blank true (λ e. cc) c blank))
+none_each : (xs : List ℕ) → AllByRecursion (λ c. c ≢ 10) xs → line_feeds xs ≡ 0
+none_each [] each = refl
+none_each (c ∷ xs) each = none_first c xs (ne_eqb c 10 each.0) ∙ none_each xs each.1
 
-pub passed_token : (stopped passed left : List ℕ) (items : List RawItem) (n : ℕ) → IsInFront stopped items left → n ≡ length stopped - length left → passed ≡ take n stopped → list_any (λ y. nat_eq y 10) passed ≡ false → line_feeds left ≡ line_feeds stopped
-passed_token stopped passed left items n found count front none =
-    let token : List ℕ = token_text found.token in
-    let len : length stopped ≡ length token + length left = ap length found.whole ∙ length-append token left in
-    let taken : n ≡ length token = omega (arith, count, len) in
-    let same : passed ≡ token = front ∙ rw (taken, found.whole) (take-append_seam token left) in
-    passed_none stopped token left found.whole (none_of_any token (subst (λ t. list_any (λ y. nat_eq y 10) t ≡ false) same none))
+pub passed_gap : (octets rest : List ℕ) → IsPassed octets [] rest → line_feeds rest ≡ line_feeds octets
+passed_gap octets rest found = passed_none octets (token_text found.token) rest found.takes.whole (by found.token found.takes.token found.inside found.stated)
+  where
+    by : (p : Token) → IsToken p → IsInside p → item_of p ≡ [] → line_feeds (token_text p) ≡ 0
+    by (blank c) is inside e = none_first c [] (other_than_ten is_blank true (λ e. cc) c is)
+    by (comment octets) is inside e = none_first 59 octets refl ∙ none_each octets is
+    by (bare units) is inside e = absurd cc
+    by (quoted units) is inside e = absurd cc
+    by p is inside e = absurd inside
+
+pub passed_item : (octets rest : List ℕ) (item : RawItem) → IsPassed octets (item ∷ []) rest → line_feeds (item_text item) ≡ 0 → line_feeds rest ≡ line_feeds octets
+passed_item octets rest item found none = passed_none octets (token_text found.token) rest found.takes.whole (by found.token found.stated)
+  where
+    by : (p : Token) → item_of p ≡ item ∷ [] → line_feeds (token_text p) ≡ 0
+    by (bare units) e = let same : item ≡ raw.bare (written_text units) = cc in rw same at none
+    by (quoted units) e =
+        let same : item ≡ raw.quoted (written_text units) = cc in
+        let inside : line_feeds (written_text units) ≡ 0 = rw same at none in
+        omega (arith, none_first 34 (written_text units ++ 34 ∷ []) refl, feeds_of_both (written_text units) (34 ∷ []), inside)
+    by p e = absurd cc
 
 pub one_line : (octets stopped after : List ℕ) (kept : List RawItem) (c n : ℕ) → IsCutTo octets stopped kept → line_feeds stopped ≡ line_feeds octets → stopped ≡ c ∷ after → c ≡ 10 → n ≡ length octets - length after → line_feeds (take n octets) ≡ 1
 one_line octets stopped after kept c n so_far same first is count =

@@ -1,7 +1,9 @@
--- How far a token goes, as it is looked for from the left (RFC 1035 5.1).
-use Rattle.std.specs.Prelude.{◌≡◌, ℕ, suc, ◌+◌, drop, List, [], ◌∷◌, ◌==◌, ◌||◌, Bool, true, false, if◌then◌else◌}
+-- How far an item goes, as it is looked for from the left (RFC 1035 5.1).
+use Rattle.std.specs.Prelude.{◌≡◌, ℕ, List, [], ◌∷◌, length, ◌==◌, ◌||◌, Bool, true}
+use Rattle.zone_name.specs.Machine.Units.{units_first}
+use Rattle.zone_name.specs.Spelling.{written_text}
 use Rattle.zone_rdata.specs.Strings.{is_quote}
-use Rattle.zone_text.specs.Tokens.{Token, comment, bare, ends_item}
+use Rattle.zone_text.specs.Tokens.{ends_item}
 use Rattle.zone_text.specs.declared.items.Extent.{Extent}
 use Rattle.zone_text.specs.declared.items.Extent.TheVariants.{Bare, Quoted}
 
@@ -18,26 +20,12 @@ stops_within extent c = ends_within extent c || c == 92
 abbrev pub stops_bare : ℕ → Bool
 stops_bare c = ends_item c || c == 92
 
--- the octets before the first that ends an item and stands after no backslash
-unfoldable pub item_len : (ℕ → Bool) → Bool → List ℕ → ℕ
-item_len ends is_escaped [] = 0
-item_len ends true (c ∷ rest) = suc (item_len ends false rest)
-item_len ends false (c ∷ rest) =
-    if c == 92 then suc (item_len ends true rest)
-    else (if ends c then 0 else suc (item_len ends false rest))
+-- the octets before the first that ends an item and belongs to no escape, and before a backslash
+-- that begins none
+abbrev pub item_len : (ℕ → Bool) → List ℕ → ℕ
+item_len ends text = length (written_text (units_first ends text).units)
 
 -- the text ends, or begins with an octet that ends what is before it
 abbrev pub EndsAt : (ℕ → Bool) → List ℕ → Type 0
 EndsAt ends [] = Unit {0}
 EndsAt ends (c ∷ rest) = ends c ≡ true
-
--- a token ends before what follows it
-abbrev pub EndsBefore : Token → List ℕ → Type 0
-EndsBefore (bare units) rest = EndsAt ends_item rest
-EndsBefore (comment octets) rest = EndsAt (λ c. c == 10) rest
-EndsBefore p rest = Unit {0}
-
--- the first n octets are of the item, and the last of them is no backslash that takes the octet
--- after it
-abbrev pub ItemReaches : (ℕ → Bool) → List ℕ → ℕ → Type 0
-ItemReaches ends text n = item_len ends false text ≡ n + item_len ends false (drop n text)

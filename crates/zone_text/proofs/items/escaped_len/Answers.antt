@@ -1,26 +1,20 @@
-use Rattle.zone_text.proofs.Common.{ItemReaches, ap, arith, ends_within, length, length-drop, stops_within, ◌+◌, ◌-◌, ◌∙◌, ◌≡◌}
-use Rattle.zone_text.proofs.Tokens.TokenEnds.{escape_on, reach_on, stops_on, len_reached}
+use Rattle.zone_text.proofs.Common.{arith, ends_within, refl}
+use Rattle.zone_text.proofs.Tokens.EscapedItems.{ended, ended_badly, escape_more, plain_so_far}
 use Rattle.zone_text.proofs.items.escaped_len.Goals as goal
 
-pub loop-len-smaller : goal.loop-len-smaller
-loop-len-smaller c = omega (arith, c.loop-len-test.true, c.min-len.ensures)
+pub loop-len-init : goal.loop-len-init
+loop-len-init c = plain_so_far (ends_within c.args.extent) _ _ c.requires.within c.requires.plain c.requires.stops
 
 pub loop-len-preserved : goal.loop-len-preserved
 loop-len-preserved c =
-    let k = c.loop-len.len + c.min-len.result in
-    let back = c.split_at.ensures.back in
-    let left : length c.split_at.result.1.now ≡ length c.args.text.now - k = ap length back ∙ length-drop k c.args.text.now in
-    let escape : ItemReaches (ends_within c.args.extent) c.args.text.now k = escape_on (ends_within c.args.extent) c.args.text.now c.loop-len.len c.min-len.result c.loop-len-test.true c.if-text-len-eq92.true c.min-len.ensures c.loop-len.invariant.reaches in
-    record {
-      within = omega (arith, left, c.loop-len-test.true, c.min-len.ensures, c.plain_len-len.ensures.within);
-      reaches = reach_on (ends_within c.args.extent) c.args.text.now k c.plain_len-len.result escape (rw back at c.plain_len-len.ensures.reaches);
-      stops = stops_on (stops_within c.args.extent) c.args.text.now k c.plain_len-len.result (rw back at c.plain_len-len.ensures.stops);
-    }
+    escape_more (ends_within c.args.extent) _ _ _ _ _ _ _ c.loop-len.invariant c.loop-len-test.true c.if-text-len-eq92.true c.split_at.ensures.back c.in-Some.ensures.found c.plain_len.ensures.within c.plain_len.ensures.plain c.plain_len.ensures.stops refl
+
+pub returns-in_default-clause-len : goal.returns-in_default-clause-len
+returns-in_default-clause-len c =
+    ended_badly c.args.extent _ _ _ c.loop-len.invariant c.loop-len-test.true c.if-text-len-eq92.true c.split_at.ensures.back c.in_default.ensures.none
 
 pub returns-else-text-len-eq92-clause-len : goal.returns-else-text-len-eq92-clause-len
-returns-else-text-len-eq92-clause-len c =
-    len_reached (ends_within c.args.extent) c.args.text.now c.loop-len.len c.loop-len.invariant.stops (λ less. c.if-text-len-eq92.false) c.loop-len.invariant.reaches
+returns-else-text-len-eq92-clause-len c = ended c.args.extent _ _ c.loop-len.invariant (λ less. c.if-text-len-eq92.false)
 
 pub returns-after-loop-len-clause-len : goal.returns-after-loop-len-clause-len
-returns-after-loop-len-clause-len c =
-    len_reached (ends_within c.args.extent) c.args.text.now c.loop-len.len c.loop-len.invariant.stops (λ less. absurd (omega (arith, less, c.loop-len-test.false))) c.loop-len.invariant.reaches
+returns-after-loop-len-clause-len c = ended c.args.extent _ _ c.loop-len.invariant (λ less. absurd (omega (arith, less, c.loop-len-test.false)))

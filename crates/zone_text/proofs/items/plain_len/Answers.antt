@@ -1,5 +1,5 @@
-use Rattle.zone_text.proofs.Common.{All, All-more, arith, ends_within, false, length, stops_within, subst, sym, take, ◌∙◌, ◌≡◌}
-use Rattle.zone_text.proofs.Tokens.TokenEnds.{plain_on, plain_stops, end_stops, all_reached}
+use Rattle.zone_text.proofs.Common.{All, All-more, arith, false, length, stops_within, subst, sym, take, ◌∙◌, ◌≡◌}
+use Rattle.zone_text.proofs.Tokens.TokenEnds.{plain_stops, end_stops}
 use Rattle.zone_text.proofs.items.plain_len.Goals as goal
 
 pub returns-then-stops_at-clause-stops : goal.returns-then-stops_at-clause-stops
@@ -8,14 +8,7 @@ returns-then-stops_at-clause-stops c =
 
 pub loop-index-preserved : goal.loop-index-preserved
 loop-index-preserved c =
-    let goes = sym c.stops_at.ensures ∙ c.if-stops_at.false in
-    record {
-      reaches = plain_on (ends_within c.args.extent) _ _ c.loop-index-test.true goes c.loop-index.invariant.reaches;
-      plain = All-more (λ d. stops_within c.args.extent d ≡ false) c.args.text.now c.loop-index.index 0 c.loop-index-test.true c.loop-index.invariant.plain goes;
-    }
-
-pub returns-clause-reaches : goal.returns-clause-reaches
-returns-clause-reaches c = all_reached (ends_within c.args.extent) _ c.loop-index.index c.loop-index-test.false c.loop-index.auto.index-end c.loop-index.invariant.reaches
+    All-more (λ d. stops_within c.args.extent d ≡ false) c.args.text.now c.loop-index.index 0 c.loop-index-test.true c.loop-index.invariant (sym c.stops_at.ensures ∙ c.if-stops_at.false)
 
 pub returns-clause-stops : goal.returns-clause-stops
 returns-clause-stops c = end_stops (stops_within c.args.extent) c.args.text.now (length c.args.text.now) (omega arith)
@@ -23,4 +16,4 @@ returns-clause-stops c = end_stops (stops_within c.args.extent) c.args.text.now 
 pub returns-clause-plain : goal.returns-clause-plain
 returns-clause-plain c =
     let same : c.loop-index.index ≡ length c.args.text.now = omega (arith, c.loop-index-test.false, c.loop-index.auto.index-end) in
-    subst (λ k. All (λ d. stops_within c.args.extent d ≡ false) (take k c.args.text.now)) same c.loop-index.invariant.plain
+    subst (λ k. All (λ d. stops_within c.args.extent d ≡ false) (take k c.args.text.now)) same c.loop-index.invariant
