@@ -60,7 +60,7 @@ pub(crate) fn plain_len(text: &[u8], extent: Extent) -> usize
 /// The number of octets of the item at the beginning, of which these many are plain.
 // Not inlined: few items have a backslash.
 #[inline(never)]
-fn escaped_len(text: &[u8], plain: usize, extent: Extent) -> usize
+pub(crate) fn escaped_len(text: &[u8], plain: usize, extent: Extent) -> usize
     requires within { plain ≤ length text.now }
     requires plain { All (λ c. stops_within extent c ≡ false) (take plain text.now) }
     requires stops { EndsAt (stops_within extent) (drop plain text.now) }

@@ -6,7 +6,7 @@ ghost use Rattle.zone_rdata.specs.Strings.{item_text};
 ghost use Rattle.zone_text.specs.FirstEntry.{IsFirstEntry};
 ghost use Rattle.zone_text.specs.Machine.Kept.{KeepsBare};
 
-use crate::items::{keep, split_token};
+use crate::items::{Extent, escaped_len, keep, split_token};
 use crate::stops::Stops;
 use std::alloc::AllocError;
 use zone_rdata::Item;
@@ -56,21 +56,27 @@ pub(crate) fn cut_line<'t>(
         let Some((stop, after)) = stopped.split_first() else {
             return Ok(None);
         };
-        let mut front = rest;
-        if *stop != b'\\' {
-            keep_bare(bare, items)?;
-            if *stop == b'\n' {
-                return Ok(Some(octets.len() - after.len()));
+        if *stop == b'\\' {
+            let (item, left) = rest.split_at(escaped_len(rest, len, Extent::Bare));
+            if item.is_empty() {
+                return Ok(None);
             }
-            // Of what stops a bare item, the other octets up to a space are blanks.
-            if *stop <= b' ' {
-                rest = after;
-                stops = next_stops;
-                continue;
-            }
-            front = stopped;
+            keep(Item::Bare(item), items)?;
+            rest = left;
+            stops = Stops::unseen(rest);
+            continue;
         }
-        let Some((item, left)) = split_token(front) else {
+        keep_bare(bare, items)?;
+        if *stop == b'\n' {
+            return Ok(Some(octets.len() - after.len()));
+        }
+        // Of what stops a bare item, the other octets up to a space are blanks.
+        if *stop <= b' ' {
+            rest = after;
+            stops = next_stops;
+            continue;
+        }
+        let Some((item, left)) = split_token(stopped) else {
             return Ok(None);
         };
         match item {

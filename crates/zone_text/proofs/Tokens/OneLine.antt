@@ -1,7 +1,7 @@
 -- The line feeds of an entry that is cut as its end is looked for: the one that ends it.
 use Rattle.std.specs.List.{prefix_len}
 use Rattle.zone_rdata.specs.Item as raw
-use Rattle.zone_text.proofs.Common.{common_steps, AllByRecursion, Bool, IsToken, List, RawItem, Token, [], ap, append_assoc, arith, bare, blank, comment, cond, drop, eqb-true, false, is_blank, item_of, item_text, length, length-append, list_any, nat_eq, ne_eqb, quoted, refl, stops_bare, subst, sum_by-append, sum_by-cons, sym, take, take-append-drop, take-append_seam, token_text, true, written_text, zero-add, ℕ, ◌++◌, ◌+◌, ◌-◌, ◌==◌, ◌||◌, ◌∙◌, ◌∷◌, ◌≡◌, ◌≢◌}
+use Rattle.zone_text.proofs.Common.{common_steps, AllByRecursion, Bool, IsToken, IsUnit, List, RawItem, Token, Written, [], ap, append_assoc, arith, bare, blank, comment, cond, decimal, drop, ends_item, eqb-true, escaped, false, is_blank, is_digit, item_of, item_text, length, length-append, list_any, nat_eq, ne_eqb, plain, quoted, refl, stops_bare, subst, sum_by-append, sum_by-cons, sym, take, take-append-drop, take-append_seam, token_text, true, written_text, zero-add, ℕ, ◌++◌, ◌+◌, ◌-◌, ◌==◌, ◌||◌, ◌∙◌, ◌∷◌, ◌≡◌, ◌≢◌}
 use Rattle.zone_text.proofs.Scanning.FirstEntries.{IsCutTo, IsInside, IsPassed}
 use Rattle.zone_text.proofs.Files.Left.{line_feeds}
 use Rattle.zone_text.proofs.Scanning.StopMarks.{goes_on, prefix_each}
@@ -49,6 +49,25 @@ passed_gap octets rest found = passed_none octets (token_text found.token) rest 
     by (bare units) is inside e = absurd cc
     by (quoted units) is inside e = absurd cc
     by p is inside e = absurd inside
+
+none_written : (units : List Written) → AllByRecursion (IsUnit ends_item) units → line_feeds (written_text units) ≡ 0
+none_written [] each = refl
+none_written (plain c ∷ units) each = none_first c (written_text units) (other_than_ten ends_item false (λ e. cc) c each.0.0) ∙ none_written units each.1
+none_written (escaped c ∷ units) each = none_first 92 (c ∷ written_text units) refl ∙ none_first c (written_text units) (ne_eqb c 10 each.0.1) ∙ none_written units each.1
+none_written (decimal x y z ∷ units) each =
+    let digit = other_than_ten is_digit true (λ e. cc) in
+    none_first 92 (x ∷ y ∷ z ∷ written_text units) refl
+    ∙ none_first x (y ∷ z ∷ written_text units) (digit x each.0.0)
+    ∙ none_first y (z ∷ written_text units) (digit y each.0.1)
+    ∙ none_first z (written_text units) (digit z each.0.2)
+    ∙ none_written units each.1
+
+pub passed_escaped : (octets text rest : List ℕ) → IsPassed octets (raw.bare text ∷ []) rest → line_feeds rest ≡ line_feeds octets
+passed_escaped octets text rest found = passed_none octets (token_text found.token) rest found.takes.whole (by found.token found.takes.token found.stated)
+  where
+    by : (p : Token) → IsToken p → item_of p ≡ raw.bare text ∷ [] → line_feeds (token_text p) ≡ 0
+    by (bare units) is e = none_written units is.1
+    by p is e = absurd cc
 
 pub passed_item : (octets rest : List ℕ) (item : RawItem) → IsPassed octets (item ∷ []) rest → line_feeds (item_text item) ≡ 0 → line_feeds rest ≡ line_feeds octets
 passed_item octets rest item found none = passed_none octets (token_text found.token) rest found.takes.whole (by found.token found.stated)

@@ -1,12 +1,14 @@
+use Rattle.std.proofs.lemmas.List.Elements.{All-from_recursion}
 use Rattle.std.proofs.lemmas.List.Sums.{prefix_len-le-length}
-use Rattle.zone_text.proofs.Common.{List, RawItem, ap, arith, length, map, raw, refl, suc, ℕ, ◌∙◌, ◌∷◌, ◌≡◌, ◌≢◌, ◌≤◌}
+use Rattle.std.specs.List.{prefix_len}
+use Rattle.zone_text.proofs.Common.{All, EndsAt, ap, arith, drop, eqb-false, false, length, map, raw, refl, stops_bare, subst, suc, sym, take, ◌∙◌, ◌≡◌, ◌≢◌}
 use Rattle.zone_text.proofs.Files.Left.{line_feeds}
 use Rattle.zone_text.proofs.Scanning.FirstEntries.{IsCutTo, blank_passed, comment_passed, cut_bare, cut_ended, cut_more, cut_none, cut_on, item_passed}
-use Rattle.zone_text.proofs.Tokens.ItemsLeft.{in_front_shorter}
-use Rattle.zone_text.proofs.Tokens.OneLine.{one_line, passed_bare, passed_gap, passed_item}
-use Rattle.zone_text.proofs.Scanning.StopMarks.{after_stop, blank_stop, goes_on}
+use Rattle.zone_text.proofs.Tokens.ItemsLeft.{bare_front, in_front_shorter}
+use Rattle.zone_text.proofs.Tokens.OneLine.{one_line, passed_bare, passed_escaped, passed_gap, passed_item}
+use Rattle.zone_text.proofs.Scanning.StopMarks.{after_stop, blank_stop, goes_on, prefix_each, prefix_ends}
 use Rattle.zone_text.proofs.line.cut_line.Goals as goal
-use Rattle.zone_text.proofs.line.cut_line.Goals.{then-stop-ne92+in_ok-keep_bare+else-stop-eq10+else-stop-le32, else-stop-ne92, in-Some-item+in_ok-keep-in-Some-item, in-None}
+use Rattle.zone_text.proofs.line.cut_line.Goals.{in-Some-item+in_ok-keep-in-Some-item, in-None}
 
 pub loop-rest-init : goal.loop-rest-init
 loop-rest-init c = record { cut = cut_none _ _ (ap (map raw) c.clear.ensures.items); tells = c.unseen-stops.ensures; line = refl }
@@ -19,11 +21,11 @@ split_at-requires c = omega (arith, c.bare_len-len.ensures.len, prefix_len-le-le
 
 pub returns-then-stop-eq10-clause-first : goal.returns-then-stop-eq10-clause-first
 returns-then-stop-eq10-clause-first c =
-    cut_ended _ _ _ _ _ _ (cut_bare _ _ _ _ _ _ _ _ _ c.loop-rest.invariant.cut c.bare_len-len.ensures.len c.split_at.ensures.front c.split_at.ensures.back c.in-Some.ensures.cases.0 c.if-stop-ne92.true c.in_ok-keep_bare.ensures) c.in-Some.ensures.cases.0 c.if-stop-eq10.true refl
+    cut_ended _ _ _ _ _ _ (cut_bare _ _ _ _ _ _ _ _ _ c.loop-rest.invariant.cut c.bare_len-len.ensures.len c.split_at.ensures.front c.split_at.ensures.back c.in-Some.ensures.cases.0 c.if-stop-eq92.false c.in_ok-keep_bare.ensures) c.in-Some.ensures.cases.0 c.if-stop-eq10.true refl
 
 pub returns-then-stop-eq10-clause-line : goal.returns-then-stop-eq10-clause-line
 returns-then-stop-eq10-clause-line c =
-    one_line _ _ _ _ _ _ (cut_bare _ _ _ _ _ _ _ _ _ c.loop-rest.invariant.cut c.bare_len-len.ensures.len c.split_at.ensures.front c.split_at.ensures.back c.in-Some.ensures.cases.0 c.if-stop-ne92.true c.in_ok-keep_bare.ensures)
+    one_line _ _ _ _ _ _ (cut_bare _ _ _ _ _ _ _ _ _ c.loop-rest.invariant.cut c.bare_len-len.ensures.len c.split_at.ensures.front c.split_at.ensures.back c.in-Some.ensures.cases.0 c.if-stop-eq92.false c.in_ok-keep_bare.ensures)
     (passed_bare _ _ _ c.bare_len-len.ensures.len c.split_at.ensures.back ∙ c.loop-rest.invariant.line) c.in-Some.ensures.cases.0 c.if-stop-eq10.true refl
 
 pub loop-rest-smaller-then-stop-le32 : goal.loop-rest-smaller-then-stop-le32
@@ -35,40 +37,46 @@ pub loop-rest-preserved-then-stop-le32 : goal.loop-rest-preserved-then-stop-le32
 loop-rest-preserved-then-stop-le32 c =
     let blank = blank_passed _ _ _ c.in-Some.ensures.cases.0 (blank_stop _ _ _ _ _ c.bare_len-len.ensures.len c.split_at.ensures.back c.in-Some.ensures.cases.0 c.if-stop-le32.true c.if-stop-eq10.false) in
     record {
-      cut = cut_on _ _ _ _ (cut_bare _ _ _ _ _ _ _ _ _ c.loop-rest.invariant.cut c.bare_len-len.ensures.len c.split_at.ensures.front c.split_at.ensures.back c.in-Some.ensures.cases.0 c.if-stop-ne92.true c.in_ok-keep_bare.ensures) blank;
+      cut = cut_on _ _ _ _ (cut_bare _ _ _ _ _ _ _ _ _ c.loop-rest.invariant.cut c.bare_len-len.ensures.len c.split_at.ensures.front c.split_at.ensures.back c.in-Some.ensures.cases.0 c.if-stop-eq92.false c.in_ok-keep_bare.ensures) blank;
       tells = after_stop c.bare_len-len.result.1 c.loop-rest.rest.now c.split_at.result.1.now c.in-Some.after.now c.in-Some.stop.now c.bare_len-len.result.0 c.bare_len-len.ensures.tells c.split_at.ensures.back c.in-Some.ensures.cases.0;
       line = passed_gap _ _ blank ∙ passed_bare _ _ _ c.bare_len-len.ensures.len c.split_at.ensures.back ∙ c.loop-rest.invariant.line;
     }
 
-pub loop-rest-smaller : goal.loop-rest-smaller
-loop-rest-smaller c =
-    let within : length c.if-stop-ne92.front.now ≤ length c.loop-rest.rest.now = elim c.if-stop-ne92.branch [
-      | then-stop-ne92+in_ok-keep_bare+else-stop-eq10+else-stop-le32 w ↦ rw w.front-is (omega (arith, c.split_at.ensures.back_len))
-      | else-stop-ne92 w ↦ rw w.front-is (omega arith)
-    ] in
-    omega (arith, within, in_front_shorter _ _ _ c.in-Some-split_token.ensures.found)
+pub escaped_len-requires : goal.escaped_len-requires
+escaped_len-requires c =
+    let len : c.bare_len-len.result.0 ≡ prefix_len goes_on c.loop-rest.rest.now = c.bare_len-len.ensures.len in
+    record {
+      within = omega (arith, len, prefix_len-le-length goes_on c.loop-rest.rest.now);
+      plain = subst (λ k. All (λ d. stops_bare d ≡ false) (take k c.loop-rest.rest.now)) (sym len) (All-from_recursion _ _ (prefix_each c.loop-rest.rest.now));
+      stops = subst (λ k. EndsAt stops_bare (drop k c.loop-rest.rest.now)) (sym len) (prefix_ends c.loop-rest.rest.now);
+    }
 
--- where the token begins: what was cut before it, and that it begins with the octet that stopped
--- the bare item, unless that is a backslash
-abbrev Begins : (octets front : List ℕ) (kept : List RawItem) (stop : ℕ) (after : List ℕ) → Type 0
-Begins octets front kept stop after = IsCutTo octets front kept × (line_feeds front ≡ line_feeds octets) × (stop ≢ 92 → front ≡ stop ∷ after)
+pub loop-rest-smaller-then-stop-eq92 : goal.loop-rest-smaller-then-stop-eq92
+loop-rest-smaller-then-stop-eq92 c =
+    in_front_shorter _ _ _ (bare_front _ _ _ _ c.escaped_len.ensures.len c.split_at-then-stop-eq92.ensures.front c.split_at-then-stop-eq92.ensures.back (let some : length c.split_at-then-stop-eq92.result.0.now ≢ 0 = eqb-false _ 0 (sym c.is_empty-then-stop-eq92.ensures ∙ c.if-is_empty.false) in omega (arith, some)))
+
+pub loop-rest-preserved-then-stop-eq92 : goal.loop-rest-preserved-then-stop-eq92
+loop-rest-preserved-then-stop-eq92 c =
+    let some : length c.split_at-then-stop-eq92.result.0.now ≢ 0 = eqb-false _ 0 (sym c.is_empty-then-stop-eq92.ensures ∙ c.if-is_empty.false) in
+    let passed = item_passed _ _ _ (bare_front _ _ _ _ c.escaped_len.ensures.len c.split_at-then-stop-eq92.ensures.front c.split_at-then-stop-eq92.ensures.back (omega (arith, some))) in
+    record {
+      cut = cut_more _ _ _ _ _ _ c.loop-rest.invariant.cut passed c.in_ok-keep.ensures;
+      tells = c.unseen-stops-then-stop-eq92.ensures;
+      line = passed_escaped _ _ _ passed ∙ c.loop-rest.invariant.line;
+    }
+
+pub loop-rest-smaller : goal.loop-rest-smaller
+loop-rest-smaller c = omega (arith, in_front_shorter _ _ _ c.in-Some-split_token.ensures.found, c.split_at.ensures.back_len)
 
 pub loop-rest-preserved : goal.loop-rest-preserved
 loop-rest-preserved c =
-    let begins : Begins c.args.octets.now c.if-stop-ne92.front.now (map raw c.if-stop-ne92.items.items) c.in-Some.stop.now c.in-Some.after.now = elim c.if-stop-ne92.branch [
-      | then-stop-ne92+in_ok-keep_bare+else-stop-eq10+else-stop-le32 w ↦ rw (w.front-is, w.items-is) (
-        cut_bare _ _ _ _ _ _ _ _ _ c.loop-rest.invariant.cut c.bare_len-len.ensures.len c.split_at.ensures.front c.split_at.ensures.back c.in-Some.ensures.cases.0 w.if-stop-ne92.true w.in_ok-keep_bare.ensures,
-        passed_bare _ _ _ c.bare_len-len.ensures.len c.split_at.ensures.back ∙ c.loop-rest.invariant.line,
-        λ other. c.in-Some.ensures.cases.0,
-      )
-      | else-stop-ne92 w ↦ rw (w.front-is, w.items-is) (c.loop-rest.invariant.cut, c.loop-rest.invariant.line, λ other. absurd (other w.if-stop-ne92.false))
-    ] in
-    let passed : IsCutTo c.args.octets.now c.in-Some-split_token.left.now (map raw c.match-item.items.items) × (line_feeds c.in-Some-split_token.left.now ≡ line_feeds c.if-stop-ne92.front.now) = elim c.match-item.branch [
+    let cut = cut_bare _ _ _ _ _ _ _ _ _ c.loop-rest.invariant.cut c.bare_len-len.ensures.len c.split_at.ensures.front c.split_at.ensures.back c.in-Some.ensures.cases.0 c.if-stop-eq92.false c.in_ok-keep_bare.ensures in
+    let passed : IsCutTo c.args.octets.now c.in-Some-split_token.left.now (map raw c.match-item.items.items) × (line_feeds c.in-Some-split_token.left.now ≡ line_feeds c.split_at.result.1.now) = elim c.match-item.branch [
       | in-Some-item+in_ok-keep-in-Some-item w ↦
           let item = item_passed _ _ _ (rw w.in-Some-item.is at c.in-Some-split_token.ensures.found) in
-          rw w.items-is (cut_more _ _ _ _ _ _ begins.0 item w.in_ok-keep-in-Some-item.ensures, passed_item _ _ _ item (w.is_on_one_line.ensures w.if-is_on_one_line.true))
+          rw w.items-is (cut_more _ _ _ _ _ _ cut item w.in_ok-keep-in-Some-item.ensures, passed_item _ _ _ item (w.is_on_one_line.ensures w.if-is_on_one_line.true))
       | in-None w ↦
-          let comment = comment_passed _ _ _ _ (begins.2 (λ e. omega (arith, e, w.if-stop-eq59.true))) w.if-stop-eq59.true (rw w.in-None.is at c.in-Some-split_token.ensures.found) in
-          rw w.items-is (cut_on _ _ _ _ begins.0 comment, passed_gap _ _ comment)
+          let comment = comment_passed _ _ _ _ c.in-Some.ensures.cases.0 w.if-stop-eq59.true (rw w.in-None.is at c.in-Some-split_token.ensures.found) in
+          rw w.items-is (cut_on _ _ _ _ cut comment, passed_gap _ _ comment)
     ] in
-    record { cut = passed.0; tells = c.unseen-stops-in-loop-rest.ensures; line = passed.1 ∙ begins.1 }
+    record { cut = passed.0; tells = c.unseen-stops-in-loop-rest.ensures; line = passed.1 ∙ passed_bare _ _ _ c.bare_len-len.ensures.len c.split_at.ensures.back ∙ c.loop-rest.invariant.line }
