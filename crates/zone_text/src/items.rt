@@ -103,6 +103,8 @@ fn begins_bare(octet: u8) -> bool
 /// The first token of a text: its item, if it is one, and the rest. `None`: the text ends, or it
 /// breaks where a token would begin, by a backslash that begins no escape or a quote that isn't
 /// closed.
+// A call would cost a line with a quoted item or a comment more than its tests do.
+#[inline(always)]
 pub(crate) fn split_token(text: &[u8]) -> Option<(Option<Item<'_>>, &[u8])>
     ensures found { IfSome result (λ found.
         IsInFront text.now (option_to_list (option_map raw found.0)) found.1.now) }

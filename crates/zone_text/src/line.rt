@@ -62,8 +62,8 @@ pub(crate) fn cut_line<'t>(
                 return Ok(None);
             }
             keep(Item::Bare(item), items)?;
+            stops = Stops::unseen(left);
             rest = left;
-            stops = Stops::unseen(rest);
             continue;
         }
         keep_bare(bare, items)?;
