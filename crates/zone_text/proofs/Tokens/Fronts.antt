@@ -48,7 +48,7 @@ IsSign c of_item = ends_item c ≡ false
 pub sign_is : (c : ℕ) → IsSign c (sign_of c)
 sign_is c = search rules
 
-sign_of_item : (c : ℕ) → ends_item c ≡ false → sign_of c ≡ of_item
+pub sign_of_item : (c : ℕ) → ends_item c ≡ false → sign_of c ≡ of_item
 sign_of_item c e = search rules
 
 -- ---- first octets
@@ -149,11 +149,11 @@ front_is depth octets = search (rules, end_is, front_by_sign, sign_is)
 
 -- ---- what is so is read
 
-at_sign : (depth c : ℕ) (rest : List ℕ) (sign : Sign) → sign_of c ≡ sign → front_of depth (c ∷ rest) ≡ front_by depth c rest sign
+pub at_sign : (depth c : ℕ) (rest : List ℕ) (sign : Sign) → sign_of c ≡ sign → front_of depth (c ∷ rest) ≡ front_by depth c rest sign
 unfolding front_of
 at_sign depth c rest sign e = ap (front_by depth c rest) e
 
-pub front_of_units : (depth c : ℕ) (octets : List ℕ) (units : List Written) (rest : List ℕ) → ends_item c ≡ false → c ∷ octets ≡ written_text units ++ rest → AllByRecursion (IsUnit ends_item) units → NoUnit ends_item rest → front_of depth (c ∷ octets) ≡ bare_front units rest
+front_of_units : (depth c : ℕ) (octets : List ℕ) (units : List Written) (rest : List ℕ) → ends_item c ≡ false → c ∷ octets ≡ written_text units ++ rest → AllByRecursion (IsUnit ends_item) units → NoUnit ends_item rest → front_of depth (c ∷ octets) ≡ bare_front units rest
 front_of_units depth c octets units rest goes_on whole each none = cc (at_sign depth c octets of_item (sign_of_item c goes_on), units_first_only ends_item (c ∷ octets) units rest refl whole each none)
 
 front_of_bare : (depth : ℕ) (w : Written) (units : List Written) (rest : List ℕ) → AllByRecursion (IsUnit ends_item) (w ∷ units) → NoUnit ends_item rest → front_of depth (written_text (w ∷ units) ++ rest) ≡ takes (bare (w ∷ units)) rest
@@ -161,7 +161,7 @@ front_of_bare depth (plain c) units rest each none = cc (front_of_units depth c 
 front_of_bare depth (escaped c) units rest each none = cc (front_of_units depth 92 (c ∷ (written_text units ++ rest)) (escaped c ∷ units) rest refl refl each none)
 front_of_bare depth (decimal x y z) units rest each none = cc (front_of_units depth 92 (x ∷ y ∷ z ∷ (written_text units ++ rest)) (decimal x y z ∷ units) rest refl refl each none)
 
-pub front_of_quote : (depth : ℕ) (octets : List ℕ) (units : List Written) (rest : List ℕ) → octets ≡ written_text units ++ rest → AllByRecursion (IsUnit is_quote) units → NoUnit is_quote rest → front_of depth (34 ∷ octets) ≡ quoted_front units rest
+front_of_quote : (depth : ℕ) (octets : List ℕ) (units : List Written) (rest : List ℕ) → octets ≡ written_text units ++ rest → AllByRecursion (IsUnit is_quote) units → NoUnit is_quote rest → front_of depth (34 ∷ octets) ≡ quoted_front units rest
 front_of_quote depth octets units rest whole each none = cc (at_sign depth 34 octets a_quote refl, units_first_only is_quote octets units rest refl whole each none)
 
 pub front_takes : (depth : ℕ) (p : Token) (rest : List ℕ) → IsToken p → Stops p rest → HasRoom depth p → front_of depth (token_text p ++ rest) ≡ takes p rest
