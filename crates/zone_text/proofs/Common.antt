@@ -47,7 +47,7 @@ pub use Rattle.zone_text.specs.Decided.{AreTokens, FileDecides, Stays, decided, 
 pub use Rattle.zone_text.specs.Entries.{Cut, Entry, and_last, cut_from, ended_entries, entries_of, entry_of, in_front, in_front_of, item_of, numbered, open_line}
 pub use Rattle.zone_text.specs.EntryFault.{EntryFault, IsNameFaultAfter, PartsFault, StatementFault, TtlFault, WordFault, long, none, of_parts, of_rdata, of_statement, of_ttl}
 pub use Rattle.zone_text.specs.ExampleEntries.{address, ns, soa, under, x}
-pub use Rattle.zone_text.specs.FirstEntry.{FirstIs, IsBrokenOff, IsFirstEntry, IsOneEntry, IsOpen}
+pub use Rattle.zone_text.specs.FirstEntry.{IsBrokenOff, IsFirstEntry, IsOneEntry, IsOpen}
 pub use Rattle.zone_text.specs.Kept.{AreKept, KeepsItems}
 pub use Rattle.zone_text.specs.Stated.{directive_in, statement_in}
 pub use Rattle.zone_text.specs.File.{EntriesState, FileStates, states_none, states_one}
@@ -58,7 +58,7 @@ pub use Rattle.zone_text.specs.Line.{IsItem, StatesWhole, line_of}
 pub use Rattle.zone_text.specs.Machine.Blank.{AreBlankLines, IsBlankLine, IsComment, commented, no_lines, one_line_more}
 pub use Rattle.zone_text.specs.Machine.Cutting.{Cutting, Front, IsInFront, IsNoToken, Sign, a_blank, a_closing, a_line_feed, a_quote, a_semicolon, an_opening, bare_front, cut_on, depth_past, end_front, front_by, of_item, quoted_front, sign_of, stops, takes}
 unfoldable pub use Rattle.zone_text.specs.Machine.Cutting.{before_line_feed, cut_by, cutting, from_line_feed, front_of}
-pub use Rattle.zone_text.specs.Machine.EntryReading.{DecidesEntry, DefaultTtlFault, HasHeadOf, HasOwnerOrNone, Head, IsReadTo, IsRecordEntry, LeavesNoRecord, OriginFaultUnder, SetsOrigin, SetsTtl, decides_fault, decides_none, decides_one, one_bare, with_owner}
+pub use Rattle.zone_text.specs.Machine.EntryReading.{DecidesEntry, HasHeadOf, HasOwnerOrNone, Head, IsReadTo, IsRecordEntry, SetsOrigin, SetsTtl, decides_fault, decides_none, decides_one, one_bare, with_owner}
 pub use Rattle.zone_text.specs.Machine.Feeding.{Follow, IsSplitter, ReadsEntry, ReadsOctets, ScansTo, state_of}
 pub use Rattle.zone_text.specs.Machine.ItemLengths.{EndsAt, ends_within, item_len, stops_bare, stops_within}
 pub use Rattle.zone_text.specs.Machine.Kept.{IsShort, Keeps, KeepsBare}

@@ -1,25 +1,19 @@
 -- The entry at the front of octets, token by token, without parentheses.
-use Rattle.zone_text.proofs.Common.{AllByRecursion, AreKept, Bool, Cuts, EndsAt, EntrySplitter, IsFirstEntry, IsBadEscape, IsInFront, IsOneEntry, IsSplitter, IsUnit, Keeps, KeepsBare, KeepsItems, List, None, RawItem, ReadsOctets, Token, [], ap, append-nil, append_assoc, arith, at_backslash, at_end, at_octet, bare, blank, closing, comment, drop, ends_item, eqb-false, false, flat_map, is_blank, item_of, length, length-append, length-map, length-take, line_feed, map, ne_eqb, opening, or_parts, plain, refl, rules, subst, suc, sym, take, text_of, take-append-drop, take-append_seam, token_text, true, written_text, zero, ℕ, ◌++◌, ◌+◌, ◌-◌, ◌<◌, ◌==◌, ◌||◌, ◌∙◌, ◌∷◌, ◌≡◌, ◌≢◌, ⊤}
+use Rattle.zone_text.proofs.Common.{All, AreKept, Cuts, EndsAt, EntrySplitter, IsBadEscape, IsFirstEntry, IsInFront, IsOneEntry, IsSplitter, Keeps, KeepsBare, KeepsItems, List, None, RawItem, ReadsOctets, Token, [], ap, append-nil, append_assoc, arith, at_backslash, at_end, at_octet, bare, blank, closing, comment, drop, ends_item, false, flat_map, get_or, is_blank, item_of, length, length-append, length-take, line_feed, opening, refl, rules, stops_bare, subst, suc, sym, take, take-append-drop, take-append_seam, text_of, token_text, true, zero, ℕ, ⊤, ◌++◌, ◌+◌, ◌-◌, ◌<◌, ◌∙◌, ◌∷◌, ◌≡◌, ◌≢◌, ◌≤◌}
 use Rattle.zone_rdata.specs.Item as raw
 use Rattle.zone_text.proofs.Scanning.FedPieces.{FollowsOn, HasFed, fed_more}
 use Rattle.zone_text.proofs.Tokens.Cuttings.{cuts, is_cut, one_cut, one_token_more}
 use Rattle.zone_text.proofs.Files.Followed.{follow_one}
 use Rattle.zone_text.proofs.Tokens.Fronts.{Begins, HasRoom, Stops, Takes, begins}
-use Rattle.zone_text.proofs.Tokens.ItemsLeft.{in_front_takes}
+use Rattle.zone_text.proofs.Tokens.EscapedItems.{ended, plain_so_far}
+use Rattle.zone_text.proofs.Tokens.ItemsLeft.{bare_front, in_front_takes}
+use Rattle.zone_text.proofs.Tokens.TokenEnds.{first_at}
+use Rattle.std.proofs.lemmas.List.Elements.{All-from_recursion}
+use Rattle.zone_text.specs.declared.items.Extent.TheVariants.{Bare}
 use Rattle.zone_text.proofs.Entries.Kept.{keeps_more, none_kept}
 use Rattle.zone_text.proofs.Scanning.StopMarks.{goes_on, prefix_each, prefix_ends}
 use Rattle.std.proofs.lemmas.List.Sums.{prefix_len-le-length}
 use Rattle.std.specs.List.{prefix_len}
-
--- ---- plain octets as written ones
-
-pub plain_text : (octets : List ℕ) → written_text (map plain octets) ≡ octets
-plain_text [] = refl
-plain_text (c ∷ octets) = ap (λ t. c ∷ t) (plain_text octets)
-
-pub plain_units : (ends : ℕ → Bool) (octets : List ℕ) → AllByRecursion (λ c. (ends c || c == 92) ≡ false) octets → AllByRecursion (IsUnit ends) (map plain octets)
-plain_units ends [] each = tt
-plain_units ends (c ∷ octets) each = let p = or_parts (ends c) (c == 92) each.0 in ((p.0, eqb-false c 92 p.1), plain_units ends octets each.1)
 
 -- ---- the token at the front
 
@@ -69,28 +63,15 @@ comment_passed octets after rest c whole is found =
     by line_feed first = absurd (omega arith)
     by p first = tt
 
-pub stops_or : (a b : Bool) → (a || b) ≡ true → b ≡ false → a ≡ true
-stops_or a b e none = search rules
-
 pub bare_passed : (octets item rest more : List ℕ) (next n : ℕ) → 0 < n → n ≡ prefix_len goes_on octets → item ≡ take n octets → rest ≡ drop n octets → rest ≡ next ∷ more → next ≢ 92 → IsPassed octets (raw.bare item ∷ []) rest
 bare_passed octets item rest more next n some len front back first other =
-    let each : AllByRecursion (λ d. (ends_item d || d == 92) ≡ false) (take n octets) = subst (λ k. AllByRecursion (λ d. (ends_item d || d == 92) ≡ false) (take k octets)) (sym len) (prefix_each octets) in
-    let ends : EndsAt (λ d. ends_item d || d == 92) (drop n octets) = subst (λ k. EndsAt (λ d. ends_item d || d == 92) (drop k octets)) (sym len) (prefix_ends octets) in
-    let units : AllByRecursion (λ d. (ends_item d || d == 92) ≡ false) item = subst (AllByRecursion (λ d. (ends_item d || d == 92) ≡ false)) (sym front) each in
-    let stop : (ends_item next || next == 92) ≡ true = subst (EndsAt (λ d. ends_item d || d == 92)) (sym back ∙ first) ends in
-    let ended : ends_item next ≡ true = stops_or (ends_item next) (next == 92) stop (ne_eqb next 92 other) in
-    let long : length item ≡ n = ap length front ∙ omega (arith, length-take n octets, len, prefix_len-le-length goes_on octets) in
-    record {
-      token = bare (map plain item);
-      takes = record {
-        whole = sym (take-append-drop n octets) ∙ ap (λ t. t ++ drop n octets) (sym front ∙ sym (plain_text item)) ∙ ap (λ t. written_text (map plain item) ++ t) (sym back);
-        token = (let count : length (map plain item) ≡ length item = length-map item plain in omega (arith, count, long, some), plain_units ends_item item units);
-        stop = at_octet next more first ended;
-        room = tt;
-      };
-      inside = tt;
-      stated = ap (λ t. raw.bare t ∷ []) (plain_text item);
-    }
+    let within : n ≤ length octets = omega (arith, len, prefix_len-le-length goes_on octets) in
+    let each : All (λ d. stops_bare d ≡ false) (take n octets) = subst (λ k. All (λ d. stops_bare d ≡ false) (take k octets)) (sym len) (All-from_recursion _ _ (prefix_each octets)) in
+    let ends : EndsAt stops_bare (drop n octets) = subst (λ k. EndsAt stops_bare (drop k octets)) (sym len) (prefix_ends octets) in
+    let stop : n < length octets → get_or octets n 0 ≢ 92 = λ less is.
+    let same : get_or octets n 0 ∷ drop (n + 1) octets ≡ next ∷ more = sym (first_at octets n less) ∙ sym back ∙ first in
+    other (let e : get_or octets n 0 ≡ next = cc in sym e ∙ is) in
+    item_passed octets rest (raw.bare item) (bare_front octets item rest n (ended Bare octets n (plain_so_far ends_item octets n within each ends) stop) front back (omega (arith, some, ap length front, length-take n octets, within)))
 
 -- ---- tokens up to the line feed
 

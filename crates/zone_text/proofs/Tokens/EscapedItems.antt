@@ -1,7 +1,6 @@
 -- Items in which escapes stand among octets by themselves.
-use Rattle.zone_text.proofs.Common.{All, AllByRecursion, AllByRecursion-append, Bool, EndsAt, IsBadEscape, IsUnit, List, NoUnit, Units, Written, [], ap, append_assoc, arith, at_backslash, at_end, at_octet, drop, drop-append_seam, ends_within, flat_map-append, get_or, item_len, length, length-append, length-drop, length-take, map, ne_eqb, plain, recursion_from_All, refl, subst, sym, take, take-append-drop, take-append_seam, text_of, unit_of_escape, units_first_only, written_text, ℕ, ◌++◌, ◌+◌, ◌-◌, ◌<◌, ◌==◌, ◌||◌, ◌∙◌, ◌∷◌, ◌≡◌, ◌≢◌, ◌≤◌, false}
+use Rattle.zone_text.proofs.Common.{All, AllByRecursion, AllByRecursion-append, Bool, EndsAt, IsBadEscape, IsUnit, List, NoUnit, Units, Written, [], ap, append_assoc, arith, at_backslash, at_end, at_octet, drop, drop-append_seam, ends_within, eqb-false, false, flat_map-append, get_or, item_len, length, length-append, length-drop, length-take, map, ne_eqb, or_parts, plain, recursion_from_All, refl, rules, subst, sym, take, take-append-drop, take-append_seam, text_of, true, unit_of_escape, units_first_only, written_text, ℕ, ◌++◌, ◌+◌, ◌-◌, ◌<◌, ◌==◌, ◌||◌, ◌∙◌, ◌∷◌, ◌≡◌, ◌≢◌, ◌≤◌}
 use Rattle.zone_name.specs.Spelling.{BeginsWithEscape}
-use Rattle.zone_text.proofs.Scanning.FirstEntries.{plain_text, plain_units, stops_or}
 use Rattle.zone_text.proofs.Tokens.TokenEnds.{first_at}
 use Rattle.zone_text.specs.declared.items.Extent.{Extent}
 use Rattle.zone_text.specs.declared.items.Extent.TheVariants.{Bare, Quoted}
@@ -13,6 +12,14 @@ pub record IsWrittenTo (ends : ℕ → Bool) (octets : List ℕ) (len : ℕ) : T
   pub text : take len octets ≡ written_text units
   pub stops : EndsAt (λ c. ends c || c == 92) (drop len octets)
   pub within : len ≤ length octets
+
+plain_text : (octets : List ℕ) → written_text (map plain octets) ≡ octets
+plain_text [] = refl
+plain_text (c ∷ octets) = ap (λ t. c ∷ t) (plain_text octets)
+
+plain_units : (ends : ℕ → Bool) (octets : List ℕ) → AllByRecursion (λ c. (ends c || c == 92) ≡ false) octets → AllByRecursion (IsUnit ends) (map plain octets)
+plain_units ends [] each = tt
+plain_units ends (c ∷ octets) each = let p = or_parts (ends c) (c == 92) each.0 in ((p.0, eqb-false c 92 p.1), plain_units ends octets each.1)
 
 each_plain : (ends : ℕ → Bool) (octets : List ℕ) → All (λ c. (ends c || c == 92) ≡ false) octets → AllByRecursion (IsUnit ends) (map plain octets)
 each_plain ends octets each = plain_units ends octets (recursion_from_All (λ c. (ends c || c == 92) ≡ false) octets each)
@@ -63,6 +70,9 @@ len_is extent octets len is none =
 ended_by : (ends : ℕ → Bool) (rest : List ℕ) → EndsAt (λ c. ends c || c == 92) rest → ((c : ℕ) (more : List ℕ) → rest ≡ c ∷ more → c ≢ 92) → NoUnit ends rest
 ended_by ends [] at other = at_end refl
 ended_by ends (c ∷ more) at other = at_octet c more refl (stops_or (ends c) (c == 92) at (ne_eqb c 92 (other c more refl)))
+  where
+    stops_or : (a b : Bool) → (a || b) ≡ true → b ≡ false → a ≡ true
+    stops_or a b e none = search rules
 
 pub ended : (extent : Extent) (octets : List ℕ) (len : ℕ) → IsWrittenTo (ends_within extent) octets len → (len < length octets → get_or octets len 0 ≢ 92) → len ≡ item_len (ends_within extent) octets
 ended extent octets len is other = len_is extent octets len is (ended_by (ends_within extent) (drop len octets) is.stops (λ c more e mark.

@@ -1,6 +1,6 @@
 -- The items of tokens, gathered from the left: the first token of a text, and the items of those
 -- after it.
-use Rattle.zone_text.proofs.Common.{AllByRecursion, AllFollow, AreKept, AreTokensOf, BadEscape, Bool, Cuts, IsInFront, IsNoToken, IsToken, IsUnit, Keeps, KeepsItems, List, NoUnit, RawItem, Sign, Some, Token, UnitsAre, Written, [], a_blank, a_closing, a_line_feed, a_quote, a_semicolon, an_opening, ap, append-nil, append_assoc, arith, at_end, bare, before_line_feed, blank, both_ways, closing, comment, cond_both, drop, drop-append_seam, ends_item, eqb-true, false, flat_map, from_line_feed, front_of, is_quote, item_len, item_of, length, length-append, line_feed, of_item, opening, quoted, refl, rules, sign_of, stops, subst, sym, take, take-append_seam, takes, text, text_of, text_of-some, token_text, true, units_first, units_first_are, written_text, ℕ, ◌++◌, ◌<◌, ◌∙◌, ◌∷◌, ◌≡◌, ◌≢◌}
+use Rattle.zone_text.proofs.Common.{AllByRecursion, AllFollow, AreKept, AreTokensOf, BadEscape, Bool, Cuts, IsInFront, IsNoToken, IsToken, IsUnit, Keeps, KeepsItems, List, NoUnit, RawItem, Sign, Some, Token, UnitsAre, Written, [], a_blank, a_closing, a_line_feed, a_quote, a_semicolon, an_opening, ap, append-nil, append_assoc, arith, at_end, bare, before_line_feed, blank, both_ways, closing, comment, cond_both, drop, drop-append_seam, ends_item, eqb-true, false, flat_map, front_of, is_quote, item_len, item_of, length, length-append, line_feed, of_item, opening, quoted, refl, rules, sign_of, stops, subst, sym, take, take-append_seam, takes, text, text_of, text_of-some, true, units_first, units_first_are, written_text, ℕ, ◌++◌, ◌<◌, ◌∙◌, ◌∷◌, ◌≡◌, ◌≢◌}
 use Rattle.zone_rdata.specs.Item as raw
 use Rattle.zone_text.specs.Machine.Cutting as cutting
 use Rattle.zone_text.proofs.Tokens.Cuttings.{follow_after, next_stops, shorter}
@@ -34,9 +34,10 @@ item_is : (ends : ℕ → Bool) (octets item rest : List ℕ) (n : ℕ) → n �
 item_is ends octets item rest n len front back =
     let whole = (units_first_are ends octets).whole in
     let written : List ℕ = written_text (units_first ends octets).units in
-    let after : List ℕ = (units_first ends octets).rest in
-    (front ∙ ap (λ k. take k octets) len ∙ ap (take (length written)) whole ∙ take-append_seam written after,
-    back ∙ ap (λ k. drop k octets) len ∙ ap (drop (length written)) whole ∙ drop-append_seam written after)
+    let after : List ℕ = (units_first ends octets).rest in (
+      front ∙ ap (λ k. take k octets) len ∙ ap (take (length written)) whole ∙ take-append_seam written after,
+      back ∙ ap (λ k. drop k octets) len ∙ ap (drop (length written)) whole ∙ drop-append_seam written after,
+    )
 
 pub bare_front : (octets item left : List ℕ) (n : ℕ) → n ≡ item_len ends_item octets → item ≡ take n octets → left ≡ drop n octets → 0 < length item → IsInFront octets (raw.bare item ∷ []) left
 bare_front octets item left n len front back some =
@@ -110,29 +111,22 @@ room : (p : Token) → HasRoom 1 p
 room closing = omega arith
 room p = tt
 
-text_takes : (octets : List ℕ) (p : Token) (tokens : List Token) → octets ≡ text (p ∷ tokens) → AllByRecursion IsToken (p ∷ tokens) → AllFollow (p ∷ tokens) → front_of 1 octets ≡ takes p (text tokens)
-text_takes octets p tokens whole each follow = ap (front_of 1) whole ∙ front_takes 1 p (text tokens) each.0 (stops_before p tokens each.1 follow) (room p)
+first_takes : (octets : List ℕ) (p : Token) (tokens : List Token) → AreTokensOf octets (p ∷ tokens) → front_of 1 octets ≡ takes p (text tokens)
+first_takes octets p tokens are = ap (front_of 1) are.whole ∙ front_takes 1 p (text tokens) are.each.0 (stops_before p tokens are.each.1 are.follow) (room p)
 
 -- the first of them is the token in front
-first_is : (octets left : List ℕ) (items : List RawItem) (p : Token) (tokens : List Token) → IsInFront octets items left → octets ≡ text (p ∷ tokens) → AllByRecursion IsToken (p ∷ tokens) → AllFollow (p ∷ tokens) → (items ≡ item_of p) × (left ≡ text tokens)
-first_is octets left items p tokens found whole each follow =
-    let e : takes found.token left ≡ takes p (text tokens) = sym found.front ∙ text_takes octets p tokens whole each follow in
-    (sym found.stated ∙ cc, cc)
-
 pub tokens_after : (octets left : List ℕ) (items : List RawItem) → IsInFront octets items left → (p : Token) (more : List Token) → AreTokensOf octets (p ∷ more) → (items ≡ item_of p) × AreTokensOf left more
 tokens_after octets left items found p more are =
-    let first = first_is octets left items p more found are.whole are.each are.follow in
-    (first.0, record { whole = first.1; each = are.each.1; follow = follow_after p more are.follow })
+    let e : takes found.token left ≡ takes p (text more) = sym found.front ∙ first_takes octets p more are in
+    (sym found.stated ∙ cc, record { whole = cc; each = are.each.1; follow = follow_after p more are.follow })
 
 pub no_tokens : (octets : List ℕ) → IsNoToken (front_of 1 octets) → (p : Token) (more : List Token) → AreTokensOf octets (p ∷ more) → ⊥
-no_tokens octets none p more are = subst IsNoToken (text_takes octets p more are.whole are.each are.follow) none
+no_tokens octets none p more are = subst IsNoToken (first_takes octets p more are) none
 
 -- the tokens that are left, and the items of those before them, of which these are kept
 pub record IsLeft (rest : List ℕ) (kept : List RawItem) (tokens : List Token) : Type 0 where
   pub more : List Token
-  pub whole : rest ≡ text more
-  pub each : AllByRecursion IsToken more
-  pub follow : AllFollow more
+  pub are : AreTokensOf rest more
   pub so_far : List RawItem
   pub are_kept : AreKept so_far kept
   pub items : so_far ++ flat_map item_of more ≡ flat_map item_of tokens
@@ -140,28 +134,34 @@ pub record IsLeft (rest : List ℕ) (kept : List RawItem) (tokens : List Token) 
 abbrev pub LeavesItems : List ℕ → List ℕ → List RawItem → Type 0
 LeavesItems entry rest kept = (tokens : List Token) → Cuts entry tokens → IsLeft rest kept tokens
 
-left_by : (octets left : List ℕ) (kept new item : List RawItem) (tokens more : List Token) (so_far : List RawItem) → IsInFront octets item left → ((p : Token) → IsToken p → item ≡ item_of p → AreKept (so_far ++ item) new) → octets ≡ text more → AllByRecursion IsToken more → AllFollow more → so_far ++ flat_map item_of more ≡ flat_map item_of tokens → IsLeft left new tokens
-left_by octets left kept new item tokens [] so_far found keeps whole each follow items = absurd (omega (arith, in_front_shorter octets left item found, ap length whole))
-left_by octets left kept new item tokens (p ∷ more) so_far found keeps whole each follow items =
-    let first = first_is octets left item p more found whole each follow in
-    search (rules, follow_after, append_assoc)
+left_by : (octets left : List ℕ) (kept new item : List RawItem) (tokens more : List Token) (so_far : List RawItem) → IsInFront octets item left → ((p : Token) → IsToken p → item ≡ item_of p → AreKept (so_far ++ item) new) → AreTokensOf octets more → so_far ++ flat_map item_of more ≡ flat_map item_of tokens → IsLeft left new tokens
+left_by octets left kept new item tokens [] so_far found keeps are items = absurd (omega (arith, in_front_shorter octets left item found, ap length are.whole))
+left_by octets left kept new item tokens (p ∷ more) so_far found keeps are items =
+    let next = tokens_after octets left item found p more are in
+    record {
+      more = more;
+      are = next.1;
+      so_far = so_far ++ item;
+      are_kept = keeps p are.each.0 next.0;
+      items = append_assoc so_far item (flat_map item_of more) ∙ ap (λ t. so_far ++ (t ++ flat_map item_of more)) next.0 ∙ items;
+    }
 
 pub one_less : (entry octets left : List ℕ) (kept new : List RawItem) (item : RawItem) → IsInFront octets (item ∷ []) left → Keeps item kept new → LeavesItems entry octets kept → LeavesItems entry left new
 one_less entry octets left kept new item found keeps leaves tokens cuts =
     let before = leaves tokens cuts in
-    left_by octets left kept new (item ∷ []) tokens before.more before.so_far found (λ p is e. keeps_more p before.so_far kept new item is e before.are_kept keeps) before.whole before.each before.follow before.items
+    left_by octets left kept new (item ∷ []) tokens before.more before.so_far found (λ p is e. keeps_more p before.so_far kept new item is e before.are_kept keeps) before.are before.items
 
 pub none_less : (entry octets left : List ℕ) (kept : List RawItem) → IsInFront octets [] left → LeavesItems entry octets kept → LeavesItems entry left kept
 none_less entry octets left kept found leaves tokens cuts =
     let before = leaves tokens cuts in
-    left_by octets left kept kept [] tokens before.more before.so_far found (λ p is e. subst (λ t. AreKept t kept) (sym (append-nil before.so_far)) before.are_kept) before.whole before.each before.follow before.items
-
-end_by : (rest : List ℕ) (so_far : List RawItem) (tokens more : List Token) → IsNoToken (front_of 1 rest) → rest ≡ text more → AllByRecursion IsToken more → AllFollow more → so_far ++ flat_map item_of more ≡ flat_map item_of tokens → so_far ≡ flat_map item_of tokens
-end_by rest so_far tokens [] none whole each follow items = sym (append-nil so_far) ∙ items
-end_by rest so_far tokens (p ∷ more) none whole each follow items = absurd (subst IsNoToken (text_takes rest p more whole each follow) none)
+    left_by octets left kept kept [] tokens before.more before.so_far found (λ p is e. subst (λ t. AreKept t kept) (sym (append-nil before.so_far)) before.are_kept) before.are before.items
 
 -- where no token is left, the items are all
 pub all_taken : (entry rest : List ℕ) (kept : List RawItem) → IsNoToken (front_of 1 rest) → LeavesItems entry rest kept → KeepsItems entry kept
 all_taken entry rest kept none leaves tokens cuts =
     let before = leaves tokens cuts in
-    subst (λ t. AreKept t kept) (end_by rest before.so_far tokens before.more none before.whole before.each before.follow before.items) before.are_kept
+    subst (λ t. AreKept t kept) (by before.so_far before.more before.are before.items) before.are_kept
+  where
+    by : (so_far : List RawItem) (more : List Token) → AreTokensOf rest more → so_far ++ flat_map item_of more ≡ flat_map item_of tokens → so_far ≡ flat_map item_of tokens
+    by so_far [] are items = sym (append-nil so_far) ∙ items
+    by so_far (p ∷ more) are items = absurd (no_tokens rest none p more are)
