@@ -114,6 +114,7 @@ pub fn first_token(text: &[u8]) -> Option<(Option<Item<'_>>, &[u8])>
     match split_token(text) {
         Some(found) => Some(found),
         None if text.is_empty() => None,
+        // It isn't cut into tokens.
         None => Some((None, &[])),
     }
 }

@@ -57,7 +57,7 @@ pub(crate) fn plain_len(text: &[u8], extent: Extent) -> usize
     text.len()
 }
 
-/// The number of octets of the item at the beginning, of which these many are plain.
+/// As `item_len`, of an item of which so many octets are known to be plain.
 // Not inlined: few items have a backslash.
 #[inline(never)]
 pub(crate) fn escaped_len(text: &[u8], plain: usize, extent: Extent) -> usize
@@ -78,7 +78,8 @@ pub(crate) fn escaped_len(text: &[u8], plain: usize, extent: Extent) -> usize
     len
 }
 
-/// The number of octets of the item at the beginning, without quotes.
+/// The number of octets of the item at the beginning, without quotes. A backslash that begins no
+/// escape ends it.
 #[inline(always)]
 fn item_len(text: &[u8], extent: Extent) -> usize
     ensures len { result ≡ item_len (ends_within extent) text.now }
