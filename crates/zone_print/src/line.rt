@@ -1,5 +1,5 @@
 ghost use Rattle.std.specs.Prelude.{[], ◌∷◌, ◌++◌, OnOk};
-ghost use Rattle.zone_print.specs.Canonical.{canon, line, lines};
+ghost use Rattle.zone_print.specs.Canonical.{line, lines};
 ghost use Rattle.zone_print.specs.Machine.Middle.{before_kind, kind_column};
 ghost use Rattle.zone_rdata.specs.Record.{data_of};
 ghost use Rattle.zone_rdata.specs.Text.{data_text};
@@ -8,7 +8,7 @@ ghost use Rattle.zone_rdata.specs.Lent.{record_of};
 use itoa::Buffer;
 use zone_name::Sink;
 use zone_rdata::RrRef;
-use zone_set::{KeptRecords, Zone};
+use zone_set::UnorderedRecords;
 
 /// Appends TTL and class of the record, each after a space, and a space.
 ///
@@ -65,28 +65,14 @@ pub(crate) fn push_line<S: Sink>(out: &mut S, rr: &RrRef) -> Result<(), S::Error
     push_data(out, rr)
 }
 
-/// Appends the line of each record of the zone, in canonical order.
+/// Appends the lines of records as they come.
 ///
 /// # Errors
 ///
 /// `out` refuses octets. A prefix of the text may have been appended.
-pub(crate) fn push_lines<S: Sink>(out: &mut S, zone: &Zone) -> Result<(), S::Error>
-    ensures { OnOk result (S.takes out.old (canon zone.now) out.new) }
-{
-    for rr in zone.records() {
-        push_line(out, &rr)?;
-    }
-    Ok(())
-}
-
-/// Appends the lines of records, in their order.
-///
-/// # Errors
-///
-/// `out` refuses octets. A prefix of the text may have been appended.
-pub(crate) fn push_kept_lines<S: Sink>(
+pub(crate) fn push_lines<S: Sink>(
     out: &mut S,
-    records: KeptRecords<'_>,
+    records: UnorderedRecords<'_>,
 ) -> Result<(), S::Error>
     ensures { OnOk result (S.takes out.old (lines records.entry) out.new) }
 {

@@ -6,7 +6,7 @@ ghost use Rattle.zone_print.specs.Machine.Writing.{IsOfWriting};
 ghost use Rattle.zone_print.specs.Writing.{AppendsPart, StopsPush, StopsWrite};
 
 use crate::laws::a_text_is_at_most_four_times_its_messages;
-use crate::line::{push_kept_lines, push_lines};
+use crate::line::push_lines;
 use crate::line_buffer::LineBuffer;
 use crate::write::{OctetWriter, write_octets};
 use std::alloc::Global;
@@ -73,11 +73,8 @@ fn len_within(zone: &Zone, limit: u64) -> u64
     ensures { result ≡ min (length (canon zone.now)) (limit + 1) }
 {
     let mut room = Room { left: limit + 1 };
-    // In any order the lines are as long, and in this one memory is read soonest.
-    let Ok(()) = match zone.kept_records() {
-        Some(records) => push_kept_lines(&mut room, records),
-        None => push_lines(&mut room, zone),
-    };
+    // In any order the lines are as long.
+    let Ok(()) = push_lines(&mut room, zone.unordered_records());
     limit + 1 - room.left
 }
 

@@ -7,11 +7,11 @@ use crate::stored::record_at;
 use std::marker::Model;
 use zone_rdata::{Class, RrRef};
 
-/// The records of a zone that are left, in the order in which memory holds them.
+/// Records that octets keep one after another, of which these are left.
 #[derive(Drop)]
-pub struct KeptRecords<'z> {
+pub(crate) struct KeptRecords<'z> {
     class: Class,
-    /// The octets that keep them, one after another.
+    /// The octets that keep them.
     octets: &'z [u8],
 }
 

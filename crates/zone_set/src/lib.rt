@@ -22,11 +22,12 @@ mod refusal;
 mod sets;
 mod stored;
 mod tie;
+mod unordered;
 mod zone;
 
 pub use builder::ZoneBuilder;
-pub use kept_records::KeptRecords;
 pub use list::ZoneList;
 pub use records::Records;
+pub use unordered::UnorderedRecords;
 pub use zone::Zone;
 pub use zone_rdata::RrRef;

@@ -18,6 +18,7 @@ use crate::put::{LIMIT, put};
 use crate::records::Records;
 use crate::refusal::Refusal;
 use crate::stored::record_at;
+use crate::unordered::UnorderedRecords;
 use sorted_chunks::SortedChunks;
 use std::alloc::{AllocError, Global};
 use std::marker::Model;
@@ -110,14 +111,16 @@ impl Sets {
         Records::new(self.class, self.octets.as_slice(), self.entries.iter())
     }
 
-    /// The records in the order in which they are kept. `None`: the octets may keep others too.
-    pub(crate) fn kept(&self) -> Option<KeptRecords<'_>>
-        ensures { IfSome result (λ kept. IsPermutation kept self.now) }
+    /// The records in the order in which they are passed over soonest: as the octets keep them, if
+    /// these keep no others.
+    pub(crate) fn unordered(&self) -> UnorderedRecords<'_>
+        ensures { IsPermutation result self.now }
     {
-        if !self.alone {
-            return None;
+        if self.alone {
+            let kept = KeptRecords::new(self.class, self.octets.as_slice());
+            return UnorderedRecords::kept(kept);
         }
-        Some(KeptRecords::new(self.class, self.octets.as_slice()))
+        UnorderedRecords::sorted(self.iter())
     }
 
     /// How many records there are, or 2^64 - 1 where there are more.

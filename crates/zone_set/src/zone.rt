@@ -1,11 +1,11 @@
-ghost use Rattle.std.specs.Prelude.{◌≡◌, ◌-◌, ◌^◌, length, min, IfSome};
+ghost use Rattle.std.specs.Prelude.{◌≡◌, ◌-◌, ◌^◌, length, min};
 ghost use Rattle.std.specs.List.Sorted.{IsPermutation};
 ghost use Rattle.zone_set.specs.Message.{message_octets};
 ghost use Rattle.zone_set.specs.Zone.{IsZone};
 
-use crate::kept_records::KeptRecords;
 use crate::records::Records;
 use crate::sets::Sets;
+use crate::unordered::UnorderedRecords;
 use std::marker::Model;
 use zone_name::Name;
 use zone_rdata::Class;
@@ -59,12 +59,11 @@ impl Zone {
         self.sets.message_len()
     }
 
-    /// The records in the order in which memory holds them, in which they are passed over soonest.
-    /// `None`: memory may hold others between them, as where equal records came.
-    pub fn kept_records(&self) -> Option<KeptRecords<'_>>
-        ensures { IfSome result (λ kept. IsPermutation kept self.now.records) }
+    /// The records in an order that isn't told, in which they are passed over soonest.
+    pub fn unordered_records(&self) -> UnorderedRecords<'_>
+        ensures { IsPermutation result self.now.records }
     {
-        self.sets.kept()
+        self.sets.unordered()
     }
 
     /// The records in canonical order.
