@@ -1,6 +1,5 @@
 ghost use Rattle.std.specs.Prelude.{◌≡◌, ◌≤◌, map, length, drop, take, false, not, IsTrue, IfNone, IfSome, OnOk, option_map, option_to_list};
 ghost use Rattle.std.specs.List.{All};
-ghost use Rattle.zone_name.specs.Common.{AreOctets};
 ghost use Rattle.zone_rdata.specs.Item.{raw};
 ghost use Rattle.zone_text.specs.Tokens.{ends_item, is_blank};
 ghost use Rattle.zone_text.specs.Machine.Cutting.{IsInFront, IsNoToken, front_of};
@@ -12,6 +11,7 @@ use crate::comment::comment_len;
 use crate::table::stops_bare;
 use std::alloc::AllocError;
 use zone_name::escape_at;
+use zone_name::laws::are_octets;
 use zone_rdata::Item;
 
 /// Whether the octet parts items: a space, a tab or a carriage return.
@@ -140,20 +140,15 @@ pub(crate) fn split_token(text: &[u8]) -> Option<(Option<Item<'_>>, &[u8])>
 /// of which all items but a few state an octet or more of 65,535.
 pub const MOST_ITEMS: usize = 65_552;
 
-/// Whether octets that are written so are no more than a string may have (RFC 1035 3.3).
-fn fit_string(text: &[u8]) -> bool
-    ensures few { IsTrue result → length text.now ≤ 255 }
-    ensures octets { AreOctets text.now }
-{
-    text.len() <= 255
-}
-
-/// Whether an item's text is no longer than a string may be.
+/// Whether an item's text is no longer than a string may be (RFC 1035 3.3).
 fn is_short(item: Item) -> bool
     ensures { IsTrue result → IsShort (raw item.entry) }
 {
     match item {
-        Item::Bare(text) | Item::Quoted(text) => fit_string(text),
+        Item::Bare(text) | Item::Quoted(text) => {
+            are_octets(text);
+            text.len() <= 255
+        }
     }
 }
 

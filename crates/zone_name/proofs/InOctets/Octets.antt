@@ -1,5 +1,6 @@
 -- The octets of names: what `labels_of` finds in what `wire` writes.
 use Rattle.zone_name.proofs.Common.{◌≡◌, ℕ, zero, suc, ◌+◌, ◌-◌, ◌<◌, ◌≤◌, List, [], ◌∷◌, ◌++◌, length, take, drop, refl, sym, ap, ◌∙◌, subst, arith, append_assoc, length-append, flat_map, AllByRecursion, take_at, drop_at, append-nil, take-append-drop, IsCasedLabel, IsCasedName, IsLabel, IsName, with_length, wire, labels_by, BeginsWithName, HoldsCasedName, HoldsName}
+use Rattle.std.proofs.lemmas.List.{length-drop}
 use Rattle.zone_name.specs.Name.{labels_of}
 
 -- one label cut off the beginning
@@ -127,3 +128,24 @@ length-frames_twice (label ∷ labels) each = omega (arith, each.0.some, length-
 -- a name has at most 127 labels
 pub length-labels : (labels : List (List ℕ)) → IsName labels → length labels ≤ 127
 length-labels labels name = grind (arith, length-frames_twice, length-append)
+
+-- fuel for as many octets as there are is enough
+labels_by-enough : (m n : ℕ) (octets : List ℕ) → length octets ≤ m → length octets ≤ n → labels_by m octets ≡ labels_by n octets
+labels_by-enough zero zero octets enough also = refl
+labels_by-enough zero (suc n) [] enough also = refl
+labels_by-enough zero (suc n) (c ∷ octets) enough also = absurd (omega (arith, enough))
+labels_by-enough (suc m) zero [] enough also = refl
+labels_by-enough (suc m) zero (c ∷ octets) enough also = absurd (omega (arith, also))
+labels_by-enough (suc m) (suc n) [] enough also = refl
+labels_by-enough (suc m) (suc n) (zero ∷ octets) enough also = refl
+labels_by-enough (suc m) (suc n) (suc c ∷ octets) enough also =
+    let left = length-drop (suc c) octets in
+    ap (λ labels. take (suc c) octets ∷ labels) (labels_by-enough m n (drop (suc c) octets) (omega (arith, enough, left)) (omega (arith, also, left)))
+
+-- the first label, and those that follow it, of any octets
+pub labels_of-cons : (len : ℕ) (after : List ℕ) → 0 < len → labels_of (len ∷ after) ≡ take len after ∷ labels_of (drop len after)
+unfolding labels_of
+labels_of-cons zero after some = absurd (omega (arith, some))
+labels_of-cons (suc k) after some =
+    let left = length-drop (suc k) after in
+    ap (λ labels. take (suc k) after ∷ labels) (labels_by-enough (length after) (length (drop (suc k) after)) (drop (suc k) after) (omega (arith, left)) (omega arith))
