@@ -40,7 +40,7 @@ pub use Rattle.zone_rdata.specs.Fields.Strings.{AreStrings, FirstStringFault, Sp
 pub use Rattle.zone_rdata.specs.Generic.{GenericFault, IsGenericForm, JoinTo, StatesGeneric, StatesLength, bad_digits, digit_items, generic_items, long_length, no_length}
 pub use Rattle.zone_rdata.specs.Item.{IsGeneric, RawItem, bare, generic_mark, quoted, raw}
 pub use Rattle.zone_rdata.specs.Layout.{AreLaidOut, IsData, IsLayout, IsSized, StringsLast, fields_in, fields_of, layout}
-pub use Rattle.zone_rdata.specs.Machine.Each.{HoldEach, SpellEachString}
+pub use Rattle.zone_rdata.proofs.Octets.Each.{HoldEach, SpellEachString}
 pub use Rattle.zone_rdata.specs.Machine.AddressReading.{HasGapAt, IsCutAtFirst, IsGroupOf, IsLastPartOf, Lacks, NoneFits}
 pub use Rattle.zone_rdata.specs.Appended.{Appends}
 pub use Rattle.zone_rdata.specs.Machine.Appending.{AppendsFirst, AppendsPrefix, AppendsValue, AreSpelt, BeginsWithNone, BeginsWithValue}

@@ -1,6 +1,7 @@
 -- Data as octets: read, made and taken field after field.
 pub mod Building
 pub mod Bytes
+pub mod Each
 pub mod Layouts
 pub mod Minima
 pub mod Sent

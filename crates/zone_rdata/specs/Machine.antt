@@ -4,8 +4,6 @@ pub mod Printing
 pub mod Appending
 pub mod TimeProgress
 pub mod Building
-pub mod Each
 pub mod Fronts
 pub mod GenericLength
-pub mod Written
 pub mod Unescaped

@@ -28,7 +28,7 @@ pub use Rattle.zone_rdata.specs.Fault.{IfFault, fault_of}
 pub use Rattle.zone_rdata.specs.FedSource.{SourceState, counted, is_finished}
 pub use Rattle.zone_rdata.specs.Item.{RawItem, raw}
 pub use Rattle.zone_rdata.specs.LeftOut.{AreShortened, LeavesOut}
-pub use Rattle.zone_rdata.specs.Machine.Written.{IsWritten}
+pub use Rattle.zone_rdata.proofs.Items.LeftOut.{IsWritten}
 pub use Rattle.zone_rdata.specs.Minimum.{minimum}
 pub use Rattle.zone_rdata.specs.Number.{Group, IsDecimal, IsTime, IsTimeGroup, decimal_value, group_text}
 pub use Rattle.zone_rdata.specs.Record.{Data, IsRecord, Record, data_of}

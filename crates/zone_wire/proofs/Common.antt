@@ -28,7 +28,7 @@ pub use Rattle.zone_rdata.proofs.Words.Tables.{each_layout, table_row}
 pub use Rattle.zone_rdata.specs.Builder.{Built, FitsString, IsNext, IsPushFault, IsWhole, Pushes, ends_with_strings, long_string, misplaced, part_at, too_long}
 pub use Rattle.zone_rdata.specs.Cause.{fault_for}
 pub use Rattle.zone_rdata.specs.Fault.{IfFault}
-pub use Rattle.zone_rdata.specs.Machine.Each.{HoldEach}
+pub use Rattle.zone_rdata.proofs.Octets.Each.{HoldEach}
 pub use Rattle.zone_rdata.specs.Field.{FieldValue, Holds, Suits, field_at, field_octets, fixed, is_strings, name, octets_of, string, strings, u16_value, u32_value}
 pub use Rattle.zone_rdata.specs.Fields.OneString.{string_at}
 pub use Rattle.zone_rdata.specs.Fields.Strings.{AreStrings, strings_by}
@@ -59,7 +59,7 @@ pub use Rattle.zone_wire.specs.Machine.Feeding.{Follow, Going, IsCut}
 pub use Rattle.zone_wire.specs.Machine.Finding.{Outcome, Says, after_label, after_pointer, named, refused}
 unfoldable pub use Rattle.zone_wire.specs.Machine.Finding.{outcome}
 pub use Rattle.zone_wire.specs.Machine.Parsing.{AreRecordsAt, HasRecordsFrom, IsParsed, name_end_of, parsed, part_end_of, raw_from, records_or_none, run_end_of, sections_or_none}
-pub use Rattle.zone_wire.specs.Machine.Runs.{IsNamed, IsRun, Leads}
+pub use Rattle.zone_wire.specs.Machine.Runs.{IsNamed, IsRun}
 pub use Rattle.zone_wire.specs.Machine.Sections.{after_header, and_then, at_offset, each_from, inside, question_at, questions_from, record_at, records_from, to_the_end, unless_faulted}
 unfoldable pub use Rattle.zone_wire.specs.Machine.Sections.{header_fault, sections_of}
 pub use Rattle.zone_wire.specs.Machine.Spot.{spot_of}

@@ -8,7 +8,7 @@ use Rattle.zone_rdata.proofs.Strings.StringLaws.{string-never_both, string-once}
 use Rattle.zone_rdata.proofs.Items.Values.{HaveSpelt}
 use Rattle.zone_rdata.specs.Appended.{Appends}
 use Rattle.zone_rdata.specs.Fields.Strings.{FirstStringFault}
-use Rattle.zone_rdata.specs.Machine.Each.{SpellEachString}
+use Rattle.zone_rdata.proofs.Octets.Each.{SpellEachString}
 use Rattle.zone_rdata.specs.Spelling.{RawItem}
 use Rattle.zone_rdata.specs.declared.fault.Fault.{Fault}
 use Rattle.zone_words.specs.DataItem.{raw_item}

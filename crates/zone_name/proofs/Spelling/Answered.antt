@@ -1,11 +1,11 @@
 -- The name that a text spells under an origin, its letters folded or kept, or its first fault, as an
 -- answer on lists.
-use Rattle.zone_name.proofs.Common.{common_steps, AllByRecursion, AreOctets, AreWrittenLabels, Bool, EmptyLabel, Err, FaultAt, Folded, HasShape, IfErr, IfOk, IfSome, IsCasedLabel, IsCasedName, IsLabel, IsLabelBy, IsName, IsNameBy, IsRelative, IsUnit, IsWrittenLabel, Kept, Labels, Letters, List, NameFault, NameTooLong, None, Ok, Option, Origin, RelativeName, Result, Root, Some, SpellingFault, Spells, SpellsBy, SpellsCased, WritesBy, Written, [], absolute, ap, arith, at_origin, bytes_decides, codes, dotted, false, false≢true, folded, folded_label, folded_octet, get_or, if◌then◌else◌, inl, inr, is_dot, kept, length, length-map, lettered, lettered_in, long_name, name_read, nat_eq, nat_le, octet_of, parted, plain, pointwise, refl, relative, root, sized, subst, sym, taken_by, text_of, true, under_origin, unfounded, wire, within, written_octets, written_text, ℕ, ◌++◌, ◌<◌, ◌∙◌, ◌∷◌, ◌≡◌, ◌≢◌, ◌≤◌, ◌⊎◌}
+use Rattle.zone_name.proofs.Common.{common_steps, AllByRecursion, AreOctets, AreWrittenLabels, Bool, EmptyLabel, Err, FaultAt, Folded, HasShape, IfErr, IfOk, IfSome, IsCasedLabel, IsCasedName, IsLabel, IsName, IsRelative, IsUnit, IsWrittenLabel, Kept, Labels, Letters, List, NameFault, NameTooLong, None, Ok, Option, Origin, RelativeName, Result, Root, Some, SpellingFault, Spells, SpellsBy, SpellsCased, WritesBy, Written, [], absolute, ap, arith, at_origin, bytes_decides, codes, dotted, false, false≢true, folded, folded_label, folded_octet, get_or, if◌then◌else◌, inl, inr, is_dot, kept, length, length-map, lettered, lettered_in, long_name, name_read, nat_eq, nat_le, octet_of, parted, plain, pointwise, refl, relative, root, sized, subst, sym, text_of, true, under_origin, unfounded, wire, within, written_octets, written_text, ℕ, ◌++◌, ◌<◌, ◌∙◌, ◌∷◌, ◌≡◌, ◌≢◌, ◌≤◌, ◌⊎◌}
 use Rattle.zone_name.specs.declared.reading.NameShape.{NameShape}
 use Rattle.zone_name.specs.Machine.LabelWalk.{reading}
 use Rattle.zone_name.proofs.Spelling.Spelled.{AreShort, Says, reading-says}
 use Rattle.zone_name.proofs.Spelling.Only.{reading-dotted, reading-parted, reading-fault}
-use Rattle.zone_name.proofs.Spelling.Letters.{joined_size, lettered_size}
+use Rattle.zone_name.proofs.Spelling.Letters.{IsLabelBy, IsNameBy, joined_size, lettered_size, taken_by}
 use Rattle.zone_name.proofs.InOctets.Pushing.{AllByRecursion-append, AllByRecursion-front, AllByRecursion-back, folded_labels, sized-name, sized-long}
 
 -- labels of at most 63 octets

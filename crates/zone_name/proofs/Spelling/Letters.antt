@@ -1,10 +1,23 @@
 -- Names whose letters are folded or kept when they are read.
-use Rattle.zone_name.proofs.Common.{common_steps, AllByRecursion, Bool, Collects, Err, Folded, HoldsCasedLabels, HoldsLabelsBy, HoldsNameBy, IfErr, IfOk, IfSome, IsCasedLabel, IsLabel, IsNameBy, Kept, Letters, List, NameFault, NameTooLong, None, Ok, Option, Result, Some, [], ap, append-nil, append_assoc, arith, false, false≢true, flat_map, flat_map-append, folded, folded_octet, labels_of, length, length-append, length-take, lettered, lettered_in, map, name_read, origin_in, refl, sized, sym, take, true, under_origin, wire, with_length, ℕ, ◌++◌, ◌+◌, ◌<◌, ◌∙◌, ◌∷◌, ◌≡◌, ◌≤◌}
+use Rattle.zone_name.proofs.Common.{AllByRecursion, Bool, Collects, Err, Folded, HoldsCasedLabels, HoldsLabelsBy, HoldsNameBy, IfErr, IfOk, IfSome, IsCasedLabel, IsCasedName, IsLabel, IsName, Kept, Letters, List, NameFault, NameTooLong, None, Ok, Option, Result, Some, Written, [], ap, append-nil, append_assoc, arith, common_steps, false, false≢true, flat_map, flat_map-append, folded, folded_octet, kept, labels_of, length, length-append, length-take, lettered, lettered_in, map, name_read, named, origin_in, refl, sized, sym, take, true, under_origin, wire, with_length, ℕ, ◌++◌, ◌+◌, ◌<◌, ◌∙◌, ◌∷◌, ◌≡◌, ◌≤◌}
 use Rattle.zone_name.specs.Machine.Letters.{IsReadBy}
 use Rattle.zone_name.specs.Machine.Seen.{IsReadInto}
 use Rattle.zone_name.specs.declared.reading.Spelled.{Spelled}
 use Rattle.zone_name.proofs.InOctets.Octets.{labels_of-open, labels_of-root, labels_of-wire, labels_of-wire_cased, HoldsCasedName-root, HoldsName-root}
 use Rattle.zone_name.proofs.InOctets.Pushing.{folded_frames, folded_labels, folded_size, sized-name, sized-long}
+
+-- what a text's labels are, by whether their letters are folded or kept, and what is true of them
+abbrev pub taken_by : Letters → List (List Written) → List (List ℕ)
+taken_by Kept = kept
+taken_by Folded = named
+
+abbrev pub IsLabelBy : Letters → List ℕ → Type 0
+IsLabelBy Kept = IsCasedLabel
+IsLabelBy Folded = IsLabel
+
+abbrev pub IsNameBy : Letters → List (List ℕ) → Type 0
+IsNameBy Kept = IsCasedName
+IsNameBy Folded = IsName
 
 -- labels whose letters are folded or kept
 pub record SetLetters (letters : Letters) (octets new : List ℕ) : Type 0 where

@@ -1,8 +1,8 @@
 -- Names that are read with their letters kept or folded.
 use Rattle.std.specs.Prelude.{◌≡◌, ℕ, List, Bool, Option, Result, Ok, Err, option_map}
 use Rattle.zone_name.specs.Common.{Labels}
-use Rattle.zone_name.specs.Name.{folded, labels_of, HoldsCasedName, HoldsLabels, HoldsName, IsCasedLabel, IsCasedName, IsLabel, IsName}
-use Rattle.zone_name.specs.Spelling.{Spells, SpellsCased, Written, kept, named}
+use Rattle.zone_name.specs.Name.{folded, labels_of, HoldsCasedName, HoldsLabels, HoldsName}
+use Rattle.zone_name.specs.Spelling.{Spells, SpellsCased}
 use Rattle.zone_name.specs.Machine.LabelWalk.{Collects, reading, under_origin}
 use Rattle.zone_name.specs.Machine.Seen.{HoldsCasedLabels}
 use Rattle.zone_name.specs.declared.fault.NameFault.{NameFault}
@@ -15,21 +15,7 @@ abbrev pub lettered : Letters → Labels → Labels
 lettered Kept labels = labels
 lettered Folded labels = folded labels
 
--- and of those that are written
-abbrev pub taken_by : Letters → List (List Written) → Labels
-taken_by Kept = kept
-taken_by Folded = named
-
--- what is true of the labels then
-abbrev pub IsLabelBy : Letters → List ℕ → Type 0
-IsLabelBy Kept = IsCasedLabel
-IsLabelBy Folded = IsLabel
-
-abbrev pub IsNameBy : Letters → Labels → Type 0
-IsNameBy Kept = IsCasedName
-IsNameBy Folded = IsName
-
--- and of the octets of a name, and of labels
+-- what is true of the octets of a name, and of labels
 abbrev pub HoldsNameBy : Letters → List ℕ → Type 0
 HoldsNameBy Kept = HoldsCasedName
 HoldsNameBy Folded = HoldsName

@@ -1,8 +1,17 @@
 -- Runs of labels, and the names that they lead through.
-use Rattle.zone_wire.proofs.Common.{common_steps, AllByRecursion-append, At, Bytes, IsCasedLabel, IsLabelAt, IsName, IsNamed, IsPointerAt, IsRun, Leads, List, Option, Some, Spot, [], ap, append-nil, append_assoc, ap₂, arith, at_pointer, at_root, bytes_each, drop, folded, folded_label, frames_push, label, label_at, labels_of, labels_of-open_cased, length, length-append, length-drop, length-take-le, map-append, octets_between, pointer, refl, root, slice_index, standing_in, suc, sym, take, unwrap_or, with_length, ℕ, ◌++◌, ◌+◌, ◌<◌, ◌∙◌, ◌∷◌, ◌≡◌, ◌≤◌}
+use Rattle.zone_wire.proofs.Common.{common_steps, AllByRecursion-append, At, Bytes, IsCasedLabel, IsLabelAt, IsName, IsNamed, IsPointerAt, IsRun, List, Option, Some, Spot, [], ap, append-nil, append_assoc, ap₂, arith, at_pointer, at_root, bytes_each, drop, folded, folded_label, frames_push, label, label_at, labels_of, labels_of-open_cased, length, length-append, length-drop, length-take-le, map-append, octets_between, pointer, refl, root, slice_index, standing_in, suc, sym, take, unwrap_or, with_length, ℕ, ◌++◌, ◌+◌, ◌<◌, ◌∙◌, ◌∷◌, ◌≡◌, ◌≤◌}
 use Rattle.zone_wire.proofs.Fields.FieldReading.{between_first, between_join}
 use Rattle.zone_wire.proofs.Names.Spots.{standing_shows}
 use Rattle.zone_wire.proofs.Names.Walking.{drop_each, take_each}
+
+-- labels were met from an offset on, and after pointers a run begins that leads on
+pub record Leads (message : List ℕ) (offset start : ℕ) (pointers : ℕ) (end : Option ℕ)
+    (labels : List (List ℕ)) : Type 0 where
+  pub steps : ℕ
+  pub few : pointers ≤ 128
+  pub on : (rest : Labels) (past more others : ℕ) → At message start start rest past more others
+      → At message offset offset (labels ++ rest) (unwrap_or end past) (steps + more)
+      (pointers + others)
 
 same_at : {message : List ℕ} {offset bound : ℕ} {labels other : List (List ℕ)} {end steps more pointers others : ℕ} → labels ≡ other → steps ≡ more → pointers ≡ others
     → At message offset bound labels end steps pointers → At message offset bound other end more others

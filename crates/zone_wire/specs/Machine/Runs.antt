@@ -1,8 +1,7 @@
 -- Names that are read run by run: the labels that stand one after another, up to the root or a
 -- pointer.
-use Rattle.std.specs.Prelude.{◌≡◌, ℕ, ◌+◌, ◌≤◌, List, ◌++◌, length, Option, Result, Ok, Err}
+use Rattle.std.specs.Prelude.{◌≡◌, ℕ, ◌+◌, ◌≤◌, List, ◌++◌, length, Result, Ok, Err}
 use Rattle.std.specs.List.{flat_map, AllByRecursion}
-use Rattle.std.specs.Option.{unwrap_or}
 use Rattle.zone_name.specs.Common.{Labels}
 use Rattle.zone_name.specs.Name.{IsCasedLabel, folded, with_length}
 use Rattle.zone_rdata.specs.Cause.{fault_for}
@@ -22,15 +21,6 @@ pub record IsRun (message : List ℕ) (start past : ℕ) : Type 0 where
   pub leads : (bound : ℕ) (rest : Labels) (end steps pointers : ℕ)
       → At message past bound rest end steps pointers
       → At message start bound (folded labels ++ rest) end (length labels + steps) pointers
-
--- labels were met from an offset on, and after pointers a run begins that leads on
-pub record Leads (message : List ℕ) (offset start : ℕ) (pointers : ℕ) (end : Option ℕ)
-    (labels : Labels) : Type 0 where
-  pub steps : ℕ
-  pub few : pointers ≤ 128
-  pub on : (rest : Labels) (past more others : ℕ) → At message start start rest past more others
-      → At message offset offset (labels ++ rest) (unwrap_or end past) (steps + more)
-      (pointers + others)
 
 -- these labels stand at an offset as a name that ends at another
 pub record IsNamed (message : List ℕ) (offset : ℕ) (labels : Labels) (end : ℕ) : Type 0 where

@@ -1,4 +1,4 @@
-use Rattle.zone_wire.specs.Machine.Runs.{Leads}
+use Rattle.zone_wire.proofs.Names.RunLaws.{Leads}
 use Rattle.zone_wire.proofs.runs.read_runs.Given as goal
 
 abbrev pub invariant-runs : goal.invariant-runs

@@ -1,4 +1,4 @@
--- A value for each field, and an item for each string, as proofs name them.
+-- A value for each field, and an item for each string, as lemmas name them.
 use Rattle.std.specs.Prelude.{ℕ, List}
 use Rattle.std.specs.List.{AllZip}
 use Rattle.zone_rdata.specs.Field.{FieldValue, Holds}
