@@ -2,6 +2,7 @@ ghost use Rattle.std.specs.Prelude.{◌≡◌, ◌≤◌, OnOk, OnErr};
 ghost use Rattle.zone_name.specs.Sink.{TakesSome};
 ghost use Rattle.zone_rdata.specs.Record.{Data, IsRdata};
 ghost use Rattle.zone_rdata.specs.Text.{data_text};
+ghost use Rattle.zone_rdata.specs.Limits.{greatest_ttl};
 
 use crate::class::Class;
 use crate::fault::Place;
@@ -86,7 +87,7 @@ pub struct RrRef<'a> {
     pub rdata: RdataRef<'a>,
     pub ghost same_class: { rdata.class ≡ class },
     pub ghost same_kind: { rdata.kind ≡ kind },
-    pub ghost short: { ttl ≤ 2147483647 },
+    pub ghost short: { ttl ≤ greatest_ttl },
 }
 
 /// A borrowed record and where it was stated.

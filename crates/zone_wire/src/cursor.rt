@@ -1,5 +1,6 @@
 //! A place in the data of a record, from which its values are read one after another.
 ghost use Rattle.std.specs.Prelude.{ℕ, ◌+◌, ◌<◌, ◌≤◌, length, slice_index};
+ghost use Rattle.zone_rdata.specs.Limits.{longest_data};
 
 use crate::labels::LabelRoom;
 use crate::number::{u16_at, u32_at};
@@ -18,7 +19,7 @@ pub(crate) struct Cursor<'m> {
     ghost octets: { (i : ℕ) → slice_index message.now i < 256 },
     ghost order: { at ≤ end },
     ghost inside: { end ≤ length message.now },
-    ghost short: { end ≤ at + 65535 },
+    ghost short: { end ≤ at + longest_data },
 }
 
 impl<'m> Cursor<'m> {

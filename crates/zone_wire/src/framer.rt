@@ -3,7 +3,7 @@
 ghost use Rattle.std.specs.Prelude.{◌≡◌, ◌+◌, ◌-◌, ◌<◌, ◌≤◌, ◌^◌, ◌++◌, [], ℕ, List, None, length, take, IfOk, IfSome, IsOk, MatchOption, OnOk};
 ghost use Rattle.zone_rdata.specs.declared.record.Placed.{Placed};
 ghost use Rattle.zone_wire.specs.Machine.Feeding.{Follow, IsCut};
-ghost use Rattle.zone_wire.specs.Message.{u16_at};
+ghost use Rattle.zone_wire.specs.Message.{u16_at, longest_message};
 ghost use Rattle.zone_wire.specs.Stream.{end_fault, StreamReads};
 ghost use Rattle.zone_wire.specs.Answers.{is_closed};
 ghost use Rattle.zone_wire.specs.Transfer.{frame};
@@ -145,7 +145,7 @@ impl Framer {
 pub(crate) fn cut_len(octets: &[u8]) -> usize
     requires { IsCut octets.now }
     ensures len { result ≡ length octets.now }
-    ensures few { result ≤ 65536 }
+    ensures few { result ≤ longest_message + 1 }
 {
     octets.len()
 }
@@ -154,7 +154,7 @@ pub(crate) fn cut_len(octets: &[u8]) -> usize
 fn message_of(framed: &[u8]) -> &[u8]
     requires { length framed.now ≡ 2 + u16_at framed.now 0 }
     ensures framed { framed.now ≡ frame result.now }
-    ensures short { length result.now ≤ 65535 }
+    ensures short { length result.now ≤ longest_message }
 {
     &framed[LENGTH_LEN..]
 }

@@ -9,7 +9,7 @@ ghost use Rattle.zone_rdata.specs.declared.record.Placed.{Placed};
 ghost use Rattle.zone_wire.specs.AnswerFault.{AnswerFault};
 ghost use Rattle.zone_wire.specs.Machine.Answers.{agrees, order_fault, same_record};
 ghost use Rattle.zone_wire.specs.Machine.Transferring.{zone_held, zone_with, Among, IsAfter, Gains, Takes, TakesEach, TakesHead, HeadFault, TakesMessage, ReadsNext};
-ghost use Rattle.zone_wire.specs.Message.{QuestionAt};
+ghost use Rattle.zone_wire.specs.Message.{QuestionAt, longest_message};
 ghost use Rattle.zone_wire.specs.Transfer.{AnswerStates, StatedMessage};
 
 use crate::header::HEADER_LEN;
@@ -77,7 +77,7 @@ impl Transfer {
     pub(crate) fn read(&mut self, octets: &[u8]) -> Result<(), AllocError>
         requires going { self.old.decided.ending ≡ None }
         requires fits { self.old.messages + 1 < 2 ^ 64 }
-        requires short { length octets.now ≤ 65535 }
+        requires short { length octets.now ≤ longest_message }
         ensures next { OnOk result ((before : List StatedMessage) → IsAfter before self.old
             → ReadsNext octets.now before self.old self.new) }
         ensures count { OnOk result (self.new.messages ≤ self.old.messages + 1) }
@@ -95,7 +95,7 @@ impl Transfer {
     /// Takes the records of the message that octets are.
     fn take_message(&mut self, octets: &[u8]) -> Result<(), (NarrowFailing, usize)>
         requires fits { self.old.messages + 1 < 2 ^ 64 }
-        requires short { length octets.now ≤ 65535 }
+        requires short { length octets.now ≤ longest_message }
         ensures taken { (before : List StatedMessage) → IsAfter before self.old
             → TakesMessage octets.now before result self.old self.new }
         ensures ending { self.new.decided.ending ≡ self.old.decided.ending }

@@ -6,6 +6,7 @@ ghost use Rattle.zone_rdata.specs.Generic.{GenericFault, StatesGeneric, generic_
 ghost use Rattle.zone_rdata.specs.Item.{IsGeneric, RawItem};
 ghost use Rattle.zone_rdata.specs.Strings.{item_text};
 ghost use Rattle.zone_rdata.specs.Text.{generic_text};
+ghost use Rattle.zone_rdata.specs.Limits.{longest_data};
 
 /// Items state at most one list of octets.
 pub fn generic_is_unique()
@@ -33,6 +34,6 @@ pub fn generic_fault_is_unique()
 pub fn printed_octets_are_stated()
     ensures text { (octets : Octets) → generic_text octets ≡ join_with_byte 32
         (map item_text (generic_items octets)) }
-    ensures stated { (octets : Octets) → AreOctets octets → length octets ≤ 65535
+    ensures stated { (octets : Octets) → AreOctets octets → length octets ≤ longest_data
         → StatesGeneric (generic_items octets) octets }
 {}

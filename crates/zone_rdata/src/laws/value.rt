@@ -5,12 +5,13 @@ ghost use Rattle.zone_rdata.specs.Field.{FieldValue, Holds, octets_of, values_of
 ghost use Rattle.zone_rdata.specs.Layout.{IsData, layout};
 ghost use Rattle.zone_rdata.specs.declared.field.Field.{Field};
 ghost use Rattle.zone_rdata.specs.declared.field.Field.TheVariants.{Strings};
+ghost use Rattle.zone_rdata.specs.Limits.{longest_data};
 
 /// Values of a layout are data, unless their octets are too many.
 pub fn held_values_are_data()
     ensures { (class kind : ℕ) (fields : List Field) (values : List FieldValue)
         → layout class kind ≡ Some fields → AllZip Holds fields values
-        → length (octets_of values) ≤ 65535 → IsData class kind (octets_of values) }
+        → length (octets_of values) ≤ longest_data → IsData class kind (octets_of values) }
 {}
 
 /// Values of a layout that does not end in strings are short: at most 7 fields of at most 256
@@ -19,7 +20,7 @@ pub fn held_values_are_data()
 pub fn values_without_strings_are_short()
     ensures { (class kind : ℕ) (fields : List Field) (values : List FieldValue)
         → layout class kind ≡ Some fields → AllByRecursion (λ field. field ≢ Strings) fields
-        → AllZip Holds fields values → length (octets_of values) ≤ 65535 }
+        → AllZip Holds fields values → length (octets_of values) ≤ longest_data }
 {}
 
 /// Values of a layout with the same octets are the same values.

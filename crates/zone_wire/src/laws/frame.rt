@@ -9,6 +9,7 @@ ghost use Rattle.zone_wire.specs.Frames.{IsFramed};
 ghost use Rattle.zone_wire.specs.Stream.{octets_in, placed_in, IsReadAfter, AreRead, FaultAfter, StreamDecides};
 ghost use Rattle.zone_wire.specs.Transfer.{StatedMessage, frame};
 ghost use Rattle.zone_wire.specs.TransferSource.{AreAlike};
+ghost use Rattle.zone_wire.specs.Message.{longest_message};
 
 /// The frames of joined octets are those of the first octets, and then those of their rest and the
 /// octets after it.
@@ -23,7 +24,7 @@ pub fn frames_of_joined_octets()
 /// After messages that are read, octets are one that is read, or are refused for one fault.
 pub fn a_message_after_others()
     ensures { (before : List StatedMessage) (octets : Octets)
-        → ((i : ℕ) → slice_index octets i < 256) → length octets ≤ 65535
+        → ((i : ℕ) → slice_index octets i < 256) → length octets ≤ longest_message
         → IsVerdict (λ (p : StatedMessage). (p.octets ≡ octets) × IsReadAfter before p)
         (λ (e : List Placed × Fault × ℕ). FaultAfter before octets e.0 e.1 e.2) }
 {}
@@ -33,11 +34,11 @@ pub fn a_message_after_others()
 pub fn one_frame_more()
     ensures read { (stream : Octets) (before : List StatedMessage) (p : StatedMessage)
         → IsFramed stream (octets_in before) []
-        → AreRead [] before → length p.octets ≤ 65535 → IsReadAfter before p
+        → AreRead [] before → length p.octets ≤ longest_message → IsReadAfter before p
         → StreamDecides (stream ++ frame p.octets) (handed_on (placed_in before ++ p.placed)) None }
     ensures refused { (stream octets : Octets) (before : List StatedMessage) (here : List Placed)
         (fault : Fault) (offset : ℕ)
-        → IsFramed stream (octets_in before) [] → AreRead [] before → length octets ≤ 65535
+        → IsFramed stream (octets_in before) [] → AreRead [] before → length octets ≤ longest_message
         → FaultAfter before octets here fault offset
         → StreamDecides (stream ++ frame octets) (handed_on (placed_in before ++ here))
         (Some (fault, Message (length before + 1) offset)) }
