@@ -41,7 +41,7 @@ pub use Rattle.zone_rdata.specs.declared.fault.Stop.{Stop}
 pub use Rattle.zone_rdata.specs.declared.fault.Stop.TheVariants.{Memory, Refused}
 pub use Rattle.zone_rdata.specs.declared.record.Placed.{Placed}
 pub use Rattle.zone_set.specs.Builder.{Accepts, Adds, AddsEach, AreTwoSoas, HasNoSoa, IsLeastOutside, IsRefusedFor, OtherClass, OtherSoa, OtherTtl, StopsAdd, StopsFinish, fault, memory, no_soa, outside}
-pub use Rattle.zone_set.specs.Machine.Bulk.{AreNeighbours, IsRow, KeepsList, StandNext, is_repeat, listed, span, span_len, with_hint}
+pub use Rattle.zone_set.specs.Machine.Bulk.{AreNeighbours, KeepsList, StandNext, is_repeat, listed, placed_at, span, span_len, with_hint}
 pub use Rattle.zone_set.specs.Machine.Held.{AreAllKept, HasOtherTtl, HoldsEntries, IsComparable, IsEntry, IsFirstOutside, IsLinked, IsPut, KeepsSets, all_records, entry_record}
 pub use Rattle.zone_set.specs.Machine.Hint.{AreDigits, IsHint, IsPutBefore, after, before, first_digits, soa, within}
 pub use Rattle.zone_set.specs.Machine.LabelKey.{label_key, owner_key}
