@@ -25,14 +25,6 @@ module _ (whole : List Record) (apex : List (List ℕ)) (left rest : List Record
 pub IsWithin-itself : (apex : List (List ℕ)) → IsWithin apex apex
 IsWithin-itself apex = ([], refl)
 
-pub IsZone-from_first : (first : Record) (others : List Record) → AreCompatible (first ∷ others) → first.kind ≡ 6 → AllByRecursion (λ r. IsWithin r.owner first.owner) others → IsZone (record { apex = first.owner; class = first.class; records = first ∷ others })
-IsZone-from_first first others compatible soa within = record {
-  compatible = compatible;
-  class = each_from_Has (λ r. r.class ≡ first.class) (first ∷ others) (λ r has. compatible.one_class r first has (inl refl));
-  soa = (first, inl refl, soa, refl);
-  within = (IsWithin-itself first.owner, within);
-}
-
 -- among records that are no SOA the order is first by owner
 by_owner : (b c : Bool) (o p : Ordering) → b ≡ false → c ≡ false → ordering_then (nat_cmp (if b then 0 else 1) (if c then 0 else 1)) (ordering_then o p) ≡ Less → o ≢ Equal → o ≡ Less
 by_owner b c o p no_b no_c less other = grind arith
@@ -88,7 +80,12 @@ module _ (held : List Record) (first : Record) (others : List Record) (compatibl
   pub IsZone-from_parts : first.kind ≡ 6 → (apex : List (List ℕ)) → apex ≡ first.owner → AllByRecursion (λ r. IsWithin r.owner apex) held → IsZone (record { apex = apex; class = first.class; records = held })
   IsZone-from_parts soa apex is within =
       let inside : AllByRecursion (λ r. IsWithin r.owner first.owner) (first ∷ others) = rw (is, parts) at within in
-      rw (is, parts) (IsZone-from_first first others known soa inside.1)
+      rw (is, parts) (record {
+        compatible = known;
+        class = each_from_Has (λ r. r.class ≡ first.class) (first ∷ others) (λ r has. known.one_class r first has (inl refl));
+        soa = (first, inl refl, soa, refl);
+        within = inside;
+      })
 
 pub stops_with_none : (held : List Record) → held ≡ [] → StopsFinish held (Refused NoSoa Whole)
 stops_with_none held none = no_soa (subst HasNoSoa (sym none) (λ r has soa. has))

@@ -1,5 +1,5 @@
 -- Records that are listed as they come.
-use Rattle.zone_set.proofs.Common.{AddsEach, AllAccepted, AreAllKept, IsPermutation, IsPermutation-map, entry_record, AllByRecursion, AreCompatible, Entry, Fault, Has, IsRecord, IsRefusedFor, IsSettledAs, KeepsList, List, Place, Placed, Record, Refused, SameRecords, StopsSettling, [], all_records, arith, inl, inr, listed, records_of, refl, refused, subst, sym, ⊎_elim, ℕ, ◌++◌, ◌↔◌, ◌∷◌, ◌≡◌, ◌⊎◌}
+use Rattle.zone_set.proofs.Common.{AddsEach, AllAccepted, AreAllKept, IsPermutation, IsPermutation-map, entry_record, AllByRecursion, AreCompatible, Entry, Fault, Has, IsRecord, IsRefusedFor, IsSettledAs, KeepsList, List, Place, Placed, Record, Refused, SameRecords, StopsSettling, [], all_records, arith, listed, records_of, refl, refused, subst, sym, ℕ, ◌++◌, ◌↔◌, ◌∷◌, ◌≡◌, ◌⊎◌}
 use Rattle.zone_set.proofs.Holding.Inserting.{AreCompatible-with}
 use Rattle.zone_set.proofs.Lists.ListPush.{records_listed}
 use Rattle.zone_set.proofs.Ordering.Neighbours.{AllAccepted-from_compatible}
@@ -29,19 +29,12 @@ compatible_each (p ∷ placed) old new compatible whole (next, fits, adds, rest)
 
 -- what is held is what was added and what was held before
 same_each : (placed : List Placed) (old new : List Record) → AddsEach old placed new → (r : Record) → Has new r ↔ (Has (records_of placed) r ⊎ Has old r)
-same_each [] old new h r = rw h ((λ t. inr t), (λ s. ⊎_elim (λ b. absurd b) (λ t. t) s))
-same_each (p ∷ placed) old new (next, accepts, adds, rest) r =
-    let later = same_each placed next new rest r in
-    let here = adds.same r in (
-      (λ t. ⊎_elim (λ s. inl (inr s)) (λ s. ⊎_elim (λ e. inl (inl e)) (λ s. inr s) (here.0 s)) (later.0 t)),
-      (λ t. ⊎_elim (⊎_elim (λ e. later.1 (inr (here.1 (inl e)))) (λ s. later.1 (inl s))) (λ s. later.1 (inr (here.1 (inr s)))) t),
-    )
+same_each [] old new h r = grind arith
+same_each (p ∷ placed) old new (next, accepts, adds, rest) r = grind (arith, same_each placed next new rest r, adds.same r)
 
 -- what is held are the records that were offered
 same_offered : (placed : List Placed) (held : List Record) → AddsEach [] placed held → SameRecords held (records_of placed)
-same_offered placed held added r =
-    let both = same_each placed [] held added r in
-    (λ has. ⊎_elim (λ s. s) (λ b. absurd b) (both.0 has), λ has. both.1 (inl has))
+same_offered placed held added r = grind (arith, same_each placed [] held added r)
 
 accepted_offered : (placed : List Placed) (held : List Record) → AllByRecursion (λ p. IsRecord p.rr) placed → AddsEach [] placed held → AllAccepted placed
 accepted_offered placed held whole added = AllAccepted-from_compatible held placed (compatible_each placed [] held none_compatible whole added) (same_offered placed held added)

@@ -1,5 +1,5 @@
 -- A record between its neighbours, among records that stand together.
-use Rattle.zone_set.proofs.Common.{AllByRecursion, AllByRecursion-back, AreCompatible, Ascends, Bool, Bor, Equal, Greater, Has, HasOtherTtl, IfSome, InOneSet, IsPartitionedBy, IsTrue, Less, List, MatchOption, None, Option, Ordering, OtherTtl, Record, Some, [], ap, append_assoc, arith, canonical_cmp, false, get_or, inl, inr, is_lt, length, map, map-append, nat_lt, nat_tests, option_copied, refl, subst, suc, sym, true, zero, ⊎_elim, ℕ, ◌++◌, ◌<◌, ◌↔◌, ◌∙◌, ◌∷◌, ◌≡◌, ◌≢◌, ◌⊎◌}
+use Rattle.zone_set.proofs.Common.{AllByRecursion, AllByRecursion-back, AreCompatible, Ascends, Bool, Bor, Greater, Has, HasOtherTtl, IfSome, InOneSet, IsPartitionedBy, IsTrue, Less, List, MatchOption, None, Option, Ordering, OtherTtl, Record, Some, [], ap, append_assoc, arith, canonical_cmp, false, get_or, inl, inr, is_lt, length, map, map-append, nat_lt, nat_tests, option_copied, subst, suc, sym, true, zero, ⊎_elim, ℕ, ◌++◌, ◌<◌, ◌↔◌, ◌∙◌, ◌∷◌, ◌≡◌, ◌≢◌, ◌⊎◌}
 use Rattle.zone_set.proofs.Ordering.SetOrder.{between_sets, canonical_total, exact_canonical}
 use Rattle.zone_set.proofs.Storage.Storing.{all_with}
 use Rattle.zone_set.proofs.Holding.Together.{each_Has, flipped, one_set, stable_number}
@@ -121,16 +121,7 @@ module _ {X : Type 0} (f : X → Record) {old : List Record} (before after : Lis
 
   -- the first record that is not before it is after it, where it is another one
   after_first : (OtherTtl old r → ⊥) → (x : Record) → Has (map f after) x → x ≢ r → canonical_cmp r x ≡ Less
-  after_first agree x has other = by (canonical_cmp r x) refl
-    where
-      by : (o : Ordering) → canonical_cmp r x ≡ o → canonical_cmp r x ≡ Less
-      by Less e = e
-      by Equal e =
-          let same = exact_canonical r x e in
-          let class : x.class ≡ r.class = p.classes x (has_side x (inr has)) in
-          let ttl : x.ttl ≡ r.ttl = stable_number x.ttl r.ttl (λ differ. agree (x, has_side x (inr has), one_set x r (sym same.0) (sym same.1) (sym same.2), differ)) in
-          absurd (other (grind (arith, same, class, ttl)))
-      by Greater e = absurd (each_Has (λ t. canonical_cmp r t ≢ Greater) (map f after) x p.above has e)
+  after_first agree x has other = grind (arith, exact_canonical r x, p.classes x (has_side x (inr has)), has_side x (inr has), stable_number x.ttl r.ttl, one_set x r, each_Has (λ t. canonical_cmp r t ≢ Greater) (map f after) x p.above has)
 
   -- so the record goes between its neighbours
   pub Ascends-between : (OtherTtl old r → ⊥) → (first : Option X) → MatchOption first (after ≡ []) (λ e. (rest : List X) × (after ≡ e ∷ rest)) → (b : Bool) → MatchOption first (b ≡ false) (λ e. IsTrue b ↔ (f e ≡ r)) → b ≡ false → Ascends (map f before ++ r ∷ map f after)

@@ -1,5 +1,5 @@
 -- Records of which the neighbours show that all can stand together, and the list that they came in.
-use Rattle.zone_set.proofs.Common.{arith, AllAccepted, AllByRecursion, AreCompatible, AreNeighbours, Ascends, Equal, Greater, Has, InOneSet, IsRecord, Less, List, Placed, Record, SameRecords, [], ap, canonical_cmp, exact_bytes, inl, inr, map-append, nat_list_cmp_total, records_of, refl, subst, sym, tied_itself, ⊎_elim, ℕ, ◌++◌, ◌∙◌, ◌∷◌, ◌≡◌, ◌≢◌}
+use Rattle.zone_set.proofs.Common.{arith, AllAccepted, AllByRecursion, AreCompatible, AreNeighbours, Ascends, Equal, Greater, Has, InOneSet, IsRecord, Less, List, Placed, Record, SameRecords, [], ap, canonical_cmp, exact_bytes, inl, inr, map-append, nat_list_cmp_total, records_of, refl, sym, tied_itself, ℕ, ◌++◌, ◌∙◌, ◌∷◌, ◌≡◌, ◌≢◌}
 use Rattle.zone_set.proofs.Ordering.Between.{Has-append, later_all}
 use Rattle.zone_set.proofs.Ordering.SetOrder.{between_sets, canonical_total, stable}
 use Rattle.zone_set.proofs.Holding.Together.{each_Has, flipped, soa_first, stable_number, stable_owner}
@@ -12,17 +12,13 @@ Ascends-from_neighbours (r ∷ (s ∷ rs)) next =
     let ascend = Ascends-from_neighbours (s ∷ rs) next.1 in
     ((next.0.before, later_all r s rs next.0.before ascend.0), ascend)
 
--- what the order does not put after
-not_after_itself : (r : Record) → canonical_cmp r r ≢ Greater
-not_after_itself r after = let same : canonical_cmp r r ≡ Equal = tied_itself canonical_total r in cc
-
 -- a record and one of those from it on have one TTL, if they are of one set
 ttl_from : (r s : Record) (rs : List Record) → ((x : Record) → Has (r ∷ rs) x → x.class ≡ r.class) → AreNeighbours (r ∷ rs) → Has (r ∷ rs) s → InOneSet r s → r.ttl ≡ s.ttl
 ttl_from r s rs classes next (inl same) one = ap (λ x. x.ttl) (sym same)
 ttl_from r s [] classes next (inr none) one = absurd none
 ttl_from r s (t ∷ rs) classes next (inr more) one =
     let ascend = Ascends-from_neighbours (t ∷ rs) next.1 in
-    let below : canonical_cmp t s ≢ Greater = ⊎_elim (λ same. subst (λ x. canonical_cmp t x ≢ Greater) (sym same) (not_after_itself t)) (λ later. let less = each_Has (λ x. canonical_cmp t x ≡ Less) rs s ascend.0 later in (λ after. cc)) more in
+    let below : canonical_cmp t s ≢ Greater = grind (arith, more, tied_itself canonical_total t, each_Has (λ x. canonical_cmp t x ≡ Less) rs s ascend.0) in
     let near : InOneSet r t = between_sets r t s (sym (classes s (inr more))) one (λ after. let less = next.0.before in cc) below in
     let own : r.ttl ≡ t.ttl = stable_number r.ttl t.ttl (λ differ. next.0.one_ttl (near, differ)) in
     let far : InOneSet t s = record { owner = sym near.owner ∙ one.owner; kind = sym near.kind ∙ one.kind; covers = sym near.covers ∙ one.covers } in
