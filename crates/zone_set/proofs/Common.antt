@@ -15,7 +15,7 @@ pub use Rattle.std.proofs.lemmas.Result.{err_from_is_err_and}
 pub use Rattle.std.proofs.lemmas.Slice.Eq.{bytes_eq-Decides}
 pub use Rattle.std.specs.Cmp.{IsTotalOrder, nat_cmp_is}
 pub use Rattle.std.specs.Cmp.Lexicographic.{bytes_decides, slice_cmp}
-pub use Rattle.std.specs.Int.{from_be_bytes, to_be_bytes, w16, w32, w64}
+pub use Rattle.std.specs.Int.{from_be_bytes, w64}
 pub use Rattle.std.specs.List.{All, AllByRecursion, dedup, dedup_from, flat_map}
 pub use Rattle.std.specs.List.Sorted.{IsPartitionedBy, IsPermutation}
 pub use Rattle.std.specs.Option.{IfSome, option_copied}
@@ -26,7 +26,7 @@ pub use Rattle.zone_name.proofs.Texts.Lawful.{name_cmp-exact, name_cmp-total}
 pub use Rattle.zone_name.proofs.InOctets.Octets.{labels_of-wire}
 pub use Rattle.zone_name.proofs.InOctets.Pushing.{AllByRecursion-append, AllByRecursion-back, AllByRecursion-front}
 pub use Rattle.zone_name.specs.Common.{AreOctets}
-pub use Rattle.zone_name.specs.Name.{IsFoldedOctet, IsLabel, IsName, IsWithin, labels_of, wire, with_length}
+pub use Rattle.zone_name.specs.Name.{IsLabel, IsName, IsWithin, labels_of, wire}
 pub use Rattle.zone_name.specs.Order.{label_cmp, name_cmp}
 pub use Rattle.zone_rdata.proofs.Fields.FieldLaws.{AreLow, low_drop, low_take}
 pub use Rattle.zone_rdata.proofs.Lists.{bytes_each}
@@ -34,14 +34,14 @@ pub use Rattle.zone_rdata.specs.Lent.{placed_of, record_of}
 pub use Rattle.zone_rdata.specs.Order.{data_cmp}
 pub use Rattle.zone_rdata.specs.Record.{Data, IsRecord, Record, data_of}
 pub use Rattle.zone_rdata.specs.declared.fault.Fault.{Fault}
-pub use Rattle.zone_rdata.specs.declared.fault.Fault.TheVariants.{ClassMismatch, DifferingTtl, MultipleSoa, NoSoa, OutOfZone}
+pub use Rattle.zone_rdata.specs.declared.fault.Fault.TheVariants.{ClassMismatch, NoSoa, OutOfZone}
 pub use Rattle.zone_rdata.specs.declared.fault.Place.{Place}
 pub use Rattle.zone_rdata.specs.declared.fault.Place.TheVariants.{Whole}
 pub use Rattle.zone_rdata.specs.declared.fault.Stop.{Stop}
 pub use Rattle.zone_rdata.specs.declared.fault.Stop.TheVariants.{Memory, Refused}
 pub use Rattle.zone_rdata.specs.declared.record.Placed.{Placed}
 pub use Rattle.zone_set.specs.Builder.{Accepts, Adds, AddsEach, AreTwoSoas, HasNoSoa, IsLeastOutside, IsRefusedFor, OtherClass, OtherSoa, OtherTtl, StopsAdd, StopsFinish, fault, memory, no_soa, outside}
-pub use Rattle.zone_set.specs.Machine.Bulk.{AreNeighbours, IsRow, KeepsList, StandNext, is_repeat, listed, span, span_len, with_hint}
+pub use Rattle.zone_set.specs.Machine.Bulk.{AreNeighbours, KeepsList, StandNext, is_repeat, listed, placed_at, span, span_len, with_hint}
 pub use Rattle.zone_set.specs.Machine.Held.{AreAllKept, HasOtherTtl, HoldsEntries, IsComparable, IsEntry, IsFirstOutside, IsLinked, IsPut, KeepsSets, all_records, entry_record}
 pub use Rattle.zone_set.specs.Machine.Hint.{AreDigits, IsHint, IsPutBefore, after, before, first_digits, soa, within}
 pub use Rattle.zone_set.specs.Machine.LabelKey.{label_key, owner_key}

@@ -1,9 +1,10 @@
-ghost use Rattle.std.specs.Prelude.{◌≡◌, List};
+ghost use Rattle.std.specs.Prelude.{◌≡◌, List, length, drop};
 ghost use Rattle.zone_rdata.specs.Record.{Record};
+ghost use Rattle.zone_set.specs.Machine.Bulk as bulk;
 ghost use Rattle.zone_set.specs.Machine.Stored.{AreKept};
 
-use crate::offer::after_first;
 use crate::stored::record_at;
+use crate::tie::span;
 use std::marker::Model;
 use zone_rdata::{Class, RrRef};
 
@@ -56,4 +57,12 @@ impl<'z> Iterator for KeptRecords<'z> {
         self.octets = after_first(self.octets);
         Some(rr)
     }
+}
+
+/// The octets after those of the first record.
+fn after_first(octets: &[u8]) -> &[u8]
+    ensures { result.now ≡ drop (length (bulk.span octets.now 0)) octets.now }
+{
+    let (_, rest) = octets.split_at(span(octets, 0).len());
+    rest
 }

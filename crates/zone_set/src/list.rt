@@ -1,10 +1,10 @@
 ghost use Rattle.std.specs.Prelude.{◌≡◌, ◌↔◌, ◌⊎◌, ◌++◌, ◌∷◌, IsTrue, List, [], true, false, length, IfOk, IfErr, OnOk, OnErr, if◌then◌else◌};
 ghost use Rattle.std.specs.List.{AllByRecursion};
 ghost use Rattle.zone_rdata.specs.Lent.{record_of};
-ghost use Rattle.zone_rdata.specs.Record.{IsRecord};
+ghost use Rattle.zone_rdata.specs.Record.{IsRecord, Record};
 ghost use Rattle.zone_name.specs.Common.{Labels};
-ghost use Rattle.zone_rdata.specs.declared.record.Placed.{Placed};
-ghost use Rattle.zone_set.specs.Machine.Bulk.{listed, KeepsList};
+ghost use Rattle.zone_set.specs.Machine.Bulk.{placed_at, KeepsList};
+ghost use Rattle.zone_set.specs.Machine.Held.{all_records};
 ghost use Rattle.zone_set.specs.Builder.{OtherClass};
 ghost use Rattle.zone_set.specs.Machine.Stored.{stored};
 ghost use Rattle.zone_set.specs.Refusal.{records_of};
@@ -185,17 +185,17 @@ fn settle_parts(
     mut entries: Vec<Entry>,
     places: Places,
 ) -> Result<ZoneBuilder, Stop>
-    ghost known: { Labels × List Placed }
+    ghost known: { Labels × List Record }
     requires base { known.0 ≡ base }
-    requires placed { known.1 ≡ listed class octets.items entries.items places }
+    requires records { known.1 ≡ all_records class octets.items entries.items }
     requires keeps { KeepsList class base octets.items entries.items places }
-    ensures taken { IfOk result (IsSettledAs known.1) }
-    ensures refused { IfErr result (StopsSettling known.1) }
+    ensures taken { IfOk result (IsSettledAs (placed_at known.1 places)) }
+    ensures refused { IfErr result (StopsSettling (placed_at known.1 places)) }
 {
     let listed = entries.len();
     if settle(class, base.wire().len(), octets.as_slice(), &mut entries) {
-        let message_len = len_of_entries(class, octets.as_slice(), entries.as_slice(), listed);
         let alone = entries.len() == listed;
+        let message_len = len_of_entries(class, octets.as_slice(), entries.as_slice(), alone);
         let sets = Sets::of_sorted(alloc, class, base, octets, entries, message_len, alone)?;
         return Ok(ZoneBuilder { sets });
     }

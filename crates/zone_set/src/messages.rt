@@ -1,10 +1,10 @@
 //! What records take in messages where no name is compressed (RFC 1035 3.2.1).
-ghost use Rattle.std.specs.Prelude.{◌≡◌, ◌+◌, ◌-◌, ◌^◌, length, min, if◌then◌else◌};
+ghost use Rattle.std.specs.Prelude.{◌≡◌, ◌+◌, ◌-◌, ◌^◌, min, if◌then◌else◌, IsTrue};
 ghost use Rattle.std.specs.List.{AllByRecursion};
 ghost use Rattle.zone_name.specs.Common.{Labels};
 ghost use Rattle.zone_rdata.specs.Lent.{record_of};
 ghost use Rattle.zone_rdata.specs.Record.{IsRecord};
-ghost use Rattle.zone_set.specs.Machine.Held.{all_records, IsEntry};
+ghost use Rattle.zone_set.specs.Machine.Held.{all_records, AreAllKept, IsEntry};
 ghost use Rattle.zone_set.specs.Message.{message_len, message_octets};
 
 use crate::entry::Entry;
@@ -12,17 +12,15 @@ use crate::stored::record_at;
 use zone_rdata::{Class, RrRef};
 
 /// The octets that the records of entries take in messages, or 2^64 - 1 where they are more.
-/// `listed` is how many records the octets keep. Where the entries are of all of these, no record
-/// is looked at.
-pub(crate) fn len_of_entries(class: Class, octets: &[u8], entries: &[Entry], listed: usize) -> u64
+/// `alone` tells whether the octets keep these records alone: then no record is looked at.
+pub(crate) fn len_of_entries(class: Class, octets: &[u8], entries: &[Entry], alone: bool) -> u64
     ghost base: { Labels }
     requires each { AllByRecursion (IsEntry base class octets.now) entries.now }
-    requires whole { length entries.now ≡ listed
-        → message_octets (all_records class octets.now entries.now)
-        ≡ length octets.now + length entries.now }
+    requires alone { IsTrue alone
+        → AreAllKept class octets.now (all_records class octets.now entries.now) }
     ensures { result ≡ min (message_octets (all_records class octets.now entries.now)) (2 ^ 64 - 1) }
 {
-    if entries.len() != listed {
+    if !alone {
         return counted(class, octets, entries);
     }
     // A message has the class of each record in two octets more, and the owner's length in none.

@@ -1,13 +1,12 @@
-ghost use Rattle.std.specs.Prelude.{◌≡◌, List, length, drop, IfOk, IfErr};
-ghost use Rattle.zone_rdata.specs.declared.record.Placed.{Placed};
-ghost use Rattle.zone_set.specs.Machine.Bulk as bulk;
-ghost use Rattle.zone_set.specs.Machine.Bulk.{IsRow};
+ghost use Rattle.std.specs.Prelude.{List, IfOk, IfErr};
+ghost use Rattle.zone_rdata.specs.Record.{Record};
+ghost use Rattle.zone_set.specs.Machine.Bulk.{placed_at};
+ghost use Rattle.zone_set.specs.Machine.Stored.{AreKept};
 ghost use Rattle.zone_set.specs.ZoneList.{IsSettledAs, StopsSettling};
 
 use crate::builder::ZoneBuilder;
+use crate::kept_records::KeptRecords;
 use crate::places::Places;
-use crate::stored::record_at;
-use crate::tie::span;
 use std::alloc::Global;
 use zone_rdata::{Class, Stop};
 
@@ -23,24 +22,14 @@ pub(crate) fn offer(
     octets: &[u8],
     places: &Places,
 ) -> Result<ZoneBuilder, Stop>
-    ghost placed: { List Placed }
-    requires { IsRow class octets.now places.now placed }
-    ensures taken { IfOk result (IsSettledAs placed) }
-    ensures refused { IfErr result (StopsSettling placed) }
+    ghost records: { List Record }
+    requires { AreKept class octets.now records }
+    ensures taken { IfOk result (IsSettledAs (placed_at records places.now)) }
+    ensures refused { IfErr result (StopsSettling (placed_at records places.now)) }
 {
     let mut builder = ZoneBuilder::new(alloc);
-    let mut left = octets;
-    for place in places.iter() {
-        builder.hold(&record_at(class, left, 0), place)?;
-        left = after_first(left);
+    for (rr, place) in KeptRecords::new(class, octets).zip(places.iter()) {
+        builder.hold(&rr, place)?;
     }
     Ok(builder)
-}
-
-/// The octets after those of the first record.
-pub(crate) fn after_first(octets: &[u8]) -> &[u8]
-    ensures { result.now ≡ drop (length (bulk.span octets.now 0)) octets.now }
-{
-    let (_, rest) = octets.split_at(span(octets, 0).len());
-    rest
 }

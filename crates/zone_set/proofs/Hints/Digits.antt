@@ -1,5 +1,5 @@
 -- Numbers of first digits: their order, their bound, and digits that are put before others.
-use Rattle.zone_set.proofs.Common.{common_steps, ◌≡◌, ℕ, zero, suc, ◌+◌, ◌*◌, ◌/◌, ◌^◌, ◌<◌, ◌≤◌, List, [], ◌∷◌, ◌++◌, length, take, Ordering, Less, Equal, Greater, nat_cmp, refl, sym, ap, subst, arith, append_assoc, ranked, slice_cmp, ⊤, ordering_then, MatchOrdering, AreOctets, AllByRecursion-append, AllByRecursion-back, low_take, first_digits, AreDigits, IsPutBefore, label_key}
+use Rattle.zone_set.proofs.Common.{common_steps, ◌≡◌, ℕ, zero, suc, ◌+◌, ◌*◌, ◌/◌, ◌^◌, ◌<◌, ◌≤◌, List, [], ◌∷◌, ◌++◌, length, take, Ordering, Less, Equal, Greater, nat_cmp, refl, sym, ap, subst, arith, append_assoc, ranked, slice_cmp, ⊤, MatchOrdering, AreOctets, AllByRecursion-append, AllByRecursion-back, low_take, first_digits, AreDigits, IsPutBefore, label_key}
 use Rattle.std.proofs.Math.Nat.{pow-suc, one-le-pow, mul-le-mul_right}
 use Rattle.zone_set.proofs.Hints.LabelKey.{label_low}
 
@@ -25,16 +25,10 @@ digits_less c d p m n low high h = by (nat_cmp c d) (ranked c d _ refl)
 -- a number that is less is that of digits before others
 pub first_digits-less : (n : ℕ) (x y : List ℕ) → AreDigits x → AreDigits y → first_digits n x < first_digits n y → slice_cmp nat_cmp x y ≡ Less
 first_digits-less zero x y low high h = absurd (omega (arith, h))
-first_digits-less (suc n) [] [] low high h = absurd (omega (arith, h))
+first_digits-less (suc n) x [] low high h = absurd (omega (arith, h))
 first_digits-less (suc n) [] (d ∷ y) low high h = refl
-first_digits-less (suc n) (c ∷ x) [] low high h = absurd (omega (arith, h))
 first_digits-less (suc n) (c ∷ x) (d ∷ y) low high h =
-    by (nat_cmp c d) (digits_less c d (257 ^ n) (first_digits n x) (first_digits n y) (first_digits-bound n x low.1) (first_digits-bound n y high.1) h) (first_digits-less n x y low.1 high.1)
-  where
-    by : (o : Ordering) → MatchOrdering o ⊤ (first_digits n x < first_digits n y) ⊥ → (first_digits n x < first_digits n y → slice_cmp nat_cmp x y ≡ Less) → ordering_then o (slice_cmp nat_cmp x y) ≡ Less
-    by Less k later = refl
-    by Equal k later = later k
-    by Greater k later = absurd k
+    grind (arith, digits_less c d (257 ^ n) (first_digits n x) (first_digits n y) (first_digits-bound n x low.1) (first_digits-bound n y high.1) h, first_digits-less n x y low.1 high.1)
 
 -- one digit is put before others
 pub put_one : (d after : ℕ) → IsPutBefore (d ∷ []) after (d * 288136807515649 + after / 257)

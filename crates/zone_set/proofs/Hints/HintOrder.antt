@@ -26,18 +26,11 @@ module _ (base : List (List ℕ)) where
 
   -- what is below the base is before what is after it and not below it
   below_before : (x y front : List (List ℕ)) → x ≡ front ++ base → (IsWithin y base → ⊥) → name_cmp base y ≡ Less → name_cmp x y ≡ Less
-  below_before x y front is out later = by (name_cmp x y) refl
-    where
-      by : (o : Ordering) → name_cmp x y ≡ o → name_cmp x y ≡ Less
-      by Less e = e
-      by Equal e = absurd (out (front, sym (name_cmp-exact x y e) ∙ is))
-      by Greater e =
-          let high : name_cmp y x ≡ Less = name_cmp-total.antisymm y x ∙ ap ordering_reverse e in
-          absurd (out (within_between base base y x ([], refl) (front, is) (λ no. cc) (λ no. cc)))
+  below_before x y front is out later = grind (arith, name_cmp-exact x y, name_cmp-total.antisymm y x, within_between base base y x ([], refl) (front, is))
 
   -- owners of smaller hints are before others
   hint_less : (x y : List (List ℕ)) (k l h i : ℕ) → IsName x → IsName y → IsHint base x k h → IsHint base y l i → h < i → ordering_then (nat_cmp (if k == 6 then 0 else 1) (if l == 6 then 0 else 1)) (name_cmp x y) ≡ Less
-  hint_less x y k l h i px py (soa e is) (soa f at) lt = absurd (omega (arith, is, at, lt))
+  hint_less x y k l h i px py one (soa f at) lt = absurd (omega (arith, at, lt))
   hint_less x y k l h i px py (soa e is) (before f w at) lt = rank_apart k l _ e f
   hint_less x y k l h i px py (soa e is) (within g f w at) lt = rank_apart k l _ e f
   hint_less x y k l h i px py (soa e is) (after f w v at) lt = rank_apart k l _ e f
@@ -47,11 +40,8 @@ module _ (base : List (List ℕ)) where
       let keys = first_digits-less 7 (owner_key g) (owner_key j) (digits x g px u) (digits y j py w) (omega (arith, is, at, lt)) in
       rank_same k l _ e f (ap₂ name_cmp u w ∙ same_ending base g j ∙ sym (owners_embed g j) ∙ keys)
   hint_less x y k l h i px py (within g e u is) (after f w v at) lt = rank_same k l _ e f (below_before x y g u w v)
-  hint_less x y k l h i px py (before e u is) (soa f at) lt = absurd (omega (arith, at, lt))
   hint_less x y k l h i px py (before e u is) (before f w at) lt = absurd (omega (arith, is, at, lt))
-  hint_less x y k l h i px py (within g e u is) (soa f at) lt = absurd (omega (arith, at, lt))
   hint_less x y k l h i px py (within g e u is) (before f w at) lt = absurd (omega (arith, is, at, lt))
-  hint_less x y k l h i px py (after e u v is) (soa f at) lt = absurd (omega (arith, at, lt))
   hint_less x y k l h i px py (after e u v is) (before f w at) lt = absurd (omega (arith, is, at, lt))
   hint_less x y k l h i px py (after e u v is) (within g f w at) lt = absurd (omega (arith, is, at, lt, low y g py w))
   hint_less x y k l h i px py (after e u v is) (after f w z at) lt = absurd (omega (arith, is, at, lt))

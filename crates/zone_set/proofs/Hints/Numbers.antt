@@ -7,8 +7,7 @@ number_on n [] = n
 number_on n (c ∷ octets) = number_on (n * 256 + c) octets
 
 numbers_compare : (m n : ℕ) (x y : List ℕ) → length x ≡ length y → AreLow x → AreLow y → nat_cmp (number_on m x) (number_on n y) ≡ ordering_then (nat_cmp m n) (slice_cmp nat_cmp x y)
-numbers_compare m n [] [] same p q = grind arith
-numbers_compare m n [] (d ∷ y) same p q = absurd (omega (arith, same))
+numbers_compare m n [] y same p q = grind arith
 numbers_compare m n (c ∷ x) [] same p q = absurd (omega (arith, same))
 numbers_compare m n (c ∷ x) (d ∷ y) same p q =
     numbers_compare (m * 256 + c) (n * 256 + d) x y (omega (arith, same)) p.1 q.1
@@ -18,10 +17,9 @@ numbers_compare m n (c ∷ x) (d ∷ y) same p q =
 -- lists compare by their fronts, and then by what follows
 pub cut_compare : (n : ℕ) (x y : List ℕ) → slice_cmp nat_cmp x y ≡ ordering_then (slice_cmp nat_cmp (take n x) (take n y)) (slice_cmp nat_cmp (drop n x) (drop n y))
 cut_compare zero x y = refl
-cut_compare (suc n) [] [] = refl
-cut_compare (suc n) [] (d ∷ y) = refl
+cut_compare (suc n) [] y = grind arith
 cut_compare (suc n) (c ∷ x) [] = refl
-cut_compare (suc n) (c ∷ x) (d ∷ y) = ap (ordering_then (nat_cmp c d)) (cut_compare n x y) ∙ sym (then_assoc (nat_cmp c d) _ _)
+cut_compare (suc n) (c ∷ x) (d ∷ y) = grind (arith, cut_compare n x y)
 
 -- eight octets as the number that they are read as
 number_of_eight : (x : List ℕ) → length x ≡ 8 → from_be_bytes w64 x ≡ number_on 0 x

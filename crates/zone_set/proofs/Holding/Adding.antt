@@ -1,5 +1,5 @@
 -- A record and the sets that are held: why it is refused, and what is held with it.
-use Rattle.zone_set.proofs.Common.{AllByRecursion, AreCompatible, Bool, Entry, Has, HoldsEntries, IsEntry, IsPut, IsRecord, IsTrue, KeepsSets, List, OnErr, Placed, Record, Result, [], all_records, arith, common_steps, entry_record, eq-eqb, false, if◌then◌else◌, inl, inr, message_len, message_octets, min, ne_eqb, not, refl, ℕ, ◌+◌, ◌-◌, ◌==◌, ◌^◌, ◌↔◌, ◌∷◌, ◌≡◌, ◌≢◌, ◌⊎◌}
+use Rattle.zone_set.proofs.Common.{AllByRecursion, Bool, Entry, Has, HoldsEntries, IsEntry, IsPut, IsRecord, IsTrue, KeepsSets, List, OnErr, Placed, Record, Result, [], all_records, arith, common_steps, entry_record, eq-eqb, false, if◌then◌else◌, inl, inr, message_len, message_octets, min, ne_eqb, not, refl, ℕ, ◌+◌, ◌-◌, ◌==◌, ◌^◌, ◌↔◌, ◌∷◌, ◌≡◌, ◌≢◌, ◌⊎◌}
 use Rattle.zone_set.proofs.Ordering.Between.{Has-with}
 use Rattle.zone_set.proofs.Holding.Inserting.{AreCompatible-with}
 use Rattle.zone_set.proofs.Holding.Together.{each_Has, stable_number}
@@ -38,9 +38,6 @@ pub holds_for : {class other : ℕ} {base name : List (List ℕ)} {octets : List
 holds_for es holds any which = grind arith
 
 -- a record that was put is held beside those before
-pub Adds-put : (old : List Record) (r : Record) (is_new : Bool) (new : List Record) → AreCompatible old → IsPut old r is_new new → Adds old r new
-Adds-put old r is_new new compatible given = grind (arith, Has-with)
-
 octets_put : (old : List Record) (r : Record) (is_new : Bool) (new : List Record) → IsPut old r is_new new → message_octets new ≡ message_octets old + (if is_new then message_len r else 0)
 octets_put old r is_new new put = grind (arith, common_steps)
 
@@ -72,7 +69,7 @@ module _ {class : ℕ} {base : List (List ℕ)} {octets : List ℕ} {es : List E
     accepted = record { one_class = no_class; one_soa = no_soa; one_ttl = rw seen at one_ttl }
 
     pub added : Adds Old r New
-    added = Adds-put Old r is_new New keeps.holds.compatible was_put
+    added = grind (arith, was_put, Has-with)
 
     pub KeepsSets-with : (after : ℕ) → after ≡ min (counted + (if is_new then message_len r else 0)) (2 ^ 64 - 1) → KeepsSets r.class name now fs after false
     KeepsSets-with after is_after = record {

@@ -1,9 +1,10 @@
 -- A record that is put among entries: where it is sought, what its neighbours tell, and what is held with it.
-use Rattle.zone_set.proofs.Common.{All, All-from_recursion, AllByRecursion, AllByRecursion-back, AllByRecursion-front, Ascends, Bool, Entry, HasOtherTtl, HoldsEntries, IsComparable, IsEntry, IsHint, IsParting, IsPut, IsRecord, List, Record, [], all_records, ap, arith, canonical_cmp, covered_octets, data_of, entry_record, false, is_lt, length, map, map-append, recursion_from_All, stored, subst, sym, true, ℕ, ◌++◌, ◌∙◌, ◌∷◌, ◌≡◌, ◌≢◌}
+use Rattle.zone_set.proofs.Common.{Greater, Less, All, All-from_recursion, AllByRecursion, AllByRecursion-back, AllByRecursion-front, Ascends, Bool, Entry, HasOtherTtl, HoldsEntries, IsComparable, IsEntry, IsHint, IsParting, IsPut, IsRecord, List, Record, all_records, ap, arith, canonical_cmp, covered_octets, data_of, entry_record, false, is_lt, length, map, map-append, recursion_from_All, stored, subst, sym, true, ℕ, ◌++◌, ◌∙◌, ◌∷◌, ◌≡◌, ◌≢◌}
 use Rattle.zone_set.proofs.Holding.Adding.{class_of}
-use Rattle.zone_set.proofs.Ordering.Between.{each_before, none_before, parted, Parts}
+use Rattle.zone_set.proofs.Ordering.Between.{is_less, not_after, parted, Parts}
 use Rattle.zone_set.proofs.Hints.HintOrder.{hint_orders, one_hint}
-use Rattle.zone_set.proofs.Storage.Storing.{all_with, each_kept, entry_appended, record_appended, records_kept}
+use Rattle.zone_rdata.proofs.Lists.{each_weaker}
+use Rattle.zone_set.proofs.Storage.Storing.{all_with, each_kept, each_map, entry_appended, record_appended, records_kept}
 
 -- an entry of another hint is of another set, and so of another record
 module _ (octets : List ℕ) (h : ℕ) (r : Record) (e : Entry) (comparable : IsComparable octets h r e) (differ : e.hint ≢ h) where
@@ -25,8 +26,7 @@ module _ (base : List (List ℕ)) (octets : List ℕ) (r : Record) where
       }
 
   pub each_comparable : (h : ℕ) → IsRecord r → IsHint base r.owner r.kind h → (es : List Entry) → AllByRecursion (IsEntry base r.class octets) es → AllByRecursion (IsComparable octets h r) es
-  each_comparable h whole is [] each = tt
-  each_comparable h whole is (e ∷ es) each = (comparable h whole is e each.0, each_comparable h whole is es each.1)
+  each_comparable h whole is = each_weaker (IsComparable octets h r) (comparable h whole is)
 
   -- the record may be compared with those of the entries
   pub all_comparable : (h : ℕ) → IsRecord r → IsHint base r.owner r.kind h → (es : List Entry) → AllByRecursion (IsEntry base r.class octets) es → All (IsComparable octets h r) es
@@ -44,8 +44,8 @@ module _ (base : List (List ℕ)) (octets : List ℕ) (r : Record) where
         compatible = holds.compatible;
         classes = λ s has. class_of r.class octets es s has;
         whole = ap (map f) (sym whole) ∙ map-append f before after;
-        below = each_before f r before (recursion_from_All (λ e. goes_after e ≡ true) before both.0);
-        above = none_before f r after (recursion_from_All (λ e. goes_after e ≡ false) after both.1);
+        below = each_map (λ s. canonical_cmp s r ≡ Less) f (λ e is. is_less _ is) before (recursion_from_All (λ e. goes_after e ≡ true) before both.0);
+        above = each_map (λ s. canonical_cmp r s ≢ Greater) f (λ e is. not_after r (f e) is) after (recursion_from_All (λ e. goes_after e ≡ false) after both.1);
       }
 
   -- the entries and one that was put among them

@@ -1,5 +1,5 @@
 -- Records held: membership, sets, and what a refusal excludes.
-use Rattle.zone_set.proofs.Common.{◌≡◌, ◌≢◌, ℕ, Bool, true, ◌==◌, if◌then◌else◌, List, [], ◌∷◌, take, Ordering, Less, nat_cmp, eqb-true, eq-eqb, refl, sym, ◌∙◌, subst, inl, inr, ⊎_elim, arith, nat_cmp_total, nat_list_cmp_total, exact_unsigned, exact_bytes, AllByRecursion, Record, Ascends, ordering_then, name_cmp-exact, name_cmp-total, AreTwoSoas, OtherSoa, Accepts, Has, InOneSet, AreCompatible}
+use Rattle.zone_set.proofs.Common.{◌≡◌, ◌≢◌, ℕ, Bool, true, if◌then◌else◌, List, [], ◌∷◌, Ordering, Less, nat_cmp, eqb-true, eq-eqb, refl, sym, ◌∙◌, subst, inl, inr, ⊎_elim, arith, nat_cmp_total, nat_list_cmp_total, exact_unsigned, exact_bytes, AllByRecursion, Record, Ascends, ordering_then, name_cmp-exact, name_cmp-total, AreTwoSoas, OtherSoa, Accepts, Has, InOneSet, AreCompatible}
 use Rattle.zone_set.proofs.Ordering.SetOrder.{stable}
 
 -- what holds of each record, and of each that is held
@@ -22,7 +22,7 @@ flipped one = record { owner = cc; kind = cc; covers = cc }
 
 -- records with one owner, type and data are of one set
 pub one_set : (r s : Record) → r.owner ≡ s.owner → r.kind ≡ s.kind → r.octets ≡ s.octets → InOneSet r s
-one_set r s owner kind octets = record { owner = owner; kind = kind; covers = λ i. if kind i == 46 then take 2 (octets i) else [] }
+one_set r s owner kind octets = grind (arith, owner, kind, octets)
 
 -- a record that may stand with those held
 module _ (held : List Record) (r : Record) (fits : Accepts held r) where
@@ -36,10 +36,9 @@ module _ (held : List Record) (r : Record) (fits : Accepts held r) where
   accepted_soa s has soa_s soa_r =
       let owner : s.owner ≡ r.owner = stable_owner _ _ (λ other. fits.one_soa (s, has, (soa_r, soa_s, inl other))) in
       let octets : s.octets ≡ r.octets = stable nat_list_cmp_total exact_bytes _ _ (λ other. fits.one_soa (s, has, (soa_r, soa_s, inr other))) in
-      let kind : s.kind ≡ r.kind = soa_s ∙ sym soa_r in
-      let class : s.class ≡ r.class = accepted_class s has in
-      let ttl : s.ttl ≡ r.ttl = accepted_ttl s has (one_set s r owner kind octets) in
-      λ i. record { owner = owner i; class = class i; kind = kind i; ttl = ttl i; octets = octets i }
+      let class = accepted_class s has in
+      let ttl = accepted_ttl s has (one_set s r owner (soa_s ∙ sym soa_r) octets) in
+      grind (arith, owner, octets, class, ttl)
 
 -- the first of these records is an SOA if any is
 pub soa_before : (b c : Bool) (o : Ordering) → ordering_then (nat_cmp (if b then 0 else 1) (if c then 0 else 1)) o ≡ Less → c ≡ true → b ≡ true

@@ -1,15 +1,11 @@
 -- Entries that are looked at run after run, each run as soon as it is sorted.
-use Rattle.zone_set.proofs.Common.{common_steps, AllByRecursion, AreNeighbours, Entry, List, Record, [], ap, append-nil, arith, drop, length, length-drop, length-take-le, map, refl, subst, suc, sym, take, take-append-drop, take-length, zero, ℕ, ◌+◌, ◌-◌, ◌∙◌, ◌∷◌, ◌≡◌, ◌≤◌}
+use Rattle.zone_set.proofs.Common.{common_steps, AllByRecursion, AllByRecursion-back, AllByRecursion-front, AreNeighbours, Entry, List, Record, [], ap, append-nil, arith, drop, length, length-drop, length-take-le, map, refl, subst, suc, sym, take, take-append-drop, take-length, zero, ℕ, ◌+◌, ◌-◌, ◌∙◌, ◌∷◌, ◌≡◌, ◌≤◌}
 
 pub each_drop : {X : Type 0} (P : X → Type 0) (n : ℕ) (xs : List X) → AllByRecursion P xs → AllByRecursion P (drop n xs)
-each_drop P zero xs each = each
-each_drop P (suc n) [] each = tt
-each_drop P (suc n) (x ∷ xs) each = each_drop P n xs each.1
+each_drop P n xs each = AllByRecursion-back P (take n xs) (drop n xs) (rw take-append-drop each)
 
 pub each_take : {X : Type 0} (P : X → Type 0) (n : ℕ) (xs : List X) → AllByRecursion P xs → AllByRecursion P (take n xs)
-each_take P zero xs each = tt
-each_take P (suc n) [] each = tt
-each_take P (suc n) (x ∷ xs) each = (each.0, each_take P n xs each.1)
+each_take P n xs each = AllByRecursion-front P (take n xs) (drop n xs) (rw take-append-drop each)
 
 pub take_front : {X : Type 0} (n m : ℕ) (xs : List X) → n ≤ m → take n (take m xs) ≡ take n xs
 take_front zero m xs low = refl
@@ -30,17 +26,12 @@ pub take_whole : {X : Type 0} (k : ℕ) (xs : List X) → take (length xs - k) (
 take_whole k xs none = grind (arith, common_steps, take_rest, append-nil, take-append-drop)
 
 module _ (f : Entry → Record) where
-  joined : (n : ℕ) (es : List Entry) → AreNeighbours (map f (take (suc n) es)) → AreNeighbours (map f (drop n es)) → AreNeighbours (map f es)
-  joined zero es before after = after
-  joined (suc n) [] before after = tt
-  joined (suc n) (d ∷ []) before after = tt
-  joined (suc n) (d ∷ (e ∷ es)) before after = (before.0, joined n (e ∷ es) before.1 after)
-
   -- those before a place and those from the last of these on
   pub AreNeighbours-joined : (n k : ℕ) (es : List Entry) → k ≡ n - 1 → AreNeighbours (map f (take n es)) → AreNeighbours (map f (drop k es)) → AreNeighbours (map f es)
-  AreNeighbours-joined zero k es is before after =
-      let none : k ≡ 0 = omega (arith, is) in
-      subst (λ j. AreNeighbours (map f (drop j es))) none after
-  AreNeighbours-joined (suc n) k es is before after =
-      let one : k ≡ n = omega (arith, is) in
-      joined n es before (subst (λ j. AreNeighbours (map f (drop j es))) one after)
+  AreNeighbours-joined zero k es is before after = grind arith
+  AreNeighbours-joined (suc zero) k es is before after = grind arith
+  AreNeighbours-joined (suc (suc n)) k [] is before after = tt
+  AreNeighbours-joined (suc (suc n)) k (d ∷ []) is before after = tt
+  AreNeighbours-joined (suc (suc n)) k (d ∷ (e ∷ es)) is before after =
+      let one : k ≡ suc n = omega (arith, is) in
+      (before.0, AreNeighbours-joined (suc n) n (e ∷ es) (omega arith) before.1 (subst (λ j. AreNeighbours (map f (drop j (d ∷ (e ∷ es))))) one after))

@@ -1,9 +1,9 @@
 -- The records after an SOA whose owners lie at or below an apex stand together.
-use Rattle.zone_set.proofs.Common.{◌≡◌, ◌≢◌, ℕ, Option, Some, None, Bool, false, ◌==◌, if◌then◌else◌, List, [], ◌∷◌, ◌++◌, Ordering, Less, Equal, Greater, nat_cmp, refl, sym, ap, ◌∙◌, subst, inl, inr, ⊎_elim, ne_eqb, eqb-true, eq-eqb, arith, tied_itself, AllByRecursion, IfSome, MatchOption, ordering_then, IsWithin, name_cmp, Record, canonical_cmp, Ascends, record_of, Has, AreCompatible}
+use Rattle.zone_set.proofs.Common.{◌≡◌, ◌≢◌, ℕ, Option, Some, None, Bool, false, ◌==◌, if◌then◌else◌, List, [], ◌∷◌, ◌++◌, Ordering, Less, Greater, nat_cmp, refl, sym, ap, ◌∙◌, subst, inl, inr, ⊎_elim, ne_eqb, arith, tied_itself, AllByRecursion, IfSome, MatchOption, ordering_then, IsWithin, name_cmp, Record, canonical_cmp, Ascends, record_of, Has, AreCompatible}
 use Rattle.zone_set.proofs.Ordering.Between.{before_all, Has-append}
 use Rattle.zone_set.proofs.Ordering.SetOrder.{canonical_total}
 use Rattle.zone_set.proofs.Ordering.Within.{within_between}
-use Rattle.zone_set.proofs.Holding.Together.{each_Has, each_from_Has, soa_before}
+use Rattle.zone_set.proofs.Holding.Together.{each_Has, each_from_Has, soa_first}
 use Rattle.zone_rdata.specs.declared.lent.RrRef.{RrRef}
 
 -- after a record that is no SOA there is none, and the order is by owner
@@ -14,11 +14,9 @@ by_owner x y o p no_x less = grind arith
 second_no_soa : (k l : Record) (rest : List Record) → AreCompatible (k ∷ l ∷ rest) → (l.kind == 6) ≡ false
 second_no_soa k l rest compatible = ne_eqb l.kind 6 (λ soa.
     let less : canonical_cmp k l ≡ Less = compatible.ascend.0.0 in
-    let first : k.kind ≡ 6 = eqb-true k.kind 6 (soa_before (k.kind == 6) (l.kind == 6) _ less (eq-eqb l.kind 6 soa)) in
+    let first : k.kind ≡ 6 = soa_first k (l ∷ rest) compatible.ascend l (inr (inl refl)) soa in
     let same : k ≡ l = compatible.one_soa k l (inl refl) (inr (inl refl)) first soa in
-    let tied : canonical_cmp k l ≡ Equal = ap (canonical_cmp k) (sym same) ∙ tied_itself canonical_total k in
-    let no : Less ≡ Equal = sym less ∙ tied in
-    cc)
+    grind (arith, tied_itself canonical_total k, less, same))
 
 module _ (apex : List (List ℕ)) where
   -- a record between two
@@ -30,11 +28,7 @@ module _ (apex : List (List ℕ)) where
 
   -- where the first two records and the last lie within, all do
   all_within : (whole : List Record) (k l : Record) (rest front : List Record) (m : Record) → AreCompatible whole → whole ≡ k ∷ l ∷ rest → whole ≡ front ++ m ∷ [] → IsWithin k.owner apex → IsWithin l.owner apex → IsWithin m.owner apex → AllByRecursion (λ r. IsWithin r.owner apex) whole
-  all_within whole k l rest front m compatible is ends in_k in_l in_m =
-      each_from_Has (λ r. IsWithin r.owner apex) whole (λ s has.
-      ⊎_elim (λ same. subst (λ t. IsWithin t.owner apex) (sym same) in_k)
-      (λ more. ⊎_elim (λ same. subst (λ t. IsWithin t.owner apex) (sym same) in_l) (λ late. later s has late) more)
-      (subst (λ rs. Has rs s) is has))
+  all_within whole k l rest front m compatible is ends in_k in_l in_m = each_from_Has (λ r. IsWithin r.owner apex) whole (λ s has. grind (arith, is, later s has))
     where
       known : AreCompatible (k ∷ l ∷ rest)
       known = subst AreCompatible is compatible
@@ -42,12 +36,8 @@ module _ (apex : List (List ℕ)) where
       later : (s : Record) → Has whole s → Has rest s → IsWithin s.owner apex
       later s has late =
           let low : canonical_cmp l s ≡ Less = each_Has (λ t. canonical_cmp l t ≡ Less) rest s known.ascend.1.0 late in
-          ⊎_elim
-          (λ early.
-          let high : canonical_cmp s m ≡ Less = before_all front (m ∷ []) s m (subst Ascends ends compatible.ascend) early (inl refl) in
-          between l s m (second_no_soa k l rest known) low high in_l in_m)
-          (λ end. ⊎_elim (λ same. subst (λ t. IsWithin t.owner apex) (sym same) in_m) (λ none. absurd none) end)
-          ((Has-append front (m ∷ []) s).0 (subst (λ rs. Has rs s) ends has))
+          let order : Ascends (front ++ m ∷ []) = subst Ascends ends compatible.ascend in
+          ⊎_elim (λ early. between l s m (second_no_soa k l rest known) low (before_all front (m ∷ []) s m order early (inl refl)) in_l in_m) (λ end. grind (arith, end, in_m)) ((Has-append front (m ∷ []) s).0 (subst (λ rs. Has rs s) ends has))
 
   pub ends_tell : (whole after_first after_second : List Record) (first second last : Option RrRef) → AreCompatible whole
       → MatchOption first ((whole ≡ []) × (after_first ≡ [])) (λ r. whole ≡ record_of r ∷ after_first)

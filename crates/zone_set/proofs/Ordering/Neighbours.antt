@@ -1,5 +1,5 @@
 -- Records of which the neighbours show that all can stand together, and the list that they came in.
-use Rattle.zone_set.proofs.Common.{AllAccepted, AllByRecursion, AreCompatible, AreNeighbours, Ascends, Equal, Greater, Has, InOneSet, IsRecord, Less, List, Placed, Record, SameRecords, [], ap, canonical_cmp, exact_bytes, inl, inr, map-append, nat_list_cmp_total, records_of, refl, subst, sym, tied_itself, ⊎_elim, ℕ, ◌++◌, ◌∙◌, ◌∷◌, ◌≡◌, ◌≢◌}
+use Rattle.zone_set.proofs.Common.{arith, AllAccepted, AllByRecursion, AreCompatible, AreNeighbours, Ascends, Equal, Greater, Has, InOneSet, IsRecord, Less, List, Placed, Record, SameRecords, [], ap, canonical_cmp, exact_bytes, inl, inr, map-append, nat_list_cmp_total, records_of, refl, sym, tied_itself, ℕ, ◌++◌, ◌∙◌, ◌∷◌, ◌≡◌, ◌≢◌}
 use Rattle.zone_set.proofs.Ordering.Between.{Has-append, later_all}
 use Rattle.zone_set.proofs.Ordering.SetOrder.{between_sets, canonical_total, stable}
 use Rattle.zone_set.proofs.Holding.Together.{each_Has, flipped, soa_first, stable_number, stable_owner}
@@ -12,20 +12,17 @@ Ascends-from_neighbours (r ∷ (s ∷ rs)) next =
     let ascend = Ascends-from_neighbours (s ∷ rs) next.1 in
     ((next.0.before, later_all r s rs next.0.before ascend.0), ascend)
 
--- what the order does not put after
-not_after_itself : (r : Record) → canonical_cmp r r ≢ Greater
-not_after_itself r after = let same : canonical_cmp r r ≡ Equal = tied_itself canonical_total r in cc
-
 -- a record and one of those from it on have one TTL, if they are of one set
 ttl_from : (r s : Record) (rs : List Record) → ((x : Record) → Has (r ∷ rs) x → x.class ≡ r.class) → AreNeighbours (r ∷ rs) → Has (r ∷ rs) s → InOneSet r s → r.ttl ≡ s.ttl
-ttl_from r s [] classes next has one = ⊎_elim (λ same. ap (λ x. x.ttl) (sym same)) (λ none. absurd none) has
-ttl_from r s (t ∷ rs) classes next has one = ⊎_elim (λ same. ap (λ x. x.ttl) (sym same)) (λ more.
+ttl_from r s rs classes next (inl same) one = ap (λ x. x.ttl) (sym same)
+ttl_from r s [] classes next (inr none) one = absurd none
+ttl_from r s (t ∷ rs) classes next (inr more) one =
     let ascend = Ascends-from_neighbours (t ∷ rs) next.1 in
-    let below : canonical_cmp t s ≢ Greater = ⊎_elim (λ same. subst (λ x. canonical_cmp t x ≢ Greater) (sym same) (not_after_itself t)) (λ later. let less = each_Has (λ x. canonical_cmp t x ≡ Less) rs s ascend.0 later in (λ after. cc)) more in
-    let near : InOneSet r t = between_sets r t s (sym (classes s has)) one (λ after. let less = next.0.before in cc) below in
+    let below : canonical_cmp t s ≢ Greater = grind (arith, more, tied_itself canonical_total t, each_Has (λ x. canonical_cmp t x ≡ Less) rs s ascend.0) in
+    let near : InOneSet r t = between_sets r t s (sym (classes s (inr more))) one (λ after. let less = next.0.before in cc) below in
     let own : r.ttl ≡ t.ttl = stable_number r.ttl t.ttl (λ differ. next.0.one_ttl (near, differ)) in
     let far : InOneSet t s = record { owner = sym near.owner ∙ one.owner; kind = sym near.kind ∙ one.kind; covers = sym near.covers ∙ one.covers } in
-    own ∙ ttl_from t s rs (λ x among. classes x (inr among) ∙ sym (classes t (inr (inl refl)))) next.1 more far) has
+    own ∙ ttl_from t s rs (λ x among. classes x (inr among) ∙ sym (classes t (inr (inl refl)))) next.1 more far
 
 -- where the first two may stand together, no other is an SOA beside the first
 soa_alone : (r : Record) (rs : List Record) → ((x : Record) → Has (r ∷ rs) x → x.class ≡ r.class) → AreNeighbours (r ∷ rs) → r.kind ≡ 6 → (s : Record) → Has rs s → s.kind ≡ 6 → ⊥
@@ -34,20 +31,17 @@ soa_alone r (t ∷ rs) classes next soa_r s has soa_s =
     let soa_t : t.kind ≡ 6 = soa_first t rs (Ascends-from_neighbours (t ∷ rs) next.1) s has soa_s in
     let owner : r.owner ≡ t.owner = stable_owner r.owner t.owner (λ other. next.0.one_soa (soa_t, soa_r, inl other)) in
     let octets : r.octets ≡ t.octets = stable nat_list_cmp_total exact_bytes r.octets t.octets (λ other. next.0.one_soa (soa_t, soa_r, inr other)) in
-    let class : r.class ≡ t.class = sym (classes t (inr (inl refl))) in
-    let kind : r.kind ≡ t.kind = soa_r ∙ sym soa_t in
-    let twice : Record = record { owner = t.owner; class = t.class; kind = t.kind; ttl = r.ttl; octets = t.octets } in
-    let same : r ≡ twice = (λ i. record { owner = owner i; class = class i; kind = kind i; ttl = r.ttl; octets = octets i }) in
-    let less : canonical_cmp twice t ≡ Less = subst (λ x. canonical_cmp x t ≡ Less) same next.0.before in
+    let class : t.class ≡ r.class = classes t (inr (inl refl)) in
     let tied : canonical_cmp t t ≡ Equal = tied_itself canonical_total t in
-    cc
+    let less : canonical_cmp r t ≡ Less = next.0.before in
+    grind (arith, tied, less, owner, octets, class, soa_r, soa_t)
 
 -- so all can stand together
 pub AreCompatible-from_neighbours : (class : ℕ) (rs : List Record) → AllByRecursion IsRecord rs → AllByRecursion (λ r. r.class ≡ class) rs → AreNeighbours rs → AreCompatible rs
 AreCompatible-from_neighbours class rs each classes next = record {
   each = each;
   ascend = Ascends-from_neighbours rs next;
-  one_class = λ r s has_r has_s. each_Has (λ x. x.class ≡ class) rs r classes has_r ∙ sym (each_Has (λ x. x.class ≡ class) rs s classes has_s);
+  one_class = λ r s has_r has_s. grind (arith, each_Has (λ x. x.class ≡ class) rs r classes has_r, each_Has (λ x. x.class ≡ class) rs s classes has_s);
   one_ttl = one_ttl rs classes next;
   one_soa = one_soa rs classes next;
 }
@@ -61,25 +55,17 @@ AreCompatible-from_neighbours class rs each classes next = record {
 
     one_ttl : (rs : List Record) → AllByRecursion (λ r. r.class ≡ class) rs → AreNeighbours rs → (r s : Record) → Has rs r → Has rs s → InOneSet r s → r.ttl ≡ s.ttl
     one_ttl [] classes next r s has_r has_s one = absurd has_r
-    one_ttl (x ∷ rs) classes next r s has_r has_s one = ⊎_elim
-        (λ same. ap (λ y. y.ttl) same ∙ ttl_from x s rs (alike x rs classes) next has_s (subst (λ y. InOneSet y s) same one))
-        (λ more_r. ⊎_elim
-        (λ same. sym (ap (λ y. y.ttl) same ∙ ttl_from x r rs (alike x rs classes) next has_r (flipped (subst (λ y. InOneSet r y) same one))))
-        (λ more_s. one_ttl rs classes.1 (later x rs next) r s more_r more_s one) has_s) has_r
+    one_ttl (x ∷ rs) classes next r s has_r has_s one = grind (arith, flipped one, ttl_from x s rs (alike x rs classes) next, ttl_from x r rs (alike x rs classes) next, one_ttl rs classes.1 (later x rs next) r s)
 
     one_soa : (rs : List Record) → AllByRecursion (λ r. r.class ≡ class) rs → AreNeighbours rs → (r s : Record) → Has rs r → Has rs s → r.kind ≡ 6 → s.kind ≡ 6 → r ≡ s
     one_soa [] classes next r s has_r has_s soa_r soa_s = absurd has_r
-    one_soa (x ∷ rs) classes next r s has_r has_s soa_r soa_s = ⊎_elim
-        (λ same_r. ⊎_elim (λ same_s. same_r ∙ sym same_s) (λ more_s. absurd (soa_alone x rs (alike x rs classes) next (subst (λ y. y.kind ≡ 6) same_r soa_r) s more_s soa_s)) has_s)
-        (λ more_r. ⊎_elim (λ same_s. absurd (soa_alone x rs (alike x rs classes) next (subst (λ y. y.kind ≡ 6) same_s soa_s) r more_r soa_r)) (λ more_s. one_soa rs classes.1 (later x rs next) r s more_r more_s soa_r soa_s) has_s) has_r
+    one_soa (x ∷ rs) classes next r s has_r has_s soa_r soa_s = grind (arith, soa_alone x rs (alike x rs classes) next, one_soa rs classes.1 (later x rs next) r s)
 
 -- and each of a list of the same records may stand with all before it
 pub AllAccepted-from_compatible : (rs : List Record) (placed : List Placed) → AreCompatible rs → SameRecords rs (records_of placed) → AllAccepted placed
 AllAccepted-from_compatible rs placed compatible same before others p parts = record {
   one_class = λ (s, has, differ). differ (compatible.one_class s p.rr (early s has) own);
-  one_soa = λ (s, has, (soa_r, soa_s, differ)).
-      let one : s ≡ p.rr = compatible.one_soa s p.rr (early s has) own soa_s soa_r in
-      ⊎_elim (λ owners. owners (ap (λ x. x.owner) one)) (λ octets. octets (ap (λ x. x.octets) one)) differ;
+  one_soa = λ (s, has, (soa_r, soa_s, differ)). let one = compatible.one_soa s p.rr (early s has) own soa_s soa_r in grind (arith, one, differ);
   one_ttl = λ (s, has, one, differ). differ (compatible.one_ttl s p.rr (early s has) own one);
 }
   where
@@ -87,7 +73,7 @@ AllAccepted-from_compatible rs placed compatible same before others p parts = re
     whole = ap records_of parts ∙ map-append (λ (q : Placed). q.rr) before (p ∷ others)
 
     early : (s : Record) → Has (records_of before) s → Has rs s
-    early s has = (same s).1 (subst (λ l. Has l s) (sym whole) ((Has-append (records_of before) (p.rr ∷ records_of others) s).1 (inl has)))
+    early s has = grind (arith, same s, whole, Has-append (records_of before) (p.rr ∷ records_of others) s)
 
     own : Has rs p.rr
-    own = (same p.rr).1 (subst (λ l. Has l p.rr) (sym whole) ((Has-append (records_of before) (p.rr ∷ records_of others) p.rr).1 (inr (inl refl))))
+    own = grind (arith, same p.rr, whole, Has-append (records_of before) (p.rr ∷ records_of others) p.rr)

@@ -1,5 +1,5 @@
 -- The canonical order of records: it is total, and what lies between two records of a set is of the set.
-use Rattle.zone_set.proofs.Common.{◌≡◌, ◌≢◌, ◌==◌, if◌then◌else◌, [], take, Ordering, Less, Equal, Greater, nat_cmp, refl, sym, ap, ◌∙◌, rules, arith, nat_cmp_total, nat_list_cmp_total, tied_itself, on_total, then_total, CmpEqualImpliesEq, exact_unsigned, exact_bytes, IsTotalOrder, slice_cmp, on, ordering_then, then_cmp, name_cmp-exact, name_cmp-total, name_cmp, data_cmp, Data, Record, data_of, soa_rank, canonical_cmp, InOneSet}
+use Rattle.zone_set.proofs.Common.{◌≡◌, ◌≢◌, ◌==◌, if◌then◌else◌, [], take, Ordering, Equal, Greater, nat_cmp, sym, ap, ◌∙◌, rules, arith, nat_cmp_total, nat_list_cmp_total, tied_itself, on_total, then_total, CmpEqualImpliesEq, exact_unsigned, exact_bytes, IsTotalOrder, slice_cmp, on, ordering_then, then_cmp, name_cmp-exact, name_cmp-total, name_cmp, data_cmp, Data, Record, data_of, soa_rank, canonical_cmp, InOneSet}
 
 pub both_equal : (o p : Ordering) → ordering_then o p ≡ Equal → (o ≡ Equal) × (p ≡ Equal)
 both_equal o p h = grind arith
@@ -17,15 +17,7 @@ exact_canonical r s h = grind (arith, both_equal, name_cmp-exact, exact_unsigned
 module _ {K : Type 0} {R : K → K → Ordering} (total : IsTotalOrder R) (exact : CmpEqualImpliesEq R) where
   -- what is not apart is equal
   pub stable : (a b : K) → ((a ≢ b) → ⊥) → a ≡ b
-  stable a b twice = by (R a b) refl
-    where
-      apart : (o : Ordering) → R a b ≡ o → o ≢ Equal → a ≡ b
-      apart o is other = absurd (twice (λ same. other (sym is ∙ ap (R a) (sym same) ∙ tied_itself total a)))
-
-      by : (o : Ordering) → R a b ≡ o → a ≡ b
-      by Less is = apart Less is (λ e. cc)
-      by Equal is = exact a b is
-      by Greater is = apart Greater is (λ e. cc)
+  stable a b twice = grind (arith, exact a b, tied_itself total a)
 
   -- between two that have one first key, all have it, and the order after it holds of them
   pub squeezed : {A : Type 0} (f : A → K) (S : A → A → Ordering) (a b c : A) → f a ≡ f c → then_cmp (on f R) S a b ≢ Greater → then_cmp (on f R) S b c ≢ Greater → (f a ≡ f b) × (S a b ≢ Greater) × (S b c ≢ Greater)

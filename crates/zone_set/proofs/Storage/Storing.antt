@@ -1,5 +1,6 @@
 -- A record is read back from the octets that keep it, and stays where more are appended.
-use Rattle.zone_set.proofs.Common.{AllByRecursion, Entry, IsEntry, IsHint, IsLinked, IsRecord, IsStored, List, Record, [], all_records, ap, append-nil, append_assoc, arith, common_steps, drop, drop-append-le, drop_at, entry_record, from_be_bytes-to_be_bytes_2, from_be_bytes-to_be_bytes_4, labels_of-wire, length, read_record, record_from, refl, stored, sym, take_at, ℕ, ◌++◌, ◌<◌, ◌∙◌, ◌∷◌, ◌≡◌}
+use Rattle.zone_set.proofs.Common.{AllByRecursion, AllByRecursion-append, AllByRecursion-back, AllByRecursion-front, map, Entry, IsEntry, IsHint, IsLinked, IsRecord, IsStored, List, Record, [], all_records, ap, append-nil, append_assoc, arith, common_steps, drop, drop-append-le, drop_at, entry_record, from_be_bytes-to_be_bytes_2, from_be_bytes-to_be_bytes_4, labels_of-wire, length, read_record, record_from, refl, stored, sym, take_at, ℕ, ◌++◌, ◌<◌, ◌∙◌, ◌∷◌, ◌≡◌}
+use Rattle.zone_rdata.proofs.Lists.{each_weaker}
 
 -- the record whose octets these begin with
 pub read_stored : (r : Record) (after : List ℕ) → IsRecord r → read_record r.class (stored r ++ after) ≡ r
@@ -25,8 +26,7 @@ module _ (class : ℕ) (octets more : List ℕ) where
     entry_kept e entry = grind (arith, linked_kept e entry.linked, record_kept e entry.linked)
 
     pub each_kept : (es : List Entry) → AllByRecursion (IsEntry base class octets) es → AllByRecursion (IsEntry base class (octets ++ more)) es
-    each_kept [] each = tt
-    each_kept (e ∷ es) each = (entry_kept e each.0, each_kept es each.1)
+    each_kept = each_weaker (IsEntry base class (octets ++ more)) entry_kept
 
     pub records_kept : (es : List Entry) → AllByRecursion (IsEntry base class octets) es → all_records class (octets ++ more) es ≡ all_records class octets es
     records_kept [] each = refl
@@ -46,9 +46,9 @@ module _ (octets : List ℕ) (r : Record) (whole : IsRecord r) (e : Entry) (at :
   entry_appended base hinted = grind (arith, ending, record_appended)
 
 pub all_with : {X : Type 0} (P : X → Type 0) (before after : List X) (x : X) → AllByRecursion P (before ++ after) → P x → AllByRecursion P (before ++ x ∷ after)
-all_with P [] after x each one = (one, each)
-all_with P (y ∷ before) after x each one = (each.0, all_with P before after x each.1 one)
+all_with P before after x each one = grind (arith, AllByRecursion-front, AllByRecursion-back, AllByRecursion-append)
 
-pub each_linked : (base : List (List ℕ)) (class : ℕ) (octets : List ℕ) (es : List Entry) → AllByRecursion (IsEntry base class octets) es → AllByRecursion (IsLinked class octets) es
-each_linked base class octets [] each = tt
-each_linked base class octets (e ∷ es) each = (each.0.linked, each_linked base class octets es each.1)
+-- what holds of each element, of what is made of it
+pub each_map : {X Y : Type 0} {P : X → Type 0} (Q : Y → Type 0) (f : X → Y) → ((x : X) → P x → Q (f x)) → (xs : List X) → AllByRecursion P xs → AllByRecursion Q (map f xs)
+each_map Q f tells [] each = tt
+each_map Q f tells (x ∷ xs) each = (tells x each.0, each_map Q f tells xs each.1)

@@ -1,15 +1,14 @@
 -- Entries that were sorted at once: what their neighbours have to show.
-use Rattle.std.specs.Prelude.{◌≡◌, ℕ, ◌+◌, ◌==◌, Bool, false, if◌then◌else◌, List, [], ◌∷◌, ⊤, map, flat_map, take, drop, slice_index, bytes_eq}
+use Rattle.std.specs.Prelude.{◌≡◌, ℕ, ◌+◌, ◌==◌, Bool, false, if◌then◌else◌, List, [], ◌∷◌, ⊤, length, take, drop, slice_index, bytes_eq}
 use Rattle.std.specs.Int.{from_be_bytes, w16}
 use Rattle.std.specs.declared.cmp.Ordering.TheVariants.{Less}
 use Rattle.std.specs.List.{AllByRecursion}
-use Rattle.zone_rdata.specs.Record.{Record, IsRecord}
+use Rattle.zone_rdata.specs.Record.{Record}
 use Rattle.zone_rdata.specs.declared.fault.Place.{Place}
 use Rattle.zone_rdata.specs.declared.record.Placed.{Placed}
 use Rattle.zone_set.specs.Builder.{AreTwoSoas}
-use Rattle.zone_set.specs.Machine.Held.{all_records, entry_record, HasOtherTtl, IsEntry}
-use Rattle.zone_set.specs.Machine.Stored.{stored}
-use Rattle.zone_set.specs.Refusal.{records_of}
+use Rattle.zone_set.specs.Machine.Held.{all_records, HasOtherTtl, IsEntry}
+use Rattle.zone_set.specs.Machine.Stored.{AreKept}
 use Rattle.zone_set.specs.Order.{canonical_cmp}
 use Rattle.zone_set.specs.declared.entry.Entry.{Entry}
 
@@ -42,24 +41,20 @@ is_repeat octets a b =
 abbrev pub with_hint : ℕ → Entry → Entry
 with_hint hint e = record { hint = hint; at = e.at }
 
--- octets that keep these records one after another, all of one class, and their places
-pub record IsRow (class : ℕ) (octets : List ℕ) (places : List Place)
-    (placed : List Placed) : Type 0 where
-  pub classes : AllByRecursion (λ p. p.rr.class ≡ class) placed
-  pub whole : AllByRecursion (λ p. IsRecord p.rr) placed
-  pub kept : octets ≡ flat_map (λ p. stored p.rr) placed
-  pub stand : places ≡ map (λ p. p.place) placed
+-- records, each at its place
+abbrev pub placed_at : List Record → List Place → List Placed
+placed_at [] places = []
+placed_at (r ∷ records) [] = []
+placed_at (r ∷ records) (place ∷ places) =
+    record { rr = r; place = place } ∷ placed_at records places
 
 -- entries and places as the records that came
 abbrev pub listed : ℕ → List ℕ → List Entry → List Place → List Placed
-listed class octets [] places = []
-listed class octets (e ∷ entries) [] = []
-listed class octets (e ∷ entries) (place ∷ places) =
-    record { rr = entry_record class octets e; place = place } ∷ listed class octets entries places
+listed class octets entries places = placed_at (all_records class octets entries) places
 
--- what a list of records keeps: each entry's record stands in its turn
+-- what a list of records keeps: each entry's record in its turn, and a place for each
 pub record KeepsList (class : ℕ) (base : List (List ℕ)) (octets : List ℕ) (entries : List Entry)
     (places : List Place) : Type 0 where
   pub each : AllByRecursion (IsEntry base class octets) entries
-  pub row : IsRow class octets places (listed class octets entries places)
-  pub all : records_of (listed class octets entries places) ≡ all_records class octets entries
+  pub kept : AreKept class octets (all_records class octets entries)
+  pub count : length places ≡ length entries

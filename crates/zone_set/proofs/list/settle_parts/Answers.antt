@@ -1,16 +1,13 @@
-use Rattle.zone_set.proofs.Common.{AllByRecursion, AreKept, IsEntry, IsPermutation-map, KeepsList, all_records, arith, entry_record, eqb-true, err_from_is_err_and, length, listed, refl, subst, sym, ◌∙◌, ◌≡◌}
-use Rattle.zone_set.proofs.Lists.Listing.{IsSettledAs-sorted}
-use Rattle.zone_set.proofs.Storage.Kept.{row_kept}
-use Rattle.zone_set.proofs.Storage.MessageLens.{len_of_moved}
-use Rattle.zone_set.specs.ZoneList.{IsSettledAs, memory}
+use Rattle.zone_set.proofs.Common.{AllByRecursion, IsEntry, arith, eqb-true, err_from_is_err_and, refl, subst}
+use Rattle.zone_set.proofs.Lists.Listing.{alone_kept, IsSettledAs-sorted}
+use Rattle.zone_set.specs.ZoneList.{memory}
 use Rattle.zone_set.proofs.list.settle_parts.Goals as goal
 
 pub len_of_entries-message_len-requires : goal.len_of_entries-message_len-requires
 len_of_entries-message_len-requires g c = (
   rw (c.as_slice-then-settle.ensures.value, c.as_slice-then-settle-2.ensures.value) (rw c.as_slice.ensures.value at c.settle.ensures.each),
-  rw (c.as_slice-then-settle.ensures.value, c.as_slice-then-settle-2.ensures.value) (λ same.
-      let count : length c.settle.new.entries.items ≡ length c.args.entries.items = omega (arith, same ∙ c.len-listed.ensures, c.args.entries.ok) in
-      len_of_moved c.args.class c.args.base c.args.octets.items c.args.entries.items c.settle.new.entries.items c.args.places c.requires.1.1 (c.settle.ensures.whole count) count),
+  rw (c.as_slice-then-settle.ensures.value, c.as_slice-then-settle-2.ensures.value) (λ all.
+      alone_kept _ _ _ c.requires.1.1 (c.settle.ensures.whole (omega (arith, eqb-true _ _ all, c.len.ensures, c.len-listed.ensures, c.args.entries.ok, c.settle.new.entries.ok)))),
 )
 
 pub of_sorted-requires : goal.of_sorted-requires
@@ -20,13 +17,7 @@ of_sorted-requires g c = record {
     compatible = rw c.as_slice.ensures.value at (c.if-settle.ensures.compatible refl);
   };
   counts = rw (c.as_slice-then-settle.ensures.value, c.as_slice-then-settle-2.ensures.value) at c.len_of_entries-message_len.ensures;
-  kept = λ all.
-      let keeps : KeepsList c.args.class c.args.base c.args.octets.items c.args.entries.items c.args.places = c.requires.1.1 in
-      let count : length c.settle.new.entries.items ≡ length c.args.entries.items = omega (arith, eqb-true _ _ all, c.len.ensures, c.len-listed.ensures, c.args.entries.ok, c.settle.new.entries.ok) in (
-        all_records c.args.class c.args.octets.items c.args.entries.items,
-        subst (AreKept c.args.class c.args.octets.items) keeps.all (row_kept _ _ _ _ keeps.row),
-        IsPermutation-map (entry_record c.args.class c.args.octets.items) _ _ (c.settle.ensures.whole count),
-      );
+  kept = λ all. alone_kept _ _ _ c.requires.1.1 (c.settle.ensures.whole (omega (arith, eqb-true _ _ all, c.len.ensures, c.len-listed.ensures, c.args.entries.ok, c.settle.new.entries.ok)));
 }
 
 pub returns-in_err-sets-clause-refused : goal.returns-in_err-sets-clause-refused
@@ -36,7 +27,5 @@ returns-in_err-sets-clause-refused g c =
 
 pub returns-then-settle-clause-taken : goal.returns-then-settle-clause-taken
 returns-then-settle-clause-taken g c =
-    let known : g.known.1 ≡ listed c.args.class c.args.octets.items c.args.entries.items c.args.places = c.requires.1.0 in
-    let keeps : KeepsList c.args.class c.args.base c.args.octets.items c.args.entries.items c.args.places = c.requires.1.1 in
-    subst (λ placed. IsSettledAs placed c.in_ok-sets.sets) (sym known) (IsSettledAs-sorted c.args.class c.args.base c.args.octets.items c.args.entries.items c.settle.new.entries.items c.args.places c.in_ok-sets.sets keeps
+    rw c.requires.1.0 (IsSettledAs-sorted c.args.class c.args.base c.args.octets.items c.args.entries.items c.settle.new.entries.items c.args.places c.in_ok-sets.sets c.requires.1.1
     (rw c.as_slice.ensures.value at c.settle.ensures.same) (rw c.as_slice.ensures.value at (c.if-settle.ensures.compatible refl)) c.in_ok-sets.ensures)

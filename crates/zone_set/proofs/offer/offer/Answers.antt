@@ -1,39 +1,30 @@
-use Rattle.zone_set.proofs.Common.{IsRow, err_from_is_err_and, record_of, subst, sym, ◌∙◌}
-use Rattle.zone_set.proofs.Lists.Offering.{first, stored_first, whole_first, HasOffered, HasOffered-start, HasOffered-more, StopsSettling-now, IsSettledAs-at_end}
+use Rattle.zone_set.proofs.Common.{[], AllByRecursion, IsRecord, Placed, err_from_is_err_and, inl, inr, placed_at, record_of, ⊎_elim}
+use Rattle.zone_set.proofs.Lists.ListPush.{each_placed}
+use Rattle.zone_set.proofs.Lists.Offering.{HasOffered-more, StopsSettling-now, IsSettledAs-at_end}
 use Rattle.zone_set.proofs.offer.offer.Goals as goal
 
-pub loop-place-init : goal.loop-place-init
-loop-place-init g c = record {
-  can_next = tt;
+pub loop-rr-init : goal.loop-rr-init
+loop-rr-init g c =
+    let kept = c.new.ensures g.records c.requires in
+    record {
+      can_next = (tt, tt);
+      is_finite = tt;
+      offered = record { taken = []; parts = cc; each = c.new-builder.ensures };
+    }
+
+pub loop-rr-preserved : goal.loop-rr-preserved
+loop-rr-preserved g c = record {
+  can_next = (tt, tt);
   is_finite = tt;
-  offered = rw c.new-builder.ensures (HasOffered-start c.args.class c.args.octets.now _ g.placed (subst (λ ps. IsRow c.args.class c.args.octets.now ps g.placed) (sym (c.into_iter-place-iterator.ensures.into_iter_gives ∙ c.iter-place-items.ensures)) c.requires));
+  offered = HasOffered-more _ _ (record_of c.in-Some.rr) c.in-Some.place _ _ (rw (c.in-Some.ensures.steps.0, c.in-Some.ensures.steps.1) at c.loop-rr.invariant.offered) _ c.in_ok-hold.ensures.accepted c.in_ok-hold.ensures.taken;
 }
-
-pub record_at-requires-clause-stands : goal.record_at-requires-clause-stands
-record_at-requires-clause-stands g c =
-    let had = subst (HasOffered c.args.class g.placed c.loop-place.builder c.loop-place.left.now) c.in-Some.ensures.steps c.loop-place.invariant.offered in
-    stored_first (first c.args.class c.loop-place.left.now c.in-Some.place _ had.left had.row)
-
-pub record_at-requires-clause-whole : goal.record_at-requires-clause-whole
-record_at-requires-clause-whole g c =
-    let had = subst (HasOffered c.args.class g.placed c.loop-place.builder c.loop-place.left.now) c.in-Some.ensures.steps c.loop-place.invariant.offered in
-    whole_first (first c.args.class c.loop-place.left.now c.in-Some.place _ had.left had.row)
 
 pub returns-in_err-hold-clause-refused : goal.returns-in_err-hold-clause-refused
 returns-in_err-hold-clause-refused g c =
-    let had = subst (HasOffered c.args.class g.placed c.loop-place.builder c.loop-place.left.now) c.in-Some.ensures.steps c.loop-place.invariant.offered in
     let told = err_from_is_err_and c.from_residual.result c.from_residual.ensures.1 in
-    rw (told.1, told.2) (StopsSettling-now c.args.class g.placed c.loop-place.builder c.loop-place.left.now c.in-Some.place _ had (record_of c.record_at.result) _ c.record_at.ensures c.in_err-hold.ensures.refused)
-
-pub loop-place-preserved : goal.loop-place-preserved
-loop-place-preserved g c =
-    let had = subst (HasOffered c.args.class g.placed c.loop-place.builder c.loop-place.left.now) c.in-Some.ensures.steps c.loop-place.invariant.offered in
-    record {
-      can_next = tt;
-      is_finite = tt;
-      offered = HasOffered-more c.args.class g.placed c.loop-place.builder c.loop-place.left.now c.in-Some.place _ had (record_of c.record_at.result) _ c.after_first-left.result.now
-          c.record_at.ensures c.after_first-left.ensures c.in_ok-hold.ensures.accepted c.in_ok-hold.ensures.taken;
-    }
+    let whole : AllByRecursion (λ (p : Placed). IsRecord p.rr) (placed_at g.records c.args.places.now) = each_placed IsRecord g.records c.args.places.now c.requires.whole in
+    rw (told.1, told.2) (StopsSettling-now _ _ (record_of c.in-Some.rr) c.in-Some.place _ _ (rw (c.in-Some.ensures.steps.0, c.in-Some.ensures.steps.1) at c.loop-rr.invariant.offered) whole _ c.in_err-hold.ensures.refused)
 
 pub returns-clause-taken : goal.returns-clause-taken
-returns-clause-taken g c = IsSettledAs-at_end c.args.class g.placed c.loop-place.builder c.loop-place.left.now _ c.loop-place.invariant.offered c.in-None.ensures.steps.0
+returns-clause-taken g c =
+    IsSettledAs-at_end _ _ _ _ (each_placed IsRecord g.records c.args.places.now c.requires.whole) c.loop-rr.invariant.offered (⊎_elim (λ none. inl none.1.0) (λ none. inr none.1.0) c.in-None.ensures.steps)

@@ -1,10 +1,12 @@
+use Rattle.std.specs.Iterator.Adapters.{zip_first, zip_second}
+use Rattle.zone_set.proofs.Common.{placed_at}
 use Rattle.zone_set.proofs.Lists.Offering.{HasOffered}
 use Rattle.zone_set.proofs.offer.offer.Given as goal
 
--- some first records were added, and the octets and places of the others are left
-abbrev pub invariant-loop-place : goal.invariant-loop-place
-invariant-loop-place g l = record {
-  can_next : (goal.iterator-loop-place g).can_next l.place-iterator;
-  is_finite : (goal.iterator-loop-place g).is_finite l.place-iterator;
-  offered : HasOffered l.class g.placed l.builder l.left l.place-iterator;
+-- some first records were added, and the others are left with their places
+abbrev pub invariant-loop-rr : goal.invariant-loop-rr
+invariant-loop-rr g l = record {
+  can_next : (goal.iterator-loop-rr g).can_next l.rr-iterator;
+  is_finite : (goal.iterator-loop-rr g).is_finite l.rr-iterator;
+  offered : HasOffered (placed_at g.records l.places) l.builder (zip_first l.rr-iterator) (zip_second l.rr-iterator);
 }

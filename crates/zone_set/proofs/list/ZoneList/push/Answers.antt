@@ -34,7 +34,7 @@ invariant_of-self-2 c =
     let r : Record = record_of c.args.rr.now in
     let keeps : KeepsList r.class c.first_decides.new.base (octs p) (es p) (ps p) = subst (λ k. KeepsList k c.first_decides.new.base (octs p) (es p) (ps p)) d.own d.keeps in
     rw (c.in_ok-at.ensures.kept, c.in_ok-at.ensures.stands, c.push_reserved.ensures.items, c.reserve.ensures.items, d.own)
-    (KeepsList-more r c.requires.whole c.first_decides.new.base (octs p) (es p) (ps p) e c.args.place keeps c.in_ok-at.ensures.«at» c.hint_of-hint.ensures)
+    (KeepsList-more r c.requires.whole e c.args.place keeps c.in_ok-at.ensures.«at» c.hint_of-hint.ensures)
 
 pub returns-clause-taken : goal.returns-clause-taken
 returns-clause-taken c =
@@ -46,4 +46,4 @@ returns-clause-taken c =
     let keeps : KeepsList r.class c.first_decides.new.base (octs p) (es p) (ps p) = subst (λ k. KeepsList k c.first_decides.new.base (octs p) (es p) (ps p)) d.own d.keeps in
     let was : listed r.class (octs p) (es p) (ps p) ≡ c.args.self.now = ap (λ k. listed k (octs p) (es p) (ps p)) (sym d.own) ∙ d.same ∙ c.self.view_is in
     rw (c.in_ok-at.ensures.kept, c.in_ok-at.ensures.stands, c.push_reserved.ensures.items, c.reserve.ensures.items, d.own)
-    (listed_more r c.requires.whole c.first_decides.new.base (octs p) (es p) (ps p) e c.args.place keeps c.in_ok-at.ensures.«at» c.hint_of-hint.ensures ∙ ap (λ l. l ++ one ∷ []) was)
+    (listed_more r c.requires.whole e c.args.place keeps c.in_ok-at.ensures.«at» c.hint_of-hint.ensures ∙ ap (λ l. l ++ one ∷ []) was)

@@ -7,7 +7,7 @@ loop-placed-init g c = (HasTaken-start _ _ (sym (append-nil _)), refl)
 
 pub loop-placed-preserved : goal.loop-placed-preserved
 loop-placed-preserved g c = (
-  HasTaken-more _ _ _ c.loop-placed.invariant.0 _ (placed_of c.in-Some.placed) _ (lent_first _ _ _ _ (ap (option_map placed_of) (sym c.in-Some.is) ∙ c.first.ensures)) c.skip.ensures.left
+  HasTaken-more _ _ _ c.loop-placed.invariant.0 _ (placed_of c.in-Some.placed) _ (lent_first _ _ (ap (option_map placed_of) (sym c.in-Some.is) ∙ c.first.ensures)) c.skip.ensures.left
       (λ taken is. listed_push _ _ _ taken (placed_of c.in-Some.placed) is (c.in_ok-listed.ensures.taken c.if-not-branch.false)),
   c.skip.ensures.beside ∙ c.loop-placed.invariant.1,
 )
@@ -15,12 +15,12 @@ loop-placed-preserved g c = (
 pub returns-in_err-listed-clause-stopped : goal.returns-in_err-listed-clause-stopped
 returns-in_err-listed-clause-stopped g c =
     let told = err_from_is_err_and c.from_residual.result c.from_residual.ensures.1 in
-    rw (told.1, told.2) (StopsListing-memory _ _ _ _ c.loop-placed.invariant.0 (placed_of c.in-Some.placed) _ _ (lent_first _ _ _ _ (ap (option_map placed_of) (sym c.in-Some.is) ∙ c.first.ensures)) c.skip.ensures.left c.in_err-listed.ensures.unchanged)
+    rw (told.1, told.2) (StopsListing-memory _ _ _ _ c.loop-placed.invariant.0 (placed_of c.in-Some.placed) _ _ (lent_first _ _ (ap (option_map placed_of) (sym c.in-Some.is) ∙ c.first.ensures)) c.skip.ensures.left c.in_err-listed.ensures.unchanged)
 
 pub returns-then-not-branch-clause-stopped : goal.returns-then-not-branch-clause-stopped
 returns-then-not-branch-clause-stopped g c =
     let refused = c.in_ok-listed.ensures.refused c.if-not-branch.true in
-    StopsListing-class _ _ _ _ c.loop-placed.invariant.0 (placed_of c.in-Some.placed) _ _ (lent_first _ _ _ _ (ap (option_map placed_of) (sym c.in-Some.is) ∙ c.first.ensures)) c.skip.ensures.left refused.1 refused.0
+    StopsListing-class _ _ _ _ c.loop-placed.invariant.0 (placed_of c.in-Some.placed) _ _ (lent_first _ _ (ap (option_map placed_of) (sym c.in-Some.is) ∙ c.first.ensures)) c.skip.ensures.left refused.1 refused.0
 
 pub returns-in_err-next-clause-stopped : goal.returns-in_err-next-clause-stopped
 returns-in_err-next-clause-stopped g c =
