@@ -1,5 +1,5 @@
 -- Resource records (RFC 1035 3.2.1) as contracts see them.
-use Rattle.std.specs.Prelude.{ℕ, ◌≤◌, List}
+use Rattle.std.specs.Prelude.{ℕ, ◌≤◌, List, []}
 use Rattle.zone_name.specs.Common.{Labels}
 use Rattle.zone_name.specs.Name.{IsName}
 use Rattle.zone_rdata.specs.Words.{IsClass, IsKind}
@@ -12,6 +12,10 @@ pub record Data : Type 0 where
   pub class : ℕ
   pub kind : ℕ
   pub octets : List ℕ
+
+-- no octets, in class IN (1) and of the type NULL (10), which may have any (RFC 1035 3.3.10)
+abbrev pub empty_data : Data
+empty_data = record { class = 1; kind = 10; octets = [] }
 
 -- data that records can have
 pub record IsRdata (d : Data) : Type 0 where

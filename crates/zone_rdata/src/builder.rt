@@ -11,6 +11,7 @@ use crate::class::Class;
 use crate::fault::{Failing, Fault};
 use crate::kind::Kind;
 use crate::layout::{Layout, layout_of};
+use crate::lent::RdataRef;
 use crate::narrow_failing::NarrowFailing;
 use crate::rdata::{LONGEST_DATA, Rdata};
 use crate::string::{LONGEST_STRING, push_with_length};
@@ -70,23 +71,23 @@ impl RdataBuilder {
     pub fn new(alloc: Global, class: Class, kind: Kind) -> RdataBuilder
         ensures { result ≡ record { class = class; kind = kind; parts = [] } }
     {
-        RdataBuilder::in_buffer(Vec::new(alloc), class, kind)
-    }
-
-    /// Data of a class and type, without a part yet, in the memory of a buffer. The octets of the
-    /// buffer go.
-    pub fn in_buffer(buffer: Vec<u8>, class: Class, kind: Kind) -> RdataBuilder
-        ensures { result ≡ record { class = class; kind = kind; parts = [] } }
-    {
-        let mut octets = buffer;
-        octets.clear();
+        let fields = layout_of(class, kind);
         RdataBuilder {
             class,
             kind,
-            fields: layout_of(class, kind),
+            fields,
             count: 0,
-            octets,
+            octets: Vec::new(alloc),
         }
+    }
+
+    /// Begins anew with a class and type: the parts go, and their memory stays.
+    pub fn restart(&mut self, class: Class, kind: Kind)
+        ensures { self.new ≡ record { class = class; kind = kind; parts = [] } }
+    {
+        (self.class, self.kind) = (class, kind);
+        (self.fields, self.count) = (layout_of(class, kind), 0);
+        self.octets.clear();
     }
 
     /// Pushes an address, or the octets of opaque data. On an error the builder is unchanged.
@@ -202,26 +203,29 @@ impl RdataBuilder {
             × (IsWhole (layout self.class self.kind) self.parts → ⊥)) }
     {
         match self.whole() {
-            Some(rdata) => Ok(rdata),
-            None => Err(Fault::BadRdata),
+            Some(data) => data.known(),
+            None => return Err(Fault::BadRdata),
         }
+        Ok(Rdata::of_octets(self.class, self.kind, self.octets))
     }
 
-    /// The data of the parts that were pushed. `None`: a part is missing.
-    pub fn whole(self) -> Option<Rdata>
-        ensures whole { IfSome result (λ _. IsWhole (layout self.class self.kind) self.parts) }
+    /// The data of the parts that were pushed, borrowed. `None`: a part is missing.
+    pub fn whole(&self) -> Option<RdataRef<'_>>
+        ensures whole { IfSome result (λ _.
+            IsWhole (layout self.now.class self.now.kind) self.now.parts) }
         ensures some { IfSome result (λ d. d ≡ record {
-          class = self.class;
-          kind = self.kind;
-          octets = octets_of self.parts;
+          class = self.now.class;
+          kind = self.now.kind;
+          octets = octets_of self.now.parts;
         }) }
-        ensures none { IfNone result (IsWhole (layout self.class self.kind) self.parts → ⊥) }
+        ensures none { IfNone result
+            (IsWhole (layout self.now.class self.now.kind) self.now.parts → ⊥) }
     {
         if self.count < least_parts(self.fields) {
             return None;
         }
         are_octets(&self.octets);
-        Some(Rdata::of_octets(self.class, self.kind, self.octets))
+        Some(RdataRef::of_octets(self.class, self.kind, &self.octets))
     }
 }
 

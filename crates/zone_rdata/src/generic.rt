@@ -15,25 +15,24 @@ use crate::narrow_failing::NarrowFailing;
 use crate::number::decimal_of;
 use crate::rdata::LONGEST_DATA;
 use hex::decode_to_slice;
-use std::alloc::Global;
 
-/// The octets that items state in the generic form: `\#`, their number, and their hexadecimal
-/// digits (RFC 3597 5).
+/// Reads the octets that items state in the generic form: `\#`, their number, and their hexadecimal
+/// digits (RFC 3597 5). They come in the place of those of before.
 ///
 /// # Errors
 ///
 /// The first of: `BadGeneric` for a length that is missing or no decimal number, `RdataTooLong` for
 /// one over 65,535, and `BadGeneric` for digits that aren't those of so many octets; and `Memory`
 /// where memory is refused.
-pub(crate) fn octets_of_generic(alloc: Global, items: &[Item]) -> Result<Vec<u8>, NarrowFailing>
+pub(crate) fn read_generic(items: &[Item], octets: &mut Vec<u8>) -> Result<(), NarrowFailing>
     requires { IsGeneric (map raw items.now) }
-    ensures found { IfOk result (λ octets. StatesGeneric (map raw items.now) octets.items) }
+    ensures found { OnOk result (StatesGeneric (map raw items.now) octets.new.items) }
     ensures fault { IfErr result (IfFault (GenericFault (map raw items.now))) }
 {
     match items {
         [_, first, digits @ ..] => {
             let len = length_of(*first)?;
-            octets_of_digits(alloc, digits, len)
+            read_digits(digits, len, octets)
         }
         _ => Err(NarrowFailing::of(Cause::BadGeneric)),
     }
@@ -55,15 +54,16 @@ fn length_of(item: Item) -> Result<usize, Cause>
     }
 }
 
-/// The octets that the items' digits join to, which are so many.
-fn octets_of_digits(alloc: Global, items: &[Item], len: usize) -> Result<Vec<u8>, NarrowFailing>
+/// Reads the octets that the items' digits join to, which are so many.
+fn read_digits(items: &[Item], len: usize, octets: &mut Vec<u8>) -> Result<(), NarrowFailing>
     requires { len ≤ LONGEST_DATA }
-    ensures found { IfOk result (λ octets. JoinTo (map raw items.now) octets.items) }
-    ensures count { IfOk result (λ octets. length octets.items ≡ len) }
+    ensures found { OnOk result (JoinTo (map raw items.now) octets.new.items) }
+    ensures count { OnOk result (length octets.new.items ≡ len) }
     ensures fault { IfErr result (IfFault (λ f. (f ≡ Fault.BadGeneric)
         × ((octets : Octets) → JoinTo (map raw items.now) octets → length octets ≢ len))) }
 {
-    let mut octets = Vec::with_capacity(alloc, len)?;
+    octets.clear();
+    octets.reserve(len)?;
     for item in items {
         let Item::Bare(text) = *item else {
             return Err(NarrowFailing::of(Cause::BadGeneric));
@@ -71,12 +71,12 @@ fn octets_of_digits(alloc: Global, items: &[Item], len: usize) -> Result<Vec<u8>
         if text.len() / 2 > len - octets.len() {
             return Err(NarrowFailing::of(Cause::BadGeneric));
         }
-        push_digits(text, &mut octets)?;
+        push_digits(text, octets)?;
     }
     if octets.len() < len {
         return Err(NarrowFailing::of(Cause::BadGeneric));
     }
-    Ok(octets)
+    Ok(())
 }
 
 /// Appends the octets that hexadecimal digits stand for.

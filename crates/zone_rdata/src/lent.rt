@@ -1,4 +1,4 @@
-ghost use Rattle.std.specs.Prelude.{◌≡◌, ◌≤◌, OnOk, OnErr};
+ghost use Rattle.std.specs.Prelude.{◌≡◌, ◌≤◌, IfOk, OnOk, OnErr};
 ghost use Rattle.zone_name.specs.Sink.{TakesSome};
 ghost use Rattle.zone_rdata.specs.Record.{Data, IsRdata};
 ghost use Rattle.zone_rdata.specs.Text.{data_text};
@@ -8,6 +8,8 @@ use crate::fault::Place;
 use crate::kind::Kind;
 use crate::layout::layout_of;
 use crate::printing::push_data;
+use crate::rdata::Rdata;
+use std::alloc::{AllocError, Global};
 use std::marker::Model;
 use zone_name::{NameRef, Sink};
 
@@ -44,11 +46,38 @@ impl<'a> RdataRef<'a> {
         }
     }
 
+    /// The class in which the data has its meaning.
+    pub(crate) fn class(&self) -> Class
+        ensures { result ≡ self.now.class }
+    {
+        self.class
+    }
+
+    /// The type of the data.
+    pub(crate) fn kind(&self) -> Kind
+        ensures { result ≡ self.now.kind }
+    {
+        self.kind
+    }
+
     /// The canonical octets, at most 65,535: names uncompressed and in lower case.
     pub fn octets(&self) -> &'a [u8]
         ensures { result.now ≡ self.now.octets }
     {
         self.octets
+    }
+
+    /// The same data, which owns its octets.
+    ///
+    /// # Errors
+    ///
+    /// `AllocError` where memory is refused.
+    pub fn to_rdata(&self, alloc: Global) -> Result<Rdata, AllocError>
+        ensures { IfOk result (λ d. d ≡ self.now) }
+    {
+        let mut data = Rdata::empty(alloc);
+        data.copy_from(self)?;
+        Ok(data)
     }
 
     /// Does nothing, and tells contracts what holds of all data.

@@ -5,9 +5,8 @@ ghost use Rattle.zone_rdata.specs.Record.{IsRecord, record_with};
 ghost use Rattle.zone_rdata.specs.RrSource.{first_record, others};
 
 use crate::fault::{Failing, Fault, Place, Stop};
-use crate::lent::PlacedRef;
+use crate::lent::{PlacedRef, RdataRef};
 use crate::narrow_failing::NarrowFailing;
-use crate::rdata::Rdata;
 use crate::record::{MAX_TTL, Placed, Rr};
 use crate::rr_source::{LendingSource, Reading, RrSource, record_or_ending};
 use std::alloc::{AllocError, Global};
@@ -66,20 +65,20 @@ impl RecordQueue {
         &mut self,
         owner: &NameRef<'_>,
         ttl: u32,
-        rdata: Rdata,
+        rdata: &RdataRef<'_>,
         place: Place,
     ) -> Result<(), AllocError>
         requires { ttl ≤ MAX_TTL }
         ensures appended { OnOk result (self.new
-            ≡ self.old ++ placed_with owner.now ttl rdata place ∷ []) }
-        ensures record { IsRecord (record_with owner.now ttl rdata) }
+            ≡ self.old ++ placed_with owner.now ttl rdata.now place ∷ []) }
+        ensures record { IsRecord (record_with owner.now ttl rdata.now) }
         ensures unchanged { OnErr result (self.new ≡ self.old) }
     {
         let _ = owner.wire();
         rdata.known();
         self.turn();
         match self.slots.get_mut(self.end) {
-            Some(slot) => slot.set(owner, ttl, rdata, place),
+            Some(slot) => slot.set(owner, ttl, rdata, place)?,
             None => push_slot(&mut self.slots, owner, ttl, rdata, place)?,
         }
         self.end += 1;
@@ -136,18 +135,6 @@ impl RecordQueue {
         self.slots.pop_front()
     }
 
-    /// Memory for the data of a record to come, with any octets in it: that of data that was
-    /// dropped, if some is kept.
-    pub fn buffer(&mut self, alloc: Global) -> Vec<u8>
-        ensures { self.new ≡ self.old }
-    {
-        self.turn();
-        match self.slots.get_mut(self.end) {
-            Some(slot) => slot.rr.take_octets(),
-            None => Vec::new(alloc),
-        }
-    }
-
     /// The records.
     pub fn into_placed(self) -> VecDeque<Placed>
         ensures { result.items ≡ self }
@@ -175,15 +162,16 @@ fn push_slot(
     slots: &mut VecDeque<Placed>,
     owner: &NameRef<'_>,
     ttl: u32,
-    rdata: Rdata,
+    rdata: &RdataRef<'_>,
     place: Place,
 ) -> Result<(), AllocError>
     requires { ttl ≤ MAX_TTL }
     ensures appended { OnOk result (slots.new.items
-        ≡ slots.old.items ++ placed_with owner.now ttl rdata place ∷ []) }
+        ≡ slots.old.items ++ placed_with owner.now ttl rdata.now place ∷ []) }
     ensures unchanged { OnErr result (slots.new.items ≡ slots.old.items) }
 {
-    let rr = Rr::of_parts(owner.to_name(), ttl, rdata);
+    let data = rdata.to_rdata(*slots.allocator())?;
+    let rr = Rr::of_parts(owner.to_name(), ttl, data);
     slots.push_back(Placed { rr, place })?;
     Ok(())
 }

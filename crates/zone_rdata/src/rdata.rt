@@ -1,4 +1,4 @@
-ghost use Rattle.std.specs.Prelude.{◌≡◌, [], ◌++◌, map, IfOk, IfErr, IfSome, OnOk, OnErr, option_map};
+ghost use Rattle.std.specs.Prelude.{◌≡◌, ◌++◌, map, IfOk, IfErr, IfSome, OnOk, OnErr, option_map};
 ghost use Rattle.zone_name.specs.Common.{Octets};
 ghost use Rattle.zone_name.specs.Sink.{TakesSome};
 ghost use Rattle.zone_rdata.specs.DataFault.{IsDataFault, IsFaultFor, IsGenericDataFault};
@@ -6,7 +6,7 @@ ghost use Rattle.zone_rdata.specs.Fault.{IfFault};
 ghost use Rattle.zone_rdata.specs.Item.{IsGeneric, raw};
 ghost use Rattle.zone_rdata.specs.Layout.{StringsLast, fields_of, layout};
 ghost use Rattle.zone_rdata.specs.Minimum.{minimum};
-ghost use Rattle.zone_rdata.specs.Record.{Data, IsRdata};
+ghost use Rattle.zone_rdata.specs.Record.{Data, IsRdata, empty_data};
 ghost use Rattle.zone_rdata.specs.Spelling.{States, StatesFor, StatesInForm};
 ghost use Rattle.zone_rdata.specs.Text.{data_text};
 ghost use Rattle.zone_rdata.specs.Wire.{IsWireData, IsWireFault};
@@ -14,19 +14,19 @@ ghost use Rattle.zone_rdata.specs.Wire.{IsWireData, IsWireFault};
 use crate::cause::Cause;
 use crate::class::Class;
 use crate::fault::{Failing, Fault};
-use crate::generic::octets_of_generic;
+use crate::generic::read_generic;
 use crate::item::Item;
 use crate::kind::Kind;
 use crate::laws::items::{data_is_unique, faulty_items_state_none};
 use crate::layout::{Layout, layout_of};
+use crate::lent::RdataRef;
 use crate::minimum::last_number_of;
 use crate::narrow_failing::NarrowFailing;
 use crate::printing::push_data;
-use crate::reading::{is_generic, octets_of_items};
+use crate::reading::{is_generic, read_words};
 use crate::uncompressed::{canonical_for, canonical_of};
 use std::alloc::{AllocError, Global};
 use std::marker::Model;
-use std::mem;
 use zone_name::laws::are_octets;
 use zone_name::{Name, Sink};
 
@@ -56,50 +56,58 @@ impl Model for Rdata {
         IsRdata (record { class = d.class; kind = d.kind; octets = d.octets.items }) };
 }
 
-/// The canonical octets that items in the generic form state for a layout.
-fn octets_in_form(
-    alloc: Global,
+/// Reads the canonical octets that items in the generic form state for a layout. They come in the
+/// place of those of before.
+fn read_in_form(
     layout: Option<Layout>,
     items: &[Item],
-) -> Result<Vec<u8>, NarrowFailing>
+    octets: &mut Vec<u8>,
+) -> Result<(), NarrowFailing>
     requires marked { IsGeneric (map raw items.now) }
     requires last { IfSome layout (λ l. StringsLast (fields_of l)) }
-    ensures found { IfOk result (λ octets.
-        StatesInForm (option_map fields_of layout) (map raw items.now) octets.items) }
+    ensures found { OnOk result
+        (StatesInForm (option_map fields_of layout) (map raw items.now) octets.new.items) }
     ensures fault { IfErr result (IfFault
         (IsGenericDataFault (option_map fields_of layout) (map raw items.now))) }
 {
-    let stated = octets_of_generic(alloc, items)?;
-    match layout {
-        Some(layout) => canonical_of(alloc, layout, &stated),
-        None => Ok(stated),
+    read_generic(items, octets)?;
+    if let Some(layout) = layout {
+        *octets = canonical_of(*octets.allocator(), layout, octets)?;
     }
+    Ok(())
 }
 
-/// The canonical octets that items state for a layout, in words or in the generic form. Those that
-/// words state are in the memory of a buffer.
-fn octets_for(
-    buffer: Vec<u8>,
+/// Reads the canonical octets that items state for a layout, in words or in the generic form. They
+/// come in the place of those of before.
+fn read_octets(
     layout: Option<Layout>,
     items: &[Item],
     origin: &Name,
-) -> Result<Vec<u8>, NarrowFailing>
+    octets: &mut Vec<u8>,
+) -> Result<(), NarrowFailing>
     requires { IfSome layout (λ l. StringsLast (fields_of l)) }
-    ensures found { IfOk result (λ octets.
-        StatesFor origin.now (option_map fields_of layout) (map raw items.now) octets.items) }
+    ensures found { OnOk result (StatesFor origin.now (option_map fields_of layout)
+        (map raw items.now) octets.new.items) }
     ensures fault { IfErr result (IfFault
         (IsFaultFor origin.now (option_map fields_of layout) (map raw items.now))) }
 {
     if is_generic(items) {
-        return octets_in_form(*buffer.allocator(), layout, items);
+        return read_in_form(layout, items, octets);
     }
     match layout {
-        Some(layout) => octets_of_items(buffer, layout, items, origin),
+        Some(layout) => read_words(layout, items, origin, octets),
         None => Err(NarrowFailing::of(Cause::BadGeneric)),
     }
 }
 
 impl Rdata {
+    /// Data without octets, of the type NULL, which may have any. It takes no memory.
+    pub fn empty(alloc: Global) -> Rdata
+        ensures { result ≡ empty_data }
+    {
+        Rdata::of_octets(Class::internet(), Kind::of_judged(NULL), Vec::new(alloc))
+    }
+
     /// The data that the items state under the origin (RFC 1035 5.1; RFC 3597 5).
     ///
     /// # Errors
@@ -123,40 +131,47 @@ impl Rdata {
         ensures fault { IfErr result (IfFault
             (IsDataFault origin.now class kind (map raw items.now))) }
     {
-        Ok(Rdata::read_items(Vec::new(alloc), class, kind, items, origin)?)
+        let mut data = Rdata::empty(alloc);
+        data.set_from_items(class, kind, items, origin)?;
+        Ok(data)
     }
 
-    /// As `from_items`, with an error of few octets, and in the memory of a buffer where the items
-    /// are words. The octets of the buffer go.
+    /// Becomes the data that the items state under the origin (RFC 1035 5.1; RFC 3597 5), which is
+    /// written in place. On an error it becomes data without octets.
     ///
     /// # Errors
     ///
-    /// Those of `from_items`.
-    pub fn read_items(
-        buffer: Vec<u8>,
+    /// Those of `from_items`, in few octets.
+    pub fn set_from_items(
+        &mut self,
         class: Class,
         kind: Kind,
         items: &[Item],
         origin: &Name,
-    ) -> Result<Rdata, NarrowFailing>
-        ensures class { IfOk result (λ d. d.class ≡ class) }
-        ensures kind { IfOk result (λ d. d.kind ≡ kind) }
-        ensures found { IfOk result (λ d.
-            States origin.now class kind (map raw items.now) d.octets) }
+    ) -> Result<(), NarrowFailing>
+        ensures class { OnOk result (self.new.class ≡ class) }
+        ensures kind { OnOk result (self.new.kind ≡ kind) }
+        ensures found { OnOk result
+            (States origin.now class kind (map raw items.now) self.new.octets) }
         ensures only { (octets : Octets) → States origin.now class kind (map raw items.now) octets
-            → IfOk result (λ d. d.octets ≡ octets) × IfErr result (λ e. e ≡ Failing.Memory) }
+            → OnOk result (self.new.octets ≡ octets) × IfErr result (λ e. e ≡ Failing.Memory) }
         ensures fault { IfErr result (IfFault
             (IsDataFault origin.now class kind (map raw items.now))) }
+        ensures err { OnErr result (self.new ≡ empty_data) }
     {
         data_is_unique();
         faulty_items_state_none();
-        let octets = octets_for(buffer, layout_of(class, kind), items, origin)?;
-        are_octets(&octets);
-        Ok(Rdata {
-            class,
-            kind,
-            octets,
-        })
+        match read_octets(layout_of(class, kind), items, origin, &mut self.octets) {
+            Ok(()) => {
+                are_octets(&self.octets);
+                (self.class, self.kind) = (class, kind);
+                Ok(())
+            }
+            Err(failing) => {
+                *self = Rdata::empty(*self.octets.allocator());
+                Err(failing)
+            }
+        }
     }
 
     /// The data whose octets are these, names uncompressed and in any letter case (RFC 1035 3.3;
@@ -224,21 +239,44 @@ impl Rdata {
         self.octets.as_slice()
     }
 
-    /// The number of octets for which the data has memory.
-    pub(crate) fn room(&self) -> usize {
-        self.octets.capacity()
+    /// The data, borrowed.
+    pub fn lend(&self) -> RdataRef<'_>
+        ensures { result ≡ self.now }
+    {
+        RdataRef::of_octets(self.class, self.kind, &self.octets)
     }
 
-    /// The canonical octets, in their memory. The data is then without octets, of a type that may
-    /// have any.
-    pub(crate) fn take_octets(&mut self) -> Vec<u8>
-        ensures taken { result.items ≡ self.old.octets }
-        ensures left { self.new ≡ record { class = 1; kind = NULL; octets = [] } }
+    /// Becomes data that is lent, of which the octets are written in place.
+    ///
+    /// # Errors
+    ///
+    /// `AllocError` where memory is refused. It is then data without octets.
+    pub(crate) fn copy_from(&mut self, rdata: &RdataRef<'_>) -> Result<(), AllocError>
+        ensures copied { OnOk result (self.new ≡ rdata.now) }
+        ensures err { OnErr result (self.new ≡ empty_data) }
     {
-        let octets = Vec::new(*self.octets.allocator());
-        let left = Rdata::of_octets(Class::internet(), Kind::of_judged(NULL), octets);
-        let taken = mem::replace(self, left);
-        taken.octets
+        rdata.known();
+        self.octets.clear();
+        match self.octets.extend_from_slice(rdata.octets()) {
+            Ok(()) => {
+                (self.class, self.kind) = (rdata.class(), rdata.kind());
+                Ok(())
+            }
+            Err(refused) => {
+                *self = Rdata::empty(*self.octets.allocator());
+                Err(refused)
+            }
+        }
+    }
+
+    /// Lets the memory of the octets go where it has room for more than `most`. It is then data
+    /// without octets.
+    pub(crate) fn free(&mut self, most: usize)
+        ensures { IsRdata self.new }
+    {
+        if self.octets.capacity() > most {
+            *self = Rdata::empty(*self.octets.allocator());
+        }
     }
 
     /// What holds of all data.

@@ -1,4 +1,4 @@
-ghost use Rattle.std.specs.Prelude.{◌↔◌, ◌<◌, ◌≤◌, IsTrue, length, map, IfOk, IfErr};
+ghost use Rattle.std.specs.Prelude.{◌↔◌, ◌<◌, ◌≤◌, IsTrue, length, map, IfErr, OnOk};
 ghost use Rattle.zone_rdata.specs.DataFault.{IsWordsFault};
 ghost use Rattle.zone_rdata.specs.Fault.{IfFault};
 ghost use Rattle.zone_rdata.specs.Item.{raw, IsGeneric};
@@ -23,24 +23,24 @@ pub fn is_generic(items: &[Item]) -> bool
     }
 }
 
-/// The octets of the values that the items spell, field by field, in the memory of a buffer.
-pub(crate) fn octets_of_items(
-    buffer: Vec<u8>,
+/// Reads the octets of the values that the items spell, field by field. They come in the place of
+/// those of before.
+pub(crate) fn read_words(
     layout: Layout,
     items: &[Item],
     origin: &Name,
-) -> Result<Vec<u8>, NarrowFailing>
-    ensures found { IfOk result (λ octets.
-        AreSpelt origin.now (fields_of layout) (map raw items.now) octets.items) }
-    ensures short { IfOk result (λ octets. length octets.items ≤ LONGEST_DATA) }
+    octets: &mut Vec<u8>,
+) -> Result<(), NarrowFailing>
+    ensures found { OnOk result
+        (AreSpelt origin.now (fields_of layout) (map raw items.now) octets.new.items) }
+    ensures short { OnOk result (length octets.new.items ≤ LONGEST_DATA) }
     ensures fault { IfErr result (IfFault
         (IsWordsFault origin.now (fields_of layout) (map raw items.now))) }
 {
-    let mut octets = buffer;
     octets.clear();
     let mut place = 0;
     for field in layout.fields() {
-        place += field.push_items(&items[place..], origin, &mut octets)?;
+        place += field.push_items(&items[place..], origin, octets)?;
     }
     if place < items.len() {
         return Err(NarrowFailing::of(Cause::BadRdata));
@@ -48,5 +48,5 @@ pub(crate) fn octets_of_items(
     if octets.len() > LONGEST_DATA {
         return Err(NarrowFailing::of(Cause::RdataTooLong));
     }
-    Ok(octets)
+    Ok(())
 }

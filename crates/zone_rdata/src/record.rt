@@ -1,4 +1,4 @@
-ghost use Rattle.std.specs.Prelude.{◌≡◌, ◌<◌, ◌≤◌, ◌↔◌, IfOk, IfErr, IsOk, Err};
+ghost use Rattle.std.specs.Prelude.{◌≡◌, ◌<◌, ◌≤◌, ◌↔◌, IfOk, IfErr, IsOk, OnOk, Err};
 ghost use Rattle.zone_rdata.specs.Lent.{placed_of, placed_with, record_of};
 ghost use Rattle.zone_rdata.specs.Record.{Record, IsRecord, data_of};
 
@@ -7,6 +7,7 @@ use crate::fault::{Fault, Place};
 use crate::kind::Kind;
 use crate::lent::{PlacedRef, RdataRef, RrRef};
 use crate::rdata::Rdata;
+use std::alloc::AllocError;
 use std::marker::Model;
 use zone_name::{Name, NameRef};
 
@@ -93,19 +94,10 @@ impl Rr {
         Rr { owner, ttl, rdata }
     }
 
-    /// The octets of the data, in their memory. It is then other data, without octets.
-    pub(crate) fn take_octets(&mut self) -> Vec<u8>
-        ensures { result.items ≡ self.old.octets }
-    {
-        self.rdata.take_octets()
-    }
-
     /// Lets the memory of the data go where it has room for more than `most` octets. It is then
-    /// other data, without octets.
+    /// data without octets.
     pub(crate) fn free(&mut self, most: usize) {
-        if self.rdata.room() > most {
-            let _ = self.rdata.take_octets();
-        }
+        self.rdata.free(most);
     }
 
     /// The name that the record stands at.
@@ -150,13 +142,12 @@ impl Rr {
         ensures whole { IsRecord self.now }
     {
         self.rdata.known();
-        let (class, kind) = (self.class(), self.kind());
         RrRef {
             owner: self.owner.lend(),
-            class,
-            kind,
+            class: self.class(),
+            kind: self.kind(),
             ttl: self.ttl(),
-            rdata: RdataRef::of_octets(class, kind, self.rdata.octets()),
+            rdata: self.rdata.lend(),
         }
     }
 
@@ -184,18 +175,29 @@ impl<'a> RrRef<'a> {
 
 impl Placed {
     /// Becomes the record of an owner, a TTL in seconds that was judged before, and data, with its
-    /// place. The owner is written in place.
-    pub(crate) fn set(&mut self, owner: &NameRef<'_>, ttl: u32, rdata: Rdata, place: Place)
+    /// place. Owner and data are written in place.
+    ///
+    /// # Errors
+    ///
+    /// `AllocError` where memory is refused. It is then another record.
+    pub(crate) fn set(
+        &mut self,
+        owner: &NameRef<'_>,
+        ttl: u32,
+        rdata: &RdataRef<'_>,
+        place: Place,
+    ) -> Result<(), AllocError>
         requires { ttl ≤ MAX_TTL }
-        ensures { self.new ≡ placed_with owner.now ttl rdata place }
+        ensures { OnOk result (self.new ≡ placed_with owner.now ttl rdata.now place) }
     {
         let _ = owner.wire();
         rdata.known();
         let rr = &mut self.rr;
+        rr.rdata.copy_from(rdata)?;
         rr.owner.copy_from(owner);
         rr.ttl = ttl;
-        rr.rdata = rdata;
         self.place = place;
+        Ok(())
     }
 
     /// The record and its place, borrowed.

@@ -1,19 +1,19 @@
 use Rattle.zone_rdata.specs.DataFault.{in_generic_form}
 use Rattle.zone_rdata.proofs.Failings.{IfErr-fault}
 use Rattle.zone_rdata.proofs.Items.Forms.{words_read, words_fault, opaque_fault}
-use Rattle.zone_rdata.proofs.rdata.octets_for.Goals as goal
+use Rattle.zone_rdata.proofs.rdata.read_octets.Goals as goal
 
 pub returns-then-is_generic-clause-fault : goal.returns-then-is_generic-clause-fault
-returns-then-is_generic-clause-fault c = IfErr-fault c.octets_in_form.result _ _ (λ fault h. in_generic_form fault h) c.octets_in_form.ensures.fault
+returns-then-is_generic-clause-fault c = IfErr-fault c.read_in_form.result _ _ (λ fault h. in_generic_form fault h) c.read_in_form.ensures.fault
 
 pub returns-in-Some-clause-found : goal.returns-in-Some-clause-found
-returns-in-Some-clause-found c = words_read (λ octets. octets.items) c.octets_of_items.result _ _ _ _ _ c.in-Some.is c.if-is_generic.false c.is_generic.ensures c.octets_of_items.ensures.found c.octets_of_items.ensures.short
+returns-in-Some-clause-found c = words_read c.read_words.result _ _ _ _ _ _ c.in-Some.is c.if-is_generic.false c.is_generic.ensures c.read_words.ensures.found c.read_words.ensures.short
 
 pub returns-in-Some-clause-fault : goal.returns-in-Some-clause-fault
 returns-in-Some-clause-fault c =
-    IfErr-fault c.octets_of_items.result _ _
+    IfErr-fault c.read_words.result _ _
     (λ fault h. words_fault _ _ _ _ _ _ c.in-Some.is c.if-is_generic.false c.is_generic.ensures h)
-    c.octets_of_items.ensures.fault
+    c.read_words.ensures.fault
 
 pub returns-in-None-clause-fault : goal.returns-in-None-clause-fault
 returns-in-None-clause-fault c = rw c.of.ensures (opaque_fault _ _ _ _ c.in-None.is c.if-is_generic.false c.is_generic.ensures)
