@@ -60,6 +60,8 @@ pub(crate) fn plain_len(text: &[u8], extent: Extent) -> usize
 
 /// The number of octets of the item at the beginning, without quotes, of which so many are known to
 /// be plain. A backslash that begins no escape ends it.
+// Not inlined: few items have a backslash.
+#[inline(never)]
 fn escaped_len(text: &[u8], plain: usize, extent: Extent) -> usize
     requires within { plain ≤ length text.now }
     requires plain { All (λ c. stops_within extent c ≡ false) (take plain text.now) }
@@ -80,8 +82,8 @@ fn escaped_len(text: &[u8], plain: usize, extent: Extent) -> usize
 
 /// The bare item at the beginning of a text, of which so many octets are known to be plain, and the
 /// rest. `None`: a backslash that begins no escape stands in its place.
-// Not inlined: few items have a backslash.
-#[inline(never)]
+// Inlined: a call's answer would be cleared for each item, with a backslash or not.
+#[inline(always)]
 pub(crate) fn escaped_item(text: &[u8], plain: usize) -> Option<(&[u8], &[u8])>
     requires within { plain ≤ length text.now }
     requires plain { All (λ c. stops_bare c ≡ false) (take plain text.now) }

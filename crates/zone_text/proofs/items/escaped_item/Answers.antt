@@ -1,4 +1,4 @@
-use Rattle.zone_text.proofs.Common.{arith, eqb-false, eqb-true, length, sym, ◌∙◌, ◌≡◌, ◌≢◌}
+use Rattle.zone_text.proofs.Common.{arith, eqb-false, length, sym, ◌∙◌, ◌≢◌}
 use Rattle.zone_text.proofs.Tokens.ItemsLeft.{bare_front}
 use Rattle.zone_text.proofs.items.escaped_item.Goals as goal
 

@@ -1,4 +1,4 @@
-use Rattle.zone_text.proofs.Common.{ap, arith, ends_item, false, length, or_parts, refl, stops_bare, sym, true, ◌+◌, ◌==◌, ◌∙◌, ◌∷◌, ◌≡◌, ◌≤◌}
+use Rattle.zone_text.proofs.Common.{ap, arith, ends_item, false, length, or_parts, refl, stops_bare, sym, ◌+◌, ◌==◌, ◌∙◌, ◌∷◌, ◌≡◌, ◌≤◌}
 use Rattle.zone_text.proofs.Tokens.EscapedItems.{ended, ends_but_mark, plain_first, plain_so_far}
 use Rattle.zone_text.proofs.Tokens.ItemsLeft.{bare_front, comment_front, end_of_text, no_bare, no_quoted, plain_front, quoted_front}
 use Rattle.zone_text.proofs.items.split_token.Goals as goal

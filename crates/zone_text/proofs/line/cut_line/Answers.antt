@@ -1,7 +1,7 @@
 use Rattle.std.proofs.lemmas.List.Elements.{All-from_recursion}
 use Rattle.std.proofs.lemmas.List.Sums.{prefix_len-le-length}
 use Rattle.std.specs.List.{prefix_len}
-use Rattle.zone_text.proofs.Common.{All, EndsAt, ap, arith, drop, eqb-false, false, length, map, raw, refl, stops_bare, subst, suc, sym, take, ◌∙◌, ◌≡◌, ◌≢◌}
+use Rattle.zone_text.proofs.Common.{All, EndsAt, ap, arith, drop, false, length, map, raw, refl, stops_bare, subst, suc, sym, take, ◌∙◌, ◌≡◌}
 use Rattle.zone_text.proofs.Files.Left.{line_feeds}
 use Rattle.zone_text.proofs.Scanning.FirstEntries.{IsCutTo, blank_passed, comment_passed, cut_bare, cut_ended, cut_more, cut_none, cut_on, item_passed}
 use Rattle.zone_text.proofs.Tokens.ItemsLeft.{in_front_shorter}
