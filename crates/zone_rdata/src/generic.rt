@@ -32,7 +32,7 @@ pub(crate) fn read_generic(items: &[Item], octets: &mut Vec<u8>) -> Result<(), N
     match items {
         [_, first, digits @ ..] => {
             let len = length_of(*first)?;
-            read_digits(digits, len, octets)
+            join_digits(digits, len, octets)
         }
         _ => Err(NarrowFailing::of(Cause::BadGeneric)),
     }
@@ -54,8 +54,8 @@ fn length_of(item: Item) -> Result<usize, Cause>
     }
 }
 
-/// Reads the octets that the items' digits join to, which are so many.
-fn read_digits(items: &[Item], len: usize, octets: &mut Vec<u8>) -> Result<(), NarrowFailing>
+/// Joins the items' digits to octets, so many, which come in the place of those of before.
+fn join_digits(items: &[Item], len: usize, octets: &mut Vec<u8>) -> Result<(), NarrowFailing>
     requires { len ≤ LONGEST_DATA }
     ensures found { OnOk result (JoinTo (map raw items.now) octets.new.items) }
     ensures count { OnOk result (length octets.new.items ≡ len) }

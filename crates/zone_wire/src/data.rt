@@ -11,7 +11,7 @@ use crate::cursor::Cursor;
 use crate::labels::LabelRoom;
 use crate::lent::RawRrRef;
 use zone_name::laws::are_octets;
-use zone_rdata::{Cause, Class, Field, Kind, Layout, NarrowFailing, Part, Rdata, RdataBuilder};
+use zone_rdata::{Cause, Class, Field, Kind, Layout, NarrowFailing, Part, RdataBuilder, RdataRef};
 
 /// Pushes the strings that are left, each after its length: one at least.
 fn push_strings(cursor: &mut Cursor, builder: &mut RdataBuilder) -> Result<(), NarrowFailing>
@@ -109,15 +109,15 @@ impl<'m, 'r> RawRrRef<'m, 'r> {
         }
     }
 
-    /// The record's data, in the memory of a buffer, of which the octets go. The room is for the
-    /// labels of names in it.
-    pub(crate) fn rdata(
+    /// The record's data, made by a builder and borrowed from it: the parts that it had go. The room
+    /// is for the labels of names in the data.
+    pub(crate) fn rdata<'b>(
         &self,
-        buffer: Vec<u8>,
         class: Class,
         kind: Kind,
         labels: &mut LabelRoom,
-    ) -> Result<Rdata, NarrowFailing>
+        builder: &'b mut RdataBuilder,
+    ) -> Result<RdataRef<'b>, NarrowFailing>
         requires class { class ≡ self.now.at.class }
         requires kind { kind ≡ self.now.at.kind }
         ensures class { IfOk result (λ d. d.class ≡ class) }
@@ -126,8 +126,8 @@ impl<'m, 'r> RawRrRef<'m, 'r> {
         ensures fault { IfErr result (IfFault (DataFault self.now.octets self.now.at)) }
     {
         are_octets(self.fields.message);
-        let mut builder = RdataBuilder::in_buffer(buffer, class, kind);
-        self.push_data(class, kind, labels, &mut builder)?;
+        builder.restart(class, kind);
+        self.push_data(class, kind, labels, builder)?;
         match builder.whole() {
             Some(rdata) => Ok(rdata),
             None => Err(NarrowFailing::of(Cause::BadRdata)),

@@ -10,10 +10,13 @@ ghost use Rattle.zone_wire.specs.Transfer.{frame};
 
 use crate::transfer::Transfer;
 use std::alloc::{AllocError, Global};
-use zone_rdata::{Fault, Place};
+use zone_rdata::{Class, Fault, Kind, Place, RdataBuilder};
 
 /// The octets of a frame's length.
 const LENGTH_LEN: usize = 2;
+
+/// The type of the first record, for whose data there is a builder (RFC 5936 2.2).
+const SOA: u16 = 6;
 
 /// The messages of the frames that came whole, and the octets after them.
 #[derive(Drop)]
@@ -21,6 +24,8 @@ pub(crate) struct Framer {
     pub(crate) transfer: Transfer,
     /// The octets of the unfinished frame. No other input is kept.
     pub(crate) unfinished: Vec<u8>,
+    /// Where the data of one record after another is made.
+    builder: RdataBuilder,
 }
 
 impl Framer {
@@ -35,6 +40,7 @@ impl Framer {
         Framer {
             transfer: Transfer::new(alloc),
             unfinished: Vec::new(alloc),
+            builder: RdataBuilder::new(alloc, Class::internet(), Kind::of_judged(SOA)),
         }
     }
 
@@ -87,12 +93,14 @@ impl Framer {
                 Ok(octets.len())
             }
             Some(end) if self.unfinished.is_empty() => {
-                self.transfer.read(message_of(&octets[..end]))?;
+                let message = message_of(&octets[..end]);
+                self.transfer.read(message, &mut self.builder)?;
                 Ok(end)
             }
             Some(end) => {
                 self.unfinished.extend_from_slice(&octets[..end])?;
-                self.transfer.read(message_of(self.unfinished.as_slice()))?;
+                let message = message_of(self.unfinished.as_slice());
+                self.transfer.read(message, &mut self.builder)?;
                 self.unfinished.clear();
                 Ok(end)
             }

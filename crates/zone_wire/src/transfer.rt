@@ -19,7 +19,9 @@ use crate::message::Message;
 use crate::record::counted_ttl;
 use std::alloc::{AllocError, Global};
 use zone_name::{Name, NameRef};
-use zone_rdata::{Cause, MAX_TTL, NarrowFailing, PendingRecords, Place, Rdata, Reading, Rr};
+use zone_rdata::{
+    Cause, MAX_TTL, NarrowFailing, PendingRecords, Place, RdataBuilder, RdataRef, Reading, Rr,
+};
 
 /// The number of the query type AXFR, of a whole zone (RFC 5936 2.1.2).
 const AXFR: u16 = 252;
@@ -73,8 +75,13 @@ impl Transfer {
         decided.into_reading()
     }
 
-    /// Takes the next message. Nothing is taken after a fault in it.
-    pub(crate) fn read(&mut self, octets: &[u8]) -> Result<(), AllocError>
+    /// Takes the next message. Nothing is taken after a fault in it. The builder is for the data of
+    /// its records.
+    pub(crate) fn read(
+        &mut self,
+        octets: &[u8],
+        builder: &mut RdataBuilder,
+    ) -> Result<(), AllocError>
         requires going { self.old.decided.ending ≡ None }
         requires fits { self.old.messages + 1 < 2 ^ 64 }
         requires short { length octets.now ≤ 65535 }
@@ -83,7 +90,7 @@ impl Transfer {
         ensures count { OnOk result (self.new.messages ≤ self.old.messages + 1) }
     {
         let number = self.messages + 1;
-        match self.take_message(octets) {
+        match self.take_message(octets, builder) {
             Ok(()) => Ok(()),
             Err((failing, offset)) => {
                 let place = Place::Message(number, offset);
@@ -93,7 +100,11 @@ impl Transfer {
     }
 
     /// Takes the records of the message that octets are.
-    fn take_message(&mut self, octets: &[u8]) -> Result<(), (NarrowFailing, usize)>
+    fn take_message(
+        &mut self,
+        octets: &[u8],
+        builder: &mut RdataBuilder,
+    ) -> Result<(), (NarrowFailing, usize)>
         requires fits { self.old.messages + 1 < 2 ^ 64 }
         requires short { length octets.now ≤ 65535 }
         ensures taken { (before : List StatedMessage) → IsAfter before self.old
@@ -106,7 +117,7 @@ impl Transfer {
             Err((cause, offset)) => return Err((NarrowFailing::of(cause), offset)),
         };
         match self.take_head(&message) {
-            Ok(()) => self.take_answers(&message),
+            Ok(()) => self.take_answers(&message, builder),
             Err((cause, offset)) => Err((NarrowFailing::of(cause), offset)),
         }
     }
@@ -150,7 +161,11 @@ impl Transfer {
     }
 
     /// Takes the records of a message's answers up to the first fault.
-    fn take_answers(&mut self, message: &Message<'_>) -> Result<(), (NarrowFailing, usize)>
+    fn take_answers(
+        &mut self,
+        message: &Message<'_>,
+        builder: &mut RdataBuilder,
+    ) -> Result<(), (NarrowFailing, usize)>
         ensures taken { (questions : List QuestionAt) (placed : List Placed)
             → Among questions placed self.old
             → TakesEach message.now.octets message.now.sections.answers questions placed result
@@ -162,7 +177,7 @@ impl Transfer {
         let (mut owner, mut labels) = (LabelRoom::new(), LabelRoom::new());
         while let Some(answer) = answers.next_in(&mut owner) {
             let offset = answer.offset();
-            match self.take_answer(&answer, &mut labels) {
+            match self.take_answer(&answer, &mut labels, builder) {
                 Ok(()) => {}
                 Err(failing) => return Err((failing, offset)),
             }
@@ -170,11 +185,13 @@ impl Transfer {
         Ok(())
     }
 
-    /// Takes the record that an answer states. The room is for the labels of names in its data.
+    /// Takes the record that an answer states. The builder is for its data, and the room for the
+    /// labels of names in that.
     fn take_answer(
         &mut self,
         answer: &RawRrRef<'_, '_>,
         labels: &mut LabelRoom,
+        builder: &mut RdataBuilder,
     ) -> Result<(), NarrowFailing>
         ensures taken { OnOk result ((questions : List QuestionAt) (placed : List Placed)
             → Among questions placed self.old
@@ -191,15 +208,14 @@ impl Transfer {
             return self.take_soa(answer);
         }
         let (class, kind) = answer.class_and_kind()?;
-        let buffer = self.decided.placed.buffer(self.alloc);
-        let rdata = answer.rdata(buffer, class, kind, labels)?;
+        let rdata = answer.rdata(class, kind, labels, builder)?;
         let (ttl, offset) = (counted_ttl(answer.fields.ttl), answer.offset());
         let _ = answer.owner.wire();
         rdata.known();
         if self.closed {
             return Err(NarrowFailing::of(Cause::AfterClosing));
         }
-        self.hand_on(&answer.owner, ttl, rdata, offset)?;
+        self.hand_on(&answer.owner, ttl, &rdata, offset)?;
         Ok(())
     }
 
@@ -221,32 +237,29 @@ impl Transfer {
         let rr = answer.read(self.alloc)?;
         match self.order_cause(&rr) {
             Some(cause) => Err(NarrowFailing::of(cause)),
-            None => Ok(self.take_record(rr, answer)?),
+            None => Ok(self.take_record(rr, answer.offset())?),
         }
     }
 
-    /// Takes the record that an answer states after those before it.
-    fn take_record(&mut self, rr: Rr, answer: &RawRrRef<'_, '_>) -> Result<(), AllocError>
-        requires { AnswerStates answer.now.octets answer.now.at rr }
+    /// Takes the record of an answer that begins at an offset after those before it.
+    fn take_record(&mut self, rr: Rr, offset: usize) -> Result<(), AllocError>
         ensures gains { OnOk result ((questions : List QuestionAt) (placed : List Placed)
             → Among questions placed self.old
-            → Gains (record { rr = rr; place = in_message self.old.messages answer.now.at.offset }
-            ∷ [])
+            → Gains (record { rr = rr; place = in_message self.old.messages offset } ∷ [])
             questions placed self.old self.new) }
         ensures count { self.new.messages ≡ self.old.messages }
         ensures ending { self.new.decided.ending ≡ self.old.decided.ending }
     {
-        if self.opening.is_none() {
-            match answer.read(self.alloc) {
-                Ok(opening) => self.open(opening),
-                Err(_) => return Err(AllocError),
-            }
-        } else if rr.kind().is_soa() {
+        let is_opening = self.opening.is_none();
+        if !is_opening && rr.kind().is_soa() {
             self.closed = true;
             return Ok(());
         }
-        let (owner, ttl, rdata) = rr.into_parts();
-        self.hand_on(&owner.lend(), ttl, rdata, answer.offset())?;
+        let lent = rr.lend();
+        self.hand_on(&lent.owner, lent.ttl, &lent.rdata, offset)?;
+        if is_opening {
+            self.open(rr);
+        }
         Ok(())
     }
 
@@ -255,13 +268,13 @@ impl Transfer {
         &mut self,
         owner: &NameRef<'_>,
         ttl: u32,
-        rdata: Rdata,
+        rdata: &RdataRef<'_>,
         offset: usize,
     ) -> Result<(), AllocError>
         requires { ttl ≤ MAX_TTL }
         ensures items { OnOk result (self.new.decided.placed
             ≡ self.old.decided.placed
-            ++ placed_with owner.now ttl rdata (in_message self.old.messages offset) ∷ []) }
+            ++ placed_with owner.now ttl rdata.now (in_message self.old.messages offset) ∷ []) }
         ensures others { self.new ≡ record self.old { decided = self.new.decided } }
         ensures ending { self.new.decided.ending ≡ self.old.decided.ending }
     {

@@ -14,14 +14,14 @@ abbrev pub here_at : Record → ℕ → ℕ → Placed
 here_at rr number offset = record { rr = rr; place = Message number offset }
 
 -- the opening SOA is handed on
-pub opening_gains : (questions : List QuestionAt) (placed : List Placed) (rr : Record) (offset : ℕ) (old mid new : Transfer) → Among questions placed old → is_some old.opening ≡ false → mid.opening ≡ Some rr → zone_held mid.zone ≡ zone_with (zone_held old.zone) rr → mid ≡ record old { zone = mid.zone; opening = mid.opening } → new ≡ record mid { decided = new.decided } → new.decided.placed ≡ mid.decided.placed ++ here_at rr mid.messages offset ∷ [] → Gains (here_at rr old.messages offset ∷ []) questions placed old new
-opening_gains questions placed rr offset old mid new among none opening zone mid_is new_is items = grind (arith, common_steps)
+pub opening_gains : (questions : List QuestionAt) (placed : List Placed) (rr : Record) (offset : ℕ) (old mid new : Transfer) → Among questions placed old → is_some old.opening ≡ false → mid ≡ record old { decided = mid.decided } → mid.decided.placed ≡ old.decided.placed ++ here_at rr old.messages offset ∷ [] → new.opening ≡ Some rr → zone_held new.zone ≡ zone_with (zone_held mid.zone) rr → new ≡ record mid { zone = new.zone; opening = new.opening } → Gains (here_at rr old.messages offset ∷ []) questions placed old new
+opening_gains questions placed rr offset old mid new among none mid_is items opening zone new_is = grind (arith, common_steps)
 
 pub closing_gains : (questions : List QuestionAt) (placed : List Placed) (p : Placed) (old new : Transfer) → Among questions placed old → is_some old.opening ≡ true → p.rr.kind ≡ 6 → new ≡ record old { closed = true } → Gains (p ∷ []) questions placed old new
 closing_gains questions placed p old new among some soa is = grind (arith, common_steps)
 
-pub other_gains : (questions : List QuestionAt) (placed : List Placed) (rr : Record) (offset : ℕ) (old mid new : Transfer) → Among questions placed old → is_some old.opening ≡ true → (rr.kind ≡ 6 → ⊥) → mid ≡ old → new ≡ record mid { decided = new.decided } → new.decided.placed ≡ mid.decided.placed ++ here_at rr mid.messages offset ∷ [] → Gains (here_at rr old.messages offset ∷ []) questions placed old new
-other_gains questions placed rr offset old mid new among some other mid_is new_is items = grind (arith, common_steps)
+pub other_gains : (questions : List QuestionAt) (placed : List Placed) (rr : Record) (offset : ℕ) (old new : Transfer) → Among questions placed old → is_some old.opening ≡ true → (rr.kind ≡ 6 → ⊥) → new ≡ record old { decided = new.decided } → new.decided.placed ≡ old.decided.placed ++ here_at rr old.messages offset ∷ [] → Gains (here_at rr old.messages offset ∷ []) questions placed old new
+other_gains questions placed rr offset old new among some other new_is items = grind (arith, common_steps)
 
 -- a record that is no SOA stands after the opening one, while the transfer isn't closed
 pub stands_after : (questions : List QuestionAt) (placed : List Placed) (rr : Record) (t : Transfer) → Among questions placed t → is_some t.opening ≡ true → t.closed ≡ false → (rr.kind ≡ 6 → ⊥) → ComesAfter questions placed rr

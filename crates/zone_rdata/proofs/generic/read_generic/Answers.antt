@@ -13,6 +13,6 @@ returns-in_default-clause-fault c = rw c.of.ensures (form_missing _ c.requires (
 
 pub returns-in_ok-len-in-len2-up-clause-fault : goal.returns-in_ok-len-in-len2-up-clause-fault
 returns-in_ok-len-in-len2-up-clause-fault c =
-    IfErr-fault c.read_digits.result _ _
+    IfErr-fault c.join_digits.result _ _
     (λ fault bad. form_digits _ _ _ c.in_ok-len-in-len2-up.len fault (form_parts c.args.items.now _ c.in-len2-up.len_at_least c.requires) c.in_ok-len-in-len2-up.ensures.found c.in_ok-len-in-len2-up.ensures.short (bad.0, λ octets h. bad.1 octets (subst (λ r. JoinTo (map raw r) octets) (sym (later_two c.args.items.now)) h)))
-    c.read_digits.ensures.fault
+    c.join_digits.ensures.fault

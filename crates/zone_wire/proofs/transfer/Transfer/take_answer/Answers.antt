@@ -25,10 +25,10 @@ returns-clause-taken c = λ questions placed among.
     let fits : IsRecord rr = record { owner = c.wire.ensures.name; ttl = c.counted_ttl-ttl.ensures.short; rdata = c.known.ensures } in
     let states = stated _ c.args.answer.now c.answer.view_is _ _ _ c.in_ok-rdata.rdata rr refl fits c.in_ok-rdata.ensures.class c.in_ok-rdata.ensures.kind c.in_ok-class.ensures.class.0 c.in_ok-class.ensures.kind.0 c.counted_ttl-ttl.ensures.value c.in_ok-rdata.ensures.found c.in_ok-class.ensures.readable in
     let other : rr.kind ≡ 6 → ⊥ = λ soa. (let yes = c.is_soa.ensures.1 (sym states.kind ∙ soa) in let no = c.if-is_soa.false in let none : ⊥ = cc in none) in
-    let items = rw (c.offset-offset.ensures, c.buffer-buffer.ensures) at c.in_ok-hand_on.ensures.items in
+    let items = rw c.offset-offset.ensures at c.in_ok-hand_on.ensures.items in
     record {
       rr = rr;
       states = states;
       stands = stands_after questions placed rr c.args.self.now among c.if-is_none.ensures c.if-self.false other;
-      gains = other_gains questions placed rr c.args.answer.now.at.offset c.args.self.now c.args.self.now c.hand_on.new.self among c.if-is_none.ensures other refl c.hand_on.ensures.others items;
+      gains = other_gains questions placed rr c.args.answer.now.at.offset c.args.self.now c.hand_on.new.self among c.if-is_none.ensures other c.hand_on.ensures.others items;
     }

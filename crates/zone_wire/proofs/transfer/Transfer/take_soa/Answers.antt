@@ -10,5 +10,5 @@ returns-in_ok-take_record-in-None-clause-taken c = λ questions placed among. re
   rr = c.in_ok-rr.rr;
   states = c.in_ok-rr.ensures.found;
   stands = order_stands questions placed c.in_ok-rr.rr (sym (c.in-None.ensures questions placed among));
-  gains = c.in_ok-take_record-in-None.ensures.gains questions placed among;
+  gains = rw c.offset.ensures at (c.in_ok-take_record-in-None.ensures.gains questions placed among);
 }
