@@ -44,7 +44,7 @@ impl EndedEntries {
     {
         EndedEntries {
             decided: PendingRecords::new(alloc),
-            state: ParserState::new(origin),
+            state: ParserState::new(alloc, origin),
             line: 1,
         }
     }
@@ -53,7 +53,6 @@ impl EndedEntries {
     /// is used again.
     pub(crate) fn read<'t>(
         &mut self,
-        alloc: Global,
         entry: &'t [u8],
         items: &mut Vec<Item<'t>>,
     ) -> Result<(), AllocError>
@@ -62,13 +61,12 @@ impl EndedEntries {
         ensures { OnOk result (ReadsOctets entry.now self.old self.new) }
     {
         cut_items(entry, items)?;
-        self.read_cut(alloc, entry, items, line_feeds(entry))
+        self.read_cut(entry, items, line_feeds(entry))
     }
 
     /// Reads the entry after them, of which these are the items and the number of its line feeds.
     pub(crate) fn read_cut<'t>(
         &mut self,
-        alloc: Global,
         entry: &'t [u8],
         items: &[Item<'t>],
         lines: usize,
@@ -80,8 +78,7 @@ impl EndedEntries {
             → OnOk result (ReadsOctets entry.now self.old self.new) }
     {
         let place = Place::Line(self.line);
-        self.state
-            .read(alloc, entry, items, place, &mut self.decided)?;
+        self.state.read(entry, items, place, &mut self.decided)?;
         self.line += lines as u64;
         Ok(())
     }

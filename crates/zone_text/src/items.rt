@@ -1,9 +1,10 @@
-ghost use Rattle.std.specs.Prelude.{◌≡◌, ◌≤◌, map, length, drop, take, false, not, IsTrue, IfNone, IfSome, OnOk, option_map, option_to_list};
+ghost use Rattle.std.specs.Prelude.{◌≡◌, ◌≤◌, [], ◌∷◌, map, length, drop, take, false, IsTrue, IfNone, IfSome, OnOk, option_map, option_to_list};
 ghost use Rattle.std.specs.List.{All};
-ghost use Rattle.zone_rdata.specs.Item.{raw};
+ghost use Rattle.zone_rdata.specs.Item.{bare, raw};
+ghost use Rattle.zone_rdata.specs.Strings.{is_quote};
 ghost use Rattle.zone_text.specs.Tokens.{ends_item, is_blank};
 ghost use Rattle.zone_text.specs.Machine.Cutting.{IsInFront, IsNoToken, front_of};
-ghost use Rattle.zone_text.specs.Machine.ItemLengths.{EndsAt, ends_within, item_len, stops_within};
+ghost use Rattle.zone_text.specs.Machine.ItemLengths.{EndsAt, ends_within, item_len, stops_bare, stops_within};
 ghost use Rattle.zone_text.specs.Machine.Kept.{IsShort, Keeps};
 ghost use Rattle.zone_text.specs.Kept.{KeepsItems};
 
@@ -57,10 +58,11 @@ pub(crate) fn plain_len(text: &[u8], extent: Extent) -> usize
     text.len()
 }
 
-/// As `item_len`, of an item of which so many octets are known to be plain.
+/// The number of octets of the item at the beginning, without quotes, of which so many are known to
+/// be plain. A backslash that begins no escape ends it.
 // Not inlined: few items have a backslash.
 #[inline(never)]
-pub(crate) fn escaped_len(text: &[u8], plain: usize, extent: Extent) -> usize
+fn escaped_len(text: &[u8], plain: usize, extent: Extent) -> usize
     requires within { plain ≤ length text.now }
     requires plain { All (λ c. stops_within extent c ≡ false) (take plain text.now) }
     requires stops { EndsAt (stops_within extent) (drop plain text.now) }
@@ -78,27 +80,38 @@ pub(crate) fn escaped_len(text: &[u8], plain: usize, extent: Extent) -> usize
     len
 }
 
-/// The number of octets of the item at the beginning, without quotes. A backslash that begins no
-/// escape ends it.
+/// The bare item at the beginning of a text, of which so many octets are known to be plain, and the
+/// rest. `None`: a backslash that begins no escape stands in its place.
+// Inlined: a call's answer would be cleared for each item, with a backslash or not.
 #[inline(always)]
-fn item_len(text: &[u8], extent: Extent) -> usize
-    ensures len { result ≡ item_len (ends_within extent) text.now }
-    ensures within { result ≤ length text.now }
+pub(crate) fn escaped_item(text: &[u8], plain: usize) -> Option<(&[u8], &[u8])>
+    requires within { plain ≤ length text.now }
+    requires plain { All (λ c. stops_bare c ≡ false) (take plain text.now) }
+    requires stops { EndsAt stops_bare (drop plain text.now) }
+    ensures found { IfSome result (λ found.
+        IsInFront text.now (bare found.0.now ∷ []) found.1.now) }
+    ensures none { IfNone result (item_len ends_item text.now ≡ 0) }
 {
-    let plain = plain_len(text, extent);
-    if plain < text.len() && text[plain] == b'\\' {
-        escaped_len(text, plain, extent)
+    let (item, rest) = text.split_at(escaped_len(text, plain, Extent::Bare));
+    if item.is_empty() {
+        None
     } else {
-        plain
+        Some((item, rest))
     }
 }
 
-/// Whether the octet begins a bare item.
+/// As `escaped_len`, of a quoted item of which nothing is known.
 #[inline(always)]
-fn begins_bare(octet: u8) -> bool
-    ensures { result ≡ not (ends_item octet) }
+fn quoted_len(text: &[u8]) -> usize
+    ensures len { result ≡ item_len is_quote text.now }
+    ensures within { result ≤ length text.now }
 {
-    !stops_bare(octet) || octet == b'\\'
+    let plain = plain_len(text, Extent::Quoted);
+    if plain < text.len() && text[plain] == b'\\' {
+        escaped_len(text, plain, Extent::Quoted)
+    } else {
+        plain
+    }
 }
 
 /// The first token of a text: its item, if it is one, and the rest. `None`: the text ends, or it
@@ -113,15 +126,22 @@ pub(crate) fn split_token(text: &[u8]) -> Option<(Option<Item<'_>>, &[u8])>
 {
     let (first, after) = text.split_first()?;
     let octet = *first;
-    if begins_bare(octet) {
-        let (item, rest) = text.split_at(item_len(text, Extent::Bare));
-        if item.is_empty() {
-            None
-        } else {
-            Some((Some(Item::Bare(item)), rest))
+    if !stops_bare(octet) {
+        let plain = 1 + plain_len(after, Extent::Bare);
+        if plain < text.len() && text[plain] == b'\\' {
+            let (item, rest) = escaped_item(text, plain)?;
+            return Some((Some(Item::Bare(item)), rest));
         }
+        let (item, rest) = text.split_at(plain);
+        Some((Some(Item::Bare(item)), rest))
+    } else if octet <= b' ' {
+        // a blank or a line feed
+        Some((None, after))
+    } else if octet == b'\\' {
+        let (item, rest) = escaped_item(text, 0)?;
+        Some((Some(Item::Bare(item)), rest))
     } else if octet == b'"' {
-        let (inside, closing) = after.split_at(item_len(after, Extent::Quoted));
+        let (inside, closing) = after.split_at(quoted_len(after));
         let (quote, rest) = closing.split_first()?;
         if *quote == b'"' {
             Some((Some(Item::Quoted(inside)), rest))

@@ -6,7 +6,7 @@ ghost use Rattle.zone_rdata.specs.Strings.{item_text};
 ghost use Rattle.zone_text.specs.FirstEntry.{IsFirstEntry};
 ghost use Rattle.zone_text.specs.Machine.Kept.{KeepsBare};
 
-use crate::items::{Extent, escaped_len, keep, split_token};
+use crate::items::{escaped_item, keep, split_token};
 use crate::stops::Stops;
 use std::alloc::AllocError;
 use zone_rdata::Item;
@@ -57,10 +57,9 @@ pub(crate) fn cut_line<'t>(
             return Ok(None);
         };
         if *stop == b'\\' {
-            let (item, left) = rest.split_at(escaped_len(rest, len, Extent::Bare));
-            if item.is_empty() {
+            let Some((item, left)) = escaped_item(rest, len) else {
                 return Ok(None);
-            }
+            };
             keep(Item::Bare(item), items)?;
             stops = Stops::unseen(left);
             rest = left;

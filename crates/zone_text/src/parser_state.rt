@@ -19,7 +19,7 @@ mod record;
 use crate::statements::{Directive, Statement, statement_of};
 use std::alloc::{AllocError, Global};
 use zone_name::{Name, NameFault};
-use zone_rdata::{Cause, Class, Item, NarrowFailing, PendingRecords, Place};
+use zone_rdata::{Cause, Class, Item, NarrowFailing, PendingRecords, Place, Rdata};
 
 /// What the entries of a master file leave to those after them (RFC 1035 5.1, RFC 2308 4).
 #[derive(Debug, Drop)]
@@ -36,11 +36,13 @@ pub(crate) struct ParserState {
     pub(crate) last_ttl: Option<u32>,
     /// The MINIMUM of the last SOA, in seconds.
     pub(crate) minimum: Option<u32>,
+    /// The data of the last record that was read, whose memory the next one's takes.
+    rdata: Rdata,
 }
 
 impl ParserState {
     /// What the first entry of a file finds, under the origin that is handed in with the file.
-    pub(crate) fn new(origin: &Name) -> ParserState
+    pub(crate) fn new(alloc: Global, origin: &Name) -> ParserState
         ensures { IsStateAfter origin.now [] result }
     {
         ParserState {
@@ -50,6 +52,7 @@ impl ParserState {
             default_ttl: None,
             last_ttl: None,
             minimum: None,
+            rdata: Rdata::empty(alloc),
         }
     }
 
@@ -61,7 +64,6 @@ impl ParserState {
     // handed up.
     pub(crate) fn read<'t>(
         &mut self,
-        alloc: Global,
         entry: &'t [u8],
         items: &[Item<'t>],
         place: Place,
@@ -73,13 +75,12 @@ impl ParserState {
             (DecidesEntry origin before (entry_of line tokens) place decided.old decided.new
             self.new) }
     {
-        self.read_parsed(alloc, statement_of(entry, items), place, decided)
+        self.read_parsed(statement_of(entry, items), place, decided)
     }
 
     /// Reads an entry that was parsed.
     fn read_parsed(
         &mut self,
-        alloc: Global,
         parsed: Statement,
         place: Place,
         decided: &mut PendingRecords,
@@ -95,8 +96,8 @@ impl ParserState {
                 Ok(()) => Ok(()),
                 Err(cause) => decided.refuse(NarrowFailing::of(cause), place),
             },
-            Statement::Owned(owner, items) => self.read_owned(alloc, owner, items, place, decided),
-            Statement::Unowned(items) => self.read_record(alloc, items, place, decided),
+            Statement::Owned(owner, items) => self.read_owned(owner, items, place, decided),
+            Statement::Unowned(items) => self.read_record(items, place, decided),
         }
     }
 
@@ -123,7 +124,6 @@ impl ParserState {
     /// Reads an entry that states its owner.
     fn read_owned(
         &mut self,
-        alloc: Global,
         owner: Item,
         items: &[Item],
         place: Place,
@@ -139,7 +139,7 @@ impl ParserState {
             return decided.refuse(NarrowFailing::of(Cause::NoOwner), place);
         };
         match self.set_owner(text) {
-            Ok(()) => self.read_record(alloc, items, place, decided),
+            Ok(()) => self.read_record(items, place, decided),
             Err(fault) => decided.refuse(NarrowFailing::from(fault), place),
         }
     }

@@ -63,7 +63,7 @@ impl EntrySplitter {
                 }
                 if let Some(taken) = cut_line(rest, &mut items)? {
                     let (entry, after) = rest.split_at(taken);
-                    self.ended.read_cut(self.alloc, entry, &items, 1)?;
+                    self.ended.read_cut(entry, &items, 1)?;
                     rest = after;
                     continue;
                 }
@@ -120,7 +120,7 @@ impl EntrySplitter {
             (ReadsOctets (self.old.unfinished.items ++ part.now) self.old.ended self.new.ended) }
     {
         if self.unfinished.is_empty() {
-            self.ended.read(self.alloc, part, items)
+            self.ended.read(part, items)
         } else {
             self.unfinished.extend_from_slice(part)?;
             self.end_buffered()
@@ -135,8 +135,7 @@ impl EntrySplitter {
             (ReadsOctets self.old.unfinished.items self.old.ended self.new.ended) }
     {
         let mut items = Vec::new(self.alloc);
-        self.ended
-            .read(self.alloc, self.unfinished.as_slice(), &mut items)
+        self.ended.read(self.unfinished.as_slice(), &mut items)
     }
 
     /// Empties the buffer, at the beginning of an entry.

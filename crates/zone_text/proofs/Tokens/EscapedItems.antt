@@ -1,5 +1,6 @@
 -- Items in which escapes stand among octets by themselves.
-use Rattle.zone_text.proofs.Common.{All, AllByRecursion, AllByRecursion-append, Bool, EndsAt, IsBadEscape, IsUnit, List, NoUnit, Units, Written, [], ap, append_assoc, arith, at_backslash, at_end, at_octet, drop, drop-append_seam, ends_within, eqb-false, false, flat_map-append, get_or, item_len, length, length-append, length-drop, length-take, map, ne_eqb, or_parts, plain, recursion_from_All, refl, rules, subst, sym, take, take-append-drop, take-append_seam, text_of, true, unit_of_escape, units_first_only, written_text, ℕ, ◌++◌, ◌+◌, ◌-◌, ◌<◌, ◌==◌, ◌||◌, ◌∙◌, ◌∷◌, ◌≡◌, ◌≢◌, ◌≤◌}
+use Rattle.zone_text.proofs.Common.{All, AllByRecursion, AllByRecursion-append, Bool, EndsAt, IsBadEscape, IsUnit, List, NoUnit, Units, Written, [], ap, append_assoc, arith, at_backslash, at_end, at_octet, drop, drop-append_seam, ends_item, ends_within, eqb-false, false, flat_map-append, get_or, item_len, length, length-append, length-drop, length-take, map, ne_eqb, or_parts, plain, recursion_from_All, refl, rules, stops_bare, subst, suc, sym, take, take-append-drop, take-append_seam, text_of, true, unit_of_escape, units_first_only, written_text, ℕ, ◌++◌, ◌+◌, ◌-◌, ◌<◌, ◌==◌, ◌||◌, ◌∙◌, ◌∷◌, ◌≡◌, ◌≢◌, ◌≤◌}
+use Rattle.std.proofs.lemmas.List.Elements.{All-cons}
 use Rattle.zone_name.specs.Spelling.{BeginsWithEscape}
 use Rattle.zone_text.proofs.Tokens.TokenEnds.{first_at}
 use Rattle.zone_text.specs.declared.items.Extent.{Extent}
@@ -32,6 +33,12 @@ plain_so_far ends octets n within each stops = record {
   stops = stops;
   within = within;
 }
+
+-- octets after a plain one
+pub plain_first : (stops : ℕ → Bool) (octets after : List ℕ) (c n k : ℕ) → octets ≡ c ∷ after → stops c ≡ false → k ≡ 1 + n → All (λ d. stops d ≡ false) (take n after) → EndsAt stops (drop n after) → All (λ d. stops d ≡ false) (take k octets) × EndsAt stops (drop k octets)
+plain_first stops octets after c n k whole goes_on more each ends =
+    let size : k ≡ suc n = omega arith in
+    rw (whole, size) (All-cons (λ d. stops d ≡ false) c (take n after) goes_on each, ends)
 
 at_mark : (octets escape : List ℕ) (len : ℕ) → len < length octets → get_or octets len 0 ≡ 92 → escape ≡ drop (len + 1) octets → drop len octets ≡ 92 ∷ escape
 at_mark octets escape len less is back = first_at octets len less ∙ ap (λ m. m ∷ drop (len + 1) octets) is ∙ ap (λ t. 92 ∷ t) (sym back)
@@ -67,12 +74,16 @@ len_is extent octets len is none =
     let size : len ≡ length (written_text is.units) = omega (arith, length-take len octets, is.within, ap length is.text) in
     size ∙ sym (ap (λ (found : Units). length (written_text found.units)) (units_first_only (ends_within extent) octets is.units (drop len octets) (backslash extent) whole is.each none))
 
+stops_or : (a b : Bool) → (a || b) ≡ true → b ≡ false → a ≡ true
+stops_or a b e none = search rules
+
+-- what stops a bare item ends it, but for a backslash
+pub ends_but_mark : (c : ℕ) → stops_bare c ≡ true → c ≢ 92 → ends_item c ≡ true
+ends_but_mark c stops other = stops_or (ends_item c) (c == 92) stops (ne_eqb c 92 other)
+
 ended_by : (ends : ℕ → Bool) (rest : List ℕ) → EndsAt (λ c. ends c || c == 92) rest → ((c : ℕ) (more : List ℕ) → rest ≡ c ∷ more → c ≢ 92) → NoUnit ends rest
 ended_by ends [] at other = at_end refl
 ended_by ends (c ∷ more) at other = at_octet c more refl (stops_or (ends c) (c == 92) at (ne_eqb c 92 (other c more refl)))
-  where
-    stops_or : (a b : Bool) → (a || b) ≡ true → b ≡ false → a ≡ true
-    stops_or a b e none = search rules
 
 pub ended : (extent : Extent) (octets : List ℕ) (len : ℕ) → IsWrittenTo (ends_within extent) octets len → (len < length octets → get_or octets len 0 ≢ 92) → len ≡ item_len (ends_within extent) octets
 ended extent octets len is other = len_is extent octets len is (ended_by (ends_within extent) (drop len octets) is.stops (λ c more e mark.

@@ -53,14 +53,14 @@ bare_front octets item left n len front back some =
       stated = ap (λ t. raw.bare t ∷ []) (sym text);
     }
 
-pub no_bare : (octets after item left : List ℕ) (c n : ℕ) → octets ≡ c ∷ after → ends_item c ≡ false → n ≡ item_len ends_item octets → item ≡ take n octets → left ≡ drop n octets → length item ≡ 0 → IsNoToken (front_of 1 octets)
-no_bare octets after item left c n whole goes_on len front back none =
+pub no_bare : (octets after : List ℕ) (c : ℕ) → octets ≡ c ∷ after → ends_item c ≡ false → item_len ends_item octets ≡ 0 → IsNoToken (front_of 1 octets)
+no_bare octets after c whole goes_on none =
     let first : front_of 1 octets ≡ cutting.bare_front (units_first ends_item octets).units (units_first ends_item octets).rest = rw whole (at_sign 1 c after of_item (sign_of_item c goes_on)) in
-    subst IsNoToken (sym first) (by (units_first ends_item octets).units (units_first ends_item octets).rest (item_is ends_item octets item left n len front back).0)
+    subst IsNoToken (sym first) (by (units_first ends_item octets).units (units_first ends_item octets).rest none)
   where
-    by : (units : List Written) (rest : List ℕ) → item ≡ written_text units → IsNoToken (cutting.bare_front units rest)
-    by [] rest text = tt
-    by (w ∷ units) rest text = absurd (omega (arith, none, ap length text, length-append (text_of w) (written_text units), text_of-some w))
+    by : (units : List Written) (rest : List ℕ) → length (written_text units) ≡ 0 → IsNoToken (cutting.bare_front units rest)
+    by [] rest none = tt
+    by (w ∷ units) rest none = absurd (omega (arith, none, length-append (text_of w) (written_text units), text_of-some w))
 
 quoted_is : (octets after : List ℕ) (c : ℕ) → octets ≡ c ∷ after → c ≡ 34 → front_of 1 octets ≡ cutting.quoted_front (units_first is_quote after).units (units_first is_quote after).rest
 quoted_is octets after c whole is = ap (front_of 1) (whole ∙ first_octet_is c 34 after is) ∙ at_sign 1 34 after a_quote refl

@@ -11,6 +11,7 @@ use Rattle.zone_rdata.specs.declared.fault.Fault.{Fault}
 use Rattle.zone_rdata.specs.declared.fault.Fault.TheVariants.{BadDirective, NoOwner}
 use Rattle.zone_rdata.specs.declared.fault.Place.{Place}
 use Rattle.zone_rdata.specs.declared.queue.PendingRecords.{PendingRecords}
+use Rattle.zone_rdata.specs.declared.record.Placed.{Placed}
 use Rattle.zone_text.specs.ParserState.{IsStateAfter, IsTtlOrNone}
 use Rattle.zone_text.specs.Entries.{Entry}
 use Rattle.zone_text.specs.EntryFault.{EntryFault, WordFault}
@@ -46,6 +47,7 @@ with_owner owner d = record {
   default_ttl = d.default_ttl;
   last_ttl = d.last_ttl;
   minimum = d.minimum;
+  rdata = d.rdata;
 }
 
 -- A record entry in the state that others left, but for the owner, which is the entry's: that
@@ -88,12 +90,14 @@ pub record IsReadTo (origin : Labels) (before : List Entry) (entry : Entry) (d :
   pub least : last ≡ option_or (minimum rdata) d.minimum
   pub ttl : found ≡ option_or (option_or (option_or own d.default_ttl) d.last_ttl) last
 
--- a record entry of the owner up to its data and TTL
-pub record ReadsContents (origin : Labels) (before : List Entry) (entry : Entry) (d : ParserState)
-    (name : Labels) (own : Option ℕ) (rdata : Data) (last : Option ℕ) (ttl : ℕ) : Type 0 where
-  pub head : Head
-  pub named : head.owner ≡ name
-  pub read : IsReadTo origin before entry d head own rdata last (Some ttl)
+-- The record that an entry states comes after others, with its place, and what is left to the
+-- entries after it
+pub record AppendsRecord (origin : Labels) (before : List Entry) (entry : Entry) (place : Place)
+    (old new : List Placed) (next : ParserState) : Type 0 where
+  pub stated : Record
+  pub states : EntryStates origin before entry stated
+  pub left : IsStateAfter origin (entry ∷ before) next
+  pub appended : new ≡ old ++ (record { rr = stated; place = place }) ∷ []
 
 abbrev pub with_origin : Labels → ParserState → ParserState
 with_origin origin d = record {
@@ -103,6 +107,7 @@ with_origin origin d = record {
   default_ttl = d.default_ttl;
   last_ttl = d.last_ttl;
   minimum = d.minimum;
+  rdata = d.rdata;
 }
 
 abbrev pub with_default_ttl : Option ℕ → ParserState → ParserState
@@ -113,6 +118,7 @@ with_default_ttl seconds d = record {
   default_ttl = seconds;
   last_ttl = d.last_ttl;
   minimum = d.minimum;
+  rdata = d.rdata;
 }
 
 -- the owner becomes the name that a text spells under the origin

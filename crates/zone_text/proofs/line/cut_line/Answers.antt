@@ -1,10 +1,10 @@
 use Rattle.std.proofs.lemmas.List.Elements.{All-from_recursion}
 use Rattle.std.proofs.lemmas.List.Sums.{prefix_len-le-length}
 use Rattle.std.specs.List.{prefix_len}
-use Rattle.zone_text.proofs.Common.{All, EndsAt, ap, arith, drop, eqb-false, false, length, map, raw, refl, stops_bare, subst, suc, sym, take, ◌∙◌, ◌≡◌, ◌≢◌}
+use Rattle.zone_text.proofs.Common.{All, EndsAt, ap, arith, drop, false, length, map, raw, refl, stops_bare, subst, suc, sym, take, ◌∙◌, ◌≡◌}
 use Rattle.zone_text.proofs.Files.Left.{line_feeds}
 use Rattle.zone_text.proofs.Scanning.FirstEntries.{IsCutTo, blank_passed, comment_passed, cut_bare, cut_ended, cut_more, cut_none, cut_on, item_passed}
-use Rattle.zone_text.proofs.Tokens.ItemsLeft.{bare_front, in_front_shorter}
+use Rattle.zone_text.proofs.Tokens.ItemsLeft.{in_front_shorter}
 use Rattle.zone_text.proofs.Tokens.OneLine.{one_line, passed_bare, passed_escaped, passed_gap, passed_item}
 use Rattle.zone_text.proofs.Scanning.StopMarks.{after_stop, blank_stop, goes_on, prefix_each, prefix_ends}
 use Rattle.zone_text.proofs.line.cut_line.Goals as goal
@@ -42,8 +42,8 @@ loop-rest-preserved-then-stop-le32 c =
       line = passed_gap _ _ blank ∙ passed_bare _ _ _ c.bare_len-len.ensures.len c.split_at.ensures.back ∙ c.loop-rest.invariant.line;
     }
 
-pub escaped_len-requires : goal.escaped_len-requires
-escaped_len-requires c =
+pub escaped_item-requires : goal.escaped_item-requires
+escaped_item-requires c =
     let len : c.bare_len-len.result.0 ≡ prefix_len goes_on c.loop-rest.rest.now = c.bare_len-len.ensures.len in
     record {
       within = omega (arith, len, prefix_len-le-length goes_on c.loop-rest.rest.now);
@@ -52,13 +52,11 @@ escaped_len-requires c =
     }
 
 pub loop-rest-smaller-then-stop-eq92 : goal.loop-rest-smaller-then-stop-eq92
-loop-rest-smaller-then-stop-eq92 c =
-    in_front_shorter _ _ _ (bare_front _ _ _ _ c.escaped_len.ensures.len c.split_at-then-stop-eq92.ensures.front c.split_at-then-stop-eq92.ensures.back (let some : length c.split_at-then-stop-eq92.result.0.now ≢ 0 = eqb-false _ 0 (sym c.is_empty-then-stop-eq92.ensures ∙ c.if-is_empty.false) in omega (arith, some)))
+loop-rest-smaller-then-stop-eq92 c = in_front_shorter _ _ _ c.in-Some-escaped_item.ensures.found
 
 pub loop-rest-preserved-then-stop-eq92 : goal.loop-rest-preserved-then-stop-eq92
 loop-rest-preserved-then-stop-eq92 c =
-    let some : length c.split_at-then-stop-eq92.result.0.now ≢ 0 = eqb-false _ 0 (sym c.is_empty-then-stop-eq92.ensures ∙ c.if-is_empty.false) in
-    let passed = item_passed _ _ _ (bare_front _ _ _ _ c.escaped_len.ensures.len c.split_at-then-stop-eq92.ensures.front c.split_at-then-stop-eq92.ensures.back (omega (arith, some))) in
+    let passed = item_passed _ _ _ c.in-Some-escaped_item.ensures.found in
     record {
       cut = cut_more _ _ _ _ _ _ c.loop-rest.invariant.cut passed c.in_ok-keep.ensures;
       tells = c.unseen-stops-then-stop-eq92.ensures;
