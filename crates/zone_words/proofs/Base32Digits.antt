@@ -1,12 +1,8 @@
 -- Digits of base32hex, read one after the other, and that they stand for one list of octets.
-use Rattle.std.proofs.Common.{[], ◌≡◌, ℕ, zero, suc, ◌+◌, ◌-◌, ◌*◌, ◌/◌, ◌%◌, ◌^◌, ◌<◌, ◌≤◌, Some, List, ◌∷◌, ◌++◌, length, get_or, take, refl, sym, ap, ◌∙◌, arith, length-append, append_assoc, add-zero, subst, Option, None}
-use Rattle.std.proofs.lemmas.List.{append-nil, take_all, take_more}
-use Rattle.std.specs.List.{AllZip}
-use Rattle.std.specs.Prelude.{fold}
-use Rattle.zone_name.proofs.InOctets.Pushing.{AllByRecursion-append}
-use Rattle.zone_name.specs.Common.{AreOctets}
-use Rattle.zone_words.proofs.LengthsBefore.{after_length_once, appended_after_length}
-use Rattle.zone_words.specs.Fault.{AppendsStated}
+use Rattle.std.proofs.lemmas.Nat.{pow_pos}
+use Rattle.zone_words.proofs.Common.{AllByRecursion-append, AllZip, AllZip-get_or, AllZip-push, AppendsStated, AreOctets, List, None, Option, Some, [], add-zero, ap, append-nil, append_assoc, arith, fold, get_or, length, length-append, length_all_zip, refl, subst, suc, sym, take, take_all, take_more, zero, ℕ, ◌%◌, ◌*◌, ◌++◌, ◌+◌, ◌-◌, ◌/◌, ◌<◌, ◌^◌, ◌∙◌, ◌∷◌, ◌≡◌, ◌≤◌}
+use Rattle.zone_words.proofs.OfParameters.Lists.{zip_once}
+use Rattle.zone_words.proofs.LengthsBefore.{after_length_once}
 use Rattle.zone_words.specs.Kinds.Hash.{IsBase32Hex, StatesHash, base32_digit, number_of}
 
 abbrev pub IsDigit : ℕ → ℕ → Type 0
@@ -17,34 +13,8 @@ digit_small c v h = grind (arith)
 
 -- ---- lists side by side
 
-zip_length : {A B : Type 0} (R : A → B → Type 0) (xs : List A) (ys : List B) → AllZip R xs ys → length xs ≡ length ys
-zip_length R [] [] h = refl
-zip_length R [] (y ∷ ys) h = absurd h
-zip_length R (x ∷ xs) [] h = absurd h
-zip_length R (x ∷ xs) (y ∷ ys) h = ap suc (zip_length R xs ys h.1)
-
-zip_more : {A B : Type 0} (R : A → B → Type 0) (xs : List A) (ys : List B) (x : A) (y : B) → AllZip R xs ys → R x y → AllZip R (xs ++ x ∷ []) (ys ++ y ∷ [])
-zip_more R [] [] x y h more = (more, tt)
-zip_more R [] (b ∷ ys) x y h more = absurd h
-zip_more R (a ∷ xs) [] x y h more = absurd h
-zip_more R (a ∷ xs) (b ∷ ys) x y h more = (h.0, zip_more R xs ys x y h.1 more)
-
-zip_at : (xs ys : List ℕ) (i d : ℕ) → AllZip IsDigit xs ys → i < length xs → (v : ℕ) × IsDigit (get_or xs i d) v
-zip_at [] ys i d h lt = absurd (omega arith)
-zip_at (x ∷ xs) [] i d h lt = absurd h
-zip_at (x ∷ xs) (y ∷ ys) zero d h lt = (y, h.0)
-zip_at (x ∷ xs) (y ∷ ys) (suc i) d h lt = zip_at xs ys i d h.1 (omega arith)
-
 one_digit : (c a b : ℕ) → IsDigit c a → IsDigit c b → a ≡ b
 one_digit c a b x y = cc (sym x ∙ y)
-
-same_digits : (text a b : List ℕ) → AllZip IsDigit text a → AllZip IsDigit text b → a ≡ b
-same_digits [] [] [] x y = refl
-same_digits [] [] (e ∷ b) x y = absurd y
-same_digits [] (d ∷ a) b x y = absurd x
-same_digits (c ∷ text) [] b x y = absurd x
-same_digits (c ∷ text) (d ∷ a) [] x y = absurd y
-same_digits (c ∷ text) (d ∷ a) (e ∷ b) x y = rw (one_digit c d e x.0 y.0, same_digits text a b x.1 y.1) refl
 
 -- ---- digits as one number
 
@@ -54,9 +24,6 @@ number_from base n digits = fold (λ n d. n * base + d) n digits
 number_more_from : (base n : ℕ) (digits : List ℕ) (d : ℕ) → number_from base n (digits ++ d ∷ []) ≡ number_from base n digits * base + d
 number_more_from base n [] d = refl
 number_more_from base n (c ∷ digits) d = number_more_from base (n * base + c) digits d
-
-number_more : (base : ℕ) (digits : List ℕ) (d : ℕ) → number_of base (digits ++ d ∷ []) ≡ number_of base digits * base + d
-number_more base digits d = number_more_from base 0 digits d
 
 -- one number has one list of so many octets
 number_once_from : (n m : ℕ) (a b : List ℕ) → length a ≡ length b → AreOctets a → AreOctets b → number_from 256 n a ≡ number_from 256 m b → (n ≡ m) × (a ≡ b)
@@ -105,14 +72,6 @@ no_bits (suc (suc (suc zero))) m n bits few same low = (omega arith, omega arith
 no_bits (suc (suc (suc (suc zero)))) m n bits few same low = (omega arith, omega arith)
 no_bits (suc (suc (suc (suc (suc k))))) m n bits few same low = absurd (omega arith)
 
-positive : (k : ℕ) → k < 5 → 0 < 2 ^ k
-positive zero few = omega arith
-positive (suc zero) few = omega arith
-positive (suc (suc zero)) few = omega arith
-positive (suc (suc (suc zero))) few = omega arith
-positive (suc (suc (suc (suc zero)))) few = omega arith
-positive (suc (suc (suc (suc (suc k))))) few = absurd (omega arith)
-
 -- a shift to the left as the code has it
 shifted : (k : ℕ) → k < 5 → 1 * 2 ^ k % 4294967296 ≡ 2 ^ k
 shifted zero few = omega arith
@@ -135,12 +94,9 @@ pub record HaveRead (text : List ℕ) (i : ℕ) (octets : List ℕ) (bits count 
   pub low : bits < 2 ^ count
   pub each : AreOctets octets
 
-pub none_read : (text : List ℕ) → HaveRead text 0 [] 0 0
-none_read text = record { digits = []; spelt = tt; counted = refl; filled = refl; number = refl; few = omega arith; low = omega arith; each = tt }
-
 spelt_more : (text digits : List ℕ) (i c d v : ℕ) → i < length text → c ≡ get_or text i d → IsDigit c v → AllZip IsDigit (take i text) digits → AllZip IsDigit (take (i + 1) text) (digits ++ v ∷ [])
 spelt_more text digits i c d v lt found is spelt =
-    rw (take_more text i d lt, ← found) (zip_more IsDigit (take i text) digits c v spelt is)
+    rw (take_more text i d lt, ← found) (AllZip-push IsDigit (take i text) digits c v spelt is)
 
 counted_more : (digits : List ℕ) (i v : ℕ) → length digits ≡ i → length (digits ++ v ∷ []) ≡ i + 1
 counted_more digits i v counted = length-append digits (v ∷ []) ∙ ap (λ n. n + 1) counted
@@ -152,7 +108,7 @@ read_kept text octets i c d v bits count lt found is have room = record {
   spelt = spelt_more text have.digits i c d v lt found is have.spelt;
   counted = counted_more have.digits i v have.counted;
   filled = omega (arith, have.filled);
-  number = number_more 32 have.digits v ∙ kept_number count bits v (number_of 32 have.digits) (number_of 256 octets) (omega arith) have.number;
+  number = number_more_from 32 0 have.digits v ∙ kept_number count bits v (number_of 32 have.digits) (number_of 256 octets) (omega arith) have.number;
   few = room;
   low = kept_low count bits v (omega arith) have.low (digit_small c v is);
   each = have.each;
@@ -169,7 +125,7 @@ read_filled text octets i c d v bits k lt found is have =
       spelt = spelt_more text have.digits i c d v lt found is have.spelt;
       counted = counted_more have.digits i v have.counted;
       filled = omega (arith, have.filled, length-append octets (octet ∷ []));
-      number = number_more 32 have.digits v ∙ f.number ∙ ap (λ n. n * 2 ^ k + (bits * 32 + v) % 2 ^ k) (sym (number_more 256 octets octet));
+      number = number_more_from 32 0 have.digits v ∙ f.number ∙ ap (λ n. n * 2 ^ k + (bits * 32 + v) % 2 ^ k) (sym (number_more_from 256 0 octets octet));
       few = omega (arith, few);
       low = f.low;
       each = AllByRecursion-append (λ n. n < 256) octets (octet ∷ []) have.each (f.octet, tt);
@@ -182,7 +138,7 @@ pub record Reading (text old out : List ℕ) (i bits count : ℕ) : Type 0 where
   pub have : HaveRead text i octets bits count
 
 pub begun : (text old : List ℕ) → Reading text old old 0 0 0
-begun text old = record { octets = []; grown = sym (append-nil old); have = none_read text }
+begun text old = record { octets = []; grown = sym (append-nil old); have = record { digits = []; spelt = tt; counted = refl; filled = refl; number = refl; few = omega arith; low = omega arith; each = tt } }
 
 pub is_digit : (c v w : ℕ) (r : Option ℕ) → r ≡ base32_digit c → r ≡ Some w → v ≡ w → IsDigit c v
 is_digit c v w r gives is same = rw same (sym gives ∙ is)
@@ -215,14 +171,13 @@ no_digit c r gives none v is = cc (sym gives ∙ none, is)
 
 pub bad_digit : (text : List ℕ) (i c d : ℕ) → i < length text → c ≡ get_or text i d → ((v : ℕ) → IsDigit c v → ⊥) → (octets : List ℕ) → IsBase32Hex text octets → ⊥
 bad_digit text i c d lt found none octets is =
-    let digit = zip_at text is.digits i d is.spelt lt in
-    none digit.0 (rw (sym found) at digit.1)
+    none (get_or is.digits i 0) (rw (sym found) at (AllZip-get_or IsDigit text is.digits i d 0 is.spelt lt))
 
 -- the end of the text, where the unused bits are zero
 read_whole : (text octets : List ℕ) (i bits count : ℕ) → length text ≤ i → 0 < length text → HaveRead text i octets bits count → count < 5 → bits ≡ 0 → IsBase32Hex text octets
 read_whole text octets i bits count past some have few none =
     let spelt : AllZip IsDigit text have.digits = rw (take_all i text past) at have.spelt in
-    let same = zip_length IsDigit text have.digits spelt in record {
+    let same = length_all_zip IsDigit text have.digits spelt in record {
       some = omega (arith, have.filled, have.counted);
       each = have.each;
       digits = have.digits;
@@ -244,7 +199,7 @@ reads_whole text old out i bits count past some r few none = record {
 pub unused_bits : (text octets : List ℕ) (i bits count : ℕ) → length text ≤ i → HaveRead text i octets bits count → (value : List ℕ) → IsBase32Hex text value → (count < 5) × (bits ≡ 0)
 unused_bits text octets i bits count past have value is =
     let spelt : AllZip IsDigit text have.digits = rw (take_all i text past) at have.spelt in
-    let same = same_digits text is.digits have.digits is.spelt spelt in
+    let same = zip_once IsDigit one_digit text is.digits have.digits is.spelt spelt in
     let lengths = ap length same in
     let few : count < 5 = omega (arith, have.filled, have.counted, have.few, is.count, is.few, lengths) in
     let unused : is.unused ≡ count = omega (arith, have.filled, have.counted, have.few, is.count, is.few, lengths) in
@@ -253,21 +208,17 @@ unused_bits text octets i bits count past have value is =
 
 pub one_base32 : (text a b : List ℕ) → IsBase32Hex text a → IsBase32Hex text b → a ≡ b
 one_base32 text a b x y =
-    let same = same_digits text x.digits y.digits x.spelt y.spelt in
+    let same = zip_once IsDigit one_digit text x.digits y.digits x.spelt y.spelt in
     let lengths = ap length same in
     let unused : x.unused ≡ y.unused = omega (arith, x.count, x.few, y.count, y.few, lengths) in
     let count : length a ≡ length b = omega (arith, x.count, x.few, y.count, y.few, lengths) in
     let numbers : number_of 256 a * 2 ^ y.unused ≡ number_of 256 b * 2 ^ y.unused + 0 = sym (rw unused at x.bits) ∙ ap (number_of 32) same ∙ y.bits ∙ sym (add-zero _) in
-    let equal = no_bits y.unused (number_of 256 a) (number_of 256 b) 0 y.few numbers (positive y.unused y.few) in
+    let equal = no_bits y.unused (number_of 256 a) (number_of 256 b) 0 y.few numbers (pow_pos y.unused) in
     (number_once_from 0 0 a b count x.each y.each equal.1).1
 
 -- how many octets so many digits stand for
-octet_count : (text octets : List ℕ) → IsBase32Hex text octets → length octets ≡ length text * 5 / 8
-octet_count text octets is = omega (arith, is.count, is.few, zip_length IsDigit text is.digits is.spelt)
-
-pub hash_appended : (text old mid new : List ℕ) → length text ≤ 408 → mid ≡ old ++ (length text * 5 / 8) ∷ [] → AppendsStated (IsBase32Hex text) mid new → AppendsStated (StatesHash text) old new
-hash_appended text old mid new few grown more =
-    appended_after_length IsBase32Hex text old mid new _ grown more (sym (octet_count text more.octets more.stated)) (omega (arith, octet_count text more.octets more.stated))
+pub octet_count : (text octets : List ℕ) → IsBase32Hex text octets → length octets ≡ length text * 5 / 8
+octet_count text octets is = omega (arith, is.count, is.few, length_all_zip IsDigit text is.digits is.spelt)
 
 pub hash_once : (text a b : List ℕ) → StatesHash text a → StatesHash text b → a ≡ b
 hash_once text a b x y = after_length_once IsBase32Hex one_base32 text a b x y

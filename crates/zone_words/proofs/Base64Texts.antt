@@ -1,16 +1,11 @@
 -- A text in base64 stands for one list of octets, those that it decodes to.
-use Rattle.std.proofs.Common.{[], ◌≡◌, ℕ, ◌<◌, List, ◌∷◌, length, take, drop, ◌++◌, ◌==◌, Bool, false, refl, sym, ap, ◌∙◌, arith, lit<, Ok, Err}
-use Rattle.std.proofs.lemmas.List.{nil_from_length, take-append-drop}
+use Rattle.zone_words.proofs.Common.{AppendsStated, AreOctets, Bool, List, Ok, [], ap, arith, bytes_each, drop, each_below, false, length, lit<, nil_from_length, refl, sym, take, take-append-drop, ℕ, ◌++◌, ◌<◌, ◌==◌, ◌∙◌, ◌∷◌, ◌≡◌}
 use Rattle.base64.proofs.EngineFacts.{decode_of-encode_of, decode_of_strict, encode_of-nil}
 use Rattle.base64.specs.Engines.{standard}
 use Rattle.base64.specs.GeneralPurpose.{IsBytes, decode_of, encode_of}
-use Rattle.base64.specs.declared.decode.DecodeError.{DecodeError}
-use Rattle.zone_name.specs.Common.{AreOctets}
-use Rattle.zone_rdata.proofs.Lists.{bytes_each, each_below}
-use Rattle.zone_words.specs.Fault.{AppendsStated}
 use Rattle.zone_words.specs.Kinds.Base64.{IsBase64}
 
-decodes_again : (octets : List ℕ) → AreOctets octets → decode_of standard (encode_of standard octets) ≡ Ok octets
+pub decodes_again : (octets : List ℕ) → AreOctets octets → decode_of standard (encode_of standard octets) ≡ Ok octets
 decodes_again octets each = decode_of-encode_of standard octets refl (each_below 256 octets (lit< tt) each)
 
 encoded_once : (a b : List ℕ) → AreOctets a → AreOctets b → encode_of standard a ≡ encode_of standard b → a ≡ b
@@ -44,12 +39,6 @@ decoded_is text octets texts bytes some decoded =
       each = bytes_each octets bytes;
       encoded = encoded;
     }
-
--- a text that doesn't decode is no base64
-pub undecoded : (text : List ℕ) (e : DecodeError) → decode_of standard text ≡ Err e → (octets : List ℕ) → IsBase64 text octets → ⊥
-undecoded text e bad octets is =
-    let good = ap (decode_of standard) is.encoded ∙ decodes_again octets is.each in
-    cc (sym bad ∙ good)
 
 -- decoded octets behind those that were there
 pub decoded_appended : (text old new : List ℕ) (n : ℕ) → IsBytes text → IsBytes (drop n new) → 0 < length text → decode_of standard text ≡ Ok (drop n new) → take n new ≡ old → AppendsStated (IsBase64 text) old new

@@ -1,27 +1,14 @@
 -- One thing becomes of an entry.
-use Rattle.std.proofs.Common.{arith, ap, refl, subst, sym, ◌∙◌, ◌≡◌, ◌∷◌, ◌++◌, ◌+◌, [], List, ℕ, true, length}
-use Rattle.std.proofs.lemmas.List.Concat.{flat_map-append}
-use Rattle.std.proofs.lemmas.List.{length-append}
-use Rattle.std.specs.List.{flat_map}
-use Rattle.std.specs.Prelude.{codes}
-use Rattle.zone_name.specs.Common.{Labels}
-use Rattle.zone_name.specs.Spelling.{Written, written_text}
-use Rattle.zone_rdata.specs.Item.{IsGeneric}
-use Rattle.zone_text.specs.Entries.{Entry, entry_of, item_of}
-use Rattle.zone_text.specs.Tokens.{Token}
+use Rattle.zone_words.proofs.Common.{Anew, AreOnOneLine, BecomesUnder, DataFails, Entry, FurtherType, IsFurtherUnder, IsGeneric, IsRefused, Labels, LineFeedWithinQuotes, List, Outcome, Refused, SaysAnew, StatesData, Token, TokensFail, TokensSay, TooManyItems, TouchingItem, WordsFault, Written, [], anew, ap, arith, codes, entry_of, flat_map, flat_map-append, in_generic_form, item_of, kept, length, length-append, no_data, on_more_lines, refl, refusal, refused, renamed, subst, sym, too_many, touching_items, true, written, written_text, ℕ, ◌++◌, ◌+◌, ◌∙◌, ◌∷◌, ◌≡◌}
 use Rattle.zone_text.specs.Tokens as tokens
 use Rattle.zone_words.proofs.DataLaws.{data_once, data_or_fault}
 use Rattle.zone_words.proofs.FaultsOnce.{data_fault_once}
 use Rattle.zone_words.proofs.Origins.{origin_once}
 use Rattle.zone_words.proofs.Turns.{Under, fails_in_words, fails_under, items_behind, record_once, says_under}
-use Rattle.zone_words.specs.Data.{DataFails, StatesData}
-use Rattle.zone_words.specs.DataItem.{TouchingItem, items_of}
-use Rattle.zone_words.specs.Entry.{AreOnOneLine, BecomesUnder, IsFurtherUnder, IsRefused, SaysAnew, TokensFail, TokensSay, anew, in_generic_form, in_words, kept, no_data, on_more_lines, refusal, refused, too_many, touching_items}
-use Rattle.zone_words.specs.Rewriting.{Outcome, Refused}
-use Rattle.zone_words.specs.Table.{FurtherType, fields_in}
-use Rattle.zone_words.specs.Written.{Anew, in_octets, renamed, written}
-use Rattle.zone_words.specs.declared.fault.WordsFault.{WordsFault}
-use Rattle.zone_words.specs.declared.fault.WordsFault.TheVariants.{LineFeedWithinQuotes, TooManyItems}
+use Rattle.zone_words.specs.DataItem.{items_of}
+use Rattle.zone_words.specs.Entry.{in_words}
+use Rattle.zone_words.specs.Table.{fields_in}
+use Rattle.zone_words.specs.Written.{in_octets}
 
 -- ---- the type's word stands at one place
 

@@ -1,13 +1,7 @@
 -- A set of types has one bitmap.
-use Rattle.std.proofs.Common.{◌≡◌, ◌≢◌, ℕ, zero, suc, [], ◌∷◌, ◌+◌, ◌-◌, ◌*◌, ◌/◌, ◌%◌, ◌^◌, ◌<◌, ◌≤◌, inl, inr, List, length, get_or, refl, sym, ap, ap₂, ◌∙◌, subst, arith}
-use Rattle.std.proofs.Math.Nat.{pow-suc}
-use Rattle.std.proofs.lemmas.Bool.{cases_lt}
-use Rattle.std.proofs.lemmas.List.{get_or_default, get_or_past, same_lists}
+use Rattle.zone_words.proofs.Common.{AllByRecursion, AreOctets, AscendFrom, HasBit, HaveType, IsWindow, List, Window, [], ap₂, arith, bit_at, cases_lt, get_or, get_or_default, get_or_past, inl, inr, length, pow-suc, refl, subst, suc, sym, zero, ℕ, ◌%◌, ◌*◌, ◌+◌, ◌-◌, ◌/◌, ◌<◌, ◌^◌, ◌∙◌, ◌∷◌, ◌≡◌, ◌≢◌, ◌≤◌}
+use Rattle.std.proofs.lemmas.List.{same_lists}
 use Rattle.std.proofs.lemmas.Nat.Bits.{bit_at-lt, bit_at-suc, bit_at_lowest, same_from_bits_below}
-use Rattle.std.specs.Int.{bit_at}
-use Rattle.std.specs.List.{AllByRecursion, flat_map}
-use Rattle.zone_name.specs.Common.{AreOctets}
-use Rattle.zone_words.specs.Kinds.Bitmap.{AscendFrom, HasBit, HaveType, IsBitmapOf, IsWindow, Window, window_octets}
 
 -- a number that isn't 0 has a bit
 some_bit : (w c : ℕ) → c < 2 ^ w → c ≢ 0 → (i : ℕ) × ((i < w) × (bit_at c i ≡ 1))
@@ -116,7 +110,7 @@ window_once w v is too number there back =
     let bits : w.bits ≡ v.bits = same_lists w.bits v.bits count (λ k d inside. get_or_default w.bits k d 0 inside ∙ same k (omega (arith, is.few)) ∙ get_or_default v.bits k 0 d (omega arith)) in
     ap₂ (λ (n : ℕ) (l : List ℕ). let x : Window = record { number = n; bits = l } in x) number bits
 
-windows_once : (least : ℕ) (ws vs : List Window) → AllByRecursion IsWindow ws → AllByRecursion IsWindow vs → AscendFrom least ws → AscendFrom least vs → HaveThose ws vs → HaveThose vs ws → ws ≡ vs
+pub windows_once : (least : ℕ) (ws vs : List Window) → AllByRecursion IsWindow ws → AllByRecursion IsWindow vs → AscendFrom least ws → AscendFrom least vs → HaveThose ws vs → HaveThose vs ws → ws ≡ vs
 windows_once least [] [] each all up above there back = refl
 windows_once least [] (v ∷ vs) each all up above there back =
     let has = window_type v all.0 in
@@ -129,8 +123,3 @@ windows_once least (w ∷ ws) (v ∷ vs) each all up above there back =
     ap₂ (λ x xs. x ∷ xs)
     (window_once w v each.0 all.0 number (λ k below. bit_from w v ws vs k below number above.1 there) (λ k below. bit_from v w vs ws k below (sym number) up.1 back))
     (windows_once (w.number + 1) ws vs each.1 all.1 up.1 (subst (λ (n : ℕ). AscendFrom (n + 1) vs) (sym number) above.1) (rest_from w v ws vs number up.1 there) (rest_from v w vs ws (sym number) above.1 back))
-
--- the types have one bitmap
-pub bitmap_once : (Is : ℕ → Type 0) (a b : List ℕ) → IsBitmapOf Is a → IsBitmapOf Is b → a ≡ b
-bitmap_once Is a b these those =
-    these.parts ∙ ap (flat_map window_octets) (windows_once 0 these.windows those.windows these.each those.each these.ascend those.ascend (λ n have. (those.types n).1 ((these.types n).0 have)) (λ n have. (these.types n).1 ((those.types n).0 have))) ∙ sym those.parts

@@ -1,17 +1,7 @@
 -- Bits that are set one by one, and the windows that they are parted into.
-use Rattle.std.proofs.Common.{◌≡◌, ◌≢◌, ℕ, [], ◌∷◌, ◌+◌, ◌-◌, ◌*◌, ◌/◌, ◌%◌, ◌^◌, ◌<◌, ◌≤◌, ◌↔◌, ◌⊎◌, ◌++◌, inl, inr, List, length, get_or, set, take, drop, min, refl, sym, ap, ◌∙◌, subst, arith}
-use Rattle.std.proofs.lemmas.Bool.{cases_lt}
-use Rattle.std.proofs.lemmas.Bool.Decides.{eqb_tells}
-use Rattle.std.proofs.lemmas.List.{append-nil, append_assoc, get_or-drop, get_or_default, get_or-set_other, get_or-set_same, get_or-take, get_or_past, length-take}
-use Rattle.std.proofs.lemmas.List.Concat.{flat_map-append}
-use Rattle.std.proofs.lemmas.List.Elements.{recursion_from_All}
+use Rattle.zone_words.proofs.Common.{AllByRecursion, AllByRecursion-append, AscendFrom, HasBit, HaveType, IsWindow, List, Window, [], ap, append-nil, append_assoc, arith, bit_at, cases_lt, drop, eqb_tells, flat_map, flat_map-append, get_or, get_or-drop, get_or-set_other, get_or-set_same, get_or-take, get_or_default, get_or_past, inl, inr, length, length-take, min, recursion_from_All, refl, set, subst, sym, take, w8, window_octets, ℕ, ◌%◌, ◌*◌, ◌++◌, ◌+◌, ◌-◌, ◌/◌, ◌<◌, ◌^◌, ◌↔◌, ◌∙◌, ◌∷◌, ◌≡◌, ◌≢◌, ◌≤◌, ◌⊎◌}
 use Rattle.std.proofs.lemmas.Nat.Bits.{bit_at_set_other, bit_at_set_same}
-use Rattle.std.specs.Int.{bit_at, w8}
 use Rattle.std.specs.Int.Bits.{bit_or}
-use Rattle.std.specs.List.{AllByRecursion, flat_map}
-use Rattle.zone_name.proofs.InOctets.Pushing.{AllByRecursion-append}
-use Rattle.zone_name.specs.Common.{AreOctets}
-use Rattle.zone_words.specs.Kinds.Bitmap.{AscendFrom, HasBit, HaveType, IsWindow, Window, window_octets}
 use Rattle.zone_words.specs.Machine.Windows.{AppendsWindow, nothing, window}
 
 -- ---- one bit more
@@ -19,10 +9,6 @@ use Rattle.zone_words.specs.Machine.Windows.{AppendsWindow, nothing, window}
 -- the octets with one more bit
 abbrev pub with_bit : List ℕ → ℕ → List ℕ
 with_bit bits a = set bits (a / 8) (bit_or (get_or bits (a / 8) 0) (1 * 2 ^ (7 - a % 8) % 2 ^ 8))
-
-bit_same : (bits : List ℕ) (a : ℕ) → a / 8 < length bits → HasBit (with_bit bits a) a
-bit_same bits a inside =
-    rw (get_or-set_same bits (a / 8) (bit_or (get_or bits (a / 8) 0) (1 * 2 ^ (7 - a % 8) % 2 ^ 8)) 0 inside) (bit_at_set_same w8 (get_or bits (a / 8) 0) (7 - a % 8) (omega arith))
 
 bit_other : (bits : List ℕ) (a n : ℕ) → a / 8 < length bits → n ≢ a → bit_at (get_or (with_bit bits a) (n / 8) 0) (7 - n % 8) ≡ bit_at (get_or bits (n / 8) 0) (7 - n % 8)
 bit_other bits a n inside apart =
@@ -40,7 +26,7 @@ one_more bits a n inside = (
     | inr other ↦ inr (sym (bit_other bits a n inside other.1) ∙ h)
   ],
   λ e. elim (eqb_tells n a) [
-    | inl same ↦ let P : ℕ → Type 0 = λ x. HasBit (with_bit bits a) x in subst P (sym same.1) (bit_same bits a inside)
+    | inl same ↦ let P : ℕ → Type 0 = λ x. HasBit (with_bit bits a) x in subst P (sym same.1) (rw (get_or-set_same bits (a / 8) (bit_or (get_or bits (a / 8) 0) (1 * 2 ^ (7 - a % 8) % 2 ^ 8)) 0 inside) (bit_at_set_same w8 (get_or bits (a / 8) 0) (7 - a % 8) (omega arith)))
     | inr other ↦ elim e [
       | inl same ↦ absurd (other.1 same)
       | inr has ↦ bit_other bits a n inside other.1 ∙ has
@@ -80,10 +66,6 @@ cut_octet bits len k zeros =
       | inr past ↦ get_or_past (take len bits) k 0 (let l = length-take len bits in omega arith) ∙ sym (zeros k past)
     ]
 
-octets_taken : (bits : List ℕ) (len : ℕ) → ((k : ℕ) → get_or bits k 0 < 256) → ((k : ℕ) → len ≤ k → get_or bits k 0 ≡ 0) → AreOctets (take len bits)
-octets_taken bits len octets zeros =
-    recursion_from_All (λ c. c < 256) (take len bits) (λ k d inside. let e = get_or_default (take len bits) k d 0 inside in omega (arith, e, cut_octet bits len k zeros, octets k))
-
 pub one_window : (number : ℕ) (bits old new : List ℕ) (len : ℕ) → number < 256 → ((k : ℕ) → get_or bits k 0 < 256) → length bits ≤ 32 → len ≤ length bits → 0 < len → get_or bits (len - 1) 0 ≢ 0 → ((k : ℕ) → len ≤ k → get_or bits k 0 ≡ 0) → new ≡ (old ++ (number ∷ len ∷ [])) ++ take len bits → AppendsWindow number bits old new
 one_window number bits old new len below octets short few some last zeros written =
     let count : length (take len bits) ≡ len = let l = length-take len bits in omega arith in
@@ -93,7 +75,7 @@ one_window number bits old new len below octets short few some last zeros writte
       number = below;
       some = omega arith;
       few = omega arith;
-      octets = octets_taken bits len octets zeros;
+      octets = recursion_from_All (λ c. c < 256) (take len bits) (λ k d inside. let e = get_or_default (take len bits) k d 0 inside in omega (arith, e, cut_octet bits len k zeros, octets k));
       last = λ zero. last (sym (cut_octet bits len (len - 1) zeros) ∙ ap (λ (n : ℕ). get_or (take len bits) (n - 1) 0) (sym count) ∙ zero);
     })
     refl

@@ -1,7 +1,8 @@
 -- The entries of a text one by one, and other entries that are put together to a text.
-use Rattle.zone_text.proofs.Common.{AllByRecursion, Breaks, Cut, Cuts, EndInLineFeed, Fault, IsOneEntry, List, Some, Token, [], ap, append-nil, append_assoc, bare, blank, closing, comment, cut_from, depth_after, flat_map, in_front, in_front_of, line_feed, opening, quoted, refl, subst, suc, sym, text, zero, ℕ, ◌++◌, ◌∙◌, ◌∷◌, ◌≡◌}
-use Rattle.zone_text.proofs.Tokens.CutAgain.{AreEnded, again_zero, cut_ended, cut_whole, joined}
 use Rattle.zone_text.proofs.Tokens.Lasting.{break_joined, break_parted, cut_joined, cut_parted}
+use Rattle.zone_words.proofs.Common.{AllByRecursion, AreEnded, Breaks, Cut, Cuts, Fault, IsOneEntry, List, Some, Token, [], again_zero, ap, append-nil, append_assoc, blank, closing, comment, cut_ended, cut_from, cut_whole, depth_after, flat_map, in_front, in_front_of, line_feed, opening, refl, subst, suc, sym, text, zero, ℕ, ◌++◌, ◌∙◌, ◌∷◌, ◌≡◌}
+use Rattle.zone_text.proofs.Common.{EndInLineFeed, bare, quoted}
+use Rattle.zone_text.proofs.Tokens.CutAgain.{joined}
 use Rattle.zone_words.proofs.EntryShapes.{IsOne, IsUnended, bare_goes, blank_goes, comment_goes, cut_of, one_off, opening_goes, quoted_goes}
 
 -- ---- the first entry
@@ -18,9 +19,6 @@ pub record IsFirst (d : ℕ) (tokens entry : List Token) (rest : List (List Toke
 abbrev pub HaveFirst : ℕ → List Token → List (List Token) → Type 0
 HaveFirst k tokens ended = (entry : List Token) (rest : List (List Token)) → ended ≡ entry ∷ rest → IsFirst k tokens entry rest
 
-one_longer : (d k : ℕ) (p : Token) (entry : List Token) → ((back : List Token) → cut_from d (p ∷ back) ≡ in_front_of p (cut_from k back)) → IsOne k entry → IsOne d (p ∷ entry)
-one_longer d k p entry goes e = goes entry ∙ ap (in_front_of p) e
-
 module _ (d k : ℕ) (p : Token) (tokens : List Token) (goes : (back : List Token) → cut_from d (p ∷ back) ≡ in_front_of p (cut_from k back)) where
   last_behind : (found : List Token) (rest ended : List (List Token)) → ended ≡ found ∷ rest → (in_front p ended (cut_from k tokens).open_tokens).open_tokens ≡ (cut_from k tokens).open_tokens
   last_behind found rest [] e = absurd cc
@@ -33,7 +31,7 @@ module _ (d k : ℕ) (p : Token) (tokens : List Token) (goes : (back : List Toke
   longer found entry rest others e is same first = record {
     more = first.more;
     whole = ap (λ t. p ∷ t) first.whole ∙ ap (λ t. t ++ first.more) is;
-    one = subst (IsOne d) is (one_longer d k p found goes first.one);
+    one = subst (IsOne d) is (goes found ∙ ap (in_front_of p) first.one);
     later = first.later ∙ same;
     last = first.last ∙ open_behind found others e;
   }
@@ -91,12 +89,6 @@ IsWholeEntry tokens = IsOneEntry (text tokens) tokens
 
 one_ended : (entry : List Token) → IsOne zero entry → AreEnded zero (entry ∷ [])
 one_ended entry one = subst (AreEnded zero) (ap (λ (c : Cut). c.ended) one) (cut_ended zero entry)
-
-one_then : (entry more : List Token) → IsOne zero entry → cut_from zero (entry ++ more) ≡ cut_of (entry ∷ (cut_from zero more).ended) (cut_from zero more).open_tokens
-one_then entry more one = ap (λ t. cut_from zero (t ++ more)) (sym (append-nil entry)) ∙ again_zero (entry ∷ []) more (one_ended entry one)
-
-one_ends : (entry : List Token) → IsOne zero entry → EndInLineFeed entry
-one_ends entry one = subst EndInLineFeed (append-nil entry) (one_ended entry one).ends
 
 -- ---- a text taken apart, and put together again
 
@@ -163,8 +155,8 @@ module _ (Ends : List ℕ → List Token → Type 0) where
       record {
         ends = subst (λ o. Ends o (joined (entry ∷ ended) ++ open_tokens)) octets
             (subst (Ends (text entry ++ (flat_map text ended ++ rest))) same
-            (join (text entry) (flat_map text ended ++ rest) entry (joined ended ++ open_tokens) each.0.cut (one_ends entry each.0.ended) more.ends));
-        cut = ap (cut_from zero) (sym same) ∙ one_then entry (joined ended ++ open_tokens) each.0.ended ∙ ap (λ (c : Cut). cut_of (entry ∷ c.ended) c.open_tokens) more.cut;
+            (join (text entry) (flat_map text ended ++ rest) entry (joined ended ++ open_tokens) each.0.cut (subst EndInLineFeed (append-nil entry) (one_ended entry each.0.ended).ends) more.ends));
+        cut = ap (cut_from zero) (sym same) ∙ (ap (λ t. cut_from zero (t ++ (joined ended ++ open_tokens))) (sym (append-nil entry)) ∙ again_zero (entry ∷ []) (joined ended ++ open_tokens) (one_ended entry each.0.ended)) ∙ ap (λ (c : Cut). cut_of (entry ∷ c.ended) c.open_tokens) more.cut;
       }
 
 -- ---- whole texts, and those that break

@@ -1,9 +1,6 @@
 -- Texts that are cut at an octet in one place.
-use Rattle.std.proofs.Common.{[], ◌≡◌, ◌≢◌, ℕ, List, ◌∷◌, ◌++◌, true, false, refl, sym, ap, ◌∙◌, subst}
-use Rattle.std.specs.List.{AllByRecursion}
-use Rattle.zone_name.proofs.InOctets.Pushing.{AllByRecursion-back}
+use Rattle.zone_words.proofs.Common.{AllByRecursion, AllByRecursion-back, IsMissing, List, [], ap, false, refl, subst, sym, true, ℕ, ◌++◌, ◌∙◌, ◌∷◌, ◌≡◌, ◌≢◌}
 use Rattle.zone_name.specs.Spelling.{is_digit}
-use Rattle.zone_words.specs.Machine.Cuts.{IsMissing}
 
 -- where an octet stands it isn't missing
 pub stands : (c : ℕ) (front back : List ℕ) → IsMissing c (front ++ c ∷ back) → ⊥

@@ -1,12 +1,7 @@
 -- Items state one list of octets at most as data, and none where something is wrong with them.
-use Rattle.std.proofs.Common.{[], ◌≡◌, ℕ, List, ◌∷◌, length, inl, inr, refl, sym, ap, ◌∙◌, arith}
-use Rattle.zone_name.specs.Common.{Labels}
+use Rattle.zone_words.proofs.Common.{AFieldFails, DataFails, Labels, List, NamedField, StateParts, StatesData, TouchingItem, WordsFault, [], ap, arith, at_field, inl, inr, items_after, items_left, length, own_items, refl, sym, too_long, ℕ, ◌∙◌, ◌∷◌, ◌≡◌}
 use Rattle.zone_words.proofs.FieldLaws.{field_once, field_or_fault}
-use Rattle.zone_words.specs.Data.{AFieldFails, DataFails, StateParts, StatesData, at_field, items_left, joined, too_long}
-use Rattle.zone_words.specs.DataItem.{TouchingItem}
-use Rattle.zone_words.specs.Field.{items_after, own_items}
-use Rattle.zone_words.specs.Table.{NamedField}
-use Rattle.zone_words.specs.declared.fault.WordsFault.{WordsFault}
+use Rattle.zone_words.specs.Data.{joined}
 
 parts_once : (origin : Labels) (fields : List NamedField) (items : List TouchingItem) (a b : List (List ℕ)) → StateParts origin fields items a → StateParts origin fields items b → a ≡ b
 parts_once origin [] items [] [] p q = refl

@@ -1,11 +1,9 @@
 -- Tokens that are written anew are cut where they were: their parentheses, their line feeds outside
 -- of them and the order of their tokens are as before.
-use Rattle.zone_text.proofs.Common.{AllFollow, Cut, List, Token, Written, [], ap, bare, blank, closing, comment, cut_from, depth_after, in_front, in_front_of, line_feed, map, opening, plain, quoted, refl, subst, suc, sym, zero, ℕ, ◌++◌, ◌∙◌, ◌∷◌, ◌≡◌}
-use Rattle.hex.specs.Hex.{encode_lower}
-use Rattle.std.specs.Prelude.{codes, decimal, filter, ⊤}
-use Rattle.zone_text.specs.Tokens.{MayFollow}
-use Rattle.zone_text.proofs.Tokens.Cuttings.{follow_after}
-use Rattle.zone_words.specs.Written.{Anew, generic_tokens, in_octets, renamed, stays, type_token, written}
+use Rattle.zone_words.proofs.Common.{AllFollow, Anew, Cut, List, MayFollow, Token, Written, [], ap, blank, closing, codes, comment, cut_from, depth_after, encode_lower, filter, follow_after, generic_tokens, in_front, in_front_of, line_feed, map, opening, plain, refl, renamed, stays, subst, suc, sym, type_token, written, zero, ℕ, ⊤, ◌++◌, ◌∙◌, ◌∷◌, ◌≡◌}
+use Rattle.zone_text.proofs.Common.{bare, quoted}
+use Rattle.std.specs.Prelude.{decimal}
+use Rattle.zone_words.specs.Written.{in_octets}
 
 -- ---- depths
 
@@ -24,11 +22,11 @@ generic_depth : (d number : ℕ) (octets : List ℕ) (more : List Token) → dep
 generic_depth d number [] more = refl
 generic_depth d number (c ∷ octets) more = refl
 
-written_depth : (d : ℕ) (it : Anew) (units : List Written) (back : List Token) → depth_after d (written it back) ≡ depth_after d (bare units ∷ back)
+pub written_depth : (d : ℕ) (it : Anew) (units : List Written) (back : List Token) → depth_after d (written it back) ≡ depth_after d (bare units ∷ back)
 written_depth d (renamed number) units back = refl
 written_depth d (in_octets number octets) units back = generic_depth d number octets (filter stays back) ∙ stay_depth d back
 
-front_depth : (d : ℕ) (front a b : List Token) → ((k : ℕ) → depth_after k a ≡ depth_after k b) → depth_after d (front ++ a) ≡ depth_after d (front ++ b)
+pub front_depth : (d : ℕ) (front a b : List Token) → ((k : ℕ) → depth_after k a ≡ depth_after k b) → depth_after d (front ++ a) ≡ depth_after d (front ++ b)
 front_depth d [] a b same = same d
 front_depth d (opening ∷ front) a b same = front_depth (suc d) front a b same
 front_depth zero (closing ∷ front) a b same = refl
@@ -38,9 +36,6 @@ front_depth d (bare units ∷ front) a b same = front_depth d front a b same
 front_depth d (quoted units ∷ front) a b same = front_depth d front a b same
 front_depth d (line_feed ∷ front) a b same = front_depth d front a b same
 front_depth d (comment octets ∷ front) a b same = front_depth d front a b same
-
-pub anew_depth : (front : List Token) (it : Anew) (units : List Written) (back : List Token) → depth_after zero (front ++ written it back) ≡ depth_after zero (front ++ bare units ∷ back)
-anew_depth front it units back = front_depth zero front (written it back) (bare units ∷ back) (λ k. written_depth k it units back)
 
 -- ---- one token on
 
@@ -177,12 +172,9 @@ one_on d k p tokens goes e = goes tokens ∙ ap (in_front_of p) e
 pub one_off : GoesBack IsOne
 one_off d k p tokens goes e = behind p (cut_from k tokens) tokens (sym (goes tokens) ∙ e)
 
-one_last : LastLine IsOne
-one_last back e = let h : (line_feed ∷ []) ∷ (cut_from zero back).ended ≡ (line_feed ∷ back) ∷ [] = ap (λ (c : Cut). c.ended) e in cc
-
 -- an entry written anew is an entry
 pub anew_one : (front : List Token) (it : Anew) (units : List Written) (back : List Token) → IsOne zero (front ++ bare units ∷ back) → IsOne zero (front ++ written it back)
-anew_one = anew_so IsOne one_on one_off one_last
+anew_one = anew_so IsOne one_on one_off (λ back e. let h : (line_feed ∷ []) ∷ (cut_from zero back).ended ≡ (line_feed ∷ back) ∷ [] = ap (λ (c : Cut). c.ended) e in cc)
 
 -- ---- no entry
 
@@ -194,18 +186,12 @@ none_behind : (p : Token) (ended : List (List Token)) (others : List Token) → 
 none_behind p [] others e = refl
 none_behind p (entry ∷ ended) others e = absurd cc
 
-none_on : GoesOn IsUnended
-none_on d k p tokens goes e = ap (λ (c : Cut). c.ended) (goes tokens) ∙ none_front p (cut_from k tokens).ended (cut_from k tokens).open_tokens e
-
-none_off : GoesBack IsUnended
-none_off d k p tokens goes e = none_behind p (cut_from k tokens).ended (cut_from k tokens).open_tokens (ap (λ (c : Cut). c.ended) (sym (goes tokens)) ∙ e)
-
 none_last : LastLine IsUnended
 none_last back e = absurd (let h : (line_feed ∷ []) ∷ (cut_from zero back).ended ≡ [] = e in cc)
 
 -- an entry that isn't ended is none that is
 pub anew_unended : (front : List Token) (it : Anew) (units : List Written) (back : List Token) → IsUnended zero (front ++ bare units ∷ back) → IsUnended zero (front ++ written it back)
-anew_unended = anew_so IsUnended none_on none_off none_last
+anew_unended = anew_so IsUnended (λ d k p tokens goes e. ap (λ (c : Cut). c.ended) (goes tokens) ∙ none_front p (cut_from k tokens).ended (cut_from k tokens).open_tokens e) (λ d k p tokens goes e. none_behind p (cut_from k tokens).ended (cut_from k tokens).open_tokens (ap (λ (c : Cut). c.ended) (sym (goes tokens)) ∙ e)) none_last
 
 -- ---- which token follows which
 

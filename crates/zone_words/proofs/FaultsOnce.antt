@@ -1,13 +1,7 @@
 -- Items that state no data have one fault, in one field.
-use Rattle.std.proofs.Common.{[], ◌≡◌, ℕ, List, ◌∷◌, inl, inr, refl, sym, ◌∙◌}
-use Rattle.zone_name.specs.Common.{Labels}
+use Rattle.zone_words.proofs.Common.{AFieldFails, DataFails, Labels, List, NamedField, TouchingItem, WordsFault, [], at_field, inl, inr, items_after, items_left, own_items, refl, sym, too_long, ℕ, ◌∙◌, ◌∷◌, ◌≡◌}
 use Rattle.zone_words.proofs.DataLaws.{none_fails}
 use Rattle.zone_words.proofs.FieldLaws.{field_fault_once, field_or_fault}
-use Rattle.zone_words.specs.Data.{AFieldFails, DataFails, at_field, items_left, too_long}
-use Rattle.zone_words.specs.DataItem.{TouchingItem}
-use Rattle.zone_words.specs.Field.{items_after, own_items}
-use Rattle.zone_words.specs.Table.{NamedField}
-use Rattle.zone_words.specs.declared.fault.WordsFault.{WordsFault}
 
 -- what is told of a field
 pub record OneFault (name other : List ℕ) (fault as_well : WordsFault) : Type 0 where

@@ -1,30 +1,15 @@
 -- What was written for octets that are fed, part by part.
-use Rattle.zone_text.proofs.Common.{Breaks, Cut, Cuts, Entry, Fault, IsOneEntry, List, None, Option, RawItem, Some, Token, [], ap, append-nil, append_assoc, arith, both_ways, cut_from, drop, entry_of, false, flat_map, flat_map-append, inl, inr, length, length-append, length-take, numbered, refl, reverse, subst, sum_by-append, sym, take, take-append-drop, text, true, zero, ℕ, ◌++◌, ◌+◌, ◌<◌, ◌⊎◌, ◌==◌, ◌≤◌, ◌∙◌, ◌∷◌, ◌≡◌}
-use Rattle.std.proofs.lemmas.List.Sums.{count_by-le-length}
-use Rattle.std.proofs.Math.Seq.{take-length}
-use Rattle.std.proofs.lemmas.List.{drop_all, reverse-append}
-use Rattle.std.specs.Option.{option_or}
-use Rattle.std.specs.Prelude.{Err, Ok, OnErr, Result, option_map}
-use Rattle.zone_name.specs.Common.{Labels}
+use Rattle.zone_text.proofs.Tokens.Lasting.{breaks_for_good, stays_some}
+use Rattle.zone_words.proofs.Common.{AddsTold, AreInShort, BecomesUnder, Breaks, Cut, Cuts, Entry, Err, Fault, FollowInPart, FollowOn, GoesOn, HasWritten, HasWrittenAll, HasWrittenInPart, HeldText, IsBrokenOff, IsFedWriter, IsFirstEntry, IsInherited, IsLeft, IsOneEntry, IsOpen, IsRewriting, IsRewrittenInPart, IsRewrittenSoFar, IsSoFar, IsStopped, Labels, List, None, Ok, OnErr, Option, PushesOctets, RawItem, Refused, Result, Some, TakesFront, Token, WritesAll, [], ap, append-nil, append_assoc, arith, both_ways, count_by-le-length, count_reach, cut_from, drop, drop_all, ended_entries, entry_of, false, first_of, flat_map, flat_map-append, going, held_of, inl, inr, length, length-append, length-take, line_feeds, line_reach, numbered, numbered_then, option_map, option_or, refl, refused_of, reverse, reverse-append, split, stopped, subst, sum_by-append, sym, take, take-append-drop, take-length, text, true, zero, ℕ, ◌++◌, ◌+◌, ◌<◌, ◌==◌, ◌∙◌, ◌∷◌, ◌≡◌, ◌≤◌, ◌⊎◌}
 use Rattle.zone_text.proofs.Entries.Begun.{no_tokens}
 use Rattle.zone_text.proofs.Tokens.CutAgain.{joined}
-use Rattle.zone_text.specs.Entries.{ended_entries}
-use Rattle.zone_text.proofs.Files.Left.{line_feeds, numbered_then, split}
-use Rattle.zone_text.proofs.Tokens.Lasting.{breaks_for_good, stays_some}
-use Rattle.zone_text.specs.FirstEntry.{IsBrokenOff, IsFirstEntry, IsOpen}
 use Rattle.zone_text.specs.OpenEntry.{EndIs, EntryIs, HeldEntry, TakesFrom}
 use Rattle.zone_text.specs.declared.open_entry.Taken.{Taken}
 use Rattle.zone_text.specs.declared.open_entry.EntryState.{EntryState}
 use Rattle.zone_text.specs.declared.open_entry.EntryState.TheVariants.{Broken, Ended, Open}
 use Rattle.zone_words.proofs.Files.{HasDone, NextBecomes, broken_last, closed, from_entries, whole_cut, whole_done, whole_last}
 unfoldable use Rattle.zone_words.proofs.Files.{as_entries, done_entry}
-use Rattle.zone_words.specs.Entry.{BecomesUnder, IsRewriting}
 use Rattle.zone_words.specs.Machine.EntryWriting.{IsPushed, PushesEntry}
-use Rattle.zone_words.specs.Machine.FedWriting.{FollowInPart, FollowOn, HasWritten, HasWrittenAll, HasWrittenInPart, IsFedWriter, IsLeft, PushesOctets, TakesFront, WritesAll, count_reach, held_of, line_reach}
-use Rattle.zone_words.specs.Inherited.{IsInherited}
-use Rattle.zone_words.specs.Refusal.{AddsTold, AreInShort, first_of, refused_of}
-use Rattle.zone_words.specs.Rewriter.{GoesOn, HeldText, IsSoFar, going, stopped}
-use Rattle.zone_words.specs.Rewriting.{IsRewrittenInPart, IsRewrittenSoFar, IsStopped, Refused}
 use Rattle.zone_words.specs.Rewriting as rewriting
 use Rattle.zone_words.specs.declared.entry_writer.EntryWriter.{EntryWriter}
 use Rattle.zone_words.specs.declared.fed_writer.FedWriter.{FedWriter}
@@ -135,11 +120,6 @@ next_of origin ended old new entry given told line p = record {
   told_is = refl;
 }
 
-entries_after : (ended : List (List Token)) (entry : List Token) (line : ℕ) → line ≡ 1 + line_feeds (flat_map text ended) → entry_of line entry ∷ reverse (numbered 1 ended) ≡ reverse (numbered 1 (ended ++ entry ∷ []))
-entries_after ended entry line is =
-    ap (λ n. entry_of n entry ∷ reverse (numbered 1 ended)) is
-    ∙ sym (ap reverse (numbered_then 1 ended (entry ∷ [])) ∙ reverse-append (numbered 1 ended) (entry_of (1 + line_feeds (flat_map text ended)) entry ∷ []))
-
 line_after : (ended : List (List Token)) (entry : List Token) (line now : ℕ) → line ≡ 1 + line_feeds (flat_map text ended) → now ≡ line + line_feeds (text entry) → now ≡ 1 + line_feeds (flat_map text (ended ++ entry ∷ []))
 line_after ended entry line now before after =
     let parts : flat_map text (ended ++ entry ∷ []) ≡ flat_map text ended ++ text entry = flat_map-append text ended (entry ∷ []) ∙ ap (λ t. flat_map text ended ++ t) (append-nil (text entry)) in
@@ -172,7 +152,7 @@ entry_goes origin old new fed part given told g none p =
           (done_entry (BecomesUnder origin) (fed ++ part) (waiting ++ part) (waiting ++ part) [] (given ++ old.entries.written.items) (given ++ new.entries.written.items) told later more (sym (append-nil (waiting ++ part))) p.tokens p.one next);
       is_open = subst IsOpen (sym none) nothing_open;
       line = line_after ended p.tokens old.entries.line new.entries.line g.line pushed.line;
-      inherited = subst (λ b. IsInherited origin b new.entries.inherited) (entries_after ended p.tokens old.entries.line g.line) pushed.inherited;
+      inherited = subst (λ b. IsInherited origin b new.entries.inherited) (ap (λ n. entry_of n p.tokens ∷ reverse (numbered 1 ended)) g.line ∙ sym (ap reverse (numbered_then 1 ended (p.tokens ∷ [])) ∙ reverse-append (numbered 1 ended) (entry_of (1 + line_feeds (flat_map text ended)) p.tokens ∷ []))) pushed.inherited;
     }
 
 pub entry_follows : (old new : FedWriter) (part : List ℕ) → old.is_broken ≡ false → new.is_broken ≡ old.is_broken → new.unfinished.octets ≡ [] → PushesOne (old.unfinished.octets ++ part) old.entries new.entries → FollowOn old part new

@@ -1,14 +1,9 @@
 -- Each field states one list of octets at most, or has one fault and states none.
-use Rattle.std.proofs.Common.{[], ◌≡◌, ℕ, List, ◌∷◌, Some, refl, sym, ap, ◌∙◌, arith}
-use Rattle.std.specs.Int.{Width, w8, w16, w32}
-use Rattle.zone_name.proofs.Spelling.Answered.{FirstFault-once}
-use Rattle.zone_name.specs.Common.{Labels}
-use Rattle.zone_rdata.proofs.Addresses.AddressGaps.{groups_unique}
-use Rattle.zone_rdata.proofs.Addresses.Cut.{numbers_unique}
+use Rattle.zone_words.proofs.Common.{BadEscape, ComesToBadEscape, FailsBare, FailsField, FirstFault-once, IsHex, IsInOctets, Labels, List, NotAName, NothingStated, NumberFails, RawItem, Some, StatesBare, StatesField, StatesLocation, StatesTypes, TouchingItem, Unescaped, Width, WordsFault, [], ap, arith, groups_unique, item_text, numbers_unique, refl, sym, text_meaning, w16, w32, w8, ℕ, ◌∙◌, ◌∷◌, ◌≡◌}
+use Rattle.zone_words.specs.Kinds.Number.{no_number}
 use Rattle.zone_rdata.proofs.Fields.Strings.{fault_once as leftmost_once}
 use Rattle.zone_rdata.proofs.Strings.StringLaws.{fault-once, string-never_both}
-use Rattle.zone_rdata.specs.Spelling.{RawItem, bare, quoted}
-use Rattle.zone_rdata.specs.Strings.{item_text}
+use Rattle.zone_rdata.specs.Spelling.{bare, quoted}
 use Rattle.zone_words.proofs.Base32Digits.{hash_once}
 use Rattle.zone_words.proofs.Base64Texts.{no_base64, one_base64}
 use Rattle.zone_words.proofs.Gateways.{up_to_fault_once, up_to_once, up_to_or_fault}
@@ -28,23 +23,15 @@ use Rattle.zone_words.proofs.Times.{time_fault_once, time_once, time_or_fault}
 use Rattle.zone_words.proofs.TypeItems.{perhaps_types_once, types_once}
 use Rattle.zone_words.proofs.TypeWords.{algorithm_once, certificate_type_once, type_word_once}
 use Rattle.zone_words.proofs.UnescapedTexts.{unescaped_once, unescaped_or_bad}
-use Rattle.zone_words.specs.DataItem.{TouchingItem, items_of}
-use Rattle.zone_words.specs.Fault.{NothingStated}
-use Rattle.zone_words.specs.Field.{FailsBare, FailsField, StatesBare, StatesField, text_meaning}
+use Rattle.zone_words.specs.DataItem.{items_of}
 use Rattle.zone_words.specs.FirstItem.{FirstFails, FirstStates}
 use Rattle.zone_words.specs.Kinds.Base64.{IsBase64}
 use Rattle.zone_words.specs.Kinds.Gateway.{FailsUpTo, StatesUpTo}
-use Rattle.zone_words.specs.Kinds.Hex.{IsHex}
 use Rattle.zone_words.specs.Kinds.Joined.{FailsAs, StatesJoined}
-use Rattle.zone_words.specs.Kinds.Location.{StatesLocation}
 use Rattle.zone_words.specs.Kinds.Name.{FailsName, StatesName}
-use Rattle.zone_words.specs.Kinds.Number.{IsInOctets, NumberFails, no_number, too_large}
+use Rattle.zone_words.specs.Kinds.Number.{too_large}
 use Rattle.zone_words.specs.Kinds.Strings.{FailsPerhaps, FailsString, FailsStrings, StatesPerhaps, StatesString, StatesStrings, of_string}
-use Rattle.zone_words.specs.Kinds.Types.{StatesTypes}
 use Rattle.zone_words.specs.Kinds.Value.{FailsQuotedValue, StatesQuotedValue}
-use Rattle.zone_words.specs.Unescaped.{ComesToBadEscape, Unescaped}
-use Rattle.zone_words.specs.declared.fault.WordsFault.{WordsFault}
-use Rattle.zone_words.specs.declared.fault.WordsFault.TheVariants.{BadEscape, NotAName}
 use Rattle.zone_words.specs.declared.field.BareKind.{BareKind}
 use Rattle.zone_words.specs.declared.field.BareKind.TheVariants.{AddressType, Algorithm, CertificateType, Discovery, Eui48, Eui64, Hash, Ipv4, Ipv6, Name, NoAddress, NodeId, RecordType, Salt, Tag, Time, U8, U16, U32}
 use Rattle.zone_words.specs.declared.field.FieldKind.{FieldKind}

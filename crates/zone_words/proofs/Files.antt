@@ -1,9 +1,9 @@
 -- Entries and what becomes of them, one by one, and the whole text.
-use Rattle.zone_text.proofs.Common.{Breaks, Cut, Cuts, Entry, Fault, IsOneEntry, List, Token, [], add_assoc, and_last, ap, append-nil, append_assoc, arith, cut_from, entry_of, flat_map, flat_map-append, inl, numbered, refl, reverse, rules, subst, sum_by-append, sym, text, zero, ℕ, ◌++◌, ◌+◌, ◌∙◌, ◌∷◌, ◌≡◌}
-use Rattle.zone_text.proofs.Tokens.CutAgain.{joined, AreEnded, again_zero, cut_whole}
-use Rattle.zone_text.proofs.Files.Left.{IsSplit, break_more, cut_more, ended_as_before, line_feeds, one_ended, split, text_of_entries, turned}
+use Rattle.zone_words.proofs.Common.{AreEnded, AreEntries, Becomes, Breaks, Cut, Cuts, EachBecomes, Entry, Fault, IsOneEntry, IsRewritten, IsSplit, List, Outcome, Refused, Token, [], add_assoc, again_zero, and_last, ap, append-nil, append_assoc, arith, break_more, broken, cut_from, cut_more, cut_whole, ended_as_before, entry_of, flat_map, flat_map-append, inl, line_feeds, numbered, one_ended, refl, reverse, split, subst, sum_by-append, sym, text, text_of_entries, told_of, turned, written_of, zero, ℕ, ◌++◌, ◌+◌, ◌∙◌, ◌∷◌, ◌≡◌}
+use Rattle.zone_text.proofs.Common.{rules}
+use Rattle.zone_text.proofs.Tokens.CutAgain.{joined}
 use Rattle.zone_text.proofs.Entries.Begun.{no_tokens}
-use Rattle.zone_words.specs.Rewriting.{AreEntries, Becomes, EachBecomes, IsRewritten, Outcome, Refused, told_of, written_of, whole, broken}
+use Rattle.zone_words.specs.Rewriting.{whole}
 
 pub whole_cut : (ended : List (List Token)) → AreEnded zero ended → cut_from zero (joined ended) ≡ record { ended = ended; open_tokens = [] }
 whole_cut ended are = ap (cut_from zero) (sym (append-nil (joined ended))) ∙ again_zero ended [] are ∙ ap (λ (e : List (List Token)). record { ended = e; open_tokens = [] }) (append-nil ended)

@@ -1,29 +1,14 @@
 -- What an entry leaves to those after it.
-use Rattle.std.proofs.Common.{arith, ap, refl, subst, sym, ◌∙◌, ◌≡◌, ◌∷◌, [], List, ℕ, map, Bool, true, Some, None, option_map, length, ◌<◌}
-use Rattle.std.specs.Prelude.{Option, MatchOption}
-use Rattle.std.specs.Option.{option_or}
-use Rattle.zone_name.specs.Common.{Labels}
-use Rattle.zone_name.specs.Spelling.{SpellsCased}
-use Rattle.zone_rdata.specs.Item.{RawItem, bare, raw}
-use Rattle.zone_rdata.specs.declared.item.Item.{Item}
-use Rattle.zone_text.specs.Entries.{Entry}
-use Rattle.zone_text.specs.Inherited.{latest, class_word}
+use Rattle.zone_words.proofs.Common.{Bool, Entry, Inherited, IsCasedOrigin, IsInherited, IsInternetAfter, IsOneOrNone, Item, Labels, List, MatchOption, NamesOrigin, None, Option, RawItem, Some, SpellsCased, [], ap, arith, class_among, class_word, latest, length, map, option_map, option_or, origin_items, parts_after, raw, refl, sets_origin, statement_of, subst, sym, true, ℕ, ◌<◌, ◌∙◌, ◌∷◌, ◌≡◌}
+use Rattle.zone_rdata.specs.Item.{bare}
 use Rattle.zone_text.specs.PartsIn.{ArePartsIn}
-use Rattle.zone_text.specs.Statements.{sets_origin, statement_of, class_among, parts_after}
 use Rattle.zone_text.specs.declared.parts.RecordParts.{RecordParts}
-use Rattle.zone_words.specs.Inherited.{IsInherited, IsInternetAfter, IsOneOrNone}
-use Rattle.zone_words.specs.Origin.{IsCasedOrigin, NamesOrigin, origin_items}
-use Rattle.zone_words.specs.declared.inherited.Inherited.{Inherited}
 
 -- the origin after an entry, where it is a `$ORIGIN` with these items
 abbrev OriginAfter : Labels → List Entry → Option (List RawItem) → Labels → Type 0
 OriginAfter origin before items name =
     MatchOption items (IsCasedOrigin origin before name)
     (λ stated. (above : Labels) × IsCasedOrigin origin before above × NamesOrigin above stated name)
-
--- the origin stays where an entry is no `$ORIGIN`
-pub origin_stays : (origin : Labels) (before : List Entry) (entry : Entry) (found : Option Labels) → origin_items (statement_of entry) ≡ None → IsOneOrNone (IsCasedOrigin origin before) found → IsOneOrNone (IsCasedOrigin origin (entry ∷ before)) found
-origin_stays origin before entry found other is = subst (λ items. IsOneOrNone (OriginAfter origin before items) found) (sym other) is
 
 class_next : (word last : Option (List ℕ)) (was is : Bool) → IsInternetAfter last true was → IsInternetAfter word was is → IsInternetAfter (option_or word last) true is
 class_next None None was is before after = after ∙ before
@@ -33,7 +18,7 @@ class_next (Some text) last was is before after = after
 -- a record
 pub record_follows : (origin : Labels) (before : List Entry) (entry : Entry) (was next : Inherited) (items : List RawItem) (parts : RecordParts) (word : Option (List ℕ)) → next.origin ≡ was.origin → origin_items (statement_of entry) ≡ None → class_word (statement_of entry) ≡ class_among (parts_after [] items).words → ArePartsIn (parts_after [] items) parts → word ≡ option_map (λ text. text.now) parts.class → IsInternetAfter word was.is_internet next.is_internet → IsInherited origin before was → IsInherited origin (entry ∷ before) next
 record_follows origin before entry was next items parts word same other stated are is after has = record {
-  under = subst (IsOneOrNone (IsCasedOrigin origin (entry ∷ before))) (sym same) (origin_stays origin before entry was.origin other has.under);
+  under = subst (IsOneOrNone (IsCasedOrigin origin (entry ∷ before))) (sym same) (subst (λ items. IsOneOrNone (OriginAfter origin before items) was.origin) (sym other) has.under);
   internet = (let w : class_word (statement_of entry) ≡ word = stated ∙ are.class ∙ sym is in subst (λ t. IsInternetAfter (option_or t (latest class_word before)) true next.is_internet) (sym w) (class_next word (latest class_word before) was.is_internet next.is_internet has.internet after));
 }
 

@@ -1,15 +1,6 @@
 -- Words of further types: each is that of one type at most.
-use Rattle.std.proofs.Common.{◌≡◌, ℕ, ◌<◌, Bool, true, ◌==◌, List, codes, Bor, Option, Some, None, refl, sym, ap, ◌∙◌, subst, arith, nat_lt}
-use Rattle.std.proofs.lemmas.Bool.{eqb-true}
-use Rattle.std.proofs.lemmas.Bool.Decides.{nat_tests}
-use Rattle.std.specs.Option.{option_copied, option_map}
-use Rattle.std.specs.Prelude.{IfNone, IfSome}
-use Rattle.zone_name.specs.Common.{NothingIs}
-use Rattle.zone_rdata.proofs.Words.OneWord.{is_number, own_numbers, unlike, word_once}
-use Rattle.zone_rdata.proofs.Words.Tables.{found_each, found_passes}
-use Rattle.zone_rdata.specs.Number.{IsCapped}
-use Rattle.zone_rdata.specs.Words.{IsWordAmong}
-use Rattle.zone_words.specs.Table.{FurtherType, IsFurtherWord, further_names, further_of, further_type, further_types}
+use Rattle.zone_words.proofs.Common.{Bool, FurtherType, IfNone, IfSome, IsCapped, IsFurtherWord, IsWordAmong, List, None, NothingIs, Option, Some, ap, arith, codes, eqb-true, found_each, found_passes, further_names, further_of, further_type, further_types, is_number, nat_lt, nat_tests, option_copied, option_map, own_numbers, refl, subst, sym, true, unlike, word_once, ℕ, ◌<◌, ◌==◌, ◌∙◌, ◌≡◌}
+use Rattle.std.proofs.Common.{Bor}
 use Rattle.zone_words.specs.declared.table.FurtherType as code
 
 abbrev IsWord : List ℕ → ℕ → Type 0
@@ -36,15 +27,9 @@ numbered n f e =
     let short : nat_lt f.number 65536 ≡ true = found_each is_short (λ (f : FurtherType). n == f.number) further_types f refl e in
     (own, grind (arith, nat_tests))
 
-the_word : (word : List ℕ) (n : ℕ) (f : FurtherType) → IsCapped (IsWord word) n → further_type n ≡ Some f → IsFurtherWord word f
-the_word word n f capped e =
-    let own = numbered n f e in
-    let m_is : capped.0 ≡ f.number = let c = capped.1.1 in let a = own.0 in let b = own.1 in omega arith in
-    record { named = subst (IsWord word) m_is capped.1.0; row = ap further_type (sym own.0) ∙ e }
-
 pub further_found : (word : List ℕ) (n : ℕ) (r : Option (Bor code.FurtherType)) → IsCapped (IsWord word) n → option_map further_of (option_copied r) ≡ further_type n → IfSome r (λ row. IsFurtherWord word (further_of row.now))
 further_found word n None capped e = tt
-further_found word n (Some row) capped e = the_word word n (further_of row.now) capped (sym e)
+further_found word n (Some row) capped e = let own = numbered n (further_of row.now) (sym e) in let m_is : capped.0 ≡ (further_of row.now).number = let c = capped.1.1 in let a = own.0 in let b = own.1 in omega arith in record { named = subst (IsWord word) m_is capped.1.0; row = ap further_type (sym own.0) ∙ (sym e) }
 
 no_row : (word : List ℕ) (n : ℕ) → IsCapped (IsWord word) n → further_type n ≡ None → NothingIs (IsFurtherWord word)
 no_row word n capped e f p =
@@ -57,6 +42,3 @@ no_row word n capped e f p =
 pub no_further_found : (word : List ℕ) (n : ℕ) (r : Option (Bor code.FurtherType)) → IsCapped (IsWord word) n → option_map further_of (option_copied r) ≡ further_type n → IfNone r (NothingIs (IsFurtherWord word))
 no_further_found word n None capped e = no_row word n capped (sym e)
 no_further_found word n (Some row) capped e = tt
-
-pub no_further : (word : List ℕ) → NothingIs (IsWord word) → NothingIs (IsFurtherWord word)
-no_further word none f p = none f.number p.named

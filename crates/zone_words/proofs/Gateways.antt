@@ -1,18 +1,9 @@
 -- Fields that depend on the items before them, and what their items state.
-use Rattle.std.proofs.Common.{[], ◌≡◌, ℕ, ◌<◌, ◌==◌, Bool, true, false, List, ◌∷◌, min, Option, Some, None, refl, sym, ap, ◌∙◌, arith}
-use Rattle.std.proofs.lemmas.Bool.{eqb-true}
-use Rattle.std.specs.List.{AllByRecursion, list_all}
-use Rattle.std.specs.Option.{option_map}
-use Rattle.std.specs.Prelude.{IfNone, IfSome}
-use Rattle.zone_name.specs.Common.{NothingIs}
+use Rattle.zone_words.proofs.Common.{All-from_recursion, AllPass-from_list_all, Bool, IfNone, IfSome, IsCapped, IsDecimal, List, None, NothingIs, Option, Some, WordsFault, [], address_kind, ap, arith, decimal_value, digits_number, eqb-true, false, is_one, key_kind, list_all, list_all-from_AllPass, min, option_map, recursion_from_All, refl, sym, true, ℕ, ◌<◌, ◌==◌, ◌∙◌, ◌∷◌, ◌≡◌}
 use Rattle.zone_name.specs.Spelling.{is_digit}
-use Rattle.zone_rdata.specs.Number.{IsCapped, IsDecimal, decimal_value}
 use Rattle.zone_words.proofs.Numbers.{decimal_once}
 use Rattle.zone_words.specs.Kinds.Gateway.{FailsUpTo, StatesUpTo, no_digits, too_great}
-use Rattle.zone_words.specs.Kinds.Number.{digits_number}
 use Rattle.zone_words.specs.Machine.Numbers.{IsOver}
-use Rattle.zone_words.specs.Table.{address_kind, is_one, key_kind}
-use Rattle.zone_words.specs.declared.fault.WordsFault.{WordsFault}
 
 -- ---- numbers up to a greatest
 
@@ -40,26 +31,15 @@ capped_over text most (Some n) fault small found none over =
 
 -- ---- the number of an item
 
-each_digit : (text : List ℕ) → list_all is_digit text ≡ true → AllByRecursion (λ c. is_digit c ≡ true) text
-each_digit [] all = tt
-each_digit (c ∷ text) all =
-    let first : is_digit c ≡ true = grind arith in
-    let more : list_all is_digit text ≡ true = grind arith in
-    (first, each_digit text more)
-
-all_digits : (text : List ℕ) → AllByRecursion (λ c. is_digit c ≡ true) text → list_all is_digit text ≡ true
-all_digits [] each = refl
-all_digits (c ∷ text) each = rw (each.0, all_digits text each.1) refl
-
 of_digits : (text : List ℕ) (n : ℕ) → IsDecimal text n → digits_number text ≡ Some n
 of_digits [] n is = absurd (omega (arith, is.some))
-of_digits (c ∷ text) n is = rw (all_digits (c ∷ text) is.digits) (ap Some (sym is.value))
+of_digits (c ∷ text) n is = rw (list_all-from_AllPass is_digit (c ∷ text) (All-from_recursion (λ d. is_digit d ≡ true) (c ∷ text) is.digits)) (ap Some (sym is.value))
 
 of_others : (text : List ℕ) (all : Bool) → list_all is_digit text ≡ all → NothingIs (IsDecimal text) → digits_number text ≡ None
 of_others [] all is none = refl
 of_others (c ∷ text) false is none = rw is refl
 of_others (c ∷ text) true is none =
-    absurd (none (decimal_value (c ∷ text)) (record { some = omega arith; digits = each_digit (c ∷ text) is; value = refl }))
+    absurd (none (decimal_value (c ∷ text)) (record { some = omega arith; digits = recursion_from_All (λ d. is_digit d ≡ true) (c ∷ text) (AllPass-from_list_all is_digit (c ∷ text) is); value = refl }))
 
 pub number_read : (text : List ℕ) (number : Option ℕ) → IfSome number (IsCapped (IsDecimal text)) → IfNone number (NothingIs (IsDecimal text)) → number ≡ option_map (min 4294967296) (digits_number text)
 number_read text None found none = rw (of_others text (list_all is_digit text) refl none) refl

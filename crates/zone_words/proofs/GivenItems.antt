@@ -1,8 +1,6 @@
 -- The items of a record's data, with and without whether they touch.
-use Rattle.std.proofs.Common.{[], ◌≡◌, List, ◌∷◌, map, refl, sym, ap, subst}
-use Rattle.zone_words.specs.DataItem.{given, items_of, raw_item}
-use Rattle.zone_words.specs.Field.{Items}
-use Rattle.zone_words.specs.declared.data_item.DataItem.{DataItem}
+use Rattle.zone_words.proofs.Common.{DataItem, Items, List, [], ap, given, map, raw_item, refl, subst, sym, ◌∷◌, ◌≡◌}
+use Rattle.zone_words.specs.DataItem.{items_of}
 
 items_alone : (items : List DataItem) → items_of (map given items) ≡ map raw_item items
 items_alone [] = refl

@@ -1,14 +1,8 @@
 -- The items of tokens, each with whether it directly follows another, found from the left.
-use Rattle.std.proofs.Common.{ap, refl, subst, sym, ◌∙◌, ◌≡◌, ◌∷◌, ◌++◌, ◌<◌, [], List, ℕ, map, Bool, true, false, length, append-nil}
-use Rattle.zone_rdata.specs.Item.{RawItem, raw, bare, quoted}
-use Rattle.zone_text.specs.Entries.{item_of}
-use Rattle.zone_text.specs.Tokens.{AreTokensOf, Token, blank, closing, comment, line_feed, opening}
+use Rattle.zone_words.proofs.Common.{AreTokensOf, Bool, DataItem, List, RawItem, Token, [], ap, append-nil, append_assoc, blank, closing, comment, false, given, item_of, length, line_feed, map, map_push, opening, raw, refl, subst, sym, touching_items, true, written_text, ℕ, ◌++◌, ◌<◌, ◌∙◌, ◌∷◌, ◌≡◌}
+use Rattle.zone_rdata.specs.Item.{bare, quoted}
 use Rattle.zone_text.specs.Tokens as tokens
-use Rattle.zone_name.specs.Spelling.{written_text}
 use Rattle.zone_words.proofs.Walks.{FrontIs, next, no_tokens, nothing_left}
-use Rattle.zone_words.specs.DataItem.{TouchingItem, given}
-use Rattle.zone_words.specs.Entry.{touching_items}
-use Rattle.zone_words.specs.declared.data_item.DataItem.{DataItem}
 
 -- the items so far, and the tokens after them
 pub record AreFound (rest : List ℕ) (touches : Bool) (found : List DataItem) (all : List Token) : Type 0 where
@@ -34,16 +28,12 @@ item_step item touches closing more e t = absurd cc
 item_step item touches line_feed more e t = absurd cc
 item_step item touches (comment octets) more e t = absurd cc
 
-given_more : (found : List DataItem) (item : DataItem) (others : List TouchingItem) → map given (found ++ item ∷ []) ++ others ≡ map given found ++ given item ∷ others
-given_more [] item others = refl
-given_more (first ∷ found) item others = ap (λ t. given first ∷ t) (given_more found item others)
-
 -- an item more
 pub finds_item : (octets rest left : List ℕ) (touches : Bool) (found more_found : List DataItem) (item : DataItem) → 0 < length rest → FrontIs rest (raw item.item ∷ []) left → more_found ≡ found ++ item ∷ [] → item.touches ≡ touches → FindsTo octets rest touches found → FindsTo octets left true more_found
 finds_item octets rest left touches found more_found item some first pushed is finds all are =
     let at = finds all are in
     finds_by octets rest left (raw item.item ∷ []) touches true found more_found all some first
-    (λ p more e. ap (λ t. map given t ++ touching_items true more) pushed ∙ given_more found item (touching_items true more) ∙ ap (λ t. map given found ++ t) (item_step item touches p more e is)) at at.more refl
+    (λ p more e. ap (λ t. map given t ++ touching_items true more) pushed ∙ (ap (λ t. t ++ touching_items true more) (map_push given found item) ∙ append_assoc (map given found) (given item ∷ []) (touching_items true more)) ∙ ap (λ t. map given found ++ t) (item_step item touches p more e is)) at at.more refl
 
 none_step : (touches : Bool) (p : Token) (more : List Token) → [] ≡ item_of p → touching_items false more ≡ touching_items touches (p ∷ more)
 none_step touches (tokens.bare units) more e = absurd cc
@@ -61,9 +51,6 @@ finds_none octets rest left touches found some first finds all are =
     finds_by octets rest left [] touches false found found all some first
     (λ p more e. ap (λ t. map given found ++ t) (none_step touches p more e)) at at.more refl
 
-finds_end : (rest : List ℕ) (touches : Bool) (found : List DataItem) (all : List Token) → rest ≡ [] → (at : AreFound rest touches found all) → (more : List Token) → at.more ≡ more → map given found ≡ touching_items true all
+pub finds_end : (rest : List ℕ) (touches : Bool) (found : List DataItem) (all : List Token) → rest ≡ [] → (at : AreFound rest touches found all) → (more : List Token) → at.more ≡ more → map given found ≡ touching_items true all
 finds_end rest touches found all none at [] e = sym (append-nil (map given found)) ∙ ap (λ t. map given found ++ touching_items touches t) (sym e) ∙ at.whole
 finds_end rest touches found all none at (p ∷ more) e = absurd (nothing_left rest p more none (subst (AreTokensOf rest) e at.are))
-
-pub all_found : (octets rest : List ℕ) (touches : Bool) (found : List DataItem) → rest ≡ [] → FindsTo octets rest touches found → (all : List Token) → AreTokensOf octets all → map given found ≡ touching_items true all
-all_found octets rest touches found none finds all are = let at = finds all are in finds_end rest touches found all none at at.more refl

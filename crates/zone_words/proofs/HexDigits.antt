@@ -1,7 +1,5 @@
 -- Hexadecimal digits stand for one list of octets.
-use Rattle.std.proofs.Common.{◌≡◌, ℕ, List, length, arith}
-use Rattle.hex.proofs.HexLemmas.{decode_of-ok, decode_of-same}
-use Rattle.zone_words.specs.Kinds.Hex.{IsHex}
+use Rattle.zone_words.proofs.Common.{IsHex, List, arith, decode_of-ok, decode_of-same, length, ℕ, ◌≡◌}
 
 -- no digits stand for no octet
 pub no_digits : (text octets : List ℕ) → length text ≡ 0 → IsHex text octets → ⊥

@@ -1,10 +1,6 @@
 -- Pairs of hexadecimal digits parted by hyphens, read one after the other.
-use Rattle.std.proofs.Common.{[], ◌≡◌, ◌≢◌, ℕ, ◌+◌, ◌*◌, ◌<◌, List, ◌∷◌, ◌++◌, length, refl, sym, ap, ◌∙◌, subst, arith, append_assoc, length-append}
-use Rattle.std.proofs.lemmas.List.{append-nil}
-use Rattle.std.specs.List.{AllZip, join_with_byte}
-use Rattle.hex.proofs.HexLemmas.{decode_sized-ok}
+use Rattle.zone_words.proofs.Common.{AllZip, AppendsStated, List, [], ap, append_assoc, arith, decode_sized-ok, join_with_byte, length, length-append, refl, subst, sym, ℕ, ◌*◌, ◌++◌, ◌+◌, ◌<◌, ◌∙◌, ◌∷◌, ◌≡◌}
 use Rattle.zone_rdata.proofs.Octets.Sent.{append_same}
-use Rattle.zone_words.specs.Fault.{AppendsStated}
 use Rattle.zone_words.specs.Kinds.Eui.{IsPair, StatesEui}
 use Rattle.zone_words.specs.Machine.Pairs.{BeginsWithPair, IsCutPair}
 
@@ -64,7 +60,7 @@ take_first text pair rest (n ∷ m ∷ whole) octet (p ∷ q ∷ pairs) is cut e
     }
 
 -- a text that isn't cut is a pair alone
-take_last : (text whole : List ℕ) (pairs : List (List ℕ)) → (BeginsWithPair text → ⊥) → ((octet : ℕ) → IsPair text octet → ⊥) → AllZip IsPair pairs whole → text ≡ join_with_byte 45 pairs → 0 < length pairs → ⊥
+pub take_last : (text whole : List ℕ) (pairs : List (List ℕ)) → (BeginsWithPair text → ⊥) → ((octet : ℕ) → IsPair text octet → ⊥) → AllZip IsPair pairs whole → text ≡ join_with_byte 45 pairs → 0 < length pairs → ⊥
 take_last text whole [] uncut none each parted some = omega arith
 take_last text [] (p ∷ pairs) uncut none each parted some = each
 take_last text (n ∷ whole) (p ∷ []) uncut none each parted some = none n (rw (sym parted) at each.0)
@@ -85,7 +81,7 @@ some_pairs [] [] each some = some
 some_pairs [] (n ∷ octets) each some = absurd each
 some_pairs (p ∷ pairs) octets each some = omega arith
 
-are_pairs : (count : ℕ) (text octets : List ℕ) → 0 < count → StatesEui count text octets → ArePairs text octets
+pub are_pairs : (count : ℕ) (text octets : List ℕ) → 0 < count → StatesEui count text octets → ArePairs text octets
 are_pairs count text octets some is = record {
   pairs = is.pairs;
   each = is.each;
@@ -93,13 +89,8 @@ are_pairs count text octets some is = record {
   some = some_pairs is.pairs octets is.each (omega (arith, is.counted));
 }
 
-eui_length : (count : ℕ) (text octets : List ℕ) → ArePairs text octets → length text + 1 ≡ 3 * length octets
+pub eui_length : (count : ℕ) (text octets : List ℕ) → ArePairs text octets → length text + 1 ≡ 3 * length octets
 eui_length count text octets are = omega (arith, ap length are.parted, pairs_length are.pairs octets are.each are.some)
-
--- a text of another length
-pub other_length : (count : ℕ) (text octets : List ℕ) → 0 < count → length text + 1 ≢ 3 * count → StatesEui count text octets → ⊥
-other_length count text octets some other is =
-    other (omega (arith, eui_length count text octets (are_pairs count text octets some is), is.counted))
 
 -- ---- the loop
 
@@ -110,12 +101,6 @@ pub record ReadsPairs (text rest old out : List ℕ) : Type 0 where
   pub goes : (more : List ℕ) → ArePairs rest more → ArePairs text (octets ++ more)
   pub comes : (whole : List ℕ) → ArePairs text whole → (more : List ℕ) × ArePairs rest more × (whole ≡ octets ++ more)
 
-pub pairs_begun : (text old : List ℕ) → ReadsPairs text text old old
-pairs_begun text old = record { octets = []; grown = sym (append-nil old); goes = λ more are. are; comes = λ whole are. (whole, are, refl) }
-
-add_first : (rest after more : List ℕ) (octet : ℕ) → IsCutPair rest octet after → ArePairs after more → ArePairs rest (octet ∷ more)
-add_first rest after more octet cut are = put_first rest cut.pair after more octet are.pairs cut.is cut.parted are.each are.parted are.some
-
 first_of : (rest after whole : List ℕ) (octet : ℕ) → IsCutPair rest octet after → ArePairs rest whole → HasFirst octet after whole
 first_of rest after whole octet cut are = take_first rest cut.pair after whole octet are.pairs cut.is cut.parted are.each are.parted are.some
 
@@ -123,7 +108,7 @@ pub pairs_more : (text rest after old out next : List ℕ) (octet : ℕ) → Rea
 pairs_more text rest after old out next octet r cut pushed = record {
   octets = r.octets ++ octet ∷ [];
   grown = pushed ∙ ap (λ o. o ++ octet ∷ []) r.grown ∙ append_assoc old r.octets (octet ∷ []);
-  goes = λ more are. subst (ArePairs text) (sym (append_assoc r.octets (octet ∷ []) more)) (r.goes (octet ∷ more) (add_first rest after more octet cut are));
+  goes = λ more are. subst (ArePairs text) (sym (append_assoc r.octets (octet ∷ []) more)) (r.goes (octet ∷ more) (put_first rest cut.pair after more octet are.pairs cut.is cut.parted are.each are.parted are.some));
   comes = λ whole are.
       let left = r.comes whole are in
       let first = first_of rest after left.0 octet cut left.1 in
@@ -137,11 +122,6 @@ pairs_end count text rest old out next octet len r is pushed =
       stated = record { pairs = are.pairs; each = are.each; parted = are.parted; counted = omega (arith, len, eui_length count text (r.octets ++ octet ∷ []) are) };
       written = pushed ∙ ap (λ o. o ++ octet ∷ []) r.grown ∙ append_assoc old r.octets (octet ∷ []);
     }
-
-pub pairs_stop : (count : ℕ) (text rest old out : List ℕ) → 0 < count → ReadsPairs text rest old out → (BeginsWithPair rest → ⊥) → ((octet : ℕ) → IsPair rest octet → ⊥) → (octets : List ℕ) → StatesEui count text octets → ⊥
-pairs_stop count text rest old out some r uncut none octets is =
-    let left = r.comes octets (are_pairs count text octets some is) in
-    take_last rest left.0 left.1.pairs uncut none left.1.each left.1.parted left.1.some
 
 -- ---- one list of octets
 

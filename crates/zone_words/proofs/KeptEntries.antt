@@ -1,16 +1,13 @@
 -- What is written for an entry is cut as the entry is, and has as many line feeds.
-use Rattle.zone_text.proofs.Common.{AllByRecursion, AllByRecursion-append, AllByRecursion-back, AllByRecursion-front, AllFollow, Bool, Cuts, Entry, IsToken, IsUnit, List, Token, Written, [], ap, arith, bare, blank, both_ways, closing, comment, depth_after, ends_item, entry_of, escaped, false, flat_map-append, if◌then◌else◌, is_blank, is_digit, length, line_feed, opening, plain, quoted, refl, subst, sum_by-append, sym, text, text_of, token_text, true, written_text, zero, ℕ, ◌++◌, ◌+◌, ◌<◌, ◌==◌, ◌∙◌, ◌∷◌, ◌≡◌, ◌≢◌}
-use Rattle.std.specs.Prelude.{filter}
-use Rattle.zone_name.specs.Common.{Labels}
+use Rattle.zone_words.proofs.Common.{AllByRecursion, AllByRecursion-append, AllByRecursion-back, AllByRecursion-front, AllFollow, Anew, AreOnOneLine, BecomesUnder, Bool, Cuts, Entry, IsToken, IsUnit, Labels, List, Outcome, SaysAnew, Token, TokensSay, TouchingItem, Written, [], anew, ap, arith, blank, both_ways, closing, comment, depth_after, ends_item, entry_of, escaped, false, filter, flat_map-append, generic_tokens, if◌then◌else◌, in_generic_form, is_blank, kept, length, line_feed, line_feeds, opening, plain, refl, refused, renamed, stays, subst, sum_by-append, sym, text, token_text, touching_items, true, type_token, written, written_text, zero, ℕ, ◌++◌, ◌+◌, ◌<◌, ◌==◌, ◌∙◌, ◌∷◌, ◌≡◌, ◌≢◌}
+use Rattle.zone_text.proofs.Common.{bare, is_digit, quoted, text_of}
 use Rattle.zone_name.specs.Spelling.{decimal}
-use Rattle.zone_text.proofs.Files.Left.{line_feeds}
-use Rattle.zone_words.proofs.EntryShapes.{AreFlat, IsOne, IsUnended, anew_depth, anew_follow, anew_one, anew_unended, generic_flat}
+use Rattle.zone_words.proofs.EntryShapes.{AreFlat, IsOne, IsUnended, anew_follow, anew_one, anew_unended, front_depth, generic_flat, written_depth}
 use Rattle.zone_words.proofs.WrittenWords.{generic_are, type_is}
 use Rattle.zone_words.specs.CutAlike.{HaveAsManyLines, IsKeptOrAnew, is_anew, is_kept}
-use Rattle.zone_words.specs.DataItem.{TouchingItem, items_of}
-use Rattle.zone_words.specs.Entry.{AreOnOneLine, BecomesUnder, SaysAnew, TokensSay, anew, in_generic_form, in_words, kept, refused, touching_items}
-use Rattle.zone_words.specs.Rewriting.{Outcome}
-use Rattle.zone_words.specs.Written.{Anew, generic_tokens, in_octets, renamed, stays, type_token, written}
+use Rattle.zone_words.specs.DataItem.{items_of}
+use Rattle.zone_words.specs.Entry.{in_words}
+use Rattle.zone_words.specs.Written.{in_octets}
 
 -- ---- line feeds
 
@@ -30,18 +27,11 @@ none_counted : (octets : List ℕ) → AllByRecursion (λ c. c ≢ 10) octets �
 none_counted [] each = refl
 none_counted (c ∷ octets) each = let more = none_counted octets each.1 in let own = each.0 in grind arith
 
--- an octet of a bare item, a digit and a blank are none
-no_end : (c : ℕ) → ends_item c ≡ false → c ≢ 10
-no_end c is e = both_ways (ends_item c) is (ap ends_item e)
-
 no_digit : (c : ℕ) → is_digit c ≡ true → c ≢ 10
 no_digit c is e = both_ways (is_digit c) (ap is_digit e) is
 
-no_blank : (c : ℕ) → is_blank c ≡ true → c ≢ 10
-no_blank c is e = both_ways (is_blank c) (ap is_blank e) is
-
 unit_feedless : (w : Written) → IsUnit ends_item w → line_feeds (text_of w) ≡ 0
-unit_feedless (plain c) is = none_counted (c ∷ []) (no_end c is.0, tt)
+unit_feedless (plain c) is = none_counted (c ∷ []) ((λ e. both_ways (ends_item c) is.0 (ap ends_item e)), tt)
 unit_feedless (escaped c) is = none_counted (92 ∷ c ∷ []) ((λ e. omega arith), (is.1, tt))
 unit_feedless (decimal x y z) is = none_counted (92 ∷ x ∷ y ∷ z ∷ []) ((λ e. omega arith), (no_digit x is.0, (no_digit y is.1, (no_digit z is.2, tt))))
 
@@ -50,7 +40,7 @@ units_feedless [] each = refl
 units_feedless (w ∷ units) each = omega (arith, append_octets (text_of w) (written_text units), unit_feedless w each.0, units_feedless units each.1)
 
 blank_feedless : (c : ℕ) → IsToken (blank c) → line_feeds (token_text (blank c)) ≡ 0
-blank_feedless c is = none_counted (c ∷ []) (no_blank c is, tt)
+blank_feedless c is = none_counted (c ∷ []) ((λ e. both_ways (is_blank c) (ap is_blank e) is), tt)
 
 bare_feedless : (units : List Written) → IsToken (bare units) → line_feeds (token_text (bare units)) ≡ 0
 bare_feedless units is = units_feedless units is.1
@@ -67,9 +57,6 @@ flat_feeds (closing ∷ tokens) more flat each = absurd flat
 flat_feeds (line_feed ∷ tokens) more flat each = absurd flat
 flat_feeds (comment octets ∷ tokens) more flat each = absurd flat
 flat_feeds (quoted units ∷ tokens) more flat each = absurd flat
-
-generic_feeds : (number : ℕ) (octets : List ℕ) (more : List Token) → feeds (generic_tokens number octets ++ more) ≡ feeds more
-generic_feeds number octets more = flat_feeds (generic_tokens number octets) more (generic_flat number octets) (AllByRecursion-front IsToken (generic_tokens number octets) [] (generic_are number octets [] tt))
 
 -- items on one line go, and no line feed with them
 stay_feeds : (after : Bool) (back : List Token) → AllByRecursion IsToken back → AreOnOneLine (items_of (touching_items after back)) → feeds (filter stays back) ≡ feeds back
@@ -147,7 +134,7 @@ module _ (origin : Labels) (before : List Entry) (line : ℕ) (tokens : List Tok
 
   written_feeds : (it : Anew) (back : List Token) → AllByRecursion IsToken back → AreOnOneLine (items_of (touching_items true back)) → feeds back ≡ feeds (written it back)
   written_feeds (renamed number) back each one_line = sym (flat_feeds (type_token number ∷ []) back tt (type_is number, tt))
-  written_feeds (in_octets number octets) back each one_line = sym (generic_feeds number octets (filter stays back) ∙ stay_feeds true back each one_line)
+  written_feeds (in_octets number octets) back each one_line = sym ((flat_feeds (generic_tokens number octets) (filter stays back) (generic_flat number octets) (AllByRecursion-front IsToken (generic_tokens number octets) [] (generic_are number octets [] tt))) ∙ stay_feeds true back each one_line)
 
   anew_feeds : (front back : List Token) (word : List Written) (it : Anew) → AllByRecursion IsToken (front ++ bare word ∷ back) → AreOnOneLine (items_of (touching_items true back)) → HaveAsManyLines (front ++ bare word ∷ back) (front ++ written it back)
   anew_feeds front back word it each one_line =
@@ -158,7 +145,7 @@ module _ (origin : Labels) (before : List Entry) (line : ℕ) (tokens : List Tok
   keeps_around front back word it one_line = record {
     one = anew_one front it word back;
     unended = anew_unended front it word back;
-    depth = anew_depth front it word back;
+    depth = front_depth zero front (written it back) (bare word ∷ back) (λ k. written_depth k it word back);
     follow = anew_follow it front word back;
     each = λ each. AllByRecursion-append IsToken front (written it back) (AllByRecursion-front IsToken front (bare word ∷ back) each) (written_each it back (AllByRecursion-back IsToken front (bare word ∷ back) each).1);
     some = λ some. some_anew front it back;

@@ -1,29 +1,14 @@
 -- The record of a further type that an entry is, found from the items that are kept of it.
-use Rattle.std.proofs.Common.{arith, inl, inr, ap, refl, subst, sym, ◌∙◌, ◌≡◌, ◌↔◌, ◌∷◌, ◌<◌, ◌≤◌, [], List, ℕ, map, Bool, true, Some, None, length}
-use Rattle.std.specs.Prelude.{Option, MatchOption, option_and_then, slice_get}
-use Rattle.std.specs.List.{AllByRecursion, flat_map}
-use Rattle.std.specs.Option.{option_or}
-use Rattle.zone_name.specs.Common.{Labels}
+use Rattle.zone_words.proofs.Common.{AllByRecursion, Bool, Cuts, Entry, FindsParts, FurtherType, Inherited, IsCasedOrigin, IsClassWord, IsFurtherRecord, IsGeneric, IsInherited, IsInternetAfter, IsOneOrNone, IsRecordOf, Labels, List, MatchOption, NamesOrigin, None, NoneIsFurther, Option, Parts, RawItem, Some, Statement, Token, [], ap, arith, class_among, class_word, entry_of, flat_map, generic_mark, in_class, includes, inl, inr, item_of, latest, length, map, most_items, option_and_then, option_or, origin_items, owned, parts_in, raw, refl, sets_origin, sets_ttl, slice_get, statement_by, statement_of, subst, sym, text, true, unknown, unowned, ℕ, ◌<◌, ◌↔◌, ◌∙◌, ◌∷◌, ◌≡◌, ◌≤◌}
 use Rattle.zone_rdata.proofs.Items.LeftOut.{are_many, begin_with}
-use Rattle.zone_rdata.specs.Item.{RawItem, bare, quoted, raw, generic_mark, IsGeneric}
+use Rattle.zone_rdata.specs.Item.{bare, quoted}
 use Rattle.zone_rdata.specs.LeftOut.{AreShortened}
-use Rattle.zone_rdata.specs.Table.{in_class}
-use Rattle.zone_rdata.specs.Words.{IsClassWord}
 use Rattle.zone_text.proofs.Entries.Kept.{items_written}
 use Rattle.zone_text.proofs.Entries.KeptEntry.{IsLong, LongForms, forms_long, shown}
-use Rattle.zone_text.specs.Entries.{Entry, entry_of, item_of}
-use Rattle.zone_text.specs.Inherited.{latest, class_word}
 use Rattle.zone_text.specs.Kept.{AreKept}
 use Rattle.zone_text.specs.Records.{HasValue}
-use Rattle.zone_text.specs.Statements.{Parts, Statement, class_among, includes, no_items, owned, parts_in, sets_origin, sets_ttl, statement_by, statement_of, unknown, unowned}
-use Rattle.zone_text.specs.Tokens.{Token, Cuts, text}
-use Rattle.zone_words.specs.Entry.{IsFurtherRecord, most_items}
-use Rattle.zone_words.specs.Machine.Further.{FindsParts, IsRecordOf, NoneIsFurther}
-use Rattle.zone_words.specs.Inherited.{IsInherited, IsInternetAfter, IsOneOrNone}
-use Rattle.zone_words.specs.Origin.{IsCasedOrigin, NamesOrigin, origin_items}
-use Rattle.zone_words.specs.Table.{FurtherType}
+use Rattle.zone_text.specs.Statements.{no_items}
 use Rattle.zone_words.specs.declared.further.FurtherRecord.{FurtherRecord}
-use Rattle.zone_words.specs.declared.inherited.Inherited.{Inherited}
 
 -- ---- the parts of all items, and those of the items that are kept
 
@@ -193,7 +178,7 @@ record_there origin before line tokens kept left parts found alike has split fin
       few = λ less. few_same found.word.now all.0 (map raw found.items.now) f.0.rest parts.rest all.1 finds.from_type (f.2.few less);
     }
 
-none_by : (origin : Labels) (before : List Entry) (line : ℕ) (tokens : List Token) (kept : Statement) (left : Inherited) (o : Option Parts) → parts_in kept ≡ o → AlikeForms (length (flat_map item_of tokens)) (statement_of (entry_of line tokens)) kept → IsInherited origin (entry_of line tokens ∷ before) left → ((parts : Parts) → parts_in kept ≡ Some parts → NoneIsFurther parts left.is_internet) → (word : List ℕ) (all : List RawItem) (further : FurtherType) → IsFurtherRecord before (entry_of line tokens) word all further → ⊥
+pub none_by : (origin : Labels) (before : List Entry) (line : ℕ) (tokens : List Token) (kept : Statement) (left : Inherited) (o : Option Parts) → parts_in kept ≡ o → AlikeForms (length (flat_map item_of tokens)) (statement_of (entry_of line tokens)) kept → IsInherited origin (entry_of line tokens ∷ before) left → ((parts : Parts) → parts_in kept ≡ Some parts → NoneIsFurther parts left.is_internet) → (word : List ℕ) (all : List RawItem) (further : FurtherType) → IsFurtherRecord before (entry_of line tokens) word all further → ⊥
 none_by origin before line tokens kept left None e alike has none word all further is = let bad : Some is.parts ≡ None = sym is.split ∙ alike.none e in absurd cc
 none_by origin before line tokens kept left (Some parts) e alike has none word all further is =
     let f = alike.some parts e in
@@ -206,6 +191,3 @@ none_by origin before line tokens kept left (Some parts) e alike has none word a
       named = is.named;
       class = λ alone. (internet_is_class (latest class_word (entry_of line tokens ∷ before)) left.is_internet has.internet).1 (is.class alone);
     })
-
-pub none_there : (origin : Labels) (before : List Entry) (line : ℕ) (tokens : List Token) (kept : Statement) (left : Inherited) → AlikeForms (length (flat_map item_of tokens)) (statement_of (entry_of line tokens)) kept → IsInherited origin (entry_of line tokens ∷ before) left → ((parts : Parts) → parts_in kept ≡ Some parts → NoneIsFurther parts left.is_internet) → (word : List ℕ) (all : List RawItem) (further : FurtherType) → IsFurtherRecord before (entry_of line tokens) word all further → ⊥
-none_there origin before line tokens kept left alike has none = none_by origin before line tokens kept left (parts_in kept) refl alike has none

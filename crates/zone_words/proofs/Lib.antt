@@ -1,3 +1,4 @@
+pub mod Common
 pub mod Classes
 pub mod Origins
 pub mod Following

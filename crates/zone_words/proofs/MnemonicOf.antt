@@ -1,10 +1,5 @@
 -- The mnemonic of a number.
-use Rattle.std.proofs.Common.{◌≡◌, ℕ, ◌==◌, List, Option, Some, None, refl, sym, ap, ◌∙◌, map}
-use Rattle.std.specs.List.{find}
-use Rattle.std.specs.Option.{option_map}
-use Rattle.zone_rdata.proofs.Words.Tables.{find_mapped}
-use Rattle.zone_rdata.specs.Table.{Named, mnemonic_among}
-use Rattle.zone_words.specs.Mnemonics.{name_of}
+use Rattle.zone_words.proofs.Common.{List, Named, None, Option, Some, ap, find, find_mapped, map, mnemonic_among, name_of, option_map, refl, sym, ℕ, ◌==◌, ◌∙◌, ◌≡◌}
 use Rattle.zone_words.specs.declared.mnemonics.Mnemonic.{Mnemonic}
 
 abbrev row_numbered : ℕ → List Mnemonic → Option Mnemonic

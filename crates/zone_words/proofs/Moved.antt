@@ -1,15 +1,8 @@
 -- Records that state their class become the same wherever they stand, where no `$ORIGIN` stands
 -- before them.
-use Rattle.zone_text.proofs.Common.{AllByRecursion, AllByRecursion-append, Entry, HasClass, List, None, Option, Some, Statement, Token, [], class_word, entry_of, latest, no_items, numbered, option_or, owned, refl, reverse, reverse-append, sets_origin, sets_ttl, includes, text, unknown, unowned, statement_of, subst, sym, ℕ, ◌++◌, ◌+◌, ◌==◌, ◌≡◌, ◌∷◌}
-use Rattle.std.specs.Prelude.{IsSome, MatchOption, count_by}
-use Rattle.zone_name.specs.Common.{Labels}
-use Rattle.zone_rdata.specs.Item.{RawItem}
-use Rattle.zone_words.specs.DataItem.{TouchingItem}
-use Rattle.zone_words.specs.Entry.{BecomesUnder, IsFurtherUnder, IsRefused, SaysAnew, TokensFail, TokensSay, anew, in_generic_form, in_words, kept, no_data, on_more_lines, refused, too_many}
-use Rattle.zone_words.specs.Origin.{IsCasedOrigin, NamesOrigin, origin_items}
-use Rattle.zone_words.specs.Rewriting.{Outcome, Refused}
-use Rattle.zone_words.specs.Table.{FurtherType}
-use Rattle.zone_words.specs.Written.{Anew}
+use Rattle.zone_words.proofs.Common.{AllByRecursion, AllByRecursion-append, Anew, BecomesUnder, Entry, FurtherType, IsCasedOrigin, IsFurtherUnder, IsRefused, IsSome, Labels, List, MatchOption, NamesOrigin, None, Option, Outcome, RawItem, Refused, SaysAnew, Some, Statement, Token, TokensFail, TokensSay, TouchingItem, [], anew, class_word, count_by, entry_of, in_generic_form, includes, kept, latest, no_data, numbered, on_more_lines, option_or, origin_items, owned, refl, refused, reverse, reverse-append, sets_origin, sets_ttl, statement_of, subst, sym, text, too_many, unknown, unowned, ℕ, ◌++◌, ◌+◌, ◌==◌, ◌∷◌, ◌≡◌}
+use Rattle.zone_text.proofs.Common.{no_items}
+use Rattle.zone_words.specs.Entry.{in_words}
 
 -- the entry is a record that states its class
 abbrev pub IsClassed : Entry → Type 0
@@ -42,9 +35,6 @@ class_of : (word a b : Option (List ℕ)) (Else : Type 0) (Is : List ℕ → Typ
 class_of None a b Else Is some is = absurd cc
 class_of (Some text) a b Else Is some is = is
 
-class_moves : (from to : List Entry) (line other : ℕ) (tokens : List Token) (class : ℕ) → IsClassed (entry_of line tokens) → HasClass from (entry_of line tokens) class → HasClass to (entry_of other tokens) class
-class_moves from to line other tokens class classed is = class_of (class_word (statement_of (entry_of line tokens))) (latest class_word from) (latest class_word to) _ _ classed is
-
 module _ (origin : Labels) (from to : List Entry) (was : AllByRecursion IsClassed from) (are : AllByRecursion IsClassed to) (line other : ℕ) (tokens : List Token) (classed : IsClassed (entry_of line tokens)) where
   further_moves : (word : List ℕ) (items : List RawItem) (f : FurtherType) (above : Labels) → IsFurtherUnder origin from (entry_of line tokens) word items f above → IsFurtherUnder origin to (entry_of other tokens) word items f above
   further_moves word items f above is = record {
@@ -54,7 +44,7 @@ module _ (origin : Labels) (from to : List Entry) (was : AllByRecursion IsClasse
       values = is.stated.values;
       from_type = is.stated.from_type;
       named = is.stated.named;
-      class = λ internet. class_moves from to line other tokens _ classed (is.stated.class internet);
+      class = λ internet. (class_of (class_word (statement_of (entry_of line tokens))) (latest class_word from) (latest class_word to) _ _ classed (is.stated.class internet));
     };
     under = is_origin origin above to are (origin_of origin above from was is.under);
   }

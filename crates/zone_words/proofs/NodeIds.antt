@@ -1,5 +1,5 @@
 -- A node identifier's octets are its own.
-use Rattle.std.proofs.Common.{◌≡◌, ℕ, List, false}
+use Rattle.zone_words.proofs.Common.{List, false, ℕ, ◌≡◌}
 use Rattle.zone_rdata.proofs.Addresses.AddressParts.{parts_unique}
 use Rattle.zone_words.specs.Kinds.NodeId.{StatesNodeId}
 

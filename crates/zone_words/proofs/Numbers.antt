@@ -1,14 +1,9 @@
 -- Numbers that are read, and their places in octets.
-use Rattle.std.proofs.Common.{◌≡◌, ℕ, ◌<◌, ◌≤◌, ◌^◌, ◌+◌, List, Option, Some, None, refl, sym, ap, ◌∙◌, subst, arith}
-use Rattle.std.specs.Prelude.{IfSome, IfNone}
-use Rattle.std.specs.Int.{Width, byte_len, to_be_bytes}
-use Rattle.zone_name.specs.Common.{NothingIs}
+use Rattle.zone_words.proofs.Common.{AppendsStated, IfNone, IfSome, IsCapped, IsDecimal, IsInOctets, List, None, NothingIs, NumberFails, Option, Some, Width, WordsFault, ap, arith, byte_len, refl, subst, sym, to_be_bytes, ℕ, ◌+◌, ◌<◌, ◌^◌, ◌∙◌, ◌≡◌, ◌≤◌}
+use Rattle.zone_words.specs.Kinds.Number.{no_number}
 use Rattle.zone_rdata.specs.Fields.Number.{IsNumber}
-use Rattle.zone_rdata.specs.Number.{IsCapped, IsDecimal}
-use Rattle.zone_words.specs.Fault.{AppendsStated}
-use Rattle.zone_words.specs.Kinds.Number.{IsInOctets, NumberFails, no_number, too_large}
+use Rattle.zone_words.specs.Kinds.Number.{too_large}
 use Rattle.zone_words.specs.Machine.Numbers.{FailsToFit, Fits, IsOver}
-use Rattle.zone_words.specs.declared.fault.WordsFault.{WordsFault}
 
 -- what is no number of so many octets has no place in them
 pub over_fails : (w : Width) (most : ℕ) (number : Option ℕ) (fault : WordsFault) → most + 1 ≡ 256 ^ byte_len w → IsOver most number fault → FailsToFit w number fault

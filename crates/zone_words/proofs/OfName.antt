@@ -1,10 +1,6 @@
 -- A domain name.
-use Rattle.std.proofs.Common.{◌≡◌, ℕ, List, Some, ◌∙◌, ap, sym}
-use Rattle.zone_name.specs.Common.{Labels}
-use Rattle.zone_name.specs.Name.{wire}
-use Rattle.zone_name.proofs.Spelling.Answered.{SpellsCased-faultless, SpellsCased-once}
+use Rattle.zone_words.proofs.Common.{Labels, List, Some, SpellsCased-faultless, SpellsCased-once, WordsFault, ap, sym, wire, ℕ, ◌∙◌, ◌≡◌}
 use Rattle.zone_words.specs.Kinds.Name.{FailsName, StatesName}
-use Rattle.zone_words.specs.declared.fault.WordsFault.{WordsFault}
 
 -- a text states one list of octets
 pub name_once : (origin : Labels) (text a b : List ℕ) → StatesName origin text a → StatesName origin text b → a ≡ b

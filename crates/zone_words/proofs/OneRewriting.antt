@@ -1,11 +1,7 @@
 -- There is one rewriting.
-use Rattle.zone_text.proofs.Common.{Entry, List, Token, [], and_last, ap, append_cancel_left, arith, common_steps, cut_from, entry_of, flat_map, refl, subst, sym, text, zero, ℕ, ◌++◌, ◌+◌, ◌==◌, ◌∙◌, ◌∷◌, ◌≡◌}
-use Rattle.std.specs.Prelude.{count_by}
-use Rattle.zone_name.specs.Common.{Labels}
-use Rattle.zone_text.proofs.Tokens.Cuttings.{cut_not_broken, one_break, one_cut}
+use Rattle.zone_words.proofs.Common.{BecomesUnder, EachBecomes, Entry, IsRewriting, Labels, List, Outcome, Refused, Token, [], and_last, ap, append_cancel_left, arith, broken, common_steps, count_by, cut_from, cut_not_broken, entry_of, flat_map, one_break, one_cut, refl, subst, sym, text, told_of, written_of, zero, ℕ, ◌++◌, ◌+◌, ◌==◌, ◌∙◌, ◌∷◌, ◌≡◌}
 use Rattle.zone_words.proofs.BecomesOnce.{becomes_once}
-use Rattle.zone_words.specs.Entry.{BecomesUnder, IsRewriting}
-use Rattle.zone_words.specs.Rewriting.{EachBecomes, Outcome, Refused, broken, told_of, whole, written_of}
+use Rattle.zone_words.specs.Rewriting.{whole}
 
 pub record SameRewriting (new other : List ℕ) (told others : List Refused) : Type 0 where
   pub written : new ≡ other

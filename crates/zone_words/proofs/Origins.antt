@@ -1,12 +1,6 @@
 -- There is one origin.
-use Rattle.std.proofs.Common.{subst, sym, ◌∙◌, ◌≡◌, ◌∷◌, [], List, Some, None}
-use Rattle.std.specs.Prelude.{Option, MatchOption}
-use Rattle.zone_name.proofs.Spelling.Answered.{SpellsCased-once}
-use Rattle.zone_name.specs.Common.{Labels}
-use Rattle.zone_rdata.specs.Item.{RawItem, bare, quoted}
-use Rattle.zone_text.specs.Entries.{Entry}
-use Rattle.zone_text.specs.Statements.{statement_of}
-use Rattle.zone_words.specs.Origin.{IsCasedOrigin, NamesOrigin, origin_items}
+use Rattle.zone_words.proofs.Common.{Entry, IsCasedOrigin, Labels, List, MatchOption, NamesOrigin, None, Option, RawItem, Some, SpellsCased-once, [], origin_items, statement_of, subst, sym, ◌∙◌, ◌∷◌, ◌≡◌}
+use Rattle.zone_rdata.specs.Item.{bare, quoted}
 
 named_once : (above : Labels) (items : List RawItem) (a b : Labels) → NamesOrigin above items a → NamesOrigin above items b → a ≡ b
 named_once above [] a b x y = absurd x

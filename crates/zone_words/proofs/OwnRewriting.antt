@@ -1,17 +1,10 @@
 -- A file without words of further types is its own rewriting.
-use Rattle.zone_text.proofs.Common.{token_text, append-nil, AllByRecursion, AllByRecursion-back, AllByRecursion-front, Breaks, Cuts, Entry, Fault, List, Token, [], and_last, ap, append_assoc, bare, cut_from, entry_of, flat_map, flat_map-append, inl, inr, refl, subst, sym, text, zero, ℕ, ◌++◌, ◌+◌, ◌==◌, ◌∙◌, ◌∷◌, ◌≡◌}
-use Rattle.std.specs.Prelude.{count_by, map}
-use Rattle.zone_name.specs.Common.{Labels}
-use Rattle.zone_name.specs.Spelling.{Written, written_text}
-use Rattle.zone_text.proofs.Tokens.CutAgain.{cut_whole, joined}
-use Rattle.zone_text.proofs.Tokens.Cuttings.{cut_or_broken}
-use Rattle.zone_text.proofs.Files.Left.{entries_text, text_of_entries}
-use Rattle.zone_words.specs.Entry.{BecomesUnder, IsRefused, IsRewriting, SaysAnew, in_generic_form, in_words, kept, no_data, on_more_lines, too_many}
-use Rattle.zone_words.specs.DataItem.{TouchingItem}
+use Rattle.zone_words.proofs.Common.{AllByRecursion, AllByRecursion-back, AllByRecursion-front, Anew, BecomesUnder, Breaks, Cuts, EachBecomes, Entry, Fault, FurtherType, IsFurtherWord, IsRefused, IsRewriting, Labels, List, Outcome, Refused, SaysAnew, Token, TouchingItem, Written, [], and_last, ap, append-nil, append_assoc, broken, count_by, cut_from, cut_or_broken, cut_whole, entries_text, entry_of, flat_map, flat_map-append, in_generic_form, inl, inr, kept, map, no_data, on_more_lines, refl, subst, sym, text, text_of_entries, token_text, told_of, too_many, written_of, written_text, zero, ℕ, ◌++◌, ◌+◌, ◌==◌, ◌∙◌, ◌∷◌, ◌≡◌}
+use Rattle.zone_text.proofs.Common.{bare}
+use Rattle.zone_text.proofs.Tokens.CutAgain.{joined}
+use Rattle.zone_words.specs.Entry.{in_words}
 use Rattle.zone_words.specs.NoFurther.{HasNoFurtherWord, IsNoFurtherWord}
-use Rattle.zone_words.specs.Rewriting.{EachBecomes, Outcome, Refused, broken, told_of, whole, written_of}
-use Rattle.zone_words.specs.Table.{FurtherType, IsFurtherWord}
-use Rattle.zone_words.specs.Written.{Anew}
+use Rattle.zone_words.specs.Rewriting.{whole}
 
 -- such tokens say nothing, and nothing is wrong with them
 said_word : (origin : Labels) (before : List Entry) (entry : Entry) (word : List ℕ) (d : List TouchingItem) (it : Anew) → SaysAnew origin before entry word d it → (f : FurtherType) × IsFurtherWord word f

@@ -1,20 +1,9 @@
 -- Items state one latitude or longitude at most, one altitude, and one size.
-use Rattle.std.proofs.Common.{[], ◌≡◌, ◌≢◌, ℕ, ◌+◌, ◌-◌, ◌*◌, ◌/◌, ◌^◌, ◌<◌, ◌≤◌, List, ◌∷◌, ◌++◌, inl, inr, length, get_or, take, drop, map, Bool, true, false, refl, sym, ap, ap₂, ◌∙◌, subst, arith}
-use Rattle.std.proofs.Math.Nat.{pow-le-pow_right}
-use Rattle.std.proofs.lemmas.Bool.{cases_lt}
-use Rattle.std.proofs.lemmas.List.{drop_more, length-drop, map-append, take-append-drop, take_all}
-use Rattle.std.specs.List.{AllByRecursion}
-use Rattle.zone_name.specs.Common.{NothingIs}
-use Rattle.zone_name.specs.Name.{folded_label, folded_octet}
+use Rattle.zone_words.proofs.Common.{AllByRecursion, AreCentimetres, ArePartsOfDegree, BeginsWithAltitude, BeginsWithMinus, BeginsWithPlace, BeginsWithSize, Bool, DataItem, IsAfterMinus, IsAltitude, IsAngle, IsCutAtHalf, IsDecimal, IsFirstDigit, IsHalfOf, IsNoHalf, IsScaled, List, NothingIs, OfBareItem, RawItem, UpTo, [], above, ap, ap₂, arith, below, cases_lt, drop, drop_more, false, folded_label, folded_octet, from_middle, get_or, inl, inr, length, length-drop, letter, map, map-append, minus, most_degrees, pow-le-pow_right, raw_item, refl, subst, sym, take, take-append-drop, take_all, true, without_m, ℕ, ◌*◌, ◌++◌, ◌+◌, ◌-◌, ◌/◌, ◌<◌, ◌^◌, ◌∙◌, ◌∷◌, ◌≡◌, ◌≢◌, ◌≤◌}
 use Rattle.zone_name.specs.Spelling.{is_digit}
-use Rattle.zone_rdata.specs.Item.{RawItem, bare, quoted}
-use Rattle.zone_rdata.specs.Number.{IsDecimal}
+use Rattle.zone_rdata.specs.Item.{bare, quoted}
 use Rattle.zone_words.proofs.Numbers.{decimal_once}
 use Rattle.zone_words.proofs.Scaled.{BeginsWithDigit, decimal_first, digit_below, no_minus, scaled_first, scaled_once}
-use Rattle.zone_words.specs.DataItem.{raw_item}
-use Rattle.zone_words.specs.Kinds.Location.{AreCentimetres, ArePartsOfDegree, BeginsWithAltitude, BeginsWithPlace, BeginsWithSize, IsAltitude, IsAngle, IsFirstDigit, IsHalfOf, IsScaled, IsSize, OfBareItem, above, below, from_middle, letter, most_degrees, without_m}
-use Rattle.zone_words.specs.Machine.Locations.{BeginsWithMinus, IsAfterMinus, IsCutAtHalf, IsNoHalf, UpTo, minus}
-use Rattle.zone_words.specs.declared.data_item.DataItem.{DataItem}
 use Rattle.zone_words.specs.declared.kinds.location.place.Axis.{Axis}
 use Rattle.zone_words.specs.declared.kinds.location.place.Axis.TheVariants.{Latitude, Longitude}
 use Rattle.zone_words.specs.declared.kinds.location.place.Half.{Half}
@@ -22,14 +11,12 @@ use Rattle.zone_words.specs.declared.kinds.location.place.Half.TheVariants.{Uppe
 
 -- ---- a number is no letter
 
-digit_folds : (c : ℕ) → is_digit c ≡ true → folded_octet c ≡ c
-digit_folds c is = let few = digit_below c is in grind arith
-
 no_such_letter : (c k : ℕ) (text : List ℕ) → is_digit c ≡ true → 57 < k → folded_label (c ∷ text) ≡ k ∷ [] → ⊥
 no_such_letter c k text digit over e =
     let few = digit_below c digit in
+    let folds : folded_octet c ≡ c = grind arith in
     let same : folded_octet c ≡ k = cc in
-    omega (arith, digit_folds c digit)
+    omega arith
 
 digit_no_letter : (axis : Axis) (half : Half) (text : List ℕ) → BeginsWithDigit text → folded_label text ≡ letter axis half → ⊥
 digit_no_letter axis half [] begins e = begins
@@ -42,27 +29,21 @@ digit_no_letter Longitude Upper (c ∷ text) begins e =
 digit_no_letter Longitude Lower (c ∷ text) begins e =
     no_such_letter c 119 text begins (omega arith) e
 
-decimal_no_half : (axis : Axis) (item : RawItem) (n : ℕ) → OfBareItem IsDecimal item n → IsNoHalf axis item
-decimal_no_half axis (bare text) n is half h =
-    digit_no_letter axis half text (decimal_first text n is) h
-decimal_no_half axis (quoted text) n is half h = is
-
-scaled_no_half : (axis : Axis) (item : RawItem) (n : ℕ) → OfBareItem (IsScaled 3) item n → IsNoHalf axis item
-scaled_no_half axis (bare text) n is half h =
-    digit_no_letter axis half text (scaled_first 3 text n is) h
-scaled_no_half axis (quoted text) n is half h = is
+bare_no_half : (axis : Axis) (Stated : List ℕ → ℕ → Type 0) → ((text : List ℕ) (n : ℕ) → Stated text n → BeginsWithDigit text) → (item : RawItem) (n : ℕ) → OfBareItem Stated item n → IsNoHalf axis item
+bare_no_half axis Stated first (bare text) n is half h = digit_no_letter axis half text (first text n is) h
+bare_no_half axis Stated first (quoted text) n is half h = is
 
 parts_no_half : (axis : Axis) (items : List RawItem) (n : ℕ) → ArePartsOfDegree items n → AllByRecursion (IsNoHalf axis) items
 parts_no_half axis [] n are = tt
-parts_no_half axis (a ∷ []) n are = (decimal_no_half axis a are.0 are.1.0, tt)
+parts_no_half axis (a ∷ []) n are = (bare_no_half axis IsDecimal decimal_first a are.0 are.1.0, tt)
 parts_no_half axis (a ∷ b ∷ []) n are =
-    (decimal_no_half axis a are.0 are.2.0, (scaled_no_half axis b are.1 are.2.1.0, tt))
+    (bare_no_half axis IsDecimal decimal_first a are.0 are.2.0, (bare_no_half axis (IsScaled 3) (scaled_first 3) b are.1 are.2.1.0, tt))
 parts_no_half axis (a ∷ b ∷ c ∷ items) n are = absurd are
 
 angle_no_half : (axis : Axis) (items : List RawItem) (n : ℕ) → IsAngle items n → AllByRecursion (IsNoHalf axis) items
 angle_no_half axis [] n is = tt
 angle_no_half axis (first ∷ items) n is =
-    (decimal_no_half axis first is.0 is.2.0, parts_no_half axis items is.1 is.2.1.0)
+    (bare_no_half axis IsDecimal decimal_first first is.0 is.2.0, parts_no_half axis items is.1 is.2.1.0)
 
 -- ---- the letter is in one place
 
@@ -108,28 +89,24 @@ cut_half axis items at d half inside none is =
 
 -- ---- one angle
 
-bare_decimal_same : (item : RawItem) (m n : ℕ) → OfBareItem IsDecimal item m → OfBareItem IsDecimal item n → m ≡ n
-bare_decimal_same (bare text) m n a b = decimal_once text m n a b
-bare_decimal_same (quoted text) m n a b = absurd a
-
-bare_scaled_same : (item : RawItem) (m n : ℕ) → OfBareItem (IsScaled 3) item m → OfBareItem (IsScaled 3) item n → m ≡ n
-bare_scaled_same (bare text) m n a b = scaled_once 3 text m n a b
-bare_scaled_same (quoted text) m n a b = absurd a
+bare_same : (Stated : List ℕ → ℕ → Type 0) → ((text : List ℕ) (m n : ℕ) → Stated text m → Stated text n → m ≡ n) → (item : RawItem) (m n : ℕ) → OfBareItem Stated item m → OfBareItem Stated item n → m ≡ n
+bare_same Stated once (bare text) m n a b = once text m n a b
+bare_same Stated once (quoted text) m n a b = absurd a
 
 parts_same : (items : List RawItem) (m n : ℕ) → ArePartsOfDegree items m → ArePartsOfDegree items n → m ≡ n
 parts_same [] m n a b = a ∙ sym b
 parts_same (x ∷ []) m n a b =
-    let same = bare_decimal_same x a.0 b.0 a.1.0 b.1.0 in omega (arith, a.1.1.1, b.1.1.1)
+    let same = bare_same IsDecimal decimal_once x a.0 b.0 a.1.0 b.1.0 in omega (arith, a.1.1.1, b.1.1.1)
 parts_same (x ∷ y ∷ []) m n a b =
-    let minutes = bare_decimal_same x a.0 b.0 a.2.0 b.2.0 in
-    let seconds = bare_scaled_same y a.1 b.1 a.2.1.0 b.2.1.0 in
+    let minutes = bare_same IsDecimal decimal_once x a.0 b.0 a.2.0 b.2.0 in
+    let seconds = bare_same (IsScaled 3) (scaled_once 3) y a.1 b.1 a.2.1.0 b.2.1.0 in
     omega (arith, a.2.1.1.1.1, b.2.1.1.1.1)
 parts_same (x ∷ y ∷ z ∷ items) m n a b = absurd a
 
 angle_same : (items : List RawItem) (m n : ℕ) → IsAngle items m → IsAngle items n → m ≡ n
 angle_same [] m n a b = absurd a
 angle_same (x ∷ items) m n a b =
-    let degrees = bare_decimal_same x a.0 b.0 a.2.0 b.2.0 in
+    let degrees = bare_same IsDecimal decimal_once x a.0 b.0 a.2.0 b.2.0 in
     let part = parts_same items a.1 b.1 a.2.1.0 b.2.1.0 in
     omega (arith, a.2.1.1, b.2.1.1)
 
@@ -152,10 +129,6 @@ place_once axis items rest more m n p q =
     (p.value ∙ ap₂ (λ (h : Half) (a : ℕ). from_middle h a) half angle ∙ sym q.value, found.1.1)
 
 -- ---- altitude
-
-pub altitude_below : (text rest : List ℕ) (sign : Bool) (d : ℕ) → IsAfterMinus text sign rest → sign ≡ true → UpTo 10000000 (AreCentimetres rest) d → IsAltitude text (10000000 - d)
-altitude_below text rest sign d after is are =
-    below rest d (after.parts ∙ ap (λ (b : Bool). minus b ++ rest) is) are.0 are.1 refl
 
 pub altitude_above : (text rest : List ℕ) (sign : Bool) (h : ℕ) → IsAfterMinus text sign rest → sign ≡ false → UpTo 4284967295 (AreCentimetres rest) h → IsAltitude text (10000000 + h)
 altitude_above text rest sign h after is are =
@@ -212,13 +185,8 @@ first_digit_same c m n p q =
     let power : p.power ≡ q.power = omega (arith, power_least c m n p q, power_least c n m q p) in
     p.value ∙ ap (λ (k : ℕ). c / 10 ^ k * 16 + k) power ∙ sym q.value
 
-size_same : (text : List ℕ) (m n : ℕ) → IsSize text m → IsSize text n → m ≡ n
-size_same text m n p q =
-    let same = scaled_once 2 (without_m text) p.0 q.0 p.1.0 q.1.0 in
-    first_digit_same q.0 m n (subst (λ (c : ℕ). IsFirstDigit c m) same p.1.1.1) q.1.1.1
-
 pub size_once : (usual : ℕ) (items rest more : List RawItem) (m n : ℕ) → BeginsWithSize usual items m rest → BeginsWithSize usual items n more → (m ≡ n) × (rest ≡ more)
 size_once usual [] rest more m n p q = (p.0 ∙ sym q.0, p.1 ∙ sym q.1)
 size_once usual (bare text ∷ items) rest more m n p q =
-    (size_same text m n p.0 q.0, p.1 ∙ sym q.1)
+    ((let same = scaled_once 2 (without_m text) p.0.0 q.0.0 p.0.1.0 q.0.1.0 in first_digit_same q.0.0 m n (subst (λ (c : ℕ). IsFirstDigit c m) same p.0.1.1.1) q.0.1.1.1), p.1 ∙ sym q.1)
 size_once usual (quoted text ∷ items) rest more m n p q = absurd p.0

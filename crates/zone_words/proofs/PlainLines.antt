@@ -1,28 +1,15 @@
 -- The tokens of octets of which all items are bare and parted by blanks, and a line feed.
-use Rattle.std.proofs.Common.{[], Bool, List, ap, cond, false, length, map, not, refl, subst, sym, true, ℕ, ◌++◌, ◌==◌, ◌&&◌, ◌∙◌, ◌∷◌, ◌≡◌, arith}
-use Rattle.std.proofs.lemmas.Bool.{and_parts, eqb-true, false≢true}
-use Rattle.std.proofs.lemmas.List.Elements.{filter-append}
+use Rattle.zone_words.proofs.Common.{AllByRecursion, AllFollow, AreOnOneLine, ArePlain, AreTokensOf, BeginsBlank, Bool, DataItem, IsPlainLine, IsToken, Item, List, Token, Written, [], and_parts, ap, arith, blank, closing, comment, cond, ends_item, eqb-true, escaped, false, false≢true, filter, filter-append, follow_after, given, is_blank, is_plain, is_unmarked, length, length-filter, line_feed, list_all, map, not, opening, parted, plain, raw, refl, stays, subst, sym, text, touching_items, true, written_text, ℕ, ◌&&◌, ◌++◌, ◌==◌, ◌∙◌, ◌∷◌, ◌≡◌}
 use Rattle.std.proofs.lemmas.List.Folds.{list_all-append}
-use Rattle.std.proofs.lemmas.List.Sums.{length-filter}
-use Rattle.std.specs.Prelude.{filter}
-use Rattle.std.specs.List.{AllByRecursion, list_all}
-use Rattle.zone_name.specs.Spelling.{Written, decimal, escaped, plain, written_text}
-use Rattle.zone_rdata.specs.Item.{raw}
+use Rattle.zone_name.specs.Spelling.{decimal}
 use Rattle.zone_rdata.specs.Item as items
-use Rattle.zone_rdata.specs.declared.item.Item.{Item}
-use Rattle.zone_text.proofs.Tokens.Cuttings.{follow_after}
-use Rattle.zone_text.specs.Tokens.{AllFollow, AreTokensOf, IsToken, Token, bare, blank, closing, comment, ends_item, is_blank, line_feed, opening, quoted, text}
-use Rattle.zone_words.specs.DataItem.{TouchingItem, given, items_of}
-use Rattle.zone_words.specs.Entry.{AreOnOneLine, touching_items}
-use Rattle.zone_words.specs.Machine.PlainLines.{ArePlain, IsPlainLine, is_plain, is_unmarked, parted}
-use Rattle.zone_words.specs.Machine.Walking.{BeginsBlank}
-use Rattle.zone_words.specs.Written.{stays}
-use Rattle.zone_words.specs.declared.data_item.DataItem.{DataItem}
+use Rattle.zone_text.specs.Tokens.{bare, quoted}
+use Rattle.zone_words.specs.DataItem.{items_of}
 
 -- ---- octets without marks
 
 -- no quote, parenthesis or semicolon is among the octets
-abbrev HaveNoMarks : List ℕ → Type 0
+abbrev pub HaveNoMarks : List ℕ → Type 0
 HaveNoMarks octets = list_all is_unmarked octets ≡ true
 
 marks_behind : (front back : List ℕ) → HaveNoMarks (front ++ back) → HaveNoMarks back
@@ -34,7 +21,7 @@ unmarked (c ∷ octets) all =
     let parts = and_parts (is_plain c) (list_all is_plain octets) all in
     rw ((and_parts (is_unmarked c) (not (c == 10)) parts.0).0) (unmarked octets parts.1)
 
-no_marks : (octets : List ℕ) → IsPlainLine octets → HaveNoMarks octets
+pub no_marks : (octets : List ℕ) → IsPlainLine octets → HaveNoMarks octets
 no_marks octets line = subst HaveNoMarks (sym line.whole)
     (list_all-append is_unmarked line.front (10 ∷ []) ∙ ap (λ b. b && true) (unmarked line.front line.plain))
 
@@ -55,7 +42,7 @@ bare_after units (line_feed ∷ more) follow is = absurd cc
 bare_after units (comment octets ∷ more) follow is = absurd cc
 bare_after units (quoted others ∷ more) follow is = absurd cc
 
-items_apart : (touches : Bool) (tokens : List Token) → HaveNoMarks (text tokens) → AllFollow tokens → (begins_bare tokens ≡ true → touches ≡ false) → map parted (items_of (touching_items touches tokens)) ≡ touching_items touches tokens
+pub items_apart : (touches : Bool) (tokens : List Token) → HaveNoMarks (text tokens) → AllFollow tokens → (begins_bare tokens ≡ true → touches ≡ false) → map parted (items_of (touching_items touches tokens)) ≡ touching_items touches tokens
 items_apart touches [] none follow first = refl
 items_apart touches (blank c ∷ more) none follow first =
     items_apart false more (marks_behind (c ∷ []) (text more) none) (follow_after (blank c) more follow) (λ is. refl)
@@ -70,7 +57,7 @@ items_apart touches (closing ∷ more) none follow first = absurd (false≢true 
 items_apart touches (comment octets ∷ more) none follow first = absurd (false≢true none)
 items_apart touches (quoted units ∷ more) none follow first = absurd (false≢true none)
 
-blank_first : (tokens : List Token) (octets : List ℕ) → octets ≡ text tokens → BeginsBlank octets true → AllByRecursion IsToken tokens → begins_bare tokens ≡ true → ⊥
+pub blank_first : (tokens : List Token) (octets : List ℕ) → octets ≡ text tokens → BeginsBlank octets true → AllByRecursion IsToken tokens → begins_bare tokens ≡ true → ⊥
 blank_first (bare [] ∷ more) octets whole begins each is = omega (arith, each.0.0)
 blank_first (bare (plain c ∷ units) ∷ more) octets whole begins each is =
     let blank_is : is_blank c ≡ true = sym (begins c (written_text units ++ text more) whole) in
@@ -87,17 +74,6 @@ blank_first (closing ∷ more) octets whole begins each is = absurd cc
 blank_first (line_feed ∷ more) octets whole begins each is = absurd cc
 blank_first (comment text_of ∷ more) octets whole begins each is = absurd cc
 blank_first (quoted units ∷ more) octets whole begins each is = absurd cc
-
--- the items, none of which directly follows another
-pub line_given : (octets : List ℕ) (items : List Item) (found : List DataItem) (all_tokens : List Token) → IsPlainLine octets → map given found ≡ map parted (map raw items) → AreTokensOf octets all_tokens → map raw items ≡ items_of (touching_items true all_tokens) → map given found ≡ touching_items true all_tokens
-line_given octets items found all_tokens line found_is are same =
-    found_is ∙ ap (map parted) same
-    ∙ items_apart true all_tokens (subst HaveNoMarks are.whole (no_marks octets line)) are.follow
-    (λ is. absurd (blank_first all_tokens octets are.whole line.begins are.each is))
-
-given_more : (found : List DataItem) (item : DataItem) (others : List TouchingItem) → map given (found ++ item ∷ []) ++ others ≡ map given found ++ given item ∷ others
-given_more [] item others = refl
-given_more (first ∷ found) item others = ap (λ t. given first ∷ t) (given_more found item others)
 
 -- as many of them as were found
 abbrev pub ArePartedTo : List Item → List Item → List DataItem → Type 0

@@ -1,10 +1,6 @@
 -- Octets that all pass a test, seen some at a time.
-use Rattle.std.proofs.Common.{Bool, List, ap, drop, length, sym, take, take-add, take-append-drop, true, ℕ, ◌+◌, ◌≡◌, ◌≤◌, ◌∙◌, refl}
-use Rattle.std.proofs.Math.Seq.{take-length}
-use Rattle.std.proofs.lemmas.Bool.{and_parts}
-use Rattle.std.proofs.lemmas.List.{take-take}
+use Rattle.zone_words.proofs.Common.{Bool, List, and_parts, ap, drop, length, list_all, refl, sym, take, take-add, take-append-drop, take-length, take-take, true, ℕ, ◌+◌, ◌∙◌, ◌≡◌, ◌≤◌}
 use Rattle.std.proofs.lemmas.List.Folds.{list_all-append}
-use Rattle.std.specs.List.{list_all}
 use lib.Lanes.{chunk}
 
 pub all_to_next : (p : ℕ → Bool) (xs : List ℕ) (at n : ℕ) → list_all p (take at xs) ≡ true → list_all p (chunk at n xs) ≡ true → list_all p (take (at + n) xs) ≡ true

@@ -1,23 +1,12 @@
 -- A text is one prefix, and a prefix has one list of octets.
-use Rattle.std.proofs.Common.{[], ◌≡◌, ◌≢◌, ℕ, zero, suc, ◌+◌, ◌-◌, ◌*◌, ◌<◌, ◌≤◌, List, ◌∷◌, ◌++◌, length, get_or, take, drop, replicate, map, Bool, true, false, inl, inr, refl, sym, ap, ap₂, ◌∙◌, subst, arith}
-use Rattle.std.proofs.lemmas.Bool.{cases_lt}
-use Rattle.std.proofs.lemmas.List.{append-nil, append_assoc, drop_all, drop_more, get_or-drop, get_or-take, get_or_default, length-drop, length-replicate, length-take, same_lists, take-append-drop}
-use Rattle.std.specs.Int.{w16, to_be_bytes}
-use Rattle.zone_name.specs.Common.{NothingIs}
+use Rattle.zone_words.proofs.Common.{AppendsStated, Bool, DataItem, IsCapped, IsCutFirst, IsCutLast, IsDecimal, IsMissing, List, NothingIs, RawItem, [], ap, append-nil, append_assoc, ap₂, arith, cases_lt, decimal_value, drop, drop_all, drop_more, false, get_or, get_or-append_right, get_or-drop, get_or-take, get_or_append_left, get_or_default, groups_unique, inl, inr, length, length-drop, length-replicate, length-take, map, numbers_unique, raw_item, refl, replicate, subst, suc, sym, take, take-append-drop, to_be_bytes, true, w16, zero, ℕ, ◌*◌, ◌++◌, ◌+◌, ◌-◌, ◌<◌, ◌∙◌, ◌∷◌, ◌≡◌, ◌≢◌, ◌≤◌}
+use Rattle.std.proofs.lemmas.List.{same_lists}
 use Rattle.zone_name.specs.Spelling.{is_digit}
-use Rattle.zone_rdata.proofs.Addresses.Cut.{numbers_unique}
-use Rattle.zone_rdata.proofs.Addresses.AddressGaps.{groups_unique}
 use Rattle.zone_rdata.specs.Address.{IsIpv6Address}
-use Rattle.zone_rdata.specs.Item.{RawItem, bare, quoted}
-use Rattle.zone_rdata.specs.Number.{IsCapped, IsDecimal, decimal_value}
+use Rattle.zone_rdata.specs.Item.{bare, quoted}
 use Rattle.zone_words.proofs.Cuts.{digits_lack, first_once, last_once, stands_in}
-use Rattle.zone_words.specs.DataItem.{raw_item}
-use Rattle.zone_words.specs.Fault.{AppendsStated}
-use Rattle.zone_words.specs.Kinds.Prefixes.{FailsPrefixes, IsAddressText, IsPrefixOctets, IsTrimmed, SpellsPrefix, StatesPrefix, StatesPrefixes, family_of, mark, octets_of, sign}
-use Rattle.zone_words.specs.Machine.Cuts.{IsCutFirst, IsCutLast, IsMissing}
+use Rattle.zone_words.specs.Kinds.Prefixes.{IsAddressText, IsPrefixOctets, IsTrimmed, SpellsPrefix, StatesPrefix, StatesPrefixes, family_of, mark, octets_of, sign}
 use Rattle.zone_words.specs.Machine.Prefixes.{BeginsWithMark, IsAfterMark, IsItemPrefix}
-use Rattle.zone_words.specs.declared.data_item.DataItem.{DataItem}
-use Rattle.zone_words.specs.declared.fault.WordsFault.TheVariants.{NoPrefix}
 use Rattle.zone_words.specs.declared.kinds.prefixes.Address.{Address}
 use Rattle.zone_words.specs.declared.kinds.prefixes.Address.TheVariants.{Ipv4, Ipv6}
 use Rattle.zone_words.specs.declared.kinds.prefixes.Prefix.{Prefix}
@@ -125,15 +114,8 @@ zero_at zero k = refl
 zero_at (suc n) zero = refl
 zero_at (suc n) (suc k) = zero_at n k
 
-inside_at : (xs ys : List ℕ) (k : ℕ) → k < length xs → get_or (xs ++ ys) k 0 ≡ get_or xs k 0
-inside_at [] ys k inside = absurd (omega arith)
-inside_at (x ∷ xs) ys zero inside = refl
-inside_at (x ∷ xs) ys (suc k) inside = inside_at xs ys k (omega arith)
-
 beyond_at : (xs : List ℕ) (n k : ℕ) → length xs ≤ k → get_or (xs ++ zeros_of n) k 0 ≡ 0
-beyond_at [] n k past = zero_at n k
-beyond_at (x ∷ xs) n zero past = absurd (omega arith)
-beyond_at (x ∷ xs) n (suc k) past = beyond_at xs n k (omega arith)
+beyond_at xs n k past = get_or-append_right xs (zeros_of n) (length xs) k 0 refl past ∙ zero_at n (k - length xs)
 
 no_longer_part : (octets a b : List ℕ) → IsTrimmed octets a → IsTrimmed octets b → length b ≤ length a
 no_longer_part octets a b these those =
@@ -141,14 +123,14 @@ no_longer_part octets a b these those =
       | inl longer ↦
           let k : ℕ = length b - 1 in
           let some : 0 < length b = omega arith in
-          absurd (those.last some (sym (inside_at b (zeros_of those.zeros) k (omega arith)) ∙ ap (λ l. get_or l k 0) (sym those.whole ∙ these.whole) ∙ beyond_at a these.zeros k (omega arith)))
+          absurd (those.last some (sym (get_or_append_left b (zeros_of those.zeros) 0 k (omega arith)) ∙ ap (λ l. get_or l k 0) (sym those.whole ∙ these.whole) ∙ beyond_at a these.zeros k (omega arith)))
       | inr other ↦ other
     ]
 
 trimmed_once : (octets a b : List ℕ) → IsTrimmed octets a → IsTrimmed octets b → a ≡ b
 trimmed_once octets a b these those =
     let count : length a ≡ length b = omega (arith, no_longer_part octets a b these those, no_longer_part octets b a those these) in
-    same_lists a b count (λ k d inside. get_or_default a k d 0 inside ∙ sym (inside_at a (zeros_of these.zeros) k inside) ∙ ap (λ l. get_or l k 0) (sym these.whole ∙ those.whole) ∙ inside_at b (zeros_of those.zeros) k (omega arith) ∙ get_or_default b k 0 d (omega arith))
+    same_lists a b count (λ k d inside. get_or_default a k d 0 inside ∙ sym (get_or_append_left a (zeros_of these.zeros) 0 k inside) ∙ ap (λ l. get_or l k 0) (sym these.whole ∙ those.whole) ∙ get_or_append_left b (zeros_of those.zeros) 0 k (omega arith) ∙ get_or_default b k 0 d (omega arith))
 
 zeros_after : (octets : List ℕ) (len : ℕ) → ((k : ℕ) → len ≤ k → get_or octets k 0 ≡ 0) → drop len octets ≡ zeros_of (length octets - len)
 zeros_after octets len zeros =
@@ -212,16 +194,12 @@ prefix_in : (item : RawItem) (octets : List ℕ) → StatesPrefix item octets �
 prefix_in (bare text) octets states = (states.0, states.1.0)
 prefix_in (quoted text) octets states = absurd states
 
-prefix_at : (items : List DataItem) (i : ℕ) (d : DataItem) (octets : List ℕ) → i < length items → StatesPrefixes (map raw_item items) octets → (p : Prefix) × IsItemPrefix (raw_item (get_or items i d)) p
+pub prefix_at : (items : List DataItem) (i : ℕ) (d : DataItem) (octets : List ℕ) → i < length items → StatesPrefixes (map raw_item items) octets → (p : Prefix) × IsItemPrefix (raw_item (get_or items i d)) p
 prefix_at [] i d octets inside states = absurd (omega arith)
 prefix_at (item ∷ items) zero d octets inside states =
     prefix_in (raw_item item) states.0 states.2.0
 prefix_at (item ∷ items) (suc i) d octets inside states =
     prefix_at items i d states.1 (omega arith) states.2.1.0
-
-pub no_prefix : (items : List DataItem) (i : ℕ) (d : DataItem) → i < length items → NothingIs (IsItemPrefix (raw_item (get_or items i d))) → FailsPrefixes (map raw_item items) NoPrefix
-no_prefix items i d inside none =
-    (refl, λ octets states. let has = prefix_at items i d octets inside states in none has.0 has.1)
 
 -- ---- items state one list of octets
 

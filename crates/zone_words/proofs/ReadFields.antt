@@ -1,22 +1,11 @@
 -- Data of several fields.
-use Rattle.std.proofs.Common.{[], ◌≡◌, ◌≢◌, ℕ, suc, ◌+◌, min, Bool, true, false, ◌-◌, Some, ◌<◌, ◌≤◌, List, ◌∷◌, ◌++◌, length, get_or, take, drop, map, inl, inr, refl, sym, ap, ◌∙◌, subst, arith, append_assoc, Result}
-use Rattle.std.proofs.lemmas.List.{drop-drop, length-drop, length-map, drop-map, take-map}
+use Rattle.zone_words.proofs.Common.{AFieldFails, AppendsStated, Bool, DataFails, DataItem, FailsField, IfDataFault, IfErr, IsErrAnd, Labels, List, NamedField, Result, Some, StatesField, TouchingItem, WordsFault, [], ap, append_assoc, arith, drop, drop-drop, drop-map, false, field_of, from_place, get_or, given, if◌then◌else◌, inl, inr, items_after, items_left, last_name, length, length-drop, length-map, map, min, nil_from_length, own_count, own_items, slice_get, subst, suc, sym, take, take-map, too_long, true, ℕ, ◌++◌, ◌+◌, ◌-◌, ◌<◌, ◌∙◌, ◌∷◌, ◌≡◌, ◌≢◌, ◌≤◌}
 use Rattle.std.proofs.lemmas.Result.{err_from_is_err_and}
-use Rattle.std.specs.List.{slice_get}
-use Rattle.std.specs.Prelude.{IfErr, IsErrAnd, if◌then◌else◌}
-use Rattle.zone_name.specs.Common.{Labels}
-use Rattle.zone_rdata.proofs.Lists.{from_place}
-use Rattle.zone_words.specs.Data.{AFieldFails, DataFails, IfDataFault, at_field, items_left, joined, last_name, too_long}
-use Rattle.zone_words.specs.DataItem.{TouchingItem, given}
-use Rattle.zone_words.specs.Fault.{AppendsStated}
-use Rattle.zone_words.specs.Field.{FailsField, StatesField, items_after, own_count, own_items, takes_one}
+use Rattle.zone_words.specs.Data.{joined}
 use Rattle.zone_words.specs.Machine.Fields.{AppendsParts, IsFieldFault, WholeFails}
-use Rattle.zone_words.specs.Table.{NamedField, field_of}
 use Rattle.zone_words.specs.declared.data.DataFailing.{DataFailing}
-use Rattle.zone_words.specs.declared.data_item.DataItem.{DataItem}
 use Rattle.zone_words.specs.declared.field.Field.{Field}
 use Rattle.zone_words.specs.declared.field.FieldKind.{FieldKind}
-use Rattle.zone_words.specs.declared.fault.WordsFault.{WordsFault}
 
 -- fields before others were read: what the others state and where they fail is so of all
 pub record HaveRead (origin : Labels) (fields others : List NamedField) (items left : List TouchingItem) (old now : List ℕ) : Type 0 where
@@ -72,10 +61,6 @@ data_fault_answered e P Q goes h = grind arith
 
 -- ---- what is left after the last field
 
-none_left : (items : List TouchingItem) → length items ≡ 0 → items ≡ []
-none_left [] e = refl
-none_left (item ∷ items) e = absurd (omega arith)
-
 some_left : (items : List TouchingItem) → 0 < length items → items ≢ []
 some_left items some e = let none : length items ≡ 0 = ap length e in omega arith
 
@@ -83,7 +68,7 @@ pub whole_fails : (origin : Labels) (fields : List NamedField) (items left : Lis
 whole_fails origin fields items left old octets name n m fault empty count size h last (inl bad) =
     rw bad.0 (items_left h.parts h.each (λ none. some_left left (let some = bad.1 in omega arith) (h.rest ∙ none)) last)
 whole_fails origin fields items left old octets name n m fault empty count size h last (inr bad) =
-    rw bad.0 (too_long h.parts h.each (sym h.rest ∙ none_left left (sym count ∙ bad.1)) (let same : length octets ≡ length (joined h.parts) = ap length (h.written ∙ ap (λ o. o ++ joined h.parts) empty) in let many = bad.2 in omega arith) last)
+    rw bad.0 (too_long h.parts h.each (sym h.rest ∙ nil_from_length left (sym count ∙ bad.1)) (let same : length octets ≡ length (joined h.parts) = ap length (h.written ∙ ap (λ o. o ++ joined h.parts) empty) in let many = bad.2 in omega arith) last)
 
 pub last_named : (fields : List Field) (f : Field) → Some f ≡ slice_get fields (length fields - 1) → f.0.now ≡ last_name (map field_of fields)
 last_named [] f is = absurd cc
@@ -92,15 +77,6 @@ last_named (g ∷ h ∷ fields) f is =
     let next : length (g ∷ h ∷ fields) - 1 ≡ suc (length (h ∷ fields) - 1) = omega arith in
     last_named (h ∷ fields) f (is ∙ ap (slice_get (g ∷ h ∷ fields)) next)
 
-within : (one : Bool) (left count place all : ℕ) → count ≡ (if one then min 1 left else left) → place ≤ all → left ≡ all - place → place + count ≤ all
+pub within : (one : Bool) (left count place all : ℕ) → count ≡ (if one then min 1 left else left) → place ≤ all → left ≡ all - place → place + count ≤ all
 within true left count place all is inside left_is = omega arith
 within false left count place all is inside left_is = omega arith
-
-pub own_inside : (kind : FieldKind) (items : List DataItem) (place count : ℕ) → place ≤ length items → count ≡ own_count kind (length items - place) → place + count ≤ length items
-own_inside kind items place count inside is = within (takes_one kind) (length items - place) count place (length items) is inside refl
-
-pub at_a_field : (origin : Labels) (fields : List NamedField) (items : List TouchingItem) (name : List ℕ) (fault : WordsFault) → AFieldFails origin fields items name fault → DataFails origin fields items name fault
-at_a_field origin fields items name fault bad = at_field fault bad
-
-pub left_count : (items : List DataItem) (count : ℕ) → length items - count ≡ length (map given (drop count items))
-left_count items count = sym (length-map (drop count items) given ∙ length-drop count items)

@@ -1,21 +1,8 @@
 -- Words of further types are words of registered types, and no further type has a layout.
-use Rattle.std.proofs.Common.{◌≡◌, ℕ, Bool, true, false, not, ◌==◌, List, ◌∷◌, ◌++◌, take, codes, refl, sym, ap, ◌∙◌, Option, Some, None, bytes_eq}
-use Rattle.std.proofs.lemmas.Bool.{false≢true, not-true}
-use Rattle.std.proofs.lemmas.List.{map-append}
-use Rattle.std.proofs.lemmas.Slice.Eq.{bytes_eq-Decides}
-use Rattle.std.specs.List.{find, list_all}
-use Rattle.std.specs.Option.{option_map}
-use Rattle.zone_name.specs.Name.{folded_label, folded_octet}
+use Rattle.zone_words.proofs.Common.{Bool, FurtherType, IsFurtherWord, IsGeneric, IsKindWord, IsMnemonic, IsNumbered, IsWordAmong, List, Named, NamedType, None, Option, RawItem, Some, ap, by_mnemonic, by_number, bytes_eq, bytes_eq-Decides, codes, each_mnemonic, false, false≢true, find, find_mapped, folded_label, folded_octet, found_each, further_names, further_type, further_types, list_all, map-append, mnemonic_among, named, not, not-true, option_map, refl, registered_types, sym, take, true, type_names, types, word_once, ℕ, ◌++◌, ◌==◌, ◌∙◌, ◌∷◌, ◌≡◌}
 unfoldable use Rattle.zone_rdata.proofs.Words.OneWord.{is_number, own_numbers, unlike}
-use Rattle.zone_rdata.proofs.Words.OneWord.{word_once}
-use Rattle.zone_rdata.proofs.Words.Tables.{each_mnemonic, find_mapped, found_each}
-use Rattle.zone_rdata.specs.Item.{IsGeneric, RawItem}
 use Rattle.zone_rdata.specs.Layout.{fields_in, layout}
 use Rattle.zone_rdata.specs.Spelling.{States, StatesFor, in_octets, in_words}
-use Rattle.zone_rdata.specs.Table.{Named, NamedType, mnemonic_among, named, type_names, types}
-use Rattle.zone_rdata.specs.Words.{IsKindWord, IsMnemonic, IsNumbered, IsWordAmong, by_mnemonic, by_number}
-use Rattle.zone_words.specs.Mnemonics.{registered_types}
-use Rattle.zone_words.specs.Table.{FurtherType, IsFurtherWord, further_names, further_type, further_types}
 
 is_same : Option (List ℕ) → List ℕ → Bool
 is_same None word = false
@@ -66,9 +53,6 @@ no_row : (f : FurtherType) → further_type f.number ≡ Some f → row_numbered
 unfolding is_missing
 no_row f e = missing (row_numbered f.number) (found_each (λ (g : FurtherType). is_missing (row_numbered g.number)) (λ (g : FurtherType). f.number == g.number) further_types f refl e)
 
-no_layout : (class : ℕ) (f : FurtherType) → further_type f.number ≡ Some f → layout class f.number ≡ None
-no_layout class f e = ap (fields_in class) (no_row f e)
-
 in_form : (origin : List (List ℕ)) (laid : _) (items : List RawItem) (octets : List ℕ) → laid ≡ None → StatesFor origin laid items octets → IsGeneric items
 in_form origin laid items octets none (in_words fields values some words spell are short) = absurd (let bad : None ≡ Some fields = sym none ∙ some in cc)
 in_form origin laid items octets none (in_octets stated) = (stated.1.form.item ∷ stated.1.digits, stated.1.form.parts)
@@ -76,7 +60,7 @@ in_form origin laid items octets none (in_octets stated) = (stated.1.form.item �
 -- data of a further type stands in the generic form
 pub generic_data : (origin : List (List ℕ)) (word : List ℕ) (class kind : ℕ) (items : List RawItem) (octets : List ℕ) (f : FurtherType) → IsKindWord word kind → IsFurtherWord word f → States origin class kind items octets → IsGeneric items
 generic_data origin word class kind items octets f is further states =
-    in_form origin (layout class kind) items octets (ap (layout class) (same_number word kind f is further) ∙ no_layout class f further.row) states.stated
+    in_form origin (layout class kind) items octets (ap (layout class) (same_number word kind f is further) ∙ (ap (fields_in class) (no_row f further.row))) states.stated
 
 -- ---- its word is no mnemonic
 

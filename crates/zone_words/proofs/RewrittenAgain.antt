@@ -1,24 +1,12 @@
 -- A rewriting is its own rewriting.
-use Rattle.zone_text.proofs.Common.{AllByRecursion, Cut, Entry, Fault, IsToken, List, MatchOption, None, Option, Some, Token, [], and_last, ap, class_word, cut_from, entry_of, flat_map, latest, refl, statement_of, subst, sym, text, zero, ℕ, ◌++◌, ◌+◌, ◌==◌, ◌∙◌, ◌∷◌, ◌≡◌}
-use Rattle.std.specs.List.{AllZip}
-use Rattle.std.specs.Option.{option_or}
-use Rattle.std.specs.Prelude.{count_by}
-use Rattle.zone_name.specs.Common.{Labels}
-use Rattle.zone_name.specs.Spelling.{written_text}
-use Rattle.zone_rdata.specs.Item.{RawItem}
-use Rattle.zone_rdata.specs.Table.{in_class}
-use Rattle.zone_rdata.specs.Words.{IsClassWord}
-use Rattle.zone_text.specs.Inherited.{HasClass}
+use Rattle.zone_words.proofs.Common.{AllByRecursion, AllZip, Anew, BecomesUnder, Cut, EachBecomes, Entry, Fault, FurtherType, HasClass, IsCasedOrigin, IsClassWord, IsFurtherRecord, IsFurtherUnder, IsRefused, IsRewriting, IsToken, Labels, List, MatchOption, NamesOrigin, None, Option, Outcome, RawItem, Refused, SaysAnew, Some, Token, TokensFail, TokensSay, TouchingItem, [], and_last, anew, ap, broken, class_word, count_by, cut_from, entry_of, flat_map, in_class, in_generic_form, kept, latest, no_data, on_more_lines, option_or, origin_items, refl, refused, statement_of, subst, sym, text, told_of, too_many, written, written_of, written_text, zero, ℕ, ◌++◌, ◌+◌, ◌==◌, ◌∙◌, ◌∷◌, ◌≡◌}
 use Rattle.zone_words.proofs.CutEntries.{IsWholeEntry}
 use Rattle.zone_words.proofs.RewrittenCut.{IsCutBroken, IsCutWhole, cut_broken_text, cut_whole_text, news}
 use Rattle.zone_words.proofs.KeptEntries.{becomes_keeps}
 use Rattle.zone_words.proofs.SameStatements.{AlikeEntries, anew_again, anew_entry_alike}
-use Rattle.zone_words.specs.DataItem.{TouchingItem, items_of}
-use Rattle.zone_words.specs.Entry.{BecomesUnder, IsFurtherRecord, IsFurtherUnder, IsRefused, IsRewriting, SaysAnew, TokensFail, TokensSay, anew, in_generic_form, in_words, kept, no_data, on_more_lines, refused, too_many}
-use Rattle.zone_words.specs.Origin.{IsCasedOrigin, NamesOrigin, origin_items}
-use Rattle.zone_words.specs.Rewriting.{EachBecomes, Outcome, Refused, broken, told_of, whole, written_of}
-use Rattle.zone_words.specs.Table.{FurtherType}
-use Rattle.zone_words.specs.Written.{Anew, written}
+use Rattle.zone_words.specs.DataItem.{items_of}
+use Rattle.zone_words.specs.Entry.{in_words}
+use Rattle.zone_words.specs.Rewriting.{whole}
 
 -- ---- what entries leave to those after them
 
@@ -26,14 +14,11 @@ use Rattle.zone_words.specs.Written.{Anew, written}
 abbrev pub LeaveTheSame : List Entry → List Entry → Type 0
 LeaveTheSame before after = AllZip AlikeEntries before after
 
-alike_back : (entry other : Entry) → AlikeEntries entry other → AlikeEntries other entry
-alike_back entry other same = record { origin = sym same.origin; class = sym same.class }
-
 back_too : (before after : List Entry) → LeaveTheSame before after → LeaveTheSame after before
 back_too [] [] same = tt
 back_too [] (other ∷ after) same = absurd same
 back_too (entry ∷ before) [] same = absurd same
-back_too (entry ∷ before) (other ∷ after) same = (alike_back entry other same.0, back_too before after same.1)
+back_too (entry ∷ before) (other ∷ after) same = (record { origin = sym same.0.origin; class = sym same.0.class }, back_too before after same.1)
 
 latest_same : (before after : List Entry) → LeaveTheSame before after → latest class_word before ≡ latest class_word after
 latest_same [] [] same = refl

@@ -1,17 +1,12 @@
 -- A rewriting is cut into entries as its text is.
-use Rattle.zone_text.proofs.Common.{AllByRecursion, Breaks, Cut, Cuts, Entry, Fault, IsToken, List, Token, [], and_last, ap, append-nil, append_assoc, append_cancel_left, arith, cut_from, entry_of, flat_map, flat_map-append, length, map, refl, subst, sym, text, token_text, zero, ℕ, ◌++◌, ◌+◌, ◌<◌, ◌==◌, ◌↔◌, ◌∙◌, ◌∷◌, ◌≡◌}
-use Rattle.std.specs.List.{AllZip}
-use Rattle.std.specs.Prelude.{count_by}
-use Rattle.zone_name.specs.Common.{Labels}
-use Rattle.zone_text.proofs.Tokens.CutAgain.{cut_whole, joined}
-use Rattle.zone_text.proofs.Files.Left.{text_of_entries}
+use Rattle.zone_words.proofs.Common.{AllByRecursion, AllZip, BecomesUnder, Breaks, Cut, Cuts, EachBecomes, Entry, Fault, IsRewriting, IsToken, Labels, List, Outcome, Refused, Token, [], and_last, ap, append-nil, append_assoc, append_cancel_left, arith, broken, count_by, cut_from, cut_whole, entry_of, flat_map, flat_map-append, length, map, refl, subst, sym, text, text_of_entries, token_text, written_of, zero, ℕ, ◌++◌, ◌+◌, ◌<◌, ◌==◌, ◌↔◌, ◌∙◌, ◌∷◌, ◌≡◌}
+use Rattle.zone_text.proofs.Tokens.CutAgain.{joined}
 use Rattle.zone_words.proofs.CutEntries.{BreaksBy, IsPartedInto, IsWholeEntry, broken_parted, broken_together, whole_parted, whole_together}
 use Rattle.zone_words.proofs.EntryShapes.{cut_of}
 use Rattle.zone_words.proofs.KeptEntries.{KeepsEntry, becomes_keeps, keeps_cut, keeps_itself}
 use Rattle.zone_words.specs.CutAlike.{AreCutAlike, HaveAsManyLines, HaveEntriesAlike, IsKeptOrAnew}
 use Rattle.zone_words.specs.CutAlike as alike
-use Rattle.zone_words.specs.Entry.{BecomesUnder, IsRewriting}
-use Rattle.zone_words.specs.Rewriting.{EachBecomes, Outcome, Refused, broken, whole, written_of}
+use Rattle.zone_words.specs.Rewriting.{whole}
 
 -- ---- what is written for each entry
 

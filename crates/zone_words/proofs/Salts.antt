@@ -1,10 +1,7 @@
 -- A salt after its length.
-use Rattle.std.proofs.Common.{[], ◌≡◌, ℕ, ◌*◌, ◌/◌, ◌<◌, ◌≤◌, List, ◌∷◌, ◌++◌, length, sym, ap, ◌∙◌, arith}
-use Rattle.hex.proofs.HexLemmas.{decode_of-ok}
+use Rattle.zone_words.proofs.Common.{AppendsStated, IsHex, List, [], ap, arith, decode_of-ok, length, sym, ℕ, ◌*◌, ◌++◌, ◌/◌, ◌<◌, ◌∙◌, ◌∷◌, ◌≡◌, ◌≤◌}
 use Rattle.zone_words.proofs.HexDigits.{one_hex}
 use Rattle.zone_words.proofs.LengthsBefore.{after_length_once, appended_after_length}
-use Rattle.zone_words.specs.Fault.{AppendsStated}
-use Rattle.zone_words.specs.Kinds.Hex.{IsHex}
 use Rattle.zone_words.specs.Kinds.Salt.{IsSalt, StatesSalt, none, some}
 
 -- two digits for each octet

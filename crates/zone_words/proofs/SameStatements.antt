@@ -1,28 +1,16 @@
 -- An entry that is written anew says the same of what others inherit, and states no more anew.
-use Rattle.zone_text.proofs.Common.{AllByRecursion, Bool, Entry, IsToken, List, None, Option, RawItem, Some, Token, Written, [], ap, arith, bare, blank, class_among, class_word, closing, comment, ends_item, entry_of, escaped, false, flat_map, flat_map-append, is_blank, item_of, length, length-append, line_feed, map, opening, parts_after, parts_in, plain, quoted, refl, slice_get, statement_by, statement_of, subst, sym, text, token_text, true, word_after, written_text, ℕ, ◌++◌, ◌+◌, ◌==◌, ◌∙◌, ◌∷◌, ◌≡◌}
-use Rattle.std.proofs.lemmas.Bool.{not-true}
-use Rattle.std.proofs.lemmas.Slice.Eq.{bytes_eq-Decides}
-use Rattle.std.specs.Prelude.{bytes_eq, codes, decimal, filter, if◌then◌else◌, not, option_and_then, take}
-use Rattle.hex.specs.Hex.{encode_lower}
+use Rattle.zone_words.proofs.Common.{AllByRecursion, Anew, BecomesUnder, Bool, Entry, FurtherType, IsFurtherRecord, IsGeneric, IsMnemonic, IsRefused, IsToken, Labels, List, None, Option, Parts, RawItem, Refused, SaysAnew, Some, Statement, Token, TokensSay, TouchingItem, Word, Written, [], ap, arith, blank, bytes_eq, bytes_eq-Decides, class_among, class_word, closing, codes, comment, directive, each_mnemonic, encode_lower, entry_of, escaped, false, false≢true, filter, flat_map, flat_map-append, folded_label, further_names, if◌then◌else◌, in_generic_form, is_blank, item_of, kept, length, length-append, line_feed, map, not, not-true, opening, option_and_then, origin_items, owned, parts_after, parts_in, plain, refl, renamed, slice_get, statement_by, statement_of, stays, subst, sym, take, text, token_text, touching_items, true, type_token, unowned, word_after, written, written_text, ℕ, ◌++◌, ◌+◌, ◌==◌, ◌∙◌, ◌∷◌, ◌≡◌}
+use Rattle.zone_text.proofs.Common.{bare, quoted}
+use Rattle.std.specs.Prelude.{decimal}
 use Rattle.zone_name.proofs.Texts.Bare.{plain_text}
-use Rattle.zone_name.proofs.Common.{false≢true}
-use Rattle.zone_name.specs.Common.{Labels}
-use Rattle.zone_name.specs.Name.{folded_label}
 use Rattle.zone_name.specs.Spelling as spelling
-use Rattle.zone_rdata.proofs.Words.Tables.{each_mnemonic}
-use Rattle.zone_rdata.specs.Item.{IsGeneric}
 use Rattle.zone_rdata.specs.Item as raw
-use Rattle.zone_rdata.specs.Words.{IsMnemonic}
 use Rattle.zone_text.proofs.Heads.PartsLeft.{parts_behind}
 use Rattle.zone_text.proofs.Heads.WordsLeft.{next_part}
-use Rattle.zone_text.specs.Statements.{Parts, Statement, Word, directive, owned, unowned}
 use Rattle.zone_words.proofs.Turns.{fails_in_words, fails_under, items_behind, no_directive, no_origin, says_under}
-use Rattle.zone_words.specs.DataItem.{TouchingItem, items_of}
-use Rattle.zone_words.specs.Entry.{BecomesUnder, IsFurtherRecord, IsRefused, SaysAnew, TokensSay, in_generic_form, in_words, kept, touching_items}
-use Rattle.zone_words.specs.Origin.{origin_items}
-use Rattle.zone_words.specs.Rewriting.{Refused}
-use Rattle.zone_words.specs.Table.{FurtherType, further_names}
-use Rattle.zone_words.specs.Written.{Anew, in_octets, renamed, stays, type_token, written}
+use Rattle.zone_words.specs.DataItem.{items_of}
+use Rattle.zone_words.specs.Entry.{in_words}
+use Rattle.zone_words.specs.Written.{in_octets}
 
 -- ---- the parts of a record, with other items from the type on
 
@@ -106,9 +94,6 @@ first_same line_feed a b is = refl
 first_same (comment octets) a b is = refl
 first_same (quoted units) a b is = refl
 
-not_blank : (c : ℕ) → ends_item c ≡ false → is_blank c ≡ false
-not_blank c e = grind arith
-
 record BeginsUnblank (octets : List ℕ) : Type 0 where
   octet : ℕ
   is : slice_get octets 0 ≡ Some octet
@@ -116,7 +101,7 @@ record BeginsUnblank (octets : List ℕ) : Type 0 where
 
 bare_begins : (units : List Written) (more : List ℕ) → IsToken (bare units) → BeginsUnblank (written_text units ++ more)
 bare_begins [] more is = absurd (omega (arith, is.0))
-bare_begins (plain c ∷ units) more is = record { octet = c; is = refl; not = not_blank c is.1.0.0 }
+bare_begins (plain c ∷ units) more is = record { octet = c; is = refl; not = grind arith }
 bare_begins (escaped c ∷ units) more is = record { octet = 92; is = refl; not = refl }
 bare_begins (spelling.decimal c d e ∷ units) more is = record { octet = 92; is = refl; not = refl }
 
@@ -147,20 +132,10 @@ type_item it = raw.bare (type_text (number_in it))
 abbrev items_after : Anew → List Token → List RawItem
 items_after it back = flat_map item_of (behind it back)
 
-written_items : (it : Anew) (back : List Token) → flat_map item_of (written it back) ≡ type_item it ∷ items_after it back
-written_items it back = ap (flat_map item_of) (written_behind it back)
-
-type_no_word : (number : ℕ) → IsNoWord (raw.bare (type_text number))
-type_no_word number words = refl
-
--- it is no mnemonic
-type_is_text : (number : ℕ) → type_text number ≡ codes "TYPE" ++ decimal number
-type_is_text number = sym (plain_text (codes "TYPE" ++ decimal number))
-
 no_mnemonic : (number n : ℕ) (word : List ℕ) → word ≡ type_text number → IsMnemonic further_names word n → ⊥
 no_mnemonic number n word e is =
     let other = not-true _ (each_mnemonic (λ _ m. not (bytes_eq (take 4 (folded_label m)) (codes "type"))) further_names refl n is.name is.row) in
-    let front : take 4 (folded_label is.name) ≡ codes "type" = ap (take 4) (sym is.same ∙ ap folded_label (e ∙ type_is_text number)) in
+    let front : take 4 (folded_label is.name) ≡ codes "type" = ap (take 4) (sym is.same ∙ ap folded_label (e ∙ (sym (plain_text (codes "TYPE" ++ decimal number))))) in
     false≢true (sym other ∙ (bytes_eq-Decides (take 4 (folded_label is.name)) (codes "type")).1 front)
 
 -- ---- the entry that is written
@@ -189,7 +164,7 @@ module _ (line : ℕ) (back : List Token) (word : List Written) (it : Anew) wher
   old_items front = flat_map-append item_of front (bare word ∷ back)
 
   new_items : (front : List Token) → flat_map item_of front ++ type_item it ∷ items_after it back ≡ flat_map item_of (front ++ written it back)
-  new_items front = ap (λ t. flat_map item_of front ++ t) (sym (written_items it back)) ∙ sym (flat_map-append item_of front (written it back))
+  new_items front = ap (λ t. flat_map item_of front ++ t) (sym (ap (flat_map item_of) (written_behind it back))) ∙ sym (flat_map-append item_of front (written it back))
 
   none_before : (parts : Parts) → IsToken (bare word) → WordStands [] parts → ⊥
   none_before parts is stands =
@@ -202,7 +177,7 @@ module _ (line : ℕ) (back : List Token) (word : List Written) (it : Anew) wher
       let old : Option ℕ = slice_get (text (p ∷ front ++ bare word ∷ back)) 0 in
       let same : old ≡ slice_get (text (p ∷ front ++ written it back)) 0 = first_same p (text (front ++ bare word ∷ back)) (text (front ++ written it back)) is in
       let stated : parts_in (statement_by old (flat_map item_of (p ∷ front) ++ word_item ∷ flat_map item_of back)) ≡ Some parts = subst (λ i. parts_in (statement_by old i) ≡ Some parts) (old_items (p ∷ front)) stands.0 in
-      let now = record_parts word_item (type_item it) (flat_map item_of back) (items_after it back) (type_no_word (number_in it)) old (flat_map item_of (p ∷ front)) parts stated stands.1 in
+      let now = record_parts word_item (type_item it) (flat_map item_of back) (items_after it back) (λ words. refl) old (flat_map item_of (p ∷ front)) parts stated stands.1 in
       subst (λ o. parts_in (statement_by o (flat_map item_of (p ∷ front ++ written it back))) ≡ Some (parts_of parts.words (type_item it ∷ items_after it back))) same
       (subst (λ i. parts_in (statement_by old i) ≡ Some (parts_of parts.words (type_item it ∷ items_after it back))) (new_items (p ∷ front)) now)
 

@@ -1,16 +1,10 @@
 -- Numbers with decimals: each text is one of them at most.
-use Rattle.std.proofs.Common.{[], ◌≡◌, ℕ, ◌+◌, ◌-◌, ◌*◌, ◌^◌, ◌<◌, ◌≤◌, ◌==◌, ◌||◌, if◌then◌else◌, List, ◌∷◌, ◌++◌, inl, inr, length, Bool, true, false, Option, Some, None, refl, sym, ap, ap₂, ◌∙◌, subst, arith}
-use Rattle.std.proofs.Math.Nat.{mul-le-mul_right}
-use Rattle.std.proofs.lemmas.Bool.{and_parts, cases_lt, leb-true}
-use Rattle.std.specs.Prelude.{IfNone, IfSome}
-use Rattle.zone_name.specs.Common.{NothingIs}
+use Rattle.zone_words.proofs.Common.{AreCentimetres, Bool, IfNone, IfSome, IsCapped, IsCutFirst, IsDecimal, IsMissing, IsScaled, IsWholeIn, List, None, NothingIs, Option, Some, UpTo, [], and_parts, ap, ap₂, arith, cases_lt, false, if◌then◌else◌, inl, inr, leb-true, length, mul-le-mul_right, refl, subst, sym, true, with_point, without_m, ℕ, ◌*◌, ◌++◌, ◌+◌, ◌-◌, ◌<◌, ◌==◌, ◌^◌, ◌||◌, ◌∙◌, ◌∷◌, ◌≡◌, ◌≤◌}
 use Rattle.zone_name.specs.Spelling.{is_digit}
-use Rattle.zone_rdata.specs.Number.{IsCapped, IsDecimal}
 use Rattle.zone_words.proofs.Cuts.{digits_lack, first_once, stands_in}
 use Rattle.zone_words.proofs.Numbers.{decimal_once}
-use Rattle.zone_words.specs.Kinds.Location.{AreCentimetres, IsScaled, whole, with_point, without_m}
-use Rattle.zone_words.specs.Machine.Cuts.{IsCutFirst, IsMissing}
-use Rattle.zone_words.specs.Machine.Locations.{ArePartsIn, IsWholeIn, UpTo}
+use Rattle.zone_words.specs.Kinds.Location.{whole}
+use Rattle.zone_words.specs.Machine.Locations.{ArePartsIn}
 
 pub digit_below : (c : ℕ) → is_digit c ≡ true → c ≤ 57
 digit_below c is = grind (arith, and_parts, leb-true)
@@ -87,13 +81,6 @@ parts_none front back places most w part number three below short capped more va
 
 -- ---- with a point or without
 
-pub whole_scaled : (text : List ℕ) (places n : ℕ) → IsWholeIn places text n → IsScaled places text n
-whole_scaled text places n is = whole is.0 is.1.0 is.1.1
-
-pub parts_scaled : (text front back : List ℕ) (places n : ℕ) → IsCutFirst 46 text front back → ArePartsIn places front back n → IsScaled places text n
-parts_scaled text front back places n cut is =
-    with_point front back is.0 is.1 cut.parts is.2.0 is.2.1.0 is.2.1.1.0 is.2.1.1.1
-
 pub scaled_whole : (text : List ℕ) (places n : ℕ) → IsMissing 46 text → IsScaled places text n → IsWholeIn places text n
 scaled_whole text places n missing (whole w is value) = (w, (is, value))
 scaled_whole text places n missing (with_point front back w part parts is more short value) =
@@ -106,25 +93,13 @@ scaled_parts text front back places n cut (with_point before after w part parts 
     let same = first_once 46 before after front back (digits_lack 46 before refl is.digits) cut.missing (sym parts ∙ cut.parts) in
     subst (λ (l : List ℕ). ArePartsIn places l back n) same.0 (subst (λ (l : List ℕ). ArePartsIn places before l n) same.1 (w, part, (is, (more, (short, value)))))
 
-found_by : (r : Option ℕ) (P Q : ℕ → Type 0) → ((n : ℕ) → P n → Q n) → IfSome r P → IfSome r Q
+pub found_by : (r : Option ℕ) (P Q : ℕ → Type 0) → ((n : ℕ) → P n → Q n) → IfSome r P → IfSome r Q
 found_by None P Q goes h = h
 found_by (Some n) P Q goes h = goes n h
 
-none_by : (r : Option ℕ) (P Q : ℕ → Type 0) → ((n : ℕ) → P n → Q n) → IfNone r (NothingIs Q) → IfNone r (NothingIs P)
+pub none_by : (r : Option ℕ) (P Q : ℕ → Type 0) → ((n : ℕ) → P n → Q n) → IfNone r (NothingIs Q) → IfNone r (NothingIs P)
 none_by None P Q goes h = λ n is. h n (goes n is)
 none_by (Some n) P Q goes h = h
-
-pub whole_answers : (r : Option ℕ) (text : List ℕ) (places most : ℕ) → IfSome r (UpTo most (IsWholeIn places text)) → IfSome r (UpTo most (IsScaled places text))
-whole_answers r text places most h =
-    found_by r (UpTo most (IsWholeIn places text)) (UpTo most (IsScaled places text)) (λ n is. (whole_scaled text places n is.0, is.1)) h
-
-pub whole_lacks : (r : Option ℕ) (text : List ℕ) (places most : ℕ) → IsMissing 46 text → IfNone r (NothingIs (UpTo most (IsWholeIn places text))) → IfNone r (NothingIs (UpTo most (IsScaled places text)))
-whole_lacks r text places most missing h =
-    none_by r (UpTo most (IsScaled places text)) (UpTo most (IsWholeIn places text)) (λ n is. (scaled_whole text places n missing is.0, is.1)) h
-
-pub parts_answer : (r : Option ℕ) (text front back : List ℕ) (places most : ℕ) → IsCutFirst 46 text front back → IfSome r (UpTo most (ArePartsIn places front back)) → IfSome r (UpTo most (IsScaled places text))
-parts_answer r text front back places most cut h =
-    found_by r (UpTo most (ArePartsIn places front back)) (UpTo most (IsScaled places text)) (λ n is. (parts_scaled text front back places n cut is.0, is.1)) h
 
 pub parts_lack : (r : Option ℕ) (text front back : List ℕ) (places most : ℕ) → IsCutFirst 46 text front back → IfNone r (NothingIs (UpTo most (ArePartsIn places front back))) → IfNone r (NothingIs (UpTo most (IsScaled places text)))
 parts_lack r text front back places most cut h =

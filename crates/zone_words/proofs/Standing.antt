@@ -1,27 +1,11 @@
 -- What a rewriter stands for.
-use Rattle.zone_text.proofs.Common.{List, [], ap, append-nil, arith, length, length-append, refl, subst, sym, ℕ, ◌++◌, ◌+◌, ◌≡◌}
-use Rattle.zone_name.specs.Common.{Labels}
+use Rattle.zone_words.proofs.Common.{AreInShort, FollowInPart, FollowOn, HasWritten, HasWrittenAll, HasWrittenInPart, HeldText, IsRewriting, IsSoFar, Labels, List, Refused, RewriterState, RewritesFile, StandsForRewriting, StandsInPart, WritesAll, [], all_given, ap, append-nil, arith, going, length, length-append, refl, state_of, stopped, subst, sym, ℕ, ◌++◌, ◌+◌, ◌≡◌}
 use Rattle.zone_rdata.specs.FedSource.{is_finished}
 use Rattle.zone_rdata.specs.declared.fed.FedStatus.{FedStatus}
 use Rattle.zone_rdata.specs.declared.fed.FedStatus.TheVariants.{Finished, Open, OutOfMemory}
 use Rattle.zone_words.proofs.FedTexts.{in_part}
-use Rattle.zone_words.specs.Entry.{IsRewriting}
-use Rattle.zone_words.specs.Machine.FedWriting.{FollowInPart, FollowOn, HasWritten, HasWrittenAll, HasWrittenInPart, WritesAll, state_of}
-use Rattle.zone_words.specs.Refusal.{AreInShort}
-use Rattle.zone_words.specs.Rewriter.{HeldText, IsSoFar, RewriterState, RewritesFile, StandsForRewriting, StandsInPart, all_given, going, stopped}
-use Rattle.zone_words.specs.Rewriting.{Refused}
 use Rattle.zone_words.specs.declared.fed_writer.FedWriter.{FedWriter}
 use Rattle.zone_words.specs.declared.refusal.Refusals.{Refusals}
-
-pub stands_begun : (origin : Labels) (w : FedWriter) → HasWritten origin w [] [] → StandsForRewriting origin (state_of Open 0 w) [] []
-stands_begun origin w h = record {
-  works = refl;
-  count = refl;
-  told = h.told;
-  in_short = h.in_short;
-  so_far = λ _. h.so_far;
-  all = λ e. absurd cc;
-}
 
 written_of : (origin : Labels) (n : ℕ) (w : FedWriter) (fed given : List ℕ) → StandsForRewriting origin (state_of Open n w) fed given → HasWritten origin w fed given
 written_of origin n w fed given stands = record { told = stands.told; in_short = stands.in_short; so_far = stands.so_far refl }

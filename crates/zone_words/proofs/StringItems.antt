@@ -1,21 +1,11 @@
 -- Items that are strings, item after item.
-use Rattle.std.proofs.Common.{[], ◌≡◌, ℕ, ◌+◌, ◌<◌, ◌≤◌, List, ◌∷◌, ◌++◌, length, get_or, drop, map, inl, inr, refl, sym, ap, ◌∙◌, subst, arith, append_assoc}
-use Rattle.std.proofs.lemmas.List.{append-nil, drop_all, length-map}
-use Rattle.std.specs.List.{flat_map}
-use Rattle.zone_name.specs.Name.{with_length}
-use Rattle.zone_rdata.proofs.Lists.{from_place}
+use Rattle.zone_words.proofs.Common.{AppendsStated, DataItem, Fault, List, RawItem, WordsFault, [], ap, append-nil, append_assoc, arith, drop, drop_all, flat_map, from_place, get_or, inl, inr, length, length-map, map, raw_item, refl, subst, sym, with_length, ℕ, ◌++◌, ◌+◌, ◌<◌, ◌∙◌, ◌∷◌, ◌≡◌, ◌≤◌}
 use Rattle.zone_rdata.proofs.Strings.StringLaws.{string-never_both, string-once}
 use Rattle.zone_rdata.proofs.Items.Values.{HaveSpelt}
 use Rattle.zone_rdata.specs.Appended.{Appends}
 use Rattle.zone_rdata.specs.Fields.Strings.{FirstStringFault}
 use Rattle.zone_rdata.proofs.Octets.Each.{SpellEachString}
-use Rattle.zone_rdata.specs.Spelling.{RawItem}
-use Rattle.zone_rdata.specs.declared.fault.Fault.{Fault}
-use Rattle.zone_words.specs.DataItem.{raw_item}
-use Rattle.zone_words.specs.Fault.{AppendsStated}
 use Rattle.zone_words.specs.Kinds.Strings.{FailsString, FailsStrings, StatesString, StatesStrings}
-use Rattle.zone_words.specs.declared.data_item.DataItem.{DataItem}
-use Rattle.zone_words.specs.declared.fault.WordsFault.{WordsFault}
 
 one_more : (all left : List RawItem) (r : RawItem) (old now new : List ℕ) → HaveSpelt all (r ∷ left) old now → AppendsStated (StatesString r) now new → HaveSpelt all left old new
 one_more all left r old now new read h =

@@ -1,13 +1,7 @@
 -- Texts that are times, and texts that are none.
-use Rattle.std.proofs.Common.{◌≡◌, ℕ, ◌<◌, ◌≤◌, List, length, refl, sym, ap, ◌∙◌, arith}
-use Rattle.std.specs.Int.{w32, to_be_bytes}
-use Rattle.zone_name.specs.Common.{NothingIs}
-use Rattle.zone_rdata.specs.Number.{IsDecimal, IsCapped}
+use Rattle.zone_words.proofs.Common.{IsDateTime, IsDecimal, List, NotATime, NothingIs, WordsFault, ap, arith, length, refl, sym, to_be_bytes, w32, ℕ, ◌∙◌, ◌≡◌, ◌≤◌}
 use Rattle.zone_words.proofs.Numbers.{decimal_once}
-use Rattle.zone_words.specs.Kinds.Calendar.{IsDateTime}
 use Rattle.zone_words.specs.Kinds.Time.{AreFourteenDigits, AreSecondsOf, AreTooManySeconds, FailsTime, StatesTime, shown_in, in_seconds, as_date, too_large, not_a_time}
-use Rattle.zone_words.specs.declared.fault.WordsFault.{WordsFault}
-use Rattle.zone_words.specs.declared.fault.WordsFault.TheVariants.{NotATime, TooLarge}
 
 no_seconds : (text : List ℕ) → length text ≤ 10 → NothingIs (IsDecimal text) → NothingIs (AreSecondsOf text)
 no_seconds text few none n (in_seconds short is below) = none n is
@@ -17,11 +11,6 @@ no_seconds text few none n (as_date digits date value) = absurd (omega (arith, d
 pub no_number : (text : List ℕ) → length text ≤ 10 → NothingIs (IsDecimal text) → FailsTime text NotATime
 no_number text few none =
     not_a_time (no_seconds text few none) (λ many. none many.1.0 many.1.1.0)
-
--- a number over 32 bits
-pub many_seconds : (text : List ℕ) (n : ℕ) → length text ≤ 10 → IsCapped (IsDecimal text) n → 4294967295 < n → FailsTime text TooLarge
-many_seconds text n few capped over =
-    too_large (few, (capped.0, (capped.1.0, omega (arith, capped.1.1))))
 
 no_seconds_of_date : (text : List ℕ) → 11 ≤ length text → (AreFourteenDigits text → IsDateTime (shown_in text) → ⊥) → NothingIs (AreSecondsOf text)
 no_seconds_of_date text many none n (in_seconds short is below) = absurd (omega arith)

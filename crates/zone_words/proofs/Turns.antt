@@ -1,46 +1,23 @@
 -- What becomes of an entry, from the record that was found in it.
-use Rattle.std.proofs.Common.{arith, inl, inr, ap, refl, subst, sym, ◌∙◌, ◌≡◌, ◌↔◌, ◌∷◌, ◌++◌, ◌+◌, ◌-◌, ◌<◌, ◌≤◌, [], List, ℕ, map, Bool, true, false, Some, None, length, codes, suc, zero, Ok, Err, IsTrue}
-use Rattle.std.proofs.lemmas.List.Concat.{flat_map-append}
-use Rattle.std.proofs.lemmas.List.{length-append}
-use Rattle.std.specs.Prelude.{Option, MatchOption, IfNone, IfOk, Result, option_map, option_to_list, count_by, slice_get, ◌==◌, if◌then◌else◌}
-use Rattle.std.specs.List.{filter, find, flat_map}
-use Rattle.zone_name.specs.Common.{Labels, NothingIs}
-use Rattle.zone_name.specs.Name.{folded_label}
-use Rattle.zone_name.specs.Spelling.{Written, written_text}
-use Rattle.zone_rdata.specs.Item.{RawItem, bare, quoted, raw, IsGeneric}
-use Rattle.zone_rdata.specs.Table.{Named, mnemonic_among}
-use Rattle.zone_rdata.specs.declared.item.Item.{Item}
-use Rattle.zone_rdata.specs.Words.{IsMnemonic}
+use Rattle.zone_words.proofs.Walks.{back_each, back_follow}
+use Rattle.zone_words.proofs.Common.{AddsTold, Anew, AreOnOneLine, AreTokensOf, Bool, Cuts, DataFails, Entry, FindsParts, FurtherType, IfNone, Inherited, IsCasedOrigin, IsFurtherRecord, IsFurtherUnder, IsFurtherWord, IsGeneric, IsInherited, IsMnemonic, IsOneOrNone, IsRefused, IsTrue, Item, Labels, LineFeedWithinQuotes, List, MatchOption, Named, NamesOrigin, None, NoneIsFurther, NothingIs, Option, Parts, RawItem, Refused, SaysAnew, Some, StandsNowhere, Statement, StatesData, Token, TokensFail, TooManyItems, TouchingItem, WordsFault, Written, [], anew, ap, arith, blank, both_ways, closing, codes, comment, count_by, directive, entry_of, false, filter, find, flat_map, flat_map-append, folded_label, further_names, further_of, further_types, get_or, if◌then◌else◌, in_generic_form, includes, inl, inr, is_blank, item_of, kept, length, length-append, length-map, line_feed, line_feeds_in, map, mnemonic_among, most_items, no_data, on_more_lines, opening, option_map, option_to_list, origin_items, owned, parts_after, parts_in, raw, refl, refused, refused_of, renamed, sets_origin, sets_ttl, slice_get, statement_by, statement_of, stays, subst, suc, sym, text, too_many, touching_items, true, unknown, unowned, written, written_text, zero, ℕ, ◌++◌, ◌+◌, ◌-◌, ◌<◌, ◌==◌, ◌↔◌, ◌∙◌, ◌∷◌, ◌≡◌, ◌≤◌}
+use Rattle.zone_rdata.specs.Item.{bare, quoted}
 use Rattle.zone_rdata.proofs.Items.LeftOut.{are_many}
-use Rattle.zone_text.proofs.Common.{get_or}
 use Rattle.zone_text.proofs.Entries.Kept.{all_few, few_kept}
 use Rattle.zone_text.proofs.Heads.PartsLeft.{parts_behind}
-use Rattle.zone_text.specs.Entries.{Entry, entry_of, item_of}
 use Rattle.zone_text.specs.Kept.{AreKept}
-use Rattle.zone_text.specs.Statements.{Parts, Statement, directive, includes, no_items, owned, parts_after, parts_in, sets_origin, sets_ttl, statement_by, statement_of, unknown, unowned}
-use Rattle.zone_text.specs.Tokens.{AreTokensOf, Cuts, Token, blank, closing, comment, is_blank, line_feed, opening, text}
+use Rattle.zone_text.specs.Statements.{no_items}
 use Rattle.zone_text.specs.Tokens as tokens
 use Rattle.zone_words.proofs.FurtherWords.{further_word_once}
-use Rattle.zone_words.proofs.KeptRecords.{AlikeForms, kept_forms, leaves_too, none_there, record_there}
-use Rattle.zone_words.proofs.Walks.{tokens_behind}
-use Rattle.zone_words.specs.Data.{DataFails, StatesData}
-use Rattle.zone_words.specs.DataItem.{TouchingItem, items_of}
-use Rattle.zone_words.specs.Entry.{AreOnOneLine, IsFurtherRecord, IsFurtherUnder, IsRefused, SaysAnew, TokensFail, anew, in_generic_form, in_words, kept, line_feeds_in, most_items, no_data, on_more_lines, refused, too_many, touching_items}
+use Rattle.zone_words.proofs.KeptRecords.{AlikeForms, kept_forms, leaves_too, none_by, record_there}
+use Rattle.zone_words.specs.DataItem.{items_of}
+use Rattle.zone_words.specs.Entry.{in_words}
 use Rattle.zone_words.specs.Machine.EntryWriting.{PushesEntry}
-use Rattle.zone_words.specs.Machine.Further.{FindsParts, NoneIsFurther}
-use Rattle.zone_words.specs.Inherited.{IsInherited, IsOneOrNone}
 use Rattle.zone_words.specs.Machine.Turn.{AreInWords, AreOfRecord, IsTurnWritten, SayAround, StandsBeside, TakesRecordsTurn, TakesTurn, TurnIs, WritesTurn, refusal_in, told_by}
-use Rattle.zone_words.specs.Machine.Walking.{StandsNowhere}
-use Rattle.zone_words.specs.Origin.{IsCasedOrigin, NamesOrigin, origin_items}
-use Rattle.zone_words.specs.Refusal.{AddsTold, refused_of}
-use Rattle.zone_words.specs.Rewriting.{Refused}
-use Rattle.zone_words.specs.Table.{FurtherType, IsFurtherWord, fields_in, further_names, further_of, further_types}
-use Rattle.zone_words.specs.Written.{Anew, in_octets, renamed, stays, written}
-use Rattle.zone_words.specs.declared.fault.WordsFault.{WordsFault}
-use Rattle.zone_words.specs.declared.fault.WordsFault.TheVariants.{TooManyItems, LineFeedWithinQuotes}
+use Rattle.zone_words.specs.Table.{fields_in}
+use Rattle.zone_words.specs.Written.{in_octets}
 use Rattle.zone_words.specs.declared.entry_writer.EntryWriter.{EntryWriter}
 use Rattle.zone_words.specs.declared.further.FurtherRecord.{FurtherRecord}
-use Rattle.zone_words.specs.declared.inherited.Inherited.{Inherited}
 use Rattle.zone_words.specs.declared.refusal.Refusal.{Refusal}
 use Rattle.zone_words.specs.declared.turn.EntryData.{EntryData}
 use Rattle.zone_words.specs.declared.turn.Turn.{Turn}
@@ -194,7 +171,7 @@ names_find (r ∷ rows) n f e = name_by (n == r.number) r (find (λ (r : Further
 pub own_mnemonic : (word : List ℕ) (further : FurtherType) → IsFurtherWord word further → mnemonic_among further_names further.number ≡ Some further.mnemonic
 own_mnemonic word further named = names_find further_types further.number further named.row
 
-pub mnemonic_same : (word : List ℕ) (further : FurtherType) → IsFurtherWord word further → IsMnemonic further_names word further.number → folded_label word ≡ folded_label further.mnemonic
+mnemonic_same : (word : List ℕ) (further : FurtherType) → IsFurtherWord word further → IsMnemonic further_names word further.number → folded_label word ≡ folded_label further.mnemonic
 mnemonic_same word further named is =
     let e : Some is.name ≡ Some further.mnemonic = sym is.row ∙ own_mnemonic word further named in
     let n : is.name ≡ further.mnemonic = cc e in
@@ -262,10 +239,6 @@ stays_generic origin before line all_tokens found n above stated of generic none
   λ it fail. generic_fails origin before line all_tokens found n above of generic (written_text fail.word) (touching_items true fail.back) it fail.fails,
 )
 
-raw_length : (items : List Item) → length (map raw items) ≡ length items
-raw_length [] = refl
-raw_length (item ∷ items) = ap suc (raw_length items)
-
 -- the type's word among the tokens
 pub record IsSplit (all_tokens : List Token) (word : List ℕ) (all : List RawItem) : Type 0 where
   pub front : List Token
@@ -317,7 +290,7 @@ under_split origin before line all_tokens found n above of at = record {
 around_by : (octets : List ℕ) (origin : Labels) (before : List Entry) (line : ℕ) (all_tokens : List Token) (found : FurtherRecord) (n : ℕ) (above : Labels) (around : Around) → Cuts octets all_tokens → (of : AreOfRecord origin before line all_tokens found n above) → n < most_items → StandsBeside octets found n around → of.is.all ≡ map raw found.items.now → IsSplit all_tokens found.word.now of.is.all → IsAround origin before line all_tokens found n above around
 around_by octets origin before line all_tokens found n above around cut of few stands same at =
     let are : AreTokensOf octets (at.front ++ tokens.bare at.units ∷ at.back) = subst (AreTokensOf octets) at.whole (tokens_of octets all_tokens cut) in
-    let len : length of.is.all ≡ length found.items.now = ap length same ∙ raw_length found.items.now in
+    let len : length of.is.all ≡ length found.items.now = ap length same ∙ length-map found.items.now raw in
     let all_kept : length (flat_map item_of all_tokens) ≡ n = of.few few in
     let place : length (flat_map item_of at.front) ≡ n - length found.items.now - 1 = (let c = at.count in omega (arith, c, len, all_kept)) in
     let is = stands.stands at.front at.back at.units are place in
@@ -327,7 +300,7 @@ around_by octets origin before line all_tokens found n above around cut of few s
       units = at.units;
       whole = at.whole;
       before_is = is.0;
-      after_are = tokens_behind octets around.back.now at.front at.back at.units are is.1;
+      after_are = record { whole = is.1; each = back_each at.front at.units at.back are.each; follow = back_follow at.front at.units at.back are.follow };
       under = under_split origin before line all_tokens found n above of at;
       few = omega (arith, all_kept, few);
       items = sym same ∙ at.items;
@@ -349,7 +322,7 @@ stands_somewhere octets origin before line all_tokens found n above cut of few n
     let same = of.is.few less in
     let at = split_there before line all_tokens found.word.now of.is.all (further_of found.further.now) of.is.is in
     let are : AreTokensOf octets (at.front ++ tokens.bare at.units ∷ at.back) = subst (AreTokensOf octets) at.whole (tokens_of octets all_tokens cut) in
-    let len : length of.is.all ≡ length found.items.now = ap length same ∙ raw_length found.items.now in
+    let len : length of.is.all ≡ length found.items.now = ap length same ∙ length-map found.items.now raw in
     let place : length (flat_map item_of at.front) ≡ n - length found.items.now - 1 = (let c = at.count in omega (arith, c, len, all_kept)) in
     none at.front at.back at.units are place
 
@@ -455,18 +428,6 @@ pub none_weaker : {A : Type 0} → (P Q : Type 0) → (r : Option A) → (P → 
 none_weaker P Q None weaker p = weaker p
 none_weaker P Q (Some x) weaker p = tt
 
--- ---- tests
-
-pub true_is : (b : Bool) (P : Type 0) → IsTrue b ↔ P → b ≡ true → P
-true_is b P both e = both.0 e
-
-pub false_not : (b : Bool) (P : Type 0) → IsTrue b ↔ P → b ≡ false → P → ⊥
-false_not b P both e p = let bad : false ≡ true = sym e ∙ both.1 p in absurd cc
-
-pub ok_weaker : {A E : Type 0} → (P Q : A → Type 0) → (r : Result A E) → ((x : A) → P x → Q x) → IfOk r P → IfOk r Q
-ok_weaker P Q (Ok x) weaker p = weaker x p
-ok_weaker P Q (Err e) weaker p = tt
-
 -- ---- no line feed in an item
 
 at_item : (items : List Item) (k : ℕ) (d : Item) → k < length items → AreOnOneLine (map raw items) → line_feeds_in (raw (get_or items k d)) ≡ 0
@@ -477,17 +438,10 @@ at_item (item ∷ items) (suc k) d less all = at_item items k d (omega (arith, l
 pub line_lost : (items : List Item) (k : ℕ) (item d : Item) (is : Bool) → k < length items → item ≡ get_or items k d → IsTrue is ↔ (line_feeds_in (raw item) ≡ 0) → is ≡ false → IsTrue false ↔ AreOnOneLine (map raw items)
 line_lost items k item d is less at both e = (
   λ no. absurd cc,
-  λ all. absurd (false_not is (line_feeds_in (raw item) ≡ 0) both e (subst (λ i. line_feeds_in (raw i) ≡ 0) (sym at) (at_item items k d less all))),
+  λ all. absurd (both_ways is e (both.1 (subst (λ i. line_feeds_in (raw i) ≡ 0) (sym at) (at_item items k d less all)))),
 )
 
 -- ---- the record of tokens
-
-pub fewer_items : (items rest : List Item) (first : Option ℕ) (form : Statement) (parts : Parts) (word : List ℕ) → form ≡ statement_by first (map raw items) → parts_in form ≡ Some parts → parts.rest ≡ bare word ∷ map raw rest → length rest < length items
-fewer_items items rest first form parts word is split from =
-    let l = fewer (map raw items) first form parts word (map raw rest) is split from in
-    let a = raw_length items in
-    let b = raw_length rest in
-    omega (arith, l, a, b)
 
 many_by : (items kept_items : List RawItem) → AreKept items kept_items → most_items ≤ length kept_items → most_items ≤ length items
 many_by items kept_items (inl all) many = let l = ap length all in omega (arith, l, many)
@@ -497,22 +451,11 @@ pub forms_there : (octets : List ℕ) (all_tokens : List Token) (line : ℕ) (ke
 forms_there octets all_tokens line kept_items form is cut are =
     subst (λ f. AlikeForms (length (flat_map item_of all_tokens)) (statement_of (entry_of line all_tokens)) f) (sym is) (kept_forms octets all_tokens line kept_items cut are)
 
-pub under_some : (origin : Labels) (before : List Entry) (o : Option Labels) (above : Labels) → o ≡ Some above → IsOneOrNone (IsCasedOrigin origin before) o → IsCasedOrigin origin before above
-under_some origin before o above e is = subst (λ x. IsOneOrNone (IsCasedOrigin origin before) x) e is
-
-pub under_none : (origin : Labels) (before : List Entry) (o : Option Labels) → o ≡ None → IsOneOrNone (IsCasedOrigin origin before) o → NothingIs (IsCasedOrigin origin before)
-under_none origin before o e is = subst (λ x. IsOneOrNone (IsCasedOrigin origin before) x) e is
-
 -- where no record was found
 pub turn_of_none : (octets : List ℕ) (kept_items : List RawItem) (line : ℕ) (left : Inherited) (stated : EntryData) (form : Statement) → form ≡ statement_by (slice_get octets 0) kept_items → ((parts : Parts) → parts_in form ≡ Some parts → NoneIsFurther parts left.is_internet) → TakesTurn octets kept_items line left stated turns.Stays
 turn_of_none octets kept_items line left stated form is none origin before all_tokens has cut are =
     stays_no_record origin before line all_tokens stated
-    (none_there origin before line all_tokens form left (forms_there octets all_tokens line kept_items form is cut are) has none)
-
--- where no origin holds
-pub turn_of_lost : (octets : List ℕ) (kept_items : List RawItem) (line : ℕ) (left : Inherited) (stated : EntryData) → left.origin ≡ None → TakesTurn octets kept_items line left stated turns.Stays
-turn_of_lost octets kept_items line left stated e origin before all_tokens has cut are =
-    stays_no_origin origin before line all_tokens stated (under_none origin (entry_of line all_tokens ∷ before) left.origin e has.under)
+    (none_by origin before line all_tokens form left (parts_in form) refl (forms_there octets all_tokens line kept_items form is cut are) has none)
 
 -- where a record was found
 pub turn_of_found : (octets : List ℕ) (items : List Item) (line : ℕ) (left : Inherited) (stated : EntryData) (form : Statement) (parts : Parts) (found : FurtherRecord) (above : Labels) (turn : Turn) → form ≡ statement_by (slice_get octets 0) (map raw items) → parts_in form ≡ Some parts → FindsParts parts left.is_internet found → left.origin ≡ Some above → TakesRecordsTurn octets found (length items) line above stated turn → TakesTurn octets (map raw items) line left stated turn
@@ -520,10 +463,10 @@ turn_of_found octets items line left stated form parts found above turn is split
     let alike = forms_there octets all_tokens line (map raw items) form is cut are in
     let there = record_there origin before line all_tokens form left parts found alike has split finds in
     let own = no_origin (statement_of (entry_of line all_tokens)) there.is.parts there.is.split in
-    let n = raw_length items in
+    let n = length-map items raw in
     takes origin before all_tokens cut (record {
       is = there;
-      under = (origin_by origin before (entry_of line all_tokens) above own).0 (under_some origin (entry_of line all_tokens ∷ before) left.origin above some has.under);
+      under = (origin_by origin before (entry_of line all_tokens) above own).0 (subst (λ x. IsOneOrNone (IsCasedOrigin origin (entry_of line all_tokens ∷ before)) x) some has.under);
       few = λ few. (let k = all_few (flat_map item_of all_tokens) (map raw items) are (omega (arith, n, few)) in sym (ap length k) ∙ n);
       less = λ less. (let k = ap length (few_kept (flat_map item_of all_tokens) (map raw items) are less) in omega (arith, k, n, less));
       many = λ many. many_by (flat_map item_of all_tokens) (map raw items) are (omega (arith, n, many));

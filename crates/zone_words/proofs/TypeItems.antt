@@ -1,20 +1,9 @@
 -- Items that name types, and the bits of these types.
-use Rattle.std.proofs.Common.{[], ◌≡◌, ℕ, zero, suc, ◌+◌, ◌/◌, ◌<◌, ◌≤◌, ◌↔◌, ◌⊎◌, inl, inr, List, ◌∷◌, ◌++◌, get_or, length, map, take, refl, sym, ap, ◌∙◌, subst, arith}
-use Rattle.std.proofs.lemmas.List.{get_or_past, map_push, take_more}
-use Rattle.std.specs.List.{AllByRecursion}
-use Rattle.zone_name.proofs.InOctets.Pushing.{AllByRecursion-append}
-use Rattle.zone_name.specs.Common.{NothingIs}
-use Rattle.zone_rdata.specs.Item.{RawItem, bare, quoted}
-use Rattle.zone_words.proofs.Bitmaps.{bitmap_once}
-use Rattle.zone_words.proofs.Bits.{no_bit_in_zero}
+use Rattle.zone_words.proofs.Bitmaps.{windows_once}
+use Rattle.zone_words.proofs.Common.{AllByRecursion, AllByRecursion-append, DataItem, FailsPerhapsTypes, FailsTypes, HasBit, List, NameType, NamesAType, NamesType, RawItem, StatesPerhapsTypes, StatesTypes, WordsFault, [], ap, arith, flat_map, get_or, inl, inr, length, map, map_push, raw_item, subst, suc, sym, take, take_more, window_octets, zero, ℕ, ◌++◌, ◌+◌, ◌<◌, ◌↔◌, ◌∙◌, ◌∷◌, ◌≡◌, ◌≤◌, ◌⊎◌}
+use Rattle.zone_rdata.specs.Item.{bare, quoted}
 use Rattle.zone_words.proofs.TypeWords.{type_word_once}
-use Rattle.zone_words.specs.DataItem.{raw_item}
-use Rattle.zone_words.specs.Kinds.Bitmap.{HasBit}
-use Rattle.zone_words.specs.Kinds.Types.{FailsPerhapsTypes, FailsTypes, NameType, NamesAType, NamesType, StatesPerhapsTypes, StatesTypes}
 use Rattle.zone_words.specs.Machine.TypeBits.{AreBitsOf}
-use Rattle.zone_words.specs.declared.data_item.DataItem.{DataItem}
-use Rattle.zone_words.specs.declared.fault.WordsFault.{WordsFault}
-use Rattle.zone_words.specs.declared.fault.WordsFault.TheVariants.{NotAType}
 
 item_once : (item : RawItem) (m n : ℕ) → NamesType item m → NamesType item n → m ≡ n
 item_once (bare word) m n a b = type_word_once word m n a b
@@ -42,14 +31,6 @@ last_named : (items : List RawItem) (item : RawItem) (n : ℕ) → NamesType ite
 last_named [] item n h = inl h
 last_named (first ∷ items) item n h = inr (last_named items item n h)
 
-pub no_bits : AreBitsOf [] []
-no_bits =
-    record {
-      few = omega arith;
-      each = tt;
-      types = λ n. (λ h. no_bit_in_zero _ (let z = get_or_past {X = ℕ} [] (n / 8) 0 (omega arith) in rw z at h), λ none. absurd none);
-    }
-
 bits_grown : (items : List RawItem) (item : RawItem) (bits new : List ℕ) (number : ℕ) → AreBitsOf items bits → NamesType item number → length new ≤ 8192 → ((n : ℕ) → HasBit new n ↔ ((n ≡ number) ⊎ HasBit bits n)) → AreBitsOf (items ++ item ∷ []) new
 bits_grown items item bits new number have names few set =
     record {
@@ -67,24 +48,16 @@ bits_grown items item bits new number have names few set =
       );
     }
 
-raw_more : (items : List DataItem) (i : ℕ) (d : DataItem) → i < length items → map raw_item (take (i + 1) items) ≡ map raw_item (take i items) ++ raw_item (get_or items i d) ∷ []
-raw_more items i d inside =
-    ap (map raw_item) (take_more items i d inside) ∙ map_push raw_item (take i items) (get_or items i d)
-
 pub bits_more : (items : List DataItem) (i : ℕ) (d : DataItem) (bits new : List ℕ) (number : ℕ) → i < length items → AreBitsOf (map raw_item (take i items)) bits → NamesType (raw_item (get_or items i d)) number → length new ≤ 8192 → ((n : ℕ) → HasBit new n ↔ ((n ≡ number) ⊎ HasBit bits n)) → AreBitsOf (map raw_item (take (i + 1) items)) new
 bits_more items i d bits new number inside have names few set =
-    subst (λ (l : List RawItem). AreBitsOf l new) (sym (raw_more items i d inside)) (bits_grown (map raw_item (take i items)) (raw_item (get_or items i d)) bits new number have names few set)
+    subst (λ (l : List RawItem). AreBitsOf l new) (sym (ap (map raw_item) (take_more items i d inside) ∙ map_push raw_item (take i items) (get_or items i d))) (bits_grown (map raw_item (take i items)) (raw_item (get_or items i d)) bits new number have names few set)
 
 -- ---- items that state no types
 
-each_at : (items : List DataItem) (i : ℕ) (d : DataItem) → i < length items → AllByRecursion NamesAType (map raw_item items) → NamesAType (raw_item (get_or items i d))
+pub each_at : (items : List DataItem) (i : ℕ) (d : DataItem) → i < length items → AllByRecursion NamesAType (map raw_item items) → NamesAType (raw_item (get_or items i d))
 each_at [] i d inside each = absurd (omega arith)
 each_at (item ∷ items) zero d inside each = each.0
 each_at (item ∷ items) (suc i) d inside each = each_at items i d (omega arith) each.1
-
-pub no_types : (items : List DataItem) (i : ℕ) (d : DataItem) → i < length items → NothingIs (NamesType (raw_item (get_or items i d))) → FailsPerhapsTypes (map raw_item items) NotAType
-no_types items i d inside none =
-    (refl, λ octets states. let has = each_at items i d inside states.each in none has.0 has.1)
 
 -- ---- the bitmap of the bits
 
@@ -92,7 +65,7 @@ no_types items i d inside none =
 
 pub perhaps_types_once : (items : List RawItem) (a b : List ℕ) → StatesPerhapsTypes items a → StatesPerhapsTypes items b → a ≡ b
 perhaps_types_once items a b these those =
-    bitmap_once (NameType items) a b these.bitmap those.bitmap
+    (these.bitmap.parts ∙ ap (flat_map window_octets) (windows_once 0 these.bitmap.windows those.bitmap.windows these.bitmap.each those.bitmap.each these.bitmap.ascend those.bitmap.ascend (λ n have. (those.bitmap.types n).1 ((these.bitmap.types n).0 have)) (λ n have. (these.bitmap.types n).1 ((those.bitmap.types n).0 have))) ∙ sym those.bitmap.parts)
 
 pub types_once : (items : List RawItem) (a b : List ℕ) → StatesTypes items a → StatesTypes items b → a ≡ b
 types_once items a b these those = perhaps_types_once items a b these.types those.types

@@ -1,18 +1,6 @@
 -- Words of types and of other numbers: each has one number at most.
-use Rattle.std.proofs.Common.{◌≡◌, ℕ, ◌<◌, Bool, true, false, not, List, [], ◌∷◌, ◌++◌, codes, refl, sym, ap, ◌∙◌, subst, arith, Option, Some, None}
-use Rattle.std.proofs.lemmas.Bool.{false≢true, not-true}
-use Rattle.std.proofs.lemmas.Bool.Decides.{nat_tests}
-use Rattle.std.specs.List.{list_all}
-use Rattle.std.specs.Prelude.{IfSome, IfNone}
-use Rattle.zone_name.specs.Common.{NothingIs}
-use Rattle.zone_rdata.proofs.Words.OneWord.{is_number, mnemonic_once, numbered_once, own_numbers, unlike, word_once}
-use Rattle.zone_rdata.proofs.Words.Tables.{each_mnemonic}
-use Rattle.zone_rdata.specs.Table.{Named}
-use Rattle.zone_name.specs.Name.{folded_label, folded_octet}
+use Rattle.zone_words.proofs.Common.{Bool, IfNone, IfSome, IsCapped, IsDecimal, IsKind, IsMnemonic, IsNumberOrMnemonic, IsNumbered, IsTypeWord, IsWordAmong, List, Named, None, NothingIs, Option, Some, [], algorithms, ap, arith, by_mnemonic, by_number, certificate_types, codes, each_mnemonic, false, false≢true, folded_label, is_number, list_all, mnemonic_once, nat_tests, not, not-true, numbered_once, own_numbers, refl, registered_types, subst, sym, true, unlike, word_once, ℕ, ◌++◌, ◌<◌, ◌∙◌, ◌∷◌, ◌≡◌}
 use Rattle.zone_name.specs.Spelling.{is_digit}
-use Rattle.zone_rdata.specs.Number.{IsCapped, IsDecimal}
-use Rattle.zone_rdata.specs.Words.{IsKind, IsMnemonic, IsNumbered, IsWordAmong, by_mnemonic, by_number}
-use Rattle.zone_words.specs.Mnemonics.{IsNumberOrMnemonic, IsTypeWord, algorithms, certificate_types, registered_types}
 
 abbrev IsWord : List ℕ → ℕ → Type 0
 IsWord word n = IsWordAmong registered_types (codes "TYPE") word n
@@ -28,14 +16,6 @@ type_word_once word m n a b = word_of_type_once word m n a.named b.named
 pub no_type : (word : List ℕ) → NothingIs (IsWord word) → NothingIs (IsTypeWord word)
 no_type word none n is = none n is.named
 
--- the number of a word is that of no type of which records can be
-pub no_kind : (word : List ℕ) (n : ℕ) → IsCapped (IsWord word) n → (IsKind n → ⊥) → NothingIs (IsTypeWord word)
-no_kind word n capped other m is =
-    let same : capped.0 ≡ m = word_of_type_once word capped.0 m capped.1.0 is.named in
-    let short : m < 65536 = is.kind.short in
-    let own : n ≡ m = let e = capped.1.1 in omega arith in
-    other (subst IsKind (sym own) is.kind)
-
 pub a_type : (word : List ℕ) (n k : ℕ) → IsCapped (IsWord word) n → k ≡ n → IsKind n → IsTypeWord word k
 a_type word n k capped same kind =
     let short : n < 65536 = kind.short in
@@ -48,7 +28,7 @@ type_found word n None capped h = h
 type_found word n (Some k) capped h = a_type word n k capped h.0 h.1
 
 pub no_type_found : (word : List ℕ) (n : ℕ) (r : Option ℕ) → IsCapped (IsWord word) n → IfNone r (IsKind n → ⊥) → IfNone r (NothingIs (IsTypeWord word))
-no_type_found word n None capped h = no_kind word n capped h
+no_type_found word n None capped h = λ m is. let same : capped.0 ≡ m = word_of_type_once word capped.0 m capped.1.0 is.named in let short : m < 65536 = is.kind.short in let own : n ≡ m = let e = capped.1.1 in omega arith in h (subst IsKind (sym own) is.kind)
 no_type_found word n (Some k) capped h = h
 
 -- ---- digits, or a mnemonic
@@ -62,13 +42,10 @@ begins_with_digit (c ∷ text) = is_digit c
 letters_first : List Named → Bool
 letters_first rows = list_all (λ row. not (begins_with_digit (folded_label row.mnemonic))) rows
 
-digit_stays : (c : ℕ) → is_digit c ≡ true → is_digit (folded_octet c) ≡ true
-digit_stays c e = grind (arith, nat_tests)
-
 digits_first : (text : List ℕ) (n : ℕ) → IsDecimal text n → begins_with_digit (folded_label text) ≡ true
 unfolding begins_with_digit
 digits_first [] n is = absurd (let some = is.some in omega arith)
-digits_first (c ∷ text) n is = digit_stays c is.digits.0
+digits_first (c ∷ text) n is = grind (arith, nat_tests)
 
 no_front : (front : List ℕ) → folded_label front ≡ [] → front ≡ []
 no_front [] e = refl

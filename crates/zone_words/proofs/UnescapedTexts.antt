@@ -1,13 +1,8 @@
 -- Texts whose escapes are undone: their octets are appended one by one.
-use Rattle.std.proofs.Common.{[], ◌≡◌, ℕ, List, ◌∷◌, ◌++◌, refl, sym, ap, ◌∙◌}
-use Rattle.std.proofs.lemmas.List.{append-nil, append_assoc, flat_map_more, map_push}
-use Rattle.std.specs.List.{AllByRecursion}
-use Rattle.zone_name.proofs.InOctets.Pushing.{AllByRecursion-append}
+use Rattle.zone_words.proofs.Common.{AllByRecursion, AllByRecursion-append, BeginsWithUnit, ComesToBadEscape, IsUnit, List, Unescaped, Written, [], ap, append-nil, append_assoc, flat_map_more, map_push, no_octet, octet_of, refl, sym, written_octets, written_text, ℕ, ◌++◌, ◌∙◌, ◌∷◌, ◌≡◌}
 use Rattle.zone_name.proofs.Spelling.Units.{at_backslash, at_end, units_first_only}
 use Rattle.zone_name.specs.Machine.Units.{Units}
-use Rattle.zone_name.specs.Spelling.{BeginsWithUnit, IsUnit, Written, no_octet, octet_of, text_of, written_octets, written_text}
-use Rattle.zone_words.specs.Fault.{AppendsStated}
-use Rattle.zone_words.specs.Unescaped.{ComesToBadEscape, Unescaped}
+use Rattle.zone_name.specs.Spelling.{text_of}
 
 -- the octets of the units up to a place of the text are appended
 pub record HaveWritten (text rest old new : List ℕ) : Type 0 where
@@ -16,10 +11,6 @@ pub record HaveWritten (text rest old new : List ℕ) : Type 0 where
   pub parts : text ≡ written_text units ++ rest
   pub written : new ≡ old ++ written_octets units
 
-pub none_written : (text old : List ℕ) → HaveWritten text text old old
-none_written text old =
-    record { units = []; each = tt; parts = refl; written = sym (append-nil old) }
-
 pub more_written : (text rest after old mid new : List ℕ) (c : ℕ) → HaveWritten text rest old mid → BeginsWithUnit no_octet rest c after → new ≡ mid ++ (c ∷ []) → HaveWritten text after old new
 more_written text rest after old mid new c have begins grown = record {
   units = have.units ++ begins.unit ∷ [];
@@ -27,19 +18,6 @@ more_written text rest after old mid new c have begins grown = record {
   parts = have.parts ∙ ap (λ t. written_text have.units ++ t) begins.parts ∙ sym (append_assoc (written_text have.units) (text_of begins.unit) after) ∙ ap (λ t. t ++ after) (flat_map_more text_of [] have.units begins.unit);
   written = grown ∙ ap (λ t. t ++ c ∷ []) have.written ∙ append_assoc old (written_octets have.units) (c ∷ []) ∙ ap (λ (d : ℕ). old ++ (written_octets have.units ++ d ∷ [])) (sym begins.value) ∙ ap (λ t. old ++ t) (sym (map_push octet_of have.units begins.unit));
 }
-
-pub all_written : (text rest old new : List ℕ) → HaveWritten text rest old new → rest ≡ [] → AppendsStated (Unescaped text) old new
-all_written text rest old new have ends =
-    record {
-      octets = written_octets have.units;
-      stated = record {
-        units = have.units;
-        each = have.each;
-        parts = have.parts ∙ ap (λ t. written_text have.units ++ t) ends ∙ append-nil (written_text have.units);
-        value = refl;
-      };
-      written = have.written;
-    }
 
 -- a text is written for one list of octets
 pub unescaped_once : (text a b : List ℕ) → Unescaped text a → Unescaped text b → a ≡ b

@@ -1,11 +1,8 @@
 -- The tokens of octets, walked from the left.
-use Rattle.zone_text.proofs.Common.{AllByRecursion, AllFollow, IsToken, List, RawItem, Token, Written, [], ap, append-nil, append_assoc, arith, bare, blank, closing, comment, common_steps, escaped, false, flat_map, flat_map-append, item_of, length, length-append, line_feed, map, opening, plain, quoted, refl, subst, sym, take, take-append_seam, text, token_text, true, written_text, ℕ, ◌++◌, ◌+◌, ◌-◌, ◌<◌, ◌∙◌, ◌∷◌, ◌≡◌}
-use Rattle.std.specs.Prelude.{codes, decimal, filter}
-use Rattle.zone_text.proofs.Tokens.Cuttings.{follow_after, shorter}
-use Rattle.zone_text.specs.Tokens.{AreTokensOf}
-use Rattle.zone_words.specs.Machine.Walking.{BeginsBlank, StandsAround, StandsNowhere, StayingAfter, WritesBetween}
-use Rattle.zone_words.specs.Written.{digit_tokens, generic_tokens, in_octets, renamed, stays, type_token, word, written}
-use Rattle.hex.specs.Hex.{encode_lower}
+use Rattle.zone_words.proofs.Common.{AllByRecursion, AllFollow, AreTokensOf, BeginsBlank, IsToken, List, RawItem, StandsAround, StayingAfter, Token, WritesBetween, Written, [], ap, append-nil, append_assoc, arith, blank, closing, codes, comment, common_steps, digit_tokens, encode_lower, escaped, false, filter, flat_map, flat_map-append, follow_after, generic_tokens, item_of, length, length-append, line_feed, map, opening, plain, refl, renamed, shorter, stays, subst, sym, take, take-append_seam, text, token_text, true, type_token, word, written, written_text, ℕ, ◌++◌, ◌+◌, ◌-◌, ◌<◌, ◌∙◌, ◌∷◌, ◌≡◌}
+use Rattle.zone_text.proofs.Common.{bare, quoted}
+use Rattle.std.specs.Prelude.{decimal}
+use Rattle.zone_words.specs.Written.{in_octets}
 
 -- the items of the first token, and the octets after it
 abbrev pub FrontIs : List ℕ → List RawItem → List ℕ → Type 0
@@ -51,9 +48,6 @@ LiesAhead entry rest before left =
     → AreTokensOf entry (front ++ bare units ∷ back) → length (flat_map item_of front) ≡ before
     → IsAhead entry rest left front back units
 
-text_more : (done : List Token) (p : Token) (entry rest left : List ℕ) → entry ≡ text done ++ rest → rest ≡ token_text p ++ left → entry ≡ text (done ++ p ∷ []) ++ left
-text_more done p entry rest left whole first = grind (arith, common_steps, flat_map-append)
-
 -- one token more is done
 one_done : (entry rest left : List ℕ) (n m : ℕ) (raws : List RawItem) (front back done more : List Token) (units : List Written) (p : Token) → front ≡ done ++ p ∷ more → entry ≡ text done ++ rest → FrontIs rest raws left → AreTokensOf rest (p ∷ more ++ bare units ∷ back) → length (flat_map item_of (p ∷ more)) ≡ n → n ≡ length raws + m → IsAhead entry left m front back units
 one_done entry rest left n m raws front back done more units p split whole first are count less =
@@ -62,7 +56,7 @@ one_done entry rest left n m raws front back done more units p split whole first
       done = done ++ p ∷ [];
       more = more;
       split = split ∙ sym (append_assoc done (p ∷ []) more);
-      whole = text_more done p entry rest left whole one.whole;
+      whole = grind (arith, common_steps, flat_map-append);
       are = one.rest;
       count = (let l : length (flat_map item_of (p ∷ more)) ≡ length (item_of p) + length (flat_map item_of more) = length-append (item_of p) (flat_map item_of more) in let k : length raws ≡ length (item_of p) = ap length one.item in omega (arith, l, k, count, less));
     }
@@ -102,13 +96,9 @@ around_found entry rest left before_text before n item first none lies taken fro
     let few : length entry - length rest ≡ length (text front) = omega (arith, len) in
     (taken ∙ ap (λ k. take k entry) few ∙ ap (λ t. take (length (text front)) t) found.0 ∙ take-append_seam (text front) rest, found.1)
 
-some_ahead : (rest : List ℕ) (more back : List Token) (units : List Written) → rest ≡ [] → AreTokensOf rest (more ++ bare units ∷ back) → ⊥
+pub some_ahead : (rest : List ℕ) (more back : List Token) (units : List Written) → rest ≡ [] → AreTokensOf rest (more ++ bare units ∷ back) → ⊥
 some_ahead rest [] back units none are = nothing_left rest (bare units) back none are
 some_ahead rest (p ∷ more) back units none are = nothing_left rest p (more ++ bare units ∷ back) none are
-
-pub around_none : (entry rest : List ℕ) (before n : ℕ) → rest ≡ [] → LiesAhead entry rest before n → StandsNowhere entry before
-around_none entry rest before n none lies front back units are count =
-    let at = lies front back units are count in some_ahead rest at.more back units none at.are
 
 -- ---- tokens that stay
 
@@ -120,9 +110,6 @@ pub record IsKeptTo (rest old new : List ℕ) (tokens : List Token) : Type 0 whe
 
 abbrev pub KeepsTo : List ℕ → List ℕ → List ℕ → List ℕ → Type 0
 KeepsTo octets rest old new = (tokens : List Token) → AreTokensOf octets tokens → IsKeptTo rest old new tokens
-
-pub kept_first : (octets old : List ℕ) → KeepsTo octets octets old old
-kept_first octets old tokens are = record { more = tokens; are = are; kept = refl }
 
 kept_by : (octets rest left old new newer : List ℕ) (raws : List RawItem) (tokens : List Token) → 0 < length rest → FrontIs rest raws left → ((p : Token) (more : List Token) → IsNext rest left raws p more → newer ++ text (filter stays more) ≡ new ++ text (filter stays (p ∷ more))) → (at : IsKeptTo rest old new tokens) → (more : List Token) → at.more ≡ more → IsKeptTo left old newer tokens
 kept_by octets rest left old new newer raws tokens some first step at [] e = absurd (no_tokens rest some (subst (AreTokensOf rest) e at.are))
@@ -246,14 +233,10 @@ octets_pushed front_text octets staying new number back pushed stay =
     ∙ ap (λ t. front_text ++ (text (generic_tokens number octets) ++ t)) stay
     ∙ ap (λ t. front_text ++ t) (sym (flat_map-append token_text (generic_tokens number octets) (filter stays back)))
 
-back_each : (front : List Token) (units : List Written) (back : List Token) → AllByRecursion IsToken (front ++ bare units ∷ back) → AllByRecursion IsToken back
+pub back_each : (front : List Token) (units : List Written) (back : List Token) → AllByRecursion IsToken (front ++ bare units ∷ back) → AllByRecursion IsToken back
 back_each [] units back each = each.1
 back_each (p ∷ front) units back each = back_each front units back each.1
 
-back_follow : (front : List Token) (units : List Written) (back : List Token) → AllFollow (front ++ bare units ∷ back) → AllFollow back
+pub back_follow : (front : List Token) (units : List Written) (back : List Token) → AllFollow (front ++ bare units ∷ back) → AllFollow back
 back_follow [] units back follow = follow_after (bare units) back follow
 back_follow (p ∷ front) units back follow = back_follow front units back (follow_after p (front ++ bare units ∷ back) follow)
-
--- the octets after an item have the tokens after it
-pub tokens_behind : (octets after : List ℕ) (front back : List Token) (units : List Written) → AreTokensOf octets (front ++ bare units ∷ back) → after ≡ text back → AreTokensOf after back
-tokens_behind octets after front back units are is = record { whole = is; each = back_each front units back are.each; follow = back_follow front units back are.follow }

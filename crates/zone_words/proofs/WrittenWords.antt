@@ -1,11 +1,7 @@
 -- The words that are written anew are tokens, and no line feed stands in them.
-use Rattle.zone_text.proofs.Common.{AllByRecursion, AllByRecursion-append, Bool, IsToken, IsUnit, List, Token, [], arith, bare, common_steps, ends_item, escaped, false, if◌then◌else◌, length, map, plain, refl, suc, true, zero, ℕ, ◌++◌, ◌+◌, ◌<◌, ◌==◌, ◌∷◌, ◌≡◌, ◌≢◌, ◌≤◌}
-use Rattle.hex.specs.Hex.{encode_lower, encode_with, lower_digits}
-use Rattle.std.proofs.lemmas.Bool.Decides.{nat_tests}
-use Rattle.std.proofs.lemmas.List.{length-map}
-use Rattle.std.specs.Fmt.{digit_glyph, digits, digits_onto}
-use Rattle.std.specs.Prelude.{codes, decimal, nat_lt, slice_index, ◌/◌, ◌%◌}
-use Rattle.zone_words.specs.Written.{generic_tokens, type_token, word}
+use Rattle.zone_words.proofs.Common.{AllByRecursion, AllByRecursion-append, Bool, IsToken, IsUnit, List, Token, [], arith, codes, common_steps, digit_glyph, digits, digits_onto, encode_lower, encode_with, ends_item, escaped, false, generic_tokens, if◌then◌else◌, length, length-map, lower_digits, map, nat_lt, nat_tests, plain, refl, slice_index, suc, true, type_token, word, zero, ℕ, ◌%◌, ◌++◌, ◌+◌, ◌/◌, ◌<◌, ◌==◌, ◌∷◌, ◌≡◌, ◌≢◌, ◌≤◌}
+use Rattle.zone_text.proofs.Common.{bare}
+use Rattle.std.specs.Prelude.{decimal}
 
 -- an octet that stands for itself in a bare item
 abbrev pub IsPlain : ℕ → Type 0

@@ -1,6 +1,5 @@
 -- The days of years from 1970 on, in closed form.
-use Rattle.std.proofs.Common.{◌≡◌, ℕ, zero, suc, ◌+◌, ◌*◌, ◌/◌, ◌%◌, ◌==◌, if◌then◌else◌, refl, arith}
-use Rattle.zone_words.specs.Kinds.Calendar.{days_of_years}
+use Rattle.zone_words.proofs.Common.{arith, days_of_years, if◌then◌else◌, refl, suc, zero, ℕ, ◌%◌, ◌*◌, ◌+◌, ◌/◌, ◌==◌, ◌≡◌}
 
 -- a quotient grows by one where the number becomes a multiple
 by_4 : (n : ℕ) → (n + 1) / 4 ≡ n / 4 + (if (n + 1) % 4 == 0 then 1 else 0)

@@ -164,6 +164,7 @@ fn fault_of_whole(left: usize, len: usize) -> Option<WordsFault>
 }
 
 /// The name of the last field.
+#[tactic(auto, using(crate::proofs::ReadFields::last_named))]
 fn last_name(fields: &[Field]) -> &'static str
     ensures { result.now ≡ last_name (map field_of fields.now) }
 {

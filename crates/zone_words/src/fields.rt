@@ -65,6 +65,7 @@ fn number_at(items: &[DataItem], place: usize) -> Option<u64>
 }
 
 /// The number that an item states in digits, or 2 ^ 32 in its place where it is greater.
+#[tactic(auto, using(crate::proofs::Gateways::number_read))]
 fn number_of_item(item: Item) -> Option<u64>
     ensures { result ≡ option_map (min 4294967296) (stated_number (raw item.entry)) }
 {

@@ -40,6 +40,7 @@ fn spelled(text: &[u8], above: &CasedName) -> Option<CasedName>
 }
 
 /// The origin that the items after `$ORIGIN` name under the one before it.
+#[tactic(auto, using(crate::proofs::Following::named_by))]
 fn named_origin(items: &[Item], above: &CasedName) -> Option<CasedName>
     ensures { IsOneOrNone (NamesOrigin above.now (map raw items.now)) result }
 {
@@ -108,6 +109,7 @@ impl Inherited {
     }
 
     /// Takes what a record leaves, of which these are the items after the owner.
+    #[tactic(auto, using(crate::proofs::Following::record_follows))]
     fn follow_record(&mut self, items: &[Item])
         ensures { (origin : Labels) (before : List Entry) (entry : Entry)
             → IsInherited origin before self.old

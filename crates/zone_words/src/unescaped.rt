@@ -12,6 +12,7 @@ use zone_name::{NextUnit, next_unit};
 ///
 /// `BadEscape` where a backslash begins no escape; and `OutOfMemory`. `out` may have got some of
 /// the octets.
+#[tactic(auto, using(crate::proofs::UnescapedTexts::more_written))]
 pub(crate) fn push_unescaped(text: &[u8], out: &mut Vec<u8>) -> Result<(), WordsFailing>
     ensures states { OnOk result (AppendsStated (Unescaped text.now) out.old.items out.new.items) }
     ensures fault { IfErr result

@@ -31,6 +31,7 @@ pub(crate) fn around_item(entry: &[u8], before: usize) -> Option<(&[u8], &[u8])>
 }
 
 /// Appends `TYPE` and a number (RFC 3597 5).
+#[tactic(auto, using(crate::proofs::Walks::type_pushed))]
 fn push_type(number: u16, out: &mut Vec<u8>) -> Result<(), AllocError>
     ensures { OnOk result
         (out.new.items ≡ out.old.items ++ token_text (type_token number)) }
@@ -72,6 +73,7 @@ impl Around<'_> {
     /// # Errors
     ///
     /// `AllocError`. `out` may have some of the octets.
+    #[tactic(auto, using(crate::proofs::Walks::renamed_pushed))]
     pub(crate) fn push_renamed(&self, out: &mut Vec<u8>) -> Result<(), AllocError>
         ensures { OnOk result (WritesBetween self.now.front.now self.now.back.now
             (renamed self.now.number) out.old.items out.new.items) }
@@ -88,6 +90,7 @@ impl Around<'_> {
     /// # Errors
     ///
     /// `AllocError`. `out` may have some of the octets.
+    #[tactic(auto, using(crate::proofs::Walks::three_pushed))]
     pub(crate) fn push_in_octets(
         &self,
         octets: &[u8],

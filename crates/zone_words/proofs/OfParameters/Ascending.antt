@@ -1,11 +1,5 @@
 -- Numbers in ascending order.
-use Rattle.std.proofs.Common.{◌≡◌, ℕ, suc, ◌<◌, ◌≤◌, List, [], ◌∷◌, length, get_or, sym, ap, ◌∙◌, arith, refl, cond, ltb}
-use Rattle.std.proofs.lemmas.Bool.{ltb-false, ltb-true}
-use Rattle.std.specs.List.{sum_by}
-use Rattle.std.specs.List.Sorted.{IsPermutation, IsNonDecreasing}
-use Rattle.std.proofs.lemmas.List.Sums.{sum_by-cons}
-use Rattle.std.proofs.lemmas.List.Sorted.{sum_by-IsPermutation}
-use Rattle.zone_words.specs.Parameters.Value.{AscendAbove}
+use Rattle.zone_words.proofs.Common.{AscendAbove, IsNonDecreasing, IsPermutation, List, [], ap, arith, cond, get_or, length, ltb, ltb-false, ltb-true, refl, suc, sum_by, sum_by-IsPermutation, sum_by-cons, sym, ℕ, ◌<◌, ◌∙◌, ◌∷◌, ◌≡◌, ◌≤◌}
 
 -- each number is at least as great as the one before it
 abbrev pub RiseFrom : ℕ → List ℕ → Type 0
@@ -31,9 +25,6 @@ below n z = cond (ltb z n) 1 0
 below_none : (n z : ℕ) → n ≤ z → below n z ≡ 0
 below_none n z h = grind (arith, ltb-false)
 
-below_some : (n z : ℕ) → below n z ≡ 0 → n ≤ z
-below_some n z h = grind (arith, ltb-true)
-
 none_below : (n low : ℕ) (numbers : List ℕ) → n ≤ low → RiseFrom low numbers → sum_by (below n) numbers ≡ 0
 none_below n low [] h a = refl
 none_below n low (m ∷ numbers) h a = omega (arith, sum_by-cons (below n) m numbers, below_none n m (omega (arith, h, a.0)), none_below n m numbers (omega (arith, h, a.0)) a.1)
@@ -43,7 +34,8 @@ HaveSameSums xs ys = (f : ℕ → ℕ) → sum_by f xs ≡ sum_by f ys
 
 first_least : (x y : ℕ) (xs ys : List ℕ) → RiseFrom y ys → HaveSameSums (x ∷ xs) (y ∷ ys) → y ≤ x
 first_least x y xs ys rise same =
-    below_some y x (omega (arith, same (below y), sum_by-cons (below y) x xs, sum_by-cons (below y) y ys, none_below y y ys (omega arith) rise, below_none y y (omega arith)))
+    let none : below y x ≡ 0 = omega (arith, same (below y), sum_by-cons (below y) x xs, sum_by-cons (below y) y ys, none_below y y ys (omega arith) rise, below_none y y (omega arith)) in
+    grind (arith, ltb-true)
 
 -- numbers that rise and have the same sums are the same
 rise_same : (low m : ℕ) (xs ys : List ℕ) → RiseFrom low xs → RiseFrom m ys → HaveSameSums xs ys → xs ≡ ys

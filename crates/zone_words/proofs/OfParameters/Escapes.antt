@@ -1,11 +1,7 @@
 -- Why a text whose escapes are undone is no value.
-use Rattle.std.proofs.Common.{◌≡◌, ℕ, List, [], ◌∷◌, sym, arith, refl, length, subst}
-use Rattle.zone_name.specs.Common.{NothingIs}
+use Rattle.zone_words.proofs.Common.{ComesToBadEscape, FailsEscaped, List, NothingIs, StatesPath, Unescaped, WordsFault, [], arith, length, refl, subst, sym, wrong, ℕ, ◌∷◌, ◌≡◌}
 use Rattle.zone_words.proofs.UnescapedTexts.{unescaped_or_bad}
-use Rattle.zone_words.specs.Machine.Parameters.{FailsEscaped, wrong, nothing}
-use Rattle.zone_words.specs.Parameters.Value.{StatesPath}
-use Rattle.zone_words.specs.Unescaped.{ComesToBadEscape, Unescaped}
-use Rattle.zone_words.specs.declared.fault.WordsFault.{WordsFault}
+use Rattle.zone_words.specs.Machine.Parameters.{nothing}
 use Rattle.zone_words.specs.declared.fault.WordsFault.TheVariants as faults
 
 pub path_empty : (text : List ℕ) → length text ≡ 0 → FailsEscaped StatesPath text faults.NotAValue

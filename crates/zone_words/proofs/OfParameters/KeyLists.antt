@@ -1,19 +1,12 @@
 -- The keys that a list has.
-use Rattle.std.proofs.Common.{◌≡◌, ℕ, Bool, false, List, sym, ap, ◌∙◌, subst, arith, IsTrue}
-use Rattle.std.specs.List.{AllZip}
-use Rattle.std.specs.List.Sorted.{IsPermutation, IsNonDecreasing}
-use Rattle.zone_name.specs.Common.{NothingIs}
+use Rattle.zone_words.proofs.Common.{AllZip, AscendAbove, Bool, IsKeyText, IsNonDecreasing, IsPermutation, IsTrue, List, ListsKeys, NothingIs, ap, arith, false, listed, subst, sym, ℕ, ◌∙◌, ◌≡◌}
 use Rattle.zone_words.proofs.OfParameters.Ascending.{rise_weaker, rise_by_place, rise_once}
 use Rattle.zone_words.proofs.OfParameters.Keys.{key_once}
 use Rattle.zone_words.proofs.OfParameters.Lists.{zip_once}
 use Rattle.zone_words.specs.Parameters.Keys.{number_of}
-use Rattle.zone_words.specs.Parameters.Value.{AscendAbove, IsKeyText, listed, ListsKeys}
-
-key_text_once : (text : List ℕ) (a b : ℕ) → IsKeyText text a → IsKeyText text b → a ≡ b
-key_text_once text a b x y = x.numbered ∙ ap number_of (key_once text x.key y.key x.spelt y.spelt) ∙ sym y.numbered
 
 stated_once : (text : List ℕ) (a b : List ℕ) → AllZip IsKeyText (listed text) a → AllZip IsKeyText (listed text) b → a ≡ b
-stated_once text a b x y = zip_once IsKeyText key_text_once (listed text) a b x y
+stated_once text a b x y = zip_once IsKeyText (λ text a b x y. x.numbered ∙ ap number_of (key_once text x.key y.key x.spelt y.spelt) ∙ sym y.numbered) (listed text) a b x y
 
 pub lists_keys_once : (text a b : List ℕ) → ListsKeys text a → ListsKeys text b → a ≡ b
 lists_keys_once text a b x y =
@@ -26,9 +19,6 @@ no_keys_listed text stated sorted each same rises stops numbers is =
     let e = stated_once text is.stated stated is.each each in
     let found = rise_once stated numbers sorted (subst (λ t. IsPermutation t numbers) e is.same) same (rise_weaker 0 numbers is.ascend) (rise_by_place sorted rises) in
     stops (subst (AscendAbove 0) found is.ascend)
-
-pub no_keys_stated : (text : List ℕ) → NothingIs (AllZip IsKeyText (listed text)) → NothingIs (ListsKeys text)
-no_keys_stated text none numbers is = none is.stated is.each
 
 -- what the test of such numbers says
 pub not_ascending : (numbers given : List ℕ) (r : Bool) → r ≡ false → given ≡ numbers → (AscendAbove 0 given → IsTrue r) → AscendAbove 0 numbers → ⊥

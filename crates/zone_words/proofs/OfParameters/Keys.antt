@@ -1,12 +1,7 @@
 -- The keys of parameters.
-use Rattle.std.proofs.Common.{◌≡◌, ℕ, ◌++◌, List, decimal, codes, arith, sym, ap, ◌∙◌, subst, refl, Option, Some, None, bytes_eq, cond, get_or}
-use Rattle.std.proofs.lemmas.List.{append_cancel_left}
+use Rattle.zone_words.proofs.Common.{Alpn, DohPath, Ech, HasName, Ipv4Hint, Ipv6Hint, IsCapped, IsDecimal, IsKeyNumber, Key, List, Mandatory, NoDefaultAlpn, None, Numbered, Ohttp, Option, Port, Some, SpellsKey, ap, append_cancel_left, arith, bytes_eq, codes, cond, get_or, key_text, refl, subst, sym, ℕ, ◌++◌, ◌∙◌, ◌≡◌}
+use Rattle.std.proofs.Common.{decimal}
 use Rattle.zone_rdata.proofs.Items.GenericLaws.{decimal-is}
-use Rattle.zone_rdata.specs.Number.{IsDecimal, IsCapped}
-use Rattle.zone_words.specs.Machine.Parameters.{IsKeyNumber, HasName}
-use Rattle.zone_words.specs.Parameters.Keys.{SpellsKey, key_text}
-use Rattle.zone_words.specs.declared.parameters.key.Key.{Key}
-use Rattle.zone_words.specs.declared.parameters.key.Key.TheVariants.{Mandatory, Alpn, NoDefaultAlpn, Port, Ipv4Hint, Ech, Ipv6Hint, DohPath, Ohttp, Numbered}
 
 -- digits without leading zeros are digits
 pub key_number_is : (digits : List ℕ) (n : ℕ) → IsKeyNumber digits n → IsDecimal digits n
@@ -17,9 +12,6 @@ key_number_read digits n a found is =
     let same = (key_number_is digits a is).value in
     let read = found.1.0.value in
     omega (arith, found.1.1, same, read, is.1)
-
-key_number_once : (digits : List ℕ) (a b : ℕ) → IsKeyNumber digits a → IsKeyNumber digits b → a ≡ b
-key_number_once digits a b x y = (key_number_is digits a x).value ∙ sym (key_number_is digits b y).value
 
 -- no name begins with `key`
 named_otherwise : (key : Key) (rest : List ℕ) → HasName key → key_text key ≡ codes "key" ++ rest → ⊥
@@ -61,7 +53,7 @@ key_by : (text : List ℕ) (n : ℕ) (b : Key) → HasName b → SpellsKey text 
 key_by text n b has x y = named_otherwise b (decimal n) has (sym y.spelt ∙ x.spelt)
 
 pub key_once : (text : List ℕ) (a b : Key) → SpellsKey text a → SpellsKey text b → a ≡ b
-key_once text (Numbered m) (Numbered n) x y = ap Numbered (key_number_once (decimal m) m n (refl, x.valid) (append_cancel_left (codes "key") (decimal m) (decimal n) (sym x.spelt ∙ y.spelt), y.valid))
+key_once text (Numbered m) (Numbered n) x y = ap Numbered ((key_number_is (decimal m) m (refl, x.valid)).value ∙ sym (key_number_is (decimal m) n (append_cancel_left (codes "key") (decimal m) (decimal n) (sym x.spelt ∙ y.spelt), y.valid)).value)
 key_once text (Numbered n) b x y = absurd (key_by text n b tt x y)
 key_once text a (Numbered n) x y = absurd (key_by text n a tt y x)
 key_once text a b x y = named_once text a b tt tt x.spelt y.spelt

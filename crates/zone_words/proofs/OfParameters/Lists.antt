@@ -1,12 +1,5 @@
 -- Lists whose texts are parted by commas.
-use Rattle.std.proofs.Common.{◌≡◌, ℕ, List, [], ◌∷◌, ◌++◌, sym, ap, ◌∙◌, subst, append_assoc, refl}
-use Rattle.std.specs.List.{AllZip, flat_map}
-use Rattle.std.proofs.lemmas.List.{flat_map_more}
-use Rattle.zone_name.specs.Common.{NothingIs}
-use Rattle.zone_rdata.proofs.Addresses.Cut.{split_cut, split_lacks}
-use Rattle.zone_words.specs.Fault.{AppendsStated}
-use Rattle.zone_words.specs.Machine.Cuts.{IsCutFirst, IsMissing}
-use Rattle.zone_words.specs.Parameters.Value.{listed, ListsAddresses}
+use Rattle.zone_words.proofs.Common.{AllZip, AppendsStated, IsCutFirst, IsMissing, List, ListsAddresses, NothingIs, [], ap, append_assoc, flat_map, flat_map_more, listed, refl, split_cut, split_lacks, subst, sym, ℕ, ◌++◌, ◌∙◌, ◌∷◌, ◌≡◌}
 
 -- ---- two lists that go together
 

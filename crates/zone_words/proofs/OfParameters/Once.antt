@@ -1,41 +1,23 @@
 -- Items state the octets of one list of parameters, or have a fault.
-use Rattle.std.proofs.Common.{◌≡◌, ℕ, ◌<◌, ◌≤◌, ◌⊎◌, inl, inr, List, [], ◌∷◌, ◌++◌, Ok, length, map, sym, ap, ◌∙◌, subst, arith, refl}
-use Rattle.std.specs.Int.{w16, to_be_bytes}
-use Rattle.std.specs.List.{AllByRecursion, flat_map}
-use Rattle.std.specs.List.Sorted.{IsPermutation}
-use Rattle.std.proofs.lemmas.List.Elements.{All-from_recursion, recursion_from_All}
-use Rattle.std.proofs.lemmas.List.Sorted.{All-permutation, IsPermutation-sym, IsPermutation-trans}
-use Rattle.zone_rdata.proofs.Addresses.AddressGaps.{groups_unique}
-use Rattle.zone_rdata.proofs.Addresses.Cut.{numbers_unique}
+use Rattle.zone_words.proofs.OfParameters.Protocols.{items_once}
+use Rattle.zone_words.proofs.Common.{All-from_recursion, All-permutation, AllByRecursion, Alpn, AreComplete, AreOnce, Ascend, AscendAbove, BeginWith, BeginWithKey, BeginWithNoKey, DohPath, Ech, FailsParameters, FailsValue, Ipv4Hint, Ipv6Hint, IsNew, IsPermutation, IsPermutation-trans, IsShort, IsThere, Key, List, ListsItems, Mandatory, NoDefaultAlpn, Numbered, Ohttp, Ok, Parameter, ParameterText, Port, RequiresKeys, Sent, StateEach, StatesParameter, StatesParameters, StatesValue, TouchingItem, WordsFault, [], alone, ap, arith, bad_escape, bad_value, bare_value, flat_map, groups_unique, inl, inr, length, long_value, map, missing_key, no_key, numbers_unique, quoted_value, recursion_from_All, refl, repeated_key, sent, sent_octets, subst, sym, to_be_bytes, w16, ℕ, ◌++◌, ◌<◌, ◌∙◌, ◌∷◌, ◌≡◌, ◌≤◌, ◌⊎◌}
+use Rattle.std.proofs.lemmas.List.Sorted.{IsPermutation-sym}
 use Rattle.zone_rdata.specs.Address.{IsIpv4Address, IsIpv6Address}
 use Rattle.zone_words.proofs.UnescapedTexts.{unescaped_once}
 use Rattle.zone_words.proofs.OfParameters.KeyLists.{lists_keys_once}
 use Rattle.zone_words.proofs.OfParameters.Keys.{key_once}
 use Rattle.zone_words.proofs.OfParameters.Lists.{addresses_once}
-use Rattle.zone_words.proofs.OfParameters.Protocols.{protocols_once}
 use Rattle.zone_words.proofs.OfParameters.Texts.{begin_once}
-use Rattle.zone_words.specs.DataItem.{TouchingItem}
-use Rattle.zone_words.specs.Parameters.{Parameter, Sent, sent, sent_octets, Ascend, StatesParameter, StateEach, StatesParameters, FailsParameters, no_key, repeated_key, bad_value, missing_key, long_value, AreComplete, AreOnce, IsNew, IsThere, IsShort, BeginWithNoKey, BeginWithKey}
 use Rattle.zone_words.specs.Parameters.Keys.{number_of}
-use Rattle.zone_words.specs.Parameters.Text.{ParameterText, BeginWith, alone, bare_value, quoted_value}
-use Rattle.zone_words.specs.Parameters.Value.{AscendAbove, StatesValue, RequiresKeys, FailsValue, StatesKeys, StatesPort, bad_escape, no_value}
-use Rattle.zone_words.specs.declared.fault.WordsFault.{WordsFault}
-use Rattle.zone_words.specs.declared.parameters.key.Key.{Key}
-use Rattle.zone_words.specs.declared.parameters.key.Key.TheVariants.{Mandatory, Alpn, NoDefaultAlpn, Port, Ipv4Hint, Ech, Ipv6Hint, DohPath, Ohttp, Numbered}
+use Rattle.zone_words.specs.Parameters.Value.{no_value}
 
 -- ---- one value
 
-keys_value_once : (text a b : List ℕ) → StatesKeys text a → StatesKeys text b → a ≡ b
-keys_value_once text a b x y = x.2 ∙ ap (flat_map (to_be_bytes w16)) (lists_keys_once text x.0 y.0 x.1 y.1) ∙ sym y.2
-
-port_once : (text a b : List ℕ) → StatesPort text a → StatesPort text b → a ≡ b
-port_once text a b x y = x.2 ∙ ap (to_be_bytes w16) (x.1.0.value ∙ sym y.1.0.value) ∙ sym y.2
-
 pub value_once : (key : Key) (text a b : List ℕ) → StatesValue key text a → StatesValue key text b → a ≡ b
-value_once Mandatory text a b x y = keys_value_once text a b x y
-value_once Alpn text a b x y = protocols_once text a b x y
+value_once Mandatory text a b x y = x.2 ∙ ap (flat_map (to_be_bytes w16)) (lists_keys_once text x.0 y.0 x.1 y.1) ∙ sym y.2
+value_once Alpn text a b x y = let e = unescaped_once text x.spelt y.spelt x.unescaped y.unescaped in items_once y.spelt a b (subst (λ t. ListsItems t a) e x.items) y.items
 value_once NoDefaultAlpn text a b x y = x.1 ∙ sym y.1
-value_once Port text a b x y = port_once text a b x y
+value_once Port text a b x y = x.2 ∙ ap (to_be_bytes w16) (x.1.0.value ∙ sym y.1.0.value) ∙ sym y.2
 value_once Ipv4Hint text a b x y = addresses_once IsIpv4Address (numbers_unique 3) text a b x y
 value_once Ech text a b x y = let same : Ok a ≡ Ok b = sym x.0 ∙ y.0 in cc
 value_once Ipv6Hint text a b x y = addresses_once IsIpv6Address groups_unique text a b x y
@@ -57,15 +39,13 @@ required_once (Numbered n) text a b x y = x ∙ sym y
 
 -- ---- one parameter
 
-parameter_same : (p q : Parameter) → p.number ≡ q.number → p.octets ≡ q.octets → p.required ≡ q.required → p ≡ q
-parameter_same p q e f g = λ i. record { number = e i; octets = f i; required = g i }
-
 parameter_once : (text : ParameterText) (p q : Parameter) → StatesParameter text p → StatesParameter text q → p ≡ q
 parameter_once text p q x y =
     let same = key_once text.key y.key x.key y.spelt x.spelt in
-    parameter_same p q (x.numbered ∙ sym (y.numbered ∙ ap number_of same))
-    (value_once x.key text.value p.octets q.octets x.value (subst (λ k. StatesValue k text.value q.octets) same y.value))
-    (required_once x.key text.value p.required q.required x.requires_keys (subst (λ k. RequiresKeys k text.value q.required) same y.requires_keys))
+    let e : p.number ≡ q.number = x.numbered ∙ sym (y.numbered ∙ ap number_of same) in
+    let f : p.octets ≡ q.octets = value_once x.key text.value p.octets q.octets x.value (subst (λ k. StatesValue k text.value q.octets) same y.value) in
+    let g : p.required ≡ q.required = required_once x.key text.value p.required q.required x.requires_keys (subst (λ k. RequiresKeys k text.value q.required) same y.requires_keys) in
+    λ i. record { number = e i; octets = f i; required = g i }
 
 -- the items begin with one parameter
 pub first_once : (items : List TouchingItem) (s t : ParameterText) (q r : List TouchingItem) (o p : Parameter) → BeginWith items s q → StatesParameter s o → BeginWith items t r → StatesParameter t p → (o ≡ p) × (q ≡ r)

@@ -1,18 +1,11 @@
 -- Items that are no parameters have one fault.
-use Rattle.std.proofs.Common.{◌≡◌, ℕ, List, [], ◌∷◌, ◌++◌, length, map, sym, ap, ◌∙◌, subst, arith, refl}
-use Rattle.std.specs.List.{AllByRecursion}
+use Rattle.zone_words.proofs.Common.{AllByRecursion, AreComplete, AreOnce, BeginWith, BeginWithKey, BeginWithNoKey, FailsParameters, FailsValue, IsNew, IsShort, IsThere, Key, List, MandatoryKeyMissing, NotAKey, Parameter, ParameterText, Precede, RepeatedKey, SpellsKey, StateEach, StatesParameter, StatesValue, TooLong, TouchingItem, WordsFault, [], ap, arith, bad_escape, bad_value, length, long_value, map, missing_key, no_key, refl, repeated_key, sent, subst, sym, ℕ, ◌++◌, ◌∙◌, ◌∷◌, ◌≡◌}
 use Rattle.zone_words.proofs.OfParameters.Keys.{key_once}
 use Rattle.zone_words.proofs.OfParameters.Once.{fails_value_not, first_once, new_before, nothing_begins}
 use Rattle.zone_words.proofs.OfParameters.Reading.{never_both}
 use Rattle.zone_words.proofs.OfParameters.Texts.{begin_once}
-use Rattle.zone_words.specs.DataItem.{TouchingItem}
-use Rattle.zone_words.specs.Parameters.{Parameter, sent, StateEach, StatesParameter, FailsParameters, no_key, repeated_key, bad_value, missing_key, long_value, AreComplete, AreOnce, IsNew, IsThere, IsShort, BeginWithNoKey, BeginWithKey, Precede}
-use Rattle.zone_words.specs.Parameters.Keys.{SpellsKey, number_of}
-use Rattle.zone_words.specs.Parameters.Text.{BeginWith, ParameterText}
-use Rattle.zone_words.specs.Parameters.Value.{FailsValue, StatesValue, bad_escape, no_value}
-use Rattle.zone_words.specs.declared.fault.WordsFault.{WordsFault}
-use Rattle.zone_words.specs.declared.fault.WordsFault.TheVariants.{NotAKey, RepeatedKey, MandatoryKeyMissing, TooLong}
-use Rattle.zone_words.specs.declared.parameters.key.Key.{Key}
+use Rattle.zone_words.specs.Parameters.Keys.{number_of}
+use Rattle.zone_words.specs.Parameters.Value.{no_value}
 
 -- ---- what fails after the parameters before it
 

@@ -1,21 +1,13 @@
 -- The items of a list as the code reads them.
-use Rattle.std.proofs.Common.{◌≡◌, ℕ, ◌<◌, ◌≤◌, false, List, [], ◌∷◌, ◌++◌, length, Option, Some, None, sym, ap, ◌∙◌, subst, arith, refl, append_assoc, length-append}
-use Rattle.std.proofs.lemmas.List.{append-nil, flat_map_more}
-use Rattle.std.specs.List.{AllByRecursion, flat_map, onto_first}
-use Rattle.std.specs.Option.{option_map}
-use Rattle.zone_name.proofs.InOctets.Pushing.{AllByRecursion-append}
-use Rattle.zone_name.specs.Common.{NothingIs}
-use Rattle.zone_name.specs.Name.{with_length}
-use Rattle.zone_words.specs.Machine.Parameters.{HasNoItems}
+use Rattle.zone_words.proofs.Common.{AllByRecursion, AllByRecursion-append, HasNoItems, IsProtocol, List, ListsItems, ListsProtocols, None, NothingIs, Option, Some, Unescaped, [], ap, append-nil, append_assoc, arith, false, flat_map, flat_map_more, length, length-append, onto_first, option_map, refl, subst, sym, with_length, ℕ, ◌++◌, ◌<◌, ◌∙◌, ◌∷◌, ◌≡◌, ◌≤◌}
 use Rattle.zone_words.proofs.UnescapedTexts.{unescaped_once}
-use Rattle.zone_words.specs.Parameters.Value.{items_of, IsProtocol, ListsItems, ListsProtocols}
-use Rattle.zone_words.specs.Unescaped.{Unescaped}
+use Rattle.zone_words.specs.Parameters.Value.{items_of}
 
 abbrev Items : Type 0
 Items = List (List ℕ)
 
 -- octets before the first item
-abbrev prefixed : List ℕ → Items → Items
+abbrev pub prefixed : List ℕ → Items → Items
 prefixed [] items = items
 prefixed (c ∷ octets) items = onto_first c (prefixed octets items)
 
@@ -31,7 +23,7 @@ map_prefixed : (octets : List ℕ) (c : ℕ) (items : Option Items) → option_m
 map_prefixed octets c None = refl
 map_prefixed octets c (Some items) = ap Some (sym (prefixed_more octets c items))
 
-map_first : (octets : List ℕ) (items : Option Items) → option_map (prefixed octets) (option_map (λ items. [] ∷ items) items) ≡ option_map (λ items. octets ∷ items) items
+pub map_first : (octets : List ℕ) (items : Option Items) → option_map (prefixed octets) (option_map (λ items. [] ∷ items) items) ≡ option_map (λ items. octets ∷ items) items
 map_first octets None = refl
 map_first octets (Some items) = ap Some (prefixed_first octets [] items ∙ ap (λ t. t ∷ items) (append-nil octets))
 
@@ -48,15 +40,8 @@ item_more text rest after item c has next room = record {
   short = omega (arith, room, length-append item (c ∷ []));
 }
 
--- the items from the first on, where it ends
-first_ended : (text rest item : List ℕ) → HasItem text rest item → rest ≡ [] → items_of false text ≡ Some (item ∷ [])
-first_ended text rest item has ended = has.items ∙ ap (λ t. option_map (prefixed item) (items_of false t)) ended ∙ map_first item (Some [])
-
 first_parted : (text rest after item : List ℕ) → HasItem text rest item → rest ≡ 44 ∷ after → items_of false text ≡ option_map (λ items. item ∷ items) (items_of false after)
 first_parted text rest after item has comma = has.items ∙ ap (λ t. option_map (prefixed item) (items_of false t)) comma ∙ map_first item (items_of false after)
-
-pub item_ends : (text rest item : List ℕ) → HasItem text rest item → rest ≡ [] → 0 < length item → IsProtocol item × (items_of false text ≡ Some (item ∷ []))
-item_ends text rest item has ended some = ((some, has.short), first_ended text rest item has ended)
 
 pub item_parts : (text rest after item : List ℕ) → HasItem text rest item → rest ≡ 44 ∷ after → 0 < length item → IsProtocol item × (length after < length text) × (items_of false text ≡ option_map (λ items. item ∷ items) (items_of false after))
 item_parts text rest after item has comma some = ((some, has.short), omega (arith, has.within, ap length comma), first_parted text rest after item has comma)
@@ -93,7 +78,7 @@ map_append : (done : Items) (item : List ℕ) (items : Option Items) → option_
 map_append done item None = refl
 map_append done item (Some items) = ap Some (sym (append_assoc done (item ∷ []) items))
 
-map_whole : (items : Option Items) → items ≡ option_map (λ more. [] ++ more) items
+pub map_whole : (items : Option Items) → items ≡ option_map (λ more. [] ++ more) items
 map_whole None = refl
 map_whole (Some items) = refl
 
@@ -103,30 +88,21 @@ pub record HasItems (text rest old new : List ℕ) : Type 0 where
   pub each : AllByRecursion IsProtocol done
   pub value : new ≡ old ++ flat_map with_length done
 
-pub items_none : (text old : List ℕ) → HasItems text text old old
-items_none text old = record { done = []; items = map_whole (items_of false text); each = tt; value = sym (append-nil old) }
-
-items_grown : (done : Items) (item old new next : List ℕ) → new ≡ old ++ flat_map with_length done → next ≡ (new ++ length item ∷ []) ++ item → next ≡ old ++ flat_map with_length (done ++ item ∷ [])
-items_grown done item old new next e f = f ∙ append_assoc new (length item ∷ []) item ∙ ap (λ t. t ++ length item ∷ item) e ∙ append_assoc old (flat_map with_length done) (length item ∷ item) ∙ ap (λ t. old ++ t) (flat_map_more with_length [] done item)
-
 pub items_more : (text rest after item old new next : List ℕ) → HasItems text rest old new → IsProtocol item × (length after < length rest) × (items_of false rest ≡ option_map (λ items. item ∷ items) (items_of false after)) → next ≡ (new ++ length item ∷ []) ++ item → HasItems text after old next
 items_more text rest after item old new next has first grown = record {
   done = has.done ++ item ∷ [];
   items = has.items ∙ ap (option_map (λ more. has.done ++ more)) first.2 ∙ map_append has.done item (items_of false after);
   each = AllByRecursion-append IsProtocol has.done (item ∷ []) has.each (first.0, tt);
-  value = items_grown has.done item old new next has.value grown;
+  value = grown ∙ append_assoc new (length item ∷ []) item ∙ ap (λ t. t ++ length item ∷ item) has.value ∙ append_assoc old (flat_map with_length has.done) (length item ∷ item) ∙ ap (λ t. old ++ t) (flat_map_more with_length [] has.done item);
 }
 
 each_back : (done items : Items) → AllByRecursion IsProtocol (done ++ items) → AllByRecursion IsProtocol items
 each_back [] items each = each
 each_back (item ∷ done) items each = each_back done items each.1
 
-stops_by : (done : Items) (items : Option Items) (found : Items) → ((more : Items) → items ≡ Some more → AllByRecursion IsProtocol more → ⊥) → option_map (λ more. done ++ more) items ≡ Some found → AllByRecursion IsProtocol found → ⊥
+pub stops_by : (done : Items) (items : Option Items) (found : Items) → ((more : Items) → items ≡ Some more → AllByRecursion IsProtocol more → ⊥) → option_map (λ more. done ++ more) items ≡ Some found → AllByRecursion IsProtocol found → ⊥
 stops_by done None found none e each = absurd cc
 stops_by done (Some items) found none e each = none items refl (each_back done items (subst (AllByRecursion IsProtocol) (let same : Some found ≡ Some (done ++ items) = sym e in cc) each))
-
-pub items_stop : (text rest old new : List ℕ) → HasItems text rest old new → HasNoItems rest → NothingIs (ListsItems text)
-items_stop text rest old new has none octets is = stops_by has.done (items_of false rest) is.protocols none (sym has.items ∙ is.items) is.each
 
 pub items_once : (text a b : List ℕ) → ListsItems text a → ListsItems text b → a ≡ b
 items_once text a b x y =
@@ -138,8 +114,3 @@ pub protocols_stop : (text octets slice : List ℕ) → Unescaped text octets �
 protocols_stop text octets slice is same none others are =
     let e = unescaped_once text are.spelt octets are.unescaped is ∙ sym same in
     none others (subst (λ t. ListsItems t others) e are.items)
-
-pub protocols_once : (text a b : List ℕ) → ListsProtocols text a → ListsProtocols text b → a ≡ b
-protocols_once text a b x y =
-    let e = unescaped_once text x.spelt y.spelt x.unescaped y.unescaped in
-    items_once y.spelt a b (subst (λ t. ListsItems t a) e x.items) y.items

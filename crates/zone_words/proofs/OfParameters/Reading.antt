@@ -1,31 +1,17 @@
 -- Parameters as the code reads them.
-use Rattle.std.proofs.Common.{◌≡◌, ◌≢◌, ℕ, IsTrue, ◌<◌, Bool, true, false, List, [], ◌∷◌, ◌++◌, length, map, drop, get_or, ◌+◌, Some, sym, ap, ◌∙◌, subst, arith, refl, inl, inr, ◌⊎◌}
+use Rattle.zone_words.proofs.Common.{AddsParameter, All-from_recursion, All-permutation, AllByRecursion, AllByRecursion-append, AppendsStated, AreComplete, AreOnce, AreSent, Ascend, AscendAbove, BeginWith, Bool, FailsAfter, FailsParameters, FailsValue, HasStated, Holds, IsNew, IsPermutation, IsPermutation-middle, IsPermutation-refl, IsPermutation-trans, IsShort, IsStrictlySortedBy, IsThere, Key, List, Parameter, ParameterText, Precede, RequiresKeys, Sent, Some, SpellsKey, StateEach, StatesParameter, StatesParameters, StatesValue, TouchingItem, WordsFault, [], again, all_required, all_sent, ap, arith, bad_value, cond, drop, drop_more, false, flat_map, flat_map_more, get_or, inl, inr, is_some, keyless, length, long_value, map, map_push, missing_key, no_key, recursion_from_All, refl, repeated_key, sent, sent_octets, subst, sym, true, valueless, ℕ, ◌++◌, ◌+◌, ◌<◌, ◌∙◌, ◌∷◌, ◌≡◌, ◌≢◌, ◌⊎◌}
 use Rattle.std.proofs.lemmas.Bool.{cases_eq}
-use Rattle.std.proofs.lemmas.List.{append-nil, drop_more, flat_map_more, map_push}
-use Rattle.std.proofs.lemmas.List.Elements.{All-from_recursion, recursion_from_All}
-use Rattle.std.proofs.lemmas.List.Sorted.{All-permutation, IsPermutation-cons, IsPermutation-map, IsPermutation-middle, IsPermutation-refl, IsPermutation-sym, IsPermutation-to_front, IsPermutation-trans}
-use Rattle.std.specs.BTreeMap.{BTreeMap, get, insert_entry, is_at}
+use Rattle.std.proofs.lemmas.List.Sorted.{IsPermutation-cons, IsPermutation-map, IsPermutation-sym, IsPermutation-to_front}
+use Rattle.std.specs.BTreeMap.{get, insert_entry, is_at}
 use Rattle.std.specs.Global.{Vec}
-use Rattle.std.specs.List.{AllByRecursion, flat_map}
-use Rattle.std.specs.List.Sorted.{IsPermutation, IsStrictlySortedBy}
 use Rattle.std.specs.Map.{lookup}
 use Rattle.std.specs.Ordering.{nat_cmp, is_eq, match_ordering}
 use Rattle.std.specs.declared.cmp.Ordering.{Ordering}
 use Rattle.std.specs.declared.cmp.Ordering.TheVariants.{Less, Equal, Greater}
-use Rattle.std.proofs.Common.{cond}
-use Rattle.std.specs.Prelude.{is_some}
-use Rattle.zone_name.proofs.InOctets.Pushing.{AllByRecursion-append}
 use Rattle.zone_words.proofs.OfParameters.Texts.{begin_once}
-use Rattle.zone_words.specs.DataItem.{TouchingItem}
-use Rattle.zone_words.specs.Machine.Stated.{all_sent, AreSent, IsLong, Holds, HasStated, FailsAfter, keyless, again, valueless, AddsParameter}
-use Rattle.zone_words.specs.Parameters.{Parameter, Precede, StateEach, AreOnce, IsNew, IsThere, Ascend, all_required, sent, Sent, StatesParameter, FailsParameters, no_key, repeated_key, bad_value, missing_key, long_value, AreComplete, IsShort, sent_octets, StatesParameters}
-use Rattle.zone_words.specs.Parameters.Keys.{SpellsKey, number_of}
-use Rattle.zone_words.specs.Fault.{AppendsStated}
-use Rattle.zone_words.specs.Parameters.Text.{ParameterText, BeginWith}
-use Rattle.zone_words.specs.Parameters.Value.{AscendAbove, FailsValue, RequiresKeys, StatesValue}
-use Rattle.zone_words.specs.declared.fault.WordsFault.{WordsFault}
+use Rattle.zone_words.specs.Machine.Stated.{IsLong}
+use Rattle.zone_words.specs.Parameters.Keys.{number_of}
 use Rattle.zone_words.specs.declared.fault.WordsFault.TheVariants as faults
-use Rattle.zone_words.specs.declared.parameters.key.Key.{Key}
 use Rattle.zone_words.specs.declared.parameters.stated.Stated.{Stated}
 
 -- ---- one more parameter
@@ -38,16 +24,10 @@ once_more : (before : List Parameter) (p : Parameter) → AreOnce before → IsN
 once_more [] p once new = (tt, tt)
 once_more (q ∷ before) p once new = (AllByRecursion-append (λ (r : Parameter). r.number ≢ q.number) before (p ∷ []) once.0 (λ e. new.0 (sym e), tt), once_more before p once.1 new.1)
 
-precede_more : (items rest next : List TouchingItem) (before : List Parameter) (text : ParameterText) (p : Parameter) → Precede items rest before → BeginWith rest text next → StatesParameter text p → IsNew p.number before → Precede items next (before ++ p ∷ [])
-precede_more items rest next before text p precede begin states new = record { each = each_more items rest next before text p precede.each begin states; once = once_more before p precede.once new }
-
-pub stated_none : (items : List TouchingItem) (stated : Stated) → all_sent stated.values ≡ [] → stated.required.items ≡ [] → HasStated items items stated
-stated_none items stated empty none = record { before = []; precede = record { each = refl; once = tt }; holds = record { same = subst (IsPermutation []) (sym empty) (IsPermutation-refl []); required = none } }
-
 pub stated_more : (all items rest : List TouchingItem) (text : ParameterText) (old new : Stated) → BeginWith items text rest → AddsParameter text old new → HasStated all items old → HasStated all rest new
 stated_more all items rest text old new begin adds has =
     let added = adds has.before has.holds in
-    record { before = has.before ++ added.0 ∷ []; precede = precede_more all items rest has.before text added.0 has.precede begin added.1 added.2; holds = added.3 }
+    record { before = has.before ++ added.0 ∷ []; precede = record { each = each_more all items rest has.before text added.0 has.precede.each begin added.1; once = once_more has.before added.0 has.precede.once added.2 }; holds = added.3 }
 
 -- ---- where the next parameter fails
 
@@ -76,12 +56,9 @@ Others k parameters = AllByRecursion (λ (s : Sent). s.number ≢ k) parameters
 at_itself : (k n : ℕ) → is_at (nat_cmp k) n ≡ true → n ≡ k
 at_itself k n e = grind arith
 
-at_other : (k n : ℕ) → is_at (nat_cmp k) n ≡ false → n ≢ k
-at_other k n e = grind arith
-
 other_by : (k : ℕ) (e : ℕ × Vec ℕ) (es : Entries) (t : Bool) → is_at (nat_cmp k) e.0 ≡ t → is_some (cond t (Some e.1) (lookup (is_at (nat_cmp k)) es)) ≡ false → (is_some (lookup (is_at (nat_cmp k)) es) ≡ false → Others k (map entry_sent es)) → Others k (map entry_sent (e ∷ es))
 other_by k e es true is none more = absurd cc
-other_by k e es false is none more = (at_other k e.0 is, more none)
+other_by k e es false is none more = (grind arith, more none)
 
 entries_other : (k : ℕ) (es : Entries) → is_some (lookup (is_at (nat_cmp k)) es) ≡ false → Others k (map entry_sent es)
 entries_other k [] none = tt
@@ -133,12 +110,9 @@ IsFound stated k = is_some (get nat_cmp stated.values k) ≡ true
 pub not_found_new : (stated : Stated) (before : List Parameter) (k : ℕ) → Holds stated before → is_some (get nat_cmp stated.values k) ≡ false → IsNew k before
 not_found_new stated before k holds none = others_new k before (move (λ (s : Sent). s.number ≢ k) (all_sent stated.values) (map sent before) (IsPermutation-sym (map sent before) (all_sent stated.values) holds.same) (entries_other k stated.values.entries none))
 
-new_not_found : (stated : Stated) (before : List Parameter) (k : ℕ) → Holds stated before → IsNew k before → is_some (get nat_cmp stated.values k) ≡ false
-new_not_found stated before k holds new = entries_none k stated.values.entries (move (λ (s : Sent). s.number ≢ k) (map sent before) (all_sent stated.values) holds.same (new_others k before new))
-
 found_by : (stated : Stated) (before : List Parameter) (k : ℕ) → Holds stated before → IsFound stated k → IsThere before k ⊎ IsNew k before → IsThere before k
 found_by stated before k holds found (inl there) = there
-found_by stated before k holds found (inr new) = let none = new_not_found stated before k holds new in absurd cc
+found_by stated before k holds found (inr new) = let none = (entries_none k stated.values.entries (move (λ (s : Sent). s.number ≢ k) (map sent before) (all_sent stated.values) holds.same (new_others k before new))) in absurd cc
 
 pub found_there : (stated : Stated) (before : List Parameter) (k : ℕ) → Holds stated before → IsFound stated k → IsThere before k
 found_there stated before k holds found = found_by stated before k holds found (there_or_new k before)
@@ -151,9 +125,6 @@ never_both k (p ∷ before) (inr there) new = never_both k before there new.1
 there_at : (stated : Stated) (before : List Parameter) (k : ℕ) (t : Bool) → is_some (get nat_cmp stated.values k) ≡ t → Holds stated before → IsThere before k → t ≡ true
 there_at stated before k true is holds there = refl
 there_at stated before k false is holds there = absurd (never_both k before there (not_found_new stated before k holds is))
-
-pub there_found : (stated : Stated) (before : List Parameter) (k : ℕ) → Holds stated before → IsThere before k → IsFound stated k
-there_found stated before k holds there = there_at stated before k (is_some (get nat_cmp stated.values k)) refl holds there
 
 holds_more : (old new : Stated) (before : List Parameter) (k : ℕ) (v : Vec ℕ) (required : List ℕ) → Holds old before → IsNew k before → new.values.entries ≡ insert_entry nat_cmp old.values.entries k v → new.required.items ≡ old.required.items ++ required → Holds new (before ++ record { number = k; octets = v.items; required = required } ∷ [])
 holds_more old new before k v required holds fresh values grown =
@@ -174,10 +145,6 @@ parameter_added text key number v old new spells numbered none stated required v
     let fresh = not_found_new old before number holds none in
     (p, record { key = key; spelt = spells; numbered = numbered; value = subst (StatesValue key text.value) (sym stated.written) stated.stated; requires_keys = required.stated }, fresh, holds_more old new before number v required.octets holds fresh values required.written)
 
--- the key of a parameter fails, or its value
-pub parameter_repeated : (text : ParameterText) (key : Key) (number : ℕ) (old : Stated) (before : List Parameter) → SpellsKey text.key key → number ≡ number_of key → is_some (get nat_cmp old.values number) ≡ true → Holds old before → FailsAfter before text faults.RepeatedKey
-parameter_repeated text key number old before spells numbered found holds = again key spells (subst (IsThere before) numbered (found_there old before number holds found))
-
 pub parameter_fails : (text : ParameterText) (key : Key) (number : ℕ) (old : Stated) (before : List Parameter) (fault : WordsFault) → SpellsKey text.key key → number ≡ number_of key → is_some (get nat_cmp old.values number) ≡ false → FailsValue key text.value fault → Holds old before → FailsAfter before text fault
 parameter_fails text key number old before fault spells numbered none fails holds = valueless key fault spells (subst (λ n. IsNew n before) numbered (not_found_new old before number holds none)) fails
 
@@ -189,38 +156,23 @@ required_stops P xs i x inside is none each = none (subst P (sym is) (subst (All
 pub required_back : (P : ℕ → Type 0) (xs : List ℕ) (i x : ℕ) → i < length xs → x ≡ get_or xs i 0 → P x → AllByRecursion P (drop (i + 1) xs) → AllByRecursion P (drop i xs)
 required_back P xs i x inside is holds each = subst (AllByRecursion P) (sym (drop_more xs i 0 inside)) (subst P is holds, each)
 
-pub required_on : (P : ℕ → Type 0) (xs : List ℕ) (i x : ℕ) → i < length xs → AllByRecursion P (drop i xs) → AllByRecursion P (drop (i + 1) xs)
-required_on P xs i x inside each = (subst (AllByRecursion P) (drop_more xs i 0 inside) each).1
-
 -- ---- in ascending order
-
-less_is : (m n : ℕ) → nat_cmp m n ≡ Less → m < n
-less_is m n e = grind arith
 
 above_sorted : (k : ℕ) (es : Entries) → AllByRecursion (λ n. nat_cmp k n ≡ Less) (map (λ (e : ℕ × Vec ℕ). e.0) es) → IsStrictlySortedBy nat_cmp (map (λ (e : ℕ × Vec ℕ). e.0) es) → AscendAbove k (map (λ (s : Sent). s.number) (map entry_sent es))
 unfolding IsStrictlySortedBy
 above_sorted k [] above sorted = tt
-above_sorted k (e ∷ es) above sorted = (less_is k e.0 above.0, above_sorted e.0 es sorted.0 sorted.1)
+above_sorted k (e ∷ es) above sorted = (grind arith, above_sorted e.0 es sorted.0 sorted.1)
 
-sorted_by : (es : Entries) → IsStrictlySortedBy nat_cmp (map (λ (e : ℕ × Vec ℕ). e.0) es) → Ascend (map entry_sent es)
+pub sorted_by : (es : Entries) → IsStrictlySortedBy nat_cmp (map (λ (e : ℕ × Vec ℕ). e.0) es) → Ascend (map entry_sent es)
 unfolding IsStrictlySortedBy
 sorted_by [] sorted = tt
 sorted_by (e ∷ es) sorted = above_sorted e.0 es sorted.0 sorted.1
 
-pub sent_ascend : (values : BTreeMap ℕ (Vec ℕ)) → IsStrictlySortedBy nat_cmp (map (λ (e : ℕ × Vec ℕ). e.0) values.entries) → Ascend (all_sent values)
-sent_ascend values sorted = sorted_by values.entries sorted
-
 -- ---- all is read
-
-pub is_true : (b : Bool) → b ≡ true → IsTrue b
-is_true b e = grind arith
-
-pub not_true : (b : Bool) → b ≡ false → IsTrue b → ⊥
-not_true b e t = grind arith
 
 each_found : (stated : Stated) (before : List Parameter) (numbers : List ℕ) → Holds stated before → AllByRecursion (IsThere before) numbers → AllByRecursion (IsFound stated) numbers
 each_found stated before [] holds each = tt
-each_found stated before (n ∷ numbers) holds each = (there_found stated before n holds each.0, each_found stated before numbers holds each.1)
+each_found stated before (n ∷ numbers) holds each = (there_at stated before n (is_some (get nat_cmp stated.values n)) refl holds each.0, each_found stated before numbers holds each.1)
 
 each_there : (stated : Stated) (before : List Parameter) (numbers : List ℕ) → Holds stated before → AllByRecursion (IsFound stated) numbers → AllByRecursion (IsThere before) numbers
 each_there stated before [] holds each = tt
@@ -241,10 +193,3 @@ stated_states items stated old new has each are = record {
   stated = record { stated = has.before; precede = has.precede; complete = is_complete stated has.before has.holds each; sorted = all_sent stated.values; same = has.holds.same; ascend = are.ascend; short = are.short; value = refl };
   written = are.written;
 }
-
--- the last of a map's entries is sent
-pub all_written : (entries : Entries) (all old new : List ℕ) → entries ≡ [] → new ++ flat_map sent_octets (map entry_sent entries) ≡ old ++ all → new ≡ old ++ all
-all_written entries all old new empty written = sym (append-nil new) ∙ ap (λ t. new ++ flat_map sent_octets (map entry_sent t)) (sym empty) ∙ written
-
-pub all_short : (entries : Entries) → entries ≡ [] → AllByRecursion IsShort (map entry_sent entries)
-all_short entries empty = subst (λ t. AllByRecursion IsShort (map entry_sent t)) (sym empty) tt

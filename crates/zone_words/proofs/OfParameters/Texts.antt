@@ -1,13 +1,9 @@
 -- The texts of parameters.
-use Rattle.std.proofs.Common.{◌≡◌, ℕ, ◌<◌, List, [], ◌∷◌, ◌++◌, Bool, Bor, true, map, drop, length, sym, ap, ◌∙◌, subst, arith, refl}
-use Rattle.zone_rdata.specs.Item.{bare, quoted, raw}
-use Rattle.zone_rdata.specs.Strings.{item_text}
+use Rattle.zone_words.proofs.Common.{BeginWith, BeginWithTouchingQuote, Bool, DataItem, IsCutFirst, IsMissing, List, ParameterText, TouchingItem, [], alone, ap, arith, bare_value, drop, given, item_text, length, map, placed, quoted_value, raw, refl, subst, sym, true, ℕ, ◌++◌, ◌<◌, ◌∙◌, ◌∷◌, ◌≡◌}
+use Rattle.std.proofs.Common.{Bor}
+use Rattle.zone_rdata.specs.Item.{bare, quoted}
 use Rattle.zone_rdata.specs.declared.item.Item.TheVariants.{Bare}
 use Rattle.zone_words.proofs.Cuts.{first_once, stands_in}
-use Rattle.zone_words.specs.DataItem.{given, TouchingItem}
-use Rattle.zone_words.specs.Machine.Cuts.{IsCutFirst, IsMissing}
-use Rattle.zone_words.specs.Parameters.Text.{BeginWith, BeginWithTouchingQuote, ParameterText, placed, alone, bare_value, quoted_value}
-use Rattle.zone_words.specs.declared.data_item.DataItem.{DataItem}
 
 first_bare : (items rest : List DataItem) (first : DataItem) (text : Bor (List ℕ)) → items ≡ first ∷ rest → first.item ≡ Bare text → map given items ≡ placed (bare text.now) first.touches ∷ map given rest
 first_bare items rest first text e is = ap (map given) e ∙ ap (λ i. placed (raw i) first.touches ∷ map given rest) is

@@ -79,6 +79,7 @@ pub(crate) fn push_prefixes(items: &[DataItem], out: &mut Vec<u8>) -> Result<(),
 }
 
 /// Appends a prefix: the zeros that end its address are left out (RFC 3123 4).
+#[tactic(auto, using(crate::proofs::Prefixes::prefix_appended))]
 fn push_prefix(prefix: Prefix, out: &mut Vec<u8>) -> Result<(), AllocError>
     ensures { OnOk result (AppendsStated (IsPrefixOctets prefix) out.old.items out.new.items) }
 {
@@ -138,6 +139,7 @@ fn after_mark(text: &[u8]) -> (bool, &[u8])
 
 /// The address of a family, of which the number is in digits. `None`: it is none, or the family is
 /// another.
+#[tactic(auto, using(crate::proofs::Prefixes::no_ipv6))]
 fn address_of(family: &[u8], text: &[u8]) -> Option<Address>
     ensures found { IfSome result
         (λ address. IsDecimal family.now (family_of address) × IsAddressText text.now address) }

@@ -1,5 +1,4 @@
-use Rattle.std.proofs.Common.{take}
-use Rattle.zone_words.specs.Machine.Cuts.{IsMissing}
+use Rattle.zone_words.proofs.Common.{IsMissing, take}
 use Rattle.zone_words.proofs.cut.cut_at_first.Given as goal
 
 abbrev pub invariant-loop-at : goal.invariant-loop-at

@@ -1,5 +1,4 @@
-use Rattle.std.proofs.Common.{◌≤◌, drop, length}
-use Rattle.zone_words.specs.Machine.Cuts.{IsMissing}
+use Rattle.zone_words.proofs.Common.{IsMissing, drop, length, ◌≤◌}
 use Rattle.zone_words.proofs.cut.cut_at_last.Given as goal
 
 abbrev pub invariant-loop-end : goal.invariant-loop-end

@@ -1,7 +1,5 @@
-use Rattle.std.proofs.Common.{refl}
+use Rattle.zone_words.proofs.Common.{AppendsStated, field_meaning, refl}
 use Rattle.zone_words.proofs.GivenItems.{of_items}
-use Rattle.zone_words.specs.Fault.{AppendsStated}
-use Rattle.zone_words.specs.Field.{field_meaning}
 use Rattle.zone_words.proofs.data.push_field.Goals as goal
 
 pub returns-in-Ok-clause-states : goal.returns-in-Ok-clause-states

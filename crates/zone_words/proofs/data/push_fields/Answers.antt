@@ -1,6 +1,5 @@
-use Rattle.std.proofs.Common.{refl, arith}
-use Rattle.std.proofs.lemmas.Grind.{common_steps}
-use Rattle.zone_words.proofs.ReadFields.{data_fault_passed, field_fails, field_read, own_inside}
+use Rattle.zone_words.proofs.Common.{arith, common_steps, length, refl, takes_one, ◌-◌}
+use Rattle.zone_words.proofs.ReadFields.{data_fault_passed, field_fails, field_read, within}
 use Rattle.zone_words.proofs.data.push_fields.Goals as goal
 
 pub returns-in_err-push_field-clause-fault : goal.returns-in_err-push_field-clause-fault
@@ -11,6 +10,6 @@ returns-in_err-push_field-clause-fault c =
 
 pub loop-field-preserved : goal.loop-field-preserved
 loop-field-preserved c = (
-  own_inside _ c.args.items.now c.loop-field.place c.count_of.result c.loop-field.invariant.0 c.count_of.ensures,
+  (within (takes_one _) (length c.args.items.now - c.loop-field.place) c.count_of.result c.loop-field.place (length c.args.items.now) c.count_of.ensures c.loop-field.invariant.0 refl),
   field_read c.args.origin.now c.args.fields.now c.loop-field.field-index _ _ c.args.items.now c.loop-field.place c.count_of.result _ _ _ _ _ c.loop-field-test.true refl c.loop-field.invariant.0 c.count_of.ensures refl (grind (arith, common_steps)) c.loop-field.invariant.1 c.in_ok-push_field.ensures.states,
 )

@@ -1,7 +1,5 @@
-use Rattle.std.proofs.Common.{drop, length, map, ◌≤◌}
+use Rattle.zone_words.proofs.Common.{drop, field_of, given, length, map, ◌≤◌}
 use Rattle.zone_words.proofs.ReadFields.{HaveRead}
-use Rattle.zone_words.specs.DataItem.{given}
-use Rattle.zone_words.specs.Table.{field_of}
 use Rattle.zone_words.proofs.data.push_fields.Given as goal
 
 abbrev pub invariant-loop-field : goal.invariant-loop-field

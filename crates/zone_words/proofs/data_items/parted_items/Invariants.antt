@@ -1,4 +1,4 @@
-use Rattle.std.proofs.Common.{drop}
+use Rattle.zone_words.proofs.Common.{drop}
 use Rattle.zone_words.proofs.PlainLines.{ArePartedTo}
 use Rattle.zone_words.proofs.data_items.parted_items.Given as goal
 

@@ -1,5 +1,5 @@
-use Rattle.std.proofs.Common.{arith, length, refl, ◌<◌}
-use Rattle.zone_words.proofs.GivenTokens.{all_found, finds_item, finds_none}
+use Rattle.zone_words.proofs.Common.{arith, length, refl, ◌<◌}
+use Rattle.zone_words.proofs.GivenTokens.{finds_end, finds_item, finds_none}
 use Rattle.zone_words.proofs.Walks.{all_kept, kept_blank, kept_item, kept_other}
 use Rattle.zone_words.proofs.data_items.walked_items.Goals as goal
 
@@ -28,7 +28,7 @@ loop-item-preserved c =
     }
 
 pub returns-clause-found : goal.returns-clause-found
-returns-clause-found c = all_found _ _ _ _ c.in_default.ensures.none c.loop-item.invariant.finds
+returns-clause-found c = λ all are. let at = c.loop-item.invariant.finds all are in finds_end _ _ _ all c.in_default.ensures.none at at.more refl
 
 pub returns-clause-staying : goal.returns-clause-staying
 returns-clause-staying c = all_kept _ _ _ _ c.in_default.ensures.none c.loop-item.invariant.keeps

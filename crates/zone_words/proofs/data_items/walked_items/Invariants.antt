@@ -1,4 +1,4 @@
-use Rattle.std.proofs.Common.{[], length}
+use Rattle.zone_words.proofs.Common.{[], length}
 use Rattle.zone_words.proofs.GivenTokens.{FindsTo}
 use Rattle.zone_words.proofs.Walks.{KeepsTo}
 use Rattle.zone_words.proofs.data_items.walked_items.Given as goal

@@ -1,7 +1,5 @@
-use Rattle.std.proofs.Common.{◌≡◌, ◌∙◌, ap, map, refl}
+use Rattle.zone_words.proofs.Common.{address_kind, ap, given, is_one, map, number_at, refl, ◌∙◌, ◌≡◌}
 use Rattle.zone_words.proofs.Gateways.{address_of_capped, one_of_capped}
-use Rattle.zone_words.specs.DataItem.{given}
-use Rattle.zone_words.specs.Table.{address_kind, is_one, number_at}
 use Rattle.zone_words.proofs.fields.amtrelay_fields.Goals as goal
 
 pub returns : goal.returns

@@ -1,4 +1,4 @@
-use Rattle.std.proofs.Common.{refl}
+use Rattle.zone_words.proofs.Common.{refl}
 use Rattle.zone_words.proofs.Turns.{line_lost}
 use Rattle.zone_words.proofs.further.are_on_one_line.Goals as goal
 

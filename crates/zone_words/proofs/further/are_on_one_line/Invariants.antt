@@ -1,7 +1,4 @@
-use Rattle.std.proofs.Common.{map}
-use Rattle.std.specs.Prelude.{take}
-use Rattle.zone_rdata.specs.Item.{raw}
-use Rattle.zone_words.specs.Entry.{AreOnOneLine}
+use Rattle.zone_words.proofs.Common.{AreOnOneLine, map, raw, take}
 use Rattle.zone_words.proofs.further.are_on_one_line.Given as goal
 
 abbrev pub invariant-loop-item : goal.invariant-loop-item

@@ -1,9 +1,5 @@
-use Rattle.std.proofs.Common.{◌≡◌, ◌∙◌, [], ap, sym, subst, map, Some}
-use Rattle.zone_rdata.specs.Item.{raw}
-use Rattle.zone_text.specs.Stated.{statement_in}
-use Rattle.zone_text.specs.Statements.{parts_after, parts_in}
+use Rattle.zone_words.proofs.Common.{NoneIsFurther, Some, [], ap, map, parts_after, parts_in, raw, statement_in, subst, sym, ◌∙◌, ◌≡◌}
 use Rattle.zone_words.proofs.Turns.{none_weaker}
-use Rattle.zone_words.specs.Machine.Further.{NoneIsFurther}
 use Rattle.zone_words.proofs.further.further_record.Goals as goal
 
 pub returns-in-Owned-clause-none : goal.returns-in-Owned-clause-none

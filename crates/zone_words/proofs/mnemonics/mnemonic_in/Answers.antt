@@ -1,4 +1,4 @@
-use Rattle.std.proofs.Common.{None, Some}
+use Rattle.zone_words.proofs.Common.{None, Some}
 use Rattle.zone_words.proofs.MnemonicOf.{mnemonic_of}
 use Rattle.zone_words.proofs.mnemonics.mnemonic_in.Goals as goal
 

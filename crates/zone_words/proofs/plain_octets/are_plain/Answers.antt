@@ -1,5 +1,4 @@
-use Rattle.std.proofs.Common.{arith, length, ◌-◌}
-use Rattle.zone_words.specs.Machine.PlainLines.{is_plain}
+use Rattle.zone_words.proofs.Common.{arith, is_plain, length, ◌-◌}
 use Rattle.zone_words.proofs.PlainOctets.{all_seen, all_to_next}
 use Rattle.zone_words.proofs.plain_octets.are_plain.Goals as goal
 

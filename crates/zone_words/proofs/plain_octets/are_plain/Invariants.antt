@@ -1,5 +1,4 @@
-use Rattle.std.proofs.Common.{length, take, ◌-◌}
-use Rattle.zone_words.specs.Machine.PlainLines.{ArePlain}
+use Rattle.zone_words.proofs.Common.{ArePlain, length, take, ◌-◌}
 use Rattle.zone_words.proofs.plain_octets.are_plain.Given as goal
 
 abbrev pub invariant-loop-at : goal.invariant-loop-at

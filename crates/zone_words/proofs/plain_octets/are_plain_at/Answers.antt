@@ -1,8 +1,6 @@
-use Rattle.std.proofs.Common.{arith, not, refl, sym, w8, ◌∙◌}
-use Rattle.std.proofs.lemmas.Bool.{eqb-true}
+use Rattle.zone_words.proofs.Common.{arith, eqb-true, is_plain, not, refl, sym, w8, ◌∙◌}
 use Rattle.std.proofs.lemmas.Simd.{chunk-fits, length-chunk, zip2_of_maps, zip2_splat}
 use Rattle.zone_name.proofs.InOctets.OctetLanes.{all_pass, mask_is}
-use Rattle.zone_words.specs.Machine.PlainLines.{is_plain}
 use Rattle.zone_words.proofs.plain_octets.are_plain_at.Goals as goal
 use lib.Lanes.{chunk}
 

@@ -1,4 +1,4 @@
-use Rattle.zone_text.proofs.Common.{[]}
+use Rattle.zone_words.proofs.Common.{[]}
 use Rattle.zone_words.proofs.Standing.{rewrites_file}
 use Rattle.zone_words.proofs.rewriter.rewrite_file.Goals as goal
 

@@ -1,7 +1,5 @@
-use Rattle.std.proofs.Common.{map}
+use Rattle.zone_words.proofs.Common.{given, map, refused_of}
 use Rattle.zone_words.proofs.Turns.{fails_there, stands_somewhere, stated_there}
-use Rattle.zone_words.specs.DataItem.{given}
-use Rattle.zone_words.specs.Refusal.{refused_of}
 use Rattle.zone_words.proofs.turn.turn_in_words.Goals as goal
 
 pub returns-in_default : goal.returns-in_default

@@ -1,8 +1,5 @@
-use Rattle.std.proofs.Common.{map}
-use Rattle.std.specs.Prelude.{slice_get}
-use Rattle.zone_rdata.specs.Item.{raw}
-use Rattle.zone_text.specs.Stated.{statement_in}
-use Rattle.zone_words.proofs.Turns.{fewer_items, ok_weaker, turn_of_found, turn_of_lost, turn_of_none}
+use Rattle.zone_words.proofs.Common.{IfOk-weaker, IsCasedOrigin, IsOneOrNone, arith, entry_of, length-map, map, raw, slice_get, statement_in, subst, ◌∷◌}
+use Rattle.zone_words.proofs.Turns.{fewer, stays_no_origin, turn_of_found, turn_of_none}
 use Rattle.zone_words.proofs.turn.turn_of.Goals as goal
 
 pub returns-in_default : goal.returns-in_default
@@ -12,14 +9,14 @@ returns-in_default c =
 pub turn_of_record-requires : goal.turn_of_record-requires
 turn_of_record-requires c =
     let f = c.in-Some.ensures.found in
-    fewer_items c.args.items.now c.in-Some.found.items.now (slice_get c.args.entry.now 0) (statement_in c.statement_of-statement.result) f.0 c.in-Some.found.word.now c.statement_of-statement.ensures f.1 f.2.from_type
+    (let l = fewer (map raw c.args.items.now) (slice_get c.args.entry.now 0) (statement_in c.statement_of-statement.result) f.0 c.in-Some.found.word.now (map raw c.in-Some.found.items.now) c.statement_of-statement.ensures f.1 f.2.from_type in let a = length-map c.args.items.now raw in let b = length-map c.in-Some.found.items.now raw in omega (arith, l, a, b))
 
 pub returns-in-Some-origin : goal.returns-in-Some-origin
 returns-in-Some-origin c =
     let f = c.in-Some.ensures.found in
-    ok_weaker _ _ c.turn_of_record.result
+    IfOk-weaker c.turn_of_record.result _ _
     (λ turn takes. turn_of_found c.args.entry.now c.args.items.now c.args.line c.args.left.now c.turn_of_record.new.stated (statement_in c.statement_of-statement.result) f.0 c.in-Some.found _ turn c.statement_of-statement.ensures f.1 f.2 c.in-Some-origin.is takes)
     c.turn_of_record.ensures
 
 pub returns-in-None : goal.returns-in-None
-returns-in-None c = turn_of_lost c.args.entry.now (map raw c.args.items.now) c.args.line c.args.left.now c.args.stated.now c.in-None.is
+returns-in-None c = λ origin before all_tokens has cut are. stays_no_origin origin before c.args.line all_tokens c.args.stated.now (subst (λ x. IsOneOrNone (IsCasedOrigin origin (entry_of c.args.line all_tokens ∷ before)) x) c.in-None.is has.under)

@@ -1,4 +1,4 @@
-use Rattle.std.proofs.Common.{length}
+use Rattle.zone_words.proofs.Common.{length}
 use Rattle.zone_words.proofs.UnescapedTexts.{HaveWritten}
 use Rattle.zone_words.proofs.unescaped.push_unescaped.Given as goal
 

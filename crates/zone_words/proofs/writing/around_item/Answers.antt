@@ -1,5 +1,5 @@
-use Rattle.zone_text.proofs.Common.{arith}
-use Rattle.zone_words.proofs.Walks.{ahead_less, ahead_past, around_found, around_none}
+use Rattle.zone_words.proofs.Common.{arith}
+use Rattle.zone_words.proofs.Walks.{ahead_less, ahead_past, around_found, some_ahead}
 use Rattle.zone_words.proofs.writing.around_item.Goals as goal
 
 pub returns-then-left-eq0-clause-found : goal.returns-then-left-eq0-clause-found
@@ -19,4 +19,4 @@ loop-item-preserved c = record {
 }
 
 pub returns-clause-none : goal.returns-clause-none
-returns-clause-none c = around_none _ _ _ _ c.in_default.ensures.none c.loop-item.invariant.lies
+returns-clause-none c = λ front back units are count. let at = c.loop-item.invariant.lies front back units are count in some_ahead _ at.more back units c.in_default.ensures.none at.are

@@ -1,4 +1,4 @@
-use Rattle.zone_text.proofs.Common.{length, ◌≤◌}
+use Rattle.zone_words.proofs.Common.{length, ◌≤◌}
 use Rattle.zone_words.proofs.Walks.{LiesAhead}
 use Rattle.zone_words.proofs.writing.around_item.Given as goal
 

@@ -1,5 +1,4 @@
-use Rattle.zone_text.proofs.Common.{on_ok_weaker, refl}
-use Rattle.zone_text.proofs.Entries.Begun.{none_left, some_left}
+use Rattle.zone_words.proofs.Common.{none_left, on_ok_weaker, refl, some_left}
 use Rattle.zone_words.proofs.Walks.{generic_more, generic_none}
 use Rattle.zone_words.proofs.writing.push_generic.Goals as goal
 

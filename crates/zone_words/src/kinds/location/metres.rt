@@ -109,6 +109,7 @@ fn centimetres(text: &[u8], most: u64) -> Option<u64>
 }
 
 /// A text without the `m` that may end it.
+#[tactic(auto, using(crate::proofs::Scaled::m_cut, crate::proofs::Scaled::m_missing))]
 fn before_m(text: &[u8]) -> &[u8]
     ensures { result.now ≡ without_m text.now }
 {

@@ -95,6 +95,7 @@ fn from_middle(half: Half, angle: u32) -> u32
 
 /// The items before the first letter of an axis, its half, and the items after it. `None`: none is
 /// there.
+#[tactic(auto, using(crate::proofs::Places::cut_half))]
 fn cut_at_half<'i, 'e>(
     axis: Axis,
     items: &'i [DataItem<'e>],

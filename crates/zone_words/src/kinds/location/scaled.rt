@@ -20,6 +20,7 @@ pub(super) fn scaled(text: &[u8], places: usize, most: u64) -> Option<u64>
 }
 
 /// The number of digits without a point.
+#[tactic(auto, using(crate::proofs::Scaled::whole_found, crate::proofs::Scaled::whole_none))]
 fn whole_in_units(text: &[u8], places: usize, most: u64) -> Option<u64>
     requires { (places ≤ 3) × (most < 4294967296 * 10 ^ places) }
     ensures found { IfSome result (UpTo most (IsWholeIn places text.now)) }

@@ -84,6 +84,7 @@ fn days_before(year: u32, month: u32) -> u32
 
 /// The days of the years from 1970 up to a year: 365 each, and those of leap years, of which 477
 /// lie before 1970.
+#[tactic(auto, using(crate::proofs::Years::years_closed))]
 fn days_to_year(year: u32) -> u32
     requires { (1970 ≤ year) × (year ≤ 9999) }
     ensures value { result ≡ days_of_years (year - 1970) }

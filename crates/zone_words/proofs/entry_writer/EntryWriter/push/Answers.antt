@@ -1,6 +1,4 @@
-use Rattle.std.proofs.Common.{ap, map, ◌+◌}
-use Rattle.zone_rdata.specs.Item.{raw}
-use Rattle.zone_text.specs.Stated.{statement_in}
+use Rattle.zone_words.proofs.Common.{ap, map, raw, statement_in, ◌+◌}
 use Rattle.zone_words.proofs.Turns.{entry_pushed}
 use Rattle.zone_words.proofs.entry_writer.EntryWriter.push.Goals as goal
 

@@ -1,5 +1,4 @@
-use Rattle.zone_text.proofs.Common.{arith, ap, length, refl, ◌+◌, ◌∙◌, ◌≡◌}
-use Rattle.std.proofs.lemmas.List.{length-append}
+use Rattle.zone_words.proofs.Common.{ap, arith, length, length-append, refl, ◌+◌, ◌∙◌, ◌≡◌}
 use Rattle.zone_words.proofs.FedTexts.{fed_in_part, fed_on, on_err, rest_follows}
 use Rattle.zone_words.proofs.fed_writer.FedWriter.feed.Goals as goal
 

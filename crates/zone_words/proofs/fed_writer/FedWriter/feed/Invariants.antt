@@ -1,6 +1,5 @@
-use Rattle.zone_text.proofs.Common.{length, ◌+◌, ◌≤◌}
+use Rattle.zone_words.proofs.Common.{IsFedWriter, count_reach, length, line_reach, ◌+◌, ◌≤◌}
 use Rattle.zone_words.proofs.FedTexts.{HasFed}
-use Rattle.zone_words.specs.Machine.FedWriting.{IsFedWriter, count_reach, line_reach}
 use Rattle.zone_words.proofs.fed_writer.FedWriter.feed.Given as goal
 
 -- the writer goes on with the octets that were taken

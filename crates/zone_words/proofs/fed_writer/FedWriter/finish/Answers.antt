@@ -1,5 +1,4 @@
-use Rattle.zone_text.proofs.Entries.Begun.{none_left, some_left}
-use Rattle.zone_text.proofs.Common.{refl}
+use Rattle.zone_words.proofs.Common.{none_left, refl, some_left}
 use Rattle.zone_words.proofs.FedTexts.{end_breaks, end_broken, end_last, end_none, on_err, refused_in_part}
 use Rattle.zone_words.proofs.fed_writer.FedWriter.finish.Goals as goal
 use Rattle.zone_words.proofs.fed_writer.FedWriter.finish.Goals.{then-self-via-then-self, then-self-via-else-self+then-is_empty}

@@ -1,4 +1,4 @@
-use Rattle.zone_text.proofs.Common.{refl}
+use Rattle.zone_words.proofs.Common.{refl}
 use Rattle.zone_words.proofs.FedTexts.{new_written}
 use Rattle.zone_words.proofs.fed_writer.FedWriter.new.Goals as goal
 

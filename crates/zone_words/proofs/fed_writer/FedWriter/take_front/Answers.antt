@@ -1,6 +1,4 @@
-use Rattle.zone_text.proofs.Entries.Begun.{none_left}
-use Rattle.zone_text.proofs.Common.{map, raw, refl, subst}
-use Rattle.zone_text.specs.FirstEntry.{FirstIs}
+use Rattle.zone_words.proofs.Common.{FirstIs, map, none_left, raw, refl, subst}
 use Rattle.zone_words.proofs.FedTexts.{IsTaken, broken_taken, ended_taken, open_taken, whole_taken}
 use Rattle.zone_words.proofs.fed_writer.FedWriter.take_front.Goals as goal
 use Rattle.zone_words.proofs.fed_writer.FedWriter.take_front.Goals.{in-Open, in-Ended+in_ok-end_entry-in-Ended, in-Broken+in_ok-break_off-in-Broken}

@@ -1,7 +1,4 @@
-use Rattle.std.proofs.Common.{◌∙◌, ap}
-use Rattle.zone_text.specs.Inherited.{class_word}
-use Rattle.zone_text.specs.Stated.{statement_in}
-use Rattle.zone_words.specs.Origin.{origin_items}
+use Rattle.zone_words.proofs.Common.{ap, class_word, origin_items, statement_in, ◌∙◌}
 use Rattle.zone_words.proofs.inherited.Inherited.follow.Goals as goal
 
 pub returns-in-Directive : goal.returns-in-Directive

@@ -1,6 +1,4 @@
-use Rattle.std.proofs.Common.{◌∙◌, ap, refl, map}
-use Rattle.zone_rdata.specs.Item.{raw}
-use Rattle.zone_text.specs.Stated.{directive_in}
+use Rattle.zone_words.proofs.Common.{ap, directive_in, map, raw, refl, ◌∙◌}
 use Rattle.zone_words.proofs.Following.{origin_follows}
 use Rattle.zone_words.proofs.Origins.{origin_once}
 use Rattle.zone_words.proofs.inherited.Inherited.follow_directive.Goals as goal

@@ -1,4 +1,4 @@
-use Rattle.std.proofs.Common.{get_or, refl, arith}
+use Rattle.zone_words.proofs.Common.{arith, get_or, refl}
 use Rattle.zone_words.proofs.Base32Digits.{bad_digit, begun, is_digit, no_digit, octet_fits, reads_filled, reads_kept, reads_whole, unused_bits}
 use Rattle.zone_words.proofs.kinds.base32_hex.push_octets.Goals as goal
 use Rattle.zone_words.proofs.kinds.base32_hex.push_octets.Goals.{then-count-ge8+in_ok-push, else-count-ge8, then-count-ge5-via-then-count-ge5, then-count-ge5-via-else-count-ge5+then-bits-ne0}

@@ -1,5 +1,7 @@
-use Rattle.std.proofs.Common.{refl, arith}
-use Rattle.zone_words.proofs.Base64Texts.{decoded_appended, has_octets, no_base64, undecoded}
+use Rattle.base64.specs.GeneralPurpose.{decode_of}
+use Rattle.base64.specs.Engines.{standard}
+use Rattle.zone_words.proofs.Common.{ap, arith, refl, sym, ◌∙◌}
+use Rattle.zone_words.proofs.Base64Texts.{decoded_appended, decodes_again, has_octets, no_base64}
 use Rattle.zone_words.proofs.kinds.base64_text.push_decoded.Goals as goal
 
 pub returns-then-is_empty-clause-fault : goal.returns-then-is_empty-clause-fault
@@ -11,4 +13,4 @@ returns-in-Ok-clause-states c =
 
 pub returns-in-Err-DecodeError-clause-fault : goal.returns-in-Err-DecodeError-clause-fault
 returns-in-Err-DecodeError-clause-fault c =
-    (refl, undecoded c.args.text.now _ (rw c.in-Err-DecodeError.field-0-is at c.in-Err-DecodeError.ensures.err))
+    (refl, (λ octets is. let good = ap (decode_of standard) is.encoded ∙ decodes_again octets is.each in cc (sym (rw c.in-Err-DecodeError.field-0-is at c.in-Err-DecodeError.ensures.err) ∙ good)))

@@ -1,4 +1,4 @@
-use Rattle.std.proofs.Common.{arith}
+use Rattle.zone_words.proofs.Common.{arith}
 use Rattle.zone_words.proofs.Bits.{one_window}
 use Rattle.zone_words.proofs.kinds.bitmap.push_window.Goals as goal
 

@@ -1,4 +1,4 @@
-use Rattle.std.proofs.Common.{arith, ◌*◌}
+use Rattle.zone_words.proofs.Common.{arith, ◌*◌}
 use Rattle.zone_words.proofs.Bits.{more_pushed, those_of}
 use Rattle.zone_words.proofs.kinds.bitmap.push_windows.Goals as goal
 

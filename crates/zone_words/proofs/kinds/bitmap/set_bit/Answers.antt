@@ -1,5 +1,4 @@
-use Rattle.std.proofs.Common.{arith, set, ap, ◌∙◌, ◌<◌, ◌-◌, ◌*◌, ◌%◌, ◌^◌, ℕ, length}
-use Rattle.std.proofs.lemmas.List.{get_or_default}
+use Rattle.zone_words.proofs.Common.{ap, arith, get_or_default, length, set, ℕ, ◌%◌, ◌*◌, ◌-◌, ◌<◌, ◌^◌, ◌∙◌}
 use Rattle.std.specs.Int.Bits.{bit_or}
 use Rattle.zone_words.proofs.Bits.{bit_set}
 use Rattle.zone_words.proofs.kinds.bitmap.set_bit.Goals as goal

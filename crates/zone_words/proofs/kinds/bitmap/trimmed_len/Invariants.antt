@@ -1,4 +1,4 @@
-use Rattle.std.proofs.Common.{◌≡◌, ◌≤◌, ℕ, length, get_or}
+use Rattle.zone_words.proofs.Common.{get_or, length, ℕ, ◌≡◌, ◌≤◌}
 use Rattle.zone_words.proofs.kinds.bitmap.trimmed_len.Given as goal
 
 abbrev pub invariant-loop-len : goal.invariant-loop-len

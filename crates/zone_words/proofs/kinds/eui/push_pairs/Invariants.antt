@@ -1,4 +1,4 @@
-use Rattle.std.proofs.Common.{length}
+use Rattle.zone_words.proofs.Common.{length}
 use Rattle.zone_words.proofs.HexPairs.{ReadsPairs}
 use Rattle.zone_words.proofs.kinds.eui.push_pairs.Given as goal
 

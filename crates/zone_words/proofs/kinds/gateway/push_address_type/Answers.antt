@@ -1,6 +1,5 @@
-use Rattle.std.proofs.Common.{arith}
+use Rattle.zone_words.proofs.Common.{arith, found_passed}
 use Rattle.zone_words.proofs.Gateways.{capped_over}
-use Rattle.zone_words.proofs.PassedFaults.{found_passed}
 use Rattle.zone_words.proofs.kinds.gateway.push_address_type.Goals as goal
 
 pub returns-in_err-number-clause-fault : goal.returns-in_err-number-clause-fault

@@ -1,4 +1,4 @@
-use Rattle.std.proofs.Common.{refl, arith}
+use Rattle.zone_words.proofs.Common.{arith, refl}
 use Rattle.zone_words.proofs.HexDigits.{no_digits}
 use Rattle.zone_words.proofs.kinds.hexadecimal.push_digits.Goals as goal
 

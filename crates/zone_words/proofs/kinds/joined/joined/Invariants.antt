@@ -1,5 +1,4 @@
-use Rattle.std.proofs.Common.{map, drop}
-use Rattle.zone_words.specs.DataItem.{raw_item}
+use Rattle.zone_words.proofs.Common.{drop, map, raw_item}
 use Rattle.zone_words.proofs.JoinedItems.{HaveJoined}
 use Rattle.zone_words.proofs.kinds.joined.joined.Given as goal
 

@@ -1,8 +1,5 @@
-use Rattle.std.proofs.Common.{arith, map}
-use Rattle.std.proofs.lemmas.List.{length-map}
+use Rattle.zone_words.proofs.Common.{arith, fault_passed, length-map, map, raw_item}
 use Rattle.zone_words.proofs.JoinedItems.{many_fail}
-use Rattle.zone_words.proofs.PassedFaults.{fault_passed}
-use Rattle.zone_words.specs.DataItem.{raw_item}
 use Rattle.zone_words.proofs.kinds.joined.joined_text.Goals as goal
 
 pub returns-in_err-joined-in_default-clause-fault : goal.returns-in_err-joined-in_default-clause-fault

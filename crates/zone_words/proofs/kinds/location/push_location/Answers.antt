@@ -1,5 +1,4 @@
-use Rattle.std.proofs.Common.{◌<◌, arith, length}
-use Rattle.std.proofs.lemmas.Bool.Decides.{nat_tests}
+use Rattle.zone_words.proofs.Common.{arith, length, nat_tests, ◌<◌}
 use Rattle.zone_words.proofs.Locations.{no_location}
 use Rattle.zone_words.proofs.kinds.location.push_location.Goals as goal
 

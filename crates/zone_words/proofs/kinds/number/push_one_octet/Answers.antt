@@ -1,7 +1,5 @@
-use Rattle.std.proofs.Common.{arith}
-use Rattle.std.specs.Int.{w8}
+use Rattle.zone_words.proofs.Common.{arith, found_passed, w8}
 use Rattle.zone_words.proofs.Numbers.{over_fails}
-use Rattle.zone_words.proofs.PassedFaults.{found_passed}
 use Rattle.zone_words.proofs.kinds.number.push_one_octet.Goals as goal
 
 pub returns-in_err-number-clause-fault : goal.returns-in_err-number-clause-fault

@@ -1,7 +1,5 @@
-use Rattle.std.proofs.Common.{arith, refl}
-use Rattle.std.specs.Int.{w32}
+use Rattle.zone_words.proofs.Common.{arith, found_passed, refl, w32}
 use Rattle.zone_words.proofs.Numbers.{capped_fails, over_fails}
-use Rattle.zone_words.proofs.PassedFaults.{found_passed}
 use Rattle.zone_words.proofs.kinds.number.push_u32.Goals as goal
 
 pub returns-in_err-number-clause-fault : goal.returns-in_err-number-clause-fault

@@ -1,5 +1,4 @@
-use Rattle.std.proofs.Common.{drop, map}
-use Rattle.zone_words.specs.DataItem.{raw_item}
+use Rattle.zone_words.proofs.Common.{drop, map, raw_item}
 use Rattle.zone_words.proofs.Prefixes.{LeadToPrefixes}
 use Rattle.zone_words.proofs.kinds.prefixes.push_prefixes.Given as goal
 

@@ -1,5 +1,4 @@
-use Rattle.std.proofs.Common.{refl}
-use Rattle.std.proofs.lemmas.Result.{on_ok_weaker}
+use Rattle.zone_words.proofs.Common.{on_ok_weaker, refl}
 use Rattle.zone_words.proofs.Salts.{long_salt, salt_appended}
 use Rattle.zone_words.proofs.kinds.salt.push_salt.Goals as goal
 

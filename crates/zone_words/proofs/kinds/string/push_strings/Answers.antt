@@ -1,6 +1,4 @@
-use Rattle.std.proofs.Common.{arith, refl}
-use Rattle.std.proofs.lemmas.Bool.Decides.{nat_tests}
-use Rattle.zone_words.proofs.PassedFaults.{fault_passed}
+use Rattle.zone_words.proofs.Common.{arith, fault_passed, nat_tests, refl}
 use Rattle.zone_words.proofs.StringItems.{string_appended, string_fails, strings_appended}
 use Rattle.zone_words.proofs.kinds.string.push_strings.Goals as goal
 

@@ -1,6 +1,5 @@
-use Rattle.std.proofs.Common.{drop, map}
+use Rattle.zone_words.proofs.Common.{drop, map, raw_item}
 use Rattle.zone_rdata.proofs.Items.Values.{HaveSpelt}
-use Rattle.zone_words.specs.DataItem.{raw_item}
 use Rattle.zone_words.proofs.kinds.string.push_strings.Given as goal
 
 abbrev pub invariant-loop-item : goal.invariant-loop-item

@@ -1,5 +1,4 @@
-use Rattle.std.proofs.Common.{◌≡◌, true, take}
-use Rattle.std.specs.List.{AllByRecursion}
+use Rattle.zone_words.proofs.Common.{AllByRecursion, take, true, ◌≡◌}
 use Rattle.zone_words.proofs.kinds.tag.are_letters_and_digits.Given as goal
 use Rattle.zone_words.specs.Kinds.Tag.{is_letter_or_digit}
 

@@ -1,5 +1,4 @@
-use Rattle.std.proofs.Common.{◌≡◌, true, take}
-use Rattle.std.specs.List.{AllByRecursion}
+use Rattle.zone_words.proofs.Common.{AllByRecursion, take, true, ◌≡◌}
 use Rattle.zone_name.specs.Spelling.{is_digit}
 use Rattle.zone_words.proofs.kinds.time.are_digits.Given as goal
 

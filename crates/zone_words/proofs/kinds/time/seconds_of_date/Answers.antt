@@ -1,5 +1,4 @@
-use Rattle.std.proofs.Common.{◌≡◌, false, true, subst, sym}
-use Rattle.zone_words.specs.Kinds.Calendar.{IsDateTime}
+use Rattle.zone_words.proofs.Common.{IsDateTime, false, subst, sym, true, ◌≡◌}
 use Rattle.zone_words.proofs.Times.{no_date}
 use Rattle.zone_words.proofs.kinds.time.seconds_of_date.Goals as goal
 

@@ -1,5 +1,4 @@
-use Rattle.std.proofs.Common.{map, take}
-use Rattle.zone_words.specs.DataItem.{raw_item}
+use Rattle.zone_words.proofs.Common.{map, raw_item, take}
 use Rattle.zone_words.specs.Machine.TypeBits.{AreBitsOf}
 use Rattle.zone_words.proofs.kinds.types.bits_of_types.Given as goal
 

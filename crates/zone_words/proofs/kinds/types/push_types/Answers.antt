@@ -1,9 +1,5 @@
-use Rattle.std.proofs.Common.{◌<◌, arith, length, map}
-use Rattle.std.proofs.lemmas.Bool.Decides.{nat_tests}
-use Rattle.zone_words.proofs.PassedFaults.{fault_answered}
+use Rattle.zone_words.proofs.Common.{FailsPerhapsTypes, FailsTypes, arith, fault_answered, length, map, nat_tests, raw_item, ◌<◌}
 use Rattle.zone_words.proofs.TypeItems.{types_fail}
-use Rattle.zone_words.specs.DataItem.{raw_item}
-use Rattle.zone_words.specs.Kinds.Types.{FailsPerhapsTypes, FailsTypes}
 use Rattle.zone_words.proofs.kinds.types.push_types.Goals as goal
 
 pub returns-clause-fault : goal.returns-clause-fault

@@ -1,7 +1,5 @@
-use Rattle.std.proofs.Common.{arith}
-use Rattle.std.specs.Int.{w8}
+use Rattle.zone_words.proofs.Common.{arith, fault_passed, w8}
 use Rattle.zone_words.proofs.Numbers.{capped_fails, capped_fits}
-use Rattle.zone_words.proofs.PassedFaults.{fault_passed}
 use Rattle.zone_words.proofs.kinds.word.push_algorithm.Goals as goal
 
 pub returns-in_err-push_one_octet-clause-fault : goal.returns-in_err-push_one_octet-clause-fault

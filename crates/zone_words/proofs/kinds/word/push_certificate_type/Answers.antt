@@ -1,7 +1,5 @@
-use Rattle.std.proofs.Common.{arith}
-use Rattle.std.specs.Int.{w16}
+use Rattle.zone_words.proofs.Common.{arith, fault_passed, w16}
 use Rattle.zone_words.proofs.Numbers.{capped_fails, capped_fits}
-use Rattle.zone_words.proofs.PassedFaults.{fault_passed}
 use Rattle.zone_words.proofs.kinds.word.push_certificate_type.Goals as goal
 
 pub returns-in_err-push_two_octets-clause-fault : goal.returns-in_err-push_two_octets-clause-fault

@@ -1,4 +1,4 @@
-use Rattle.std.proofs.Common.{refl}
+use Rattle.zone_words.proofs.Common.{refl}
 use Rattle.zone_words.proofs.parameters.addresses.push_address.Goals as goal
 
 pub returns-in_default-ipv6_octets_of-clause-fault : goal.returns-in_default-ipv6_octets_of-clause-fault

@@ -1,6 +1,5 @@
 use Rattle.zone_words.proofs.OfParameters.Lists.{addresses_more, addresses_all, addresses_stop, addresses_stop_last}
-use Rattle.zone_words.proofs.PassedFaults.{fault_passed}
-use Rattle.zone_words.specs.Machine.Parameters.{IsAddressOf}
+use Rattle.zone_words.proofs.Common.{IsAddressOf, fault_passed}
 use Rattle.zone_words.proofs.parameters.addresses.push_addresses.Goals as goal
 
 pub returns-in_err-push_address-clause-fault : goal.returns-in_err-push_address-clause-fault

@@ -1,6 +1,5 @@
-use Rattle.std.proofs.Common.{length}
+use Rattle.zone_words.proofs.Common.{IsAddressOf, length}
 use Rattle.zone_words.proofs.OfParameters.Lists.{HasAddresses}
-use Rattle.zone_words.specs.Machine.Parameters.{IsAddressOf}
 use Rattle.zone_words.proofs.parameters.addresses.push_addresses.Given as goal
 
 abbrev pub invariant-loop-address : goal.invariant-loop-address

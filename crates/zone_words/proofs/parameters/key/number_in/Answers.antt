@@ -1,9 +1,7 @@
-use Rattle.std.proofs.Common.{ap, sym, ◌∙◌, arith, decimal}
-use Rattle.std.proofs.lemmas.Slice.Eq.{bytes_eq-Decides}
-use Rattle.zone_name.specs.Common.{NothingIs}
+use Rattle.zone_words.proofs.Common.{IsKeyNumber, NothingIs, ap, arith, bytes_eq-Decides, sym, ◌∙◌}
+use Rattle.std.proofs.Common.{decimal}
 use Rattle.zone_rdata.proofs.Choices.{if_none_any}
 use Rattle.zone_words.proofs.OfParameters.Keys.{key_number_is, key_number_read}
-use Rattle.zone_words.specs.Machine.Parameters.{IsKeyNumber}
 use Rattle.zone_words.proofs.parameters.key.number_in.Goals as goal
 
 pub returns-in_err-number-clause-none : goal.returns-in_err-number-clause-none

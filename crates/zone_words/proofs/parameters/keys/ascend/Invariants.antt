@@ -1,5 +1,4 @@
-use Rattle.std.proofs.Common.{drop}
-use Rattle.zone_words.specs.Parameters.Value.{AscendAbove}
+use Rattle.zone_words.proofs.Common.{AscendAbove, drop}
 use Rattle.zone_words.proofs.parameters.keys.ascend.Given as goal
 
 abbrev pub invariant-loop-number : goal.invariant-loop-number

@@ -1,11 +1,9 @@
-use Rattle.std.proofs.Common.{refl}
-use Rattle.std.proofs.lemmas.List.Sorted.{IsNonDecreasingBy-from_sort}
-use Rattle.zone_words.proofs.OfParameters.KeyLists.{no_keys_listed, no_keys_stated, not_ascending}
-use Rattle.zone_words.proofs.PassedFaults.{fault_passed}
+use Rattle.zone_words.proofs.Common.{IsNonDecreasingBy-from_sort, fault_passed, refl}
+use Rattle.zone_words.proofs.OfParameters.KeyLists.{no_keys_listed, not_ascending}
 use Rattle.zone_words.proofs.parameters.keys.ascending_keys.Goals as goal
 
 pub returns-in_err-numbers-clause-fault : goal.returns-in_err-numbers-clause-fault
-returns-in_err-numbers-clause-fault c = fault_passed c.from_residual.result c.in_err-numbers.field-0.0 _ _ c.from_residual.ensures.1 (λ fault none. (none.0, no_keys_stated c.args.text.now none.1)) c.in_err-numbers.ensures.fault
+returns-in_err-numbers-clause-fault c = fault_passed c.from_residual.result c.in_err-numbers.field-0.0 _ _ c.from_residual.ensures.1 (λ fault none. (none.0, (λ numbers is. none.1 is.stated is.each))) c.in_err-numbers.ensures.fault
 
 pub returns-then-not-ascend-clause-fault : goal.returns-then-not-ascend-clause-fault
 returns-then-not-ascend-clause-fault c =

@@ -1,8 +1,5 @@
-use Rattle.std.proofs.Common.{subst, sym}
-use Rattle.std.specs.List.{AllZip}
+use Rattle.zone_words.proofs.Common.{AllZip, IsKeyText, fault_passed, listed, subst, sym}
 use Rattle.zone_words.proofs.OfParameters.Lists.{HasListed, lists_more, lists_all, lists_stop, lists_stop_last}
-use Rattle.zone_words.proofs.PassedFaults.{fault_passed}
-use Rattle.zone_words.specs.Parameters.Value.{IsKeyText, listed}
 use Rattle.zone_words.proofs.parameters.keys.numbers_of_keys.Goals as goal
 
 pub returns-in_err-number_of_key-clause-fault : goal.returns-in_err-number_of_key-clause-fault

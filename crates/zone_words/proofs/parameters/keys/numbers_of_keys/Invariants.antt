@@ -1,6 +1,5 @@
-use Rattle.std.proofs.Common.{length}
+use Rattle.zone_words.proofs.Common.{IsKeyText, length}
 use Rattle.zone_words.proofs.OfParameters.Lists.{HasListed}
-use Rattle.zone_words.specs.Parameters.Value.{IsKeyText}
 use Rattle.zone_words.proofs.parameters.keys.numbers_of_keys.Given as goal
 
 abbrev pub invariant-loop-key : goal.invariant-loop-key

@@ -1,4 +1,4 @@
-use Rattle.zone_words.proofs.PassedFaults.{fault_passed}
+use Rattle.zone_words.proofs.Common.{fault_passed}
 use Rattle.zone_words.proofs.parameters.keys.push_mandatory.Goals as goal
 
 pub returns-in_err-numbers-clause-fault : goal.returns-in_err-numbers-clause-fault

@@ -1,6 +1,4 @@
-use Rattle.std.proofs.Common.{◌≡◌, ◌++◌, take}
-use Rattle.std.specs.Int.{w16, to_be_bytes}
-use Rattle.std.specs.List.{flat_map}
+use Rattle.zone_words.proofs.Common.{flat_map, take, to_be_bytes, w16, ◌++◌, ◌≡◌}
 use Rattle.zone_words.proofs.parameters.keys.push_numbers.Given as goal
 
 abbrev pub invariant-loop-number : goal.invariant-loop-number

@@ -1,6 +1,6 @@
-use Rattle.std.proofs.Common.{arith, subst, sym}
-use Rattle.std.proofs.lemmas.Bool.Decides.{nat_tests}
-use Rattle.zone_words.proofs.OfParameters.Protocols.{item_more, item_full, item_ends, item_parts, empty_parts, HasItem}
+use Rattle.zone_words.proofs.Common.{Some, [], ap, arith, false, nat_tests, option_map, subst, sym, ◌∙◌}
+use Rattle.zone_words.specs.Parameters.Value.{items_of}
+use Rattle.zone_words.proofs.OfParameters.Protocols.{HasItem, empty_parts, item_full, item_more, item_parts, map_first, prefixed}
 use Rattle.zone_words.proofs.parameters.protocols.first_item.Goals as goal
 
 pub returns-then-is_full-clause-none : goal.returns-then-is_full-clause-none
@@ -10,7 +10,7 @@ pub loop-octet-preserved : goal.loop-octet-preserved
 loop-octet-preserved c = subst (HasItem c.args.text.now c.in-Octet.after.now) (sym c.push.ensures.items) (item_more c.args.text.now c.loop-octet.rest.now c.in-Octet.after.now c.loop-octet.item.items c.in-Octet.octet c.loop-octet.invariant c.in-Octet.ensures (grind (arith, nat_tests, c.is_full.ensures, c.if-is_full.false, c.loop-octet.invariant.short)))
 
 pub returns-in-End-clause-found : goal.returns-in-End-clause-found
-returns-in-End-clause-found c = item_ends c.args.text.now c.loop-octet.rest.now c.loop-octet.item.items c.loop-octet.invariant c.in-End.ensures (grind (arith, nat_tests, c.is_empty.ensures, c.if-is_empty.false))
+returns-in-End-clause-found c = ((grind (arith, nat_tests, c.is_empty.ensures, c.if-is_empty.false), c.loop-octet.invariant.short), c.loop-octet.invariant.items ∙ ap (λ t. option_map (prefixed c.loop-octet.item.items) (items_of false t)) c.in-End.ensures ∙ map_first c.loop-octet.item.items (Some []))
 
 pub returns-then-is_empty-2-clause-none : goal.returns-then-is_empty-2-clause-none
 returns-then-is_empty-2-clause-none c = empty_parts c.args.text.now c.loop-octet.rest.now c.in-Comma.after.now c.loop-octet.item.items c.loop-octet.invariant c.in-Comma.ensures (grind (arith, nat_tests, c.is_empty-in-Comma.ensures, c.if-is_empty-2.true))

@@ -1,4 +1,4 @@
-use Rattle.std.proofs.Common.{length}
+use Rattle.zone_words.proofs.Common.{length}
 use Rattle.zone_words.proofs.OfParameters.Protocols.{HasItem}
 use Rattle.zone_words.proofs.parameters.protocols.first_item.Given as goal
 

@@ -1,4 +1,4 @@
-use Rattle.std.proofs.Common.{length}
+use Rattle.zone_words.proofs.Common.{length}
 use Rattle.zone_words.proofs.OfParameters.Protocols.{HasItems}
 use Rattle.zone_words.proofs.parameters.protocols.push_items.Given as goal
 

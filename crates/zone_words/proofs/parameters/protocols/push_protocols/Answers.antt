@@ -1,7 +1,6 @@
 use Rattle.zone_words.proofs.OfParameters.Escapes.{path_wrong, path_nothing}
 use Rattle.zone_words.proofs.OfParameters.Protocols.{protocols_stop}
-use Rattle.zone_words.proofs.PassedFaults.{fault_passed}
-use Rattle.zone_words.specs.Parameters.Value.{ListsProtocols}
+use Rattle.zone_words.proofs.Common.{ListsProtocols, fault_passed}
 use Rattle.zone_words.proofs.parameters.protocols.push_protocols.Goals as goal
 
 pub returns-in_err-push_unescaped-clause-fault : goal.returns-in_err-push_unescaped-clause-fault

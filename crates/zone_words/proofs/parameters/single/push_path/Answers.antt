@@ -1,8 +1,5 @@
-use Rattle.std.proofs.Common.{arith}
-use Rattle.std.proofs.lemmas.Bool.Decides.{nat_tests}
+use Rattle.zone_words.proofs.Common.{StatesPath, arith, fault_passed, nat_tests}
 use Rattle.zone_words.proofs.OfParameters.Escapes.{path_empty, path_wrong}
-use Rattle.zone_words.proofs.PassedFaults.{fault_passed}
-use Rattle.zone_words.specs.Parameters.Value.{StatesPath}
 use Rattle.zone_words.proofs.parameters.single.push_path.Goals as goal
 
 pub returns-then-is_empty-clause-fault : goal.returns-then-is_empty-clause-fault

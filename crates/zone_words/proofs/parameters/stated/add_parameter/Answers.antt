@@ -1,18 +1,13 @@
-use Rattle.std.proofs.Common.{subst}
-use Rattle.zone_words.proofs.OfParameters.Reading.{parameter_added, parameter_fails, parameter_repeated}
-use Rattle.zone_words.proofs.PassedFaults.{fault_passed}
-use Rattle.zone_words.specs.Fault.{AppendsStated}
+use Rattle.zone_words.proofs.Common.{AppendsStated, IsThere, StatesValue, again, fault_passed, keyless, subst, sym, ◌∙◌}
+use Rattle.zone_words.proofs.OfParameters.Reading.{found_there, parameter_added, parameter_fails}
 use Rattle.zone_words.specs.Machine.Parameters.{text_of}
-use Rattle.zone_words.specs.Machine.Stated.{keyless}
-use Rattle.zone_words.specs.Parameters.Value.{StatesValue}
-use Rattle.std.proofs.Common.{sym, ◌∙◌}
 use Rattle.zone_words.proofs.parameters.stated.add_parameter.Goals as goal
 
 pub returns-in_default-clause-fault : goal.returns-in_default-clause-fault
 returns-in_default-clause-fault c = rw c.into.ensures (λ before holds. keyless c.in_default.ensures.none)
 
 pub returns-then-contains_key-clause-fault : goal.returns-then-contains_key-clause-fault
-returns-then-contains_key-clause-fault c = rw c.into-then-contains_key.ensures (λ before holds. parameter_repeated (text_of c.args.text) c.in-Some.key c.number-number.result c.args.stated.now before c.in-Some.ensures.found c.number-number.ensures (sym c.contains_key.ensures ∙ c.if-contains_key.true) holds)
+returns-then-contains_key-clause-fault c = rw c.into-then-contains_key.ensures (λ before holds. (again c.in-Some.key c.in-Some.ensures.found (subst (IsThere before) c.number-number.ensures (found_there c.args.stated.now before c.number-number.result holds (sym c.contains_key.ensures ∙ c.if-contains_key.true)))))
 
 pub returns-in_err-push_value-clause-fault : goal.returns-in_err-push_value-clause-fault
 returns-in_err-push_value-clause-fault c = fault_passed c.from_residual.result c.in_err-push_value.field-0.0 _ _ c.from_residual.ensures.1 (λ fault fails before holds. parameter_fails (text_of c.args.text) c.in-Some.key c.number-number.result c.args.stated.now before fault c.in-Some.ensures.found c.number-number.ensures (sym c.contains_key.ensures ∙ c.if-contains_key.false) fails holds) c.in_err-push_value.ensures.fault

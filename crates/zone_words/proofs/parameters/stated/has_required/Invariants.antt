@@ -1,8 +1,6 @@
-use Rattle.std.proofs.Common.{◌≡◌, drop, true}
+use Rattle.zone_words.proofs.Common.{AllByRecursion, drop, is_some, true, ◌≡◌}
 use Rattle.std.specs.BTreeMap.{get}
-use Rattle.std.specs.List.{AllByRecursion}
 use Rattle.std.specs.Ordering.{nat_cmp}
-use Rattle.std.specs.Prelude.{is_some}
 use Rattle.zone_words.proofs.parameters.stated.has_required.Given as goal
 
 abbrev pub invariant-loop-number : goal.invariant-loop-number

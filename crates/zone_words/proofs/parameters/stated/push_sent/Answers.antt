@@ -1,12 +1,10 @@
-use Rattle.std.specs.List.{flat_map}
-use Rattle.zone_words.proofs.OfParameters.Reading.{all_short, all_written, sent_ascend}
-use Rattle.zone_words.specs.Machine.Stated.{all_sent}
-use Rattle.zone_words.specs.Parameters.{sent_octets}
+use Rattle.zone_words.proofs.Common.{AllByRecursion, IsShort, ap, append-nil, flat_map, map, sent_octets, subst, sym, ◌++◌, ◌∙◌}
+use Rattle.zone_words.proofs.OfParameters.Reading.{entry_sent, sorted_by}
 use Rattle.zone_words.proofs.parameters.stated.push_sent.Goals as goal
 
 pub returns-clause-sent : goal.returns-clause-sent
 returns-clause-sent c = record {
-  ascend = sent_ascend c.args.values.now c.iter-number-items.ensures.ordered;
-  short = c.loop-number.invariant.short (all_short c.loop-number.number-iterator c.in-None.ensures.steps.0);
-  written = all_written c.loop-number.number-iterator (flat_map sent_octets (all_sent c.args.values.now)) c.args.out.now.items c.loop-number.out.items c.in-None.ensures.steps.0 c.loop-number.invariant.written;
+  ascend = sorted_by c.args.values.now.entries c.iter-number-items.ensures.ordered;
+  short = c.loop-number.invariant.short (subst (λ t. AllByRecursion IsShort (map entry_sent t)) (sym c.in-None.ensures.steps.0) tt);
+  written = sym (append-nil c.loop-number.out.items) ∙ ap (λ t. c.loop-number.out.items ++ flat_map sent_octets (map entry_sent t)) (sym c.in-None.ensures.steps.0) ∙ c.loop-number.invariant.written;
 }

@@ -1,8 +1,5 @@
-use Rattle.std.proofs.Common.{◌≡◌, ◌++◌, map}
-use Rattle.std.specs.List.{AllByRecursion, flat_map}
+use Rattle.zone_words.proofs.Common.{AllByRecursion, IsShort, all_sent, flat_map, map, sent_octets, ◌++◌, ◌≡◌}
 use Rattle.zone_words.proofs.OfParameters.Reading.{entry_sent}
-use Rattle.zone_words.specs.Machine.Stated.{all_sent}
-use Rattle.zone_words.specs.Parameters.{IsShort, sent_octets}
 use Rattle.zone_words.proofs.parameters.stated.push_sent.Given as goal
 
 abbrev pub invariant-loop-number : goal.invariant-loop-number

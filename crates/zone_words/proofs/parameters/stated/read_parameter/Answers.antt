@@ -1,8 +1,5 @@
-use Rattle.std.proofs.Common.{arith, map, drop}
-use Rattle.std.proofs.lemmas.List.{length-map}
+use Rattle.zone_words.proofs.Common.{arith, drop, fault_passed, given, length-map, map}
 use Rattle.zone_words.proofs.OfParameters.Reading.{stated_fails, stated_keyless, stated_more}
-use Rattle.zone_words.proofs.PassedFaults.{fault_passed}
-use Rattle.zone_words.specs.DataItem.{given}
 use Rattle.zone_words.specs.Machine.Parameters.{text_of}
 use Rattle.zone_words.proofs.parameters.stated.read_parameter.Goals as goal
 

@@ -1,6 +1,4 @@
-use Rattle.std.proofs.Common.{◌≤◌, ◌-◌, map, drop, length}
-use Rattle.zone_words.specs.DataItem.{given}
-use Rattle.zone_words.specs.Machine.Stated.{HasStated}
+use Rattle.zone_words.proofs.Common.{HasStated, drop, given, length, map, ◌-◌, ◌≤◌}
 use Rattle.zone_words.proofs.parameters.stated.read_parameters.Given as goal
 
 abbrev pub invariant-loop-place : goal.invariant-loop-place

@@ -1,5 +1,4 @@
-use Rattle.std.proofs.Common.{arith}
-use Rattle.std.proofs.lemmas.Bool.Decides.{nat_tests}
+use Rattle.zone_words.proofs.Common.{arith, nat_tests}
 use Rattle.zone_words.proofs.OfParameters.Texts.{begin_alone, begin_bare, begin_quoted, some_value, no_value}
 use Rattle.zone_words.proofs.parameters.text.first_parameter.Goals as goal
 

@@ -1,6 +1,6 @@
-use Rattle.zone_words.proofs.OfParameters.Values.{escaped_fails, opaque_fails, plain_fails}
-use Rattle.zone_words.proofs.PassedFaults.{fault_answered}
-use Rattle.zone_words.specs.declared.parameters.key.Key.TheVariants.{Mandatory, Alpn, NoDefaultAlpn, Port, Ipv4Hint, Ech, Ipv6Hint, DohPath, Ohttp, Numbered}
+use Rattle.zone_words.proofs.UnescapedTexts.{unescaped_or_bad}
+use Rattle.zone_words.proofs.OfParameters.Values.{escaped_fails, plain_fails}
+use Rattle.zone_words.proofs.Common.{Alpn, DohPath, Ech, FailsValue, Ipv4Hint, Ipv6Hint, Mandatory, NoDefaultAlpn, Numbered, Ohttp, Port, bad_escape, fault_answered, subst, sym}
 use Rattle.zone_words.proofs.parameters.value.push_value.Goals as goal
 
 pub returns-in-Mandatory-clause-fault : goal.returns-in-Mandatory-clause-fault
@@ -31,4 +31,4 @@ pub returns-in-Ohttp-clause-fault : goal.returns-in-Ohttp-clause-fault
 returns-in-Ohttp-clause-fault c = rw c.in-Ohttp.is (fault_answered c.push_none-in-Ohttp.result _ _ (λ fault is. plain_fails Ohttp c.args.text.now fault (λ has. has) is) c.push_none-in-Ohttp.ensures.fault)
 
 pub returns-in-Numbered-clause-fault : goal.returns-in-Numbered-clause-fault
-returns-in-Numbered-clause-fault c = rw c.in-Numbered.is (fault_answered c.push_unescaped.result _ _ (λ fault is. opaque_fails (Numbered c.in-Numbered.field-0) c.args.text.now fault tt is) c.push_unescaped.ensures.fault)
+returns-in-Numbered-clause-fault c = rw c.in-Numbered.is (fault_answered c.push_unescaped.result _ _ (λ fault is. (subst (FailsValue (Numbered c.in-Numbered.field-0) c.args.text.now) (sym is.0) (bad_escape tt (λ octets states. unescaped_or_bad c.args.text.now octets states is.1)))) c.push_unescaped.ensures.fault)

@@ -1,7 +1,5 @@
-use Rattle.zone_text.proofs.Common.{subst, sym, ◌++◌}
+use Rattle.zone_words.proofs.Common.{HeldText, RewriterState, StandsForRewriting, held_of, subst, sym, ◌++◌}
 use Rattle.zone_words.proofs.Standing.{stands_cleared}
-use Rattle.zone_words.specs.Machine.FedWriting.{held_of}
-use Rattle.zone_words.specs.Rewriter.{HeldText, RewriterState, StandsForRewriting}
 use Rattle.zone_words.proofs.rewriter.Rewriter.clear_written.Goals as goal
 
 pub returns-clause-stands : goal.returns-clause-stands

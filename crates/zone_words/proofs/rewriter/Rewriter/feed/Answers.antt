@@ -1,6 +1,5 @@
-use Rattle.zone_text.proofs.Common.{refl, subst, sym}
+use Rattle.zone_words.proofs.Common.{RewriterState, StandsForRewriting, refl, subst, sym}
 use Rattle.zone_words.proofs.Standing.{stands_in_part, stands_more}
-use Rattle.zone_words.specs.Rewriter.{RewriterState, StandsForRewriting}
 use Rattle.zone_words.proofs.rewriter.Rewriter.feed.Goals as goal
 
 pub returns-in-Ok-clause-stands : goal.returns-in-Ok-clause-stands

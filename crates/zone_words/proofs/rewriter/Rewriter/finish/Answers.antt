@@ -1,7 +1,5 @@
-use Rattle.zone_text.proofs.Common.{[], append-nil, subst, sym}
+use Rattle.zone_words.proofs.Common.{RewriterState, StandsForRewriting, StandsInPart, [], append-nil, state_of, subst, sym}
 use Rattle.zone_words.proofs.Standing.{stands_finished, stands_in_part}
-use Rattle.zone_words.specs.Machine.FedWriting.{state_of}
-use Rattle.zone_words.specs.Rewriter.{RewriterState, StandsForRewriting, StandsInPart}
 use Rattle.zone_rdata.specs.declared.fed.FedStatus.TheVariants.{OutOfMemory}
 use Rattle.zone_words.proofs.rewriter.Rewriter.finish.Goals as goal
 

@@ -1,4 +1,4 @@
-use Rattle.zone_text.proofs.Common.{map, raw, refl}
+use Rattle.zone_words.proofs.Common.{map, raw, refl}
 use Rattle.zone_words.proofs.FedTexts.{entry_alone}
 use Rattle.zone_words.proofs.Standing.{refused_alone, stands_alone}
 use Rattle.zone_words.proofs.rewriter.Rewriter.rewrite_entry.Goals as goal

@@ -1,9 +1,8 @@
-use Rattle.std.proofs.Common.{ap, sym, subst, refl}
+use Rattle.zone_words.proofs.Common.{WritesBetween, ap, refl, renamed, subst, sym}
 use Rattle.zone_words.proofs.Walks.{octets_pushed}
 use Rattle.zone_words.proofs.Turns.{says_written, turn_refused, turn_stays}
 use Rattle.zone_words.specs.Machine.Turn.{TurnIs, WritesTurn, told_by}
-use Rattle.zone_words.specs.Machine.Walking.{WritesBetween}
-use Rattle.zone_words.specs.Written.{in_octets, renamed}
+use Rattle.zone_words.specs.Written.{in_octets}
 use Rattle.zone_words.specs.declared.turn.Turn.TheVariants as turns
 use Rattle.zone_words.proofs.turn.Turn.push.Goals as goal
 

@@ -1,8 +1,4 @@
-use Rattle.std.proofs.Common.{List, ℕ, subst}
-use Rattle.std.specs.Prelude.{IfNone, IfSome}
-use Rattle.zone_name.specs.Common.{NothingIs}
-use Rattle.zone_words.specs.Kinds.Location.{IsScaled}
-use Rattle.zone_words.specs.Machine.Locations.{UpTo}
+use Rattle.zone_words.proofs.Common.{IfNone, IfSome, IsScaled, List, NothingIs, UpTo, subst, ℕ}
 use Rattle.zone_words.proofs.kinds.location.metres.centimetres.Goals as goal
 
 pub returns-clause-found : goal.returns-clause-found

@@ -1,4 +1,4 @@
-use Rattle.std.proofs.Common.{◌≡◌, ◌≤◌, ◌-◌, ◌^◌, ◌⊎◌}
+use Rattle.zone_words.proofs.Common.{◌-◌, ◌^◌, ◌≡◌, ◌≤◌, ◌⊎◌}
 use Rattle.zone_words.proofs.kinds.location.metres.first_digit.Given as goal
 
 abbrev pub invariant-loop-power : goal.invariant-loop-power

@@ -1,5 +1,4 @@
-use Rattle.std.proofs.Common.{ap}
-use Rattle.zone_rdata.specs.Item.{raw}
+use Rattle.zone_words.proofs.Common.{ap, raw}
 use Rattle.zone_words.proofs.kinds.location.metres.size_of.Goals as goal
 
 pub returns-in-Bare-clause-none : goal.returns-in-Bare-clause-none

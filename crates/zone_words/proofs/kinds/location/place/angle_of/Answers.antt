@@ -1,6 +1,5 @@
-use Rattle.std.proofs.Common.{ap, map}
+use Rattle.zone_words.proofs.Common.{ap, map, raw_item}
 use Rattle.zone_words.proofs.Places.{too_wide}
-use Rattle.zone_words.specs.DataItem.{raw_item}
 use Rattle.zone_words.proofs.kinds.location.place.angle_of.Goals as goal
 
 pub returns-else-angle-most-clause-none : goal.returns-else-angle-most-clause-none

@@ -1,5 +1,4 @@
-use Rattle.std.proofs.Common.{ap}
-use Rattle.zone_rdata.specs.Item.{raw}
+use Rattle.zone_words.proofs.Common.{ap, raw}
 use Rattle.zone_words.proofs.kinds.location.place.seconds_of.Goals as goal
 
 pub returns-clause-found : goal.returns-clause-found

@@ -1,6 +1,5 @@
-use Rattle.std.proofs.Common.{map}
+use Rattle.zone_words.proofs.Common.{map, raw_item}
 use Rattle.zone_words.proofs.Places.{no_angle}
-use Rattle.zone_words.specs.DataItem.{raw_item}
 use Rattle.zone_words.proofs.kinds.location.place.split_place.Goals as goal
 
 pub returns-in_default-angle_of-clause-none : goal.returns-in_default-angle_of-clause-none

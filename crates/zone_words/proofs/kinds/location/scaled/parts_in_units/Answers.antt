@@ -1,4 +1,4 @@
-use Rattle.std.proofs.Common.{ℕ, ◌+◌, ap₂}
+use Rattle.zone_words.proofs.Common.{ap₂, ℕ, ◌+◌}
 use Rattle.zone_words.proofs.Scaled.{parts_found, parts_none}
 use Rattle.zone_words.proofs.kinds.location.scaled.parts_in_units.Goals as goal
 
