@@ -3,6 +3,7 @@
 use Rattle.std.specs.Prelude.{◌≡◌, ◌≢◌, ℕ, ◌<◌, ◌≤◌, ◌⊎◌, List, [], ◌∷◌, length, codes, ⊤}
 use Rattle.std.specs.List.{flat_map}
 use Rattle.zone_name.specs.Common.{Labels}
+use Rattle.zone_rdata.specs.Limits.{longest_data}
 use Rattle.zone_words.specs.DataItem.{TouchingItem}
 use Rattle.zone_words.specs.Field.{FailsField, StatesField, items_after, own_items}
 use Rattle.zone_words.specs.Table.{NamedField}
@@ -35,7 +36,7 @@ pub record StatesData (origin : Labels) (fields : List NamedField) (items : List
   pub each : StateParts origin fields items parts
   pub whole : left_over fields items ≡ []
   pub value : octets ≡ joined parts
-  pub short : length octets ≤ 65535
+  pub short : length octets ≤ longest_data
 
 -- the first field fails, or it states octets and a later one is the first that fails
 abbrev pub AFieldFails : Labels → List NamedField → List TouchingItem → List ℕ → WordsFault
@@ -63,7 +64,7 @@ pub data DataFails (origin : Labels) (fields : List NamedField) (items : List To
       → left_over fields items ≢ [] → name ≡ last_name fields
       → DataFails origin fields items name ItemsLeftOver
   too_long : (parts : List (List ℕ)) → StateParts origin fields items parts
-      → left_over fields items ≡ [] → 65535 < length (joined parts) → name ≡ last_name fields
+      → left_over fields items ≡ [] → longest_data < length (joined parts) → name ≡ last_name fields
       → DataFails origin fields items name TooLong
 
 -- what is said of the field and the fault holds, where it is a fault and not want of memory

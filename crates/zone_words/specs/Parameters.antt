@@ -73,8 +73,12 @@ sent p = record { number = p.number; octets = p.octets }
 abbrev pub sent_octets : Sent → List ℕ
 sent_octets s = to_be_bytes w16 s.number ++ (to_be_bytes w16 (length s.octets) ++ s.octets)
 
+-- the most octets of a value: their number is one of 16 bits (RFC 9460 2.2)
+abbrev pub longest_value : ℕ
+longest_value = 65535
+
 abbrev pub IsShort : Sent → Type 0
-IsShort s = length s.octets ≤ 65535
+IsShort s = length s.octets ≤ longest_value
 
 -- keys in ascending order
 abbrev pub Ascend : List Sent → Type 0

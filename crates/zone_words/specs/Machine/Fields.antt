@@ -1,6 +1,7 @@
 -- Fields that were read, and what is wrong after the last of them.
 use Rattle.std.specs.Prelude.{◌≡◌, ℕ, ◌<◌, ◌≤◌, ◌⊎◌, List, ◌++◌}
 use Rattle.zone_name.specs.Common.{Labels}
+use Rattle.zone_rdata.specs.Limits.{longest_data}
 use Rattle.zone_words.specs.Data.{StateParts, joined, left_over}
 use Rattle.zone_words.specs.DataItem.{TouchingItem}
 use Rattle.zone_words.specs.Field.{FailsField}
@@ -22,10 +23,10 @@ IsFieldFault origin f own name fault = FailsField origin f.kind own fault × (na
 
 -- after the last field no item is left, and the octets aren't too many
 abbrev pub IsWhole : ℕ → ℕ → Type 0
-IsWhole left len = (left ≡ 0) × (len ≤ 65535)
+IsWhole left len = (left ≡ 0) × (len ≤ longest_data)
 
 -- else why not
 abbrev pub WholeFails : ℕ → ℕ → WordsFault → Type 0
 WholeFails left len fault =
     ((fault ≡ ItemsLeftOver) × (0 < left))
-    ⊎ ((fault ≡ TooLong) × (left ≡ 0) × (65535 < len))
+    ⊎ ((fault ≡ TooLong) × (left ≡ 0) × (longest_data < len))

@@ -6,7 +6,7 @@ ghost use Rattle.zone_words.specs.DataItem.{given, TouchingItem};
 ghost use Rattle.zone_words.specs.Fault.{IfFault};
 ghost use Rattle.zone_words.specs.Machine.Parameters.{text_of};
 ghost use Rattle.zone_words.specs.Machine.Stated.{AddsParameter, FailsAfter, Holds, IsLong, AreSent, all_sent, HasStated};
-ghost use Rattle.zone_words.specs.Parameters.{FailsParameters, IsShort, Parameter, Sent, sent_octets};
+ghost use Rattle.zone_words.specs.Parameters.{FailsParameters, IsShort, Parameter, Sent, longest_value, sent_octets};
 ghost use Rattle.zone_words.specs.declared.fault.WordsFault.TheVariants as faults;
 
 use super::key::key_of;
@@ -16,6 +16,9 @@ use crate::data_item::DataItem;
 use crate::fault::{WordsFailing, WordsFault};
 use std::alloc::{AllocError, Global};
 use std::collections::BTreeMap;
+
+/// The most octets of a value: their number is one of 16 bits (RFC 9460 2.2).
+const LONGEST_VALUE: usize = 65535;
 
 /// The parameters that were read.
 #[derive(Drop)]
@@ -96,12 +99,12 @@ pub(super) fn has_required(stated: &Stated) -> bool
 /// Appends the octets of a parameter: its key, the number of the value's octets, and these (RFC
 /// 9460 2.2).
 fn push_parameter(number: u16, value: &[u8], out: &mut Vec<u8>) -> Result<(), WordsFailing>
-    ensures sent { OnOk result ((length value.now ≤ 65535) × (out.new.items ≡ out.old.items
+    ensures sent { OnOk result ((length value.now ≤ longest_value) × (out.new.items ≡ out.old.items
         ++ sent_octets (record { number = number; octets = value.now }))) }
     ensures fault { IfErr result
-        (IfFault (λ fault. (fault ≡ faults.TooLong) × (65535 < length value.now))) }
+        (IfFault (λ fault. (fault ≡ faults.TooLong) × (longest_value < length value.now))) }
 {
-    if value.len() > 65535 {
+    if value.len() > LONGEST_VALUE {
         return Err(WordsFault::TooLong.into());
     }
     let length = value.len() as u16;
