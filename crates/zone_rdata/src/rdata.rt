@@ -251,6 +251,7 @@ impl Rdata {
     /// # Errors
     ///
     /// `AllocError` where memory is refused. It is then data without octets.
+    #[inline(always)]
     pub(crate) fn copy_from(&mut self, rdata: &RdataRef<'_>) -> Result<(), AllocError>
         ensures copied { OnOk result (self.new ≡ rdata.now) }
         ensures err { OnErr result (self.new ≡ empty_data) }

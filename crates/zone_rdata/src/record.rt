@@ -180,6 +180,7 @@ impl Placed {
     /// # Errors
     ///
     /// `AllocError` where memory is refused. It is then another record.
+    #[inline(always)]
     pub(crate) fn set(
         &mut self,
         owner: &NameRef<'_>,
