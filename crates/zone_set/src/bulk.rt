@@ -95,8 +95,8 @@ fn records_stand(octets: &[u8], entries: &[Entry]) -> bool {
 }
 
 /// Whether a record stands at a place, told by its owner's length, which is never 0.
-// The whole head, as `tie::stored_at` reads it, takes half as much again: three loads for one.
 fn stands(octets: &[u8], at: usize) -> bool {
+    // `tie::stored_at` tells it by the whole head, in half as much again: three loads for one.
     match octets.get(at.saturating_add(6)) {
         Some(owner_len) => *owner_len != 0,
         None => false,

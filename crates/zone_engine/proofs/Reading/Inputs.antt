@@ -1,5 +1,6 @@
 -- From readings to inputs.
-use Rattle.zone_engine.proofs.Common.{◌≡◌, ◌⊎◌, ◌↔◌, ℕ, ◌≤◌, ◌<◌, List, [], ◌∷◌, length, refl, sym, subst, inl, inr, ⊎_elim, arith, get_or, Option, Some, None, leb_tells, AllByRecursion, IsName, IsRecord, Fault, InputTooLong, Place, Whole, Placed, FileReads, records_of, Zone, IsZone, SameRecords, text_limit, Input, file, transfer, input_octets, IsInput, InputStates, InputReads, InputDenotes, MakesZone, RefusesReading, IsRefusal, too_long, reading, common_steps, StreamReads, Labels}
+use Rattle.zone_engine.proofs.Common.{◌≡◌, ◌⊎◌, ◌↔◌, ℕ, ◌≤◌, ◌<◌, List, [], ◌∷◌, length, refl, sym, subst, inl, inr, ⊎_elim, arith, get_or, Option, Some, None, leb_tells, AllByRecursion, IsName, IsRecord, Fault, InputTooLong, Place, Whole, Placed, FileReads, records_of, Zone, IsZone, SameRecords, text_limit, Input, file, transfer, input_octets, IsInput, InputStates, InputReads, InputDenotes, MakesZone, RefusesReading, IsRefusal, too_long, reading, StreamReads, Labels}
+use Rattle.zone_rdata.proofs.Lists.{each_below}
 use Rattle.zone_text.specs.Entries.{Entry, entries_of}
 use Rattle.zone_text.specs.File.{FileStates, EntriesState, states_none, states_one}
 use Rattle.zone_wire.specs.Transfer.{StreamStates}
@@ -18,12 +19,9 @@ pub placed_fit : (placed : List Placed) → AllByRecursion (λ p. IsRecord p.rr)
 placed_fit [] fits = tt
 placed_fit (p ∷ placed) fits = (fits.0, placed_fit placed fits.1)
 
-pub octet_at : (octets : List ℕ) → AllByRecursion (λ c. c < 256) octets → (i : ℕ) → get_or octets i 0 < 256
-octet_at octets each i = grind (arith, common_steps)
-
 -- what holds of files of octets and of streams of octets holds of inputs
 pub of_both_forms : (P : Input → Type 0) → ((origin : Labels) (octets : List ℕ) → IsName origin → AllByRecursion (λ c. c < 256) octets → P (file origin octets)) → ((stream : List ℕ) → ((i : ℕ) → get_or stream i 0 < 256) → P (transfer stream)) → (input : Input) → IsInput input → P input
-of_both_forms P files streams input is = grind (arith, octet_at)
+of_both_forms P files streams input is = grind (arith, each_below)
 
 abbrev OneReadingOf : (List Placed → Option (Fault × Place) → Type 0) → Type 0
 OneReadingOf R = (a b : List Placed) (e f : Option (Fault × Place)) → R a e → R b f → (a ≡ b) × (e ≡ f)
@@ -94,4 +92,4 @@ module _ (input : Input) where
 -- what inputs of both forms are read as without a fault they state
 pub read_is_stated : ((origin : Labels) (octets : List ℕ) (placed : List Placed) → FileStates origin octets placed ↔ FileReads origin octets placed None) → ((stream : List ℕ) (placed : List Placed) → ((i : ℕ) → get_or stream i 0 < 256) → StreamReads stream placed None → StreamStates stream placed) → (input : Input) (placed : List Placed) → IsInput input → InputReads input placed None → InputStates input placed
 read_is_stated files streams (file origin octets) placed is reads = (files origin octets placed).1 reads
-read_is_stated files streams (transfer stream) placed is reads = streams stream placed (octet_at stream is) reads
+read_is_stated files streams (transfer stream) placed is reads = streams stream placed (each_below 256 stream (omega arith) is) reads

@@ -2,7 +2,7 @@
 use Rattle.zone_engine.proofs.Common.{◌≡◌, ℕ, ◌<◌, List, ◌++◌, sym, ◌∙◌, subst, get_or, Option, Some, AllByRecursion, IsName, Fault, Place, Placed, FileReads, AllAccepted, IsFirstRefused, ReadAs, as_file, as_transfer, input_of, Decides, IsForm, RefusesFront, by_record, by_ending, RefusesRead, RefusesReading, refused, unread, arith, common_steps, Stays, StreamReads, Labels}
 use Rattle.zone_text.specs.Decided as file_decides
 use Rattle.zone_wire.specs.Stream as stream_decides
-use Rattle.zone_engine.proofs.Reading.Inputs.{octet_at}
+use Rattle.zone_rdata.proofs.Lists.{each_below}
 
 abbrev Ending : Type 0
 Ending = Option (Fault × Place)
@@ -49,7 +49,7 @@ module _ (files : FilesAreRead) (files_go : FilesGoOn) (streams : StreamsAreRead
         refuses = refuses_on placed later ending last fault place ((stays.others, stays.first), stays.fault) refuses;
       }
   refused_whole as_transfer front more placed ending fault place name octets decides refuses =
-      let (later, last, reads) = streams (front ++ more) (octet_at (front ++ more) octets) in
+      let (later, last, reads) = streams (front ++ more) (each_below 256 (front ++ more) (omega arith) octets) in
       record {
         placed = later;
         ending = last;
