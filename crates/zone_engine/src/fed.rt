@@ -1,10 +1,9 @@
-ghost use Rattle.std.specs.Prelude.{◌≡◌, ◌+◌, ◌^◌, ◌<◌, ◌≤◌, ◌++◌, true, false, List, length, IfErr, IfSome, IsOk, OnErr, OnOk};
+ghost use Rattle.std.specs.Prelude.{◌≡◌, ◌+◌, ◌^◌, ◌<◌, ◌++◌, false, List, length, OnOk};
 ghost use Rattle.zone_name.specs.Common.{Octets};
-ghost use Rattle.zone_rdata.specs.FedSource.{Held};
-ghost use Rattle.zone_rdata.specs.declared.fault.Stop.TheVariants.{Memory};
+ghost use Rattle.zone_rdata.specs.FedSource.{Feeds, Finishes, Held};
 ghost use Rattle.zone_rdata.specs.declared.record.Placed.{Placed};
 ghost use Rattle.zone_engine.specs.Machine.Input.{ReadAs};
-ghost use Rattle.zone_engine.specs.Machine.Fed.{StandsForInput};
+ghost use Rattle.zone_engine.specs.Machine.Fed.{StandsForInput, source_of};
 
 use zone_rdata::{LendingSource, Stop};
 use zone_text::TextSource;
@@ -36,12 +35,8 @@ pub(crate) trait FedSource: LendingSource {
             → StandsForInput IsOf Leave form (Self.pending self.old) (held self.old) octets given
             → StandsForInput IsOf Leave form (Self.pending self.new) (held self.new) (octets
             ++ piece.now) given) }
-        ensures open { (held self.new).finished ≡ false }
-        ensures fed { (held self.new).fed ≤ (held self.old).fed + length piece.now }
-        ensures decided { (Self.pending self.old).failed ≡ false
-            → IfSome (Self.pending self.old).ending (λ _. IsOk result) }
-        ensures stopped { IfErr result (λ stop. stop ≡ Memory) }
-        ensures failed { OnErr result ((Self.pending self.new).failed ≡ true) };
+        ensures feeds { Feeds (source_of (Self.pending self.old) (held self.old)) piece.now result
+            (source_of (Self.pending self.new) (held self.new)) };
 
     /// Ends the input.
     ///
@@ -53,11 +48,8 @@ pub(crate) trait FedSource: LendingSource {
         ensures stands { OnOk result ((form : ReadAs) (octets : Octets) (given : List Placed)
             → StandsForInput IsOf Leave form (Self.pending self.old) (held self.old) octets given
             → StandsForInput IsOf Leave form (Self.pending self.new) (held self.new) octets given) }
-        ensures ended { OnOk result ((held self.new).finished ≡ true) }
-        ensures decided { (Self.pending self.old).failed ≡ false
-            → IfSome (Self.pending self.old).ending (λ _. IsOk result) }
-        ensures stopped { IfErr result (λ stop. stop ≡ Memory) }
-        ensures failed { OnErr result ((Self.pending self.new).failed ≡ true) };
+        ensures finishes { Finishes (source_of (Self.pending self.old) (held self.old)) result
+            (source_of (Self.pending self.new) (held self.new)) };
 
     /// Giving a record changes nothing else.
     ghost keeps: { (old new : Self) → Self.RrSource.beside new ≡ Self.RrSource.beside old

@@ -25,7 +25,7 @@ pub use Rattle.zone_rdata.proofs.FedSources.{stands_given, stands_none, stands_r
 pub use Rattle.zone_rdata.proofs.Items.LeftOut.{after_item, are_many, begin_with, fault_of_all, one_kept, one_left_out, state_none}
 pub use Rattle.zone_rdata.specs.DataFault.{IsDataFault}
 pub use Rattle.zone_rdata.specs.Fault.{IfFault, fault_of}
-pub use Rattle.zone_rdata.specs.FedSource.{SourceState, counted, is_finished}
+pub use Rattle.zone_rdata.specs.FedSource.{SourceState, is_finished}
 pub use Rattle.zone_rdata.specs.Item.{RawItem, raw}
 pub use Rattle.zone_rdata.specs.LeftOut.{AreShortened, LeavesOut}
 pub use Rattle.zone_rdata.specs.Machine.Written.{IsWritten}

@@ -1,5 +1,5 @@
 //! A source of the records of a master file that is fed in pieces.
-ghost use Rattle.std.specs.Prelude.{◌≡◌, ◌+◌, ◌<◌, ◌^◌, ◌++◌, ℕ, true, false, [], List, length, IfErr, IfSome, IsOk, OnOk, OnErr};
+ghost use Rattle.std.specs.Prelude.{◌≡◌, ◌+◌, ◌<◌, ◌^◌, ◌++◌, ℕ, false, [], List, length, OnOk};
 ghost use Rattle.zone_name.specs.Common.{Labels};
 
 use crate::splitter::EntrySplitter;
@@ -37,7 +37,7 @@ impl Model for TextSource {
 
 impl TextSource {
     ghost use Rattle.zone_rdata.specs.declared.record.Placed.{Placed};
-    ghost use Rattle.zone_rdata.specs.FedSource.{counted};
+    ghost use Rattle.zone_rdata.specs.FedSource.{Feeds, Finishes, KeepsOctets};
     ghost use Rattle.zone_text.specs.TextSource.{StandsForFile};
 
     /// A source that was fed nothing, under the origin of the file.
@@ -65,17 +65,7 @@ impl TextSource {
         ensures stands { OnOk result ((origin : Labels) (fed : List ℕ) (given : List Placed)
             → StandsForFile origin self.old fed given
             → StandsForFile origin self.new (fed ++ piece.now) given) }
-        ensures count { OnOk result (self.new.held.fed ≡ self.old.held.fed + length piece.now) }
-        ensures decided { self.old.pending.failed ≡ false → IfSome self.old.pending.ending
-            (λ _. IsOk result × (self.new ≡ counted (length piece.now) self.old)) }
-        ensures nothing { piece.now ≡ [] → (self.new ≡ self.old)
-            × (self.old.pending.failed ≡ false → IsOk result) }
-        ensures works { OnOk result (self.old.pending.failed ≡ false) }
-        ensures working { OnOk result (self.new.pending.failed ≡ false) }
-        ensures memory { IfErr result (λ stop. stop ≡ Stop.Memory) }
-        ensures failed { OnErr result (self.new.pending.failed ≡ true) }
-        ensures uncounted { OnErr result (self.new.held.fed ≡ self.old.held.fed) }
-        ensures goes_on { self.new.held.finished ≡ false }
+        ensures feeds { Feeds self.old piece.now result self.new }
     {
         if let FedStatus::OutOfMemory = self.status {
             return Err(Stop::Memory);
@@ -103,17 +93,7 @@ impl TextSource {
         requires going { self.old.held.finished ≡ false }
         ensures stands { OnOk result ((origin : Labels) (fed : List ℕ) (given : List Placed)
             → StandsForFile origin self.old fed given → StandsForFile origin self.new fed given) }
-        ensures finished { OnOk result (self.new.held.finished ≡ true) }
-        ensures works { OnOk result (self.old.pending.failed ≡ false) }
-        ensures working { OnOk result (self.new.pending.failed ≡ false) }
-        ensures memory { IfErr result (λ stop. stop ≡ Stop.Memory) }
-        ensures failed { OnErr result (self.new.pending.failed ≡ true) }
-        ensures goes_on { OnErr result (self.new.held.finished ≡ false) }
-        ensures decided { self.old.pending.failed ≡ false
-            → IfSome self.old.pending.ending (λ _. IsOk result) }
-        ensures nothing { self.old.pending.failed ≡ false
-            → self.old.held.unfinished ≡ [] → IsOk result }
-        ensures count { self.new.held.fed ≡ self.old.held.fed }
+        ensures finishes { Finishes self.old result self.new }
     {
         if let FedStatus::OutOfMemory = self.status {
             return Err(Stop::Memory);
@@ -142,10 +122,7 @@ impl TextSource {
     /// ended an entry, and none once a fault is decided, the file has ended or the source has
     /// failed.
     pub fn undecided(&self) -> usize
-        ensures held { result ≡ length self.now.held.unfinished }
-        ensures decided { IfSome self.now.pending.ending (λ _. result ≡ 0) }
-        ensures finished { self.now.held.finished ≡ true → result ≡ 0 }
-        ensures failed { self.now.pending.failed ≡ true → result ≡ 0 }
+        ensures keeps { KeepsOctets self.now result }
     {
         self.splitter.unfinished.len()
     }

@@ -1,5 +1,5 @@
 //! A source of the records of a zone transfer that is fed in pieces.
-ghost use Rattle.std.specs.Prelude.{◌≡◌, ◌+◌, ◌<◌, ◌≤◌, ◌^◌, ◌++◌, ℕ, true, false, [], List, None, length, IfErr, IfOk, IfSome, IsOk, OnOk, OnErr};
+ghost use Rattle.std.specs.Prelude.{◌≡◌, ◌+◌, ◌<◌, ◌≤◌, ◌^◌, ◌++◌, ℕ, true, false, [], List, None, length, IfOk, OnOk, OnErr};
 ghost use Rattle.zone_wire.specs.Stream.{StreamReads};
 
 use crate::framer::{Framer, cut_len};
@@ -54,7 +54,7 @@ impl Model for TransferSource {
 
 impl TransferSource {
     ghost use Rattle.zone_rdata.specs.declared.record.Placed.{Placed};
-    ghost use Rattle.zone_rdata.specs.FedSource.{counted};
+    ghost use Rattle.zone_rdata.specs.FedSource.{Feeds, Finishes, KeepsOctets};
     ghost use Rattle.zone_wire.specs.TransferSource.{StandsForStream};
 
     /// A source that was fed nothing.
@@ -84,17 +84,7 @@ impl TransferSource {
         ensures stands { OnOk result ((fed : List ℕ) (given : List Placed)
             → StandsForStream self.old fed given
             → StandsForStream self.new (fed ++ piece.now) given) }
-        ensures count { OnOk result (self.new.held.fed ≡ self.old.held.fed + length piece.now) }
-        ensures decided { self.old.pending.failed ≡ false → IfSome self.old.pending.ending
-            (λ _. IsOk result × (self.new ≡ counted (length piece.now) self.old)) }
-        ensures nothing { piece.now ≡ [] → (self.new ≡ self.old)
-            × (self.old.pending.failed ≡ false → IsOk result) }
-        ensures works { OnOk result (self.old.pending.failed ≡ false) }
-        ensures working { OnOk result (self.new.pending.failed ≡ false) }
-        ensures memory { IfErr result (λ stop. stop ≡ Stop.Memory) }
-        ensures failed { OnErr result (self.new.pending.failed ≡ true) }
-        ensures uncounted { OnErr result (self.new.held.fed ≡ self.old.held.fed) }
-        ensures goes_on { self.new.held.finished ≡ false }
+        ensures feeds { Feeds self.old piece.now result self.new }
     {
         if let FedStatus::OutOfMemory = self.status {
             return Err(Stop::Memory);
@@ -122,14 +112,8 @@ impl TransferSource {
         requires going { self.old.held.finished ≡ false }
         ensures stands { OnOk result ((fed : List ℕ) (given : List Placed)
             → StandsForStream self.old fed given → StandsForStream self.new fed given) }
-        ensures finished { OnOk result (self.new.held.finished ≡ true) }
-        ensures works { OnOk result (self.old.pending.failed ≡ false) }
-        ensures working { OnOk result (self.new.pending.failed ≡ false) }
-        ensures memory { IfErr result (λ stop. stop ≡ Stop.Memory) }
-        ensures failed { OnErr result (self.new.pending.failed ≡ true) }
-        ensures goes_on { OnErr result (self.new.held.finished ≡ false) }
+        ensures finishes { Finishes self.old result self.new }
         ensures only { OnErr result (self.old.pending.failed ≡ true) }
-        ensures count { self.new.held.fed ≡ self.old.held.fed }
     {
         if let FedStatus::OutOfMemory = self.status {
             return Err(Stop::Memory);
@@ -150,11 +134,8 @@ impl TransferSource {
     /// last whole frame, and none once a fault is decided, the stream has ended or the source has
     /// failed.
     pub fn undecided(&self) -> usize
-        ensures held { result ≡ length self.now.held.unfinished }
+        ensures keeps { KeepsOctets self.now result }
         ensures few { result ≤ 65536 }
-        ensures decided { IfSome self.now.pending.ending (λ _. result ≡ 0) }
-        ensures finished { self.now.held.finished ≡ true → result ≡ 0 }
-        ensures failed { self.now.pending.failed ≡ true → result ≡ 0 }
     {
         cut_len(self.framer.unfinished.as_slice())
     }

@@ -1,5 +1,5 @@
 -- What a source stands for.
-use Rattle.zone_text.proofs.Common.{EndedEntries, EntrySplitter, FileKept, FileReads, Follow, IfSome, Labels, List, Placed, SourceState, StandsForFile, [], arith, both_ways, counted, false, is_finished, length, length-append, lit<, refl, rules, state_of, true, ℕ, ◌++◌, ◌+◌, ◌≡◌}
+use Rattle.zone_text.proofs.Common.{EndedEntries, FileKept, FileReads, Follow, Labels, List, Placed, SourceState, StandsForFile, [], arith, both_ways, false, is_finished, length, length-append, lit<, refl, state_of, true, ℕ, ◌++◌, ◌+◌, ◌≡◌}
 use Rattle.zone_rdata.proofs.Octets.Bytes.{Bytes, bytes_append}
 use Rattle.zone_rdata.specs.declared.fed.FedStatus.{FedStatus}
 use Rattle.zone_rdata.specs.declared.fed.FedStatus.TheVariants.{Open, Finished}
@@ -46,10 +46,6 @@ stands_finished origin status n old new unfinished left fed given going reads st
   leave = λ e. absurd cc;
   read = λ _. reads origin fed given (follow_of origin status n old unfinished fed given going stands);
 }
-
--- once a fault is decided pieces are counted alone
-pub counts_alone : (status : FedStatus) (n more k : ℕ) (old new : EntrySplitter) → more ≡ n + k → IfSome old.ended.decided.ending (λ _. (true ≡ true) × (new ≡ old)) → IfSome old.ended.decided.ending (λ _. (true ≡ true) × (state_of status more new.ended new.unfinished.items ≡ counted k (state_of status n old.ended old.unfinished.items)))
-counts_alone status n more k old new count settled = search rules
 
 -- ---- the whole file
 

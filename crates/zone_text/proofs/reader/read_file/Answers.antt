@@ -11,7 +11,7 @@ pub returns : goal.returns
 returns c =
     let fed = if_ok c.feed.result _ c.map_err.ensures.variant c.in_ok-map_err.was c.feed.ensures.stands in
     let ended = if_ok c.finish.result _ c.map_err-2.ensures.variant c.in_ok-map_err-2.was c.finish.ensures.stands in
-    let finished = if_ok c.finish.result _ c.map_err-2.ensures.variant c.in_ok-map_err-2.was c.finish.ensures.finished in
+    let finished = if_ok c.finish.result _ c.map_err-2.ensures.variant c.in_ok-map_err-2.was c.finish.ensures.finishes.finished in
     reads_whole c.args.origin.now c.finish.new.self c.into_reading.result c.args.text.now finished
     (ended c.args.origin.now c.args.text.now [] (fed c.args.origin.now [] [] c.new-source.ensures.stands))
     c.into_reading.ensures.records c.into_reading.ensures.ending

@@ -18,7 +18,7 @@ pub returns-in-Refused-clause-taken : goal.returns-in-Refused-clause-taken
 returns-in-Refused-clause-taken g c = λ form octets taken.
     taken_refused g.S.FedSource.IsOf g.S.FedSource.Leave form _ (g.S.RrSource.pending c.feed.new.self) (g.S.RrSource.pending c.take_lent.new.source) _ (g.S.FedSource.held c.feed.new.self) (g.S.FedSource.held c.take_lent.new.source) c.args.self.now.list c.take_lent.new.self octets c.args.piece.now c.args.self.now.refusal
     (is_none_of c.args.self.now.refusal (sym c.is_some.ensures ∙ c.if-is_some.false))
-    (λ given. c.in_ok-feed.ensures.stands form octets given) c.in_ok-feed.ensures.open c.replace-list.new.dest c.in-Err.stop c.first_stop.result c.in-Refused.fault c.in-Refused.place
+    (λ given. c.in_ok-feed.ensures.stands form octets given) c.in_ok-feed.ensures.feeds.goes_on c.replace-list.new.dest c.in-Err.stop c.first_stop.result c.in-Refused.fault c.in-Refused.place
     c.in-Err.ensures.stopped (rw c.replace-list.ensures.value at c.first_stop.ensures) c.in-Refused.is taken
 
 pub returns-in-Refused-clause-octets : goal.returns-in-Refused-clause-octets
@@ -29,8 +29,8 @@ returns-in_default g c =
     let kept = g.met.S.FedSource.keeps _ _ c.take_lent.ensures.beside in
     record {
       taken = tt;
-      «open» = rw kept c.in_ok-feed.ensures.«open»;
-      fed = rw kept c.in_ok-feed.ensures.fed;
+      «open» = rw kept c.in_ok-feed.ensures.feeds.goes_on;
+      fed = rw (kept, c.in_ok-feed.ensures.feeds.count) (omega arith);
       refused = rw (is_none_of c.args.self.now.refusal (sym c.is_some.ensures ∙ c.if-is_some.false)) tt;
       stopped = only_memory c.args.self.now.list c.take_lent.new.self _ _ c.in-Err.stop c.first_stop.result c.in-Err.ensures.stopped (rw c.replace-list.ensures.value at c.first_stop.ensures) c.in_default.not-Refused;
       octets = bytes_each c.args.piece.now (λ i. omega (arith, c.type_inv.piece i));
