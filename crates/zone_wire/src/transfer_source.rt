@@ -1,5 +1,6 @@
 //! A source of the records of a zone transfer that is fed in pieces.
 ghost use Rattle.std.specs.Prelude.{◌≡◌, ◌+◌, ◌<◌, ◌≤◌, ◌^◌, ◌++◌, ℕ, true, false, [], List, None, length, IfOk, OnOk, OnErr};
+ghost use Rattle.zone_wire.specs.Message.{longest_message};
 ghost use Rattle.zone_wire.specs.Stream.{StreamReads};
 
 use crate::framer::{Framer, cut_len};
@@ -135,7 +136,7 @@ impl TransferSource {
     /// failed.
     pub fn undecided(&self) -> usize
         ensures keeps { KeepsOctets self.now result }
-        ensures few { result ≤ 65536 }
+        ensures few { result ≤ longest_message + 1 }
     {
         cut_len(self.framer.unfinished.as_slice())
     }
