@@ -2,5 +2,4 @@
 pub mod Bare
 pub mod Lawful
 pub mod Lengths
-pub mod Printing
 pub mod Sinks

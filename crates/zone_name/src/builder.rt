@@ -29,6 +29,7 @@ impl Model for NameBuilder {
 
 impl NameBuilder {
     /// A builder of the root: no label yet.
+    #[tactic(auto, using(crate::proofs::InOctets::Pushing::no_labels))]
     pub fn new() -> NameBuilder
         ensures { result ≡ [] }
     {
@@ -64,6 +65,7 @@ impl NameBuilder {
     }
 
     /// The name of the labels that were pushed.
+    #[tactic(auto, using(crate::proofs::InOctets::Pushing::root_after_labels))]
     pub fn finish(self) -> Name
         ensures value { result ≡ self }
         ensures name { IsName result }
@@ -75,6 +77,7 @@ impl NameBuilder {
 }
 
 /// Refuses octets that are no label (RFC 1035 2.3.4).
+#[tactic(auto, using(crate::specs::Machine::Seen::empty, crate::specs::Machine::Seen::long))]
 pub(crate) fn check_label(label: &[u8]) -> Result<(), NameFault>
     ensures ok { OnOk result ((0 < length label.now) × (length label.now ≤ 63)) }
     ensures err { IfErr result (RefusesLabel label.now) }

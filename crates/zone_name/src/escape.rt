@@ -17,6 +17,7 @@ pub enum NextUnit<'t> {
 
 /// The octet that a text begins with, by itself or by an escape (RFC 1035 5.1). Only a backslash
 /// does not stand for itself.
+#[tactic(auto, using(crate::proofs::Spelling::Units::plain_found))]
 pub fn next_unit(text: &[u8]) -> NextUnit<'_>
     ensures { IsNextUnit text.now result }
 {
@@ -34,6 +35,7 @@ pub fn next_unit(text: &[u8]) -> NextUnit<'_>
 
 /// The octet that an escape stands for, and what follows the escape (RFC 1035 5.1), of a text that
 /// follows its backslash. `None`: the backslash begins no escape.
+#[tactic(auto, using(crate::proofs::Spelling::Units::valued_escape, crate::proofs::Spelling::Units::escaped_found))]
 pub fn escape_at(after: &[u8]) -> Option<(u8, &[u8])>
     ensures found { IfSome result (λ read. BeginsWithEscape (92 ∷ after.now) read.0 read.1.now) }
     ensures none { IfNone result (IsBadEscape (92 ∷ after.now)) }

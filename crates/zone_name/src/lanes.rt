@@ -17,6 +17,7 @@ pub(crate) const LANES: usize = 16;
 pub(crate) const ROOM: usize = 128;
 
 /// Writes octets into the room for them, from a place on.
+#[tactic(auto, using(std::proofs::lemmas::Simd::put_chunk_is))]
 #[inline(always)]
 pub(crate) fn put(room: &mut [u8], at: usize, octets: &[u8])
     requires { at + length octets.now ≤ length room.old }

@@ -19,11 +19,13 @@ pub fn are_octets(octets: &[u8])
 }
 
 /// Names that compare as equal are equal.
+#[tactic(auto, using(crate::proofs::Texts::Lawful::orders))]
 pub fn order_is_exact()
     ensures { (a b : Labels) → name_cmp a b ≡ Equal → a ≡ b }
 {}
 
 /// The order of names is total.
+#[tactic(auto, using(crate::proofs::Texts::Lawful::orders))]
 pub fn order_is_total()
     ensures { IsTotalOrder name_cmp }
 {}
@@ -75,6 +77,7 @@ pub fn printed_names_are_spelled()
 {}
 
 /// The octets of a name hold its labels, whatever follows them.
+#[tactic(auto, using(crate::proofs::InOctets::Octets::names_in_front))]
 pub fn octets_hold_labels()
     ensures labels { (labels : Labels) (rest : Octets) → IsName labels
         → labels_of (wire labels ++ rest) ≡ labels }

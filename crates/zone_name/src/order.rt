@@ -24,6 +24,7 @@ impl<'a> PartialEq for NameRef<'a> {
 
     ghost laws = { Prim.search (comparing, rules) };
 
+    #[tactic(auto, using(crate::proofs::InOctets::Comparing::eq_from_octets))]
     fn eq(&self, other: &NameRef<'a>) -> bool {
         self.wire() == other.wire()
     }

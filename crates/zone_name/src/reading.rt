@@ -185,6 +185,7 @@ fn read_plain_labels(room: &mut [u8; ROOM], text: &[u8], letters: Letters) -> Op
 
 /// Puts the octets of a name after labels in a room, and gives the number of all. `None`: there is
 /// no room for them.
+#[tactic(auto, using(std::proofs::lemmas::Simd::take_more_put_chunk))]
 #[inline(always)]
 fn end_in_room(room: &mut [u8; ROOM], len: usize, ending: &[u8]) -> Option<usize>
     requires { len ≤ 128 }
@@ -337,6 +338,7 @@ fn read_labels(octets: &mut ArrayVec<u8, MAX_NAME_LEN>, text: &[u8]) -> Result<S
 }
 
 /// Puts the letters in lower case (RFC 4343 3). A label's length is no letter, and stays.
+#[tactic(auto, using(crate::proofs::InOctets::Pushing::folded_again))]
 pub(crate) fn fold(octets: &mut ArrayVec<u8, MAX_NAME_LEN>)
     ensures { octets.new.items ≡ map folded_octet octets.old.items }
 {
@@ -450,6 +452,7 @@ fn read_into(
 
 /// Puts the octets of the name of a text that is neither `.` nor `@` in place of those that are
 /// held (RFC 1035 5.1). On an error they are the root's.
+#[tactic(auto, using(crate::proofs::Spelling::Letters::root_holds))]
 fn replace(
     octets: &mut ArrayVec<u8, MAX_NAME_LEN>,
     text: &[u8],

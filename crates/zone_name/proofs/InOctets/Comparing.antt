@@ -12,8 +12,8 @@ labels_decide a b =
     (λ e. cc (reverse-reverse a, same.0 e, reverse-reverse b), λ e. same.1 (ap reverse e))
 
 -- what `==` of octets answers is what `==` of labels answers
-pub eq-from_octets : (a b : List (List ℕ)) (octets others : List ℕ) (answer : Bool) → answer ≡ pointwise nat_eq octets others → octets ≡ wire a → others ≡ wire b → labels_of (wire a) ≡ a → labels_of (wire b) ≡ b → answer ≡ pointwise (pointwise nat_eq) (reverse a) (reverse b)
-eq-from_octets a b octets others answer e left right back_a back_b = search (rules, labels_decide)
+pub eq_from_octets : (a b : List (List ℕ)) (octets others : List ℕ) (answer : Bool) → answer ≡ pointwise nat_eq octets others → octets ≡ wire a → others ≡ wire b → labels_of (wire a) ≡ a → labels_of (wire b) ≡ b → answer ≡ pointwise (pointwise nat_eq) (reverse a) (reverse b)
+eq_from_octets a b octets others answer e left right back_a back_b = search (rules, labels_decide)
 
 -- equal names compare so
 pub name_cmp-same : (a b : List (List ℕ)) (answer : Bool) → answer ≡ pointwise (pointwise nat_eq) (reverse a) (reverse b) → answer ≡ true → Equal ≡ name_cmp a b
@@ -39,11 +39,7 @@ name_cmp-append us vs xs ys e = grind (arith, reverse-append, slice_cmp-append, 
 -- one step of the comparison from the left: what is right of it decides first
 pub name_cmp-more : (xs ys xs' ys' : List (List ℕ)) (x y : List ℕ) (order found order' whole : Ordering) → xs ≡ x ∷ xs' → ys ≡ y ∷ ys' → length xs ≡ length ys → found ≡ label_cmp x y → order' ≡ ordering_then found order → ordering_then (name_cmp xs ys) order ≡ whole → (length xs' ≡ length ys') × (ordering_then (name_cmp xs' ys') order' ≡ whole)
 name_cmp-more xs ys xs' ys' x y order found order' whole left right long is next so_far =
-    let lengths : length (x ∷ xs') ≡ length (y ∷ ys') = cc in
-    let same : length xs' ≡ length ys' = omega arith in
-    let split : name_cmp xs ys ≡ ordering_then (name_cmp xs' ys') found =
-    ap (λ t. name_cmp t ys) left ∙ ap (λ t. name_cmp (x ∷ xs') t) right ∙ name_cmp-append (x ∷ []) (y ∷ []) xs' ys' same ∙ ap (ordering_then (name_cmp xs' ys')) (then_equal (label_cmp x y) ∙ sym is) in
-    (same, cc (then_assoc (name_cmp xs' ys') found order))
+    grind (arith, name_cmp-append (x ∷ []) (y ∷ []) xs' ys', then_equal (label_cmp x y), then_assoc (name_cmp xs' ys') found order)
 
 -- where one list at most has any, the longer comes last
 lengths_decide : (us vs : List (List ℕ)) (m n : ℕ) → length us ≡ m - n → length vs ≡ n - m → slice_cmp label_cmp us vs ≡ nat_cmp m n
@@ -53,12 +49,8 @@ lengths_decide (u ∷ us) vs m n e f = grind arith
 -- before the first step: the labels that the longer name has before the other's are cut off
 pub name_cmp-start : (a b xs ys : List (List ℕ)) (m n : ℕ) (order : Ordering) → m ≡ length a → n ≡ length b → xs ≡ drop (m - n) a → ys ≡ drop (n - m) b → order ≡ nat_cmp m n → (length xs ≡ length ys) × (ordering_then (name_cmp xs ys) order ≡ name_cmp a b)
 name_cmp-start a b xs ys m n order long_a long_b left right is =
-    let us = take (m - n) a in
-    let vs = take (n - m) b in
     let same : length xs ≡ length ys = omega (arith, ap length left, ap length right, length-drop (m - n) a, length-drop (n - m) b) in
-    let whole_a : us ++ xs ≡ a = cc (take-append-drop (m - n) a) in
-    let whole_b : vs ++ ys ≡ b = cc (take-append-drop (n - m) b) in
-    grind (arith, length-drop, lengths_decide, length-reverse, length-take, take-append-drop, name_cmp-append)
+    grind (arith, length-drop, lengths_decide, length-reverse, length-take, take-append-drop (m - n) a, take-append-drop (n - m) b, name_cmp-append)
 
 -- a name lies within another where its last labels are that name's
 pub within_decided : (a b rest : List (List ℕ)) (m n : ℕ) (answer : Bool) → m ≡ length a → n ≡ length b → n ≤ m → rest ≡ drop (m - n) a → (IsTrue answer ↔ (rest ≡ b)) → (IsTrue answer ↔ IsWithin a b)

@@ -1,7 +1,7 @@
 -- Lanes that are computed one by one from octets, and what their masks tell of the octets.
-use Rattle.std.proofs.Common.{◌≡◌, ℕ, ◌+◌, ◌*◌, ◌%◌, ◌^◌, ◌≤◌, eqb, Bool, true, false, cond, not, ◌&&◌, List, [], ◌∷◌, map, length, take, drop, Fits, w8, refl, sym, ap, ap₂, ◌∙◌, arith, length-drop, take-add, drop-drop, take_at, length-append, ◌++◌}
+use Rattle.std.proofs.Common.{◌≡◌, ℕ, ◌+◌, ◌%◌, ◌^◌, ◌≤◌, eqb, Bool, true, false, cond, not, List, [], ◌∷◌, map, length, take, drop, Fits, w8, refl, sym, ap, ap₂, ◌∙◌, arith, length-drop, take-add, drop-drop, take_at, length-append, ◌++◌}
 use Rattle.std.proofs.lemmas.List.{drop_at, length-map, length-take-le, map-append, take-map, take-take}
-use Rattle.zone_name.proofs.Common.{common_steps, agree_below, agree_below_at, append_assoc, eqb-true, false≢true, length-put_chunk, list_all, mask_l-mod, put_chunk_is}
+use Rattle.zone_name.proofs.Common.{common_steps, agree_below, agree_below_at, append_assoc, eqb-true, length-put_chunk, list_all, map-map, ◌<◌, mask_l-mod, put_chunk_is}
 use lib.Lanes.{Each1, chunk, mask_l, put_chunk, sel_l, top}
 
 -- ---- lanes that were computed by a function of each octet
@@ -21,52 +21,37 @@ chosen p f g v {tests} {xs} {ys} e a b = rw (e, a, b) (by v)
     by (x ∷ v) = ap (λ t. cond (p x) (f x) (g x) ∷ t) (by v)
 
 -- two functions that agree on each octet, which is tried
+same_each : {B : Type 0} (f g : ℕ → B) (v : List ℕ) → Each1 (Fits w8) v
+    → ((x : ℕ) → x < 256 → f x ≡ g x) → map f v ≡ map g v
+same_each f g [] fits same = refl
+same_each f g (x ∷ v) fits same = cc (same x fits.0.fits, same_each f g v fits.1 same)
+
 pub same_lanes : (f g : ℕ → ℕ) (v : List ℕ) → Each1 (Fits w8) v
     → agree_below (λ x. eqb (f x) (g x)) (λ _. true) 256 ≡ true → map f v ≡ map g v
-same_lanes f g [] fits all = refl
-same_lanes f g (x ∷ v) fits all =
-    ap₂ (λ (a : ℕ) (t : List ℕ). a ∷ t)
-    (eqb-true (f x) (g x) (agree_below_at (λ y. eqb (f y) (g y)) (λ _. true) 256 x all fits.0.fits))
-    (same_lanes f g v fits.1 all)
+same_lanes f g v fits all = same_each f g v fits
+    (λ x h. eqb-true (f x) (g x) (agree_below_at (λ y. eqb (f y) (g y)) (λ _. true) 256 x all h))
 
 -- ---- masks: the bits of lanes, z, that were computed by f from the octets v, are a test of each
 -- octet, which is tried for all of them
-
-pub told : (f : ℕ → ℕ) (p : ℕ → Bool) (v : List ℕ) → Each1 (Fits w8) v
-    → agree_below (λ x. top 7 (f x)) p 256 ≡ true → map (top 7) (map f v) ≡ map p v
-told f p [] fits all = refl
-told f p (x ∷ v) fits all =
-    ap₂ (λ (a : Bool) (t : List Bool). a ∷ t)
-    (agree_below_at (λ y. top 7 (f y)) p 256 x all fits.0.fits) (told f p v fits.1 all)
 
 module _ (p : ℕ → Bool) (v : List ℕ) (short : length v ≤ 64) (fits : Each1 (Fits w8) v)
     (z : List ℕ) (f : ℕ → ℕ) (lanes : z ≡ map f v)
     (all : agree_below (λ x. top 7 (f x)) p 256 ≡ true) where
   pub mask_is : mask_l (map (top 7) z) % 2 ^ 64 ≡ mask_l (map p v)
   mask_is =
-      ap (λ l. mask_l l % 2 ^ 64) (ap (map (top 7)) lanes ∙ told f p v fits all)
+      ap (λ l. mask_l l % 2 ^ 64) (ap (map (top 7)) lanes ∙ map-map (top 7) f v
+      ∙ same_each (λ x. top 7 (f x)) p v fits (λ x h. agree_below_at (λ y. top 7 (f y)) p 256 x all h))
       ∙ mask_l-mod (map p v) 64 (omega (arith, short, length-map v p))
 
 -- ---- where no octet fails a test, the mask of those that fail is empty, and the other way round
 
-all_step : (b : Bool) (mask : ℕ) (rest : Bool) → (mask ≡ 0 → rest ≡ true)
-    → cond (not b) 1 0 + 2 * mask ≡ 0 → (b && rest) ≡ true
-all_step true mask rest go e = go (omega (arith, e))
-all_step false mask rest go e = absurd (omega (arith, e))
-
 pub all_pass : (q : ℕ → Bool) (v : List ℕ) → mask_l (map (λ x. not (q x)) v) ≡ 0 → list_all q v ≡ true
 all_pass q [] e = refl
-all_pass q (x ∷ v) e = all_step (q x) (mask_l (map (λ y. not (q y)) v)) (list_all q v) (all_pass q v) e
-
-none_step : (b : Bool) (mask : ℕ) (rest : Bool) → (rest ≡ true → mask ≡ 0) → (b && rest) ≡ true
-    → cond (not b) 1 0 + 2 * mask ≡ 0
-none_step true mask rest go e = let none : mask ≡ 0 = go e in omega (arith, none)
-none_step false mask rest go e = absurd (false≢true e)
+all_pass q (x ∷ v) e = grind (arith, common_steps, all_pass q v)
 
 pub none_fail : (q : ℕ → Bool) (v : List ℕ) → list_all q v ≡ true → mask_l (map (λ x. not (q x)) v) ≡ 0
 none_fail q [] e = refl
-none_fail q (x ∷ v) e =
-    none_step (q x) (mask_l (map (λ y. not (q y)) v)) (list_all q v) (none_fail q v) e
+none_fail q (x ∷ v) e = grind (arith, common_steps, none_fail q v)
 
 pub some_fail : (q : ℕ → Bool) (v : List ℕ) → (mask_l (map (λ x. not (q x)) v) ≡ 0 → ⊥)
     → list_all q v ≡ false
@@ -78,9 +63,6 @@ pub record Mapped (f : ℕ → ℕ) (old now : List ℕ) (at : ℕ) : Type 0 whe
   pub front : take at now ≡ map f (take at old)
   pub back : drop at now ≡ drop at old
   pub same : length now ≡ length old
-
-pub mapped_start : (f : ℕ → ℕ) (old : List ℕ) → Mapped f old old 0
-mapped_start f old = record { front = refl; back = refl; same = refl }
 
 pub mapped_more : (f : ℕ → ℕ) (old now next : List ℕ) (at n : ℕ) → Mapped f old now at
     → at + n ≤ length now → next ≡ put_chunk at now (map f (chunk at n now)) → Mapped f old next (at + n)

@@ -11,13 +11,16 @@ labels_by-cut k m text label more e count = rw (e, take_at label more (suc k) co
 abbrev pub AreSome : List (List ℕ) → Type 0
 AreSome labels = AllByRecursion (λ label. 0 < length label) labels
 
+-- what is true of each, where what implies it is
+pub AllByRecursion-weaker : {X : Type 0} (P Q : X → Type 0) → ((x : X) → P x → Q x) → (xs : List X) → AllByRecursion P xs → AllByRecursion Q xs
+AllByRecursion-weaker P Q implies [] each = tt
+AllByRecursion-weaker P Q implies (x ∷ xs) each = (implies x each.0, AllByRecursion-weaker P Q implies xs each.1)
+
 labels_some : (labels : List (List ℕ)) → AllByRecursion IsLabel labels → AreSome labels
-labels_some [] each = tt
-labels_some (label ∷ labels) each = (each.0.some, labels_some labels each.1)
+labels_some = AllByRecursion-weaker IsLabel (λ label. 0 < length label) (λ label is. is.some)
 
 cased_some : (labels : List (List ℕ)) → AllByRecursion IsCasedLabel labels → AreSome labels
-cased_some [] each = tt
-cased_some (label ∷ labels) each = (each.0.some, cased_some labels each.1)
+cased_some = AllByRecursion-weaker IsCasedLabel (λ label. 0 < length label) (λ label is. is.some)
 
 -- the labels in frames, and then those in what follows
 pub labels_by-frames : (labels : List (List ℕ)) (rest : List ℕ) (m n : ℕ) → m ≡ length labels + n → AreSome labels → labels_by m (flat_map with_length labels ++ rest) ≡ labels ++ labels_by n rest
@@ -87,12 +90,14 @@ next_in : (labels : List (List ℕ)) (rest : List ℕ) (n : ℕ) (more : List �
 next_in [] rest n more name positive is = absurd (let e : n ≡ 0 = cc in omega arith)
 next_in (label ∷ labels) rest n more name positive is = grind (arith, append_assoc, take_at, drop_at, length-append, labels_of-wire_append)
 
--- octets that begin with a name, as the name's octets and the rest
-pub octets_split : (octets : List ℕ) → BeginsWithName octets → wire (labels_of octets) ++ drop (length (wire (labels_of octets))) octets ≡ octets
-octets_split octets begins = grind (arith, take-append-drop)
+-- octets that begin with a name are some
+pub some_left : (left : List ℕ) → BeginsWithName left → 0 < length left
+unfolding labels_of
+some_left [] begins = absurd (omega (arith, ap length begins.front))
+some_left (n ∷ more) begins = omega arith
 
-pub next_label : (n : ℕ) (more : List ℕ) → BeginsWithName (n ∷ more) → 0 < n → NextLabel n more (labels_of (n ∷ more))
-next_label n more begins positive = next_in (labels_of (n ∷ more)) (drop (length (wire (labels_of (n ∷ more)))) (n ∷ more)) n more begins.name positive (sym (octets_split (n ∷ more) begins))
+pub next_label : (octets : List ℕ) (n : ℕ) (more : List ℕ) → octets ≡ n ∷ more → BeginsWithName octets → 0 < n → NextLabel n more (labels_of octets)
+next_label octets n more is begins positive = next_in (labels_of octets) (drop (length (wire (labels_of octets))) octets) n more begins.name positive (sym (rw begins.front at (take-append-drop (length (wire (labels_of octets))) octets) ∙ is))
 
 -- at the root no label is left
 pub root_label : (n : ℕ) (more : List ℕ) → n ≡ 0 → labels_of (n ∷ more) ≡ []
@@ -100,25 +105,21 @@ unfolding labels_of
 root_label n more e = rw e (grind arith)
 
 -- the root's octets, as they are pushed
-pub HoldsName-root : (octets : List ℕ) → octets ≡ [] ++ 0 ∷ [] → HoldsName octets
-HoldsName-root octets e = rw e (HoldsName-wire [] (record { each = tt; short = omega arith }))
+pub root_held : (octets : List ℕ) → octets ≡ [] ++ 0 ∷ [] → HoldsName octets
+root_held octets e = rw e (HoldsName-wire [] (record { each = tt; short = omega arith }))
 
-pub HoldsCasedName-root : (octets : List ℕ) → octets ≡ [] ++ 0 ∷ [] → HoldsCasedName octets
-HoldsCasedName-root octets e = rw e (HoldsCasedName-wire [] (record { each = tt; short = omega arith }))
+pub root_held_cased : (octets : List ℕ) → octets ≡ [] ++ 0 ∷ [] → HoldsCasedName octets
+root_held_cased octets e = rw e (HoldsCasedName-wire [] (record { each = tt; short = omega arith }))
 
-pub labels_of-root : (octets : List ℕ) → octets ≡ [] ++ 0 ∷ [] → labels_of octets ≡ []
-labels_of-root octets e = ap labels_of e ∙ labels_of-wire [] tt
+pub root_has_none : (octets : List ℕ) → octets ≡ [] ++ 0 ∷ [] → labels_of octets ≡ []
+root_has_none octets e = ap labels_of e ∙ labels_of-wire [] tt
 
 -- the octets that are cut out at the length of the name are the name
-pub HoldsName-front : (octets : List ℕ) (len : ℕ) → BeginsWithName octets → len ≡ length (wire (labels_of octets)) → HoldsName (take len octets)
-HoldsName-front octets len begins e = subst HoldsName (sym (cc)) (HoldsName-wire (labels_of octets) begins.name)
+pub front_held : (octets : List ℕ) (len : ℕ) → BeginsWithName octets → len ≡ length (wire (labels_of octets)) → HoldsName (take len octets)
+front_held octets len begins e = subst HoldsName (sym (cc)) (HoldsName-wire (labels_of octets) begins.name)
 
-pub labels_of-front : (octets : List ℕ) (len : ℕ) → BeginsWithName octets → len ≡ length (wire (labels_of octets)) → labels_of (take len octets) ≡ labels_of octets
-labels_of-front octets len begins e = grind (arith, labels_of-wire)
-
--- what was counted is the whole once nothing is left
-pub counted : (len whole : ℕ) (left : List (List ℕ)) → len + length (flat_map with_length left) ≡ whole → left ≡ [] → len ≡ whole
-counted len whole left e nothing = grind arith
+pub front_labels : (octets : List ℕ) (len : ℕ) → BeginsWithName octets → len ≡ length (wire (labels_of octets)) → labels_of (take len octets) ≡ labels_of octets
+front_labels octets len begins e = grind (arith, labels_of-wire)
 
 -- each label takes two octets or more
 length-frames_twice : (labels : List (List ℕ)) → AllByRecursion IsLabel labels → length labels + length labels ≤ length (flat_map with_length labels)
@@ -149,3 +150,5 @@ labels_of-cons zero after some = absurd (omega (arith, some))
 labels_of-cons (suc k) after some =
     let left = length-drop (suc k) after in
     ap (λ labels. take (suc k) after ∷ labels) (labels_by-enough (length after) (length (drop (suc k) after)) (drop (suc k) after) (omega (arith, left)) (omega arith))
+
+pub ruleset names_in_front = (labels_of-wire_append, BeginsWithName-wire_append)

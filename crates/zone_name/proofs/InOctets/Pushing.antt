@@ -121,17 +121,17 @@ sized-name labels short = grind (arith, le-leb)
 pub sized-long : (labels : List (List ℕ)) → 255 < length (wire labels) → sized labels ≡ Err NameTooLong
 sized-long labels long = grind (arith, lt-leb)
 
--- what puts letters in lower case folds them
-lowered : (octets : List ℕ) → map to_ascii_lowercase octets ≡ map folded_octet octets
-lowered octets = grind arith
-
 -- what is written over all octets takes their place
 pub refilled : (octets new : List ℕ) → length new ≡ length octets → refill (length octets) octets new ≡ new
 refilled octets new same = take_at new (drop (length new) octets) (length octets) same
 
 pub folded_again : (octets lower : List ℕ) → lower ≡ map to_ascii_lowercase octets → refill (length octets) octets lower ≡ map folded_octet octets
-folded_again octets lower e = grind (arith, refilled, length-map, lowered)
+folded_again octets lower e = grind (arith, refilled, length-map)
 
 -- an answer that is a value keeps what is promised of one
 pub taken : {T E P : Type 0} (result : Result T E) → IsOk result → OnOk result P → P
 taken result is holds = grind (arith, false≢true)
+
+pub ruleset no_labels = (HoldsLabels-nil, labels_of-none)
+
+pub ruleset root_after_labels = (HoldsName-finish, labels_of-finish)

@@ -5,7 +5,7 @@ use Rattle.std.proofs.lemmas.List.Sums.{prefix_len_passes, prefix_len_stops}
 use Rattle.std.proofs.lemmas.Nat.{shr-shr}
 use Rattle.std.specs.Int.Count.{count_trailing_zeros}
 use Rattle.std.specs.Simd.Lanes.{mask_l}
-use Rattle.zone_name.proofs.Common.{common_steps, Bool, List, [], ap, arith, cond, drop, false, false≢true, get_or, inl, inr, leading_from_mask_l, length, length-take, map, not, prefix_len, refl, suc, sym, take, trailing_mask_l, true, zero, ℕ, ◌*◌, ◌+◌, ◌-◌, ◌/◌, ◌<◌, ◌∙◌, ◌∷◌, ◌≡◌, ◌≢◌, ◌≤◌, ◌⊎◌}
+use Rattle.zone_name.proofs.Common.{common_steps, Bool, List, [], ap, arith, cond, drop, false, false≢true, get_or, leading_from_mask_l, length, length-take, map, not, prefix_len, refl, suc, sym, take, trailing_mask_l, true, zero, ℕ, ◌*◌, ◌+◌, ◌-◌, ◌/◌, ◌<◌, ◌∙◌, ◌∷◌, ◌≡◌, ◌≢◌, ◌≤◌, ◌⊎◌}
 use lib.Lanes.{chunk}
 
 -- ---- those that pass
@@ -15,13 +15,7 @@ pub past : (p : ℕ → Bool) (at : ℕ) (xs : List ℕ) → at ≤ prefix_len p
     → prefix_len p xs ≡ at + prefix_len p (drop at xs)
 past p zero xs le = omega arith
 past p (suc at) [] le = absurd (omega (arith, le))
-past p (suc at) (x ∷ xs) le = by (p x) (past p at xs) le
-  where
-    by : (b : Bool) → (at ≤ prefix_len p xs → prefix_len p xs ≡ at + prefix_len p (drop at xs))
-        → suc at ≤ cond b (1 + prefix_len p xs) 0
-        → cond b (1 + prefix_len p xs) 0 ≡ suc at + prefix_len p (drop at xs)
-    by true rest le = let same = rest (omega (arith, le)) in omega (arith, same)
-    by false rest le = absurd (omega (arith, le))
+past p (suc at) (x ∷ xs) le = grind (arith, common_steps, past p at xs)
 
 -- what some of the octets tell of all
 pub record RunTells (p : ℕ → Bool) (xs : List ℕ) (at n run : ℕ) : Type 0 where
@@ -32,12 +26,7 @@ pub record RunTells (p : ℕ → Bool) (xs : List ℕ) (at n run : ℕ) : Type 0
 few : (p : ℕ → Bool) (n : ℕ) (xs : List ℕ) → RunTells p xs 0 n (prefix_len p (take n xs))
 few p zero xs = record { within = omega arith; passed = omega arith; ends = λ lt. absurd (omega (arith, lt)) }
 few p (suc n) [] = record { within = omega arith; passed = omega arith; ends = λ lt. refl }
-few p (suc n) (x ∷ xs) = by (p x) refl (few p n xs)
-  where
-    by : (b : Bool) → p x ≡ b → RunTells p xs 0 n (prefix_len p (take n xs))
-        → RunTells p (x ∷ xs) 0 (suc n) (cond b (1 + prefix_len p (take n xs)) 0)
-    by true e rest = grind (arith, e, rest)
-    by false e rest = grind (arith, e)
+few p (suc n) (x ∷ xs) = grind (arith, common_steps, few p n xs)
 
 pub run_tells : (p : ℕ → Bool) (xs : List ℕ) (at n run : ℕ) → at ≤ prefix_len p xs
     → run ≡ prefix_len p (chunk at n xs) → RunTells p xs at n run
@@ -64,12 +53,7 @@ prefix_step p x xs = grind (arith, common_steps, prefix_len)
 -- where no octet passes, no bit is set
 no_bits : (p : ℕ → Bool) (xs : List ℕ) → prefix_len (λ c. not (p c)) xs ≡ length xs → mask_l (map p xs) ≡ 0
 no_bits p [] all = refl
-no_bits p (x ∷ xs) all = elim (prefix_step p x xs) [
-  | inl stop ↦ absurd (omega (arith, all, stop.1))
-  | inr on ↦
-      let more : mask_l (map p xs) ≡ 0 = no_bits p xs (omega (arith, all, on.1)) in
-      ap (λ (b : Bool). cond b 1 0 + 2 * mask_l (map p xs)) on.0 ∙ omega (arith, more)
-]
+no_bits p (x ∷ xs) all = grind (arith, common_steps, prefix_step, no_bits p xs)
 
 module _ (p : ℕ → Bool) (n : ℕ) (octets : List ℕ) (within : n ≤ length octets) where
   long : length (take n octets) ≡ n
@@ -95,8 +79,7 @@ module _ (p : ℕ → Bool) (n : ℕ) (octets : List ℕ) (within : n ≤ length
       past (λ c. not (p c)) n octets (omega (arith, all, long, (few (λ c. not (p c)) n octets).passed))
 
 half : (b : Bool) (n : ℕ) → (cond b 1 0 + 2 * n) / 2 ≡ n
-half true n = omega arith
-half false n = omega arith
+half b n = grind arith
 
 -- the bits without the lowest
 bits_after : (k : ℕ) (ms : List Bool) → mask_l ms / 2 ^ k ≡ mask_l (drop k ms)

@@ -19,10 +19,9 @@ ahead_is rest = grind (arith, common_steps, cond_both, eqb-true, unit_is, first_
 
 -- what follows it is shorter
 abbrev pub Shrinks : List ℕ → Ahead → Type 0
-Shrinks rest at_end = Unit {0}
 Shrinks rest (at_dot after) = length after < length rest
 Shrinks rest (at_octet c after) = length after < length rest
-Shrinks rest at_fault = Unit {0}
+Shrinks rest ahead = Unit {0}
 
 pub ahead_shrinks : (rest : List ℕ) → Shrinks rest (ahead_in rest)
 ahead_shrinks rest = grind (arith, ahead_is rest)

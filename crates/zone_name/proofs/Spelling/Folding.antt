@@ -1,8 +1,8 @@
 -- Names that are read with their letters kept, and then folded.
-use Rattle.zone_name.proofs.Common.{◌≡◌, ℕ, ◌≤◌, List, [], ◌∷◌, ◌++◌, length, Option, IfSome, option_map, inl, inr, refl, sym, ap, ◌∙◌, arith, map-append, length-map, folded, folded_label, folded_octet, flat_map, with_length, wire, labels_of, HoldsCasedName, HoldsName, IsCasedName, IsName, kept, named, Writes, WritesCased, root, at_origin, absolute, relative, Spells, SpellsCased, SpellingFault, within, unfounded, long_name, NameFault}
+use Rattle.zone_name.proofs.Common.{◌≡◌, ℕ, ◌≤◌, List, [], ◌∷◌, ◌++◌, length, Option, IfSome, option_map, inl, inr, refl, sym, ap, ◌∙◌, arith, map-append, length-map, folded, folded_label, folded_octet, flat_map, with_length, wire, labels_of, HoldsCasedName, HoldsName, IsCasedName, IsName, kept, named, Writes, WritesCased, root, at_origin, absolute, relative, Spells, SpellsCased, SpellingFault, within, unfounded, long_name, NameFault, Folded, Kept}
 use Rattle.std.proofs.Common.{map}
 use Rattle.zone_name.specs.Common.{AreOctets, Labels}
-use Rattle.zone_name.proofs.Spelling.Answered.{ShortLabels, Spells-faultless, Spells-once, SpellsCased-or-FirstFault}
+use Rattle.zone_name.proofs.Spelling.Answered.{ShortLabels, either_by, faultless_by, once_by}
 use Rattle.zone_name.proofs.Spelling.Letters.{joined_size}
 use Rattle.zone_name.proofs.InOctets.Octets.{HoldsName-wire, labels_of-wire}
 use Rattle.zone_name.proofs.InOctets.Pushing.{AllByRecursion-append, AllByRecursion-back, AllByRecursion-front, folded_frames, folded_labels, folded_size}
@@ -13,17 +13,13 @@ IsName-folded labels name = record { each = folded_labels labels name.each; shor
 
 -- ---- octets
 
-wire_folded : (labels : Labels) → IsCasedName labels → map folded_octet (wire labels) ≡ wire (folded labels)
-wire_folded labels name = map-append folded_octet (flat_map with_length labels) (0 ∷ []) ∙ ap (λ t. t ++ 0 ∷ []) (folded_frames labels name.each)
-
 octets_folded : (octets : List ℕ) → HoldsCasedName octets → map folded_octet octets ≡ wire (folded (labels_of octets))
-octets_folded octets holds = ap (map folded_octet) (sym holds.whole) ∙ wire_folded (labels_of octets) holds.name
+octets_folded octets holds = ap (map folded_octet) (sym holds.whole) ∙ map-append folded_octet (flat_map with_length (labels_of octets)) (0 ∷ []) ∙ ap (λ t. t ++ 0 ∷ []) (folded_frames (labels_of octets) holds.name.each)
 
-pub HoldsName-folded : (octets new : List ℕ) → HoldsCasedName octets → new ≡ map folded_octet octets → HoldsName new
-HoldsName-folded octets new holds e = rw (e ∙ octets_folded octets holds) (HoldsName-wire (folded (labels_of octets)) (IsName-folded (labels_of octets) holds.name))
-
-pub labels_of-folded : (octets new : List ℕ) → HoldsCasedName octets → new ≡ map folded_octet octets → labels_of new ≡ folded (labels_of octets)
-labels_of-folded octets new holds e = ap labels_of (e ∙ octets_folded octets holds) ∙ labels_of-wire (folded (labels_of octets)) (IsName-folded (labels_of octets) holds.name).each
+pub folded_name : (octets new : List ℕ) → HoldsCasedName octets → new ≡ map folded_octet octets → HoldsName new × (labels_of new ≡ folded (labels_of octets))
+folded_name octets new holds e =
+    let name = IsName-folded (labels_of octets) holds.name in
+    rw (e ∙ octets_folded octets holds) (HoldsName-wire (folded (labels_of octets)) name, labels_of-wire (folded (labels_of octets)) name.each)
 
 -- ---- texts
 
@@ -71,7 +67,7 @@ SpellingFault-folded origin text fault (long_name labels writes short long) =
     long_name other.more other.writes other.short (rw other.size long)
 
 pub Spells-kept : (origin : Option Labels) (text : List ℕ) (labels : Labels) → IfSome origin IsCasedName → AreOctets text → Spells (option_map folded origin) text labels → (cased : Labels) × SpellsCased origin text cased × (folded cased ≡ labels)
-Spells-kept origin text labels known octets spells = elim (SpellsCased-or-FirstFault origin text known octets) [
-  | inl found ↦ (found.0, found.1, Spells-once (option_map folded origin) text (folded found.0) labels (Spells-folded origin text found.0 found.1) spells)
-  | inr bad ↦ absurd (Spells-faultless (option_map folded origin) text labels bad.0 spells (SpellingFault-folded origin text bad.0 bad.1))
+Spells-kept origin text labels known octets spells = elim (either_by Kept origin text known octets) [
+  | inl found ↦ (found.0, found.1, once_by Folded (option_map folded origin) text (folded found.0) labels (Spells-folded origin text found.0 found.1) spells)
+  | inr bad ↦ absurd (faultless_by Folded (option_map folded origin) text labels bad.0 spells (SpellingFault-folded origin text bad.0 bad.1))
 ]

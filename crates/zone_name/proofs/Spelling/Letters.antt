@@ -1,15 +1,15 @@
 -- Names whose letters are folded or kept when they are read.
-use Rattle.zone_name.proofs.Common.{AllByRecursion, Bool, Collects, Err, Folded, HoldsCasedLabels, HoldsLabelsBy, HoldsNameBy, IfErr, IfOk, IfSome, IsCasedLabel, IsCasedName, IsLabel, IsName, Kept, Letters, List, NameFault, NameTooLong, None, Ok, Option, Result, Some, Written, [], ap, append-nil, append_assoc, arith, common_steps, false, false≢true, flat_map, flat_map-append, folded, folded_octet, kept, labels_of, length, length-append, length-take, lettered, lettered_in, map, name_read, named, origin_in, refl, sized, sym, take, true, under_origin, wire, with_length, ℕ, ◌++◌, ◌+◌, ◌<◌, ◌∙◌, ◌∷◌, ◌≡◌, ◌≤◌}
+use Rattle.zone_name.proofs.Common.{AllByRecursion, Bool, Collects, Err, Folded, HoldsCasedLabels, HoldsLabelsBy, HoldsNameBy, IfErr, IfOk, IfSome, IsCasedLabel, IsCasedName, IsLabel, IsName, Kept, Letters, List, NameFault, NameTooLong, None, Ok, Option, Result, Some, Written, [], ap, append-nil, append_assoc, arith, common_steps, false, flat_map, flat_map-append, folded, folded_octet, kept, labels_of, length, length-append, length-take, lettered, lettered_in, map, name_read, origin_in, refl, sized, sym, take, true, under_origin, wire, with_length, ℕ, ◌++◌, ◌+◌, ◌<◌, ◌∙◌, ◌∷◌, ◌≡◌, ◌≤◌}
+use Rattle.std.proofs.lemmas.Result.{IfErr-weaker, IfOk-weaker}
 use Rattle.zone_name.specs.Machine.Letters.{IsReadBy}
 use Rattle.zone_name.specs.Machine.Seen.{IsReadInto}
 use Rattle.zone_name.specs.declared.reading.Spelled.{Spelled}
-use Rattle.zone_name.proofs.InOctets.Octets.{labels_of-open, labels_of-root, labels_of-wire, labels_of-wire_cased, HoldsCasedName-root, HoldsName-root}
+use Rattle.zone_name.proofs.InOctets.Octets.{labels_of-open, root_has_none, labels_of-wire, labels_of-wire_cased, root_held_cased, root_held}
 use Rattle.zone_name.proofs.InOctets.Pushing.{folded_frames, folded_labels, folded_size, sized-name, sized-long}
 
 -- what a text's labels are, by whether their letters are folded or kept, and what is true of them
 abbrev pub taken_by : Letters → List (List Written) → List (List ℕ)
-taken_by Kept = kept
-taken_by Folded = named
+taken_by letters written = lettered letters (kept written)
 
 abbrev pub IsLabelBy : Letters → List ℕ → Type 0
 IsLabelBy Kept = IsCasedLabel
@@ -53,20 +53,25 @@ pub joined-long : (octets others : List ℕ) → 255 < length octets + length ot
 joined-long octets others over Folded holds name = joined_long octets others (labels_of octets) (labels_of others) holds.whole (sym name.whole) over
 joined-long octets others over Kept holds name = joined_long octets others (labels_of octets) (labels_of others) holds.whole (sym name.whole) over
 
-name_short : (letters : Letters) (octets : List ℕ) → HoldsNameBy letters octets → length (wire (labels_of octets)) ≤ 255
-name_short Folded octets name = name.name.short
-name_short Kept octets name = name.name.short
+pub held_name : (letters : Letters) (octets : List ℕ) → HoldsNameBy letters octets → IsNameBy letters (labels_of octets)
+held_name Kept octets holds = holds.name
+held_name Folded octets holds = holds.name
+
+-- a name's labels have its size
+pub sized_by : (letters : Letters) (labels : List (List ℕ)) → IsNameBy letters labels → sized labels ≡ Ok labels
+sized_by Kept labels name = sized-name labels name.short
+sized_by Folded labels name = sized-name labels name.short
 
 -- the octets of a name after labels
 pub ended_with : (letters : Letters) (octets ending new : List ℕ) → HoldsLabelsBy letters octets → HoldsNameBy letters ending → new ≡ octets ++ ending → length octets + length ending ≤ 255 → HoldsNameBy letters new × (sized (labels_of octets ++ labels_of ending) ≡ Ok (labels_of new))
 ended_with letters octets ending new holds name is room =
     let both = joined letters octets ending new holds name is (omega (arith, room, ap length is, length-append octets ending)) in
-    (both.holds, (ap sized (sym both.gives) ∙ sized-name (labels_of new) (name_short letters new both.holds)))
+    (both.holds, (ap sized (sym both.gives) ∙ sized_by letters (labels_of new) (held_name letters new both.holds)))
 
 -- the root is a name, however letters are taken
 pub root_holds : (letters : Letters) (octets : List ℕ) → octets ≡ [] ++ 0 ∷ [] → HoldsNameBy letters octets
-root_holds Folded octets e = HoldsName-root octets e
-root_holds Kept octets e = HoldsCasedName-root octets e
+root_holds Folded octets e = root_held octets e
+root_holds Kept octets e = root_held_cased octets e
 
 -- labels take as many octets with letters folded
 pub lettered_size : (letters : Letters) (labels : List (List ℕ)) → length (wire (lettered letters labels)) ≡ length (wire labels)
@@ -90,32 +95,23 @@ pub record Ends (origin : Option (List ℕ)) (spelled : Spelled) (ending : List 
 
 pub ends_root : (origin : Option (List ℕ)) (spelled : Spelled) → spelled.is_absolute ≡ true → spelled.is_too_long ≡ false → Ends origin spelled (0 ∷ [])
 ends_root origin spelled absolute short =
-    grind (arith, common_steps, labels_of-root, sized, append-nil, root_holds)
+    grind (arith, common_steps, root_has_none, sized, append-nil, root_holds)
 
 pub ends_above : (origin : Option (List ℕ)) (above : List ℕ) (spelled : Spelled) → spelled.is_absolute ≡ false → origin ≡ Some above → spelled.is_too_long ≡ false → Ends origin spelled above
 ends_above origin above spelled relative is short = grind (arith, common_steps)
 
-held_labels : (held labels : List (List ℕ)) (is_too_long : Bool) → is_too_long ≡ false → Collects held is_too_long labels → held ≡ labels
-held_labels held labels true short collects = absurd (false≢true (sym short))
-held_labels held labels false short same = same
-
 pub finished : (origin : Option (List ℕ)) (spelled : Spelled) (octets ending new : List ℕ) (result : Result (Unit {0}) NameFault) → Ends origin spelled ending → IfOk result (λ _. (letters : Letters) → HoldsLabelsBy letters octets → HoldsNameBy letters ending → HoldsNameBy letters new × (sized (labels_of octets ++ labels_of ending) ≡ Ok (labels_of new))) → IfOk result (λ _. (letters : Letters) → HoldsLabelsBy letters octets → IfSome origin (HoldsNameBy letters) → HoldsNameBy letters new × ((labels : List (List ℕ)) → Collects (labels_of octets) spelled.is_too_long labels → under_origin (origin_in origin) (Ok (labels, spelled.is_absolute)) ≡ Ok (labels_of new)))
-finished origin spelled octets ending new (Ok done) ends is = λ letters holds known.
+finished origin spelled octets ending new result ends = IfOk-weaker result _ _ (λ done is letters holds known.
     let both = is letters holds (ends.name letters known) in
-    (both.0, λ labels collects. ends.under labels ∙ ap (λ ls. sized (ls ++ labels_of ending)) (sym (held_labels (labels_of octets) labels spelled.is_too_long ends.short collects)) ∙ both.1)
-finished origin spelled octets ending new (Err fault) ends is = tt
+    (both.0, λ labels collects. ends.under labels ∙ ap (λ ls. sized (ls ++ labels_of ending)) (sym (rw ends.short at collects)) ∙ both.1))
 
 pub unfinished : (origin : Option (List ℕ)) (spelled : Spelled) (octets ending : List ℕ) (result : Result (Unit {0}) NameFault) → Ends origin spelled ending → IfErr result (λ fault. (letters : Letters) → HoldsLabelsBy letters octets → HoldsNameBy letters ending → sized (labels_of octets ++ labels_of ending) ≡ Err fault) → IfErr result (λ fault. (letters : Letters) → HoldsLabelsBy letters octets → IfSome origin (HoldsNameBy letters) → (labels : List (List ℕ)) → Collects (labels_of octets) spelled.is_too_long labels → under_origin (origin_in origin) (Ok (labels, spelled.is_absolute)) ≡ Err fault)
-unfinished origin spelled octets ending (Ok done) ends is = tt
-unfinished origin spelled octets ending (Err fault) ends is = λ letters holds known labels collects.
-    ends.under labels ∙ ap (λ ls. sized (ls ++ labels_of ending)) (sym (held_labels (labels_of octets) labels spelled.is_too_long ends.short collects)) ∙ is letters holds (ends.name letters known)
+unfinished origin spelled octets ending result ends = IfErr-weaker result _ _ (λ fault is letters holds known labels collects.
+    ends.under labels ∙ ap (λ ls. sized (ls ++ labels_of ending)) (sym (rw ends.short at collects)) ∙ is letters holds (ends.name letters known))
 
 -- the octets of labels after others
 pub joined_size : (labels above : List (List ℕ)) → length (wire (labels ++ above)) + 1 ≡ length (wire labels) + length (wire above)
 joined_size labels above = omega (arith, ap length (flat_map-append with_length labels above), length-append (flat_map with_length labels) (flat_map with_length above), length-append (flat_map with_length labels) (0 ∷ []), length-append (flat_map with_length above) (0 ∷ []), length-append (flat_map with_length (labels ++ above)) (0 ∷ []))
-
-wire_some : (labels : List (List ℕ)) → 0 < length (wire labels)
-wire_some labels = omega (arith, length-append (flat_map with_length labels) (0 ∷ []))
 
 pub absolute_long : (origin : Option (List (List ℕ))) (spelled : Spelled) (held labels : List (List ℕ)) → spelled.is_absolute ≡ true → spelled.is_too_long ≡ true → Collects held spelled.is_too_long labels → under_origin origin (Ok (labels, spelled.is_absolute)) ≡ Err NameTooLong
 absolute_long origin spelled held labels absolute long collects =
@@ -123,34 +119,26 @@ absolute_long origin spelled held labels absolute long collects =
 
 pub relative_long : (origin : Option (List (List ℕ))) (above : List (List ℕ)) (spelled : Spelled) (held labels : List (List ℕ)) → spelled.is_absolute ≡ false → origin ≡ Some above → spelled.is_too_long ≡ true → Collects held spelled.is_too_long labels → under_origin origin (Ok (labels, spelled.is_absolute)) ≡ Err NameTooLong
 relative_long origin above spelled held labels relative is long collects =
-    grind (arith, common_steps, sized-long, joined_size, wire_some)
+    grind (arith, common_steps, sized-long, joined_size, length-append)
 
 -- ---- the name that is made of what was read
 
-pub named_ok : (letters : Letters) (origin : Option (List ℕ)) (text octets new : List ℕ) (spelled : Spelled) (result : Result (Unit {0}) NameFault) → HoldsLabelsBy letters octets → IsReadBy letters text octets spelled → IfSome origin (HoldsNameBy letters) → IfOk result (λ _. (by : Letters) → HoldsLabelsBy by octets → IfSome origin (HoldsNameBy by) → HoldsNameBy by new × ((labels : List (List ℕ)) → Collects (labels_of octets) spelled.is_too_long labels → under_origin (origin_in origin) (Ok (labels, spelled.is_absolute)) ≡ Ok (labels_of new))) → IfOk result (λ _. HoldsNameBy letters new × (name_read letters (origin_in origin) text ≡ Ok (labels_of new)))
-named_ok letters origin text octets new spelled (Ok done) holds read known is =
-    let both = is letters holds known in
-    (both.0, ap (λ r. under_origin (origin_in origin) (lettered_in letters r)) read.1 ∙ both.1 (lettered letters read.0) read.2)
-named_ok letters origin text octets new spelled (Err fault) holds read known is = tt
-
-pub named_err : (letters : Letters) (origin : Option (List ℕ)) (text octets : List ℕ) (spelled : Spelled) (result : Result (Unit {0}) NameFault) → HoldsLabelsBy letters octets → IsReadBy letters text octets spelled → IfSome origin (HoldsNameBy letters) → IfErr result (λ fault. (by : Letters) → HoldsLabelsBy by octets → IfSome origin (HoldsNameBy by) → (labels : List (List ℕ)) → Collects (labels_of octets) spelled.is_too_long labels → under_origin (origin_in origin) (Ok (labels, spelled.is_absolute)) ≡ Err fault) → IfErr result (λ fault. name_read letters (origin_in origin) text ≡ Err fault)
-named_err letters origin text octets spelled (Ok done) holds read known is = tt
-named_err letters origin text octets spelled (Err fault) holds read known is =
-    ap (λ r. under_origin (origin_in origin) (lettered_in letters r)) read.1 ∙ is letters holds known (lettered letters read.0) read.2
+pub named_by : (letters : Letters) (origin : Option (List ℕ)) (text octets new : List ℕ) (spelled : Spelled) (result : Result (Unit {0}) NameFault) → HoldsLabelsBy letters octets → IsReadBy letters text octets spelled → IfSome origin (HoldsNameBy letters) → IfOk result (λ _. (by : Letters) → HoldsLabelsBy by octets → IfSome origin (HoldsNameBy by) → HoldsNameBy by new × ((labels : List (List ℕ)) → Collects (labels_of octets) spelled.is_too_long labels → under_origin (origin_in origin) (Ok (labels, spelled.is_absolute)) ≡ Ok (labels_of new))) → IfErr result (λ fault. (by : Letters) → HoldsLabelsBy by octets → IfSome origin (HoldsNameBy by) → (labels : List (List ℕ)) → Collects (labels_of octets) spelled.is_too_long labels → under_origin (origin_in origin) (Ok (labels, spelled.is_absolute)) ≡ Err fault) → IfOk result (λ _. HoldsNameBy letters new × (name_read letters (origin_in origin) text ≡ Ok (labels_of new))) × IfErr result (λ fault. name_read letters (origin_in origin) text ≡ Err fault)
+named_by letters origin text octets new spelled (Ok done) holds read known ok err =
+    let both = ok letters holds known in
+    ((both.0, ap (λ r. under_origin (origin_in origin) (lettered_in letters r)) read.1 ∙ both.1 (lettered letters read.0) read.2), tt)
+named_by letters origin text octets new spelled (Err fault) holds read known ok err =
+    (tt, ap (λ r. under_origin (origin_in origin) (lettered_in letters r)) read.1 ∙ err letters holds known (lettered letters read.0) read.2)
 
 -- where an ending that there is room for comes after the labels
 pub ended_name : (letters : Letters) (origin : Option (List ℕ)) (text octets ending room : List ℕ) (spelled : Spelled) (result : Option ℕ) → HoldsLabelsBy letters octets → IsReadBy letters text octets spelled → IfSome origin (HoldsNameBy letters) → Ends origin spelled ending → IfSome result (λ n. n ≤ 128) → IfSome result (λ n. take n room ≡ octets ++ ending) → IfSome result (λ n. HoldsNameBy letters (take n room) × (name_read letters (origin_in origin) text ≡ Ok (labels_of (take n room))))
 ended_name letters origin text octets ending room spelled (Some n) holds read known ends within is =
     let few : length octets + length ending ≤ 255 = omega (arith, within, length-take n room, ap length is, length-append octets ending) in
-    named_ok letters origin text octets (take n room) spelled (Ok tt) holds read known
-    (finished origin spelled octets ending (take n room) (Ok tt) ends (λ by labels name. ended_with by octets ending (take n room) labels name is few))
+    (named_by letters origin text octets (take n room) spelled (Ok tt) holds read known
+    (finished origin spelled octets ending (take n room) (Ok tt) ends (λ by labels name. ended_with by octets ending (take n room) labels name is few)) tt).0
 ended_name letters origin text octets ending room spelled None holds read known ends within is = tt
 
 -- ---- what is known of octets that hold a name
-
-pub held_name : (letters : Letters) (octets : List ℕ) → HoldsNameBy letters octets → IsNameBy letters (labels_of octets)
-held_name Kept octets holds = holds.name
-held_name Folded octets holds = holds.name
 
 pub held_short : (letters : Letters) (octets : List ℕ) → HoldsNameBy letters octets → length octets ≤ 255
 held_short Kept octets holds = rw holds.whole at holds.name.short

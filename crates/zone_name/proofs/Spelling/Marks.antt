@@ -85,19 +85,9 @@ pub looked : (marks : Marks) (octets : List ℕ) (at : ℕ) → at + 16 ≤ leng
     → TellsMarks marks octets at
 looked marks octets at room bits seen =
     let n : 16 ≡ marks.seen - at = omega (arith, seen) in
-    record {
-      front = omega (arith, seen);
-      few = omega (arith, seen);
-      within = omega (arith, seen, room);
-      bits = bits ∙ ap (λ k. mask_l (map is_mark (chunk at k octets))) n;
-    }
+    grind arith
 
 -- an octet before them changes
 pub tells_set : (marks : Marks) (octets : List ℕ) (start at v : ℕ) → at < start
     → TellsMarks marks octets start → TellsMarks marks (set octets at v) start
-tells_set marks octets start at v before tells = record {
-  front = tells.front;
-  few = tells.few;
-  within = omega (arith, tells.within, length-set octets at v);
-  bits = tells.bits ∙ sym (ap (λ t. mask_l (map is_mark (take (marks.seen - start) t))) (drop-set-lt start octets at v before));
-}
+tells_set marks octets start at v before tells = grind (arith, length-set, drop-set-lt)

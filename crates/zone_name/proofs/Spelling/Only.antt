@@ -1,9 +1,9 @@
 -- What a text spells, and its own first fault, is what the walk over it finds.
-use Rattle.zone_name.proofs.Common.{Ahead, AllByRecursion, AreWrittenLabels, BadEscape, EmptyLabel, EndsLabel, Err, FaultAt, IsUnit, IsWrittenLabel, LabelTooLong, List, NameFault, Ok, Reaches, Written, [], ahead_in, ap, append-nil, append_assoc, arith, at_dot, at_fault, at_octet, bad_escape, dotted, empty_label, failed, false, inl, inr, is_dot, kept, le-leb, length, length-append, length-map, long_label, octet_of, parted, read, refl, step_at, suc, sym, text_of, true, written_octets, written_text, zero, ℕ, ◌++◌, ◌+◌, ◌<◌, ◌∙◌, ◌∷◌, ◌≡◌, ◌≤◌}
+use Rattle.zone_name.proofs.Common.{Ahead, AllByRecursion, AreWrittenLabels, BadEscape, EmptyLabel, EndsLabel, Err, FaultAt, IsUnit, IsWrittenLabel, LabelTooLong, List, NameFault, Ok, Reaches, Written, [], ahead_in, ap, append-nil, append_assoc, arith, at_dot, at_fault, at_octet, bad_escape, dotted, empty_label, failed, false, inl, inr, is_dot, kept, length, length-append, length-map, long_label, octet_of, parted, read, refl, step_at, suc, sym, text_of, true, written_octets, written_text, zero, ℕ, ◌++◌, ◌+◌, ◌<◌, ◌∙◌, ◌∷◌, ◌≡◌, ◌≤◌}
 use Rattle.zone_name.specs.Machine.LabelWalk.{reading}
 use Rattle.zone_name.proofs.Spelling.Ahead.{ahead-unit, ahead-bad}
 use Rattle.zone_name.proofs.Spelling.Units.{text_of-some}
-use Rattle.zone_name.proofs.Spelling.Steps.{read_step, octet_step, bad_step, reading-nil}
+use Rattle.zone_name.proofs.Spelling.Steps.{read_step, octet_step, full_step, reading-nil}
 use Rattle.zone_name.proofs.Spelling.Spelled.{AreShort}
 
 -- one written octet is read
@@ -33,15 +33,12 @@ dot_reads (w ∷ label) rest labels n is short enough =
     closes zero left e = absurd (omega arith)
     closes (suc k) left e = (k, omega arith, e ∙ read_step k labels (written_octets (w ∷ label)) (46 ∷ rest) (at_dot rest) refl)
 
-regroup : (a rest : List ℕ) → (a ++ 46 ∷ []) ++ rest ≡ a ++ (46 ∷ rest)
-regroup a rest = append_assoc a (46 ∷ []) rest
-
 -- labels with dots after them are read
 dots_read : (written : List (List Written)) (rest : List ℕ) (labels : List (List ℕ)) (n : ℕ) → AllByRecursion IsWrittenLabel written → AreShort written → length (dotted written ++ rest) < n → (m : ℕ) × (length rest < m) × (read n labels [] (dotted written ++ rest) ≡ read m (labels ++ kept written) [] rest)
 dots_read [] rest labels n each short enough = (n, enough, ap (λ t. read n t [] rest) (sym (append-nil labels)))
 dots_read (label ∷ written) rest labels n each short enough =
     let tail = dotted written ++ rest in
-    let shape = append_assoc (written_text label ++ 46 ∷ []) (dotted written) rest ∙ regroup (written_text label) tail in
+    let shape = append_assoc (written_text label ++ 46 ∷ []) (dotted written) rest ∙ append_assoc (written_text label) (46 ∷ []) tail in
     let found = dot_reads label tail labels n each.0 short.0 (rw shape at enough) in
     let next = dots_read written rest (labels ++ written_octets label ∷ []) found.0 each.1 short.1 found.1 in
     (next.0, next.1, cc (append_assoc labels (written_octets label ∷ []) (kept written)))
@@ -112,9 +109,6 @@ reached text before open_label rest some r =
 reads_fault : (text : List ℕ) (before : List (List Written)) (open_label : List Written) (rest : List ℕ) (ahead : Ahead) (fault : NameFault) → 0 < length rest → Reaches text before open_label rest → ahead_in rest ≡ ahead → step_at (kept before) (written_octets open_label) ahead ≡ failed fault → reading text ≡ Err fault
 reads_fault text before open_label rest ahead fault some r at fails = grind (arith, reached text before open_label rest some r)
 
-full_step : (labels : List (List ℕ)) (open_label : List ℕ) (c : ℕ) (rest : List ℕ) → 63 ≤ length open_label → step_at labels open_label (at_octet c rest) ≡ failed LabelTooLong
-full_step labels open_label c rest full = grind (arith, le-leb)
-
 empty_reads : (text : List ℕ) (before : List (List Written)) (rest : List ℕ) → Reaches text before [] rest → EndsLabel rest → (rest ≡ [] → before ≡ []) → reading text ≡ Err EmptyLabel
 empty_reads text before rest r (inl e) first = grind (arith, reading-nil)
 empty_reads text before rest r (inr dot) first = cc (reads_fault text before [] rest (at_dot dot.0) EmptyLabel (omega (arith, ap length dot.1)) r (ap ahead_in dot.1) refl)
@@ -122,5 +116,5 @@ empty_reads text before rest r (inr dot) first = cc (reads_fault text before [] 
 -- the leftmost fault of a text is what is read
 pub reading-fault : (text : List ℕ) (fault : NameFault) → FaultAt text fault → reading text ≡ Err fault
 reading-fault text fault (empty_label before rest r ends first other) = grind (arith, empty_reads)
-reading-fault text fault (long_label before open_label w rest r full is) = cc (reads_fault text before open_label (text_of w ++ rest) (at_octet (octet_of w) rest) LabelTooLong (omega (arith, length-append (text_of w) rest, text_of-some w)) r (ahead-unit w rest is) (full_step (kept before) (written_octets open_label) (octet_of w) rest (omega (arith, length-map open_label octet_of))))
-reading-fault text fault (bad_escape before open_label rest r bad) = cc (reads_fault text before open_label rest at_fault BadEscape (omega (arith, ap length bad.1)) r (ahead-bad rest bad) (bad_step (kept before) (written_octets open_label)))
+reading-fault text fault (long_label before open_label w rest r full is) = cc (reads_fault text before open_label (text_of w ++ rest) (at_octet (octet_of w) rest) LabelTooLong (omega (arith, length-append (text_of w) rest, text_of-some w)) r (ahead-unit w rest is) (full_step (kept before) (written_octets open_label) rest (octet_of w) (omega (arith, length-map open_label octet_of))))
+reading-fault text fault (bad_escape before open_label rest r bad) = cc (reads_fault text before open_label rest at_fault BadEscape (omega (arith, ap length bad.1)) r (ahead-bad rest bad) refl)

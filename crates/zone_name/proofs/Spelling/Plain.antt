@@ -1,10 +1,11 @@
 -- A text without escapes, whose labels' lengths are written over the dots before them.
 use lib.Lanes.{put_chunk}
-use Rattle.zone_name.proofs.Common.{common_steps, AllByRecursion, AreOctets, Bool, HoldsCasedLabels, IsCasedName, IsUnit, IsWrittenLabel, List, Ok, WritesLengths, Written, [], after_dots, ap, append-nil, append_assoc, ap₂, arith, bytes_decides, dotted, drop, drop_at, drop_more, eqb-false, false, flat_map, flat_map-append, get_or, get_or-drop, is_dot, is_mark, is_plain, kept, labels_of, length, length-append, length-drop, length-map, length-set, length-take-le, map, map_push, nat_eq, not-true, or_parts, parted, plain, pointwise, reading, refl, set, set_at, subst, suc, sym, take, take-append-drop, take_at, take_more_put_chunk, true, with_length, written_octets, written_text, zero, ℕ, ◌++◌, ◌+◌, ◌-◌, ◌<◌, ◌==◌, ◌∙◌, ◌∷◌, ◌≡◌, ◌≤◌}
+use Rattle.zone_name.proofs.Common.{common_steps, AllByRecursion, AreOctets, Bool, HoldsCasedLabels, IsCasedName, IsUnit, IsWrittenLabel, List, Ok, WritesLengths, Written, [], after_dots, ap, append-nil, append_assoc, ap₂, arith, bytes_decides, dotted, drop, drop_at, drop_more, eqb-false, false, flat_map, flat_map-append, get_or, get_or-drop, is_dot, is_mark, is_plain, kept, labels_of, length, length-append, length-drop, length-map, length-set, length-take-le, map, map-map, map_push, nat_eq, not-true, octet_of, or_parts, parted, plain, pointwise, reading, set, set_at, suc, sym, take, take-append-drop, take_at, take_more_put_chunk, true, with_length, written_octets, written_text, zero, ℕ, ◌++◌, ◌+◌, ◌-◌, ◌<◌, ◌==◌, ◌∙◌, ◌∷◌, ◌≡◌, ◌≤◌}
+use Rattle.zone_name.proofs.InOctets.OctetLanes.{itself}
 use Rattle.zone_name.proofs.InOctets.Octets.{labels_of-open_cased}
 use Rattle.zone_name.proofs.InOctets.Pushing.{AllByRecursion-append, HoldsCasedLabels-frames, frames_push}
 use Rattle.zone_name.proofs.Spelling.Marks.{ArePlainFrom}
-use Rattle.zone_name.proofs.Spelling.Spelled.{AreShort, Says}
+use Rattle.zone_name.proofs.Spelling.Spelled.{AreShort, Says, finds}
 use Rattle.zone_name.proofs.Spelling.Answered.{reading-says_ok, labels-says_ok}
 use Rattle.zone_name.proofs.Texts.Bare.{plain_text}
 
@@ -20,10 +21,6 @@ plain_each zero text each = tt
 plain_each (suc len) [] each = tt
 plain_each (suc len) (c ∷ text) each =
     (each 0 (omega arith), plain_each len text (λ k h. each (suc k) (omega (arith, h))))
-
-plain_octets : (text : List ℕ) → written_octets (map plain text) ≡ text
-plain_octets [] = refl
-plain_octets (c ∷ text) = ap (λ t. c ∷ t) (plain_octets text)
 
 -- a label of plain octets, whose length takes the place of the dot before it
 lengths_label : (old now next label rest : List ℕ) (start : ℕ)
@@ -43,7 +40,7 @@ lengths_label old now next label rest start w each some short at is =
       short = AllByRecursion-append (λ l. length l ≤ 63) w.written (new ∷ []) w.short
           (omega (arith, short, length-map label plain), tt);
       dots = cc (plain_text label, append_assoc dots (46 ∷ written_text new) rest, append-nil (46 ∷ written_text new), flat_map-append (λ (l : List Written). 46 ∷ written_text l) w.written (new ∷ []));
-      lengths = cc (set_at frames 46 (label ++ rest) (length label) start front, append_assoc frames (with_length label) rest, frames_push (map written_octets w.written) label, plain_octets label, map_push written_octets w.written new);
+      lengths = cc (set_at frames 46 (label ++ rest) (length label) start front, append_assoc frames (with_length label) rest, frames_push (map written_octets w.written) label, map-map octet_of plain label, itself label, map_push written_octets w.written new);
     }
 
 -- ---- octets that are seen to be plain, 16 at a time
@@ -62,18 +59,6 @@ cut_at : (old next rest : List ℕ) (n : ℕ) → WritesLengths old next rest �
     → WritesLengths old next (drop n next)
 cut_at old next rest n w e = grind (arith, length-append, drop_at)
 
-pub lengths_more : (old now next : List ℕ) (start len : ℕ) → WritesLengths old now (drop start now)
-    → start < length now → get_or now start 0 ≡ 46 → ArePlain (drop (start + 1) now) len
-    → len ≤ length (drop (start + 1) now) → 0 < len → len ≤ 63 → next ≡ set now start len
-    → WritesLengths old next (drop (start + (len + 1)) next)
-lengths_more old now next start len w inside dot each fits some short is =
-    let tail = drop (start + 1) now in
-    let label = take len tail in
-    let rest = drop len tail in
-    let count = length-take-le len tail fits in
-    let left = drop_more now start 0 inside ∙ ap (λ c. c ∷ tail) dot ∙ ap (λ t. 46 ∷ t) (sym (take-append-drop len tail)) in
-    cut_at old next rest (start + (len + 1)) (lengths_label old now next label rest start (rw left at w) (plain_each len tail each) (omega (arith, some, count)) (omega (arith, short, count)) (omega (arith, inside, length-drop start now, ap length left)) (cc)) (omega (arith, inside, fits, ap length is, length-set now start len, length-drop (start + 1) now, length-drop len tail))
-
 -- the same, of a label that ends at a place
 pub lengths_next : (old now next : List ℕ) (start end : ℕ) → WritesLengths old now (drop start now)
     → start < length now → get_or now start 0 ≡ 46 → ArePlainFrom now (start + 1) end
@@ -81,11 +66,13 @@ pub lengths_next : (old now next : List ℕ) (start end : ℕ) → WritesLengths
     → next ≡ set now start (end - start - 1) → WritesLengths old next (drop end next)
 lengths_next old now next start end w inside dot each back some short is =
     let len = end - start - 1 in
-    let at : start + (len + 1) ≡ end = omega (arith, some) in
-    let fits : len ≤ length (drop (start + 1) now) =
-    omega (arith, back, inside, length-drop (start + 1) now) in
-    subst (λ n. WritesLengths old next (drop n next)) at
-    (lengths_more old now next start len w inside dot (plain_after now start end each) fits some short is)
+    let tail = drop (start + 1) now in
+    let label = take len tail in
+    let rest = drop len tail in
+    let fits : len ≤ length tail = omega (arith, back, inside, length-drop (start + 1) now) in
+    let count = length-take-le len tail fits in
+    let left = drop_more now start 0 inside ∙ ap (λ c. c ∷ tail) dot ∙ ap (λ t. 46 ∷ t) (sym (take-append-drop len tail)) in
+    cut_at old next rest end (lengths_label old now next label rest start (rw left at w) (plain_each len tail (plain_after now start end each)) (omega (arith, some, count)) (omega (arith, short, count)) (omega (arith, inside, length-drop start now, ap length left)) (cc)) (omega (arith, inside, fits, some, ap length is, length-set now start len, length-drop (start + 1) now, length-drop len tail))
 
 -- what was put after the first octet of the room for it
 pub laid : (rest front now : List ℕ) → length front ≤ length rest → now ≡ put_chunk 1 (46 ∷ rest) front
@@ -96,16 +83,7 @@ laid rest front now fits e = grind (arith, common_steps, take_more_put_chunk)
 pub lengths_front : (old new : List ℕ) (len : ℕ) → WritesLengths old new (drop len new)
     → len ≤ length new → length old ≡ length new → WritesLengths (take len old) (take len new) []
 lengths_front old new len w fits same =
-    grind (
-      arith,
-      common_steps,
-      after_dots,
-      written_octets,
-      length-drop,
-      length-append,
-      take_at,
-      append-nil,
-    )
+    grind (arith, common_steps, after_dots, written_octets, length-drop, length-append, take_at, append-nil)
 
 -- ---- the whole text
 
@@ -133,23 +111,9 @@ says_by : (text front : List ℕ) (is_absolute : Bool) (written : List (List Wri
     → 46 ∷ front ≡ after_dots written → Says text (Ok (kept written, is_absolute))
 says_by text front is_absolute [] cut each short dots = absurd (cc)
 says_by text front true (label ∷ labels) cut each short dots =
-    let same : front ≡ parted (label ∷ labels) = cc (dots-parted label labels) in
-    record {
-      written = label ∷ labels;
-      are = record { some = omega arith; each = each };
-      short = short;
-      text_is = cc (parted-dotted label labels);
-      labels_are = refl;
-    }
+    finds dotted text (label ∷ labels) (omega arith) each short (cc (dots-parted label labels, parted-dotted label labels))
 says_by text front false (label ∷ labels) cut each short dots =
-    let same : front ≡ parted (label ∷ labels) = cc (dots-parted label labels) in
-    record {
-      written = label ∷ labels;
-      are = record { some = omega arith; each = each };
-      short = short;
-      text_is = cut ∙ same;
-      labels_are = refl;
-    }
+    finds parted text (label ∷ labels) (omega arith) each short (cc (dots-parted label labels))
 
 -- what was read into octets, and what the text reads as
 pub record PlainRead (text new : List ℕ) (is_absolute : Bool) : Type 0 where
@@ -158,33 +122,22 @@ pub record PlainRead (text new : List ℕ) (is_absolute : Bool) : Type 0 where
   pub reads : reading text ≡ Ok (labels, is_absolute)
   pub are : labels_of new ≡ labels
 
-plain_read : (text front old new : List ℕ) (is_absolute : Bool) → IsCut text front is_absolute
-    → AreOctets text → old ≡ 46 ∷ front → WritesLengths old new [] → length old + 1 ≤ 255
-    → length new ≡ length old → PlainRead text new is_absolute
-plain_read text front old new is_absolute cut octets start w room same =
-    let labels = kept w.written in
-    let says = says_by text front is_absolute w.written cut w.each w.short
-    (cc (append-nil (after_dots w.written))) in
-    let frames : new ≡ flat_map with_length labels = w.lengths ∙ append-nil (flat_map with_length labels) in
-    let name : IsCasedName labels = record {
-      each = labels-says_ok text labels is_absolute octets says;
-      short = omega (arith, room, same, ap length frames, length-append (flat_map with_length labels) (0 ∷ []));
-    } in
-    grind (arith, HoldsCasedLabels-frames, reading-says_ok, labels_of-open_cased)
-
--- the same, in the front of the room that the labels were put in after a dot
+-- what is read in the front of the room that the labels were put in after a dot
 pub plain_room : (text front rest before after : List ℕ) (is_absolute : Bool)
     → IsCut text front is_absolute → AreOctets text → length front + 17 ≤ length before
     → length before ≤ 255 → length after ≡ length before → length (46 ∷ rest) ≡ length before
     → before ≡ put_chunk 1 (46 ∷ rest) front
     → WritesLengths before after (drop (length front + 1) after)
     → PlainRead text (take (length front + 1) after) is_absolute
-plain_room text front rest before after is_absolute cut octets fits room same long put w =
+plain_room text front rest before after is_absolute cut octets fits room same long put walk =
     let len = length front + 1 in
     let first : take len before ≡ 46 ∷ front = laid rest front before (omega (arith, fits, long)) put in
-    let count : length (take len after) ≡ length (take len before) =
-    length-take-le len after (omega (arith, fits, same))
-    ∙ sym (length-take-le len before (omega (arith, fits))) in
-    plain_read text front (take len before) (take len after) is_absolute cut octets first
-    (lengths_front before after len w (omega (arith, fits, same)) (sym same))
-    (omega (arith, fits, room, ap length first)) count
+    let w = lengths_front before after len walk (omega (arith, fits, same)) (sym same) in
+    let labels = kept w.written in
+    let says = says_by text front is_absolute w.written cut w.each w.short (cc (append-nil (after_dots w.written))) in
+    let frames : take len after ≡ flat_map with_length labels = w.lengths ∙ append-nil (flat_map with_length labels) in
+    let name : IsCasedName labels = record {
+      each = labels-says_ok text labels is_absolute octets says;
+      short = omega (arith, fits, room, same, length-take-le len after (omega (arith, fits, same)), ap length frames, length-append (flat_map with_length labels) (0 ∷ []));
+    } in
+    grind (arith, HoldsCasedLabels-frames, reading-says_ok, labels_of-open_cased)

@@ -1,5 +1,5 @@
 -- What the walk over a text finds is what the text spells: from the left, as far as it has come.
-use Rattle.zone_name.proofs.Common.{Ahead, AllByRecursion, AreWrittenLabels, Bool, Err, FaultAt, IsUnit, IsWrittenLabel, LabelTooLong, List, NameFault, Ok, Reaches, Result, Written, [], append-nil, append_assoc, arith, at_dot, at_end, at_fault, at_octet, bad_escape, codes, common_steps, dotted, empty_label, failed, false, goes, if◌then◌else◌, inl, inr, is_dot, kept, length, length-append, length-map, long_label, map_push, nat_le, nat_tests, octet_of, parted, read, refl, step_at, subst, suc, sym, text_of, true, written_octets, written_text, zero, ℕ, ◌++◌, ◌<◌, ◌∙◌, ◌∷◌, ◌≡◌, ◌≢◌, ◌≤◌}
+use Rattle.zone_name.proofs.Common.{Ahead, AllByRecursion, AreWrittenLabels, Bool, Err, FaultAt, IsUnit, IsWrittenLabel, LabelTooLong, List, NameFault, Ok, Reaches, Result, Written, [], append-nil, append_assoc, arith, at_dot, at_end, at_fault, at_octet, bad_escape, codes, common_steps, dotted, empty_label, failed, false, goes, if◌then◌else◌, inl, inr, is_dot, kept, length, length-append, length-map, long_label, map_push, nat_le, nat_tests, octet_of, parted, read, refl, step_at, suc, sym, text_of, true, written_octets, written_text, zero, ℕ, ◌++◌, ◌<◌, ◌∙◌, ◌∷◌, ◌≡◌, ◌≢◌, ◌≤◌}
 use Rattle.zone_name.specs.Machine.LabelWalk.{reading}
 use Rattle.zone_name.proofs.Spelling.Ahead.{IsAhead, ahead_is, Shrinks, ahead_shrinks}
 use Rattle.zone_name.proofs.Spelling.Steps.{after_step, read_step}
@@ -16,6 +16,9 @@ pub record Finds (spelling : List (List Written) → List ℕ) (text : List ℕ)
   pub short : AreShort written
   pub text_is : text ≡ spelling written
   pub labels_are : labels ≡ kept written
+
+pub finds : (spelling : List (List Written) → List ℕ) (text : List ℕ) (written : List (List Written)) → 0 < length written → AllByRecursion IsWrittenLabel written → AreShort written → text ≡ spelling written → Finds spelling text (kept written)
+finds spelling text written some each short is = record { written = written; are = record { some = some; each = each }; short = short; text_is = is; labels_are = refl }
 
 -- what an answer says of the text
 abbrev pub Says : List ℕ → Result (List (List ℕ) × Bool) NameFault → Type 0
@@ -41,13 +44,10 @@ reaches_octet text before label w rest more r is e room = grind (arith, common_s
 
 -- ---- the ends
 relative_end : (text : List ℕ) (before : List (List Written)) (w : Written) (label : List Written) (rest : List ℕ) → Reaches text before (w ∷ label) rest → rest ≡ [] → Finds parted text (kept before ++ written_octets (w ∷ label) ∷ [])
-relative_end text before w label rest r e = record {
-  written = before ++ (w ∷ label) ∷ [];
-  are = record { some = omega (arith, length-append before ((w ∷ label) ∷ [])); each = AllByRecursion-append IsWrittenLabel before ((w ∷ label) ∷ []) r.labels (record { some = omega arith; each = r.octets }, tt) };
-  short = AllByRecursion-append (λ l. length l ≤ 63) before ((w ∷ label) ∷ []) r.short (r.room, tt);
-  text_is = cc (append-nil (dotted before ++ written_text (w ∷ label)), parted_push before (w ∷ label));
-  labels_are = sym (kept_push before (w ∷ label));
-}
+relative_end text before w label rest r e =
+    rw (← kept_push before (w ∷ label)) (finds parted text (before ++ (w ∷ label) ∷ []) (omega (arith, length-append before ((w ∷ label) ∷ [])))
+    (AllByRecursion-append IsWrittenLabel before ((w ∷ label) ∷ []) r.labels (record { some = omega arith; each = r.octets }, tt))
+    (AllByRecursion-append (λ l. length l ≤ 63) before ((w ∷ label) ∷ []) r.short (r.room, tt)) (cc (append-nil (dotted before ++ written_text (w ∷ label)), parted_push before (w ∷ label))))
 
 -- ---- one step
 abbrev Later : ℕ → List ℕ → Type 0
@@ -55,31 +55,19 @@ Later n text = (before : List (List Written)) (label : List Written) (rest : Lis
 
 full_label : (n : ℕ) (text : List ℕ) (before : List (List Written)) (label : List Written) (rest more : List ℕ) (c : ℕ) → Later n text → Reaches text before label rest → length more < length rest → length rest < suc n → (w : Written) → IsUnit is_dot w → octet_of w ≡ c → rest ≡ text_of w ++ more → (full : Bool) → nat_le 63 (length (written_octets label)) ≡ full → Says text (after_step n (if full then failed LabelTooLong else goes (kept before) (written_octets label ++ c ∷ []) more))
 full_label n text before label rest more c later r shorter enough w is oc e true test =
-    let P : List ℕ → Type 0 = λ t. Reaches text before label t in
-    long_label before label w more (subst P e r) (exact (length label) (length (written_octets label)) (length-map label octet_of) r.room test) is
-  where
-    exact : (m k : ℕ) → k ≡ m → m ≤ 63 → nat_le 63 k ≡ true → m ≡ 63
-    exact m k same room full = grind (arith, nat_tests)
+    long_label before label w more (rw e at r) (grind (arith, nat_tests, length-map label octet_of, r.room, test)) is
 full_label n text before label rest more c later r shorter enough w is oc e false test =
     let open_is : written_octets (label ++ w ∷ []) ≡ written_octets label ++ c ∷ [] = cc (map_push octet_of label w) in
-    rw open_is at (later before (label ++ w ∷ []) more (reaches_octet text before label w rest more r is e (below (length label) (length (written_octets label)) (length-map label octet_of) test)) (omega arith))
-  where
-    below : (m k : ℕ) → k ≡ m → nat_le 63 k ≡ false → m < 63
-    below m k same full = grind (arith, nat_tests)
+    rw open_is at (later before (label ++ w ∷ []) more (reaches_octet text before label w rest more r is e (grind (arith, nat_tests, length-map label octet_of, test))) (omega arith))
 
 step_says : (n : ℕ) (text : List ℕ) (before : List (List Written)) (label : List Written) (rest : List ℕ) (ahead : Ahead) → text ≢ codes "." → 0 < length text → Later n text → Reaches text before label rest → length rest < suc n → IsAhead rest ahead → Shrinks rest ahead → Says text (after_step n (step_at (kept before) (written_octets label) ahead))
 step_says n text before [] rest at_end other some later r enough is shorter = grind (arith, common_steps)
 step_says n text before (w ∷ label) rest at_end other some later r enough is shorter = relative_end text before w label rest r is
-step_says n text before [] rest (at_dot more) other some later r enough is shorter = empty_label before rest r (inr (more, is)) (λ h. absurd (dot_some more (sym is ∙ h))) other
-  where
-    dot_some : (more : List ℕ) → 46 ∷ more ≡ [] → ⊥
-    dot_some more e = cc
+step_says n text before [] rest (at_dot more) other some later r enough is shorter = empty_label before rest r (inr (more, is)) (λ h. cc) other
 step_says n text before (w ∷ label) rest (at_dot more) other some later r enough is shorter =
     rw (kept_push before (w ∷ label)) at (later (before ++ (w ∷ label) ∷ []) [] more (grind (arith, common_steps)) (omega arith))
-step_says n text before [] rest (at_octet c more) other some later r enough is shorter = full_label n text before [] rest more c later r shorter enough is.unit is.is_unit is.value is.parts (nat_le 63 (length (written_octets []))) refl
-step_says n text before (w ∷ label) rest (at_octet c more) other some later r enough is shorter = full_label n text before (w ∷ label) rest more c later r shorter enough is.unit is.is_unit is.value is.parts (nat_le 63 (length (written_octets (w ∷ label)))) refl
-step_says n text before [] rest at_fault other some later r enough is shorter = bad_escape before [] rest r is
-step_says n text before (w ∷ label) rest at_fault other some later r enough is shorter = bad_escape before (w ∷ label) rest r is
+step_says n text before label rest (at_octet c more) other some later r enough is shorter = full_label n text before label rest more c later r shorter enough is.unit is.is_unit is.value is.parts (nat_le 63 (length (written_octets label))) refl
+step_says n text before label rest at_fault other some later r enough is shorter = bad_escape before label rest r is
 
 walk_says : (n : ℕ) (text : List ℕ) → text ≢ codes "." → 0 < length text → Later n text
 walk_says zero text other some before label rest r enough = absurd (omega arith)

@@ -1,7 +1,7 @@
 -- The walk over a text: what was read so far, and what it leads to.
-use Rattle.zone_name.proofs.Common.{Ahead, BadEscape, Bool, Closes, Collects, EmptyLabel, EndsInFault, EndsLabel, EndsLabelAt, Err, Goes, IsBadEscape, LabelTooLong, List, NameFault, NameTooLong, Ok, RefusesLabel, RelativeName, Result, Step, [], ahead_in, ap, arith, at_dot, at_fault, at_octet, common_steps, done, empty, failed, false, flat_map-append, goes, inl, inr, le-leb, length, length-append, long, lt-leb, read, refl, step_at, suc, sym, wire, zero, ℕ, ◌++◌, ◌<◌, ◌||◌, ◌∙◌, ◌∷◌, ◌≡◌, ◌≤◌}
+use Rattle.zone_name.proofs.Common.{Ahead, Bool, Closes, Collects, EmptyLabel, EndsInFault, EndsLabelAt, Err, Goes, LabelTooLong, List, NameFault, Ok, RefusesLabel, Result, Step, [], ahead_in, ap, arith, at_dot, at_octet, common_steps, done, empty, failed, false, flat_map-append, goes, inl, inr, le-leb, length, length-append, long, lt-leb, read, refl, step_at, suc, sym, wire, zero, ℕ, ◌++◌, ◌<◌, ◌||◌, ◌∙◌, ◌∷◌, ◌≡◌, ◌≤◌}
 use Rattle.zone_name.specs.Machine.LabelWalk.{reading}
-use Rattle.zone_name.proofs.Spelling.Ahead.{ahead_shrinks, ahead-bad}
+use Rattle.zone_name.proofs.Spelling.Ahead.{ahead_shrinks}
 
 -- ---- one step of the reading
 
@@ -18,11 +18,8 @@ pub octet_step : (n : ℕ) (labels : List (List ℕ)) (open_label after : List �
 octet_step n labels open_label after c room = grind (arith, lt-leb)
 
 -- and of one that has none
-full_step : (labels : List (List ℕ)) (open_label after : List ℕ) (c : ℕ) → 63 ≤ length open_label → step_at labels open_label (at_octet c after) ≡ failed LabelTooLong
+pub full_step : (labels : List (List ℕ)) (open_label after : List ℕ) (c : ℕ) → 63 ≤ length open_label → step_at labels open_label (at_octet c after) ≡ failed LabelTooLong
 full_step labels open_label after c full = grind (arith, le-leb)
-
-pub bad_step : (labels : List (List ℕ)) (open_label : List ℕ) → step_at labels open_label at_fault ≡ failed BadEscape
-bad_step labels open_label = cc
 
 octet_by : (fuel : ℕ) (labels : List (List ℕ)) (open_label rest after : List ℕ) (c : ℕ) → length rest < fuel → ahead_in rest ≡ at_octet c after → length open_label < 63 → (n : ℕ) × (length rest < suc n) × (read fuel labels open_label rest ≡ read n labels (open_label ++ c ∷ []) after)
 octet_by zero labels open_label rest after c enough e room = absurd (omega arith)
@@ -33,26 +30,18 @@ fault_by fuel labels open_label rest ahead fault enough e fails = grind (arith, 
 
 -- ---- a label, octet by octet
 
-pub Goes-start : (text open_label : List ℕ) → open_label ≡ [] → Goes text open_label text
-Goes-start text open_label e = λ labels n enough. (n, enough, ap (λ t. read n labels t text) (sym e))
-
 pub Goes-octet : (text open_label rest after new : List ℕ) (c : ℕ) → Goes text open_label rest → at_octet c after ≡ ahead_in rest → length open_label < 63 → new ≡ open_label ++ c ∷ [] → Goes text new after
 Goes-octet text open_label rest after new c so_far e room grown = λ labels n enough.
     let reached = so_far labels n enough in
     let next = octet_by reached.0 labels open_label rest after c reached.1 (sym e) room in
-    let shorter : length after < length rest = rw (← e) at (ahead_shrinks rest) in
-    let left : length after < next.0 = omega (arith, next.1, shorter) in
-    (next.0, left, cc)
+    let shorter = rw (← e) at (ahead_shrinks rest) in
+    (next.0, omega (arith, next.1, shorter), cc)
 
 -- what fails from here on fails from the start
-refuses_by : (text open_label rest : List ℕ) (ahead : Ahead) (fault : NameFault) → Goes text open_label rest → ahead_in rest ≡ ahead → ((labels : List (List ℕ)) → step_at labels open_label ahead ≡ failed fault) → EndsInFault text fault
+pub refuses_by : (text open_label rest : List ℕ) (ahead : Ahead) (fault : NameFault) → Goes text open_label rest → ahead_in rest ≡ ahead → ((labels : List (List ℕ)) → step_at labels open_label ahead ≡ failed fault) → EndsInFault text fault
 refuses_by text open_label rest ahead fault so_far e fails = λ labels n enough.
     let reached = so_far labels n enough in
     reached.2 ∙ fault_by reached.0 labels open_label rest ahead fault reached.1 e (fails labels)
-
--- at a backslash that begins no escape
-pub Refuses-bad : (text open_label rest : List ℕ) → Goes text open_label rest → IsBadEscape rest → EndsInFault text BadEscape
-Refuses-bad text open_label rest so_far bad = refuses_by text open_label rest at_fault BadEscape so_far (ahead-bad rest bad) (λ labels. bad_step labels open_label)
 
 -- at the 64th octet
 pub Refuses-full : (text open_label rest after : List ℕ) (c : ℕ) → Goes text open_label rest → at_octet c after ≡ ahead_in rest → 63 ≤ length open_label → EndsInFault text LabelTooLong
@@ -61,19 +50,15 @@ Refuses-full text open_label rest after c so_far e full = refuses_by text open_l
 -- at a dot with no label before it
 dot_refused : (text label rest : List ℕ) → EndsLabelAt text label rest → length label ≡ 0 → EndsInFault text EmptyLabel
 dot_refused text (c ∷ label) rest at none = absurd (omega arith)
-dot_refused text [] rest at none = let some : 0 < length rest = omega (arith, at.some) in by rest at.goes some at.ends
-  where
-    by : (rest : List ℕ) → Goes text [] rest → 0 < length rest → EndsLabel rest → EndsInFault text EmptyLabel
-    by rest so_far some (inl e) = absurd (omega (arith, ap length e))
-    by rest so_far some (inr e) = refuses_by text [] rest (at_dot e.0) EmptyLabel so_far (ap ahead_in e.1) (λ labels. refl)
+dot_refused text [] rest at none = elim at.ends [
+  | inl e ↦ absurd (omega (arith, at.some, ap length e))
+  | inr e ↦ refuses_by text [] rest (at_dot e.0) EmptyLabel at.goes (ap ahead_in e.1) (λ labels. refl)
+]
 
 -- a label that is not closed
 pub Refuses-label : (text label rest : List ℕ) (fault : NameFault) → EndsLabelAt text label rest → length label ≤ 63 → RefusesLabel label fault → EndsInFault text fault
-Refuses-label text label rest EmptyLabel at short (empty none) = dot_refused text label rest at none
-Refuses-label text label rest LabelTooLong at short (long more) = absurd (omega arith)
-Refuses-label text label rest NameTooLong at short x = elim x [ ]
-Refuses-label text label rest BadEscape at short x = elim x [ ]
-Refuses-label text label rest RelativeName at short x = elim x [ ]
+Refuses-label text label rest fault at short (empty none) = dot_refused text label rest at none
+Refuses-label text label rest fault at short (long more) = absurd (omega arith)
 
 -- ---- the labels of a text
 

@@ -1,7 +1,7 @@
 -- Written octets at the beginning of a text: what is read is so, and what is so is read.
-use Rattle.zone_name.proofs.Common.{AllByRecursion, BeginsWithEscape, BeginsWithUnit, Bool, IsBadEscape, IsEscape, IsUnit, List, None, Option, Some, Written, [], ap, append_assoc, arith, both_ways, common_steps, cond_both, decimal, eqb-false, eqb-true, escaped, false, if◌then◌else◌, is_digit, le-leb, length, length-append, nat_le, ne_eqb, no_octet, octet_of, option_map, or_cases, or_parts, plain, refl, subst, suc, sym, text_of, true, written_text, zero, ℕ, ◌&&◌, ◌++◌, ◌<◌, ◌==◌, ◌||◌, ◌∷◌, ◌≡◌, ◌≢◌, ◌≤◌}
+use Rattle.zone_name.proofs.Common.{AllByRecursion, BeginsWithEscape, BeginsWithUnit, Bool, IsBadEscape, IsEscape, IsUnit, List, None, Option, Some, Written, [], ap, append_assoc, arith, both_ways, common_steps, cond_both, eqb-false, eqb-true, escaped, false, if◌then◌else◌, is_digit, le-leb, length, length-append, ne_eqb, no_octet, option_map, or_cases, or_parts, plain, refl, suc, text_of, true, written_text, zero, ℕ, ◌++◌, ◌<◌, ◌==◌, ◌||◌, ◌∷◌, ◌≡◌, ◌≢◌, ◌≤◌}
 use Rattle.std.specs.Prelude.{IfSome}
-use Rattle.zone_name.specs.Machine.Units.{decimal_first, digits_first, escape_first, unit_first, Units, units_then, units_by, units_first, valued}
+use Rattle.zone_name.specs.Machine.Units.{digits_first, escape_first, unit_first, Units, units_then, units_by, units_first, valued}
 
 -- no written octet stands at the beginning
 pub data NoUnit (left_out : ℕ → Bool) (octets : List ℕ) : Type 0 where
@@ -29,13 +29,6 @@ one_digit x d w after is e = grind (arith, both_ways)
 pub two_digits : (x y : ℕ) → is_digit x ≡ true → (w : Written) (after : List ℕ) → IsEscape w → 92 ∷ x ∷ y ∷ [] ≡ text_of w ++ after → ⊥
 two_digits x y d w after is e = grind (arith, both_ways)
 
--- the test of three digits
-abbrev is_decimal : ℕ → ℕ → ℕ → Bool
-is_decimal x y z = is_digit x && is_digit y && is_digit z && nat_le (octet_of (decimal x y z)) 255
-
-passes : (x y z : ℕ) → IsEscape (decimal x y z) → is_decimal x y z ≡ true
-passes x y z is = rw (is.0, is.1, is.2) (le-leb (octet_of (decimal x y z)) 255 is.3)
-
 no_escaped : (x : ℕ) (rest : List ℕ) → is_digit x ≡ false → (x == 10 || x == 13) ≡ true → (w : Written) (after : List ℕ) → IsEscape w → 92 ∷ x ∷ rest ≡ text_of w ++ after → ⊥
 no_escaped x rest d t w after is e = grind (arith, or_cases, eqb-true, both_ways)
 
@@ -46,18 +39,12 @@ abbrev pub SaysEscape : List ℕ → Option (Written × List ℕ) → Type 0
 SaysEscape text None = IsBadEscape text
 SaysEscape text (Some (w, rest)) = IsEscape w × (text ≡ text_of w ++ rest)
 
-decimal_is : (x y z : ℕ) (rest : List ℕ) → is_digit x ≡ true → SaysEscape (92 ∷ x ∷ y ∷ z ∷ rest) (decimal_first x y z rest)
-decimal_is x y z rest d = grind arith
-
 digits_are : (x : ℕ) (rest : List ℕ) → is_digit x ≡ true → SaysEscape (92 ∷ x ∷ rest) (digits_first x rest)
-digits_are x rest d = grind (arith, one_digit, two_digits, decimal_is)
-
-escaped_is : (x : ℕ) (rest : List ℕ) → is_digit x ≡ false → SaysEscape (92 ∷ x ∷ rest) (if x == 10 || x == 13 then None else Some (escaped x, rest))
-escaped_is x rest d = grind (arith, cond_both, no_escaped, or_parts, eqb-false)
+digits_are x rest d = grind (arith, one_digit, two_digits)
 
 -- each escape that is read is what the text's spelling says
 pub escape_is : (rest : List ℕ) → SaysEscape (92 ∷ rest) (escape_first rest)
-escape_is rest = grind (arith, bare_backslash, cond_both, digits_are, escaped_is)
+escape_is rest = grind (arith, bare_backslash, cond_both, digits_are, no_escaped, or_parts, eqb-false)
 
 first_of_escape : (left_out : ℕ → Bool) (text : List ℕ) (read : Option (Written × List ℕ)) → SaysEscape text read → IsFirst left_out text read
 first_of_escape left_out text read says = grind (arith, unit_of_escape)
@@ -73,13 +60,10 @@ first_is left_out (c ∷ rest) =
 -- ---- what is so is read
 
 pub first_of_unit : (left_out : ℕ → Bool) (w : Written) (rest : List ℕ) → left_out 92 ≡ false → IsUnit left_out w → unit_first left_out (text_of w ++ rest) ≡ Some (w, rest)
-first_of_unit left_out w rest backslash is = grind (arith, ne_eqb, passes)
-
-no_unit_by : (left_out : ℕ → Bool) (octets : List ℕ) (found : Option (Written × List ℕ)) → IsFirst left_out octets found → NoUnit left_out octets → left_out 92 ≡ false → found ≡ None
-no_unit_by left_out octets found is none backslash = grind arith
+first_of_unit left_out w rest backslash is = grind (arith, ne_eqb, le-leb)
 
 pub first_of_none : (left_out : ℕ → Bool) (octets : List ℕ) → left_out 92 ≡ false → NoUnit left_out octets → unit_first left_out octets ≡ None
-first_of_none left_out octets backslash none = grind (arith, no_unit_by, first_is)
+first_of_none left_out octets backslash none = grind (arith, first_is left_out octets)
 
 -- ---- written octets as long as they come
 
@@ -92,15 +76,12 @@ pub record UnitsAre (left_out : ℕ → Bool) (octets : List ℕ) (found : Units
 pub text_of-some : (w : Written) → 0 < length (text_of w)
 text_of-some w = grind arith
 
-shorter : (w : Written) (octets rest : List ℕ) → octets ≡ text_of w ++ rest → length rest < length octets
-shorter w octets rest e = omega (arith, ap length e, length-append (text_of w) rest, text_of-some w)
-
 one_more : (left_out : ℕ → Bool) (octets rest : List ℕ) (w : Written) (found : Units) → IsUnit left_out w → octets ≡ text_of w ++ rest → UnitsAre left_out rest found → UnitsAre left_out octets (record { units = w ∷ found.units; rest = found.rest })
 one_more left_out octets rest w found is e more = grind (arith, append_assoc)
 
 units_by_first : (left_out : ℕ → Bool) (octets : List ℕ) (go_on : List ℕ → Units) (found : Option (Written × List ℕ)) → IsFirst left_out octets found → ((rest : List ℕ) → length rest < length octets → UnitsAre left_out rest (go_on rest)) → UnitsAre left_out octets (units_then go_on octets found)
 units_by_first left_out octets go_on None is more = record { whole = refl; each = tt; none = is }
-units_by_first left_out octets go_on (Some (w, rest)) is more = one_more left_out octets rest w (go_on rest) is.0 is.1 (more rest (shorter w octets rest is.1))
+units_by_first left_out octets go_on (Some (w, rest)) is more = one_more left_out octets rest w (go_on rest) is.0 is.1 (more rest (omega (arith, ap length is.1, length-append (text_of w) rest, text_of-some w)))
 
 units_are : (n : ℕ) (left_out : ℕ → Bool) (octets : List ℕ) → length octets ≤ n → UnitsAre left_out octets (units_by n left_out octets)
 unfolding units_by
@@ -113,10 +94,8 @@ units_only zero left_out [] rest backslash enough each none = refl
 units_only zero left_out (w ∷ units) rest backslash enough each none = grind (arith, length-append, text_of-some)
 units_only (suc n) left_out [] rest backslash enough each none = grind (arith, first_of_none)
 units_only (suc n) left_out (w ∷ units) rest backslash enough each none =
-    let P : List ℕ → Type 0 = λ t. units_then (units_by n left_out) t (unit_first left_out t) ≡ record { units = w ∷ units; rest = rest } in
     let less : length (written_text units ++ rest) ≤ n = omega (arith, length-append (written_text (w ∷ units)) rest, length-append (text_of w) (written_text units), text_of-some w, length-append (written_text units) rest) in
-    subst P (sym (append_assoc (text_of w) (written_text units) rest))
-    (cc (first_of_unit left_out w (written_text units ++ rest) backslash each.0, units_only n left_out units rest backslash less each.1 none))
+    rw (append_assoc (text_of w) (written_text units) rest) (cc (first_of_unit left_out w (written_text units ++ rest) backslash each.0, units_only n left_out units rest backslash less each.1 none))
 
 pub units_first_are : (left_out : ℕ → Bool) (octets : List ℕ) → UnitsAre left_out octets (units_first left_out octets)
 unfolding units_first

@@ -2,9 +2,10 @@
 -- themselves.
 use Rattle.std.proofs.lemmas.List.Folds.{list_all-append}
 use Rattle.std.proofs.lemmas.List.Sums.{count_by-le-length, sum_by-append, sum_by-cons}
-use Rattle.zone_name.proofs.Common.{common_steps, BeginsWithName, Bool, HoldsName, List, [], and_parts, ap, append-nil, append_assoc, ap₂, arith, cases_Bool, cond, count_by, drop, drop-drop, drop_at, false, flat_map, get_or, is_bare, is_dot, label_text, labels_of, length, length-append, length-take, length-take-le, list_all, name_text, octet_text, put_chunk_is, refl, set, set_at, subst, suc, sym, take, take-add, take-append-drop, take_at, true, wire, with_length, zero, ℕ, ◌++◌, ◌+◌, ◌-◌, ◌<◌, ◌∙◌, ◌∷◌, ◌≡◌, ◌≤◌}
+use Rattle.zone_name.proofs.Common.{common_steps, BeginsWithName, Bool, HoldsName, List, [], and_parts, ap, append-nil, append_assoc, ap₂, arith, cases_Bool, cond, count_by, drop, drop-drop, drop_at, false, flat_map, get_or, is_bare, is_dot, label_text, labels_of, length, length-append, length-take, length-take-le, list_all, name_text, octet_text, put_chunk_is, refl, set, set_at, subst, suc, sym, take, take-add, take-append-drop, take_at, true, wire, with_length, ℕ, ◌++◌, ◌+◌, ◌-◌, ◌<◌, ◌∙◌, ◌∷◌, ◌≡◌, ◌≢◌, ◌≤◌}
+use Rattle.std.proofs.lemmas.List.{get_or_at}
 use lib.Lanes.{put_chunk}
-use Rattle.zone_name.proofs.InOctets.Octets.{next_label, root_label, BeginsWithName-wire_append, labels_of-wire_append, length-labels}
+use Rattle.zone_name.proofs.InOctets.Octets.{NextLabel, next_label, root_label, some_left, BeginsWithName-wire_append, labels_of-wire_append}
 
 -- each label after a dot
 abbrev pub after_dots : List (List ℕ) → List ℕ
@@ -12,76 +13,52 @@ after_dots labels = flat_map (λ label. 46 ∷ label) labels
 
 -- ---- the walk that writes the dots: what is written, and the octets of what is left of the name
 
-pub record Dotted (old now : List ℕ) (at labels : ℕ) : Type 0 where
-  pub front : List ℕ
-  pub left : List ℕ
-  pub parts : now ≡ front ++ left
-  pub place : length front ≡ at
+pub record Walks (old front left : List ℕ) (labels : ℕ) : Type 0 where
   pub begins : BeginsWithName left
   pub dots : front ++ after_dots (labels_of left) ≡ after_dots (labels_of old)
   pub count : labels + length (labels_of left) ≡ length (labels_of old)
   pub rest : drop (length (wire (labels_of left))) left ≡ drop (length (wire (labels_of old))) old
 
+pub record Dotted (old now : List ℕ) (at labels : ℕ) : Type 0 where
+  pub front : List ℕ
+  pub left : List ℕ
+  pub parts : now ≡ front ++ left
+  pub place : length front ≡ at
+  pub walks : Walks old front left labels
+
 pub dotted_start : (old : List ℕ) → BeginsWithName old → Dotted old old 0 0
-dotted_start old begins = grind (arith, common_steps)
-
-none_taken : (n : ℕ) → take {A = ℕ} n [] ≡ []
-none_taken zero = refl
-none_taken (suc n) = refl
-
--- octets that begin with a name are some
-some_left : (left : List ℕ) → BeginsWithName left → 0 < length left
-some_left [] begins = absurd (omega (arith, ap length (sym (none_taken (length (wire (labels_of [])))) ∙ begins.front), length-append (flat_map with_length (labels_of [])) (0 ∷ [])))
-some_left (n ∷ more) begins = omega arith
-
-pub dotted_few : (old now : List ℕ) (at labels : ℕ) → Dotted old now at labels → BeginsWithName old → labels ≤ 127
-dotted_few old now at labels d begins = omega (arith, d.count, length-labels (labels_of old) begins.name)
-
--- what stands at the place
-first_left : (front : List ℕ) (n : ℕ) (more : List ℕ) (at : ℕ) → length front ≡ at → get_or (front ++ n ∷ more) at 0 ≡ n
-first_left [] n more at e = rw (sym e) refl
-first_left (c ∷ front) n more at e = rw (sym e) (first_left front n more (length front) refl)
+dotted_start old begins = record { front = []; left = old; parts = refl; place = refl; walks = record { begins = begins; dots = refl; count = omega arith; rest = refl } }
 
 wire_length : (label : List ℕ) (labels : List (List ℕ)) → length (wire (label ∷ labels)) ≡ suc (length label + length (wire labels))
 wire_length label labels = omega (arith, length-append label (flat_map with_length labels), length-append (label ++ flat_map with_length labels) (0 ∷ []), length-append (flat_map with_length labels) (0 ∷ []))
 
-step : (old front : List ℕ) (n : ℕ) (more : List ℕ) (at labels : ℕ) → length front ≡ at → BeginsWithName (n ∷ more) → 0 < n
-    → front ++ after_dots (labels_of (n ∷ more)) ≡ after_dots (labels_of old)
-    → labels + length (labels_of (n ∷ more)) ≡ length (labels_of old)
-    → drop (length (wire (labels_of (n ∷ more)))) (n ∷ more) ≡ drop (length (wire (labels_of old))) old
-    → Dotted old (front ++ 46 ∷ more) (at + (n + 1)) (labels + 1)
-step old front n more at labels place begins some dots count rest =
-    let next = next_label n more begins some in
-    let label = take n more in
+step : (old front : List ℕ) (n : ℕ) (more : List ℕ) (labels : ℕ) → Walks old front (n ∷ more) labels → (next : NextLabel n more (labels_of (n ∷ more))) → Walks old (front ++ 46 ∷ take n more) (drop n more) (labels + 1)
+step old front n more labels w next =
     let others = labels_of (drop n more) in
-    let long : length label ≡ n = length-take-le n more next.fits in
-    let size : length (wire (labels_of (n ∷ more))) ≡ suc (n + length (wire others)) =
-    ap (λ ls. length (wire ls)) next.cut ∙ wire_length label others ∙ ap (λ k. suc (k + length (wire others))) long in
+    let size : suc (n + length (wire others)) ≡ length (wire (labels_of (n ∷ more))) =
+    omega (arith, ap (λ ls. length (wire ls)) next.cut, wire_length (take n more) others, length-take-le n more next.fits) in
     record {
-      front = front ++ 46 ∷ label;
-      left = drop n more;
-      parts = ap (λ t. front ++ 46 ∷ t) (sym (take-append-drop n more)) ∙ sym (append_assoc front (46 ∷ label) (drop n more));
-      place = omega (arith, place, long, length-append front (46 ∷ label));
       begins = next.rest;
-      dots = append_assoc front (46 ∷ label) (after_dots others) ∙ ap (λ ls. front ++ after_dots ls) (sym next.cut) ∙ dots;
-      count = omega (arith, count, ap length next.cut);
-      rest = drop-drop (length (wire others)) n more ∙ ap (λ k. drop k (n ∷ more)) (sym size) ∙ rest;
+      dots = append_assoc front (46 ∷ take n more) (after_dots others) ∙ ap (λ ls. front ++ after_dots ls) (sym next.cut) ∙ w.dots;
+      count = omega (arith, w.count, ap length next.cut);
+      rest = drop-drop (length (wire others)) n more ∙ ap (λ k. drop k (n ∷ more)) size ∙ w.rest;
     }
 
-more_by : (old front left next : List ℕ) (at labels : ℕ) → length front ≡ at → BeginsWithName left
-    → front ++ after_dots (labels_of left) ≡ after_dots (labels_of old)
-    → labels + length (labels_of left) ≡ length (labels_of old)
-    → drop (length (wire (labels_of left))) left ≡ drop (length (wire (labels_of old))) old
+more_by : (old front left next : List ℕ) (at labels : ℕ) → length front ≡ at → Walks old front left labels
     → (get_or (front ++ left) at 0 ≡ 0 → ⊥) → next ≡ set (front ++ left) at 46
     → Dotted old next (at + (get_or (front ++ left) at 0 + 1)) (labels + 1)
-more_by old front [] next at labels place begins dots count rest some is = absurd (omega (arith, some_left [] begins))
-more_by old front (n ∷ more) next at labels place begins dots count rest some is =
-    let first = first_left front n more at place in
-    let positive : 0 < n = pos n (λ e. some (first ∙ e)) in
-    rw (first, is, set_at front n more 46 at place) (step old front n more at labels place begins positive dots count rest)
-  where
-    pos : (n : ℕ) → (n ≡ 0 → ⊥) → 0 < n
-    pos n h = grind arith
+more_by old front [] next at labels place w some is = absurd (omega (arith, some_left [] w.begins))
+more_by old front (n ∷ more) next at labels place w some is =
+    let first = get_or_at front n more 0 at place in
+    let other : n ≢ 0 = λ e. some (first ∙ e) in
+    let label = next_label _ n more refl w.begins (omega arith) in
+    rw (first, is, set_at front n more 46 at place) (record {
+      front = front ++ 46 ∷ take n more;
+      left = drop n more;
+      parts = ap (λ t. front ++ 46 ∷ t) (sym (take-append-drop n more)) ∙ sym (append_assoc front (46 ∷ take n more) (drop n more));
+      place = omega (arith, place, length-take-le n more label.fits, length-append front (46 ∷ take n more));
+      walks = step old front n more labels w label;
+    })
 
 pub dotted_more : (old now next : List ℕ) (at labels : ℕ) → Dotted old now at labels → (get_or now at 0 ≡ 0 → ⊥)
     → next ≡ set now at 46 → Dotted old next (at + (get_or now at 0 + 1)) (labels + 1)
@@ -93,26 +70,23 @@ IsDotted old new labels =
     (new ≡ after_dots (labels_of old) ++ 46 ∷ drop (length (wire (labels_of old))) old)
     × (labels ≡ length (labels_of old))
 
-end_by : (old front left next : List ℕ) (at labels : ℕ) → length front ≡ at → BeginsWithName left
-    → front ++ after_dots (labels_of left) ≡ after_dots (labels_of old)
-    → labels + length (labels_of left) ≡ length (labels_of old)
-    → drop (length (wire (labels_of left))) left ≡ drop (length (wire (labels_of old))) old
+end_by : (old front left next : List ℕ) (at labels : ℕ) → length front ≡ at → Walks old front left labels
     → get_or (front ++ left) at 0 ≡ 0 → next ≡ set (front ++ left) at 46 → IsDotted old next labels
-end_by old front [] next at labels place begins dots count rest root is = absurd (omega (arith, some_left [] begins))
-end_by old front (n ∷ more) next at labels place begins dots count rest root is =
-    let none = root_label n more (sym (first_left front n more at place) ∙ root) in
+end_by old front [] next at labels place w root is = absurd (omega (arith, some_left [] w.begins))
+end_by old front (n ∷ more) next at labels place w root is =
+    let none = root_label n more (sym (get_or_at front n more 0 at place) ∙ root) in
     let whole : front ≡ after_dots (labels_of old) =
-    sym (append-nil front) ∙ ap (λ ls. front ++ after_dots ls) (sym none) ∙ dots in
+    sym (append-nil front) ∙ ap (λ ls. front ++ after_dots ls) (sym none) ∙ w.dots in
     let left : more ≡ drop (length (wire (labels_of old))) old =
-    ap (λ ls. drop (length (wire ls)) (n ∷ more)) (sym none) ∙ rest in (
+    ap (λ ls. drop (length (wire ls)) (n ∷ more)) (sym none) ∙ w.rest in (
       is ∙ set_at front n more 46 at place ∙ ap₂ (λ (s t : List ℕ). s ++ 46 ∷ t) whole left,
-      omega (arith, count, ap length none),
+      omega (arith, w.count, ap length none),
     )
 
 pub dotted_end : (old now next : List ℕ) (at labels : ℕ) → Dotted old now at labels → get_or now at 0 ≡ 0
     → next ≡ set now at 46 → IsDotted old next labels
 dotted_end old now next at labels d root is =
-    end_by old d.front d.left next at labels d.place d.begins d.dots d.count d.rest (rw d.parts at root) (rw d.parts at is)
+    end_by old d.front d.left next at labels d.place d.walks (rw d.parts at root) (rw d.parts at is)
 
 -- ---- how many dots there are
 
@@ -143,16 +117,9 @@ few_dots octets at n dots count = omega (arith, count, count_by-le-length is_dot
 bare_octet : (c : ℕ) → is_bare c ≡ true → is_dot c ≡ false → octet_text c ≡ c ∷ []
 bare_octet c bare other = grind (arith, cases_Bool, and_parts)
 
-octet_step : (b : Bool) (dots : ℕ) → cond b 1 0 + dots ≡ 0 → (b ≡ false) × (dots ≡ 0)
-octet_step true dots e = absurd (omega (arith, e))
-octet_step false dots e = (refl, omega (arith, e))
-
 bare_label : (label : List ℕ) → list_all is_bare label ≡ true → count_by is_dot label ≡ 0 → flat_map octet_text label ≡ label
 bare_label [] bare none = refl
-bare_label (c ∷ label) bare none =
-    let both = and_parts (is_bare c) (list_all is_bare label) bare in
-    let other = octet_step (is_dot c) (count_by is_dot label) (sym (count_cons is_dot c label) ∙ none) in
-    ap₂ (λ (x y : List ℕ). x ++ y) (bare_octet c both.0 other.0) (bare_label label both.1 other.1)
+bare_label (c ∷ label) bare none = grind (arith, common_steps, count_cons, bare_octet, bare_label label)
 
 dots_count : (label : List ℕ) (labels : List (List ℕ)) → count_by is_dot (after_dots (label ∷ labels)) ≡ 1 + (count_by is_dot label + count_by is_dot (after_dots labels))
 dots_count label labels = count_cons is_dot 46 (label ++ after_dots labels) ∙ ap (λ n. 1 + n) (count_append is_dot label (after_dots labels))
@@ -205,17 +172,12 @@ front_seen : (front rest : List ℕ) (seen dots : ℕ) → length front ≤ seen
     → dots ≡ count_by is_dot (take seen (front ++ rest)) → (list_all is_bare front ≡ true) × (count_by is_dot front ≤ dots)
 front_seen front rest seen dots enough bare count =
     let more = take (seen - length front) rest in
-    let parts : take seen (front ++ rest) ≡ front ++ more = take_past front rest seen enough in (
+    let e : seen ≡ length front + (seen - length front) = omega arith in
+    let parts : take seen (front ++ rest) ≡ front ++ more =
+    cc (take-add (length front) (seen - length front) (front ++ rest), take_at front rest (length front) refl, drop_at front rest (length front) refl) in (
       (and_parts (list_all is_bare front) (list_all is_bare more) (sym (list_all-append is_bare front more) ∙ ap (list_all is_bare) (sym parts) ∙ bare)).0,
       omega (arith, count, ap (count_by is_dot) parts, count_append is_dot front more),
     )
-  where
-    take_past : (front rest : List ℕ) (seen : ℕ) → length front ≤ seen → take seen (front ++ rest) ≡ front ++ take (seen - length front) rest
-    take_past [] rest seen enough = let e : seen ≡ seen - 0 = omega arith in ap (λ n. take n rest) e
-    take_past (c ∷ front) rest zero enough = absurd (omega (arith, enough))
-    take_past (c ∷ front) rest (suc seen) enough =
-        let e : seen - length front ≡ suc seen - suc (length front) = omega arith in
-        ap (λ t. c ∷ t) (take_past front rest seen (omega (arith, enough)) ∙ ap (λ n. front ++ take n rest) e)
 
 -- the dots that were counted in the text and some octets after it are those of the labels alone
 text_whole : (labels : List (List ℕ)) (rest : List ℕ) (seen dots : ℕ) → 1 < length (wire labels) → length (wire labels) ≤ seen

@@ -19,24 +19,16 @@ written_by true printed c = escaped c
 written_by false true c = plain c
 written_by false false c = decimal (48 + c / 100) (48 + c / 10 % 10) (48 + c % 10)
 
-printed_octet : ℕ → Written
+abbrev printed_octet : ℕ → Written
 printed_octet c = written_by (is_special c) (is_printed c) c
 
 pub printed_text : (special printed : Bool) (c : ℕ) → text_of (written_by special printed c) ≡ (if special then 92 ∷ c ∷ [] else (if printed then c ∷ [] else decimal_escape c))
 unfolding written_by
 printed_text special printed c = grind arith
 
-text_of-printed : (c : ℕ) → text_of (printed_octet c) ≡ octet_text c
-unfolding printed_octet
-text_of-printed c = printed_text (is_special c) (is_printed c) c
-
 pub value_by : (special printed : Bool) (c : ℕ) → octet_of (written_by special printed c) ≡ c
 unfolding written_by
 value_by special printed c = grind arith
-
-octet_of-printed : (c : ℕ) → octet_of (printed_octet c) ≡ c
-unfolding printed_octet
-octet_of-printed c = value_by (is_special c) (is_printed c) c
 
 pub digit_test : (d : ℕ) → d < 10 → is_digit (48 + d) ≡ true
 digit_test d h = grind (arith, nat_tests)
@@ -45,21 +37,17 @@ written_is : (special printed : Bool) (c : ℕ) → c < 256 → is_special c ≡
 unfolding written_by
 written_is special printed c h e = search rules
 
-printed_is : (c : ℕ) → c < 256 → IsUnit is_dot (printed_octet c)
-unfolding printed_octet
-printed_is c h = written_is (is_special c) (is_printed c) c h refl
-
 label_each : (label : List ℕ) → AllByRecursion IsFoldedOctet label → AllByRecursion (IsUnit is_dot) (map printed_octet label)
 label_each [] each = tt
-label_each (c ∷ label) each = (printed_is c each.0.octet, label_each label each.1)
+label_each (c ∷ label) each = (written_is (is_special c) (is_printed c) c each.0.octet refl, label_each label each.1)
 
 label_spelling : (label : List ℕ) → written_text (map printed_octet label) ≡ flat_map octet_text label
 label_spelling [] = refl
-label_spelling (c ∷ label) = cc (text_of-printed c, label_spelling label)
+label_spelling (c ∷ label) = cc (printed_text (is_special c) (is_printed c) c, label_spelling label)
 
 label_back : (label : List ℕ) → AllByRecursion IsFoldedOctet label → folded_label (written_octets (map printed_octet label)) ≡ label
 label_back [] each = refl
-label_back (c ∷ label) each = cc (octet_of-printed c, label_back label each.1)
+label_back (c ∷ label) each = cc (value_by (is_special c) (is_printed c) c, label_back label each.1)
 
 name_each : (labels : List (List ℕ)) → AllByRecursion IsLabel labels → AllByRecursion IsWrittenLabel (map (map printed_octet) labels)
 name_each [] each = tt
@@ -80,3 +68,5 @@ printed_by origin (label ∷ labels) name =
 
 pub name_text-spelled : (origin : Option (List (List ℕ))) (labels : List (List ℕ)) → IsName labels → Spells origin (name_text labels) labels
 name_text-spelled origin labels name = record { written = printed_by origin labels name; name = name }
+
+pub ruleset orders = (name_cmp-exact, name_cmp-total)

@@ -1,5 +1,5 @@
 use Rattle.std.proofs.Common.{OnOk, sym, subst}
-use Rattle.zone_name.proofs.Texts.Printing.{flat_map-shown}
+use Rattle.zone_name.proofs.Texts.Lengths.{flat_map-shown}
 use Rattle.zone_name.proofs.Texts.Sinks.{stops_after}
 use Rattle.zone_name.proofs.lent.push_octets.Goals as goal
 

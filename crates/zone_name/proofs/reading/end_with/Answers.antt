@@ -17,6 +17,4 @@ returns-clause-ok c =
     holds name (taken extended.result is extended.ensures.ok) (extended.ensures.variant.0 is))
 
 pub returns-clause-err : goal.returns-clause-err
-returns-clause-err c =
-    let long = joined-long c.args.octets.now.items c.args.ending.now in
-    search (rules, long)
+returns-clause-err c = search (rules, joined-long c.args.octets.now.items c.args.ending.now)

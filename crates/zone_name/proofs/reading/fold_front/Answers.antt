@@ -1,12 +1,9 @@
-use Rattle.zone_name.proofs.Common.{arith, folded_octet}
-use Rattle.zone_name.proofs.InOctets.OctetLanes.{mapped_front, mapped_more, mapped_start}
+use Rattle.zone_name.proofs.Common.{arith, folded_octet, refl}
+use Rattle.zone_name.proofs.InOctets.OctetLanes.{mapped_front, mapped_more}
 use Rattle.zone_name.proofs.reading.fold_front.Goals as goal
 
 pub loop-at-init : goal.loop-at-init
-loop-at-init c = mapped_start folded_octet c.args.octets.now
-
-pub fold_lanes-requires : goal.fold_lanes-requires
-fold_lanes-requires c = omega (arith, c.requires, c.loop-at-test.true, c.loop-at.invariant.same)
+loop-at-init c = record { front = refl; back = refl; same = refl }
 
 pub loop-at-preserved : goal.loop-at-preserved
 loop-at-preserved c =

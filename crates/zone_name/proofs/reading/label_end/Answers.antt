@@ -3,12 +3,7 @@ use Rattle.zone_name.proofs.Spelling.Marks.{all_plain, looked, next_mark, no_oct
 use Rattle.zone_name.proofs.reading.label_end.Goals as goal
 
 pub loop-marks-init : goal.loop-marks-init
-loop-marks-init c = record {
-  front = omega arith;
-  within = c.requires.within;
-  each = no_octets c.args.octets.now c.args.start;
-  tells = c.requires.tells;
-}
+loop-marks-init c = grind (arith, no_octets)
 
 pub returns-then-octets-end-lt-LANES-clause-each : goal.returns-then-octets-end-lt-LANES-clause-each
 returns-then-octets-end-lt-LANES-clause-each c =

@@ -1,10 +1,10 @@
-use Rattle.zone_name.proofs.Common.{◌∙◌, ◌≡◌, ◌<◌, ◌∷◌, [], length, length-append, ap, sym, subst, arith, nat_tests, at_octet, ahead_in}
-use Rattle.zone_name.proofs.Spelling.Ahead.{unit_seen, Shrinks, ahead_shrinks}
-use Rattle.zone_name.proofs.Spelling.Steps.{Goes-start, Goes-octet, Refuses-full, Refuses-bad}
+use Rattle.zone_name.proofs.Common.{◌∙◌, ◌≡◌, ◌<◌, ◌∷◌, [], length, length-append, ap, sym, subst, arith, nat_tests, at_octet, at_fault, ahead_in, read, refl, BadEscape}
+use Rattle.zone_name.proofs.Spelling.Ahead.{ahead-bad, unit_seen, Shrinks, ahead_shrinks}
+use Rattle.zone_name.proofs.Spelling.Steps.{Goes-octet, Refuses-full, refuses_by}
 use Rattle.zone_name.proofs.reading.open_label.Goals as goal
 
 pub loop-rest-init : goal.loop-rest-init
-loop-rest-init c = (Goes-start c.args.text.now c.args.label.now.items c.requires.none, omega (arith, c.requires.some), omega arith)
+loop-rest-init c = (λ labels n enough. (n, enough, ap (λ t. read n labels t c.args.text.now) (sym c.requires.none)), omega (arith, c.requires.some), omega arith)
 
 pub returns-then-is_full-clause-err : goal.returns-then-is_full-clause-err
 returns-then-is_full-clause-err c = Refuses-full c.args.text.now c.loop-rest.label.items c.loop-rest.rest.now c.in-Octet.after.now c.in-Octet.octet c.loop-rest.invariant.0 (unit_seen c.loop-rest.rest.now c.in-Octet.after.now c.in-Octet.octet (sym c.starts_with.ensures.value ∙ c.if-starts_with.false) c.in-Octet.ensures) (grind (arith, nat_tests, c.is_full.ensures, c.if-is_full.true))
@@ -16,4 +16,4 @@ loop-rest-preserved c =
     (Goes-octet c.args.text.now c.loop-rest.label.items c.loop-rest.rest.now c.in-Octet.after.now c.push.new.self.items c.in-Octet.octet c.loop-rest.invariant.0 seen (grind (arith, nat_tests, c.is_full.ensures, c.if-is_full.false)) c.push.ensures.items, omega (arith, ap length c.push.ensures.items, length-append c.loop-rest.label.items (c.in-Octet.octet ∷ [])), omega (arith, shorter, c.loop-rest.invariant.2))
 
 pub returns-in-BadEscape-clause-err : goal.returns-in-BadEscape-clause-err
-returns-in-BadEscape-clause-err c = Refuses-bad c.args.text.now c.loop-rest.label.items c.loop-rest.rest.now c.loop-rest.invariant.0 c.in-BadEscape.ensures
+returns-in-BadEscape-clause-err c = refuses_by c.args.text.now c.loop-rest.label.items c.loop-rest.rest.now at_fault BadEscape c.loop-rest.invariant.0 (ahead-bad c.loop-rest.rest.now c.in-BadEscape.ensures) (λ labels. refl)

@@ -1,22 +1,16 @@
-use Rattle.zone_name.proofs.Common.{Err, IfErr-weaker, Labels, List, NameFault, Ok, Origin, RelativeName, Result, Root, ap, at_origin, labels_of, on_err_weaker, on_ok_weaker, option_copied, origin_in, refl, root, sym, unfounded, ℕ, ◌∙◌, ◌≡◌}
+use Rattle.zone_name.proofs.Common.{Err, IfErr-weaker, Labels, List, NameFault, Ok, Origin, RelativeName, Result, Root, ap, at_origin, labels_of, on_err_weaker, on_ok_weaker, option_copied, origin_in, refl, root, sym, unfounded, ℕ, ◌≡◌}
 use Rattle.std.specs.Prelude.{IfErr, IsOk, OnOk}
 use Rattle.zone_name.proofs.Spelling.Answered.{answered, answered-only, answered-origin, decided-found, decided-fault, at-relative, root_is, spells_by}
 use Rattle.zone_name.proofs.Spelling.Letters.{held_name, held_origin, held_short, root_holds}
-use Rattle.zone_name.proofs.InOctets.Octets.{labels_of-root}
+use Rattle.zone_name.proofs.InOctets.Octets.{root_has_none}
 use Rattle.zone_name.proofs.reading.read_name.Goals as goal
 
-abbrev Read : Type 0
-Read = Result (List (List ℕ)) NameFault
-
 -- what is read is the one name that the text spells
-one_name : (r : Result (Unit {0}) NameFault) (read : Read) (labels name : List (List ℕ)) → OnOk r (read ≡ Ok labels) → IfErr r (λ fault. read ≡ Err fault) → read ≡ Ok name → IsOk r × (labels ≡ name)
+one_name : (r : Result (Unit {0}) NameFault) (read : Result (List (List ℕ)) NameFault) (labels name : List (List ℕ)) → OnOk r (read ≡ Ok labels) → IfErr r (λ fault. read ≡ Err fault) → read ≡ Ok name → IsOk r × (labels ≡ name)
 one_name (Ok done) read labels name ok err e = (refl, cc)
 one_name (Err fault) read labels name ok err e = absurd (cc)
 
-same_name : (read : Read) (labels name : List (List ℕ)) → read ≡ Ok labels → read ≡ Ok name → labels ≡ name
-same_name read labels name e f = cc
-
-refused : (read : Read) (name : List (List ℕ)) → read ≡ Err RelativeName → read ≡ Ok name → ⊥
+refused : (read : Result (List (List ℕ)) NameFault) (name : List (List ℕ)) → read ≡ Err RelativeName → read ≡ Ok name → ⊥
 refused read name e f = cc
 
 pub hold-requires-in-Some : goal.hold-requires-in-Some
@@ -26,10 +20,10 @@ pub returns-in-Root-clause-holds : goal.returns-in-Root-clause-holds
 returns-in-Root-clause-holds c = root_holds c.args.letters _ c.hold.ensures
 
 pub returns-in-Root-clause-found : goal.returns-in-Root-clause-found
-returns-in-Root-clause-found c = rw (labels_of-root _ c.hold.ensures) (spells_by c.args.letters (origin_in (option_copied c.args.origin)) c.args.text.now _ (root c.in-Root.ensures refl) (root_is c.args.letters))
+returns-in-Root-clause-found c = rw (root_has_none _ c.hold.ensures) (spells_by c.args.letters (origin_in (option_copied c.args.origin)) c.args.text.now _ (root c.in-Root.ensures refl) (root_is c.args.letters))
 
 pub returns-in-Root-clause-only : goal.returns-in-Root-clause-only
-returns-in-Root-clause-only c = λ name spells. (refl, labels_of-root _ c.hold.ensures ∙ same_name _ _ name refl (answered-only c.args.letters (origin_in (option_copied c.args.origin)) c.args.text.now Root name c.in-Root.ensures spells))
+returns-in-Root-clause-only c = λ name spells. (refl, cc (root_has_none _ c.hold.ensures, answered-only c.args.letters (origin_in (option_copied c.args.origin)) c.args.text.now Root name c.in-Root.ensures spells))
 
 pub returns-in-Some-clause-found : goal.returns-in-Some-clause-found
 returns-in-Some-clause-found c =
@@ -42,7 +36,7 @@ returns-in-Some-clause-only c = λ name spells.
     let origin = origin_in (option_copied c.args.origin) in
     let is = ap (λ o. origin_in (option_copied o)) c.in-Some.is in
     let known = held_origin c.args.letters (option_copied c.args.origin) c.requires in
-    (refl, ap labels_of c.hold-in-Some.ensures ∙ same_name _ _ name (answered-origin c.args.letters origin c.args.text.now (labels_of c.in-Some.above.now) is known) (answered-only c.args.letters origin c.args.text.now Origin name c.in-Origin.ensures spells))
+    (refl, cc (answered-origin c.args.letters origin c.args.text.now (labels_of c.in-Some.above.now) is known, answered-only c.args.letters origin c.args.text.now Origin name c.in-Origin.ensures spells))
 
 pub returns-in-None-clause-holds : goal.returns-in-None-clause-holds
 returns-in-None-clause-holds c = root_holds c.args.letters _ c.hold-in-None.ensures
@@ -56,7 +50,7 @@ pub returns-in-None-clause-fault : goal.returns-in-None-clause-fault
 returns-in-None-clause-fault c = unfounded (ap (λ o. origin_in (option_copied o)) c.in-None.is) (at-relative c.args.text.now c.in-Origin.ensures)
 
 pub returns-in-None-clause-err : goal.returns-in-None-clause-err
-returns-in-None-clause-err c = labels_of-root _ c.hold-in-None.ensures
+returns-in-None-clause-err c = root_has_none _ c.hold-in-None.ensures
 
 pub returns-in-Labels-clause-found : goal.returns-in-Labels-clause-found
 returns-in-Labels-clause-found c =
@@ -73,4 +67,4 @@ returns-in-Labels-clause-fault c =
     IfErr-weaker c.replace.result _ _ (λ fault e. decided-fault c.args.letters (origin_in (option_copied c.args.origin)) c.args.text.now (Err fault) c.in-Labels.ensures.0 c.in-Labels.ensures.1 known (sym e)) c.replace.ensures.err
 
 pub returns-in-Labels-clause-err : goal.returns-in-Labels-clause-err
-returns-in-Labels-clause-err c = on_err_weaker c.replace.result (λ e. labels_of-root _ e) c.replace.ensures.root
+returns-in-Labels-clause-err c = on_err_weaker c.replace.result (λ e. root_has_none _ e) c.replace.ensures.root

@@ -17,11 +17,10 @@ whole : (c : goal.After-set_front)
 whole c =
     let text = c.args.text.now in
     let front = c.match-strip_suffix.is_absolute.0.now in
-    let room = c.if-len-gt-ROOM.false in
     let long = c.put.auto.room in
     plain_room text front (replicate 127 46) c.put.new.room c.write_lengths.new.octets c.match-strip_suffix.is_absolute.1 (cut c)
     (AllByRecursion-from_places (λ x. x < 256) text (λ k h. let f = c.type_inv.text k in omega arith))
-    (omega (arith, room, long)) (omega (arith, long)) c.write_lengths.auto.octets (let e : 128 ≡ length c.put.new.room = omega (arith, long, c.told-room) in e) (c.put.ensures ∙ ap (λ r. put_chunk 1 r front) c.requires) (c.if-not-write_lengths.ensures refl)
+    (omega (arith, c.if-len-gt-ROOM.false, long)) (omega (arith, long)) c.write_lengths.auto.octets (let e : 128 ≡ length c.put.new.room = omega (arith, long, c.told-room) in e) (c.put.ensures ∙ ap (λ r. put_chunk 1 r front) c.requires) (c.if-not-write_lengths.ensures refl)
 
 pub returns-clause-holds : goal.returns-clause-holds
 returns-clause-holds c = c.set_front.ensures.holds (whole c).holds

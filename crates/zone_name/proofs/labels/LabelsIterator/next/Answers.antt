@@ -1,4 +1,4 @@
-use Rattle.zone_name.proofs.Common.{◌<◌, ap, ◌∙◌, sym, subst, arith, rules, BeginsWithName, labels_of}
+use Rattle.zone_name.proofs.Common.{ap, ◌∙◌, sym, arith, rules, labels_of}
 use Rattle.zone_name.proofs.InOctets.Octets.{next_label, root_label}
 use Rattle.zone_name.proofs.labels.LabelsIterator.next.Goals as goal
 
@@ -8,27 +8,16 @@ returns-then-len-eq0-clause-steps c =
     (e, e)
 
 pub split_at-requires : goal.split_at-requires
-split_at-requires c =
-    let begins = subst BeginsWithName c.in_ok-len.ensures.cases.0 c.self.invariant in
-    let positive : 0 < c.in_ok-len.len.now = omega arith in
-    let next = next_label c.in_ok-len.len.now c.in_ok-len.after.now begins positive in
-    next.fits
+split_at-requires c = (next_label _ c.in_ok-len.len.now c.in_ok-len.after.now c.in_ok-len.ensures.cases.0 c.self.invariant (omega arith)).fits
 
 pub invariant_of-self : goal.invariant_of-self
 invariant_of-self c =
-    let begins = subst BeginsWithName c.in_ok-len.ensures.cases.0 c.self.invariant in
-    let positive : 0 < c.in_ok-len.len.now = omega arith in
-    let next = next_label c.in_ok-len.len.now c.in_ok-len.after.now begins positive in
-    rw c.split_at.ensures.back next.rest
+    rw c.split_at.ensures.back (next_label _ c.in_ok-len.len.now c.in_ok-len.after.now c.in_ok-len.ensures.cases.0 c.self.invariant (omega arith)).rest
 
 pub returns-clause-steps : goal.returns-clause-steps
 returns-clause-steps c =
-    let begins = subst BeginsWithName c.in_ok-len.ensures.cases.0 c.self.invariant in
-    let positive : 0 < c.in_ok-len.len.now = omega arith in
-    let next = next_label c.in_ok-len.len.now c.in_ok-len.after.now begins positive in
-    rw (c.split_at.ensures.back, c.split_at.ensures.front) (sym c.self.view_is ∙ ap labels_of c.in_ok-len.ensures.cases.0 ∙ next.cut)
+    let next = next_label _ c.in_ok-len.len.now c.in_ok-len.after.now c.in_ok-len.ensures.cases.0 c.self.invariant (omega arith) in
+    rw (c.split_at.ensures.back, c.split_at.ensures.front) (sym c.self.view_is ∙ next.cut)
 
 pub returns-clause-goes : goal.returns-clause-goes
-returns-clause-goes c =
-    let e = returns-clause-steps c in
-    rw e (search rules)
+returns-clause-goes c = rw (returns-clause-steps c) (search rules)

@@ -1,4 +1,4 @@
-use Rattle.zone_name.proofs.Texts.Printing.{prints_more}
+use Rattle.zone_name.proofs.Texts.Lengths.{prints_more}
 use Rattle.zone_name.proofs.Texts.Sinks.{Took-more, stops_after}
 use Rattle.zone_name.proofs.lent.NameRef.print_labels.Goals as goal
 

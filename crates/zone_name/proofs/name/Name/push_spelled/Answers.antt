@@ -1,7 +1,7 @@
 use Rattle.std.proofs.lemmas.Result.{IfOk-weaker}
-use Rattle.zone_name.proofs.Common.{Err, IfErr, IsOk, List, NameFault, Ok, Option, Result, SpellingFault, Spells, option_copied, refl, subst, ℕ}
+use Rattle.zone_name.proofs.Common.{Err, Folded, IfErr, IsOk, List, NameFault, Ok, Option, Result, SpellingFault, Spells, option_copied, refl, subst, ℕ}
 use Rattle.zone_name.specs.Common.{Labels}
-use Rattle.zone_name.proofs.Spelling.Answered.{Spells-faultless}
+use Rattle.zone_name.proofs.Spelling.Answered.{faultless_by}
 use Rattle.zone_name.proofs.name.Name.push_spelled.Goals as goal
 
 pub returns-then-branch-clause-found : goal.returns-then-branch-clause-found
@@ -14,7 +14,7 @@ returns-clause-found c = rw (c.in_ok-push_plain.ensures.left c.if-branch.false) 
 
 sound : (origin : Option Labels) (text : List ℕ) (name : Labels) → Spells origin text name → (read : Result (Unit {0}) NameFault) → IfErr read (SpellingFault origin text) → IsOk read
 sound origin text name spells (Ok done) fault = refl
-sound origin text name spells (Err f) fault = absurd (Spells-faultless origin text name f spells fault)
+sound origin text name spells (Err f) fault = absurd (faultless_by Folded origin text name f spells fault)
 
 pub returns-clause-only : goal.returns-clause-only
 returns-clause-only c = λ name spells.
