@@ -15,17 +15,8 @@ stands_alike questions others before other r is comes = grind arith
 order_alike : (questions others : List QuestionAt) (before other : List Placed) (r : Record) (fault : Fault) → Alike questions others before other → OrderFault questions before r fault → OrderFault others other r fault
 order_alike questions others before other r fault is bad = grind (arith, unless_same)
 
-opening_grows : (before other : List Placed) (p : Placed) → opening_of before ≡ opening_of other → opening_of (before ++ p ∷ []) ≡ opening_of (other ++ p ∷ [])
-opening_grows before other p e = grind arith
-
-closing_grows : (before other : List Placed) (p : Placed) → opening_of before ≡ opening_of other → is_closed before ≡ is_closed other → is_closed (before ++ p ∷ []) ≡ is_closed (other ++ p ∷ [])
-closing_grows before other p e h = grind (arith, common_steps)
-
-some_more : (before : List Placed) (p : Placed) → before ++ p ∷ [] ≡ [] → ⊥
-some_more before p e = grind (arith, common_steps)
-
 alike_more : (questions others : List QuestionAt) (before other : List Placed) (p : Placed) → Alike questions others before other → Alike questions others (before ++ p ∷ []) (other ++ p ∷ [])
-alike_more questions others before other p is = record { opening = opening_grows before other p is.opening; closing = closing_grows before other p is.opening is.closing; zone = λ e. absurd (some_more before p e) }
+alike_more questions others before other p is = grind (arith, common_steps)
 
 alike_after : (questions others : List QuestionAt) (before other placed : List Placed) → Alike questions others before other → Alike questions others (before ++ placed) (other ++ placed)
 alike_after questions others before other placed is = grind (arith, common_steps)

@@ -1,10 +1,8 @@
 -- An answer is read as the record that it states, or has its first fault.
 use Rattle.zone_wire.proofs.Common.{AnswerStates, BadClass, Bool, Built, Bytes, CompressibleType, Data, DataFault, Err, Failing, Fault, IfErr, IfFault, IfOk, IsClass, IsDataAt, IsErr, IsKind, IsRead, IsReadable, IsRecord, IsRecordAt, IsTrue, List, MetaType, Ok, OwnFault, RawRecord, Record, RecordAt, Result, data_at, fails, false, holds, octets_of, refl, subst, sym, true, ttl_of, ℕ, ◌↔◌, ◌≡◌, arith}
 use Rattle.zone_rdata.specs.declared.fault.Failing.TheVariants as failings
-use Rattle.zone_wire.proofs.Fields.DataFaults.{data_faults}
-use Rattle.zone_wire.proofs.Fields.OneFault.{own_not_both}
+use Rattle.zone_wire.proofs.Fields.DataFaults.{data_faults, own_not_both, record_unique}
 use Rattle.zone_wire.proofs.Fields.ReadFields.{data_shown}
-use Rattle.zone_wire.proofs.Transfers.OneTransfer.{record_unique}
 
 -- ---- one record, or one fault
 abbrev pub IsOnlyAnswer : List ℕ → RecordAt → Result Record Failing → Type 0
