@@ -10,7 +10,7 @@ ghost use Rattle.zone_wire.specs.AnswerFault.{AnswerFault};
 ghost use Rattle.zone_wire.specs.Machine.Answers.{agrees, order_fault, same_record};
 ghost use Rattle.zone_wire.specs.Machine.Transferring.{zone_held, zone_with, Among, IsAfter, Gains, Takes, TakesEach, TakesHead, HeadFault, TakesMessage, ReadsNext};
 ghost use Rattle.zone_wire.specs.Message.{QuestionAt};
-ghost use Rattle.zone_wire.specs.Transfer.{AnswerStates, StatedMessage};
+ghost use Rattle.zone_wire.specs.Transfer.{StatedMessage};
 
 use crate::header::HEADER_LEN;
 use crate::labels::LabelRoom;

@@ -4,7 +4,7 @@ use crate::tests::judged;
 use std::alloc::Global;
 use std::test::Fail;
 use test_support::{
-    Question, check_lines, parted, push_fault, push_hex, push_text, push_words, rooted,
+    Question, check, check_lines, parted, push_fault, push_hex, push_text, push_words, rooted,
 };
 use zone_rdata::{Class, Failing, Fault, Item, Kind, Rdata};
 
@@ -53,14 +53,17 @@ pub(super) fn data_of(
     judged(Rdata::from_items(alloc, class, kind, &items, &origin))
 }
 
-/// The data that a line states under an origin, read into a buffer that was used before.
-fn data_in_buffer(alloc: Global, origin: &str, line: &str) -> Result<Result<Rdata, Fault>, Fail> {
+/// Reads the data that a line states under an origin in the place of other data.
+fn set_from_line(
+    alloc: Global,
+    data: &mut Rdata,
+    origin: &str,
+    line: &str,
+) -> Result<Result<(), Fault>, Fail> {
     let origin = rooted(origin.as_bytes())?;
     let Words { class, kind, items } = words_of(alloc, line)?;
-    let mut buffer = Vec::new(alloc);
-    push_text(&mut buffer, "octets of before")?;
-    match Rdata::read_items(buffer, class, kind, &items, &origin) {
-        Ok(data) => Ok(Ok(data)),
+    match data.set_from_items(class, kind, &items, &origin) {
+        Ok(()) => Ok(Ok(())),
         Err(failing) => judged(Err(Failing::from(failing))),
     }
 }
@@ -164,13 +167,15 @@ impl Question for Held {
     }
 }
 
-/// The same, read into a buffer that was used before.
-struct HeldInBuffer;
+/// The same, read in the place of other data, lent and copied.
+struct HeldInPlace;
 
-impl Question for HeldInBuffer {
+impl Question for HeldInPlace {
     fn answer(alloc: Global, asked: &'static str, out: &mut Vec<u8>) -> Result<(), Fail> {
         let (origin, line) = parted(asked, " ")?;
-        push_data(alloc, out, &data_in_buffer(alloc, origin, line)??)
+        let mut data = data_of(alloc, "x.", "IN TXT \"octets of before\"")??;
+        set_from_line(alloc, &mut data, origin, line)??;
+        push_data(alloc, out, &data.lend().to_rdata(alloc)?)
     }
 }
 
@@ -186,7 +191,19 @@ x. IN TXT aaaaaaaaaaaaaaaaaaaaaaaaaaaaaaaaaaaaaaaaaaaaaaaaaaaaaaaaaaaaaaaaaaaaaa
 #[test]
 fn data_as_it_is_held(rt: HostRuntime) -> Result<(), Fail> {
     check_lines::<Held>(rt.alloc(), HELD)?;
-    check_lines::<HeldInBuffer>(rt.alloc(), HELD)
+    check_lines::<HeldInPlace>(rt.alloc(), HELD)
+}
+
+#[test]
+fn refused_items_leave_no_octets(rt: HostRuntime) -> Result<(), Fail> {
+    let mut data = data_of(rt.alloc(), "x.", "IN NS b.")??;
+    let answer = set_from_line(rt.alloc(), &mut data, "x.", "IN MX 1 a..b")?;
+    let is_refused = matches!(answer, Err(Fault::EmptyLabel));
+    let is_null = data.kind().number() == 10 && data.octets().is_empty();
+    check(
+        is_refused && is_null && data == Rdata::empty(rt.alloc()),
+        "no octets are left",
+    )
 }
 
 /// The order of the data of two lines, and whether they are the same.

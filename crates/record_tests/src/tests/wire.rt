@@ -102,16 +102,18 @@ fn push_parts(
     Ok(())
 }
 
-/// A builder of data of this type and class IN, in a buffer that was used before.
+/// A builder of data of this type and class IN, which was one of a TXT record before.
 fn builder_of(alloc: Global, kind: &str) -> Result<RdataBuilder, Fail> {
+    let (class, strings) = in_class_in("16")?;
+    let mut builder = RdataBuilder::new(alloc, class, strings);
+    judged(builder.push_string(b"octets of before"))??;
     let (class, kind) = in_class_in(kind)?;
-    let mut buffer = Vec::new(alloc);
-    push_text(&mut buffer, "octets of before")?;
-    Ok(RdataBuilder::in_buffer(buffer, class, kind))
+    builder.restart(class, kind);
+    Ok(builder)
 }
 
-/// What a builder of a type and class IN answers to parts of data, and then the data's octets or
-/// the fault.
+/// What a builder of a type and class IN answers to parts of data, then the octets of the data that
+/// it lends, if that is whole, and those of the data that it makes, or the fault.
 struct Built;
 
 impl Question for Built {
@@ -119,6 +121,10 @@ impl Question for Built {
         let (kind, parts) = parted(asked, ": ")?;
         let mut builder = builder_of(alloc, kind)?;
         push_parts(alloc, &mut builder, parts, out)?;
+        if let Some(data) = builder.whole() {
+            push_hex(alloc, out, data.octets())?;
+            push_text(out, "; ")?;
+        }
         match builder.finish() {
             Ok(data) => push_hex(alloc, out, data.octets()),
             Err(fault) => push_fault(alloc, out, &fault),
@@ -128,13 +134,13 @@ impl Question for Built {
 
 /// A type and its parts, one of them a string of 256 octets, and the answers.
 const BUILT: &str = "\
-15: name M.x.; u16 10; name M.x. => BadRdata; ok; ok; #000a016d017800
+15: name M.x.; u16 10; name M.x. => BadRdata; ok; ok; #000a016d017800; #000a016d017800
 15: u16 10 => ok; BadRdata
-16: string aaaaaaaaaaaaaaaaaaaaaaaaaaaaaaaaaaaaaaaaaaaaaaaaaaaaaaaaaaaaaaaaaaaaaaaaaaaaaaaaaaaaaaaaaaaaaaaaaaaaaaaaaaaaaaaaaaaaaaaaaaaaaaaaaaaaaaaaaaaaaaaaaaaaaaaaaaaaaaaaaaaaaaaaaaaaaaaaaaaaaaaaaaaaaaaaaaaaaaaaaaaaaaaaaaaaaaaaaaaaaaaaaaaaaaaaaaaaaaaaaaaaaaaaaaaaaaaa; string a; string  => StringTooLong; ok; ok; #016100
+16: string aaaaaaaaaaaaaaaaaaaaaaaaaaaaaaaaaaaaaaaaaaaaaaaaaaaaaaaaaaaaaaaaaaaaaaaaaaaaaaaaaaaaaaaaaaaaaaaaaaaaaaaaaaaaaaaaaaaaaaaaaaaaaaaaaaaaaaaaaaaaaaaaaaaaaaaaaaaaaaaaaaaaaaaaaaaaaaaaaaaaaaaaaaaaaaaaaaaaaaaaaaaaaaaaaaaaaaaaaaaaaaaaaaaaaaaaaaaaaaaaaaaaaaaaaaaaaaaa; string a; string  => StringTooLong; ok; ok; #016100; #016100
 16:  => BadRdata
-1: octets 0a0000; octets 0a000001 => BadRdata; ok; #0a000001
-731: octets ; octets  => ok; BadRdata; #
-6: name n.x.; name n.x.; u32 1; u32 2; u32 3; u32 4; u32 5 => ok; ok; ok; ok; ok; ok; ok; #016e017800016e0178000000000100000002000000030000000400000005
+1: octets 0a0000; octets 0a000001 => BadRdata; ok; #0a000001; #0a000001
+731: octets ; octets  => ok; BadRdata; #; #
+6: name n.x.; name n.x.; u32 1; u32 2; u32 3; u32 4; u32 5 => ok; ok; ok; ok; ok; ok; ok; #016e017800016e0178000000000100000002000000030000000400000005; #016e017800016e0178000000000100000002000000030000000400000005
 ";
 
 #[test]
