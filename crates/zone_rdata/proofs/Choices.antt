@@ -1,5 +1,8 @@
 -- What is so or not, of one thing or of none.
-use Rattle.zone_rdata.proofs.Common.{[], ◌≡◌, ℕ, ◌<◌, Bool, true, List, ◌∷◌, ◌⊎◌, inl, inr, arith, Option, AllByRecursion, IfNone, IfSome, cases_lt}
+use Rattle.std.proofs.Common.{[], ◌≡◌, ℕ, ◌<◌, Bool, true, List, ◌∷◌, ◌⊎◌, inl, inr, arith, Option}
+use Rattle.std.proofs.lemmas.Bool.{cases_lt}
+use Rattle.std.specs.List.{AllByRecursion}
+use Rattle.std.specs.Prelude.{IfNone, IfSome}
 
 abbrev pub Decided : Type 0 → Type 0
 Decided P = P ⊎ (P → ⊥)
@@ -16,6 +19,12 @@ Choice {X = X} P = ((x : X) × P x) ⊎ ((x : X) → P x → ⊥)
 
 pub choice_as : {X Y : Type 0} {P : X → Type 0} {Q : Y → Type 0} (f : X → Y) → ((x : X) → P x → Q (f x)) → (((x : X) → P x → ⊥) → (y : Y) → Q y → ⊥) → Choice P → Choice Q
 choice_as f more none h = grind arith
+
+-- one thing of two that are so or not
+pub choice_both : {X Y Z : Type 0} {P : X → Type 0} {Q : Y → Type 0} {R : Z → Type 0} (join : X → Y → Z) → ((x : X) (y : Y) → P x → Q y → R (join x y)) → ((z : Z) → R z → ((x : X) × P x) × ((y : Y) × Q y)) → Choice P → Choice Q → Choice R
+choice_both join both parts (inl x) (inl y) = inl (join x.0 y.0, both x.0 y.0 x.1 y.1)
+choice_both join both parts (inr none) y = inr (λ z h. none (parts z h).0.0 (parts z h).0.1)
+choice_both join both parts x (inr none) = inr (λ z h. none (parts z h).1.0 (parts z h).1.1)
 
 -- a number below a bound is stated or none
 pub below_or_not : (Is : ℕ → Type 0) (bound : ℕ) → ((a b : ℕ) → Is a → Is b → a ≡ b) → Choice Is → Choice (λ n. Is n × (n < bound))

@@ -1,5 +1,10 @@
 -- A fault that is passed on, and one that is not.
-use Rattle.zone_rdata.proofs.Common.{◌≡◌, Result, Err, arith, IfErr, IsErrAnd, err_from_is_err_and, Fault, Failing, IfFault}
+use Rattle.std.proofs.Common.{◌≡◌, Result, Err, arith}
+use Rattle.std.proofs.lemmas.Result.{err_from_is_err_and}
+use Rattle.std.specs.Prelude.{IfErr, IsErrAnd}
+use Rattle.zone_rdata.specs.Fault.{IfFault}
+use Rattle.zone_rdata.specs.declared.fault.Failing.{Failing}
+use Rattle.zone_rdata.specs.declared.fault.Fault.{Fault}
 use Rattle.zone_rdata.specs.declared.fault.Failing.TheVariants as failings
 
 pub IfFault-weaker : (P Q : Fault → Type 0) (e : Failing) → ((fault : Fault) → P fault → Q fault) → IfFault P e → IfFault Q e

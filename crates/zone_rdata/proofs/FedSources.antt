@@ -1,9 +1,8 @@
 -- What a source that is fed stands for after the records that it gives.
-use Rattle.zone_rdata.proofs.Common.{[], ◌≡◌, ℕ, List, ◌∷◌, ◌++◌, Option, Some, None, Result, Ok, Err, subst, arith, append-nil, Fault, common_steps, after, answer_of}
+use Rattle.zone_rdata.proofs.Common.{[], ◌≡◌, ℕ, List, ◌∷◌, ◌++◌, Option, Some, None, Result, Ok, Err, subst, arith, append-nil, Fault, common_steps, after, answer_of, Placed}
 use Rattle.zone_rdata.specs.FedSource.{Gives, SourceState, StandsFor}
 use Rattle.zone_rdata.specs.declared.fault.Place.{Place}
 use Rattle.zone_rdata.specs.declared.fault.Stop.{Stop}
-use Rattle.zone_rdata.specs.declared.record.Placed.{Placed}
 
 -- the records that an answer of `next` gives, one or none
 abbrev given_by : Result (Option Placed) Stop → List Placed

@@ -3,7 +3,6 @@ pub mod Building
 pub mod Bytes
 pub mod Each
 pub mod Layouts
-pub mod Minima
 pub mod Sent
 pub mod StringFields
 pub mod Taken

@@ -1,10 +1,6 @@
 -- The slots of a queue: what is left of the records where some move, and where the first goes.
+use Rattle.zone_rdata.proofs.Common.{take-set-lt, drop-drop, drop-set-lt, drop-take, length-drop, take-append-le, ℕ, ◌+◌, ◌-◌, ◌<◌, ◌≤◌, ◌≡◌, ◌++◌, ◌∙◌, List, [], ◌∷◌, ap, arith, drop, length, refl, sym, take, others, Placed}
 use Rattle.std.proofs.Math.ListN.{set}
-use Rattle.std.proofs.Math.Seq.{take-set-lt}
-use Rattle.std.proofs.lemmas.List.{drop-drop, drop-set-lt, drop-take, length-drop, take-append-le}
-use Rattle.zone_rdata.proofs.Common.{ℕ, ◌+◌, ◌-◌, ◌<◌, ◌≤◌, ◌≡◌, ◌++◌, ◌∙◌, List, [], ◌∷◌, ap, arith, drop, length, refl, sym, take}
-use Rattle.zone_rdata.specs.RrSource.{others}
-use Rattle.zone_rdata.specs.declared.record.Placed.{Placed}
 
 pub others_drop : (records : List Placed) → others records ≡ drop 1 records
 others_drop [] = refl

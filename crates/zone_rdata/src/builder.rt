@@ -97,6 +97,7 @@ impl RdataBuilder {
     /// `BadRdata` where that isn't the next part or the octets are not as many as the field's,
     /// `RdataTooLong` where the data would have more than 65,535 octets; and `Memory` where memory
     /// is refused.
+    #[tactic(auto, using(std::proofs::lemmas::Result::err_from_is_err_and))]
     pub fn push_octets(&mut self, octets: &[u8]) -> Result<(), Failing>
         ensures ok { OnOk result (Pushes self.old (fixed octets.now) self.new) }
         ensures fault { IfErr result (IfFault (IsPushFault self.old (fixed octets.now))) }
@@ -111,6 +112,7 @@ impl RdataBuilder {
     ///
     /// `BadRdata` where that isn't the next part, `RdataTooLong` where the data would have more
     /// than 65,535 octets; and `Memory` where memory is refused.
+    #[tactic(auto, using(std::proofs::lemmas::Result::err_from_is_err_and))]
     pub fn push_u16(&mut self, number: u16) -> Result<(), Failing>
         ensures ok { OnOk result (Pushes self.old (u16_value number) self.new) }
         ensures fault { IfErr result (IfFault (IsPushFault self.old (u16_value number))) }
@@ -125,6 +127,7 @@ impl RdataBuilder {
     /// # Errors
     ///
     /// Those of `push_u16`.
+    #[tactic(auto, using(std::proofs::lemmas::Result::err_from_is_err_and))]
     pub fn push_u32(&mut self, number: u32) -> Result<(), Failing>
         ensures ok { OnOk result (Pushes self.old (u32_value number) self.new) }
         ensures fault { IfErr result (IfFault (IsPushFault self.old (u32_value number))) }
@@ -138,6 +141,7 @@ impl RdataBuilder {
     /// # Errors
     ///
     /// Those of `push_u16`.
+    #[tactic(auto, using(std::proofs::lemmas::Result::err_from_is_err_and))]
     pub fn push_name(&mut self, target: &Name) -> Result<(), Failing>
         ensures ok { OnOk result (Pushes self.old (name target.now) self.new) }
         ensures fault { IfErr result (IfFault (IsPushFault self.old (name target.now))) }
@@ -153,6 +157,7 @@ impl RdataBuilder {
     ///
     /// `BadRdata` where that isn't the next part, `StringTooLong` over 255 octets, `RdataTooLong`
     /// where the data would have more than 65,535 octets; and `Memory` where memory is refused.
+    #[tactic(auto, using(std::proofs::lemmas::Result::err_from_is_err_and))]
     pub fn push_string(&mut self, octets: &[u8]) -> Result<(), Failing>
         ensures ok { OnOk result (Pushes self.old (string octets.now) self.new) }
         ensures fault { IfErr result (IfFault (IsPushFault self.old (string octets.now))) }
@@ -283,6 +288,7 @@ fn append(part: Part, out: &mut Vec<u8>) -> Result<(), NarrowFailing>
 }
 
 /// Appends octets. If they are refused, `out` is unchanged.
+#[tactic(auto, using(crate::specs::Machine::Building::over_data))]
 fn append_octets(octets: &[u8], out: &mut Vec<u8>) -> Result<(), NarrowFailing>
     requires { length out.old.items ≤ LONGEST_DATA }
     ensures ok { OnOk result (Grows out.old.items (fixed octets.now) out.new.items) }
@@ -297,6 +303,7 @@ fn append_octets(octets: &[u8], out: &mut Vec<u8>) -> Result<(), NarrowFailing>
 }
 
 /// Appends a string after its length. If it is refused, `out` is unchanged.
+#[tactic(auto, using(crate::specs::Machine::Building::over_data, crate::specs::Machine::Building::over_string))]
 fn append_string(octets: &[u8], out: &mut Vec<u8>) -> Result<(), NarrowFailing>
     requires { length out.old.items ≤ LONGEST_DATA }
     ensures ok { OnOk result (Grows out.old.items (string octets.now) out.new.items) }

@@ -57,6 +57,7 @@ impl Class {
     /// # Errors
     ///
     /// `BadClass` where no zone data can have it: 0, 254, 255 and from 65536 on.
+    #[tactic(auto, using(std::proofs::lemmas::Result::err_from_is_err_and))]
     pub fn from_number(number: u64) -> Result<Class, Fault>
         ensures ok { IfOk result (λ class. class ≡ number) }
         ensures err { IfErr result (λ fault. (fault ≡ Fault.BadClass) × (IsClass number → ⊥)) }
@@ -78,6 +79,7 @@ impl Class {
     /// # Errors
     ///
     /// `BadClass` where no zone data can have the class.
+    #[tactic(auto, using(std::proofs::lemmas::Result::err_from_is_err_and))]
     pub fn from_word(word: &[u8]) -> Result<Option<Class>, Fault>
         ensures found { IfOk result (λ class. IfSome class (IsClassWord word.now)) }
         ensures none { IfOk result (λ class. IfNone class (NothingIs (IsClassWord word.now))) }

@@ -115,6 +115,7 @@ impl Field {
     }
 
     /// The octets after the field at the beginning of octets.
+    #[tactic(auto, using(crate::proofs::Octets::StringFields::nothing_after))]
     pub(crate) fn after(self, octets: &[u8]) -> &[u8]
         requires { BeginsWithField self octets.now }
         ensures { result.now ≡ after_field self octets.now }
@@ -142,6 +143,7 @@ impl Field {
 
     /// Appends the text of the field at the beginning of octets, and gives the octets after it.
     /// After the last there are none.
+    #[tactic(auto, using(crate::proofs::Octets::StringFields::nothing_after, crate::proofs::Octets::StringFields::strings_some, crate::proofs::Octets::StringFields::strings_front))]
     pub(crate) fn push_text<'o, S: Sink>(
         self,
         octets: &'o [u8],

@@ -53,6 +53,7 @@ impl Kind {
     ///
     /// `UnknownType` from 65536 on, and `MetaType` where no record can have it: 0, 41 and 128 to
     /// 255.
+    #[tactic(auto, using(std::proofs::lemmas::Result::err_from_is_err_and))]
     pub fn from_number(number: u64) -> Result<Kind, Fault>
         ensures ok { IfOk result (λ kind. kind ≡ number) }
         ensures err { IfErr result (λ fault. (number < 65536 → fault ≡ Fault.MetaType)
@@ -83,6 +84,7 @@ impl Kind {
     ///
     /// `UnknownType` where it is no such word or the number is over 65535, and `MetaType` where no
     /// record can have the type.
+    #[tactic(auto, using(std::proofs::lemmas::Result::err_from_is_err_and))]
     pub fn from_word(word: &[u8]) -> Result<Kind, Fault>
         ensures found { IfOk result (IsKindWord word.now) }
         ensures err { IfErr result (IsWordFault word.now) }

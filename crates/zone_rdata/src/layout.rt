@@ -56,6 +56,7 @@ impl Layout {
     }
 
     /// Whether the last field is strings.
+    #[tactic(auto, using(crate::proofs::Octets::Building::ends_at))]
     fn ends_with_strings(self) -> bool
         ensures { result ≡ ends_with_strings (fields_of self) }
     {

@@ -107,6 +107,7 @@ impl RecordQueue {
     }
 
     /// Drops the first record, if there is one, and keeps the memory of its data.
+    #[tactic(auto, using(crate::proofs::Slots::skipped))]
     pub fn skip(&mut self)
         ensures { self.new ≡ others self.old }
     {
@@ -122,6 +123,7 @@ impl RecordQueue {
     }
 
     /// Takes the first record out. `None`: there is none.
+    #[tactic(auto, using(crate::proofs::Slots::popped))]
     pub fn pop(&mut self) -> Option<Placed>
         ensures first { result ≡ first_record self.old }
         ensures left { self.new ≡ others self.old }
@@ -136,6 +138,7 @@ impl RecordQueue {
     }
 
     /// The records.
+    #[tactic(auto, using(crate::proofs::Slots::turned))]
     pub fn into_placed(self) -> VecDeque<Placed>
         ensures { result.items ≡ self }
     {

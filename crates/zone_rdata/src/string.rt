@@ -25,6 +25,7 @@ pub(crate) const LONGEST_STRING: usize = 255;
 /// # Errors
 ///
 /// The leftmost `BadEscape` or `StringTooLong`; and `Memory` where memory is refused.
+#[tactic(auto, using(crate::proofs::Strings::StringSteps::spells_itself))]
 pub fn push_string(item: Item, out: &mut Vec<u8>) -> Result<(), NarrowFailing>
     ensures found { OnOk result
         (Appends (SpellsString (raw item.entry)) with_length out.old.items out.new.items) }

@@ -13,6 +13,7 @@ use itoa::Buffer;
 use zone_name::Sink;
 
 /// Whether two words are equal but for the case of their letters (RFC 4343 3).
+#[tactic(auto, using(crate::proofs::Words::AnyCase::same_word))]
 pub fn is_word(word: &[u8], wanted: &[u8]) -> bool
     ensures { IsTrue result ↔ (folded_label word.now ≡ folded_label wanted.now) }
 {

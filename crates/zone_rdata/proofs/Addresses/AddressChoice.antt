@@ -1,24 +1,18 @@
 -- A text is an address or none.
-use Rattle.zone_rdata.proofs.Common.{[], Bool, Err, IsTrue, List, Ok, Result, ap, arith, drop, false, get_or, inl, inr, length, refl, replicate, suc, sym, take, true, zero, ℕ, ◌++◌, ◌+◌, ◌-◌, ◌<◌, ◌∙◌, ◌∷◌, ◌≡◌, ◌≢◌, ◌≤◌, ◌⊎◌, cases_eq, cases_lt, AllZip, decode_sized, AreAround, ArePartsOf, IsIpv4Address, IsIpv6Address, IsOctetNumber, eight, IsAddress, of_ipv4, of_ipv6, HasGapAt, IsGroupOf, IsLastPartOf, IsDecimal, FromHexError}
+use Rattle.zone_rdata.proofs.Common.{[], Bool, Err, List, Ok, Result, ap, arith, drop, false, get_or, inl, inr, length, refl, replicate, suc, sym, take, true, zero, ℕ, ◌++◌, ◌+◌, ◌-◌, ◌<◌, ◌∙◌, ◌∷◌, ◌≡◌, ◌≢◌, ◌≤◌, ◌⊎◌, cases_eq, cases_lt, AllZip, decode_sized, AreAround, ArePartsOf, IsIpv4Address, IsIpv6Address, IsOctetNumber, eight, IsAddress, of_ipv4, of_ipv6, HasGapAt, IsGroupOf, IsLastPartOf, IsDecimal, FromHexError, Choice, below_or_not, choice_as, choice_both}
 use Rattle.zone_rdata.proofs.Addresses.AddressFields.{no_ipv4, no_ipv6}
 use Rattle.zone_rdata.proofs.Addresses.AddressGaps.{IsFirstGap, found_at_gap, refused_at_gap, refused_without_gap}
 use Rattle.zone_rdata.proofs.Addresses.AddressParts.{HaveParts, no_parts, parts_found, parts_listed, parts_unique}
 use Rattle.zone_rdata.proofs.Addresses.Cut.{numbers_parts, parts_numbers, split, zip_first}
-use Rattle.zone_rdata.proofs.Choices.{Choice, below_or_not, choice_as}
 use Rattle.zone_rdata.proofs.Items.GenericLaws.{decimal_or_not}
 
 -- ---- numbers parted by dots
 octet_or_not : (text : List ℕ) → Choice (IsOctetNumber text)
 octet_or_not text = choice_as (λ n. n) (λ n h. record { number = h.0; short = omega (arith, h.1) }) (λ none n h. none n (h.number, omega (arith, h.short))) (below_or_not (IsDecimal text) 256 (λ a b h k. h.value ∙ sym k.value) (decimal_or_not text))
 
-zip_by : (text : List ℕ) (texts : List (List ℕ)) → Choice (IsOctetNumber text) → Choice (AllZip IsOctetNumber texts) → Choice (AllZip IsOctetNumber (text ∷ texts))
-zip_by text texts (inl found) (inl others) = inl (found.0 ∷ others.0, (found.1, others.1))
-zip_by text texts (inr none) others = inr (λ octets each. let first = zip_first text texts octets each in none first.0 first.2)
-zip_by text texts found (inr none) = inr (λ octets each. let first = zip_first text texts octets each in none first.1 first.3)
-
 zip_or_not : (texts : List (List ℕ)) → Choice (AllZip IsOctetNumber texts)
 zip_or_not [] = inl ([], tt)
-zip_or_not (text ∷ texts) = zip_by text texts (octet_or_not text) (zip_or_not texts)
+zip_or_not (text ∷ texts) = choice_both (λ n octets. n ∷ octets) (λ n octets is each. (is, each)) (λ octets each. let first = zip_first text texts octets each in ((first.0, first.2), (first.1, first.3))) (octet_or_not text) (zip_or_not texts)
 
 pub ipv4_or_not : (text : List ℕ) → Choice (IsIpv4Address text)
 ipv4_or_not text = elim (cases_eq (length (split 46 text)) 4) [
@@ -40,28 +34,16 @@ group_or_not text = elim (cases_lt 4 (length text)) [
   ]
 ]
 
-no_last : (ends : Bool) (text : List ℕ) → ((octets : List ℕ) → IsGroupOf text octets → ⊥) → (IsTrue ends → (octets : List ℕ) → IsIpv4Address text octets → ⊥) → (octets : List ℕ) → IsLastPartOf ends text octets → ⊥
-no_last ends text none none' octets (inl is) = none octets is
-no_last ends text none none' octets (inr are) = none' are.0 octets are.1
-
 last_by : (ends : Bool) (text : List ℕ) → Choice (IsGroupOf text) → Choice (IsIpv4Address text) → Choice (IsLastPartOf ends text)
 last_by ends text (inl found) four = inl (found.0, inl found.1)
 last_by true text (inr none) (inl found) = inl (found.0, inr (refl, found.1))
-last_by true text (inr none) (inr none') = inr (no_last true text none (λ h. none'))
-last_by false text (inr none) four = inr (no_last false text none (λ h octets are. absurd cc))
-
-last_or_not : (ends : Bool) (text : List ℕ) → Choice (IsLastPartOf ends text)
-last_or_not ends text = last_by ends text (group_or_not text) (ipv4_or_not text)
-
-put_by : (ends : Bool) (text next : List ℕ) (texts : List (List ℕ)) → Choice (IsGroupOf text) → Choice (HaveParts ends (next ∷ texts)) → Choice (HaveParts ends (text ∷ next ∷ texts))
-put_by ends text next texts (inl found) (inl others) = inl (found.0 ++ others.0, (found.0, others.0, found.1, others.1, refl))
-put_by ends text next texts (inr none) others = inr (λ octets have. none have.0 have.2)
-put_by ends text next texts found (inr none) = inr (λ octets have. none have.1 have.3)
+last_by true text (inr none) (inr none') = inr (λ octets h. elim h [ inl is ↦ none octets is | inr are ↦ none' octets are.1 ])
+last_by false text (inr none) four = inr (λ octets h. elim h [ inl is ↦ none octets is | inr are ↦ absurd (let no = are.0 in cc) ])
 
 texts_or_not : (ends : Bool) (texts : List (List ℕ)) → Choice (HaveParts ends texts)
 texts_or_not ends [] = inl ([], refl)
-texts_or_not ends (text ∷ []) = last_or_not ends text
-texts_or_not ends (text ∷ next ∷ texts) = put_by ends text next texts (group_or_not text) (texts_or_not ends (next ∷ texts))
+texts_or_not ends (text ∷ []) = last_by ends text (group_or_not text) (ipv4_or_not text)
+texts_or_not ends (text ∷ next ∷ texts) = choice_both (λ added more. added ++ more) (λ added more is have. (added, more, is, have, refl)) (λ octets have. ((have.0, have.2), (have.1, have.3))) (group_or_not text) (texts_or_not ends (next ∷ texts))
 
 parts_or_not : (ends : Bool) (text : List ℕ) → Choice (ArePartsOf ends text)
 parts_or_not ends [] = inl ([], no_parts ends)
@@ -125,14 +107,11 @@ ipv6_or_not text = elim (gap_or_not text) [
 ]
 
 -- ---- an address of so many octets
-no_size : (n : ℕ) (text : List ℕ) → n ≢ 4 → n ≢ 16 → (octets : List ℕ) → IsAddress n text octets → ⊥
-no_size n text not_ipv4 not_ipv6 octets h = grind arith
-
 pub address_or_not : (n : ℕ) (text : List ℕ) → Choice (IsAddress n text)
 address_or_not n text = elim (cases_eq n 4) [
   | inl four ↦ choice_as (λ octets. octets) (λ octets. of_ipv4 four) (no_ipv4 n text four) (ipv4_or_not text)
   | inr not_ipv4 ↦ elim (cases_eq n 16) [
     | inl sixteen ↦ choice_as (λ octets. octets) (λ octets. of_ipv6 sixteen) (no_ipv6 n text sixteen) (ipv6_or_not text)
-    | inr not_ipv6 ↦ inr (no_size n text not_ipv4 not_ipv6)
+    | inr not_ipv6 ↦ inr (λ octets h. grind arith)
   ]
 ]

@@ -17,12 +17,6 @@ no_ipv6 n text is none octets (of_ipv4 e h) = absurd (omega arith)
 no_ipv6 n text is none octets (of_ipv6 e h) = none octets h
 
 -- the refusal of an address that no text states
-missing : {A : Type 0} (found : Option A) (refusal e : Cause) (N : Type 0) → Err e ≡ ok_or found refusal → IfNone found N → (e ≡ refusal) × N
-missing None refusal e N h none = (cc, none)
-missing (Some a) refusal e N h none = absurd (cc)
-
-pub ipv4_missing : {A : Type 0} (found : Option A) (e : Cause) (n : ℕ) (text : List ℕ) → n ≡ 4 → Err e ≡ ok_or found causes.BadRdata → IfNone found ((octets : List ℕ) → IsIpv4Address text octets → ⊥) → NoValue BadRdata (IsAddress n text) (fault_for e)
-ipv4_missing found e n text is h none = let m = missing found causes.BadRdata e ((octets : List ℕ) → IsIpv4Address text octets → ⊥) h none in (ap fault_for m.0, no_ipv4 n text is m.1)
-
-pub ipv6_missing : {A : Type 0} (found : Option A) (e : Cause) (n : ℕ) (text : List ℕ) → n ≡ 16 → Err e ≡ ok_or found causes.BadRdata → IfNone found ((octets : List ℕ) → IsIpv6Address text octets → ⊥) → NoValue BadRdata (IsAddress n text) (fault_for e)
-ipv6_missing found e n text is h none = let m = missing found causes.BadRdata e ((octets : List ℕ) → IsIpv6Address text octets → ⊥) h none in (ap fault_for m.0, no_ipv6 n text is m.1)
+pub missing : {A : Type 0} (found : Option A) (e : Cause) (n : ℕ) (text : List ℕ) (None' : Type 0) → (None' → (octets : List ℕ) → IsAddress n text octets → ⊥) → Err e ≡ ok_or found causes.BadRdata → IfNone found None' → NoValue BadRdata (IsAddress n text) (fault_for e)
+missing None e n text None' refused h none = (ap fault_for (let same : e ≡ causes.BadRdata = cc in same), refused none)
+missing (Some a) e n text None' refused h none = absurd (cc)

@@ -1,5 +1,5 @@
 -- Two colons in a row: where an address has them.
-use Rattle.zone_rdata.proofs.Common.{[], ◌≡◌, ℕ, zero, suc, ◌+◌, ◌-◌, ◌<◌, ◌≤◌, Bool, true, false, inl, inr, List, ◌∷◌, ◌++◌, length, take, drop, replicate, refl, sym, ap, ◌∙◌, subst, arith, append_assoc, length-append, take_at, drop_at, drop_more, drop_all, drop-replicate, replicate-append-replicate, length-replicate, append-nil, get_or_at, get_or_append_left, take-append-drop, cases_lt, AddressPart, IsLastPart, AreParts, parts_text, ArePartsOf, AreAround, IsIpv6Address, eight, fewer, Lacks, HasGapAt}
+use Rattle.zone_rdata.proofs.Common.{[], ◌≡◌, ℕ, zero, suc, ◌+◌, ◌-◌, ◌<◌, ◌≤◌, Bool, true, false, inl, inr, List, ◌∷◌, ◌++◌, length, take, drop, replicate, refl, sym, ap, ◌∙◌, subst, arith, append_assoc, length-append, take_at, drop_at, drop_more, drop_all, drop-replicate, replicate-append-replicate, length-replicate, append-nil, get_or_at, get_or_append_left, take-append-drop, cases_lt, AddressPart, AreParts, parts_text, ArePartsOf, AreAround, IsIpv6Address, eight, fewer, Lacks, HasGapAt}
 use Rattle.zone_rdata.proofs.Addresses.Cut.{group_lacks, last_lacks}
 use Rattle.zone_rdata.proofs.Addresses.AddressParts.{parts_unique}
 
@@ -22,9 +22,6 @@ no_gaps_lacks : (text : List ℕ) → Lacks 58 text → NoGaps text
 no_gaps_lacks (c ∷ d ∷ text) lacks = (λ e f. lacks.0 e, no_gaps_lacks (d ∷ text) lacks.1)
 no_gaps_lacks text lacks = tt
 
-no_gaps_colon : (text : List ℕ) → Lacks 58 text → NoGaps (58 ∷ text)
-no_gaps_colon text lacks = grind (arith, no_gaps_lacks)
-
 -- a part with a colon after it
 no_gaps_part : (text rest : List ℕ) → Lacks 58 text → NoGaps (58 ∷ rest) → NoGaps (text ++ 58 ∷ rest)
 no_gaps_part [] rest lacks none = none
@@ -37,16 +34,13 @@ no_gaps_between (c ∷ text) rest some lacks none = grind (arith, no_gaps_part)
 
 no_gaps_parts : (ends : Bool) (parts : List AddressPart) → AreParts ends parts → NoGaps (58 ∷ parts_text parts)
 no_gaps_parts ends [] are = tt
-no_gaps_parts ends (p ∷ []) are = no_gaps_colon p.text (last_lacks ends p are)
+no_gaps_parts ends (p ∷ []) are = grind (arith, no_gaps_lacks, last_lacks ends p are)
 no_gaps_parts ends (p ∷ q ∷ parts) are = no_gaps_between p.text (parts_text (q ∷ parts)) are.0.some (group_lacks 58 p refl are.0) (no_gaps_parts ends (q ∷ parts) are.1)
-
-last_before : (p : AddressPart) → IsLastPart false p → NoGaps (58 ∷ p.text ++ 58 ∷ [])
-last_before p (inl is) = no_gaps_between p.text [] is.some (group_lacks 58 p refl is) tt
-last_before p (inr are) = absurd cc
 
 -- groups with a colon after all of them
 no_gaps_groups : (p : AddressPart) (parts : List AddressPart) → AreParts false (p ∷ parts) → NoGaps (58 ∷ parts_text (p ∷ parts) ++ 58 ∷ [])
-no_gaps_groups p [] are = last_before p are
+no_gaps_groups p [] (inl is) = no_gaps_between p.text [] is.some (group_lacks 58 p refl is) tt
+no_gaps_groups p [] (inr are) = absurd cc
 no_gaps_groups p (q ∷ parts) are = grind (arith, no_gaps_groups q parts are.1, append_assoc p.text (58 ∷ parts_text (q ∷ parts)) (58 ∷ []), no_gaps_between p.text (parts_text (q ∷ parts) ++ 58 ∷ []) are.0.some (group_lacks 58 p refl are.0) (no_gaps_groups q parts are.1))
 
 no_gaps_front : (parts : List AddressPart) → AreParts false parts → NoGaps (parts_text parts ++ 58 ∷ [])
@@ -88,31 +82,23 @@ refused_at_gap text back at e first refused octets (fewer front' back' parted ar
     let same = around_gap text front' back' at octets first parted around in
     refused octets (subst (λ t. AreAround (take at text) t octets) (same.1 ∙ sym e) (subst (λ t. AreAround t back' octets) same.0 around))
 
-pub gap_parted : (text : List ℕ) (at : ℕ) → at + 2 ≤ length text → HasGapAt text at → text ≡ take at text ++ 58 ∷ 58 ∷ drop (at + 2) text
-gap_parted text at inside gap = grind (arith, drop_more, take-append-drop)
-
 pub found_at_gap : (text back : List ℕ) (at : ℕ) → back ≡ drop (at + 2) text → at + 2 ≤ length text → HasGapAt text at → (octets : List ℕ) → AreAround (take at text) back octets → IsIpv6Address text octets
-found_at_gap text back at e inside gap octets around = fewer (take at text) back (gap_parted text at inside gap ∙ ap (λ t. take at text ++ 58 ∷ 58 ∷ t) (sym e)) around
+found_at_gap text back at e inside gap octets around = fewer (take at text) back (grind (arith, drop_more, take-append-drop) ∙ ap (λ t. take at text ++ 58 ∷ 58 ∷ t) (sym e)) around
 
 -- sixteen zeros with octets written over their front and their end
 pub around_written : (before after first second : List ℕ) (n m a k : ℕ) → first ≡ before → second ≡ after → n ≡ length before → m ≡ length after → n + m ≤ 14 → a ≡ 16 - m → k ≡ 16 - a → take a (first ++ drop n (replicate 16 0)) ++ (second ++ drop k (drop a (first ++ drop n (replicate 16 0)))) ≡ before ++ (replicate (16 - length before - length after) 0 ++ after)
 around_written before after first second n m a k f s ln lm room end rest =
     let zeros : List ℕ = replicate (16 - length before - length after) 0 in
     let tail : List ℕ = replicate m 0 in
-    let len_zeros = length-replicate {A = ℕ} (16 - length before - length after) 0 in
-    let len_tail = length-replicate {A = ℕ} m 0 in
     let count : 16 - n ≡ (16 - length before - length after) + m = omega arith in
     let split : drop n (replicate 16 0) ≡ zeros ++ tail = drop-replicate n 16 0 ∙ ap (λ j. replicate j 0) count ∙ sym (replicate-append-replicate (16 - length before - length after) m 0) in
     let whole : first ++ drop n (replicate 16 0) ≡ (before ++ zeros) ++ tail = ap (λ t. t ++ drop n (replicate 16 0)) f ∙ ap (λ t. before ++ t) split ∙ sym (append_assoc before zeros tail) in
-    let len : length (before ++ zeros) ≡ a = omega (arith, length-append before zeros, len_zeros) in
+    let len : length (before ++ zeros) ≡ a = omega (arith, length-append before zeros, length-replicate {A = ℕ} (16 - length before - length after) 0) in
     let front : take a (first ++ drop n (replicate 16 0)) ≡ before ++ zeros = ap (take a) whole ∙ take_at (before ++ zeros) tail a len in
-    let back : drop k (drop a (first ++ drop n (replicate 16 0))) ≡ [] = ap (λ t. drop k (drop a t)) whole ∙ ap (drop k) (drop_at (before ++ zeros) tail a len) ∙ drop_all k tail (omega (arith, len_tail)) in
+    let back : drop k (drop a (first ++ drop n (replicate 16 0))) ≡ [] = ap (λ t. drop k (drop a t)) whole ∙ ap (drop k) (drop_at (before ++ zeros) tail a len) ∙ drop_all k tail (omega (arith, length-replicate {A = ℕ} m 0)) in
     cc (append-nil second, append_assoc before zeros after)
 
 -- ---- a text is one address
-
-around_same : (front back a b : List ℕ) → AreAround front back a → AreAround front back b → a ≡ b
-around_same front back a b x y = cc (parts_unique false front x.before y.before x.front_parts y.front_parts, parts_unique true back x.after y.after x.back_parts y.back_parts)
 
 pub groups_unique : (text a b : List ℕ) → IsIpv6Address text a → IsIpv6Address text b → a ≡ b
 groups_unique text a b (eight x len) (eight y len') = parts_unique true text a b x y
@@ -122,4 +108,5 @@ groups_unique text a b (fewer front back parted x) (fewer front' back' parted' y
     let first = front_gap text front back x.before parted x.front_parts in
     let p = around_gap text front back (length front) a first parted x in
     let q = around_gap text front' back' (length front) b first parted' y in
-    around_same front back a b x (subst (λ t. AreAround front t b) (q.1 ∙ sym p.1) (subst (λ t. AreAround t back' b) (q.0 ∙ sym p.0) y))
+    let z = subst (λ t. AreAround front t b) (q.1 ∙ sym p.1) (subst (λ t. AreAround t back' b) (q.0 ∙ sym p.0) y) in
+    cc (parts_unique false front x.before z.before x.front_parts z.front_parts, parts_unique true back x.after z.after x.back_parts z.back_parts)

@@ -1,27 +1,17 @@
 -- What is printed for an address is read back, and is of the form that RFC 5952 recommends.
-use Rattle.zone_rdata.proofs.Common.{[], ◌≡◌, ℕ, zero, suc, ◌+◌, ◌-◌, ◌*◌, ◌/◌, ◌%◌, ◌^◌, ◌<◌, ◌≤◌, Bool, true, false, inl, inr, List, ◌∷◌, ◌++◌, length, take, drop, map, replicate, decimal, refl, sym, ap, ◌∙◌, subst, arith, append_assoc, length-append, lt-ltb, le-ltb, rules, fold, slice_index, AllByRecursion, longest_zero_run, cases_lt, lt-leb, decimal_nonempty, digits_decimal, digits_value-decimal, append-nil, take-append-drop, length-take-le, length-drop, drop-drop, All-weaker, recursion_from_All, decode_sized-encode_lower, AreOctets, is_digit, decimal_value, IsOctetNumber, IsIpv4Address, AddressPart, IsGroup, AreParts, parts_text, parts_octets, ArePartsOf, IsIpv6Address, eight, fewer, ipv4_text, ipv6_text, parted_groups, shortened_groups, IsZeroRun, IsShortenedRun, IsAddressOctet, AllByRecursion-front, AllByRecursion-back, common_steps, le-leb}
+use Rattle.zone_rdata.proofs.Common.{[], ◌≡◌, ℕ, zero, suc, ◌+◌, ◌-◌, ◌*◌, ◌/◌, ◌%◌, ◌^◌, ◌<◌, ◌≤◌, Bool, true, false, inl, inr, List, ◌∷◌, ◌++◌, length, take, drop, map, replicate, decimal, refl, sym, ap, ◌∙◌, subst, arith, append_assoc, length-append, lt-ltb, le-ltb, rules, fold, AllByRecursion, longest_zero_run, cases_lt, lt-leb, decimal_nonempty, digits_decimal, digits_value-decimal, append-nil, take-append-drop, length-take-le, length-drop, drop-drop, All-weaker, recursion_from_All, decode_sized-encode_lower, AreOctets, decimal_value, IsOctetNumber, IsIpv4Address, AddressPart, IsGroup, AreParts, parts_text, parts_octets, ArePartsOf, IsIpv6Address, eight, fewer, ipv4_text, ipv6_text, parted_groups, shortened_groups, IsZeroRun, IsShortenedRun, IsAddressOctet, AllByRecursion-front, AllByRecursion-back, common_steps, le-leb, hex, hex_groups_text, each_below}
 use Rattle.std.specs.Net.Addr.{segments_of}
-use Rattle.std.specs.Net.Text.{hex, hex_groups_text}
 use Rattle.std.proofs.NetLemmas.Texts.{IsZeroRun-longest_zero_run, longest_zero_run_first}
 use Rattle.std.proofs.NetLemmas.Alphabet.{IsDigitOrDot, IsHexOrColon, All-ipv4_text, All-hex_groups_text}
-use Rattle.std.proofs.lemmas.Str.Parse.{IsNumeralModel, IsDigitsTest, FoldsDigits, numerals_by_fold}
+use Rattle.std.proofs.lemmas.Str.Parse.{IsNumeralModel, numerals_by_fold}
+use Rattle.zone_rdata.proofs.Numbers.Times.{AreDigits}
 use Rattle.zone_rdata.proofs.Addresses.AddressTexts.{four_digits, four_encoded}
-use Rattle.zone_rdata.proofs.Lists.{each_below}
 use Rattle.zone_rdata.proofs.Addresses.AddressParts.{parts_some}
 
 -- ---- four octets
 
-abbrev AreDigits : List ℕ → Type 0
-AreDigits text = AllByRecursion (λ c. is_digit c ≡ true) text
-
-digits_test : IsDigitsTest AreDigits
-digits_test = search rules
-
-digits_fold : FoldsDigits (λ n text. fold (λ n c. n * 10 + (c - 48)) n text)
-digits_fold = record { empty = λ n. refl; more = λ n c cs h. refl }
-
 own : IsNumeralModel AreDigits decimal_value
-own = numerals_by_fold AreDigits digits_test (λ n text. fold (λ n c. n * 10 + (c - 48)) n text) digits_fold
+own = numerals_by_fold AreDigits (search rules) (λ n text. fold (λ n c. n * 10 + (c - 48)) n text) (record { empty = λ n. refl; more = λ n c cs h. refl })
 
 number_printed : (n : ℕ) → n < 256 → IsOctetNumber (decimal n) n
 number_printed n fits = grind (arith, decimal_nonempty, digits_decimal, own, digits_value-decimal)
@@ -38,10 +28,7 @@ ipv4_printed octets len each = absurd (omega arith)
 -- ---- groups
 
 -- zeros before a group's text make it four digits
-abbrev IsFilled : ℕ → List ℕ → Type 0
-IsFilled n text = (0 < length text) × (length text ≤ 4) × (replicate (4 - length text) 48 ++ text ≡ four_digits n)
-
-hex_filled : (n : ℕ) → n < 2 ^ 16 → IsFilled n (hex n)
+hex_filled : (n : ℕ) → n < 2 ^ 16 → (0 < length (hex n)) × (length (hex n) ≤ 4) × (replicate (4 - length (hex n)) 48 ++ hex n ≡ four_digits n)
 unfolding hex
 hex_filled n fits = grind (arith, cases_lt, le-leb, lt-leb)
 
@@ -51,11 +38,8 @@ pair n = n / 256 ∷ n % 256 ∷ []
 abbrev part : ℕ → AddressPart
 part n = record { text = hex n; octets = pair n }
 
-pair_bytes : (a b : ℕ) → a < 256 → b < 256 → (i : ℕ) → slice_index (a ∷ b ∷ []) i < 256
-pair_bytes a b h k i = grind arith
-
 group_printed : (n : ℕ) → n < 2 ^ 16 → IsGroup (part n)
-group_printed n fits = grind (arith, hex_filled n fits, four_encoded n fits, decode_sized-encode_lower (pair n) 2 refl (pair_bytes (n / 256) (n % 256) (omega arith) (omega arith)))
+group_printed n fits = grind (arith, hex_filled n fits, four_encoded n fits, decode_sized-encode_lower (pair n) 2 refl (λ i. grind arith))
 
 abbrev AllGroups : List ℕ → Type 0
 AllGroups groups = AllByRecursion (λ n. n < 2 ^ 16) groups
@@ -126,47 +110,33 @@ around_printed groups octets start len count each value run long =
 pub ipv6_printed : (octets : List ℕ) → length octets ≡ 16 → AreOctets octets → IsIpv6Address (ipv6_text octets) octets
 ipv6_printed octets len each =
     let groups = segments_of octets in
-    let start = (longest_zero_run groups).0 in
     let zeros = (longest_zero_run groups).1 in
     let back = segments_back 8 octets (omega arith) each in
     let fits = segments_each octets each in
-    let count = segments_count 8 octets (omega arith) in
     elim (cases_lt 1 zeros) [
-      | inl long ↦ rw (lt-ltb 1 zeros long) (around_printed groups octets start zeros count fits back (IsZeroRun-longest_zero_run groups) long)
+      | inl long ↦ rw (lt-ltb 1 zeros long) (around_printed groups octets (longest_zero_run groups).0 zeros (segments_count 8 octets (omega arith)) fits back (IsZeroRun-longest_zero_run groups) long)
       | inr short ↦ rw (le-ltb 1 zeros short) (eight (subst (ArePartsOf true (parted_groups groups)) back (groups_printed true groups fits)) len)
     ]
 
 -- ---- the run that is shortened
 
-run_is : (groups : List ℕ) (start len : ℕ) → IsShortenedRun groups start len → ((longest_zero_run groups).0 ≡ start) × ((longest_zero_run groups).1 ≡ len)
-run_is groups start len run = grind (arith, IsZeroRun-longest_zero_run, longest_zero_run_first)
-
-longest_is : (groups : List ℕ) → 1 < (longest_zero_run groups).1 → IsShortenedRun groups (longest_zero_run groups).0 (longest_zero_run groups).1
-longest_is groups long = grind (arith, IsZeroRun-longest_zero_run, longest_zero_run_first)
-
 pub run_shortened : (octets : List ℕ) (start len : ℕ) → IsShortenedRun (segments_of octets) start len → ipv6_text octets ≡ shortened_groups (segments_of octets) start len
-run_shortened octets start len run = grind (arith, run_is, lt-ltb)
+run_shortened octets start len run = grind (arith, IsZeroRun-longest_zero_run, longest_zero_run_first, lt-ltb)
 
 pub none_shortened : (octets : List ℕ) → ((start len : ℕ) → IsShortenedRun (segments_of octets) start len → ⊥) → ipv6_text octets ≡ parted_groups (segments_of octets)
-none_shortened octets none = grind (arith, cases_lt, longest_is, le-ltb)
+none_shortened octets none = grind (arith, cases_lt, IsZeroRun-longest_zero_run, longest_zero_run_first, le-ltb)
 
 pub run_exists : (groups : List ℕ) (start len : ℕ) → IsZeroRun groups start len → 2 ≤ len → (first longest : ℕ) × IsShortenedRun groups first longest
-run_exists groups start len run two = grind (arith, longest_is, longest_zero_run_first)
+run_exists groups start len run two = grind (arith, IsZeroRun-longest_zero_run, longest_zero_run_first)
 
 -- ---- the octets of texts
 
-digit_or_dot : (c : ℕ) → IsDigitOrDot c → IsAddressOctet c
-digit_or_dot c h = grind arith
-
-hex_or_colon : (c : ℕ) → IsHexOrColon c → IsAddressOctet c
-hex_or_colon c h = grind (arith, cases_lt)
-
 pub ipv4_plain : (octets : List ℕ) → length octets ≡ 4 → AreOctets octets → AllByRecursion IsAddressOctet (ipv4_text octets)
-ipv4_plain octets len each = recursion_from_All IsAddressOctet (ipv4_text octets) (All-weaker IsDigitOrDot IsAddressOctet digit_or_dot (ipv4_text octets) (All-ipv4_text octets (each_below (2 ^ 8) octets (omega arith) each)))
+ipv4_plain octets len each = recursion_from_All IsAddressOctet (ipv4_text octets) (All-weaker IsDigitOrDot IsAddressOctet (λ c h. grind arith) (ipv4_text octets) (All-ipv4_text octets (each_below (2 ^ 8) octets (omega arith) each)))
 
 pub ipv6_plain : (octets : List ℕ) → length octets ≡ 16 → AreOctets octets → AllByRecursion IsAddressOctet (ipv6_text octets)
 unfolding hex_groups_text
-ipv6_plain octets len each = recursion_from_All IsAddressOctet (ipv6_text octets) (All-weaker IsHexOrColon IsAddressOctet hex_or_colon (ipv6_text octets) (All-hex_groups_text (segments_of octets) (each_below (2 ^ 16) (segments_of octets) (omega arith) (segments_each octets each))))
+ipv6_plain octets len each = recursion_from_All IsAddressOctet (ipv6_text octets) (All-weaker IsHexOrColon IsAddressOctet (λ c h. grind (arith, cases_lt)) (ipv6_text octets) (All-hex_groups_text (segments_of octets) (each_below (2 ^ 16) (segments_of octets) (omega arith) (segments_each octets each))))
 
 -- ---- no text of an address is empty
 

@@ -1,5 +1,5 @@
 -- The parts of an address between its colons.
-use Rattle.zone_rdata.proofs.Common.{[], ◌≡◌, ℕ, ◌+◌, ◌<◌, ◌≤◌, ◌==◌, Bool, inl, inr, List, ◌∷◌, ◌++◌, length, map, refl, sym, ap, ◌∙◌, subst, arith, append_assoc, length-append, AllByRecursion, join_with_byte, append-nil, IsIpv4Address, AddressPart, IsLastPart, AreParts, parts_text, parts_octets, ArePartsOf, Lacks, IsCutAtFirst, IsGroupOf, IsLastPartOf, NoneFits, join_with_byte-slice_split, length-slice_split, common_steps}
+use Rattle.zone_rdata.proofs.Common.{[], ◌≡◌, ℕ, ◌+◌, ◌<◌, ◌≤◌, ◌==◌, Bool, inl, inr, List, ◌∷◌, ◌++◌, length, map, refl, sym, ap, ◌∙◌, subst, arith, append_assoc, length-append, AllByRecursion, join_with_byte, append-nil, IsIpv4Address, AddressPart, AreParts, parts_text, parts_octets, ArePartsOf, Lacks, IsCutAtFirst, IsGroupOf, IsLastPartOf, NoneFits, join_with_byte-slice_split, length-slice_split, common_steps}
 use Rattle.zone_rdata.proofs.Addresses.Cut.{split, split_cut, split_join, split_lacks, group_lacks, group_same, last_lacks, last_same}
 
 some_numbers : (text : List ℕ) (numbers : List (List ℕ)) → length numbers ≡ 4 → text ≡ join_with_byte 46 numbers → 0 < length text
@@ -9,12 +9,9 @@ some_numbers text numbers counted parted = absurd (omega arith)
 pub ipv4_some : (text octets : List ℕ) → IsIpv4Address text octets → 0 < length text
 ipv4_some text octets is = some_numbers text is.numbers is.counted is.parted
 
-last_some : (ends : Bool) (p : AddressPart) → IsLastPart ends p → 0 < length p.text
-last_some ends p (inl is) = is.some
-last_some ends p (inr are) = ipv4_some p.text p.octets are.1
-
 pub parts_some : (ends : Bool) (p : AddressPart) (parts : List AddressPart) → AreParts ends (p ∷ parts) → 0 < length (parts_text (p ∷ parts))
-parts_some ends p [] is = last_some ends p is
+parts_some ends p [] (inl is) = is.some
+parts_some ends p [] (inr are) = ipv4_some p.text p.octets are.1
 parts_some ends p (q ∷ parts) are = grind (arith, length-append)
 
 -- ---- a text's parts are its own
@@ -77,13 +74,6 @@ pub record HaveReadParts (ends : Bool) (text rest octets : List ℕ) : Type 0 wh
   pub goes : (more : List ℕ) → HaveParts ends (split 58 rest) more → HaveParts ends (split 58 text) (octets ++ more)
   pub comes : (others : List ℕ) → HaveParts ends (split 58 text) others → (more : List ℕ) × HaveParts ends (split 58 rest) more × (others ≡ octets ++ more)
 
-pub parts_started : (ends : Bool) (text : List ℕ) → 0 < length text → HaveReadParts ends text text []
-parts_started ends text some = record { some = some; goes = λ more have. have; comes = λ others have. (others, have, refl) }
-
--- a group with a colon after it
-goes_first : (ends : Bool) (text : List ℕ) (texts : List (List ℕ)) (added more : List ℕ) → 0 < length texts → IsGroupOf text added → HaveParts ends texts more → HaveParts ends (text ∷ texts) (added ++ more)
-goes_first ends text texts added more some is have = grind arith
-
 comes_first : (ends : Bool) (text : List ℕ) (texts : List (List ℕ)) (octets : List ℕ) → 0 < length texts → HaveParts ends (text ∷ texts) octets → (added : List ℕ) × (more : List ℕ) × IsGroupOf text added × HaveParts ends texts more × (octets ≡ added ++ more)
 comes_first ends text texts octets some have = grind arith
 
@@ -99,7 +89,7 @@ left_first ends text rest group after octets others cut reads have =
 pub parts_more : (ends : Bool) (text rest group after octets added : List ℕ) → IsCutAtFirst 58 rest group after → IsGroupOf group added → HaveReadParts ends text rest octets → HaveReadParts ends text after (octets ++ added)
 parts_more ends text rest group after octets added cut is reads = record {
   some = reads.some;
-  goes = λ more have. rw append_assoc (reads.goes (added ++ more) (rw (split_cut 58 rest group after cut) (goes_first ends group (split 58 after) added more (split_some 58 after) is have)));
+  goes = λ more have. rw append_assoc (reads.goes (added ++ more) (rw (split_cut 58 rest group after cut) (grind (arith, split_some 58 after))));
   comes = λ others have.
       let left = left_first ends text rest group after octets others cut reads have in
       (left.1, left.3, cc (group_same group added left.0 is left.2, append_assoc octets added left.1));

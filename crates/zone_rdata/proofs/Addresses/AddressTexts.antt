@@ -1,27 +1,11 @@
 -- The canonical texts of addresses.
-use Rattle.zone_rdata.proofs.Common.{[], ◌≡◌, ℕ, zero, suc, ◌/◌, ◌%◌, ◌^◌, ◌<◌, Bool, true, ◌&&◌, List, ◌∷◌, ◌++◌, ◌+◌, bytes_eq, decimal, nat_le, nat_tests, if◌then◌else◌, refl, arith, ◌==◌, inl, inr, slice_index, and_parts, cases_eq, eqb-true, encode_lower, lower_digits, digit_char}
-use Rattle.std.proofs.lemmas.Bool.{agree_below_at}
+use Rattle.zone_rdata.proofs.Common.{[], ◌≡◌, ℕ, ◌/◌, ◌%◌, ◌^◌, ◌<◌, Bool, true, List, ◌∷◌, ◌++◌, ◌+◌, bytes_eq, decimal, nat_le, nat_tests, if◌then◌else◌, refl, arith, ◌==◌, slice_index, eqb-true, encode_lower, lower_digits, digit_char, agree_below_at, hex, encode_with}
 use Rattle.std.specs.Cmp.Lexicographic.{bytes_decides}
 use Rattle.std.specs.Fmt.{digits}
-use Rattle.std.specs.Net.Text.{hex}
-use Rattle.hex.specs.Hex.{encode_with}
 
 -- the first places of hex's table hold the digits that std writes
-abbrev are_same : ℕ → Bool
-are_same zero = true
-are_same (suc n) = (slice_index lower_digits n == digit_char n) && are_same n
-
-same_at : (n k : ℕ) → are_same n ≡ true → k < n → slice_index lower_digits k ≡ digit_char k
-same_at zero k h lt = absurd (omega arith)
-same_at (suc n) k h lt =
-    let parts = and_parts (slice_index lower_digits n == digit_char n) (are_same n) h in
-    elim (cases_eq k n) [
-      | inl here ↦ rw here (eqb-true (slice_index lower_digits n) (digit_char n) parts.0)
-      | inr other ↦ same_at n k parts.1 (omega arith)
-    ]
-
 digit_same : (d : ℕ) → d < 16 → slice_index lower_digits d ≡ digit_char d
-digit_same d h = same_at 16 d refl h
+digit_same d h = eqb-true (slice_index lower_digits d) (digit_char d) (agree_below_at (λ k. slice_index lower_digits k == digit_char k) (λ _. true) 16 d refl h)
 
 -- four digits
 abbrev pub four_digits : ℕ → List ℕ

@@ -1,6 +1,5 @@
 -- Addresses in text, cut at dots and colons.
-use Rattle.zone_rdata.proofs.Common.{[], ◌≡◌, ◌≢◌, ℕ, suc, ◌-◌, ◌==◌, Bool, true, false, inl, inr, List, ◌∷◌, ◌++◌, length, replicate, refl, sym, ap, ◌∙◌, subst, arith, AllByRecursion, AllZip, All, join_with_byte, slice_split, ne_eqb, drop_at, All-drop, All-from_recursion, recursion_from_All, is_hex_digit, IsOk-decode_sized, is_digit, IsOctetNumber, AreNumbers, IsIpv4Address, AddressPart, IsGroup, IsLastPart, Lacks, IsCutAtFirst, AllByRecursion-append, join_with_byte-slice_split, slice_split_at, slice_split_none}
-use Rattle.zone_rdata.proofs.Lists.{each_weaker}
+use Rattle.zone_rdata.proofs.Common.{[], ◌≡◌, ◌≢◌, ℕ, suc, ◌-◌, ◌==◌, Bool, true, false, inl, inr, List, ◌∷◌, ◌++◌, length, replicate, refl, sym, ap, ◌∙◌, subst, arith, AllByRecursion, AllZip, All, join_with_byte, slice_split, ne_eqb, drop_at, All-drop, All-from_recursion, recursion_from_All, is_hex_digit, IsOk-decode_sized, is_digit, IsOctetNumber, AreNumbers, IsIpv4Address, AddressPart, IsGroup, IsLastPart, Lacks, IsCutAtFirst, AllByRecursion-append, join_with_byte-slice_split, slice_split_at, slice_split_none, each_weaker}
 
 -- ---- cutting
 
@@ -23,17 +22,8 @@ split_join c text (next ∷ texts) lacks = grind (arith, split_join c next texts
 
 -- ---- numbers
 
-digit_other : (c d : ℕ) → is_digit c ≡ false → is_digit d ≡ true → d ≢ c
-digit_other c d miss hit e = cc (sym hit ∙ ap is_digit e ∙ miss)
-
 pub number_lacks : (c : ℕ) (text : List ℕ) (n : ℕ) → is_digit c ≡ false → IsOctetNumber text n → Lacks c text
-number_lacks c text n miss is = grind (arith, each_weaker, digit_other)
-
-pub number_same : (text : List ℕ) (n m : ℕ) → IsOctetNumber text n → IsOctetNumber text m → n ≡ m
-number_same text n m a b = a.number.value ∙ sym b.number.value
-
-pub numbers_one : (text : List ℕ) (n : ℕ) → IsOctetNumber text n → AreNumbers 1 text (n ∷ [])
-numbers_one text n is = record { numbers = text ∷ []; counted = refl; parted = refl; each = (is, tt) }
+number_lacks c text n miss is = each_weaker (λ d. d ≢ c) (λ d hit e. cc (sym hit ∙ ap is_digit e ∙ miss)) text is.number.digits
 
 dots_lack : (texts : List (List ℕ)) (octets : List ℕ) → AllZip IsOctetNumber texts octets → AllByRecursion (Lacks 46) texts
 dots_lack [] [] each = tt
@@ -85,7 +75,7 @@ last_refused text none octets are = last_by text octets are.numbers are.counted 
 
 zip_once : (texts : List (List ℕ)) (a b : List ℕ) → AllZip IsOctetNumber texts a → AllZip IsOctetNumber texts b → a ≡ b
 zip_once [] [] [] x y = refl
-zip_once (text ∷ texts) (n ∷ a) (m ∷ b) x y = cc (number_same text n m x.0 y.0, zip_once texts a b x.1 y.1)
+zip_once (text ∷ texts) (n ∷ a) (m ∷ b) x y = cc (x.0.number.value ∙ sym y.0.number.value, zip_once texts a b x.1 y.1)
 zip_once texts a b x y = search
 
 pub numbers_unique : (count : ℕ) (text a b : List ℕ) → AreNumbers (suc count) text a → AreNumbers (suc count) text b → a ≡ b
@@ -96,9 +86,6 @@ join_lacks c [] octets miss other each = tt
 join_lacks c (a ∷ numbers) [] miss other each = absurd each
 join_lacks c (a ∷ []) (n ∷ octets) miss other each = number_lacks c a n miss each.0
 join_lacks c (a ∷ b ∷ numbers) (n ∷ octets) miss other each = AllByRecursion-append (λ d. d ≢ c) a (46 ∷ join_with_byte 46 (b ∷ numbers)) (number_lacks c a n miss each.0) (other, join_lacks c (b ∷ numbers) octets miss other each.1)
-
-numbers_lack : (count c : ℕ) (text octets : List ℕ) → is_digit c ≡ false → 46 ≢ c → AreNumbers count text octets → Lacks c text
-numbers_lack count c text octets miss other are = grind (arith, join_lacks)
 
 -- ---- groups
 
@@ -114,7 +101,7 @@ group_same text a b x y = cc
 
 pub last_lacks : (ends : Bool) (p : AddressPart) → IsLastPart ends p → Lacks 58 p.text
 last_lacks ends p (inl is) = group_lacks 58 p refl is
-last_lacks ends p (inr are) = numbers_lack 4 58 p.text p.octets refl (λ e. omega arith) are.1
+last_lacks ends p (inr are) = rw are.1.parted (join_lacks 58 are.1.numbers p.octets refl (λ e. omega arith) are.1.each)
 
 -- a group is no four numbers
 pub last_same : (ends : Bool) (p q : AddressPart) → IsLastPart ends p → IsLastPart ends q → p.text ≡ q.text → p.octets ≡ q.octets

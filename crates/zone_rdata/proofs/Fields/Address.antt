@@ -1,5 +1,5 @@
 -- An address of a fixed number of octets.
-use Rattle.zone_rdata.proofs.Common.{[], List, Some, ap, arith, inl, inr, length, refl, subst, sym, ℕ, ◌+◌, ◌*◌, ◌<◌, ◌==◌, ◌∙◌, ◌∷◌, ◌≡◌, ◌≤◌, ◌⊎◌, if◌then◌else◌, take_at, IsAddressOctet, IsIpv6Address, ipv4_text, ipv6_text, FitsString, FieldValue, Holds, SpellsField, Suits, field_octets, fixed, AreFixed, IsAddress, address_text, of_ipv4, of_ipv6, RawItem, bare, IsReal, StandsBare, BadRdata, Octets}
+use Rattle.zone_rdata.proofs.Common.{List, ap, arith, inl, inr, length, refl, subst, sym, ℕ, ◌+◌, ◌*◌, ◌==◌, ◌∙◌, ◌≡◌, ◌≤◌, ◌⊎◌, if◌then◌else◌, take_at, IsIpv6Address, ipv4_text, ipv6_text, fixed, AreFixed, IsAddress, address_text, of_ipv4, of_ipv6, StandsBare, BadRdata, Octets}
 use Rattle.zone_rdata.proofs.Addresses.AddressChoice.{address_or_not}
 use Rattle.zone_rdata.proofs.Addresses.AddressFields.{address_fixed}
 use Rattle.zone_rdata.proofs.Addresses.AddressGaps.{groups_unique}
@@ -10,20 +10,8 @@ use Rattle.zone_rdata.proofs.Texts.Standing.{bare_address}
 use Rattle.zone_rdata.proofs.Fields.FieldLengths.{ipv4_length, ipv6_length}
 use Rattle.zone_rdata.proofs.Addresses.AddressParts.{ipv4_some}
 
-only : (n : ℕ) (v : FieldValue) → Holds (Octets n) v → (octets : List ℕ) × (v ≡ fixed octets)
-only n v h = grind arith
-
-opens : (n : ℕ) (origin : List (List ℕ)) (items : List RawItem) (v : FieldValue) → SpellsField origin (Octets n) items v → (text octets : List ℕ) × (items ≡ bare text ∷ []) × (v ≡ fixed octets)
-opens n origin items v h = grind arith
-
 pub sized : (n : ℕ) → SizedField (Octets n) fixed n
-sized n = grind (arith, only)
-
-part : (n : ℕ) (v : FieldValue) → Suits (Some (Octets n)) v → FitsString v → IsReal v → Holds (Octets n) v × (0 < length (field_octets v))
-part n v s fits real = grind arith
-
-short : (n : ℕ) (octets : List ℕ) → (n ≡ 4) ⊎ (n ≡ 16) → AreFixed n octets → length octets ≤ 256
-short n octets k h = grind arith
+sized n = record { plain = λ e. cc; single = λ e. cc; only = λ v h. grind arith; size = λ octets h. h.size; read = λ octets low size. (octets, record { size = size; each = low }, refl) }
 
 once : (n : ℕ) (text a b : List ℕ) → IsAddress n text a → IsAddress n text b → a ≡ b
 once n text a b (of_ipv4 e h) (of_ipv4 d k) = numbers_unique 3 text a b h k
@@ -41,11 +29,8 @@ printed : (n : ℕ) (octets : List ℕ) → (n ≡ 4) ⊎ (n ≡ 16) → AreFixe
 printed n octets (inl e) h = grind (arith, text_of_ipv4, ipv4_printed)
 printed n octets (inr e) h = of_ipv6 e (subst (λ t. IsIpv6Address t octets) (sym (text_of_ipv6 octets (h.size ∙ e))) (ipv6_printed octets (h.size ∙ e) h.each))
 
-no_backslash : IsAddressOctet 92 → ⊥
-no_backslash h = grind arith
-
 unmarked : (n : ℕ) (octets : List ℕ) → (n ≡ 4) ⊎ (n ≡ 16) → AreFixed n octets → address_text octets ≡ mark → ⊥
-unmarked n octets k h e = grind (arith, no_backslash, text_of_ipv4, ipv4_plain, text_of_ipv6, ipv6_plain)
+unmarked n octets k h e = grind (arith, text_of_ipv4, ipv4_plain, text_of_ipv6, ipv6_plain)
 
 stands : (n : ℕ) (octets : List ℕ) → (n ≡ 4) ⊎ (n ≡ 16) → AreFixed n octets → StandsBare (address_text octets)
 stands n octets (inl e) h =
@@ -60,12 +45,12 @@ few n octets k h = grind (arith, text_of_ipv4, ipv4_length, text_of_ipv6, ipv6_l
 
 pub laws : (n : ℕ) → FieldLaws (Octets n) fixed bare_item
 laws n = record {
-  only = only n;
-  opens = opens n;
-  part = part n;
+  only = (sized n).only;
+  opens = λ origin items v h. grind arith;
+  part = λ v s fits real. grind arith;
   back = λ octets rest h last. ap fixed (take_at octets rest n h.size);
   low = λ octets h. h.each;
-  short = λ octets many fixed_size h. short n octets fixed_size h;
+  short = λ octets many fixed_size h. grind arith;
   front = sized_front (Octets n) n (sized n);
   holds = λ origin text octets h. address_fixed n text octets h;
   once = λ names origin text a b h k. once n text a b h k;

@@ -1,6 +1,6 @@
 -- What is proved of any field. `kind_of` picks the laws of its kind.
-use Rattle.zone_rdata.proofs.Common.{[], List, Some, length, subst, sym, ℕ, ◌++◌, ◌+◌, ◌*◌, ◌<◌, ◌∙◌, ◌∷◌, ◌≡◌, ◌≢◌, ◌≤◌, arith, AllByRecursion, append_cancel_left, Labels, IsName, Fault, Field, FitsString, FieldValue, Holds, IsFieldFault, SpellsField, Suits, field_at, field_items, field_octets, field_text, items_after, own_items, IsGeneric, RawItem, bare, IsSized, BeginsWithValue, IsReal, part_field, Name, Octets, OneString, Serial, Strings, Time, U16}
-use Rattle.zone_rdata.proofs.Fields.FieldLaws.{AreLow, AreLowItems, FieldChoice, FieldLaws, FrontChoice, NameFaultOnce, NameOrFault, NamesNever, NamesOnce, NamesPrinted, plain_front}
+use Rattle.zone_rdata.proofs.Common.{[], List, length, subst, sym, ℕ, ◌++◌, ◌+◌, ◌*◌, ◌∙◌, ◌∷◌, ◌≡◌, ◌≢◌, ◌≤◌, arith, AllByRecursion, append_cancel_left, Labels, IsName, Fault, Field, FieldValue, Holds, IsFieldFault, SpellsField, field_at, field_items, field_octets, field_text, items_after, own_items, IsGeneric, RawItem, bare, IsSized, BeginsWithValue, Name, Octets, OneString, Serial, Strings, Time, U16}
+use Rattle.zone_rdata.proofs.Fields.FieldLaws.{AreLow, AreLowItems, FieldChoice, FieldLaws, NameFaultOnce, NameOrFault, NamesNever, NamesOnce, NamesPrinted, plain_front}
 use Rattle.zone_rdata.proofs.Texts.Standing.{IsPrintedItem}
 use Rattle.zone_rdata.proofs.Strings.StringLaws.{fault-once}
 use Rattle.zone_rdata.proofs.Fields.Name.{laws as name_laws, front_once as name_front_once}
@@ -11,14 +11,14 @@ use Rattle.zone_rdata.proofs.Fields.OneString.{laws as string_laws}
 use Rattle.zone_rdata.proofs.Fields.Strings.{laws as strings_laws, fault_once as strings_fault_once}
 
 -- the laws of a field's kind
-record KindOf (f : Field) : Type 1 where
-  X : Type 0
-  I : Type 0
-  value : X → FieldValue
-  items : I → List RawItem
-  laws : FieldLaws f value items
+pub record KindOf (f : Field) : Type 1 where
+  pub X : Type 0
+  pub I : Type 0
+  pub value : X → FieldValue
+  pub items : I → List RawItem
+  pub laws : FieldLaws f value items
 
-kind_of : (f : Field) → KindOf f
+pub kind_of : (f : Field) → KindOf f
 kind_of Name = record { X = _; I = _; value = _; items = _; laws = name_laws }
 kind_of Serial = record { X = _; I = _; value = _; items = _; laws = serial_laws }
 kind_of Time = record { X = _; I = _; value = _; items = _; laws = time_laws }
@@ -48,13 +48,6 @@ field_low f v h = let k = kind_of f in each f k (λ w. AreLow (field_octets w)) 
 -- at most 255
 pub field_short : (f : Field) (v : FieldValue) → f ≢ Strings → IsSized f → Holds f v → length (field_octets v) ≤ 256
 field_short f v many sized h = grind (arith, kind_of, each)
-
-pub field_part : (f : Field) (v : FieldValue) → Suits (Some f) v → FitsString v → IsReal v → Holds (part_field f) v × (0 < length (field_octets v))
-field_part f v s fits real = (kind_of f).laws.part v s fits real
-
--- octets begin with one value and one rest, or with none
-pub front_or_none : (f : Field) (octets : List ℕ) → AreLow octets → FrontChoice f octets
-front_or_none f octets low = (kind_of f).laws.front octets low
 
 plain_at : (f : Field) (octets : List ℕ) (v : FieldValue) (rest : List ℕ) → f ≢ Name → BeginsWithValue f octets v rest → (octets ≡ field_octets v ++ rest) × (field_at f octets ≡ v)
 plain_at f octets v rest other b = grind (arith, plain_front, field_back)

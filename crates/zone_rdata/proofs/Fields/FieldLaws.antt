@@ -1,10 +1,5 @@
 -- What is proved of every kind of field, and what kinds share.
-use Rattle.zone_rdata.proofs.Common.{[], List, Option, Some, arith, decimal, drop, get_or, inl, inr, length, length-append, refl, subst, take, true, ℕ, ◌++◌, ◌+◌, ◌*◌, ◌<◌, ◌^◌, ◌∷◌, ◌≡◌, ◌≢◌, ◌≤◌, ◌⊎◌, AllByRecursion, IfSome, cases_lt, false≢true, take-append-drop, Labels, IsName, SpellingFault, Spells, is_digit, Fault, Field, FitsString, FieldValue, Holds, IsFieldFault, IsSent, SpellsField, Suits, field_at, field_items, field_octets, field_text, items_after, own_items, IsGeneric, RawItem, bare, quoted, IsSized, AppendsPrefix, AppendsValue, BeginsWithNone, BeginsWithValue, IsReal, part_field, item_text, common_steps, name_text, NameFault, BadRdata, Name, OneString, Strings}
-use Rattle.zone_name.specs.Text.{name_text}
-use Rattle.zone_name.specs.declared.fault.NameFault.{NameFault}
-use Rattle.zone_rdata.specs.declared.fault.Fault.TheVariants.{BadRdata}
-use Rattle.zone_rdata.specs.declared.field.Field.TheVariants.{Name, OneString, Strings}
-use Rattle.zone_rdata.proofs.Choices.{Choice}
+use Rattle.zone_rdata.proofs.Common.{[], List, Option, Some, arith, decimal, drop, get_or, inl, inr, length, length-append, refl, subst, take, true, ℕ, ◌++◌, ◌+◌, ◌*◌, ◌<◌, ◌^◌, ◌∷◌, ◌≡◌, ◌≢◌, ◌≤◌, ◌⊎◌, AllByRecursion, IfSome, cases_lt, false≢true, take-append-drop, Labels, IsName, SpellingFault, Spells, is_digit, Fault, Field, FitsString, FieldValue, Holds, IsFieldFault, IsSent, SpellsField, Suits, field_at, field_items, field_octets, field_text, items_after, own_items, IsGeneric, RawItem, bare, quoted, IsSized, AppendsPrefix, AppendsValue, BeginsWithNone, BeginsWithValue, IsReal, part_field, item_text, common_steps, name_text, NameFault, BadRdata, Name, OneString, Strings, Choice}
 use Rattle.zone_rdata.proofs.Items.GenericLaws.{decimal-is}
 use Rattle.zone_rdata.proofs.Texts.Standing.{IsPrintedItem}
 
@@ -87,15 +82,9 @@ pub record FieldLaws {X I : Type 0} (f : Field) (value : X → FieldValue) (item
 abbrev pub bare_item : List ℕ → List RawItem
 bare_item text = bare text ∷ []
 
-no_item : (origin : Labels) (f : Field) → IsFieldFault origin f [] BadRdata
-no_item origin f = grind arith
-
-quoted_item : (origin : Labels) (f : Field) (text : List ℕ) → f ≢ Strings → f ≢ OneString → IsFieldFault origin f (quoted text ∷ []) BadRdata
-quoted_item origin f text many one = grind arith
-
 pub bare_or_fault : (origin : Labels) (f : Field) → f ≢ Strings → f ≢ OneString → ((text : List ℕ) → AreLow text → FieldChoice origin f (bare text ∷ [])) → (items : List RawItem) → AreLowItems items → FieldChoice origin f (take 1 items)
-bare_or_fault origin f many one own [] low = inr (BadRdata, no_item origin f)
-bare_or_fault origin f many one own (quoted text ∷ items) low = inr (BadRdata, quoted_item origin f text many one)
+bare_or_fault origin f many one own [] low = inr (BadRdata, grind arith)
+bare_or_fault origin f many one own (quoted text ∷ items) low = inr (BadRdata, grind arith)
 bare_or_fault origin f many one own (bare text ∷ items) low = own text low.0
 
 pub value_or_fault : {X : Type 0} (origin : Labels) (f : Field) (text : List ℕ) (value : X → FieldValue) (own : Fault) (Stated : X → Type 0) → ((x : X) → Stated x → SpellsField origin f (bare text ∷ []) (value x)) → (((x : X) → Stated x → ⊥) → IsFieldFault origin f (bare text ∷ []) own) → Choice Stated → FieldChoice origin f (bare text ∷ [])
@@ -116,12 +105,9 @@ number_unmarked n fits e = false≢true (subst (λ t. AllByRecursion (λ c. is_d
 pub plain_front : (f : Field) (v : FieldValue) (front : List ℕ) → f ≢ Name → Holds f v → IsSent v front → front ≡ field_octets v
 plain_front f v front other h s = grind arith
 
-plain_sent : (f : Field) (v : FieldValue) (front : List ℕ) → f ≢ Name → Holds f v → front ≡ field_octets v → IsSent v front
-plain_sent f v front other h s = grind arith
-
 -- so many octets at the beginning of octets are a value, and appended
 pub appends_plain : (f : Field) (octets rest old new : List ℕ) (count : ℕ) (v : FieldValue) → f ≢ Name → Holds f v → take count octets ≡ field_octets v → (f ≡ Strings → rest ≡ []) → AppendsPrefix count octets rest old new → AppendsValue f octets rest old new
-appends_plain f octets rest old new count v other held is last grows = grind (arith, plain_sent f v (take count octets) other held is, take-append-drop count octets)
+appends_plain f octets rest old new count v other held is last grows = grind (arith, take-append-drop count octets)
 
 pub found_front : (f : Field) (octets rest new : List ℕ) → AppendsValue f octets rest [] new → FrontChoice f octets
 found_front f octets rest new grows = inl (grows.value, (rest, grows.begins))
@@ -141,11 +127,8 @@ pub record SizedField {X : Type 0} (f : Field) (value : X → FieldValue) (count
 pub appends_sized : {X : Type 0} {value : X → FieldValue} (f : Field) (count : ℕ) → SizedField f value count → (octets rest old new : List ℕ) → AreLow octets → AppendsPrefix count octets rest old new → AppendsValue f octets rest old new
 appends_sized {value = value} f count sized octets rest old new low grows = grind (arith, common_steps)
 
-pub none_sized : {X : Type 0} {value : X → FieldValue} (f : Field) (count : ℕ) → SizedField f value count → (octets : List ℕ) → length octets < count → BeginsWithNone f octets
-none_sized {value = value} f count sized octets few v rest b = grind (arith, plain_front, length-append)
-
 pub sized_front : {X : Type 0} {value : X → FieldValue} (f : Field) (count : ℕ) → SizedField f value count → (octets : List ℕ) → AreLow octets → FrontChoice f octets
 sized_front f count sized octets low = elim (cases_lt (length octets) count) [
-  | inl few ↦ inr (none_sized f count sized octets few)
+  | inl few ↦ inr (λ v rest b. grind (arith, plain_front, length-append))
   | inr fits ↦ found_front f octets (drop count octets) (take count octets) (appends_sized f count sized octets (drop count octets) [] (take count octets) low (front_of count octets fits))
 ]

@@ -1,27 +1,20 @@
 -- How many octets a printed number, address or string has, with a space after it.
-use Rattle.zone_rdata.proofs.Common.{[], ◌≡◌, ℕ, ◌+◌, ◌*◌, ◌<◌, ◌≤◌, List, ◌∷◌, ◌++◌, length, drop, map, codes, decimal, arith, ap, length-append, le-ltb, lt-ltb, flat_map, cases_lt, length-decimal-le, length-drop, length-take, AreOctets, with_length, ipv4_text, ipv6_text, parted_groups, shortened_groups, inside_text, string_text, strings_text}
-use Rattle.std.specs.Net.Text.{hex}
+use Rattle.zone_rdata.proofs.Common.{[], ◌≡◌, ℕ, ◌+◌, ◌*◌, ◌<◌, ◌≤◌, List, ◌∷◌, length, map, decimal, arith, ap, length-append, le-ltb, lt-ltb, flat_map, cases_lt, length-decimal-le, length-drop, length-take, AreOctets, with_length, ipv4_text, ipv6_text, parted_groups, shortened_groups, inside_text, string_text, strings_text, hex}
 use Rattle.zone_rdata.proofs.Addresses.AddressLaws.{segments_count}
 use Rattle.zone_rdata.proofs.Texts.FieldTexts.{joined_more}
 
 -- ---- addresses
 
-dotted_length : (a b c d : List ℕ) → length a ≤ 3 → length b ≤ 3 → length c ≤ 3 → length d ≤ 3 → length (a ++ codes "." ++ b ++ codes "." ++ c ++ codes "." ++ d) ≤ 15
-dotted_length a b c d ha hb hc hd = grind (arith, length-append)
-
 octet_length : (n : ℕ) → n < 256 → length (decimal n) ≤ 3
 octet_length n short = length-decimal-le 3 n (omega arith) (omega arith) (omega arith)
 
 pub ipv4_length : (octets : List ℕ) → length octets ≡ 4 → AreOctets octets → length (ipv4_text octets) ≤ 15
-ipv4_length (a ∷ b ∷ c ∷ d ∷ []) size low = grind (arith, dotted_length, octet_length)
+ipv4_length (a ∷ b ∷ c ∷ d ∷ []) size low = grind (arith, length-append, octet_length)
 ipv4_length octets size low = absurd (omega arith)
-
-left_length : (n : ℕ) (digits : List ℕ) → length digits ≡ 4 → length (drop n digits) ≤ 4
-left_length n digits four = omega (arith, length-drop n digits)
 
 hex_length : (n : ℕ) → length (hex n) ≤ 4
 unfolding hex
-hex_length n = grind (arith, left_length)
+hex_length n = grind (arith, length-drop)
 
 more_length : (groups : List ℕ) → length (flat_map (λ t. 58 ∷ hex t) groups) ≤ 5 * length groups
 more_length [] = omega arith

@@ -1,19 +1,8 @@
 -- A domain name.
-use Rattle.zone_rdata.proofs.Common.{[], List, Some, ap, append_assoc, arith, drop, inl, inr, length, length-append, refl, suc, sym, take, zero, ℕ, ◌++◌, ◌<◌, ◌∙◌, ◌∷◌, ◌≡◌, ◌≤◌, ◌⊎◌, AllByRecursion, flat_map, cases_eq, cases_lt, append-nil, length-drop, Labels, IsFoldedOctet, IsLabel, IsName, folded_label, wire, with_length, AllByRecursion-append, AllByRecursion-back, FitsString, fault_of, FieldValue, Holds, SpellsField, Suits, field_octets, name, RawItem, bare, AppendsValue, BeginsWithNone, BeginsWithValue, IsReal, BeginsWithSent, labels_of-wire_append, bare_name, label_text, name_text, octet_text, Name, common_steps}
-use Rattle.zone_rdata.proofs.Choices.{Decided, each_or_not}
+use Rattle.zone_rdata.proofs.Common.{[], List, Some, ap, append_assoc, arith, drop, inl, inr, length, length-append, refl, suc, sym, take, zero, ℕ, ◌++◌, ◌<◌, ◌∙◌, ◌∷◌, ◌≡◌, ◌≤◌, ◌⊎◌, AllByRecursion, flat_map, cases_eq, cases_lt, append-nil, length-drop, Labels, IsFoldedOctet, IsLabel, IsName, folded_label, wire, with_length, AllByRecursion-append, AllByRecursion-back, fault_of, FieldValue, name, AppendsValue, BeginsWithNone, BeginsWithValue, BeginsWithSent, labels_of-wire_append, bare_name, label_text, name_text, octet_text, Name, common_steps, Decided, each_or_not, each_weaker}
 use Rattle.zone_rdata.proofs.Fields.FieldLaws.{AreLow, FieldLaws, FrontChoice, bare_item, bare_or_fault, found_front, mark_text}
-use Rattle.zone_rdata.proofs.Octets.Sent.{HasCut, cut_more, cut_name, cut_none, folded_some, goes_on, name_by, no_first, no_room, sent_once}
+use Rattle.zone_rdata.proofs.Octets.Sent.{HasCut, cut_more, cut_none, folded_some, goes_on, name_by, no_first, no_room, sent_once}
 use Rattle.zone_name.proofs.Texts.Lengths.{name_text_length}
-use Rattle.zone_rdata.proofs.Lists.{each_weaker}
-
-only : (v : FieldValue) → Holds Name v → (labels : Labels) × (v ≡ name labels)
-only v h = grind arith
-
-opens : (origin : Labels) (items : List RawItem) (v : FieldValue) → SpellsField origin Name items v → (text : List ℕ) × (labels : Labels) × (items ≡ bare text ∷ []) × (v ≡ name labels)
-opens origin items v h = grind arith
-
-part : (v : FieldValue) → Suits (Some Name) v → FitsString v → IsReal v → Holds Name v × (0 < length (field_octets v))
-part v s fits real = grind (arith, length-append)
 
 -- ---- its octets
 low_labels : (labels : Labels) → AllByRecursion IsLabel labels → AreLow (flat_map with_length labels)
@@ -51,9 +40,6 @@ octet_or_not c = grind (arith, cases_lt, low, cases_eq)
 label_or_not : (label : List ℕ) → Decided (IsLabel label)
 label_or_not label = grind (arith, each_or_not IsFoldedOctet octet_or_not label, cases_lt 63 (length label), cases_lt 0 (length label))
 
-labels_or_not : (labels : Labels) → Decided (IsName labels)
-labels_or_not labels = grind (arith, each_or_not IsLabel label_or_not labels, cases_lt 255 (length (wire labels)))
-
 -- ---- octets begin with a name or not
 abbrev SentChoice : List ℕ → Type 0
 SentChoice octets = ((labels : Labels) × ((rest : List ℕ) × BeginsWithSent octets labels rest)) ⊎ ((labels : Labels) (rest : List ℕ) → BeginsWithSent octets labels rest → ⊥)
@@ -65,14 +51,14 @@ ended_labels octets rest following tail labels own c cut e nothing b =
     grind (arith, goes_on, folded_some, name_by, AllByRecursion-back, append-nil)
 
 root_by : (octets rest following : List ℕ) (labels : Labels) (c : ℕ) → HasCut octets labels rest → rest ≡ c ∷ following → c ≡ 0 → Decided (IsName labels) → SentChoice octets
-root_by octets rest following labels c cut e nothing (inl is) = inl (labels, (following, cut_name octets rest labels labels c following cut e nothing refl is))
+root_by octets rest following labels c cut e nothing (inl is) = inl (labels, (following, grind (arith, append_assoc)))
 root_by octets rest following labels c cut e nothing (inr none) = inr (λ own tail b. none (ended_labels octets rest following tail labels own c cut e nothing b))
 
 sent_by : (octets rest : List ℕ) (labels : Labels) (fuel : ℕ) → length rest ≤ fuel → HasCut octets labels rest → SentChoice octets
 sent_by octets [] labels fuel enough cut = inr (no_first octets [] labels cut refl)
 sent_by octets (c ∷ following) labels zero enough cut = absurd (omega arith)
 sent_by octets (c ∷ following) labels (suc fuel) enough cut = elim (cases_lt 0 c) [
-  | inr nothing ↦ root_by octets (c ∷ following) following labels c cut refl (omega arith) (labels_or_not labels)
+  | inr nothing ↦ root_by octets (c ∷ following) following labels c cut refl (omega arith) (grind (arith, each_or_not IsLabel label_or_not labels, cases_lt 255 (length (wire labels))))
   | inl some ↦ elim (cases_lt (length following) c) [
     | inl few ↦ inr (no_room octets (c ∷ following) labels c following cut refl some few)
     | inr fits ↦
@@ -80,11 +66,8 @@ sent_by octets (c ∷ following) labels (suc fuel) enough cut = elim (cases_lt 0
   ]
 ]
 
-sent_or_not : (octets : List ℕ) → SentChoice octets
-sent_or_not octets = sent_by octets octets [] (length octets) (omega arith) (cut_none octets [] refl)
-
 front : (octets : List ℕ) → FrontChoice Name octets
-front octets = elim (sent_or_not octets) [
+front octets = elim (sent_by octets octets [] (length octets) (omega arith) (cut_none octets [] refl)) [
   | inl found ↦ found_front Name octets found.1.0 (wire found.0) (appends_name octets found.1.0 [] (wire found.0) found.0 found.1.1 refl)
   | inr none ↦ inr (none_name octets none)
 ]
@@ -106,9 +89,9 @@ name_unmarked (label ∷ labels) e = let dot = dot_last label labels in no_mark 
 
 pub laws : FieldLaws Name name bare_item
 laws = record {
-  only = only;
-  opens = opens;
-  part = part;
+  only = λ v h. grind arith;
+  opens = λ origin items v h. grind arith;
+  part = λ v s fits real. grind (arith, length-append);
   back = λ labels rest h last. ap name (labels_of-wire_append labels rest h.each);
   low = low;
   short = λ labels many fixed_size h. omega (arith, h.short);

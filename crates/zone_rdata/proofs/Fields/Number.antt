@@ -1,9 +1,8 @@
 -- A number of 16 or of 32 bits, written in decimal digits.
-use Rattle.zone_rdata.proofs.Common.{[], List, ap, arith, decimal, length, refl, sym, ℕ, ◌^◌, ◌∙◌, ◌∷◌, ◌≡◌, take_at, Labels, FieldValue, Holds, SpellsField, u16_value, u32_value, RawItem, bare, IsDecimal, length-decimal-le, BadNumber, Serial, U16}
+use Rattle.zone_rdata.proofs.Common.{List, ap, arith, decimal, length, refl, sym, ℕ, ◌^◌, ◌∙◌, ◌≡◌, take_at, u16_value, u32_value, IsDecimal, length-decimal-le, BadNumber, Serial, U16, Choice, below_or_not}
 use Rattle.std.specs.Int.{byte_len, from_be_bytes, to_be_bytes, Width, w16, w32}
 use Rattle.std.proofs.lemmas.Nat.{be_bytes_2, be_bytes_4, from_be_bytes-to_be_bytes_2, from_be_bytes-to_be_bytes_4}
 use Rattle.zone_rdata.specs.Fields.Number.{IsNumber, SpellsNumber}
-use Rattle.zone_rdata.proofs.Choices.{Choice, below_or_not}
 use Rattle.zone_rdata.proofs.Fields.FieldLaws.{AreLow, FieldLaws, SizedField, bare_item, bare_or_fault, low_at, mark_text, number_unmarked, sized_front, value_or_fault}
 use Rattle.zone_rdata.proofs.Items.GenericLaws.{decimal-is, decimal_or_not}
 use Rattle.zone_rdata.proofs.Texts.Standing.{bare_decimal}
@@ -15,13 +14,6 @@ spelled_or_not w text =
 
 -- ---- 16 bits
 
-u16_only : (v : FieldValue) → Holds U16 v → (n : ℕ) × (v ≡ u16_value n)
-u16_only v h = grind arith
-
-u16_opens : (origin : Labels) (items : List RawItem) (v : FieldValue) → SpellsField origin U16 items v
-    → (text : List ℕ) × (n : ℕ) × (items ≡ bare text ∷ []) × (v ≡ u16_value n)
-u16_opens origin items v h = grind arith
-
 u16_read : (octets : List ℕ) → AreLow octets → length octets ≡ 2
     → (n : ℕ) × IsNumber w16 n × (octets ≡ to_be_bytes w16 n)
 u16_read octets low size =
@@ -29,12 +21,12 @@ u16_read octets low size =
     (from_be_bytes w16 octets, omega (arith, each 0, each 1), sym (be_bytes_2 octets (from_be_bytes w16 octets) size each refl))
 
 pub u16_sized : SizedField U16 u16_value 2
-u16_sized = grind (arith, u16_only, u16_read)
+u16_sized = record { plain = λ e. cc; single = λ e. cc; only = λ v h. grind arith; size = λ n h. refl; read = u16_read }
 
 pub u16_laws : FieldLaws U16 u16_value bare_item
 u16_laws = record {
-  only = u16_only;
-  opens = u16_opens;
+  only = u16_sized.only;
+  opens = λ origin items v h. grind arith;
   part = (λ v s fits real. grind arith);
   back = λ n rest h last. ap u16_value (ap (from_be_bytes w16) (take_at (to_be_bytes w16 n) rest 2 refl) ∙ from_be_bytes-to_be_bytes_2 n h);
   low = λ n short. (omega arith, (omega arith, tt));
@@ -53,13 +45,6 @@ u16_laws = record {
 
 -- ---- 32 bits
 
-serial_only : (v : FieldValue) → Holds Serial v → (n : ℕ) × (v ≡ u32_value n)
-serial_only v h = grind arith
-
-serial_opens : (origin : Labels) (items : List RawItem) (v : FieldValue) → SpellsField origin Serial items v
-    → (text : List ℕ) × (n : ℕ) × (items ≡ bare text ∷ []) × (v ≡ u32_value n)
-serial_opens origin items v h = grind arith
-
 serial_read : (octets : List ℕ) → AreLow octets → length octets ≡ 4
     → (n : ℕ) × IsNumber w32 n × (octets ≡ to_be_bytes w32 n)
 serial_read octets low size =
@@ -67,12 +52,12 @@ serial_read octets low size =
     (from_be_bytes w32 octets, omega (arith, each 0, each 1, each 2, each 3), sym (be_bytes_4 octets (from_be_bytes w32 octets) size each refl))
 
 pub serial_sized : SizedField Serial u32_value 4
-serial_sized = grind (arith, serial_only, serial_read)
+serial_sized = record { plain = λ e. cc; single = λ e. cc; only = λ v h. grind arith; size = λ n h. refl; read = serial_read }
 
 pub serial_laws : FieldLaws Serial u32_value bare_item
 serial_laws = record {
-  only = serial_only;
-  opens = serial_opens;
+  only = serial_sized.only;
+  opens = λ origin items v h. grind arith;
   part = (λ v s fits real. grind arith);
   back = λ n rest h last. ap u32_value (ap (from_be_bytes w32) (take_at (to_be_bytes w32 n) rest 4 refl) ∙ from_be_bytes-to_be_bytes_4 n h);
   low = λ n short. (omega arith, (omega arith, (omega arith, (omega arith, tt))));

@@ -1,38 +1,19 @@
 -- One character-string.
-use Rattle.zone_rdata.proofs.Common.{[], List, Some, add-one, ap, arith, drop, get_or, inl, inr, length, length-append, refl, subst, take, ℕ, ◌++◌, ◌+◌, ◌<◌, ◌∙◌, ◌∷◌, ◌≡◌, ◌≤◌, cases_lt, length-take, take_at, Labels, with_length, FitsString, FieldValue, Holds, SpellsField, Suits, field_octets, string, RawItem, AppendsPrefix, AppendsValue, BeginsWithNone, BeginsWithValue, IsReal, IsString, BadRdata, OneString}
+use Rattle.zone_rdata.proofs.Common.{[], List, add-one, ap, arith, drop, inl, inr, length, length-append, refl, subst, take, ℕ, ◌++◌, ◌+◌, ◌<◌, ◌∙◌, ◌∷◌, ◌≡◌, ◌≤◌, cases_lt, length-take, take_at, Labels, with_length, FieldValue, string, RawItem, AppendsPrefix, AppendsValue, BeginsWithNone, BeginsWithValue, IsString, BadRdata, OneString}
 use Rattle.zone_rdata.proofs.Fields.FieldLaws.{AreLow, AreLowItems, FieldChoice, FieldLaws, FrontChoice, appends_plain, found_front, front_of, low_take}
-use Rattle.zone_rdata.proofs.Strings.StringLaws.{printed-spells, printed-stands, string-never_both, string-once}
-use Rattle.zone_rdata.proofs.Strings.Units.{string-or_fault}
+use Rattle.zone_rdata.proofs.Strings.StringLaws.{printed_spells, printed_stands, string-never_both, string-once}
+use Rattle.zone_rdata.proofs.Strings.Units.{string_or_fault}
 use Rattle.zone_rdata.proofs.Fields.FieldLengths.{string_length}
 
-only : (v : FieldValue) → Holds OneString v → (octets : List ℕ) × (v ≡ string octets)
-only v h = grind arith
-
-abbrev pub one_item : RawItem → List RawItem
-one_item item = item ∷ []
-
-opens : (origin : Labels) (items : List RawItem) (v : FieldValue) → SpellsField origin OneString items v → (item : RawItem) × (octets : List ℕ) × (items ≡ item ∷ []) × (v ≡ string octets)
-opens origin items v h = grind arith
-
-part : (v : FieldValue) → Suits (Some OneString) v → FitsString v → IsReal v → Holds OneString v × (0 < length (field_octets v))
-part v s fits real = grind arith
-
 -- ---- the string at the beginning of octets
-
--- the first octet, and those after it
-pub first_later : (octets : List ℕ) → 1 ≤ length octets → octets ≡ get_or octets 0 0 ∷ drop 1 octets
-first_later octets some = grind arith
 
 pub low_string : (c : ℕ) (following : List ℕ) → AreLow (c ∷ following) → c ≤ length following → IsString (take c following)
 low_string c following low fits = grind (arith, length-take, low_take)
 
-front_frame : (c : ℕ) (following : List ℕ) → c ≤ length following → take (c + 1) (c ∷ following) ≡ with_length (take c following)
-front_frame c following fits = grind (arith, add-one, length-take)
-
 pub appends_string : (octets rest old new : List ℕ) (c count : ℕ) (following : List ℕ) → AreLow octets → octets ≡ c ∷ following → count ≡ c + 1 → AppendsPrefix count octets rest old new → AppendsValue OneString octets rest old new
 appends_string octets rest old new c count following low e same grows =
     let fits : c ≤ length following = omega (arith, grows.fits, ap length e) in
-    let is : take count octets ≡ with_length (take c following) = ap (λ n. take n octets) same ∙ ap (take (c + 1)) e ∙ front_frame c following fits in
+    let is : take count octets ≡ with_length (take c following) = ap (λ n. take n octets) same ∙ ap (take (c + 1)) e ∙ grind (arith, add-one, length-take) in
     appends_plain OneString octets rest old new count (string (take c following)) (λ h. cc) (low_string c following (subst AreLow e low) fits) is (λ h. absurd cc) grows
 
 as_string : (octets : List ℕ) (v : FieldValue) (rest : List ℕ) → BeginsWithValue OneString octets v rest → (text : List ℕ) × (octets ≡ with_length text ++ rest)
@@ -41,11 +22,8 @@ as_string octets v rest b = grind arith
 pub none_string : (octets : List ℕ) (c count : ℕ) (following : List ℕ) → octets ≡ c ∷ following → count ≡ c + 1 → length octets < count → BeginsWithNone OneString octets
 none_string octets c count following e same few v rest b = grind (arith, as_string, length-append)
 
-pub none_nil : (octets : List ℕ) → length octets ≡ 0 → BeginsWithNone OneString octets
-none_nil octets none v rest b = let s = as_string octets v rest b in omega (arith, ap length s.1)
-
 front : (octets : List ℕ) → AreLow octets → FrontChoice OneString octets
-front [] low = inr (none_nil [] refl)
+front [] low = inr (λ v rest b. let s = as_string [] v rest b in omega (arith, ap length s.1))
 front (c ∷ following) low = elim (cases_lt (length (c ∷ following)) (c + 1)) [
   | inl few ↦ inr (none_string (c ∷ following) c (c + 1) following refl refl few)
   | inr fits ↦ found_front OneString (c ∷ following) (drop (c + 1) (c ∷ following)) (take (c + 1) (c ∷ following)) (appends_string (c ∷ following) (drop (c + 1) (c ∷ following)) [] (take (c + 1) (c ∷ following)) c (c + 1) following low refl refl (front_of (c + 1) (c ∷ following) fits))
@@ -53,13 +31,13 @@ front (c ∷ following) low = elim (cases_lt (length (c ∷ following)) (c + 1))
 
 spelt_or_fault : (origin : Labels) (items : List RawItem) → AreLowItems items → FieldChoice origin OneString (take 1 items)
 spelt_or_fault origin [] low = inr (BadRdata, refl)
-spelt_or_fault origin (item ∷ items) low = elim (string-or_fault item low.0) [ inl found ↦ inl (string found.0, found.1) | inr bad ↦ inr (bad.0, bad.1) ]
+spelt_or_fault origin (item ∷ items) low = elim (string_or_fault item low.0) [ inl found ↦ inl (string found.0, found.1) | inr bad ↦ inr (bad.0, bad.1) ]
 
-pub laws : FieldLaws OneString string one_item
+pub laws : FieldLaws OneString string (λ (item : RawItem). item ∷ [])
 laws = record {
-  only = only;
-  opens = opens;
-  part = part;
+  only = λ v h. grind arith;
+  opens = λ origin items v h. grind arith;
+  part = λ v s fits real. grind arith;
   back = λ octets rest h last. ap string (take_at octets rest (length octets) refl);
   low = λ octets h. (omega (arith, h.short), h.each);
   short = λ octets many fixed_size h. omega (arith, h.short);
@@ -68,8 +46,8 @@ laws = record {
   once = λ names origin item a b h k. string-once item a b h k;
   never = λ names origin item octets fault h bad. string-never_both item octets fault h bad;
   or_fault = λ names origin is. spelt_or_fault origin;
-  printed = λ names origin octets rest fixed_size h last. (printed-spells octets h, refl);
-  stands = λ octets fixed_size h. (printed-stands octets h, tt);
+  printed = λ names origin octets rest fixed_size h last. (printed_spells octets h, refl);
+  stands = λ octets fixed_size h. (printed_stands octets h, tt);
   unmarked = λ octets rest fixed_size h g. cc g.1;
   few = λ octets fixed_size h. string_length octets;
 }

@@ -1,25 +1,13 @@
 -- One or more character-strings, up to the end of the data.
-use Rattle.zone_rdata.proofs.Common.{[], List, Some, ap, append_assoc, arith, drop, inl, inr, length, length-append, map, refl, subst, suc, sym, take, zero, ℕ, ◌++◌, ◌<◌, ◌∙◌, ◌∷◌, ◌≡◌, ◌≤◌, ◌⊎◌, AllByRecursion, flat_map, cases_lt, append-nil, drop_all, length-drop, length-map, take_all, Labels, with_length, AllByRecursion-append, Fault, FitsString, FieldValue, Holds, SpellsField, Suits, field_octets, strings, string_item, AreStrings, FirstStringFault, SpellEachString, SpellsStrings, StringsFault, strings_of, IsGeneric, RawItem, AppendsPrefix, AppendsValue, BeginsWithNone, IsReal, AreWithLengths, IsString, SpellsString, StringFault, rules, common_steps, BadRdata, OneString, Strings, after}
+use Rattle.zone_rdata.proofs.Common.{[], List, ap, append_assoc, arith, drop, inl, inr, length, length-append, map, refl, subst, suc, sym, take, zero, ℕ, ◌++◌, ◌<◌, ◌∙◌, ◌∷◌, ◌≡◌, ◌≤◌, ◌⊎◌, AllByRecursion, flat_map, cases_lt, append-nil, drop_all, length-drop, length-map, take_all, Labels, with_length, AllByRecursion-append, Fault, strings, string_item, AreStrings, FirstStringFault, SpellEachString, SpellsStrings, StringsFault, strings_of, IsGeneric, RawItem, AppendsPrefix, AppendsValue, BeginsWithNone, AreWithLengths, IsString, SpellsString, StringFault, rules, common_steps, BadRdata, Strings, after}
 use Rattle.zone_rdata.proofs.Fields.FieldLaws.{AreLow, AreLowItems, FieldChoice, FieldLaws, FrontChoice, appends_plain, found_front, front_of, low_drop}
 use Rattle.zone_rdata.proofs.Fields.OneString.{low_string}
 use Rattle.zone_rdata.proofs.Octets.Sent.{frame_at, frame_same, frames_push}
 use Rattle.zone_rdata.proofs.Octets.StringFields.{strings_back}
-use Rattle.zone_rdata.proofs.Strings.StringLaws.{fault-once, printed-spells, printed-stands, string-never_both, string-once}
-use Rattle.zone_rdata.proofs.Strings.Units.{string-or_fault}
+use Rattle.zone_rdata.proofs.Strings.StringLaws.{fault-once, printed_spells, printed_stands, string-never_both, string-once}
+use Rattle.zone_rdata.proofs.Strings.Units.{string_or_fault}
 use Rattle.zone_rdata.proofs.Texts.Standing.{IsPrintedItem}
 use Rattle.zone_rdata.proofs.Fields.FieldLengths.{strings_length}
-
-only : (v : FieldValue) → Holds Strings v → (many : List (List ℕ)) × (v ≡ strings many)
-only v h = grind arith
-
-abbrev pub all_items : List RawItem → List RawItem
-all_items items = items
-
-opens : (origin : Labels) (items : List RawItem) (v : FieldValue) → SpellsField origin Strings items v → (all : List RawItem) × (many : List (List ℕ)) × (items ≡ all) × (v ≡ strings many)
-opens origin items v h = grind arith
-
-part : (v : FieldValue) → Suits (Some Strings) v → FitsString v → IsReal v → Holds OneString v × (0 < length (field_octets v))
-part v s fits real = grind arith
 
 -- ---- its octets
 low_each : (many : List (List ℕ)) → AllByRecursion IsString many → AreLow (flat_map with_length many)
@@ -44,9 +32,6 @@ pub record Framed (octets rest : List ℕ) : Type 0 where
   pub parts : octets ≡ flat_map with_length many ++ rest
   pub low : AreLow rest
 
-pub framed_none : (octets : List ℕ) → AreLow octets → Framed octets octets
-framed_none octets low = record { many = []; each = tt; parts = refl; low = low }
-
 pub framed_more : (octets rest : List ℕ) (c count : ℕ) (following after : List ℕ) → Framed octets rest → rest ≡ c ∷ following → count ≡ c → count ≤ length following → after ≡ drop count following → Framed octets after
 framed_more octets rest c count following after so_far e same fits is =
     let here = e ∙ ap (λ n. n ∷ following) (sym same) in
@@ -61,18 +46,13 @@ frames_some : (many : List (List ℕ)) → 0 < length many → 0 < length (flat_
 frames_some [] h = absurd (omega arith)
 frames_some (x ∷ many) h = omega arith
 
-pub framed_all : (octets rest : List ℕ) → 0 < length octets → Framed octets rest → length rest ≡ 0 → AreWithLengths octets
-framed_all octets rest some so_far none = grind (arith, common_steps)
-
 pub framed_empty : (octets : List ℕ) → length octets ≡ 0 → AreWithLengths octets → ⊥
 framed_empty octets none framed = grind (arith, frames_some)
 
 strings_first : (many whole : List (List ℕ)) (rest : List ℕ) → flat_map with_length many ++ rest ≡ flat_map with_length whole → (more : List (List ℕ)) × (rest ≡ flat_map with_length more)
 strings_first [] whole rest e = (whole, e)
 strings_first (x ∷ many) [] rest e = absurd (omega (arith, ap length e))
-strings_first (x ∷ many) (y ∷ whole) rest e =
-    let cut = frame_same x y (flat_map with_length many ++ rest) (flat_map with_length whole) (sym (append_assoc (with_length x) (flat_map with_length many) rest) ∙ e) in
-    strings_first many whole rest cut.1
+strings_first (x ∷ many) (y ∷ whole) rest e = strings_first many whole rest (frame_same x y (flat_map with_length many ++ rest) (flat_map with_length whole) (sym (append_assoc (with_length x) (flat_map with_length many) rest) ∙ e)).1
 
 short_by : (more : List (List ℕ)) (c : ℕ) (following : List ℕ) → c ∷ following ≡ flat_map with_length more → length following < c → ⊥
 short_by [] c following e few = absurd (omega (arith, ap length e))
@@ -82,7 +62,7 @@ pub framed_short : (octets rest : List ℕ) (c count : ℕ) (following : List �
 framed_short octets rest c count following so_far e same few framed = grind (arith, strings_first, short_by)
 
 framed_by : (octets rest : List ℕ) (fuel : ℕ) → 0 < length octets → length rest ≤ fuel → Framed octets rest → AreWithLengths octets ⊎ (AreWithLengths octets → ⊥)
-framed_by octets [] fuel some enough framed = inl (framed_all octets [] some framed refl)
+framed_by octets [] fuel some enough framed = inl (grind (arith, common_steps))
 framed_by octets (c ∷ following) zero some enough framed = absurd (omega arith)
 framed_by octets (c ∷ following) (suc fuel) some enough framed = elim (cases_lt (length following) c) [
   | inl few ↦ inr (framed_short octets (c ∷ following) c c following framed refl refl few)
@@ -91,7 +71,7 @@ framed_by octets (c ∷ following) (suc fuel) some enough framed = elim (cases_l
 
 framed_or_not : (octets : List ℕ) → AreLow octets → AreWithLengths octets ⊎ (AreWithLengths octets → ⊥)
 framed_or_not [] low = inr (framed_empty [] refl)
-framed_or_not (c ∷ octets) low = framed_by (c ∷ octets) (c ∷ octets) (length (c ∷ octets)) (omega arith) (omega arith) (framed_none (c ∷ octets) low)
+framed_or_not (c ∷ octets) low = framed_by (c ∷ octets) (c ∷ octets) (length (c ∷ octets)) (omega arith) (omega arith) (record { many = []; each = tt; parts = refl; low = low })
 
 front : (octets : List ℕ) → AreWithLengths octets ⊎ (AreWithLengths octets → ⊥) → FrontChoice Strings octets
 front octets (inl framed) = found_front Strings octets (drop (length octets) octets) (take (length octets) octets) (appends_strings octets (drop (length octets) octets) [] (take (length octets) octets) framed (front_of (length octets) octets (omega arith)))
@@ -140,20 +120,16 @@ next_string item items (inl found) (inr bad) = inr (bad.0, inr (found.0, found.1
 
 each_or_fault : (items : List RawItem) → AreLowItems items → StringsChoice items
 each_or_fault [] low = inl ([], tt)
-each_or_fault (item ∷ items) low = next_string item items (string-or_fault item low.0) (each_or_fault items low.1)
-
-spelt_by : (origin : Labels) (item : RawItem) (items : List RawItem) → StringsChoice (item ∷ items) → FieldChoice origin Strings (item ∷ items)
-spelt_by origin item items (inl found) = inl (strings found.0, record { some = omega arith; each = found.1 })
-spelt_by origin item items (inr bad) = inr (bad.0, bad.1)
+each_or_fault (item ∷ items) low = next_string item items (string_or_fault item low.0) (each_or_fault items low.1)
 
 spelt_or_fault : (origin : Labels) (items : List RawItem) → AreLowItems items → FieldChoice origin Strings items
 spelt_or_fault origin [] low = inr (BadRdata, refl)
-spelt_or_fault origin (item ∷ items) low = spelt_by origin item items (each_or_fault (item ∷ items) low)
+spelt_or_fault origin (item ∷ items) low = elim (each_or_fault (item ∷ items) low) [ inl found ↦ inl (strings found.0, record { some = omega arith; each = found.1 }) | inr bad ↦ inr (bad.0, bad.1) ]
 
 -- ---- the items that are printed
 each_printed : (many : List (List ℕ)) → AllByRecursion IsString many → SpellEachString (map string_item many) many
 each_printed [] each = tt
-each_printed (octets ∷ many) each = (printed-spells octets each.0, each_printed many each.1)
+each_printed (octets ∷ many) each = (printed_spells octets each.0, each_printed many each.1)
 
 printed : (many : List (List ℕ)) (rest : List RawItem) → AreStrings many → rest ≡ [] → SpellsStrings (map string_item many ++ rest) many × ([] ≡ rest)
 printed many rest h last = grind (arith, append-nil, length-map, each_printed)
@@ -164,13 +140,13 @@ unmarked (octets ∷ many) rest h g = cc g.1
 
 stand_each : (many : List (List ℕ)) → AllByRecursion IsString many → AllByRecursion IsPrintedItem (map string_item many)
 stand_each [] each = tt
-stand_each (octets ∷ many) each = (printed-stands octets each.0, stand_each many each.1)
+stand_each (octets ∷ many) each = (printed_stands octets each.0, stand_each many each.1)
 
-pub laws : FieldLaws Strings strings all_items
+pub laws : FieldLaws Strings strings (λ (items : List RawItem). items)
 laws = record {
-  only = only;
-  opens = opens;
-  part = part;
+  only = λ v h. grind arith;
+  opens = λ origin items v h. grind arith;
+  part = λ v s fits real. grind arith;
   back = λ many rest h last. ap strings (back many rest (last refl));
   low = λ many h. low_each many h.each;
   short = λ many none fixed_size h. absurd (none refl);

@@ -1,7 +1,6 @@
 -- A number of seconds, in octets a number of 32 bits, written in digits or as a time.
-use Rattle.zone_rdata.proofs.Common.{[], List, arith, refl, ℕ, ◌∷◌, ◌≡◌, FieldValue, SpellsField, u32_value, RawItem, bare, IsTime, plain, BadNumber, Time}
+use Rattle.zone_rdata.proofs.Common.{arith, refl, u32_value, IsTime, plain, BadNumber, Time, below_or_not}
 use Rattle.zone_rdata.specs.Fields.Time.{SpellsTime}
-use Rattle.zone_rdata.proofs.Choices.{below_or_not}
 use Rattle.zone_rdata.proofs.Fields.FieldLaws.{FieldLaws, SizedField, bare_item, bare_or_fault, sized_front, value_or_fault}
 use Rattle.zone_rdata.proofs.Items.GenericLaws.{decimal-is}
 use Rattle.zone_rdata.proofs.Numbers.TimeChoice.{time_or_not}
@@ -11,13 +10,10 @@ use Rattle.zone_rdata.proofs.Fields.Number.{serial_laws, serial_sized}
 pub sized : SizedField Time u32_value 4
 sized = grind (arith, serial_sized)
 
-opens : (origin : List (List ℕ)) (items : List RawItem) (v : FieldValue) → SpellsField origin Time items v → (text : List ℕ) × (n : ℕ) × (items ≡ bare text ∷ []) × (v ≡ u32_value n)
-opens origin items v h = grind arith
-
 pub laws : FieldLaws Time u32_value bare_item
 laws = record {
   only = serial_laws.only;
-  opens = opens;
+  opens = λ origin items v h. grind arith;
   part = serial_laws.part;
   back = λ n rest h last. serial_laws.back n rest h (λ e. absurd cc);
   low = serial_laws.low;

@@ -1,7 +1,6 @@
 -- The generic form: digits that join to octets, item after item.
-use Rattle.zone_rdata.proofs.Common.{[], ◌≡◌, ◌≢◌, ℕ, ◌+◌, ◌-◌, ◌/◌, ◌<◌, ◌≤◌, min, List, ◌∷◌, ◌++◌, length, get_or, take, drop, map, Ok, sym, ap, ◌∙◌, subst, arith, append_assoc, length-append, drop_all, take_all, append-nil, decode_of, decode_of-ok, decode_of-same, Fault, Item, RawItem, bare, quoted, raw, generic_mark, IsGeneric, IsDecimal, StatesLength, JoinTo, StatesGeneric, GenericFault, no_length, long_length, bad_digits, Appends, common_steps, length-drop, BadGeneric, RdataTooLong}
+use Rattle.zone_rdata.proofs.Common.{[], ◌≡◌, ◌≢◌, ℕ, ◌+◌, ◌-◌, ◌/◌, ◌<◌, ◌≤◌, List, ◌∷◌, ◌++◌, length, get_or, drop, map, Ok, sym, ap, ◌∙◌, subst, arith, append_assoc, length-append, drop_all, append-nil, decode_of, decode_of-ok, decode_of-same, Fault, Item, RawItem, bare, quoted, raw, generic_mark, IsGeneric, StatesLength, JoinTo, GenericFault, no_length, long_length, bad_digits, Appends, common_steps, BadGeneric, from_place}
 use Rattle.zone_rdata.specs.Machine.GenericLength.{LengthFault, no_number, beyond}
-use Rattle.zone_rdata.proofs.Lists.{from_place}
 
 -- two digits for each octet
 pub half_length : (text front : List ℕ) → decode_of text ≡ Ok front → length front ≡ length text / 2
@@ -39,14 +38,6 @@ joined_over items i item d text octets len lt found is joined room over whole h 
 pub joined_all : (items : List Item) (i : ℕ) (octets : List ℕ) → length items ≤ i → HaveJoined (map raw items) (map raw (drop i items)) octets → JoinTo (map raw items) octets
 joined_all items i octets past joined = grind (arith, drop_all i items past, append-nil octets)
 
--- ---- the length
-
-pub length_none : (item : Item) (text : List ℕ) → raw item ≡ bare text → ((n : ℕ) → IsDecimal text n → ⊥) → LengthFault (raw item) BadGeneric
-length_none item text is none = no_number (λ n h. none n (subst (λ r. StatesLength r n) is h))
-
-pub length_quoted : (item : Item) (text : List ℕ) → raw item ≡ quoted text → LengthFault (raw item) BadGeneric
-length_quoted item text is = no_number (λ n h. subst (λ r. StatesLength r n) is h)
-
 -- ---- the form
 pub form_faults : (items digits : List RawItem) (item : RawItem) (fault : Fault) → items ≡ generic_mark ∷ item ∷ digits → LengthFault item fault → GenericFault items fault
 form_faults items digits item _ e (no_number none) = no_length (item ∷ digits, e) (λ n more form. none n (subst (λ i. StatesLength i n) (let same : form.item ≡ item = cc (sym form.parts ∙ e) in same) form.states))
@@ -55,19 +46,9 @@ form_faults items digits item _ e (beyond n states over) = long_length n digits 
 pub form_missing : (items : List RawItem) → IsGeneric items → length items ≤ 1 → GenericFault items BadGeneric
 form_missing items marked short = no_length marked (λ n digits form. absurd (omega (arith, ap length form.parts)))
 
-pub form_states : (items digits : List RawItem) (item : RawItem) (octets : List ℕ) (n : ℕ) → items ≡ generic_mark ∷ item ∷ digits → StatesLength item n → n ≤ 65535 → JoinTo digits octets → length octets ≡ n → StatesGeneric items octets
-form_states items digits item octets n e states short joined count = grind arith
-
 pub form_digits : (items digits : List RawItem) (item : RawItem) (n : ℕ) (fault : Fault) → items ≡ generic_mark ∷ item ∷ digits → StatesLength item n → n ≤ 65535 → (fault ≡ BadGeneric) × ((octets : List ℕ) → JoinTo digits octets → length octets ≢ n) → GenericFault items fault
 form_digits items digits item n fault e states short bad =
     subst (GenericFault items) (sym bad.0) (bad_digits n digits (record { item = item; parts = e; states = states }) short bad.1)
 
 pub form_parts : (items : List Item) (d : Item) → 2 ≤ length items → IsGeneric (map raw items) → map raw items ≡ generic_mark ∷ raw (get_or items 1 d) ∷ map raw (drop 2 items)
 form_parts items d two marked = grind arith
-
-pub length_beyond : (item : Item) (text : List ℕ) (number most : ℕ) → raw item ≡ bare text → (m : ℕ) × (IsDecimal text m × (number ≡ min most m)) → 65535 < number → LengthFault (raw item) RdataTooLong
-length_beyond item text number most is found over = beyond found.0 (subst (λ r. StatesLength r found.0) (sym is) found.1.0) (let e = found.1.1 in omega arith)
-
--- the rest of a list after its first two
-pub later_two : (items : List Item) → take (length items - 2) (drop 2 items) ≡ drop 2 items
-later_two items = take_all (length items - 2) (drop 2 items) (omega (arith, length-drop 2 items))

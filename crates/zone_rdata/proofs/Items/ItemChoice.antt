@@ -1,16 +1,11 @@
 -- Items state a value or have a first fault.
-use Rattle.zone_rdata.proofs.Common.{[], List, None, Option, Some, inl, inr, length, refl, subst, sym, ℕ, ◌<◌, ◌∷◌, ◌≡◌, ◌⊎◌, arith, cases_lt, decode_of-ok, Labels, IsName, AllByRecursion-append, Fault, Field, FirstFieldFault, IsDataFault, IsFaultFor, in_generic_form, malformed, no_value, opaque_words, too_long, unspelt, FieldValue, items_after, octets_of, own_items, GenericFault, JoinTo, StatesGeneric, IsGeneric, RawItem, bare, quoted, layout, SpellEach, States, StatesFor, in_words, IsUncompressed, BadGeneric, BadRdata, RdataTooLong}
+use Rattle.zone_rdata.proofs.Common.{in_octets, [], List, None, Option, Some, inl, inr, length, refl, subst, sym, ℕ, ◌<◌, ◌∷◌, ◌≡◌, ◌⊎◌, arith, cases_lt, decode_of-ok, Labels, IsName, AllByRecursion-append, Fault, Field, FirstFieldFault, IsDataFault, IsFaultFor, in_generic_form, malformed, no_value, opaque_words, too_long, unspelt, FieldValue, items_after, octets_of, own_items, GenericFault, JoinTo, StatesGeneric, IsGeneric, RawItem, bare, quoted, layout, SpellEach, States, StatesFor, in_words, BadGeneric, BadRdata, RdataTooLong, bytes_each, Decided}
 use Rattle.zone_rdata.proofs.Fields.AnyField.{field_or_fault}
-use Rattle.zone_rdata.proofs.Lists.{bytes_each}
-use Rattle.zone_rdata.proofs.Choices.{Choice, Decided}
 use Rattle.zone_rdata.proofs.Fields.FieldLaws.{mark, AreLow, AreLowItems, FieldChoice, NameOrFault}
-use Rattle.zone_rdata.proofs.Items.GenericLaws.{generic-or_fault}
+use Rattle.zone_rdata.proofs.Items.GenericLaws.{generic_or_fault}
 use Rattle.zone_rdata.proofs.Octets.Taken.{canonical_or_not}
 use Rattle.zone_rdata.proofs.Words.WordChoice.{same_or_not}
 use Rattle.zone_rdata.specs.DataFault as faults
-
-low_later : (f : Field) (items : List RawItem) → AreLowItems items → AreLowItems (items_after f items)
-low_later f items low = grind arith
 
 -- ---- items in words
 abbrev WordsChoice : List (List ℕ) → List Field → List RawItem → Type 0
@@ -24,7 +19,7 @@ next_field origin f row items (inl found) (inr bad) = inr (bad.0, inr (found.0, 
 words_by : NameOrFault → (origin : Labels) → IsName origin → (row : List Field) (items : List RawItem) → AreLowItems items → WordsChoice origin row items
 words_by names origin is [] [] low = inl ([], tt)
 words_by names origin is [] (item ∷ items) low = inr (BadRdata, refl)
-words_by names origin is (f ∷ row) items low = next_field origin f row items (field_or_fault names origin is f items low) (words_by names origin is row (items_after f items) (low_later f items low))
+words_by names origin is (f ∷ row) items low = next_field origin f row items (field_or_fault names origin is f items low) (words_by names origin is row (items_after f items) (grind arith))
 
 -- ---- items of a layout, if there is one
 abbrev Outcome : List (List ℕ) → Option (List Field) → List RawItem → Type 0
@@ -47,14 +42,13 @@ joined_low [] octets h = subst AreLow (sym h) tt
 joined_low (bare text ∷ items) octets h = subst AreLow (sym h.3) (AllByRecursion-append (λ c. c < 256) h.0 h.1 (bytes_each h.0 (decode_of-ok text h.0 h.2).3) (joined_low items h.1 h.4))
 joined_low (quoted text ∷ items) octets h = absurd h
 
-canonical_item : (origin : Labels) (row : List Field) (items : List RawItem) (stated : List ℕ) → StatesGeneric items stated → Choice (IsUncompressed row stated) → Outcome origin (Some row) items
-canonical_item origin row items stated form (inl found) = grind arith
-canonical_item origin row items stated form (inr none) = inr (BadRdata, in_generic_form BadRdata (no_value row stated refl form none))
-
 form_by : (origin : Labels) (class kind : ℕ) (laid : Option (List Field)) (items : List RawItem) → layout class kind ≡ laid → ((octets : List ℕ) × StatesGeneric items octets) ⊎ ((fault : Fault) × GenericFault items fault) → Outcome origin laid items
 form_by origin class kind laid items e (inr bad) = inr (bad.0, in_generic_form bad.0 (malformed bad.0 bad.1))
 form_by origin class kind None items e (inl found) = grind arith
-form_by origin class kind (Some row) items e (inl found) = canonical_item origin row items found.0 found.1 (canonical_or_not class kind row found.0 e (joined_low found.1.digits found.0 found.1.joined))
+form_by origin class kind (Some row) items e (inl (stated, form)) = elim (canonical_or_not class kind row stated e (joined_low form.digits stated form.joined)) [
+  | inl found ↦ inl (found.0, in_octets (stated, form, found.1))
+  | inr none ↦ inr (BadRdata, in_generic_form BadRdata (no_value row stated refl form none))
+]
 
 -- the first item is the mark or not
 marked_or_not : (items : List RawItem) → Decided (IsGeneric items)
@@ -62,9 +56,9 @@ marked_or_not (bare text ∷ rest) = grind (arith, same_or_not text mark)
 marked_or_not items = inr (λ h. absurd (let e = h.1 in cc))
 
 outcome_by : NameOrFault → (origin : Labels) → IsName origin → (class kind : ℕ) (items : List RawItem) → AreLowItems items → Decided (IsGeneric items) → Outcome origin (layout class kind) items
-outcome_by names origin is class kind items low (inl marked) = form_by origin class kind (layout class kind) items refl (generic-or_fault items marked)
+outcome_by names origin is class kind items low (inl marked) = form_by origin class kind (layout class kind) items refl (generic_or_fault items marked)
 outcome_by names origin is class kind items low (inr unmarked) = words_or_fault names origin is (layout class kind) items low unmarked
 
 -- ---- data of a class and type
-pub data-or_fault : NameOrFault → (origin : Labels) (class kind : ℕ) (items : List RawItem) → IsName origin → AreLowItems items → ((octets : List ℕ) × States origin class kind items octets) ⊎ ((fault : Fault) × IsDataFault origin class kind items fault)
-data-or_fault names origin class kind items is low = grind (arith, outcome_by names origin is class kind items low (marked_or_not items))
+pub data_or_fault : NameOrFault → (origin : Labels) (class kind : ℕ) (items : List RawItem) → IsName origin → AreLowItems items → ((octets : List ℕ) × States origin class kind items octets) ⊎ ((fault : Fault) × IsDataFault origin class kind items fault)
+data_or_fault names origin class kind items is low = grind (arith, outcome_by names origin is class kind items low (marked_or_not items))

@@ -1,8 +1,8 @@
 -- Items state at most one value, or have at most one first fault.
-use Rattle.zone_rdata.proofs.Common.{[], List, None, Option, Some, arith, inl, inr, length, refl, subst, sym, ℕ, ◌∙◌, ◌∷◌, ◌≡◌, ◌≤◌, Labels, Fault, Field, FirstFieldFault, IsDataFault, IsFaultFor, IsGenericDataFault, IsWordsFault, in_generic_form, malformed, no_value, opaque_words, too_long, unspelt, FieldValue, items_after, octets_of, StatesGeneric, GenericFault, RawItem, IsGeneric, layout, IsCanonicalOf, SpellEach, States, StatesFor, in_octets, in_words}
+use Rattle.zone_rdata.proofs.Common.{None, too_long, [], List, Option, Some, arith, inl, inr, length, refl, subst, sym, ℕ, ◌∙◌, ◌∷◌, ◌≡◌, ◌≤◌, Labels, Fault, Field, FirstFieldFault, IsFaultFor, IsGenericDataFault, IsWordsFault, in_generic_form, malformed, no_value, opaque_words, unspelt, FieldValue, items_after, octets_of, StatesGeneric, RawItem, IsGeneric, layout, IsCanonicalOf, SpellEach, States, StatesFor, in_octets, in_words}
 use Rattle.zone_rdata.proofs.Fields.AnyField.{field_fault_once, field_never, field_once}
 use Rattle.zone_rdata.proofs.Fields.FieldLaws.{NameFaultOnce, NamesNever, NamesOnce}
-use Rattle.zone_rdata.proofs.Items.GenericLaws.{generic-never_both, generic-once, generic_fault-once}
+use Rattle.zone_rdata.proofs.Items.GenericLaws.{generic_never_both, generic_once, generic_fault_once}
 use Rattle.zone_rdata.proofs.Octets.Taken.{canonical_same}
 use Rattle.zone_rdata.specs.DataFault as faults
 
@@ -38,10 +38,6 @@ words_fault_once names once origin row items _ _ (too_long _ _ _) (too_long _ _ 
 
 -- ---- items of a layout, in words or in the generic form
 
--- octets have at most one canonical form in the layout
-abbrev CanonicalOnce : Option (List Field) → Type 0
-CanonicalOnce laid = (stated a b : List ℕ) → IsCanonicalOf laid stated a → IsCanonicalOf laid stated b → a ≡ b
-
 same_row : (laid : Option (List Field)) (a b : List Field) → laid ≡ Some a → laid ≡ Some b → a ≡ b
 same_row laid a b x y = let e : Some a ≡ Some b = sym x ∙ y in cc
 
@@ -49,34 +45,31 @@ same_row laid a b x y = let e : Some a ≡ Some b = sym x ∙ y in cc
 generic_marks : (items : List RawItem) (octets : List ℕ) → StatesGeneric items octets → IsGeneric items
 generic_marks items octets s = (s.form.item ∷ s.digits, s.form.parts)
 
-generic_fault_marks : (items : List RawItem) (fault : Fault) → GenericFault items fault → IsGeneric items
-generic_fault_marks items fault h = grind arith
-
 form_fault_marks : (laid : Option (List Field)) (items : List RawItem) (fault : Fault) → IsGenericDataFault laid items fault → IsGeneric items
-form_fault_marks laid items fault h = grind (arith, generic_fault_marks, generic_marks)
+form_fault_marks laid items fault h = grind (arith, generic_marks)
 
-for_once : NamesOnce → (origin : Labels) (laid : Option (List Field)) (items : List RawItem) (a b : List ℕ) → CanonicalOnce laid → StatesFor origin laid items a → StatesFor origin laid items b → a ≡ b
+for_once : NamesOnce → (origin : Labels) (laid : Option (List Field)) (items : List RawItem) (a b : List ℕ) → ((stated a b : List ℕ) → IsCanonicalOf laid stated a → IsCanonicalOf laid stated b → a ≡ b) → StatesFor origin laid items a → StatesFor origin laid items b → a ≡ b
 for_once names origin laid items a b once (in_words row vs e unmarked h is short) has = grind (arith, same_row, each_once, generic_marks)
 for_once names origin laid items a b once (in_octets stated) (in_words row vs e unmarked h is short) = absurd (unmarked (generic_marks items stated.0 stated.1))
-for_once names origin laid items a b once (in_octets h) (in_octets k) = cc (once h.0 a b h.2 (subst (λ o. IsCanonicalOf laid o b) (generic-once items k.0 h.0 k.1 h.1) k.2))
+for_once names origin laid items a b once (in_octets h) (in_octets k) = cc (once h.0 a b h.2 (subst (λ o. IsCanonicalOf laid o b) (generic_once items k.0 h.0 k.1 h.1) k.2))
 
 form_never : (laid : Option (List Field)) (items : List RawItem) (stated octets : List ℕ) (fault : Fault) → StatesGeneric items stated → IsCanonicalOf laid stated octets → IsGenericDataFault laid items fault → ⊥
-form_never laid items stated octets _ form canonical (malformed fault bad) = generic-never_both items stated fault form bad
-form_never laid items stated octets _ form canonical (no_value row stated' e form' none) = grind (arith, generic-once items stated stated' form form')
+form_never laid items stated octets _ form canonical (malformed fault bad) = generic_never_both items stated fault form bad
+form_never laid items stated octets _ form canonical (no_value row stated' e form' none) = grind (arith, generic_once items stated stated' form form')
 
-for_never : NamesOnce → NamesNever → (origin : Labels) (laid : Option (List Field)) (items : List RawItem) (octets : List ℕ) (fault : Fault) → StatesFor origin laid items octets → IsFaultFor origin laid items fault → ⊥
+pub for_never : NamesOnce → NamesNever → (origin : Labels) (laid : Option (List Field)) (items : List RawItem) (octets : List ℕ) (fault : Fault) → StatesFor origin laid items octets → IsFaultFor origin laid items fault → ⊥
 for_never once names origin laid items octets _ (in_words row vs e unmarked h is short) (in_generic_form fault bad) = unmarked (form_fault_marks laid items fault bad)
 for_never once names origin laid items octets fault given (faults.in_words row' x e' unmarked2 bad) = grind (arith, same_row, words_never, generic_marks)
 for_never once names origin laid items octets fault given (opaque_words e' unmarked2) = grind arith
 for_never once names origin laid items octets _ (in_octets h) (in_generic_form fault bad) = form_never laid items h.0 octets fault h.1 h.2 bad
 
 form_fault_once : (laid : Option (List Field)) (items : List RawItem) (a b : Fault) → IsGenericDataFault laid items a → IsGenericDataFault laid items b → a ≡ b
-form_fault_once laid items _ _ (malformed fault bad) (malformed fault' bad') = generic_fault-once items fault fault' bad bad'
-form_fault_once laid items _ _ (malformed fault bad) (no_value row stated e form none) = absurd (generic-never_both items stated fault form bad)
-form_fault_once laid items _ _ (no_value row stated e form none) (malformed fault bad) = absurd (generic-never_both items stated fault form bad)
+form_fault_once laid items _ _ (malformed fault bad) (malformed fault' bad') = generic_fault_once items fault fault' bad bad'
+form_fault_once laid items _ _ (malformed fault bad) (no_value row stated e form none) = absurd (generic_never_both items stated fault form bad)
+form_fault_once laid items _ _ (no_value row stated e form none) (malformed fault bad) = absurd (generic_never_both items stated fault form bad)
 form_fault_once laid items _ _ (no_value row stated e form none) (no_value _ _ _ _ _) = refl
 
-for_fault_once : NamesNever → NameFaultOnce → (origin : Labels) (laid : Option (List Field)) (items : List RawItem) (a b : Fault) → IsFaultFor origin laid items a → IsFaultFor origin laid items b → a ≡ b
+pub for_fault_once : NamesNever → NameFaultOnce → (origin : Labels) (laid : Option (List Field)) (items : List RawItem) (a b : Fault) → IsFaultFor origin laid items a → IsFaultFor origin laid items b → a ≡ b
 for_fault_once names once origin laid items _ _ (in_generic_form fault bad) (in_generic_form fault' bad') = form_fault_once laid items fault fault' bad bad'
 for_fault_once names once origin laid items _ _ (in_generic_form fault bad) (faults.in_words row fault' e unmarked bad') = absurd (unmarked (form_fault_marks laid items fault bad))
 for_fault_once names once origin laid items _ _ (in_generic_form fault bad) (opaque_words e unmarked) = absurd (unmarked (form_fault_marks laid items fault bad))
@@ -89,11 +82,5 @@ for_fault_once names once origin laid items _ _ (opaque_words e unmarked) (opaqu
 
 -- ---- data of a class and type
 
-pub data-once : NamesOnce → (origin : Labels) (class kind : ℕ) (items : List RawItem) (a b : List ℕ) → States origin class kind items a → States origin class kind items b → a ≡ b
-data-once names origin class kind items a b x y = for_once names origin (layout class kind) items a b (λ stated v w. canonical_same class kind (layout class kind) stated v w refl) x.stated y.stated
-
-pub data-never_both : NamesOnce → NamesNever → (origin : Labels) (class kind : ℕ) (items : List RawItem) (octets : List ℕ) (fault : Fault) → States origin class kind items octets → IsDataFault origin class kind items fault → ⊥
-data-never_both once names origin class kind items octets fault x y = for_never once names origin (layout class kind) items octets fault x.stated y.first
-
-pub data_fault-once : NamesNever → NameFaultOnce → (origin : Labels) (class kind : ℕ) (items : List RawItem) (a b : Fault) → IsDataFault origin class kind items a → IsDataFault origin class kind items b → a ≡ b
-data_fault-once names once origin class kind items a b x y = grind (arith, for_fault_once)
+pub data_once : NamesOnce → (origin : Labels) (class kind : ℕ) (items : List RawItem) (a b : List ℕ) → States origin class kind items a → States origin class kind items b → a ≡ b
+data_once names origin class kind items a b x y = for_once names origin (layout class kind) items a b (λ stated v w. canonical_same class kind (layout class kind) stated v w refl) x.stated y.stated

@@ -1,7 +1,6 @@
 -- Of more items than any data can have, those that spell strings may be left out: the others have
 -- the same first fault, and state no data.
-use Rattle.zone_rdata.proofs.Common.{[], ◌≡◌, ℕ, ◌+◌, ◌<◌, ◌≤◌, List, ◌∷◌, ◌++◌, length, Option, Some, inl, inr, refl, ap, subst, arith, append_assoc, length-append, AllByRecursion, decode_of-ok, length-frames, AllByRecursion-front, Labels, Fault, Field, FirstFieldFault, IsDataFault, IsFaultFor, IsGenericDataFault, IsWordsFault, in_generic_form, malformed, no_value, opaque_words, too_long, unspelt, FieldValue, SpellsField, octets_of, strings, FirstStringFault, SpellEachString, GenericFault, IsGenericForm, JoinTo, StatesGeneric, bad_digits, long_length, no_length, IsGeneric, RawItem, bare, quoted, layout, SpellEach, States, StatesFor, in_octets, in_words, SpellsString, Strings, rules}
-use Rattle.std.specs.Prelude.{⊤}
+use Rattle.zone_rdata.proofs.Common.{[], ◌≡◌, ℕ, ◌+◌, ◌<◌, ◌≤◌, List, ◌∷◌, ◌++◌, length, Option, Some, inl, inr, refl, ap, subst, arith, append_assoc, length-append, AllByRecursion, decode_of-ok, length-frames, AllByRecursion-front, Labels, Fault, Field, FirstFieldFault, IsDataFault, IsFaultFor, IsGenericDataFault, IsWordsFault, in_generic_form, malformed, no_value, opaque_words, too_long, unspelt, FieldValue, SpellsField, octets_of, strings, FirstStringFault, SpellEachString, GenericFault, IsGenericForm, JoinTo, StatesGeneric, bad_digits, long_length, no_length, IsGeneric, RawItem, bare, quoted, layout, SpellEach, States, StatesFor, in_octets, in_words, SpellsString, Strings, rules, ⊤}
 use Rattle.zone_rdata.specs.DataFault as faults
 use Rattle.zone_rdata.specs.LeftOut.{AreShortened, LeavesOut}
 use Rattle.zone_rdata.proofs.Words.Tables.{table_row}

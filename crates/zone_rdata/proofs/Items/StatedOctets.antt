@@ -1,5 +1,5 @@
 -- What items state is data.
-use Rattle.zone_rdata.proofs.Common.{[], List, Option, length, refl, ℕ, ◌∷◌, ◌≡◌, ◌≤◌, arith, AreOctets, Labels, Fault, Field, IsDataFault, IsFaultFor, FieldValue, HoldEach, items_after, own_items, RawItem, IsData, layout, IsCanonicalOf, SpellEach, States, StatesFor, subst, None, Some, sym, in_words, in_octets, ◌∙◌, AreLaidOut}
+use Rattle.zone_rdata.proofs.Common.{[], List, Option, length, ℕ, ◌∷◌, ◌≡◌, ◌≤◌, arith, AreOctets, Labels, Field, FieldValue, HoldEach, items_after, own_items, RawItem, IsData, layout, SpellEach, States, StatesFor, subst, None, Some, sym, in_words, in_octets, ◌∙◌, AreLaidOut}
 use Rattle.zone_rdata.proofs.Fields.AnyField.{field_holds}
 use Rattle.zone_rdata.proofs.Words.Tables.{table_row}
 use Rattle.zone_rdata.proofs.Fields.FieldLaws.{AreLow}
@@ -27,16 +27,7 @@ stated_data origin class kind laid items octets e stated each = grind (arith, st
 pub states_for : (origin : Labels) (class kind : ℕ) (laid : Option (List Field)) (items : List RawItem) (octets : List ℕ) → laid ≡ layout class kind → StatesFor origin laid items octets → States origin class kind items octets
 states_for origin class kind laid items octets e stated = grind arith
 
-pub first_for : (origin : Labels) (class kind : ℕ) (laid : Option (List Field)) (items : List RawItem) (fault : Fault) → laid ≡ layout class kind → IsFaultFor origin laid items fault → IsDataFault origin class kind items fault
-first_for origin class kind laid items fault e first = grind arith
-
-low_form : (laid : Option (List Field)) (stated octets : List ℕ) → AreLow stated → IsCanonicalOf laid stated octets → AreLow octets
-low_form None stated octets low is = subst AreLow (sym is) low
-low_form (Some fields) stated octets low is = subst AreLow (sym is.whole) (low_values fields is.values is.held)
-
-stated_low : (origin : Labels) (laid : Option (List Field)) (items : List RawItem) (octets : List ℕ) → StatesFor origin laid items octets → AreLow octets
+pub stated_low : (origin : Labels) (laid : Option (List Field)) (items : List RawItem) (octets : List ℕ) → StatesFor origin laid items octets → AreLow octets
 stated_low origin laid items octets (in_words fields values e bare spelt is short) = subst AreLow (sym is) (low_values fields values (spelt_hold origin fields items values spelt))
-stated_low origin laid items octets (in_octets (stated, form, is)) = low_form laid stated octets (joined_low form.digits stated form.joined) is
-
-pub stated_is_data : (origin : Labels) (class kind : ℕ) (items : List RawItem) (octets : List ℕ) → States origin class kind items octets → IsData class kind octets
-stated_is_data origin class kind items octets x = stated_data origin class kind (layout class kind) items octets refl x.stated (stated_low origin (layout class kind) items octets x.stated)
+stated_low origin None items octets (in_octets (stated, form, is)) = subst AreLow (sym is) (joined_low form.digits stated form.joined)
+stated_low origin (Some fields) items octets (in_octets (stated, form, is)) = subst AreLow (sym is.whole) (low_values fields is.values is.held)

@@ -1,7 +1,6 @@
 -- What a field's items spell is appended.
-use Rattle.zone_rdata.proofs.Common.{[], List, Option, Some, ap, append_assoc, arith, drop, get_or, inr, length, map, min, subst, sym, ℕ, ◌++◌, ◌+◌, ◌<◌, ◌∙◌, ◌∷◌, ◌≡◌, ◌≤◌, flat_map, slice_get, IfNone, IfSome, append-nil, drop_all, Labels, with_length, Fault, Field, Item, FieldValue, SpellsField, field_octets, items_after, own_items, strings, FirstStringFault, SpellEachString, SpellsStrings, StringsFault, RawItem, raw, Appends, AppendsFirst, SpellsString, StringFault}
+use Rattle.zone_rdata.proofs.Common.{[], List, Option, Some, ap, append_assoc, arith, drop, get_or, inr, length, map, min, subst, sym, ℕ, ◌++◌, ◌+◌, ◌<◌, ◌∙◌, ◌∷◌, ◌≡◌, ◌≤◌, flat_map, slice_get, IfNone, IfSome, append-nil, drop_all, Labels, with_length, Fault, Field, Item, FieldValue, SpellsField, field_octets, items_after, own_items, strings, FirstStringFault, SpellEachString, SpellsStrings, StringsFault, RawItem, raw, Appends, AppendsFirst, SpellsString, StringFault, from_place}
 use Rattle.zone_rdata.specs.declared.field.Field.TheVariants as fields
-use Rattle.zone_rdata.proofs.Lists.{from_place}
 
 -- ---- the items of the field at their front
 
@@ -26,7 +25,6 @@ pub record HaveSpelt (items left : List RawItem) (old now : List ℕ) : Type 0 w
 
 pub spelt_more : (all items : List Item) (i : ℕ) (item d : Item) (old now new : List ℕ) → i < length items → item ≡ get_or items i d → HaveSpelt (map raw all) (map raw (drop i items)) old now → Appends (SpellsString (raw item)) with_length now new → HaveSpelt (map raw all) (map raw (drop (i + 1) items)) old new
 spelt_more all items i item d old now new lt is read h =
-    let left = map raw (drop (i + 1) items) in
     let here = subst (λ x. HaveSpelt (map raw all) x old now) (ap (map raw) (from_place items i item d lt is)) read in
     record { leads = λ many each. subst (Appends (SpellEachString (map raw all)) (flat_map with_length) old) (sym (ap (λ o. o ++ flat_map with_length many) h.written ∙ append_assoc now (with_length h.value) (flat_map with_length many))) (here.leads (h.value ∷ many) (h.stated, each)); fault = λ fault bad. here.fault fault (inr (h.value, h.stated, bad)) }
 

@@ -1,8 +1,7 @@
 -- A text states a time or none.
-use Rattle.zone_rdata.proofs.Common.{[], ◌≡◌, ℕ, ◌<◌, Bool, false, List, ◌∷◌, ◌++◌, length, Option, Some, None, inl, inr, refl, sym, ap, ◌∙◌, arith, append_assoc, AllByRecursion, flat_map, sum_by, append-nil, is_digit, Group, IsTimeGroup, group_text, group_seconds, unit_seconds, IsDecimal, IsTime, plain, grouped, AllByRecursion-append, common_steps}
-use Rattle.zone_rdata.proofs.Choices.{Choice, Decided}
+use Rattle.zone_rdata.proofs.Common.{[], ◌≡◌, ℕ, ◌<◌, Bool, false, List, ◌∷◌, ◌++◌, length, Option, Some, None, inl, inr, refl, sym, ap, ◌∙◌, arith, append_assoc, AllByRecursion, flat_map, sum_by, append-nil, is_digit, Group, IsTimeGroup, group_text, group_seconds, unit_seconds, IsDecimal, IsTime, plain, grouped, AllByRecursion-append, common_steps, Choice, Decided}
 use Rattle.zone_rdata.proofs.Items.GenericLaws.{decimal_or_not}
-use Rattle.zone_rdata.proofs.Numbers.Times.{AreDigits, run_split, no_run, run_nil, unit_no_digit}
+use Rattle.zone_rdata.proofs.Numbers.Times.{AreDigits, groups_open, nothing, run_split, run_nil, unit_no_digit}
 
 -- groups whose text this is
 record AreGroups (text : List ℕ) : Type 0 where
@@ -14,14 +13,9 @@ record AreGroups (text : List ℕ) : Type 0 where
 first_text : (g : Group) (groups : List Group) → flat_map group_text (g ∷ groups) ≡ g.digits ++ g.letter ∷ flat_map group_text groups
 first_text g groups = append_assoc g.digits (g.letter ∷ []) (flat_map group_text groups)
 
--- digits without a unit after them
-no_unit_by : (digits : List ℕ) (groups : List Group) → AreDigits digits → 0 < length digits → AllByRecursion IsTimeGroup groups → digits ≡ flat_map group_text groups → ⊥
-no_unit_by digits [] all some each e = omega (arith, ap length e)
-no_unit_by digits (g ∷ groups) all some each e = no_run g.digits g.letter (flat_map group_text groups) digits all (unit_no_digit g.letter g.unit each.0.lasts) (sym (e ∙ first_text g groups))
-
 end_by : (digits : List ℕ) → AreDigits digits → Decided (AreGroups (digits ++ []))
 end_by [] all = inl (record { groups = []; each = tt; parts = refl })
-end_by (d ∷ digits) all = inr (λ h. no_unit_by (d ∷ digits) h.groups all (omega arith) h.each (sym (append-nil (d ∷ digits)) ∙ h.parts))
+end_by (d ∷ digits) all = inr (λ h. groups_open [] h.groups (d ∷ digits) tt h.each all (omega arith) (sym (append-nil (d ∷ digits)) ∙ h.parts))
 
 -- the first group ends at the first octet that is no digit
 record FirstGroup (digits : List ℕ) (c : ℕ) (rest : List ℕ) : Type 0 where
@@ -69,19 +63,11 @@ groups_or_not : (text digits : List ℕ) → AreDigits digits → Decided (AreGr
 groups_or_not [] digits all = end_by digits all
 groups_or_not (c ∷ text) digits all = octet_by digits text c (is_digit c) all refl (groups_or_not text (digits ++ c ∷ [])) (groups_or_not text [] tt)
 
-grouped_by : (text : List ℕ) → ((n : ℕ) → IsDecimal text n → ⊥) → (AreGroups text → ⊥) → (n : ℕ) → IsTime text n → ⊥
-grouped_by text none no_groups n h = grind arith
-
 time_by : (c : ℕ) (text : List ℕ) → Choice (IsDecimal (c ∷ text)) → Decided (AreGroups (c ∷ text)) → Choice (IsTime (c ∷ text))
 time_by c text (inl found) choice = inl (found.0, plain found.1)
 time_by c text (inr none) (inl are) = inl (sum_by group_seconds are.groups, grouped are.groups (grind (arith, common_steps, are.parts)) are.each are.parts refl)
-time_by c text (inr none) (inr no_groups) = inr (grouped_by (c ∷ text) none no_groups)
-
-no_time : (n : ℕ) → IsTime [] n → ⊥
-no_time n (plain h) = omega (arith, h.some)
-no_time n (grouped [] some each parts sums) = omega arith
-no_time n (grouped (g ∷ groups) some each parts sums) = grind (arith, run_nil, first_text)
+time_by c text (inr none) (inr no_groups) = inr (λ n h. elim h [ plain is ↦ none n is | grouped groups some each parts sums ↦ no_groups (record { groups = groups; each = each; parts = parts }) ])
 
 pub time_or_not : (text : List ℕ) → Choice (IsTime text)
-time_or_not [] = inr no_time
+time_or_not [] = inr (λ n. nothing [] n refl)
 time_or_not (c ∷ text) = time_by c text (decimal_or_not (c ∷ text)) (groups_or_not (c ∷ text) [] tt)

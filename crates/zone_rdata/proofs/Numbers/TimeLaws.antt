@@ -2,14 +2,11 @@
 use Rattle.zone_rdata.proofs.Common.{[], ◌≡◌, ℕ, ◌<◌, List, ◌∷◌, length, Some, refl, sym, ap, ◌∙◌, append_assoc, arith, AllByRecursion, flat_map, sum_by, append-nil, Group, IsTimeGroup, group_text, group_seconds, unit_seconds, IsDecimal, IsTime, common_steps}
 use Rattle.zone_rdata.proofs.Numbers.Times.{run_split, run_nil, unit_no_digit, first_unit}
 
-same_unit : (c d u v : ℕ) → c ≡ d → unit_seconds c ≡ Some u → unit_seconds d ≡ Some v → u ≡ v
-same_unit c d u v e a b = let h : Some u ≡ Some v = sym a ∙ ap unit_seconds e ∙ b in cc
-
 groups_same : (groups other : List Group) → AllByRecursion IsTimeGroup groups → AllByRecursion IsTimeGroup other → flat_map group_text groups ≡ flat_map group_text other → sum_by group_seconds groups ≡ sum_by group_seconds other
 groups_same [] [] x y e = refl
 groups_same (g ∷ groups) (h ∷ other) x y e =
     let cut = run_split g.digits h.digits g.letter h.letter (flat_map group_text groups) (flat_map group_text other) x.0.each y.0.each (unit_no_digit g.letter g.unit x.0.lasts) (unit_no_digit h.letter h.unit y.0.lasts) (sym (append_assoc g.digits (g.letter ∷ []) (flat_map group_text groups)) ∙ e ∙ append_assoc h.digits (h.letter ∷ []) (flat_map group_text other)) in
-    let unit = same_unit g.letter h.letter g.unit h.unit cut.1 x.0.lasts y.0.lasts in
+    let unit : g.unit ≡ h.unit = (let same : Some g.unit ≡ Some h.unit = sym x.0.lasts ∙ ap unit_seconds cut.1 ∙ y.0.lasts in cc) in
     let rest = groups_same groups other x.1 y.1 cut.2 in
     grind (arith, common_steps)
 groups_same groups other x y e = grind (arith, run_nil, append_assoc)

@@ -39,7 +39,7 @@ groups_run (g ∷ groups) (h ∷ other) a c r x y digits p none e =
     groups_run groups other a c r x.1 y.1 digits p none cut.2
 
 -- groups are not followed by digits
-groups_open : (groups other : List Group) (a : List ℕ) → AllByRecursion IsTimeGroup groups → AllByRecursion IsTimeGroup other → AreDigits a → 0 < length a → flat_map group_text groups ++ a ≡ flat_map group_text other → ⊥
+pub groups_open : (groups other : List Group) (a : List ℕ) → AllByRecursion IsTimeGroup groups → AllByRecursion IsTimeGroup other → AreDigits a → 0 < length a → flat_map group_text groups ++ a ≡ flat_map group_text other → ⊥
 groups_open [] [] a x y digits some e = let k = ap length e in omega arith
 groups_open [] (h ∷ other) a x y digits some e = no_run h.digits h.letter (flat_map group_text other) a digits (unit_no_digit h.letter h.unit y.0.lasts) (sym (e ∙ append_assoc h.digits (h.letter ∷ []) (flat_map group_text other)))
 groups_open (g ∷ groups) [] a x y digits some e = grind (arith, run_nil, append_assoc)
@@ -59,17 +59,14 @@ more_groups text c unit p next lasts some opens total groups number closed reads
     let sums = sum_by-append group_seconds reads.groups (g ∷ []) in
     grind (arith, common_steps)
 
-no_digits : (digits : List ℕ) → (0 < length digits → ⊥) → digits ≡ []
-no_digits digits h = grind (arith, common_steps)
-
-no_groups : (groups : List Group) → (0 < length groups → ⊥) → groups ≡ []
-no_groups groups h = grind (arith, common_steps)
+none_left : {X : Type 0} (xs : List X) → (0 < length xs → ⊥) → xs ≡ []
+none_left xs h = grind (arith, common_steps)
 
 pub first_unit : (groups : List Group) (digits text : List ℕ) → AllByRecursion IsTimeGroup groups → 0 < length groups → AreDigits text → text ≡ flat_map group_text groups ++ digits → ⊥
 first_unit [] digits text each some all e = omega arith
 first_unit (g ∷ groups) digits text each some all e = no_run g.digits g.letter (flat_map group_text groups ++ digits) text all (unit_no_digit g.letter g.unit each.0.lasts) (sym (e ∙ ap (λ t. t ++ digits) (append_assoc g.digits (g.letter ∷ []) (flat_map group_text groups)) ∙ append_assoc g.digits (g.letter ∷ flat_map group_text groups) digits))
 
-nothing : (text : List ℕ) (n : ℕ) → text ≡ [] → IsTime text n → ⊥
+pub nothing : (text : List ℕ) (n : ℕ) → text ≡ [] → IsTime text n → ⊥
 nothing text n e (plain h) = let k = ap length e in let s = h.some in omega arith
 nothing text n e (grouped [] some each parts sums) = omega arith
 nothing text n e (grouped (g ∷ groups) some each parts sums) = grind (arith, run_nil, append_assoc)
@@ -77,7 +74,7 @@ nothing text n e (grouped (g ∷ groups) some each parts sums) = grind (arith, r
 -- a text is read to its end
 pub ends_grouped : (text : List ℕ) (p : Progress) → p.grouped ≡ true → p.open ≡ false → ReadsTime text p → (m : ℕ) × (IsTime text m × (p.total ≡ min 4294967296 m))
 ends_grouped text p groups closed reads =
-    let none = no_digits reads.digits (λ some. cc (sym closed ∙ reads.opened.1 some)) in
+    let none = none_left reads.digits (λ some. cc (sym closed ∙ reads.opened.1 some)) in
     (sum_by group_seconds reads.groups, (grouped reads.groups (reads.grouped.0 groups) reads.each (reads.parts ∙ ap (λ t. flat_map group_text reads.groups ++ t) none ∙ append-nil (flat_map group_text reads.groups)) refl, reads.total))
 
 -- groups and digits after them are no time
@@ -87,8 +84,8 @@ ends_both text n p groups opens reads h = grind (arith, first_unit, groups_open)
 -- nothing is no time
 pub ends_none : (text : List ℕ) (n : ℕ) (p : Progress) → p.grouped ≡ false → p.open ≡ false → ReadsTime text p → IsTime text n → ⊥
 ends_none text n p groups closed reads time =
-    let none = no_groups reads.groups (λ some. cc (sym groups ∙ reads.grouped.1 some)) in
-    let no_more = no_digits reads.digits (λ some. cc (sym closed ∙ reads.opened.1 some)) in
+    let none = none_left reads.groups (λ some. cc (sym groups ∙ reads.grouped.1 some)) in
+    let no_more = none_left reads.digits (λ some. cc (sym closed ∙ reads.opened.1 some)) in
     nothing text n (reads.parts ∙ ap (λ gs. flat_map group_text gs ++ reads.digits) none ∙ no_more) time
 
 -- an octet at which no time goes on

@@ -1,7 +1,7 @@
 -- Data that is made part by part.
 use Rattle.zone_rdata.proofs.Common.{[], Bool, IsTrue, List, None, Option, Some, ap, arith, false, get_or, length, length-append, refl, subst, suc, sym, true, zero, ℕ, ◌++◌, ◌+◌, ◌-◌, ◌<◌, ◌↔◌, ◌∙◌, ◌∷◌, ◌≡◌, ◌≢◌, ◌≤◌, AllByRecursion, flat_map, append-nil, flat_map-append, AreOctets, with_length, Fault, Field, Built, FitsString, IsNext, IsPushFault, IsWhole, Pushes, ends_with_strings, misplaced, part_at, FieldValue, HoldEach, Holds, Suits, field_octets, fixed, is_strings, octets_of, string, strings, values_of, AreLaidOut, StringsLast, layout, ArePushedParts, Grows, IsBuilt, IsOver, IsReal, least_of, more_fields, over_data, over_string, part_field, part_fields, parts_held, Data, IsRdata, IsString, rules, BadRdata}
 use Rattle.zone_rdata.specs.Builder.{long_string, too_long}
-use Rattle.zone_rdata.proofs.Fields.AnyField.{field_part}
+use Rattle.zone_rdata.proofs.Fields.AnyField.{kind_of}
 use Rattle.zone_rdata.proofs.Octets.Layouts.{AreFor, laid_out, values_back}
 use Rattle.zone_rdata.proofs.Words.Tables.{table_row}
 use Rattle.zone_rdata.specs.declared.field.Field.TheVariants as fields
@@ -32,9 +32,6 @@ pub octets_push : (values : List FieldValue) (v : FieldValue) → octets_of (val
 octets_push values v = flat_map-append field_octets values (v ∷ []) ∙ ap (λ o. octets_of values ++ o) (append-nil (field_octets v))
 
 -- ---- one more part
-plain_part : (f : Field) → part_field f ≢ fields.Strings
-plain_part f = grind arith
-
 more_plain : (f : Field) (n : ℕ) → AllByRecursion (λ g. g ≢ fields.Strings) (more_fields f n)
 more_plain fields.Strings (suc n) = (λ e. cc, more_plain fields.Strings n)
 more_plain f n = tt
@@ -42,8 +39,8 @@ more_plain f n = tt
 plain_fields : (row : List Field) (n : ℕ) → AllByRecursion (λ f. f ≢ fields.Strings) (part_fields row n)
 plain_fields row zero = tt
 plain_fields [] (suc n) = tt
-plain_fields (f ∷ []) (suc n) = (plain_part f, more_plain f n)
-plain_fields (f ∷ g ∷ row) (suc n) = (plain_part f, plain_fields (g ∷ row) n)
+plain_fields (f ∷ []) (suc n) = (grind arith, more_plain f n)
+plain_fields (f ∷ g ∷ row) (suc n) = (grind arith, plain_fields (g ∷ row) n)
 
 plain_last : (row : List Field) → AllByRecursion (λ f. f ≢ fields.Strings) row → StringsLast row
 plain_last (f ∷ g ∷ row) each = (each.0, plain_last (g ∷ row) each.1)
@@ -87,7 +84,7 @@ pub pushed_part : (laid : Option (List Field)) (count : ℕ) (octets : List ℕ)
 pushed_part None count octets part held next fits real = grind arith
 pushed_part (Some row) count octets part held next fits real =
     let f = some_field (part_at row count) part next in
-    let own = field_part f.0 part f.2 fits real in
+    let own = (kind_of f.0).laws.part part f.2 fits real in
     pushed_field row f.0 count octets part held f.1 own.0 own.1
 
 -- ---- all parts
@@ -176,9 +173,6 @@ push_made class kind laid count octets new b part e is next real g = grind (arit
 pub whole_parts : (laid : Option (List Field)) (count : ℕ) (octets : List ℕ) → ArePushedParts laid count octets → least_of laid ≤ count → IsWhole laid (parts_held laid count octets)
 whole_parts laid count octets held past = grind (arith, parts_length)
 
-pub missing_part : (laid : Option (List Field)) (count : ℕ) (octets : List ℕ) → ArePushedParts laid count octets → count < least_of laid → IsWhole laid (parts_held laid count octets) → ⊥
-missing_part laid count octets held few whole = grind (arith, parts_length)
-
 parts_for : (class kind : ℕ) (laid : Option (List Field)) (count : ℕ) (octets : List ℕ) → laid ≡ layout class kind → ArePushedParts laid count octets → least_of laid ≤ count → AreFor laid octets
 parts_for class kind laid count octets e held past = grind (arith, whole_laid, table_row)
 
@@ -188,7 +182,7 @@ parts_data class kind laid count octets is past each = grind (arith, parts_for c
 pub finish_missing : (class kind : ℕ) (laid : Option (List Field)) (count : ℕ) (octets : List ℕ) (b : Built) → built class kind count octets ≡ b → IsBuilt class kind laid count octets → count < least_of laid → IsWhole (layout b.class b.kind) b.parts → ⊥
 finish_missing class kind laid count octets b e is few whole =
     let fewer : count < least_of (layout class kind) = subst (λ l. count < least_of l) is.looked_up few in
-    grind (arith, missing_part)
+    grind (arith, parts_length)
 
 pub finish_made : (class kind : ℕ) (laid : Option (List Field)) (count : ℕ) (octets : List ℕ) (b : Built) (d : Data) → built class kind count octets ≡ b → IsBuilt class kind laid count octets → least_of laid ≤ count → d ≡ record { class = class; kind = kind; octets = octets } → IsWhole (layout b.class b.kind) b.parts × (d ≡ record { class = b.class; kind = b.kind; octets = octets_of b.parts })
 finish_made class kind laid count octets b d e is past made =

@@ -55,9 +55,6 @@ cut_none octets labels e = record { sent = []; folds = sym e; some = tt; parts =
 pub cut_more : (octets rest : List ℕ) (labels new : List (List ℕ)) (c : ℕ) (following label after : List ℕ) → HasCut octets labels rest → rest ≡ c ∷ following → 0 < c → c ≤ length following → label ≡ take c following → after ≡ drop c following → new ≡ labels ++ folded_label label ∷ [] → HasCut octets new after
 cut_more octets rest labels new c following label after cut e some fits front back grown = grind (arith, common_steps, length-take, map-append, AllByRecursion-append, frame_at, frames_push)
 
-pub cut_name : (octets rest : List ℕ) (labels name : Labels) (c : ℕ) (following : List ℕ) → HasCut octets labels rest → rest ≡ c ∷ following → c ≡ 0 → name ≡ labels → IsName name → BeginsWithSent octets name following
-cut_name octets rest labels name c following cut e nothing same is = grind (arith, append_assoc)
-
 -- a name there goes on from what was cut off
 pub goes_on : (octets rest tail : List ℕ) (labels name : Labels) (cut : HasCut octets labels rest) (b : BeginsWithSent octets name tail) → (more : List (List ℕ)) × (b.sent ≡ cut.sent ++ more) × (rest ≡ wire more ++ tail)
 goes_on octets rest tail labels name cut b = grind (arith, labels_first)
@@ -100,9 +97,8 @@ name_by (x ∷ more) rest tail some e = grind arith
 
 pub sent_once : (octets rest tail : List ℕ) (a b : Labels) → BeginsWithSent octets a rest → BeginsWithSent octets b tail → (a ≡ b) × (rest ≡ tail)
 sent_once octets rest tail a b x y =
-    let open_x = x.parts ∙ append_assoc (flat_map with_length x.sent) (0 ∷ []) rest in
     let some_x = folded_some x.sent (subst (AllByRecursion IsLabel) (sym x.folds) x.is_name.each) in
     let some_y = folded_some y.sent (subst (AllByRecursion IsLabel) (sym y.folds) y.is_name.each) in
-    let next = labels_first x.sent y.sent (0 ∷ rest) tail some_x (sym open_x ∙ y.parts) in
+    let next = labels_first x.sent y.sent (0 ∷ rest) tail some_x (sym (x.parts ∙ append_assoc (flat_map with_length x.sent) (0 ∷ []) rest) ∙ y.parts) in
     let same = name_by next.0 rest tail (AllByRecursion-back (λ l. 0 < length l) x.sent next.0 (subst AreSome next.1 some_y)) next.2 in
     (sym x.folds ∙ ap folded (sym (next.1 ∙ ap (λ t. x.sent ++ t) same.0 ∙ append-nil x.sent)) ∙ y.folds, same.1)

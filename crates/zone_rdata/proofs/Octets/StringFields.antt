@@ -1,6 +1,5 @@
 -- Octets that are strings, each after its length.
-use Rattle.zone_rdata.proofs.Common.{[], ◌≡◌, ℕ, zero, suc, ◌+◌, ◌<◌, ◌≤◌, List, ◌∷◌, ◌++◌, length, take, drop, refl, sym, ap, ◌∙◌, subst, arith, length-append, flat_map, take_at, drop_at, take_all, drop_all, take-append-drop, with_length, string_at, AreStrings, strings_by, BeginsWithString, HoldsStrings, BeginsWithField, after_field, Field, length-frames, common_steps}
-use Rattle.zone_rdata.specs.Fields.Strings.{strings_of}
+use Rattle.zone_rdata.proofs.Common.{[], ◌≡◌, ℕ, zero, suc, ◌+◌, ◌<◌, ◌≤◌, List, ◌∷◌, ◌++◌, length, take, drop, refl, sym, ap, ◌∙◌, arith, length-append, flat_map, take_at, drop_at, take_all, drop_all, take-append-drop, with_length, string_at, AreStrings, strings_by, BeginsWithString, HoldsStrings, BeginsWithField, after_field, Field, length-frames, common_steps, strings_of}
 use Rattle.zone_rdata.specs.declared.field.Field.TheVariants as fields
 
 -- one string cut off the beginning
@@ -63,12 +62,9 @@ nothing_later octets = grind (arith, drop_all, strings_len)
 pub nothing_after : (field : Field) (octets rest : List ℕ) → field ≡ fields.Strings → rest ≡ drop (length octets) octets → rest ≡ after_field field octets
 nothing_after field octets rest is e = grind (arith, drop_all, nothing_later)
 
-strings_held : (field : Field) (octets : List ℕ) → field ≡ fields.Strings → BeginsWithField field octets → BeginsWithField fields.Strings octets
-strings_held field octets is begins = subst (λ f. BeginsWithField f octets) is begins
-
 -- octets that begin with a field of strings
 pub strings_front : (field : Field) (octets : List ℕ) → field ≡ fields.Strings → BeginsWithField field octets → HoldsStrings octets
-strings_front field octets is begins = grind (arith, strings_held, all_strings)
+strings_front field octets is begins = grind (arith, all_strings)
 
 pub strings_some : (field : Field) (octets : List ℕ) → field ≡ fields.Strings → BeginsWithField field octets → 0 < length octets
-strings_some field octets is begins = grind (arith, strings_held, some_strings)
+strings_some field octets is begins = grind (arith, some_strings)

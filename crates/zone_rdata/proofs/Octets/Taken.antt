@@ -1,10 +1,8 @@
 -- Uncompressed octets, field after field.
-use Rattle.zone_rdata.proofs.Common.{[], Option, ◌≡◌, ℕ, ◌+◌, ◌<◌, ◌≤◌, List, ◌∷◌, ◌++◌, length, get_or, drop, Some, refl, sym, ap, ◌∙◌, subst, arith, append_assoc, inl, inr, length-append, append-nil, drop_all, length-map, Field, FieldValue, field_octets, octets_of, HoldEach, IsSent, StringsLast, layout, IsCanonicalOf, AreSent, IsUncompressed, BeginsWithValue, BeginsWithNone, AppendsValue, AllByRecursion-back, flat_map, folded_octet, folded_label, folded, with_length, common_steps}
-use Rattle.zone_rdata.proofs.Lists.{from_place}
+use Rattle.zone_rdata.proofs.Common.{nil_from_length, [], Option, ◌≡◌, ℕ, ◌+◌, ◌<◌, ◌≤◌, List, ◌∷◌, ◌++◌, length, get_or, drop, Some, refl, sym, ap, ◌∙◌, subst, arith, append_assoc, inl, inr, length-append, append-nil, drop_all, length-map, Field, FieldValue, field_octets, octets_of, HoldEach, IsSent, StringsLast, layout, IsCanonicalOf, AreSent, IsUncompressed, BeginsWithValue, BeginsWithNone, AppendsValue, AllByRecursion-back, flat_map, folded_octet, folded_label, folded, with_length, common_steps, from_place, Choice, choice_as}
 use Rattle.zone_rdata.proofs.Words.Tables.{table_row}
-use Rattle.zone_rdata.proofs.Fields.AnyField.{front_once, front_or_none}
-use Rattle.zone_rdata.proofs.Choices.{Choice, choice_as}
-use Rattle.zone_rdata.proofs.Fields.FieldLaws.{AreLow, FrontChoice}
+use Rattle.zone_rdata.proofs.Fields.AnyField.{front_once, kind_of}
+use Rattle.zone_rdata.proofs.Fields.FieldLaws.{AreLow}
 
 -- octets that are a value for each field, one after another, and their canonical octets
 abbrev pub Reads : List Field → List ℕ → List ℕ → Type 0
@@ -42,13 +40,13 @@ reads_once (f ∷ row) octets a b x y =
     x.1.3 ∙ ap (λ v. field_octets v ++ x.1.1) same.0 ∙ ap (λ t. field_octets y.0 ++ t) after ∙ sym y.1.3
 
 -- octets have one canonical form in a layout of the table
-pub canonical-once : (class kind : ℕ) (row : List Field) (octets a b : List ℕ) → layout class kind ≡ Some row → IsUncompressed row octets a → IsUncompressed row octets b → a ≡ b
-canonical-once class kind row octets a b e x y =
+pub canonical_once : (class kind : ℕ) (row : List Field) (octets a b : List ℕ) → layout class kind ≡ Some row → IsUncompressed row octets a → IsUncompressed row octets b → a ≡ b
+canonical_once class kind row octets a b e x y =
     let last = (table_row class kind row e).last in
     reads_once row octets a b (to_reads row octets a last x) (to_reads row octets b last y)
 
 pub canonical_same : (class kind : ℕ) (laid : Option (List Field)) (octets a b : List ℕ) → laid ≡ layout class kind → IsCanonicalOf laid octets a → IsCanonicalOf laid octets b → a ≡ b
-canonical_same class kind laid octets a b e x y = grind (arith, canonical-once)
+canonical_same class kind laid octets a b e x y = grind (arith, canonical_once)
 
 -- the fields up to a place were read, and whatever the others read goes on from there
 pub record HaveTaken (row : List Field) (octets : List ℕ) (later : List Field) (rest out : List ℕ) : Type 0 where
@@ -78,17 +76,10 @@ taken_bad row own octets i f d rest out same last lt found taken none canonical 
     let b = (subst (λ r. HaveTaken row octets r rest out) (from_place row i f d lt found) taken).back canonical reads in
     none b.1.0 b.1.1.0 b.1.1.2
 
-nothing_later : (row : List Field) (octets : List ℕ) (i : ℕ) (rest out : List ℕ) → length row ≤ i → HaveTaken row octets (drop i row) rest out → HaveTaken row octets [] rest out
-nothing_later row octets i rest out past taken = subst (λ r. HaveTaken row octets r rest out) (drop_all i row past) taken
-
 pub taken_all : (row own : List Field) (octets : List ℕ) (i : ℕ) (rest out : List ℕ) → row ≡ own → length row ≤ i → HaveTaken row octets (drop i row) rest out → length rest ≡ 0 → IsUncompressed own octets out
 taken_all row own octets i rest out same past taken none =
     subst (λ r. IsUncompressed r octets out) same
-    (from_reads row octets out (subst (Reads row octets) (append-nil out) ((nothing_later row octets i rest out past taken).leads [] (nil_is rest none, refl))))
-  where
-    nil_is : (xs : List ℕ) → length xs ≡ 0 → xs ≡ []
-    nil_is [] e = refl
-    nil_is (x ∷ xs) e = absurd (omega arith)
+    (from_reads row octets out (subst (Reads row octets) (append-nil out) ((subst (λ r. HaveTaken row octets r rest out) (drop_all i row past) taken).leads [] (nil_from_length rest none, refl))))
 
 pub taken_over : (row own : List Field) (octets : List ℕ) (i : ℕ) (rest out : List ℕ) → row ≡ own → StringsLast own → length row ≤ i → HaveTaken row octets (drop i row) rest out → 0 < length rest → (canonical : List ℕ) → IsUncompressed own octets canonical → ⊥
 taken_over row own octets i rest out same last past taken some canonical u =
@@ -111,23 +102,16 @@ pub uncompressed_length : (fields : List Field) (octets canonical : List ℕ) �
 uncompressed_length fields octets canonical u = ap length u.whole ∙ are_sent_length u.values octets u.sent
 
 -- ---- octets have a canonical form in a layout or none
-after_value : (f : Field) (row : List Field) (octets : List ℕ) (value : FieldValue) (rest : List ℕ) → BeginsWithValue f octets value rest → Choice (Reads row rest) → Choice (Reads (f ∷ row) octets)
-after_value f row octets value rest begins (inl found) = inl (field_octets value ++ found.0, (value, (rest, found.0, begins, refl, found.1)))
-after_value f row octets value rest begins (inr none) = inr (λ canonical h. none h.1.1 (subst (λ r. Reads row r h.1.1) (front_once f octets h.0 value h.1.0 rest h.1.2 begins).1 h.1.4))
-
-first_value : (f : Field) (row : List Field) (octets : List ℕ) → AreLow octets → FrontChoice f octets → ((rest : List ℕ) → AreLow rest → Choice (Reads row rest)) → Choice (Reads (f ∷ row) octets)
-first_value f row octets low (inr none) others = inr (λ canonical h. none h.0 h.1.0 h.1.2)
-first_value f row octets low (inl found) others =
-    let begins = found.1.1 in
-    after_value f row octets found.0 found.1.0 begins (others found.1.0 (AllByRecursion-back _ begins.front found.1.0 (subst AreLow begins.parts low)))
-
-nothing_left : (octets : List ℕ) → Choice (Reads [] octets)
-nothing_left [] = inl ([], (refl, refl))
-nothing_left (c ∷ octets) = inr (λ canonical h. absurd (omega (arith, ap length h.0)))
-
 reads_or_not : (row : List Field) (octets : List ℕ) → AreLow octets → Choice (Reads row octets)
-reads_or_not [] octets low = nothing_left octets
-reads_or_not (f ∷ row) octets low = first_value f row octets low (front_or_none f octets low) (λ rest below. reads_or_not row rest below)
+reads_or_not [] [] low = inl ([], (refl, refl))
+reads_or_not [] (c ∷ octets) low = inr (λ canonical h. absurd (omega (arith, ap length h.0)))
+reads_or_not (f ∷ row) octets low = elim ((kind_of f).laws.front octets low) [
+  | inr none ↦ inr (λ canonical h. none h.0 h.1.0 h.1.2)
+  | inl (value, (rest, begins)) ↦ elim (reads_or_not row rest (AllByRecursion-back _ begins.front rest (subst AreLow begins.parts low))) [
+    | inl found ↦ inl (field_octets value ++ found.0, (value, (rest, found.0, begins, refl, found.1)))
+    | inr none ↦ inr (λ canonical h. none h.1.1 (subst (λ r. Reads row r h.1.1) (front_once f octets h.0 value h.1.0 rest h.1.2 begins).1 h.1.4))
+  ]
+]
 
 pub canonical_or_not : (class kind : ℕ) (row : List Field) (octets : List ℕ) → layout class kind ≡ Some row → AreLow octets → Choice (IsUncompressed row octets)
 canonical_or_not class kind row octets e low = choice_as (λ canonical. canonical) (from_reads row octets) (λ none canonical u. none canonical (to_reads row octets canonical (table_row class kind row e).last u)) (reads_or_not row octets low)

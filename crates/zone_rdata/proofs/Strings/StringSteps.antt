@@ -1,11 +1,6 @@
 -- The octets of a string as the code reads them, unit by unit.
-use Rattle.zone_rdata.proofs.Common.{[], ◌≡◌, ℕ, ◌<◌, ◌≤◌, List, ◌∷◌, ◌++◌, length, sym, ap, ◌∙◌, subst, arith, append_assoc, length-append, flat_map_more, map_push, length-map, Written, text_of, octet_of, IsUnit, no_octet, IsBadEscape, BeginsWithUnit, written_text, written_octets, RawItem, ReachesUnit, StringFault, bad_escape, long_string, item_text, AllByRecursion-append, BadEscape, StringTooLong, AllByRecursion, Bool, ◌||◌, ◌≢◌, false, map, refl}
-use Rattle.std.proofs.Common.{nat_eq}
-use Rattle.std.proofs.lemmas.Bool.{eqb-false, or_parts}
-use Rattle.std.specs.List.{list_any}
-use Rattle.zone_name.specs.Common.{AreOctets}
+use Rattle.zone_rdata.proofs.Common.{[], ◌≡◌, ℕ, ◌<◌, ◌≤◌, List, ◌∷◌, ◌++◌, length, sym, ap, ◌∙◌, subst, arith, append_assoc, length-append, flat_map_more, map_push, length-map, Written, text_of, octet_of, IsUnit, no_octet, BeginsWithUnit, written_text, written_octets, RawItem, ReachesUnit, StringFault, long_string, item_text, AllByRecursion-append, StringTooLong, AllByRecursion, false, map, refl, nat_eq, eqb-false, or_parts, list_any, AreOctets, SpellsString}
 use Rattle.zone_name.specs.Spelling.{plain}
-use Rattle.zone_rdata.specs.Strings.{SpellsString}
 
 -- the octets of the units up to a place of an item's text
 pub record HasRead (item : RawItem) (octets rest : List ℕ) : Type 0 where
@@ -28,9 +23,6 @@ read_more item octets rest after new c read begins room grown = record {
   value = grown ∙ ap (λ t. t ++ c ∷ []) read.value ∙ ap (λ t. written_octets read.before ++ t ∷ []) (sym begins.value) ∙ sym (map_push octet_of read.before begins.unit);
 }
 
-pub read_bad : (item : RawItem) (octets rest : List ℕ) → HasRead item octets rest → IsBadEscape rest → StringFault item BadEscape
-read_bad item octets rest read bad = bad_escape read.before rest read.reaches bad
-
 pub read_full : (item : RawItem) (octets rest after : List ℕ) (c : ℕ) → HasRead item octets rest → BeginsWithUnit no_octet rest c after → 255 ≤ length octets → StringFault item StringTooLong
 read_full item octets rest after c read begins full =
     let P : List ℕ → Type 0 = ReachesUnit (item_text item) read.before in
@@ -38,27 +30,20 @@ read_full item octets rest after c read begins full =
 
 -- ---- a text without a backslash
 
-plain_text : (text : List ℕ) → text ≡ written_text (map plain text)
-plain_text [] = refl
-plain_text (c ∷ text) = ap (λ t. c ∷ t) (plain_text text)
-
-plain_octets : (text : List ℕ) → text ≡ written_octets (map plain text)
-plain_octets [] = refl
-plain_octets (c ∷ text) = ap (λ t. c ∷ t) (plain_octets text)
-
-plain_step : (c : ℕ) (others : Bool) → (nat_eq c 92 || others) ≡ false → (c ≢ 92) × (others ≡ false)
-plain_step c others none = let p = or_parts (nat_eq c 92) others none in (eqb-false c 92 p.0, p.1)
+plain_written : (text : List ℕ) → (text ≡ written_text (map plain text)) × (text ≡ written_octets (map plain text))
+plain_written [] = (refl, refl)
+plain_written (c ∷ text) = let rest = plain_written text in (ap (λ t. c ∷ t) rest.0, ap (λ t. c ∷ t) rest.1)
 
 plain_units : (text : List ℕ) → list_any (λ y. nat_eq y 92) text ≡ false → AllByRecursion (IsUnit no_octet) (map plain text)
 plain_units [] none = tt
-plain_units (c ∷ text) none = let p = plain_step c (list_any (λ y. nat_eq y 92) text) none in ((refl, p.0), plain_units text p.1)
+plain_units (c ∷ text) none = let p = or_parts (nat_eq c 92) (list_any (λ y. nat_eq y 92) text) none in ((refl, eqb-false c 92 p.0), plain_units text p.1)
 
 -- the text is the string
 pub spells_itself : (item : RawItem) (text : List ℕ) → text ≡ item_text item → list_any (λ y. nat_eq y 92) text ≡ false → length text ≤ 255 → AreOctets text → SpellsString item text
 spells_itself item text e none short octets = record {
   units = map plain text;
   each = plain_units text none;
-  text = sym e ∙ plain_text text;
-  value = plain_octets text;
+  text = sym e ∙ (plain_written text).0;
+  value = (plain_written text).1;
   string = record { short = short; each = octets };
 }

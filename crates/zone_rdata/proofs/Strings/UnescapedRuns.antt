@@ -1,7 +1,5 @@
 -- How many octets at the front take no escape between quotes.
-use Rattle.zone_rdata.proofs.Common.{[], ◌≡◌, ◌∙◌, ℕ, ◌+◌, Bool, true, false, cond, List, ◌∷◌, ◌++◌, length, take, drop, refl, sym, ap, arith, inside_text, unit_text, flat_map-append, take-append-drop, append_assoc, append-nil}
-use Rattle.std.specs.List.{prefix_len}
-use Rattle.zone_rdata.specs.Machine.Unescaped.{is_unescaped}
+use Rattle.zone_rdata.proofs.Common.{[], ◌≡◌, ◌∙◌, ℕ, ◌+◌, Bool, true, false, cond, List, ◌∷◌, ◌++◌, length, take, drop, refl, sym, ap, arith, inside_text, unit_text, flat_map-append, take-append-drop, append_assoc, append-nil, prefix_len, is_unescaped}
 
 itself : (c : ℕ) → is_unescaped c ≡ true → unit_text c ≡ c ∷ []
 itself c e = grind arith

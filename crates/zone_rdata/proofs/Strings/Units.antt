@@ -57,13 +57,10 @@ split_at (suc n) (w ∷ units) more =
     let rest : IsSplit n units = split_at n units (omega arith) in
     record { before = w ∷ rest.before; unit = rest.unit; after = rest.after; whole = ap (λ t. w ∷ t) rest.whole; count = omega (arith, rest.count) }
 
-abbrev EitherOf : RawItem → Type 0
-EitherOf item = ((octets : List ℕ) × SpellsString item octets) ⊎ ((fault : Fault) × StringFault item fault)
-
 long_units : (item : RawItem) (found : Units) → UnitsAre no_octet (item_text item) found → IsSplit 255 found.units → StringFault item StringTooLong
 long_units item found are split = grind (arith, flat_map-append, append_assoc, AllByRecursion-front, AllByRecursion-back, no_octet, written_text, text_of, long_string)
 
-short_units : (item : RawItem) (units : List Written) (rest : List ℕ) → item_text item ≡ written_text units ++ rest → AllByRecursion (IsUnit no_octet) units → NoUnit no_octet rest → length units ≤ 255 → AreOctets (item_text item) → EitherOf item
+short_units : (item : RawItem) (units : List Written) (rest : List ℕ) → item_text item ≡ written_text units ++ rest → AllByRecursion (IsUnit no_octet) units → NoUnit no_octet rest → length units ≤ 255 → AreOctets (item_text item) → ((octets : List ℕ) × SpellsString item octets) ⊎ ((fault : Fault) × StringFault item fault)
 short_units item units [] whole each none short low =
     let text : item_text item ≡ written_text units = whole ∙ append-nil (written_text units) in
     inl (written_octets units, record { units = units; each = each; text = text; value = refl; string = record { short = omega (arith, short, length-map units octet_of); each = octets_each units each (subst AreOctets text low) } })
@@ -71,8 +68,8 @@ short_units item units (c ∷ rest) whole each (at_end e) short low = absurd (cc
 short_units item units (c ∷ rest) whole each (at_octet d more e end) short low = cc
 short_units item units (c ∷ rest) whole each (at_backslash bad) short low = inr (BadEscape, bad_escape units (c ∷ rest) (record { units = each; room = short; parts = whole }) bad)
 
-pub string-or_fault : (item : RawItem) → AreOctets (item_text item) → ((octets : List ℕ) × SpellsString item octets) ⊎ ((fault : Fault) × StringFault item fault)
-string-or_fault item low =
+pub string_or_fault : (item : RawItem) → AreOctets (item_text item) → ((octets : List ℕ) × SpellsString item octets) ⊎ ((fault : Fault) × StringFault item fault)
+string_or_fault item low =
     let found = units_first no_octet (item_text item) in
     let are = units_first_are no_octet (item_text item) in
     elim (cases_Bool (nat_le (length found.units) 255)) [ inl short ↦ short_units item found.units found.rest are.whole are.each are.none (leb-true (length found.units) 255 short) low | inr long ↦ inr (StringTooLong, long_units item found are (split_at 255 found.units (leb-false (length found.units) 255 long))) ]

@@ -4,6 +4,11 @@ use Rattle.zone_rdata.proofs.Items.GenericLaws.{decimal-is}
 use Rattle.zone_rdata.proofs.Texts.Standing.{are_bare, bare_decimal, bare_tested}
 use Rattle.zone_rdata.proofs.Words.Tables.{each_mnemonic}
 
+-- what holds of a type's word in both forms holds of the one that is printed in a class
+pub either_form : (P : List ℕ → Type 0) (n : ℕ) → P (codes "TYPE" ++ decimal n) → P (word_or_numbered (mnemonic_among type_names n) (codes "TYPE") n) → (laid : Option (List Field)) → P (word_or_numbered (laid_out_mnemonic laid n) (codes "TYPE") n)
+either_form P n numbered named None = numbered
+either_form P n numbered named (Some fields) = named
+
 numbered_printed : (name : List ℕ) (n : ℕ) → n < 2 ^ 64 → IsNumbered name (name ++ decimal n) n
 numbered_printed name n short = record { front = name; digits = decimal n; parts = refl; named = refl; number = decimal-is n short }
 
@@ -13,12 +18,10 @@ word_of rows name row n e short = grind (arith, numbered_printed)
 pub class_printed : (n : ℕ) → IsClass n → IsClassWord (class_text n) n
 class_printed n is = grind (arith, word_of)
 
-kind_of_layout : (laid : Option (List Field)) (n : ℕ) → n < 2 ^ 64 → IsKindWord (word_or_numbered (laid_out_mnemonic laid n) (codes "TYPE") n) n
-kind_of_layout None n short = by_number (numbered_printed (codes "TYPE") n short)
-kind_of_layout (Some fields) n short = grind (arith, word_of)
-
 pub kind_printed : (class n : ℕ) → IsKind n → IsKindWord (kind_text class n) n
-kind_printed class n is = kind_of_layout (layout class n) n (let short = is.short in omega arith)
+kind_printed class n is =
+    let short : n < 2 ^ 64 = omega (arith, is.short) in
+    either_form (λ word. IsKindWord word n) n (by_number (numbered_printed (codes "TYPE") n short)) (word_of type_names (codes "TYPE") (mnemonic_among type_names n) n refl short) (layout class n)
 
 -- ---- they stand outside quotes
 
@@ -32,9 +35,7 @@ word_bare rows name (Some word) n all bare e short = bare_tested word (each_mnem
 pub class_bare : (n : ℕ) → IsClass n → StandsBare (class_text n)
 class_bare n is = word_bare classes (codes "CLASS") (mnemonic_among classes n) n refl refl refl (let short = is.short in omega arith)
 
-laid_out_bare : (laid : Option (List Field)) (n : ℕ) → n < 2 ^ 64 → StandsBare (word_or_numbered (laid_out_mnemonic laid n) (codes "TYPE") n)
-laid_out_bare None n short = numbered_bare (codes "TYPE") n refl short
-laid_out_bare (Some fields) n short = word_bare type_names (codes "TYPE") (mnemonic_among type_names n) n refl refl refl short
-
 pub kind_bare : (class n : ℕ) → IsKind n → StandsBare (kind_text class n)
-kind_bare class n is = laid_out_bare (layout class n) n (let short = is.short in omega arith)
+kind_bare class n is =
+    let short : n < 2 ^ 64 = omega (arith, is.short) in
+    either_form StandsBare n (numbered_bare (codes "TYPE") n refl short) (word_bare type_names (codes "TYPE") (mnemonic_among type_names n) n refl refl refl short) (layout class n)

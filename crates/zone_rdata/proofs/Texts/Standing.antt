@@ -1,8 +1,6 @@
 -- Texts and items that stand in a master file as they are printed.
-use Rattle.zone_rdata.proofs.Common.{[], ◌≡◌, ℕ, ◌/◌, ◌%◌, ◌^◌, ◌<◌, ◌&&◌, nat_lt, Bool, true, List, ◌∷◌, length, decimal, refl, arith, AllByRecursion, list_all, and_parts, nat_tests, lower_digits, encode_lower, AreOctets, is_digit, escaped, StandsBare, is_bare, bare_octets, bare_unit, IsAddressOctet, RawItem, bare, quoted, StandsInQuotes, All-from_recursion}
-use Rattle.hex.specs.Hex.{encode_with}
+use Rattle.zone_rdata.proofs.Common.{AllPass-from_list_all, recursion_from_All, [], ◌≡◌, ℕ, ◌/◌, ◌%◌, ◌^◌, ◌<◌, ◌&&◌, nat_lt, Bool, true, List, ◌∷◌, length, decimal, refl, arith, AllByRecursion, list_all, and_parts, nat_tests, lower_digits, encode_lower, AreOctets, StandsBare, is_bare, bare_octets, IsAddressOctet, RawItem, bare, quoted, StandsInQuotes, All-from_recursion, encode_with, each_weaker}
 use Rattle.zone_rdata.proofs.Items.GenericLaws.{decimal-is}
-use Rattle.zone_rdata.proofs.Lists.{each_weaker}
 
 -- an item that stands as it is printed: bare, or between its quotes in one line
 abbrev pub IsPrintedItem : RawItem → Type 0
@@ -19,23 +17,17 @@ abbrev pub are_bare : List ℕ → Bool
 are_bare text = nat_lt 0 (length text) && list_all is_bare text
 
 tested_each : (text : List ℕ) → list_all is_bare text ≡ true → AreBare text
-tested_each [] e = tt
-tested_each (c ∷ text) e = let both = and_parts (is_bare c) (list_all is_bare text) e in (both.0, tested_each text both.1)
+tested_each text e = recursion_from_All (λ c. is_bare c ≡ true) text (AllPass-from_list_all is_bare text e)
 
 pub bare_tested : (text : List ℕ) → are_bare text ≡ true → StandsBare text
 bare_tested text e = grind (arith, and_parts, is_bare, bare_octets, tested_each)
 
--- the mark of the generic form, an escaped `#`
-pub bare_mark : StandsBare (92 ∷ 35 ∷ [])
-bare_mark = bare_unit (escaped 35) (refl, (λ e. omega arith), (λ e. omega arith))
-
 -- ---- numbers
 
-digit_bare : (c : ℕ) → is_digit c ≡ true → is_bare c ≡ true
-digit_bare c digit = grind (arith, nat_tests)
-
 pub bare_decimal : (n : ℕ) → n < 2 ^ 64 → StandsBare (decimal n)
-bare_decimal n short = grind (arith, decimal-is, bare_octets, each_weaker, is_bare, true, digit_bare)
+bare_decimal n short =
+    let is = decimal-is n short in
+    bare_octets (decimal n) is.some (each_weaker (λ c. is_bare c ≡ true) (λ c digit. grind (arith, nat_tests)) (decimal n) is.digits)
 
 hex_bare : (octets : List ℕ) → AreOctets octets → AreBare (encode_lower octets)
 unfolding encode_with
@@ -51,8 +43,5 @@ bare_hex c octets low = bare_octets (encode_lower (c ∷ octets)) (omega arith) 
 
 -- ---- addresses
 
-address_bare : (c : ℕ) → IsAddressOctet c → is_bare c ≡ true
-address_bare c given = grind arith
-
 pub bare_address : (text : List ℕ) → 0 < length text → AllByRecursion IsAddressOctet text → StandsBare text
-bare_address text some each = bare_octets text some (each_weaker (λ c. is_bare c ≡ true) address_bare text each)
+bare_address text some each = bare_octets text some (each_weaker (λ c. is_bare c ≡ true) (λ c given. grind arith) text each)

@@ -1,11 +1,11 @@
 -- The canonical text of data is its items, they stand in a file as they are, and they state that
 -- data.
-use Rattle.zone_rdata.proofs.Common.{[], List, None, Option, Some, ap, arith, drop, length, map, refl, sym, ℕ, ◌++◌, ◌<◌, ◌∙◌, ◌∷◌, ◌≡◌, ◌≤◌, AllByRecursion, flat_map, join_with_byte, append-nil, map-append, flat_map-append, AllByRecursion-append, AreOctets, Labels, Field, FieldValue, HoldEach, Holds, field_items, field_text, strings, values_of, string_item, digit_items, IsGeneric, RawItem, IsLayout, IsSized, StringsLast, layout, laid_out_text, Data, IsRdata, SpellEach, States, StatesFor, in_octets, in_words, string_text, data_items, data_text, laid_out_items, written_item, common_steps, Strings}
+use Rattle.zone_rdata.proofs.Common.{bare_unit, escaped, [], List, None, Option, Some, ap, arith, drop, length, map, refl, sym, ℕ, ◌++◌, ◌<◌, ◌∙◌, ◌∷◌, ◌≡◌, ◌≤◌, AllByRecursion, flat_map, join_with_byte, append-nil, map-append, flat_map-append, AllByRecursion-append, AreOctets, Labels, Field, FieldValue, HoldEach, Holds, field_items, field_text, values_of, string_item, digit_items, IsGeneric, RawItem, IsLayout, IsSized, StringsLast, layout, laid_out_text, Data, IsRdata, SpellEach, StatesFor, in_octets, in_words, string_text, data_items, data_text, laid_out_items, written_item, common_steps, Strings}
 use Rattle.zone_rdata.proofs.Fields.AnyField.{field_printed, field_stands, field_unmarked}
 use Rattle.zone_rdata.proofs.Fields.FieldLaws.{NamesPrinted}
-use Rattle.zone_rdata.proofs.Items.GenericLaws.{printed-stated, printed-text}
+use Rattle.zone_rdata.proofs.Items.GenericLaws.{printed_stated, printed_text}
 use Rattle.zone_rdata.proofs.Octets.Layouts.{AreFor}
-use Rattle.zone_rdata.proofs.Texts.Standing.{IsPrintedItem, bare_decimal, bare_hex, bare_mark}
+use Rattle.zone_rdata.proofs.Texts.Standing.{IsPrintedItem, bare_decimal, bare_hex}
 use Rattle.zone_rdata.proofs.Words.Tables.{table_row}
 use Rattle.zone_rdata.proofs.Texts.FieldTexts.{joined_more}
 
@@ -27,11 +27,8 @@ strings_spaced : (many : List (List ℕ)) → 0 < length many → all_spaced (ma
 strings_spaced [] some = absurd (omega arith)
 strings_spaced (octets ∷ many) some = ap all_spaced (written_strings (octets ∷ many)) ∙ ap (λ t. 32 ∷ t) (sym (joined_more (string_text octets) (map string_text many)))
 
-some_strings : (f : Field) (many : List (List ℕ)) → Holds f (strings many) → 0 < length many
-some_strings f many h = grind arith
-
 field_spaced : (f : Field) (v : FieldValue) → Holds f v → all_spaced (map written_item (field_items v)) ≡ 32 ∷ field_text v
-field_spaced f v h = grind (arith, strings_spaced, some_strings, append-nil)
+field_spaced f v h = grind (arith, strings_spaced, append-nil)
 
 each_spaced : (row : List Field) (values : List FieldValue) → HoldEach row values → all_spaced (map written_item (flat_map field_items values)) ≡ all_spaced (map field_text values)
 each_spaced [] [] h = refl
@@ -39,7 +36,7 @@ each_spaced (f ∷ row) (v ∷ values) h = grind (arith, each_spaced row values 
 each_spaced row values h = absurd h
 
 written_for : (laid : Option (List Field)) (octets : List ℕ) → AreFor laid octets → laid_out_text laid octets ≡ join_with_byte 32 (map written_item (laid_out_items laid octets))
-written_for None octets value = grind (arith, printed-text)
+written_for None octets value = grind (arith, printed_text)
 written_for (Some row) octets value =
     let values = values_of row octets in
     joined_spaced (map field_text values) ∙ ap (drop 1) (sym (each_spaced row values value.held)) ∙ sym (joined_spaced (map written_item (flat_map field_items values)))
@@ -63,7 +60,7 @@ each_stand (f ∷ row) (v ∷ values) sized h = grind (arith, each_stand row val
 each_stand row values sized h = absurd h
 
 laid_out_stand : (laid : Option (List Field)) (octets : List ℕ) → ((row : List Field) → laid ≡ Some row → IsLayout row) → length octets ≤ 65535 → AreOctets octets → AreFor laid octets → ArePrintedItems (laid_out_items laid octets)
-laid_out_stand None octets table short low value = (bare_mark, (bare_decimal (length octets) (omega arith), digits_stand octets low))
+laid_out_stand None octets table short low value = (bare_unit (escaped 35) (refl, (λ e. omega arith), (λ e. omega arith)), (bare_decimal (length octets) (omega arith), digits_stand octets low))
 laid_out_stand (Some row) octets table short low value = each_stand row (values_of row octets) (table row refl).sized value.held
 
 pub data_stands : (d : Data) → IsRdata d → AllByRecursion IsPrintedItem (data_items d)
@@ -79,11 +76,8 @@ laid_out_some : (laid : Option (List Field)) (octets : List ℕ) → ((row : Lis
 laid_out_some None octets table value = omega arith
 laid_out_some (Some row) octets table value = each_some row (values_of row octets) (table row refl) value.held
 
-row_some : (class kind : ℕ) (row : List Field) → layout class kind ≡ Some row → 0 < length row
-row_some class kind row e = grind arith
-
 pub data_some : (d : Data) → IsRdata d → 0 < length (data_items d)
-data_some d h = laid_out_some (layout d.class d.kind) d.octets (row_some d.class d.kind) h.octets.value
+data_some d h = laid_out_some (layout d.class d.kind) d.octets (λ row e. grind arith) h.octets.value
 
 -- ---- the items spell the values
 
@@ -108,12 +102,9 @@ fields_unmarked row values sized h g = h
 
 -- ---- the items state the data
 
-stated_for : NamesPrinted → (origin : Labels) (laid : Option (List Field)) (octets : List ℕ) → ((row : List Field) → laid ≡ Some row → IsLayout row) → length octets ≤ 65535 → AreOctets octets → AreFor laid octets → StatesFor origin laid (laid_out_items laid octets) octets
-stated_for names origin None octets table short each value = in_octets (octets, printed-stated octets each short, refl)
+pub stated_for : NamesPrinted → (origin : Labels) (laid : Option (List Field)) (octets : List ℕ) → ((row : List Field) → laid ≡ Some row → IsLayout row) → length octets ≤ 65535 → AreOctets octets → AreFor laid octets → StatesFor origin laid (laid_out_items laid octets) octets
+stated_for names origin None octets table short each value = in_octets (octets, printed_stated octets each short, refl)
 stated_for names origin (Some row) octets table short each value =
     let values = values_of row octets in
     let sound = table row refl in
     in_words row values refl (fields_unmarked row values sound.sized value.held) (each_spelt names origin row values sound.last sound.sized value.held) (sym value.whole) short
-
-pub data_stated : NamesPrinted → (origin : Labels) (d : Data) → IsRdata d → States origin d.class d.kind (data_items d) d.octets
-data_stated names origin d h = record { stated = stated_for names origin (layout d.class d.kind) d.octets (table_row d.class d.kind) h.octets.short h.octets.each h.octets.value }

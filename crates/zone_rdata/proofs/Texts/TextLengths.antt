@@ -1,8 +1,9 @@
 -- How many octets printed words and data have at most.
-use Rattle.zone_rdata.proofs.Common.{[], ◌≡◌, ℕ, ◌+◌, ◌*◌, ◌<◌, ◌≤◌, true, List, ◌∷◌, ◌++◌, length, map, nat_le, codes, decimal, Option, Some, None, refl, ap, arith, length-append, AllByRecursion, flat_map, join_with_byte, list_all, nat_tests, length-decimal-le, encode_lower, lower_digits, length-encode_with, Field, FieldValue, HoldEach, field_text, octets_of, values_of, IsLayout, IsSized, layout, laid_out_text, Data, IsRdata, Named, classes, type_names, mnemonic_among, data_text, generic_text, IsClass, IsKind, class_text, kind_text, laid_out_mnemonic, word_or_numbered}
+use Rattle.zone_rdata.proofs.Common.{leb-true, [], ◌≡◌, ℕ, ◌+◌, ◌*◌, ◌<◌, ◌≤◌, true, List, ◌∷◌, ◌++◌, length, map, nat_le, codes, decimal, Option, Some, None, refl, ap, arith, length-append, AllByRecursion, flat_map, join_with_byte, list_all, length-decimal-le, encode_lower, lower_digits, length-encode_with, Field, FieldValue, HoldEach, field_text, octets_of, values_of, IsLayout, IsSized, layout, laid_out_text, Data, IsRdata, Named, classes, type_names, mnemonic_among, data_text, generic_text, IsClass, IsKind, class_text, kind_text, word_or_numbered}
 use Rattle.zone_rdata.proofs.Fields.AnyField.{field_few}
 use Rattle.zone_rdata.proofs.Octets.Layouts.{AreFor}
 use Rattle.zone_rdata.proofs.Words.Tables.{each_mnemonic, table_row}
+use Rattle.zone_rdata.proofs.Texts.PrintedWords.{either_form}
 use Rattle.zone_rdata.proofs.Texts.TextItems.{data_written}
 use Rattle.zone_rdata.proofs.Texts.FieldTexts.{joined_more}
 
@@ -14,20 +15,13 @@ numbered_length name n few short = omega (arith, length-append name (decimal n),
 
 word_length : (rows : List Named) (name : List ℕ) (row : Option (List ℕ)) (n : ℕ) → list_all (λ row. nat_le (length row.mnemonic) 10) rows ≡ true → length name ≤ 5 → mnemonic_among rows n ≡ row → n < 65536 → length (word_or_numbered row name n) ≤ 10
 word_length rows name None n all few e short = numbered_length name n few short
-word_length rows name (Some word) n all few e short = by (length word) (each_mnemonic (λ _ mnemonic. nat_le (length mnemonic) 10) rows all n word e)
-  where
-    by : (count : ℕ) → nat_le count 10 ≡ true → count ≤ 10
-    by count e = grind (arith, nat_tests)
+word_length rows name (Some word) n all few e short = leb-true (length word) 10 (each_mnemonic (λ _ mnemonic. nat_le (length mnemonic) 10) rows all n word e)
 
 pub class_length : (n : ℕ) → IsClass n → length (class_text n) ≤ 10
 class_length n is = word_length classes (codes "CLASS") (mnemonic_among classes n) n refl (omega arith) refl is.short
 
-laid_out_length : (laid : Option (List Field)) (n : ℕ) → n < 65536 → length (word_or_numbered (laid_out_mnemonic laid n) (codes "TYPE") n) ≤ 10
-laid_out_length None n short = numbered_length (codes "TYPE") n (omega arith) short
-laid_out_length (Some fields) n short = word_length type_names (codes "TYPE") (mnemonic_among type_names n) n refl (omega arith) refl short
-
 pub kind_length : (class n : ℕ) → IsKind n → length (kind_text class n) ≤ 10
-kind_length class n is = laid_out_length (layout class n) n is.short
+kind_length class n is = either_form (λ word. length word ≤ 10) n (numbered_length (codes "TYPE") n (omega arith) is.short) (word_length type_names (codes "TYPE") (mnemonic_among type_names n) n refl (omega arith) refl is.short) (layout class n)
 
 -- ---- data
 
@@ -45,9 +39,8 @@ joined_length (text ∷ texts) = omega (arith, ap length (joined_more text texts
 generic_length : (octets : List ℕ) → length octets ≤ 65535 → length (generic_text octets) ≤ 4 * length octets + 8
 generic_length [] short = omega arith
 generic_length (c ∷ octets) short =
-    let digits = encode_lower (c ∷ octets) in
     let count = decimal (length (c ∷ octets)) in
-    omega (arith, length-append (codes "\\# " ++ count) (32 ∷ digits), length-append (codes "\\# ") count, length-encode_with lower_digits (c ∷ octets), length-decimal-le 5 (length (c ∷ octets)) (omega arith) (omega arith) (omega arith))
+    omega (arith, length-append (codes "\\# " ++ count) (32 ∷ encode_lower (c ∷ octets)), length-append (codes "\\# ") count, length-encode_with lower_digits (c ∷ octets), length-decimal-le 5 (length (c ∷ octets)) (omega arith) (omega arith) (omega arith))
 
 text_length : (laid : Option (List Field)) (octets : List ℕ) → ((row : List Field) → laid ≡ Some row → IsLayout row) → length octets ≤ 65535 → AreFor laid octets → length (laid_out_text laid octets) ≤ 4 * length octets + 8
 text_length None octets table short value = generic_length octets short

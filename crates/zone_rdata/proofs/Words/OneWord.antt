@@ -1,6 +1,5 @@
 -- A word has one number at most, and a text one time.
-use Rattle.zone_rdata.proofs.Common.{◌≡◌, ℕ, ◌<◌, ◌≤◌, Bool, true, false, not, List, ◌++◌, length, take, codes, refl, sym, ap, ◌∙◌, subst, arith, ◌==◌, Option, Some, None, bytes_eq, ◌⊎◌, inl, inr, find, list_all, option_map, eqb-true, not-true, false≢true, map-append, length-map, take_at, bytes_eq-Decides, folded_octet, folded_label, Named, classes, type_names, number_among, IsKind, IsMnemonic, IsNumbered, IsWordAmong, by_mnemonic, by_number, IsClassWord, IsKindWord, IsWordFault, nameless, beyond, for_queries, Fault, UnknownType, MetaType}
-use Rattle.std.proofs.Math.Seq.{drop-append_seam}
+use Rattle.zone_rdata.proofs.Common.{◌≡◌, ℕ, Bool, true, false, not, List, ◌++◌, length, take, codes, refl, sym, ap, ◌∙◌, subst, arith, ◌==◌, Option, Some, None, bytes_eq, find, list_all, option_map, eqb-true, not-true, false≢true, map-append, length-map, take_at, bytes_eq-Decides, folded_octet, folded_label, Named, classes, type_names, number_among, IsKind, IsMnemonic, IsNumbered, IsWordAmong, by_mnemonic, by_number, IsClassWord, IsKindWord, IsWordFault, nameless, beyond, for_queries, Fault, drop-append_seam}
 use Rattle.zone_rdata.proofs.Words.Tables.{each_mnemonic}
 
 -- a name and a number right after it
@@ -71,21 +70,9 @@ kind_or_fault word n fault x kind (nameless none) = none n x
 kind_or_fault word n fault x kind (beyond m y over) = let same : n ≡ m = kind_word_once word n m x y in absurd (let short = kind.short in omega arith)
 kind_or_fault word n fault x kind (for_queries m y short none) = none (subst IsKind (kind_word_once word n m x y) kind)
 
--- why a word has a fault, by the fault
-abbrev Why : List ℕ → Fault → Type 0
-Why word fault =
-    ((fault ≡ UnknownType) × ((n : ℕ) → IsKindWord word n → 65536 ≤ n)) ⊎ ((fault ≡ MetaType) × ((n : ℕ) × (IsKindWord word n × (n < 65536))))
-
-why : (word : List ℕ) (fault : Fault) → IsWordFault word fault → Why word fault
-why word fault (nameless none) = inl (refl, λ n x. absurd (none n x))
-why word fault (beyond m y over) = inl (refl, λ n x. let same : n ≡ m = kind_word_once word n m x y in omega arith)
-why word fault (for_queries m y short none) = inr (refl, (m, (y, short)))
-
-one_why : (word : List ℕ) (f g : Fault) → Why word f → Why word g → f ≡ g
-one_why word f g (inl x) (inl y) = x.0 ∙ sym y.0
-one_why word f g (inl x) (inr y) = absurd (let over = x.1 y.1.0 y.1.1.0 in let short = y.1.1.1 in omega arith)
-one_why word f g (inr x) (inl y) = absurd (let over = y.1 x.1.0 x.1.1.0 in let short = x.1.1.1 in omega arith)
-one_why word f g (inr x) (inr y) = x.0 ∙ sym y.0
-
 pub kind_fault_once : (word : List ℕ) (f g : Fault) → IsWordFault word f → IsWordFault word g → f ≡ g
-kind_fault_once word f g x y = one_why word f g (why word f x) (why word g y)
+kind_fault_once word _ _ (for_queries m y short none) (nameless nothing) = absurd (nothing m y)
+kind_fault_once word _ _ (for_queries m y short none) (beyond n x over) = absurd (omega (arith, kind_word_once word m n y x))
+kind_fault_once word _ _ (nameless nothing) (for_queries m y short none) = absurd (nothing m y)
+kind_fault_once word _ _ (beyond n x over) (for_queries m y short none) = absurd (omega (arith, kind_word_once word m n y x))
+kind_fault_once word _ _ _ _ = refl

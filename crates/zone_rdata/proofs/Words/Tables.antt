@@ -1,5 +1,6 @@
 -- What is found in a table of rows, and what holds of each row.
 use Rattle.zone_rdata.proofs.Common.{[], ◌≡◌, ℕ, ◌<◌, List, ◌∷◌, length, map, Bool, true, false, not, cond, ◌&&◌, ◌||◌, ◌==◌, nat_lt, nat_le, bytes_eq, Option, Some, None, refl, sym, ap, ◌∙◌, subst, arith, AllByRecursion, find, list_all, option_map, eqb-true, eq-eqb, and_parts, or_cases, not-true, cond-true, false≢true, nat_tests, bytes_eq-Decides, folded_label, Field, IsLayout, IsSized, StringsLast, fields_in, layout, is_strings, Named, NamedType, in_every, in_one, ascend, ascends, mnemonic_among, number_among, types, IsMnemonic}
+use Rattle.std.proofs.lemmas.Option.{cond_some}
 use Rattle.zone_rdata.specs.declared.field.Field.TheVariants as fields
 
 -- ---- the first element that passes a test
@@ -48,9 +49,6 @@ found_above low (row ∷ rows) q x up e =
     let here : low < row.number = grind (arith, nat_tests) in
     found_by row x (find q rows) (λ z. low < z.number) (q row) e (λ t. here) (λ more. let above = found_above row.number rows q x both.1 more in omega arith)
 
-own_here : (row : Named) (rest : Option Named) → cond (row.number == row.number) (Some row) rest ≡ Some row
-own_here row rest = cond-true _ _ _ (eq-eqb row.number row.number refl)
-
 own_after : (row x : Named) (rest : Option Named) → row.number < x.number → rest ≡ Some x → cond (x.number == row.number) (Some row) rest ≡ Some x
 own_after row x rest above e = grind (arith, eqb-true)
 
@@ -62,7 +60,7 @@ ascends_from low (row ∷ rows) up = (and_parts (nat_lt low row.number) (ascend 
 own_row : (rows : List Named) (q : Named → Bool) (x : Named) → ascends rows ≡ true → find q rows ≡ Some x → find (λ row. x.number == row.number) rows ≡ Some x
 own_row [] q x up e = absurd cc
 own_row (row ∷ rows) q x up e =
-    cc (found_by row x (find q rows) (λ z. cond (z.number == row.number) (Some row) (find (λ other. z.number == other.number) rows) ≡ Some z) (q row) e (λ t. own_here row (find (λ other. row.number == other.number) rows)) (λ more. own_after row x (find (λ other. x.number == other.number) rows) (found_above row.number rows q x up more) (own_row rows q x (ascends_from row.number rows up) more)))
+    cc (found_by row x (find q rows) (λ z. cond (z.number == row.number) (Some row) (find (λ other. z.number == other.number) rows) ≡ Some z) (q row) e (λ t. cond-true _ _ _ (eq-eqb row.number row.number refl)) (λ more. own_after row x (find (λ other. x.number == other.number) rows) (found_above row.number rows q x up more) (own_row rows q x (ascends_from row.number rows up) more)))
 
 -- the row of a word has a number of which the word is the mnemonic
 pub row_is : (rows : List Named) → ascends rows ≡ true → (word : List ℕ) (row : Named) → find (λ row. bytes_eq (folded_label word) (folded_label row.mnemonic)) rows ≡ Some row → IsMnemonic rows word row.number
@@ -88,14 +86,10 @@ abbrev pub fields_of_row : NamedType → List Field
 fields_of_row (in_every number mnemonic fields) = fields
 fields_of_row (in_one number mnemonic fields) = fields
 
-fields_if : (b : Bool) (own fields : List Field) → cond b (Some own) None ≡ Some fields → own ≡ fields
-fields_if true own fields e = cc
-fields_if false own fields e = absurd cc
-
 fields_by : (p : List Field → Bool) (class : ℕ) (fields : List Field) (found : Option NamedType) → ((row : NamedType) → found ≡ Some row → p (fields_of_row row) ≡ true) → fields_in class found ≡ Some fields → p fields ≡ true
 fields_by p class fields None each e = absurd cc
 fields_by p class fields (Some (in_every number mnemonic own)) each e = let same : own ≡ fields = cc in subst (λ t. p t ≡ true) same (each (in_every number mnemonic own) refl)
-fields_by p class fields (Some (in_one number mnemonic own)) each e = subst (λ t. p t ≡ true) (fields_if (class == 1) own fields e) (each (in_one number mnemonic own) refl)
+fields_by p class fields (Some (in_one number mnemonic own)) each e = subst (λ t. p t ≡ true) (cond_some (class == 1) own fields e).1 (each (in_one number mnemonic own) refl)
 
 -- what holds of the fields of each type holds of each layout
 pub each_layout : (p : List Field → Bool) → list_all (λ row. p (fields_of_row row)) types ≡ true → (class kind : ℕ) (fields : List Field) → layout class kind ≡ Some fields → p fields ≡ true
@@ -126,9 +120,8 @@ each_sized : (row : List Field) → list_all is_sized row ≡ true → AllByRecu
 each_sized [] e = tt
 each_sized (f ∷ row) e = let both = and_parts (is_sized f) (list_all is_sized row) e in (sized_is f both.0, each_sized row both.1)
 
-layout_is : (row : List Field) → is_layout row ≡ true → IsLayout row
-layout_is row e = grind (arith, and_parts, nat_le, nat_tests, last_is, each_sized)
-
 -- what every layout of the table is
 pub table_row : (class kind : ℕ) (row : List Field) → layout class kind ≡ Some row → IsLayout row
-table_row class kind row e = layout_is row (each_layout is_layout refl class kind row e)
+table_row class kind row e =
+    let is = each_layout is_layout refl class kind row e in
+    grind (arith, and_parts, nat_le, nat_tests, last_is, each_sized)

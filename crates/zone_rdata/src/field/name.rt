@@ -72,6 +72,7 @@ fn name_at(octets: &[u8]) -> Option<(Name, &[u8])>
 
 /// The name at the beginning of octets, and the octets after it. Where it is said that there are
 /// none no label is looked at.
+#[tactic(auto, using(crate::proofs::Texts::FieldTexts::last_name))]
 pub(crate) fn split_name(octets: &[u8], is_last: bool) -> (NameRef<'_>, &[u8])
     requires front { BeginsWithField Field.Name octets.now }
     requires last { IsTrue is_last → after_field Field.Name octets.now ≡ [] }

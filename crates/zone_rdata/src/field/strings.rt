@@ -37,6 +37,7 @@ pub(crate) fn push_strings(items: &[Item], octets: &mut Vec<u8>) -> Result<(), N
 }
 
 /// Appends octets that are one string or more, each after its length.
+#[tactic(auto, using(crate::proofs::Fields::Strings::appends_strings))]
 pub(crate) fn push_sent_strings<'o>(
     octets: &'o [u8],
     canonical: &mut Vec<u8>,

@@ -25,12 +25,14 @@ pub fn faulty_generic_states_none()
 {}
 
 /// Items have at most one first fault.
+#[tactic(auto, using(crate::proofs::Items::GenericLaws::generic_fault_once))]
 pub fn generic_fault_is_unique()
     ensures { (items : List RawItem) → AtMostOneIs (GenericFault items) }
 {}
 
 /// The items that are printed for octets, parted by single spaces, are their text and state those
 /// octets.
+#[tactic(auto, using(crate::proofs::Items::GenericLaws::printed_stated, crate::proofs::Items::GenericLaws::printed_text))]
 pub fn printed_octets_are_stated()
     ensures text { (octets : Octets) → generic_text octets ≡ join_with_byte 32
         (map item_text (generic_items octets)) }

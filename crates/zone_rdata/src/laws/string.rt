@@ -9,6 +9,7 @@ pub fn string_is_unique()
 {}
 
 /// An item spells a string or has a first fault.
+#[tactic(auto, using(crate::proofs::Strings::Units::string_or_fault))]
 pub fn string_or_fault()
     ensures { (item : RawItem) → AreOctets (item_text item)
         → EitherIs (SpellsString item) (StringFault item) }
@@ -25,6 +26,7 @@ pub fn string_fault_is_unique()
 {}
 
 /// What is printed for a string stands in quotes in one line, and spells that string.
+#[tactic(auto, using(crate::proofs::Strings::StringLaws::printed_spells, crate::proofs::Strings::StringLaws::printed_stands))]
 pub fn printed_strings_are_spelled()
     ensures spells { (octets : Octets) → IsString octets
         → SpellsString (quoted (inside_text octets)) octets }

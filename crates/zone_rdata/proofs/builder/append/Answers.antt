@@ -1,6 +1,5 @@
-use Rattle.zone_rdata.proofs.Common.{sym, subst, IsOver, value_of}
+use Rattle.zone_rdata.proofs.Common.{sym, subst, IsOver, value_of, IfErr-fault}
 use Rattle.zone_rdata.proofs.Octets.Building.{over_as}
-use Rattle.zone_rdata.proofs.Failings.{IfErr-fault}
 use Rattle.zone_rdata.proofs.builder.append.Goals as goal
 
 pub returns-in-U16-clause-fault : goal.returns-in-U16-clause-fault

@@ -1,6 +1,5 @@
-use Rattle.zone_rdata.proofs.Common.{sym, subst, arith, map, length-map, err_from_is_err_and, raw, JoinTo}
-use Rattle.zone_rdata.proofs.Failings.{IfErr-fault}
-use Rattle.zone_rdata.proofs.Items.GenericForm.{form_parts, form_faults, form_missing, form_digits, later_two}
+use Rattle.zone_rdata.proofs.Common.{take_all, length-drop, sym, subst, arith, map, length-map, err_from_is_err_and, raw, JoinTo, IfErr-fault}
+use Rattle.zone_rdata.proofs.Items.GenericForm.{form_parts, form_faults, form_missing, form_digits}
 use Rattle.zone_rdata.proofs.generic.read_generic.Goals as goal
 
 pub returns-in_err-len-in-len2-up-clause-fault : goal.returns-in_err-len-in-len2-up-clause-fault
@@ -14,5 +13,5 @@ returns-in_default-clause-fault c = rw c.of.ensures (form_missing _ c.requires (
 pub returns-in_ok-len-in-len2-up-clause-fault : goal.returns-in_ok-len-in-len2-up-clause-fault
 returns-in_ok-len-in-len2-up-clause-fault c =
     IfErr-fault c.join_digits.result _ _
-    (λ fault bad. form_digits _ _ _ c.in_ok-len-in-len2-up.len fault (form_parts c.args.items.now _ c.in-len2-up.len_at_least c.requires) c.in_ok-len-in-len2-up.ensures.found c.in_ok-len-in-len2-up.ensures.short (bad.0, λ octets h. bad.1 octets (subst (λ r. JoinTo (map raw r) octets) (sym (later_two c.args.items.now)) h)))
+    (λ fault bad. form_digits _ _ _ c.in_ok-len-in-len2-up.len fault (form_parts c.args.items.now _ c.in-len2-up.len_at_least c.requires) c.in_ok-len-in-len2-up.ensures.found c.in_ok-len-in-len2-up.ensures.short (bad.0, λ octets h. bad.1 octets (subst (λ r. JoinTo (map raw r) octets) (sym (take_all _ _ (omega (arith, length-drop 2 c.args.items.now)))) h)))
     c.join_digits.ensures.fault

@@ -1,4 +1,4 @@
-use Rattle.zone_name.proofs.Texts.Sinks.{Took}
+use Rattle.zone_rdata.proofs.Common.{Took}
 use Rattle.zone_rdata.proofs.Texts.FieldTexts.{HavePrinted}
 use Rattle.zone_rdata.proofs.printing.push_fields.Given as goal
 

@@ -1,5 +1,4 @@
-use Rattle.zone_rdata.specs.DataFault.{malformed}
-use Rattle.zone_rdata.proofs.Failings.{if_fault_passed}
+use Rattle.zone_rdata.proofs.Common.{malformed, if_fault_passed}
 use Rattle.zone_rdata.proofs.Items.Forms.{form_value}
 use Rattle.zone_rdata.proofs.rdata.read_in_form.Goals as goal
 

@@ -1,5 +1,4 @@
-use Rattle.zone_rdata.proofs.Common.{drop, map, refl, ap, arith, drop_all, length-drop, length-map, raw}
-use Rattle.zone_rdata.proofs.Failings.{if_fault_passed}
+use Rattle.zone_rdata.proofs.Common.{drop, map, refl, ap, arith, drop_all, length-drop, length-map, raw, if_fault_passed}
 use Rattle.zone_rdata.proofs.Items.FromLeft.{read_more, read_bad, read_over, read_all, read_long}
 use Rattle.zone_rdata.proofs.reading.read_words.Goals as goal
 

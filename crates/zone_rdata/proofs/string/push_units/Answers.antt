@@ -1,6 +1,4 @@
-use Rattle.zone_rdata.proofs.Common.{arith, stops_after, takes_both, Took-more}
-use Rattle.std.proofs.lemmas.List.Sums.{prefix_len-le-length}
-use Rattle.zone_rdata.specs.Machine.Unescaped.{is_unescaped}
+use Rattle.zone_rdata.proofs.Common.{arith, stops_after, takes_both, Took-more, prefix_len-le-length, is_unescaped}
 use Rattle.zone_rdata.proofs.Strings.UnescapedRuns.{shown_all, shown_more}
 use Rattle.zone_rdata.proofs.string.push_units.Goals as goal
 

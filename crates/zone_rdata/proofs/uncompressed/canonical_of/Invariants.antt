@@ -1,4 +1,4 @@
-use Rattle.std.proofs.Common.{drop}
+use Rattle.zone_rdata.proofs.Common.{drop}
 use Rattle.zone_rdata.proofs.Octets.Taken.{HaveTaken}
 use Rattle.zone_rdata.proofs.uncompressed.canonical_of.Given as goal
 

@@ -1,7 +1,5 @@
-use Rattle.std.proofs.Common.{cond, ltb, refl, arith, w8}
-use Rattle.std.proofs.lemmas.Simd.{chunk-fits, length-chunk, splat_is_map, zip2_of_maps, zip2_splat}
+use Rattle.zone_rdata.proofs.Common.{cond, ltb, refl, arith, w8, chunk-fits, length-chunk, splat_is_map, zip2_of_maps, zip2_splat, is_escaped}
 use Rattle.zone_name.proofs.InOctets.OctetLanes.{itself, mask_is}
-use Rattle.zone_rdata.specs.Machine.Unescaped.{is_escaped}
 use Rattle.zone_rdata.proofs.unescaped.escape_bits.Goals as goal
 use lib.Lanes.{chunk}
 

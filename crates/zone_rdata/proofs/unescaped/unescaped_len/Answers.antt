@@ -1,7 +1,4 @@
-use Rattle.std.proofs.Common.{length, ◌-◌, arith}
-use Rattle.std.proofs.lemmas.List.Sums.{prefix_len-le-length}
-use Rattle.zone_rdata.specs.Machine.Unescaped.{is_unescaped}
-use Rattle.zone_name.proofs.InOctets.Runs.{run_tells}
+use Rattle.zone_rdata.proofs.Common.{length, ◌-◌, arith, prefix_len-le-length, is_unescaped, run_tells}
 use Rattle.zone_rdata.proofs.unescaped.unescaped_len.Goals as goal
 
 pub returns-then-run-lt-LANES : goal.returns-then-run-lt-LANES
@@ -9,18 +6,12 @@ returns-then-run-lt-LANES c =
     (run_tells is_unescaped c.args.octets.now c.loop-at.at 16 c.unescaped_run-run.result c.loop-at.invariant c.unescaped_run-run.ensures).ends c.if-run-lt-LANES.true
 
 pub loop-at-preserved : goal.loop-at-preserved
-loop-at-preserved c =
-    let run = run_tells is_unescaped c.args.octets.now c.loop-at.at 16 c.unescaped_run-run.result c.loop-at.invariant c.unescaped_run-run.ensures in
-    omega (arith, run.passed, c.if-run-lt-LANES.false)
+loop-at-preserved c = omega (arith, (run_tells is_unescaped c.args.octets.now c.loop-at.at 16 c.unescaped_run-run.result c.loop-at.invariant c.unescaped_run-run.ensures).passed, c.if-run-lt-LANES.false)
 
 pub overflow_add-result-2 : goal.overflow_add-result-2
-overflow_add-result-2 c =
-    let last = length c.args.octets.now - 16 in
-    let run = run_tells is_unescaped c.args.octets.now last 16 c.unescaped_run.result (omega (arith, c.loop-at.invariant, c.loop-at-test.false)) c.unescaped_run.ensures in
-    omega (arith, run.within, c.if-octets-lt-LANES.false)
+overflow_add-result-2 c = omega (arith, (run_tells is_unescaped c.args.octets.now (length c.args.octets.now - 16) 16 c.unescaped_run.result (omega (arith, c.loop-at.invariant, c.loop-at-test.false)) c.unescaped_run.ensures).within, c.if-octets-lt-LANES.false)
 
 pub returns : goal.returns
 returns c =
-    let last = length c.args.octets.now - 16 in
-    let run = run_tells is_unescaped c.args.octets.now last 16 c.unescaped_run.result (omega (arith, c.loop-at.invariant, c.loop-at-test.false)) c.unescaped_run.ensures in
+    let run = run_tells is_unescaped c.args.octets.now (length c.args.octets.now - 16) 16 c.unescaped_run.result (omega (arith, c.loop-at.invariant, c.loop-at-test.false)) c.unescaped_run.ensures in
     grind (arith, run, c.if-octets-lt-LANES.false, prefix_len-le-length is_unescaped c.args.octets.now)

@@ -1,6 +1,4 @@
-use Rattle.std.proofs.Common.{length, ◌-◌, ◌≤◌}
-use Rattle.std.specs.List.{prefix_len}
-use Rattle.zone_rdata.specs.Machine.Unescaped.{is_unescaped}
+use Rattle.zone_rdata.proofs.Common.{length, ◌-◌, ◌≤◌, prefix_len, is_unescaped}
 use Rattle.zone_rdata.proofs.unescaped.unescaped_len.Given as goal
 
 abbrev pub invariant-loop-at : goal.invariant-loop-at

@@ -1,7 +1,4 @@
-use Rattle.std.proofs.Common.{sym, ◌∙◌, arith}
-use Rattle.std.proofs.lemmas.List.Sums.{prefix_len-le-length}
-use Rattle.zone_rdata.specs.Machine.Unescaped.{is_unescaped}
-use Rattle.zone_name.proofs.InOctets.Runs.{first_fails, one_more}
+use Rattle.zone_rdata.proofs.Common.{sym, ◌∙◌, arith, prefix_len-le-length, is_unescaped, first_fails, one_more}
 use Rattle.zone_rdata.proofs.unescaped.unescaped_len_of_few.Goals as goal
 
 pub loop-len-preserved : goal.loop-len-preserved

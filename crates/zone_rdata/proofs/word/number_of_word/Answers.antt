@@ -1,4 +1,4 @@
-use Rattle.std.proofs.Common.{◌∙◌, arith}
+use Rattle.zone_rdata.proofs.Common.{◌∙◌, arith}
 use Rattle.zone_rdata.proofs.Words.AnyCase.{word_of_row, no_word}
 use Rattle.zone_rdata.proofs.word.number_of_word.Goals as goal
 

@@ -1,12 +1,11 @@
-use Rattle.zone_rdata.proofs.Common.{◌<◌, length, sym, subst, arith, ArePartsOf}
-use Rattle.zone_rdata.proofs.Choices.{if_none_any}
-use Rattle.zone_rdata.proofs.Addresses.AddressParts.{HaveReadParts, parts_started, parts_more, parts_stop, parts_ended, parts_unended}
+use Rattle.zone_rdata.proofs.Common.{refl, ◌<◌, length, sym, subst, arith, ArePartsOf, if_none_any}
+use Rattle.zone_rdata.proofs.Addresses.AddressParts.{HaveReadParts, parts_more, parts_stop, parts_ended, parts_unended}
 use Rattle.zone_rdata.proofs.address.groups.octets_of_parts.Goals as goal
 
 pub loop-group-init : goal.loop-group-init
 loop-group-init c =
     let some : 0 < length c.args.text.now = grind (arith, c.if-is_empty.ensures) in
-    subst (HaveReadParts c.args.ends c.args.text.now c.args.text.now) (sym c.new-octets.ensures) (parts_started c.args.ends c.args.text.now some)
+    subst (HaveReadParts c.args.ends c.args.text.now c.args.text.now) (sym c.new-octets.ensures) (record { some = some; goes = λ more have. have; comes = λ others have. (others, have, refl) })
 
 pub returns-in_err-push_group-clause-none : goal.returns-in_err-push_group-clause-none
 returns-in_err-push_group-clause-none c = if_none_any _ _ (parts_stop c.args.ends c.args.text.now _ _ _ _ c.in-Some.ensures.some c.loop-group.invariant c.in_err-push_group.ensures.none)

@@ -1,4 +1,4 @@
-use Rattle.std.proofs.Common.{length}
+use Rattle.zone_rdata.proofs.Common.{length}
 use Rattle.zone_rdata.proofs.Addresses.AddressParts.{HaveReadParts}
 use Rattle.zone_rdata.proofs.address.groups.octets_of_parts.Given as goal
 

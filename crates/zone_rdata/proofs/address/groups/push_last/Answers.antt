@@ -1,5 +1,4 @@
-use Rattle.std.proofs.Common.{inl, inr}
-use Rattle.zone_rdata.proofs.Choices.{if_none_any, if_none_weaker}
+use Rattle.zone_rdata.proofs.Common.{inl, inr, if_none_any, if_none_weaker}
 use Rattle.zone_rdata.proofs.Addresses.AddressParts.{part_full, part_refused}
 use Rattle.zone_rdata.proofs.address.groups.push_last.Goals as goal
 

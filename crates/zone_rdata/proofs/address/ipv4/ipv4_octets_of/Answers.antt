@@ -1,5 +1,5 @@
-use Rattle.zone_rdata.proofs.Choices.{if_none_any}
-use Rattle.zone_rdata.proofs.Addresses.Cut.{numbers_one, numbers_more, rest_refused, last_refused}
+use Rattle.zone_rdata.proofs.Common.{[], ◌∷◌, if_none_any, refl}
+use Rattle.zone_rdata.proofs.Addresses.Cut.{numbers_more, rest_refused, last_refused}
 use Rattle.zone_rdata.proofs.address.ipv4.ipv4_octets_of.Goals as goal
 
 pub returns-in_err-first-clause-none : goal.returns-in_err-first-clause-none
@@ -19,4 +19,4 @@ returns-clause-found c =
     let a = c.in_ok-first.ensures.found in
     let b = c.in_ok-second.ensures.found in
     let d = c.in_ok-third.ensures.found in
-    numbers_more 2 _ a.0 _ _ _ a.1.0 a.1.1 (numbers_more 1 _ b.0 _ _ _ b.1.0 b.1.1 (numbers_more 0 _ d.0 _ _ _ d.1.0 d.1.1 (numbers_one _ _ c.in_ok-fourth.ensures.found)))
+    numbers_more 2 _ a.0 _ _ _ a.1.0 a.1.1 (numbers_more 1 _ b.0 _ _ _ b.1.0 b.1.1 (numbers_more 0 _ d.0 _ _ _ d.1.0 d.1.1 (record { numbers = _ ∷ []; counted = refl; parted = refl; each = (c.in_ok-fourth.ensures.found, tt) })))

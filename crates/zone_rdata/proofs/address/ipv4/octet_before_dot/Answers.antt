@@ -1,4 +1,4 @@
-use Rattle.zone_rdata.proofs.Choices.{if_none_any}
+use Rattle.zone_rdata.proofs.Common.{if_none_any}
 use Rattle.zone_rdata.proofs.Addresses.Cut.{numbers_none, number_refused}
 use Rattle.zone_rdata.proofs.address.ipv4.octet_before_dot.Goals as goal
 

@@ -1,5 +1,4 @@
-use Rattle.zone_rdata.proofs.Common.{◌+◌, take_rest}
-use Rattle.zone_rdata.proofs.Choices.{if_none_any, if_none_weaker, if_some_weaker}
+use Rattle.zone_rdata.proofs.Common.{◌+◌, take_rest, if_none_any, if_none_weaker, if_some_weaker}
 use Rattle.zone_rdata.proofs.Addresses.AddressGaps.{refused_without_gap, refused_at_gap, found_at_gap}
 use Rattle.zone_rdata.proofs.address.ipv6.ipv6_octets_of.Goals as goal
 

@@ -1,4 +1,4 @@
-use Rattle.std.proofs.Common.{◌≤◌, ◌+◌, length, ap, ◌∙◌, arith, refl, true, false}
+use Rattle.zone_rdata.proofs.Common.{◌≤◌, ◌+◌, length, ap, ◌∙◌, arith, refl, true, false}
 use Rattle.zone_rdata.proofs.Addresses.AddressParts.{parts_unique}
 use Rattle.zone_rdata.proofs.Addresses.AddressGaps.{around_written}
 use Rattle.zone_rdata.proofs.address.ipv6.octets_around.Goals as goal

@@ -1,6 +1,5 @@
-use Rattle.zone_rdata.specs.Part.{value_of}
+use Rattle.zone_rdata.proofs.Common.{value_of, if_fault_passed}
 use Rattle.zone_rdata.proofs.Octets.Building.{push_misplaced, push_over, push_built, push_made}
-use Rattle.zone_rdata.proofs.Failings.{if_fault_passed}
 use Rattle.zone_rdata.proofs.builder.RdataBuilder.push.Goals as goal
 
 pub returns-then-not-is_next-clause-fault : goal.returns-then-not-is_next-clause-fault

@@ -1,6 +1,4 @@
-use Rattle.zone_rdata.proofs.Common.{◌≡◌, ◌⊎◌, ℕ, inl, inr, sym, subst, arith, IfOk-weaker, Field, u32_value, u16_value, fixed, BeginsWithNone, Serial, Time, U16, Octets}
-use Rattle.zone_rdata.proofs.Failings.{IfErr-fault}
-use Rattle.zone_rdata.proofs.Lists.{bytes_each}
+use Rattle.zone_rdata.proofs.Common.{◌≡◌, ◌⊎◌, inl, inr, sym, subst, arith, IfOk-weaker, Field, u32_value, u16_value, fixed, BeginsWithNone, Serial, Time, IfErr-fault, bytes_each}
 use Rattle.zone_rdata.proofs.Fields.FieldLaws.{SizedField, appends_sized}
 use Rattle.zone_rdata.proofs.Fields.Address as address
 use Rattle.zone_rdata.proofs.Fields.Number.{serial_sized, u16_sized}
@@ -10,12 +8,6 @@ use Rattle.zone_rdata.proofs.field.Field.push_sent.Goals as goal
 number_of_32 : (f : Field) → (f ≡ Serial) ⊎ (f ≡ Time) → SizedField f u32_value 4
 number_of_32 f (inl e) = subst (λ g. SizedField g u32_value 4) (sym e) serial_sized
 number_of_32 f (inr e) = subst (λ g. SizedField g u32_value 4) (sym e) time.sized
-
-number_of_16 : (f : Field) → f ≡ U16 → SizedField f u16_value 2
-number_of_16 f e = subst (λ g. SizedField g u16_value 2) (sym e) u16_sized
-
-octets_of_address : (f : Field) (n : ℕ) → f ≡ Octets n → SizedField f fixed n
-octets_of_address f n e = subst (λ g. SizedField g fixed n) (sym e) (address.sized n)
 
 pub returns-in-Name-clause-fault : goal.returns-in-Name-clause-fault
 returns-in-Name-clause-fault c =
@@ -27,11 +19,11 @@ returns-in-Serial-clause-found c =
 
 pub returns-in-U16-clause-found : goal.returns-in-U16-clause-found
 returns-in-U16-clause-found c =
-    IfOk-weaker c.push_prefix-in-U16.result _ _ (λ rest grows. appends_sized c.args.self 2 (number_of_16 c.args.self c.in-U16.is) c.args.octets.now rest.now c.args.canonical.now.items _ (bytes_each c.args.octets.now (λ i. omega (arith, c.type_inv.octets i))) grows) c.push_prefix-in-U16.ensures.found
+    IfOk-weaker c.push_prefix-in-U16.result _ _ (λ rest grows. appends_sized c.args.self 2 (subst (λ f. SizedField f u16_value 2) (sym c.in-U16.is) u16_sized) c.args.octets.now rest.now c.args.canonical.now.items _ (bytes_each c.args.octets.now (λ i. omega (arith, c.type_inv.octets i))) grows) c.push_prefix-in-U16.ensures.found
 
 pub returns-in-Octets-clause-found : goal.returns-in-Octets-clause-found
 returns-in-Octets-clause-found c =
-    IfOk-weaker c.push_prefix-in-Octets.result _ _ (λ rest grows. appends_sized c.args.self c.in-Octets.count (octets_of_address c.args.self c.in-Octets.count c.in-Octets.is) c.args.octets.now rest.now c.args.canonical.now.items _ (bytes_each c.args.octets.now (λ i. omega (arith, c.type_inv.octets i))) grows) c.push_prefix-in-Octets.ensures.found
+    IfOk-weaker c.push_prefix-in-Octets.result _ _ (λ rest grows. appends_sized c.args.self c.in-Octets.count (subst (λ f. SizedField f fixed c.in-Octets.count) (sym c.in-Octets.is) (address.sized c.in-Octets.count)) c.args.octets.now rest.now c.args.canonical.now.items _ (bytes_each c.args.octets.now (λ i. omega (arith, c.type_inv.octets i))) grows) c.push_prefix-in-Octets.ensures.found
 
 pub returns-in-OneString-clause-fault : goal.returns-in-OneString-clause-fault
 returns-in-OneString-clause-fault c =

@@ -1,18 +1,17 @@
-use Rattle.zone_rdata.proofs.Common.{subst, IfSome, IsIpv4Address, IsIpv6Address, of_ipv4, of_ipv6}
-use Rattle.zone_rdata.proofs.Addresses.AddressFields.{ipv4_missing, ipv6_missing}
-use Rattle.zone_rdata.proofs.Failings.{fault_answered}
+use Rattle.zone_rdata.proofs.Common.{subst, IfSome, IsIpv4Address, IsIpv6Address, of_ipv4, of_ipv6, fault_answered}
+use Rattle.zone_rdata.proofs.Addresses.AddressFields.{missing, no_ipv4, no_ipv6}
 use Rattle.zone_rdata.proofs.field.address.push_address.Goals as goal
 use Rattle.zone_rdata.proofs.field.address.push_address.Goals.{in-4+in_ok-address-in-4+in_ok-extend_from_slice-in-4, in-16+in_ok-address-in-16+in_ok-extend_from_slice-in-16}
 
 pub returns-in_err-address-in-4-clause-fault : goal.returns-in_err-address-in-4-clause-fault
 returns-in_err-address-in-4-clause-fault c =
     fault_answered c.from_residual.result _ _ c.from_residual.ensures.1
-    (ipv4_missing _ _ _ c.args.text.now c.in-4.is c.in_err-address-in-4.ensures.value c.ipv4_octets_of.ensures.none)
+    (missing _ _ _ c.args.text.now _ (no_ipv4 _ _ c.in-4.is) c.in_err-address-in-4.ensures.value c.ipv4_octets_of.ensures.none)
 
 pub returns-in_err-address-in-16-clause-fault : goal.returns-in_err-address-in-16-clause-fault
 returns-in_err-address-in-16-clause-fault c =
     fault_answered c.from_residual-in_err-address-in-16.result _ _ c.from_residual-in_err-address-in-16.ensures.1
-    (ipv6_missing _ _ _ c.args.text.now c.in-16.is c.in_err-address-in-16.ensures.value c.ipv6_octets_of.ensures.none)
+    (missing _ _ _ c.args.text.now _ (no_ipv6 _ _ c.in-16.is) c.in_err-address-in-16.ensures.value c.ipv6_octets_of.ensures.none)
 
 pub returns-clause-found : goal.returns-clause-found
 returns-clause-found c =

@@ -1,5 +1,4 @@
-use Rattle.std.proofs.Common.{◌∷◌, sym, ap, ◌∙◌, arith}
-use Rattle.zone_rdata.proofs.Choices.{if_none_any}
+use Rattle.zone_rdata.proofs.Common.{◌∷◌, sym, ap, ◌∙◌, arith, if_none_any}
 use Rattle.zone_rdata.proofs.Octets.Sent.{cut_more, no_first, no_room, no_label}
 use Rattle.zone_rdata.proofs.field.name.name_at.Goals as goal
 

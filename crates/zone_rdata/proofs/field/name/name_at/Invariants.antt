@@ -1,4 +1,4 @@
-use Rattle.std.proofs.Common.{length}
+use Rattle.zone_rdata.proofs.Common.{length}
 use Rattle.zone_rdata.proofs.Octets.Sent.{HasCut}
 use Rattle.zone_rdata.proofs.field.name.name_at.Given as goal
 

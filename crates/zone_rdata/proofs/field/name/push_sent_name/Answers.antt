@@ -1,4 +1,4 @@
-use Rattle.std.proofs.Common.{◌++◌, refl, ap, ◌∙◌}
+use Rattle.zone_rdata.proofs.Common.{◌++◌, refl, ap, ◌∙◌}
 use Rattle.zone_rdata.proofs.Fields.Name.{appends_name, none_name}
 use Rattle.zone_rdata.proofs.field.name.push_sent_name.Goals as goal
 

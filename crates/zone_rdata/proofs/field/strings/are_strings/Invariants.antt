@@ -1,4 +1,4 @@
-use Rattle.std.proofs.Common.{length}
+use Rattle.zone_rdata.proofs.Common.{length}
 use Rattle.zone_rdata.proofs.Fields.Strings.{Framed}
 use Rattle.zone_rdata.proofs.field.strings.are_strings.Given as goal
 

@@ -1,6 +1,6 @@
 use Rattle.zone_rdata.proofs.Common.{arith, subst, Took-more, stops_after}
 use Rattle.zone_rdata.proofs.Octets.StringFields.{first_string}
-use Rattle.zone_rdata.proofs.Texts.StringTexts.{quoted_first, quoted_more, quoted_all, first_of_rest}
+use Rattle.zone_rdata.proofs.Texts.StringTexts.{quoted_first, quoted_more, quoted_all}
 use Rattle.zone_rdata.proofs.field.strings.push_strings_text.Goals as goal
 
 pub split_string-requires : goal.split_string-requires
@@ -14,7 +14,7 @@ loop-rest-init g c = record {
 }
 
 pub split_string-requires-in-loop-rest : goal.split_string-requires-in-loop-rest
-split_string-requires-in-loop-rest g c = first_of_rest _ _ _ (grind (arith, c.loop-rest-test.ensures, c.is_empty.ensures)) c.loop-rest.invariant.known
+split_string-requires-in-loop-rest g c = (first_string _ (grind (arith, c.loop-rest-test.ensures, c.is_empty.ensures)) c.loop-rest.invariant.known.held).0
 
 pub returns-in_err-push-clause-err : goal.returns-in_err-push-clause-err
 returns-in_err-push-clause-err g c = stops_after _ _ g.met.S.Sink.joins _ _ _ _ c.loop-rest.invariant.taken (_, c.in_err-push.ensures.err)

@@ -1,5 +1,4 @@
-use Rattle.zone_rdata.proofs.Common.{◌∙◌, ap, ◌++◌, arith, IsTime}
-use Rattle.zone_rdata.proofs.Failings.{fault_answered}
+use Rattle.zone_rdata.proofs.Common.{◌∙◌, ap, ◌++◌, arith, IsTime, fault_answered}
 use Rattle.zone_rdata.proofs.Numbers.TimeLaws.{one_time}
 use Rattle.zone_rdata.proofs.Items.Values.{no_number, that_number}
 use Rattle.zone_rdata.proofs.field.time.push_time.Goals as goal

@@ -1,5 +1,5 @@
-use Rattle.zone_rdata.proofs.Items.GenericLaws.{generic-once}
+use Rattle.zone_rdata.proofs.Items.GenericLaws.{generic_once}
 use Rattle.zone_rdata.proofs.laws.generic.generic_is_unique.Goals as goal
 
 pub returns : goal.returns
-returns c = generic-once
+returns c = generic_once

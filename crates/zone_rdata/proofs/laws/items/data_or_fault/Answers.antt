@@ -1,5 +1,5 @@
-use Rattle.zone_rdata.proofs.Items.ItemChoice.{data-or_fault}
+use Rattle.zone_rdata.proofs.Items.ItemChoice.{data_or_fault}
 use Rattle.zone_rdata.proofs.laws.items.data_or_fault.Goals as goal
 
 pub returns : goal.returns
-returns c = data-or_fault c.texts_have_one_verdict.ensures.one_of
+returns c = data_or_fault c.texts_have_one_verdict.ensures.one_of

@@ -1,4 +1,4 @@
-use Rattle.zone_rdata.specs.Number.{plain}
+use Rattle.zone_rdata.proofs.Common.{plain}
 use Rattle.zone_rdata.proofs.Items.GenericLaws.{decimal-is}
 use Rattle.zone_rdata.proofs.laws.word.printed_numbers_are_read.Goals as goal
 

@@ -5,8 +5,7 @@ use Rattle.zone_rdata.proofs.lent.RdataRef.print.Goals as goal
 
 pub returns-clause-ok : goal.returns-clause-ok
 returns-clause-ok g c =
-    let octets = c.self.inside.octets.now in
-    let text = ap (λ (l : Option (List Field)). laid_out_text l octets) c.layout_of.ensures.fields
+    let text = ap (λ (l : Option (List Field)). laid_out_text l c.self.inside.octets.now) c.layout_of.ensures.fields
     ∙ data_written _ c.self.invariant
     ∙ ap data_text c.self.view_is in
     subst (λ t. OnOk c.push_data.result (g.S.Sink.takes c.args.out.now t c.push_data.new.out)) text c.push_data.ensures.ok

@@ -1,4 +1,4 @@
-use Rattle.std.proofs.lemmas.Result.{err_from_is_err_and}
+use Rattle.zone_rdata.proofs.Common.{err_from_is_err_and}
 use Rattle.zone_rdata.proofs.rdata.Rdata.from_items.Goals as goal
 
 pub returns-in_err-set_from_items-clause-only : goal.returns-in_err-set_from_items-clause-only

@@ -1,7 +1,7 @@
-use Rattle.zone_rdata.proofs.Common.{subst, arith, AreOctets}
+use Rattle.zone_rdata.proofs.Common.{IsCanonicalOf, sym, subst, arith, AreOctets, if_fault_passed}
 use Rattle.zone_rdata.specs.Wire.{beyond}
-use Rattle.zone_rdata.proofs.Failings.{if_fault_passed}
-use Rattle.zone_rdata.proofs.Octets.Wire.{canonical_data, canonical_only, wire_fault}
+use Rattle.zone_rdata.proofs.Octets.Wire.{canonical_data, wire_fault}
+use Rattle.zone_rdata.proofs.Octets.Taken.{canonical_same}
 use Rattle.zone_rdata.proofs.rdata.Rdata.from_wire.Goals as goal
 
 pub invariant_of-result : goal.invariant_of-result
@@ -12,7 +12,7 @@ invariant_of-result c = record {
 }
 
 pub returns-clause-only : goal.returns-clause-only
-returns-clause-only c = λ canonical is. (canonical_only c.args.class c.args.kind _ _ _ _ c.layout_of.ensures.fields c.in_ok-octets.ensures.found is.stands, tt)
+returns-clause-only c = λ canonical is. (canonical_same c.args.class c.args.kind _ _ _ _ c.layout_of.ensures.fields c.in_ok-octets.ensures.found (subst (λ l. IsCanonicalOf l c.args.octets.now canonical) (sym c.layout_of.ensures.fields) is.stands), tt)
 
 pub returns-in_err-octets-clause-fault : goal.returns-in_err-octets-clause-fault
 returns-in_err-octets-clause-fault c =

@@ -5,8 +5,7 @@ use Rattle.zone_rdata.proofs.rdata.Rdata.print.Goals as goal
 
 pub returns-clause-ok : goal.returns-clause-ok
 returns-clause-ok g c =
-    let octets = c.deref.result.now in
-    let text = ap (λ (l : Option (List Field)). laid_out_text l octets) c.layout_of.ensures.fields
+    let text = ap (λ (l : Option (List Field)). laid_out_text l c.deref.result.now) c.layout_of.ensures.fields
     ∙ ap (λ (o : List ℕ). laid_out_text (layout c.self.inside.class c.self.inside.kind) o) c.deref.ensures.value
     ∙ data_written _ c.self.invariant
     ∙ ap data_text c.self.view_is in

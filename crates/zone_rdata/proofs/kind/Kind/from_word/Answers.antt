@@ -1,7 +1,0 @@
-use Rattle.std.proofs.lemmas.Result.{err_from_is_err_and}
-use Rattle.zone_rdata.proofs.kind.Kind.from_word.Goals as goal
-
-pub returns-in_err-read_word-clause-err : goal.returns-in_err-read_word-clause-err
-returns-in_err-read_word-clause-err c =
-    let p = err_from_is_err_and c.from_residual.result c.from_residual.ensures.1 in
-    rw (p.1, p.2) (c.in_err-read_word.ensures.err)
