@@ -1,12 +1,12 @@
 -- The names that proofs here cite most: of definitions, and of std.
 pub use Rattle.std.proofs.Common.{Bool, List, [], ap, append_assoc, ap₂, arith, false, get_or-drop, inl, inr, length, length-append, lit<, lit≤, nat_eq, nat_le, nat_lt, refl, rules, subst, suc, sym, take-add, true, vec_len, zero, ℕ, ◌%◌, ◌*◌, ◌++◌, ◌+◌, ◌-◌, ◌/◌, ◌<◌, ◌^◌, ◌∙◌, ◌∷◌, ◌≡◌, ◌≢◌, ◌≤◌}
-pub use Rattle.std.proofs.lemmas.Bool.{and_cases, and_from, and_parts, cases_lt, cond-false, cond-true, cond_both, eq-eqb, eqb-true, false_from_ne_true, false≢true, le-leb, le-ltb, leb-false, leb-true, lt-leb, lt-ltb, ltb-false, ltb-true, not-false, not-true, or_cases, or_from, or_left, or_parts, or_right}
+pub use Rattle.std.proofs.lemmas.Bool.{and_cases, and_from, and_parts, cases_lt, cond-false, cond-true, cond_both, eq-eqb, eqb-false, eqb-true, false≢true, le-leb, le-ltb, leb-false, leb-true, lt-leb, lt-ltb, ltb-false, ltb-true, ne_eqb, not-false, or_from, or_left, or_parts, or_right, true_from_ne_false}
 pub use Rattle.std.proofs.lemmas.Bool.Decides.{nat_tests}
 pub use Rattle.std.proofs.lemmas.Grind.{common_steps}
-pub use Rattle.std.proofs.lemmas.List.{append-nil, drop-drop, drop-take, drop_all, drop_at, drop_more, get_or-take, length-drop, length-map, length-set, length-take, length-take-le, map-append, reverse-reverse, take-append-drop, take-map, take-take, take_all, take_at, take_more_set}
+pub use Rattle.std.proofs.lemmas.List.{append-nil, drop-drop, drop-take, drop_all, drop_at, drop_more, length-drop, length-map, length-set, length-take, length-take-le, map-append, reverse-reverse, take-append-drop, take-map, take-take, take_all, take_at, take_more_set}
 pub use Rattle.std.proofs.lemmas.List.Concat.{flat_map-append}
 pub use Rattle.std.proofs.lemmas.List.Elements.{filter-append}
-pub use Rattle.std.proofs.lemmas.Nat.{be_bytes_2, be_bytes_4, from_be_bytes-to_be_bytes_2, from_be_bytes-to_be_bytes_4}
+pub use Rattle.std.proofs.lemmas.Nat.{be_bytes_4, from_be_bytes-to_be_bytes_2, from_be_bytes-to_be_bytes_4}
 pub use Rattle.std.proofs.lemmas.Result.{IfOk-weaker, err_from_is_err_and, on_ok_weaker}
 pub use Rattle.std.proofs.lemmas.Simd.{chunk-fits, length-chunk, length-put_chunk, length-replicate, map-map, splat_is_map, take_more_put_chunk, zip2_of_maps, zip2_splat}
 pub use Rattle.std.specs.Cmp.Lexicographic.{bytes_decides, pointwise, pointwise_decides}
@@ -24,16 +24,16 @@ pub use Rattle.zone_rdata.proofs.Failings.{IfErr-fault, fault_answered, if_fault
 pub use Rattle.zone_rdata.proofs.FedSources.{stands_given, stands_none, stands_record, stands_stop}
 pub use Rattle.zone_rdata.proofs.Fields.Strings.{Framed, framed_short, some_frames}
 pub use Rattle.zone_rdata.proofs.Lists.{bytes_each}
-pub use Rattle.zone_rdata.proofs.Words.Tables.{each_layout, table_row}
+pub use Rattle.zone_rdata.proofs.Words.Tables.{table_row}
 pub use Rattle.zone_rdata.specs.Builder.{Built, FitsString, IsNext, IsPushFault, IsWhole, Pushes, ends_with_strings, long_string, misplaced, part_at, too_long}
 pub use Rattle.zone_rdata.specs.Cause.{fault_for}
 pub use Rattle.zone_rdata.specs.Fault.{IfFault}
 pub use Rattle.zone_rdata.proofs.Octets.Each.{HoldEach}
-pub use Rattle.zone_rdata.specs.Field.{FieldValue, Holds, Suits, field_at, field_octets, fixed, is_strings, name, octets_of, string, strings, u16_value, u32_value}
+pub use Rattle.zone_rdata.specs.Field.{FieldValue, Holds, Suits, field_at, field_octets, fixed, name, octets_of, string, strings, u16_value, u32_value}
 pub use Rattle.zone_rdata.specs.Fields.OneString.{string_at}
 pub use Rattle.zone_rdata.specs.Fields.Strings.{AreStrings, strings_by}
 unfoldable pub use Rattle.zone_rdata.specs.Fields.Strings.{strings_of}
-pub use Rattle.zone_rdata.specs.Layout.{AreLaidOut, IsData, IsSized, StringsLast, fields_of, layout}
+pub use Rattle.zone_rdata.specs.Layout.{IsData, IsSized, StringsLast, fields_of, layout}
 pub use Rattle.zone_rdata.specs.Record.{Data, IsRecord, Record, record_with}
 pub use Rattle.zone_rdata.specs.Strings.{IsString}
 pub use Rattle.zone_rdata.specs.Words.{IsClass, IsKind, is_meta}
@@ -58,15 +58,13 @@ pub use Rattle.zone_wire.specs.Machine.DataReading.{Awaits, AwaitsStrings, IsRea
 pub use Rattle.zone_wire.specs.Machine.Feeding.{Follow, Going, IsCut}
 pub use Rattle.zone_wire.specs.Machine.Finding.{Outcome, Says, after_label, after_pointer, named, refused}
 unfoldable pub use Rattle.zone_wire.specs.Machine.Finding.{outcome}
-pub use Rattle.zone_wire.specs.Machine.Parsing.{AreRecordsAt, HasRecordsFrom, IsParsed, name_end_of, parsed, part_end_of, raw_from, records_or_none, run_end_of, sections_or_none}
+pub use Rattle.zone_wire.specs.Machine.Parsing.{AreRecordsAt, HasRecordsFrom, IsParsed, name_end_of, parsed, part_end_of, raw_from, run_end_of, sections_or_none}
 pub use Rattle.zone_wire.specs.Machine.Runs.{IsNamed, IsRun}
 pub use Rattle.zone_wire.specs.Machine.Sections.{after_header, and_then, at_offset, each_from, inside, question_at, questions_from, record_at, records_from, to_the_end, unless_faulted}
 unfoldable pub use Rattle.zone_wire.specs.Machine.Sections.{header_fault, sections_of}
 pub use Rattle.zone_wire.specs.Machine.Spot.{spot_of}
-pub use Rattle.zone_wire.proofs.Records.NextAnswers.{Answered, answers_of, before_others, is_no_class}
-unfoldable pub use Rattle.zone_wire.proofs.Records.NextAnswers.{answer_record, own_record}
-pub use Rattle.zone_wire.proofs.Transfers.NextMessages.{asks_for, has_first_id, of_answers, of_sections}
-unfoldable pub use Rattle.zone_wire.proofs.Transfers.NextMessages.{next_message, stream_records}
+pub use Rattle.zone_wire.proofs.Records.NextAnswers.{Answered, answers_of, asks_for, before_others, has_first_id, is_no_class, of_answers, of_sections}
+unfoldable pub use Rattle.zone_wire.proofs.Records.NextAnswers.{answer_record, next_message, own_record, stream_records}
 pub use Rattle.zone_wire.specs.Machine.Transferring.{Among, Gains, Hands, HeadFault, IfNoMemory, IsAfter, ReadsNext, StopsIn, Takes, TakesEach, TakesHead, TakesMessage, TakesMessageUpTo, TakesUpTo, TakesWhole, other_id, other_zone, zone_held, zone_with}
 pub use Rattle.zone_wire.specs.Machine.Walk.{Spot, label_of, outset, past_label, past_pointer, pointer_of, walk_on}
 unfoldable pub use Rattle.zone_wire.specs.Machine.Walk.{ending, standing_in, walk, walk_by}
@@ -75,10 +73,10 @@ pub use Rattle.zone_wire.specs.MessageFault.{FaultIn, MessageFault, PartFault}
 pub use Rattle.zone_wire.specs.Name.{At, Found, IsLabelAt, IsNameAt, IsPointerAt, found_by, label, label_at, pointer, root, target_at}
 pub use Rattle.zone_wire.specs.Stream.{AreRead, AskAfter, AsksIn, FaultAfter, GiveAfter, HasFirstId, IsReadAfter, ReadAfter, StreamDecides, StreamReads, asked_in, end_fault, octets_in, placed_in, reads, stops, whole}
 pub use Rattle.zone_wire.specs.Transfer.{AnswerStates, AnswersState, AreFieldsAt, AreStatedMessages, AreValuesAt, AsksFor, IsDataAt, IsReadable, IsStatedMessage, IsValueAt, StatedMessage, StreamStates, compressible, frame, octets_between, ttl_of}
-pub use Rattle.zone_wire.specs.TransferSource.{AreAlike, StandsForStream, StreamKept, StreamLeaves, first_id, opening_of}
+pub use Rattle.zone_wire.specs.TransferSource.{AreAlike, StandsForStream, StreamKept, first_id, opening_of}
 pub use Rattle.zone_wire.specs.Unless.{NoFault, Unless, fails, holds}
 pub use Rattle.zone_wire.specs.View.{RawRecord, asked, raw_at}
-pub use Rattle.zone_wire.specs.Visits.{LeadToLast, is_label, is_pointer, labels_in, pointers_in}
+pub use Rattle.zone_wire.specs.Visits.{LeadToLast, is_label, labels_in, pointers_in}
 pub use Rattle.zone_wire.specs.Walk.{FaultHere, IsWalk, NameFault, Standing, Visit, Walks, at_fault, at_label, at_pointer, at_root, by_pointer, outside, over_label, to_fault, to_root, visit}
 pub use Rattle.zone_wire.specs.declared.cursor.Cursor.{Cursor}
 pub use Rattle.zone_wire.specs.declared.message.Question.{Question}

@@ -2,7 +2,4 @@
 pub mod DataFaults
 pub mod DataReading
 pub mod FieldReading
-pub mod Fielding
-pub mod OneFault
 pub mod ReadFields
-pub mod StringReading

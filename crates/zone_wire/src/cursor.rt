@@ -70,6 +70,7 @@ impl<'m> Cursor<'m> {
     }
 
     /// The string that is next, after its length.
+    #[tactic(auto, using(crate::proofs::Fields::FieldReading::string_read, crate::proofs::Fields::FieldReading::string_uncounted, crate::proofs::Fields::FieldReading::string_cut))]
     pub(crate) fn string(&mut self) -> Result<&'m [u8], Cause>
         ensures found { IfOk result
             (λ text. Reads self.old self.new OneString (string text.now)) }

@@ -132,6 +132,7 @@ impl Framer {
     }
 
     /// How the stream ends after frames without a fault.
+    #[tactic(auto, using(crate::proofs::Streams::Feeding::empty_of))]
     fn end(&self) -> Option<(Fault, Place)>
         requires { self.now.transfer.messages + 1 < 2 ^ 64 }
         ensures { (placed : List Placed) → self.now.transfer.closed ≡ is_closed placed
@@ -159,6 +160,7 @@ pub(crate) fn cut_len(octets: &[u8]) -> usize
 }
 
 /// The message of a frame, after its length.
+#[tactic(auto, using(crate::proofs::Streams::Feeding::framed_whole, crate::proofs::Streams::Feeding::rest_taken))]
 fn message_of(framed: &[u8]) -> &[u8]
     requires { length framed.now ≡ 2 + u16_at framed.now 0 }
     ensures framed { framed.now ≡ frame result.now }

@@ -102,6 +102,7 @@ impl<'m> Message<'m> {
     }
 
     /// The message's answers in order.
+    #[tactic(auto, using(crate::proofs::Records::Pending::answers_shown))]
     pub fn answers(&self) -> Answers<'m>
         ensures answers { result ≡ map (raw_at self.now.octets) self.now.sections.answers }
         ensures message { IsMessage self.now.octets self.now.sections }

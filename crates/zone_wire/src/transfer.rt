@@ -77,6 +77,7 @@ impl Transfer {
 
     /// Takes the next message. Nothing is taken after a fault in it. The builder is for the data of
     /// its records.
+    #[tactic(auto, using(crate::proofs::Transfers::Progress::stopped_next, crate::proofs::Common::on_ok_weaker))]
     pub(crate) fn read(
         &mut self,
         octets: &[u8],
@@ -100,6 +101,7 @@ impl Transfer {
     }
 
     /// Takes the records of the message that octets are.
+    #[tactic(auto, using(crate::proofs::Transfers::Progress::stops_in_structure, crate::proofs::Transfers::Progress::stops_in_head, crate::proofs::Transfers::Progress::message_taken))]
     fn take_message(
         &mut self,
         octets: &[u8],
@@ -222,6 +224,7 @@ impl Transfer {
     /// Takes the record that an answer states, where it may open or close the transfer.
     #[cold]
     #[inline(never)]
+    #[tactic(auto, using(crate::proofs::Records::Answering::order_faults, crate::proofs::Records::Answering::order_stands))]
     fn take_soa(&mut self, answer: &RawRrRef<'_, '_>) -> Result<(), NarrowFailing>
         ensures taken { OnOk result ((questions : List QuestionAt) (placed : List Placed)
             → Among questions placed self.old

@@ -15,17 +15,8 @@ stands_alike questions others before other r is comes = grind arith
 order_alike : (questions others : List QuestionAt) (before other : List Placed) (r : Record) (fault : Fault) → Alike questions others before other → OrderFault questions before r fault → OrderFault others other r fault
 order_alike questions others before other r fault is bad = grind (arith, unless_same)
 
-opening_grows : (before other : List Placed) (p : Placed) → opening_of before ≡ opening_of other → opening_of (before ++ p ∷ []) ≡ opening_of (other ++ p ∷ [])
-opening_grows before other p e = grind arith
-
-closing_grows : (before other : List Placed) (p : Placed) → opening_of before ≡ opening_of other → is_closed before ≡ is_closed other → is_closed (before ++ p ∷ []) ≡ is_closed (other ++ p ∷ [])
-closing_grows before other p e h = grind (arith, common_steps)
-
-some_more : (before : List Placed) (p : Placed) → before ++ p ∷ [] ≡ [] → ⊥
-some_more before p e = grind (arith, common_steps)
-
 alike_more : (questions others : List QuestionAt) (before other : List Placed) (p : Placed) → Alike questions others before other → Alike questions others (before ++ p ∷ []) (other ++ p ∷ [])
-alike_more questions others before other p is = record { opening = opening_grows before other p is.opening; closing = closing_grows before other p is.opening is.closing; zone = λ e. absurd (some_more before p e) }
+alike_more questions others before other p is = grind (arith, common_steps)
 
 alike_after : (questions others : List QuestionAt) (before other placed : List Placed) → Alike questions others before other → Alike questions others (before ++ placed) (other ++ placed)
 alike_after questions others before other placed is = grind (arith, common_steps)
@@ -61,7 +52,7 @@ fault_alike before other octets here fault offset is (inr bad) =
     inr (s, bad.1, unless_same (id_alike before other is s) (id_alike other before (sym is) s) (unless_same (asks_alike before other is s) (asks_alike other before (sym is) s) (give_after before other is octets s here (Some (fault, offset)))) bad.2)
 
 zone_grows : (asked other more : List QuestionAt) (placed late here : List Placed) (zone : Option ZoneAsked) → zone_of asked placed ≡ zone → zone_of other late ≡ zone → AllByRecursion (AsksIn zone) more → zone_of (asked ++ more) (placed ++ here) ≡ zone_of (other ++ more) (late ++ here)
-zone_grows asked other more placed late here zone e k asks = grind arith
+zone_grows asked other more placed late here fixed e k asks = grind arith
 
 id_grows : (before other : List StatedMessage) (p : StatedMessage) → first_id before ≡ first_id other → first_id (before ++ p ∷ []) ≡ first_id (other ++ p ∷ [])
 id_grows before other p e = grind arith

@@ -1,11 +1,8 @@
 -- The faults of messages are those at which the sections of a message stop being read.
 use Rattle.zone_wire.proofs.Common.{AreAt, Bool, Err, Fault, FaultIn, Found, HasCounts, IsMessage, IsNameAt, IsPartAt, IsQuestionAt, IsRecordAt, IsVerdict, List, MessageFault, NameFault, NoFault, None, Ok, Option, Outcome, PartFault, QuestionAt, RecordAt, Result, Sections, ShortMessage, Some, TrailingOctets, Unless, [], after_header, ancount_of, and_from, and_parts, and_then, ap, arcount_of, arith, at_offset, each_from, ending, eq-eqb, eqb-true, fails, false, get_or, header_fault, holds, if◌then◌else◌, inl, inr, inside, le-leb, le-ltb, leb-true, length, ltb-false, named, nat_le, not, not-false, outcome, qdcount_of, question_at, question_by, questions_from, record_at, record_by, records_from, refl, refused, sections_of, subst, suc, sym, to_the_end, true, u16_at, unless_faulted, walk, zero, ℕ, ◌&&◌, ◌<◌, ◌==◌, ◌∙◌, ◌∷◌, ◌≡◌, ◌⊎◌}
 use Rattle.zone_wire.proofs.Conditions.{unless_one, unless_holds}
-use Rattle.zone_wire.proofs.Messages.OneMessage.{one_part, one_message}
-use Rattle.zone_wire.proofs.Messages.ReadSections.{each_shows, question_shows, record_shows, response_of, sections_shown, at_offset_shows}
-use Rattle.zone_wire.proofs.Messages.Sectioning.{part_reads, sixteen, not_other}
-use Rattle.zone_wire.proofs.Names.Walking.{Measures, name_walks, walk_names, walk_measures}
-use Rattle.zone_wire.proofs.Names.WholeWalks.{walk_ends, walk_is}
+use Rattle.zone_wire.proofs.Messages.Sections.{one_part, one_message, each_shows, question_shows, record_shows, response_of, sections_shown, at_offset_shows, part_reads, sixteen, not_other}
+use Rattle.zone_wire.proofs.Names.Walking.{Measures, name_walks, walk_names, walk_measures, walk_ends, walk_is}
 
 pub err_same : {X E : Type 0} (e f : E) → (let r : Result X E = Err e in r) ≡ Err f → e ≡ f
 err_same e f same = cc
@@ -42,9 +39,6 @@ fails_test test x fault other e = grind arith
 -- the first of two stops, or it leads to the second, which stops
 pub stops : {X Y E : Type 0} (r : Result X E) (next : X → Result Y E) (e : E) → and_then r next ≡ Err e → (r ≡ Err e) ⊎ ((x : X) × ((r ≡ Ok x) × (next x ≡ Err e)))
 stops r next e h = grind arith
-
-pub and_then_err : {X Y E : Type 0} (r : Result X E) (e : E) (next : X → Result Y E) → r ≡ Err e → and_then r next ≡ Err e
-and_then_err r e next h = ap (λ z. and_then z next) h
 
 -- what begins with a name
 part_faults : {X : Type 0} (octets : List ℕ) (by : Found → X) (end_of : X → ℕ) → ((k : ℕ) → get_or octets k 0 < 256) → (offset : ℕ) (fault : Fault) (Is : ℕ → X → Type 0) → ((x : X) → Is offset x → IsPartAt octets by end_of offset x) → inside octets by end_of (outcome octets (walk octets offset)) ≡ Err fault → PartFault octets Is offset fault

@@ -1,9 +1,8 @@
 -- Names and walks that compute.
-use Rattle.zone_wire.proofs.Common.{Answered, Bool, Fault, Found, IsFramed, IsNameAt, List, Option, Place, StreamReads, WalkEnds, [], after_zeros, and_parts, end_fault, ending, flat_map, frame, get_or, handed_on, leb-true, length, list_all, lit<, ltb-true, named, nat_le, nat_lt, option_or, outcome, refl, stream_records, subst, suc, true, u16_at, walk, zero, ℕ, ◌&&◌, ◌++◌, ◌+◌, ◌<◌, ◌∷◌, ◌≡◌, ◌≤◌}
+use Rattle.zone_wire.proofs.Common.{Answered, Bool, Fault, Found, IsFramed, IsNameAt, List, Option, Place, StreamReads, WalkEnds, ends_with, record_x, [], after_zeros, and_parts, end_fault, ending, flat_map, frame, get_or, handed_on, leb-true, length, list_all, lit<, ltb-true, named, nat_le, nat_lt, option_or, outcome, refl, stream_records, subst, suc, true, u16_at, walk, zero, ℕ, ◌&&◌, ◌++◌, ◌+◌, ◌<◌, ◌∷◌, ◌≡◌, ◌≤◌}
 use Rattle.zone_wire.proofs.Conditions.{all_by}
-use Rattle.zone_wire.proofs.Streams.GivenStreams.{stream_decides}
-use Rattle.zone_wire.proofs.Names.Walking.{walk_names}
-use Rattle.zone_wire.proofs.Names.WholeWalks.{walk_is}
+use Rattle.zone_wire.proofs.Streams.OneStream.{stream_decides}
+use Rattle.zone_wire.proofs.Names.Walking.{walk_names, walk_is}
 
 abbrev pub all_octets : List ℕ → Bool
 all_octets [] = true
@@ -28,3 +27,7 @@ reads messages rest answered short cut octets e =
     let framed : IsFramed (flat_map frame messages ++ rest) messages rest = record { whole = refl; short = all_by (λ octets. length octets ≤ 65535) _ (λ octets. leb-true (length octets) 65535) messages short; cut = ltb-true _ _ cut } in
     subst (λ (a : Answered (Fault × Place)). StreamReads (flat_map frame messages ++ rest) (handed_on a.placed) (option_or a.fault (end_fault (length messages + 1) a.placed rest))) e
     (record { first = _; frames = stream_decides _ (octets_below _ octets) messages rest framed; ends = refl })
+
+-- a message that ends with a record of a type, of no data
+abbrev pub with_type : ℕ → List (List ℕ)
+with_type kind = ends_with (record_x kind []) ∷ []

@@ -1,8 +1,7 @@
 -- The question and the answers of a message that was parsed, and the answers that are still to
 -- come.
 use Rattle.zone_wire.proofs.Common.{AreAt, AreRecordsAt, Found, HasRecordsFrom, IsMessage, IsNameAt, IsParsed, IsQuestionAt, IsRecordAt, List, QuestionAt, RecordAt, Sections, [], ap, arith, get_or, length, map, named, outcome, parsed, question_by, raw_at, raw_from, record_at, record_by, refl, sym, u16_at, walk, ℕ, ◌-◌, ◌<◌, ◌∙◌, ◌∷◌, ◌≡◌}
-use Rattle.zone_wire.proofs.Messages.OneMessage.{one_part}
-use Rattle.zone_wire.proofs.Messages.Sectioning.{part_reads, each_reads}
+use Rattle.zone_wire.proofs.Messages.Sections.{one_part, part_reads, each_reads}
 use Rattle.zone_wire.proofs.Names.Walking.{one_name, walk_names}
 
 -- records that stand somewhere are read there

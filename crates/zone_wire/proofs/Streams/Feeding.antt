@@ -4,9 +4,8 @@ use Rattle.zone_wire.proofs.Common.{AreRead, Bytes, Fault, Finished, Follow, Goi
 use Rattle.zone_rdata.specs.FedSource.{is_failed, is_finished, SourceState}
 use Rattle.zone_rdata.specs.declared.fed.FedStatus.{FedStatus}
 use Rattle.zone_wire.specs.declared.framer.Framer.{Framer}
-use Rattle.zone_wire.proofs.Streams.FrameLaws.{frames_join, frame_is}
+use Rattle.zone_wire.proofs.Streams.OneStream.{frames_join, frame_is, one_decision, fault_stays, some_decision}
 use Rattle.zone_wire.proofs.Transfers.GivenMessages.{reads_all, reads_up_to}
-use Rattle.zone_wire.proofs.Streams.OneStream.{one_decision, fault_stays, some_decision}
 
 -- octets of the length that they begin with are a frame
 pub framed_whole : (whole : List ℕ) → Bytes whole → length whole ≡ 2 + u16_at whole 0 → whole ≡ frame (drop 2 whole)
@@ -20,17 +19,15 @@ read_append before [] p are is = (subst (λ b. IsReadAfter b p) (append-nil befo
 read_append before (q ∷ parts) p are is = (are.0, read_append (before ++ q ∷ []) parts p are.1 (subst (λ b. IsReadAfter b p) (sym (append_assoc before (q ∷ []) parts)) is))
 
 -- one frame more, without a fault or with one
-going_on : (old new : Transfer) (unfinished fed front octets : List ℕ) (given : List Placed) → (g : Going old unfinished fed given) → unfinished ++ front ≡ frame octets → length octets ≤ 65535 → TakesWhole octets g.parts old new → Going new [] (fed ++ front) given
-going_on old new unfinished fed front octets given g e short w = record {
+framed_state : (old new : Transfer) (unfinished fed front octets : List ℕ) (given : List Placed) → (g : Going old unfinished fed given) → unfinished ++ front ≡ frame octets → length octets ≤ 65535 → (ending : Option (Fault × Place)) → MatchOption ending (TakesWhole octets g.parts old new) (λ f. (offset : ℕ) × (StopsIn octets g.parts old new (f.0, offset) × (f.1 ≡ Message (length g.parts + 1) offset))) → MatchOption ending (Going new [] (fed ++ front) given) (λ f. StreamDecides (fed ++ front) (given ++ new.decided.placed) (Some f))
+framed_state old new unfinished fed front octets given g e short None w = record {
   parts = g.parts ++ w.part ∷ [];
   framed = subst (λ (ms : List (List ℕ)). IsFramed (fed ++ front) ms []) (ap (λ (m : List ℕ). octets_in g.parts ++ m ∷ []) (sym w.octets_are) ∙ sym (map-append (λ (p : StatedMessage). p.octets) g.parts (w.part ∷ []))) (framed_more fed front octets unfinished (octets_in g.parts) g.framed e short);
   read = read_append [] g.parts w.part g.read w.read;
   after = w.after;
   handed = w.handed given g.handed;
 }
-
-stopped : (old new : Transfer) (unfinished fed front octets : List ℕ) (given : List Placed) → (g : Going old unfinished fed given) → unfinished ++ front ≡ frame octets → length octets ≤ 65535 → (f : Fault × Place) (offset : ℕ) → StopsIn octets g.parts old new (f.0, offset) → f.1 ≡ Message (length g.parts + 1) offset → StreamDecides (fed ++ front) (given ++ new.decided.placed) (Some f)
-stopped old new unfinished fed front octets given g e short f offset s place = record {
+framed_state old new unfinished fed front octets given g e short (Some f) (offset, (s, place)) = record {
   messages = octets_in g.parts ++ octets ∷ [];
   rest = [];
   framed = framed_more fed front octets unfinished (octets_in g.parts) g.framed e short;
@@ -38,10 +35,6 @@ stopped old new unfinished fed front octets given g e short f offset s place = r
   read = subst (λ (p : Place). ReadAfter [] (octets_in g.parts ++ octets ∷ []) (placed_in g.parts ++ s.here) (Some (f.0, p))) (sym place) (reads_up_to [] g.parts (octets ∷ []) s.here _ g.read (stops s.next));
   stated = s.handed given g.handed;
 }
-
-framed_state : (old new : Transfer) (unfinished fed front octets : List ℕ) (given : List Placed) → (g : Going old unfinished fed given) → unfinished ++ front ≡ frame octets → length octets ≤ 65535 → (ending : Option (Fault × Place)) → MatchOption ending (TakesWhole octets g.parts old new) (λ f. (offset : ℕ) × (StopsIn octets g.parts old new (f.0, offset) × (f.1 ≡ Message (length g.parts + 1) offset))) → MatchOption ending (Going new [] (fed ++ front) given) (λ f. StreamDecides (fed ++ front) (given ++ new.decided.placed) (Some f))
-framed_state old new unfinished fed front octets given g e short None w = going_on old new unfinished fed front octets given g e short w
-framed_state old new unfinished fed front octets given g e short (Some f) s = stopped old new unfinished fed front octets given g e short f s.0 s.1.0 s.1.1
 
 still_going : (t : Transfer) (unfinished fed : List ℕ) (given : List Placed) (ending : Option (Fault × Place)) → ending ≡ None → MatchOption ending (Going t unfinished fed given) (λ e. StreamDecides fed (given ++ t.decided.placed) (Some e)) → Going t unfinished fed given
 still_going t unfinished fed given ending e state = grind arith

@@ -1,10 +1,9 @@
 -- The records of messages up to the first fault are those that are read.
 use Rattle.zone_wire.proofs.Common.{AllByRecursion, Answered, AreRead, AskAfter, AsksIn, Bool, Bytes, Err, Fault, FaultAfter, GiveAfter, HasFirstId, IsMessage, IsReadAfter, List, Message, None, Ok, Option, Place, Placed, QuestionAt, ReadAfter, Result, Sections, Some, StatedMessage, ZoneAsked, [], agrees, and_from, and_parts, ap, append-nil, append_assoc, asked_in, asks_for, eq-eqb, eqb-true, fails, false, flat_map-append, has_first_id, holds, if◌then◌else◌, inl, inr, length, list_all, next_message, octets_in, of_answers, of_sections, placed_in, reads, refl, sections_of, stops, stream_records, subst, sym, true, whole, zone_of, ℕ, ◌++◌, ◌+◌, ◌==◌, ◌∙◌, ◌∷◌, ◌≡◌, ◌≤◌, arith}
-use Rattle.zone_wire.proofs.Records.AnswerFaults.{agrees_by, agrees_true}
+use Rattle.zone_wire.proofs.Records.Answering.{agrees_by, agrees_true, each_stands, answers_give}
 use Rattle.zone_wire.proofs.Conditions.{all_by, all_pass}
-use Rattle.zone_wire.proofs.Records.GivenAnswers.{each_stands, answers_give}
 use Rattle.zone_wire.proofs.Messages.MessageFaults.{sections_fault}
-use Rattle.zone_wire.proofs.Messages.ReadSections.{sections_shown}
+use Rattle.zone_wire.proofs.Messages.Sections.{sections_shown}
 
 -- one message more
 pub placed_grow : (before : List StatedMessage) (p : StatedMessage) → placed_in before ++ p.placed ≡ placed_in (before ++ p ∷ [])

@@ -2,11 +2,13 @@
 use Rattle.zone_wire.proofs.Common.{AllByRecursion, AnswersGive, AskAfter, BadQuestion, Fault, FaultAfter, GiveAfter, HasFirstId, IdMismatch, IsMessage, IsReadAfter, List, None, Option, Place, Placed, QuestionAt, ReadAfter, RecordAt, Sections, Some, StatedMessage, Unless, [], ap, append-nil, append_assoc, arith, common_steps, inl, inr, length, length-append, no_more, reads, refl, states, stops, subst, sym, whole, ℕ, ◌++◌, ◌∙◌, ◌∷◌, ◌≡◌, ◌≤◌, rules}
 use Rattle.zone_wire.specs.AnswerFault.{refused}
 use Rattle.zone_wire.proofs.Conditions.{unless_one, unless_holds}
-use Rattle.zone_wire.proofs.Records.GivenAnswers.{IsInMessage, each_stands}
+use Rattle.zone_wire.proofs.Records.Answering.{IsInMessage, each_stands}
 use Rattle.zone_wire.proofs.Messages.MessageFaults.{some_same, one_fault, never_both}
-use Rattle.zone_wire.proofs.Messages.OneMessage.{one_message}
-use Rattle.zone_wire.proofs.Fields.OneFault.{answer_one, answer_not_both}
-use Rattle.zone_wire.proofs.Transfers.OneTransfer.{placed_same, record_unique}
+use Rattle.zone_wire.proofs.Messages.Sections.{one_message}
+use Rattle.zone_wire.proofs.Fields.DataFaults.{answer_one, answer_not_both, record_unique}
+
+pub placed_same : (p q : Placed) → p.rr ≡ q.rr → p.place ≡ q.place → p ≡ q
+placed_same p q rr place = ap (λ x. record p { rr = x }) rr ∙ ap (λ x. record q { place = x }) place
 
 -- what answers give is one thing
 give_one : (number : ℕ) (octets : List ℕ) (questions : List QuestionAt) (answers : List RecordAt) (before placed other : List Placed) (stop late : Option (Fault × ℕ)) → AllByRecursion (IsInMessage octets) answers → AnswersGive number octets questions before answers placed stop → AnswersGive number octets questions before answers other late → (placed ≡ other) × (stop ≡ late)

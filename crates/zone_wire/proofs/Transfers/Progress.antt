@@ -3,9 +3,8 @@ use Rattle.zone_wire.proofs.Common.{AfterClosing, AgreeWith, Among, AnswerFault,
 use Rattle.zone_rdata.specs.declared.fault.Failing.TheVariants as failings
 use Rattle.zone_rdata.specs.declared.queue.PendingRecords.{PendingRecords}
 use Rattle.zone_wire.specs.AnswerFault.{refused}
-use Rattle.zone_wire.proofs.Records.Answering.{names_same, records_same}
+use Rattle.zone_wire.proofs.Records.Answering.{names_same, records_same, names_equal, records_equal}
 use Rattle.zone_wire.proofs.Transfers.GivenMessages.{asked_grow, placed_grow}
-use Rattle.zone_wire.proofs.Records.ReadAnswers.{names_equal, records_equal}
 
 pub none_of : {X : Type 0} (o : Option X) → is_some o ≡ false → o ≡ None
 none_of o e = grind arith

@@ -13,7 +13,7 @@ ghost use Rattle.zone_wire.specs.Message.{longest_message};
 
 /// The frames of joined octets are those of the first octets, and then those of their rest and the
 /// octets after it.
-#[tactic(auto, using(crate::proofs::Streams::FrameLaws::frames_join))]
+#[tactic(auto, using(crate::proofs::Streams::OneStream::frames_join))]
 pub fn frames_of_joined_octets()
     ensures { (stream more : Octets) (messages others : List Octets) (rest last : Octets)
         → IsFramed stream messages rest
@@ -31,6 +31,7 @@ pub fn a_message_after_others()
 
 /// What is decided of a stream and a frame after it is what was decided of the stream, and then
 /// what the frame adds.
+#[tactic(auto, using(crate::proofs::Streams::OneStream::frame_read, crate::proofs::Streams::OneStream::frame_refused, crate::proofs::Streams::OneStream::handed_more))]
 pub fn one_frame_more()
     ensures read { (stream : Octets) (before : List StatedMessage) (p : StatedMessage)
         → IsFramed stream (octets_in before) []

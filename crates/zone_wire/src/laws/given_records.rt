@@ -7,6 +7,7 @@ ghost use Rattle.zone_rdata.specs.declared.record.Placed.{Placed};
 ghost use Rattle.zone_wire.specs.TransferSource.{StandsForStream, StreamKept};
 
 /// After it has given records, a source stands for them and for what it has left to give.
+#[tactic(auto, using(crate::proofs::Common::stands_given))]
 pub fn what_is_given_was_given()
     ensures { (old new : SourceState StreamKept) (more : List Placed) (fed : List ℕ)
         (given : List Placed)

@@ -1,5 +1,5 @@
 use Rattle.zone_wire.proofs.Common.{◌-◌}
-use Rattle.zone_wire.proofs.Fields.StringReading.{HavePut}
+use Rattle.zone_wire.proofs.Fields.DataReading.{HavePut}
 use Rattle.zone_wire.proofs.data.push_strings.Given as goal
 
 abbrev pub invariant-loop-builder : goal.invariant-loop-builder

@@ -1,10 +1,6 @@
-use Rattle.zone_wire.proofs.Common.{List, [], answer_record, data_at, ends_with, header_fault, next_message, outcome, own_record, record_x, refl, sections_of, standing_in, stream_records, strings_of, value_at, walk, walk_by, ℕ, ◌∷◌}
-use Rattle.zone_wire.proofs.Names.Computing.{reads}
+use Rattle.zone_wire.proofs.Common.{[], answer_record, data_at, header_fault, next_message, outcome, own_record, refl, sections_of, standing_in, stream_records, strings_of, value_at, walk, walk_by}
+use Rattle.zone_wire.proofs.Names.Computing.{reads, with_type}
 use Rattle.zone_wire.proofs.examples.types_of_no_record.Goals as goal
-
--- a message that ends with a record of a type, of no data
-abbrev with_type : ℕ → List (List ℕ)
-with_type kind = ends_with (record_x kind []) ∷ []
 
 pub returns : goal.returns
 unfolding stream_records next_message sections_of header_fault value_at data_at strings_of own_record answer_record outcome standing_in walk_by walk

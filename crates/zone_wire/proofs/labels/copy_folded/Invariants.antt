@@ -1,5 +1,5 @@
 use Rattle.std.proofs.Common.{◌-◌}
-use Rattle.zone_wire.proofs.Names.Rooms.{Copied}
+use Rattle.zone_wire.proofs.Names.RunLaws.{Copied}
 use Rattle.zone_wire.proofs.labels.copy_folded.Given as goal
 
 abbrev pub invariant-loop-done : goal.invariant-loop-done

@@ -1,8 +1,6 @@
 use Rattle.zone_wire.proofs.Common.{DataFault, EitherIs, Err, Fault, IsDataAt, List, Ok, Result, data_at, inl, inr, refl, ℕ, ◌≡◌}
-use Rattle.zone_wire.proofs.Fields.DataFaults.{data_faults}
-use Rattle.zone_wire.proofs.Fields.Fielding.{data_reads}
-use Rattle.zone_wire.proofs.Fields.OneFault.{data_one, data_not_both}
-use Rattle.zone_wire.proofs.Fields.ReadFields.{data_shown}
+use Rattle.zone_wire.proofs.Fields.DataFaults.{data_faults, data_one, data_not_both}
+use Rattle.zone_wire.proofs.Fields.ReadFields.{data_reads, data_shown}
 use Rattle.zone_wire.proofs.laws.the_data_of_a_record.Goals as goal
 
 pub returns : goal.returns

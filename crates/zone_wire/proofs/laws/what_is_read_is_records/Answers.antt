@@ -1,4 +1,4 @@
-use Rattle.zone_wire.proofs.Streams.GivenStreams.{read_fits}
+use Rattle.zone_wire.proofs.Streams.OneStream.{read_fits}
 use Rattle.zone_wire.proofs.laws.what_is_read_is_records.Goals as goal
 
 pub returns : goal.returns

@@ -1,5 +1,5 @@
 use Rattle.zone_wire.proofs.Common.{spot_of, ◌-◌}
-use Rattle.zone_wire.proofs.Names.Carrying.{Carries}
+use Rattle.zone_wire.proofs.Names.Walking.{Carries}
 use Rattle.zone_wire.proofs.name.read_name.Given as goal
 
 abbrev pub invariant-places : goal.invariant-places

@@ -1,5 +1,5 @@
 use Rattle.zone_wire.proofs.Common.{List, spot_of, ℕ, ◌-◌}
-use Rattle.zone_wire.proofs.Names.Carrying.{Carries}
+use Rattle.zone_wire.proofs.Names.Walking.{Carries}
 use Rattle.zone_wire.proofs.structure.walk_to_root.Given as goal
 
 abbrev pub invariant-places : goal.invariant-places

@@ -1,5 +1,5 @@
 use Rattle.zone_wire.proofs.Common.{ap, arith, folded, labels_of, octets_between, ◌++◌, ◌∙◌}
-use Rattle.zone_wire.proofs.Names.Rooms.{pushed}
+use Rattle.zone_wire.proofs.Names.RunLaws.{pushed}
 use Rattle.zone_wire.proofs.labels.LabelRoom.push.Goals as goal
 
 pub invariant_of-self : goal.invariant_of-self
@@ -7,12 +7,11 @@ invariant_of-self c =
     let more = pushed c.args.message.now c.self.inside.octets c.copy_folded.new.room c.self.inside.len c.args.start c.args.past c.self.invariant c.requires (omega (arith, c.if-size-self.false)) c.copy_folded.ensures in
     record { within = omega (arith, c.if-size-self.false, c.copy_folded.auto.room, c.self.ranges); holds = more.holds }
 
-pub returns-clause-labels : goal.returns-clause-labels
-returns-clause-labels c =
+pub returns : goal.returns
+returns c =
     let more = pushed c.args.message.now c.self.inside.octets c.copy_folded.new.room c.self.inside.len c.args.start c.args.past c.self.invariant c.requires (omega (arith, c.if-size-self.false)) c.copy_folded.ensures in
-    λ _. more.gives ∙ ap (λ t. t ++ folded (labels_of (octets_between c.args.message.now c.args.start c.args.past))) c.self.view_is
-
-pub returns-clause-name : goal.returns-clause-name
-returns-clause-name c =
-    let more = pushed c.args.message.now c.self.inside.octets c.copy_folded.new.room c.self.inside.len c.args.start c.args.past c.self.invariant c.requires (omega (arith, c.if-size-self.false)) c.copy_folded.ensures in
-    λ _. more.holds.name
+    record {
+      labels = λ _. more.gives ∙ ap (λ t. t ++ folded (labels_of (octets_between c.args.message.now c.args.start c.args.past))) c.self.view_is;
+      name = λ _. more.holds.name;
+      full = λ e. cc;
+    }

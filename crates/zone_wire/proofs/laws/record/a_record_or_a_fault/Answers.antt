@@ -1,7 +1,6 @@
 use Rattle.zone_wire.proofs.Common.{AnswerStates, EitherIs, Err, Fault, Ok, OwnFault, Record, Result, inl, inr, own_record, refl, ◌≡◌}
-use Rattle.zone_wire.proofs.Records.AnswerFaults.{own_faults, own_states}
-use Rattle.zone_wire.proofs.Fields.OneFault.{own_one, own_not_both}
-use Rattle.zone_wire.proofs.Transfers.OneTransfer.{record_unique}
+use Rattle.zone_wire.proofs.Records.Answering.{own_faults, own_states}
+use Rattle.zone_wire.proofs.Fields.DataFaults.{own_one, own_not_both, record_unique}
 use Rattle.zone_wire.proofs.laws.record.a_record_or_a_fault.Goals as goal
 
 pub returns : goal.returns

@@ -1,5 +1,5 @@
 use Rattle.zone_wire.proofs.Common.{MatchOption, Option, Question, Some, ZoneAsked, agrees, ap, other_id, other_zone, refl, subst, sym, true, zone_held, ⊤, ◌+◌, ◌∙◌, ◌≡◌}
-use Rattle.zone_wire.proofs.Records.AnswerFaults.{agrees_by, agrees_true}
+use Rattle.zone_wire.proofs.Records.Answering.{agrees_by, agrees_true}
 use Rattle.zone_wire.proofs.Transfers.Progress.{has_first_id, no_first_id, asked_one, asks_other, takes_one, takes_none}
 use Rattle.zone_wire.proofs.transfer.Transfer.take_head.Goals as goal
 use Rattle.zone_wire.proofs.transfer.Transfer.take_head.Goals.{then-question-ne-AXFR-via-then-question-ne-AXFR, then-question-ne-AXFR-via-else-question-ne-AXFR+then-not-is_of_zone, in-Some+else-question-ne-AXFR+else-not-is_of_zone, in_default}
