@@ -1,5 +1,5 @@
 -- The values of fields are read in a message: parts of its octets, numbers, and names.
-use Rattle.zone_wire.proofs.Common.{BadRdata, Err, Fault, Field, FieldValue, Found, IsNameAt, List, Name, NameFault, Octets, Ok, OneString, Serial, U16, [], ap, arith, common_steps, cond-false, drop, drop-drop, drop-take, drop_more, field_at, fixed, get_or, length, lt-leb, name, name_before, octets_between, outcome, refl, sized_before, slice_index, string, string_at, suc, sym, take, take-append-drop, take_all, u16_at, u16_value, u32_at, u32_value, value_at, walk, zero, ℕ, ◌++◌, ◌+◌, ◌-◌, ◌<◌, ◌∙◌, ◌∷◌, ◌≡◌, ◌≤◌, Cursor, Reads, TakesOctets, next_value, Awaits, Built, FitsString, IsPushFault, IsReadyFor, Pushes, PutsValue, Some, Suits, Time, length-append, octets_push, parts_for, put_after, ◌⊎◌, rules, IfErr, IfErr-fault, IfFault, Failing, Result}
+use Rattle.zone_wire.proofs.Common.{BadRdata, Err, Fault, Field, FieldValue, Found, IsNameAt, List, Name, NameFault, Octets, Ok, OneString, Serial, U16, [], ap, arith, common_steps, cond-false, drop, drop-drop, drop-take, drop_more, field_at, fixed, get_or, length, lt-leb, name, name_before, octets_between, outcome, refl, sized_before, slice_index, string, string_at, sym, take, take-append-drop, take-take, take_all, u16_at, u16_value, u32_at, u32_value, value_at, walk, ℕ, ◌++◌, ◌+◌, ◌-◌, ◌<◌, ◌∙◌, ◌∷◌, ◌≡◌, ◌≤◌, Cursor, Reads, TakesOctets, next_value, Awaits, Built, FitsString, IsPushFault, IsReadyFor, Pushes, PutsValue, Some, Suits, Time, length-append, octets_push, parts_for, put_after, ◌⊎◌, rules, IfErr, IfErr-fault, IfFault, Failing, Result}
 use Rattle.zone_wire.proofs.Fields.ReadFields.{name_reads}
 use Rattle.zone_wire.proofs.Messages.MessageFaults.{name_refuses}
 use Rattle.zone_wire.proofs.Names.Walking.{name_walks}
@@ -21,13 +21,8 @@ between_join octets start mid end before after =
     let xs : List ℕ = drop start octets in
     ap (λ k. take k xs) whole
     ∙ sym (take-append-drop n (take (n + m) xs))
-    ∙ ap (λ t. t ++ drop n (take (n + m) xs)) (take_less n m xs)
+    ∙ ap (λ t. t ++ drop n (take (n + m) xs)) (take-take n (n + m) xs (omega arith))
     ∙ ap (λ t. take n xs ++ t) (drop-take n m xs ∙ ap (take m) (drop-drop n start octets ∙ ap (λ k. drop k octets) at))
-  where
-    take_less : (n m : ℕ) (xs : List ℕ) → take n (take (n + m) xs) ≡ take n xs
-    take_less zero m xs = refl
-    take_less (suc n) m [] = rw (let e : suc n + m ≡ suc (n + m) = omega arith in e) refl
-    take_less (suc n) m (x ∷ xs) = rw (let e : suc n + m ≡ suc (n + m) = omega arith in e) (ap (λ t. x ∷ t) (take_less n m xs))
 
 -- the octets from an offset on by the first of them
 pub between_first : (octets : List ℕ) (start past : ℕ) → start < past → start < length octets → octets_between octets start past ≡ get_or octets start 0 ∷ octets_between octets (start + 1) past

@@ -52,7 +52,7 @@ fault_alike before other octets here fault offset is (inr bad) =
     inr (s, bad.1, unless_same (id_alike before other is s) (id_alike other before (sym is) s) (unless_same (asks_alike before other is s) (asks_alike other before (sym is) s) (give_after before other is octets s here (Some (fault, offset)))) bad.2)
 
 zone_grows : (asked other more : List QuestionAt) (placed late here : List Placed) (zone : Option ZoneAsked) → zone_of asked placed ≡ zone → zone_of other late ≡ zone → AllByRecursion (AsksIn zone) more → zone_of (asked ++ more) (placed ++ here) ≡ zone_of (other ++ more) (late ++ here)
-zone_grows asked other more placed late here zone e k asks = grind arith
+zone_grows asked other more placed late here fixed e k asks = grind arith
 
 id_grows : (before other : List StatedMessage) (p : StatedMessage) → first_id before ≡ first_id other → first_id (before ++ p ∷ []) ≡ first_id (other ++ p ∷ [])
 id_grows before other p e = grind arith

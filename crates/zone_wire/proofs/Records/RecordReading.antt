@@ -1,5 +1,5 @@
 -- An answer is read as the record that it states, or has its first fault.
-use Rattle.zone_wire.proofs.Common.{AnswerStates, BadClass, Bool, Built, Bytes, CompressibleType, Data, DataFault, Err, Failing, Fault, IfErr, IfFault, IfOk, IsClass, IsDataAt, IsErr, IsKind, IsRead, IsReadable, IsRecord, IsRecordAt, IsTrue, List, MetaType, Ok, OwnFault, RawRecord, Record, RecordAt, Result, data_at, fails, false, holds, octets_of, refl, subst, sym, true, ttl_of, ℕ, ◌↔◌, ◌≡◌, arith}
+use Rattle.zone_wire.proofs.Common.{AnswerStates, Built, Bytes, Data, DataFault, Err, Failing, Fault, IfErr, IfFault, IfOk, IsClass, IsDataAt, IsErr, IsKind, IsRead, IsReadable, IsRecord, IsRecordAt, List, Ok, OwnFault, RawRecord, Record, RecordAt, Result, data_at, holds, octets_of, refl, subst, ttl_of, ℕ, ◌≡◌, arith}
 use Rattle.zone_rdata.specs.declared.fault.Failing.TheVariants as failings
 use Rattle.zone_wire.proofs.Fields.DataFaults.{data_faults, own_not_both, record_unique}
 use Rattle.zone_wire.proofs.Fields.ReadFields.{data_shown}
@@ -22,15 +22,6 @@ only_failing raw now view offset each at (Ok s) bad faults = absurd (let t : ⊥
 only_failing raw now view offset each at (Err e) bad faults = only_answer raw now view offset each at (Err e) tt faults
 
 -- ---- class, type and data
-pub class_fault : (octets : List ℕ) (a : RecordAt) (number : ℕ) → number ≡ a.class → (IsClass number → ⊥) → OwnFault octets a BadClass
-class_fault octets a number is none = fails (λ class. none (subst IsClass (sym is) class))
-
-pub kind_fault : (octets : List ℕ) (a : RecordAt) (number : ℕ) → number ≡ a.kind → IsClass a.class → (IsKind number → ⊥) → OwnFault octets a MetaType
-kind_fault octets a number is class none = holds class (fails (λ kind. none (subst IsKind (sym is) kind)))
-
-pub unread_fault : (octets : List ℕ) (a : RecordAt) (number : ℕ) (read : Bool) → number ≡ a.kind → IsClass a.class → IsKind a.kind → (IsTrue read ↔ IsReadable number) → read ≡ false → OwnFault octets a CompressibleType
-unread_fault octets a number read is class kind test refused = holds class (holds kind (fails (λ readable. let yes : read ≡ true = test.1 (subst IsReadable (sym is) readable) in cc)))
-
 pub own_data : (octets : List ℕ) (a : RecordAt) (fault : Fault) → IsClass a.class → IsKind a.kind → IsReadable a.kind → DataFault octets a fault → OwnFault octets a fault
 own_data octets a fault class kind readable is = holds class (holds kind (holds readable is))
 
