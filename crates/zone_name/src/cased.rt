@@ -70,7 +70,7 @@ impl CasedName {
     }
 
     /// The root of all names: no label (RFC 1035 3.1).
-    #[tactic(auto, using(crate::proofs::InOctets::Octets::root_held_cased, crate::proofs::InOctets::Octets::root_has_none))]
+    #[tactic(auto, using(crate::proofs::InOctets::Octets::cased_root))]
     pub fn root() -> CasedName
         ensures { result ≡ [] }
     {

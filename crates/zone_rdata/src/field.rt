@@ -143,7 +143,7 @@ impl Field {
 
     /// Appends the text of the field at the beginning of octets, and gives the octets after it.
     /// After the last there are none.
-    #[tactic(auto, using(crate::proofs::Octets::StringFields::nothing_after, crate::proofs::Octets::StringFields::strings_some, crate::proofs::Octets::StringFields::strings_front))]
+    #[tactic(auto, using(crate::proofs::Octets::StringFields::strings_in_octets))]
     pub(crate) fn push_text<'o, S: Sink>(
         self,
         octets: &'o [u8],

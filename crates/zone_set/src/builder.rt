@@ -103,7 +103,7 @@ impl ZoneBuilder {
     ///
     /// `Refused` at the input as a whole: `NoSoa` where no SOA is held, `OutOfZone` with the least
     /// owner that lies outside the zone.
-    #[tactic(auto, using(crate::proofs::Holding::Finishing::stops_with_none, crate::proofs::Holding::Finishing::stops_outside))]
+    #[tactic(auto, using(crate::proofs::Holding::Finishing::finishing_stops))]
     pub fn finish(self) -> Result<Zone, Stop>
         ensures compatible { AreCompatible self }
         ensures zone { IfOk result IsZone }

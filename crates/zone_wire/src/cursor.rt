@@ -52,7 +52,7 @@ impl<'m> Cursor<'m> {
     }
 
     /// The number of 16 bits that is next.
-    #[tactic(auto, using(crate::proofs::Fields::FieldReading::two_read, crate::proofs::Fields::FieldReading::two_cut))]
+    #[tactic(auto, using(crate::proofs::Fields::FieldReading::two_reads))]
     pub(crate) fn u16(&mut self) -> Result<u16, Cause>
         ensures found { IfOk result (λ n. Reads self.old self.new U16 (u16_value n)) }
         ensures fault { IfErr result (λ c. next_value self.old U16 ≡ Err (fault_for c)) }
@@ -61,7 +61,7 @@ impl<'m> Cursor<'m> {
     }
 
     /// The number of 32 bits that is next.
-    #[tactic(auto, using(crate::proofs::Fields::FieldReading::long_read, crate::proofs::Fields::FieldReading::long_cut))]
+    #[tactic(auto, using(crate::proofs::Fields::FieldReading::long_reads))]
     pub(crate) fn u32(&mut self) -> Result<u32, Cause>
         ensures found { IfOk result (λ n. Reads self.old self.new Serial (u32_value n)) }
         ensures fault { IfErr result (λ c. next_value self.old Serial ≡ Err (fault_for c)) }
@@ -70,7 +70,7 @@ impl<'m> Cursor<'m> {
     }
 
     /// The string that is next, after its length.
-    #[tactic(auto, using(crate::proofs::Fields::FieldReading::string_read, crate::proofs::Fields::FieldReading::string_uncounted, crate::proofs::Fields::FieldReading::string_cut))]
+    #[tactic(auto, using(crate::proofs::Fields::FieldReading::string_reads))]
     pub(crate) fn string(&mut self) -> Result<&'m [u8], Cause>
         ensures found { IfOk result
             (λ text. Reads self.old self.new OneString (string text.now)) }

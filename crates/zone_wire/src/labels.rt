@@ -93,7 +93,7 @@ impl LabelRoom {
 
 /// Copies so many octets of a message to a place of a room, their letters in lower case (RFC 4343
 /// 3). The room's octets after them then say nothing.
-#[tactic(auto, using(crate::proofs::Names::RunLaws::copied_all, crate::proofs::Names::RunLaws::copied_lanes, crate::proofs::Names::RunLaws::copied_start))]
+#[tactic(auto, using(crate::proofs::Names::RunLaws::lanes_are_copied))]
 fn copy_folded(message: &[u8], start: usize, size: usize, room: &mut [u8], at: usize)
     requires part { start + size ≤ length message.now }
     requires room { at + size + LANES ≤ length room.old }
@@ -113,7 +113,7 @@ fn copy_folded(message: &[u8], start: usize, size: usize, room: &mut [u8], at: u
 /// `copy_folded`, octet by octet.
 #[cold]
 #[inline(never)]
-#[tactic(auto, using(crate::proofs::Names::RunLaws::copied_all, crate::proofs::Names::RunLaws::copied_octet, crate::proofs::Names::RunLaws::copied_start))]
+#[tactic(auto, using(crate::proofs::Names::RunLaws::octets_are_copied))]
 fn copy_each(message: &[u8], start: usize, size: usize, room: &mut [u8], at: usize)
     requires part { start + size ≤ length message.now }
     requires room { at + size ≤ length room.old }

@@ -44,7 +44,7 @@ pub fn a_name_is_bounded()
 
 /// A walk has at most 256 places, all of them in the message: at most 127 labels and 128 pointers,
 /// and what is neither stands at the last place alone.
-#[tactic(auto, using(crate::proofs::Names::Walking::is_walk, crate::proofs::Names::Walking::few_labels, crate::proofs::Names::Walking::few_pointers, crate::proofs::Names::Walking::walk_leads, crate::proofs::Names::Walking::walk_is_short, crate::proofs::Names::Walking::walk_lies_inside))]
+#[tactic(auto, using(crate::proofs::Names::Walking::walk_laws))]
 pub fn a_walk_is_bounded()
     ensures places { (message : Octets) (offset : ℕ) (visits : List Visit)
         (ending : Option Fault)
@@ -113,7 +113,7 @@ pub fn one_reading_of_a_stream()
 {}
 
 /// Each stream of octets is read in some way, and something is decided for it.
-#[tactic(auto, using(crate::proofs::Streams::OneStream::some_reading, crate::proofs::Streams::OneStream::some_decision))]
+#[tactic(auto, using(crate::proofs::Streams::OneStream::something_of_streams))]
 pub fn each_stream_is_read()
     ensures whole { (stream : Octets) → ((i : ℕ) → slice_index stream i < 256)
         → (placed : List Placed) × (ending : Option (Fault × Place))
@@ -170,7 +170,7 @@ pub fn what_is_read_is_records()
 
 /// A transfer is read as its records, without a fault, and a stream that is read without a fault is
 /// that transfer.
-#[tactic(auto, using(crate::proofs::Transfers::GivenTransfers::read_is_transfer, crate::proofs::Transfers::GivenTransfers::transfer_reads))]
+#[tactic(auto, using(crate::proofs::Transfers::GivenTransfers::transfers_are_read))]
 pub fn a_transfer_is_read()
     ensures found { (stream : Octets) (placed : List Placed)
         → ((i : ℕ) → slice_index stream i < 256)

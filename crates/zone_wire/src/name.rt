@@ -61,7 +61,7 @@ fn walked(message: &[u8], offset: usize) -> Result<Decoded, (Fault, u16)>
 /// # Errors
 ///
 /// As `name_at`; the room then has the labels before the fault.
-#[tactic(auto, using(crate::proofs::Names::RunLaws::run_alone, crate::proofs::Names::Walking::carries_start, crate::proofs::Names::Walking::root_inside, crate::proofs::Names::Walking::label_shows, crate::proofs::Names::Walking::pointer_shows))]
+#[tactic(auto, using(crate::proofs::Names::RunLaws::name_is_walked))]
 pub(crate) fn read_name(
     message: &[u8],
     offset: usize,

@@ -16,7 +16,7 @@ use zone_rdata::Cause;
 /// # Errors
 ///
 /// The first fault of the message's structure and the offset at which it stands.
-#[tactic(auto, using(crate::proofs::Messages::Sections::header_refused, crate::proofs::Messages::Sections::has_header, crate::proofs::Messages::Sections::questions_refused, crate::proofs::Messages::Sections::answers_refused, crate::proofs::Messages::Sections::additional_refused, crate::proofs::Messages::Sections::trailing))]
+#[tactic(auto, using(crate::proofs::Messages::Sections::structure_is_read))]
 pub(crate) fn answers_start(octets: &[u8]) -> Result<usize, (Cause, usize)>
     ensures { MatchResult result (IsParsed octets.now)
         (λ e. sections_of octets.now ≡ Err (fault_for e.0, e.1)) }
@@ -58,7 +58,7 @@ fn header_cause(octets: &[u8]) -> Option<Cause>
 
 /// The offset after the name at an offset. The walk is the one that `read_name` makes, and keeps no
 /// label.
-#[tactic(auto, using(crate::proofs::Names::Walking::root_inside, crate::proofs::Names::Walking::label_shows, crate::proofs::Names::Walking::pointer_shows))]
+#[tactic(auto, using(crate::proofs::Names::Walking::spots_show))]
 fn walk_to_root(message: &[u8], offset: usize) -> Result<usize, Cause>
     ensures { end_or_fault result ≡ name_end_of (outcome message.now (walk message.now offset)) }
 {
@@ -131,7 +131,7 @@ fn questions_end(message: &[u8], count: u16, offset: usize) -> Result<usize, (Ca
 /// # Errors
 ///
 /// The first fault and the offset at which its record begins.
-#[tactic(auto, using(crate::proofs::Messages::Sections::records_go_on, crate::proofs::Messages::Sections::records_refused, crate::proofs::Messages::Sections::records_end_here))]
+#[tactic(auto, using(crate::proofs::Messages::Sections::records_are_passed))]
 fn records_end(message: &[u8], count: u16, offset: usize) -> Result<usize, (Cause, usize)>
     ensures { offset_or_fault result ≡ run_end_of (records_from message.now count offset) }
 {

@@ -101,7 +101,7 @@ impl Transfer {
     }
 
     /// Takes the records of the message that octets are.
-    #[tactic(auto, using(crate::proofs::Transfers::Progress::stops_in_structure, crate::proofs::Transfers::Progress::stops_in_head, crate::proofs::Transfers::Progress::message_taken))]
+    #[tactic(auto, using(crate::proofs::Transfers::Progress::message_stops))]
     fn take_message(
         &mut self,
         octets: &[u8],
@@ -224,7 +224,7 @@ impl Transfer {
     /// Takes the record that an answer states, where it may open or close the transfer.
     #[cold]
     #[inline(never)]
-    #[tactic(auto, using(crate::proofs::Records::Answering::order_faults, crate::proofs::Records::Answering::order_stands))]
+    #[tactic(auto, using(crate::proofs::Records::Answering::order_verdicts))]
     fn take_soa(&mut self, answer: &RawRrRef<'_, '_>) -> Result<(), NarrowFailing>
         ensures taken { OnOk result ((questions : List QuestionAt) (placed : List Placed)
             → Among questions placed self.old

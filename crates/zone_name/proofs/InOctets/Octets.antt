@@ -152,3 +152,5 @@ labels_of-cons (suc k) after some =
     ap (λ labels. take (suc k) after ∷ labels) (labels_by-enough (length after) (length (drop (suc k) after)) (drop (suc k) after) (omega (arith, left)) (omega arith))
 
 pub ruleset names_in_front = (labels_of-wire_append, BeginsWithName-wire_append)
+
+pub ruleset cased_root = (root_held_cased, root_has_none)

@@ -146,3 +146,7 @@ text_left (p ∷ parts) each some = parts_some true p parts each
 
 pub ipv6_some : (text octets : List ℕ) → IsIpv6Address text octets → 0 < length text
 ipv6_some text octets h = grind (arith, text_left, length-append)
+
+pub ruleset plain_addresses = (ipv4_plain, ipv6_plain)
+
+pub ruleset shortened_addresses = (run_shortened, none_shortened, run_exists)

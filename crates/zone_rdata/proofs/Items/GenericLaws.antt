@@ -84,3 +84,5 @@ printed_stated octets each short = grind (arith, decimal-is (length octets) (ome
 
 pub printed_text : (octets : List ℕ) → generic_text octets ≡ join_with_byte 32 (map item_text (generic_items octets))
 printed_text octets = grind (arith, decimal_digit)
+
+pub ruleset printed_generic = (printed_stated, printed_text)

@@ -68,3 +68,5 @@ strings_front field octets is begins = grind (arith, all_strings)
 
 pub strings_some : (field : Field) (octets : List ℕ) → field ≡ fields.Strings → BeginsWithField field octets → 0 < length octets
 strings_some field octets is begins = grind (arith, some_strings)
+
+pub ruleset strings_in_octets = (nothing_after, strings_some, strings_front)

@@ -55,3 +55,5 @@ printed_spells octets is = grind (arith, printed_units, each_weaker, unit_of_quo
 
 pub printed_stands : (octets : List ℕ) → IsString octets → StandsInQuotes (inside_text octets)
 printed_stands octets is = grind (arith, printed_units, quoted_units, units_text, units_line)
+
+pub ruleset printed_strings = (printed_spells, printed_stands)

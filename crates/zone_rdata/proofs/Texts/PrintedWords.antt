@@ -39,3 +39,5 @@ pub kind_bare : (class n : ℕ) → IsKind n → StandsBare (kind_text class n)
 kind_bare class n is =
     let short : n < 2 ^ 64 = omega (arith, is.short) in
     either_form StandsBare n (numbered_bare (codes "TYPE") n refl short) (word_bare type_names (codes "TYPE") (mnemonic_among type_names n) n refl refl refl short) (layout class n)
+
+pub ruleset printed_words = (class_printed, kind_printed)

@@ -21,7 +21,7 @@ pub fn printed_addresses_are_read()
 
 /// What is printed for an address holds digits, lower-case hexadecimal letters, dots and colons
 /// only, so that it is one item of a master file.
-#[tactic(auto, using(crate::proofs::Addresses::AddressLaws::ipv4_plain, crate::proofs::Addresses::AddressLaws::ipv6_plain))]
+#[tactic(auto, using(crate::proofs::Addresses::AddressLaws::plain_addresses))]
 pub fn printed_addresses_are_plain()
     ensures ipv4 { (octets : Octets) → length octets ≡ 4 → AreOctets octets
         → AllByRecursion IsAddressOctet (ipv4_text octets) }
@@ -31,7 +31,7 @@ pub fn printed_addresses_are_plain()
 
 /// `::` is printed for the longest run of zero groups, the first of equal ones, and for none of
 /// fewer than two groups (RFC 5952 4.2).
-#[tactic(auto, using(crate::proofs::Addresses::AddressLaws::run_shortened, crate::proofs::Addresses::AddressLaws::none_shortened, crate::proofs::Addresses::AddressLaws::run_exists))]
+#[tactic(auto, using(crate::proofs::Addresses::AddressLaws::shortened_addresses))]
 pub fn the_longest_zero_run_is_shortened()
     ensures run { (octets : Octets) (start len : ℕ) → IsShortenedRun (segments_of octets) start len
         → ipv6_text octets ≡ shortened_groups (segments_of octets) start len }

@@ -32,7 +32,7 @@ pub fn generic_fault_is_unique()
 
 /// The items that are printed for octets, parted by single spaces, are their text and state those
 /// octets.
-#[tactic(auto, using(crate::proofs::Items::GenericLaws::printed_stated, crate::proofs::Items::GenericLaws::printed_text))]
+#[tactic(auto, using(crate::proofs::Items::GenericLaws::printed_generic))]
 pub fn printed_octets_are_stated()
     ensures text { (octets : Octets) → generic_text octets ≡ join_with_byte 32
         (map item_text (generic_items octets)) }

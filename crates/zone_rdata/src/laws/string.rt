@@ -26,7 +26,7 @@ pub fn string_fault_is_unique()
 {}
 
 /// What is printed for a string stands in quotes in one line, and spells that string.
-#[tactic(auto, using(crate::proofs::Strings::StringLaws::printed_spells, crate::proofs::Strings::StringLaws::printed_stands))]
+#[tactic(auto, using(crate::proofs::Strings::StringLaws::printed_strings))]
 pub fn printed_strings_are_spelled()
     ensures spells { (octets : Octets) → IsString octets
         → SpellsString (quoted (inside_text octets)) octets }

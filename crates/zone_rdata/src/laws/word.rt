@@ -46,7 +46,7 @@ pub fn kind_word_or_fault()
 
 /// The word that is printed for a class is that of the class, and the one for a type, in any class,
 /// that of the type.
-#[tactic(auto, using(crate::proofs::Texts::PrintedWords::class_printed, crate::proofs::Texts::PrintedWords::kind_printed))]
+#[tactic(auto, using(crate::proofs::Texts::PrintedWords::printed_words))]
 pub fn printed_words_are_read()
     ensures class { (n : ℕ) → IsClass n → IsClassWord (class_text n) n }
     ensures kind { (class n : ℕ) → IsKind n → IsKindWord (kind_text class n) n }

@@ -89,3 +89,5 @@ module _ (held : List Record) (first : Record) (others : List Record) (compatibl
 
 pub stops_with_none : (held : List Record) → held ≡ [] → StopsFinish held (Refused NoSoa Whole)
 stops_with_none held none = no_soa (subst HasNoSoa (sym none) (λ r has soa. has))
+
+pub ruleset finishing_stops = (stops_with_none, stops_outside)

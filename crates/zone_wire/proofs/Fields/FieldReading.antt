@@ -120,3 +120,9 @@ name_over c found is over = ap (name_before c.end) (name_walks c.message.now c.a
 pub name_faulty : (c : Cursor) (fault : Fault) → NameFault c.message.now c.at fault → next_value c Name ≡ Err fault
 unfolding value_at
 name_faulty c fault is = ap (name_before c.end) (name_refuses c.message.now c.at fault is).1
+
+pub ruleset long_reads = (long_read, long_cut)
+
+pub ruleset two_reads = (two_read, two_cut)
+
+pub ruleset string_reads = (string_read, string_uncounted, string_cut)

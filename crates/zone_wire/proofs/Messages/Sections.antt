@@ -242,3 +242,7 @@ module _ (octets : List ℕ) (none : None ≡ header_fault octets) where
               past = additional;
               begin = subst (λ (s : Sections). AreRecordsAt octets answers s.answers additional) held run.1;
             }
+
+pub ruleset structure_is_read = (header_refused, has_header, questions_refused, answers_refused, additional_refused, trailing)
+
+pub ruleset records_are_passed = (records_go_on, records_refused, records_end_here)

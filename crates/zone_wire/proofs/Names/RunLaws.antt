@@ -2,7 +2,7 @@
 use Rattle.zone_wire.proofs.Common.{common_steps, AllByRecursion-append, At, Bytes, IsCasedLabel, IsLabelAt, IsName, IsNamed, IsPointerAt, IsRun, List, Option, Some, Spot, [], ap, append-nil, append_assoc, ap₂, arith, at_pointer, at_root, bytes_each, drop, folded, folded_label, frames_push, label, label_at, labels_of, labels_of-open_cased, length, length-append, length-drop, length-take-le, map-append, octets_between, pointer, refl, root, slice_index, standing_in, suc, sym, take, unwrap_or, with_length, ℕ, ◌++◌, ◌+◌, ◌<◌, ◌∙◌, ◌∷◌, ◌≡◌, ◌≤◌, AllByRecursion, HoldsLabels, HoldsLabels-frames, HoldsLabels-nil, IsLabel, drop-drop, drop_at, drop_more, flat_map, flat_map-append, folded_frames, folded_labels, folded_octet, get_or, labels_of-none, labels_of-open, length-map, length-put_chunk, length-set, map, subst, take-add, take-map, take-take, take_at, take_more_put_chunk, take_more_set, ◌-◌}
 use Rattle.zone_wire.proofs.Fields.FieldReading.{between_first, between_join, part_len}
 use Rattle.zone_wire.proofs.Names.Spots.{standing_shows}
-use Rattle.zone_wire.proofs.Names.Walking.{drop_each, take_each, wire-octets}
+use Rattle.zone_wire.proofs.Names.Walking.{drop_each, take_each, wire-octets, carries_start, spots_show}
 use Rattle.std.specs.Char.{to_ascii_lowercase}
 use Rattle.zone_wire.specs.Machine.Room.{IsRoom}
 use lib.Lanes.{chunk, put_chunk}
@@ -197,3 +197,9 @@ empty_room octets room = record { within = room; holds = HoldsLabels-nil _ refl 
 
 pub no_labels : labels_of [] ≡ []
 no_labels = labels_of-none _ refl
+
+pub ruleset lanes_are_copied = (copied_all, copied_lanes, copied_start)
+
+pub ruleset octets_are_copied = (copied_all, copied_octet, copied_start)
+
+pub ruleset name_is_walked = (run_alone, carries_start, spots_show)

@@ -351,3 +351,7 @@ label_shows message spot size e = subst (Shows message spot) e (standing_shows m
 
 pub pointer_shows : (message : List ℕ) (spot : Spot) (target : ℕ) → standing_in message spot ≡ Some (at_pointer target) → Shows message spot (Some (at_pointer target))
 pointer_shows message spot target e = subst (Shows message spot) e (standing_shows message spot)
+
+pub ruleset spots_show = (root_inside, label_shows, pointer_shows)
+
+pub ruleset walk_laws = (is_walk, few_labels, few_pointers, walk_leads, walk_is_short, walk_lies_inside)

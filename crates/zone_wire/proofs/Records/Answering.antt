@@ -165,3 +165,5 @@ module _ (octets : List ℕ) (each : Bytes octets) (few : length octets ≤ 6553
       by : (r : Result Record Fault) → answer_record octets questions before a ≡ r → ((p : Placed) → let x = answers_of number octets questions (before ++ p ∷ []) answers in AnswersGive number octets questions (before ++ p ∷ []) answers x.placed x.fault) → let x = before_others number a.offset r (λ p. answers_of number octets questions (before ++ p ∷ []) answers) in AnswersGive number octets questions before (a ∷ answers) x.placed x.fault
       by (Err fault) e others = refused (answer_faults before a fault at.0 e)
       by (Ok r) e others = let s = answer_states before a r at.0 e in states s.0 refl s.1 (others (record { rr = r; place = Message number a.offset }))
+
+pub ruleset order_verdicts = (order_faults, order_stands)

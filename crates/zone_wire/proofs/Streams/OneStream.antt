@@ -217,3 +217,7 @@ message_verdict before octets each few = record {
     by : (r : Result StatedMessage (List Placed × Fault × ℕ)) → Judged before octets r → EitherIs (IsOne before octets) (IsRefused before octets)
     by (Ok p) is = inl (p, is)
     by (Err e) is = inr (e, is)
+
+pub ruleset something_of_streams = (some_reading, some_decision)
+
+pub ruleset next_frame = (frame_read, frame_refused, handed_more)

@@ -251,3 +251,5 @@ read_is_transfer stream placed r =
     let parts : placed_in m.parts ≡ w.opening ∷ (c.others ++ c.closing ∷ []) = sym m.stated ∙ all in
     let opens : OpensIn a.one_zone.0 (w.opening ∷ (c.others ++ c.closing ∷ [])) = subst (OpensIn a.one_zone.0) parts a.one_zone.1.opens in
     grind (arith, append-nil, framed_parts, parts_from, asks_for, no_soa, handed_transfer)
+
+pub ruleset transfers_are_read = (read_is_transfer, transfer_reads)

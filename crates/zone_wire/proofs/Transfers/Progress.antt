@@ -194,3 +194,5 @@ reversed_same n m = same_bool _ _
 -- a test that tells whether records are equal
 pub told_same : (b : Bool) (r s : Record) → (b ≡ true ↔ r ≡ s) → b ≡ same_record r s
 told_same b r s tells = same_bool b (same_record r s) (λ e. records_same r s (tells.0 e)) (λ e. tells.1 (records_equal r s e))
+
+pub ruleset message_stops = (stops_in_structure, stops_in_head, message_taken)

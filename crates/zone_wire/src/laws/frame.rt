@@ -31,7 +31,7 @@ pub fn a_message_after_others()
 
 /// What is decided of a stream and a frame after it is what was decided of the stream, and then
 /// what the frame adds.
-#[tactic(auto, using(crate::proofs::Streams::OneStream::frame_read, crate::proofs::Streams::OneStream::frame_refused, crate::proofs::Streams::OneStream::handed_more))]
+#[tactic(auto, using(crate::proofs::Streams::OneStream::next_frame))]
 pub fn one_frame_more()
     ensures read { (stream : Octets) (before : List StatedMessage) (p : StatedMessage)
         → IsFramed stream (octets_in before) []
