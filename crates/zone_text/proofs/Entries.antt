@@ -1,6 +1,7 @@
 -- One entry: what it inherits, and its record or its fault.
 pub mod Begun
 pub mod Entered
+pub mod Heads
 pub mod EntryOutcome
 pub mod EntryTaken
 pub mod Inheriting

@@ -1,23 +1,21 @@
 -- How an entry is read in the state that others left.
 use Rattle.std.specs.Prelude.{◌≡◌, ℕ, List, [], ◌∷◌, ◌++◌, Option, Some, None, MatchOption}
-use Rattle.std.specs.Option.{option_or}
 use Rattle.zone_name.specs.Common.{Labels}
 use Rattle.zone_name.specs.Spelling.{Spells}
 use Rattle.zone_rdata.specs.Fields.Name.{IsNameFault}
-use Rattle.zone_rdata.specs.Minimum.{minimum}
-use Rattle.zone_rdata.specs.Record.{Data, Record}
-use Rattle.zone_rdata.specs.Spelling.{RawItem, bare, States}
+use Rattle.zone_rdata.specs.Record.{Record}
+use Rattle.zone_rdata.specs.Spelling.{RawItem, bare}
 use Rattle.zone_rdata.specs.declared.fault.Fault.{Fault}
 use Rattle.zone_rdata.specs.declared.fault.Fault.TheVariants.{BadDirective, NoOwner}
 use Rattle.zone_rdata.specs.declared.fault.Place.{Place}
 use Rattle.zone_rdata.specs.declared.queue.PendingRecords.{PendingRecords}
 use Rattle.zone_rdata.specs.declared.record.Placed.{Placed}
-use Rattle.zone_text.specs.ParserState.{IsStateAfter, IsTtlOrNone}
+use Rattle.zone_text.specs.ParserState.{IsStateAfter}
 use Rattle.zone_text.specs.Entries.{Entry}
 use Rattle.zone_text.specs.EntryFault.{EntryFault, WordFault}
 use Rattle.zone_text.specs.Statements.{statement_of, parts_in, parts_after, ttl}
-use Rattle.zone_text.specs.Inherited.{IsLastOwner, IsOwner, IsTtl, ttl_text}
-use Rattle.zone_text.specs.Records.{HasHead, StatesNothing, EntryStates}
+use Rattle.zone_text.specs.Inherited.{IsLastOwner, IsOwner, IsTtl}
+use Rattle.zone_text.specs.Records.{StatesNothing, EntryStates}
 use Rattle.zone_text.specs.declared.parser_state.ParserState.{ParserState}
 
 -- an entry that states no record, and what is left to those after it
@@ -65,30 +63,6 @@ HasOwnerOrNone origin before entry d items =
     MatchOption d.owner (EntryFault origin before entry NoOwner)
     (λ name. IsRecordEntry origin before entry d name items
     × IsLastOwner origin (entry ∷ before) name)
-
--- what a record entry states before its data, and the items of its data
-pub record Head : Type 0 where
-  pub owner : Labels
-  pub class : ℕ
-  pub kind : ℕ
-  pub items : List RawItem
-
-abbrev pub HasHeadOf : Labels → List Entry → Entry → Head → Type 0
-HasHeadOf origin before entry head =
-    HasHead origin before entry head.owner head.class head.kind head.items
-
--- a record entry up to its data, and the TTL that is looked for
-pub record IsReadTo (origin : Labels) (before : List Entry) (entry : Entry) (d : ParserState)
-    (head : Head) (own : Option ℕ) (rdata : Data) (last found : Option ℕ) : Type 0 where
-  pub held : Option Labels
-  pub state : IsStateAfter origin before (with_owner held d)
-  pub has : HasHeadOf origin before entry head
-  pub own_ttl : IsTtlOrNone (ttl_text (statement_of entry)) own
-  pub class : rdata.class ≡ head.class
-  pub kind : rdata.kind ≡ head.kind
-  pub states : States d.origin head.class head.kind head.items rdata.octets
-  pub least : last ≡ option_or (minimum rdata) d.minimum
-  pub ttl : found ≡ option_or (option_or (option_or own d.default_ttl) d.last_ttl) last
 
 -- The record that an entry states comes after others, with its place, and what is left to the
 -- entries after it
