@@ -9,7 +9,7 @@ pub record Leads (message : List ℕ) (offset start : ℕ) (pointers : ℕ) (end
     (labels : List (List ℕ)) : Type 0 where
   pub steps : ℕ
   pub few : pointers ≤ 128
-  pub on : (rest : Labels) (past more others : ℕ) → At message start start rest past more others
+  pub on : (rest : List (List ℕ)) (past more others : ℕ) → At message start start rest past more others
       → At message offset offset (labels ++ rest) (unwrap_or end past) (steps + more)
       (pointers + others)
 
