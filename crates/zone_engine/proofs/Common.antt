@@ -1,5 +1,5 @@
 -- What most proofs of this crate name, from below it and from its definitions.
-pub use Rattle.std.proofs.Common.{Bool, Equal, Global, Greater, Less, List, Ordering, Vec, [], ap, append-nil, append_assoc, ap₂, arith, codes, false, inl, inr, length, length-append, lit≤, map, min, nat_eq, refl, rules, subst, suc, sym, true, zero, ℕ, ⊎_elim, ◌&&◌, ◌++◌, ◌+◌, ◌-◌, ◌<◌, ◌^◌, ◌↔◌, ◌∙◌, ◌∷◌, ◌≡◌, ◌≢◌, ◌≤◌, ◌⊎◌}
+pub use Rattle.std.proofs.Common.{Bool, Equal, Global, Greater, Less, List, Ordering, Vec, [], ap, append-nil, append_assoc, ap₂, arith, codes, false, inl, inr, length, length-append, lit≤, map, min, nat_eq, refl, rules, string_bytes, subst, suc, sym, take, true, zero, ℕ, ⊎_elim, ◌&&◌, ◌++◌, ◌+◌, ◌-◌, ◌<◌, ◌^◌, ◌↔◌, ◌∙◌, ◌∷◌, ◌≡◌, ◌≢◌, ◌≤◌, ◌⊎◌}
 pub use Rattle.std.proofs.KnownBytes.{Appends-trans, Consumes-nil, Consumes-trans, Consumes-whole, Keeps-refl}
 pub use Rattle.std.proofs.lemmas.Bool.{cases_eq, false≢true, ne_eqb}
 pub use Rattle.std.proofs.lemmas.Bool.Decides.{leb_tells}
@@ -30,7 +30,7 @@ pub use Rattle.zone_rdata.specs.declared.fault.Fault.TheVariants.{ClassMismatch,
 pub use Rattle.zone_rdata.specs.declared.fault.Place.{Place}
 pub use Rattle.zone_rdata.specs.declared.fault.Place.TheVariants.{Line, Whole}
 pub use Rattle.zone_rdata.specs.declared.fault.Stop.{Stop}
-pub use Rattle.zone_rdata.specs.declared.fault.Stop.TheVariants.{Refused}
+pub use Rattle.zone_rdata.specs.declared.fault.Stop.TheVariants.{Memory, Read, Refused, Write}
 pub use Rattle.zone_rdata.specs.declared.record.Placed.{Placed}
 pub use Rattle.zone_set.proofs.Holding.Together.{accepted_class, accepted_soa, accepted_ttl, each_Has, each_from_Has, one_set, stable_owner}
 pub use Rattle.zone_set.specs.Builder.{Accepts, Adds, AreTwoSoas, HasNoSoa, IsLeastOutside, IsRefusedFor, OtherClass, OtherSoa, OtherTtl, StopsFinish, class, leaves, no_soa, outside, soa, ttl}
@@ -52,3 +52,4 @@ pub use Rattle.zone_engine.specs.Telling.{WritesLine, WritesPartOfLine, argument
 pub use Rattle.zone_engine.specs.declared.comparison.Verdict.{Verdict}
 pub use Rattle.zone_engine.specs.declared.comparison.Verdict.TheVariants.{Different, Same}
 pub use Rattle.zone_rdata.specs.FaultTable.{fault_row}
+pub use Rattle.zone_rdata.proofs.Lists.{bytes_each, each_below}

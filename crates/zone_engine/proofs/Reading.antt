@@ -2,4 +2,3 @@
 pub mod Inputs
 pub mod Taken
 pub mod Readers
-pub mod FedSources

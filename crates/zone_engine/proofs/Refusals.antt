@@ -4,4 +4,3 @@ pub mod Refusing
 pub mod Deciding
 pub mod Decided
 pub mod Making
-pub mod Small

@@ -58,6 +58,7 @@ pub fn normalise<R: OctetReader, W: OctetWriter>(
 ///
 /// `Refused` where they denote none, as `normalise` refuses them; `Read` where the reader failed,
 /// which isn't called again; `Memory`.
+#[tactic(auto, using(crate::proofs::Written::denotes_within))]
 pub fn accepted_zone<R: OctetReader>(
     alloc: Global,
     form: Form<'_>,
@@ -106,6 +107,7 @@ pub fn accepted_zone_within<R: OctetReader>(
 /// # Errors
 ///
 /// `Refused` where they denote none, and `Memory`.
+#[tactic(auto, using(crate::proofs::Feeding::is_input, crate::proofs::Written::normalises_to, crate::proofs::Written::refused_pushing, crate::proofs::Written::pushing_is_of_bytes))]
 pub fn normalise_bytes(alloc: Global, form: Form<'_>, octets: &[u8]) -> Result<Vec<u8>, Stop>
     ensures accepted { IfOk result (λ text.
         NormalisesTo (read_as form.entry octets.now) text.items) }

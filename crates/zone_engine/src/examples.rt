@@ -95,12 +95,14 @@ pub fn a_file_with_a_differing_ttl()
 }
 
 /// An open quote hides that no SOA is there.
+#[tactic(auto, using(crate::proofs::Refusals::Deciding::all_of_one, crate::specs::Refusal::unread))]
 pub fn an_open_quote_before_a_missing_soa()
     ensures { RefusesReading (placed_from 1 (server_of (top (codes "a")) 60 ∷ []))
         (Some (UnclosedQuote, Line 2)) UnclosedQuote (Line 2) }
 {}
 
 /// An input of one octet more than the limit, whatever it states.
+#[tactic(auto, using(crate::specs::Refusal::too_long))]
 pub fn an_input_that_is_too_long()
     ensures { (octets : List ℕ) → length octets ≡ 1073741825
         → IsRefusal (file x octets) InputTooLong Whole }

@@ -129,6 +129,7 @@ fn push_place(line: &mut String, place: Place) -> Result<(), AllocError>
 }
 
 /// A space and the canonical spelling of the name, which is ASCII.
+#[tactic(auto, using(crate::proofs::Telling::ascii_name))]
 fn push_owner(alloc: Global, line: &mut String, owner: &Name) -> Result<(), AllocError>
     ensures { OnOk result (string_bytes line.new ≡ string_bytes line.old
         ++ 32 ∷ name_text owner.now) }

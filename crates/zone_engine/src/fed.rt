@@ -91,10 +91,12 @@ impl FedSource for TransferSource {
 
     ghost Leave = { TransferLeave };
 
+    #[tactic(auto, using(crate::proofs::Feeding::transfer_stands_on))]
     fn feed(&mut self, piece: &[u8]) -> Result<(), Stop> {
         TransferSource::feed(self, piece)
     }
 
+    #[tactic(auto, using(crate::proofs::Feeding::transfer_stands_on))]
     fn finish(&mut self) -> Result<(), Stop> {
         TransferSource::finish(self)
     }

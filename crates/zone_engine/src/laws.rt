@@ -27,6 +27,7 @@ ghost use Rattle.zone_engine.specs.Telling.{records_line, stop_line, verdict_lin
 ghost use Rattle.zone_engine.specs.Refusal.{IsRefusal, IsRefused, RefusesReading};
 
 /// A reading is refused for at most one fault, at one place.
+#[tactic(auto, using(crate::proofs::Refusals::Refusing::one_refusal))]
 pub fn one_fault_of_a_reading()
     ensures { (placed : List Placed) (ending : Option (Fault × Place)) (fault other : Fault)
         (place elsewhere : Place)
@@ -37,6 +38,7 @@ pub fn one_fault_of_a_reading()
 }
 
 /// A reading that is refused makes no zone.
+#[tactic(auto, using(crate::proofs::Refusals::Refusing::refused_or_zone))]
 pub fn no_zone_of_a_refused_reading()
     ensures { (placed : List Placed) (fault : Fault) (place : Place)
         → RefusesReading placed None fault place → NothingIs (MakesZone placed) }
@@ -45,6 +47,7 @@ pub fn no_zone_of_a_refused_reading()
 }
 
 /// Every reading is refused or makes a zone, and one with a fault at its end is refused.
+#[tactic(auto, using(crate::proofs::Refusals::Making::every_whole_reading, crate::proofs::Refusals::Making::every_broken_reading))]
 pub fn refusal_or_zone_of_a_reading()
     ensures whole { (placed : List Placed) → AllByRecursion IsRecord (records_of placed)
         → ((fault : Fault) × (place : Place) × RefusesReading placed None fault place)
@@ -69,6 +72,7 @@ pub fn one_refusal()
 }
 
 /// An input denotes at most one zone.
+#[tactic(auto, using(crate::proofs::Reading::Inputs::one_zone, crate::proofs::Reading::Inputs::one_list))]
 pub fn one_zone()
     ensures { (input : Input) → AtMostOneIs (InputDenotes input) }
 {
@@ -104,6 +108,7 @@ pub fn refusal_or_zone()
 }
 
 /// What refuses a prefix of an input refuses the input.
+#[tactic(auto, using(crate::proofs::Refusals::Decided::refused_by_front))]
 pub(crate) fn what_is_decided_refuses()
     ensures { (form : ReadAs) (octets front more : Octets) (placed : List Placed)
         (ending : Option (Fault × Place)) (fault : Fault) (place : Place)
@@ -118,6 +123,7 @@ pub(crate) fn what_is_decided_refuses()
 }
 
 /// What an input of octets is read as, without a fault, it states.
+#[tactic(auto, using(crate::proofs::Reading::Inputs::read_is_stated))]
 pub fn what_is_read_is_stated()
     ensures { (input : Input) (placed : List Placed) → IsInput input → InputReads input placed None
         → InputStates input placed }
@@ -154,6 +160,7 @@ pub fn headline()
 
 /// What two inputs normalise to is equal exactly if they denote the same zone, and under every
 /// origin it denotes that zone and normalises to itself. It is what was written.
+#[tactic(auto, using(crate::proofs::Headline::text_back, crate::proofs::Headline::written_text))]
 pub fn normalised_texts()
     ensures same { (a b : Input) (text other : Octets) → NormalisesTo a text → NormalisesTo b other
         → (text ≡ other) ↔ DenoteOne a b }
@@ -181,6 +188,7 @@ pub fn same_is_one_zone()
 
 /// No line that a run tells has a line feed: that on a stop, on an input that is accepted, and on a
 /// verdict. What is written is the line and one line feed.
+#[tactic(auto, using(crate::proofs::Telling::line_of_stop, crate::proofs::Telling::line_of_verdict))]
 pub fn each_line_is_one_line()
     ensures stop { (stop : Stop) → HasNoFeed (stop_line stop) }
     ensures records { (count : ℕ) → HasNoFeed (records_line count) }

@@ -24,3 +24,5 @@ pub use Rattle.zone_text.specs.Entries.{Cut, Entry, and_last, cut_from, entries_
 pub use Rattle.zone_text.specs.File.{EntriesState, FileStates, states_one}
 pub use Rattle.zone_text.specs.Line.{IsItem, StatesWhole, line_of}
 pub use Rattle.zone_text.specs.Tokens.{Cuts, Token, is_blank, text}
+pub use Rattle.zone_print.specs.Device.{Device, WorksOn}
+pub use Rattle.zone_rdata.specs.Spelling.{RawItem, States}

@@ -1,5 +1,5 @@
 -- No part of a line has a line feed.
-use Rattle.zone_print.proofs.Common.{common_steps, ◌≡◌, ◌≢◌, ℕ, zero, suc, ◌+◌, ◌/◌, ◌%◌, ◌==◌, ◌≤◌, List, [], ◌∷◌, ◌++◌, length, drop, map, Bool, true, false, if◌then◌else◌, IsTrue, Option, None, Some, refl, codes, decimal, nat_lt, arith, AllByRecursion, flat_map, join_with_byte, list_all, slice_index, octet_text, label_text, name_text, Data, Record, data_of, data_items, data_text, laid_out_items, written_item, class_mnemonic, laid_out_mnemonic, word_or_numbered, class_text, kind_text, line, HasNoFeed, EndsWithItsFeed, Labels}
+use Rattle.zone_print.proofs.Common.{common_steps, ◌≡◌, ◌≢◌, ℕ, zero, suc, ◌+◌, ◌/◌, ◌%◌, ◌==◌, ◌≤◌, List, [], ◌∷◌, ◌++◌, length, drop, map, Bool, true, false, if◌then◌else◌, IsTrue, Option, None, Some, refl, codes, decimal, arith, AllByRecursion, flat_map, join_with_byte, list_all, slice_index, octet_text, label_text, name_text, Data, Record, data_of, data_items, data_text, laid_out_items, written_item, class_mnemonic, laid_out_mnemonic, word_or_numbered, class_text, kind_text, line, HasNoFeed, EndsWithItsFeed, Labels}
 use Rattle.std.specs.Char.{digit_char}
 use Rattle.std.specs.Net.Addr.{segments_of}
 use Rattle.std.specs.Net.Text.{hex, leading_zero_digits, compressed_text, longest_zero_run}
@@ -32,11 +32,8 @@ high c n e h f = omega arith
 
 -- ---- numbers
 
-glyph_if : (b : Bool) (x y : ℕ) → x ≢ 10 → y ≢ 10 → (if b then x else y) ≢ 10
-glyph_if b x y p q = grind arith
-
 none_glyph : (d : ℕ) → digit_glyph false d ≢ 10
-none_glyph d = glyph_if (nat_lt d 10) (48 + d) (87 + d) (high _ (48 + d) refl (omega arith)) (high _ (87 + d) refl (omega arith))
+none_glyph d = grind arith
 
 none_onto : (k n : ℕ) (acc : List ℕ) → HasNoFeed acc → HasNoFeed (digits_onto k 10 false n acc)
 none_onto zero n acc h = h
@@ -54,20 +51,14 @@ abbrev pub has_no_feed : List ℕ → Bool
 has_no_feed [] = true
 has_no_feed (x ∷ xs) = if x == 10 then false else has_no_feed xs
 
-none_here : (x : ℕ) (xs : List ℕ) (b : Bool) → x == 10 ≡ b → (IsTrue (has_no_feed xs) → HasNoFeed xs) → IsTrue (if b then false else has_no_feed xs) → HasNoFeed (x ∷ xs)
-none_here x xs b e rest h = grind arith
-
 pub none_tested : (xs : List ℕ) → IsTrue (has_no_feed xs) → HasNoFeed xs
 none_tested [] h = tt
-none_tested (x ∷ xs) h = none_here x xs (x == 10) refl (none_tested xs) h
+none_tested (x ∷ xs) h = grind (arith, none_tested xs)
 
 -- ---- names
 
-none_octet : (c : ℕ) → HasNoFeed (octet_text c)
-none_octet c = grind arith
-
 none_label : (label : List ℕ) → HasNoFeed (label_text label)
-none_label label = none_append (flat_map octet_text label) (46 ∷ []) (none_flat octet_text none_octet label) (none_tested (46 ∷ []) refl)
+none_label label = none_append (flat_map octet_text label) (46 ∷ []) (none_flat octet_text (λ c. grind arith) label) (none_tested (46 ∷ []) refl)
 
 pub none_name : (labels : Labels) → HasNoFeed (name_text labels)
 none_name [] = none_tested (46 ∷ []) refl
@@ -87,11 +78,8 @@ none_found : (rows : List Named) → list_all (λ row. has_no_feed row.mnemonic)
 none_found rows all n None e = tt
 none_found rows all n (Some word) e = none_tested word (each_mnemonic (λ _ name. has_no_feed name) rows all n word e)
 
-none_mnemonic : (rows : List Named) → list_all (λ row. has_no_feed row.mnemonic) rows ≡ true → (n : ℕ) → RowHasNoFeed (mnemonic_among rows n)
-none_mnemonic rows all n = none_found rows all n (mnemonic_among rows n) refl
-
 none_class : (n : ℕ) → HasNoFeed (class_text n)
-none_class n = none_word (class_mnemonic n) (codes "CLASS") n (none_mnemonic classes refl n) (none_tested (codes "CLASS") refl)
+none_class n = none_word (class_mnemonic n) (codes "CLASS") n (none_found classes refl n (class_mnemonic n) refl) (none_tested (codes "CLASS") refl)
 
 none_laid_out_row : (fields : Option (List Field)) (n : ℕ) → RowHasNoFeed (laid_out_mnemonic fields n)
 none_laid_out_row fields n = grind arith
@@ -99,21 +87,15 @@ none_laid_out_row fields n = grind arith
 none_kind : (class n : ℕ) → HasNoFeed (kind_text class n)
 none_kind class n = none_word (laid_out_mnemonic (layout class n) n) (codes "TYPE") n (none_laid_out_row (layout class n) n) (none_tested (codes "TYPE") refl)
 
-none_dot : (xs : List ℕ) → HasNoFeed xs → HasNoFeed (xs ++ 46 ∷ [])
-none_dot xs h = none_append xs (46 ∷ []) h (high 46 46 refl (omega arith), tt)
-
 none_ipv4 : (octets : List ℕ) → HasNoFeed (ipv4_text octets)
-none_ipv4 octets = grind (arith, none_dot, none_decimal, none_append)
+none_ipv4 octets = grind (arith, none_decimal, none_append, high)
 
 none_drop : (n : ℕ) (xs : List ℕ) → HasNoFeed xs → HasNoFeed (drop n xs)
 none_drop n xs h = grind (arith, common_steps)
 
-none_char : (d : ℕ) → digit_char d ≢ 10
-none_char d = none_glyph d
-
 none_hex : (n : ℕ) → HasNoFeed (hex n)
 unfolding hex
-none_hex n = none_drop (leading_zero_digits n) (digit_char (n / 0x1000) ∷ digit_char (n / 0x100 % 16) ∷ digit_char (n / 0x10 % 16) ∷ digit_char (n % 16) ∷ []) (none_char (n / 0x1000), (none_char (n / 0x100 % 16), (none_char (n / 0x10 % 16), (none_char (n % 16), tt))))
+none_hex n = none_drop (leading_zero_digits n) (digit_char (n / 0x1000) ∷ digit_char (n / 0x100 % 16) ∷ digit_char (n / 0x10 % 16) ∷ digit_char (n % 16) ∷ []) (none_glyph (n / 0x1000), (none_glyph (n / 0x100 % 16), (none_glyph (n / 0x10 % 16), (none_glyph (n % 16), tt))))
 
 none_groups : (groups : List ℕ) → HasNoFeed (parted_groups groups)
 none_groups groups = grind (arith, none_append, none_hex, none_flat, high)
@@ -124,11 +106,8 @@ none_run segments run = grind (arith, none_if, none_append, none_groups, high)
 none_ipv6 : (octets : List ℕ) → HasNoFeed (ipv6_text octets)
 none_ipv6 octets = none_run (segments_of octets) (longest_zero_run (segments_of octets))
 
-none_unit : (c : ℕ) → HasNoFeed (unit_text c)
-none_unit c = grind arith
-
 none_string : (octets : List ℕ) → HasNoFeed (string_text octets)
-none_string octets = (high 34 34 refl (omega arith), none_append (inside_text octets) (34 ∷ []) (none_flat unit_text none_unit octets) (none_tested (34 ∷ []) refl))
+none_string octets = (high 34 34 refl (omega arith), none_append (inside_text octets) (34 ∷ []) (none_flat unit_text (λ c. grind arith) octets) (none_tested (34 ∷ []) refl))
 
 none_digit : (l : List ℕ) (i : ℕ) → HasNoFeed l → slice_index l i ≢ 10
 none_digit l i h = grind (arith, common_steps)
@@ -173,12 +152,9 @@ none_data d = none_joined (data_items d) (none_laid_out (layout d.class d.kind) 
 
 -- ---- the line
 
-none_spaced : (xs ys : List ℕ) → HasNoFeed xs → HasNoFeed ys → HasNoFeed (xs ++ 32 ∷ ys)
-none_spaced xs ys p q = none_append xs (32 ∷ ys) p (high 32 32 refl (omega arith), q)
-
 none_line : (owner ttl class kind rdata : List ℕ) → HasNoFeed owner → HasNoFeed ttl → HasNoFeed class → HasNoFeed kind → HasNoFeed rdata
     → HasNoFeed (owner ++ 32 ∷ ttl ++ 32 ∷ class ++ 32 ∷ kind ++ 32 ∷ rdata)
-none_line owner ttl class kind rdata p q r s t = grind (arith, none_spaced)
+none_line owner ttl class kind rdata p q r s t = grind (arith, none_append, high)
 
 pub line_ends_with_feed : (r : Record) → EndsWithItsFeed (line r)
 line_ends_with_feed r = grind (arith, none_line (name_text r.owner) (decimal r.ttl) (class_text r.class) (kind_text r.class r.kind) (data_text (data_of r)) (none_name r.owner) (none_decimal r.ttl) (none_class r.class) (none_kind r.class r.kind) (none_data (data_of r)))

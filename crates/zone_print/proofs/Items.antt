@@ -1,7 +1,6 @@
 -- The line of a record as a line of items of a master file.
-use Rattle.zone_print.proofs.Common.{common_steps, ◌≡◌, ◌≢◌, ℕ, ◌<◌, false, List, [], ◌∷◌, ◌++◌, length, map, decimal, arith, rules, IfSome, flat_map, AllByRecursion, join_with_byte, length-map, name_text, Record, IsRecord, data_of, data_items, written_item, class_text, kind_text, entry_of, item_of, IsItem, line_of, Token, text, is_blank, line, slice_get}
+use Rattle.zone_print.proofs.Common.{common_steps, ◌≡◌, ◌≢◌, ℕ, ◌<◌, false, List, [], ◌∷◌, ◌++◌, length, map, decimal, arith, rules, IfSome, flat_map, AllByRecursion, join_with_byte, length-map, name_text, Record, IsRecord, data_of, data_items, written_item, class_text, kind_text, entry_of, item_of, IsItem, line_of, Token, text, is_blank, line, slice_get, RawItem}
 use Rattle.zone_name.proofs.Texts.Bare.{bare_name}
-use Rattle.zone_rdata.specs.Spelling.{RawItem}
 use Rattle.zone_rdata.specs.Spelling as raw
 use Rattle.zone_rdata.proofs.Texts.PrintedWords.{class_bare, kind_bare}
 use Rattle.zone_rdata.proofs.Texts.Standing.{IsPrintedItem, bare_decimal}

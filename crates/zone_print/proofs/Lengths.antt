@@ -1,5 +1,5 @@
 -- How many octets lines have, against those that their records take in messages.
-use Rattle.zone_print.proofs.Common.{common_steps, refl, sym, ◌∙◌, ◌≡◌, ℕ, ◌+◌, ◌*◌, ◌≤◌, List, [], ◌∷◌, ◌++◌, length, decimal, arith, length-append, AllByRecursion, name_text, Record, IsRecord, data_of, data_text, class_text, kind_text, Zone, IsZone, canon, line, lines}
+use Rattle.zone_print.proofs.Common.{common_steps, refl, sym, ◌∙◌, ◌≡◌, ℕ, ◌+◌, ◌*◌, ◌≤◌, List, [], ◌∷◌, ◌++◌, length, decimal, arith, length-append, AllByRecursion, name_text, Record, IsRecord, data_of, data_text, class_text, kind_text, line, lines}
 use Rattle.std.proofs.lemmas.Fmt.{length-decimal-le}
 use Rattle.std.proofs.lemmas.List.Sorted.{sum_by-IsPermutation}
 use Rattle.std.proofs.lemmas.List.Sums.{sum_by-cons}
@@ -24,12 +24,9 @@ line_length r is =
     let rdata = data_text_length (data_of r) is.rdata in
     omega (arith, parts_length (name_text r.owner) (decimal r.ttl) (class_text r.class) (kind_text r.class r.kind) (data_text (data_of r)), ttl, owner, class, kind, rdata)
 
-lines_length : (records : List Record) → AllByRecursion IsRecord records → length (lines records) ≤ 4 * message_octets records
+pub lines_length : (records : List Record) → AllByRecursion IsRecord records → length (lines records) ≤ 4 * message_octets records
 lines_length [] each = omega arith
 lines_length (r ∷ records) each = omega (arith, sum_by-cons message_len r records, length-append (line r) (lines records), line_length r each.0, lines_length records each.1)
-
-pub canon_length : (z : Zone) → IsZone z → length (canon z) ≤ 4 * message_octets z.records
-canon_length z is = lines_length z.records is.compatible.each
 
 lines_counted : (records : List Record) → length (lines records) ≡ sum_by (λ r. length (line r)) records
 lines_counted [] = refl

@@ -11,11 +11,10 @@ use Rattle.zone_set.specs.Order.{soa_rank, canonical_cmp, Ascends}
 use Rattle.zone_set.proofs.Holding.Together.{each_Has}
 use Rattle.zone_set.proofs.Ordering.SetOrder.{both_equal}
 
-data_total : IsTotalOrder data_cmp
-data_total = then_total (on_total (λ d. d.class) nat_cmp_total) (then_total (on_total (λ d. d.kind) nat_cmp_total) (on_total (λ d. d.octets) nat_list_cmp_total))
-
 pub canonical_total : IsTotalOrder canonical_cmp
-canonical_total = then_total (on_total soa_rank nat_cmp_total) (then_total (on_total (λ r. r.owner) name_cmp-total) (on_total data_of data_total))
+canonical_total =
+    let of_data : IsTotalOrder data_cmp = then_total (on_total (λ d. d.class) nat_cmp_total) (then_total (on_total (λ d. d.kind) nat_cmp_total) (on_total (λ d. d.octets) nat_list_cmp_total)) in
+    then_total (on_total soa_rank nat_cmp_total) (then_total (on_total (λ r. r.owner) name_cmp-total) (on_total data_of of_data))
 
 -- records that the order doesn't tell apart have one owner and one data
 pub canonical_exact : ((a b : Labels) → name_cmp a b ≡ Equal → a ≡ b) → (r s : Record) → canonical_cmp r s ≡ Equal → (r.owner ≡ s.owner) × (data_of r ≡ data_of s)

@@ -1,12 +1,10 @@
 -- A record's line is one entry that states the record, so lines of records are read back.
-use Rattle.zone_print.proofs.Common.{◌≡◌, ◌≢◌, ◌↔◌, ℕ, zero, ◌+◌, ◌^◌, ◌<◌, ◌≤◌, List, [], ◌∷◌, ◌++◌, length, ◌==◌, Bool, cond, false, Some, refl, sym, ap, ◌∙◌, subst, decimal, add-zero, arith, rules, fold, append-nil, flat_map, AllByRecursion, count_by, name_text, Placed, Data, Record, IsRdata, IsRecord, data_of, data_items, IsClass, IsClassWord, IsKind, IsKindWord, class_text, kind_text, Cut, Entry, cut_from, entry_of, item_of, numbered, FileStates, EntriesState, states_one, IsItem, line_of, StatesWhole, Cuts, Token, text, records_of, Has, IsZone, SameRecords, Zone, canon, line, lines, text_limit, Denotes, EndsWithItsFeed, HasNoFeed, IsLineOf, placed_from}
+use Rattle.zone_print.proofs.Common.{◌≡◌, ◌≢◌, ◌↔◌, ℕ, zero, ◌+◌, ◌^◌, ◌<◌, ◌≤◌, List, [], ◌∷◌, ◌++◌, length, ◌==◌, Bool, cond, false, Option, Some, refl, sym, ap, ◌∙◌, subst, decimal, add-zero, arith, rules, fold, append-nil, flat_map, AllByRecursion, count_by, name_text, Placed, Data, Record, IsRdata, IsRecord, data_of, data_items, IsClass, IsClassWord, IsKind, IsKindWord, class_text, kind_text, Cut, Entry, cut_from, entry_of, item_of, numbered, FileStates, EntriesState, states_one, IsItem, line_of, StatesWhole, Cuts, Token, text, records_of, Has, IsZone, SameRecords, Zone, canon, line, lines, text_limit, Denotes, EndsWithItsFeed, HasNoFeed, IsLineOf, placed_from, Labels, States}
 use Rattle.std.proofs.lemmas.Bool.Decides.{nat_tests}
-use Rattle.zone_name.specs.Common.{Labels}
 use Rattle.zone_name.specs.Name.{IsName}
 use Rattle.zone_name.specs.Spelling.{Spells}
 use Rattle.zone_rdata.specs.declared.fault.Place.TheVariants.{Line}
 use Rattle.zone_rdata.specs.Number.{IsTime}
-use Rattle.zone_rdata.specs.Spelling.{States}
 use Rattle.zone_text.specs.Inherited.{IsOrigin}
 use Rattle.zone_text.specs.Lasting.{EndInLineFeed}
 use Rattle.zone_text.specs.Records.{EntryStates}
@@ -15,44 +13,37 @@ use Rattle.zone_text.proofs.Files.DecidedOnce.{cut_after_all}
 use Rattle.zone_print.proofs.Feeds.{line_ends_with_feed}
 use Rattle.zone_print.proofs.Items.{LineItems, line_items}
 
--- what is printed for the parts of a record is read as these parts
-pub record ReadAsPrinted : Type 0 where
-  pub names : (origin : Labels) (labels : Labels) → IsName labels → Spells (Some origin) (name_text labels) labels
-  pub times : (n : ℕ) → n < 2 ^ 64 → IsTime (decimal n) n
-  pub classes : (n : ℕ) → IsClass n → IsClassWord (class_text n) n
-  pub kinds : (class n : ℕ) → IsKind n → IsKindWord (kind_text class n) n
-  pub rdata : (origin : Labels) (d : Data) → IsRdata d → States origin d.class d.kind (data_items d) d.octets
+-- what is printed for the parts of a record is read as these parts, and a line of items is one entry
+module _
+    (names : (scope : Option Labels) (labels : Labels) → IsName labels → Spells scope (name_text labels) labels)
+    (times : (n : ℕ) → n < 2 ^ 64 → IsTime (decimal n) n)
+    (classes : (n : ℕ) → IsClass n → IsClassWord (class_text n) n)
+    (kinds : (class n : ℕ) → IsKind n → IsKindWord (kind_text class n) n)
+    (rdata : (origin : Labels) (d : Data) → IsRdata d → States origin d.class d.kind (data_items d) d.octets)
+    (cut : (items : List Token) → AllByRecursion IsItem items → Cuts (text (line_of items)) (line_of items))
+    (ended : (items : List Token) → AllByRecursion IsItem items → cut_from zero (line_of items) ≡ record { ended = line_of items ∷ []; open_tokens = [] })
+    (of_line : (items : List Token) → flat_map item_of (line_of items) ≡ flat_map item_of items) where
+  entry_states : (r : Record) → IsRecord r → (l : LineItems r) → StatesWhole (entry_of 1 (line_of l.tokens)) r
+  entry_states r is l = record {
+    owner_text = name_text r.owner;
+    ttl_text = decimal r.ttl;
+    class_word = class_text r.class;
+    kind_word = kind_text r.class r.kind;
+    items = data_items (data_of r);
+    begins = l.begins;
+    whole = of_line l.tokens ∙ l.entries;
+    owner = λ above. names (Some above) r.owner is.owner;
+    ttl = times r.ttl (let short = is.ttl in omega arith);
+    class = classes r.class is.rdata.class;
+    kind = kinds r.class r.kind is.rdata.kind;
+    rdata = λ above. rdata above (data_of r) is.rdata;
+    fits = is;
+  }
 
-entry_states : ReadAsPrinted → ((items : List Token) → flat_map item_of (line_of items) ≡ flat_map item_of items) → (r : Record) → IsRecord r → (l : LineItems r) → StatesWhole (entry_of 1 (line_of l.tokens)) r
-entry_states read of_line r is l = record {
-  owner_text = name_text r.owner;
-  ttl_text = decimal r.ttl;
-  class_word = class_text r.class;
-  kind_word = kind_text r.class r.kind;
-  items = data_items (data_of r);
-  begins = l.begins;
-  whole = of_line l.tokens ∙ l.entries;
-  owner = λ above. read.names above r.owner is.owner;
-  ttl = read.times r.ttl (let short = is.ttl in omega arith);
-  class = read.classes r.class is.rdata.class;
-  kind = read.kinds r.class r.kind is.rdata.kind;
-  rdata = λ above. read.rdata above (data_of r) is.rdata;
-  fits = is;
-}
-
-pub line_is_entry : ReadAsPrinted
-    → ((items : List Token) → AllByRecursion IsItem items → Cuts (text (line_of items)) (line_of items))
-    → ((items : List Token) → AllByRecursion IsItem items → cut_from zero (line_of items) ≡ record { ended = line_of items ∷ []; open_tokens = [] })
-    → ((items : List Token) → flat_map item_of (line_of items) ≡ flat_map item_of items)
-    → (r : Record) → IsRecord r → IsLineOf r (line r)
-line_is_entry read cut ended of_line r is =
-    let l = line_items r is in
-    record {
-      tokens = line_of l.tokens;
-      cut = subst (λ t. Cuts t (line_of l.tokens)) l.printed (cut l.tokens l.items);
-      ended = ended l.tokens l.items;
-      states = entry_states read of_line r is l;
-    }
+  pub line_is_entry : (r : Record) → IsRecord r → IsLineOf r (line r)
+  line_is_entry r is =
+      let l = line_items r is in
+      record { tokens = line_of l.tokens; cut = subst (λ t. Cuts t (line_of l.tokens)) l.printed (cut l.tokens l.items); ended = ended l.tokens l.items; states = entry_states r is l }
 
 -- ---- equal lines
 
@@ -126,25 +117,23 @@ at_line : (number : ℕ) (tokens : List Token) (r : Record) → StatesWhole (ent
 at_line number tokens r s = search rules
 
 -- what whole entries state, and that they leave the origin
-pub record WholeEntries : Type 0 where
-  pub stated : (origin above : Labels) (before : List Entry) (entry : Entry) (r : Record) → IsOrigin origin before above → StatesWhole entry r → EntryStates origin before entry r
-  pub leaves : (origin above : Labels) (before : List Entry) (entry : Entry) (r : Record) → IsOrigin origin before above → StatesWhole entry r → IsOrigin origin (entry ∷ before) above
+module _
+    (stated : (origin above : Labels) (before : List Entry) (entry : Entry) (r : Record) → IsOrigin origin before above → StatesWhole entry r → EntryStates origin before entry r)
+    (leaves : (origin above : Labels) (before : List Entry) (entry : Entry) (r : Record) → IsOrigin origin before above → StatesWhole entry r → IsOrigin origin (entry ∷ before) above) where
+  states_each : (origin : Labels) (before : List Entry) (number : ℕ) (ended : List (List Token)) (records : List Record) → IsOrigin origin before origin → AreLines ended records → EntriesState origin before (numbered number ended) (placed_from number records)
+  states_each origin before number [] [] under are = refl
+  states_each origin before number (p ∷ ended) (r ∷ records) under are =
+      let whole : StatesWhole (entry_of number p) r = at_line number p r are.0 in
+      let next : EntriesState origin (entry_of number p ∷ before) (numbered (number + 1) ended) (placed_from (number + 1) records) =
+      states_each origin (entry_of number p ∷ before) (number + 1) ended records (leaves origin origin before (entry_of number p) r under whole) are.2 in
+      states_one (record { rr = r; place = Line number }) (placed_from (number + 1) records) (stated origin origin before (entry_of number p) r under whole) refl refl
+      (subst (λ n. EntriesState origin (entry_of number p ∷ before) (numbered n ended) (placed_from (number + 1) records)) (ap (λ n. number + n) (sym are.1)) next)
+  states_each origin before number ended records under are = absurd are
 
-states_each : WholeEntries → (origin : Labels) (before : List Entry) (number : ℕ) (ended : List (List Token)) (records : List Record) → IsOrigin origin before origin → AreLines ended records → EntriesState origin before (numbered number ended) (placed_from number records)
-states_each wholes origin before number [] [] under are = refl
-states_each wholes origin before number (p ∷ ended) (r ∷ records) under are =
-    let whole : StatesWhole (entry_of number p) r = at_line number p r are.0 in
-    let next : EntriesState origin (entry_of number p ∷ before) (numbered (number + 1) ended) (placed_from (number + 1) records) =
-    states_each wholes origin (entry_of number p ∷ before) (number + 1) ended records (wholes.leaves origin origin before (entry_of number p) r under whole) are.2 in
-    states_one (record { rr = r; place = Line number }) (placed_from (number + 1) records) (wholes.stated origin origin before (entry_of number p) r under whole) refl refl
-    (subst (λ n. EntriesState origin (entry_of number p ∷ before) (numbered n ended) (placed_from (number + 1) records)) (ap (λ n. number + n) (sym are.1)) next)
-states_each wholes origin before number ended records under are = absurd are
-
-pub lines_back : ((r : Record) → IsRecord r → IsLineOf r (line r))
-    → ((front rest : List ℕ) (tokens more : List Token) → Cuts front tokens → EndInLineFeed tokens → Cuts rest more → Cuts (front ++ rest) (tokens ++ more))
-    → WholeEntries
-    → (origin : Labels) (records : List Record) → AllByRecursion IsRecord records → FileStates origin (lines records) (placed_from 1 records)
-lines_back line_is joins wholes origin records each = grind (arith, lines_cut, states_each)
+  pub lines_back : ((r : Record) → IsRecord r → IsLineOf r (line r))
+      → ((front rest : List ℕ) (tokens more : List Token) → Cuts front tokens → EndInLineFeed tokens → Cuts rest more → Cuts (front ++ rest) (tokens ++ more))
+      → (origin : Labels) (records : List Record) → AllByRecursion IsRecord records → FileStates origin (lines records) (placed_from 1 records)
+  lines_back line_is joins origin records each = grind (arith, lines_cut, states_each)
 
 -- ---- the zone
 

@@ -55,6 +55,7 @@ pub fn one_zone_of_a_file()
 }
 
 /// The line of a record is one entry of a master file that states every part of the record.
+#[tactic(auto, using(crate::proofs::ReadBack::line_is_entry))]
 pub fn each_line_is_one_entry()
     ensures { (r : Record) → IsRecord r → IsLineOf r (line r) }
 {
@@ -78,6 +79,7 @@ pub fn equal_lines_are_equal_records()
 
 /// The lines of records are a master file that states these records in their order, under every
 /// origin: the first at line 1, the next at line 2 and so on.
+#[tactic(auto, using(crate::proofs::ReadBack::lines_back))]
 pub fn lines_read_back()
     ensures { (origin : Labels) (records : List Record) → AllByRecursion IsRecord records
         → FileStates origin (lines records) (placed_from 1 records) }
@@ -109,7 +111,7 @@ pub fn equal_texts_are_equal_zones()
 
 /// The canonical text of a zone has at most four times as many octets as its records take in
 /// messages where no name is compressed (RFC 1035 3.2.1).
-#[tactic(auto, using(crate::proofs::Lengths::canon_length))]
+#[tactic(auto, using(crate::proofs::Lengths::lines_length))]
 pub fn a_text_is_at_most_four_times_its_messages()
     ensures { (z : Zone) → IsZone z → length (canon z) ≤ 4 * message_octets z.records }
 {}

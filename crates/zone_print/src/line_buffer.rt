@@ -102,6 +102,7 @@ impl<'z> LineBuffer<'z> {
     /// # Errors
     ///
     /// Want of memory. A prefix of the line may have been appended.
+    #[tactic(auto, using(crate::proofs::Lines::line_pushed))]
     pub(crate) fn push_record(&mut self, rr: RrRef<'z>) -> Result<(), AllocError>
         ensures { OnOk result (self.new ≡ self.old ++ line (record_of rr.entry)) }
     {
@@ -132,6 +133,7 @@ fn hold_owner(text: &mut Vec<u8>, last: &Option<RrRef>, rr: &RrRef) -> Result<()
 
 /// Makes the text what stands between the record's owner and its data, and tells how many octets
 /// of it stand before the type. What is already the last one's stays.
+#[tactic(auto, using(crate::proofs::Lines::middle_kept))]
 fn hold_middle(
     text: &mut Vec<u8>,
     before_kind: usize,

@@ -68,6 +68,7 @@ pub fn write_zone<W: OctetWriter>(alloc: Global, zone: &Zone, writer: &mut W) ->
 }
 
 /// The length of the canonical text, or one more than the limit where it is longer.
+#[tactic(auto, using(crate::proofs::Lengths::moved_length))]
 fn len_within(zone: &Zone, limit: u64) -> u64
     requires { limit ≤ text_limit }
     ensures { result ≡ min (length (canon zone.now)) (limit + 1) }
@@ -93,6 +94,7 @@ fn text_fits_within(zone: &Zone, limit: u64) -> bool
 /// # Errors
 ///
 /// `ZoneTooLarge` at the input as a whole where the text has more than `limit` octets; `Memory`.
+#[tactic(auto, using(crate::specs::Writing::large, crate::specs::Writing::memory))]
 pub fn push_zone_within(alloc: Global, zone: &Zone, limit: u64) -> Result<Vec<u8>, Stop>
     requires { limit ≤ text_limit }
     ensures text { IfOk result (λ text. text.items ≡ canon zone.now) }
@@ -117,6 +119,7 @@ pub fn push_zone_within(alloc: Global, zone: &Zone, limit: u64) -> Result<Vec<u8
 /// `ZoneTooLarge` at the input as a whole where the text has more than `limit` octets, before the
 /// first octet; `Write` where the writer failed; `Memory`. After the last two a proper prefix of
 /// the text was written.
+#[tactic(auto, using(crate::specs::Writing::large, crate::proofs::Stops::stops_within))]
 pub fn write_zone_within<W: OctetWriter>(
     alloc: Global,
     zone: &Zone,

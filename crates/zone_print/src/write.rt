@@ -51,6 +51,7 @@ impl<W: Write> OctetWriter for W {
 /// # Errors
 ///
 /// `Write` where the writer failed. A proper prefix of the octets was written.
+#[tactic(auto, using(crate::proofs::Front::left_after))]
 pub fn write_octets<W: OctetWriter>(writer: &mut W, octets: &[u8]) -> Result<(), Stop>
     ensures written { OnOk result
         (Appends (W.state writer.old).octets (W.state writer.new).octets octets.now) }

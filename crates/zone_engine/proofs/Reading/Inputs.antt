@@ -1,15 +1,13 @@
 -- From readings to inputs.
-use Rattle.zone_engine.proofs.Common.{◌≡◌, ◌⊎◌, ◌↔◌, ℕ, ◌≤◌, ◌<◌, List, [], ◌∷◌, length, refl, sym, subst, inl, inr, ⊎_elim, arith, get_or, Option, Some, None, leb_tells, AllByRecursion, IsName, IsRecord, Fault, InputTooLong, Place, Whole, Placed, FileReads, records_of, Zone, IsZone, SameRecords, text_limit, Input, file, transfer, input_octets, IsInput, InputStates, InputReads, InputDenotes, MakesZone, RefusesReading, IsRefusal, too_long, reading, StreamReads, Labels}
-use Rattle.zone_rdata.proofs.Lists.{each_below}
+use Rattle.zone_engine.proofs.Common.{◌≡◌, ◌⊎◌, ◌↔◌, ℕ, ◌≤◌, ◌<◌, List, [], ◌∷◌, length, refl, subst, inl, inr, ⊎_elim, arith, get_or, Option, Some, None, leb_tells, AllByRecursion, IsName, IsRecord, Fault, InputTooLong, Place, Whole, Placed, FileReads, records_of, Zone, IsZone, SameRecords, text_limit, Input, file, transfer, input_octets, IsInput, InputStates, InputReads, InputDenotes, MakesZone, RefusesReading, IsRefusal, too_long, reading, StreamReads, Labels, each_below}
 use Rattle.zone_text.specs.Entries.{Entry, entries_of}
-use Rattle.zone_text.specs.File.{FileStates, EntriesState, states_none, states_one}
+use Rattle.zone_text.specs.File.{FileStates, EntriesState}
 use Rattle.zone_wire.specs.Transfer.{StreamStates}
 
 -- what a file states are records
 each_fits : (origin : Labels) (before entries : List Entry) (placed : List Placed) → EntriesState origin before entries placed → AllByRecursion IsRecord (records_of placed)
-each_fits origin before [] placed none = subst (λ ps. AllByRecursion IsRecord (records_of ps)) (sym none) tt
-each_fits origin before (entry ∷ entries) placed (states_none nothing others) = each_fits origin (entry ∷ before) entries placed others
-each_fits origin before (entry ∷ entries) placed (states_one p others states at parts rest) = subst (λ ps. AllByRecursion IsRecord (records_of ps)) (sym parts) (states.fits, each_fits origin (entry ∷ before) entries others rest)
+each_fits origin before [] placed none = grind arith
+each_fits origin before (entry ∷ entries) placed states = grind (arith, each_fits origin (entry ∷ before) entries)
 
 pub file_fits : (origin : Labels) (octets : List ℕ) (placed : List Placed) → FileStates origin octets placed → AllByRecursion IsRecord (records_of placed)
 file_fits origin octets placed states = each_fits origin [] (entries_of states.tokens) placed states.each

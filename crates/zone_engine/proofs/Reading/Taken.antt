@@ -1,7 +1,5 @@
 -- What is taken of an input that a source is fed.
-use Rattle.zone_engine.proofs.Common.{◌≡◌, ◌≢◌, true, false, List, [], ◌∷◌, ◌++◌, refl, sym, ap, ◌∙◌, subst, append_assoc, append-nil, Option, Some, None, is_some, Result, IfOk, Octets, Record, Held, Pending, Fault, NoSoa, OutOfZone, Place, Whole, Stop, Refused, Placed, class, leaves, StopsFinish, soa, no_soa, outside, AllAccepted, SameRecords, records_of, Zone, IsZone, ReadAs, input_of, InputReads, IsLoaded, all_taken, front_refuses, nothing_pending, IsFirstStop, earlier, itself, RefusesFront, by_record, by_ending, ReadsZone, RefusesRead, IsOfBytes, RefusesReading, refused, unread, unfinished, IfRefused, arith, rules, StandsForInput}
-use Rattle.zone_rdata.specs.declared.fault.Fault.TheVariants.{ClassMismatch}
-use Rattle.zone_rdata.specs.declared.fault.Stop.TheVariants.{Memory}
+use Rattle.zone_engine.proofs.Common.{◌≡◌, ◌≢◌, true, false, List, [], ◌∷◌, ◌++◌, refl, sym, ap, ◌∙◌, subst, append_assoc, append-nil, Option, Some, None, is_some, Result, IfOk, Octets, Record, Held, Pending, Fault, Place, Stop, Refused, Placed, class, leaves, StopsFinish, soa, no_soa, outside, AllAccepted, SameRecords, records_of, Zone, IsZone, ReadAs, input_of, InputReads, IsLoaded, all_taken, front_refuses, nothing_pending, IsFirstStop, earlier, itself, RefusesFront, by_record, by_ending, ReadsZone, RefusesRead, IsOfBytes, RefusesReading, refused, unread, unfinished, IfRefused, arith, rules, StandsForInput, ClassMismatch, Memory}
 use Rattle.zone_set.specs.ZoneList.{ListsAll, StopsListing, failure, memory, class as of_class, ending as ending_fault, IsSettledAs, StopsSettling, memory as unsettled, refused as refused_record}
 use Rattle.zone_engine.proofs.Refusals.Decided.{first_stays}
 
@@ -37,13 +35,13 @@ front_refused listed new pending rest _ _ (of_class taken others p works parts s
     })
 front_refused listed new pending rest _ _ (ending_fault e works is same left) (itself all) = by_ending e.0 e.1 (subst AllAccepted same all) is
 
--- an input stops for no failed read and no failed write
 settling_is_of_bytes : (listed : List Placed) (stop : Stop) → StopsSettling listed stop → IsOfBytes stop
 settling_is_of_bytes listed stop given = grind arith
 
 listing_is_of_bytes : (listed new : List Placed) (pending rest : Pending) (stop : Stop) → StopsListing listed pending new rest stop → IsOfBytes stop
 listing_is_of_bytes listed new pending rest stop given = grind arith
 
+-- an input stops for no failed read and no failed write
 pub first_is_of_bytes : (listed new : List Placed) (pending rest : Pending) (stop first : Stop) → StopsListing listed pending new rest stop → IsFirstStop new stop first → IsOfBytes first
 first_is_of_bytes listed new pending rest stop first stops (earlier _ why) = settling_is_of_bytes new first why
 first_is_of_bytes listed new pending rest stop _ stops (itself all) = listing_is_of_bytes listed new pending rest stop stops
@@ -129,11 +127,10 @@ module _ {Kept : Type 0} (IsOf : ReadAs → Type 0) (Leave : ReadAs → Octets �
     settling_refused new rest stop lists stops (all_taken unrefused stands nothing) =
         refused_with stands stop (subst (λ ps. IfRefused stop (RefusesFront ps p1.ending)) (append-nil (listed ++ p1.records)) (listed_refused (listed ++ p1.records) [] p1.ending stop (subst (λ ps. StopsSettling ps stop) lists.listed stops)))
 
+    finished_refused : (placed : List Placed) (ending : Option (Fault × Place)) → InputReads (input_of form octets) placed ending → AllAccepted placed → ending ≡ None → (stop : Stop) → StopsFinish (records_of placed) stop → IfRefused stop (RefusesRead (input_of form octets))
+    finished_refused placed ending is_read all whole stop stops = grind (arith, unfinished)
+
     pub finishing_refused : (new : List Placed) (held : List Record) (rest : Pending) (stop : Stop) → ListsAll listed p1 new rest → IsSettledAs new held → StopsFinish held stop → IsLoaded (Stands p0 b0) form p0 listed refusal octets → IfRefused stop (RefusesRead (input_of form octets))
     finishing_refused new held rest stop lists settled stops (front_refuses front more placed ending f at is parts decided refuses) = absurd (not_both (sym is ∙ none))
     finishing_refused new held rest stop lists settled stops (all_taken unrefused stands nothing) =
-        by new (rw lists.listed ((kept listed stands).stands.read ended)) settled.accepted stop (StopsFinish-same held (records_of new) stop settled.same stops)
-      where
-        by : (placed : List Placed) → InputReads (input_of form octets) placed p1.ending → AllAccepted placed → (s : Stop) → StopsFinish (records_of placed) s → IfRefused s (RefusesRead (input_of form octets))
-        by placed is_read all _ (no_soa without) = record { placed = placed; ending = p1.ending; reads = is_read; refuses = unfinished NoSoa Whole all lists.whole (no_soa without) }
-        by placed is_read all _ (outside owner least) = record { placed = placed; ending = p1.ending; reads = is_read; refuses = unfinished (OutOfZone owner) Whole all lists.whole (outside owner least) }
+        finished_refused new p1.ending (rw lists.listed ((kept listed stands).stands.read ended)) settled.accepted lists.whole stop (StopsFinish-same held (records_of new) stop settled.same stops)

@@ -1,8 +1,7 @@
 -- What refuses a front of an input refuses all of it.
-use Rattle.zone_engine.proofs.Common.{◌≡◌, ℕ, ◌<◌, List, ◌++◌, sym, ◌∙◌, subst, get_or, Option, Some, AllByRecursion, IsName, Fault, Place, Placed, FileReads, AllAccepted, IsFirstRefused, ReadAs, as_file, as_transfer, input_of, Decides, IsForm, RefusesFront, by_record, by_ending, RefusesRead, RefusesReading, refused, unread, arith, common_steps, Stays, StreamReads, Labels}
+use Rattle.zone_engine.proofs.Common.{◌≡◌, ℕ, ◌<◌, List, ◌++◌, sym, ◌∙◌, subst, get_or, Option, Some, AllByRecursion, IsName, Fault, Place, Placed, FileReads, AllAccepted, IsFirstRefused, ReadAs, as_file, as_transfer, input_of, Decides, IsForm, RefusesFront, by_record, by_ending, RefusesRead, RefusesReading, refused, unread, arith, common_steps, Stays, StreamReads, Labels, Input, InputReads, file, transfer, each_below}
 use Rattle.zone_text.specs.Decided as file_decides
 use Rattle.zone_wire.specs.Stream as stream_decides
-use Rattle.zone_rdata.proofs.Lists.{each_below}
 
 abbrev Ending : Type 0
 Ending = Option (Fault × Place)
@@ -21,6 +20,9 @@ refuses_on placed later ending last _ _ on (by_record fault place first) =
 refuses_on placed later ending last _ _ on (by_ending fault place all is) =
     let same = on.1 (fault, place) is in
     unread fault place (subst AllAccepted (sym same.0) all) (same.1 ∙ is)
+
+read_refused : (input : Input) (placed later : List Placed) (ending last : Ending) (fault : Fault) (place : Place) → InputReads input later last → GoesOn placed ending later last → RefusesFront placed ending fault place → RefusesRead input fault place
+read_refused input placed later ending last fault place reads on refuses = record { placed = later; ending = last; reads = reads; refuses = refuses_on placed later ending last fault place on refuses }
 
 abbrev FilesGoOn : Type 0
 FilesGoOn = (origin : Labels) (octets more : List ℕ) (placed later : List Placed) (ending last : Ending) → file_decides.FileDecides origin octets placed ending → FileReads origin (octets ++ more) later last → Stays placed ending later last
@@ -42,21 +44,11 @@ module _ (files : FilesAreRead) (files_go : FilesGoOn) (streams : StreamsAreRead
   refused_whole (as_file origin) front more placed ending fault place name octets decides refuses =
       let (later, (last, reads)) = files origin (front ++ more) name octets in
       let stays = files_go origin front more placed later ending last decides reads in
-      record {
-        placed = later;
-        ending = last;
-        reads = reads;
-        refuses = refuses_on placed later ending last fault place ((stays.others, stays.first), stays.fault) refuses;
-      }
+      read_refused (file origin (front ++ more)) placed later ending last fault place reads ((stays.others, stays.first), stays.fault) refuses
   refused_whole as_transfer front more placed ending fault place name octets decides refuses =
       let (later, last, reads) = streams (front ++ more) (each_below 256 (front ++ more) (omega arith) octets) in
-      record {
-        placed = later;
-        ending = last;
-        reads = reads;
-        refuses = refuses_on placed later ending last fault place
-            (records_go front more placed later ending last decides reads, λ e is. let same = faults front more placed later e last (subst (stream_decides.StreamDecides front placed) is decides) reads in (same.0, same.1 ∙ sym is)) refuses;
-      }
+      read_refused (transfer (front ++ more)) placed later ending last fault place reads
+      (records_go front more placed later ending last decides reads, λ e is. let same = faults front more placed later e last (subst (stream_decides.StreamDecides front placed) is decides) reads in (same.0, same.1 ∙ sym is)) refuses
 
   pub refused_by_front : (form : ReadAs) (octets front more : List ℕ) (placed : List Placed) (ending : Ending) (fault : Fault) (place : Place) → IsForm form → AllByRecursion (λ c. c < 256) octets → octets ≡ front ++ more → Decides (input_of form front) placed ending → RefusesFront placed ending fault place → RefusesRead (input_of form octets) fault place
   refused_by_front form octets front more placed ending fault place is each parts decides refuses = grind (arith, refused_whole)

@@ -1,5 +1,5 @@
 -- Of the records of an input one is the first that is refused, or all are accepted.
-use Rattle.zone_engine.proofs.Common.{◌≡◌, ◌≢◌, ◌⊎◌, ℕ, Bool, List, [], ◌∷◌, ◌++◌, refl, sym, ap, ◌∙◌, subst, inl, inr, ⊎_elim, append_assoc, append-nil, arith, cases_eq, bytes_decides, IsWithin, Record, data_of, Fault, ClassMismatch, MultipleSoa, DifferingTtl, Place, Placed, OtherClass, AreTwoSoas, OtherSoa, OtherTtl, Accepts, IsRefusedFor, class, soa, ttl, AllAccepted, IsFirstRefused, records_of, Has, InOneSet, covered_octets, common_steps, Labels}
+use Rattle.zone_engine.proofs.Common.{◌≡◌, ◌≢◌, ◌⊎◌, ℕ, Bool, List, [], ◌∷◌, ◌++◌, refl, sym, ap, ◌∙◌, subst, inl, inr, ⊎_elim, append_assoc, append-nil, arith, cases_eq, bytes_decides, IsWithin, Record, data_of, Fault, ClassMismatch, MultipleSoa, DifferingTtl, Place, Placed, OtherClass, AreTwoSoas, OtherSoa, Accepts, IsRefusedFor, class, soa, ttl, AllAccepted, IsFirstRefused, records_of, Has, InOneSet, covered_octets, common_steps, Labels, AllByRecursion, Line, a_x, soa_of, address_of, each_Has}
 use Rattle.std.proofs.Common.{Decides}
 use Rattle.zone_engine.proofs.Refusals.Parting.{two_partings, Decides-owner}
 
@@ -45,43 +45,27 @@ is_within (label ∷ labels) apex =
     deeper (l ∷ below) other fails parts = let rest : labels ≡ below ++ apex = cc in fails (below, rest)
 
 -- some record has a property, or none has it
-pub some_or_none : (P : Record → Type 0) → ((r : Record) → Settled (P r)) → (records : List Record) → ((r : Record) × Has records r × P r) ⊎ ((r : Record) → Has records r → P r → ⊥)
-some_or_none P test [] = inr (λ r has p. has)
+pub some_or_none : (P : Record → Type 0) → ((r : Record) → Settled (P r)) → (records : List Record) → Settled ((r : Record) × Has records r × P r)
+some_or_none P test [] = inr (λ (r, has, p). has)
 some_or_none P test (s ∷ records) =
     ⊎_elim (λ p. inl (s, inl refl, p)) (λ not_s.
-    ⊎_elim (λ (r, has, p). inl (r, inr has, p)) (λ none. inr (λ r has p. ⊎_elim (λ is. not_s (subst P is p)) (λ more. none r more p) has))
+    ⊎_elim (λ (r, has, p). inl (r, inr has, p)) (λ none. inr (λ (r, has, p). ⊎_elim (λ is. not_s (subst P is p)) (λ more. none (r, more, p)) has))
     (some_or_none P test records)) (test s)
 
 -- ---- a record is refused or accepted
 
 module _ (held : List Record) (r : Record) where
-  other_class : Settled (OtherClass held r)
-  other_class =
-      ⊎_elim (λ (s, has, other). inl (s, has, other)) (λ none. inr (λ (s, has, other). none s has other))
-      (some_or_none (λ s. s.class ≢ r.class) (λ s. not_settled (cases_eq s.class r.class)) held)
-
   two_soas : (s : Record) → Settled (AreTwoSoas s r)
   two_soas s = grind (arith, both_settled (cases_eq r.kind 6) (both_settled (cases_eq s.kind 6) (either_settled (not_settled (same_owner s.owner r.owner)) (not_settled (same_octets s.octets r.octets)))))
-
-  other_soa : Settled (OtherSoa held r)
-  other_soa =
-      ⊎_elim (λ (s, has, two). inl (s, has, two)) (λ none. inr (λ (s, has, two). none s has two))
-      (some_or_none (λ s. AreTwoSoas s r) two_soas held)
-
-  abbrev DiffersInTtl : Record → Type 0
-  DiffersInTtl s = InOneSet s r × (s.ttl ≢ r.ttl)
-
-  other_ttl : Settled (OtherTtl held r)
-  other_ttl =
-      ⊎_elim (λ (s, has, differs). inl (s, has, differs.0, differs.1)) (λ none. inr (λ (s, has, one, other). none s has (one, other)))
-      (some_or_none DiffersInTtl (λ s. both_settled (same_set s r) (not_settled (cases_eq s.ttl r.ttl))) held)
 
   refused_or_accepted : ((f : Fault) × IsRefusedFor held r f) ⊎ Accepts held r
   refused_or_accepted =
       ⊎_elim (λ other. inl (ClassMismatch, class other)) (λ one_class.
       ⊎_elim (λ other. inl (MultipleSoa, soa one_class other)) (λ one_soa.
-      ⊎_elim (λ other. inl (DifferingTtl, ttl one_class one_soa other)) (λ one_ttl. inr (record { one_class = one_class; one_soa = one_soa; one_ttl = one_ttl }))
-      other_ttl) other_soa) other_class
+      ⊎_elim (λ (s, has, differs). inl (DifferingTtl, ttl one_class one_soa (s, has, differs.0, differs.1)))
+      (λ none. inr (record { one_class = one_class; one_soa = one_soa; one_ttl = λ (s, has, one, other). none (s, has, (one, other)) }))
+      (some_or_none (λ s. InOneSet s r × (s.ttl ≢ r.ttl)) (λ s. both_settled (same_set s r) (not_settled (cases_eq s.ttl r.ttl))) held))
+      (some_or_none (λ s. AreTwoSoas s r) two_soas held)) (some_or_none (λ s. s.class ≢ r.class) (λ s. not_settled (cases_eq s.class r.class)) held)
 
 -- ---- the first that is refused
 
@@ -102,3 +86,39 @@ none_before (q ∷ before) others p parts = cc
 
 pub one_or_all : (placed : List Placed) → ((f : Fault) × (at : Place) × IsFirstRefused placed f at) ⊎ AllAccepted placed
 one_or_all placed = first_or_all placed [] placed refl none_before
+
+-- ---- short lists, and names of one label outside an apex of one label
+
+pub no_other_class : (held : List Record) (r : Record) → AllByRecursion (λ s. s.class ≡ r.class) held → OtherClass held r → ⊥
+no_other_class held r each (s, has, other) = other (each_Has (λ t. t.class ≡ r.class) held s each has)
+
+pub no_other_soa : (held : List Record) (r : Record) → r.kind ≢ 6 → OtherSoa held r → ⊥
+no_other_soa held r other (s, has, (is_soa, soa_s, differs)) = other is_soa
+
+pub fits : (held : List Record) (r : Record) → AllByRecursion (λ s. s.class ≡ r.class) held → r.kind ≢ 6 → AllByRecursion (λ s. InOneSet s r → s.ttl ≡ r.ttl) held → Accepts held r
+fits held r classes other ttls = grind (arith, no_other_class, no_other_soa, each_Has)
+
+pub all_of_one : (p : Placed) → AllAccepted (p ∷ [])
+all_of_one p = AllAccepted-push [] p none_before (record { one_class = λ (s, has, other). has; one_soa = λ (s, has, two). has; one_ttl = λ (s, has, one, other). has })
+
+pub all_of_two : (p q : Placed) → Accepts (p.rr ∷ []) q.rr → AllAccepted (p ∷ q ∷ [])
+all_of_two p q accepted = AllAccepted-push (p ∷ []) q (all_of_one p) accepted
+
+pub all_of_three : (p q s : Placed) → Accepts (p.rr ∷ []) q.rr → Accepts (p.rr ∷ q.rr ∷ []) s.rr → AllAccepted (p ∷ q ∷ s ∷ [])
+all_of_three p q s accepted accepted_last = AllAccepted-push (p ∷ q ∷ []) s (all_of_two p q accepted) accepted_last
+
+pub outside_of : (label apex : List ℕ) → label ≢ apex → IsWithin (label ∷ []) (apex ∷ []) → ⊥
+outside_of label apex other given = grind (arith, common_steps)
+
+-- the last record is the first that is refused
+pub refused_last : (before : List Placed) (p : Placed) (f : Fault) → AllAccepted before → IsRefusedFor (records_of before) p.rr f → IsFirstRefused (before ++ p ∷ []) f p.place
+refused_last before p f all why = record { before = before; refused = p; others = []; parts = refl; accepted = all; why = why; stands = refl }
+
+-- an address with another TTL than the one before it
+pub other_ttl : (t u n : ℕ) → t ≢ u → IsFirstRefused (record { rr = soa_of 1 60 1; place = Line 1 } ∷ record { rr = address_of a_x t 1; place = Line 2 } ∷ record { rr = address_of a_x u n; place = Line 3 } ∷ []) DifferingTtl (Line 3)
+other_ttl t u n differ =
+    let kinds : 1 ≢ 6 = λ (same : 1 ≡ 6). omega (arith, same) in
+    refused_last (record { rr = soa_of 1 60 1; place = Line 1 } ∷ record { rr = address_of a_x t 1; place = Line 2 } ∷ []) (record { rr = address_of a_x u n; place = Line 3 }) DifferingTtl
+    (all_of_two _ _ (fits (soa_of 1 60 1 ∷ []) (address_of a_x t 1) (refl, tt) kinds (λ one. let no : 6 ≡ 1 = one.kind in absurd (omega arith), tt)))
+    (ttl (no_other_class (soa_of 1 60 1 ∷ address_of a_x t 1 ∷ []) (address_of a_x u n) (refl, (refl, tt))) (no_other_soa (soa_of 1 60 1 ∷ address_of a_x t 1 ∷ []) (address_of a_x u n) kinds)
+    (address_of a_x t 1, inr (inl refl), record { owner = refl; kind = refl; covers = refl }, differ))

@@ -1,8 +1,8 @@
 -- Records of which each may stand with all before it have one ascending list, and that is a zone's
 -- or lacks what a zone needs.
-use Rattle.zone_engine.proofs.Common.{◌≡◌, ◌≢◌, ◌⊎◌, ◌↔◌, List, [], ◌∷◌, ◌++◌, length, Ordering, Less, Equal, Greater, refl, sym, ap, ◌∙◌, subst, inl, inr, ⊎_elim, append_assoc, append-nil, cases_eq, leb_tells, AllByRecursion, IsWithin, name_cmp, Record, IsRecord, data_of, Fault, NoSoa, OutOfZone, ZoneTooLarge, Place, Whole, Placed, Accepts, Adds, no_soa, outside, AllAccepted, records_of, Has, SameRecords, AreCompatible, Zone, IsZone, canon, text_limit, MakesZone, RefusesReading, refused, unread, unfinished, too_large, accepted_ttl, one_set, each_Has, each_from_Has, arith, Some, None, IsTotalOrder, ordering_reverse, Labels}
+use Rattle.zone_engine.proofs.Common.{◌≡◌, ◌≢◌, ◌⊎◌, List, [], ◌∷◌, length, Ordering, Less, Equal, Greater, refl, sym, ap, ◌∙◌, subst, inl, inr, ⊎_elim, cases_eq, leb_tells, AllByRecursion, IsWithin, name_cmp, Record, IsRecord, data_of, Fault, NoSoa, OutOfZone, ZoneTooLarge, Place, Whole, Placed, Accepts, Adds, no_soa, outside, AllAccepted, records_of, Has, SameRecords, AreCompatible, Zone, IsZone, canon, text_limit, MakesZone, RefusesReading, refused, unread, unfinished, too_large, accepted_ttl, one_set, each_Has, each_from_Has, arith, Some, None, IsTotalOrder, ordering_reverse, Labels}
 use Rattle.zone_set.specs.Order.{canonical_cmp, Ascends}
-use Rattle.zone_engine.proofs.Refusals.Parting.{all_class, all_ttl, all_soa}
+use Rattle.zone_engine.proofs.Refusals.Parting.{Has-last, Has-parts, each_accepted, all_class, all_ttl, all_soa}
 use Rattle.zone_engine.proofs.Refusals.Deciding.{Settled, not_settled, is_within, some_or_none, one_or_all}
 
 -- ---- the ascending list
@@ -40,14 +40,6 @@ module _ (total : IsTotalOrder canonical_cmp) (r : Record) where
             },
           )
 
-pub Has-push : (before : List Placed) (p : Placed) (s : Record) → Has (records_of (before ++ p ∷ [])) s ↔ ((s ≡ p.rr) ⊎ Has (records_of before) s)
-Has-push [] p s = (λ has. has, λ has. has)
-Has-push (q ∷ before) p s =
-    let more = Has-push before p s in (
-      ⊎_elim (λ e. inr (inl e)) (λ has. ⊎_elim (λ e. inl e) (λ old. inr (inr old)) (more.0 has)),
-      ⊎_elim (λ e. inr (more.1 (inl e))) (⊎_elim (λ e. inl e) (λ old. inr (more.1 (inr old)))),
-    )
-
 -- the order tells records apart but for their class and TTL
 abbrev pub TellsApart : Type 0
 TellsApart = (r s : Record) → canonical_cmp r s ≡ Equal → (r.owner ≡ s.owner) × (data_of r ≡ data_of s)
@@ -57,19 +49,16 @@ module _ (total : IsTotalOrder canonical_cmp) (apart : TellsApart) (whole : List
   tied_is : (held : List Record) (r : Record) → Accepts held r → (s : Record) → Has held s → canonical_cmp r s ≡ Equal → s ≡ r
   tied_is held r fits s has tied = grind (arith, accepted_ttl, one_set)
 
-  ascending : (before placed : List Placed) → whole ≡ before ++ placed → (now : List Record) → Ascends now → SameRecords now (records_of before) → (new : List Record) × Ascends new × SameRecords new (records_of whole)
-  ascending before [] parts now up same = (now, up, subst (λ ps. SameRecords now (records_of ps)) (sym (parts ∙ append-nil before)) same)
-  ascending before (p ∷ placed) parts now up same =
-      let fits = all before placed p parts in
-      let (next, adds) = added total p.rr now up (λ s has tied. tied_is (records_of before) p.rr fits s ((same s).0 has) tied) in
-      ascending (before ++ p ∷ []) placed (parts ∙ sym (append_assoc before (p ∷ []) placed)) next adds.ascend
-      (λ s. (
-        λ has. (Has-push before p s).1 (⊎_elim (λ e. inl e) (λ old. inr ((same s).0 old)) ((adds.same s).0 has)),
-        λ has. (adds.same s).1 (⊎_elim (λ e. inl e) (λ old. inr ((same s).1 old)) ((Has-push before p s).0 has)),
-      ))
-
   one_list : (new : List Record) × Ascends new × SameRecords new (records_of whole)
-  one_list = ascending [] whole refl [] tt (λ s. (λ has. has, λ has. has))
+  one_list = each_accepted (λ ps. (new : List Record) × Ascends new × SameRecords new (records_of ps)) ([], tt, λ s. (λ has. has, λ has. has)) (λ before p fits (now, up, same).
+      let (next, adds) = added total p.rr now up (λ s has tied. tied_is (records_of before) p.rr fits s ((same s).0 has) tied) in (
+        next,
+        adds.ascend,
+        λ s. (
+          λ has. (Has-parts before (p ∷ []) s).1 (⊎_elim (λ e. inr (inl e)) (λ old. inl ((same s).0 old)) ((adds.same s).0 has)),
+          λ has. (adds.same s).1 (⊎_elim (λ old. inr ((same s).1 old)) (λ e. inl e) (Has-last before p s has)),
+        ),
+      )) whole all
 
 -- ---- the least owner outside
 
@@ -128,15 +117,11 @@ module _ (names : IsTotalOrder name_cmp) (names_exact : (a b : Labels) → name_
         ⊎_elim (λ (r, has_r, out, least). inl (OutOfZone r.owner, Whole, unfinished (OutOfZone r.owner) Whole all refl (outside r.owner (record { soa = soa; held_soa = (has, is_soa); held_owner = (r, has_r, refl); outside = out; least = least }))))
         (λ none. inside soa has is_soa (each_from_Has (λ r. IsWithin r.owner soa.owner) (records_of placed) (λ r has_r. ⊎_elim (λ within. within) (λ out. absurd (none r has_r out)) (is_within r.owner soa.owner))))
         (least_of names names_exact (λ r. IsWithin r.owner soa.owner → ⊥) (λ r. not_settled (is_within r.owner soa.owner)) (records_of placed)))
-        (λ none. inl (NoSoa, Whole, unfinished NoSoa Whole all refl (no_soa none)))
+        (λ none. inl (NoSoa, Whole, unfinished NoSoa Whole all refl (no_soa (λ r has is_soa. none (r, has, is_soa)))))
         (some_or_none (λ r. r.kind ≡ 6) (λ r. cases_eq r.kind 6) (records_of placed))
 
-  whole_reading : Outcome
-  whole_reading = ⊎_elim (λ (f, at, is). inl (f, at, refused f at is)) accepted (one_or_all placed)
-
-pub every_whole_reading : IsTotalOrder name_cmp → ((a b : Labels) → name_cmp a b ≡ Equal → a ≡ b) → IsTotalOrder canonical_cmp → TellsApart → (placed : List Placed) → AllByRecursion IsRecord (records_of placed)
-    → ((f : Fault) × (at : Place) × RefusesReading placed None f at) ⊎ ((z : Zone) × MakesZone placed z)
-every_whole_reading names names_exact total apart placed each = whole_reading names names_exact total apart placed each
+  pub every_whole_reading : Outcome
+  every_whole_reading = ⊎_elim (λ (f, at, is). inl (f, at, refused f at is)) accepted (one_or_all placed)
 
 pub every_broken_reading : (placed : List Placed) (ending : Fault × Place) → (f : Fault) × (at : Place) × RefusesReading placed (Some ending) f at
 every_broken_reading placed (g, there) = ⊎_elim (λ (f, at, is). (f, at, refused f at is)) (λ all. (g, there, unread g there all refl)) (one_or_all placed)

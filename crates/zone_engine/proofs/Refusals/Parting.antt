@@ -1,7 +1,9 @@
 -- Lists parted at one of their records, and records of which each may stand with all before it.
-use Rattle.zone_engine.proofs.Common.{◌≡◌, nat_eq, List, [], ◌∷◌, ◌++◌, refl, sym, ap, ap₂, ◌∙◌, subst, inl, inr, ⊎_elim, pointwise, pointwise_decides, bytes_decides, Record, Placed, Accepts, AllAccepted, records_of, Has, InOneSet, accepted_class, accepted_soa, accepted_ttl, Labels}
+use Rattle.zone_engine.proofs.Common.{◌≡◌, append-nil, append_assoc, ◌⊎◌, ◌↔◌, nat_eq, List, [], ◌∷◌, ◌++◌, refl, sym, ap, ap₂, ◌∙◌, subst, inl, inr, ⊎_elim, pointwise, pointwise_decides, bytes_decides, Record, Placed, Accepts, AllAccepted, records_of, Has, InOneSet, accepted_class, accepted_soa, accepted_ttl, Labels}
 use Rattle.std.proofs.Common.{Decides}
+use Rattle.std.proofs.lemmas.List.{map-append}
 use Rattle.zone_set.proofs.Holding.Together.{flipped}
+use Rattle.zone_set.proofs.Ordering.Between.{Has-append}
 
 -- two partings of one list: at one place, or one of them before the other
 pub data Partings (before before' : List Placed) (p q : Placed) : Type 0 where
@@ -23,45 +25,37 @@ two_partings (x ∷ before) (y ∷ before') others others' p q e =
     let rest : before ++ p ∷ others ≡ before' ++ q ∷ others' = cc in
     later x y before before' p q head (two_partings before before' others others' p q rest)
 
--- where a record stands in a list
-pub record StandsIn (placed : List Placed) (r : Record) : Type 0 where
-  pub before : List Placed
-  pub here : Placed
-  pub others : List Placed
-  pub parts : placed ≡ before ++ here ∷ others
-  pub is : r ≡ here.rr
-
-pub stands_in : (placed : List Placed) (r : Record) → Has (records_of placed) r → StandsIn placed r
-stands_in [] r has = absurd has
-stands_in (p ∷ placed) r has =
-    ⊎_elim (λ is. record { before = []; here = p; others = placed; parts = refl; is = is })
-    (λ more. let found = stands_in placed r more in
-    record { before = p ∷ found.before; here = found.here; others = found.others; parts = ap (λ (ps : List Placed). p ∷ ps) found.parts; is = found.is }) has
+-- the records before and after a place
+pub Has-parts : (before others : List Placed) (r : Record) → Has (records_of (before ++ others)) r ↔ (Has (records_of before) r ⊎ Has (records_of others) r)
+Has-parts before others r = rw map-append (Has-append (records_of before) (records_of others) r)
 
 pub Has-part : (before others : List Placed) (p : Placed) → Has (records_of (before ++ p ∷ others)) p.rr
-Has-part [] others p = inl refl
-Has-part (q ∷ before) others p = inr (Has-part before others p)
+Has-part before others p = (Has-parts before (p ∷ others) p.rr).1 (inr (inl refl))
+
+pub Has-last : (before : List Placed) (p : Placed) (r : Record) → Has (records_of (before ++ p ∷ [])) r → Has (records_of before) r ⊎ (r ≡ p.rr)
+Has-last before p r has = ⊎_elim (λ h. inl h) (⊎_elim (λ e. inr e) (λ none. absurd none)) ((Has-parts before (p ∷ []) r).0 has)
 
 pub Decides-owner : (a b : Labels) → Decides (pointwise (pointwise nat_eq) a b) (a ≡ b)
 Decides-owner a b = pointwise_decides bytes_decides a b
 
 -- ---- records of which each may stand with all before it
 
--- what an accepted record has with each before it holds of any two
-any_two : (P : Record → Record → Type 0) → ((r : Record) → P r r) → ((r s : Record) → P s r → P r s) → ((held : List Record) (r : Record) → Accepts held r → (s : Record) → Has held s → P s r) → (placed : List Placed) → AllAccepted placed → (r s : Record) → Has (records_of placed) r → Has (records_of placed) s → P r s
-any_two P itself back with_before placed all r s has_r has_s =
-    subst (λ x. P x s) (sym at_r.is) (subst (P at_r.here.rr) (sym at_s.is) (by (two_partings at_r.before at_s.before at_r.others at_s.others at_r.here at_s.here (sym at_r.parts ∙ at_s.parts))))
+-- what holds of no record, and of one more that is accepted, holds of all
+pub each_accepted : (P : List Placed → Type 0) → P [] → ((before : List Placed) (p : Placed) → Accepts (records_of before) p.rr → P before → P (before ++ p ∷ [])) → (whole : List Placed) → AllAccepted whole → P whole
+each_accepted P none more whole all = by [] whole refl none
   where
-    at_r : StandsIn placed r
-    at_r = stands_in placed r has_r
+    by : (before placed : List Placed) → whole ≡ before ++ placed → P before → P whole
+    by before [] parts held = subst P (sym (parts ∙ append-nil before)) held
+    by before (p ∷ placed) parts held = by (before ++ p ∷ []) placed (parts ∙ sym (append_assoc before (p ∷ []) placed)) (more before p (all before placed p parts) held)
 
-    at_s : StandsIn placed s
-    at_s = stands_in placed s has_s
+abbrev AnyTwo : (Record → Record → Type 0) → List Placed → Type 0
+AnyTwo P placed = (r s : Record) → Has (records_of placed) r → Has (records_of placed) s → P r s
 
-    by : Partings at_r.before at_s.before at_r.here at_s.here → P at_r.here.rr at_s.here.rr
-    by (same is at) = subst (λ p. P at_r.here.rr p.rr) at (itself at_r.here.rr)
-    by (first between is) = with_before _ at_s.here.rr (all at_s.before at_s.others at_s.here at_s.parts) at_r.here.rr (subst (λ ps. Has (records_of ps) at_r.here.rr) (sym is) (Has-part at_r.before between at_r.here))
-    by (second between is) = back _ _ (with_before _ at_r.here.rr (all at_r.before at_r.others at_r.here at_r.parts) at_s.here.rr (subst (λ ps. Has (records_of ps) at_s.here.rr) (sym is) (Has-part at_s.before between at_s.here)))
+-- what an accepted record has with each before it holds of any two
+any_two : (P : Record → Record → Type 0) → ((r : Record) → P r r) → ((r s : Record) → P s r → P r s) → ((held : List Record) (r : Record) → Accepts held r → (s : Record) → Has held s → P s r) → (placed : List Placed) → AllAccepted placed → AnyTwo P placed
+any_two P itself back with_before = each_accepted (AnyTwo P) (λ r s none. absurd none) (λ before p fits pairs r s has_r has_s.
+    ⊎_elim (λ h. ⊎_elim (λ k. pairs r s h k) (λ f. subst (P r) (sym f) (with_before (records_of before) p.rr fits r h)) (Has-last before p s has_s))
+    (λ e. ⊎_elim (λ k. back r s (subst (P s) (sym e) (with_before (records_of before) p.rr fits s k))) (λ f. subst (P r) (e ∙ sym f) (itself r)) (Has-last before p s has_s)) (Has-last before p r has_r))
 
 module _ (placed : List Placed) (all : AllAccepted placed) where
   pub all_class : (r s : Record) → Has (records_of placed) r → Has (records_of placed) s → r.class ≡ s.class

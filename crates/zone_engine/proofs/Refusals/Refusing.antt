@@ -1,6 +1,6 @@
 -- A reading is refused for one fault at one place, and no zone has the records of a refused one.
-use Rattle.zone_engine.proofs.Common.{◌≡◌, ◌≤◌, List, [], ◌∷◌, ◌++◌, length, Less, refl, sym, ap, ◌∙◌, subst, inl, inr, ⊎_elim, arith, IsWithin, name_cmp, Record, Fault, OutOfZone, Place, Whole, Stop, Refused, Placed, Accepts, IsRefusedFor, class, soa, ttl, HasNoSoa, IsLeastOutside, StopsFinish, no_soa, outside, AllAccepted, IsFirstRefused, records_of, Has, SameRecords, Zone, IsZone, canon, text_limit, MakesZone, RefusesReading, refused, unread, unfinished, too_large, stable_owner, each_Has, Option, None, IsTotalOrder, ordering_reverse, Labels}
-use Rattle.zone_engine.proofs.Refusals.Parting.{Partings, same, first, second, two_partings, Has-part, all_soa}
+use Rattle.zone_engine.proofs.Common.{◌≡◌, ◌≤◌, List, ◌∷◌, length, Less, refl, sym, ap, ◌∙◌, subst, inl, ⊎_elim, arith, IsWithin, name_cmp, Record, Fault, OutOfZone, Place, Whole, Stop, Refused, Placed, Accepts, IsRefusedFor, class, soa, ttl, HasNoSoa, IsLeastOutside, StopsFinish, no_soa, outside, AllAccepted, IsFirstRefused, records_of, Has, SameRecords, Zone, IsZone, canon, text_limit, MakesZone, RefusesReading, refused, unread, unfinished, too_large, stable_owner, each_Has, Option, None, IsTotalOrder, ordering_reverse, Labels}
+use Rattle.zone_engine.proofs.Refusals.Parting.{Partings, same, first, second, two_partings, Has-part, Has-parts, all_soa}
 
 -- ---- the first record that is refused
 
@@ -46,15 +46,11 @@ module _ (z : Zone) (placed : List Placed) (zone : IsZone z) (same_records : Sam
     one_ttl = λ (s, has, one, other). other (zone.compatible.one_ttl s p.rr (earlier s has) here one);
   }
     where
-      Has-earlier : (ps : List Placed) (r : Record) → Has (records_of ps) r → Has (records_of (ps ++ p ∷ others)) r
-      Has-earlier [] r has = absurd has
-      Has-earlier (q ∷ ps) r has = ⊎_elim (λ is. inl is) (λ more. inr (Has-earlier ps r more)) has
-
       here : Has z.records p.rr
       here = in_zone p.rr (subst (λ ps. Has (records_of ps) p.rr) (sym parts) (Has-part before others p))
 
       earlier : (s : Record) → Has (records_of before) s → Has z.records s
-      earlier s has = in_zone s (subst (λ ps. Has (records_of ps) s) (sym parts) (Has-earlier before s has))
+      earlier s has = in_zone s (subst (λ ps. Has (records_of ps) s) (sym parts) ((Has-parts before (p ∷ others) s).1 (inl has)))
 
   zone_has_soa : HasNoSoa (records_of placed) → ⊥
   zone_has_soa none = let (r, has, is_soa, at) = zone.soa in none r ((same_records r).0 has) is_soa
@@ -108,10 +104,10 @@ one_stop total placed all _ _ (no_soa none) (outside owner least) = absurd (none
 one_stop total placed all _ _ (outside owner least) (no_soa none) = absurd (none least.soa least.held_soa.0 least.held_soa.1)
 one_stop total placed all _ _ (outside owner least) (outside other least') = ap (λ o. Refused (OutOfZone o) Whole) (one_least total placed all owner other least least')
 
+-- ---- a reading
+
 both_from : (f g : Fault) (at there : Place) → Refused f at ≡ Refused g there → (f ≡ g) × (at ≡ there)
 both_from f g at there e = let fault : f ≡ g = cc in let place : at ≡ there = cc in (fault, place)
-
--- ---- a reading
 
 pub one_refusal : IsTotalOrder name_cmp → (placed : List Placed) (ending : Option (Fault × Place)) (f g : Fault) (at there : Place) → RefusesReading placed ending f at → RefusesReading placed ending g there → (f ≡ g) × (at ≡ there)
 one_refusal total placed ending f g at there (refused f' at' is) (refused g' there' other) = one_first placed f' g' at' there' is other

@@ -1,6 +1,6 @@
 -- Each source begins with nothing, as a source of its form.
 use Rattle.zone_engine.proofs.Common.{MatchResult-weaker, as_file, as_transfer}
-use Rattle.zone_engine.proofs.Reading.FedSources.{file_begins, transfer_begins}
+use Rattle.zone_engine.proofs.Feeding.{file_begins, transfer_begins}
 use Rattle.zone_engine.proofs.engine.zone_of.Goals as goal
 
 pub returns-in_ok-zeros-in-File-clause-zone : goal.returns-in_ok-zeros-in-File-clause-zone

@@ -1,6 +1,6 @@
+use Rattle.zone_engine.proofs.Common.{◌≡◌, ◌≤◌, [], codes, length, refl, sym, ◌∙◌, inl, arith, lit≤, canon, text_limit, Has, IsZone, Record, IsRecord, AllByRecursion, x, soa_of, example_zone, each_Has}
 use Rattle.std.specs.Fmt.{digits}
 use Rattle.zone_name.specs.Name.{labels_of}
-use Rattle.zone_engine.proofs.Common.{◌≡◌, ◌≤◌, [], codes, length, refl, sym, ◌∙◌, inl, arith, lit≤, canon, text_limit, Has, IsZone, Record, IsRecord, AllByRecursion, x, soa_of, example_zone, each_Has}
 use Rattle.zone_engine.proofs.Reading.Inputs.{file_fits}
 use Rattle.zone_engine.proofs.examples.a_file_and_its_zone.Goals as goal
 

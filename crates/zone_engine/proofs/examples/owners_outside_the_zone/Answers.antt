@@ -1,5 +1,5 @@
 use Rattle.zone_engine.proofs.Common.{◌≡◌, ◌≢◌, ℕ, [], ◌∷◌, codes, refl, ap, sym, subst, inl, inr, ⊎_elim, arith, Less, IsWithin, name_cmp, OutOfZone, Whole, outside, top, under, x, soa_of, server_of, unfinished, Labels}
-use Rattle.zone_engine.proofs.Refusals.Small.{fits, all_of_three, outside_of}
+use Rattle.zone_engine.proofs.Refusals.Deciding.{fits, all_of_three, outside_of}
 use Rattle.zone_engine.proofs.examples.owners_outside_the_zone.Goals as goal
 
 abbrev y : Labels

@@ -1,5 +1,5 @@
 use Rattle.zone_engine.proofs.Common.{◌≡◌, codes, refl, ap, sym, ◌∙◌, ⊎_elim, arith, NoSoa, Whole, no_soa, top, server_of, unfinished}
-use Rattle.zone_engine.proofs.Refusals.Small.{fits, all_of_two}
+use Rattle.zone_engine.proofs.Refusals.Deciding.{fits, all_of_two}
 use Rattle.zone_engine.proofs.examples.records_without_an_soa.Goals as goal
 
 pub returns : goal.returns

@@ -1,5 +1,5 @@
 use Rattle.zone_engine.proofs.Common.{List, ap, codes, ℕ, ◌++◌, ◌∙◌, err_from_is_err_and, records_line, refusal_line}
-use Rattle.zone_engine.proofs.Telling.Explained.{explains, explains_part, on_records, on_refusal}
+use Rattle.zone_engine.proofs.Telling.{explains, explains_part, on_records, on_refusal}
 use Rattle.zone_engine.proofs.explanation.explain.Goals as goal
 
 pub returns-in_ok-write_line-in-Ok-clause-explained : goal.returns-in_ok-write_line-in-Ok-clause-explained

@@ -1,5 +1,5 @@
 -- The octets so far were appended.
-use Rattle.std.proofs.Common.{◌≡◌, ◌++◌, take, string_bytes}
+use Rattle.zone_engine.proofs.Common.{◌≡◌, ◌++◌, take, string_bytes}
 use Rattle.zone_engine.proofs.explanation.push_ascii.Given as goal
 
 abbrev pub invariant-loop-octet : goal.invariant-loop-octet

@@ -1,7 +1,6 @@
 -- The lines in the buffer and those to come are what the writer still has to take.
-use Rattle.zone_print.proofs.Common.{◌++◌, canon, lines}
+use Rattle.zone_print.proofs.Common.{◌++◌, canon, lines, WorksOn}
 use Rattle.zone_print.proofs.Front.{Left}
-use Rattle.zone_print.specs.Device.{WorksOn}
 use Rattle.zone_print.proofs.print.write_lines.Given as goal
 
 abbrev pub invariant-loop-rr : goal.invariant-loop-rr

@@ -1,7 +1,6 @@
 -- What is gone from `rest` was appended, by calls that did not fail.
-use Rattle.std.proofs.Common.{length}
+use Rattle.zone_print.proofs.Common.{length, WorksOn}
 use Rattle.zone_print.proofs.Front.{Left}
-use Rattle.zone_print.specs.Device.{WorksOn}
 use Rattle.zone_print.proofs.write.write_octets.Given as goal
 
 abbrev pub invariant-loop-rest : goal.invariant-loop-rest

@@ -1,5 +1,5 @@
-use Rattle.std.proofs.Common.{◌++◌}
-use Rattle.zone_engine.proofs.Reading.FedSources.{stands_on}
+use Rattle.zone_engine.proofs.Common.{◌++◌}
+use Rattle.zone_engine.proofs.Feeding.{stands_on}
 use Rattle.zone_engine.proofs.fed.TextSourceFedSource.feed.Goals as goal
 
 pub returns-clause-stands : goal.returns-clause-stands

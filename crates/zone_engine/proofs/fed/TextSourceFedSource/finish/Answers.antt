@@ -1,4 +1,4 @@
-use Rattle.zone_engine.proofs.Reading.FedSources.{stands_on}
+use Rattle.zone_engine.proofs.Feeding.{stands_on}
 use Rattle.zone_engine.proofs.fed.TextSourceFedSource.finish.Goals as goal
 
 pub returns-clause-stands : goal.returns-clause-stands

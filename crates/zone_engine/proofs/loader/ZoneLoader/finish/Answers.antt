@@ -1,4 +1,4 @@
-use Rattle.std.proofs.lemmas.Result.{err_from_is_err_and, MatchResult-weaker}
+use Rattle.zone_engine.proofs.Common.{err_from_is_err_and, MatchResult-weaker}
 use Rattle.zone_engine.proofs.Reading.Taken.{zone_of_records, zone_read, listing_refused, settling_refused, finishing_refused, first_is_of_bytes}
 use Rattle.zone_engine.proofs.loader.ZoneLoader.finish.Goals as goal
 

@@ -1,5 +1,4 @@
-use Rattle.zone_engine.proofs.Common.{sym, ◌∙◌, refl, arith}
-use Rattle.zone_rdata.proofs.Lists.{bytes_each}
+use Rattle.zone_engine.proofs.Common.{sym, ◌∙◌, refl, arith, bytes_each}
 use Rattle.zone_engine.proofs.Reading.Taken.{is_none_of, only_memory, some_of, taken_after, taken_more, taken_refused}
 use Rattle.zone_engine.proofs.loader.ZoneLoader.take.Goals as goal
 

@@ -1,6 +1,0 @@
-use Rattle.std.proofs.Common.{◌++◌}
-use Rattle.zone_engine.proofs.Reading.FedSources.{transfer_stands_on}
-use Rattle.zone_engine.proofs.fed.TransferSourceFedSource.feed.Goals as goal
-
-pub returns-clause-stands : goal.returns-clause-stands
-returns-clause-stands c = transfer_stands_on c.args.self.now c.feed.new.self (λ octets. octets ++ c.args.piece.now) c.feed.result c.feed.ensures.stands

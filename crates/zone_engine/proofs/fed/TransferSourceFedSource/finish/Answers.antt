@@ -1,5 +1,0 @@
-use Rattle.zone_engine.proofs.Reading.FedSources.{transfer_stands_on}
-use Rattle.zone_engine.proofs.fed.TransferSourceFedSource.finish.Goals as goal
-
-pub returns-clause-stands : goal.returns-clause-stands
-returns-clause-stands c = transfer_stands_on c.args.self.now c.finish.new.self (λ octets. octets) c.finish.result c.finish.ensures.stands
