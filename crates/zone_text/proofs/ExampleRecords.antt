@@ -8,17 +8,11 @@ use Rattle.zone_rdata.specs.Spelling.{RawItem, bare}
 use Rattle.zone_rdata.specs.Number as number
 use Rattle.zone_text.proofs.Heads.ClassWords.{time_first}
 
-pub x_name : IsName x
-x_name = omega arith
-
 pub n_name : IsName (under 110 x)
 n_name = omega arith
 
 pub ax_name : IsName (under 97 x)
 ax_name = omega arith
-
-pub bax_name : IsName (under 98 (under 97 x))
-bax_name = omega arith
 
 -- `@` is the origin
 pub at_spells : (above : List (List ℕ)) → IsName above → Spells (Some above) (codes "@") above
@@ -35,9 +29,9 @@ pub a_spells : Spells (Some x) (codes "a") (under 97 x)
 a_spells = one_octet 97 x refl (omega arith) (omega arith) ax_name
 
 pub b_spells : Spells (Some (under 97 x)) (codes "b") (under 98 (under 97 x))
-b_spells = one_octet 98 (under 97 x) refl (omega arith) (omega arith) bax_name
+b_spells = one_octet 98 (under 97 x) refl (omega arith) (omega arith) (omega arith)
 
-n_x_spells : (above : List (List ℕ)) → Spells (Some above) (codes "n.x.") (under 110 x)
+pub n_x_spells : (above : List (List ℕ)) → Spells (Some above) (codes "n.x.") (under 110 x)
 n_x_spells above = record {
   written = absolute ((plain 110 ∷ []) ∷ (plain 120 ∷ []) ∷ []) (record { some = lit< tt; each = (record { some = lit< tt; each = ((refl, omega arith), tt) }, (record { some = lit< tt; each = ((refl, omega arith), tt) }, tt)) }) refl refl;
   name = n_name;
@@ -46,29 +40,17 @@ n_x_spells above = record {
 pub sixty : IsTime (codes "60") 60
 sixty = number.plain (record { some = lit< tt; digits = (refl, (refl, tt)); value = refl })
 
-pub three_hundred : IsTime (codes "300") 300
-three_hundred = search rules
-
 pub is_ns : IsKindWord (codes "NS") 2
 is_ns = by_mnemonic (record { name = codes "NS"; row = refl; same = refl })
 
 pub is_ch : IsClassWord (codes "CH") 3
 is_ch = by_mnemonic (record { name = codes "CH"; row = refl; same = refl })
 
-pub in_class : IsClass 1
-in_class = omega arith
-
-pub ch_class : IsClass 3
-ch_class = omega arith
-
 pub ns_kind : IsKind 2
 ns_kind = record { short = lit< tt; stored = refl }
 
 pub states_server : (above : List (List ℕ)) (class : ℕ) (text : List ℕ) → text ≢ codes "\\#" → Spells (Some above) text (under 110 x) → States above class 2 (bare text ∷ []) (wire (under 110 x))
 states_server above class text not_mark spells = record { stated = in_words (Name ∷ []) (name (under 110 x) ∷ []) refl (λ is. let e = is.1 in not_mark (let mark : text ≡ codes "\\#" = cc in mark)) (spells, tt) refl (lit≤ tt) }
-
-pub ns_states : (above : List (List ℕ)) (class : ℕ) → States above class 2 (bare (codes "n.x.") ∷ []) (wire (under 110 x))
-ns_states above class = states_server above class (codes "n.x.") (λ e. absurd cc) (n_x_spells above)
 
 ns_fits : (owner : List (List ℕ)) (class ttl : ℕ) → IsName owner → IsClass class → ttl ≤ 2147483647 → IsRecord (ns owner class ttl)
 unfolding labels_of
@@ -101,13 +83,10 @@ states_server_by text origin before entry owner above class ttl words not_mark s
 pub states_ns : (origin : List (List ℕ)) (before : List Entry) (entry : Entry) (owner above : List (List ℕ)) (class ttl : ℕ) (words : List Word) → parts_in (statement_of entry) ≡ Some (record { words = words; rest = bare (codes "NS") ∷ bare (codes "n.x.") ∷ [] }) → IsOwner origin before (statement_of entry) owner → AllByRecursion HasValue words → HasClass before entry class → IsOrigin origin before above → HasTtl origin before entry ttl → IsName owner → IsClass class → ttl ≤ 2147483647 → EntryStates origin before entry (ns owner class ttl)
 states_ns origin before entry owner above class ttl words = states_server_by (codes "n.x.") origin before entry owner above class ttl words (λ e. absurd cc) (n_x_spells above)
 
-pub long_time : IsTime (codes "2147483648") 2147483648
-long_time = search rules
-
 -- a time of more than 31 bits is no TTL
 pub too_long : ((text : List ℕ) (a b : ℕ) → IsTime text a → IsTime text b → a ≡ b) → (seconds : ℕ) → IsTtl (codes "2147483648") seconds → ⊥
 too_long once seconds is =
-    let same : seconds ≡ 2147483648 = once (codes "2147483648") seconds 2147483648 is.time long_time in
+    let same : seconds ≡ 2147483648 = once (codes "2147483648") seconds 2147483648 is.time (search rules) in
     omega arith
 
 -- a word that begins with no digit is no TTL
@@ -146,9 +125,6 @@ digit c n is value = record { some = lit< tt; digits = (is, tt); value = value }
 pub five : IsTime (codes "5") 5
 five = number.plain (digit 53 5 refl refl)
 
-soa_kind : IsKind 6
-soa_kind = record { short = lit< tt; stored = refl }
-
 -- the items after the type's word, the last of them the MINIMUM, and what they spell
 abbrev pub soa_items : List ℕ → List RawItem
 soa_items text = bare (codes "n") ∷ bare (codes "h") ∷ bare (codes "1") ∷ bare (codes "2") ∷ bare (codes "3") ∷ bare (codes "4") ∷ bare text ∷ []
@@ -173,7 +149,7 @@ has_head before entry owner words word kind items split owns values has named is
 pub soa_head : (text : List ℕ) (before : List Entry) (entry : Entry) (words : List Word) → parts_in (statement_of entry) ≡ Some (record { words = words; rest = bare (codes "SOA") ∷ soa_items text }) → IsOwner x before (statement_of entry) x → AllByRecursion HasValue words → HasClass before entry 1 → HasHead x before entry x 1 6 (soa_items text)
 soa_head text before entry words split owns values has =
     has_head before entry x words (codes "SOA") 6 (soa_items text) split owns values has
-    (by_mnemonic (record { name = codes "SOA"; row = refl; same = refl })) soa_kind
+    (by_mnemonic (record { name = codes "SOA"; row = refl; same = refl })) (record { short = lit< tt; stored = refl })
 
 abbrev pub soa_data : ℕ → Data
 soa_data last = record { class = 1; kind = 6; octets = octets_of (soa_values last) }
@@ -199,10 +175,7 @@ minimum_too_long = refl
 
 -- an entry of the items `NS n`
 pub states_ns_below : (before : List Entry) (entry : Entry) (ttl : ℕ) (words : List Word) → parts_in (statement_of entry) ≡ Some (record { words = words; rest = bare (codes "NS") ∷ bare (codes "n") ∷ [] }) → IsOwner x before (statement_of entry) x → AllByRecursion HasValue words → HasClass before entry 1 → IsOrigin x before x → HasTtl x before entry ttl → ttl ≤ 2147483647 → EntryStates x before entry (ns x 1 ttl)
-states_ns_below before entry ttl words split owns values has under_it lasts short = states_server_by (codes "n") x before entry x x 1 ttl words (λ e. absurd cc) n_spells split owns values has under_it lasts x_name in_class short
-
-pub sixty_one : IsTime (codes "61") 61
-sixty_one = number.plain (record { some = lit< tt; digits = (refl, (refl, tt)); value = refl })
+states_ns_below before entry ttl words split owns values has under_it lasts short = states_server_by (codes "n") x before entry x x 1 ttl words (λ e. absurd cc) n_spells split owns values has under_it lasts (omega arith) (omega arith) short
 
 one_digit : (c n : ℕ) → is_digit c ≡ true → n ≡ decimal_value (c ∷ []) → n ≤ 255 → IsOctetNumber (c ∷ []) n
 one_digit c n is value short = record { number = digit c n is value; short = short }

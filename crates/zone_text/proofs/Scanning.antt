@@ -1,7 +1,6 @@
 -- What a scan finds of octets: where entries end, and which are read at one look.
 pub mod FedPieces
 pub mod FirstEntries
-pub mod FirstFound
 pub mod OpenEntries
 pub mod ScanReads
 pub mod ScanSteps

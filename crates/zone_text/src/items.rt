@@ -190,6 +190,7 @@ pub(crate) fn keep<'t>(item: Item<'t>, items: &mut Vec<Item<'t>>) -> Result<(), 
 /// # Errors
 ///
 /// `AllocError`. `items` holds nothing that is used again.
+#[tactic(auto, using(crate::proofs::Tokens::ItemsLeft::in_front_shorter))]
 pub(crate) fn cut_items<'t>(entry: &'t [u8], items: &mut Vec<Item<'t>>) -> Result<(), AllocError>
     ensures { OnOk result (KeepsItems entry.now (map raw items.new.items)) }
 {

@@ -33,7 +33,7 @@ pub enum Statement<'i, 't> {
 }
 
 /// The directive of a word in any letter case.
-#[tactic(auto, using(crate::proofs::Heads::DirectiveWords::word_test))]
+#[tactic(auto, using(crate::proofs::Heads::ClassWords::word_test))]
 fn directive_of<'i, 't>(word: Item<'t>, items: &'i [Item<'t>]) -> Directive<'i, 't>
     ensures { directive_in result ≡ directive (raw word.entry) (map raw items.now) }
 {

@@ -41,6 +41,7 @@ impl TextSource {
     ghost use Rattle.zone_text.specs.TextSource.{StandsForFile};
 
     /// A source that was fed nothing, under the origin of the file.
+    #[tactic(auto, using(crate::proofs::Files::Standing::stands_begun))]
     pub fn new(alloc: Global, origin: &Name) -> TextSource
         ensures stands { StandsForFile origin.now result [] [] }
         ensures going { result.held.finished ≡ false }

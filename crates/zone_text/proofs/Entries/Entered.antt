@@ -1,5 +1,5 @@
 -- An entry states a record, states nothing or has a fault: one of the three at most, and each once.
-use Rattle.zone_text.proofs.Common.{AllByRecursion, BadTtl, Entry, EntryFault, EntryStates, Err, Fault, HasClass, HasTtl, HasValue, IsClass, IsDataFault, IsKind, IsKindWord, IsNameFaultAfter, IsOrigin, IsOwner, List, Lower, NoTtl, None, Ok, Once, Parts, PartsFault, Record, Result, Some, SpellingFault, SpellsAfter, Statement, StatementFault, States, StatesNothing, TtlFault, Word, WordFault, [], ap, class, inl, inr, long, no_items, none, of_parts, of_rdata, of_statement, of_ttl, owned, parts_in, refl, rules, sets_origin, sets_ttl, statement_of, subst, sym, ttl, unowned, ℕ, ◌∙◌, ◌∷◌, ◌≡◌, ◌≤◌, ◌⊎◌, arith}
+use Rattle.zone_text.proofs.Common.{AllByRecursion, BadTtl, Entry, EntryFault, EntryStates, Err, Fault, HasClass, HasTtl, HasValue, IsClass, IsDataFault, IsKind, IsKindWord, IsNameFaultAfter, IsOrigin, IsOwner, List, Lower, NoTtl, None, Ok, Once, Parts, PartsFault, Record, Result, Some, SpellingFault, SpellsAfter, Statement, StatementFault, States, StatesNothing, TtlFault, Word, WordFault, [], ap, arith, class, inl, inr, long, no_items, none, of_parts, of_rdata, of_statement, of_ttl, owned, parts_in, refl, rules, sets_origin, sets_ttl, statement_of, subst, sym, ttl, unowned, ℕ, ◌∙◌, ◌∷◌, ◌≡◌, ◌≤◌, ◌⊎◌}
 use Rattle.zone_rdata.specs.Spelling.{bare, RawItem}
 use Rattle.zone_text.proofs.Entries.Inherits.{Then, then_once, origin_once, owner_once, class_once, ttl_once}
 
@@ -25,8 +25,7 @@ module _ (lower : Lower) (origin : List (List ℕ)) (before : List Entry) where
 
   pub name_or_fault : (text : List ℕ) (name : List (List ℕ)) (fault : Fault) → SpellsAfter origin before text name → IsNameFaultAfter origin before text fault → ⊥
   name_or_fault text name fault x y =
-      let above : x.0 ≡ y.0 = origin_once lower origin before x.0 y.0 x.1.0 y.1.0 in
-      lower.name_or_fault x.0 text name y.1.1.0 x.1.1 (subst (λ a. SpellingFault (Some a) text y.1.1.0) (sym above) y.1.1.1)
+      lower.name_or_fault x.0 text name y.1.1.0 x.1.1 (subst (λ a. SpellingFault (Some a) text y.1.1.0) (sym (origin_once lower origin before x.0 y.0 x.1.0 y.1.0)) y.1.1.1)
 
   -- the statement
 
@@ -40,8 +39,7 @@ module _ (lower : Lower) (origin : List (List ℕ)) (before : List Entry) where
 
   owner_or_fault : (form : Statement) (name : List (List ℕ)) (fault : Fault) → IsOwner origin before form name → StatementFault origin before form fault → ⊥
   owner_or_fault (owned (bare text) items) name f x y = name_or_fault text name f x y
-  owner_or_fault (unowned items) name f x y = y.1 name x
-  owner_or_fault form name f x y = x
+  owner_or_fault form name f x y = grind arith
 
   nothing_or_statement : (form : Statement) (fault : Fault) → StatesNothing origin before form → StatementFault origin before form fault → ⊥
   nothing_or_statement (sets_origin (bare text ∷ [])) f x y = name_or_fault text x.0 f x.1 y
@@ -58,8 +56,7 @@ word_fault_once (class text) f g x y = x.0 ∙ sym y.0
 word_or_fault : Lower → (word : Word) (fault : Fault) → HasValue word → WordFault word fault → ⊥
 word_or_fault lower (ttl text) f x y = y.1 x.0 x.1
 word_or_fault lower (class text) f x y =
-    let same : x.0 ≡ y.1.0 = lower.class text x.0 y.1.0 x.1.0 y.1.1.0 in
-    y.1.1.1 (subst IsClass same x.1.1)
+    y.1.1.1 (subst IsClass (lower.class text x.0 y.1.0 x.1.0 y.1.1.0) x.1.1)
 
 -- the type
 
@@ -249,8 +246,5 @@ record_or_fault lower origin before entry r f x y = record_or_steps lower origin
 pub nothing_or_record : (origin : List (List ℕ)) (before : List Entry) (entry : Entry) (r : Record) → StatesNothing origin before (statement_of entry) → EntryStates origin before entry r → ⊥
 nothing_or_record origin before entry r x y = search rules
 
-nothing_or_steps : Lower → (origin : List (List ℕ)) (before : List Entry) (entry : Entry) (fault : Fault) → StatesNothing origin before (statement_of entry) → DirectiveFault origin before (statement_of entry) fault ⊎ FaultySteps origin before entry fault → ⊥
-nothing_or_steps lower origin before entry f x given = grind (arith, nothing_or_statement, nothing_or_parts)
-
 pub nothing_or_fault : Lower → (origin : List (List ℕ)) (before : List Entry) (entry : Entry) (fault : Fault) → StatesNothing origin before (statement_of entry) → EntryFault origin before entry fault → ⊥
-nothing_or_fault lower origin before entry f x y = search (rules, nothing_or_steps, faulty_steps)
+nothing_or_fault lower origin before entry f x y = grind (arith, nothing_or_statement, nothing_or_parts, faulty_steps)

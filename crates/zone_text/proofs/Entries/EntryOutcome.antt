@@ -1,12 +1,12 @@
 -- An entry after others that state nothing or a record has an outcome: nothing, a record or a first
 -- fault.
-use Rattle.zone_text.proofs.Common.{AllByRecursion, AllByRecursion-append, AllState, AreOctetItems, BadDirective, BadTtl, Bool, Choices, Data, Entry, EntryFault, EntryStates, Fault, HasClass, HasContents, HasHeadOf, HasTtl, HasValue, Head, IncludeDirective, IsClass, IsClassWord, IsDataFault, IsKind, IsKindWord, IsLastMinimum, IsLastOwner, IsName, IsNameFaultAfter, IsOrigin, IsOwner, IsTime, IsTtl, IsWordFault, Labels, List, Lower, MatchOption, NoOwner, NoTtl, None, Option, Parts, PartsFault, Record, Some, SpellingFault, Spells, SpellsAfter, Statement, StatementFault, States, StatesMinimum, StatesNothing, UnknownDirective, UnknownType, Word, WordFault, [], ap, arith, cases_eq, cases_lt, class, class_among, class_word, data_of, fault_of, if◌then◌else◌, includes, inl, inr, is_class_word, latest, long, minimum, no_items, none, of_parts, of_rdata, of_statement, of_ttl, option_and_then, option_or, owned, owner_text, parts_after, parts_in, refl, rules, sets_origin, sets_ttl, stated_ttl, statement_by, statement_of, subst, sym, true, ttl, unknown, unless_stated, unowned, word_after, ℕ, ◌++◌, ◌<◌, ◌∙◌, ◌∷◌, ◌≡◌, ◌⊎◌}
+use Rattle.zone_text.proofs.Heads.WordsLeft.{parts_by}
+use Rattle.zone_text.proofs.Common.{AllByRecursion, AllByRecursion-append, AllState, AreOctetItems, BadDirective, BadTtl, Bool, Choices, Data, Entry, EntryFault, EntryStates, Fault, HasClass, HasContents, HasHeadOf, HasTtl, HasValue, Head, IncludeDirective, IsClass, IsClassWord, IsDataFault, IsKind, IsKindWord, IsLastMinimum, IsLastOwner, IsName, IsNameFaultAfter, IsOrigin, IsOwner, IsTime, IsTtl, Labels, List, Lower, MatchOption, NoOwner, NoTtl, None, Option, Parts, PartsFault, Record, Some, SpellingFault, Spells, SpellsAfter, Statement, StatementFault, States, StatesMinimum, StatesNothing, UnknownDirective, UnknownType, Word, WordFault, [], ap, arith, cases_eq, cases_lt, class, class_among, class_word, data_of, fault_of, if◌then◌else◌, includes, inl, inr, is_class_word, latest, long, minimum, no_items, none, of_parts, of_rdata, of_statement, of_ttl, option_and_then, option_or, owned, owner_text, parts_after, parts_in, refl, rules, sets_origin, sets_ttl, stated_ttl, statement_by, statement_of, subst, sym, true, ttl, unknown, unless_stated, unowned, word_after, ℕ, ◌++◌, ◌<◌, ◌∙◌, ◌∷◌, ◌≡◌, ◌⊎◌}
 use Rattle.zone_name.specs.declared.fault.NameFault.{NameFault}
 use Rattle.zone_rdata.specs.Spelling.{RawItem, bare, quoted}
 use Rattle.zone_text.proofs.Entries.Entered.{nothing_or_parts}
 use Rattle.zone_text.proofs.Entries.Inherits.{contents_once}
 use Rattle.zone_text.proofs.Heads.ClassWords.{class_word_of}
-use Rattle.zone_text.proofs.Heads.WordsLeft.{parts_by}
 
 -- ---- the origin
 
@@ -134,12 +134,9 @@ module _ (lower : Lower) (origin : List (List ℕ)) (before : List Entry) (entry
   minimum_by owner rdata (Some seconds) has e = inl (seconds, (owner, rdata, has, e))
   minimum_by owner rdata None has e = inr (states_no_minimum owner rdata has e)
 
-  minimum_of : (owner : Labels) (rdata : Data) → HasContents origin before entry owner rdata → Choice (StatesMinimum origin before entry)
-  minimum_of owner rdata has = minimum_by owner rdata (minimum rdata) has refl
-
   minimum_in : StatesNothing origin before (statement_of entry) ⊎ ((r : Record) × EntryStates origin before entry r) → Choice (StatesMinimum origin before entry)
   minimum_in (inl n) = inr (λ seconds (owner, rdata, has, field). nothing_or_parts origin before (statement_of entry) has.head.parts n has.head.split)
-  minimum_in (inr s) = minimum_of s.0.owner (data_of s.0) s.1.contents
+  minimum_in (inr s) = minimum_by s.0.owner (data_of s.0) (minimum (data_of s.0)) s.1.contents refl
 
 pub no_minimum : (origin : List (List ℕ)) (before : List Entry) (entry : Entry) → ((n : ℕ) → StatesMinimum origin before entry n → ⊥) → ((n : ℕ) → IsLastMinimum origin before n → ⊥) → (n : ℕ) → IsLastMinimum origin (entry ∷ before) n → ⊥
 no_minimum origin before entry here earlier n (inl x) = here n x
@@ -167,14 +164,11 @@ Outcome origin before entry = StatesNothing origin before (statement_of entry) �
 abbrev PartsChoice : List Word → List RawItem → Type 0
 PartsChoice words rest = (AllByRecursion HasValue words × ((word : List ℕ) × ((items : List RawItem) × ((n : ℕ) × ((rest ≡ bare word ∷ items) × (AreOctetItems items × (IsKindWord word n × IsKind n))))))) ⊎ ((fault : Fault) × PartsFault words rest fault)
 
-kind_by : (text : List ℕ) (items : List RawItem) → AreOctetItems items → ((n : ℕ) × (IsKindWord text n × IsKind n)) ⊎ ((fault : Fault) × IsWordFault text fault) → PartsChoice [] (bare text ∷ items)
-kind_by text items low given = grind arith
-
 word_by : (word : Word) (words : List Word) (rest : List RawItem) → WordChoice word → PartsChoice words rest → PartsChoice (word ∷ words) rest
 word_by word words rest given others = grind arith
 
 parts_or_fault : Lower → Choices → (words : List Word) (rest : List RawItem) → AllByRecursion IsKnown words → AreOctetItems rest → PartsChoice words rest
-parts_or_fault lower choices [] (bare text ∷ items) known low = kind_by text items low.1 (choices.kind text)
+parts_or_fault lower choices [] (bare text ∷ items) known low = grind (arith, (choices.kind text))
 parts_or_fault lower choices [] rest known low = inr (UnknownType, refl)
 parts_or_fault lower choices (word ∷ words) rest known low = word_by word words rest (word_or_fault lower choices word known.0) (parts_or_fault lower choices words rest known.1 low)
 
@@ -186,13 +180,11 @@ DirectiveChoice origin before form = StatesNothing origin before form ⊎ ((faul
 
 -- the items of a form
 abbrev LowForm : Statement → Type 0
-LowForm no_items = Unit {0}
 LowForm (sets_origin items) = AreOctetItems items
 LowForm (sets_ttl items) = AreOctetItems items
-LowForm includes = Unit {0}
-LowForm unknown = Unit {0}
 LowForm (owned owner items) = AreOctetItems (owner ∷ items)
 LowForm (unowned items) = AreOctetItems items
+LowForm form = Unit {0}
 
 module _ (lower : Lower) (choices : Choices) (origin : List (List ℕ)) (before : List Entry) (entry : Entry) (is : IsName origin) (states : AllState origin before) where
   from_ttl : (owner : Labels) (rdata : Data) → IsName owner → IsClass rdata.class → HasContents origin before entry owner rdata → Choice (HasTtl origin before entry) → Outcome origin before entry
@@ -216,20 +208,17 @@ module _ (lower : Lower) (choices : Choices) (origin : List (List ℕ)) (before 
   from_rdata head above name holds has under (inl found) =
       let rdata : Data = record { class = head.class; kind = head.kind; octets = found.0 } in
       let contents : HasContents origin before entry head.owner rdata = record { items = head.items; above = above; head = has; under = under; states = found.1 } in
-      from_ttl head.owner rdata name holds contents (ttl_by (stated_ttl before entry) (IsLastMinimum origin (entry ∷ before)) (last_by origin before entry (minimum_of lower origin before entry head.owner rdata contents) (last_minimum lower origin before states)) choices.time)
+      from_ttl head.owner rdata name holds contents (ttl_by (stated_ttl before entry) (IsLastMinimum origin (entry ∷ before)) (last_by origin before entry (minimum_by lower origin before entry head.owner rdata (minimum rdata) contents refl) (last_minimum lower origin before states)) choices.time)
 
   from_parts : (parts : Parts) (owner : List (List ℕ)) → parts_in (statement_of entry) ≡ Some parts → IsOwner origin before (statement_of entry) owner → IsName owner → PartsChoice parts.words parts.rest → Outcome origin before entry
   from_parts parts owner split owns name (inr bad) = inr (inr (bad.0, of_parts owner parts owns split bad.1))
   from_parts parts owner split owns name (inl found) =
-      let word = found.1.0 in
-      let items = found.1.1.0 in
-      let kind = found.1.1.1.0 in
       let facts = found.1.1.1.1 in
       let number = class_is origin before entry parts states split found.0 in
       let above = origin_is origin before is states in
-      let head : Head = record { owner = owner; class = number.0; kind = kind; items = items } in
-      let has : HasHeadOf origin before entry head = record { parts = parts; word = word; split = split; owner = owns; words = found.0; class = number.1.0; rest = facts.0; named = facts.1.1.0; kind = facts.1.1.1 } in
-      from_rdata head above.0 name number.1.1 has above.1.0 (choices.rdata above.0 number.0 kind items above.1.1 facts.1.0)
+      let head : Head = record { owner = owner; class = number.0; kind = found.1.1.1.0; items = found.1.1.0 } in
+      let has : HasHeadOf origin before entry head = record { parts = parts; word = found.1.0; split = split; owner = owns; words = found.0; class = number.1.0; rest = facts.0; named = facts.1.1.0; kind = facts.1.1.1 } in
+      from_rdata head above.0 name number.1.1 has above.1.0 (choices.rdata above.0 number.0 found.1.1.1.0 found.1.1.0 above.1.1 facts.1.0)
 
   from_owner : (parts : Parts) → parts_in (statement_of entry) ≡ Some parts → AreGood parts → OwnerOutcome origin before (statement_of entry) → Outcome origin before entry
   from_owner parts split good (inr bad) = inr (inr (bad.0, of_statement bad.1))
@@ -261,8 +250,7 @@ module _ (lower : Lower) (choices : Choices) (origin : List (List ℕ)) (before 
   default_or_fault items = inr (BadDirective, refl)
 
   directive_outcome : DirectiveChoice origin before (statement_of entry) → Outcome origin before entry
-  directive_outcome (inl n) = inl n
-  directive_outcome (inr bad) = inr (inr (bad.0, of_statement bad.1))
+  directive_outcome given = grind arith
 
   -- ---- the form
 

@@ -1,6 +1,6 @@
 -- The parser state is what the look back over the entries finds: one entry more, and the TTL that
 -- a record inherits.
-use Rattle.zone_text.proofs.Common.{Data, Entry, HasContents, HasHeadOf, HasTtl, Head, IsLastMinimum, IsLastOwner, IsOneOrNone, IsOrigin, IsStateAfter, IsTime, IsTtl, IsTtlOrNone, Labels, List, Lower, MatchOption, None, Option, ParserState, RawItem, SetsOrigin, SetsTtl, Some, SpellsAfter, Statement, StatesMinimum, StatesNothing, [], ap, default_ttl_text, inl, inr, latest, minimum, one_bare, option_or, origin_text, owner_text, parts_in, refl, rules, sets_origin, sets_ttl, stated_ttl, statement_of, subst, sym, ttl_text, with_owner, ℕ, ◌∙◌, ◌∷◌, ◌≡◌, arith}
+use Rattle.zone_text.proofs.Common.{Data, Entry, HasContents, HasHeadOf, Head, IsLastMinimum, IsLastOwner, IsOneOrNone, IsOrigin, IsStateAfter, IsTime, IsTtlOrNone, Labels, List, Lower, MatchOption, None, Option, ParserState, RawItem, SetsOrigin, SetsTtl, Some, SpellsAfter, Statement, StatesMinimum, StatesNothing, [], ap, default_ttl_text, inl, inr, latest, minimum, one_bare, option_or, origin_text, owner_text, parts_in, refl, rules, sets_origin, sets_ttl, stated_ttl, statement_of, subst, sym, ttl_text, with_owner, ℕ, ◌∙◌, ◌∷◌, ◌≡◌, arith}
 use Rattle.zone_rdata.specs.Item.{bare}
 use Rattle.zone_text.proofs.Entries.EntryOutcome.{states_no_minimum, no_minimum}
 
@@ -18,19 +18,11 @@ leaves origin before entry form d name seconds is no_parts no_owner so_far under
 pub same_origin : (origin : Labels) (before : List Entry) (entry : Entry) (form : Statement) (name : Labels) → statement_of entry ≡ form → origin_text form ≡ None → IsOrigin origin before name → IsOrigin origin (entry ∷ before) name
 same_origin origin before entry form name is none so_far = search rules
 
--- no `$TTL`
-pub same_default : (before : List Entry) (entry : Entry) (form : Statement) (seconds : Option ℕ) → statement_of entry ≡ form → default_ttl_text form ≡ None → IsTtlOrNone (latest default_ttl_text before) seconds → IsTtlOrNone (latest default_ttl_text (entry ∷ before)) seconds
-same_default before entry form seconds is none so_far = search rules
-
 -- ---- a record
 
-minimum_by : Lower → (origin : Labels) (before : List Entry) (entry : Entry) (owner : Labels) (rdata : Data) (own carried : Option ℕ) → HasContents origin before entry owner rdata → minimum rdata ≡ own → IsOneOrNone (IsLastMinimum origin before) carried → IsOneOrNone (IsLastMinimum origin (entry ∷ before)) (option_or own carried)
+pub minimum_by : Lower → (origin : Labels) (before : List Entry) (entry : Entry) (owner : Labels) (rdata : Data) (own carried : Option ℕ) → HasContents origin before entry owner rdata → minimum rdata ≡ own → IsOneOrNone (IsLastMinimum origin before) carried → IsOneOrNone (IsLastMinimum origin (entry ∷ before)) (option_or own carried)
 minimum_by lower origin before entry owner rdata (Some n) carried has e so_far = inl (owner, rdata, has, e)
 minimum_by lower origin before entry owner rdata None carried has e so_far = search (rules, last_minimum, states_no_minimum)
-
--- the MINIMUM of the latest SOA, which may be the record
-pub next_minimum : Lower → (origin : Labels) (before : List Entry) (entry : Entry) (owner : Labels) (rdata : Data) (carried : Option ℕ) → HasContents origin before entry owner rdata → IsOneOrNone (IsLastMinimum origin before) carried → IsOneOrNone (IsLastMinimum origin (entry ∷ before)) (option_or (minimum rdata) carried)
-next_minimum lower origin before entry owner rdata carried has so_far = minimum_by lower origin before entry owner rdata (minimum rdata) carried has refl so_far
 
 -- what a record leaves, its owner aside
 pub record_leaves : (origin : Labels) (before : List Entry) (entry : Entry) (d next : ParserState) (head : Head) (own : Option ℕ) (owner : Option Labels) → IsStateAfter origin before d → HasHeadOf origin before entry head → IsTtlOrNone (ttl_text (statement_of entry)) own → next.origin ≡ d.origin → next.class ≡ head.class → next.default_ttl ≡ d.default_ttl → next.last_ttl ≡ option_or own d.last_ttl → IsOneOrNone (IsLastMinimum origin (entry ∷ before)) next.minimum → IsOneOrNone (IsLastOwner origin (entry ∷ before)) owner → IsStateAfter origin (entry ∷ before) (with_owner owner next)
@@ -42,46 +34,32 @@ record_leaves origin before entry d next head own owner so_far has own_ttl same_
 pub ttl_stated : (origin : Labels) (before : List Entry) (entry : Entry) (d : ParserState) (own : Option ℕ) → IsStateAfter origin before d → IsTtlOrNone (ttl_text (statement_of entry)) own → IsTtlOrNone (stated_ttl before entry) (option_or (option_or own d.default_ttl) d.last_ttl)
 ttl_stated origin before entry d own so_far own_ttl = search rules
 
-has_by : (o : Option (List ℕ)) (stated last : Option ℕ) (n : ℕ) (Last : ℕ → Type 0) → IsTtlOrNone o stated → IsOneOrNone Last last → option_or stated last ≡ Some n → MatchOption o (Last n) (λ text. IsTime text n)
+pub has_by : (o : Option (List ℕ)) (stated last : Option ℕ) (n : ℕ) (Last : ℕ → Type 0) → IsTtlOrNone o stated → IsOneOrNone Last last → option_or stated last ≡ Some n → MatchOption o (Last n) (λ text. IsTime text n)
 has_by None stated last n Last none is e = grind arith
 has_by (Some text) None last n Last ttl is e = absurd ttl
 has_by (Some text) (Some m) last n Last ttl is e = let at : m ≡ n = cc in subst (IsTime text) at ttl.time
 
-pub has_ttl : (origin : Labels) (before : List Entry) (entry : Entry) (stated last : Option ℕ) (n : ℕ) → IsTtlOrNone (stated_ttl before entry) stated → IsOneOrNone (IsLastMinimum origin (entry ∷ before)) last → option_or stated last ≡ Some n → HasTtl origin before entry n
-has_ttl origin before entry stated last n ttl is e = has_by (stated_ttl before entry) stated last n (IsLastMinimum origin (entry ∷ before)) ttl is e
-
-none_by : (o : Option (List ℕ)) (stated last : Option ℕ) (Last : ℕ → Type 0) → IsTtlOrNone o stated → IsOneOrNone Last last → option_or stated last ≡ None → (n : ℕ) → MatchOption o (Last n) (λ text. IsTime text n) → ⊥
+pub none_by : (o : Option (List ℕ)) (stated last : Option ℕ) (Last : ℕ → Type 0) → IsTtlOrNone o stated → IsOneOrNone Last last → option_or stated last ≡ None → (n : ℕ) → MatchOption o (Last n) (λ text. IsTime text n) → ⊥
 none_by o stated last Last none is e n has = search rules
-
-pub has_no_ttl : (origin : Labels) (before : List Entry) (entry : Entry) (stated last : Option ℕ) → IsTtlOrNone (stated_ttl before entry) stated → IsOneOrNone (IsLastMinimum origin (entry ∷ before)) last → option_or stated last ≡ None → (n : ℕ) → HasTtl origin before entry n → ⊥
-has_no_ttl origin before entry stated last ttl is e = none_by (stated_ttl before entry) stated last (IsLastMinimum origin (entry ∷ before)) ttl is e
 
 -- ---- directives that are read
 
 one_bare_is : (items : List RawItem) (text : List ℕ) → one_bare items ≡ Some text → items ≡ bare text ∷ []
 one_bare_is items text e = grind arith
 
-origin_states : (origin : Labels) (before : List Entry) (items : List RawItem) (text : List ℕ) (name : Labels) → one_bare items ≡ Some text → SpellsAfter origin before text name → StatesNothing origin before (sets_origin items)
-origin_states origin before (bare other ∷ []) text name e spells = let same : text ≡ other = cc in (name, subst (λ t. SpellsAfter origin before t name) same spells)
-origin_states origin before items text name e spells = absurd cc
-
 pub origin_set : (origin : Labels) (before : List Entry) (entry : Entry) (d next : ParserState) (items : List RawItem) → IsStateAfter origin before d → statement_of entry ≡ sets_origin items → SetsOrigin items d next → StatesNothing origin before (statement_of entry) × IsStateAfter origin (entry ∷ before) next
 origin_set origin before entry d next items so_far form sets =
     let spells : SpellsAfter origin before sets.text next.origin = (d.origin, (so_far.under, sets.spelled)) in
     let text : origin_text (statement_of entry) ≡ Some sets.text = ap origin_text form ∙ ap (λ items. origin_text (sets_origin items)) (one_bare_is items sets.text sets.item) in
     let under : IsOrigin origin (entry ∷ before) next.origin = rw text spells in (
-      subst (StatesNothing origin before) (sym form) (origin_states origin before items sets.text next.origin sets.item spells),
-      subst (IsStateAfter origin (entry ∷ before)) (sym sets.others) (leaves origin before entry (sets_origin items) d next.origin d.default_ttl form refl refl so_far under (same_default before entry (sets_origin items) d.default_ttl form refl so_far.default_ttl)),
+      subst (StatesNothing origin before) (sym form) (rw (one_bare_is items sets.text sets.item) (next.origin, spells)),
+      subst (IsStateAfter origin (entry ∷ before)) (sym sets.others) (leaves origin before entry (sets_origin items) d next.origin d.default_ttl form refl refl so_far under (search rules)),
     )
-
-ttl_states : (origin : Labels) (before : List Entry) (items : List RawItem) (text : List ℕ) (seconds : ℕ) → one_bare items ≡ Some text → IsTtl text seconds → StatesNothing origin before (sets_ttl items)
-ttl_states origin before (bare other ∷ []) text seconds e ttl = let same : text ≡ other = cc in (seconds, subst (λ t. IsTtl t seconds) same ttl)
-ttl_states origin before items text seconds e ttl = absurd cc
 
 pub ttl_set : (origin : Labels) (before : List Entry) (entry : Entry) (d next : ParserState) (items : List RawItem) → IsStateAfter origin before d → statement_of entry ≡ sets_ttl items → SetsTtl items d next → StatesNothing origin before (statement_of entry) × IsStateAfter origin (entry ∷ before) next
 ttl_set origin before entry d next items so_far form sets =
     let text : default_ttl_text (statement_of entry) ≡ Some sets.text = ap default_ttl_text form ∙ ap (λ items. default_ttl_text (sets_ttl items)) (one_bare_is items sets.text sets.item) in
     let default : IsTtlOrNone (latest default_ttl_text (entry ∷ before)) (Some sets.seconds) = rw text (sets.ttl) in (
-      subst (StatesNothing origin before) (sym form) (ttl_states origin before items sets.text sets.seconds sets.item sets.ttl),
+      subst (StatesNothing origin before) (sym form) (rw (one_bare_is items sets.text sets.item) (sets.seconds, sets.ttl)),
       subst (IsStateAfter origin (entry ∷ before)) (sym sets.others) (leaves origin before entry (sets_ttl items) d d.origin (Some sets.seconds) form refl refl so_far (same_origin origin before entry (sets_ttl items) d.origin form refl so_far.under) default),
     )

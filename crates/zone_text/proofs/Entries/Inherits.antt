@@ -1,5 +1,5 @@
 -- What an entry inherits is one thing at most, as is what two steps find one after the other.
-use Rattle.zone_text.proofs.Common.{Data, Entry, Err, HasClass, HasContents, HasHeadOf, HasTtl, Head, IsClassWord, IsLastMinimum, IsLastOwner, IsOrigin, IsOwner, IsTime, Labels, List, Lower, MatchOption, Ok, Once, Option, Result, Some, Spells, SpellsAfter, Statement, States, StatesMinimum, [], ap, class_word, inl, inr, latest, origin_text, owned, owner_text, refl, rules, stated_ttl, statement_of, subst, sym, unowned, ℕ, ◌∙◌, ◌∷◌, ◌≡◌, ◌⊎◌, arith}
+use Rattle.zone_text.proofs.Common.{Data, Entry, Err, HasClass, HasContents, HasHeadOf, HasTtl, Head, IsClassWord, IsLastMinimum, IsLastOwner, IsOrigin, IsOwner, IsTime, Labels, List, Lower, MatchOption, Ok, Once, Option, Result, Some, Spells, SpellsAfter, Statement, States, StatesMinimum, [], ap, arith, class_word, inl, inr, latest, origin_text, owned, owner_text, refl, rules, stated_ttl, statement_of, subst, sym, unowned, ℕ, ◌∙◌, ◌∷◌, ◌≡◌, ◌⊎◌}
 use Rattle.zone_rdata.specs.Spelling.{bare}
 
 pub match_once : (A B : Type 0) (o : Option A) (P : B → Type 0) (Q : A → B → Type 0) → Once B P → ((x : A) → Once B (Q x)) → (a b : B) → MatchOption o (P a) (λ x. Q x a) → MatchOption o (P b) (λ x. Q x b) → a ≡ b
@@ -14,8 +14,7 @@ then_once A B F First Next one others a b given has = grind arith
 
 pub spells_once : Lower → (Above : List (List ℕ) → Type 0) → Once (List (List ℕ)) Above → (text : List ℕ) → Once (List (List ℕ)) (λ name. (above : List (List ℕ)) × (Above above × Spells (Some above) text name))
 spells_once lower Above one text a b x y =
-    let same : x.0 ≡ y.0 = one x.0 y.0 x.1.0 y.1.0 in
-    lower.name y.0 text a b (subst (λ above. Spells (Some above) text a) same x.1.1) y.1.1
+    lower.name y.0 text a b (subst (λ above. Spells (Some above) text a) (one x.0 y.0 x.1.0 y.1.0) x.1.1) y.1.1
 
 module _ (lower : Lower) (origin : List (List ℕ)) where
   pub origin_once : (before : List Entry) → Once (List (List ℕ)) (IsOrigin origin before)
@@ -39,11 +38,11 @@ pub class_once : Lower → (before : List Entry) (entry : Entry) → Once ℕ (H
 class_once lower before entry a b x y =
     match_once (List ℕ) ℕ (latest class_word (entry ∷ before)) (λ n. n ≡ 1) IsClassWord (λ m n e f. e ∙ sym f) lower.class a b x y
 
-same_head : (h k : Head) → h.owner ≡ k.owner → h.class ≡ k.class → h.kind ≡ k.kind → h.items ≡ k.items → h ≡ k
-same_head h k a b c d = rw (a, b, c, d) refl
-
 same_data : (d e : Data) → d.class ≡ e.class → d.kind ≡ e.kind → d.octets ≡ e.octets → d ≡ e
 same_data d e a b c = rw (a, b, c) refl
+
+same_head : (h k : Head) → h.owner ≡ k.owner → h.class ≡ k.class → h.kind ≡ k.kind → h.items ≡ k.items → h ≡ k
+same_head h k a b c d = rw (a, b, c, d) refl
 
 module _ (lower : Lower) (origin : List (List ℕ)) where
   pub head_once : (before : List Entry) (entry : Entry) → Once Head (HasHeadOf origin before entry)
@@ -68,8 +67,7 @@ module _ (lower : Lower) (origin : List (List ℕ)) where
       let items : x.items ≡ y.items = ap (λ (h : Head). h.items) head in
       let above : x.above ≡ y.above = origin_once lower origin before x.above y.above x.under y.under in
       let left : States y.above e.class e.kind y.items d.octets = rw (← above, ← class, ← kind, ← items) (x.states) in
-      let octets : d.octets ≡ e.octets = lower.rdata y.above e.class e.kind y.items d.octets e.octets left y.states in
-      same_data d e class kind octets
+      same_data d e class kind (lower.rdata y.above e.class e.kind y.items d.octets e.octets left y.states)
 
   pub minimum_once : (before : List Entry) (entry : Entry) → Once ℕ (StatesMinimum origin before entry)
   minimum_once before entry a b (owner, d, has, field) (other, e, also, same) = grind (arith, contents_once before entry owner other d e has also)

@@ -1,17 +1,14 @@
 -- The items that are kept of an entry, one by one.
-use Rattle.zone_text.proofs.Common.{AllByRecursion, AllByRecursion-back, AreKept, Bool, IsShort, IsToken, IsUnit, IsWritten, Keeps, List, RawItem, SpellsString, Token, Written, [], ap, append-nil, arith, bare, flat_map, inl, inr, item_of, item_text, length, length-append, no_octet, one_kept, one_left_out, quoted, refl, rules, subst, text_of, text_of-some, written_octets, written_text, ℕ, ◌++◌, ◌+◌, ◌<◌, ◌∙◌, ◌∷◌, ◌≡◌, ◌≤◌, common_steps}
+use Rattle.zone_text.proofs.Common.{AllByRecursion, AllByRecursion-back, AreKept, Bool, IsShort, IsToken, IsUnit, IsWritten, Keeps, List, RawItem, SpellsString, Token, Written, [], ap, append-nil, arith, bare, flat_map, inl, inr, item_of, item_text, length, length-append, no_octet, one_kept, one_left_out, quoted, rules, subst, text_of, text_of-some, written_octets, written_text, ℕ, ◌++◌, ◌+◌, ◌<◌, ◌∙◌, ◌∷◌, ◌≡◌, ◌≤◌, common_steps}
 
 -- ---- an item of a token
 
 abbrev Low : List ℕ → Type 0
 Low octets = AllByRecursion (λ c. c < 256) octets
 
-unit_anywhere : (out : ℕ → Bool) (w : Written) → IsUnit out w → IsUnit no_octet w
-unit_anywhere out w is = search rules
-
 units_anywhere : (out : ℕ → Bool) (units : List Written) → AllByRecursion (IsUnit out) units → AllByRecursion (IsUnit no_octet) units
 units_anywhere out [] each = tt
-units_anywhere out (w ∷ units) each = (unit_anywhere out w each.0, units_anywhere out units each.1)
+units_anywhere out (w ∷ units) each = ((search rules), units_anywhere out units each.1)
 
 octets_low : (out : ℕ → Bool) (units : List Written) → AllByRecursion (IsUnit out) units → Low (written_text units) → Low (written_octets units)
 octets_low out [] each low = tt
@@ -39,17 +36,11 @@ bare_written : (units : List Written) → 0 < length units → 0 < length (writt
 bare_written [] some = absurd (omega (arith, some))
 bare_written (w ∷ units) some = search rules
 
-token_written : (p : Token) → IsToken p → AllByRecursion IsWritten (item_of p)
-token_written p is = search (rules, bare_written)
-
 pub items_written : (tokens : List Token) → AllByRecursion IsToken tokens → AllByRecursion IsWritten (flat_map item_of tokens)
 items_written [] each = tt
-items_written (p ∷ tokens) each = search (rules, token_written, items_written tokens each.1)
+items_written (p ∷ tokens) each = search (rules, bare_written, items_written tokens each.1)
 
 -- ---- one item more
-
-pub none_kept : AreKept [] []
-none_kept = inl refl
 
 -- an item of a token comes after those kept, or is left out
 pub keeps_more : (p : Token) (items kept new : List RawItem) (item : RawItem) → IsToken p → item ∷ [] ≡ item_of p → AreKept items kept → Keeps item kept new → AreKept (items ++ item ∷ []) new

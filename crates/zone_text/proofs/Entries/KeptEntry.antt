@@ -1,6 +1,6 @@
 -- An entry of very many items has the fault that it has where some that spell strings are left out,
 -- and states nothing.
-use Rattle.zone_text.proofs.Common.{AllByRecursion, AreKept, AreShortened, Bool, Cuts, Data, DecidesEntry, Entry, EntryFault, EntryStates, Err, Fault, HasContents, HasHeadOf, Head, IsOwner, IsWritten, Labels, LeavesOut, List, None, Ok, OnOk, Option, ParserState, Parts, PartsFault, PendingRecords, Place, RawItem, Record, Result, Some, Statement, StatementFault, StatesNothing, Token, Word, [], after_item, ap, are_many, arith, begin_with, class, class_among, class_word, data_of, decides_fault, decides_none, decides_one, directive, entry_of, false, fault_of_all, flat_map, if◌then◌else◌, includes, inl, inr, is_blank, item_of, length, no_items, of_parts, of_rdata, of_statement, of_ttl, one_bare, owned, parts_after, parts_in, refl, rules, sets_origin, sets_ttl, slice_get, state_none, statement_by, statement_of, subst, sym, true, ttl, ttl_among, unknown, unless_stated, unowned, word_after, ℕ, ⊤, ◌++◌, ◌+◌, ◌==◌, ◌∙◌, ◌∷◌, ◌≡◌, ◌≤◌, common_steps}
+use Rattle.zone_text.proofs.Common.{AllByRecursion, AreKept, AreShortened, Bool, Cuts, Data, DecidesEntry, Entry, EntryFault, EntryStates, Err, Fault, HasContents, HasHeadOf, Head, IsOwner, IsWritten, Labels, LeavesOut, List, None, Ok, OnOk, Option, ParserState, Parts, PartsFault, PendingRecords, Place, RawItem, Record, Result, Some, Statement, StatementFault, StatesNothing, Token, Word, [], after_item, ap, are_many, arith, begin_with, class, class_among, class_word, common_steps, data_of, decides_fault, decides_none, decides_one, directive, entry_of, false, fault_of_all, flat_map, if◌then◌else◌, includes, inl, inr, is_blank, item_of, length, no_items, of_parts, of_rdata, of_statement, of_ttl, one_bare, owned, parts_after, parts_in, refl, rules, sets_origin, sets_ttl, slice_get, state_none, statement_by, statement_of, subst, sym, true, ttl, ttl_among, unknown, unless_stated, unowned, word_after, ℕ, ⊤, ◌++◌, ◌+◌, ◌==◌, ◌∙◌, ◌∷◌, ◌≡◌, ◌≤◌}
 use Rattle.zone_rdata.specs.Item.{bare}
 use Rattle.zone_text.proofs.Entries.Kept.{items_written}
 use Rattle.zone_text.proofs.Heads.WordsLeft.{class_kept, class_pushed, parts_by, ttl_kept, ttl_pushed}
@@ -128,11 +128,6 @@ parts_of_first [] item items kept fault bad = grind arith
 parts_of_first (word ∷ words) item items kept fault (inl bad) = inl bad
 parts_of_first (word ∷ words) item items kept fault (inr more) = inr (more.0, parts_of_first words item items kept fault more.1)
 
-parts_fault : (words : List Word) (items kept : List RawItem) (fault : Fault) → Long 65548 items kept → PartsFault words kept fault → PartsFault words items fault
-parts_fault words items kept fault long bad =
-    let begin = begin_with 65548 65547 items kept (omega arith) long.short in
-    grind (arith, begin_with, parts_of_first)
-
 -- ---- the entry
 
 abbrev with_items : Entry → List RawItem → Entry
@@ -169,7 +164,7 @@ fault_kept origin before entry kept fault long (of_statement bad) = of_statement
 fault_kept origin before entry kept fault long (of_parts owner parts is split bad) =
     let forms = forms_long entry.first entry.items kept long in
     let found = forms.parts parts split in
-    of_parts owner found.parts (as_kept _ (shown_owner origin before owner) (statement_of entry) _ forms is) found.split (parts_fault found.parts.words found.parts.rest parts.rest fault found.long.long (subst (λ words. PartsFault words parts.rest fault) (sym found.long.words) bad))
+    of_parts owner found.parts (as_kept _ (shown_owner origin before owner) (statement_of entry) _ forms is) found.split (let begin = begin_with 65548 65547 found.parts.rest parts.rest (omega arith) found.long.long.short in grind (arith, begin_with, parts_of_first))
 fault_kept origin before entry kept fault long (of_rdata owner number kind items above has under bad) =
     let found = head_long origin before entry kept (record { owner = owner; class = number; kind = kind; items = items }) long has in
     of_rdata owner number kind found.items above found.has under (fault_of_all above number kind found.items items fault found.long.written found.long.short bad)

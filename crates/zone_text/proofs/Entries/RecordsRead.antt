@@ -1,6 +1,6 @@
 -- A record entry whose parts are read in a known state: what it states, or why it is refused.
-use Rattle.zone_text.proofs.Common.{BadTtl, Data, Entry, EntryFault, EntryStates, Fault, HasContents, HasHeadOf, HasOwnerOrNone, HasTtl, Head, IsDataFault, IsLastMinimum, IsLastOwner, IsOneOrNone, IsOwner, IsReadTo, IsRecord, IsRecordEntry, IsStateAfter, IsTtlOrNone, Labels, List, Lower, MatchOption, NoOwner, NoTtl, None, Option, ParserState, RawItem, Record, Some, States, long, minimum, none, of_rdata, of_ttl, option_or, owned, refl, statement_of, subst, sym, ttl_text, with_owner, ℕ, ◌<◌, ◌∙◌, ◌∷◌, ◌≡◌, rules, arith}
-use Rattle.zone_text.proofs.Entries.Inheriting.{has_no_ttl, has_ttl, next_minimum, record_leaves, ttl_stated}
+use Rattle.zone_text.proofs.Common.{BadTtl, Data, Entry, EntryFault, EntryStates, Fault, HasContents, HasHeadOf, HasOwnerOrNone, HasTtl, Head, IsDataFault, IsLastMinimum, IsLastOwner, IsOneOrNone, IsOwner, IsReadTo, IsRecord, IsRecordEntry, IsStateAfter, IsTtlOrNone, Labels, List, Lower, MatchOption, NoOwner, NoTtl, None, Option, ParserState, RawItem, Record, Some, States, arith, long, minimum, none, of_rdata, of_ttl, option_or, owned, refl, rules, stated_ttl, statement_of, subst, sym, ttl_text, with_owner, ℕ, ◌<◌, ◌∙◌, ◌∷◌, ◌≡◌}
+use Rattle.zone_text.proofs.Entries.Inheriting.{has_by, minimum_by, none_by, record_leaves, ttl_stated}
 
 -- ---- the owner
 
@@ -33,15 +33,15 @@ has_contents : (origin : Labels) (before : List Entry) (entry : Entry) (d : Pars
 has_contents origin before entry d head own rdata last found is = record { items = head.items; above = d.origin; head = is.has; under = is.state.under; states = is.states }
 
 last_is : Lower → (origin : Labels) (before : List Entry) (entry : Entry) (d : ParserState) (head : Head) (own : Option ℕ) (rdata : Data) (last found : Option ℕ) → IsReadTo origin before entry d head own rdata last found → IsOneOrNone (IsLastMinimum origin (entry ∷ before)) last
-last_is lower origin before entry d head own rdata last found is = grind (arith, same_data head rdata is.class is.kind, next_minimum lower origin before entry head.owner (data_with head rdata) d.minimum (has_contents origin before entry d head own rdata last found is) is.state.minimum)
+last_is lower origin before entry d head own rdata last found is = grind (arith, same_data head rdata is.class is.kind, (minimum_by lower origin before entry head.owner (data_with head rdata) (minimum (data_with head rdata)) d.minimum (has_contents origin before entry d head own rdata last found is) refl is.state.minimum))
 
 pub no_ttl : Lower → (origin : Labels) (before : List Entry) (entry : Entry) (d : ParserState) (head : Head) (own : Option ℕ) (rdata : Data) (last : Option ℕ) → IsReadTo origin before entry d head own rdata last None → EntryFault origin before entry NoTtl
 no_ttl lower origin before entry d head own rdata last is =
     of_ttl head.owner (data_with head rdata) (has_contents origin before entry d head own rdata last None is)
-    (none (has_no_ttl origin before entry (option_or (option_or own d.default_ttl) d.last_ttl) last (ttl_stated origin before entry (with_owner is.held d) own is.state is.own_ttl) (last_is lower origin before entry d head own rdata last None is) (sym is.ttl)))
+    (none (none_by (stated_ttl before entry) (option_or (option_or own d.default_ttl) d.last_ttl) last (IsLastMinimum origin (entry ∷ before)) (ttl_stated origin before entry (with_owner is.held d) own is.state is.own_ttl) (last_is lower origin before entry d head own rdata last None is) (sym is.ttl)))
 
 ttl_is : Lower → (origin : Labels) (before : List Entry) (entry : Entry) (d : ParserState) (head : Head) (own : Option ℕ) (rdata : Data) (last : Option ℕ) (n : ℕ) → IsReadTo origin before entry d head own rdata last (Some n) → HasTtl origin before entry n
-ttl_is lower origin before entry d head own rdata last n is = grind (arith, has_ttl origin before entry (option_or (option_or own d.default_ttl) d.last_ttl) last n (ttl_stated origin before entry (with_owner is.held d) own is.state is.own_ttl) (last_is lower origin before entry d head own rdata last (Some n) is) (sym is.ttl))
+ttl_is lower origin before entry d head own rdata last n is = grind (arith, has_by (stated_ttl before entry) (option_or (option_or own d.default_ttl) d.last_ttl) last n (IsLastMinimum origin (entry ∷ before)) (ttl_stated origin before entry (with_owner is.held d) own is.state is.own_ttl) (last_is lower origin before entry d head own rdata last (Some n) is) (sym is.ttl))
 
 pub long_ttl : Lower → (origin : Labels) (before : List Entry) (entry : Entry) (d : ParserState) (head : Head) (own : Option ℕ) (rdata : Data) (last : Option ℕ) (n : ℕ) → IsReadTo origin before entry d head own rdata last (Some n) → 2147483647 < n → EntryFault origin before entry BadTtl
 long_ttl lower origin before entry d head own rdata last n is over = search (rules, has_contents, ttl_is, of_ttl, long)

@@ -1,6 +1,6 @@
 -- What is decided of a prefix, and the octets that it leaves, are one thing.
-use Rattle.zone_text.proofs.Common.{AreUnfinished, BreaksForGood, Ending, FileDecides, List, Lower, None, Placed, ReadEach, Token, [], and_last, ap, append-nil, append_cancel_left, cut_from, decided, ended_entries, entries_of, flat_map, inl, inr, numbered, open_line, rules, subst, sym, text, undecided, zero, ℕ, ◌++◌, ◌↔◌, ◌∙◌, ◌≡◌, arith}
-use Rattle.zone_text.proofs.Entries.Begun.{no_tokens, nothing_decided}
+use Rattle.zone_text.proofs.Common.{BreaksForGood, Ending, FileDecides, List, Lower, None, Placed, ReadEach, Token, [], and_last, ap, append-nil, cut_from, decided, ended_entries, entries_of, inl, inr, numbered, open_line, rules, subst, sym, undecided, zero, ℕ, ◌++◌, ◌∙◌, ◌≡◌, arith}
+use Rattle.zone_text.proofs.Entries.Begun.{no_tokens}
 use Rattle.zone_text.proofs.Tokens.CutAgain.{joined, cut_again, cut_whole, and_last_after}
 use Rattle.zone_text.proofs.Tokens.Cuttings.{cut_not_broken}
 use Rattle.zone_text.proofs.Files.Decides.{tokens_of, broken_once}
@@ -9,27 +9,16 @@ use Rattle.zone_text.proofs.Files.Left.{numbered_then}
 
 pub decided_once : Lower → (origin : List (List ℕ)) (octets : List ℕ) (a b : List Placed) (e f : Ending) → FileDecides origin octets a e → FileDecides origin octets b f → (a ≡ b) × (e ≡ f)
 decided_once lower origin octets a b e f (undecided ps are never xs) (undecided qs others none ys) =
-    let same : ps ≡ qs = tokens_of octets ps qs are others in
-    reads_once lower origin None [] (ended_entries qs) a b e f (subst (λ p. ReadEach origin None [] (ended_entries p) a e) same xs) ys
+    reads_once lower origin None [] (ended_entries qs) a b e f (subst (λ p. ReadEach origin None [] (ended_entries p) a e) (tokens_of octets ps qs are others) xs) ys
 decided_once lower origin octets a b e f (undecided ps are never xs) (decided qs fault good ys) =
-    let same : qs ≡ ps = tokens_of octets qs ps (inr (fault, good.breaks)) are in
-    absurd (never fault (subst (λ p. BreaksForGood octets p fault) same good))
+    absurd (never fault (subst (λ p. BreaksForGood octets p fault) (tokens_of octets qs ps (inr (fault, good.breaks)) are) good))
 decided_once lower origin octets a b e f (decided ps fault good xs) (undecided qs others none ys) =
-    let same : ps ≡ qs = tokens_of octets ps qs (inr (fault, good.breaks)) others in
-    absurd (none fault (subst (λ p. BreaksForGood octets p fault) same good))
+    absurd (none fault (subst (λ p. BreaksForGood octets p fault) (tokens_of octets ps qs (inr (fault, good.breaks)) others) good))
 decided_once lower origin octets a b e f (decided ps fault good xs) (decided qs other better ys) = grind (arith, broken_once lower origin octets ps qs fault other a b e f good.breaks better.breaks xs ys)
 
-nothing_only : (origin : List (List ℕ)) (placed : List Placed) (ending : Ending) → FileDecides origin [] placed ending → (placed ≡ []) × (ending ≡ None)
+pub nothing_only : (origin : List (List ℕ)) (placed : List Placed) (ending : Ending) → FileDecides origin [] placed ending → (placed ≡ []) × (ending ≡ None)
 nothing_only origin placed ending (undecided ps are never read) = grind (arith, tokens_of [] ps [] are (inl no_tokens))
 nothing_only origin placed ending (decided ps fault good read) = absurd (cut_not_broken [] [] ps fault no_tokens good.breaks)
-
-pub of_nothing : (origin : List (List ℕ)) (placed : List Placed) (ending : Ending) → FileDecides origin [] placed ending ↔ ((placed ≡ []) × (ending ≡ None))
-of_nothing origin placed ending = (nothing_only origin placed ending, λ is. rw (is.0, is.1) (nothing_decided origin))
-
-pub unfinished_once : (octets a b : List ℕ) → AreUnfinished octets a → AreUnfinished octets b → a ≡ b
-unfinished_once octets a b x y =
-    let same : y.tokens ≡ x.tokens = tokens_of octets y.tokens x.tokens y.are x.are in
-    append_cancel_left (flat_map text (cut_from zero x.tokens).ended) a b (sym x.whole ∙ y.whole ∙ ap (λ p. flat_map text (cut_from zero p).ended ++ b) same)
 
 -- ---- the entries of tokens one after the other
 

@@ -35,21 +35,13 @@ pub record IsParted (octets : List ℕ) (tokens : List Token) : Type 0 where
   pub parted : octets ≡ text (joined (cut_from zero tokens).ended) ++ rest
   pub front : Cuts (text (joined (cut_from zero tokens).ended)) (joined (cut_from zero tokens).ended)
 
-parted_cut : (octets : List ℕ) (tokens : List Token) → Cuts octets tokens → IsParted octets tokens
-parted_cut octets tokens cut =
-    let ended = joined (cut_from zero tokens).ended in
-    let found = cut_parted octets ended (cut_from zero tokens).open_tokens (ended_at_zero zero tokens cut.balanced) (rw (cut_whole) cut) in
-    record { rest = found.0; parted = found.1; front = found.2 }
-
-parted_break : (octets : List ℕ) (tokens : List Token) (fault : Fault) → Breaks octets tokens fault → IsParted octets tokens
-parted_break octets tokens fault breaks =
-    let ended = joined (cut_from zero tokens).ended in
-    let found = break_parted octets ended (cut_from zero tokens).open_tokens fault (ended_at_zero breaks.depth tokens breaks.parentheses) (rw (cut_whole) breaks) in
-    record { rest = found.0; parted = found.1; front = found.2 }
-
 pub parted : (octets : List ℕ) (tokens : List Token) → AreTokens octets tokens → IsParted octets tokens
-parted octets tokens (inl cut) = parted_cut octets tokens cut
-parted octets tokens (inr (fault, breaks)) = parted_break octets tokens fault breaks
+parted octets tokens (inl cut) =
+    let found = cut_parted octets (joined (cut_from zero tokens).ended) (cut_from zero tokens).open_tokens (ended_at_zero zero tokens cut.balanced) (rw (cut_whole) cut) in
+    record { rest = found.0; parted = found.1; front = found.2 }
+parted octets tokens (inr (fault, breaks)) =
+    let found = break_parted octets (joined (cut_from zero tokens).ended) (cut_from zero tokens).open_tokens fault (ended_at_zero breaks.depth tokens breaks.parentheses) (rw (cut_whole) breaks) in
+    record { rest = found.0; parted = found.1; front = found.2 }
 
 -- the tokens of a text that goes on are those of the ended entries of its beginning, and others
 abbrev pub GoesOn : List Token → List Token → Type 0
@@ -93,9 +85,7 @@ same_stays : (a b : List Placed) (e f : Ending) → (a ≡ b) × (e ≡ f) → S
 same_stays a b e f same = search rules
 
 pub broken_once : Lower → (origin : List (List ℕ)) (octets : List ℕ) (tokens all : List Token) (fault other : Fault) (a b : List Placed) (e f : Ending) → Breaks octets tokens fault → Breaks octets all other → ReadEach origin (Some (fault, Line (open_line tokens))) [] (ended_entries tokens) a e → ReadEach origin (Some (other, Line (open_line all))) [] (ended_entries all) b f → (a ≡ b) × (e ≡ f)
-broken_once lower origin octets tokens all fault other a b e f x y xs ys =
-    let same = one_break octets tokens all fault other x y in
-    grind (arith, one_break, reads_once)
+broken_once lower origin octets tokens all fault other a b e f x y xs ys = grind (arith, one_break octets tokens all fault other x y, one_break, reads_once)
 
 module _ (lower : Lower) (origin : List (List ℕ)) (octets : List ℕ) where
   pub decided_stays : (more : List ℕ) (a b : List Placed) (e f : Ending) → FileDecides origin octets a e → FileDecides origin (octets ++ more) b f → Stays a e b f
@@ -107,11 +97,8 @@ module _ (lower : Lower) (origin : List (List ℕ)) (octets : List ℕ) where
       reads_on lower origin (Some (fault, Line (open_line qs))) [] (ended_entries ps) on.0 a b e f xs (subst (λ es. ReadEach origin (Some (fault, Line (open_line qs))) [] es b f) on.1 ys)
   decided_stays more a b e f (decided ps fault good xs) (undecided qs others none ys) =
       let still = breaks_for_good octets more ps fault good in
-      let same : ps ≡ qs = tokens_of (octets ++ more) ps qs (inr (fault, still.breaks)) others in
-      absurd (none fault (subst (λ p. BreaksForGood (octets ++ more) p fault) same still))
-  decided_stays more a b e f (decided ps fault good xs) (decided qs other better ys) =
-      let still = breaks_for_good octets more ps fault good in
-      same_stays a b e f (broken_once lower origin (octets ++ more) ps qs fault other a b e f still.breaks better.breaks xs ys)
+      absurd (none fault (subst (λ p. BreaksForGood (octets ++ more) p fault) (tokens_of (octets ++ more) ps qs (inr (fault, still.breaks)) others) still))
+  decided_stays more a b e f (decided ps fault good xs) (decided qs other better ys) = same_stays a b e f (broken_once lower origin (octets ++ more) ps qs fault other a b e f (breaks_for_good octets more ps fault good).breaks better.breaks xs ys)
 
   pub decided_stays_at_end : (more : List ℕ) (a b : List Placed) (e f : Ending) → FileDecides origin octets a e → FileReads origin (octets ++ more) b f → Stays a e b f
   decided_stays_at_end more a b e f (undecided ps are absent xs) (whole qs cut ys) =
@@ -121,4 +108,4 @@ module _ (lower : Lower) (origin : List (List ℕ)) (octets : List ℕ) where
       let on = ended_on ps qs (goes_on octets more ps qs are (inr (fault, breaks))) in
       reads_on lower origin (Some (fault, Line (open_line qs))) [] (ended_entries ps) on.0 a b e f xs (subst (λ es. ReadEach origin (Some (fault, Line (open_line qs))) [] es b f) on.1 ys)
   decided_stays_at_end more a b e f (decided ps fault good xs) (whole qs cut ys) = grind (arith, cut_not_broken (octets ++ more) qs ps fault cut (breaks_for_good octets more ps fault good).breaks)
-  decided_stays_at_end more a b e f (decided ps fault good xs) (broken qs other breaks ys) = grind (arith, same_stays a b e f (broken_once lower origin (octets ++ more) ps qs fault other a b e f (breaks_for_good octets more ps fault good).breaks breaks xs ys))
+  decided_stays_at_end more a b e f (decided ps fault good xs) (broken qs other breaks ys) = same_stays a b e f (broken_once lower origin (octets ++ more) ps qs fault other a b e f (breaks_for_good octets more ps fault good).breaks breaks xs ys)

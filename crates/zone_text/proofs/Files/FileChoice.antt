@@ -1,6 +1,6 @@
 -- A file of octets has a reading, and something is decided of it.
-use Rattle.zone_text.proofs.Common.{AllByRecursion, AllByRecursion-back, AllByRecursion-front, AllState, AreOctetItems, Breaks, BreaksAtEnd, Choices, Cut, Cuts, Ending, Entry, Fault, FileDecides, FileReads, IsName, Line, List, Lower, None, Placed, ReadEach, Some, StaysBroken, Token, [], broken, count_by, cut_from, decided, ended_entries, entries_of, flat_map, flat_map-append, inl, inr, item_of, numbered, open_line, refl, refused, rules, stated, states_one, subst, sym, text, token_text, undecided, whole, zero, ℕ, ◌++◌, ◌+◌, ◌<◌, ◌==◌, ◌∷◌, ◌⊎◌, arith}
 use Rattle.zone_rdata.specs.Spelling.{RawItem}
+use Rattle.zone_text.proofs.Common.{AllByRecursion, AllByRecursion-back, AllByRecursion-front, AllState, AreOctetItems, Breaks, BreaksAtEnd, Choices, Cut, Ending, Entry, Fault, FileDecides, FileReads, IsName, Line, List, Lower, None, Placed, ReadEach, Some, StaysBroken, Token, [], arith, broken, count_by, cut_from, decided, ended_entries, entries_of, flat_map, flat_map-append, inl, inr, item_of, numbered, open_line, refl, refused, rules, stated, states_one, subst, sym, text, token_text, undecided, whole, zero, ℕ, ◌++◌, ◌+◌, ◌<◌, ◌==◌, ◌∷◌, ◌⊎◌}
 use Rattle.zone_text.proofs.Tokens.Cuttings.{cut_not_broken, cut_or_broken}
 use Rattle.zone_text.proofs.Files.Left.{entries_text}
 use Rattle.zone_text.proofs.Entries.EntryOutcome.{Outcome, entry_outcome}
@@ -49,17 +49,15 @@ module _ (lower : Lower) (choices : Choices) (origin : List (List ℕ)) where
   readings is after (entry ∷ entries) before states low =
       next_reading origin after before entry entries states (entry_outcome lower choices origin before entry is states low.0) (λ more. readings is after entries (entry ∷ before) more low.1)
 
-  file_by : (octets : List ℕ) → IsName origin → AreLow octets → ((tokens : List Token) × Cuts octets tokens) ⊎ ((tokens : List Token) × (fault : Fault) × Breaks octets tokens fault) → (placed : List Placed) × ((ending : Ending) × FileReads origin octets placed ending)
-  file_by octets is low (inl cut) =
-      let found = readings is None (entries_of cut.0) [] tt (search (rules, low_entries, entries_text, subst AreLow cut.1.whole low)) in
-      (found.0, (found.1.0, whole cut.0 cut.1 found.1.1))
-  file_by octets is low (inr bad) =
-      let after : Ending = Some (bad.1, Line (open_line bad.0)) in
-      let found = readings is after (ended_entries bad.0) [] tt (low_ended_of bad.0 (AllByRecursion-front _ (text bad.0) bad.2.rest (subst AreLow bad.2.whole low))) in
-      (found.0, (found.1.0, broken bad.0 bad.1 bad.2 found.1.1))
-
   pub file_reads : (octets : List ℕ) → IsName origin → AllByRecursion (λ c. c < 256) octets → (placed : List Placed) × ((ending : Ending) × FileReads origin octets placed ending)
-  file_reads octets is low = file_by octets is low (cut_or_broken octets)
+  file_reads octets is low = elim (cut_or_broken octets) [
+    | inl cut ↦
+        let found = readings is None (entries_of cut.0) [] tt (search (rules, low_entries, entries_text, subst AreLow cut.1.whole low)) in
+        (found.0, (found.1.0, whole cut.0 cut.1 found.1.1))
+    | inr bad ↦
+        let found = readings is (Some (bad.1, Line (open_line bad.0))) (ended_entries bad.0) [] tt (low_ended_of bad.0 (AllByRecursion-front _ (text bad.0) bad.2.rest (subst AreLow bad.2.whole low))) in
+        (found.0, (found.1.0, broken bad.0 bad.1 bad.2 found.1.1))
+  ]
 
   -- ---- something is decided of a prefix
 
@@ -71,12 +69,11 @@ module _ (lower : Lower) (choices : Choices) (origin : List (List ℕ)) where
       let found = readings is None (ended_entries tokens) [] tt low in
       (found.0, (found.1.0, undecided tokens (inr (fault, breaks)) (ends_not_for_good octets tokens breaks.rest breaks.whole ends) found.1.1))
 
-  decided_by : (octets : List ℕ) → IsName origin → AreLow octets → ((tokens : List Token) × Cuts octets tokens) ⊎ ((tokens : List Token) × (fault : Fault) × Breaks octets tokens fault) → (placed : List Placed) × ((ending : Ending) × FileDecides origin octets placed ending)
-  decided_by octets is low (inl cut) =
-      let found = readings is None (ended_entries cut.0) [] tt (low_ended_of cut.0 (subst AreLow cut.1.whole low)) in
-      (found.0, (found.1.0, undecided cut.0 (inl cut.1) (λ fault good. cut_not_broken octets cut.0 cut.0 fault cut.1 good.breaks) found.1.1))
-  decided_by octets is low (inr bad) =
-      broken_by octets is bad.0 bad.1 bad.2 (low_ended_of bad.0 (AllByRecursion-front _ (text bad.0) bad.2.rest (subst AreLow bad.2.whole low))) (break_stays_or_ends octets bad.0 bad.1 bad.2)
-
   pub file_is_decided : (octets : List ℕ) → IsName origin → AllByRecursion (λ c. c < 256) octets → (placed : List Placed) × ((ending : Ending) × FileDecides origin octets placed ending)
-  file_is_decided octets is low = decided_by octets is low (cut_or_broken octets)
+  file_is_decided octets is low = elim (cut_or_broken octets) [
+    | inl cut ↦
+        let found = readings is None (ended_entries cut.0) [] tt (low_ended_of cut.0 (subst AreLow cut.1.whole low)) in
+        (found.0, (found.1.0, undecided cut.0 (inl cut.1) (λ fault good. cut_not_broken octets cut.0 cut.0 fault cut.1 good.breaks) found.1.1))
+    | inr bad ↦
+        broken_by octets is bad.0 bad.1 bad.2 (low_ended_of bad.0 (AllByRecursion-front _ (text bad.0) bad.2.rest (subst AreLow bad.2.whole low))) (break_stays_or_ends octets bad.0 bad.1 bad.2)
+  ]

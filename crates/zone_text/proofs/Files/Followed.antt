@@ -1,9 +1,9 @@
 -- What is decided of octets by what those before them left, and what follows from octets fed and
 -- records given, part by part.
-use Rattle.zone_text.proofs.Common.{AreTokens, BadEscape, Breaks, BreaksForGood, ClosesNothing, Cuts, EndedEntries, Ending, Ends, Entry, Fault, FileDecides, FileLeaves, FileReads, Follow, IsOneEntry, IsStateAfter, Labels, Line, List, LostEscape, None, On, Place, Placed, ReadEach, ReadsEntry, ReadsOctets, ScanState, ScansTo, Some, Step, Token, UnbalancedParenthesis, [], and_last, ap, append-nil, append_assoc, arith, beginning, broken, common_steps, cut_from, decided, end_fault_of, ended_entries, entries_of, entry_of, flat_map, flat_map_more, inl, inr, length-append, numbered, open_line, refl, refused, reverse, reverse-append, rules, stated, states_none, states_one, subst, sym, text, undecided, whole, zero, ℕ, ◌++◌, ◌+◌, ◌∙◌, ◌∷◌, ◌≡◌}
+use Rattle.zone_text.proofs.Common.{AreTokens, Breaks, BreaksForGood, Cuts, EndedEntries, Ending, Ends, Entry, Fault, FileDecides, FileLeaves, FileReads, Follow, IsBrokenOff, IsOneEntry, IsStateAfter, Labels, Line, List, None, On, Place, Placed, ReadEach, ReadsEntry, ReadsOctets, ScanState, ScansTo, Some, Step, Token, [], and_last, ap, append-nil, append_assoc, arith, beginning, broken, common_steps, cut_from, decided, end_fault_of, ended_entries, entries_of, entry_of, flat_map, flat_map_more, inl, inr, length-append, numbered, open_line, refl, refused, reverse, reverse-append, rules, stated, states_none, states_one, subst, sym, text, undecided, whole, zero, ℕ, ◌++◌, ◌+◌, ◌∙◌, ◌∷◌, ◌≡◌}
 use Rattle.zone_text.proofs.Tokens.CutAgain.{joined, AreEnded, again_zero, cut_whole}
 use Rattle.zone_text.proofs.Files.Left.{line_feeds, numbered_then, IsSplit, split, whole_after, cut_more, tokens_more, ended_as_before, one_ended, reads_then, refused_before, reads_after, break_more, for_good_more, none_cut, none_more, ended_entries_first}
-use Rattle.zone_text.proofs.Scanning.Scanned.{goes_on as scan_goes_on, ends_entry, stays_open, loses_escape, closes_nothing, at_end}
+use Rattle.zone_text.proofs.Scanning.Scanned.{goes_on as scan_goes_on, ends_entry, stays_open, at_end}
 use Rattle.zone_text.proofs.Tokens.Cuttings.{cut_or_broken}
 use Rattle.zone_text.proofs.Tokens.Lasting.{breaks_for_good}
 use Rattle.zone_text.proofs.Files.Decides.{tokens_of, goes_on, ended_on}
@@ -38,9 +38,8 @@ pub one_entry_more : (origin : List (List ℕ)) (fed more : List ℕ) (ended : L
 one_entry_more origin fed more ended unfinished entry placed others ending is cut one read next =
     let tokens : List Token = joined ended ++ entry in
     let cuts : Cuts (fed ++ more) tokens = cut_more fed more ended unfinished entry is cut in
-    let entries : numbered 1 ended ++ entry_of (line_after ended) entry ∷ [] ≡ ended_entries tokens = sym (ap (numbered 1) (one_ended ended entry is.stays one) ∙ numbered_then 1 ended (entry ∷ [])) in
     let all : ReadEach origin None [] (numbered 1 ended ++ entry_of (line_after ended) entry ∷ []) (placed ++ others) ending = reads_then origin None [] (numbered 1 ended) (entry_of (line_after ended) entry ∷ []) placed others ending read (subst (λ t. ReadEach origin None t (entry_of (line_after ended) entry ∷ []) others ending) (sym (append-nil (reverse (numbered 1 ended)))) next) in
-    undecided tokens (inl cuts) (none_cut (fed ++ more) tokens cuts) (subst (λ t. ReadEach origin None [] t (placed ++ others) ending) entries all)
+    undecided tokens (inl cuts) (none_cut (fed ++ more) tokens cuts) (subst (λ t. ReadEach origin None [] t (placed ++ others) ending) (sym (ap (numbered 1) (one_ended ended entry is.stays one) ∙ numbered_then 1 ended (entry ∷ []))) all)
 
 -- no entry more is ended, and they break for good
 pub break_decided : (origin : List (List ℕ)) (fed more : List ℕ) (ended : List (List Token)) (unfinished : List ℕ) (tokens : List Token) (fault : Fault) (placed : List Placed) → IsSplit fed ended unfinished → BreaksForGood (unfinished ++ more) tokens fault → (cut_from zero tokens).ended ≡ [] → ReadsEnded origin None ended placed None → FileDecides origin (fed ++ more) placed (Some (fault, Line (line_after ended)))
@@ -54,9 +53,8 @@ break_decided origin fed more ended unfinished tokens fault placed is good none 
 -- no entry more is ended, and others may come
 pub still_undecided : (origin : List (List ℕ)) (fed more : List ℕ) (ended : List (List Token)) (unfinished : List ℕ) (tokens : List Token) (placed : List Placed) → IsSplit fed ended unfinished → AreTokens (unfinished ++ more) tokens → ((fault : Fault) → BreaksForGood (unfinished ++ more) tokens fault → ⊥) → (cut_from zero tokens).ended ≡ [] → ReadsEnded origin None ended placed None → FileDecides origin (fed ++ more) placed None
 still_undecided origin fed more ended unfinished tokens placed is are never none read =
-    let same : ended ≡ (cut_from zero (joined ended ++ tokens)).ended = sym (ended_as_before ended tokens is.stays none) in
     undecided (joined ended ++ tokens) (tokens_more fed more ended unfinished tokens is are) (none_more fed more ended unfinished tokens is are never)
-    (subst (λ t. ReadsEnded origin None t placed None) same read)
+    (subst (λ t. ReadsEnded origin None t placed None) (sym (ended_as_before ended tokens is.stays none)) read)
 
 -- ---- a fault that is decided stays
 
@@ -100,24 +98,21 @@ all_tokens fed ended unfinished tokens is cut =
 -- no octets are left
 pub whole_lines : (origin : List (List ℕ)) (fed : List ℕ) (ended : List (List Token)) (placed : List Placed) → IsSplit fed ended [] → ReadsEnded origin None ended placed None → FileReads origin fed placed None
 whole_lines origin fed ended placed is read =
-    let cut : Cuts fed (joined ended ++ []) = all_tokens fed ended [] [] is (record { whole = refl; each = tt; follow = tt; balanced = refl }) in
-    whole (joined ended ++ []) cut (subst (λ t. ReadEach origin None [] t placed None) (sym (entries_are ended [] is.stays refl)) read)
+    whole (joined ended ++ []) (all_tokens fed ended [] [] is (record { whole = refl; each = tt; follow = tt; balanced = refl })) (subst (λ t. ReadEach origin None [] t placed None) (sym (entries_are ended [] is.stays refl)) read)
 
 -- some are, and are the last entry
 pub last_entry : (origin : List (List ℕ)) (fed : List ℕ) (ended : List (List Token)) (unfinished : List ℕ) (p : Token) (tokens : List Token) (placed others : List Placed) (ending : Ending) → IsSplit fed ended unfinished → Cuts unfinished (p ∷ tokens) → (cut_from zero (p ∷ tokens)).ended ≡ [] → ReadsEnded origin None ended placed None → ReadEach origin None (reverse (numbered 1 ended)) (entry_of (line_after ended) (p ∷ tokens) ∷ []) others ending → FileReads origin fed (placed ++ others) ending
 last_entry origin fed ended unfinished p tokens placed others ending is cut none read next =
     let entry : List Token = p ∷ tokens in
-    let entries : numbered 1 ended ++ entry_of (line_after ended) entry ∷ [] ≡ entries_of (joined ended ++ entry) = sym (entries_are ended entry is.stays none ∙ numbered_then 1 ended (entry ∷ [])) in
     let all : ReadEach origin None [] (numbered 1 ended ++ entry_of (line_after ended) entry ∷ []) (placed ++ others) ending = reads_then origin None [] (numbered 1 ended) (entry_of (line_after ended) entry ∷ []) placed others ending read (subst (λ t. ReadEach origin None t (entry_of (line_after ended) entry ∷ []) others ending) (sym (append-nil (reverse (numbered 1 ended)))) next) in
-    whole (joined ended ++ entry) (all_tokens fed ended unfinished entry is cut) (subst (λ t. ReadEach origin None [] t (placed ++ others) ending) entries all)
+    whole (joined ended ++ entry) (all_tokens fed ended unfinished entry is cut) (subst (λ t. ReadEach origin None [] t (placed ++ others) ending) (sym (entries_are ended entry is.stays none ∙ numbered_then 1 ended (entry ∷ []))) all)
 
 -- they break
 pub last_broken : (origin : List (List ℕ)) (fed : List ℕ) (ended : List (List Token)) (unfinished : List ℕ) (tokens : List Token) (fault : Fault) (placed : List Placed) → IsSplit fed ended unfinished → Breaks unfinished tokens fault → (cut_from zero tokens).ended ≡ [] → ReadsEnded origin None ended placed None → FileReads origin fed placed (Some (fault, Line (line_after ended)))
 last_broken origin fed ended unfinished tokens fault placed is breaks none read =
     let same : ended ≡ (cut_from zero (joined ended ++ tokens)).ended = sym (ended_as_before ended tokens is.stays none) in
-    let all : Breaks fed (joined ended ++ tokens) fault = subst (λ t. Breaks t (joined ended ++ tokens) fault) (append-nil fed) (break_more fed [] ended unfinished tokens fault is (subst (λ t. Breaks t tokens fault) (sym (append-nil unfinished)) breaks)) in
     let found : FileReads origin fed placed (Some (fault, Line (open_line (joined ended ++ tokens)))) =
-    broken (joined ended ++ tokens) fault all
+    broken (joined ended ++ tokens) fault (subst (λ t. Breaks t (joined ended ++ tokens) fault) (append-nil fed) (break_more fed [] ended unfinished tokens fault is (subst (λ t. Breaks t tokens fault) (sym (append-nil unfinished)) breaks)))
     (reads_after origin (Some (fault, Line (open_line (joined ended ++ tokens)))) [] (ended_entries (joined ended ++ tokens)) placed (subst (λ t. ReadsEnded origin None t placed None) same read)) in
     subst (λ (t : List (List Token)). FileReads origin fed placed (Some (fault, Line (line_after t)))) (sym same) found
 
@@ -152,21 +147,19 @@ scans_on at unfinished part step before after = grind (arith, scan_goes_on, leng
 pub follow_on : (origin : Labels) (entries : EndedEntries) (at : ScanState) (unfinished part fed : List ℕ) (given : List Placed) → ScansTo beginning (unfinished ++ part) (On at) → entries.decided.ending ≡ None → Follow origin entries unfinished fed given → Follow origin entries (unfinished ++ part) (fed ++ part) given
 follow_on origin entries at unfinished part fed given scanned none follow =
     let found = is_read origin entries unfinished fed given none follow in
-    let ended : List (List Token) = found.0 in
-    let is : IsRead origin ended entries unfinished fed given = found.1 in
     let is_open = stays_open (unfinished ++ part) at scanned in
-    let same : (cut_from zero (joined ended ++ is_open.0)).ended ≡ ended = ended_as_before ended is_open.0 is.parts.stays is_open.2 in
-    let decided : FileDecides origin (fed ++ part) (given ++ entries.decided.placed) None = still_undecided origin fed part ended unfinished is_open.0 (given ++ entries.decided.placed) is.parts is_open.1 is_open.3 is_open.2 is.read in
+    let same : (cut_from zero (joined found.0 ++ is_open.tokens)).ended ≡ found.0 = ended_as_before found.0 is_open.tokens found.1.parts.stays is_open.none in
+    let decided : FileDecides origin (fed ++ part) (given ++ entries.decided.placed) None = still_undecided origin fed part found.0 unfinished is_open.tokens (given ++ entries.decided.placed) found.1.parts is_open.are is_open.goes_on is_open.none found.1.read in
     record {
       decided = subst (λ e. FileDecides origin (fed ++ part) (given ++ entries.decided.placed) e) (sym none) decided;
       leave = λ _. record {
         octets = record {
-          tokens = joined ended ++ is_open.0;
-          are = tokens_more fed part ended unfinished is_open.0 is.parts is_open.1;
-          whole = whole_after fed part ended unfinished is.parts ∙ ap (λ t. flat_map text t ++ (unfinished ++ part)) (sym same);
+          tokens = joined found.0 ++ is_open.tokens;
+          are = tokens_more fed part found.0 unfinished is_open.tokens found.1.parts is_open.are;
+          whole = whole_after fed part found.0 unfinished found.1.parts ∙ ap (λ t. flat_map text t ++ (unfinished ++ part)) (sym same);
         };
-        inherited = subst (λ t. IsStateAfter origin (reverse (numbered 1 t)) entries.state) (sym same) is.state;
-        numbered = is.line ∙ ap line_after (sym same);
+        inherited = subst (λ t. IsStateAfter origin (reverse (numbered 1 t)) entries.state) (sym same) found.1.state;
+        numbered = found.1.line ∙ ap line_after (sym same);
       };
     }
 
@@ -193,14 +186,12 @@ left_over origin ended old new unfinished part fed given tokens is one read none
 pub follow_one : (origin : Labels) (old new : EndedEntries) (unfinished part fed : List ℕ) (given : List Placed) (tokens : List Token) → IsOneEntry (unfinished ++ part) tokens → old.decided.ending ≡ None → ReadsOctets (unfinished ++ part) old new → Follow origin old unfinished fed given → Follow origin new [] (fed ++ part) given
 follow_one origin old new unfinished part fed given tokens one none reads follow =
     let found = is_read origin old unfinished fed given none follow in
-    let ended : List (List Token) = found.0 in
-    let is : IsRead origin ended old unfinished fed given = found.1 in
-    let read : ReadsEntry origin (reverse (numbered 1 ended)) tokens old new = reads.reads origin (reverse (numbered 1 ended)) tokens is.state one.cut in
-    let next : ReadEach origin None (reverse (numbered 1 ended)) (entry_of (line_after ended) tokens ∷ []) read.others new.decided.ending = subst (λ n. ReadEach origin None (reverse (numbered 1 ended)) (entry_of n tokens ∷ []) read.others new.decided.ending) is.line read.read in
+    let read : ReadsEntry origin (reverse (numbered 1 found.0)) tokens old new = reads.reads origin (reverse (numbered 1 found.0)) tokens found.1.state one.cut in
+    let next : ReadEach origin None (reverse (numbered 1 found.0)) (entry_of (line_after found.0) tokens ∷ []) read.others new.decided.ending = subst (λ n. ReadEach origin None (reverse (numbered 1 found.0)) (entry_of n tokens ∷ []) read.others new.decided.ending) found.1.line read.read in
     let records : (given ++ old.decided.placed) ++ read.others ≡ given ++ new.decided.placed = append_assoc given old.decided.placed read.others ∙ ap (λ t. given ++ t) (sym read.records) in
     record {
-      decided = subst (λ t. FileDecides origin (fed ++ part) t new.decided.ending) records (one_entry_more origin fed part ended unfinished tokens (given ++ old.decided.placed) read.others new.decided.ending is.parts one.cut one.ended is.read next);
-      leave = left_over origin ended old new unfinished part fed given tokens is one read;
+      decided = subst (λ t. FileDecides origin (fed ++ part) t new.decided.ending) records (one_entry_more origin fed part found.0 unfinished tokens (given ++ old.decided.placed) read.others new.decided.ending found.1.parts one.cut one.ended found.1.read next);
+      leave = left_over origin found.0 old new unfinished part fed given tokens found.1 one read;
     }
 
 pub follow_entry : (origin : Labels) (old new : EndedEntries) (unfinished part fed : List ℕ) (given : List Placed) → ScansTo beginning (unfinished ++ part) Ends → old.decided.ending ≡ None → ReadsOctets (unfinished ++ part) old new → Follow origin old unfinished fed given → Follow origin new [] (fed ++ part) given
@@ -210,27 +201,15 @@ follow_entry origin old new unfinished part fed given scanned none reads follow 
 
 -- ---- the octets break for good
 
-follow_break : (origin : Labels) (old new : EndedEntries) (fault : Fault) (unfinished part fed : List ℕ) (given : List Placed) (tokens : List Token) → BreaksForGood (unfinished ++ part) tokens fault → (cut_from zero tokens).ended ≡ [] → old.decided.ending ≡ None → new.decided.placed ≡ old.decided.placed → new.decided.ending ≡ Some (fault, Line old.line) → Follow origin old unfinished fed given → Follow origin new [] (fed ++ part) given
-follow_break origin old new fault unfinished part fed given tokens good alone none records ending follow =
+pub follow_break : (origin : Labels) (old new : EndedEntries) (fault : Fault) (unfinished part fed : List ℕ) (given : List Placed) → IsBrokenOff (unfinished ++ part) fault → old.decided.ending ≡ None → new.decided.placed ≡ old.decided.placed → new.decided.ending ≡ Some (fault, Line old.line) → Follow origin old unfinished fed given → Follow origin new [] (fed ++ part) given
+follow_break origin old new fault unfinished part fed given off none records ending follow =
     let found = is_read origin old unfinished fed given none follow in
-    let ended : List (List Token) = found.0 in
-    let is : IsRead origin ended old unfinished fed given = found.1 in
-    let decided : FileDecides origin (fed ++ part) (given ++ old.decided.placed) (Some (fault, Line (line_after ended))) = break_decided origin fed part ended unfinished tokens fault (given ++ old.decided.placed) is.parts good alone is.read in
-    let last : Some (fault, Line (line_after ended)) ≡ new.decided.ending = ap (λ n. let e : Ending = Some (fault, Line n) in e) (sym is.line) ∙ sym ending in
+    let decided : FileDecides origin (fed ++ part) (given ++ old.decided.placed) (Some (fault, Line (line_after found.0))) = break_decided origin fed part found.0 unfinished off.tokens fault (given ++ old.decided.placed) found.1.parts off.breaks off.none found.1.read in
+    let last : Some (fault, Line (line_after found.0)) ≡ new.decided.ending = ap (λ n. let e : Ending = Some (fault, Line n) in e) (sym found.1.line) ∙ sym ending in
     record {
       decided = subst (λ t. FileDecides origin (fed ++ part) (given ++ t) new.decided.ending) (sym records) (subst (λ e. FileDecides origin (fed ++ part) (given ++ old.decided.placed) e) last decided);
       leave = λ none. absurd cc;
     }
-
-pub follow_lost_escape : (origin : Labels) (old new : EndedEntries) (unfinished part fed : List ℕ) (given : List Placed) → ScansTo beginning (unfinished ++ part) LostEscape → old.decided.ending ≡ None → new.decided.placed ≡ old.decided.placed → new.decided.ending ≡ Some (BadEscape, Line old.line) → Follow origin old unfinished fed given → Follow origin new [] (fed ++ part) given
-follow_lost_escape origin old new unfinished part fed given scanned none records ending follow =
-    let found = loses_escape (unfinished ++ part) scanned in
-    follow_break origin old new BadEscape unfinished part fed given found.0 found.1 found.2 none records ending follow
-
-pub follow_lost_closing : (origin : Labels) (old new : EndedEntries) (unfinished part fed : List ℕ) (given : List Placed) → ScansTo beginning (unfinished ++ part) ClosesNothing → old.decided.ending ≡ None → new.decided.placed ≡ old.decided.placed → new.decided.ending ≡ Some (UnbalancedParenthesis, Line old.line) → Follow origin old unfinished fed given → Follow origin new [] (fed ++ part) given
-follow_lost_closing origin old new unfinished part fed given scanned none records ending follow =
-    let found = closes_nothing (unfinished ++ part) scanned in
-    follow_break origin old new UnbalancedParenthesis unfinished part fed given found.0 found.1 found.2 none records ending follow
 
 -- ---- a fault is decided
 
@@ -254,20 +233,15 @@ end_of_fault origin entries found unfinished fed given ending follow =
 pub end_of_lines : (origin : Labels) (entries : EndedEntries) (unfinished fed : List ℕ) (given : List Placed) → unfinished ≡ [] → entries.decided.ending ≡ None → Follow origin entries unfinished fed given → Reads origin fed given entries
 end_of_lines origin entries unfinished fed given empty none follow =
     let found = is_read origin entries unfinished fed given none follow in
-    let ended : List (List Token) = found.0 in
-    let is : IsRead origin ended entries unfinished fed given = found.1 in
-    subst (λ e. FileReads origin fed (given ++ entries.decided.placed) e) (sym none) (whole_lines origin fed ended (given ++ entries.decided.placed) (subst (λ t. IsSplit fed ended t) empty is.parts) is.read)
+    subst (λ e. FileReads origin fed (given ++ entries.decided.placed) e) (sym none) (whole_lines origin fed found.0 (given ++ entries.decided.placed) (subst (λ t. IsSplit fed found.0 t) empty found.1.parts) found.1.read)
 
 -- they break
 pub end_of_break : (origin : Labels) (old new : EndedEntries) (at : ScanState) (fault : Fault) (unfinished fed : List ℕ) (given : List Placed) → ScansTo beginning unfinished (On at) → end_fault_of at ≡ Some fault → old.decided.ending ≡ None → new.decided.placed ≡ old.decided.placed → new.decided.ending ≡ Some (fault, Line old.line) → Follow origin old unfinished fed given → Reads origin fed given new
 end_of_break origin old new at fault unfinished fed given scanned ends none records ending follow =
     let found = is_read origin old unfinished fed given none follow in
-    let ended : List (List Token) = found.0 in
-    let is : IsRead origin ended old unfinished fed given = found.1 in
     let breaks = rw ends at (at_end unfinished at scanned) in
-    let read : FileReads origin fed (given ++ old.decided.placed) (Some (fault, Line (line_after ended))) = last_broken origin fed ended unfinished breaks.0 fault (given ++ old.decided.placed) is.parts breaks.1 breaks.2 is.read in
-    let last : Some (fault, Line (line_after ended)) ≡ new.decided.ending = ap (λ n. let e : Ending = Some (fault, Line n) in e) (sym is.line) ∙ sym ending in
-    subst (λ t. FileReads origin fed (given ++ t) new.decided.ending) (sym records) (subst (λ e. FileReads origin fed (given ++ old.decided.placed) e) last read)
+    let last : Some (fault, Line (line_after found.0)) ≡ new.decided.ending = ap (λ n. let e : Ending = Some (fault, Line n) in e) (sym found.1.line) ∙ sym ending in
+    subst (λ t. FileReads origin fed (given ++ t) new.decided.ending) (sym records) (subst (λ e. FileReads origin fed (given ++ old.decided.placed) e) last (last_broken origin fed found.0 unfinished breaks.0 fault (given ++ old.decided.placed) found.1.parts breaks.1 breaks.2 found.1.read))
 
 -- they are the last entry
 last_read : (origin : Labels) (ended : List (List Token)) (old new : EndedEntries) (c : ℕ) (more fed : List ℕ) (given : List Placed) (tokens : List Token) → IsRead origin ended old (c ∷ more) fed given → Cuts (c ∷ more) tokens → (cut_from zero tokens).ended ≡ [] → ReadsEntry origin (reverse (numbered 1 ended)) tokens old new → Reads origin fed given new
@@ -280,10 +254,8 @@ last_read origin ended old new c more fed given (p ∷ tokens) is cut alone read
 pub end_of_entry : (origin : Labels) (old new : EndedEntries) (at : ScanState) (c : ℕ) (more fed : List ℕ) (given : List Placed) → ScansTo beginning (c ∷ more) (On at) → end_fault_of at ≡ None → old.decided.ending ≡ None → ReadsOctets (c ∷ more) old new → Follow origin old (c ∷ more) fed given → Reads origin fed given new
 end_of_entry origin old new at c more fed given scanned ends none reads follow =
     let found = is_read origin old (c ∷ more) fed given none follow in
-    let ended : List (List Token) = found.0 in
-    let is : IsRead origin ended old (c ∷ more) fed given = found.1 in
     let cut = rw ends at (at_end (c ∷ more) at scanned) in
-    last_read origin ended old new c more fed given cut.0 is cut.1 cut.2 (reads.reads origin (reverse (numbered 1 ended)) cut.0 is.state cut.1)
+    last_read origin found.0 old new c more fed given cut.0 found.1 cut.1 cut.2 (reads.reads origin (reverse (numbered 1 found.0)) cut.0 found.1.state cut.1)
 
 -- octets of which there is one
 pub end_of_some : (origin : Labels) (old new : EndedEntries) (at : ScanState) (unfinished fed : List ℕ) (given : List Placed) → ScansTo beginning unfinished (On at) → (unfinished ≡ [] → ⊥) → end_fault_of at ≡ None → old.decided.ending ≡ None → ReadsOctets unfinished old new → Follow origin old unfinished fed given → Reads origin fed given new

@@ -1,5 +1,5 @@
 -- What octets leave of a file: the entries that line feeds have ended, and the octets after them.
-use Rattle.zone_text.proofs.Common.{AreTokens, Breaks, BreaksAtEnd, BreaksForGood, Cut, Cuts, Cutting, Ending, Entry, Fault, Line, List, None, Option, Place, Placed, ReadEach, Some, StaysBroken, Token, [], add-zero, add_assoc, and_last, ap, append-nil, append_assoc, arith, common_steps, count_by, cut_from, cutting, ended_entries, entries_of, flat_map, flat_map-append, inl, inr, numbered, refl, refused, reverse, rules, stated, states_none, states_one, subst, sum_by-append, sym, text, zero, ℕ, ◌++◌, ◌+◌, ◌==◌, ◌∙◌, ◌∷◌, ◌≡◌, ◌⊎◌}
+use Rattle.zone_text.proofs.Common.{AreTokens, Breaks, BreaksAtEnd, BreaksForGood, Cut, Cuts, Cutting, Ending, Entry, Fault, List, None, Option, Place, Placed, ReadEach, Some, StaysBroken, Token, [], add-zero, add_assoc, and_last, ap, append-nil, append_assoc, arith, common_steps, count_by, cut_from, cutting, ended_entries, entries_of, flat_map, flat_map-append, inl, inr, numbered, refl, refused, reverse, rules, stated, states_none, states_one, subst, sum_by-append, sym, text, zero, ℕ, ◌++◌, ◌+◌, ◌==◌, ◌∙◌, ◌∷◌, ◌≡◌, ◌⊎◌}
 use Rattle.zone_text.proofs.Tokens.Cuttings.{cut_not_broken, IsCut, cutting_is, cutting_only, reads_cut, reads_broken}
 use Rattle.zone_text.proofs.Tokens.Lasting.{cut_joined, break_joined, IsParted, parted as parted_at, both_cut}
 use Rattle.zone_text.proofs.Tokens.CutAgain.{joined, AreEnded, cut_ended, again_zero, cut_whole, cut_again, ended_at_zero, numbered_front}
@@ -23,13 +23,11 @@ ended_stay octets more =
     let is : IsCut zero octets tokens fault = cutting_is octets in
     let cut : Cut = cut_from zero tokens in
     let front : List Token = joined cut.ended in
-    let whole : tokens ≡ front ++ cut.open_tokens = sym (cut_whole zero tokens) in
-    let part : IsParted octets front cut.open_tokens fault = parted_at octets front cut.open_tokens fault (ended_at_zero is.at tokens is.parentheses) (subst (λ (t : List Token). IsCut zero octets t fault) whole is) in
+    let part : IsParted octets front cut.open_tokens fault = parted_at octets front cut.open_tokens fault (ended_at_zero is.at tokens is.parentheses) (subst (λ (t : List Token). IsCut zero octets t fault) (sym (cut_whole zero tokens)) is) in
     let rest : List ℕ = part.rest ++ more in
     let back : Cutting = cutting rest in
-    let longer : octets ++ more ≡ text front ++ rest = ap (λ t. t ++ more) part.whole ∙ append_assoc (text front) part.rest more in
     let found : IsCut zero (text front ++ rest) (front ++ back.tokens) back.broken = both_cut (text front) rest front back.tokens back.broken part.front (cut_ended zero tokens).ends (cutting_is rest) in
-    let now : cutting (octets ++ more) ≡ record { tokens = front ++ back.tokens; broken = back.broken } = ap cutting longer ∙ cutting_only (text front ++ rest) (front ++ back.tokens) back.broken found in
+    let now : cutting (octets ++ more) ≡ record { tokens = front ++ back.tokens; broken = back.broken } = ap cutting (ap (λ t. t ++ more) part.whole ∙ append_assoc (text front) part.rest more) ∙ cutting_only (text front ++ rest) (front ++ back.tokens) back.broken found in
     ((cut_from zero back.tokens).ended, ap (λ (c : Cutting). (cut_from zero c.tokens).ended) now ∙ ap (λ (c : Cut). c.ended) (cut_again tokens back.tokens))
 
 tokens_are : (octets : List ℕ) (tokens : List Token) → AreTokens octets tokens → (cutting octets).tokens ≡ tokens
@@ -57,9 +55,6 @@ ended_entries_first tokens = by (cut_from zero tokens).ended (cut_from zero toke
 abbrev pub line_feeds : List ℕ → ℕ
 line_feeds octets = count_by (λ c. c == 10) octets
 
-none_is_some : {A : Type 0} (x : A) → None ≡ Some x → ⊥
-none_is_some x e = cc
-
 -- the entries before, the latest first, with one more
 pub turned : (entry : Entry) (entries before : List Entry) → reverse (entry ∷ entries) ++ before ≡ reverse entries ++ (entry ∷ before)
 turned entry entries before = grind (arith, common_steps)
@@ -72,21 +67,18 @@ module _ (origin : List (List ℕ)) (after : Ending) where
       stated (states_none n (reads_then (entry ∷ before) entries more placed others ending read (subst (λ t. ReadEach origin after t more others ending) (turned entry entries before) next)))
   reads_then before (entry ∷ entries) more placed others ending (stated (states_one p rest states place e read)) next =
       stated (states_one p (rest ++ others) states place (ap (λ t. t ++ others) e) (reads_then (entry ∷ before) entries more rest others ending read (subst (λ t. ReadEach origin after t more others ending) (turned entry entries before) next)))
-  reads_then before (entry ∷ entries) more placed others ending (refused fault h e f) next = absurd (none_is_some (fault, Line entry.line) f)
+  reads_then before (entry ∷ entries) more placed others ending (refused fault h e f) next = absurd cc
 
   -- entries of which one is refused, whatever follows them
   pub refused_before : (before entries more : List Entry) (placed : List Placed) (found : Fault × Place) → ReadEach origin None before entries placed (Some found) → ReadEach origin after before (entries ++ more) placed (Some found)
-  refused_before before [] more placed found read = absurd (none_is_some found (sym read.1))
+  refused_before before [] more placed found read = absurd (let no = read.1 in cc)
   refused_before before (entry ∷ entries) more placed found (stated (states_none n read)) = stated (states_none n (refused_before (entry ∷ before) entries more placed found read))
   refused_before before (entry ∷ entries) more placed found (stated (states_one p rest states place e read)) = stated (states_one p rest states place e (refused_before (entry ∷ before) entries more rest found read))
   refused_before before (entry ∷ entries) more placed found (refused fault h e f) = refused fault h e f
 
   -- the same entries, and what follows them
   pub reads_after : (before entries : List Entry) (placed : List Placed) → ReadEach origin None before entries placed None → ReadEach origin after before entries placed after
-  reads_after before [] placed read = (read.0, refl)
-  reads_after before (entry ∷ entries) placed (stated (states_none n read)) = stated (states_none n (reads_after (entry ∷ before) entries placed read))
-  reads_after before (entry ∷ entries) placed (stated (states_one p rest states place e read)) = stated (states_one p rest states place e (reads_after (entry ∷ before) entries rest read))
-  reads_after before (entry ∷ entries) placed (refused fault h e f) = absurd (none_is_some (fault, Line entry.line) f)
+  reads_after before entries placed read = simp append-nil at (reads_then before entries [] placed [] after read (refl, refl))
 
 -- ---- lines
 

@@ -1,14 +1,11 @@
 -- A file states one list of records at most, and has one reading at most; the two agree.
-use Rattle.zone_text.proofs.Common.{Ending, EntriesState, Entry, FileReads, FileStates, Line, List, Lower, None, Once, Placed, ReadEach, Some, [], broken, ended_entries, entries_of, open_line, refl, refused, stated, states_none, states_one, subst, sym, whole, ℕ, ◌∙◌, ◌∷◌, ◌≡◌, arith, rules}
+use Rattle.zone_text.proofs.Common.{Ending, EntriesState, Entry, FileReads, FileStates, Line, List, Lower, None, Placed, ReadEach, Some, [], broken, ended_entries, entries_of, open_line, refl, refused, stated, states_none, states_one, subst, sym, whole, ℕ, ◌∙◌, ◌∷◌, ◌≡◌, arith, rules}
 use Rattle.zone_text.proofs.Tokens.Cuttings.{one_cut, one_break, cut_not_broken}
 use Rattle.zone_text.proofs.Entries.Entered.{record_once, fault_once, record_or_fault, nothing_or_record, nothing_or_fault}
 
 -- the readings of entries
 
-abbrev pub Both : List Placed → List Placed → Ending → Ending → Type 0
-Both a b e f = (a ≡ b) × (e ≡ f)
-
-pub reads_once : Lower → (origin : List (List ℕ)) (after : Ending) (before entries : List Entry) (a b : List Placed) (e f : Ending) → ReadEach origin after before entries a e → ReadEach origin after before entries b f → Both a b e f
+pub reads_once : Lower → (origin : List (List ℕ)) (after : Ending) (before entries : List Entry) (a b : List Placed) (e f : Ending) → ReadEach origin after before entries a e → ReadEach origin after before entries b f → (a ≡ b) × (e ≡ f)
 reads_once lower origin after before [] a b e f x y = (x.0 ∙ sym y.0, x.1 ∙ sym y.1)
 reads_once lower origin after before (entry ∷ entries) a b e f (stated (states_none n xs)) (stated (states_none m ys)) = reads_once lower origin after (entry ∷ before) entries a b e f xs ys
 reads_once lower origin after before (entry ∷ entries) a b e f (stated (states_none n xs)) (stated (states_one q others r at w ys)) = absurd (nothing_or_record origin before entry q.rr n r)
@@ -20,10 +17,9 @@ reads_once lower origin after before (entry ∷ entries) a b e f (refused fault 
 reads_once lower origin after before (entry ∷ entries) a b e f (refused fault h u v) (stated (states_one q others s place w ys)) = absurd (record_or_fault lower origin before entry q.rr fault s h)
 reads_once lower origin after before (entry ∷ entries) a b e f (refused fault h u v) (refused other k s t) = grind (arith, fault_once lower origin before entry fault other h k)
 
-pub file_reads_once : Lower → (origin : List (List ℕ)) (octets : List ℕ) (a b : List Placed) (e f : Ending) → FileReads origin octets a e → FileReads origin octets b f → Both a b e f
+pub file_reads_once : Lower → (origin : List (List ℕ)) (octets : List ℕ) (a b : List Placed) (e f : Ending) → FileReads origin octets a e → FileReads origin octets b f → (a ≡ b) × (e ≡ f)
 file_reads_once lower origin octets a b e f (whole ps cut xs) (whole qs other ys) =
-    let tokens : ps ≡ qs = one_cut octets ps qs cut other in
-    reads_once lower origin None [] (entries_of qs) a b e f (subst (λ p. ReadEach origin None [] (entries_of p) a e) tokens xs) ys
+    reads_once lower origin None [] (entries_of qs) a b e f (subst (λ p. ReadEach origin None [] (entries_of p) a e) (one_cut octets ps qs cut other) xs) ys
 file_reads_once lower origin octets a b e f (whole ps cut xs) (broken qs fault breaks ys) = absurd (cut_not_broken octets ps qs fault cut breaks)
 file_reads_once lower origin octets a b e f (broken ps fault breaks xs) (whole qs cut ys) = absurd (cut_not_broken octets qs ps fault cut breaks)
 file_reads_once lower origin octets a b e f (broken ps fault breaks xs) (broken qs other more ys) =
@@ -49,7 +45,3 @@ file_states_read origin octets placed x = whole x.tokens x.cut (states_read orig
 
 pub file_reads_state : (origin : List (List ℕ)) (octets : List ℕ) (placed : List Placed) → FileReads origin octets placed None → FileStates origin octets placed
 file_reads_state origin octets placed given = grind (arith, read_states)
-
--- so a file states one list of records at most
-pub file_once : Lower → (origin : List (List ℕ)) (octets : List ℕ) → Once (List Placed) (FileStates origin octets)
-file_once lower origin octets a b x y = (file_reads_once lower origin octets a b None None (file_states_read origin octets a x) (file_states_read origin octets b y)).0

@@ -1,5 +1,7 @@
--- The words of classes among items, and the digits with which a time begins.
-use Rattle.zone_text.proofs.Common.{AllByRecursion, Bool, Group, IsClassWord, IsDecimal, IsNumbered, IsTime, IsTimeGroup, List, None, Option, Some, [], ap, append_assoc, are_digits, arith, begins_with_digit, by_mnemonic, by_number, bytes_eq, bytes_eq-Decides, codes, decimal_value, drop, drop-append_seam, false, flat_map, folded_label, folded_octet, group_text, inl, inr, is_class_word, is_digit, is_some, length, length-map, list_all, map-append, or_cases, refl, rules, sym, take, take-append-drop, take-map, true, ℕ, ◌&&◌, ◌++◌, ◌<◌, ◌∙◌, ◌∷◌, ◌≡◌}
+-- The words of classes among items, the digits with which a time begins, and the words of
+-- directives.
+use Rattle.std.proofs.Common.{IsTrue, ◌↔◌}
+use Rattle.zone_text.proofs.Common.{AllByRecursion, Bool, Group, IsClassWord, IsDecimal, IsNumbered, IsTime, IsTimeGroup, List, None, Option, Some, [], and_parts, ap, append_assoc, are_digits, arith, begins_with_digit, by_mnemonic, by_number, bytes_eq, bytes_eq-Decides, codes, decimal_value, drop, drop-append_seam, false, flat_map, folded_label, folded_octet, group_text, inl, inr, is_class_word, is_digit, is_some, length, length-map, list_all, map-append, or_cases, refl, rules, sym, take, take-append-drop, take-map, true, ℕ, ◌&&◌, ◌++◌, ◌<◌, ◌∙◌, ◌∷◌, ◌≡◌}
 use Rattle.std.proofs.Math.Bool.{or-true}
 use Rattle.zone_rdata.specs.Table.{classes, number_among}
 use Rattle.zone_rdata.proofs.Words.OneWord.{class_number}
@@ -9,15 +11,12 @@ all_true : (text : List ℕ) → AllByRecursion (λ c. is_digit c ≡ true) text
 all_true [] each = refl
 all_true (c ∷ text) each = rw (each.0) (all_true text each.1)
 
-all_digits : (text : List ℕ) → 0 < length text → AllByRecursion (λ c. is_digit c ≡ true) text → are_digits text ≡ true
-all_digits text some each = grind (arith, all_true)
-
 numbered_word : (word : List ℕ) (n : ℕ) → IsNumbered (codes "CLASS") word n → is_class_word word ≡ true
 numbered_word word n is =
     let five : length is.front ≡ 5 = (let h : length (folded_label is.front) ≡ length is.front = simp length-map in sym h ∙ ap length is.named) in
     let rest : drop 5 word ≡ is.digits = rw (is.parts, ← five) (drop-append_seam is.front is.digits) in
     let front : take 5 (folded_label word) ≡ codes "class" = rw (is.parts, map-append, is.named) refl in
-    grind (arith, length-map, drop-append_seam, true, all_digits, map-append, or-true)
+    grind (arith, length-map, drop-append_seam, true, all_true, map-append, or-true)
 
 -- a class word is known by its letters
 pub class_word_known : (word : List ℕ) (n : ℕ) → IsClassWord word n → is_class_word word ≡ true
@@ -49,15 +48,12 @@ time_first text n h = search (rules, decimal_first, groups_first)
 
 -- what is taken for a class word is one
 
-both_true : (a b : Bool) → (a && b) ≡ true → (a ≡ true) × (b ≡ true)
-both_true a b e = grind arith
-
 each_digit : (text : List ℕ) → list_all is_digit text ≡ true → AllByRecursion (λ c. is_digit c ≡ true) text
 each_digit [] e = tt
-each_digit (c ∷ text) e = let both = both_true (is_digit c) (list_all is_digit text) e in (both.0, each_digit text both.1)
+each_digit (c ∷ text) e = let both = and_parts (is_digit c) (list_all is_digit text) e in (both.0, each_digit text both.1)
 
 digits_all : (text : List ℕ) → are_digits text ≡ true → (0 < length text) × AllByRecursion (λ c. is_digit c ≡ true) text
-digits_all text e = grind (arith, both_true, each_digit)
+digits_all text e = grind (arith, and_parts, each_digit)
 
 named_class : (text : List ℕ) (found : Option ℕ) → number_among classes text ≡ found → is_some found ≡ true → (m : ℕ) × IsClassWord text m
 named_class text None e some = absurd cc
@@ -65,18 +61,28 @@ named_class text (Some n) e some = (n, by_mnemonic (number_is classes refl text 
 
 numbered_class : (text : List ℕ) → (bytes_eq (take 5 (folded_label text)) (codes "class") && are_digits (drop 5 text)) ≡ true → (m : ℕ) × IsClassWord text m
 numbered_class text e =
-    let both = both_true (bytes_eq (take 5 (folded_label text)) (codes "class")) (are_digits (drop 5 text)) e in
-    let name : take 5 (folded_label text) ≡ codes "class" = (bytes_eq-Decides (take 5 (folded_label text)) (codes "class")).0 both.0 in
+    let both = and_parts (bytes_eq (take 5 (folded_label text)) (codes "class")) (are_digits (drop 5 text)) e in
     let digits = digits_all (drop 5 text) both.1 in (
       decimal_value (drop 5 text),
       by_number (record {
         front = take 5 text;
         digits = drop 5 text;
         parts = sym (take-append-drop 5 text);
-        named = sym (take-map folded_octet 5 text) ∙ name;
+        named = sym (take-map folded_octet 5 text) ∙ ((bytes_eq-Decides (take 5 (folded_label text)) (codes "class")).0 both.0);
         number = record { some = digits.0; digits = digits.1; value = refl };
       }),
     )
 
 pub class_word_of : (text : List ℕ) → is_class_word text ≡ true → (m : ℕ) × IsClassWord text m
 class_word_of text e = elim (or_cases _ _ e) [ inl named ↦ named_class text (number_among classes text) refl named | inr numbered ↦ numbered_class text numbered ]
+
+-- ---- the words of directives, in any letter case
+
+same_test : (a b : Bool) (xs ys : List ℕ) → b ≡ bytes_eq xs ys → (a ≡ true → xs ≡ ys) → (xs ≡ ys → a ≡ true) → a ≡ b
+same_test true false xs ys e there back = sym (e ∙ (bytes_eq-Decides xs ys).1 (there refl))
+same_test false true xs ys e there back = back ((bytes_eq-Decides xs ys).0 (sym e))
+same_test a b xs ys e there back = refl
+
+-- a test of two words is that of their octets
+pub word_test : (is : Bool) (xs ys : List ℕ) → (IsTrue is ↔ (xs ≡ ys)) → is ≡ bytes_eq xs ys
+word_test is xs ys same = same_test is (bytes_eq xs ys) xs ys refl same.0 same.1

@@ -1,7 +1,7 @@
 -- The words before a record's type as they are written, found from the left.
 use Rattle.zone_text.proofs.Common.{arith, common_steps, AllByRecursion, Bool, Bor, HasValue, HaveTexts, IfSome, IsSomeAnd, List, None, Option, RawItem, Some, Word, [], ap, begins_with_digit, class, class_among, false, is_class_word, if◌then◌else◌, is_some, option_map, parts_after, refl, rules, subst, sym, true, ttl, ttl_among, unless_stated, word_after, map, raw, ℕ, ◌++◌, ◌∙◌, ◌∷◌, ◌≡◌}
 use Rattle.zone_rdata.specs.Item.{bare, quoted}
-use Rattle.zone_text.proofs.Heads.WordsLeft.{class_kept, class_pushed, next_part, some_of, ttl_kept, ttl_pushed}
+use Rattle.zone_text.proofs.Heads.WordsLeft.{class_kept, class_pushed, next_part, ttl_kept, ttl_pushed}
 use Rattle.zone_text.specs.PartsIn.{ArePartsIn}
 use Rattle.zone_text.specs.declared.parts.RecordParts.{RecordParts}
 use Rattle.zone_text.specs.declared.parts.WordTexts.{WordTexts}
@@ -49,11 +49,6 @@ pub found_before : (items rest after : List RawItem) (item : RawItem) (texts : W
 found_before items rest after item texts found reads front none =
     found_to items rest texts found reads (rw front (next_part reads.words item after None (none reads.words reads.have)))
 
--- the next item is one
-pub found_on : (items rest after : List RawItem) (text : List ℕ) (texts next : WordTexts) → ReadsTexts items texts rest → rest ≡ bare text ∷ after → ((words : List Word) → HaveTexts words texts → IsSomeAnd (word_after words (bare text)) (λ word. HaveTexts (words ++ word ∷ []) next)) → ReadsTexts items next after
-found_on items rest after text texts next reads front some =
-    grind (arith, common_steps, some_of, word_after, bare, parts_after, next_part)
-
 -- ---- whether the words have values
 
 -- the TTL and the class among words have values
@@ -80,18 +75,10 @@ abbrev WordBy : Bool → Bool → Option (List ℕ) → Option (List ℕ) → Li
 WordBy digit is_word a b text = if digit then unless_stated a (ttl text) else if is_word then unless_stated b (class text) else None
 
 ttl_by : (digit is_word : Bool) (a b : Option (List ℕ)) (text other : List ℕ) → WordBy digit is_word a b text ≡ Some (ttl other) → is_some a ≡ false
-ttl_by true is_word None b text other e = refl
-ttl_by true is_word (Some x) b text other e = absurd cc
-ttl_by false true a None text other e = absurd cc
-ttl_by false true a (Some x) text other e = absurd cc
-ttl_by false false a b text other e = absurd cc
+ttl_by digit is_word a b text other e = grind arith
 
 class_by : (digit is_word : Bool) (a b : Option (List ℕ)) (text other : List ℕ) → WordBy digit is_word a b text ≡ Some (class other) → is_some b ≡ false
-class_by true is_word None b text other e = absurd cc
-class_by true is_word (Some x) b text other e = absurd cc
-class_by false true a None text other e = refl
-class_by false true a (Some x) text other e = absurd cc
-class_by false false a b text other e = absurd cc
+class_by digit is_word a b text other e = grind arith
 
 all_word : (words : List Word) (item : RawItem) (word : Word) → word_after words item ≡ Some word → AreAll words → AreAll (words ++ word ∷ [])
 all_word words (quoted text) word e all = absurd cc
@@ -109,13 +96,11 @@ all_words words (item ∷ items) all = all_by words item items (word_after words
 -- one among words that have values has one
 ttl_among_has : (words : List Word) → AllByRecursion HasValue words → HasTtl words
 ttl_among_has [] each = tt
-ttl_among_has (ttl text ∷ words) each = each.0
-ttl_among_has (class text ∷ words) each = ttl_among_has words each.1
+ttl_among_has (word ∷ words) each = grind (arith, ttl_among_has words each.1)
 
 class_among_has : (words : List Word) → AllByRecursion HasValue words → HasClass words
 class_among_has [] each = tt
-class_among_has (ttl text ∷ words) each = class_among_has words each.1
-class_among_has (class text ∷ words) each = each.0
+class_among_has (word ∷ words) each = grind (arith, class_among_has words each.1)
 
 -- the words of parts that are found have values, or not
 pub all_have : (items : List RawItem) (found : RecordParts) → IfSome found.ttl (λ text. HasValue (ttl text.now)) → IfSome found.class (λ text. HasValue (class text.now)) → ArePartsIn (parts_after [] items) found → AllByRecursion HasValue (parts_after [] items).words

@@ -1,5 +1,6 @@
 -- The words before a record's type, read from the left.
-use Rattle.zone_text.proofs.Common.{AllByRecursion, AllByRecursion-append, AreWordsOf, Bool, Fault, HasValue, HaveValues, IsClass, IsClassWord, IsSomeAnd, IsTtl, Item, List, MatchOption, None, NothingIs, Option, Parts, PartsFault, RawItem, Some, Word, WordFault, Words, [], add-one, ap, append-nil, append_assoc, begins_with_digit, class, class_among, drop, drop-cons, drop-map, false, get_or, inl, inr, is_class_word, is_some, length, map, parts_after, raw, refl, rules, subst, sym, true, ttl, ttl_among, word_after, ℕ, ◌++◌, ◌+◌, ◌<◌, ◌∙◌, ◌∷◌, ◌≡◌, arith}
+use Rattle.zone_rdata.proofs.Numbers.TimeLaws.{one_time}
+use Rattle.zone_text.proofs.Common.{AllByRecursion, AllByRecursion-append, AreWordsOf, Bool, Entry, EntryFault, Fault, HasHead, HasValue, HaveValues, IsClass, IsClassWord, IsKind, IsKindWord, IsRecordEntry, IsSomeAnd, IsTime, IsTtl, IsWordFault, Item, Labels, List, MatchOption, None, NothingIs, Option, ParserState, Parts, PartsFault, RawItem, Some, UnknownType, Word, WordFault, Words, [], add-one, ap, append-nil, append_assoc, arith, begins_with_digit, class, class_among, drop, drop-cons, drop-map, false, get_or, inl, inr, is_class_word, is_some, length, map, min, of_parts, parts_after, raw, refl, rules, subst, sym, true, ttl, ttl_among, unwrap_or, word_after, ℕ, ◌++◌, ◌+◌, ◌<◌, ◌∙◌, ◌∷◌, ◌≡◌, ◌≤◌}
 use Rattle.zone_rdata.specs.Item.{bare}
 use Rattle.zone_text.proofs.Heads.ClassWords.{class_word_of, class_word_known}
 
@@ -19,8 +20,7 @@ class_after words v text have no_digit none is = search rules
 
 pub ttl_pushed : (words : List Word) (text : List ℕ) → is_some (ttl_among words) ≡ false → ttl_among (words ++ ttl text ∷ []) ≡ Some text
 ttl_pushed [] text none = refl
-ttl_pushed (ttl other ∷ words) text none = absurd (let clash : ⊥ = cc in clash)
-ttl_pushed (class other ∷ words) text none = ttl_pushed words text none
+ttl_pushed (word ∷ words) text none = grind (arith, ttl_pushed words text)
 
 pub class_kept : (words : List Word) (text : List ℕ) → class_among (words ++ ttl text ∷ []) ≡ class_among words
 class_kept (ttl other ∷ words) text = class_kept words text
@@ -28,8 +28,7 @@ class_kept words text = refl
 
 pub class_pushed : (words : List Word) (text : List ℕ) → is_some (class_among words) ≡ false → class_among (words ++ class text ∷ []) ≡ Some text
 class_pushed [] text none = refl
-class_pushed (class other ∷ words) text none = absurd (let clash : ⊥ = cc in clash)
-class_pushed (ttl other ∷ words) text none = class_pushed words text none
+class_pushed (word ∷ words) text none = grind (arith, class_pushed words text)
 
 pub ttl_kept : (words : List Word) (text : List ℕ) → ttl_among (words ++ class text ∷ []) ≡ ttl_among words
 ttl_kept (class other ∷ words) text = ttl_kept words text
@@ -93,10 +92,6 @@ read_to items rest more v item reads front none = search rules
 pub some_of : (P : Word → Type 0) (o : Option Word) → IsSomeAnd o P → (word : Word) × ((o ≡ Some word) × P word)
 some_of P o h = search rules
 
--- the next item is a word
-pub read_on : (items rest more : List RawItem) (v next : Words) (item : RawItem) → ReadsWords items v rest → rest ≡ item ∷ more → ((words : List Word) → HaveValues words v → IsSomeAnd (word_after words item) (λ word. HaveValues (words ++ word ∷ []) next)) → ReadsWords items next more
-read_on items rest more v next item reads front some = search (rules, some_of, next_part)
-
 -- whatever follows words, they stand before it
 abbrev Extends : List RawItem → Type 0
 Extends items = (words : List Word) → (others : List Word) × ((parts_after words items).words ≡ words ++ others)
@@ -123,9 +118,52 @@ read_fault items rest more v item fault reads front some =
     reads.parts ∙ (ap (parts_after reads.words) front ∙ next_part reads.words item more (Some found.0) found.1.0)
     in
     let others = extends more (reads.words ++ found.0 ∷ []) in
-    let P : List Word → Type 0 = λ ws. PartsFault ws (parts_after [] items).rest fault in
     grind (arith, some_of, next_part, extends, append_assoc, leftmost)
 
 -- the item at an index is the first of those from there on
 pub item_at : (items : List Item) (i : ℕ) (d x : Item) → i < length items → get_or items i d ≡ x → drop i (map raw items) ≡ raw x ∷ drop (i + 1) (map raw items)
 item_at items i d x less is = search (rules, add-one, drop-cons, drop-map)
+
+-- ---- a time that is not cut off is itself
+
+pub time_within : (text : List ℕ) (n : ℕ) → ((m : ℕ) × (IsTime text m × (n ≡ min 4294967296 m))) → n ≤ 2147483647 → IsTime text n
+time_within text n found few =
+    let cut : n ≡ min 4294967296 found.0 = found.1.1 in
+    let same : found.0 ≡ n = omega arith in
+    subst (λ (k : ℕ). IsTime text k) same found.1.0
+
+-- a time that is too long, cut off or not, is no TTL
+pub time_over : (text : List ℕ) (n : ℕ) → ((m : ℕ) × (IsTime text m × (n ≡ min 4294967296 m))) → 2147483647 < n → (seconds : ℕ) → IsTtl text seconds → ⊥
+time_over text n found over seconds is = grind (arith, one_time text found.0 seconds found.1.0 is.time)
+
+-- ---- what a record states before its data, where the state is known
+
+pub words_refused : (origin : Labels) (before : List Entry) (entry : Entry) (d : ParserState) (name : Labels) (items : List RawItem) (fault : Fault) → IsRecordEntry origin before entry d name items → PartsFault (parts_after [] items).words (parts_after [] items).rest fault → EntryFault origin before entry fault
+words_refused origin before entry d name items fault is bad = of_parts name (parts_after [] items) is.owner is.parts bad
+
+-- the fault of what stands after words that have values
+past_words : (words : List Word) (rest : List RawItem) (fault : Fault) → AllByRecursion HasValue words → PartsFault [] rest fault → PartsFault words rest fault
+past_words [] rest fault have bad = bad
+past_words (word ∷ words) rest fault have bad = inr (have.0, past_words words rest fault have.1 bad)
+
+kind_refused : (origin : Labels) (before : List Entry) (entry : Entry) (d : ParserState) (name : Labels) (items after : List RawItem) (values : Words) (fault : Fault) → IsRecordEntry origin before entry d name items → AreWordsOf (parts_after [] items) values after → PartsFault [] after fault → EntryFault origin before entry fault
+kind_refused origin before entry d name items after values fault is are bad =
+    of_parts name (parts_after [] items) is.owner is.parts (past_words _ _ fault are.words.each (subst (λ rest. PartsFault [] rest fault) (sym are.rest) bad))
+
+no_bare : (after : List RawItem) → ((text : List ℕ) (rest : List RawItem) → after ≡ bare text ∷ rest → ⊥) → PartsFault [] after UnknownType
+no_bare after none = search rules
+
+-- nothing bare stands at the type's place
+pub kind_missing : (origin : Labels) (before : List Entry) (entry : Entry) (d : ParserState) (name : Labels) (items after : List RawItem) (values : Words) → IsRecordEntry origin before entry d name items → AreWordsOf (parts_after [] items) values after → ((text : List ℕ) (rest : List RawItem) → after ≡ bare text ∷ rest → ⊥) → EntryFault origin before entry UnknownType
+kind_missing origin before entry d name items after values is are none = search (rules, kind_refused, no_bare)
+
+-- the word at the type's place is none of a type
+pub kind_unknown : (origin : Labels) (before : List Entry) (entry : Entry) (d : ParserState) (name : Labels) (items after more : List RawItem) (values : Words) (word : List ℕ) (fault : Fault) → IsRecordEntry origin before entry d name items → AreWordsOf (parts_after [] items) values after → after ≡ bare word ∷ more → IsWordFault word fault → EntryFault origin before entry fault
+kind_unknown origin before entry d name items after more values word fault is are front bad =
+    kind_refused origin before entry d name items after values fault is are (subst (λ rest. PartsFault [] rest fault) (sym front) bad)
+
+pub has_head : (origin : Labels) (before : List Entry) (entry : Entry) (d : ParserState) (name : Labels) (items after more : List RawItem) (values : Words) (word : List ℕ) (class kind : ℕ) → IsRecordEntry origin before entry d name items → AreWordsOf (parts_after [] items) values after → after ≡ bare word ∷ more → IsKindWord word kind → IsKind kind → class ≡ unwrap_or values.class d.class → HasHead origin before entry name class kind more
+has_head origin before entry d name items after more values word number kind is are front named good e = search rules
+
+pub after_words : (items rest : List Item) (n : ℕ) (more : List RawItem) → rest ≡ drop n items → map raw rest ≡ more → drop n (map raw items) ≡ more
+after_words items rest n more back e = drop-map raw n items ∙ (ap (map raw) (sym back) ∙ e)

@@ -1,6 +1,6 @@
 -- A piece fed part by part, each by what its last octet leads to.
-use Rattle.zone_text.proofs.Common.{BadEscape, ClosesNothing, EndedEntries, Ends, EntrySplitter, Fault, Follow, IfSome, IsSplitter, Labels, Line, List, LostEscape, None, On, Place, Placed, ReadsOctets, ScanState, Scanned, ScansTo, Some, Step, UnbalancedParenthesis, [], ap, append-nil, append_assoc, arith, beginning, length, rules, scan_of, subst, sym, take, true, ℕ, ◌++◌, ◌+◌, ◌∙◌, ◌≡◌, ◌≤◌}
-use Rattle.zone_text.proofs.Files.Followed.{follow_fault, scans_on, follow_on, follow_entry, follow_lost_escape, follow_lost_closing}
+use Rattle.zone_text.proofs.Common.{EndedEntries, Ends, EntrySplitter, Fault, Follow, IsBrokenOff, IsSplitter, Labels, Line, List, None, On, Place, Placed, ReadsOctets, ScanState, Scanned, ScansTo, Some, Step, [], ap, append-nil, append_assoc, arith, beginning, length, rules, scan_of, subst, sym, take, ℕ, ◌++◌, ◌+◌, ◌∙◌, ◌≡◌, ◌≤◌}
+use Rattle.zone_text.proofs.Files.Followed.{follow_fault, scans_on, follow_on, follow_entry, follow_break}
 use Rattle.zone_text.proofs.Scanning.Scanned.{stops_at, takes_front, unfinished_depth}
 use Rattle.zone_text.proofs.Entries.Begun.{nothing_taken}
 
@@ -47,11 +47,8 @@ pub is_refused : (fault : Fault) (old mid new : EndedEntries) (at next : ScanSta
 is_refused fault old mid new at next unfinished part left step is refuse same begins none =
     nothing_taken new next left begins none (let h : new.line ≡ mid.line = ap (λ (s : EndedEntries). s.line) same in omega (arith, is.is.line, refuse.line))
 
-pub follows_lost_escape : (old mid new : EndedEntries) (at : ScanState) (unfinished part left : List ℕ) (step : Step) → IsPart old at unfinished part step → step ≡ LostEscape → IsRefused BadEscape old mid → new ≡ mid → left ≡ [] → FollowsOn old unfinished new left part
-follows_lost_escape old mid new at unfinished part left step is e refuse same none origin fed given follow = grind (arith, follow_lost_escape origin old mid unfinished part fed given (after old at unfinished part step LostEscape is e) is.undecided refuse.records refuse.ending follow)
-
-pub follows_lost_closing : (old mid new : EndedEntries) (at : ScanState) (unfinished part left : List ℕ) (step : Step) → IsPart old at unfinished part step → step ≡ ClosesNothing → IsRefused UnbalancedParenthesis old mid → new ≡ mid → left ≡ [] → FollowsOn old unfinished new left part
-follows_lost_closing old mid new at unfinished part left step is e refuse same none origin fed given follow = grind (arith, follow_lost_closing origin old mid unfinished part fed given (after old at unfinished part step ClosesNothing is e) is.undecided refuse.records refuse.ending follow)
+pub follows_break : (fault : Fault) (old mid new : EndedEntries) (at : ScanState) (unfinished part left : List ℕ) (step last : Step) → ((octets : List ℕ) → ScansTo beginning octets last → IsBrokenOff octets fault) → IsPart old at unfinished part step → step ≡ last → IsRefused fault old mid → new ≡ mid → left ≡ [] → FollowsOn old unfinished new left part
+follows_break fault old mid new at unfinished part left step last off is e refuse same none origin fed given follow = grind (arith, follow_break origin old mid fault unfinished part fed given (off (unfinished ++ part) (after old at unfinished part step last is e)) is.undecided refuse.records refuse.ending follow)
 
 -- so far the beginning of the piece was taken
 pub record HasFed (old new : EntrySplitter) (piece rest : List ℕ) : Type 0 where
@@ -89,7 +86,3 @@ takes_part at rest part found is cut = search (rules, takes_front, stops_at)
 -- each octet of the unfinished entry opened one parenthesis at the most
 pub depth_within : (ended : EndedEntries) (at : ScanState) (unfinished : List ℕ) → IsSplitter ended at unfinished → at.depth ≤ length unfinished
 depth_within ended at unfinished is = let h = unfinished_depth beginning at unfinished (ap (λ (f : Scanned). f.step) is.state) in omega (arith, h)
-
--- where a fault was decided nothing changes
-pub fed_settled : (old new : EntrySplitter) (piece rest : List ℕ) → HasFed old new piece rest → IfSome old.ended.decided.ending (λ _. (true ≡ true) × (new ≡ old))
-fed_settled old new piece rest before = search rules

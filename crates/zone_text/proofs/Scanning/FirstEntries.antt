@@ -1,5 +1,5 @@
 -- The entry at the front of octets, token by token, without parentheses.
-use Rattle.zone_text.proofs.Common.{All, AreKept, Cuts, EndsAt, EntrySplitter, IsBadEscape, IsFirstEntry, IsInFront, IsOneEntry, IsSplitter, Keeps, KeepsBare, KeepsItems, List, None, RawItem, ReadsOctets, Token, [], ap, append-nil, append_assoc, arith, at_backslash, at_end, at_octet, bare, blank, closing, comment, drop, ends_item, false, flat_map, get_or, is_blank, item_of, length, length-append, length-take, line_feed, opening, refl, rules, stops_bare, subst, suc, sym, take, take-append-drop, take-append_seam, text_of, token_text, true, zero, ℕ, ⊤, ◌++◌, ◌+◌, ◌-◌, ◌<◌, ◌∙◌, ◌∷◌, ◌≡◌, ◌≢◌, ◌≤◌}
+use Rattle.zone_text.proofs.Common.{All, AreKept, Cuts, EndsAt, EntrySplitter, IsFirstEntry, IsInFront, IsOneEntry, IsSplitter, Keeps, KeepsBare, KeepsItems, List, None, RawItem, ReadsOctets, Token, [], ap, append-nil, append_assoc, arith, at_backslash, at_end, at_octet, bare, blank, closing, comment, drop, ends_item, false, flat_map, get_or, inl, is_blank, item_of, length, length-append, length-take, line_feed, opening, refl, rules, stops_bare, subst, suc, sym, take, take-append-drop, take-append_seam, text_of, token_text, true, zero, ℕ, ⊤, ◌++◌, ◌+◌, ◌-◌, ◌<◌, ◌∙◌, ◌∷◌, ◌≡◌, ◌≢◌, ◌≤◌}
 use Rattle.zone_rdata.specs.Item as raw
 use Rattle.zone_text.proofs.Scanning.FedPieces.{FollowsOn, HasFed, fed_more}
 use Rattle.zone_text.proofs.Tokens.Cuttings.{cuts, is_cut, one_cut, one_token_more}
@@ -10,7 +10,7 @@ use Rattle.zone_text.proofs.Tokens.ItemsLeft.{bare_front, in_front_takes}
 use Rattle.zone_text.proofs.Tokens.TokenEnds.{first_at}
 use Rattle.std.proofs.lemmas.List.Elements.{All-from_recursion}
 use Rattle.zone_text.specs.declared.items.Extent.TheVariants.{Bare}
-use Rattle.zone_text.proofs.Entries.Kept.{keeps_more, none_kept}
+use Rattle.zone_text.proofs.Entries.Kept.{keeps_more}
 use Rattle.zone_text.proofs.Scanning.StopMarks.{goes_on, prefix_each, prefix_ends}
 use Rattle.std.proofs.lemmas.List.Sums.{prefix_len-le-length}
 use Rattle.std.specs.List.{prefix_len}
@@ -40,17 +40,13 @@ passed_by octets rest items found inside =
     record { token = found.token; takes = record { whole = takes.whole; token = takes.token; stop = takes.stop; room = room found.token inside }; inside = inside; stated = found.stated }
   where
     room : (p : Token) → IsInside p → HasRoom zero p
-    room closing inside = absurd inside
-    room p inside = tt
+    room p inside = grind arith
 
 pub item_passed : (octets rest : List ℕ) (item : RawItem) → IsInFront octets (item ∷ []) rest → IsPassed octets (item ∷ []) rest
 item_passed octets rest item found = passed_by octets rest (item ∷ []) found (by found.token found.stated)
   where
     by : (p : Token) → item_of p ≡ item ∷ [] → IsInside p
-    by opening e = absurd cc
-    by closing e = absurd cc
-    by line_feed e = absurd cc
-    by p e = tt
+    by p e = grind arith
 
 pub comment_passed : (octets after rest : List ℕ) (c : ℕ) → octets ≡ c ∷ after → c ≡ 59 → IsInFront octets [] rest → IsPassed octets [] rest
 comment_passed octets after rest c whole is found =
@@ -58,10 +54,7 @@ comment_passed octets after rest c whole is found =
     passed_by octets rest [] found (by found.token (begins c after found.token rest takes.token (sym whole ∙ takes.whole)))
   where
     by : (p : Token) → Begins c p → IsInside p
-    by opening first = absurd (omega arith)
-    by closing first = absurd (omega arith)
-    by line_feed first = absurd (omega arith)
-    by p first = tt
+    by p first = grind arith
 
 pub bare_passed : (octets item rest more : List ℕ) (next n : ℕ) → 0 < n → n ≡ prefix_len goes_on octets → item ≡ take n octets → rest ≡ drop n octets → rest ≡ next ∷ more → next ≢ 92 → IsPassed octets (raw.bare item ∷ []) rest
 bare_passed octets item rest more next n some len front back first other =
@@ -89,18 +82,15 @@ cut_none octets kept none = record {
   front = [];
   whole = refl;
   so_far = [];
-  are_kept = subst (AreKept []) (sym none) none_kept;
+  are_kept = subst (AreKept []) (sym none) (inl refl);
   goes = λ tail after more e some one. (more, one, refl);
 }
-
-bad_in_front : (tail after : List ℕ) (c : ℕ) → IsBadEscape (c ∷ tail ++ after) → IsBadEscape (c ∷ tail)
-bad_in_front tail after c bad = (tail, cc bad.1, λ w more is e. bad.2 w (more ++ after) is (ap (λ t. t ++ after) e ∙ append_assoc (text_of w) more after))
 
 -- what stops a token stops it where less is seen
 stops_in_front : (p : Token) (c : ℕ) (tail after : List ℕ) → Stops p (c ∷ tail ++ after) → Stops p (c ∷ tail)
 stops_in_front (bare units) c tail after (at_end e) = absurd cc
 stops_in_front (bare units) c tail after (at_octet d rest e ends) = let same : c ≡ d = cc in at_octet c tail refl (ap ends_item same ∙ ends)
-stops_in_front (bare units) c tail after (at_backslash bad) = at_backslash (bad_in_front tail after c bad)
+stops_in_front (bare units) c tail after (at_backslash bad) = at_backslash ((tail, cc bad.1, λ w more is e. bad.2 w (more ++ after) is (ap (λ t. t ++ after) e ∙ append_assoc (text_of w) more after)))
 stops_in_front (comment octets) c tail after stop = stop
 stops_in_front p c tail after stop = search rules
 

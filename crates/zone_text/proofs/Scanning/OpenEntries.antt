@@ -1,9 +1,9 @@
--- An entry that comes in pieces, by what scans of them found.
-use Rattle.zone_text.proofs.Common.{common_steps, Breaks, ClosesNothing, Cuts, Ends, Fault, List, LostEscape, MatchOption, None, On, Option, ScanState, Scanned, ScansTo, Some, Step, Token, [], ap, append-nil, arith, beginning, cut_from, end_fault_of, length, refl, scan_of, subst, sym, take, zero, ℕ, ◌++◌, ◌+◌, ◌<◌, ◌∙◌, ◌≡◌, ◌≤◌}
+-- An entry at the front of octets and one that comes in pieces, by what scans of them found.
+use Rattle.zone_text.proofs.Tokens.Lasting.{breaks_for_good}
+use Rattle.zone_text.proofs.Common.{Breaks, BreaksForGood, ClosesNothing, Cuts, Ends, Fault, IsBrokenOff, IsFirstEntry, IsOneEntry, KeepsItems, List, LostEscape, MatchOption, On, Option, RawItem, ScanState, Scanned, ScansTo, Step, Token, [], ap, append-nil, arith, beginning, common_steps, cut_from, drop, end_fault_of, length, refl, rules, scan_of, subst, sym, take, take-append-drop, zero, ℕ, ◌++◌, ◌+◌, ◌<◌, ◌∙◌, ◌∷◌, ◌≡◌, ◌≤◌}
 use Rattle.zone_text.proofs.Scanning.FedPieces.{takes_part}
-use Rattle.zone_text.proofs.Scanning.FirstFound.{closing_scanned, lost_scanned, open_scanned}
 use Rattle.zone_text.proofs.Files.Followed.{scans_on}
-use Rattle.zone_text.proofs.Scanning.Scanned.{at_end, ends_entry, step_goes_on, unfinished_depth}
+use Rattle.zone_text.proofs.Scanning.Scanned.{at_end, closes_nothing, ends_entry, loses_escape, stays_open, step_goes_on, unfinished_depth}
 use Rattle.zone_text.specs.Machine.OpenEntry.{state_of}
 use Rattle.zone_text.specs.OpenEntry.{EndIs, EntryIs, HeldEntry, TakesFrom}
 use Rattle.zone_text.specs.declared.open_entry.EntryState.TheVariants as states
@@ -11,15 +11,14 @@ use Rattle.zone_text.specs.declared.open_entry.Taken.{Taken}
 
 -- where the octets leave the entry
 pub entry_is : (octets : List ℕ) (step : Step) → ScansTo beginning octets step → EntryIs octets (state_of step)
-entry_is octets (On at) scanned = open_scanned octets at scanned
+entry_is octets (On at) scanned = stays_open octets at scanned
 entry_is octets Ends scanned = ends_entry octets scanned
-entry_is octets LostEscape scanned = lost_scanned octets scanned
-entry_is octets ClosesNothing scanned = closing_scanned octets scanned
+entry_is octets LostEscape scanned = loses_escape octets scanned
+entry_is octets ClosesNothing scanned = closes_nothing octets scanned
 
 -- where the input ends
 by_end : (octets : List ℕ) (fault : Option Fault) → MatchOption fault ((tokens : List Token) × Cuts octets tokens × ((cut_from zero tokens).ended ≡ [])) (λ f. (tokens : List Token) × Breaks octets tokens f × ((cut_from zero tokens).ended ≡ [])) → EndIs octets fault
-by_end octets None end = end
-by_end octets (Some fault) end = end
+by_end octets fault end = search rules
 
 pub end_is : (octets : List ℕ) (at : ScanState) (fault : Option Fault) → ScansTo beginning octets (On at) → fault ≡ end_fault_of at → EndIs octets fault
 end_is octets at fault scanned is = subst (EndIs octets) (sym is) (by_end octets (end_fault_of at) (at_end octets at scanned))
@@ -68,3 +67,42 @@ takes_none old new piece held step taken before settled old_is new_is len state 
 pub depth_fits : (held : List ℕ) (at : ScanState) (step : Step) → ScansTo beginning held step → step ≡ On at → at.depth ≤ length held
 depth_fits held at step before on =
     let h = unfinished_depth beginning at held (ap (λ (f : Scanned). f.step) before ∙ on) in omega (arith, h)
+
+-- ---- the entry at the front of octets
+
+-- the octets that a scan took, and all of them where the entry goes on
+pub scanned_part : (rest part : List ℕ) (step : Step) (found : Scanned) → found ≡ scan_of beginning rest → part ≡ take found.taken rest → found.step ≡ step → ScansTo beginning part step
+scanned_part rest part step found is front e = subst (λ s. ScansTo beginning part s) e (takes_part beginning rest part found is front)
+
+pub scanned_all : (rest : List ℕ) (at : ScanState) (found : Scanned) → found ≡ scan_of beginning rest → found.step ≡ On at → ScansTo beginning rest (On at)
+unfolding scan_of
+scanned_all rest at found is on =
+    ap (scan_of beginning) (sym (append-nil rest)) ∙ step_goes_on beginning at rest [] (ap (λ (f : Scanned). f.step) (sym is) ∙ on)
+    ∙ ap (λ (n : ℕ). record { taken = n; step = On at }) (let h : length rest + 0 ≡ length rest = omega arith in h)
+
+pub some_taken : (octets : List ℕ) (found : Scanned) → found ≡ scan_of beginning octets → found.step ≡ Ends → (0 < length octets → 0 < found.taken) → 0 < found.taken
+unfolding scan_of
+some_taken [] found is ends moves = absurd (let h : On beginning ≡ Ends = sym (ap (λ (f : Scanned). f.step) is) ∙ ends in cc)
+some_taken (c ∷ octets) found is ends moves = moves (omega arith)
+
+pub first_whole : (octets entry : List ℕ) (found : Scanned) (left : List RawItem) → found ≡ scan_of beginning octets → found.step ≡ Ends → entry ≡ take found.taken octets → 0 < found.taken → found.taken ≤ length octets → KeepsItems entry left → IsFirstEntry octets found.taken left
+first_whole octets entry found left is ends front some within keeps =
+    let one = ends_entry entry (scanned_part octets entry Ends found is front ends) in
+    record {
+      tokens = one.0;
+      one = subst (λ t. IsOneEntry t one.0) front one.1;
+      stated = keeps one.0 one.1.cut;
+      some = some;
+      within = within;
+    }
+
+-- octets after those that break stay broken off
+pub broken_on : (octets : List ℕ) (n : ℕ) (fault : Fault) → IsBrokenOff (take n octets) fault → IsBrokenOff octets fault
+broken_on octets n fault off = record {
+  tokens = off.tokens;
+  breaks = subst (λ t. BreaksForGood t off.tokens fault) (take-append-drop n octets) (breaks_for_good (take n octets) (drop n octets) off.tokens fault off.breaks);
+  none = off.none;
+}
+
+pub first_broken : (octets : List ℕ) (found : Scanned) (step : Step) (fault : Fault) → ((part : List ℕ) → ScansTo beginning part step → IsBrokenOff part fault) → found ≡ scan_of beginning octets → found.step ≡ step → IsBrokenOff octets fault
+first_broken octets found step fault breaks is stops = broken_on octets found.taken fault (breaks (take found.taken octets) (scanned_part octets (take found.taken octets) step found is refl stops))

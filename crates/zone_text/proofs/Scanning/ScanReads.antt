@@ -1,5 +1,5 @@
 -- The tokens of octets as a scan leaves them: one after another, and what is open at the end.
-use Rattle.zone_text.proofs.Common.{AllByRecursion, BadEscape, ClosesNothing, Comment, Ends, Escaped, Fault, IsBadEscape, IsCutOff, IsEscape, IsLostEscape, IsUnit, List, LostEscape, Mode, NoUnit, On, Open, Option, Quoted, QuotedEscaped, ScanState, Scanned, Some, Step, Token, UnclosedQuote, Written, [], after_backslash, after_digit, after_two_digits, and_cases, and_parts, ap, append-nil, append_assoc, arith, at_backslash, at_end, at_line_end, at_octet, bare, blank, cases_Bool, closed, closing, comment, comment_step, cond_both, decimal, depth_past, end_fault_of, ends_item, ends_number, eqb-false, eqb-true, escape_step, escaped, false, fed_line, inl, inr, is_blank, is_digit, is_quote, leb-false, leb-true, line_feed, nat_le, octet_of, on, one_digit, open_step, opening, or_cases, or_parts, plain, quoted, quoted_step, refl, rules, scan_of, scan_on, step_in, step_of, subst, suc, sym, take, text_of, too_great, true, two_digits, unclosed, unit_of_escape, written_text, ℕ, ◌++◌, ◌+◌, ◌-◌, ◌==◌, ◌||◌, ◌∙◌, ◌∷◌, ◌≡◌, ◌≢◌}
+use Rattle.zone_text.proofs.Common.{AllByRecursion, BadEscape, ClosesNothing, Comment, Ends, Escaped, Fault, IsBadEscape, IsCutOff, IsEscape, IsLostEscape, IsUnit, List, LostEscape, Mode, NoUnit, On, Open, Option, Quoted, QuotedEscaped, ScanState, Scanned, Some, Step, Token, UnclosedQuote, Written, [], after_backslash, after_digit, after_two_digits, and_cases, and_parts, ap, append-nil, append_assoc, arith, at_backslash, at_end, at_line_end, at_octet, bare, blank, cases_Bool, closed, closing, comment, cond_both, decimal, depth_past, end_fault_of, ends_item, ends_number, eqb-false, eqb-true, escape_step, escaped, false, fed_line, inl, inr, is_blank, is_digit, is_quote, leb-false, leb-true, line_feed, nat_le, octet_of, on, one_digit, open_step, opening, or_cases, or_parts, plain, quoted, quoted_step, refl, rules, scan_of, scan_on, step_in, step_of, subst, suc, sym, take, text_of, too_great, true, two_digits, unclosed, unit_of_escape, written_text, ℕ, ◌++◌, ◌+◌, ◌-◌, ◌==◌, ◌||◌, ◌∙◌, ◌∷◌, ◌≡◌, ◌≢◌}
 use Rattle.zone_text.specs.declared.scan.AfterBackslash.{AfterBackslash}
 use Rattle.zone_text.specs.declared.scan.AfterBackslash.TheVariants.{Inside, Whole, Lost}
 use Rattle.zone_text.specs.declared.scan.Escape.{Escape}
@@ -14,15 +14,12 @@ use Rattle.zone_text.proofs.Tokens.Fronts.{Takes, begins, first_octet_is}
 abbrev pub EscapeAt : Step → List ℕ → Type 0
 EscapeAt (On at) rest = (end_fault_of at ≡ Some BadEscape) × IsCutOff rest
 EscapeAt LostEscape rest = IsLostEscape rest
-EscapeAt Ends rest = ⊥
-EscapeAt ClosesNothing rest = ⊥
+EscapeAt step rest = ⊥
 
 -- the octets ran out, and the input's end has the fault
 abbrev pub RanOut : Option Fault → Step → Type 0
 RanOut fault (On at) = end_fault_of at ≡ fault
-RanOut fault Ends = ⊥
-RanOut fault LostEscape = ⊥
-RanOut fault ClosesNothing = ⊥
+RanOut fault step = ⊥
 
 -- the token ends no entry
 abbrev pub EndsNone : ℕ → Token → Type 0
@@ -44,12 +41,6 @@ pub data Reads (step : Step) : ℕ → List ℕ → Type 0 where
 pub escape_is_bad : (step : Step) (octets : List ℕ) → EscapeAt step octets → IsBadEscape octets
 escape_is_bad step octets open_escape = search rules
 
-no_escape_begins : (step : Step) (c : ℕ) (octets text : List ℕ) → text ≡ c ∷ octets → c ≢ 92 → EscapeAt step text → ⊥
-no_escape_begins step c octets text e other open_escape = search rules
-
-others_begin : (c d : ℕ) (octets more text : List ℕ) → text ≡ c ∷ octets → text ≡ d ∷ more → c ≢ d → ⊥
-others_begin c d octets more text e f other = search rules
-
 none_begins : (c : ℕ) (octets text : List ℕ) → text ≡ c ∷ octets → text ≡ [] → ⊥
 none_begins c octets text e f = let both : c ∷ octets ≡ [] = sym e ∙ f in cc
 
@@ -61,10 +52,9 @@ rest_after c octets more text e f = let both : c ∷ octets ≡ c ∷ more = sym
 module _ (step : Step) (depth : ℕ) (w : Written) (is : IsUnit is_quote w) (octets text : List ℕ) (e : text ≡ 34 ∷ octets) where
   quoted_more : (rest : List ℕ) (p : Token) → Takes depth text p rest → EndsNone depth p → Reads step (depth_past depth p) rest → Reads step depth (34 ∷ (text_of w ++ octets))
   quoted_more rest (quoted units) front none more =
-      let tail : octets ≡ (written_text units ++ 34 ∷ []) ++ rest = rest_after 34 octets ((written_text units ++ 34 ∷ []) ++ rest) text e front.whole in
       then_more depth (34 ∷ (text_of w ++ octets)) (quoted (w ∷ units)) rest (record {
         whole = ap (λ t. 34 ∷ t) (
-            ap (λ t. text_of w ++ t) (tail ∙ append_assoc (written_text units) (34 ∷ []) rest)
+            ap (λ t. text_of w ++ t) ((rest_after 34 octets ((written_text units ++ 34 ∷ []) ++ rest) text e front.whole) ∙ append_assoc (written_text units) (34 ∷ []) rest)
             ∙ sym (append_assoc (text_of w) (written_text units) (34 ∷ rest))
             ∙ sym (append_assoc (text_of w ++ written_text units) (34 ∷ []) rest)
             );
@@ -106,7 +96,7 @@ module _ (step : Step) (depth c : ℕ) (is : c ≢ 10) (octets text : List ℕ) 
   comment_more rest p front none more = search rules
 
   push_comment : Reads step depth text → Reads step depth (59 ∷ c ∷ octets)
-  push_comment h = search (rules, others_begin, none_begins, no_escape_begins, comment_more)
+  push_comment h = search (rules, none_begins, comment_more)
 
 -- ---- a unit of a bare item more
 
@@ -159,11 +149,9 @@ AreDigits (Two x y) = (is_digit x ≡ true) × (is_digit y ≡ true)
 
 -- an escape holds digits
 abbrev pub HoldsDigits : Mode → Type 0
-HoldsDigits Open = Unit {0}
-HoldsDigits Quoted = Unit {0}
-HoldsDigits Comment = Unit {0}
 HoldsDigits (Escaped escape) = AreDigits escape
 HoldsDigits (QuotedEscaped escape) = AreDigits escape
+HoldsDigits mode = Unit {0}
 
 -- ---- one octet
 
@@ -206,9 +194,7 @@ escape_by (Two x y) c digits =
 -- what an octet makes of what is read after it
 abbrev OneMore : Mode → ℕ → ℕ → Step → Type 0
 OneMore mode depth c (On next) = HoldsDigits next.mode × ((octets : List ℕ) (step : Step) → Reads step next.depth (opened next.mode octets) → Reads step depth (opened mode (c ∷ octets)))
-OneMore mode depth c Ends = Reads Ends depth (opened mode (c ∷ []))
-OneMore mode depth c LostEscape = Reads LostEscape depth (opened mode (c ∷ []))
-OneMore mode depth c ClosesNothing = Reads ClosesNothing depth (opened mode (c ∷ []))
+OneMore mode depth c step = Reads step depth (opened mode (c ∷ []))
 
 open_line : (depth c : ℕ) → c ≡ 10 → OneMore Open depth c (fed_line depth)
 open_line depth c e = cond_both (depth == 0) Ends (on Open depth) (OneMore Open depth c)
@@ -265,9 +251,6 @@ ends_comment step depth c octets e more = then_more depth (59 ∷ c ∷ octets) 
 comment_line : (depth c : ℕ) → c ≡ 10 → (step : Step) → OneMore Open depth c step → OneMore Comment depth c step
 comment_line depth c e step open_more = search (rules, ends_comment)
 
-one_comment : (depth c : ℕ) → OneMore Comment depth c (comment_step depth c)
-one_comment depth c = search (rules, cond_both, comment_line, eqb-true, open_line, push_comment, eqb-false)
-
 one_escaped : (depth c : ℕ) (escape : Escape) (after : AfterBackslash) → EscapeBy escape c after → OneMore (Escaped escape) depth c (escape_step (λ e. Escaped e) Open depth after)
 one_escaped depth c escape (Inside next) by = search rules
 one_escaped depth c escape Whole by = search (rules, push_bare, unit_of_escape)
@@ -279,7 +262,7 @@ one_quoted_escaped depth c escape Whole by = search (rules, push_quoted, unit_of
 one_quoted_escaped depth c escape Lost by = in_quoted_escape depth (34 ∷ escape_text escape (c ∷ [])) [] (escape_text escape (c ∷ [])) tt refl by
 
 one_more : (mode : Mode) (depth c : ℕ) → HoldsDigits mode → OneMore mode depth c (step_in mode depth c)
-one_more mode depth c digits = search (rules, one_open, one_quoted, one_comment, one_escaped, escape_by, one_quoted_escaped)
+one_more mode depth c digits = search (rules, one_open, one_quoted, cond_both, comment_line, eqb-true, open_line, push_comment, eqb-false, one_escaped, escape_by, one_quoted_escaped)
 
 -- ---- no octet
 

@@ -1,48 +1,31 @@
 -- One octet of a scan, and how answers of scans are joined.
-use Rattle.zone_text.proofs.Common.{AreQuiet, Bool, ClosesNothing, Ends, List, LostEscape, Mode, On, Open, ScanState, Scanned, Step, arith, common_steps, drop, false, further, get_or, length, moves, on, open_at, or_parts, rules, scan_of, scan_on, step_in, step_of, subst, sym, ℕ, ◌+◌, ◌-◌, ◌<◌, ◌||◌, ◌∙◌, ◌≡◌, ◌≤◌}
+use Rattle.zone_text.proofs.Common.{AreQuiet, Bool, List, On, Open, ScanState, Step, arith, common_steps, drop, false, further, get_or, length, moves, open_at, or_parts, rules, scan_of, scan_on, step_of, subst, sym, ℕ, ◌+◌, ◌-◌, ◌<◌, ◌||◌, ◌∙◌, ◌≡◌, ◌≤◌}
 
 -- ---- an octet that leaves the state as it is
 
-stays_in : (mode : Mode) (depth c : ℕ) → moves mode c ≡ false → step_in mode depth c ≡ on mode depth
-stays_in mode depth c e = grind arith
-
 pub stays : (at : ScanState) (c : ℕ) → moves at.mode c ≡ false → step_of at c ≡ On at
-stays at c e = stays_in at.mode at.depth c e
+stays at c e = grind arith
 
 -- ---- answers joined
 
-pub further_on : (n m : ℕ) (found : Scanned) → further n (further m found) ≡ further (n + m) found
-further_on n m found = search rules
-
-at_octet : (at : ScanState) (octets : List ℕ) (i : ℕ) → i < length octets → scan_of at (drop i octets) ≡ scan_on (λ next. scan_of next (drop (i + 1) octets)) (step_of at (get_or octets i 0))
+pub at_octet : (at : ScanState) (octets : List ℕ) (i : ℕ) → i < length octets → scan_of at (drop i octets) ≡ scan_on (λ next. scan_of next (drop (i + 1) octets)) (step_of at (get_or octets i 0))
 unfolding scan_of
 at_octet at octets i in_range = grind (arith, common_steps)
 
 -- one octet more, and the scan goes on
 pub one_on : (start at next : ScanState) (octets : List ℕ) (i : ℕ) → i < length octets → step_of at (get_or octets i 0) ≡ On next → scan_of start octets ≡ further i (scan_of at (drop i octets)) → scan_of start octets ≡ further (i + 1) (scan_of next (drop (i + 1) octets))
-one_on start at next octets i in_range e before = search (rules, at_octet, further_on)
+one_on start at next octets i in_range e before = search (rules, at_octet)
 
 -- and the depth grows by one at the most
 
 abbrev Rises : ℕ → Step → Type 0
 Rises depth (On next) = next.depth ≤ depth + 1
-Rises depth Ends = Unit {0}
-Rises depth LostEscape = Unit {0}
-Rises depth ClosesNothing = Unit {0}
-
-rises_in : (mode : Mode) (depth c : ℕ) → Rises depth (step_in mode depth c)
-rises_in mode depth c = search rules
+Rises depth step = Unit {0}
 
 pub rises : (at next : ScanState) (c : ℕ) → step_of at c ≡ On next → next.depth ≤ at.depth + 1
-rises at next c e = subst (Rises at.depth) e (rises_in at.mode at.depth c)
+rises at next c e = subst (Rises at.depth) e (search rules)
 
 -- ---- where the scan stops
-
-last_step : (go_on : ScanState → Scanned) (step : Step) → ((next : ScanState) → step ≡ On next → ⊥) → scan_on go_on step ≡ record { taken = 1; step = step }
-last_step go_on step last = search rules
-
-pub one_stops : (start at : ScanState) (step : Step) (octets : List ℕ) (i : ℕ) → i < length octets → step ≡ step_of at (get_or octets i 0) → ((next : ScanState) → step ≡ On next → ⊥) → scan_of start octets ≡ further i (scan_of at (drop i octets)) → record { taken = i + 1; step = step } ≡ scan_of start octets
-one_stops start at step octets i in_range e last before = search (rules, at_octet, last_step)
 
 pub all_taken : (start at : ScanState) (octets : List ℕ) (i : ℕ) → i ≡ length octets → scan_of start octets ≡ further i (scan_of at (drop i octets)) → record { taken = length octets; step = On at } ≡ scan_of start octets
 unfolding scan_of

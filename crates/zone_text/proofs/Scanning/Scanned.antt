@@ -1,11 +1,11 @@
 -- What a scan says of the octets that it took: where it goes on and stops, and the tokens that they
 -- are.
-use Rattle.zone_text.proofs.Common.{AreTokens, BadEscape, Breaks, BreaksAtEnd, BreaksForGood, ClosesNothing, Cut, Cuts, Ends, Fault, IsBroken, IsCutOff, IsLostEscape, IsOneEntry, List, LostEscape, MatchOption, None, On, Option, ScanState, Scanned, Some, StaysBroken, Step, Token, UnbalancedParenthesis, UnclosedQuote, [], ap, arith, beginning, closing_stays, cond_both, cut_from, depth_past, end_fault_of, eqb-false, eqb-true, escape_open, escape_stays, further, in_front_of, length, length-take, line_feed, no_escape, no_quote, no_quoted_escape, not_closed, quote_open, quoted_escape_open, quoted_escape_stays, refl, rules, scan_of, scan_on, step_of, subst, suc, sym, take, take-length, text, unclosed, zero, ℕ, ◌++◌, ◌+◌, ◌∷◌, ◌≡◌, ◌≤◌}
+use Rattle.zone_text.proofs.Common.{BadEscape, Breaks, BreaksAtEnd, ClosesNothing, Cut, Cuts, Ends, Fault, IsBroken, IsBrokenOff, IsCutOff, IsLostEscape, IsOneEntry, IsOpen, List, LostEscape, MatchOption, None, On, Option, ScanState, Scanned, Some, StaysBroken, Step, Token, UnbalancedParenthesis, UnclosedQuote, [], ap, arith, beginning, closing_stays, cond_both, cut_from, depth_past, end_fault_of, eqb-false, eqb-true, escape_open, escape_stays, further, in_front_of, length, length-take, line_feed, no_escape, no_quote, no_quoted_escape, not_closed, quote_open, quoted_escape_open, quoted_escape_stays, refl, rules, scan_of, scan_on, step_of, subst, suc, sym, take, take-length, text, unclosed, zero, ℕ, ◌++◌, ◌+◌, ◌∷◌, ◌≡◌, ◌≤◌}
 use Rattle.zone_text.specs.Breaks.{closes_nothing as closes_none}
 use Rattle.zone_text.proofs.Tokens.Cuttings.{IsCut, cuts, breaks, no_token, one_token_more, text_on}
 use Rattle.zone_text.proofs.Tokens.ForGood.{stays_for_good, ends_not_for_good}
 use Rattle.zone_text.proofs.Scanning.ScanReads.{Reads, reads, EscapeAt, RanOut, EndsNone, ends, closes, runs_out, in_quote, in_escape, in_quoted_escape, then_more, escape_is_bad}
-use Rattle.zone_text.proofs.Tokens.Fronts.{HasRoom, Takes, Ends as EndsAt}
+use Rattle.zone_text.proofs.Tokens.Fronts.{Ends as EndsAt, HasRoom, Takes}
 
 -- ---- what the last step says
 
@@ -19,15 +19,12 @@ fault_of ClosesNothing = Some UnbalancedParenthesis
 abbrev pub Left : Step → List ℕ → Type 0
 Left (On at) rest = BreaksAtEnd rest
 Left Ends rest = rest ≡ []
-Left LostEscape rest = StaysBroken rest
-Left ClosesNothing rest = StaysBroken rest
+Left step rest = StaysBroken rest
 
 -- one entry that a line feed ends, or one that is open
 abbrev pub entry_by : Step → List Token → Cut
-entry_by (On at) tokens = record { ended = []; open_tokens = tokens }
 entry_by Ends tokens = record { ended = tokens ∷ []; open_tokens = [] }
-entry_by LostEscape tokens = record { ended = []; open_tokens = tokens }
-entry_by ClosesNothing tokens = record { ended = []; open_tokens = tokens }
+entry_by step tokens = record { ended = []; open_tokens = tokens }
 
 pub record IsRead (step : Step) (depth : ℕ) (octets : List ℕ) : Type 0 where
   pub tokens : List Token
@@ -38,12 +35,6 @@ pub record IsRead (step : Step) (depth : ℕ) (octets : List ℕ) : Type 0 where
   pub entries : cut_from depth tokens ≡ entry_by step tokens
 
 -- ---- entries
-
-in_entry : (step : Step) (p : Token) (tokens : List Token) → in_front_of p (entry_by step tokens) ≡ entry_by step (p ∷ tokens)
-in_entry step p tokens = search rules
-
-token_on : (depth : ℕ) (p : Token) (tokens : List Token) → HasRoom depth p → EndsNone depth p → cut_from depth (p ∷ tokens) ≡ in_front_of p (cut_from (depth_past depth p) tokens)
-token_on depth p tokens room none = search rules
 
 no_entry : (depth : ℕ) → cut_from depth [] ≡ record { ended = []; open_tokens = [] }
 no_entry depth = cc
@@ -67,9 +58,6 @@ line_read octets e = record {
 at_depth : (step last : Step) (depth : ℕ) (octets : List ℕ) → step ≡ last → depth ≡ 0 → IsRead last zero octets → IsRead step depth octets
 at_depth step last depth octets e d read = search rules
 
-unclosed_ends : (depth : ℕ) (octets : List ℕ) → octets ≡ [] → EndsAt depth octets (unclosed depth)
-unclosed_ends depth octets e = grind (arith, cond_both, eqb-true, eqb-false, not_closed)
-
 -- the octets ran out
 out_read : (step : Step) (fault : Option Fault) (depth : ℕ) (octets : List ℕ) → RanOut fault step → EndsAt depth octets fault → BreaksAtEnd octets → IsRead step depth octets
 out_read (On at) fault depth octets ran stop left = stop_read (On at) depth octets (subst (EndsAt depth octets) (sym ran) stop) left refl
@@ -80,8 +68,17 @@ escape_read (On at) depth octets after open_escape broken at_the_end stays = sto
 escape_read LostEscape depth octets after open_escape broken at_the_end stays = stop_read LostEscape depth octets broken (stays open_escape) refl
 escape_read step depth octets after open_escape broken at_the_end stays = absurd open_escape
 
+in_entry : (step : Step) (p : Token) (tokens : List Token) → in_front_of p (entry_by step tokens) ≡ entry_by step (p ∷ tokens)
+in_entry step p tokens = search rules
+
+token_on : (depth : ℕ) (p : Token) (tokens : List Token) → HasRoom depth p → EndsNone depth p → cut_from depth (p ∷ tokens) ≡ in_front_of p (cut_from (depth_past depth p) tokens)
+token_on depth p tokens room none = search rules
+
 token_read : (step : Step) (depth : ℕ) (octets : List ℕ) (p : Token) (rest : List ℕ) → Takes depth octets p rest → EndsNone depth p → IsRead step (depth_past depth p) rest → IsRead step depth octets
 token_read step depth octets p rest front none more = grind (arith, text_on octets rest more.rest p more.tokens front.whole more.whole, one_token_more depth octets rest p more.tokens (fault_of step) front more.cut, token_on depth p more.tokens front.room none, in_entry step p more.tokens)
+
+unclosed_ends : (depth : ℕ) (octets : List ℕ) → octets ≡ [] → EndsAt depth octets (unclosed depth)
+unclosed_ends depth octets e = grind (arith, cond_both, eqb-true, eqb-false, not_closed)
 
 pub is_read : (step : Step) (depth : ℕ) (octets : List ℕ) → Reads step depth octets → IsRead step depth octets
 is_read step _ _ (ends depth octets e d f) = search (rules, at_depth, line_read)
@@ -143,8 +140,7 @@ unfinished_depth start at (c ∷ rest) e = depth_by start at c rest (step_of sta
 read_by : (octets : List ℕ) (step : Step) → scan_of beginning octets ≡ record { taken = length octets; step = step } → IsRead step zero octets
 read_by octets step e =
     let P : Scanned → Type 0 = λ found. Reads found.step zero (take found.taken octets) in
-    let found : Reads step zero (take (length octets) octets) = subst P e (reads octets beginning tt) in
-    is_read step zero octets (subst (Reads step zero) (take-length octets) found)
+    is_read step zero octets (subst (Reads step zero) (take-length octets) (subst P e (reads octets beginning tt)))
 
 no_ended : (tokens : List Token) → cut_from zero tokens ≡ record { ended = []; open_tokens = tokens } → (cut_from zero tokens).ended ≡ []
 no_ended tokens e = ap (λ (cut : Cut). cut.ended) e
@@ -154,23 +150,20 @@ ends_entry octets e =
     let read : IsRead Ends zero octets = read_by octets Ends e in
     (read.tokens, record { cut = cuts octets read.tokens read.cut; ended = read.entries })
 
-are_tokens : (octets : List ℕ) (tokens : List Token) (fault : Option Fault) → IsCut zero octets tokens fault → AreTokens octets tokens
-are_tokens octets tokens fault is = search rules
-
-pub stays_open : (octets : List ℕ) (at : ScanState) → scan_of beginning octets ≡ record { taken = length octets; step = On at } → (tokens : List Token) × AreTokens octets tokens × ((cut_from zero tokens).ended ≡ []) × ((fault : Fault) → BreaksForGood octets tokens fault → ⊥)
+pub stays_open : (octets : List ℕ) (at : ScanState) → scan_of beginning octets ≡ record { taken = length octets; step = On at } → IsOpen octets
 stays_open octets at e =
     let read : IsRead (On at) zero octets = read_by octets (On at) e in
-    (read.tokens, are_tokens octets read.tokens (end_fault_of at) read.cut, no_ended read.tokens read.entries, ends_not_for_good octets read.tokens read.rest read.whole read.left)
+    record { tokens = read.tokens; are = search rules; none = no_ended read.tokens read.entries; goes_on = ends_not_for_good octets read.tokens read.rest read.whole read.left }
 
-pub loses_escape : (octets : List ℕ) → scan_of beginning octets ≡ record { taken = length octets; step = LostEscape } → (tokens : List Token) × BreaksForGood octets tokens BadEscape × ((cut_from zero tokens).ended ≡ [])
+pub loses_escape : (octets : List ℕ) → scan_of beginning octets ≡ record { taken = length octets; step = LostEscape } → IsBrokenOff octets BadEscape
 loses_escape octets e =
     let read : IsRead LostEscape zero octets = read_by octets LostEscape e in
-    (read.tokens, stays_for_good octets read.tokens BadEscape (breaks octets read.tokens BadEscape read.cut) read.rest read.whole read.left, no_ended read.tokens read.entries)
+    record { tokens = read.tokens; breaks = stays_for_good octets read.tokens BadEscape (breaks octets read.tokens BadEscape read.cut) read.rest read.whole read.left; none = no_ended read.tokens read.entries }
 
-pub closes_nothing : (octets : List ℕ) → scan_of beginning octets ≡ record { taken = length octets; step = ClosesNothing } → (tokens : List Token) × BreaksForGood octets tokens UnbalancedParenthesis × ((cut_from zero tokens).ended ≡ [])
+pub closes_nothing : (octets : List ℕ) → scan_of beginning octets ≡ record { taken = length octets; step = ClosesNothing } → IsBrokenOff octets UnbalancedParenthesis
 closes_nothing octets e =
     let read : IsRead ClosesNothing zero octets = read_by octets ClosesNothing e in
-    (read.tokens, stays_for_good octets read.tokens UnbalancedParenthesis (breaks octets read.tokens UnbalancedParenthesis read.cut) read.rest read.whole read.left, no_ended read.tokens read.entries)
+    record { tokens = read.tokens; breaks = stays_for_good octets read.tokens UnbalancedParenthesis (breaks octets read.tokens UnbalancedParenthesis read.cut) read.rest read.whole read.left; none = no_ended read.tokens read.entries }
 
 -- what the input's end makes of the octets
 abbrev AtEnd : List ℕ → Option Fault → Type 0

@@ -35,9 +35,6 @@ prefix_ends (x ∷ xs) = elim (prefix_step stops_bare x xs) [
 
 -- ---- what the bits tell
 
-pub tells_none : (stops : Stops) (octets : List ℕ) → stops.bits ≡ 0 → stops.unseen ≡ length octets → Tells stops octets
-tells_none stops octets none all = grind (arith, common_steps, mask_l, stops_bare)
-
 pub tells_after : (stops : Stops) (octets : List ℕ) (n k : ℕ) (bits : ℕ) → bits ≡ mask_l (map stops_bare (take n octets)) → n ≤ 64 → n ≤ length octets → k < n → stops.bits ≡ bits / 2 ^ k / 2 ^ 1 → stops.unseen ≡ length octets - n → Tells stops (drop (k + 1) octets)
 tells_after stops octets n k bits of few within less is unseen =
     grind (arith, common_steps, length-drop, after_bits, mask_l, stops_bare)
@@ -49,20 +46,18 @@ pub known_len : (stops : Stops) (octets : List ℕ) → Tells stops octets → s
 known_len stops octets tells some =
     grind (arith, common_steps, mask_l, stops_bare, count_trailing_zeros, first_inside)
 
-pub known_less : (stops : Stops) (octets : List ℕ) → Tells stops octets → stops.bits ≢ 0 → prefix_len goes_on octets < length octets - stops.unseen
-known_less stops octets tells some =
-    let n = length octets - stops.unseen in
-    (first_inside stops_bare n octets (omega arith) (omega (arith, tells.few)) (λ e. some (tells.bits ∙ e))).1
-
 pub known_rest : (stops new : Stops) (octets : List ℕ) (k : ℕ) → Tells stops octets → stops.bits ≢ 0 → k ≡ prefix_len goes_on octets → new.bits ≡ stops.bits / 2 ^ k / 2 ^ 1 → new.unseen ≡ stops.unseen → Tells new (drop (k + 1) octets)
 known_rest stops new octets k tells some len is unseen =
-    tells_after new octets (length octets - stops.unseen) k stops.bits tells.bits (omega (arith, tells.few)) (omega arith) (omega (arith, len, known_less stops octets tells some)) is (omega (arith, unseen, tells.within))
+    tells_after new octets (length octets - stops.unseen) k stops.bits tells.bits (omega (arith, tells.few)) (omega arith) (omega (arith, len, (let n = length octets - stops.unseen in (first_inside stops_bare n octets (omega arith) (omega (arith, tells.few)) (λ e. some (tells.bits ∙ e))).1))) is (omega (arith, unseen, tells.within))
 
 -- where no bit is set, the first stop is among the unseen octets
 pub unknown_len : (stops : Stops) (octets ahead : List ℕ) (seen more : ℕ) → Tells stops octets → stops.bits ≡ 0 → seen ≡ length octets - stops.unseen → ahead ≡ drop seen octets → more ≡ prefix_len goes_on ahead → seen + more ≡ prefix_len goes_on octets
 unknown_len stops octets ahead seen more tells none is back len =
     let zero_bits : mask_l (map stops_bare (take seen octets)) ≡ 0 = ap (λ k. mask_l (map stops_bare (take k octets))) is ∙ sym tells.bits ∙ none in
     ap (λ k. seen + k) (len ∙ ap (prefix_len goes_on) back) ∙ sym (none_inside stops_bare seen octets (omega arith) zero_bits)
+
+pub tells_none : (stops : Stops) (octets : List ℕ) → stops.bits ≡ 0 → stops.unseen ≡ length octets → Tells stops octets
+tells_none stops octets none all = grind (arith, common_steps, mask_l, stops_bare)
 
 pub unknown_rest : (new : Stops) (octets ahead : List ℕ) (seen more : ℕ) → ahead ≡ drop seen octets → Tells new (drop (more + 1) ahead) → Tells new (drop (seen + more + 1) octets)
 unknown_rest new octets ahead seen more back tells = grind (arith, common_steps, drop-drop)
@@ -86,15 +81,10 @@ every_below p (suc n) all i less =
 abbrev pub is_low_blank : ℕ → Bool
 is_low_blank c = not (stops_bare c) || (eqb c 10 || is_blank c)
 
-low_stop : (c : ℕ) → stops_bare c ≡ true → c ≤ 32 → c ≢ 10 → is_blank c ≡ true
-low_stop c stops low other =
-    let row : is_low_blank c ≡ true = every_below is_low_blank 33 refl c (omega arith) in
-    rw (stops, ne_eqb c 10 other) at row
-
 pub blank_stop : (rest stopped after : List ℕ) (stop len : ℕ) → len ≡ prefix_len goes_on rest → stopped ≡ drop len rest → stopped ≡ stop ∷ after → stop ≤ 32 → stop ≢ 10 → is_blank stop ≡ true
 blank_stop rest stopped after stop len is back first low other =
     let ends : EndsAt stops_bare stopped = subst (EndsAt stops_bare) (sym (back ∙ ap (λ k. drop k rest) is)) (prefix_ends rest) in
-    low_stop stop (subst (EndsAt stops_bare) first ends) low other
+    (let row : is_low_blank stop ≡ true = every_below is_low_blank 33 refl stop (omega arith) in rw ((subst (EndsAt stops_bare) first ends), ne_eqb stop 10 other) at row)
 
 -- the low four bits of each lane are a place in a table of 16
 pub low_places : (v : List ℕ) → length v ≡ 64 → SwzOk w8 16 64 0 (zip2 bit_and v (replicate 64 15))
@@ -158,9 +148,6 @@ prefix_by (suc k) (x ∷ xs) within each ends =
     let more : prefix_len goes_on xs ≡ k = prefix_by k xs (omega arith) each.1 ends in
     ap (λ (b : Bool). cond (not b) (1 + prefix_len goes_on xs) 0) each.0 ∙ omega (arith, more)
 
-pub plain_prefix : (k : ℕ) (xs : List ℕ) → k ≤ length xs → All (λ c. stops_bare c ≡ false) (take k xs) → EndsAt stops_bare (drop k xs) → k ≡ prefix_len goes_on xs
-plain_prefix k xs within each ends = sym (prefix_by k xs within (recursion_from_All (λ c. stops_bare c ≡ false) _ each) ends)
-
 -- the octets before one go on with the item
 abbrev pub GoesTo : List ℕ → ℕ → Type 0
 GoesTo octets seen = prefix_len goes_on octets ≡ seen + prefix_len goes_on (drop seen octets)
@@ -179,15 +166,12 @@ stop_found stops octets ahead seen bits more room back are some len is unseen so
     let there : prefix_len goes_on ahead ≡ prefix_len goes_on (drop seen octets) = ap (prefix_len goes_on) back in
     (omega (arith, so_far, first, there), unknown_rest stops octets ahead seen more back (tells_after stops ahead 64 more bits are (omega arith) room (omega (arith, first, found.1)) is unseen))
 
+pub plain_prefix : (k : ℕ) (xs : List ℕ) → k ≤ length xs → All (λ c. stops_bare c ≡ false) (take k xs) → EndsAt stops_bare (drop k xs) → k ≡ prefix_len goes_on xs
+plain_prefix k xs within each ends = sym (prefix_by k xs within (recursion_from_All (λ c. stops_bare c ≡ false) _ each) ends)
+
 pub last_found : (stops : Stops) (octets rest : List ℕ) (seen more : ℕ) → rest ≡ drop seen octets → more ≤ length rest → All (λ c. stops_bare c ≡ false) (take more rest) → EndsAt stops_bare (drop more rest) → stops.bits ≡ 0 → stops.unseen ≡ length rest - min (length rest) (more + 1) → GoesTo octets seen → (seen + more ≡ prefix_len goes_on octets) × Tells stops (drop (seen + more + 1) octets)
 last_found stops octets rest seen more back within each ends none unseen so_far =
     let first : more ≡ prefix_len goes_on rest = plain_prefix more rest within each ends in
     let there : prefix_len goes_on rest ≡ prefix_len goes_on (drop seen octets) = ap (prefix_len goes_on) back in
     let left : length (drop (more + 1) rest) ≡ length rest - (more + 1) = length-drop (more + 1) rest in
     (omega (arith, so_far, first, there), unknown_rest stops octets rest seen more back (tells_none stops (drop (more + 1) rest) none (omega arith)))
-
--- what is known of the octets after the one that stops the item
-pub after_stop : (stops : Stops) (rest stopped after : List ℕ) (stop n : ℕ) → Tells stops (drop (n + 1) rest) → stopped ≡ drop n rest → stopped ≡ stop ∷ after → Tells stops after
-after_stop stops rest stopped after stop n tells back first =
-    let same : drop (n + 1) rest ≡ after = sym (drop-drop 1 n rest) ∙ ap (drop 1) (sym back ∙ first) in
-    subst (Tells stops) same tells

@@ -1,15 +1,11 @@
 -- Lines without items: what is cut of them, and what follows from octets with such lines after them.
-use Rattle.zone_text.proofs.Common.{AllByRecursion, AreBlankLines, Comment, Cuts, EndedEntries, Ends, EntrySplitter, Follow, IsBlankLine, IsComment, IsSplitter, List, None, ReadsOctets, ScansTo, Token, [], ap, append_assoc, arith, before_line_feed, beginning, comment, commented, common_steps, decides_none, drop, flat_map, further, if◌then◌else◌, item_of, length, length-append, line_feed, ne_eqb, no_lines, one_line_more, refl, rules, scan_of, subst, suc, sum_by-cons, sym, ℕ, ◌++◌, ◌+◌, ◌<◌, ◌==◌, ◌∙◌, ◌∷◌, ◌≡◌, ◌≢◌, ◌≤◌}
+use Rattle.zone_text.proofs.Common.{AllByRecursion, AreBlankLines, Comment, Cuts, EndedEntries, Ends, EntrySplitter, Follow, IsBlankLine, IsSplitter, List, None, ReadsOctets, ScansTo, Token, [], ap, append_assoc, arith, beginning, comment, commented, common_steps, decides_none, flat_map, further, item_of, length, length-append, line_feed, ne_eqb, no_lines, one_line_more, refl, rules, scan_of, subst, suc, sum_by-cons, sym, ℕ, ◌++◌, ◌+◌, ◌<◌, ◌∙◌, ◌∷◌, ◌≡◌, ◌≢◌, ◌≤◌}
 use Rattle.zone_text.specs.Machine.Blank.{line_feed as fed_line}
 use Rattle.zone_text.proofs.Tokens.Cuttings.{one_cut}
 use Rattle.zone_text.proofs.Entries.EntryTaken.{lines_after, takes_entry}
 use Rattle.zone_text.proofs.Files.Followed.{follow_entry}
-use Rattle.zone_text.proofs.Tokens.Fronts.{comment_dropped, comment_each, comment_ends, comment_whole}
 use Rattle.zone_text.proofs.Files.Left.{line_feeds}
 use Rattle.zone_text.proofs.Scanning.FedPieces.{HasFed, fed_more, FollowsOn}
-
-pub comment_ended : (octets after rest : List ℕ) (n c : ℕ) → n ≡ length (before_line_feed octets) → after ≡ drop n octets → after ≡ c ∷ rest → IsComment octets rest
-comment_ended octets after rest n c len back first = grind (arith, comment_dropped, comment_ends, comment_each, comment_whole)
 
 -- ---- a line as an entry
 
@@ -50,13 +46,7 @@ comment_scanned octets each = search (rules, in_comment, one_further)
 
 one_fed : (octets : List ℕ) → AllByRecursion (λ c. c ≢ 10) octets → 1 ≡ line_feeds (octets ++ 10 ∷ [])
 one_fed [] each = refl
-one_fed (c ∷ octets) each =
-    let more = one_fed octets each.1 in
-    let first = sum_by-cons (λ c. if c == 10 then 1 else 0) c (octets ++ 10 ∷ []) in
-    first_not c (line_feeds (octets ++ 10 ∷ [])) each.0 more ∙ sym first
-  where
-    first_not : (c n : ℕ) → c ≢ 10 → 1 ≡ n → 1 ≡ (if c == 10 then 1 else 0) + n
-    first_not c n other one = rw (ne_eqb c 10 other) (let e : 1 ≡ 0 + n = omega (arith, one) in e)
+one_fed (c ∷ octets) each = grind (arith, common_steps, ne_eqb, sum_by-cons, one_fed octets each.1)
 
 comment_alone : (octets : List ℕ) → AllByRecursion (λ c. c ≢ 10) octets → IsEmpty (59 ∷ octets ++ 10 ∷ [])
 comment_alone octets each = record {
@@ -89,9 +79,6 @@ pub record TakesLines (octets rest : List ℕ) (n : ℕ) : Type 0 where
   pub whole : octets ≡ front ++ rest
   pub follow : (old : EndedEntries) → old.decided.ending ≡ None → FollowsOn old [] (with_line (old.line + n) old) [] front
 
-takes_none : (octets : List ℕ) → TakesLines octets octets 0
-takes_none octets = search rules
-
 takes_more : (octets line rest more : List ℕ) (n : ℕ) → TakesLines octets line n → line ≡ more ++ rest → IsEmpty more → TakesLines octets rest (n + 1)
 takes_more octets line rest more n so_far cut is = record {
   front = so_far.front ++ more;
@@ -108,7 +95,7 @@ takes_line octets line rest n so_far (commented after e is) =
     takes_more octets line rest (59 ∷ is.comment ++ 10 ∷ []) n so_far (e ∙ ap (λ t. 59 ∷ t) (is.whole ∙ sym (append_assoc is.comment (10 ∷ []) rest))) (comment_alone is.comment is.inside)
 
 pub takes_lines : (octets rest : List ℕ) (n : ℕ) → AreBlankLines octets rest n → TakesLines octets rest n
-takes_lines octets _ _ no_lines = takes_none octets
+takes_lines octets _ _ no_lines = search rules
 takes_lines octets _ _ (one_line_more line rest n before is) = takes_line octets line rest n (takes_lines octets line n before) is
 
 -- lines after lines

@@ -35,9 +35,6 @@ end_after p (q ∷ entry) rest some ends = grind arith
 front_ended : (depth next : ℕ) (p : Token) (ended : List (List Token)) (others : List Token) → ((tokens : List Token) → cut_from depth (p ∷ tokens) ≡ in_front_of p (cut_from next tokens)) → AreEnded next ended → AreEnded depth (in_front p ended others).ended
 front_ended depth next p ended others step are = grind (arith, end_after)
 
-none_ended : (depth : ℕ) → AreEnded depth []
-none_ended depth = record { each = tt; ends = tt; again = λ entry rest more e. absurd cc }
-
 line_after : (tokens : List Token) → EndInLineFeed tokens → EndInLineFeed (line_feed ∷ tokens)
 line_after tokens ends = search rules
 
@@ -49,7 +46,7 @@ line_ended : (ended : List (List Token)) → AreEnded zero ended → AreEnded ze
 line_ended ended are = search (rules, line_after, again_zero)
 
 pub cut_ended : (depth : ℕ) (tokens : List Token) → AreEnded depth (cut_from depth tokens).ended
-cut_ended depth [] = none_ended depth
+cut_ended depth [] = record { each = tt; ends = tt; again = λ entry rest more e. absurd cc }
 cut_ended zero (line_feed ∷ tokens) = search (rules, line_ended, cut_ended zero tokens)
 cut_ended depth (opening ∷ tokens) = front_ended depth (suc depth) opening (cut_from (suc depth) tokens).ended _ (λ ps. refl) (cut_ended (suc depth) tokens)
 cut_ended (suc depth) (closing ∷ tokens) = search (rules, front_ended, cut_ended depth tokens)

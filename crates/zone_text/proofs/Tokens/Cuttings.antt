@@ -1,6 +1,6 @@
 -- The whole text: the cutting and what it says, both ways.
 use Rattle.zone_text.proofs.Common.{AllByRecursion, AllFollow, Breaks, Cuts, Cutting, Fault, Front, IsBroken, IsToken, List, MayEndBefore, MayFollow, NoUnit, None, Option, Some, Token, Written, [], ap, append-nil, append_assoc, arith, at_backslash, at_end, at_octet, bare, blank, both_ways, closes_nothing, closing, comment, common_steps, cut_by, cut_on, cutting, depth_after, depth_past, ends_item, front_of, inl, inr, is_blank, length, length-append, line_feed, no_escape, no_quote, no_quoted_escape, not_closed, opening, plain, quoted, refl, rules, subst, suc, sym, takes, text, token_text, written_text, zero, ℕ, ◌++◌, ◌<◌, ◌∙◌, ◌∷◌, ◌≡◌, ◌⊎◌}
-use Rattle.zone_text.proofs.Tokens.Fronts.{EndsComment, Stops, HasRoom, Takes, Ends, IsFront, front_is, front_takes, front_stops}
+use Rattle.zone_text.proofs.Tokens.Fronts.{Ends, EndsComment, HasRoom, IsFront, Stops, Takes, front_is, front_stops, front_takes}
 
 -- ---- which token may follow which, by the octets
 
@@ -99,11 +99,8 @@ last_same p q tokens after = grind arith
 pub last_in_front : (p q : Token) (tokens : List Token) (after : List ℕ) → MayEndBefore (q ∷ tokens) after → MayEndBefore (p ∷ q ∷ tokens) after
 last_in_front p q tokens after last = subst (λ P. P) (sym (last_same p q tokens after)) last
 
-last_on : (p : Token) (tokens : List Token) (depth : ℕ) (rest after : List ℕ) (fault : Option Fault) → Stops p rest → rest ≡ text tokens ++ after → Ends depth after fault → MayEndBefore tokens after → MayEndBefore (p ∷ tokens) after
-last_on p tokens depth rest after fault stop whole ends last = search rules
-
 pub one_token_more : (depth : ℕ) (octets rest : List ℕ) (p : Token) (tokens : List Token) (fault : Option Fault) → Takes depth octets p rest → IsCut (depth_past depth p) rest tokens fault → IsCut depth octets (p ∷ tokens) fault
-one_token_more depth octets rest p tokens fault front more = grind (arith, common_steps, text_on, follow_on, last_on, depth_on)
+one_token_more depth octets rest p tokens fault front more = grind (arith, common_steps, text_on, follow_on, depth_on)
 
 some_octet : (p : Token) → IsToken p → 0 < length (token_text p)
 some_octet (bare []) is = absurd (omega (arith, is.0))

@@ -1,5 +1,5 @@
 -- Items in which escapes stand among octets by themselves.
-use Rattle.zone_text.proofs.Common.{All, AllByRecursion, AllByRecursion-append, Bool, EndsAt, IsBadEscape, IsUnit, List, NoUnit, Units, Written, [], ap, append_assoc, arith, at_backslash, at_end, at_octet, drop, drop-append_seam, ends_item, ends_within, eqb-false, false, flat_map-append, get_or, item_len, length, length-append, length-drop, length-take, map, ne_eqb, or_parts, plain, recursion_from_All, refl, rules, stops_bare, subst, suc, sym, take, take-append-drop, take-append_seam, text_of, true, unit_of_escape, units_first_only, written_text, ℕ, ◌++◌, ◌+◌, ◌-◌, ◌<◌, ◌==◌, ◌||◌, ◌∙◌, ◌∷◌, ◌≡◌, ◌≢◌, ◌≤◌}
+use Rattle.zone_text.proofs.Common.{All, AllByRecursion, AllByRecursion-append, Bool, EndsAt, IsUnit, List, NoUnit, Units, Written, [], ap, append_assoc, arith, at_end, at_octet, drop, drop-append_seam, ends_item, ends_within, eqb-false, false, flat_map-append, get_or, item_len, length, length-append, length-drop, length-take, map, ne_eqb, or_parts, plain, recursion_from_All, refl, rules, stops_bare, subst, suc, sym, take, take-append-drop, take-append_seam, text_of, true, unit_of_escape, units_first_only, written_text, ℕ, ◌++◌, ◌+◌, ◌-◌, ◌<◌, ◌==◌, ◌||◌, ◌∙◌, ◌∷◌, ◌≡◌, ◌≢◌, ◌≤◌}
 use Rattle.std.proofs.lemmas.List.Elements.{All-cons}
 use Rattle.zone_name.specs.Spelling.{BeginsWithEscape}
 use Rattle.zone_text.proofs.Tokens.TokenEnds.{first_at}
@@ -40,7 +40,7 @@ plain_first stops octets after c n k whole goes_on more each ends =
     let size : k ≡ suc n = omega arith in
     rw (whole, size) (All-cons (λ d. stops d ≡ false) c (take n after) goes_on each, ends)
 
-at_mark : (octets escape : List ℕ) (len : ℕ) → len < length octets → get_or octets len 0 ≡ 92 → escape ≡ drop (len + 1) octets → drop len octets ≡ 92 ∷ escape
+pub at_mark : (octets escape : List ℕ) (len : ℕ) → len < length octets → get_or octets len 0 ≡ 92 → escape ≡ drop (len + 1) octets → drop len octets ≡ 92 ∷ escape
 at_mark octets escape len less is back = first_at octets len less ∙ ap (λ m. m ∷ drop (len + 1) octets) is ∙ ap (λ t. 92 ∷ t) (sym back)
 
 pub escape_more : (ends : ℕ → Bool) (octets escape rest : List ℕ) (octet len k n : ℕ) → IsWrittenTo ends octets len → len < length octets → get_or octets len 0 ≡ 92 → escape ≡ drop (len + 1) octets → BeginsWithEscape (92 ∷ escape) octet rest → k ≤ length rest → All (λ c. (ends c || c == 92) ≡ false) (take k rest) → EndsAt (λ c. ends c || c == 92) (drop k rest) → n ≡ length octets - length rest + k → IsWrittenTo ends octets n
@@ -68,7 +68,7 @@ backslash : (extent : Extent) → ends_within extent 92 ≡ false
 backslash Bare = refl
 backslash Quoted = refl
 
-len_is : (extent : Extent) (octets : List ℕ) (len : ℕ) → IsWrittenTo (ends_within extent) octets len → NoUnit (ends_within extent) (drop len octets) → len ≡ item_len (ends_within extent) octets
+pub len_is : (extent : Extent) (octets : List ℕ) (len : ℕ) → IsWrittenTo (ends_within extent) octets len → NoUnit (ends_within extent) (drop len octets) → len ≡ item_len (ends_within extent) octets
 len_is extent octets len is none =
     let whole : octets ≡ written_text is.units ++ drop len octets = sym (take-append-drop len octets) ∙ ap (λ t. t ++ drop len octets) is.text in
     let size : len ≡ length (written_text is.units) = omega (arith, length-take len octets, is.within, ap length is.text) in
@@ -90,6 +90,3 @@ ended extent octets len is other = len_is extent octets len is (ended_by (ends_w
     let less : len < length octets = omega (arith, length-drop len octets, ap length e) in
     let first : get_or octets len 0 ∷ drop (len + 1) octets ≡ c ∷ more = sym (first_at octets len less) ∙ e in
     other less (let same : get_or octets len 0 ≡ c = cc in same ∙ mark)))
-
-pub ended_badly : (extent : Extent) (octets escape : List ℕ) (len : ℕ) → IsWrittenTo (ends_within extent) octets len → len < length octets → get_or octets len 0 ≡ 92 → escape ≡ drop (len + 1) octets → IsBadEscape (92 ∷ escape) → len ≡ item_len (ends_within extent) octets
-ended_badly extent octets escape len is less mark back bad = len_is extent octets len is (at_backslash (subst IsBadEscape (sym (at_mark octets escape len less mark back)) bad))

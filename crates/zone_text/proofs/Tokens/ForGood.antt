@@ -57,27 +57,19 @@ malformed_is_bad rest h = search rules
 abbrev StaysOrEnds : List ℕ → Type 0
 StaysOrEnds rest = StaysBroken rest ⊎ BreaksAtEnd rest
 
-bare_escape : (rest : List ℕ) → IsLostEscape rest ⊎ IsCutOff rest → StaysOrEnds rest
-bare_escape rest (inl lost) = inl (escape_stays lost)
-bare_escape rest (inr cut) = inr (escape_open cut)
-
 quoted_escape : (rest : List ℕ) (units : List Written) (after : List ℕ) → IsLostEscape after ⊎ IsCutOff after → (IsLostEscape after → StaysBroken rest) → (IsCutOff after → BreaksAtEnd rest) → StaysOrEnds rest
 quoted_escape rest units after (inl lost) stays ends = inl (stays lost)
 quoted_escape rest units after (inr cut) stays ends = inr (ends cut)
 
 stays_or_ends : (depth : ℕ) (rest : List ℕ) (fault : Fault) → IsBroken depth rest fault → StaysOrEnds rest
 stays_or_ends depth rest fault (closes_nothing after zero_is whole) = inl (closing_stays after whole)
-stays_or_ends depth rest fault (no_escape bad) = bare_escape rest (bad_is_malformed rest bad)
+stays_or_ends depth rest fault (no_escape bad) = quoted_escape rest [] rest (bad_is_malformed rest bad) (λ lost. escape_stays lost) (λ cut. escape_open cut)
 stays_or_ends depth rest fault (no_quoted_escape units after each whole bad) = search (rules, quoted_escape, bad_is_malformed, quoted_escape_stays, quoted_escape_open)
 stays_or_ends depth rest fault (no_quote units each whole) = inr (quote_open units each whole)
 stays_or_ends depth rest fault (not_closed some whole) = inr (nothing_left whole)
 
 pub break_stays_or_ends : (octets : List ℕ) (tokens : List Token) (fault : Fault) (broken : Breaks octets tokens fault) → StaysBroken broken.rest ⊎ BreaksAtEnd broken.rest
 break_stays_or_ends octets tokens fault broken = search (rules, stays_or_ends)
-
--- an escape that further octets can't mend isn't cut off
-lost_not_cut : (rest : List ℕ) → IsLostEscape rest → IsCutOff rest → ⊥
-lost_not_cut rest h h2 = search rules
 
 -- what follows the quoted units of a text is one thing
 after_units : (units other : List Written) (after rest : List ℕ) → AllByRecursion (IsUnit is_quote) units → AllByRecursion (IsUnit is_quote) other → NoUnit is_quote after → NoUnit is_quote rest → written_text units ++ after ≡ written_text other ++ rest → after ≡ rest
@@ -86,11 +78,15 @@ after_units units other after rest each another none no_more e = grind (arith, u
 lost_begins_none : (rest : List ℕ) → IsLostEscape rest → NoUnit is_quote rest
 lost_begins_none rest lost = at_backslash (malformed_is_bad rest (inl lost))
 
+after_quote : (rest more after : List ℕ) → rest ≡ 34 ∷ more → rest ≡ 34 ∷ after → more ≡ after
+after_quote rest more after e f = cc
+
 other_first : (c d : ℕ) (rest more after : List ℕ) → rest ≡ c ∷ more → rest ≡ d ∷ after → (c ≡ d → ⊥) → ⊥
 other_first c d rest more after e f apart = apart (cc)
 
-after_quote : (rest more after : List ℕ) → rest ≡ 34 ∷ more → rest ≡ 34 ∷ after → more ≡ after
-after_quote rest more after e f = cc
+-- an escape that further octets can't mend isn't cut off
+lost_not_cut : (rest : List ℕ) → IsLostEscape rest → IsCutOff rest → ⊥
+lost_not_cut rest h h2 = search rules
 
 pub stays_or_ends_alone : (rest : List ℕ) → StaysBroken rest → BreaksAtEnd rest → ⊥
 stays_or_ends_alone rest stays (nothing_left none) = stays_some rest stays none

@@ -1,5 +1,5 @@
 -- The first token of a text: what is read is so, and what is so is read.
-use Rattle.zone_text.proofs.Common.{AllByRecursion, BadEscape, Fault, Front, IsBadEscape, IsBroken, IsToken, IsUnit, List, NoUnit, None, Option, Sign, Some, Token, UnitsAre, Written, [], a_blank, a_closing, a_line_feed, a_quote, a_semicolon, an_opening, ap, append-nil, append_assoc, arith, at_backslash, at_end, at_octet, bare, bare_front, before_line_feed, blank, both_ways, closes_nothing, closing, comment, cond_both, decimal, drop, drop-append_seam, end_front, ends_item, eqb-false, eqb-true, escaped, false, from_line_feed, front_by, front_of, is_blank, is_quote, length, line_feed, no_escape, no_quote, no_quoted_escape, not_closed, of_item, opening, plain, quoted, quoted_front, refl, rules, sign_of, stops, subst, suc, sym, takes, token_text, true, units_first, units_first_are, units_first_only, written_text, zero, ℕ, ◌++◌, ◌<◌, ◌==◌, ◌∙◌, ◌∷◌, ◌≡◌, ◌≢◌}
+use Rattle.zone_text.proofs.Common.{AllByRecursion, BadEscape, Bool, Fault, Front, IsBadEscape, IsBroken, IsToken, IsUnit, List, NoUnit, None, Option, Sign, Some, Token, UnitsAre, Written, [], a_blank, a_closing, a_line_feed, a_quote, a_semicolon, an_opening, ap, append-nil, append_assoc, arith, at_backslash, at_end, at_octet, bare, bare_front, before_line_feed, blank, both_ways, closes_nothing, closing, comment, cond_both, decimal, drop, drop-append_seam, end_front, ends_item, eqb-false, eqb-true, escaped, false, from_line_feed, front_by, front_of, is_blank, is_quote, length, line_feed, no_escape, no_quote, no_quoted_escape, not_closed, of_item, opening, plain, quoted, quoted_front, refl, rules, sign_of, stops, subst, suc, sym, takes, token_text, true, units_first, units_first_are, units_first_only, written_text, zero, ℕ, ◌++◌, ◌<◌, ◌==◌, ◌∙◌, ◌∷◌, ◌≡◌, ◌≢◌}
 
 -- ---- comments
 
@@ -100,6 +100,11 @@ IsFront depth octets (stops fault) = Ends depth octets fault
 pub first_octet_is : (c d : ℕ) (rest : List ℕ) → c ≡ d → c ∷ rest ≡ d ∷ rest
 first_octet_is c d rest e = ap (λ t. t ∷ rest) e
 
+no_unit_bad : (out : ℕ → Bool) (c : ℕ) (rest : List ℕ) → out c ≡ false → NoUnit out (c ∷ rest) → IsBadEscape (c ∷ rest)
+no_unit_bad out c rest e (at_end h) = absurd cc
+no_unit_bad out c rest e (at_octet x more h end) = let same : c ≡ x = cc in absurd (both_ways (out c) e (ap out same ∙ end))
+no_unit_bad out c rest e (at_backslash bad) = bad
+
 quoted_is : (depth c : ℕ) (octets : List ℕ) (units : List Written) (rest : List ℕ) → c ≡ 34 → octets ≡ written_text units ++ rest → AllByRecursion (IsUnit is_quote) units → NoUnit is_quote rest → IsFront depth (c ∷ octets) (quoted_front units rest)
 quoted_is depth c octets units [] is whole each none =
     no_quote units each (first_octet_is c 34 octets is ∙ ap (λ t. 34 ∷ t) (whole ∙ append-nil (written_text units)))
@@ -111,20 +116,10 @@ quoted_is depth c octets units (d ∷ rest) is whole each none =
       stop = tt;
       room = tt;
     })
-    (λ e. no_quoted_escape units (d ∷ rest) each (first_octet_is c 34 octets is ∙ ap (λ t. 34 ∷ t) whole) (escape_of e none))
-  where
-    escape_of : is_quote d ≡ false → NoUnit is_quote (d ∷ rest) → IsBadEscape (d ∷ rest)
-    escape_of e (at_end h) = absurd cc
-    escape_of e (at_octet x more h end) = let same : d ≡ x = cc in absurd (both_ways (is_quote d) e (ap is_quote same ∙ end))
-    escape_of e (at_backslash bad) = bad
+    (λ e. no_quoted_escape units (d ∷ rest) each (first_octet_is c 34 octets is ∙ ap (λ t. 34 ∷ t) whole) (no_unit_bad is_quote d rest e none))
 
 bare_is : (depth c : ℕ) (octets : List ℕ) (units : List Written) (rest : List ℕ) → ends_item c ≡ false → c ∷ octets ≡ written_text units ++ rest → AllByRecursion (IsUnit ends_item) units → NoUnit ends_item rest → IsFront depth (c ∷ octets) (bare_front units rest)
-bare_is depth c octets [] rest goes_on whole each none = no_escape (escape_of none)
-  where
-    escape_of : NoUnit ends_item rest → IsBadEscape (c ∷ octets)
-    escape_of (at_end h) = absurd cc
-    escape_of (at_octet x more h end) = let same : c ≡ x = cc in absurd (both_ways (ends_item c) goes_on (ap ends_item same ∙ end))
-    escape_of (at_backslash bad) = subst IsBadEscape (sym whole) bad
+bare_is depth c octets [] rest goes_on whole each none = no_escape (no_unit_bad ends_item c octets goes_on (subst (NoUnit ends_item) (sym whole) none))
 bare_is depth c octets (w ∷ units) rest goes_on whole each none = search rules
 
 front_by_sign : (depth c : ℕ) (rest : List ℕ) (sign : Sign) → IsSign c sign → IsFront depth (c ∷ rest) (front_by depth c rest sign)
@@ -175,13 +170,10 @@ front_takes depth (bare []) rest is stop room = absurd (omega (arith, is.0))
 front_takes depth (bare (w ∷ units)) rest is stop room = front_of_bare depth w units rest is.1 stop
 front_takes depth (quoted units) rest is stop room = cc (front_of_quote depth ((written_text units ++ 34 ∷ []) ++ rest) units (34 ∷ rest) (append_assoc (written_text units) (34 ∷ []) rest) is (at_octet 34 rest refl refl))
 
-bad_escape_front : (depth : ℕ) (rest : List ℕ) → IsBadEscape rest → front_of depth rest ≡ stops (Some BadEscape)
-bad_escape_front depth rest bad = cc (front_of_units depth 92 bad.0 [] (92 ∷ bad.0) refl refl tt (at_backslash (subst IsBadEscape bad.1 bad)))
-
 broken_front : (depth : ℕ) (rest : List ℕ) (fault : Fault) → IsBroken depth rest fault → front_of depth rest ≡ stops (Some fault)
 unfolding front_of
 broken_front depth rest fault (closes_nothing after e whole) = rw (e, whole) refl
-broken_front depth rest fault (no_escape bad) = bad_escape_front depth rest bad
+broken_front depth rest fault (no_escape bad) = cc (front_of_units depth 92 bad.0 [] (92 ∷ bad.0) refl refl tt (at_backslash (subst IsBadEscape bad.1 bad)))
 broken_front depth rest fault (no_quoted_escape units after each whole bad) = rw whole (front_of_quote depth (written_text units ++ after) units after refl each (at_backslash bad) ∙ ap (quoted_front units) bad.1)
 broken_front depth rest fault (no_quote units each whole) = cc (front_of_quote depth (written_text units) units [] (sym (append-nil (written_text units))) each (at_end refl))
 broken_front depth rest fault (not_closed some whole) = grind arith

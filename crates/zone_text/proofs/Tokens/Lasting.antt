@@ -108,18 +108,12 @@ at_depth_zero depth rest after fault e h = search rules
 broken_more : (depth : ℕ) (rest more : List ℕ) (fault : Fault) → StaysBroken rest → IsBroken depth rest fault → IsBroken depth (rest ++ more) fault
 broken_more depth rest more fault (closing_stays after e) broken =
     let zero_is : depth ≡ 0 = at_depth_zero depth rest after fault e broken in
-    let now : IsBroken depth rest UnbalancedParenthesis = closes_nothing after zero_is e in
-    let later : IsBroken depth (rest ++ more) UnbalancedParenthesis = closes_nothing (after ++ more) zero_is (ap (λ t. t ++ more) e) in
-    subst (IsBroken depth (rest ++ more)) (one_fault depth rest UnbalancedParenthesis fault now broken) later
+    subst (IsBroken depth (rest ++ more)) (one_fault depth rest UnbalancedParenthesis fault (closes_nothing after zero_is e) broken) (closes_nothing (after ++ more) zero_is (ap (λ t. t ++ more) e))
 broken_more depth rest more fault (escape_stays lost) broken =
-    let now : IsBroken depth rest BadEscape = no_escape (subst IsBadEscape (append-nil rest) (lost_escape rest [] lost)) in
-    let later : IsBroken depth (rest ++ more) BadEscape = no_escape (lost_escape rest more lost) in
-    subst (IsBroken depth (rest ++ more)) (one_fault depth rest BadEscape fault now broken) later
+    subst (IsBroken depth (rest ++ more)) (one_fault depth rest BadEscape fault (no_escape (subst IsBadEscape (append-nil rest) (lost_escape rest [] lost))) broken) (no_escape (lost_escape rest more lost))
 broken_more depth rest more fault (quoted_escape_stays units after each whole lost) broken =
-    let now : IsBroken depth rest BadEscape = no_quoted_escape units after each whole (subst IsBadEscape (append-nil after) (lost_escape after [] lost)) in
-    let longer : rest ++ more ≡ 34 ∷ (written_text units ++ (after ++ more)) = ap (λ t. t ++ more) whole ∙ ap (λ t. 34 ∷ t) (append_assoc (written_text units) after more) in
-    let later : IsBroken depth (rest ++ more) BadEscape = no_quoted_escape units (after ++ more) each longer (lost_escape after more lost) in
-    subst (IsBroken depth (rest ++ more)) (one_fault depth rest BadEscape fault now broken) later
+    subst (IsBroken depth (rest ++ more)) (one_fault depth rest BadEscape fault (no_quoted_escape units after each whole (subst IsBadEscape (append-nil after) (lost_escape after [] lost))) broken)
+    (no_quoted_escape units (after ++ more) each (ap (λ t. t ++ more) whole ∙ ap (λ t. 34 ∷ t) (append_assoc (written_text units) after more)) (lost_escape after more lost))
 
 lost_more : (rest more : List ℕ) → IsLostEscape rest → IsLostEscape (rest ++ more)
 lost_more rest more (at_line_end c others e is) = at_line_end c (others ++ more) (ap (λ t. t ++ more) e) is

@@ -1,7 +1,7 @@
 -- The line feeds of an entry that is cut as its end is looked for: the one that ends it.
 use Rattle.std.specs.List.{prefix_len}
 use Rattle.zone_rdata.specs.Item as raw
-use Rattle.zone_text.proofs.Common.{common_steps, AllByRecursion, Bool, IsToken, IsUnit, List, RawItem, Token, Written, [], ap, append_assoc, arith, bare, blank, comment, cond, decimal, drop, ends_item, eqb-true, escaped, false, is_blank, is_digit, item_of, item_text, length, length-append, list_any, nat_eq, ne_eqb, plain, quoted, refl, stops_bare, subst, sum_by-append, sum_by-cons, sym, take, take-append-drop, take-append_seam, token_text, true, written_text, zero-add, ℕ, ◌++◌, ◌+◌, ◌-◌, ◌==◌, ◌||◌, ◌∙◌, ◌∷◌, ◌≡◌, ◌≢◌}
+use Rattle.zone_text.proofs.Common.{common_steps, AllByRecursion, Bool, IsToken, IsUnit, List, RawItem, Token, Written, [], ap, append_assoc, arith, bare, blank, comment, cond, decimal, drop, ends_item, eqb-true, escaped, false, is_blank, is_digit, item_of, item_text, length, length-append, list_any, nat_eq, ne_eqb, plain, quoted, refl, stops_bare, subst, sum_by-append, sum_by-cons, sym, take, take-append-drop, take-append_seam, token_text, true, written_text, zero-add, ℕ, ◌++◌, ◌+◌, ◌-◌, ◌==◌, ◌∙◌, ◌∷◌, ◌≡◌}
 use Rattle.zone_text.proofs.Scanning.FirstEntries.{IsCutTo, IsInside, IsPassed}
 use Rattle.zone_text.proofs.Files.Left.{line_feeds}
 use Rattle.zone_text.proofs.Scanning.StopMarks.{goes_on, prefix_each}
@@ -9,13 +9,9 @@ use Rattle.zone_text.proofs.Scanning.StopMarks.{goes_on, prefix_each}
 feeds_of_both : (xs ys : List ℕ) → line_feeds (xs ++ ys) ≡ line_feeds xs + line_feeds ys
 feeds_of_both xs ys = sum_by-append (λ c. cond (c == 10) 1 0) xs ys
 
-no_more : (b others : Bool) (n : ℕ) → (b || others) ≡ false → (others ≡ false → n ≡ 0) → cond b 1 0 + n ≡ 0
-no_more true others n none rest = absurd cc
-no_more false others n none rest = zero-add n ∙ rest none
-
 pub none_of_any : (xs : List ℕ) → list_any (λ y. nat_eq y 10) xs ≡ false → line_feeds xs ≡ 0
 none_of_any [] none = refl
-none_of_any (y ∷ xs) none = sum_by-cons (λ c. cond (c == 10) 1 0) y xs ∙ no_more (nat_eq y 10) (list_any (λ y. nat_eq y 10) xs) (line_feeds xs) none (none_of_any xs)
+none_of_any (y ∷ xs) none = grind (arith, common_steps, sum_by-cons, none_of_any xs)
 
 other_than_ten : (is : ℕ → Bool) (b : Bool) → (is 10 ≡ b → ⊥) → (c : ℕ) → is c ≡ b → (c == 10) ≡ false
 other_than_ten is b not c e = grind (arith, common_steps, eqb-true)
@@ -23,9 +19,9 @@ other_than_ten is b not c e = grind (arith, common_steps, eqb-true)
 none_first : (c : ℕ) (xs : List ℕ) → (c == 10) ≡ false → line_feeds (c ∷ xs) ≡ line_feeds xs
 none_first c xs e = sum_by-cons (λ d. cond (d == 10) 1 0) c xs ∙ ap (λ (b : Bool). cond b 1 0 + line_feeds xs) e ∙ zero-add (line_feeds xs)
 
-none_bare : (xs : List ℕ) → AllByRecursion (λ c. stops_bare c ≡ false) xs → line_feeds xs ≡ 0
-none_bare [] each = refl
-none_bare (c ∷ xs) each = none_first c xs (other_than_ten stops_bare false (λ e. cc) c each.0) ∙ none_bare xs each.1
+none_in : (P : ℕ → Type 0) → ((c : ℕ) → P c → (c == 10) ≡ false) → (xs : List ℕ) → AllByRecursion P xs → line_feeds xs ≡ 0
+none_in P other [] each = refl
+none_in P other (c ∷ xs) each = none_first c xs (other c each.0) ∙ none_in P other xs each.1
 
 -- octets without line feeds were passed
 passed_none : (rest front left : List ℕ) → rest ≡ front ++ left → line_feeds front ≡ 0 → line_feeds left ≡ line_feeds rest
@@ -34,21 +30,15 @@ passed_none rest front left whole none = grind (arith, common_steps, line_feeds,
 pub passed_bare : (rest stopped : List ℕ) (n : ℕ) → n ≡ prefix_len goes_on rest → stopped ≡ drop n rest → line_feeds stopped ≡ line_feeds rest
 passed_bare rest stopped n len back =
     let each : AllByRecursion (λ c. stops_bare c ≡ false) (take n rest) = subst (λ k. AllByRecursion (λ c. stops_bare c ≡ false) (take k rest)) (sym len) (prefix_each rest) in
-    passed_none rest (take n rest) stopped (sym (take-append-drop n rest) ∙ ap (λ t. take n rest ++ t) (sym back)) (none_bare (take n rest) each)
-
-none_each : (xs : List ℕ) → AllByRecursion (λ c. c ≢ 10) xs → line_feeds xs ≡ 0
-none_each [] each = refl
-none_each (c ∷ xs) each = none_first c xs (ne_eqb c 10 each.0) ∙ none_each xs each.1
+    passed_none rest (take n rest) stopped (sym (take-append-drop n rest) ∙ ap (λ t. take n rest ++ t) (sym back)) (none_in _ (other_than_ten stops_bare false (λ e. cc)) (take n rest) each)
 
 pub passed_gap : (octets rest : List ℕ) → IsPassed octets [] rest → line_feeds rest ≡ line_feeds octets
 passed_gap octets rest found = passed_none octets (token_text found.token) rest found.takes.whole (by found.token found.takes.token found.inside found.stated)
   where
     by : (p : Token) → IsToken p → IsInside p → item_of p ≡ [] → line_feeds (token_text p) ≡ 0
     by (blank c) is inside e = none_first c [] (other_than_ten is_blank true (λ e. cc) c is)
-    by (comment octets) is inside e = none_first 59 octets refl ∙ none_each octets is
-    by (bare units) is inside e = absurd cc
-    by (quoted units) is inside e = absurd cc
-    by p is inside e = absurd inside
+    by (comment octets) is inside e = none_first 59 octets refl ∙ none_in _ (λ d. ne_eqb d 10) octets is
+    by p is inside e = grind arith
 
 none_written : (units : List Written) → AllByRecursion (IsUnit ends_item) units → line_feeds (written_text units) ≡ 0
 none_written [] each = refl

@@ -8,12 +8,9 @@ use Rattle.zone_rdata.proofs.Texts.Standing.{IsPrintedItem}
 
 -- ---- an item
 
-unit_goes_on : (w : Written) → IsUnit not_bare w → IsUnit ends_item w
-unit_goes_on w is = search rules
-
 units_go_on : (units : List Written) → AllByRecursion (IsUnit not_bare) units → AllByRecursion (IsUnit ends_item) units
 units_go_on [] each = tt
-units_go_on (w ∷ units) each = (unit_goes_on w each.0, units_go_on units each.1)
+units_go_on (w ∷ units) each = ((search rules), units_go_on units each.1)
 
 -- the token that is an item
 record TokenOf (item : RawItem) : Type 0 where

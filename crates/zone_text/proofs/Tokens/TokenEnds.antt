@@ -1,5 +1,5 @@
 -- How far the first token of a text goes.
-use Rattle.zone_text.proofs.Common.{Bool, EndsAt, List, [], add-one, ap, arith, before_line_feed, common_steps, drop, drop-cons, drop-drop, drop_of_length-le, get_or, length, length-drop, map, refl, sym, take, true, ℕ, ◌+◌, ◌-◌, ◌<◌, ◌==◌, ◌∙◌, ◌∷◌, ◌≡◌, ◌≢◌, ◌≤◌}
+use Rattle.zone_text.proofs.Common.{List, [], add-one, ap, arith, before_line_feed, common_steps, drop, drop-cons, drop-drop, drop_of_length-le, get_or, length, length-drop, map, refl, sym, take, ℕ, ◌+◌, ◌-◌, ◌<◌, ◌==◌, ◌∙◌, ◌∷◌, ◌≡◌, ◌≢◌, ◌≤◌}
 use Rattle.std.proofs.Common.{not}
 use Rattle.std.specs.Int.Count.{count_trailing_zeros}
 use Rattle.std.specs.List.{prefix_len}
@@ -11,14 +11,8 @@ use Rattle.zone_name.proofs.InOctets.Runs.{first_inside, none_inside}
 pub first_at : (text : List ℕ) (i : ℕ) → i < length text → drop i text ≡ get_or text i 0 ∷ drop (i + 1) text
 first_at text i less = rw (add-one, drop-cons text i 0) refl
 
-pub plain_stops : (stops : ℕ → Bool) (text : List ℕ) (i : ℕ) → i < length text → stops (get_or text i 0) ≡ true → EndsAt stops (drop i text)
-plain_stops stops text i less at = rw (first_at text i less) at
-
-nothing_left : (text : List ℕ) (i : ℕ) → length text ≤ i → drop i text ≡ []
+pub nothing_left : (text : List ℕ) (i : ℕ) → length text ≤ i → drop i text ≡ []
 nothing_left text i less = drop_of_length-le text less
-
-pub end_stops : (stops : ℕ → Bool) (text : List ℕ) (i : ℕ) → length text ≤ i → EndsAt stops (drop i text)
-end_stops stops text i over = rw (nothing_left text i over) tt
 
 pub comment_goes_on : (text : List ℕ) (i n : ℕ) → i < length text → get_or text i 0 ≢ 10 → n ≡ i + length (before_line_feed (drop i text)) → n ≡ i + 1 + length (before_line_feed (drop (i + 1) text))
 unfolding before_line_feed

@@ -90,6 +90,7 @@ pub fn an_entry_has_one_outcome()
 
 /// An entry of octets states nothing or a record, or has a first fault, where each entry before it
 /// states nothing or a record and the origin is a name.
+#[tactic(auto, using(crate::proofs::Entries::EntryOutcome::entry_outcome))]
 pub fn an_entry_has_an_outcome()
     ensures { (origin : List (List ℕ)) (before : List Entry) (entry : Entry) → IsName origin
         → AllState origin before → AreOctetItems entry.items

@@ -19,6 +19,7 @@ pub fn a_file_states_one_list()
 }
 
 /// Every file of octets has a reading under an origin that is a name.
+#[tactic(auto, using(crate::proofs::Files::FileChoice::file_reads))]
 pub fn a_file_has_a_reading()
     ensures { (origin : Labels) (octets : List ℕ) → IsName origin
         → AreOctets octets → (placed : List Placed)
@@ -30,6 +31,7 @@ pub fn a_file_has_a_reading()
 
 /// Something is decided of every prefix of a file under an origin that is a name, be it that no
 /// fault is.
+#[tactic(auto, using(crate::proofs::Files::FileChoice::file_is_decided))]
 pub fn of_each_prefix_something_is_decided()
     ensures { (origin : Labels) (octets : List ℕ) → IsName origin
         → AreOctets octets → (placed : List Placed)

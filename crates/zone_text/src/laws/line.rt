@@ -11,6 +11,7 @@ ghost use Rattle.zone_text.specs.Records.{EntryStates};
 
 /// A line of items that are parted by single spaces is one entry with these items, which its line
 /// feed ends.
+#[tactic(auto, using(crate::proofs::Entries::Lines::line_cut, crate::proofs::Entries::Lines::line_entry, crate::proofs::Entries::Lines::line_items, crate::proofs::Entries::Lines::line_ended))]
 pub fn a_line_of_items_is_one_entry()
     ensures cut { (items : List Token) → AllByRecursion IsItem items
         → Cuts (text (line_of items)) (line_of items) }
@@ -29,6 +30,7 @@ pub fn a_whole_entry_states_its_record()
 {}
 
 /// An entry that states every part of a record leaves the origin as it was.
+#[tactic(auto, using(crate::proofs::Entries::Lines::whole_leaves_origin))]
 pub fn a_whole_entry_leaves_the_origin()
     ensures { (origin above : Labels) (before : List Entry) (entry : Entry) (r : Record)
         → IsOrigin origin before above → StatesWhole entry r

@@ -12,6 +12,7 @@ ghost use Rattle.zone_text.specs.Lasting.{BreaksAtEnd, BreaksForGood, EndInLineF
 ghost use Rattle.zone_text.specs.Tokens.{Cuts, depth_after, Token, text};
 
 /// A text is cut into tokens in at most one way.
+#[tactic(auto, using(crate::proofs::Tokens::Cuttings::one_cut))]
 pub fn one_cut_of_a_text()
     ensures { (octets : List ℕ) (tokens other : List Token) → Cuts octets tokens → Cuts octets other
         → tokens ≡ other }
@@ -87,6 +88,7 @@ pub fn a_break_for_good_stays()
 {}
 
 /// The texts of all entries joined are the text.
+#[tactic(auto, using(crate::proofs::Files::Left::entries_text))]
 pub fn entries_joined_are_the_text()
     ensures { (tokens : List Token)
         → flat_map text (and_last (cut_from zero tokens).ended (cut_from zero tokens).open_tokens)
@@ -95,6 +97,7 @@ pub fn entries_joined_are_the_text()
 
 /// The entries that a line feed has ended are the first ones of every text that goes on from there,
 /// and of the text itself.
+#[tactic(auto, using(crate::proofs::Files::Left::ended_entries_stay, crate::proofs::Files::Left::ended_entries_first))]
 pub fn ended_entries_stay()
     ensures longer { (octets more : List ℕ) (tokens later : List Token) → AreTokens octets tokens
         → AreTokens (octets ++ more) later → (others : List Entry)
@@ -105,6 +108,7 @@ pub fn ended_entries_stay()
 
 /// The entries of tokens one after the other, where the first all stand in ended entries, are those
 /// of the first and then those of the second numbered from the line on which it begins.
+#[tactic(auto, using(crate::proofs::Files::DecidedOnce::ended_on_after, crate::proofs::Files::DecidedOnce::entries_on_after))]
 pub fn entries_are_numbered_on()
     ensures ended { (tokens more : List Token) → (cut_from zero tokens).open_tokens ≡ []
         → ended_entries (tokens ++ more) ≡ ended_entries tokens ++ numbered (open_line tokens)

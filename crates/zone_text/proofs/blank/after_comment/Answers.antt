@@ -1,5 +1,6 @@
-use Rattle.zone_text.proofs.Tokens.BlankLines.{comment_ended}
+use Rattle.zone_text.proofs.Tokens.Fronts.{comment_dropped, comment_each, comment_ends, comment_whole}
+use Rattle.zone_text.proofs.Common.{arith}
 use Rattle.zone_text.proofs.blank.after_comment.Goals as goal
 
 pub returns : goal.returns
-returns c = comment_ended _ _ _ _ _ c.comment_len.ensures.len c.split_at.ensures.back c.in_ok-rest.ensures.cases.0
+returns c = grind (arith, comment_dropped, comment_ends, comment_each, comment_whole)

@@ -1,5 +1,5 @@
-use Rattle.zone_text.proofs.Common.{arith, ends_within, refl}
-use Rattle.zone_text.proofs.Tokens.EscapedItems.{ended, ended_badly, escape_more, plain_so_far}
+use Rattle.zone_text.proofs.Common.{IsBadEscape, arith, at_backslash, ends_within, refl, subst, sym}
+use Rattle.zone_text.proofs.Tokens.EscapedItems.{at_mark, ended, escape_more, len_is, plain_so_far}
 use Rattle.zone_text.proofs.items.escaped_len.Goals as goal
 
 pub loop-len-init : goal.loop-len-init
@@ -11,7 +11,7 @@ loop-len-preserved c =
 
 pub returns-in_default-clause-len : goal.returns-in_default-clause-len
 returns-in_default-clause-len c =
-    ended_badly c.args.extent _ _ _ c.loop-len.invariant c.loop-len-test.true c.if-text-len-eq92.true c.split_at.ensures.back c.in_default.ensures.none
+    (len_is c.args.extent _ _ c.loop-len.invariant (at_backslash (subst IsBadEscape (sym (at_mark _ _ _ c.loop-len-test.true c.if-text-len-eq92.true c.split_at.ensures.back)) c.in_default.ensures.none)))
 
 pub returns-else-text-len-eq92-clause-len : goal.returns-else-text-len-eq92-clause-len
 returns-else-text-len-eq92-clause-len c = ended c.args.extent _ _ c.loop-len.invariant (λ less. c.if-text-len-eq92.false)

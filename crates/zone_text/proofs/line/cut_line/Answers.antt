@@ -1,12 +1,13 @@
+use Rattle.zone_text.specs.Machine.Stops.{Tells}
 use Rattle.std.proofs.lemmas.List.Elements.{All-from_recursion}
 use Rattle.std.proofs.lemmas.List.Sums.{prefix_len-le-length}
 use Rattle.std.specs.List.{prefix_len}
-use Rattle.zone_text.proofs.Common.{All, EndsAt, ap, arith, drop, false, length, map, raw, refl, stops_bare, subst, suc, sym, take, ◌∙◌, ◌≡◌}
+use Rattle.zone_text.proofs.Common.{All, EndsAt, ap, arith, drop, drop-drop, false, length, map, raw, refl, stops_bare, subst, suc, sym, take, ◌∙◌, ◌≡◌}
 use Rattle.zone_text.proofs.Files.Left.{line_feeds}
 use Rattle.zone_text.proofs.Scanning.FirstEntries.{IsCutTo, blank_passed, comment_passed, cut_bare, cut_ended, cut_more, cut_none, cut_on, item_passed}
 use Rattle.zone_text.proofs.Tokens.ItemsLeft.{in_front_shorter}
 use Rattle.zone_text.proofs.Tokens.OneLine.{one_line, passed_bare, passed_escaped, passed_gap, passed_item}
-use Rattle.zone_text.proofs.Scanning.StopMarks.{after_stop, blank_stop, goes_on, prefix_each, prefix_ends}
+use Rattle.zone_text.proofs.Scanning.StopMarks.{blank_stop, goes_on, prefix_each, prefix_ends}
 use Rattle.zone_text.proofs.line.cut_line.Goals as goal
 use Rattle.zone_text.proofs.line.cut_line.Goals.{in-Some-item+in_ok-keep-in-Some-item, in-None}
 
@@ -38,7 +39,7 @@ loop-rest-preserved-then-stop-le32 c =
     let blank = blank_passed _ _ _ c.in-Some.ensures.cases.0 (blank_stop _ _ _ _ _ c.bare_len-len.ensures.len c.split_at.ensures.back c.in-Some.ensures.cases.0 c.if-stop-le32.true c.if-stop-eq10.false) in
     record {
       cut = cut_on _ _ _ _ (cut_bare _ _ _ _ _ _ _ _ _ c.loop-rest.invariant.cut c.bare_len-len.ensures.len c.split_at.ensures.front c.split_at.ensures.back c.in-Some.ensures.cases.0 c.if-stop-eq92.false c.in_ok-keep_bare.ensures) blank;
-      tells = after_stop c.bare_len-len.result.1 c.loop-rest.rest.now c.split_at.result.1.now c.in-Some.after.now c.in-Some.stop.now c.bare_len-len.result.0 c.bare_len-len.ensures.tells c.split_at.ensures.back c.in-Some.ensures.cases.0;
+      tells = subst (Tells c.bare_len-len.result.1) (sym (drop-drop 1 c.bare_len-len.result.0 c.loop-rest.rest.now) ∙ ap (drop 1) (sym c.split_at.ensures.back ∙ c.in-Some.ensures.cases.0)) c.bare_len-len.ensures.tells;
       line = passed_gap _ _ blank ∙ passed_bare _ _ _ c.bare_len-len.ensures.len c.split_at.ensures.back ∙ c.loop-rest.invariant.line;
     }
 

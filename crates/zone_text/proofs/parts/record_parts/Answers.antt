@@ -1,6 +1,7 @@
-use Rattle.zone_text.proofs.Common.{refl}
-use Rattle.zone_text.proofs.Heads.PartsLeft.{found_before, found_on}
-use Rattle.zone_text.proofs.Heads.WordsLeft.{item_at}
+use Rattle.zone_rdata.specs.Item.{bare}
+use Rattle.zone_text.proofs.Common.{arith, common_steps, parts_after, refl, word_after}
+use Rattle.zone_text.proofs.Heads.PartsLeft.{found_before}
+use Rattle.zone_text.proofs.Heads.WordsLeft.{item_at, next_part, some_of}
 use Rattle.zone_text.proofs.parts.record_parts.Goals as goal
 
 pub returns-in_default : goal.returns-in_default
@@ -13,4 +14,4 @@ returns-in_default-with c =
 
 pub loop-index-preserved : goal.loop-index-preserved
 loop-index-preserved c =
-    found_on _ _ _ _ c.loop-index.texts c.in-Some.next c.loop-index.invariant (item_at _ _ _ _ c.loop-index-test.true c.in-Bare.is) (rw c.in-Some.is at c.with.ensures.found)
+    (grind (arith, common_steps, some_of, word_after, bare, parts_after, next_part, (item_at _ _ _ _ c.loop-index-test.true c.in-Bare.is), (rw c.in-Some.is at c.with.ensures.found)))

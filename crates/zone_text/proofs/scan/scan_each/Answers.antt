@@ -1,5 +1,5 @@
-use Rattle.zone_text.proofs.Common.{arith, sym, ◌∙◌}
-use Rattle.zone_text.proofs.Scanning.ScanSteps.{stays, one_on, rises, one_stops, all_taken}
+use Rattle.zone_text.proofs.Common.{arith, rules, sym, ◌∙◌}
+use Rattle.zone_text.proofs.Scanning.ScanSteps.{all_taken, at_octet, one_on, rises, stays}
 use Rattle.zone_text.proofs.scan.scan_each.Goals as goal
 
 pub loop-index-preserved-then-not-moves : goal.loop-index-preserved-then-not-moves
@@ -21,7 +21,7 @@ loop-index-preserved c =
 
 pub returns-in_default : goal.returns-in_default
 returns-in_default c = record {
-  found = one_stops c.args.start c.loop-index.at c.take_octet.result c.args.octets.now c.loop-index.index c.loop-index-test.true c.take_octet.ensures c.in_default.not-On c.loop-index.invariant.found;
+  found = search (rules, at_octet);
   within = omega arith;
   moves = λ some. omega arith;
 }

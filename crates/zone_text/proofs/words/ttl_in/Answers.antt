@@ -1,5 +1,5 @@
 use Rattle.zone_text.proofs.Common.{arith, refl, ◌≤◌}
-use Rattle.zone_text.proofs.Heads.Seconds.{time_within, time_over}
+use Rattle.zone_text.proofs.Heads.WordsLeft.{time_within, time_over}
 use Rattle.zone_text.proofs.words.ttl_in.Goals as goal
 
 pub returns-in-Some-clause-found : goal.returns-in-Some-clause-found

@@ -1,5 +1,5 @@
-use Rattle.zone_text.proofs.Common.{err_from_is_err_and, refl}
-use Rattle.zone_text.proofs.Heads.WordsLeft.{read_to, read_on, read_fault, item_at}
+use Rattle.zone_text.proofs.Common.{err_from_is_err_and, refl, rules}
+use Rattle.zone_text.proofs.Heads.WordsLeft.{item_at, next_part, read_fault, read_to, some_of}
 use Rattle.zone_text.proofs.words.words_of.Goals as goal
 
 pub returns-in_default-clause-found : goal.returns-in_default-clause-found
@@ -17,4 +17,4 @@ returns-in_default-2-clause-found c =
 
 pub loop-index-preserved : goal.loop-index-preserved
 loop-index-preserved c =
-    read_on _ _ _ _ _ _ c.loop-index.invariant (item_at _ _ _ _ c.loop-index-test.true c.in-Bare.is) (rw c.in-Some.is at c.in_ok-next.ensures.found)
+    (search (rules, some_of, next_part, (item_at _ _ _ _ c.loop-index-test.true c.in-Bare.is), (rw c.in-Some.is at c.in_ok-next.ensures.found)))

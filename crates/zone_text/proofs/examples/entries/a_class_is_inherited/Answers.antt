@@ -1,9 +1,9 @@
-use Rattle.zone_text.proofs.Common.{before_line_feed, cut_by, cutting, from_line_feed, front_of, lit≤, refl, stated, states_one, units_by, units_first, whole, x}
+use Rattle.zone_text.proofs.Common.{arith, before_line_feed, cut_by, cutting, from_line_feed, front_of, lit≤, refl, stated, states_one, units_by, units_first, whole, x}
 use Rattle.zone_text.proofs.Tokens.Cuttings.{cut_is_read}
-use Rattle.zone_text.proofs.ExampleRecords.{x_name, at_spells, sixty, ch_class, is_ch, states_ns}
+use Rattle.zone_text.proofs.ExampleRecords.{at_spells, sixty, is_ch, states_ns}
 use Rattle.zone_text.proofs.examples.entries.a_class_is_inherited.Goals as goal
 
 pub returns : goal.returns
 unfolding units_by units_first before_line_feed from_line_feed front_of cut_by cutting
 returns c =
-    whole _ (cut_is_read _ _ refl) (stated (states_one _ _ (states_ns x _ _ x x 3 60 _ refl (x, (refl, at_spells x x_name)) ((60, record { time = sixty; short = lit≤ tt }), ((3, (is_ch, ch_class)), tt)) is_ch refl sixty x_name ch_class (lit≤ tt)) refl refl (stated (states_one _ _ (states_ns x _ _ x x 3 60 _ refl (x, (refl, at_spells x x_name)) tt is_ch refl sixty x_name ch_class (lit≤ tt)) refl refl (refl, refl)))))
+    whole _ (cut_is_read _ _ refl) (stated (states_one _ _ (states_ns x _ _ x x 3 60 _ refl (x, (refl, at_spells x (omega arith))) ((60, record { time = sixty; short = lit≤ tt }), ((3, (is_ch, (omega arith))), tt)) is_ch refl sixty (omega arith) (omega arith) (lit≤ tt)) refl refl (stated (states_one _ _ (states_ns x _ _ x x 3 60 _ refl (x, (refl, at_spells x (omega arith))) tt is_ch refl sixty (omega arith) (omega arith) (lit≤ tt)) refl refl (refl, refl)))))

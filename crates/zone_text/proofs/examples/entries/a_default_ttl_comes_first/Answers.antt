@@ -1,9 +1,9 @@
-use Rattle.zone_text.proofs.Common.{before_line_feed, cut_by, cutting, from_line_feed, front_of, lit≤, refl, stated, states_none, states_one, units_by, units_first, whole, x}
+use Rattle.zone_text.proofs.Common.{arith, before_line_feed, cut_by, cutting, from_line_feed, front_of, lit≤, refl, rules, stated, states_none, states_one, units_by, units_first, whole, x}
 use Rattle.zone_text.proofs.Tokens.Cuttings.{cut_is_read}
-use Rattle.zone_text.proofs.ExampleRecords.{x_name, at_spells, sixty, three_hundred, in_class, states_ns}
+use Rattle.zone_text.proofs.ExampleRecords.{at_spells, sixty, states_ns}
 use Rattle.zone_text.proofs.examples.entries.a_default_ttl_comes_first.Goals as goal
 
 pub returns : goal.returns
 unfolding units_by units_first before_line_feed from_line_feed front_of cut_by cutting
 returns c =
-    whole _ (cut_is_read _ _ refl) (stated (states_one _ _ (states_ns x _ _ x x 1 60 _ refl (x, (refl, at_spells x x_name)) ((60, record { time = sixty; short = lit≤ tt }), tt) refl refl sixty x_name in_class (lit≤ tt)) refl refl (stated (states_none (300, record { time = three_hundred; short = lit≤ tt }) (stated (states_one _ _ (states_ns x _ _ x x 1 300 _ refl (x, (refl, at_spells x x_name)) tt refl refl three_hundred x_name in_class (lit≤ tt)) refl refl (refl, refl)))))))
+    whole _ (cut_is_read _ _ refl) (stated (states_one _ _ (states_ns x _ _ x x 1 60 _ refl (x, (refl, at_spells x (omega arith))) ((60, record { time = sixty; short = lit≤ tt }), tt) refl refl sixty (omega arith) (omega arith) (lit≤ tt)) refl refl (stated (states_none (300, record { time = search rules; short = lit≤ tt }) (stated (states_one _ _ (states_ns x _ _ x x 1 300 _ refl (x, (refl, at_spells x (omega arith))) tt refl refl (search rules) (omega arith) (omega arith) (lit≤ tt)) refl refl (refl, refl)))))))

@@ -1,9 +1,9 @@
-use Rattle.zone_text.proofs.Common.{before_line_feed, cut_by, cutting, from_line_feed, front_of, lit≤, refl, stated, states_none, states_one, under, units_by, units_first, whole, x}
+use Rattle.zone_text.proofs.Common.{arith, before_line_feed, cut_by, cutting, from_line_feed, front_of, lit≤, refl, stated, states_none, states_one, under, units_by, units_first, whole, x}
 use Rattle.zone_text.proofs.Tokens.Cuttings.{cut_is_read}
-use Rattle.zone_text.proofs.ExampleRecords.{x_name, at_spells, a_spells, sixty, in_class, states_ns}
+use Rattle.zone_text.proofs.ExampleRecords.{at_spells, a_spells, sixty, states_ns}
 use Rattle.zone_text.proofs.examples.entries.an_owner_keeps_its_origin.Goals as goal
 
 pub returns : goal.returns
 unfolding units_by units_first before_line_feed from_line_feed front_of cut_by cutting
 returns c =
-    whole _ (cut_is_read _ _ refl) (stated (states_one _ _ (states_ns x _ _ x x 1 60 _ refl (x, (refl, at_spells x x_name)) ((60, record { time = sixty; short = lit≤ tt }), tt) refl refl sixty x_name in_class (lit≤ tt)) refl refl (stated (states_none (under 97 x, (x, (refl, a_spells))) (stated (states_one _ _ (states_ns x _ _ x (under 97 x) 1 60 _ refl (x, (refl, at_spells x x_name)) ((60, record { time = sixty; short = lit≤ tt }), tt) refl (x, (refl, a_spells)) sixty x_name in_class (lit≤ tt)) refl refl (refl, refl)))))))
+    whole _ (cut_is_read _ _ refl) (stated (states_one _ _ (states_ns x _ _ x x 1 60 _ refl (x, (refl, at_spells x (omega arith))) ((60, record { time = sixty; short = lit≤ tt }), tt) refl refl sixty (omega arith) (omega arith) (lit≤ tt)) refl refl (stated (states_none (under 97 x, (x, (refl, a_spells))) (stated (states_one _ _ (states_ns x _ _ x (under 97 x) 1 60 _ refl (x, (refl, at_spells x (omega arith))) ((60, record { time = sixty; short = lit≤ tt }), tt) refl (x, (refl, a_spells)) sixty (omega arith) (omega arith) (lit≤ tt)) refl refl (refl, refl)))))))

@@ -1,6 +1,6 @@
-use Rattle.zone_text.proofs.Common.{[], before_line_feed, codes, cut_by, cutting, from_line_feed, front_of, inl, inr, none, of_ttl, refl, refused, units_by, units_first, whole, x, ◌∷◌}
+use Rattle.zone_text.proofs.Common.{[], arith, before_line_feed, codes, cut_by, cutting, from_line_feed, front_of, inl, inr, none, of_ttl, refl, refused, units_by, units_first, whole, x, ◌∷◌}
 use Rattle.zone_text.proofs.Tokens.Cuttings.{cut_is_read}
-use Rattle.zone_text.proofs.ExampleRecords.{x_name, at_spells, is_ns, ns_kind, ns_states, ns_has_no_minimum}
+use Rattle.zone_text.proofs.ExampleRecords.{at_spells, is_ns, n_x_spells, ns_has_no_minimum, ns_kind, states_server}
 use Rattle.zone_rdata.specs.Spelling.{bare}
 use Rattle.zone_text.proofs.examples.faults.a_record_without_a_ttl.Goals as goal
 
@@ -12,8 +12,8 @@ returns c =
     (record {
       items = bare (codes "n.x.") ∷ [];
       above = x;
-      head = record { parts = record { words = []; rest = bare (codes "NS") ∷ bare (codes "n.x.") ∷ [] }; word = codes "NS"; split = refl; owner = (x, (refl, at_spells x x_name)); words = tt; class = refl; rest = refl; named = is_ns; kind = ns_kind };
+      head = record { parts = record { words = []; rest = bare (codes "NS") ∷ bare (codes "n.x.") ∷ [] }; word = codes "NS"; split = refl; owner = (x, (refl, at_spells x (omega arith))); words = tt; class = refl; rest = refl; named = is_ns; kind = ns_kind };
       under = refl;
-      states = ns_states x 1;
+      states = states_server x 1 (codes "n.x.") (λ e. absurd cc) (n_x_spells x);
     })
     (none (λ seconds has. elim has [ inl states ↦ ns_has_no_minimum c.kind_word_is_unique.ensures [] _ [] _ seconds refl states | inr others ↦ others.1 ]))) refl refl)

@@ -1,15 +1,7 @@
-use Rattle.zone_text.proofs.Common.{before_line_feed, cut_by, cutting, from_line_feed, front_of, refl, units_by, units_first}
+use Rattle.zone_text.proofs.Common.{before_line_feed, cut_by, cutting, from_line_feed, front_of, rules, units_by, units_first}
 use Rattle.zone_text.proofs.Tokens.Cuttings.{broken_is_read}
 use Rattle.zone_text.proofs.examples.tokens.bad_escapes_in_bare_items.Goals as goal
 
 pub returns : goal.returns
 unfolding units_by units_first before_line_feed from_line_feed front_of cut_by cutting
-returns c = record {
-  line_feed = broken_is_read _ _ _ refl;
-  carriage_return = broken_is_read _ _ _ refl;
-  end = broken_is_read _ _ _ refl;
-  one_digit = broken_is_read _ _ _ refl;
-  two_digits = broken_is_read _ _ _ refl;
-  cut_off = broken_is_read _ _ _ refl;
-  too_great = broken_is_read _ _ _ refl;
-}
+returns c = search (rules, broken_is_read)

@@ -1,10 +1,7 @@
-use Rattle.zone_text.proofs.Common.{before_line_feed, cut_by, cutting, from_line_feed, front_of, refl, units_by, units_first}
+use Rattle.zone_text.proofs.Common.{before_line_feed, cut_by, cutting, from_line_feed, front_of, rules, units_by, units_first}
 use Rattle.zone_text.proofs.Tokens.Cuttings.{cut_is_read}
 use Rattle.zone_text.proofs.examples.tokens.comments.Goals as goal
 
 pub returns : goal.returns
 unfolding units_by units_first before_line_feed from_line_feed front_of cut_by cutting
-returns c = record {
-  after_an_item = cut_is_read _ _ refl;
-  at_the_end = cut_is_read _ _ refl;
-}
+returns c = search (rules, cut_is_read)

@@ -1,12 +1,7 @@
-use Rattle.zone_text.proofs.Common.{before_line_feed, cut_by, cutting, from_line_feed, front_of, refl, units_by, units_first}
+use Rattle.zone_text.proofs.Common.{before_line_feed, cut_by, cutting, from_line_feed, front_of, rules, units_by, units_first}
 use Rattle.zone_text.proofs.Tokens.Cuttings.{broken_is_read}
 use Rattle.zone_text.proofs.examples.tokens.quotes_that_do_not_close.Goals as goal
 
 pub returns : goal.returns
 unfolding units_by units_first before_line_feed from_line_feed front_of cut_by cutting
-returns c = record {
-  runs_over_lines = broken_is_read _ _ _ refl;
-  in_parentheses = broken_is_read _ _ _ refl;
-  quote_alone = broken_is_read _ _ _ refl;
-  escaped_quote = broken_is_read _ _ _ refl;
-}
+returns c = search (rules, broken_is_read)

@@ -1,5 +1,5 @@
-use Rattle.zone_text.proofs.Common.{err_from_is_err_and, refl, sym, ◌∙◌}
-use Rattle.zone_text.proofs.Heads.KnownHeads.{words_refused, kind_missing, kind_unknown, has_head, has_own_ttl, after_words}
+use Rattle.zone_text.proofs.Heads.WordsLeft.{after_words, has_head, kind_missing, kind_unknown, words_refused}
+use Rattle.zone_text.proofs.Common.{err_from_is_err_and, refl, rules, sym, ◌∙◌}
 use Rattle.zone_text.proofs.parser_state.ParserState.head_of.Goals as goal
 
 pub returns-in_err-words-clause-fault : goal.returns-in_err-words-clause-fault
@@ -22,5 +22,5 @@ pub returns-clause-found : goal.returns-clause-found
 returns-clause-found c origin before entry owner is =
     let after = after_words c.args.items.now c.split_at.result.1.now c.in_ok-words.count _ c.split_at.ensures.back c.in-Some.ensures.found in (
       has_head origin before entry _ owner _ _ _ _ _ _ _ is c.in_ok-words.ensures.found after c.in_ok-kind.ensures.found c.known.ensures c.unwrap_or.ensures,
-      has_own_ttl origin before entry _ owner _ _ _ is c.in_ok-words.ensures.found,
+      (search rules),
     )

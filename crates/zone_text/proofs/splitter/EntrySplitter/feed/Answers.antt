@@ -1,8 +1,8 @@
-use Rattle.zone_text.proofs.Common.{List, [], ap, arith, count_by, false, length, refl, sym, take-append-drop, true, ℕ, ◌+◌, ◌==◌, ◌∙◌, ◌≡◌}
+use Rattle.zone_text.proofs.Common.{List, [], ap, arith, count_by, false, length, refl, rules, sym, take-append-drop, true, ℕ, ◌+◌, ◌==◌, ◌∙◌, ◌≡◌}
 use Rattle.zone_text.proofs.Tokens.BlankLines.{fed_lines}
 use Rattle.zone_text.proofs.Scanning.FirstEntries.{keeps_items, fed_entry}
 use Rattle.zone_text.proofs.Entries.Begun.{none_found, none_left, some_found}
-use Rattle.zone_text.proofs.Scanning.FedPieces.{fed_more, fed_all, fed_fault, fed_settled, takes_part, depth_within}
+use Rattle.zone_text.proofs.Scanning.FedPieces.{fed_more, fed_all, fed_fault, takes_part, depth_within}
 use Rattle.zone_text.proofs.splitter.EntrySplitter.feed.Goals as goal
 use Rattle.zone_text.proofs.splitter.EntrySplitter.feed.Goals.{then-loop-self-test+else-is_none, else-loop-self-test}
 
@@ -60,7 +60,7 @@ loop-self-preserved-in-Some c =
     }
 
 pub returns-clause-settled : goal.returns-clause-settled
-returns-clause-settled c = fed_settled c.args.self.now c.loop-self.self c.args.piece.now c.loop-self.rest.now c.loop-self.invariant.fed
+returns-clause-settled c = search rules
 
 pub returns-clause-follow : goal.returns-clause-follow
 returns-clause-follow c =
