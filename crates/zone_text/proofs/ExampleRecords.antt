@@ -177,9 +177,6 @@ minimum_too_long = refl
 pub states_ns_below : (before : List Entry) (entry : Entry) (ttl : ℕ) (words : List Word) → parts_in (statement_of entry) ≡ Some (record { words = words; rest = bare (codes "NS") ∷ bare (codes "n") ∷ [] }) → IsOwner x before (statement_of entry) x → AllByRecursion HasValue words → HasClass before entry 1 → IsOrigin x before x → HasTtl x before entry ttl → ttl ≤ 2147483647 → EntryStates x before entry (ns x 1 ttl)
 states_ns_below before entry ttl words split owns values has under_it lasts short = states_server_by (codes "n") x before entry x x 1 ttl words (λ e. absurd cc) n_spells split owns values has under_it lasts (omega arith) (omega arith) short
 
-pub sixty_one : IsTime (codes "61") 61
-sixty_one = number.plain (record { some = lit< tt; digits = (refl, (refl, tt)); value = refl })
-
 one_digit : (c n : ℕ) → is_digit c ≡ true → n ≡ decimal_value (c ∷ []) → n ≤ 255 → IsOctetNumber (c ∷ []) n
 one_digit c n is value short = record { number = digit c n is value; short = short }
 
