@@ -47,7 +47,7 @@ pub fn no_zone_of_a_refused_reading()
 }
 
 /// Every reading is refused or makes a zone, and one with a fault at its end is refused.
-#[tactic(auto, using(crate::proofs::Refusals::Making::every_whole_reading, crate::proofs::Refusals::Making::every_broken_reading))]
+#[tactic(auto, using(crate::proofs::Refusals::Making::every_reading))]
 pub fn refusal_or_zone_of_a_reading()
     ensures whole { (placed : List Placed) → AllByRecursion IsRecord (records_of placed)
         → ((fault : Fault) × (place : Place) × RefusesReading placed None fault place)

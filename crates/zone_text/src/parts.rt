@@ -154,7 +154,7 @@ fn class_has_value(word: Option<&[u8]>) -> bool
 impl RecordParts<'_, '_> {
     /// Whether each word before the type has a value: a TTL of at most 2147483647 seconds (RFC 2181
     /// 8), a class that zone data can have (RFC 6895 3.2).
-    #[tactic(auto, using(crate::proofs::Heads::PartsLeft::all_have, crate::proofs::Heads::PartsLeft::no_class_value, crate::proofs::Heads::PartsLeft::no_ttl_value))]
+    #[tactic(auto, using(crate::proofs::Heads::PartsLeft::head_words))]
     pub fn have_values(&self) -> bool
         ensures yes { result ≡ true → (items : List RawItem)
             → ArePartsIn (parts_after [] items) self.now

@@ -125,3 +125,5 @@ module _ (names : IsTotalOrder name_cmp) (names_exact : (a b : Labels) → name_
 
 pub every_broken_reading : (placed : List Placed) (ending : Fault × Place) → (f : Fault) × (at : Place) × RefusesReading placed (Some ending) f at
 every_broken_reading placed (g, there) = ⊎_elim (λ (f, at, is). (f, at, refused f at is)) (λ all. (g, there, unread g there all refl)) (one_or_all placed)
+
+pub ruleset every_reading = (every_whole_reading, every_broken_reading)

@@ -92,3 +92,5 @@ whole_stated origin above before entry r under s =
 -- an entry that states every part of a record sets no origin
 pub whole_leaves_origin : (origin above : Labels) (before : List Entry) (entry : Entry) (r : Record) → IsOrigin origin before above → StatesWhole entry r → IsOrigin origin (entry ∷ before) above
 whole_leaves_origin origin above before entry r under s = search rules
+
+pub ruleset canonical_lines = (line_cut, line_entry, line_items, line_ended)

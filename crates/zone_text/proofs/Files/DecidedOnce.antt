@@ -30,3 +30,5 @@ ended_on_after tokens more none = search (rules, cut_after_all, numbered_then)
 
 pub entries_on_after : (tokens more : List Token) → (cut_from zero tokens).open_tokens ≡ [] → entries_of (tokens ++ more) ≡ ended_entries tokens ++ numbered (open_line tokens) (and_last (cut_from zero more).ended (cut_from zero more).open_tokens)
 entries_on_after tokens more none = search (rules, cut_after_all, and_last_after, numbered_then)
+
+pub ruleset what_comes_after = (ended_on_after, entries_on_after)

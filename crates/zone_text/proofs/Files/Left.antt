@@ -142,3 +142,5 @@ ended_as_before ended more are none = search (rules, again_zero, append-nil)
 -- one entry more
 pub one_ended : (ended : List (List Token)) (entry : List Token) → AreEnded zero ended → cut_from zero entry ≡ record { ended = entry ∷ []; open_tokens = [] } → (cut_from zero (joined ended ++ entry)).ended ≡ ended ++ entry ∷ []
 one_ended ended entry are one = search (rules, again_zero)
+
+pub ruleset what_is_ended_stays = (ended_entries_stay, ended_entries_first)

@@ -135,3 +135,5 @@ behind_by words item items (Some word) e goes =
 pub parts_behind : (words : List Word) (items : List RawItem) → (front : List RawItem) × (items ≡ front ++ (parts_after words items).rest)
 parts_behind words [] = ([], refl)
 parts_behind words (item ∷ items) = behind_by words item items (word_after words item) refl (λ word. parts_behind (words ++ word ∷ []) items)
+
+pub ruleset head_words = (all_have, no_class_value, no_ttl_value)

@@ -45,3 +45,5 @@ comment_seen text i k n bits few room are some so_far =
     let found = first_inside (λ c. c == 10) k (drop i text) (omega arith) few (λ e. some (are ∙ e)) in
     let first : count_trailing_zeros 64 bits ≡ prefix_len (λ c. not (c == 10)) (drop i text) = ap (count_trailing_zeros 64) are ∙ found.0 in
     (omega (arith, so_far, first, before_prefix (drop i text)), omega (arith, first, found.1))
+
+pub ruleset comment_lengths = (comment_ends, comment_goes_on, comment_whole)

@@ -11,7 +11,7 @@ ghost use Rattle.zone_text.specs.Records.{EntryStates};
 
 /// A line of items that are parted by single spaces is one entry with these items, which its line
 /// feed ends.
-#[tactic(auto, using(crate::proofs::Entries::Lines::line_cut, crate::proofs::Entries::Lines::line_entry, crate::proofs::Entries::Lines::line_items, crate::proofs::Entries::Lines::line_ended))]
+#[tactic(auto, using(crate::proofs::Entries::Lines::canonical_lines))]
 pub fn a_line_of_items_is_one_entry()
     ensures cut { (items : List Token) → AllByRecursion IsItem items
         → Cuts (text (line_of items)) (line_of items) }

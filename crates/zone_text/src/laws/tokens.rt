@@ -97,7 +97,7 @@ pub fn entries_joined_are_the_text()
 
 /// The entries that a line feed has ended are the first ones of every text that goes on from there,
 /// and of the text itself.
-#[tactic(auto, using(crate::proofs::Files::Left::ended_entries_stay, crate::proofs::Files::Left::ended_entries_first))]
+#[tactic(auto, using(crate::proofs::Files::Left::what_is_ended_stays))]
 pub fn ended_entries_stay()
     ensures longer { (octets more : List ℕ) (tokens later : List Token) → AreTokens octets tokens
         → AreTokens (octets ++ more) later → (others : List Entry)
@@ -108,7 +108,7 @@ pub fn ended_entries_stay()
 
 /// The entries of tokens one after the other, where the first all stand in ended entries, are those
 /// of the first and then those of the second numbered from the line on which it begins.
-#[tactic(auto, using(crate::proofs::Files::DecidedOnce::ended_on_after, crate::proofs::Files::DecidedOnce::entries_on_after))]
+#[tactic(auto, using(crate::proofs::Files::DecidedOnce::what_comes_after))]
 pub fn entries_are_numbered_on()
     ensures ended { (tokens more : List Token) → (cut_from zero tokens).open_tokens ≡ []
         → ended_entries (tokens ++ more) ≡ ended_entries tokens ++ numbered (open_line tokens)
