@@ -66,6 +66,13 @@ impl<'a> NameRef<'a> {
         self.octets
     }
 
+    /// The same name, borrowed for as long.
+    pub fn copy(&self) -> NameRef<'a>
+        ensures { result ≡ self.now }
+    {
+        NameRef::of_wire(self.octets)
+    }
+
     /// A copy of the name that owns its octets.
     pub fn to_name(&self) -> Name
         ensures { result ≡ self.now }

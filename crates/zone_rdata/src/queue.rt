@@ -1,18 +1,16 @@
 //! The records that a source has decided and not given yet.
-ghost use Rattle.std.specs.Prelude.{◌≡◌, ◌≤◌, ◌∷◌, ◌++◌, [], None, Some, OnOk, OnErr, option_map};
-ghost use Rattle.zone_rdata.specs.Lent.{placed_of, placed_with};
-ghost use Rattle.zone_rdata.specs.Record.{IsRecord, record_with};
+ghost use Rattle.std.specs.Prelude.{◌≡◌, ◌∷◌, ◌++◌, [], None, Some, OnOk, OnErr, option_map};
+ghost use Rattle.zone_rdata.specs.Lent.{placed_of, record_of};
 ghost use Rattle.zone_rdata.specs.RrSource.{first_record, others};
 
 use crate::fault::{Failing, Fault, Place, Stop};
-use crate::lent::{PlacedRef, RdataRef};
+use crate::lent::{PlacedRef, RrRef};
 use crate::narrow_failing::NarrowFailing;
-use crate::record::{MAX_TTL, Placed, Rr};
+use crate::record::Placed;
 use crate::rr_source::{LendingSource, Reading, RrSource, record_or_ending};
 use std::alloc::{AllocError, Global};
 use std::collections::VecDeque;
 use std::marker::Model;
-use zone_name::NameRef;
 
 /// The greatest number of octets for which the memory of dropped data is kept. Nearly all data is
 /// shorter, and what is kept then goes by the number of records.
@@ -54,32 +52,21 @@ impl RecordQueue {
         }
     }
 
-    /// Appends the record of an owner, a TTL in seconds that was judged before, and data, with its
-    /// place.
+    /// Appends a record with its place.
     ///
     /// # Errors
     ///
     /// `AllocError` where memory is refused. The queue is unchanged.
     #[inline(always)]
-    pub fn push(
-        &mut self,
-        owner: &NameRef<'_>,
-        ttl: u32,
-        rdata: &RdataRef<'_>,
-        place: Place,
-    ) -> Result<(), AllocError>
-        requires { ttl ≤ MAX_TTL }
+    pub fn push(&mut self, rr: &RrRef<'_>, place: Place) -> Result<(), AllocError>
         ensures appended { OnOk result (self.new
-            ≡ self.old ++ placed_with owner.now ttl rdata.now place ∷ []) }
-        ensures record { IsRecord (record_with owner.now ttl rdata.now) }
+            ≡ self.old ++ record { rr = record_of rr.now; place = place } ∷ []) }
         ensures unchanged { OnErr result (self.new ≡ self.old) }
     {
-        let _ = owner.wire();
-        rdata.known();
         self.turn();
         match self.slots.get_mut(self.end) {
-            Some(slot) => slot.set(owner, ttl, rdata, place)?,
-            None => push_slot(&mut self.slots, owner, ttl, rdata, place)?,
+            Some(slot) => slot.set(rr, place)?,
+            None => push_slot(&mut self.slots, rr, place)?,
         }
         self.end += 1;
         Ok(())
@@ -153,7 +140,7 @@ impl RecordQueue {
     }
 }
 
-/// Appends a slot with the record of an owner, a TTL in seconds that was judged before, and data.
+/// Appends a slot with a record and its place.
 ///
 /// # Errors
 ///
@@ -161,20 +148,12 @@ impl RecordQueue {
 // Not inlined: it has room for a name, and nearly all records find a free slot.
 #[cold]
 #[inline(never)]
-fn push_slot(
-    slots: &mut VecDeque<Placed>,
-    owner: &NameRef<'_>,
-    ttl: u32,
-    rdata: &RdataRef<'_>,
-    place: Place,
-) -> Result<(), AllocError>
-    requires { ttl ≤ MAX_TTL }
+fn push_slot(slots: &mut VecDeque<Placed>, rr: &RrRef<'_>, place: Place) -> Result<(), AllocError>
     ensures appended { OnOk result (slots.new.items
-        ≡ slots.old.items ++ placed_with owner.now ttl rdata.now place ∷ []) }
+        ≡ slots.old.items ++ record { rr = record_of rr.now; place = place } ∷ []) }
     ensures unchanged { OnErr result (slots.new.items ≡ slots.old.items) }
 {
-    let data = rdata.to_rdata(*slots.allocator())?;
-    let rr = Rr::of_parts(owner.to_name(), ttl, data);
+    let rr = rr.to_rr(*slots.allocator())?;
     slots.push_back(Placed { rr, place })?;
     Ok(())
 }

@@ -1,13 +1,13 @@
 ghost use Rattle.std.specs.Prelude.{◌≡◌, ◌<◌, ◌≤◌, ◌↔◌, IfOk, IfErr, IsOk, OnOk, Err};
-ghost use Rattle.zone_rdata.specs.Lent.{placed_of, placed_with, record_of};
-ghost use Rattle.zone_rdata.specs.Record.{Record, IsRecord, data_of};
+ghost use Rattle.zone_rdata.specs.Lent.{placed_of, record_of};
+ghost use Rattle.zone_rdata.specs.Record.{Record, IsRecord, data_of, record_with};
 
 use crate::class::Class;
 use crate::fault::{Fault, Place};
 use crate::kind::Kind;
 use crate::lent::{PlacedRef, RdataRef, RrRef};
 use crate::rdata::Rdata;
-use std::alloc::AllocError;
+use std::alloc::{AllocError, Global};
 use std::marker::Model;
 use zone_name::{Name, NameRef};
 
@@ -141,14 +141,7 @@ impl Rr {
         ensures record { record_of result ≡ self.now }
         ensures whole { IsRecord self.now }
     {
-        self.rdata.known();
-        RrRef {
-            owner: self.owner.lend(),
-            class: self.class(),
-            kind: self.kind(),
-            ttl: self.ttl(),
-            rdata: self.rdata.lend(),
-        }
+        RrRef::of_parts(self.owner.lend(), self.ttl, self.rdata.lend())
     }
 
     /// The owner, the TTL in seconds and the data.
@@ -164,6 +157,35 @@ impl Rr {
 }
 
 impl<'a> RrRef<'a> {
+    /// The record of an owner, a TTL in seconds that was judged before, and data.
+    pub fn of_parts(owner: NameRef<'a>, ttl: u32, rdata: RdataRef<'a>) -> RrRef<'a>
+        requires { ttl ≤ MAX_TTL }
+        ensures value { record_of result ≡ record_with owner.entry ttl rdata.entry }
+        ensures record { IsRecord (record_of result) }
+    {
+        let rr = RrRef {
+            owner,
+            class: rdata.class(),
+            kind: rdata.kind(),
+            ttl,
+            rdata,
+        };
+        rr.known();
+        rr
+    }
+
+    /// The same record, which owns its octets.
+    ///
+    /// # Errors
+    ///
+    /// `AllocError` where memory is refused.
+    pub fn to_rr(&self, alloc: Global) -> Result<Rr, AllocError>
+        ensures { IfOk result (λ r. r ≡ record_of self.now) }
+    {
+        let rdata = self.rdata.to_rdata(alloc)?;
+        Ok(Rr::of_parts(self.owner.to_name(), self.ttl, rdata))
+    }
+
     /// Does nothing, and tells contracts what holds of every record.
     pub fn known(&self)
         ensures { IsRecord (record_of self.now) }
@@ -174,29 +196,20 @@ impl<'a> RrRef<'a> {
 }
 
 impl Placed {
-    /// Becomes the record of an owner, a TTL in seconds that was judged before, and data, with its
-    /// place. Owner and data are written in place.
+    /// Becomes a record that is lent, with its place. Owner and data are written in place.
     ///
     /// # Errors
     ///
     /// `AllocError` where memory is refused. It is then another record.
     #[inline(always)]
-    pub(crate) fn set(
-        &mut self,
-        owner: &NameRef<'_>,
-        ttl: u32,
-        rdata: &RdataRef<'_>,
-        place: Place,
-    ) -> Result<(), AllocError>
-        requires { ttl ≤ MAX_TTL }
-        ensures { OnOk result (self.new ≡ placed_with owner.now ttl rdata.now place) }
+    pub(crate) fn set(&mut self, rr: &RrRef<'_>, place: Place) -> Result<(), AllocError>
+        ensures { OnOk result (self.new ≡ record { rr = record_of rr.now; place = place }) }
     {
-        let _ = owner.wire();
-        rdata.known();
-        let rr = &mut self.rr;
-        rr.rdata.copy_from(rdata)?;
-        rr.owner.copy_from(owner);
-        rr.ttl = ttl;
+        rr.known();
+        let slot = &mut self.rr;
+        slot.rdata.copy_from(&rr.rdata)?;
+        slot.owner.copy_from(&rr.owner);
+        slot.ttl = rr.ttl;
         self.place = place;
         Ok(())
     }

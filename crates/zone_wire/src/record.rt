@@ -11,7 +11,7 @@ use crate::labels::LabelRoom;
 use crate::lent::RawRrRef;
 use std::alloc::Global;
 use zone_name::laws::are_octets;
-use zone_rdata::{Cause, Class, Failing, Kind, MAX_TTL, NarrowFailing, RdataBuilder, Rr};
+use zone_rdata::{Cause, Class, Failing, Kind, MAX_TTL, NarrowFailing, RdataBuilder, Rr, RrRef};
 
 /// The types whose data may hold compressed names and isn't read: MD, MF, MB, MG, MR and MINFO (RFC
 /// 1035 3.3), and RP, AFSDB, RT, SIG, PX and NXT (RFC 3597 4).
@@ -73,8 +73,8 @@ impl<'m, 'r> RawRrRef<'m, 'r> {
         let mut labels = LabelRoom::new();
         let mut builder = RdataBuilder::new(alloc, class, kind);
         let rdata = self.rdata(class, kind, &mut labels, &mut builder)?;
-        let (owner, ttl) = (self.owner.to_name(), counted_ttl(self.fields.ttl));
-        Ok(Rr::of_parts(owner, ttl, rdata.to_rdata(alloc)?))
+        let rr = RrRef::of_parts(self.owner.copy(), counted_ttl(self.fields.ttl), rdata);
+        Ok(rr.to_rr(alloc)?)
     }
 }
 

@@ -2,7 +2,7 @@
 ghost use Rattle.std.specs.Prelude.{◌≡◌, ◌+◌, ◌<◌, ◌≤◌, ◌^◌, [], ◌∷◌, ◌++◌, length, ◌↔◌, List, Some, None, IfErr, IsTrue, MatchOption, OnErr, OnOk, ⊤, option_map};
 ghost use Rattle.zone_rdata.specs.Cause.{fault_for};
 ghost use Rattle.zone_rdata.specs.Fault.{IfFault};
-ghost use Rattle.zone_rdata.specs.Lent.{placed_with};
+ghost use Rattle.zone_rdata.specs.Lent.{record_of};
 ghost use Rattle.zone_rdata.specs.Record.{Record};
 ghost use Rattle.zone_rdata.specs.declared.fault.Place.TheVariants.{Message as in_message};
 ghost use Rattle.zone_rdata.specs.declared.record.Placed.{Placed};
@@ -18,10 +18,8 @@ use crate::lent::RawRrRef;
 use crate::message::Message;
 use crate::record::counted_ttl;
 use std::alloc::{AllocError, Global};
-use zone_name::{Name, NameRef};
-use zone_rdata::{
-    Cause, MAX_TTL, NarrowFailing, PendingRecords, Place, RdataBuilder, RdataRef, Reading, Rr,
-};
+use zone_name::Name;
+use zone_rdata::{Cause, NarrowFailing, PendingRecords, Place, RdataBuilder, Reading, Rr, RrRef};
 
 /// The number of the query type AXFR, of a whole zone (RFC 5936 2.1.2).
 const AXFR: u16 = 252;
@@ -211,13 +209,11 @@ impl Transfer {
         }
         let (class, kind) = answer.class_and_kind()?;
         let rdata = answer.rdata(class, kind, labels, builder)?;
-        let (ttl, offset) = (counted_ttl(answer.fields.ttl), answer.offset());
-        let _ = answer.owner.wire();
-        rdata.known();
+        let rr = RrRef::of_parts(answer.owner.copy(), counted_ttl(answer.fields.ttl), rdata);
         if self.closed {
             return Err(NarrowFailing::of(Cause::AfterClosing));
         }
-        self.hand_on(&answer.owner, ttl, &rdata, offset)?;
+        self.hand_on(&rr, answer.offset())?;
         Ok(())
     }
 
@@ -258,8 +254,7 @@ impl Transfer {
             self.closed = true;
             return Ok(());
         }
-        let lent = rr.lend();
-        self.hand_on(&lent.owner, lent.ttl, &lent.rdata, offset)?;
+        self.hand_on(&rr.lend(), offset)?;
         if is_opening {
             self.open(rr);
         }
@@ -267,22 +262,14 @@ impl Transfer {
     }
 
     /// Appends a record to those that are left to hand on.
-    fn hand_on(
-        &mut self,
-        owner: &NameRef<'_>,
-        ttl: u32,
-        rdata: &RdataRef<'_>,
-        offset: usize,
-    ) -> Result<(), AllocError>
-        requires { ttl ≤ MAX_TTL }
-        ensures items { OnOk result (self.new.decided.placed
-            ≡ self.old.decided.placed
-            ++ placed_with owner.now ttl rdata.now (in_message self.old.messages offset) ∷ []) }
+    fn hand_on(&mut self, rr: &RrRef<'_>, offset: usize) -> Result<(), AllocError>
+        ensures items { OnOk result (self.new.decided.placed ≡ self.old.decided.placed
+            ++ record { rr = record_of rr.now; place = in_message self.old.messages offset } ∷ []) }
         ensures others { self.new ≡ record self.old { decided = self.new.decided } }
         ensures ending { self.new.decided.ending ≡ self.old.decided.ending }
     {
         let place = Place::Message(self.messages, offset);
-        self.decided.placed.push(owner, ttl, rdata, place)
+        self.decided.placed.push(rr, place)
     }
 
     /// Takes the opening SOA, which fixes the zone if no question does.

@@ -5,7 +5,8 @@ use std::test::Fail;
 use test_support::{Case, check, check_rows, check_same, rooted};
 use zone_name::Name;
 use zone_rdata::{
-    Cause, Fault, LendingSource, NarrowFailing, PendingRecords, Place, Placed, Rr, RrSource, Stop,
+    Cause, Fault, LendingSource, NarrowFailing, PendingRecords, Place, Placed, Rr, RrRef, RrSource,
+    Stop,
 };
 use zone_text::read_file;
 
@@ -34,7 +35,9 @@ impl Case for Ttl {
         let data = data_of(alloc, "x.", "IN NS b.")??;
         match Rr::new(owner, self.0, data) {
             Ok(rr) => {
+                let copy = rr.lend().to_rr(alloc)?;
                 check(is_server(rr, self.0), "the record is that of its parts")?;
+                check(is_server(copy, self.0), "a copy of it is the same")?;
                 check_same(self.0, None, self.1)
             }
             Err(fault) => check_same(self.0, Some(fault.name()), self.1),
@@ -111,9 +114,8 @@ fn queue_of_four(alloc: Global) -> Result<PendingRecords, Fail> {
     let mut pending = PendingRecords::new(alloc);
     for ttl in 1..5 {
         let data = data_of(alloc, "x.", "IN NS b.")??;
-        pending
-            .placed
-            .push(&owner.lend(), ttl, &data.lend(), Place::Line(3))?;
+        let rr = RrRef::of_parts(owner.lend(), ttl, data.lend());
+        pending.placed.push(&rr, Place::Line(3))?;
     }
     pending.refuse(NarrowFailing::of(Cause::BadTtl), Place::Line(4))?;
     Ok(pending)
@@ -126,9 +128,8 @@ const STRINGS: &[u8] = b"\x02ab\x01c";
 fn push_strings(alloc: Global, pending: &mut PendingRecords) -> Result<(), Fail> {
     let owner = rooted(b"b.")?;
     let data = data_of(alloc, "x.", "IN TXT ab c")??;
-    pending
-        .placed
-        .push(&owner.lend(), 5, &data.lend(), Place::Line(5))?;
+    let rr = RrRef::of_parts(owner.lend(), 5, data.lend());
+    pending.placed.push(&rr, Place::Line(5))?;
     Ok(())
 }
 
@@ -174,7 +175,8 @@ fn push_server(alloc: Global, pending: &mut PendingRecords, ttl: u16) -> Result<
     let (owner, _) = owner_of(ttl);
     let data = data_of(alloc, "x.", "IN NS b.")??;
     let owner = rooted(owner)?;
-    pending.placed.push(&owner.lend(), u32::from(ttl), &data.lend(), Place::Line(3))?;
+    let rr = RrRef::of_parts(owner.lend(), u32::from(ttl), data.lend());
+    pending.placed.push(&rr, Place::Line(3))?;
     Ok(())
 }
 
