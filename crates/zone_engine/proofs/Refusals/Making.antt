@@ -4,6 +4,7 @@ use Rattle.zone_engine.proofs.Common.{◌≡◌, ◌≢◌, ◌⊎◌, List, [],
 use Rattle.zone_set.specs.Order.{canonical_cmp, Ascends}
 use Rattle.zone_name.proofs.Texts.Lawful.{name_cmp-exact, name_cmp-total}
 use Rattle.zone_set.proofs.Holding.Inserting.{AreCompatible-with}
+use Rattle.zone_set.proofs.Ordering.Between.{later_all}
 use Rattle.zone_set.proofs.Ordering.SetOrder.{canonical_total, exact_canonical}
 use Rattle.zone_engine.proofs.Refusals.Parting.{Has-last, Has-parts, each_accepted}
 use Rattle.zone_engine.proofs.Refusals.Deciding.{Settled, not_settled, is_within, some_or_none, one_or_all}
@@ -17,28 +18,15 @@ module _ (r : Record) where
   added (x ∷ held) up exact = by (canonical_cmp r x) refl (added held up.1 (λ s has. exact s (inr has)))
     where
       by : (o : Ordering) → canonical_cmp r x ≡ o → (new : List Record) × Adds held r new → (new : List Record) × Adds (x ∷ held) r new
-      by Less is more = (
-        r ∷ x ∷ held,
+      by Less is more = (r ∷ x ∷ held, record { ascend = ((is, later_all r x held is up.0), up); same = λ s. (λ has. has, λ has. has) })
+      by Equal is more = (x ∷ held, record { ascend = up; same = λ s. grind (arith, exact x (inl refl) is) })
+      by Greater is (new, adds) = (
+        x ∷ new,
         record {
-          ascend = ((is, each_from_Has (λ s. canonical_cmp r s ≡ Less) held (λ s has. canonical_total.trans r x s is (each_Has (λ t. canonical_cmp x t ≡ Less) held s up.0 has))), up);
-          same = λ s. (λ has. has, λ has. has);
+          ascend = (each_from_Has (λ s. canonical_cmp x s ≡ Less) new (λ s has. grind (arith, adds.same s, each_Has (λ t. canonical_cmp x t ≡ Less) held s up.0, canonical_total.antisymm x r, is)), adds.ascend);
+          same = λ s. grind (arith, adds.same s);
         },
       )
-      by Equal is more = (
-        x ∷ held,
-        record { ascend = up; same = λ s. grind (arith, exact x (inl refl) is) },
-      )
-      by Greater is (new, adds) =
-          let before : canonical_cmp x r ≡ Less = canonical_total.antisymm x r ∙ ap ordering_reverse is in (
-            x ∷ new,
-            record {
-              ascend = (
-                each_from_Has (λ s. canonical_cmp x s ≡ Less) new (λ s has. ⊎_elim (λ e. subst (λ t. canonical_cmp x t ≡ Less) (sym e) before) (λ old. each_Has (λ t. canonical_cmp x t ≡ Less) held s up.0 old) ((adds.same s).0 has)),
-                adds.ascend,
-              );
-              same = λ s. grind (arith, adds.same s);
-            },
-          )
 
 -- an accepted record that ties with one before it is that record
 tied_is : (held : List Record) (r : Record) → Accepts held r → (s : Record) → Has held s → canonical_cmp r s ≡ Equal → s ≡ r
