@@ -15,8 +15,7 @@ cut_line octets text ends = grind (arith, append_assoc, cut_first)
 -- the lines of records are their lines, in order
 pub lines_of_records : (records : List Record) → lines_of (lines records) ≡ map line records
 lines_of_records [] = refl
-lines_of_records (r ∷ records) =
-    cut_line (line r) (lines records) (line_ends_with_feed r) ∙ ap (λ ls. line r ∷ ls) (lines_of_records records)
+lines_of_records (r ∷ records) = grind (arith, cut_line, line, lines, line_ends_with_feed, lines_of_records records)
 
 -- each has an octet at least
 some_octet : (octets : List ℕ) → EndsWithItsFeed octets → 1 ≤ length octets

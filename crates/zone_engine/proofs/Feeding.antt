@@ -1,8 +1,7 @@
 -- From what was taken of the octets that a reader gave to what the reader's octets are read as.
-use Rattle.zone_engine.proofs.Common.{◌≡◌, ℕ, ◌<◌, ◌≤◌, ◌+◌, true, List, [], ◌++◌, length, length-append, sym, ap, ◌∙◌, subst, append-nil, arith, ◌==◌, Option, None, IfSome, Consumes, AllByRecursion, Octets, Placed, Held, Pending, Fault, InputTooLong, Place, Whole, Stop, Zone, ReadAs, input_of, input_octets, IsInput, IsForm, all_taken, BeginsAs, IsLoadedOf, ReadsZone, ReadsZoneWithin, RefusesRead, IsOfBytes, IsOfReading, IfRefused, IsRefusalWithin, too_long, reading, common_steps, Consumes-trans, form_of, false, Result, OnOk, Labels, SourceState, as_file, as_transfer, Ok, Err, FileDecides, FileLeave, IsFile, IsTransfer, StandsForInput, TransferLeave}
+use Rattle.zone_engine.proofs.Common.{◌≡◌, ℕ, ◌<◌, ◌≤◌, ◌+◌, true, List, [], ◌++◌, length, length-append, ap, ◌∙◌, subst, append-nil, arith, ◌==◌, Option, None, IfSome, Consumes, AllByRecursion, Octets, Placed, Held, Pending, Fault, InputTooLong, Place, Whole, Stop, Zone, ReadAs, input_of, input_octets, IsInput, IsForm, all_taken, BeginsAs, IsLoadedOf, ReadsZone, ReadsZoneWithin, RefusesRead, IsOfBytes, IsOfReading, IfRefused, IsRefusalWithin, too_long, reading, common_steps, Consumes-trans, form_of, false, Result, OnOk, Labels, SourceState, as_file, as_transfer, Ok, Err, FileDecides, FileLeave, IsFile, IsTransfer, StandsForInput, TransferLeave}
 use Rattle.zone_engine.specs.Form.{read_as}
 use Rattle.zone_engine.specs.declared.form.Form.{Form}
-use Rattle.zone_engine.specs.declared.form.Form.TheVariants.{File, Transfer}
 use Rattle.zone_text.specs.TextSource.{FileKept, StandsForFile}
 use Rattle.zone_wire.specs.TransferSource.{StandsForStream, StreamKept}
 
@@ -17,12 +16,9 @@ within limit form octets z each short reads = grind arith
 pub refused_within : (limit : ℕ) (form : ReadAs) (octets : Octets) (stop : Stop) → length octets ≤ limit → IfRefused stop (RefusesRead (input_of form octets)) → IfRefused stop (IsRefusalWithin limit (input_of form octets))
 refused_within limit form octets stop short refuses = grind (arith, octets_of_input, reading)
 
-pub refused_over : (limit : ℕ) (form : ReadAs) (octets : Octets) → limit < length octets → IsRefusalWithin limit (input_of form octets) InputTooLong Whole
-refused_over limit form octets long = too_long (subst (λ os. limit < length os) (sym (octets_of_input form octets)) long)
-
 -- a reader that gave too many octets has too many
 pub too_many : (limit : ℕ) (form : ReadAs) (old new : Option Octets) (given : Octets) → Consumes old new given → limit < length given → IfSome old (λ octets. IsRefusalWithin limit (input_of form octets) InputTooLong Whole)
-too_many limit form old new given consumed long = grind (arith, refused_over, length-append)
+too_many limit form old new given consumed long = grind (arith, too_long, length, octets_of_input, length-append)
 
 -- what a source begins with is taken of no octets
 pub begun : {Kept : Type 0} (IsOf : ReadAs → Type 0) (Leave : ReadAs → Octets → Kept → Octets → Type 0) (form : ReadAs) (pending : Pending) (inside : Held Kept) (listed : List Placed) (refusal : Option (Fault × Place)) → listed ≡ [] → refusal ≡ None → BeginsAs IsOf Leave pending inside form → IsLoadedOf IsOf Leave pending inside listed refusal form []
@@ -54,8 +50,7 @@ no_octets octets none = grind (arith, common_steps)
 
 -- octets are an input of a form
 pub is_input : (form : Form) (octets : Octets) → IsForm (form_of form) → AllByRecursion (λ c. c < 256) (input_octets (read_as form octets)) → IsInput (read_as form octets)
-is_input (File origin) octets name each = (name, each)
-is_input Transfer octets name each = each
+is_input form octets name each = grind arith
 
 -- ---- a source that begins or goes on does so as a source of an input
 

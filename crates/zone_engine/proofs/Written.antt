@@ -42,11 +42,7 @@ stops_unwritten form reader writer stop is = grind (arith, common_steps)
 -- what stops the writing of a zone that is read, of the writer and of the reader
 module _ (form : Octets → Input) (reader old new : Device) (z : Zone) (stop : Stop) (reads : IfSome reader.octets (λ octets. ReadsZoneWithin text_limit (form octets) z)) (stops : StopsWrite text_limit (canon z) old new stop) where
   pub stops_writing : ReadIsStated → ((octets : Octets) → ReadsZoneWithin text_limit (form octets) z → IsInput (form octets)) → StopsNormalise form reader old new stop
-  stops_writing stated is = record {
-    nothing = grind arith;
-    prefix = IfSome_then _ reads (λ octets r. front_written (form octets) z r stated (is octets r) old new stop stops);
-    tells = grind arith;
-  }
+  stops_writing stated is = grind (arith, IfSome_then, front_written)
 
   pub stops_when_read : (reader' : Device) → ReadsToEnd text_limit reader reader' → StopsReading text_limit form reader reader' stop
   stops_when_read reader' end = record {

@@ -49,9 +49,7 @@ module _ (input : Input) where
   one_refusal one once _ _ _ _ (too_long long) (too_long too) = (refl, refl)
   one_refusal one once _ _ _ _ (too_long long) (reading b f other elsewhere short reads refuses) = absurd (omega arith)
   one_refusal one once _ _ _ _ (reading a e fault place short reads refuses) (too_long long) = absurd (omega arith)
-  one_refusal one once _ _ _ _ (reading a e fault place short reads refuses) (reading b f other elsewhere short' reads' refuses') =
-      let same = once a b e f reads reads' in
-      one b f fault other place elsewhere (subst (λ ending. RefusesReading b ending fault place) same.1 (subst (λ placed. RefusesReading placed e fault place) same.0 refuses)) refuses'
+  one_refusal one once _ _ _ _ (reading a e fault place short reads refuses) (reading b f other elsewhere short' reads' refuses') = grind arith
 
   pub refused_or_denoted : ((placed : List Placed) (fault : Fault) (place : Place) → RefusesReading placed None fault place → (z : Zone) → MakesZone placed z → ⊥) → OneReadingOf (InputReads input) → IsRead → (fault : Fault) (place : Place) → IsRefusal input fault place → (z : Zone) → InputDenotes input z → ⊥
   refused_or_denoted apart once is_read fault place given z denotes = grind arith

@@ -1,5 +1,5 @@
 -- What calls leave of the reader of an input.
-use Rattle.zone_engine.proofs.Common.{◌≡◌, ℕ, ◌≤◌, ◌+◌, length, inl, inr, arith, Option, IfSome, Result, Consumes, Keeps, Octets, Fault, InputTooLong, Place, Whole, Stop, Refused, Input, Device, WorksOn, IsOfBytes, IfRefused, IsRefusalWithin, ConsumesAtMost, IsFailedRead, Reads, ReadsToEnd, StopsReading, TellsRead, Memory}
+use Rattle.zone_engine.proofs.Common.{◌≡◌, ℕ, ◌≤◌, ◌+◌, length, inl, inr, arith, Option, IfSome, Result, Consumes, Keeps, Octets, Fault, InputTooLong, Place, Whole, Stop, Refused, Input, Device, WorksOn, IsOfBytes, IfRefused, IsRefusalWithin, ConsumesAtMost, IsFailedRead, Reads, ReadsToEnd, StopsReading, Memory}
 use Rattle.std.specs.Prelude.{IfErr}
 use Rattle.std.proofs.KnownBytes.{Consumes-kept}
 
@@ -9,9 +9,6 @@ unrefused known = grind arith
 
 pub if_refused : (P : Type 0) (stop : Stop) → P → IfRefused stop (λ fault place. P)
 if_refused P stop h = grind arith
-
-tells_works : (old new : Device) (stop : Stop) → WorksOn old new → IsOfBytes stop → TellsRead old new stop
-tells_works old new stop works is = grind arith
 
 module _ (limit : ℕ) (form : Octets → Input) where
   -- a read failed after others
@@ -24,7 +21,7 @@ module _ (limit : ℕ) (form : Octets → Input) where
 
   -- an input that was read to its end is judged
   pub judged : {T : Type 0} (old new : Device) (r : Result T Stop) (P : Stop → Type 0) → ReadsToEnd limit old new → IfErr r IsOfBytes → IfErr r P → ((stop : Stop) → P stop → IfSome old.octets (λ octets. IfRefused stop (IsRefusalWithin limit (form octets)))) → Reads limit form old new r
-  judged old new r P end of_bytes p refuses = grind (arith, if_refused, tells_works)
+  judged old new r P end of_bytes p refuses = grind (arith, if_refused)
 
   -- an input of too many octets was read to the first of these
   pub stops_too_long : (old new : Device) (given : Octets) → Consumes old.octets new.octets given → length given ≡ limit + 1 → WorksOn old new → IfSome old.octets (λ octets. IsRefusalWithin limit (form octets) InputTooLong Whole) → StopsReading limit form old new (Refused InputTooLong Whole)

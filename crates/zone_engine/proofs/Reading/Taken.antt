@@ -1,5 +1,5 @@
 -- What is taken of an input that a source is fed.
-use Rattle.zone_engine.proofs.Common.{◌≡◌, ◌≢◌, true, false, List, [], ◌∷◌, ◌++◌, refl, sym, ap, ◌∙◌, subst, append_assoc, append-nil, Option, Some, None, is_some, Result, IfOk, Octets, Record, Held, Pending, Fault, Place, Stop, Refused, Placed, class, leaves, StopsFinish, soa, no_soa, outside, AllAccepted, SameRecords, records_of, Zone, IsZone, ReadAs, input_of, InputReads, IsLoaded, all_taken, front_refuses, nothing_pending, IsFirstStop, earlier, itself, RefusesFront, by_record, by_ending, ReadsZone, RefusesRead, IsOfBytes, RefusesReading, refused, unread, unfinished, IfRefused, arith, rules, StandsForInput, ClassMismatch, Memory}
+use Rattle.zone_engine.proofs.Common.{◌≡◌, ◌≢◌, true, false, List, [], ◌∷◌, ◌++◌, refl, sym, ap, ◌∙◌, subst, append_assoc, append-nil, Option, Some, None, is_some, Result, IfOk, Octets, Record, Held, Pending, Fault, Place, Stop, Refused, Placed, class, leaves, StopsFinish, soa, no_soa, outside, AllAccepted, SameRecords, records_of, Zone, IsZone, ReadAs, input_of, InputReads, IsLoaded, all_taken, front_refuses, IsFirstStop, earlier, itself, RefusesFront, by_record, by_ending, ReadsZone, RefusesRead, IsOfBytes, RefusesReading, refused, unread, unfinished, IfRefused, arith, rules, StandsForInput, ClassMismatch, Memory}
 use Rattle.zone_set.specs.ZoneList.{ListsAll, StopsListing, failure, memory, class as of_class, ending as ending_fault, IsSettledAs, StopsSettling, memory as unsettled, refused as refused_record}
 use Rattle.zone_engine.proofs.Refusals.Decided.{first_stays}
 
@@ -18,21 +18,10 @@ listed_refused listed more ending _ unsettled = tt
 listed_refused listed more ending _ (refused_record fault place first) = by_record fault place (first_stays listed more fault place first)
 
 pub front_refused : (listed new : List Placed) (pending rest : Pending) (stop first : Stop) → StopsListing listed pending new rest stop → IsFirstStop new stop first → IfRefused first (RefusesFront (listed ++ pending.records) pending.ending)
-front_refused listed new pending rest stop first stops (earlier _ why) =
-    let on = listed_front listed new pending rest stop stops in
-    rw on.1 (listed_refused new on.0 pending.ending first why)
+front_refused listed new pending rest stop first stops (earlier _ why) = grind (arith, listed_front, listed_refused)
 front_refused listed new pending rest _ _ (failure fails same left) (itself all) = tt
 front_refused listed new pending rest _ _ (memory taken others p works parts same left) (itself all) = tt
-front_refused listed new pending rest _ _ (of_class taken others p works parts same left other) (itself all) =
-    by_record ClassMismatch p.place (record {
-      before = new;
-      refused = p;
-      others = others;
-      parts = rw (parts, same) (sym (append_assoc listed taken (p ∷ others)));
-      accepted = all;
-      why = class other;
-      stands = refl;
-    })
+front_refused listed new pending rest _ _ (of_class taken others p works parts same left other) (itself all) = grind (arith, by_record, refused, append_assoc, class)
 front_refused listed new pending rest _ _ (ending_fault e works is same left) (itself all) = by_ending e.0 e.1 (subst AllAccepted same all) is
 
 settling_is_of_bytes : (listed : List Placed) (stop : Stop) → StopsSettling listed stop → IsOfBytes stop
@@ -43,8 +32,7 @@ listing_is_of_bytes listed new pending rest stop given = grind arith
 
 -- an input stops for no failed read and no failed write
 pub first_is_of_bytes : (listed new : List Placed) (pending rest : Pending) (stop first : Stop) → StopsListing listed pending new rest stop → IsFirstStop new stop first → IsOfBytes first
-first_is_of_bytes listed new pending rest stop first stops (earlier _ why) = settling_is_of_bytes new first why
-first_is_of_bytes listed new pending rest stop _ stops (itself all) = listing_is_of_bytes listed new pending rest stop stops
+first_is_of_bytes listed new pending rest stop first stops is_first = grind (arith, settling_is_of_bytes, listing_is_of_bytes)
 
 -- and what is no refusal is want of memory
 pub only_memory : (listed new : List Placed) (pending rest : Pending) (stop first : Stop) → StopsListing listed pending new rest stop → IsFirstStop new stop first → ((fault : Fault) (place : Place) → first ≢ Refused fault place) → first ≡ Memory
@@ -74,9 +62,6 @@ zone_of_records r records zone same = grind arith
 front_reading : (placed : List Placed) (ending : Option (Fault × Place)) (fault : Fault) (place : Place) → RefusesFront placed ending fault place → RefusesReading placed ending fault place
 front_reading placed ending fault place given = grind (arith, refused, unread)
 
-emptied_nothing : (pending rest : Pending) → pending.failed ≡ false → pending.ending ≡ None → rest ≡ leaves pending [] → rest ≡ nothing_pending
-emptied_nothing pending rest works whole emptied = emptied ∙ ap (λ failed. record { failed = failed; records = []; ending = pending.ending }) works ∙ ap (λ ending. record { failed = false; records = []; ending = ending }) whole
-
 -- ---- a source that is fed
 
 module _ {Kept : Type 0} (IsOf : ReadAs → Type 0) (Leave : ReadAs → Octets → Kept → Octets → Type 0) (form : ReadAs) where
@@ -95,11 +80,7 @@ module _ {Kept : Type 0} (IsOf : ReadAs → Type 0) (Leave : ReadAs → Octets �
 
   module _ (p0 p1 p2 : Pending) (b0 b1 b2 : Held Kept) (listed new : List Placed) (octets piece : Octets) (refusal : Option (Fault × Place)) (none : refusal ≡ None) (fed : (given : List Placed) → Stands p0 b0 octets given → Stands p1 b1 (octets ++ piece) given) where
     pub taken_more : (again : Option (Fault × Place)) → again ≡ refusal → ListsAll listed p1 new p2 → b2 ≡ b1 → IsLoaded (Stands p0 b0) form p0 listed refusal octets → IsLoaded (Stands p2 b2) form p2 new again (octets ++ piece)
-    taken_more again same lists beside (front_refuses front more placed ending f at is parts decided refuses) = absurd (not_both (sym is ∙ none))
-    taken_more again same lists beside (all_taken unrefused stands nothing) =
-        all_taken (same ∙ none)
-        (rw (lists.listed, lists.emptied, beside) (gives_all p1 b1 (octets ++ piece) listed (fed listed stands)))
-        (emptied_nothing p1 p2 lists.works lists.whole lists.emptied)
+    taken_more again same lists beside has = grind (arith, not_both, all_taken, gives_all)
 
     pub taken_refused : b1.finished ≡ false → (left : List Placed) (stop first : Stop) (fault : Fault) (place : Place) → StopsListing listed p1 new p2 stop → IsFirstStop new stop first → first ≡ Refused fault place → IsLoaded (Stands p0 b0) form p0 listed refusal octets → IsLoaded (Stands p2 b2) form p2 left (Some (fault, place)) (octets ++ piece)
     taken_refused going left stop first fault place stops is_first is (front_refuses front more placed ending f at told parts decided refuses) = absurd (not_both (sym told ∙ none))
@@ -112,9 +93,7 @@ module _ {Kept : Type 0} (IsOf : ReadAs → Type 0) (Leave : ReadAs → Octets �
 
   module _ (p0 p1 : Pending) (b0 b1 : Held Kept) (listed : List Placed) (octets : Octets) (refusal : Option (Fault × Place)) (none : refusal ≡ None) (ended : b1.finished ≡ true) (kept : (given : List Placed) → Stands p0 b0 octets given → Stands p1 b1 octets given) where
     pub zone_read : (new : List Placed) (held : List Record) (rest : Pending) (z : Zone) → ListsAll listed p1 new rest → IsSettledAs new held → IsZone z → z.records ≡ held → IsLoaded (Stands p0 b0) form p0 listed refusal octets → ReadsZone (input_of form octets) z
-    zone_read new held rest z lists settled zone records (front_refuses front more placed ending f at is parts decided refuses) = absurd (not_both (sym is ∙ none))
-    zone_read new held rest z lists settled zone records (all_taken unrefused stands nothing) =
-        record { placed = new; reads = rw (lists.listed, ← lists.whole) ((kept listed stands).stands.read ended); same = rw records settled.same; zone = zone }
+    zone_read new held rest z lists settled zone records has = grind (arith, not_both)
 
     refused_with : Stands p0 b0 octets listed → (stop : Stop) → IfRefused stop (RefusesFront (listed ++ p1.records) p1.ending) → IfRefused stop (RefusesRead (input_of form octets))
     refused_with stands stop refuses = grind (arith, front_reading)

@@ -1,5 +1,5 @@
 -- What refuses a front of an input refuses all of it.
-use Rattle.zone_engine.proofs.Common.{◌≡◌, ℕ, ◌<◌, List, ◌++◌, sym, ◌∙◌, subst, get_or, Option, Some, AllByRecursion, IsName, Fault, Place, Placed, FileReads, AllAccepted, IsFirstRefused, ReadAs, as_file, as_transfer, input_of, Decides, IsForm, RefusesFront, by_record, by_ending, RefusesRead, RefusesReading, refused, unread, arith, common_steps, Stays, StreamReads, Labels, Input, InputReads, file, transfer, each_below}
+use Rattle.zone_engine.proofs.Common.{◌≡◌, ℕ, ◌<◌, List, ◌++◌, sym, ◌∙◌, subst, get_or, Option, Some, AllByRecursion, IsName, Fault, Place, Placed, FileReads, IsFirstRefused, ReadAs, as_file, as_transfer, input_of, Decides, IsForm, RefusesFront, by_record, by_ending, RefusesRead, RefusesReading, refused, unread, arith, common_steps, Stays, StreamReads, Labels, Input, InputReads, file, transfer, each_below}
 use Rattle.zone_text.specs.Decided as file_decides
 use Rattle.zone_wire.specs.Stream as stream_decides
 
@@ -15,11 +15,8 @@ pub first_stays : (placed others : List Placed) (fault : Fault) (place : Place) 
 first_stays placed others fault place first = grind (arith, common_steps)
 
 refuses_on : (placed later : List Placed) (ending last : Ending) (fault : Fault) (place : Place) → GoesOn placed ending later last → RefusesFront placed ending fault place → RefusesReading later last fault place
-refuses_on placed later ending last _ _ on (by_record fault place first) =
-    refused fault place (subst (λ ps. IsFirstRefused ps fault place) (sym on.0.1) (first_stays placed on.0.0 fault place first))
-refuses_on placed later ending last _ _ on (by_ending fault place all is) =
-    let same = on.1 (fault, place) is in
-    unread fault place (subst AllAccepted (sym same.0) all) (same.1 ∙ is)
+refuses_on placed later ending last _ _ on (by_record fault place first) = grind (arith, refused, first_stays)
+refuses_on placed later ending last _ _ on (by_ending fault place all is) = grind (arith, unread)
 
 read_refused : (input : Input) (placed later : List Placed) (ending last : Ending) (fault : Fault) (place : Place) → InputReads input later last → GoesOn placed ending later last → RefusesFront placed ending fault place → RefusesRead input fault place
 read_refused input placed later ending last fault place reads on refuses = record { placed = later; ending = last; reads = reads; refuses = refuses_on placed later ending last fault place on refuses }

@@ -1,12 +1,12 @@
 -- Records of which each may stand with all before it have one ascending list, and that is a zone's
 -- or lacks what a zone needs.
-use Rattle.zone_engine.proofs.Common.{◌≡◌, ◌≢◌, ◌⊎◌, List, [], ◌∷◌, length, Ordering, Less, Equal, Greater, refl, sym, ap, ◌∙◌, subst, inl, inr, ⊎_elim, cases_eq, leb_tells, AllByRecursion, IsWithin, name_cmp, Record, IsRecord, data_of, Fault, NoSoa, OutOfZone, ZoneTooLarge, Place, Whole, Placed, Accepts, Adds, accepted_class, no_soa, outside, AllAccepted, records_of, Has, SameRecords, AreCompatible, Zone, IsZone, canon, text_limit, MakesZone, RefusesReading, refused, unread, unfinished, too_large, accepted_ttl, one_set, each_Has, each_from_Has, arith, Some, None, ordering_reverse}
+use Rattle.zone_engine.proofs.Common.{◌≡◌, ◌≢◌, ◌⊎◌, List, [], ◌∷◌, length, Ordering, Less, Equal, Greater, refl, inl, inr, ⊎_elim, cases_eq, leb_tells, AllByRecursion, IsWithin, name_cmp, Record, IsRecord, Fault, NoSoa, OutOfZone, ZoneTooLarge, Place, Whole, Placed, Accepts, Adds, accepted_class, no_soa, outside, AllAccepted, records_of, Has, SameRecords, AreCompatible, Zone, IsZone, canon, text_limit, MakesZone, RefusesReading, refused, unread, unfinished, too_large, accepted_ttl, one_set, each_Has, each_from_Has, arith, Some, None}
 use Rattle.zone_set.specs.Order.{canonical_cmp, Ascends}
 use Rattle.zone_name.proofs.Texts.Lawful.{name_cmp-exact, name_cmp-total}
 use Rattle.zone_set.proofs.Holding.Inserting.{AreCompatible-with}
 use Rattle.zone_set.proofs.Ordering.Between.{later_all}
 use Rattle.zone_set.proofs.Ordering.SetOrder.{canonical_total, exact_canonical}
-use Rattle.zone_engine.proofs.Refusals.Parting.{Has-last, Has-parts, each_accepted}
+use Rattle.zone_engine.proofs.Refusals.Parting.{Has-parts, each_accepted}
 use Rattle.zone_engine.proofs.Refusals.Deciding.{Settled, not_settled, is_within, some_or_none, one_or_all}
 
 -- ---- the ascending list

@@ -1,6 +1,6 @@
 -- A reading is refused for one fault at one place, and no zone has the records of a refused one.
-use Rattle.zone_engine.proofs.Common.{◌≡◌, ◌≤◌, List, ◌∷◌, length, Less, refl, sym, ap, ◌∙◌, subst, ⊎_elim, arith, IsWithin, name_cmp, Record, Fault, OutOfZone, Place, Whole, Stop, Refused, Placed, Accepts, IsRefusedFor, class, soa, ttl, HasNoSoa, IsLeastOutside, StopsFinish, no_soa, outside, AllAccepted, IsFirstRefused, records_of, Has, SameRecords, Zone, IsZone, canon, text_limit, MakesZone, RefusesReading, refused, unread, unfinished, too_large, stable_owner, each_Has, Option, None, IsTotalOrder, ordering_reverse, Labels}
-use Rattle.zone_engine.proofs.Refusals.Parting.{Partings, same, first, second, two_partings, all_soa}
+use Rattle.zone_engine.proofs.Common.{◌≡◌, ◌≤◌, List, length, Less, refl, sym, ap, ◌∙◌, subst, arith, IsWithin, name_cmp, Record, Fault, OutOfZone, Place, Whole, Stop, Refused, Placed, Accepts, IsRefusedFor, class, soa, ttl, HasNoSoa, IsLeastOutside, StopsFinish, no_soa, outside, AllAccepted, IsFirstRefused, records_of, SameRecords, Zone, IsZone, canon, text_limit, MakesZone, RefusesReading, refused, unread, unfinished, too_large, stable_owner, each_Has, Option, None, IsTotalOrder, ordering_reverse, Labels}
+use Rattle.zone_engine.proofs.Refusals.Parting.{same, first, second, two_partings, all_soa}
 use Rattle.zone_set.proofs.Ordering.Neighbours.{AllAccepted-from_compatible}
 
 -- ---- the first record that is refused
@@ -23,16 +23,7 @@ pub refused_not_accepted : (placed : List Placed) (f : Fault) (at : Place) → I
 refused_not_accepted placed f at is all = refused_or_accepted _ _ f is.why (all is.before is.others is.refused is.parts)
 
 pub one_first : (placed : List Placed) (f g : Fault) (at there : Place) → IsFirstRefused placed f at → IsFirstRefused placed g there → (f ≡ g) × (at ≡ there)
-one_first placed f g at there is other = by (two_partings is.before other.before is.others other.others is.refused other.refused (sym is.parts ∙ other.parts))
-  where
-    by : Partings is.before other.before is.refused other.refused → (f ≡ g) × (at ≡ there)
-    by (same before here) = (
-      one_reason (records_of other.before) other.refused.rr f g
-          (subst (λ p. IsRefusedFor (records_of other.before) p.rr f) here (subst (λ ps. IsRefusedFor (records_of ps) is.refused.rr f) before is.why)) other.why,
-      is.stands ∙ ap (λ p. p.place) here ∙ sym other.stands,
-    )
-    by (first between before) = absurd (refused_or_accepted _ _ f is.why (other.accepted is.before between is.refused before))
-    by (second between before) = absurd (refused_or_accepted _ _ g other.why (is.accepted other.before between other.refused before))
+one_first placed f g at there is other = grind (arith, two_partings, refused, same, one_reason, records_of, first, refused_or_accepted, second)
 
 -- ---- records that make a zone
 
@@ -52,8 +43,7 @@ module _ (z : Zone) (placed : List Placed) (zone : IsZone z) (same_records : Sam
       least.outside (subst (λ o. IsWithin o least.soa.owner) owned (subst (IsWithin s.owner) apex (each_Has (λ t. IsWithin t.owner z.apex) z.records s zone.within ((same_records s).1 has_s))))
 
   zone_not_stopped : (stop : Stop) → StopsFinish (records_of placed) stop → ⊥
-  zone_not_stopped _ (no_soa none) = zone_has_soa none
-  zone_not_stopped _ (outside owner least) = zone_has_no_outside owner least
+  zone_not_stopped stop stops = grind (arith, no_soa, zone_has_soa, outside, zone_has_no_outside)
 
 -- a zone has one list of records
 abbrev pub OneZone : Type 0
