@@ -1,6 +1,6 @@
 -- The name that a text spells under an origin, its letters folded or kept, or its first fault, as an
 -- answer on lists.
-use Rattle.zone_name.proofs.Common.{common_steps, AllByRecursion, AreOctets, AreWrittenLabels, Bool, EmptyLabel, Err, FaultAt, Folded, HasShape, IfErr, IfOk, IfSome, IsCasedLabel, IsLabel, IsRelative, IsUnit, IsWrittenLabel, Kept, Labels, Letters, List, NameFault, NameTooLong, None, Ok, Option, Origin, RelativeName, Result, Root, Some, SpellingFault, SpellsBy, SpellsCased, WritesBy, Written, [], absolute, ap, arith, at_origin, bytes_decides, codes, dotted, false, false≢true, folded, if◌then◌else◌, inl, inr, is_dot, kept, length, length-map, lettered, lettered_in, long_name, name_read, nat_eq, nat_le, parted, plain, pointwise, refl, relative, root, sized, subst, sym, text_of, true, under_origin, unfounded, wire, within, written_octets, written_text, ℕ, ◌++◌, ◌<◌, ◌∙◌, ◌∷◌, ◌≡◌, ◌≢◌, ◌≤◌, ◌⊎◌}
+use Rattle.zone_name.proofs.Common.{common_steps, AllByRecursion, AreOctets, AreWrittenLabels, Bool, EmptyLabel, Err, FaultAt, Folded, HasShape, IfErr, IfOk, IfSome, IsCasedLabel, IsCasedName, IsLabel, IsRelative, IsUnit, IsWrittenLabel, Kept, Labels, Letters, List, NameFault, NameTooLong, None, Ok, Option, Origin, RelativeName, Result, Root, Some, SpellingFault, SpellsBy, SpellsCased, WritesBy, Written, [], absolute, ap, arith, at_origin, bytes_decides, codes, dotted, false, false≢true, folded, if◌then◌else◌, inl, inr, is_dot, kept, length, length-map, lettered, lettered_in, long_name, name_read, nat_eq, nat_le, parted, plain, pointwise, refl, relative, root, sized, subst, sym, text_of, true, under_origin, unfounded, wire, within, written_octets, written_text, ℕ, ◌++◌, ◌<◌, ◌∙◌, ◌∷◌, ◌≡◌, ◌≢◌, ◌≤◌, ◌⊎◌}
 use Rattle.zone_name.specs.declared.reading.NameShape.{NameShape}
 use Rattle.zone_name.specs.Machine.LabelWalk.{reading}
 use Rattle.std.proofs.lemmas.Option.{IfSome_then}
@@ -256,3 +256,6 @@ one_verdict letters origin text known octets = record {
   one_value = once_by letters origin text;
   one_fault = FirstFault-once origin text;
 }
+
+pub one_verdict_cased : (origin : Option (List (List ℕ))) (text : List ℕ) → IfSome origin IsCasedName → AreOctets text → IsVerdict (SpellsCased origin text) (SpellingFault origin text)
+one_verdict_cased = one_verdict Kept
