@@ -122,9 +122,7 @@ label_is label is short each = grind (arith, common_steps, length-map, octets_sh
 dotted_are : (written : List (List Written)) → AllByRecursion IsWrittenLabel written → AreShort written → AreOctets (dotted written) → AllByRecursion IsCasedLabel (kept written)
 dotted_are [] is short each = tt
 dotted_are (label ∷ written) is short each =
-    let first = AllByRecursion-front (λ c. c < 256) (written_text label ++ 46 ∷ []) (dotted written) each in
-    let rest = AllByRecursion-back (λ c. c < 256) (written_text label ++ 46 ∷ []) (dotted written) each in
-    (label_is label is.0 short.0 (AllByRecursion-front (λ c. c < 256) (written_text label) (46 ∷ []) first), dotted_are written is.1 short.1 rest)
+    grind (arith, common_steps, AllByRecursion-front, AllByRecursion-back, label_is, dotted_are written)
 
 parted_are : (written : List (List Written)) → AllByRecursion IsWrittenLabel written → AreShort written → AreOctets (parted written) → AllByRecursion IsCasedLabel (kept written)
 parted_are [] is short each = tt
@@ -246,12 +244,8 @@ FirstFault-once origin text f g one two =
     cc (answered-fault Folded origin text form.0 f form.1 one, answered-fault Folded origin text form.0 g form.1 two)
 
 pub one_verdict : (letters : Letters) (origin : Option (List (List ℕ))) (text : List ℕ) → IfSome origin (IsNameBy letters) → AreOctets text → IsVerdict (SpellsBy letters origin text) (SpellingFault origin text)
-one_verdict letters origin text known octets = record {
-  one_of = either_by letters origin text known octets;
-  never_both = faultless_by letters origin text;
-  one_value = once_by letters origin text;
-  one_fault = FirstFault-once origin text;
-}
+one_verdict letters origin text known octets =
+    grind (arith, common_steps, either_by, faultless_by, once_by, FirstFault-once)
 
 pub one_verdict_cased : (origin : Option (List (List ℕ))) (text : List ℕ) → IfSome origin IsCasedName → AreOctets text → IsVerdict (SpellsCased origin text) (SpellingFault origin text)
 one_verdict_cased = one_verdict Kept

@@ -101,9 +101,8 @@ pub ends_above : (origin : Option (List ℕ)) (above : List ℕ) (spelled : Spel
 ends_above origin above spelled relative is short = grind (arith, common_steps)
 
 pub finished : (origin : Option (List ℕ)) (spelled : Spelled) (octets ending new : List ℕ) (result : Result (Unit {0}) NameFault) → Ends origin spelled ending → IfOk result (λ _. (letters : Letters) → HoldsLabelsBy letters octets → HoldsNameBy letters ending → HoldsNameBy letters new × (sized (labels_of octets ++ labels_of ending) ≡ Ok (labels_of new))) → IfOk result (λ _. (letters : Letters) → HoldsLabelsBy letters octets → IfSome origin (HoldsNameBy letters) → HoldsNameBy letters new × ((labels : List (List ℕ)) → Collects (labels_of octets) spelled.is_too_long labels → under_origin (origin_in origin) (Ok (labels, spelled.is_absolute)) ≡ Ok (labels_of new)))
-finished origin spelled octets ending new result ends = IfOk-weaker result _ _ (λ done is letters holds known.
-    let both = is letters holds (ends.name letters known) in
-    (both.0, λ labels collects. ends.under labels ∙ ap (λ ls. sized (ls ++ labels_of ending)) (sym (rw ends.short at collects)) ∙ both.1))
+finished origin spelled octets ending new result ends =
+    grind (arith, common_steps, IfOk-weaker)
 
 pub unfinished : (origin : Option (List ℕ)) (spelled : Spelled) (octets ending : List ℕ) (result : Result (Unit {0}) NameFault) → Ends origin spelled ending → IfErr result (λ fault. (letters : Letters) → HoldsLabelsBy letters octets → HoldsNameBy letters ending → sized (labels_of octets ++ labels_of ending) ≡ Err fault) → IfErr result (λ fault. (letters : Letters) → HoldsLabelsBy letters octets → IfSome origin (HoldsNameBy letters) → (labels : List (List ℕ)) → Collects (labels_of octets) spelled.is_too_long labels → under_origin (origin_in origin) (Ok (labels, spelled.is_absolute)) ≡ Err fault)
 unfinished origin spelled octets ending result ends = IfErr-weaker result _ _ (λ fault is letters holds known labels collects.
@@ -125,8 +124,7 @@ relative_long origin above spelled held labels relative is long collects =
 
 pub named_by : (letters : Letters) (origin : Option (List ℕ)) (text octets new : List ℕ) (spelled : Spelled) (result : Result (Unit {0}) NameFault) → HoldsLabelsBy letters octets → IsReadBy letters text octets spelled → IfSome origin (HoldsNameBy letters) → IfOk result (λ _. (by : Letters) → HoldsLabelsBy by octets → IfSome origin (HoldsNameBy by) → HoldsNameBy by new × ((labels : List (List ℕ)) → Collects (labels_of octets) spelled.is_too_long labels → under_origin (origin_in origin) (Ok (labels, spelled.is_absolute)) ≡ Ok (labels_of new))) → IfErr result (λ fault. (by : Letters) → HoldsLabelsBy by octets → IfSome origin (HoldsNameBy by) → (labels : List (List ℕ)) → Collects (labels_of octets) spelled.is_too_long labels → under_origin (origin_in origin) (Ok (labels, spelled.is_absolute)) ≡ Err fault) → IfOk result (λ _. HoldsNameBy letters new × (name_read letters (origin_in origin) text ≡ Ok (labels_of new))) × IfErr result (λ fault. name_read letters (origin_in origin) text ≡ Err fault)
 named_by letters origin text octets new spelled (Ok done) holds read known ok err =
-    let both = ok letters holds known in
-    ((both.0, ap (λ r. under_origin (origin_in origin) (lettered_in letters r)) read.1 ∙ both.1 (lettered letters read.0) read.2), tt)
+    grind (arith, common_steps)
 named_by letters origin text octets new spelled (Err fault) holds read known ok err =
     (tt, ap (λ r. under_origin (origin_in origin) (lettered_in letters r)) read.1 ∙ err letters holds known (lettered letters read.0) read.2)
 

@@ -1,5 +1,5 @@
 -- What a text spells, and its own first fault, is what the walk over it finds.
-use Rattle.zone_name.proofs.Common.{Ahead, AllByRecursion, AreWrittenLabels, BadEscape, Closes, EmptyLabel, EndsLabel, EndsLabelAt, Err, FaultAt, Goes, IsUnit, IsWrittenLabel, LabelTooLong, List, NameFault, Ok, Reaches, Written, [], ahead_in, ap, append-nil, append_assoc, arith, at_dot, at_fault, at_octet, bad_escape, dotted, empty_label, failed, false, inl, inr, is_dot, kept, length, length-append, length-map, long_label, octet_of, parted, read, refl, step_at, subst, sym, text_of, true, written_octets, written_text, ℕ, ◌++◌, ◌+◌, ◌<◌, ◌∙◌, ◌∷◌, ◌≡◌, ◌≤◌}
+use Rattle.zone_name.proofs.Common.{common_steps, Ahead, AllByRecursion, AreWrittenLabels, BadEscape, Closes, EmptyLabel, EndsLabel, EndsLabelAt, Err, FaultAt, Goes, IsUnit, IsWrittenLabel, LabelTooLong, List, NameFault, Ok, Reaches, Written, [], ahead_in, ap, append-nil, append_assoc, arith, at_dot, at_fault, at_octet, bad_escape, dotted, empty_label, failed, false, inl, inr, is_dot, kept, length, length-append, length-map, long_label, octet_of, parted, read, refl, step_at, subst, sym, text_of, true, written_octets, written_text, ℕ, ◌++◌, ◌+◌, ◌<◌, ◌∙◌, ◌∷◌, ◌≡◌, ◌≤◌}
 use Rattle.zone_name.specs.Machine.LabelWalk.{reading}
 use Rattle.zone_name.proofs.Spelling.Ahead.{ahead-unit, ahead-bad}
 use Rattle.zone_name.proofs.Spelling.Units.{text_of-some}
@@ -33,9 +33,7 @@ dot_reads text before label rest is short reads =
 dots_read : (written : List (List Written)) (text : List ℕ) (before : List (List ℕ)) (rest : List ℕ) → AllByRecursion IsWrittenLabel written → AreShort written → Reads text before false (dotted written ++ rest) → Reads text (before ++ kept written) false rest
 dots_read [] text before rest each short reads = rw (append-nil before) reads
 dots_read (label ∷ written) text before rest each short reads =
-    let tail = dotted written ++ rest in
-    let shape = append_assoc (written_text label ++ 46 ∷ []) (dotted written) rest ∙ append_assoc (written_text label) (46 ∷ []) tail in
-    rw (append_assoc before (written_octets label ∷ []) (kept written)) at (dots_read written text (before ++ written_octets label ∷ []) rest each.1 short.1 (dot_reads text before label tail each.0 short.0 (rw shape at reads)))
+    grind (arith, common_steps, append_assoc, dots_read written text (before ++ written_octets label ∷ []) rest, dot_reads)
 
 -- labels parted by dots are read
 parted_reads : (written : List (List Written)) (text : List ℕ) (before : List (List ℕ)) (label : List Written) → AllByRecursion IsWrittenLabel (label ∷ written) → AreShort (label ∷ written) → Reads text before false (parted (label ∷ written)) → reading text ≡ Ok (before ++ kept (label ∷ written), false)

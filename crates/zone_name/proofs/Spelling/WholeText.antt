@@ -2,7 +2,7 @@
 -- themselves.
 use Rattle.std.proofs.lemmas.List.Folds.{list_all-append}
 use Rattle.std.proofs.lemmas.List.Sums.{count_by-le-length, sum_by-append, sum_by-cons}
-use Rattle.zone_name.proofs.Common.{common_steps, AllByRecursion, BeginsWithName, Bool, HoldsName, IsLabel, List, [], and_parts, ap, append-nil, append_assoc, arith, cases_Bool, cond, count_by, drop, drop_at, false, flat_map, flat_map-append, get_or, is_bare, is_dot, label_text, labels_of, length, length-append, length-take, list_all, name_text, octet_text, put_chunk_is, refl, set, set_at, subst, sym, take, take-add, take-append-drop, take_at, true, wire, with_length, ℕ, ◌++◌, ◌+◌, ◌-◌, ◌<◌, ◌∙◌, ◌∷◌, ◌≡◌, ◌≤◌}
+use Rattle.zone_name.proofs.Common.{common_steps, AllByRecursion, BeginsWithName, Bool, HoldsName, IsLabel, List, [], and_parts, ap, append-nil, append_assoc, arith, cases_Bool, cond, count_by, drop, drop_at, false, flat_map, flat_map-append, get_or, is_bare, is_dot, label_text, labels_of, length, length-append, length-take, list_all, name_text, octet_text, put_chunk_is, refl, set, set_at, sym, take, take-add, take-append-drop, take_at, true, wire, with_length, ℕ, ◌++◌, ◌+◌, ◌-◌, ◌<◌, ◌∙◌, ◌∷◌, ◌≡◌, ◌≤◌}
 use Rattle.std.proofs.lemmas.List.{get_or_at}
 use lib.Lanes.{put_chunk}
 use Rattle.zone_name.proofs.InOctets.Octets.{BeginsWithName-wire_append, labels_of-wire_append}
@@ -25,17 +25,8 @@ abbrev pub Dotted : List ℕ → List ℕ → ℕ → ℕ → Type 0
 Dotted old now at labels = (done : List (List ℕ)) × (left : List (List ℕ)) × Walk old now at labels done left
 
 pub dotted_start : (old : List ℕ) → BeginsWithName old → Dotted old old 0 0
-dotted_start old begins = (
-  [],
-  labels_of old,
-  record {
-    whole = refl;
-    each = begins.name.each;
-    parts = cc (begins.front, take-append-drop (length (wire (labels_of old))) old);
-    place = refl;
-    count = refl;
-  },
-)
+dotted_start old begins =
+    grind (arith, common_steps, take-append-drop)
 
 pub dotted_more : (old now next : List ℕ) (at labels : ℕ) (done left : List (List ℕ)) → Walk old now at labels done left → (get_or now at 0 ≡ 0 → ⊥)
     → next ≡ set now at 46 → Dotted old next (at + (get_or now at 0 + 1)) (labels + 1)
@@ -67,10 +58,7 @@ pub dotted_end : (old now next : List ℕ) (at labels : ℕ) (done left : List (
 dotted_end old now next at labels done [] w root is =
     (cc (set_at (after_dots done) 0 (drop (length (wire (labels_of old))) old) 46 at w.place, append-nil done), cc (append-nil done, w.count))
 dotted_end old now next at labels done (label ∷ left) w root is =
-    let more = label ++ (wire left ++ drop (length (wire (labels_of old))) old) in
-    let first = get_or_at (after_dots done) (length label) more 0 at w.place in
-    let none : length label ≡ 0 = cc (append_assoc label (flat_map with_length left) (0 ∷ []), append_assoc label (wire left) (drop (length (wire (labels_of old))) old)) in
-    absurd (omega (arith, w.each.0.some, none))
+    grind (arith, common_steps, get_or_at, append_assoc)
 
 -- ---- how many dots there are
 
@@ -117,16 +105,7 @@ bare_text : (labels : List (List ℕ)) → list_all is_bare (after_dots labels) 
     → after_dots labels ++ 46 ∷ [] ≡ 46 ∷ flat_map label_text labels
 bare_text [] bare few = refl
 bare_text (label ∷ labels) bare few =
-    let both = and_parts (list_all is_bare label) (list_all is_bare (after_dots labels)) (sym (list_all-append is_bare label (after_dots labels)) ∙ bare) in
-    let count = dots_count label labels in
-    let none : count_by is_dot label ≡ 0 = omega (arith, few, count, enough_dots labels) in
-    let rest = bare_text labels both.1 (omega (arith, few, count)) in
-    let text = bare_label label both.0 none in
-    ap (λ t. 46 ∷ t) (
-    append_assoc label (after_dots labels) (46 ∷ []) ∙ ap (λ t. label ++ t) rest
-    ∙ sym (append_assoc label (46 ∷ []) (flat_map label_text labels))
-    ∙ ap (λ t. (t ++ 46 ∷ []) ++ flat_map label_text labels) (sym text)
-    )
+    grind (arith, common_steps, list_all-append, and_parts, dots_count, enough_dots labels, bare_label, append_assoc, bare_text labels)
 
 -- ---- a name at the beginning of more octets
 
@@ -134,13 +113,9 @@ bare_text (label ∷ labels) bare few =
 pub put_front : (old name room : List ℕ) → length name ≤ length old → room ≡ put_chunk 0 old name → room ≡ name ++ drop (length name) room
 put_front old name room fits e = grind (arith, common_steps, put_chunk_is, drop_at)
 
-begins_labels : (name old : List ℕ) → HoldsName name → old ≡ name ++ drop (length name) old → labels_of old ≡ labels_of name
-begins_labels name old holds is = grind (arith, common_steps, labels_of-wire_append)
-
 pub begins_with : (name old : List ℕ) → HoldsName name → old ≡ name ++ drop (length name) old → BeginsWithName old
 begins_with name old holds is =
-    subst BeginsWithName (sym (is ∙ ap (λ t. t ++ drop (length name) old) (sym holds.whole)))
-    (BeginsWithName-wire_append (labels_of name) (drop (length name) old) holds.name)
+    grind (arith, common_steps, BeginsWithName-wire_append)
 
 dots_length : (labels : List (List ℕ)) → length (after_dots labels) ≡ length (flat_map with_length labels)
 dots_length [] = refl
@@ -155,13 +130,7 @@ some_labels (label ∷ labels) some = refl
 front_seen : (front rest : List ℕ) (seen dots : ℕ) → length front ≤ seen → list_all is_bare (take seen (front ++ rest)) ≡ true
     → dots ≡ count_by is_dot (take seen (front ++ rest)) → (list_all is_bare front ≡ true) × (count_by is_dot front ≤ dots)
 front_seen front rest seen dots enough bare count =
-    let more = take (seen - length front) rest in
-    let e : seen ≡ length front + (seen - length front) = omega arith in
-    let parts : take seen (front ++ rest) ≡ front ++ more =
-    cc (take-add (length front) (seen - length front) (front ++ rest), take_at front rest (length front) refl, drop_at front rest (length front) refl) in (
-      (and_parts (list_all is_bare front) (list_all is_bare more) (sym (list_all-append is_bare front more) ∙ ap (list_all is_bare) (sym parts) ∙ bare)).0,
-      omega (arith, count, ap (count_by is_dot) parts, count_append is_dot front more),
-    )
+    grind (arith, common_steps, take-add (length front) (seen - length front) (front ++ rest), take_at, drop_at, list_all-append, and_parts, count_append)
 
 -- the dots that were counted in the text and some octets after it are those of the labels alone
 text_whole : (labels : List (List ℕ)) (rest : List ℕ) (seen dots : ℕ) → 1 < length (wire labels) → length (wire labels) ≤ seen
@@ -173,16 +142,11 @@ text_whole labels rest seen dots some enough bare count same =
     let parts : after_dots labels ++ 46 ∷ rest ≡ front ++ rest = sym (append_assoc (after_dots labels) (46 ∷ []) rest) in
     let size : length front ≡ length (wire labels) =
     omega (arith, dots_length labels, length-append (after_dots labels) (46 ∷ []), length-append (flat_map with_length labels) (0 ∷ [])) in
-    let saw = front_seen front rest seen dots (omega (arith, size, enough)) (rw parts at bare) (rw parts at count) in
-    let every = and_parts (list_all is_bare (after_dots labels)) (list_all is_bare (46 ∷ [])) (sym (list_all-append is_bare (after_dots labels) (46 ∷ [])) ∙ saw.0) in
-    let few : count_by is_dot (after_dots labels) ≤ length labels =
-    omega (arith, same, saw.1, count_append is_dot (after_dots labels) (46 ∷ [])) in
-    ap (take (length (wire labels))) parts ∙ take_at front rest (length (wire labels)) size
-    ∙ bare_text labels every.0 few ∙ ap (λ t. 46 ∷ t) (some_labels labels some)
+    grind (arith, common_steps, front_seen front rest seen dots, list_all-append, and_parts, count_append, take_at, bare_text, some_labels)
 
 pub spelled_whole : (name old new : List ℕ) (labels seen dots : ℕ) → HoldsName name → 1 < length name
     → old ≡ name ++ drop (length name) old → IsDotted old new labels → length name ≤ seen
     → list_all is_bare (take seen new) ≡ true → dots ≡ count_by is_dot (take seen new) → dots ≡ labels + 1
     → take (length name) new ≡ 46 ∷ name_text (labels_of name)
 spelled_whole name old new labels seen dots holds some begins dotted enough bare count same =
-    grind (arith, common_steps, begins_labels, text_whole, is_bare, count_by, is_dot)
+    grind (arith, common_steps, labels_of-wire_append, text_whole, is_bare, count_by, is_dot)
