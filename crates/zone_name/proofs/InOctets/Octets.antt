@@ -91,8 +91,7 @@ next_in (label ∷ labels) rest n more name positive is = grind (arith, append_a
 -- octets that begin with a name are some
 pub some_left : (left : List ℕ) → BeginsWithName left → 0 < length left
 unfolding labels_of
-some_left [] begins = absurd (omega (arith, ap length begins.front))
-some_left (n ∷ more) begins = omega arith
+some_left left begins = grind (arith, common_steps)
 
 pub next_label : (octets : List ℕ) (n : ℕ) (more : List ℕ) → octets ≡ n ∷ more → BeginsWithName octets → 0 < n → NextLabel n more (labels_of octets)
 next_label octets n more is begins positive = next_in (labels_of octets) (drop (length (wire (labels_of octets))) octets) n more begins.name positive (sym (rw begins.front at (take-append-drop (length (wire (labels_of octets))) octets) ∙ is))
@@ -143,9 +142,7 @@ labels_by-enough (suc m) (suc n) (suc c ∷ octets) enough also =
 -- the first label, and those that follow it, of any octets
 pub labels_of-cons : (len : ℕ) (after : List ℕ) → 0 < len → labels_of (len ∷ after) ≡ take len after ∷ labels_of (drop len after)
 unfolding labels_of
-labels_of-cons zero after some = absurd (omega (arith, some))
-labels_of-cons (suc k) after some =
-    grind (arith, common_steps, length-drop, labels_by-enough)
+labels_of-cons len after some = grind (arith, common_steps, length-drop, labels_by-enough)
 
 pub ruleset names_in_front = (labels_of-wire_append, BeginsWithName-wire_append)
 

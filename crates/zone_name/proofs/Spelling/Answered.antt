@@ -87,8 +87,7 @@ answered-only Folded origin text form name has spells = writes_answered Folded o
 
 -- an origin that is a name is the answer of an `@`
 pub answered-origin : (letters : Letters) (origin : Option (List (List ℕ))) (text : List ℕ) (above : List (List ℕ)) → origin ≡ Some above → IfSome origin (IsNameBy letters) → answered letters origin text Origin ≡ Ok above
-answered-origin letters None text above is known = absurd (cc)
-answered-origin letters (Some origin) text above is known = cc (sized_by letters origin known)
+answered-origin letters origin text above is known = grind (arith, common_steps, sized_by)
 
 -- a dot alone has no fault
 faultless_dot : (text : List ℕ) (fault : NameFault) → text ≡ codes "." → FaultAt text fault → reading text ≡ Err fault → ⊥
@@ -139,8 +138,7 @@ pub labels-says_ok : (text : List ℕ) (labels : List (List ℕ)) (is_absolute :
 labels-says_ok text labels is_absolute octets says = grind (arith, dotted_are, parted_are)
 
 lettered_each : (letters : Letters) (labels : List (List ℕ)) → AllByRecursion IsCasedLabel labels → AllByRecursion (IsLabelBy letters) (lettered letters labels)
-lettered_each Kept labels each = each
-lettered_each Folded labels each = folded_labels labels each
+lettered_each letters labels each = grind (arith, common_steps, folded_labels)
 
 name_by : (letters : Letters) (labels : List (List ℕ)) → AllByRecursion (IsLabelBy letters) labels → length (wire labels) ≤ 255 → IsNameBy letters labels
 name_by Kept labels each short = record { each = each; short = short }

@@ -75,13 +75,11 @@ root_holds Kept octets e = root_held_cased octets e
 
 -- labels take as many octets with letters folded
 pub lettered_size : (letters : Letters) (labels : List (List ℕ)) → length (wire (lettered letters labels)) ≡ length (wire labels)
-lettered_size Folded labels = folded_size labels
-lettered_size Kept labels = refl
+lettered_size letters labels = grind (arith, common_steps, folded_size)
 
 -- labels that are held, or are too long, as their letters are folded
 lettered_collects : (letters : Letters) (held labels : List (List ℕ)) (is_too_long : Bool) → Collects held is_too_long labels → Collects (lettered letters held) is_too_long (lettered letters labels)
-lettered_collects letters held labels true over = rw (lettered_size letters labels) over
-lettered_collects letters held labels false same = ap (lettered letters) same
+lettered_collects letters held labels is_too_long over = grind (arith, common_steps, lettered_size)
 
 pub read_lettered : (letters : Letters) (text octets new : List ℕ) (spelled : Spelled) → labels_of new ≡ lettered letters (labels_of octets) → IsReadInto text octets spelled → IsReadBy letters text new spelled
 read_lettered letters text octets new spelled gives read =
@@ -143,5 +141,4 @@ held_short Kept octets holds = rw holds.whole at holds.name.short
 held_short Folded octets holds = rw holds.whole at holds.name.short
 
 pub held_origin : (letters : Letters) (origin : Option (List ℕ)) → IfSome origin (HoldsNameBy letters) → IfSome (origin_in origin) (IsNameBy letters)
-held_origin letters None known = tt
-held_origin letters (Some above) known = held_name letters above known
+held_origin letters origin known = grind (arith, common_steps, held_name)

@@ -123,8 +123,7 @@ dots_length (label ∷ labels) =
     omega (arith, length-append label (after_dots labels), length-append label (flat_map with_length labels), dots_length labels)
 
 some_labels : (labels : List (List ℕ)) → 1 < length (wire labels) → flat_map label_text labels ≡ name_text labels
-some_labels [] some = absurd (omega (arith, some))
-some_labels (label ∷ labels) some = refl
+some_labels labels some = grind (arith, common_steps)
 
 -- what is seen of octets is seen of those in front
 front_seen : (front rest : List ℕ) (seen dots : ℕ) → length front ≤ seen → list_all is_bare (take seen (front ++ rest)) ≡ true
