@@ -10,8 +10,8 @@ use Rattle.zone_name.specs.Spelling.{named}
 use Rattle.zone_name.proofs.InOctets.Octets.{AllByRecursion-weaker}
 use Rattle.zone_name.proofs.Spelling.Spelled.{AreShort, Says, reading-says}
 use Rattle.zone_name.proofs.Spelling.Only.{reading-dotted, reading-parted, reading-fault}
-use Rattle.zone_name.proofs.Spelling.Letters.{IsLabelBy, IsNameBy, held_origin, joined_size, lettered_size, sized_by, taken_by}
-use Rattle.zone_name.proofs.InOctets.Pushing.{AllByRecursion-from_places, AllByRecursion-append, AllByRecursion-front, AllByRecursion-back, folded_labels, sized-long}
+use Rattle.zone_name.proofs.Spelling.Letters.{held_origin, joined_size, lettered_size, sized_by, taken_by}
+use Rattle.zone_name.proofs.InOctets.Pushing.{IsLabelBy, IsNameBy, AllByRecursion-from_places, AllByRecursion-append, AllByRecursion-front, AllByRecursion-back, folded_labels, sized-long}
 
 -- labels of at most 63 octets
 abbrev pub ShortLabels : List (List ℕ) → Type 0
