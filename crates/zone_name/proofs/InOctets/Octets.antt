@@ -124,8 +124,8 @@ length-frames_twice [] each = omega arith
 length-frames_twice (label ∷ labels) each = omega (arith, each.0.some, length-append label (flat_map with_length labels), length-frames_twice labels each.1)
 
 -- a name has at most 127 labels
-pub length-labels : (labels : List (List ℕ)) → IsName labels → length labels ≤ 127
-length-labels labels name = grind (arith, length-frames_twice, length-append)
+pub few_labels : (labels : List (List ℕ)) → IsName labels → length labels ≤ 127
+few_labels labels name = grind (arith, length-frames_twice, length-append)
 
 -- fuel for as many octets as there are is enough
 labels_by-enough : (m n : ℕ) (octets : List ℕ) → length octets ≤ m → length octets ≤ n → labels_by m octets ≡ labels_by n octets

@@ -29,8 +29,8 @@ name_joined : (letters : Letters) (octets others : List ℕ) → HoldsLabelsBy l
 name_joined Kept octets others holds name room = grind (arith, common_steps)
 name_joined Folded octets others holds name room = grind (arith, common_steps)
 
-pub joined-long : (octets others : List ℕ) → 255 < length octets + length others → (letters : Letters) → HoldsLabelsBy letters octets → HoldsNameBy letters others → sized (labels_of octets ++ labels_of others) ≡ Err NameTooLong
-joined-long octets others over letters holds name = sized-long (labels_of octets ++ labels_of others) (omega (arith, over, length-append octets others, ap length (wire_joined letters octets others holds name)))
+pub joined_long : (octets others : List ℕ) → 255 < length octets + length others → (letters : Letters) → HoldsLabelsBy letters octets → HoldsNameBy letters others → sized (labels_of octets ++ labels_of others) ≡ Err NameTooLong
+joined_long octets others over letters holds name = sized-long (labels_of octets ++ labels_of others) (omega (arith, over, length-append octets others, ap length (wire_joined letters octets others holds name)))
 
 pub held_name : (letters : Letters) (octets : List ℕ) → HoldsNameBy letters octets → IsNameBy letters (labels_of octets)
 held_name Kept octets holds = holds.name
@@ -127,3 +127,5 @@ held_short Folded octets holds = rw holds.whole at holds.name.short
 
 pub held_origin : (letters : Letters) (origin : Option (List ℕ)) → IfSome origin (HoldsNameBy letters) → IfSome (origin_in origin) (IsNameBy letters)
 held_origin letters origin known = grind (arith, common_steps, held_name)
+
+pub ruleset name_ends = (absolute_long, relative_long, finished, unfinished, ends_above)

@@ -1,12 +1,9 @@
 use Rattle.zone_name.proofs.Common.{Err, Ok, Origin, RelativeName, Root, ap, labels_of, on_err_weaker, option_copied, origin_in, sym}
 use Rattle.zone_name.specs.declared.reading.NameShape.TheVariants.{Labels}
 use Rattle.zone_name.proofs.Spelling.Answered.{answered, answered-origin, tells}
-use Rattle.zone_name.proofs.Spelling.Letters.{held_origin, held_short, root_holds}
+use Rattle.zone_name.proofs.Spelling.Letters.{held_origin, root_holds}
 use Rattle.zone_name.proofs.InOctets.Octets.{root_has_none}
 use Rattle.zone_name.proofs.reading.read_name.Goals as goal
-
-pub hold-requires-in-Some : goal.hold-requires-in-Some
-hold-requires-in-Some c = held_short c.args.letters c.in-Some.above.now (rw c.in-Some.is at c.requires)
 
 pub returns-in-Root : goal.returns-in-Root
 returns-in-Root c =

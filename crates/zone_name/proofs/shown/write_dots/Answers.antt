@@ -1,15 +1,12 @@
 use Rattle.zone_name.proofs.Common.{ap, arith, labels_of, length, length-append, refl}
-use Rattle.zone_name.proofs.InOctets.Octets.{length-labels}
-use Rattle.zone_name.proofs.Spelling.WholeText.{dotted_end, dotted_more, dotted_start}
+use Rattle.zone_name.proofs.InOctets.Octets.{few_labels}
+use Rattle.zone_name.proofs.Spelling.WholeText.{dotted_end, dotted_more}
 use Rattle.zone_name.proofs.shown.write_dots.Goals as goal
-
-pub loop-octets-init : goal.loop-octets-init
-loop-octets-init c = dotted_start c.args.octets.now c.requires
 
 pub overflow_add-labels : goal.overflow_add-labels
 overflow_add-labels c =
     let inv = c.loop-octets.invariant in
-    omega (arith, ap length inv.2.whole, length-append inv.0 inv.1, inv.2.count, length-labels (labels_of c.args.octets.now) c.requires.name)
+    omega (arith, ap length inv.2.whole, length-append inv.0 inv.1, inv.2.count, few_labels (labels_of c.args.octets.now) c.requires.name)
 
 pub loop-octets-preserved : goal.loop-octets-preserved
 loop-octets-preserved c =
