@@ -3,7 +3,7 @@
 use Rattle.zone_name.proofs.Common.{common_steps, AllByRecursion, AreOctets, AreWrittenLabels, Bool, EmptyLabel, Err, FaultAt, Folded, HasShape, HoldsNameBy, IfErr, IfOk, IfSome, IsCasedLabel, IsCasedName, IsLabel, IsRelative, IsUnit, IsWrittenLabel, Kept, Labels, Letters, List, NameFault, NameTooLong, None, Ok, Option, Origin, RelativeName, Result, Root, Some, SpellingFault, SpellsBy, SpellsCased, WritesBy, Written, [], absolute, arith, at_origin, bytes_decides, cases_lt, codes, dotted, false, false≢true, get_or, inl, inr, is_dot, kept, length, length-map, lettered, lettered_in, long_name, name_read, nat_eq, origin_in, parted, plain, pointwise, refl, relative, root, sized, subst, sym, text_of, true, under_origin, unfounded, w8, wire, within, written_octets, written_text, ℕ, ◌++◌, ◌<◌, ◌∙◌, ◌∷◌, ◌≡◌, ◌≢◌, ◌≤◌, ◌⊎◌}
 use Rattle.zone_name.specs.declared.reading.NameShape.{NameShape}
 use Rattle.zone_name.specs.Machine.LabelWalk.{reading}
-use Rattle.std.proofs.Common.{Fits}
+use Rattle.std.proofs.Common.{Fits, append-nil, append_assoc}
 use Rattle.std.specs.Prelude.{IsOk, OnOk}
 use Rattle.zone_name.specs.Common.{IsVerdict}
 use Rattle.zone_name.specs.Spelling.{named}
@@ -123,12 +123,14 @@ dotted_are [] is short each = tt
 dotted_are (label ∷ written) is short each =
     grind (arith, common_steps, AllByRecursion-front, AllByRecursion-back, label_is, dotted_are written)
 
+pub parted-dotted : (label : List Written) (labels : List (List Written))
+    → parted (label ∷ labels) ++ 46 ∷ [] ≡ dotted (label ∷ labels)
+parted-dotted label [] = sym (append-nil (written_text label ++ 46 ∷ []))
+parted-dotted label (next ∷ labels) = grind (arith, append_assoc, parted-dotted next labels)
+
 parted_are : (written : List (List Written)) → AllByRecursion IsWrittenLabel written → AreShort written → AreOctets (parted written) → AllByRecursion IsCasedLabel (kept written)
 parted_are [] is short each = tt
-parted_are (label ∷ []) is short each = (label_is label is.0 short.0 each, tt)
-parted_are (label ∷ next ∷ written) is short each =
-    let rest = AllByRecursion-back (λ c. c < 256) (written_text label) (46 ∷ parted (next ∷ written)) each in
-    (label_is label is.0 short.0 (AllByRecursion-front (λ c. c < 256) (written_text label) (46 ∷ parted (next ∷ written)) each), parted_are (next ∷ written) is.1 short.1 rest.1)
+parted_are (label ∷ written) is short each = dotted_are (label ∷ written) is short (rw (parted-dotted label written) at (AllByRecursion-append (λ c. c < 256) (parted (label ∷ written)) (46 ∷ []) each (omega arith, tt)))
 
 -- what is said of the labels that are read
 pub reading-says_ok : (text : List ℕ) (labels : List (List ℕ)) (is_absolute : Bool) → Says text (Ok (labels, is_absolute)) → reading text ≡ Ok (labels, is_absolute)

@@ -6,7 +6,7 @@ use Rattle.zone_name.proofs.InOctets.Octets.{labels_of-open_cased}
 use Rattle.zone_name.proofs.InOctets.Pushing.{AllByRecursion-append, HoldsCasedLabels-frames, frames_push}
 use Rattle.zone_name.proofs.Spelling.Marks.{ArePlainFrom, tells_set}
 use Rattle.zone_name.proofs.Spelling.Spelled.{AreShort, Says, finds}
-use Rattle.zone_name.proofs.Spelling.Answered.{reading-says_ok, labels-says_ok}
+use Rattle.zone_name.proofs.Spelling.Answered.{parted-dotted, reading-says_ok, labels-says_ok}
 use Rattle.zone_name.proofs.Texts.Bare.{plain_text}
 
 -- ---- one label more
@@ -91,11 +91,6 @@ dots-parted : (label : List Written) (labels : List (List Written))
     → after_dots (label ∷ labels) ≡ 46 ∷ parted (label ∷ labels)
 dots-parted label [] = append-nil (46 ∷ written_text label)
 dots-parted label (next ∷ labels) = cc (dots-parted next labels)
-
-parted-dotted : (label : List Written) (labels : List (List Written))
-    → parted (label ∷ labels) ++ 46 ∷ [] ≡ dotted (label ∷ labels)
-parted-dotted label [] = sym (append-nil (written_text label ++ 46 ∷ []))
-parted-dotted label (next ∷ labels) = grind (arith, append_assoc, parted-dotted next labels)
 
 -- a text, and what of it stands before a dot at its end
 abbrev pub IsCut : List ℕ → List ℕ → Bool → Type 0
