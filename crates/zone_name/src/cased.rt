@@ -99,6 +99,7 @@ impl CasedName {
     }
 
     /// The name with its letters in lower case (RFC 4343 3).
+    #[tactic(auto, using(crate::proofs::Spelling::Folding::folded_name))]
     pub fn folded(&self) -> Name
         ensures { result ≡ folded self.now }
     {

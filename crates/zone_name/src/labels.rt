@@ -29,6 +29,7 @@ impl<'a> Iterator for Labels<'a> {
 
     ghost remaining = { item_count (λ l. l) };
 
+    #[tactic(auto, using(crate::proofs::InOctets::Octets::root_label))]
     fn next(&mut self) -> Option<&'a [u8]> {
         let (len, after) = self.octets.split_first()?;
         if *len == 0 {
@@ -44,6 +45,7 @@ impl<'a> FusedIterator for Labels<'a> {}
 
 impl<'a> Labels<'a> {
     /// How many labels are left, at most 127.
+    #[tactic(auto, using(crate::proofs::InOctets::Octets::few_labels))]
     pub(crate) fn len(&self) -> usize
         ensures value { result ≡ length self.now }
         ensures short { result ≤ 127 }

@@ -52,6 +52,7 @@ pub fn texts_have_one_verdict()
 
 /// With its letters kept, a text of octets spells a name under an origin or has a first fault,
 /// never both, and one of each at most.
+#[tactic(auto, using(crate::proofs::Spelling::Answered::one_verdict_cased))]
 pub fn cased_texts_have_one_verdict()
     ensures { (origin : Option Labels) (text : Octets) → IfSome origin IsCasedName
         → AreOctets text

@@ -155,6 +155,7 @@ fn push_label<S: Sink>(label: &[u8], out: &mut S) -> Result<(), S::Error>
 }
 
 /// Appends the spelling of a label's octets.
+#[tactic(auto, using(crate::proofs::Texts::Lengths::flat_map_shown))]
 fn push_octets<S: Sink>(label: &[u8], out: &mut S) -> Result<(), S::Error>
     ensures ok { OnOk result (S.takes out.old (flat_map octet_text label.now) out.new) }
     ensures err { OnErr result (TakesSome S.takes out.old out.new) }

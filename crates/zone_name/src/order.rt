@@ -85,6 +85,7 @@ impl<'a> Ord for NameRef<'a> {
 
     ghost matches_eq = { λ x y. lists_ties (slice_cmp nat_cmp) texts_ties (reverse x) (reverse y) };
 
+    #[tactic(auto, using(crate::proofs::InOctets::Comparing::name_cmp_same))]
     fn cmp(&self, other: &NameRef<'a>) -> Ordering {
         if self == other {
             return Ordering::Equal;

@@ -100,6 +100,7 @@ fn label_end(octets: &[u8], start: usize, marks: Marks) -> (usize, Marks)
 /// Writes the length of each label over the dot before it, where labels with their dots take the
 /// first `len` octets, and tells whether each label has 1 to 63 octets and all are plain. If not,
 /// the octets say nothing.
+#[tactic(auto, using(crate::proofs::Spelling::Plain::lengths_written))]
 fn write_lengths(octets: &mut [u8], len: usize) -> bool
     requires { len ≤ length octets.old }
     ensures { IsTrue result → WritesLengths octets.old octets.new (drop len octets.new) }
@@ -123,6 +124,7 @@ fn write_lengths(octets: &mut [u8], len: usize) -> bool
 }
 
 /// Puts the letters of the first `len` octets in lower case (RFC 4343 3), 16 octets at a time.
+#[tactic(auto, using(crate::proofs::InOctets::OctetLanes::mapped_front))]
 fn fold_front(octets: &mut [u8], len: usize)
     requires { len + LANES ≤ length octets.old }
     ensures { take len octets.new ≡ map folded_octet (take len octets.old) }
@@ -252,6 +254,7 @@ struct ReadLabel<'t> {
 }
 
 /// Puts the label that a text begins with in place, octet by octet.
+#[tactic(auto, using(crate::proofs::Spelling::Steps::label_refused))]
 // Not inlined: only a text with an escape or a fault needs room for a label of its own.
 #[inline(never)]
 fn read_label<'t>(
@@ -306,6 +309,7 @@ fn open_label<'t>(
 
 /// Puts the labels of a text that is neither `.` nor `@` in place, their letters as they are (RFC
 /// 1035 5.1).
+#[tactic(auto, using(crate::proofs::Spelling::Steps::labels_read))]
 fn read_labels(octets: &mut ArrayVec<u8, MAX_NAME_LEN>, text: &[u8]) -> Result<Spelled, NameFault>
     requires { octets.old.items ≡ [] }
     ensures holds { HoldsCasedLabels octets.new.items }
@@ -358,6 +362,7 @@ fn set_letters(octets: &mut ArrayVec<u8, MAX_NAME_LEN>, letters: Letters)
 }
 
 /// Appends the octets of a name to those of labels, the letters of both folded or kept.
+#[tactic(auto, using(crate::proofs::Spelling::Letters::joined_long))]
 fn end_with(octets: &mut ArrayVec<u8, MAX_NAME_LEN>, ending: &[u8]) -> Result<(), NameFault>
     ensures ok { IfOk result (λ _. (letters : Letters) → HoldsLabelsBy letters octets.old.items
         → HoldsNameBy letters ending.now → HoldsNameBy letters octets.new.items
@@ -374,6 +379,7 @@ fn end_with(octets: &mut ArrayVec<u8, MAX_NAME_LEN>, ending: &[u8]) -> Result<()
 
 /// Ends the name of the labels, followed by the origin's where the text is relative, the letters of
 /// both folded or kept.
+#[tactic(auto, using(crate::proofs::Spelling::Letters::name_ends))]
 fn finish(
     octets: &mut ArrayVec<u8, MAX_NAME_LEN>,
     spelled: Spelled,
@@ -489,6 +495,7 @@ pub(crate) fn hold(octets: &mut ArrayVec<u8, MAX_NAME_LEN>, name: &[u8])
 
 /// Puts the octets of the name that a text spells under an origin in place of those that are held
 /// (RFC 1035 5.1). On an error they are the root's.
+#[tactic(auto, using(crate::proofs::Spelling::Letters::held_short))]
 pub(crate) fn read_name(
     octets: &mut ArrayVec<u8, MAX_NAME_LEN>,
     text: &[u8],

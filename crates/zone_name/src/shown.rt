@@ -29,6 +29,7 @@ pub(crate) fn spell_shown(room: &mut [u8], name: &[u8]) -> bool
 
 /// Writes a dot over the length of each label of the name that the octets begin with and over its
 /// root, and returns how many labels it has.
+#[tactic(auto, using(crate::proofs::Spelling::WholeText::dotted_start))]
 fn write_dots(octets: &mut [u8]) -> usize
     requires { BeginsWithName octets.old }
     ensures dots { octets.new ≡ flat_map (λ label. 46 ∷ label) (labels_of octets.old)

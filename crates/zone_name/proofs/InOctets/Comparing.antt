@@ -16,8 +16,8 @@ pub eq_from_octets : (a b : List (List ℕ)) (octets others : List ℕ) (answer 
 eq_from_octets a b octets others answer e left right back_a back_b = search (rules, labels_decide)
 
 -- equal names compare so
-pub name_cmp-same : (a b : List (List ℕ)) (answer : Bool) → answer ≡ pointwise (pointwise nat_eq) (reverse a) (reverse b) → answer ≡ true → Equal ≡ name_cmp a b
-name_cmp-same a b answer is same = grind (arith, labels_decide, tied_itself, on_total, ℕ, lists_total, nat_list_cmp_total)
+pub name_cmp_same : (a b : List (List ℕ)) (answer : Bool) → answer ≡ pointwise (pointwise nat_eq) (reverse a) (reverse b) → answer ≡ true → Equal ≡ name_cmp a b
+name_cmp_same a b answer is same = grind (arith, labels_decide, tied_itself, on_total, ℕ, lists_total, nat_list_cmp_total)
 
 -- the first that decides, of three
 pub then_assoc : (a b c : Ordering) → ordering_then (ordering_then a b) c ≡ ordering_then a (ordering_then b c)

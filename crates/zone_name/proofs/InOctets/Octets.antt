@@ -1,5 +1,5 @@
 -- The octets of names: what `labels_of` finds in what `wire` writes.
-use Rattle.zone_name.proofs.Common.{◌≡◌, ℕ, zero, suc, ◌+◌, ◌-◌, ◌<◌, ◌≤◌, List, [], ◌∷◌, ◌++◌, length, take, drop, refl, sym, ap, ◌∙◌, subst, arith, append_assoc, length-append, flat_map, AllByRecursion, take_at, drop_at, append-nil, take-append-drop, IsCasedLabel, IsCasedName, IsLabel, IsName, with_length, wire, labels_by, BeginsWithName, HoldsCasedName, HoldsName}
+use Rattle.zone_name.proofs.Common.{common_steps, ◌≡◌, ℕ, zero, suc, ◌+◌, ◌-◌, ◌<◌, ◌≤◌, List, [], ◌∷◌, ◌++◌, length, take, drop, refl, sym, ap, ◌∙◌, subst, arith, append_assoc, length-append, flat_map, AllByRecursion, take_at, drop_at, append-nil, take-append-drop, IsCasedLabel, IsCasedName, IsLabel, IsName, with_length, wire, labels_by, BeginsWithName, HoldsCasedName, HoldsName}
 use Rattle.std.proofs.lemmas.List.{length-drop}
 use Rattle.zone_name.specs.Name.{labels_of}
 
@@ -28,9 +28,7 @@ labels_by-frames [] rest m n fuel each = let e : m ≡ n = omega arith in ap (λ
 labels_by-frames ([] ∷ labels) rest m n fuel each = absurd (omega (arith, each.0))
 labels_by-frames ((c ∷ label) ∷ labels) rest zero n fuel each = absurd (omega arith)
 labels_by-frames ((c ∷ label) ∷ labels) rest (suc m) n fuel each =
-    let more = flat_map with_length labels ++ rest in
-    let left : m ≡ length labels + n = omega arith in
-    cc (labels_by-cut (length label) m (c ∷ label ++ flat_map with_length labels ++ rest) (c ∷ label) more (ap (λ t. c ∷ t) (append_assoc label (flat_map with_length labels) rest)) refl, labels_by-frames labels rest m n left each.1)
+    grind (arith, common_steps, labels_by-cut, append_assoc, labels_by-frames labels rest m n)
 
 -- frames are no fewer octets than labels
 pub length-frames : (labels : List (List ℕ)) → length labels ≤ length (flat_map with_length labels)
@@ -93,8 +91,7 @@ next_in (label ∷ labels) rest n more name positive is = grind (arith, append_a
 -- octets that begin with a name are some
 pub some_left : (left : List ℕ) → BeginsWithName left → 0 < length left
 unfolding labels_of
-some_left [] begins = absurd (omega (arith, ap length begins.front))
-some_left (n ∷ more) begins = omega arith
+some_left left begins = grind (arith, common_steps)
 
 pub next_label : (octets : List ℕ) (n : ℕ) (more : List ℕ) → octets ≡ n ∷ more → BeginsWithName octets → 0 < n → NextLabel n more (labels_of octets)
 next_label octets n more is begins positive = next_in (labels_of octets) (drop (length (wire (labels_of octets))) octets) n more begins.name positive (sym (rw begins.front at (take-append-drop (length (wire (labels_of octets))) octets) ∙ is))
@@ -127,8 +124,8 @@ length-frames_twice [] each = omega arith
 length-frames_twice (label ∷ labels) each = omega (arith, each.0.some, length-append label (flat_map with_length labels), length-frames_twice labels each.1)
 
 -- a name has at most 127 labels
-pub length-labels : (labels : List (List ℕ)) → IsName labels → length labels ≤ 127
-length-labels labels name = grind (arith, length-frames_twice, length-append)
+pub few_labels : (labels : List (List ℕ)) → IsName labels → length labels ≤ 127
+few_labels labels name = grind (arith, length-frames_twice, length-append)
 
 -- fuel for as many octets as there are is enough
 labels_by-enough : (m n : ℕ) (octets : List ℕ) → length octets ≤ m → length octets ≤ n → labels_by m octets ≡ labels_by n octets
@@ -140,16 +137,12 @@ labels_by-enough (suc m) zero (c ∷ octets) enough also = absurd (omega (arith,
 labels_by-enough (suc m) (suc n) [] enough also = refl
 labels_by-enough (suc m) (suc n) (zero ∷ octets) enough also = refl
 labels_by-enough (suc m) (suc n) (suc c ∷ octets) enough also =
-    let left = length-drop (suc c) octets in
-    ap (λ labels. take (suc c) octets ∷ labels) (labels_by-enough m n (drop (suc c) octets) (omega (arith, enough, left)) (omega (arith, also, left)))
+    grind (arith, common_steps, length-drop, labels_by-enough m n (drop (suc c) octets))
 
 -- the first label, and those that follow it, of any octets
 pub labels_of-cons : (len : ℕ) (after : List ℕ) → 0 < len → labels_of (len ∷ after) ≡ take len after ∷ labels_of (drop len after)
 unfolding labels_of
-labels_of-cons zero after some = absurd (omega (arith, some))
-labels_of-cons (suc k) after some =
-    let left = length-drop (suc k) after in
-    ap (λ labels. take (suc k) after ∷ labels) (labels_by-enough (length after) (length (drop (suc k) after)) (drop (suc k) after) (omega (arith, left)) (omega arith))
+labels_of-cons len after some = grind (arith, common_steps, length-drop, labels_by-enough)
 
 pub ruleset names_in_front = (labels_of-wire_append, BeginsWithName-wire_append)
 

@@ -1,5 +1,5 @@
 -- A label that is added after others.
-use Rattle.zone_name.proofs.Common.{AllByRecursion, Err, HoldsCasedLabels, HoldsLabels, HoldsName, IsCasedLabel, IsCasedName, IsFoldedOctet, IsLabel, IsName, IsOk, List, NameTooLong, Ok, OnOk, Result, [], ap, append-nil, append_assoc, arith, common_steps, drop, false≢true, flat_map, flat_map-append, folded, folded_label, folded_octet, get_or, labels_of, le-leb, length, length-append, length-map, lt-leb, map, map-append, nat_tests, refill, refl, sized, suc, take, take_all, take_at, to_ascii_lowercase, wire, with_length, ℕ, ◌++◌, ◌+◌, ◌<◌, ◌∙◌, ◌∷◌, ◌≡◌, ◌≤◌}
+use Rattle.zone_name.proofs.Common.{AllByRecursion, Err, HoldsCasedLabels, HoldsLabels, HoldsName, IsCasedLabel, IsCasedName, IsFoldedOctet, IsLabel, IsName, IsOk, List, NameTooLong, Ok, OnOk, Result, [], ap, append-nil, append_assoc, arith, common_steps, Folded, HoldsLabelsBy, Kept, Letters, drop, false≢true, flat_map, flat_map-append, folded, folded_label, folded_octet, get_or, labels_of, le-leb, length, length-append, length-map, lt-leb, map, map-append, nat_tests, refill, refl, sized, suc, take, take_all, take_at, to_ascii_lowercase, wire, with_length, ℕ, ◌++◌, ◌+◌, ◌<◌, ◌∙◌, ◌∷◌, ◌≡◌, ◌≤◌}
 use Rattle.zone_name.proofs.InOctets.Octets.{labels_of-open, labels_of-open_cased, labels_of-wire, HoldsName-wire}
 
 -- each of the octets, by its place
@@ -34,23 +34,9 @@ IsLabel-folded label some short each = grind (arith, length-map, folded_each)
 pub frames_push : (labels : List (List ℕ)) (label : List ℕ) → flat_map with_length (labels ++ label ∷ []) ≡ flat_map with_length labels ++ with_length label
 frames_push labels label = grind (arith, flat_map-append, append-nil)
 
--- labels with one more after them, where there is room
-IsName-push : (labels : List (List ℕ)) (label : List ℕ) → IsName labels → IsLabel label → length (flat_map with_length labels) + length label + 2 ≤ 255 → IsName (labels ++ label ∷ [])
-IsName-push labels label name is room = grind (arith, common_steps)
-
 -- frames hold the labels
 pub HoldsLabels-frames : (labels : List (List ℕ)) → IsName labels → HoldsLabels (flat_map with_length labels)
 HoldsLabels-frames labels name = grind (arith, labels_of-open)
-
-pub record Pushed (octets label new : List ℕ) : Type 0 where
-  pub holds : HoldsLabels new
-  pub gives : labels_of new ≡ labels_of octets ++ label ∷ []
-
--- the octets of one more label after those that are held
-pub push_frame : (octets label new : List ℕ) → HoldsLabels octets → IsLabel label → length octets + length label + 2 ≤ 255 → new ≡ octets ++ with_length label → Pushed octets label new
-push_frame octets label new holds is room e =
-    let name = IsName-push (labels_of octets) label holds.name is (rw holds.whole room) in
-    grind (arith, IsName-push, frames_push, labels_of-open)
 
 -- no labels
 pub HoldsLabels-nil : (octets : List ℕ) → octets ≡ [] → HoldsLabels octets
@@ -74,24 +60,36 @@ pushed_octets octets label pushed new n first after all = grind (arith, take_all
 pub folded_length : (n : ℕ) → n ≤ 63 → folded_octet n ≡ n
 folded_length n short = grind (arith, nat_tests)
 
--- labels with one more after them, where there is room
-IsCasedName-push : (labels : List (List ℕ)) (label : List ℕ) → IsCasedName labels → IsCasedLabel label → length (flat_map with_length labels) + length label + 2 ≤ 255 → IsCasedName (labels ++ label ∷ [])
-IsCasedName-push labels label name is room = grind (arith, common_steps)
-
 -- frames hold the labels
 pub HoldsCasedLabels-frames : (labels : List (List ℕ)) → IsCasedName labels → HoldsCasedLabels (flat_map with_length labels)
 HoldsCasedLabels-frames labels name = grind (arith, labels_of-open_cased)
 
-pub record PushedCased (octets label new : List ℕ) : Type 0 where
-  pub holds : HoldsCasedLabels new
+-- what is true of labels and of names, by whether their letters are folded or kept
+abbrev pub IsLabelBy : Letters → List ℕ → Type 0
+IsLabelBy Kept = IsCasedLabel
+IsLabelBy Folded = IsLabel
+
+abbrev pub IsNameBy : Letters → List (List ℕ) → Type 0
+IsNameBy Kept = IsCasedName
+IsNameBy Folded = IsName
+
+-- labels with one more after them, where there is room
+push_name : (letters : Letters) (labels : List (List ℕ)) (label : List ℕ) → IsNameBy letters labels → IsLabelBy letters label → length (flat_map with_length labels) + length label + 2 ≤ 255 → IsNameBy letters (labels ++ label ∷ [])
+push_name Kept labels label name is room = grind (arith, common_steps)
+push_name Folded labels label name is room = grind (arith, common_steps)
+
+pub record Pushed (letters : Letters) (octets label new : List ℕ) : Type 0 where
+  pub holds : HoldsLabelsBy letters new
   pub gives : labels_of new ≡ labels_of octets ++ label ∷ []
 
--- a length and the octets after it, after those that are held
-pub push_cased : (octets label pushed new : List ℕ) → HoldsCasedLabels octets → IsCasedLabel label → length octets + length label + 2 ≤ 255 → pushed ≡ octets ++ length label ∷ [] → new ≡ pushed ++ label → PushedCased octets label new
-push_cased octets label pushed new holds is room first after =
-    let name = IsCasedName-push (labels_of octets) label holds.name is (rw holds.whole room) in
-    let shape : new ≡ octets ++ with_length label = cc (append_assoc octets (length label ∷ []) label) in
+-- the octets of one more label after those that are held
+pub push_frame : (letters : Letters) (octets label new : List ℕ) → HoldsLabelsBy letters octets → IsLabelBy letters label → length octets + length label + 2 ≤ 255 → new ≡ octets ++ with_length label → Pushed letters octets label new
+push_frame Kept octets label new holds is room e =
+    let name = push_name Kept (labels_of octets) label holds.name is (rw holds.whole room) in
     grind (arith, frames_push, labels_of-open_cased)
+push_frame Folded octets label new holds is room e =
+    let name = push_name Folded (labels_of octets) label holds.name is (rw holds.whole room) in
+    grind (arith, frames_push, labels_of-open)
 
 -- no labels
 pub HoldsCasedLabels-nil : (octets : List ℕ) → octets ≡ [] → HoldsCasedLabels octets

@@ -1,16 +1,17 @@
 -- The name that a text spells under an origin, its letters folded or kept, or its first fault, as an
 -- answer on lists.
-use Rattle.zone_name.proofs.Common.{common_steps, AllByRecursion, AreOctets, AreWrittenLabels, Bool, EmptyLabel, Err, FaultAt, Folded, HasShape, IfErr, IfOk, IfSome, IsCasedLabel, IsLabel, IsRelative, IsUnit, IsWrittenLabel, Kept, Labels, Letters, List, NameFault, NameTooLong, None, Ok, Option, Origin, RelativeName, Result, Root, Some, SpellingFault, SpellsBy, SpellsCased, WritesBy, Written, [], absolute, ap, arith, at_origin, bytes_decides, codes, dotted, false, false≢true, folded, if◌then◌else◌, inl, inr, is_dot, kept, length, length-map, lettered, lettered_in, long_name, name_read, nat_eq, nat_le, parted, plain, pointwise, refl, relative, root, sized, subst, sym, text_of, true, under_origin, unfounded, wire, within, written_octets, written_text, ℕ, ◌++◌, ◌<◌, ◌∙◌, ◌∷◌, ◌≡◌, ◌≢◌, ◌≤◌, ◌⊎◌}
+use Rattle.zone_name.proofs.Common.{common_steps, AllByRecursion, AreOctets, AreWrittenLabels, Bool, EmptyLabel, Err, FaultAt, Folded, HasShape, HoldsNameBy, IfErr, IfOk, IfSome, IsCasedLabel, IsCasedName, IsLabel, IsRelative, IsUnit, IsWrittenLabel, Kept, Labels, Letters, List, NameFault, NameTooLong, None, Ok, Option, Origin, RelativeName, Result, Root, Some, SpellingFault, SpellsBy, SpellsCased, WritesBy, Written, [], absolute, arith, at_origin, bytes_decides, cases_lt, codes, dotted, false, false≢true, get_or, inl, inr, is_dot, kept, length, length-map, lettered, lettered_in, long_name, name_read, nat_eq, origin_in, parted, plain, pointwise, refl, relative, root, sized, subst, sym, text_of, true, under_origin, unfounded, w8, wire, within, written_octets, written_text, ℕ, ◌++◌, ◌<◌, ◌∙◌, ◌∷◌, ◌≡◌, ◌≢◌, ◌≤◌, ◌⊎◌}
 use Rattle.zone_name.specs.declared.reading.NameShape.{NameShape}
 use Rattle.zone_name.specs.Machine.LabelWalk.{reading}
-use Rattle.std.proofs.lemmas.Option.{IfSome_then}
+use Rattle.std.proofs.Common.{Fits, append-nil, append_assoc}
+use Rattle.std.specs.Prelude.{IsOk, OnOk}
 use Rattle.zone_name.specs.Common.{IsVerdict}
 use Rattle.zone_name.specs.Spelling.{named}
 use Rattle.zone_name.proofs.InOctets.Octets.{AllByRecursion-weaker}
 use Rattle.zone_name.proofs.Spelling.Spelled.{AreShort, Says, reading-says}
 use Rattle.zone_name.proofs.Spelling.Only.{reading-dotted, reading-parted, reading-fault}
-use Rattle.zone_name.proofs.Spelling.Letters.{IsLabelBy, IsNameBy, joined_size, lettered_size, sized_by, taken_by}
-use Rattle.zone_name.proofs.InOctets.Pushing.{AllByRecursion-append, AllByRecursion-front, AllByRecursion-back, folded_labels, sized-long}
+use Rattle.zone_name.proofs.Spelling.Letters.{held_origin, joined_size, lettered_size, sized_by, taken_by}
+use Rattle.zone_name.proofs.InOctets.Pushing.{IsLabelBy, IsNameBy, AllByRecursion-from_places, AllByRecursion-append, AllByRecursion-front, AllByRecursion-back, folded_labels, sized-long}
 
 -- labels of at most 63 octets
 abbrev pub ShortLabels : List (List ℕ) → Type 0
@@ -86,8 +87,7 @@ answered-only Folded origin text form name has spells = writes_answered Folded o
 
 -- an origin that is a name is the answer of an `@`
 pub answered-origin : (letters : Letters) (origin : Option (List (List ℕ))) (text : List ℕ) (above : List (List ℕ)) → origin ≡ Some above → IfSome origin (IsNameBy letters) → answered letters origin text Origin ≡ Ok above
-answered-origin letters None text above is known = absurd (cc)
-answered-origin letters (Some origin) text above is known = cc (sized_by letters origin known)
+answered-origin letters origin text above is known = grind (arith, common_steps, sized_by)
 
 -- a dot alone has no fault
 faultless_dot : (text : List ℕ) (fault : NameFault) → text ≡ codes "." → FaultAt text fault → reading text ≡ Err fault → ⊥
@@ -109,48 +109,6 @@ answered-fault letters origin text form fault has (within f at) = grind (arith, 
 answered-fault letters origin text form fault has (unfounded none is) = cc (relative_answered letters text form has is)
 answered-fault letters origin text form fault has (long_name labels writes short long) = same_fault Folded letters origin text form NameTooLong (writes_answered Folded origin text labels form has writes short ∙ sized-long labels long)
 
--- ---- what is answered is so
-sized_ok : (labels name : List (List ℕ)) (fits : Bool) → Ok name ≡ (if fits then Ok labels else Err NameTooLong) → name ≡ labels
-sized_ok labels name fits e = grind arith
-
-sized_err : (labels : List (List ℕ)) (fault : NameFault) (fits : Bool) → nat_le (length (wire labels)) 255 ≡ fits → Err fault ≡ (if fits then Ok labels else Err NameTooLong) → (NameTooLong ≡ fault) × (255 < length (wire labels))
-sized_err labels fault fits test e = grind arith
-
-found_by : (letters : Letters) (origin : Option (List (List ℕ))) (text : List ℕ) (found : Result (List (List ℕ) × Bool) NameFault) (name : List (List ℕ)) → text ≢ codes "@" → Says text found → Ok name ≡ under_origin origin (lettered_in letters found) → WritesBy (taken_by letters) origin text name
-found_by letters origin text (Err fault) name other says e = absurd (cc)
-found_by letters origin text (Ok (labels, true)) name other says e =
-    absolute says.written says.are says.text_is (sized_ok (lettered letters labels) name _ e ∙ ap (lettered letters) says.labels_are)
-found_by letters None text (Ok (labels, false)) name other says e = absurd (cc)
-found_by letters (Some above) text (Ok (labels, false)) name other says e =
-    relative says.written above says.are other says.text_is refl (sized_ok (lettered letters labels ++ above) name _ e ∙ ap (λ t. t ++ above) (ap (lettered letters) says.labels_are))
-
--- an answer that is a name is spelled
-pub decided-found : (letters : Letters) (origin : Option (List (List ℕ))) (text : List ℕ) (result : Result (List (List ℕ)) NameFault) → text ≢ codes "." → text ≢ codes "@" → result ≡ name_read letters origin text → IfOk result (IsNameBy letters) → IfOk result (SpellsBy letters origin text)
-decided-found letters origin text (Ok name) dot other e is = spells_by letters origin text name (found_by letters origin text (reading text) name other (reading-says text dot) e) is
-decided-found letters origin text (Err fault) dot other e is = tt
-
-fault_by : (origin : Option (List (List ℕ))) (text : List ℕ) (found : Result (List (List ℕ) × Bool) NameFault) (fault : NameFault) → text ≢ codes "@" → IfSome origin ShortLabels → Says text found → Err fault ≡ under_origin origin (lettered_in Folded found) → SpellingFault origin text fault
-fault_by origin text (Err first) fault other known says e = let same : first ≡ fault = cc in rw (← same) (within first says)
-fault_by origin text (Ok (labels, true)) fault other known says e =
-    let long = sized_err (folded labels) fault _ refl e in
-    rw (← long.0) (long_name (folded labels) (absolute says.written says.are says.text_is (ap (lettered Folded) says.labels_are))
-    (rw says.labels_are (short_folded says.written says.short)) long.1)
-fault_by None text (Ok (labels, false)) fault other known says e = grind (arith, unfounded)
-fault_by (Some above) text (Ok (labels, false)) fault other known says e =
-    let long = sized_err (folded labels ++ above) fault _ refl e in
-    rw (← long.0) (long_name (folded labels ++ above) (relative says.written above says.are other says.text_is refl (ap (λ t. t ++ above) (ap (lettered Folded) says.labels_are)))
-    (AllByRecursion-append (λ label. length label ≤ 63) (folded labels) above (rw says.labels_are (short_folded says.written says.short)) known) long.1)
-
--- an answer that is a fault is the first
-pub decided-fault : (letters : Letters) (origin : Option (List (List ℕ))) (text : List ℕ) (result : Result (List (List ℕ)) NameFault) → text ≢ codes "." → text ≢ codes "@" → IfSome origin (IsNameBy letters) → result ≡ name_read letters origin text → IfErr result (SpellingFault origin text)
-decided-fault letters origin text (Ok name) dot other known e = tt
-decided-fault letters origin text (Err fault) dot other known e =
-    fault_by origin text (reading text) fault other (IfSome_then origin known (short_by letters)) (reading-says text dot) (sym (same_by letters Folded origin (reading text) fault (sym e)))
-
--- an `@` is a relative text
-pub at-relative : (text : List ℕ) → text ≡ codes "@" → IsRelative text
-at-relative text e = ((plain 64 ∷ []) ∷ [], record { some = omega arith; each = (record { some = omega arith; each = ((refl, λ h. cc), tt) }, tt) }, (omega arith, tt), e)
-
 -- ---- the labels of a text of octets
 
 octets_short : (label : List Written) → AllByRecursion (IsUnit is_dot) label → AreOctets (written_text label) → AreOctets (written_octets label)
@@ -163,20 +121,16 @@ label_is label is short each = grind (arith, common_steps, length-map, octets_sh
 dotted_are : (written : List (List Written)) → AllByRecursion IsWrittenLabel written → AreShort written → AreOctets (dotted written) → AllByRecursion IsCasedLabel (kept written)
 dotted_are [] is short each = tt
 dotted_are (label ∷ written) is short each =
-    let first = AllByRecursion-front (λ c. c < 256) (written_text label ++ 46 ∷ []) (dotted written) each in
-    let rest = AllByRecursion-back (λ c. c < 256) (written_text label ++ 46 ∷ []) (dotted written) each in
-    (label_is label is.0 short.0 (AllByRecursion-front (λ c. c < 256) (written_text label) (46 ∷ []) first), dotted_are written is.1 short.1 rest)
+    grind (arith, common_steps, AllByRecursion-front, AllByRecursion-back, label_is, dotted_are written)
+
+pub parted-dotted : (label : List Written) (labels : List (List Written))
+    → parted (label ∷ labels) ++ 46 ∷ [] ≡ dotted (label ∷ labels)
+parted-dotted label [] = sym (append-nil (written_text label ++ 46 ∷ []))
+parted-dotted label (next ∷ labels) = grind (arith, append_assoc, parted-dotted next labels)
 
 parted_are : (written : List (List Written)) → AllByRecursion IsWrittenLabel written → AreShort written → AreOctets (parted written) → AllByRecursion IsCasedLabel (kept written)
 parted_are [] is short each = tt
-parted_are (label ∷ []) is short each = (label_is label is.0 short.0 each, tt)
-parted_are (label ∷ next ∷ written) is short each =
-    let rest = AllByRecursion-back (λ c. c < 256) (written_text label) (46 ∷ parted (next ∷ written)) each in
-    (label_is label is.0 short.0 (AllByRecursion-front (λ c. c < 256) (written_text label) (46 ∷ parted (next ∷ written)) each), parted_are (next ∷ written) is.1 short.1 rest.1)
-
-sized_is : (letters : Letters) (labels : List (List ℕ)) → AllByRecursion (IsLabelBy letters) labels → IfOk (sized labels) (IsNameBy letters)
-sized_is Kept labels each = grind arith
-sized_is Folded labels each = grind arith
+parted_are (label ∷ written) is short each = dotted_are (label ∷ written) is short (rw (parted-dotted label written) at (AllByRecursion-append (λ c. c < 256) (parted (label ∷ written)) (46 ∷ []) each (omega arith, tt)))
 
 -- what is said of the labels that are read
 pub reading-says_ok : (text : List ℕ) (labels : List (List ℕ)) (is_absolute : Bool) → Says text (Ok (labels, is_absolute)) → reading text ≡ Ok (labels, is_absolute)
@@ -186,47 +140,87 @@ pub labels-says_ok : (text : List ℕ) (labels : List (List ℕ)) (is_absolute :
 labels-says_ok text labels is_absolute octets says = grind (arith, dotted_are, parted_are)
 
 lettered_each : (letters : Letters) (labels : List (List ℕ)) → AllByRecursion IsCasedLabel labels → AllByRecursion (IsLabelBy letters) (lettered letters labels)
-lettered_each Kept labels each = each
-lettered_each Folded labels each = folded_labels labels each
+lettered_each letters labels each = grind (arith, common_steps, folded_labels)
+
+name_by : (letters : Letters) (labels : List (List ℕ)) → AllByRecursion (IsLabelBy letters) labels → length (wire labels) ≤ 255 → IsNameBy letters labels
+name_by Kept labels each short = record { each = each; short = short }
+name_by Folded labels each short = record { each = each; short = short }
 
 each_by : (letters : Letters) (labels : List (List ℕ)) → IsNameBy letters labels → AllByRecursion (IsLabelBy letters) labels
 each_by Kept labels name = name.each
 each_by Folded labels name = name.each
 
-under_is : (letters : Letters) (origin : Option (List (List ℕ))) (text : List ℕ) (found : Result (List (List ℕ) × Bool) NameFault) → IfSome origin (IsNameBy letters) → AreOctets text → Says text found → IfOk (under_origin origin (lettered_in letters found)) (IsNameBy letters)
-under_is letters origin text (Err fault) known octets says = tt
-under_is letters origin text (Ok (labels, true)) known octets says = sized_is letters (lettered letters labels) (lettered_each letters labels (labels-says_ok text labels true octets says))
-under_is letters None text (Ok (labels, false)) known octets says = tt
-under_is letters (Some above) text (Ok (labels, false)) known octets says =
-    sized_is letters (lettered letters labels ++ above) (AllByRecursion-append (IsLabelBy letters) (lettered letters labels) above (lettered_each letters labels (labels-says_ok text labels false octets says)) (each_by letters above known))
-
 -- ---- one answer
-abbrev OneOf : Letters → Option (List (List ℕ)) → List ℕ → Type 0
-OneOf letters origin text = ((labels : List (List ℕ)) × SpellsBy letters origin text labels) ⊎ ((fault : NameFault) × SpellingFault origin text fault)
-
-one_at_origin : (letters : Letters) (origin : Option (List (List ℕ))) (text : List ℕ) → text ≡ codes "@" → IfSome origin (IsNameBy letters) → OneOf letters origin text
-one_at_origin letters None text at known = inr (RelativeName, unfounded refl (at-relative text at))
-one_at_origin letters (Some above) text at known = inl (above, spells_by letters (Some above) text above (at_origin at refl) known)
+-- an `@` is a relative text
+pub at-relative : (text : List ℕ) → text ≡ codes "@" → IsRelative text
+at-relative text e = ((plain 64 ∷ []) ∷ [], record { some = omega arith; each = (record { some = omega arith; each = ((refl, λ h. cc), tt) }, tt) }, (omega arith, tt), e)
 
 pub root_is : (letters : Letters) → IsNameBy letters []
 root_is Kept = record { each = tt; short = omega arith }
 root_is Folded = record { each = tt; short = omega arith }
 
-one_by : (letters : Letters) (origin : Option (List (List ℕ))) (text : List ℕ) (result : Result (List (List ℕ)) NameFault) → IfOk result (SpellsBy letters origin text) → IfErr result (SpellingFault origin text) → OneOf letters origin text
-one_by letters origin text (Ok name) found fault = inl (name, found)
-one_by letters origin text (Err first) found fault = inr (first, fault)
+abbrev OneOf : Letters → Option (List (List ℕ)) → List ℕ → Type 0
+OneOf letters origin text = ((labels : List (List ℕ)) × SpellsBy letters origin text labels) ⊎ ((fault : NameFault) × SpellingFault origin text fault)
+
+-- labels that are a name, or too long for one
+one_by : (letters : Letters) (origin : Option (List (List ℕ))) (text : List ℕ) (labels lower : List (List ℕ)) → WritesBy (taken_by letters) origin text labels → WritesBy (taken_by Folded) origin text lower → ShortLabels lower → length (wire lower) ≡ length (wire labels) → AllByRecursion (IsLabelBy letters) labels → OneOf letters origin text
+one_by letters origin text labels lower writes named short size each = elim (cases_lt 255 (length (wire labels))) [
+  | inl long ↦ inr (NameTooLong, long_name lower named short (omega arith))
+  | inr fits ↦ inl (labels, spells_by letters origin text labels writes (name_by letters labels each fits))
+]
+
+one_says : (letters : Letters) (origin : Option (List (List ℕ))) (text : List ℕ) (found : Result (List (List ℕ) × Bool) NameFault) → IfSome origin (IsNameBy letters) → AreOctets text → text ≢ codes "@" → Says text found → OneOf letters origin text
+one_says letters origin text (Err fault) known octets other says = inr (fault, within fault says)
+one_says letters origin text (Ok (labels, true)) known octets other says =
+    let written = says.written in
+    one_by letters origin text (taken_by letters written) (taken_by Folded written) (absolute written says.are says.text_is refl) (absolute written says.are says.text_is refl) (short_folded written says.short)
+    (omega (arith, lettered_size letters (kept written), lettered_size Folded (kept written))) (lettered_each letters (kept written) (dotted_are written says.are.each says.short (rw says.text_is at octets)))
+one_says letters None text (Ok (labels, false)) known octets other says = inr (RelativeName, unfounded refl (says.written, says.are, says.short, says.text_is))
+one_says letters (Some above) text (Ok (labels, false)) known octets other says =
+    let written = says.written in
+    one_by letters (Some above) text (taken_by letters written ++ above) (taken_by Folded written ++ above) (relative written above says.are other says.text_is refl refl) (relative written above says.are other says.text_is refl refl)
+    (AllByRecursion-append (λ label. length label ≤ 63) (named written) above (short_folded written says.short) (short_by letters above known))
+    (omega (arith, joined_size (taken_by letters written) above, joined_size (taken_by Folded written) above, lettered_size letters (kept written), lettered_size Folded (kept written)))
+    (AllByRecursion-append (IsLabelBy letters) (taken_by letters written) above (lettered_each letters (kept written) (parted_are written says.are.each says.short (rw says.text_is at octets))) (each_by letters above known))
 
 -- a text of octets spells a name or has a first fault
 pub either_by : (letters : Letters) (origin : Option (List (List ℕ))) (text : List ℕ) → IfSome origin (IsNameBy letters) → AreOctets text → OneOf letters origin text
-either_by letters origin text known octets = let form = form_at text in by form.0 form.1
+either_by letters origin text known octets = let form = form_at text in by origin known form.0 form.1
   where
-    by : (form : NameShape) → HasShape text form → OneOf letters origin text
-    by Root dot = inl ([], spells_by letters origin text [] (root dot refl) (root_is letters))
-    by Origin at = one_at_origin letters origin text at known
-    by Labels other =
-        let result = name_read letters origin text in
-        one_by letters origin text result (decided-found letters origin text result other.0 other.1 refl (under_is letters origin text (reading text) known octets (reading-says text other.0)))
-        (decided-fault letters origin text result other.0 other.1 known refl)
+    by : (origin : Option (List (List ℕ))) → IfSome origin (IsNameBy letters) → (form : NameShape) → HasShape text form → OneOf letters origin text
+    by origin known Root dot = inl ([], spells_by letters origin text [] (root dot refl) (root_is letters))
+    by None known Origin at = inr (RelativeName, unfounded refl (at-relative text at))
+    by (Some above) known Origin at = inl (above, spells_by letters (Some above) text above (at_origin at refl) known)
+    by origin known Labels other = one_says letters origin text (reading text) known octets other.1 (reading-says text other.0)
+
+-- an answer that is a name is spelled, and one that is a fault is the first
+abbrev Told : Letters → Option (List (List ℕ)) → List ℕ → Result (List (List ℕ)) NameFault → Type 0
+Told letters origin text (Ok name) = SpellsBy letters origin text name
+Told letters origin text (Err fault) = SpellingFault origin text fault
+
+told : (letters : Letters) (origin : Option (List ℕ)) (text : List ℕ) (form : NameShape) (answer : Result (List (List ℕ)) NameFault) → HasShape text form → IfSome origin (HoldsNameBy letters) → ((k : ℕ) → Fits w8 (get_or text k 0)) → answered letters (origin_in origin) text form ≡ answer → Told letters (origin_in origin) text answer
+told letters origin text form answer has known octets is = elim (either_by letters (origin_in origin) text (held_origin letters origin known) (AllByRecursion-from_places (λ c. c < 256) text (λ k h. (octets k).fits))) [
+  | inl found ↦ let same : Ok found.0 ≡ answer = cc (answered-only letters (origin_in origin) text form found.0 has found.1) in rw (← same) (found.1)
+  | inr bad ↦ let same : Err bad.0 ≡ answer = cc (answered-fault letters (origin_in origin) text form bad.0 has bad.1) in rw (← same) (bad.1)
+]
+
+-- what is told of a call that answers
+pub record Tells (letters : Letters) (origin : Option (List (List ℕ))) (text : List ℕ) (result : Result (Unit {0}) NameFault) (labels : List (List ℕ)) : Type 0 where
+  pub found : OnOk result (SpellsBy letters origin text labels)
+  pub only : (name : List (List ℕ)) → SpellsBy letters origin text name → IsOk result × (labels ≡ name)
+  pub fault : IfErr result (SpellingFault origin text)
+
+pub tells : (letters : Letters) (origin : Option (List ℕ)) (text : List ℕ) (form : NameShape) (result : Result (Unit {0}) NameFault) (labels : List (List ℕ)) → HasShape text form → IfSome origin (HoldsNameBy letters) → ((k : ℕ) → Fits w8 (get_or text k 0)) → OnOk result (answered letters (origin_in origin) text form ≡ Ok labels) → IfErr result (λ fault. answered letters (origin_in origin) text form ≡ Err fault) → Tells letters (origin_in origin) text result labels
+tells letters origin text form (Ok done) labels has known octets ok err = record {
+  found = told letters origin text form (Ok labels) has known octets ok;
+  only = λ name spells. (refl, cc (answered-only letters (origin_in origin) text form name has spells));
+  fault = tt;
+}
+tells letters origin text form (Err first) labels has known octets ok err = record {
+  found = tt;
+  only = λ name spells. absurd (cc (answered-only letters (origin_in origin) text form name has spells));
+  fault = told letters origin text form (Err first) has known octets err;
+}
 
 pub once_by : (letters : Letters) (origin : Option (List (List ℕ))) (text : List ℕ) (a b : List (List ℕ)) → SpellsBy letters origin text a → SpellsBy letters origin text b → a ≡ b
 once_by letters origin text a b one two =
@@ -250,9 +244,8 @@ FirstFault-once origin text f g one two =
     cc (answered-fault Folded origin text form.0 f form.1 one, answered-fault Folded origin text form.0 g form.1 two)
 
 pub one_verdict : (letters : Letters) (origin : Option (List (List ℕ))) (text : List ℕ) → IfSome origin (IsNameBy letters) → AreOctets text → IsVerdict (SpellsBy letters origin text) (SpellingFault origin text)
-one_verdict letters origin text known octets = record {
-  one_of = either_by letters origin text known octets;
-  never_both = faultless_by letters origin text;
-  one_value = once_by letters origin text;
-  one_fault = FirstFault-once origin text;
-}
+one_verdict letters origin text known octets =
+    grind (arith, common_steps, either_by, faultless_by, once_by, FirstFault-once)
+
+pub one_verdict_cased : (origin : Option (List (List ℕ))) (text : List ℕ) → IfSome origin IsCasedName → AreOctets text → IsVerdict (SpellsCased origin text) (SpellingFault origin text)
+one_verdict_cased = one_verdict Kept

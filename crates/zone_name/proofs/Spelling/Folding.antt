@@ -1,5 +1,5 @@
 -- Names that are read with their letters kept, and then folded.
-use Rattle.zone_name.proofs.Common.{◌≡◌, ℕ, ◌≤◌, List, [], ◌∷◌, ◌++◌, length, Option, IfSome, option_map, inl, inr, refl, sym, ap, ◌∙◌, arith, map-append, length-map, folded, folded_label, folded_octet, flat_map, with_length, wire, labels_of, HoldsCasedName, HoldsName, IsCasedName, IsName, kept, named, Writes, WritesCased, root, at_origin, absolute, relative, Spells, SpellsCased, SpellingFault, within, unfounded, long_name, NameFault, Folded, Kept}
+use Rattle.zone_name.proofs.Common.{common_steps, ◌≡◌, ℕ, ◌≤◌, List, [], ◌∷◌, ◌++◌, length, Option, IfSome, option_map, inl, inr, refl, sym, ap, ◌∙◌, arith, map-append, length-map, folded, folded_label, folded_octet, flat_map, with_length, wire, labels_of, HoldsCasedName, HoldsName, IsCasedName, IsName, kept, named, Writes, WritesCased, root, at_origin, absolute, relative, Spells, SpellsCased, SpellingFault, within, unfounded, long_name, NameFault, Folded, Kept}
 use Rattle.std.proofs.Common.{map}
 use Rattle.zone_name.specs.Common.{AreOctets, Labels}
 use Rattle.zone_name.proofs.Spelling.Answered.{ShortLabels, either_by, faultless_by, once_by}
@@ -18,8 +18,7 @@ octets_folded octets holds = ap (map folded_octet) (sym holds.whole) ∙ map-app
 
 pub folded_name : (octets new : List ℕ) → HoldsCasedName octets → new ≡ map folded_octet octets → HoldsName new × (labels_of new ≡ folded (labels_of octets))
 folded_name octets new holds e =
-    let name = IsName-folded (labels_of octets) holds.name in
-    rw (e ∙ octets_folded octets holds) (HoldsName-wire (folded (labels_of octets)) name, labels_of-wire (folded (labels_of octets)) name.each)
+    grind (arith, common_steps, IsName-folded, octets_folded, HoldsName-wire, labels_of-wire)
 
 -- ---- texts
 

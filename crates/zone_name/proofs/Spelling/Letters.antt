@@ -1,23 +1,15 @@
 -- Names whose letters are folded or kept when they are read.
-use Rattle.zone_name.proofs.Common.{AllByRecursion, Bool, Collects, Err, Folded, HoldsCasedLabels, HoldsLabelsBy, HoldsNameBy, IfErr, IfOk, IfSome, IsCasedLabel, IsCasedName, IsLabel, IsName, Kept, Letters, List, NameFault, NameTooLong, None, Ok, Option, Result, Some, Written, [], ap, append-nil, append_assoc, arith, common_steps, false, flat_map, flat_map-append, folded, folded_octet, kept, labels_of, length, length-append, length-take, lettered, lettered_in, map, name_read, origin_in, refl, sized, sym, take, true, under_origin, wire, with_length, ℕ, ◌++◌, ◌+◌, ◌<◌, ◌∙◌, ◌∷◌, ◌≡◌, ◌≤◌}
+use Rattle.zone_name.proofs.Common.{Bool, Collects, Err, Folded, HoldsCasedLabels, HoldsLabelsBy, HoldsNameBy, IfErr, IfOk, IfSome, Kept, Letters, List, NameFault, NameTooLong, None, Ok, Option, Result, Some, Written, [], ap, append-nil, append_assoc, arith, common_steps, false, flat_map, flat_map-append, folded, folded_octet, kept, labels_of, length, length-append, length-take, lettered, lettered_in, map, name_read, origin_in, sized, sym, take, true, under_origin, wire, with_length, ℕ, ◌++◌, ◌+◌, ◌<◌, ◌∙◌, ◌∷◌, ◌≡◌, ◌≤◌}
 use Rattle.std.proofs.lemmas.Result.{IfErr-weaker, IfOk-weaker}
 use Rattle.zone_name.specs.Machine.Letters.{IsReadBy}
 use Rattle.zone_name.specs.Machine.Seen.{IsReadInto}
 use Rattle.zone_name.specs.declared.reading.Spelled.{Spelled}
-use Rattle.zone_name.proofs.InOctets.Octets.{labels_of-open, root_has_none, labels_of-wire, labels_of-wire_cased, root_held_cased, root_held}
-use Rattle.zone_name.proofs.InOctets.Pushing.{folded_frames, folded_labels, folded_size, sized-name, sized-long}
+use Rattle.zone_name.proofs.InOctets.Octets.{HoldsCasedName-wire, HoldsName-wire, labels_of-open, root_has_none, labels_of-wire, labels_of-wire_cased, root_held_cased, root_held}
+use Rattle.zone_name.proofs.InOctets.Pushing.{IsNameBy, folded_frames, folded_labels, folded_size, sized-name, sized-long}
 
 -- what a text's labels are, by whether their letters are folded or kept, and what is true of them
 abbrev pub taken_by : Letters → List (List Written) → List (List ℕ)
 taken_by letters written = lettered letters (kept written)
-
-abbrev pub IsLabelBy : Letters → List ℕ → Type 0
-IsLabelBy Kept = IsCasedLabel
-IsLabelBy Folded = IsLabel
-
-abbrev pub IsNameBy : Letters → List (List ℕ) → Type 0
-IsNameBy Kept = IsCasedName
-IsNameBy Folded = IsName
 
 -- labels whose letters are folded or kept
 pub record SetLetters (letters : Letters) (octets new : List ℕ) : Type 0 where
@@ -28,30 +20,17 @@ pub fold_letters : (octets new : List ℕ) → HoldsCasedLabels octets → new �
 fold_letters octets new holds e =
     grind (arith, common_steps, folded_labels, folded, folded_frames, folded_size, labels_of-open)
 
--- the labels of two names, one after the other
-pub record Joined (letters : Letters) (left right : List (List ℕ)) (new : List ℕ) : Type 0 where
-  pub holds : HoldsNameBy letters new
-  pub gives : labels_of new ≡ left ++ right
+-- the octets of labels, and of a name after them
+wire_joined : (letters : Letters) (octets others : List ℕ) → HoldsLabelsBy letters octets → HoldsNameBy letters others → wire (labels_of octets ++ labels_of others) ≡ octets ++ others
+wire_joined Kept octets others holds name = cc (flat_map-append with_length (labels_of octets) (labels_of others), append_assoc (flat_map with_length (labels_of octets)) (flat_map with_length (labels_of others)) (0 ∷ []), holds.whole, name.whole)
+wire_joined Folded octets others holds name = cc (flat_map-append with_length (labels_of octets) (labels_of others), append_assoc (flat_map with_length (labels_of octets)) (flat_map with_length (labels_of others)) (0 ∷ []), holds.whole, name.whole)
 
-joined_shape : (octets others new : List ℕ) (left right : List (List ℕ)) → flat_map with_length left ≡ octets → others ≡ wire right → new ≡ octets ++ others → new ≡ wire (left ++ right)
-joined_shape octets others new left right whole text e = cc (flat_map-append with_length left right, append_assoc (flat_map with_length left) (flat_map with_length right) (0 ∷ []))
+name_joined : (letters : Letters) (octets others : List ℕ) → HoldsLabelsBy letters octets → HoldsNameBy letters others → length (wire (labels_of octets ++ labels_of others)) ≤ 255 → IsNameBy letters (labels_of octets ++ labels_of others)
+name_joined Kept octets others holds name room = grind (arith, common_steps)
+name_joined Folded octets others holds name room = grind (arith, common_steps)
 
-joined_name : (left right : List (List ℕ)) (new : List ℕ) → AllByRecursion IsLabel left → AllByRecursion IsLabel right → new ≡ wire (left ++ right) → length new ≤ 255 → Joined Folded left right new
-joined_name left right new each rest shape room = grind (arith, common_steps, labels_of-wire)
-
-joined_cased : (left right : List (List ℕ)) (new : List ℕ) → AllByRecursion IsCasedLabel left → AllByRecursion IsCasedLabel right → new ≡ wire (left ++ right) → length new ≤ 255 → Joined Kept left right new
-joined_cased left right new each rest shape room = grind (arith, common_steps, labels_of-wire_cased)
-
-pub joined : (letters : Letters) (octets others new : List ℕ) → HoldsLabelsBy letters octets → HoldsNameBy letters others → new ≡ octets ++ others → length new ≤ 255 → Joined letters (labels_of octets) (labels_of others) new
-joined Folded octets others new holds name e room = joined_name (labels_of octets) (labels_of others) new holds.name.each name.name.each (joined_shape octets others new (labels_of octets) (labels_of others) holds.whole (sym name.whole) e) room
-joined Kept octets others new holds name e room = joined_cased (labels_of octets) (labels_of others) new holds.name.each name.name.each (joined_shape octets others new (labels_of octets) (labels_of others) holds.whole (sym name.whole) e) room
-
-joined_long : (octets others : List ℕ) (left right : List (List ℕ)) → flat_map with_length left ≡ octets → others ≡ wire right → 255 < length octets + length others → sized (left ++ right) ≡ Err NameTooLong
-joined_long octets others left right whole text over = sized-long (left ++ right) (omega (arith, over, length-append octets others, ap length (sym (joined_shape octets others (octets ++ others) left right whole text refl))))
-
-pub joined-long : (octets others : List ℕ) → 255 < length octets + length others → (letters : Letters) → HoldsLabelsBy letters octets → HoldsNameBy letters others → sized (labels_of octets ++ labels_of others) ≡ Err NameTooLong
-joined-long octets others over Folded holds name = joined_long octets others (labels_of octets) (labels_of others) holds.whole (sym name.whole) over
-joined-long octets others over Kept holds name = joined_long octets others (labels_of octets) (labels_of others) holds.whole (sym name.whole) over
+pub joined_long : (octets others : List ℕ) → 255 < length octets + length others → (letters : Letters) → HoldsLabelsBy letters octets → HoldsNameBy letters others → sized (labels_of octets ++ labels_of others) ≡ Err NameTooLong
+joined_long octets others over letters holds name = sized-long (labels_of octets ++ labels_of others) (omega (arith, over, length-append octets others, ap length (wire_joined letters octets others holds name)))
 
 pub held_name : (letters : Letters) (octets : List ℕ) → HoldsNameBy letters octets → IsNameBy letters (labels_of octets)
 held_name Kept octets holds = holds.name
@@ -63,10 +42,16 @@ sized_by Kept labels name = sized-name labels name.short
 sized_by Folded labels name = sized-name labels name.short
 
 -- the octets of a name after labels
+held_wire : (letters : Letters) (labels : List (List ℕ)) → IsNameBy letters labels → HoldsNameBy letters (wire labels) × (labels_of (wire labels) ≡ labels)
+held_wire Kept labels name = grind (arith, HoldsCasedName-wire, labels_of-wire_cased)
+held_wire Folded labels name = grind (arith, HoldsName-wire, labels_of-wire)
+
 pub ended_with : (letters : Letters) (octets ending new : List ℕ) → HoldsLabelsBy letters octets → HoldsNameBy letters ending → new ≡ octets ++ ending → length octets + length ending ≤ 255 → HoldsNameBy letters new × (sized (labels_of octets ++ labels_of ending) ≡ Ok (labels_of new))
 ended_with letters octets ending new holds name is room =
-    let both = joined letters octets ending new holds name is (omega (arith, room, ap length is, length-append octets ending)) in
-    (both.holds, (ap sized (sym both.gives) ∙ sized_by letters (labels_of new) (held_name letters new both.holds)))
+    let whole = wire_joined letters octets ending holds name in
+    let both = name_joined letters octets ending holds name (omega (arith, ap length whole, length-append octets ending)) in
+    let held = held_wire letters (labels_of octets ++ labels_of ending) both in
+    (rw (is ∙ sym whole) held.0, cc (sized_by letters (labels_of octets ++ labels_of ending) both, held.1))
 
 -- the root is a name, however letters are taken
 pub root_holds : (letters : Letters) (octets : List ℕ) → octets ≡ [] ++ 0 ∷ [] → HoldsNameBy letters octets
@@ -75,13 +60,11 @@ root_holds Kept octets e = root_held_cased octets e
 
 -- labels take as many octets with letters folded
 pub lettered_size : (letters : Letters) (labels : List (List ℕ)) → length (wire (lettered letters labels)) ≡ length (wire labels)
-lettered_size Folded labels = folded_size labels
-lettered_size Kept labels = refl
+lettered_size letters labels = grind (arith, common_steps, folded_size)
 
 -- labels that are held, or are too long, as their letters are folded
 lettered_collects : (letters : Letters) (held labels : List (List ℕ)) (is_too_long : Bool) → Collects held is_too_long labels → Collects (lettered letters held) is_too_long (lettered letters labels)
-lettered_collects letters held labels true over = rw (lettered_size letters labels) over
-lettered_collects letters held labels false same = ap (lettered letters) same
+lettered_collects letters held labels is_too_long over = grind (arith, common_steps, lettered_size)
 
 pub read_lettered : (letters : Letters) (text octets new : List ℕ) (spelled : Spelled) → labels_of new ≡ lettered letters (labels_of octets) → IsReadInto text octets spelled → IsReadBy letters text new spelled
 read_lettered letters text octets new spelled gives read =
@@ -101,9 +84,8 @@ pub ends_above : (origin : Option (List ℕ)) (above : List ℕ) (spelled : Spel
 ends_above origin above spelled relative is short = grind (arith, common_steps)
 
 pub finished : (origin : Option (List ℕ)) (spelled : Spelled) (octets ending new : List ℕ) (result : Result (Unit {0}) NameFault) → Ends origin spelled ending → IfOk result (λ _. (letters : Letters) → HoldsLabelsBy letters octets → HoldsNameBy letters ending → HoldsNameBy letters new × (sized (labels_of octets ++ labels_of ending) ≡ Ok (labels_of new))) → IfOk result (λ _. (letters : Letters) → HoldsLabelsBy letters octets → IfSome origin (HoldsNameBy letters) → HoldsNameBy letters new × ((labels : List (List ℕ)) → Collects (labels_of octets) spelled.is_too_long labels → under_origin (origin_in origin) (Ok (labels, spelled.is_absolute)) ≡ Ok (labels_of new)))
-finished origin spelled octets ending new result ends = IfOk-weaker result _ _ (λ done is letters holds known.
-    let both = is letters holds (ends.name letters known) in
-    (both.0, λ labels collects. ends.under labels ∙ ap (λ ls. sized (ls ++ labels_of ending)) (sym (rw ends.short at collects)) ∙ both.1))
+finished origin spelled octets ending new result ends =
+    grind (arith, common_steps, IfOk-weaker)
 
 pub unfinished : (origin : Option (List ℕ)) (spelled : Spelled) (octets ending : List ℕ) (result : Result (Unit {0}) NameFault) → Ends origin spelled ending → IfErr result (λ fault. (letters : Letters) → HoldsLabelsBy letters octets → HoldsNameBy letters ending → sized (labels_of octets ++ labels_of ending) ≡ Err fault) → IfErr result (λ fault. (letters : Letters) → HoldsLabelsBy letters octets → IfSome origin (HoldsNameBy letters) → (labels : List (List ℕ)) → Collects (labels_of octets) spelled.is_too_long labels → under_origin (origin_in origin) (Ok (labels, spelled.is_absolute)) ≡ Err fault)
 unfinished origin spelled octets ending result ends = IfErr-weaker result _ _ (λ fault is letters holds known labels collects.
@@ -125,8 +107,7 @@ relative_long origin above spelled held labels relative is long collects =
 
 pub named_by : (letters : Letters) (origin : Option (List ℕ)) (text octets new : List ℕ) (spelled : Spelled) (result : Result (Unit {0}) NameFault) → HoldsLabelsBy letters octets → IsReadBy letters text octets spelled → IfSome origin (HoldsNameBy letters) → IfOk result (λ _. (by : Letters) → HoldsLabelsBy by octets → IfSome origin (HoldsNameBy by) → HoldsNameBy by new × ((labels : List (List ℕ)) → Collects (labels_of octets) spelled.is_too_long labels → under_origin (origin_in origin) (Ok (labels, spelled.is_absolute)) ≡ Ok (labels_of new))) → IfErr result (λ fault. (by : Letters) → HoldsLabelsBy by octets → IfSome origin (HoldsNameBy by) → (labels : List (List ℕ)) → Collects (labels_of octets) spelled.is_too_long labels → under_origin (origin_in origin) (Ok (labels, spelled.is_absolute)) ≡ Err fault) → IfOk result (λ _. HoldsNameBy letters new × (name_read letters (origin_in origin) text ≡ Ok (labels_of new))) × IfErr result (λ fault. name_read letters (origin_in origin) text ≡ Err fault)
 named_by letters origin text octets new spelled (Ok done) holds read known ok err =
-    let both = ok letters holds known in
-    ((both.0, ap (λ r. under_origin (origin_in origin) (lettered_in letters r)) read.1 ∙ both.1 (lettered letters read.0) read.2), tt)
+    grind (arith, common_steps)
 named_by letters origin text octets new spelled (Err fault) holds read known ok err =
     (tt, ap (λ r. under_origin (origin_in origin) (lettered_in letters r)) read.1 ∙ err letters holds known (lettered letters read.0) read.2)
 
@@ -145,5 +126,6 @@ held_short Kept octets holds = rw holds.whole at holds.name.short
 held_short Folded octets holds = rw holds.whole at holds.name.short
 
 pub held_origin : (letters : Letters) (origin : Option (List ℕ)) → IfSome origin (HoldsNameBy letters) → IfSome (origin_in origin) (IsNameBy letters)
-held_origin letters None known = tt
-held_origin letters (Some above) known = held_name letters above known
+held_origin letters origin known = grind (arith, common_steps, held_name)
+
+pub ruleset name_ends = (absolute_long, relative_long, finished, unfinished, ends_above)

@@ -4,7 +4,7 @@ use Rattle.std.proofs.lemmas.List.{drop-set-lt}
 use Rattle.std.proofs.lemmas.Simd.{none_from_empty_mask}
 use Rattle.std.specs.Int.Count.{count_trailing_zeros}
 use Rattle.std.specs.Simd.Lanes.{mask_l}
-use Rattle.zone_name.proofs.Common.{List, TellsMarks, ap, arith, cases_lt, drop, drop-drop, false, get_or, inl, inr, is_mark, is_plain, length, length-drop, length-set, length-take-le, map, not, run_in_chunk_fails, run_in_chunk_stops, set, sym, take, trailing_mask_l, true, ℕ, ◌+◌, ◌-◌, ◌/◌, ◌<◌, ◌∙◌, ◌≡◌, ◌≢◌, ◌≤◌}
+use Rattle.zone_name.proofs.Common.{common_steps, List, TellsMarks, ap, arith, cases_lt, drop, drop-drop, false, get_or, inl, inr, is_mark, is_plain, length, length-drop, length-set, length-take-le, map, not, run_in_chunk_fails, run_in_chunk_stops, set, sym, take, trailing_mask_l, true, ℕ, ◌+◌, ◌-◌, ◌/◌, ◌<◌, ◌∙◌, ◌≡◌, ◌≢◌, ◌≤◌}
 use Rattle.zone_name.proofs.InOctets.Runs.{after_bits, first_inside}
 use Rattle.zone_name.specs.declared.reading.Marks.{Marks}
 use lib.Lanes.{chunk}
@@ -84,8 +84,7 @@ pub looked : (marks : Marks) (octets : List ℕ) (at : ℕ) → at + 16 ≤ leng
     → marks.bits ≡ mask_l (map is_mark (chunk at 16 octets)) → marks.seen ≡ at + 16
     → TellsMarks marks octets at
 looked marks octets at room bits seen =
-    let n : 16 ≡ marks.seen - at = omega (arith, seen) in
-    grind arith
+    grind (arith, common_steps)
 
 -- an octet before them changes
 pub tells_set : (marks : Marks) (octets : List ℕ) (start at v : ℕ) → at < start

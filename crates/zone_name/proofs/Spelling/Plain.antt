@@ -1,12 +1,12 @@
 -- A text without escapes, whose labels' lengths are written over the dots before them.
 use lib.Lanes.{put_chunk}
-use Rattle.zone_name.proofs.Common.{common_steps, AllByRecursion, AreOctets, Bool, HoldsCasedLabels, IsCasedName, IsUnit, IsWrittenLabel, List, Ok, WritesLengths, Written, [], after_dots, ap, append-nil, append_assoc, ap₂, arith, bytes_decides, dotted, drop, drop_at, drop_more, eqb-false, false, flat_map, flat_map-append, get_or, get_or-drop, is_dot, is_mark, is_plain, kept, labels_of, length, length-append, length-drop, length-map, length-set, length-take-le, map, map-map, map_push, nat_eq, not-true, octet_of, or_parts, parted, plain, pointwise, reading, set, set_at, suc, sym, take, take-append-drop, take_at, take_more_put_chunk, true, with_length, written_octets, written_text, zero, ℕ, ◌++◌, ◌+◌, ◌-◌, ◌<◌, ◌==◌, ◌∙◌, ◌∷◌, ◌≡◌, ◌≤◌}
+use Rattle.zone_name.proofs.Common.{common_steps, AllByRecursion, AreOctets, Bool, HoldsCasedLabels, IsCasedName, IsUnit, IsWrittenLabel, List, Ok, WritesLengths, Written, [], after_dots, ap, append-nil, append_assoc, ap₂, arith, bytes_decides, dotted, drop, drop_at, drop_more, eqb-false, eqb-true, false, flat_map, flat_map-append, get_or, get_or-drop, is_dot, is_mark, is_plain, kept, labels_of, length, length-append, length-drop, length-map, length-set, length-take-le, map, map-map, map_push, nat_eq, not-true, octet_of, or_parts, parted, plain, pointwise, reading, set, set_at, suc, sym, take, take-append-drop, take_at, take_more_put_chunk, true, with_length, written_octets, written_text, zero, ℕ, ◌++◌, ◌+◌, ◌-◌, ◌<◌, ◌==◌, ◌∙◌, ◌∷◌, ◌≡◌, ◌≤◌}
 use Rattle.zone_name.proofs.InOctets.OctetLanes.{itself}
 use Rattle.zone_name.proofs.InOctets.Octets.{labels_of-open_cased}
 use Rattle.zone_name.proofs.InOctets.Pushing.{AllByRecursion-append, HoldsCasedLabels-frames, frames_push}
-use Rattle.zone_name.proofs.Spelling.Marks.{ArePlainFrom}
+use Rattle.zone_name.proofs.Spelling.Marks.{ArePlainFrom, tells_set}
 use Rattle.zone_name.proofs.Spelling.Spelled.{AreShort, Says, finds}
-use Rattle.zone_name.proofs.Spelling.Answered.{reading-says_ok, labels-says_ok}
+use Rattle.zone_name.proofs.Spelling.Answered.{parted-dotted, reading-says_ok, labels-says_ok}
 use Rattle.zone_name.proofs.Texts.Bare.{plain_text}
 
 -- ---- one label more
@@ -92,11 +92,6 @@ dots-parted : (label : List Written) (labels : List (List Written))
 dots-parted label [] = append-nil (46 ∷ written_text label)
 dots-parted label (next ∷ labels) = cc (dots-parted next labels)
 
-parted-dotted : (label : List Written) (labels : List (List Written))
-    → parted (label ∷ labels) ++ 46 ∷ [] ≡ dotted (label ∷ labels)
-parted-dotted label [] = sym (append-nil (written_text label ++ 46 ∷ []))
-parted-dotted label (next ∷ labels) = grind (arith, append_assoc, parted-dotted next labels)
-
 -- a text, and what of it stands before a dot at its end
 abbrev pub IsCut : List ℕ → List ℕ → Bool → Type 0
 IsCut text front true = text ≡ front ++ 46 ∷ []
@@ -141,3 +136,5 @@ plain_room text front rest before after is_absolute cut octets fits room same lo
       short = omega (arith, fits, room, same, length-take-le len after (omega (arith, fits, same)), ap length frames, length-append (flat_map with_length labels) (0 ∷ []));
     } in
     grind (arith, HoldsCasedLabels-frames, reading-says_ok, labels_of-open_cased)
+
+pub ruleset lengths_written = (lengths_next, length-set, tells_set, eqb-true)

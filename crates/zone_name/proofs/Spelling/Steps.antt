@@ -1,6 +1,7 @@
 -- The walk over a text: what was read so far, and what it leads to.
-use Rattle.zone_name.proofs.Common.{Ahead, Bool, Closes, Collects, EmptyLabel, EndsInFault, EndsLabelAt, Err, Goes, LabelTooLong, List, NameFault, Ok, RefusesLabel, Result, Step, [], ahead_in, ap, arith, at_dot, at_octet, common_steps, done, empty, failed, false, flat_map-append, goes, inl, inr, le-leb, length, length-append, long, lt-leb, read, refl, step_at, suc, sym, wire, zero, ℕ, ◌++◌, ◌<◌, ◌||◌, ◌∙◌, ◌∷◌, ◌≡◌, ◌≤◌}
+use Rattle.zone_name.proofs.Common.{err_from_is_err_and, nat_tests, Ahead, Bool, Closes, Collects, EmptyLabel, EndsInFault, EndsLabelAt, Err, Goes, LabelTooLong, List, NameFault, Ok, RefusesLabel, Result, Step, [], ahead_in, ap, arith, at_dot, at_octet, common_steps, done, empty, failed, false, flat_map-append, goes, inl, inr, le-leb, length, length-append, long, lt-leb, read, refl, step_at, suc, sym, wire, zero, ℕ, ◌++◌, ◌<◌, ◌||◌, ◌∙◌, ◌∷◌, ◌≡◌, ◌≤◌}
 use Rattle.zone_name.specs.Machine.LabelWalk.{reading}
+use Rattle.zone_name.proofs.InOctets.Pushing.{HoldsCasedLabels-nil, labels_of-none}
 use Rattle.zone_name.proofs.Spelling.Ahead.{ahead_shrinks}
 
 -- ---- one step of the reading
@@ -107,3 +108,7 @@ Reads-relative text before after is_too_long is_left_out rest label following re
       cc (end_step reached.0 reads.labels label following reached.1 closes.some is),
       (grind (arith, wire-more, reads.collects, closes.joins)),
     )
+
+pub ruleset labels_read = (reading-nil, nat_tests, HoldsCasedLabels-nil, Reads-start, labels_of-none, Reads-label)
+
+pub ruleset label_refused = (err_from_is_err_and, Refuses-label)

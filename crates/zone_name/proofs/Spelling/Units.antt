@@ -1,5 +1,5 @@
 -- Written octets at the beginning of a text: what is read is so, and what is so is read.
-use Rattle.zone_name.proofs.Common.{AllByRecursion, BeginsWithEscape, BeginsWithUnit, Bool, IsBadEscape, IsEscape, IsUnit, List, None, Option, Some, Written, [], ap, append_assoc, arith, both_ways, common_steps, cond_both, eqb-false, eqb-true, escaped, false, if◌then◌else◌, is_digit, le-leb, length, length-append, ne_eqb, no_octet, option_map, or_cases, or_parts, plain, refl, suc, text_of, true, written_text, zero, ℕ, ◌++◌, ◌<◌, ◌==◌, ◌||◌, ◌∷◌, ◌≡◌, ◌≢◌, ◌≤◌}
+use Rattle.zone_name.proofs.Common.{AllByRecursion, BeginsWithEscape, BeginsWithUnit, Bool, IsBadEscape, IsEscape, IsUnit, List, None, Option, Some, Written, [], ap, append_assoc, arith, common_steps, cond_both, eqb-false, eqb-true, escaped, false, if◌then◌else◌, is_digit, le-leb, length, length-append, ne_eqb, no_octet, option_map, or_parts, plain, refl, suc, text_of, true, written_text, zero, ℕ, ◌++◌, ◌<◌, ◌==◌, ◌∷◌, ◌≡◌, ◌≢◌, ◌≤◌}
 use Rattle.std.specs.Prelude.{IfSome}
 use Rattle.zone_name.specs.Machine.Units.{digits_first, escape_first, unit_first, Units, units_then, units_by, units_first, valued}
 
@@ -20,17 +20,8 @@ IsFirst left_out octets (Some (w, rest)) = IsUnit left_out w × (octets ≡ text
 pub unit_of_escape : (left_out : ℕ → Bool) (w : Written) → IsEscape w → IsUnit left_out w
 unit_of_escape left_out w is = grind arith
 
-pub bare_backslash : (w : Written) (after : List ℕ) → IsEscape w → 92 ∷ [] ≡ text_of w ++ after → ⊥
-bare_backslash w after is e = grind arith
-
-pub one_digit : (x : ℕ) → is_digit x ≡ true → (w : Written) (after : List ℕ) → IsEscape w → 92 ∷ x ∷ [] ≡ text_of w ++ after → ⊥
-one_digit x d w after is e = grind (arith, both_ways)
-
-pub two_digits : (x y : ℕ) → is_digit x ≡ true → (w : Written) (after : List ℕ) → IsEscape w → 92 ∷ x ∷ y ∷ [] ≡ text_of w ++ after → ⊥
-two_digits x y d w after is e = grind (arith, both_ways)
-
-no_escaped : (x : ℕ) (rest : List ℕ) → is_digit x ≡ false → (x == 10 || x == 13) ≡ true → (w : Written) (after : List ℕ) → IsEscape w → 92 ∷ x ∷ rest ≡ text_of w ++ after → ⊥
-no_escaped x rest d t w after is e = grind (arith, or_cases, eqb-true, both_ways)
+escape_reads : (w : Written) (after rest : List ℕ) → IsEscape w → 92 ∷ rest ≡ text_of w ++ after → escape_first rest ≡ Some (w, after)
+escape_reads w after rest is e = grind (arith, ne_eqb, le-leb)
 
 -- ---- what is read at the beginning is so
 
@@ -40,17 +31,14 @@ SaysEscape text None = IsBadEscape text
 SaysEscape text (Some (w, rest)) = IsEscape w × (text ≡ text_of w ++ rest)
 
 digits_are : (x : ℕ) (rest : List ℕ) → is_digit x ≡ true → SaysEscape (92 ∷ x ∷ rest) (digits_first x rest)
-digits_are x rest d = grind (arith, one_digit, two_digits)
+digits_are x rest d = grind (arith, escape_reads)
 
 -- each escape that is read is what the text's spelling says
 pub escape_is : (rest : List ℕ) → SaysEscape (92 ∷ rest) (escape_first rest)
-escape_is rest = grind (arith, bare_backslash, cond_both, digits_are, no_escaped, or_parts, eqb-false)
-
-first_of_escape : (left_out : ℕ → Bool) (text : List ℕ) (read : Option (Written × List ℕ)) → SaysEscape text read → IsFirst left_out text read
-first_of_escape left_out text read says = grind (arith, unit_of_escape)
+escape_is rest = grind (arith, cond_both, digits_are, escape_reads, or_parts, eqb-false)
 
 octet_is : (left_out : ℕ → Bool) (c : ℕ) (rest : List ℕ) → left_out c ≡ false → IsFirst left_out (c ∷ rest) (if c == 92 then escape_first rest else Some (plain c, rest))
-octet_is left_out c rest goes_on = grind (arith, cond_both, ℕ, eqb-true, first_of_escape, escape_is, eqb-false)
+octet_is left_out c rest goes_on = grind (arith, cond_both, ℕ, eqb-true, unit_of_escape, escape_is, eqb-false)
 
 pub first_is : (left_out : ℕ → Bool) (octets : List ℕ) → IsFirst left_out octets (unit_first left_out octets)
 first_is left_out [] = at_end refl
@@ -76,12 +64,9 @@ pub record UnitsAre (left_out : ℕ → Bool) (octets : List ℕ) (found : Units
 pub text_of-some : (w : Written) → 0 < length (text_of w)
 text_of-some w = grind arith
 
-one_more : (left_out : ℕ → Bool) (octets rest : List ℕ) (w : Written) (found : Units) → IsUnit left_out w → octets ≡ text_of w ++ rest → UnitsAre left_out rest found → UnitsAre left_out octets (record { units = w ∷ found.units; rest = found.rest })
-one_more left_out octets rest w found is e more = grind (arith, append_assoc)
-
 units_by_first : (left_out : ℕ → Bool) (octets : List ℕ) (go_on : List ℕ → Units) (found : Option (Written × List ℕ)) → IsFirst left_out octets found → ((rest : List ℕ) → length rest < length octets → UnitsAre left_out rest (go_on rest)) → UnitsAre left_out octets (units_then go_on octets found)
 units_by_first left_out octets go_on None is more = record { whole = refl; each = tt; none = is }
-units_by_first left_out octets go_on (Some (w, rest)) is more = one_more left_out octets rest w (go_on rest) is.0 is.1 (more rest (omega (arith, ap length is.1, length-append (text_of w) rest, text_of-some w)))
+units_by_first left_out octets go_on (Some (w, rest)) is more = grind (arith, append_assoc, more rest (omega (arith, ap length is.1, length-append (text_of w) rest, text_of-some w)))
 
 units_are : (n : ℕ) (left_out : ℕ → Bool) (octets : List ℕ) → length octets ≤ n → UnitsAre left_out octets (units_by n left_out octets)
 unfolding units_by

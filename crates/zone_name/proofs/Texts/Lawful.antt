@@ -37,34 +37,24 @@ written_is : (special printed : Bool) (c : ℕ) → c < 256 → is_special c ≡
 unfolding written_by
 written_is special printed c h e = search rules
 
-label_each : (label : List ℕ) → AllByRecursion IsFoldedOctet label → AllByRecursion (IsUnit is_dot) (map printed_octet label)
-label_each [] each = tt
-label_each (c ∷ label) each = (written_is (is_special c) (is_printed c) c each.0.octet refl, label_each label each.1)
+label_printed : (label : List ℕ) → AllByRecursion IsFoldedOctet label → AllByRecursion (IsUnit is_dot) (map printed_octet label) × (written_text (map printed_octet label) ≡ flat_map octet_text label) × (folded_label (written_octets (map printed_octet label)) ≡ label)
+label_printed [] each = (tt, refl, refl)
+label_printed (c ∷ label) each =
+    let more = label_printed label each.1 in
+    ((written_is (is_special c) (is_printed c) c each.0.octet refl, more.0), cc (printed_text (is_special c) (is_printed c) c, more.1), cc (value_by (is_special c) (is_printed c) c, more.2))
 
-label_spelling : (label : List ℕ) → written_text (map printed_octet label) ≡ flat_map octet_text label
-label_spelling [] = refl
-label_spelling (c ∷ label) = cc (printed_text (is_special c) (is_printed c) c, label_spelling label)
-
-label_back : (label : List ℕ) → AllByRecursion IsFoldedOctet label → folded_label (written_octets (map printed_octet label)) ≡ label
-label_back [] each = refl
-label_back (c ∷ label) each = cc (value_by (is_special c) (is_printed c) c, label_back label each.1)
-
-name_each : (labels : List (List ℕ)) → AllByRecursion IsLabel labels → AllByRecursion IsWrittenLabel (map (map printed_octet) labels)
-name_each [] each = tt
-name_each (label ∷ labels) each = ((grind (arith, length-map, printed_octet, label_each, each.0)), name_each labels each.1)
-
-name_spelling : (labels : List (List ℕ)) → dotted (map (map printed_octet) labels) ≡ flat_map label_text labels
-name_spelling [] = refl
-name_spelling (label ∷ labels) = cc (label_spelling label, name_spelling labels)
-
-name_back : (labels : List (List ℕ)) → AllByRecursion IsLabel labels → named (map (map printed_octet) labels) ≡ labels
-name_back [] each = refl
-name_back (label ∷ labels) each = cc (label_back label each.0.each, name_back labels each.1)
+name_printed : (labels : List (List ℕ)) → AllByRecursion IsLabel labels → AllByRecursion IsWrittenLabel (map (map printed_octet) labels) × (dotted (map (map printed_octet) labels) ≡ flat_map label_text labels) × (named (map (map printed_octet) labels) ≡ labels)
+name_printed [] each = (tt, refl, refl)
+name_printed (label ∷ labels) each =
+    let first = label_printed label each.0.each in
+    let more = name_printed labels each.1 in
+    (((grind (arith, length-map)), more.0), cc (first.1, more.1), cc (first.2, more.2))
 
 printed_by : (origin : Option (List (List ℕ))) (labels : List (List ℕ)) → IsName labels → Writes origin (name_text labels) labels
 printed_by origin [] name = root refl refl
 printed_by origin (label ∷ labels) name =
-    absolute (map (map printed_octet) (label ∷ labels)) (record { some = omega arith; each = name_each (label ∷ labels) name.each }) (sym (name_spelling (label ∷ labels))) (sym (name_back (label ∷ labels) name.each))
+    let printed = name_printed (label ∷ labels) name.each in
+    absolute (map (map printed_octet) (label ∷ labels)) (record { some = omega arith; each = printed.0 }) (sym printed.1) (sym printed.2)
 
 pub name_text-spelled : (origin : Option (List (List ℕ))) (labels : List (List ℕ)) → IsName labels → Spells origin (name_text labels) labels
 name_text-spelled origin labels name = record { written = printed_by origin labels name; name = name }

@@ -18,9 +18,9 @@ name_text_length (label ∷ labels) = omega (arith, labels_length (label ∷ lab
 octet_text-shown : (c : ℕ) → IsShown c → octet_text c ≡ c ∷ []
 octet_text-shown c shown = grind (arith, le-leb)
 
-pub flat_map-shown : (label : List ℕ) → EachIndex label (λ k. IsShown (slice_index label k)) → flat_map octet_text label ≡ label
-flat_map-shown [] each = refl
-flat_map-shown (c ∷ label) each = ap₂ (λ (x y : List ℕ). x ++ y) (octet_text-shown c (each 0 (omega arith))) (flat_map-shown label (λ k h. each (suc k) (omega (arith, h))))
+pub flat_map_shown : (label : List ℕ) → EachIndex label (λ k. IsShown (slice_index label k)) → flat_map octet_text label ≡ label
+flat_map_shown [] each = refl
+flat_map_shown (c ∷ label) each = ap₂ (λ (x y : List ℕ). x ++ y) (octet_text-shown c (each 0 (omega arith))) (flat_map_shown label (λ k h. each (suc k) (omega (arith, h))))
 
 -- what a walk over labels has printed, and what is left
 pub prints_more : (text : List ℕ) (whole : List ℕ) (left rest : List (List ℕ)) (label : List ℕ) → left ≡ label ∷ rest → text ++ flat_map label_text left ≡ whole → (text ++ label_text label) ++ flat_map label_text rest ≡ whole

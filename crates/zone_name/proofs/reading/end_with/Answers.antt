@@ -1,5 +1,5 @@
-use Rattle.zone_name.proofs.Common.{Err, IfOk, IsOk, Ok, Result, is_ok, rules, sym, ◌≡◌}
-use Rattle.zone_name.proofs.Spelling.Letters.{ended_with, joined-long}
+use Rattle.zone_name.proofs.Common.{Err, IfOk, IsOk, Ok, Result, is_ok, sym, ◌≡◌}
+use Rattle.zone_name.proofs.Spelling.Letters.{ended_with}
 use Rattle.zone_name.proofs.InOctets.Pushing.{taken}
 use Rattle.zone_name.proofs.reading.end_with.Goals as goal
 
@@ -15,6 +15,3 @@ returns-clause-ok c =
     mapped c.map_err.result extended.result _ c.map_err.ensures.variant (λ is. λ letters holds name.
     ended_with letters c.args.octets.now.items c.args.ending.now extended.new.self.items
     holds name (taken extended.result is extended.ensures.ok) (extended.ensures.variant.0 is))
-
-pub returns-clause-err : goal.returns-clause-err
-returns-clause-err c = search (rules, joined-long c.args.octets.now.items c.args.ending.now)

@@ -21,14 +21,7 @@ loop-marks-preserved c =
       tells = looked (record { bits = c.mark_bits.result; seen = marks.seen + 16 }) octets marks.seen (omega (arith, within, c.if-octets-end-lt-LANES.false)) c.mark_bits.ensures refl;
     }
 
-pub returns-clause-back : goal.returns-clause-back
-returns-clause-back c = omega (arith, (next_mark c.loop-marks.marks c.args.octets.now c.args.start c.loop-marks.end c.loop-marks.invariant c.loop-marks-test.false).within)
-
-pub returns-clause-each : goal.returns-clause-each
-returns-clause-each c = (next_mark c.loop-marks.marks c.args.octets.now c.args.start c.loop-marks.end c.loop-marks.invariant c.loop-marks-test.false).each
-
-pub returns-clause-ends : goal.returns-clause-ends
-returns-clause-ends c = λ room. (next_mark c.loop-marks.marks c.args.octets.now c.args.start c.loop-marks.end c.loop-marks.invariant c.loop-marks-test.false).stops
-
-pub returns-clause-tells : goal.returns-clause-tells
-returns-clause-tells c = (next_mark c.loop-marks.marks c.args.octets.now c.args.start c.loop-marks.end c.loop-marks.invariant c.loop-marks-test.false).tells
+pub returns : goal.returns
+returns c =
+    let next = next_mark c.loop-marks.marks c.args.octets.now c.args.start c.loop-marks.end c.loop-marks.invariant c.loop-marks-test.false in
+    record { front = omega (arith, c.loop-marks.invariant.front); back = omega (arith, next.within); each = next.each; ends = λ room. next.stops; tells = next.tells }

@@ -1,24 +1,12 @@
-use Rattle.zone_name.proofs.Common.{arith, nat_tests, nil_from_length, labels_of}
-use Rattle.zone_name.proofs.InOctets.Pushing.{HoldsCasedLabels-nil, labels_of-none}
-use Rattle.zone_name.proofs.Spelling.Steps.{reading-nil, Reads-start, Reads-label, Reads-relative}
+use Rattle.zone_name.proofs.Common.{nil_from_length, labels_of}
+use Rattle.zone_name.proofs.InOctets.Pushing.{HoldsCasedLabels-nil}
+use Rattle.zone_name.proofs.Spelling.Steps.{Reads-relative}
 use Rattle.zone_name.proofs.reading.read_labels.Goals as goal
 
 pub returns-then-is_empty-clause-holds : goal.returns-then-is_empty-clause-holds
 returns-then-is_empty-clause-holds c = HoldsCasedLabels-nil c.args.octets.now.items c.requires
 
-pub returns-then-is_empty-clause-fault : goal.returns-then-is_empty-clause-fault
-returns-then-is_empty-clause-fault c = reading-nil c.args.text.now (grind (arith, nat_tests, c.is_empty.ensures, c.if-is_empty.true))
-
-pub loop-rest-init : goal.loop-rest-init
-loop-rest-init c =
-    (HoldsCasedLabels-nil c.args.octets.now.items c.requires, Reads-start c.args.text.now (labels_of c.args.octets.now.items) (grind (arith, nat_tests, c.is_empty.ensures, c.if-is_empty.false)) (labels_of-none c.args.octets.now.items c.requires))
-
 pub returns-in_default-clause-labels : goal.returns-in_default-clause-labels
 returns-in_default-clause-labels c =
     let read = c.in_ok-is_left_out.ensures.ok in
     Reads-relative c.args.text.now (labels_of c.loop-rest.octets.items) (labels_of c.read_label.new.octets.items) c.loop-rest.is_too_long c.in_ok-is_left_out.field-0.is_left_out c.loop-rest.rest.now read.0 c.in_ok-is_left_out.field-0.following.now c.loop-rest.invariant.1 read.1 read.2 (nil_from_length c.in_ok-is_left_out.field-0.following.now c.in_default.ensures.cases)
-
-pub loop-rest-preserved : goal.loop-rest-preserved
-loop-rest-preserved c =
-    let read = c.in_ok-is_left_out.ensures.ok in
-    (c.in_ok-is_left_out.ensures.holds, Reads-label c.args.text.now (labels_of c.loop-rest.octets.items) (labels_of c.read_label.new.octets.items) c.loop-rest.is_too_long c.in_ok-is_left_out.field-0.is_left_out c.loop-rest.rest.now read.0 c.in_ok-is_left_out.field-0.following.now c.in-Some.after.now _ c.loop-rest.invariant.1 read.1 read.2 c.in-Some.ensures.cases.0)

@@ -1,5 +1,5 @@
 use Rattle.zone_name.proofs.Common.{arith, eqb-true, labels_of}
-use Rattle.zone_name.proofs.InOctets.Octets.{length-labels}
+use Rattle.zone_name.proofs.InOctets.Octets.{few_labels}
 use Rattle.zone_name.proofs.Spelling.WholeText.{begins_with, put_front, spelled_whole}
 use Rattle.zone_name.proofs.shown.spell_shown.Goals as goal
 
@@ -10,7 +10,7 @@ write_dots-labels-requires c =
 pub overflow_add-result : goal.overflow_add-result
 overflow_add-result c =
     let begins = begins_with c.args.name.now c.put.new.room c.requires.name (put_front c.args.room.now c.args.name.now c.put.new.room (omega (arith, c.requires.room)) c.put.ensures) in
-    omega (arith, c.write_dots-labels.ensures.labels, length-labels (labels_of c.put.new.room) begins.name)
+    omega (arith, c.write_dots-labels.ensures.labels, few_labels (labels_of c.put.new.room) begins.name)
 
 pub returns-in-Some : goal.returns-in-Some
 returns-in-Some c = λ same.

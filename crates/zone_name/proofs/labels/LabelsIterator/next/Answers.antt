@@ -1,11 +1,6 @@
-use Rattle.zone_name.proofs.Common.{ap, ◌∙◌, sym, arith, rules, labels_of}
-use Rattle.zone_name.proofs.InOctets.Octets.{next_label, root_label}
+use Rattle.zone_name.proofs.Common.{◌∙◌, sym, arith, rules}
+use Rattle.zone_name.proofs.InOctets.Octets.{next_label}
 use Rattle.zone_name.proofs.labels.LabelsIterator.next.Goals as goal
-
-pub returns-then-len-eq0-clause-steps : goal.returns-then-len-eq0-clause-steps
-returns-then-len-eq0-clause-steps c =
-    let e = sym c.self.view_is ∙ ap labels_of c.in_ok-len.ensures.cases.0 ∙ root_label c.in_ok-len.len.now c.in_ok-len.after.now c.if-len-eq0.true in
-    (e, e)
 
 pub split_at-requires : goal.split_at-requires
 split_at-requires c = (next_label _ c.in_ok-len.len.now c.in_ok-len.after.now c.in_ok-len.ensures.cases.0 c.self.invariant (omega arith)).fits

@@ -1,9 +1,6 @@
 use Rattle.std.proofs.Common.{ap, ◌∙◌, length}
-use Rattle.zone_name.proofs.InOctets.Comparing.{name_cmp-more, name_cmp-same, name_cmp-start}
+use Rattle.zone_name.proofs.InOctets.Comparing.{name_cmp-more, name_cmp-start}
 use Rattle.zone_name.proofs.order.NameRefOrd.cmp.Goals as goal
-
-pub returns-then-eq : goal.returns-then-eq
-returns-then-eq c = name_cmp-same c.args.self.now c.args.other.now c.eq.result c.eq.ensures c.if-eq.true
 
 pub loop-label-init : goal.loop-label-init
 loop-label-init c =
