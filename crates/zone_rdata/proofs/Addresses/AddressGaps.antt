@@ -10,10 +10,9 @@ NoGaps (c ∷ []) = Unit {0}
 NoGaps (c ∷ d ∷ text) = (c ≡ 58 → d ≡ 58 → ⊥) × NoGaps (d ∷ text)
 
 no_gaps_at : (text : List ℕ) (k : ℕ) → NoGaps text → HasGapAt text k → ⊥
-no_gaps_at [] k none at = omega (arith, at.0)
-no_gaps_at (c ∷ []) k none at = omega (arith, at.1)
 no_gaps_at (c ∷ d ∷ text) zero none at = none.0 at.0 at.1
 no_gaps_at (c ∷ d ∷ text) (suc k) none at = no_gaps_at (d ∷ text) k none.1 at
+no_gaps_at text k none at = grind arith
 
 no_gaps_tail : (c : ℕ) (text : List ℕ) → NoGaps (c ∷ text) → NoGaps text
 no_gaps_tail c text none = grind arith
@@ -80,7 +79,7 @@ pub refused_at_gap : (text back : List ℕ) (at : ℕ) → back ≡ drop (at + 2
 refused_at_gap text back at e first refused octets (eight are len) = parts_no_gap true text octets are at first.here
 refused_at_gap text back at e first refused octets (fewer front' back' parted around) =
     let same = around_gap text front' back' at octets first parted around in
-    refused octets (subst (λ t. AreAround (take at text) t octets) (same.1 ∙ sym e) (subst (λ t. AreAround t back' octets) same.0 around))
+    refused octets (rw (← same.0, e, ← same.1) around)
 
 pub found_at_gap : (text back : List ℕ) (at : ℕ) → back ≡ drop (at + 2) text → at + 2 ≤ length text → HasGapAt text at → (octets : List ℕ) → AreAround (take at text) back octets → IsIpv6Address text octets
 found_at_gap text back at e inside gap octets around = fewer (take at text) back (grind (arith, drop_more, take-append-drop) ∙ ap (λ t. take at text ++ 58 ∷ 58 ∷ t) (sym e)) around
@@ -108,5 +107,4 @@ groups_unique text a b (fewer front back parted x) (fewer front' back' parted' y
     let first = front_gap text front back x.before parted x.front_parts in
     let p = around_gap text front back (length front) a first parted x in
     let q = around_gap text front' back' (length front) b first parted' y in
-    let z = subst (λ t. AreAround front t b) (q.1 ∙ sym p.1) (subst (λ t. AreAround t back' b) (q.0 ∙ sym p.0) y) in
-    cc (parts_unique false front x.before z.before x.front_parts z.front_parts, parts_unique true back x.after z.after x.back_parts z.back_parts)
+    grind (arith, parts_unique false front x.before y.before x.front_parts, parts_unique true back x.after y.after x.back_parts)

@@ -32,7 +32,7 @@ dots_lack texts octets each = absurd each
 
 parts_by : (count : ℕ) (text octets : List ℕ) (numbers : List (List ℕ)) → length numbers ≡ suc count → text ≡ join_with_byte 46 numbers → AllZip IsOctetNumber numbers octets → (length (split 46 text) ≡ suc count) × AllZip IsOctetNumber (split 46 text) octets
 parts_by count text octets [] counted parted each = absurd (omega arith)
-parts_by count text octets (first ∷ numbers) counted parted each = rw (ap (split 46) parted ∙ split_join 46 first numbers (dots_lack (first ∷ numbers) octets each)) (counted, each)
+parts_by count text octets (first ∷ numbers) counted parted each = grind (arith, split_join, dots_lack (first ∷ numbers) octets each)
 
 -- numbers are what stands between the dots
 pub numbers_parts : (count : ℕ) (text octets : List ℕ) → AreNumbers (suc count) text octets → (length (split 46 text) ≡ suc count) × AllZip IsOctetNumber (split 46 text) octets
@@ -93,7 +93,7 @@ pub group_lacks : (c : ℕ) (p : AddressPart) → is_hex_digit c ≡ false → I
 group_lacks c p miss is =
     let zeros : List ℕ = replicate (4 - length p.text) 48 in
     let passes = ((IsOk-decode_sized (zeros ++ p.text) 2).0 (rw is.value refl)).1 in
-    let here : All (λ c. is_hex_digit c ≡ true) p.text = subst (All (λ c. is_hex_digit c ≡ true)) (drop_at zeros p.text (length zeros) refl) (All-drop (λ c. is_hex_digit c ≡ true) (length zeros) (zeros ++ p.text) passes) in
+    let here = rw (drop_at zeros p.text (length zeros) refl) at (All-drop (λ c. is_hex_digit c ≡ true) (length zeros) (zeros ++ p.text) passes) in
     each_weaker (λ d. d ≢ c) (λ d hit e. cc (sym hit ∙ ap is_hex_digit e ∙ miss)) p.text (recursion_from_All (λ c. is_hex_digit c ≡ true) p.text here)
 
 pub group_same : (text a b : List ℕ) → IsGroup (record { text = text; octets = a }) → IsGroup (record { text = text; octets = b }) → a ≡ b
@@ -108,4 +108,4 @@ pub last_same : (ends : Bool) (p q : AddressPart) → IsLastPart ends p → IsLa
 last_same ends p q (inl x) (inl y) e = cc
 last_same ends p q (inl x) (inr y) e = absurd (numbers_none q.text (subst (Lacks 46) e (group_lacks 46 p refl x)) 2 q.octets y.1)
 last_same ends p q (inr x) (inl y) e = absurd (numbers_none p.text (subst (Lacks 46) (sym e) (group_lacks 46 q refl y)) 2 p.octets x.1)
-last_same ends p q (inr x) (inr y) e = numbers_unique 3 p.text p.octets q.octets x.1 (subst (λ t. IsIpv4Address t q.octets) (sym e) y.1)
+last_same ends p q (inr x) (inr y) e = grind (arith, numbers_unique 3 p.text p.octets q.octets x.1)

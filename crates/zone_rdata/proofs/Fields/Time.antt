@@ -3,7 +3,7 @@ use Rattle.zone_rdata.proofs.Common.{arith, refl, u32_value, IsTime, plain, BadN
 use Rattle.zone_rdata.specs.Fields.Time.{SpellsTime}
 use Rattle.zone_rdata.proofs.Fields.FieldLaws.{FieldLaws, SizedField, bare_item, bare_or_fault, sized_front, value_or_fault}
 use Rattle.zone_rdata.proofs.Items.GenericLaws.{decimal-is}
-use Rattle.zone_rdata.proofs.Numbers.TimeChoice.{time_or_not}
+use Rattle.zone_rdata.proofs.Numbers.TimeLaws.{time_or_not}
 use Rattle.zone_rdata.proofs.Numbers.TimeLaws.{one_time}
 use Rattle.zone_rdata.proofs.Fields.Number.{serial_laws, serial_sized}
 

@@ -9,7 +9,7 @@ form_value laid own items stated octets fault e form is bad =
     subst (IsGenericDataFault (option_map fields_of laid) items) (sym bad.0) (no_value (fields_of own) stated laid_is form (λ canonical u. bad.1 canonical (subst (λ o. IsUncompressed (fields_of own) o canonical) (sym is) u)))
 
 pub not_marked : (items : List RawItem) (b : Bool) → b ≡ false → (IsTrue b ↔ IsGeneric items) → IsGeneric items → ⊥
-not_marked items b plain_items test g = let marked = test.1 g in cc (sym plain_items ∙ marked)
+not_marked items b plain_items test g = grind arith
 
 -- items in words
 pub words_read : {T : Type 0} (r : Result T Failing) (origin : Labels) (laid : Option Layout) (own : Layout) (items : List RawItem) (b : Bool) (octets : List ℕ) → laid ≡ Some own → b ≡ false → (IsTrue b ↔ IsGeneric items) → OnOk r (AreSpelt origin (fields_of own) items octets) → OnOk r (length octets ≤ 65535) → OnOk r (StatesFor origin (option_map fields_of laid) items octets)

@@ -38,7 +38,7 @@ read_all origin row own items i left octets same past none read =
 
 -- all is spelled, and takes too many octets
 pub read_long : (origin : Labels) (fields : List Field) (items : List RawItem) (octets : List ℕ) → 65535 < length octets → AreSpelt origin fields items octets → IsWordsFault origin fields items RdataTooLong
-read_long origin fields items octets long all = too_long all.values all.spelt (subst (λ o. 65535 < length o) all.written long)
+read_long origin fields items octets long all = grind (arith, too_long)
 
 -- a text of two octets is those two
 pub two_octets : (text : List ℕ) (a b : ℕ) → length text ≡ 2 → get_or text 0 0 ≡ a → get_or text 1 0 ≡ b → text ≡ a ∷ b ∷ []

@@ -5,7 +5,7 @@ use Rattle.zone_rdata.proofs.Items.GenericForm.{JoinTo-once, form_faults, form_m
 
 -- two forms of the same items
 forms_digits : (items : List RawItem) (m n : ℕ) (a b : List RawItem) → IsGenericForm items m a → IsGenericForm items n b → a ≡ b
-forms_digits items m n a b f g = let e = sym f.parts ∙ g.parts in cc
+forms_digits items m n a b f g = grind arith
 
 forms_length : (items : List RawItem) (m n : ℕ) (a b : List RawItem) → IsGenericForm items m a → IsGenericForm items n b → m ≡ n
 forms_length items m n a b f g = grind arith
@@ -27,11 +27,7 @@ generic_fault_once items _ _ _ _ = refl
 
 -- ---- a text is a decimal number or none
 pub decimal_or_not : (text : List ℕ) → Choice (IsDecimal text)
-decimal_or_not [] = inr (λ n h. absurd (omega (arith, h.some)))
-decimal_or_not (c ∷ text) = elim (each_or_not (λ d. is_digit d ≡ true) (λ d. true_or_not (is_digit d)) (c ∷ text)) [
-  | inl each ↦ inl (decimal_value (c ∷ text), record { some = omega arith; digits = each; value = refl })
-  | inr none ↦ inr (λ n h. none h.digits)
-]
+decimal_or_not text = grind (arith, each_or_not (λ d. is_digit d ≡ true) (λ d. true_or_not (is_digit d)) text, cases_lt 0 (length text))
 
 length_or_fault : (item : RawItem) → ((n : ℕ) × StatesLength item n × (n ≤ 65535)) ⊎ ((fault : Fault) × LengthFault item fault)
 length_or_fault (quoted text) = inr (BadGeneric, no_number (λ n h. h))

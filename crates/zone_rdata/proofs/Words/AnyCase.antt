@@ -14,7 +14,7 @@ pub same_test : (word name mnemonic : List ℕ) → name ≡ mnemonic → folded
 same_test word name mnemonic e same = grind (arith, bytes_eq-Decides)
 
 pub other_test : (word name mnemonic : List ℕ) → name ≡ mnemonic → (folded_label word ≡ folded_label name → ⊥) → bytes_eq (folded_label word) (folded_label mnemonic) ≡ false
-other_test word name mnemonic e other = elim (cases_Bool (bytes_eq (folded_label word) (folded_label mnemonic))) [ inl same ↦ absurd (other ((bytes_eq-Decides _ _).0 same ∙ ap folded_label (sym e))) | inr differs ↦ differs ]
+other_test word name mnemonic e other = grind (arith, cases_Bool, bytes_eq-Decides)
 
 -- ---- the number that a word stands for
 

@@ -1,5 +1,5 @@
 use Rattle.zone_rdata.proofs.Common.{plain, if_none_any, if_none_weaker}
-use Rattle.zone_rdata.proofs.Numbers.Times.{time_stops, read_whole}
+use Rattle.zone_rdata.proofs.Numbers.TimeLaws.{time_stops, read_whole}
 use Rattle.zone_rdata.proofs.time.seconds_of.Goals as goal
 
 pub returns-in-Some-clause-found : goal.returns-in-Some-clause-found
