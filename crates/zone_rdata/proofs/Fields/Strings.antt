@@ -20,9 +20,7 @@ back many rest last = grind (arith, ℕ, append-nil, strings_back)
 
 -- ---- strings up to the end of octets
 pub appends_strings : (octets rest old new : List ℕ) → AreWithLengths octets → AppendsPrefix (length octets) octets rest old new → AppendsValue Strings octets rest old new
-appends_strings octets rest old new framed grows =
-    let is = take_all (length octets) octets (omega arith) ∙ framed.2 in
-    appends_plain Strings octets rest old new (length octets) (strings framed.0) (λ e. cc) framed.1 is (λ e. grows.following ∙ drop_all (length octets) octets (omega arith)) grows
+appends_strings octets rest old new framed grows = grind (arith, appends_plain Strings octets rest old new (length octets) (strings framed.0), take_all, drop_all)
 
 pub none_strings : (octets : List ℕ) → (AreWithLengths octets → ⊥) → BeginsWithNone Strings octets
 none_strings octets none v rest b = none (search rules)
@@ -53,7 +51,7 @@ framed_empty octets none framed = grind (arith, frames_some)
 strings_first : (many whole : List (List ℕ)) (rest : List ℕ) → flat_map with_length many ++ rest ≡ flat_map with_length whole → (more : List (List ℕ)) × (rest ≡ flat_map with_length more)
 strings_first [] whole rest e = (whole, e)
 strings_first (x ∷ many) [] rest e = absurd (omega (arith, ap length e))
-strings_first (x ∷ many) (y ∷ whole) rest e = strings_first many whole rest (frame_same x y (flat_map with_length many ++ rest) (flat_map with_length whole) (sym (append_assoc (with_length x) (flat_map with_length many) rest) ∙ e)).1
+strings_first (x ∷ many) (y ∷ whole) rest e = strings_first many whole rest (grind (arith, append_assoc, frame_same x y))
 
 short_by : (more : List (List ℕ)) (c : ℕ) (following : List ℕ) → c ∷ following ≡ flat_map with_length more → length following < c → ⊥
 short_by [] c following e few = absurd (omega (arith, ap length e))
@@ -110,14 +108,12 @@ fault_once (item ∷ items) a b x y = first_once (item ∷ items) a b x y
 abbrev StringsChoice : List RawItem → Type 0
 StringsChoice items = ((many : List (List ℕ)) × SpellEachString items many) ⊎ ((fault : Fault) × FirstStringFault items fault)
 
-next_string : (item : RawItem) (items : List RawItem) → ((octets : List ℕ) × SpellsString item octets) ⊎ ((fault : Fault) × StringFault item fault) → StringsChoice items → StringsChoice (item ∷ items)
-next_string item items (inr bad) rest = inr (bad.0, inl bad.1)
-next_string item items (inl found) (inl more) = inl (found.0 ∷ more.0, (found.1, more.1))
-next_string item items (inl found) (inr bad) = inr (bad.0, inr (found.0, found.1, bad.1))
-
 each_or_fault : (items : List RawItem) → AreLowItems items → StringsChoice items
 each_or_fault [] low = inl ([], tt)
-each_or_fault (item ∷ items) low = next_string item items (string_or_fault item low.0) (each_or_fault items low.1)
+each_or_fault (item ∷ items) low = elim (string_or_fault item low.0) [
+  | inr bad ↦ inr (bad.0, inl bad.1)
+  | inl found ↦ elim (each_or_fault items low.1) [ inl more ↦ inl (found.0 ∷ more.0, (found.1, more.1)) | inr bad ↦ inr (bad.0, inr (found.0, found.1, bad.1)) ]
+]
 
 spelt_or_fault : (origin : Labels) (items : List RawItem) → AreLowItems items → FieldChoice origin Strings items
 spelt_or_fault origin [] low = inr (BadRdata, refl)
