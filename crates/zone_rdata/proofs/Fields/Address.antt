@@ -32,7 +32,7 @@ printed n octets (inr e) h = of_ipv6 e (subst (λ t. IsIpv6Address t octets) (sy
 unmarked : (n : ℕ) (octets : List ℕ) → (n ≡ 4) ⊎ (n ≡ 16) → AreFixed n octets → address_text octets ≡ mark → ⊥
 unmarked n octets k h e = grind (arith, text_of_ipv4, ipv4_plain, text_of_ipv6, ipv6_plain)
 
-stands : (n : ℕ) (octets : List ℕ) → (n ≡ 4) ⊎ (n ≡ 16) → AreFixed n octets → StandsBare (address_text octets)
+pub stands : (n : ℕ) (octets : List ℕ) → (n ≡ 4) ⊎ (n ≡ 16) → AreFixed n octets → StandsBare (address_text octets)
 stands n octets (inl e) h =
     let size : length octets ≡ 4 = h.size ∙ e in
     subst StandsBare (sym (text_of_ipv4 octets size)) (bare_address (ipv4_text octets) (ipv4_some _ octets (ipv4_printed octets size h.each)) (ipv4_plain octets size h.each))
@@ -40,17 +40,13 @@ stands n octets (inr e) h =
     let size : length octets ≡ 16 = h.size ∙ e in
     subst StandsBare (sym (text_of_ipv6 octets size)) (bare_address (ipv6_text octets) (ipv6_some _ octets (ipv6_printed octets size h.each)) (ipv6_plain octets size h.each))
 
-few : (n : ℕ) (octets : List ℕ) → (n ≡ 4) ⊎ (n ≡ 16) → AreFixed n octets → length (address_text octets) + 1 ≤ 4 * length octets
+pub few : (n : ℕ) (octets : List ℕ) → (n ≡ 4) ⊎ (n ≡ 16) → AreFixed n octets → length (address_text octets) + 1 ≤ 4 * length octets
 few n octets k h = grind (arith, text_of_ipv4, ipv4_length, text_of_ipv6, ipv6_length)
 
 pub laws : (n : ℕ) → FieldLaws (Octets n) fixed bare_item
 laws n = record {
   only = (sized n).only;
   opens = λ origin items v h. grind arith;
-  part = λ v s fits real. grind arith;
-  back = λ octets rest h last. ap fixed (take_at octets rest n h.size);
-  low = λ octets h. h.each;
-  short = λ octets many fixed_size h. grind arith;
   front = sized_front (Octets n) n (sized n);
   holds = λ origin text octets h. address_fixed n text octets h;
   once = λ names origin text a b h k. once n text a b h k;
@@ -58,7 +54,5 @@ laws n = record {
   or_fault = λ names origin is. bare_or_fault origin (Octets n) (λ e. cc) (λ e. cc) (λ text each.
       value_or_fault origin (Octets n) text fixed BadRdata (IsAddress n text) (λ octets h. h) (λ none. (refl, none)) (address_or_not n text));
   printed = λ names origin octets rest fixed_size h last. (printed n octets fixed_size h, refl);
-  stands = λ octets fixed_size h. (stands n octets fixed_size h, tt);
   unmarked = λ octets rest fixed_size h g. unmarked n octets fixed_size h (mark_text (address_text octets) rest g);
-  few = λ octets fixed_size h. few n octets fixed_size h;
 }

@@ -1,14 +1,18 @@
 -- What is proved of any field. `kind_of` picks the laws of its kind.
-use Rattle.zone_rdata.proofs.Common.{[], List, length, subst, sym, ℕ, ◌++◌, ◌+◌, ◌*◌, ◌∙◌, ◌∷◌, ◌≡◌, ◌≢◌, ◌≤◌, arith, AllByRecursion, append_cancel_left, Labels, IsName, Fault, Field, FieldValue, Holds, IsFieldFault, SpellsField, field_at, field_items, field_octets, field_text, items_after, own_items, IsGeneric, RawItem, bare, IsSized, BeginsWithValue, Name, Octets, OneString, Serial, Strings, Time, U16}
+use Rattle.zone_rdata.proofs.Common.{[], FitsString, IsReal, Some, Suits, append-nil, bare_name, labels_of-wire_append, length-append, length-decimal-le, part_field, take_at, ◌<◌, List, length, subst, sym, ℕ, ◌++◌, ◌+◌, ◌*◌, ◌∙◌, ◌∷◌, ◌≡◌, ◌≢◌, ◌≤◌, arith, AllByRecursion, append_cancel_left, Labels, IsName, Fault, Field, FieldValue, Holds, IsFieldFault, SpellsField, field_at, field_items, field_octets, field_text, items_after, own_items, IsGeneric, RawItem, bare, IsSized, BeginsWithValue, Name, Octets, OneString, Serial, Strings, Time, U16}
 use Rattle.zone_rdata.proofs.Fields.FieldLaws.{AreLow, AreLowItems, FieldChoice, FieldLaws, NameFaultOnce, NameOrFault, NamesNever, NamesOnce, NamesPrinted, plain_front}
-use Rattle.zone_rdata.proofs.Texts.Standing.{IsPrintedItem}
-use Rattle.zone_rdata.proofs.Strings.StringLaws.{fault-once}
-use Rattle.zone_rdata.proofs.Fields.Name.{laws as name_laws, front_once as name_front_once}
+use Rattle.zone_rdata.proofs.Texts.Standing.{IsPrintedItem, bare_decimal}
+use Rattle.zone_rdata.proofs.Strings.StringLaws.{fault-once, printed_stands}
+use Rattle.zone_rdata.proofs.Fields.Name.{laws as name_laws, front_once as name_front_once, low as low_name}
 use Rattle.zone_rdata.proofs.Fields.Number.{serial_laws, u16_laws}
 use Rattle.zone_rdata.proofs.Fields.Time.{laws as time_laws}
-use Rattle.zone_rdata.proofs.Fields.Address.{laws as address_laws}
+use Rattle.zone_rdata.proofs.Fields.Address.{few as address_few, laws as address_laws, stands as address_stands}
 use Rattle.zone_rdata.proofs.Fields.OneString.{laws as string_laws}
-use Rattle.zone_rdata.proofs.Fields.Strings.{laws as strings_laws, fault_once as strings_fault_once}
+use Rattle.zone_rdata.proofs.Fields.Strings.{laws as strings_laws, fault_once as strings_fault_once, low_each, stand_each}
+use Rattle.zone_rdata.proofs.Fields.FieldLengths.{string_length, strings_length}
+use Rattle.zone_rdata.proofs.Octets.StringFields.{strings_back}
+use Rattle.zone_name.proofs.Texts.Lengths.{name_text_length}
+use Rattle.std.proofs.lemmas.Nat.{from_be_bytes-to_be_bytes_2, from_be_bytes-to_be_bytes_4}
 
 -- the laws of a field's kind
 pub record KindOf (f : Field) : Type 1 where
@@ -39,15 +43,19 @@ each_spelt origin f k P own items v h = grind arith
 
 -- the field at the beginning of its octets is the value that was written
 pub field_back : (f : Field) (v : FieldValue) (rest : List ℕ) → Holds f v → (f ≡ Strings → rest ≡ []) → field_at f (field_octets v ++ rest) ≡ v
-field_back f v rest h last = let k = kind_of f in each f k (λ w. field_at f (field_octets w ++ rest) ≡ w) (λ x held. k.laws.back x rest held last) v h
+field_back f v rest h last = grind (arith, labels_of-wire_append, strings_back, take_at, from_be_bytes-to_be_bytes_2, from_be_bytes-to_be_bytes_4, append-nil)
 
 pub field_low : (f : Field) (v : FieldValue) → Holds f v → AreLow (field_octets v)
-field_low f v h = let k = kind_of f in each f k (λ w. AreLow (field_octets w)) k.laws.low v h
+field_low f v h = grind (arith, low_name, low_each)
+
+-- a part for the field is a value, of one octet at least
+pub field_part : (f : Field) (v : FieldValue) → Suits (Some f) v → FitsString v → IsReal v → Holds (part_field f) v × (0 < length (field_octets v))
+field_part f v s fits real = grind (arith, length-append)
 
 -- a field that is no strings takes at most 256 octets: a name at most 255, a string its length and
 -- at most 255
 pub field_short : (f : Field) (v : FieldValue) → f ≢ Strings → IsSized f → Holds f v → length (field_octets v) ≤ 256
-field_short f v many sized h = grind (arith, kind_of, each)
+field_short f v many sized h = grind arith
 
 plain_at : (f : Field) (octets : List ℕ) (v : FieldValue) (rest : List ℕ) → f ≢ Name → BeginsWithValue f octets v rest → (octets ≡ field_octets v ++ rest) × (field_at f octets ≡ v)
 plain_at f octets v rest other b = grind (arith, plain_front, field_back)
@@ -89,7 +97,7 @@ pub field_printed : NamesPrinted → (origin : Labels) (f : Field) (v : FieldVal
 field_printed names origin f v rest sized h last = grind (arith, kind_of f)
 
 pub field_stands : (f : Field) (v : FieldValue) → IsSized f → Holds f v → AllByRecursion IsPrintedItem (field_items v)
-field_stands f v sized h = let k = kind_of f in each f k (λ w. AllByRecursion IsPrintedItem (field_items w)) (λ x held. k.laws.stands x sized held) v h
+field_stands f v sized h = grind (arith, bare_name, bare_decimal, address_stands, printed_stands, stand_each)
 
 pub field_unmarked : (f : Field) (v : FieldValue) (rest : List RawItem) → IsSized f → Holds f v → IsGeneric (field_items v ++ rest) → ⊥
 field_unmarked f v rest sized h = let k = kind_of f in each f k (λ w. IsGeneric (field_items w ++ rest) → ⊥) (λ x held. k.laws.unmarked x rest sized held) v h
@@ -97,4 +105,4 @@ field_unmarked f v rest sized h = let k = kind_of f in each f k (λ w. IsGeneric
 -- ---- how long its text is
 
 pub field_few : (f : Field) (v : FieldValue) → IsSized f → Holds f v → length (field_text v) + 1 ≤ 4 * length (field_octets v)
-field_few f v sized h = let k = kind_of f in each f k (λ w. length (field_text w) + 1 ≤ 4 * length (field_octets w)) (λ x held. k.laws.few x sized held) v h
+field_few f v sized h = grind (arith, name_text_length, length-decimal-le 5, length-decimal-le 10, address_few, string_length, strings_length)

@@ -57,25 +57,16 @@ pub record FieldLaws {X I : Type 0} (f : Field) (value : X → FieldValue) (item
   -- it holds no other value, and no other items spell one
   pub only : (v : FieldValue) → Holds f v → (x : X) × (v ≡ value x)
   pub opens : (origin : Labels) (all : List RawItem) (v : FieldValue) → SpellsField origin f all v → (i : I) × (x : X) × (all ≡ items i) × (v ≡ value x)
-  -- a part for it is a value, of one octet at least
-  pub part : (v : FieldValue) → Suits (Some f) v → FitsString v → IsReal v → Holds (part_field f) v × (0 < length (field_octets v))
-  -- its octets are read back, are octets, and few
-  pub back : (x : X) (rest : List ℕ) → Holds f (value x) → (f ≡ Strings → rest ≡ []) → field_at f (field_octets (value x) ++ rest) ≡ value x
-  pub low : (x : X) → Holds f (value x) → AreLow (field_octets (value x))
-  pub short : (x : X) → f ≢ Strings → IsSized f → Holds f (value x) → length (field_octets (value x)) ≤ 256
+  -- octets begin with a value or with none
   pub front : (octets : List ℕ) → AreLow octets → FrontChoice f octets
   -- items spell a value that it holds, and one alone, or have a fault
   pub holds : (origin : Labels) (i : I) (x : X) → SpellsField origin f (items i) (value x) → Holds f (value x)
   pub once : NamesOnce → (origin : Labels) (i : I) (x y : X) → SpellsField origin f (items i) (value x) → SpellsField origin f (items i) (value y) → x ≡ y
   pub never : NamesNever → (origin : Labels) (i : I) (x : X) (fault : Fault) → SpellsField origin f (items i) (value x) → IsFieldFault origin f (items i) fault → ⊥
   pub or_fault : NameOrFault → (origin : Labels) → IsName origin → (all : List RawItem) → AreLowItems all → FieldChoice origin f (own_items f all)
-  -- the items that are printed spell the value, stand in a file as they are, and are not in the
-  -- generic form
+  -- the items that are printed spell the value, and are not in the generic form
   pub printed : NamesPrinted → (origin : Labels) (x : X) (rest : List RawItem) → IsSized f → Holds f (value x) → (f ≡ Strings → rest ≡ []) → SpellsField origin f (own_items f (field_items (value x) ++ rest)) (value x) × (items_after f (field_items (value x) ++ rest) ≡ rest)
-  pub stands : (x : X) → IsSized f → Holds f (value x) → AllByRecursion IsPrintedItem (field_items (value x))
   pub unmarked : (x : X) (rest : List RawItem) → IsSized f → Holds f (value x) → IsGeneric (field_items (value x) ++ rest) → ⊥
-  -- its text and a space have at most four octets for each of its own
-  pub few : (x : X) → IsSized f → Holds f (value x) → length (field_text (value x)) + 1 ≤ 4 * length (field_octets (value x))
 
 -- ---- one bare item
 

@@ -86,10 +86,6 @@ pub laws : FieldLaws Name name bare_item
 laws = record {
   only = λ v h. grind arith;
   opens = λ origin items v h. grind arith;
-  part = λ v s fits real. grind (arith, length-append);
-  back = λ labels rest h last. ap name (labels_of-wire_append labels rest h.each);
-  low = low;
-  short = λ labels many fixed_size h. omega (arith, h.short);
   front = λ octets each. front octets;
   holds = λ origin text labels h. h.name;
   once = λ names origin text a b h k. names (Some origin) text a b h k;
@@ -99,7 +95,5 @@ laws = record {
     | inr bad ↦ inr (fault_of bad.0, (bad.0, bad.1, refl))
   ]);
   printed = λ names origin labels rest fixed_size h last. (names (Some origin) labels h, refl);
-  stands = λ labels fixed_size h. (bare_name labels h, tt);
   unmarked = λ labels rest fixed_size h g. name_unmarked labels (mark_text (name_text labels) rest g);
-  few = λ labels fixed_size h. omega (arith, name_text_length labels);
 }

@@ -27,10 +27,6 @@ pub u16_laws : FieldLaws U16 u16_value bare_item
 u16_laws = record {
   only = u16_sized.only;
   opens = λ origin items v h. grind arith;
-  part = (λ v s fits real. grind arith);
-  back = λ n rest h last. ap u16_value (ap (from_be_bytes w16) (take_at (to_be_bytes w16 n) rest 2 refl) ∙ from_be_bytes-to_be_bytes_2 n h);
-  low = λ n short. (omega arith, (omega arith, tt));
-  short = λ n many fixed_size h. omega arith;
   front = sized_front U16 2 u16_sized;
   holds = λ origin text n h. h.1;
   once = λ names origin text a b h k. h.0.value ∙ sym k.0.value;
@@ -38,9 +34,7 @@ u16_laws = record {
   or_fault = λ names origin is. bare_or_fault origin U16 (λ e. cc) (λ e. cc) (λ text each.
       value_or_fault origin U16 text u16_value BadNumber (SpellsNumber w16 text) (λ n h. h) (λ none. (refl, none)) (spelled_or_not w16 text));
   printed = λ names origin n rest fixed_size h last. ((decimal-is n (omega arith), h), refl);
-  stands = λ n fixed_size h. (bare_decimal n (omega arith), tt);
   unmarked = λ n rest fixed_size h g. number_unmarked n (omega arith) (mark_text (decimal n) rest g);
-  few = λ n fixed_size h. omega (arith, length-decimal-le 5 n (omega arith) (omega arith) (omega arith));
 }
 
 -- ---- 32 bits
@@ -58,10 +52,6 @@ pub serial_laws : FieldLaws Serial u32_value bare_item
 serial_laws = record {
   only = serial_sized.only;
   opens = λ origin items v h. grind arith;
-  part = (λ v s fits real. grind arith);
-  back = λ n rest h last. ap u32_value (ap (from_be_bytes w32) (take_at (to_be_bytes w32 n) rest 4 refl) ∙ from_be_bytes-to_be_bytes_4 n h);
-  low = λ n short. (omega arith, (omega arith, (omega arith, (omega arith, tt))));
-  short = λ n many fixed_size h. omega arith;
   front = sized_front Serial 4 serial_sized;
   holds = λ origin text n h. h.1;
   once = λ names origin text a b h k. h.0.value ∙ sym k.0.value;
@@ -69,7 +59,5 @@ serial_laws = record {
   or_fault = λ names origin is. bare_or_fault origin Serial (λ e. cc) (λ e. cc) (λ text each.
       value_or_fault origin Serial text u32_value BadNumber (SpellsNumber w32 text) (λ n h. h) (λ none. (refl, none)) (spelled_or_not w32 text));
   printed = λ names origin n rest fixed_size h last. ((decimal-is n (omega arith), h), refl);
-  stands = λ n fixed_size h. (bare_decimal n (omega arith), tt);
   unmarked = λ n rest fixed_size h g. number_unmarked n (omega arith) (mark_text (decimal n) rest g);
-  few = λ n fixed_size h. omega (arith, length-decimal-le 10 n (omega arith) (omega arith) (omega arith));
 }

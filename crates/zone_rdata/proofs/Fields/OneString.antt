@@ -37,17 +37,11 @@ pub laws : FieldLaws OneString string (λ (item : RawItem). item ∷ [])
 laws = record {
   only = λ v h. grind arith;
   opens = λ origin items v h. grind arith;
-  part = λ v s fits real. grind arith;
-  back = λ octets rest h last. ap string (take_at octets rest (length octets) refl);
-  low = λ octets h. (omega (arith, h.short), h.each);
-  short = λ octets many fixed_size h. omega (arith, h.short);
   front = front;
   holds = λ origin item octets h. h.string;
   once = λ names origin item a b h k. string-once item a b h k;
   never = λ names origin item octets fault h bad. string-never_both item octets fault h bad;
   or_fault = λ names origin is. spelt_or_fault origin;
   printed = λ names origin octets rest fixed_size h last. (printed_spells octets h, refl);
-  stands = λ octets fixed_size h. (printed_stands octets h, tt);
   unmarked = λ octets rest fixed_size h g. cc g.1;
-  few = λ octets fixed_size h. string_length octets;
 }

@@ -139,17 +139,11 @@ pub laws : FieldLaws Strings strings (λ (items : List RawItem). items)
 laws = record {
   only = λ v h. grind arith;
   opens = λ origin items v h. grind arith;
-  part = λ v s fits real. grind arith;
-  back = λ many rest h last. ap strings (back many rest (last refl));
-  low = λ many h. low_each many h.each;
-  short = λ many none fixed_size h. absurd (none refl);
   front = λ octets low. front octets (framed_or_not octets);
   holds = λ origin items many h. let each = each_held items many h.each in record { some = omega (arith, h.some, each.1); each = each.0 };
   once = λ names origin items a b h k. each_once items a b h.each k.each;
   never = λ names origin. never;
   or_fault = λ names origin is. spelt_or_fault origin;
   printed = λ names origin many rest fixed_size h last. printed many rest h (last refl);
-  stands = λ many fixed_size h. stand_each many h.each;
   unmarked = λ many rest fixed_size. unmarked many rest;
-  few = λ many fixed_size h. strings_length many h.some;
 }

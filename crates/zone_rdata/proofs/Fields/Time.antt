@@ -14,10 +14,6 @@ pub laws : FieldLaws Time u32_value bare_item
 laws = record {
   only = serial_laws.only;
   opens = λ origin items v h. grind arith;
-  part = serial_laws.part;
-  back = λ n rest h last. serial_laws.back n rest h (λ e. absurd cc);
-  low = serial_laws.low;
-  short = λ n many fixed_size h. omega arith;
   front = sized_front Time 4 sized;
   holds = λ origin text n h. h.1;
   once = λ names origin text a b h k. one_time text a b h.0 k.0;
@@ -25,7 +21,5 @@ laws = record {
   or_fault = λ names origin is. bare_or_fault origin Time (λ e. cc) (λ e. cc) (λ text each.
       value_or_fault origin Time text u32_value BadNumber (SpellsTime text) (λ n h. h) (λ none. (refl, none)) (below_or_not (IsTime text) 4294967296 (one_time text) (time_or_not text)));
   printed = λ names origin n rest fixed_size h last. ((plain (decimal-is n (omega arith)), h), refl);
-  stands = serial_laws.stands;
   unmarked = serial_laws.unmarked;
-  few = serial_laws.few;
 }

@@ -1,7 +1,7 @@
 -- Data that is made part by part.
 use Rattle.zone_rdata.proofs.Common.{[], Bool, IsTrue, List, None, Option, Some, ap, arith, false, get_or, length, length-append, refl, subst, suc, sym, true, zero, ℕ, ◌++◌, ◌+◌, ◌-◌, ◌<◌, ◌↔◌, ◌∙◌, ◌∷◌, ◌≡◌, ◌≢◌, ◌≤◌, AllByRecursion, flat_map, append-nil, flat_map-append, AreOctets, with_length, Fault, Field, Built, FitsString, IsNext, IsPushFault, IsWhole, Pushes, ends_with_strings, misplaced, part_at, FieldValue, HoldEach, Holds, Suits, field_octets, fixed, is_strings, octets_of, string, strings, values_of, AreLaidOut, StringsLast, layout, ArePushedParts, Grows, IsBuilt, IsOver, IsReal, least_of, more_fields, over_data, over_string, part_field, part_fields, parts_held, Data, IsRdata, IsString, rules, BadRdata}
 use Rattle.zone_rdata.specs.Builder.{long_string, too_long}
-use Rattle.zone_rdata.proofs.Fields.AnyField.{kind_of}
+use Rattle.zone_rdata.proofs.Fields.AnyField.{field_part}
 use Rattle.zone_rdata.proofs.Octets.Layouts.{AreFor, laid_out, values_back}
 use Rattle.zone_rdata.proofs.Words.Tables.{table_row}
 use Rattle.zone_rdata.specs.declared.field.Field.TheVariants as fields
@@ -83,7 +83,7 @@ pub pushed_part : (laid : Option (List Field)) (count : ℕ) (octets : List ℕ)
 pushed_part None count octets part held next fits real = grind arith
 pushed_part (Some row) count octets part held next fits real =
     let f = some_field (part_at row count) part next in
-    grind (arith, pushed_field row f.0 count octets part held f.1, (kind_of f.0).laws.part part f.2 fits real)
+    grind (arith, pushed_field row f.0 count octets part held f.1, field_part)
 
 -- ---- all parts
 pub record WholeParts (row : List Field) (octets : List ℕ) : Type 0 where
