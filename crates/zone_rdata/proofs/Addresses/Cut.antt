@@ -1,5 +1,5 @@
 -- Addresses in text, cut at dots and colons.
-use Rattle.zone_rdata.proofs.Common.{[], ◌≡◌, ◌≢◌, ℕ, suc, ◌-◌, ◌==◌, Bool, true, false, inl, inr, List, ◌∷◌, ◌++◌, length, replicate, refl, sym, ap, ◌∙◌, subst, arith, AllByRecursion, AllZip, All, join_with_byte, slice_split, ne_eqb, drop_at, All-drop, All-from_recursion, recursion_from_All, is_hex_digit, IsOk-decode_sized, is_digit, IsOctetNumber, AreNumbers, IsIpv4Address, AddressPart, IsGroup, IsLastPart, Lacks, IsCutAtFirst, AllByRecursion-append, join_with_byte-slice_split, slice_split_at, slice_split_none, each_weaker}
+use Rattle.zone_rdata.proofs.Common.{[], ◌≡◌, ◌≢◌, ℕ, suc, ◌-◌, ◌==◌, Bool, true, false, inl, inr, List, ◌∷◌, ◌++◌, length, replicate, refl, sym, ap, ◌∙◌, subst, arith, AllByRecursion, AllZip, All, join_with_byte, slice_split, ne_eqb, drop_at, All-drop, All-from_recursion, recursion_from_All, is_hex_digit, IsOk-decode_sized, is_digit, IsOctetNumber, AreNumbers, AddressPart, IsGroup, IsLastPart, Lacks, IsCutAtFirst, AllByRecursion-append, join_with_byte-slice_split, slice_split_at, slice_split_none, each_weaker}
 
 -- ---- cutting
 

@@ -1,10 +1,9 @@
 -- A domain name.
-use Rattle.zone_rdata.proofs.Common.{[], List, Some, ap, append_assoc, arith, drop, inl, inr, length, length-append, refl, suc, sym, take, zero, ℕ, ◌++◌, ◌<◌, ◌∙◌, ◌∷◌, ◌≡◌, ◌≤◌, ◌⊎◌, AllByRecursion, flat_map, cases_eq, cases_lt, append-nil, drop_at, folded, Labels, IsFoldedOctet, IsLabel, IsName, folded_label, wire, with_length, AllByRecursion-append, AllByRecursion-back, fault_of, FieldValue, name, AppendsValue, BeginsWithNone, BeginsWithValue, BeginsWithSent, labels_of-wire_append, bare_name, label_text, name_text, octet_text, Name, common_steps, Decided, each_or_not, each_weaker}
-use Rattle.zone_rdata.proofs.Fields.FieldLaws.{AreLow, FieldLaws, FrontChoice, bare_item, bare_or_fault, found_front, mark_text}
+use Rattle.zone_rdata.proofs.Common.{[], List, ap, append_assoc, arith, drop, inl, inr, length, refl, sym, ℕ, ◌++◌, ◌<◌, ◌∙◌, ◌∷◌, ◌≡◌, ◌⊎◌, AllByRecursion, flat_map, cases_eq, cases_lt, append-nil, drop_at, folded, Labels, IsFoldedOctet, IsLabel, IsName, wire, with_length, AllByRecursion-append, FieldValue, name, AppendsValue, BeginsWithNone, BeginsWithValue, BeginsWithSent, label_text, name_text, octet_text, Name, common_steps, Decided, each_or_not, each_weaker}
+use Rattle.zone_rdata.proofs.Fields.FieldLaws.{AreLow, FrontChoice, found_front}
 use Rattle.zone_rdata.proofs.Octets.Sent.{sent_labels, sent_once}
 use Rattle.zone_rdata.proofs.Words.WordChoice.{same_or_not}
 use Rattle.zone_name.specs.Name.{labels_of}
-use Rattle.zone_name.proofs.Texts.Lengths.{name_text_length}
 
 -- ---- its octets
 low_labels : (labels : Labels) → AllByRecursion IsLabel labels → AreLow (flat_map with_length labels)
@@ -61,7 +60,7 @@ sent_or_not octets =
       ]
     ]
 
-front : (octets : List ℕ) → FrontChoice Name octets
+pub front : (octets : List ℕ) → FrontChoice Name octets
 front octets = elim (sent_or_not octets) [
   | inl found ↦ found_front Name octets found.1.0 (wire found.0) (appends_name octets found.1.0 [] (wire found.0) found.0 found.1.1 refl)
   | inr none ↦ inr (none_name octets none)
@@ -81,19 +80,3 @@ no_mark (a ∷ xs) e = grind (arith, common_steps)
 pub name_unmarked : (labels : Labels) → name_text labels ≡ 92 ∷ 35 ∷ [] → ⊥
 name_unmarked [] e = omega (arith, ap length e)
 name_unmarked (label ∷ labels) e = let dot = dot_last label labels in no_mark dot.0 (sym dot.1 ∙ e)
-
-pub laws : FieldLaws Name name bare_item
-laws = record {
-  only = λ v h. grind arith;
-  opens = λ origin items v h. grind arith;
-  front = λ octets each. front octets;
-  holds = λ origin text labels h. h.name;
-  once = λ names origin text a b h k. names (Some origin) text a b h k;
-  never = λ names origin text labels fault h bad. names (Some origin) text labels bad.0 h bad.1;
-  or_fault = λ names origin is. bare_or_fault origin Name (λ e. cc) (λ e. cc) (λ text each. elim (names (Some origin) text is each) [
-    | inl found ↦ inl (name found.0, found.1)
-    | inr bad ↦ inr (fault_of bad.0, (bad.0, bad.1, refl))
-  ]);
-  printed = λ names origin labels rest fixed_size h last. (names (Some origin) labels h, refl);
-  unmarked = λ labels rest fixed_size h g. name_unmarked labels (mark_text (name_text labels) rest g);
-}

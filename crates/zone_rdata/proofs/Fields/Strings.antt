@@ -1,13 +1,12 @@
 -- One or more character-strings, up to the end of the data.
-use Rattle.zone_rdata.proofs.Common.{[], List, ap, append_assoc, arith, drop, inl, inr, length, length-append, map, refl, subst, suc, sym, take, zero, ℕ, ◌++◌, ◌<◌, ◌∙◌, ◌∷◌, ◌≡◌, ◌≤◌, ◌⊎◌, AllByRecursion, flat_map, cases_lt, append-nil, drop_all, length-drop, length-map, take_all, Labels, with_length, AllByRecursion-append, Fault, strings, string_item, AreStrings, FirstStringFault, SpellEachString, SpellsStrings, StringsFault, strings_of, IsGeneric, RawItem, AppendsPrefix, AppendsValue, BeginsWithNone, AreWithLengths, IsString, SpellsString, StringFault, Decided, each_or_not, rules, common_steps, BadRdata, Strings, after}
-use Rattle.zone_rdata.proofs.Fields.FieldLaws.{AreLow, AreLowItems, FieldChoice, FieldLaws, FrontChoice, appends_plain, found_front, front_of, low_drop}
+use Rattle.zone_rdata.proofs.Common.{[], List, ap, append_assoc, arith, drop, inl, inr, length, length-append, map, refl, subst, sym, take, ℕ, ◌++◌, ◌<◌, ◌∙◌, ◌∷◌, ◌≡◌, ◌≤◌, ◌⊎◌, AllByRecursion, flat_map, cases_lt, append-nil, drop_all, length-map, take_all, Labels, with_length, AllByRecursion-append, Fault, strings, string_item, AreStrings, FirstStringFault, SpellEachString, SpellsStrings, StringsFault, strings_of, IsGeneric, RawItem, AppendsPrefix, AppendsValue, BeginsWithNone, AreWithLengths, IsString, Decided, each_or_not, rules, common_steps, BadRdata, Strings, after}
+use Rattle.zone_rdata.proofs.Fields.FieldLaws.{AreLow, AreLowItems, FieldChoice, FrontChoice, appends_plain, found_front, front_of, low_drop}
 use Rattle.zone_rdata.proofs.Fields.OneString.{low_string}
 use Rattle.zone_rdata.proofs.Octets.Sent.{frame_at, frame_same, frames_push}
 use Rattle.zone_rdata.proofs.Octets.StringFields.{strings_back}
 use Rattle.zone_rdata.proofs.Strings.StringLaws.{fault-once, printed_spells, printed_stands, string-never_both, string-once}
 use Rattle.zone_rdata.proofs.Strings.Units.{string_or_fault}
 use Rattle.zone_rdata.proofs.Texts.Standing.{IsPrintedItem}
-use Rattle.zone_rdata.proofs.Fields.FieldLengths.{strings_length}
 use Rattle.zone_rdata.proofs.Words.WordChoice.{same_or_not}
 
 -- ---- its octets
@@ -63,12 +62,12 @@ framed_short octets rest c count following so_far e same few framed = grind (ari
 string_or_not : (text : List ℕ) → Decided (IsString text)
 string_or_not text = grind (arith, cases_lt 255 (length text), each_or_not (λ c. c < 256) (λ c. grind (arith, cases_lt c 256)) text)
 
-framed_or_not : (octets : List ℕ) → AreWithLengths octets ⊎ (AreWithLengths octets → ⊥)
+pub framed_or_not : (octets : List ℕ) → AreWithLengths octets ⊎ (AreWithLengths octets → ⊥)
 framed_or_not octets =
     let many = strings_of octets in
     grind (arith, same_or_not octets (flat_map with_length many), strings_back, cases_lt 0 (length many), each_or_not IsString string_or_not many)
 
-front : (octets : List ℕ) → AreWithLengths octets ⊎ (AreWithLengths octets → ⊥) → FrontChoice Strings octets
+pub front : (octets : List ℕ) → AreWithLengths octets ⊎ (AreWithLengths octets → ⊥) → FrontChoice Strings octets
 front octets (inl framed) = found_front Strings octets (drop (length octets) octets) (take (length octets) octets) (appends_strings octets (drop (length octets) octets) [] (take (length octets) octets) framed (front_of (length octets) octets (omega arith)))
 front octets (inr none) = inr (none_strings octets none)
 
@@ -115,7 +114,7 @@ each_or_fault (item ∷ items) low = elim (string_or_fault item low.0) [
   | inl found ↦ elim (each_or_fault items low.1) [ inl more ↦ inl (found.0 ∷ more.0, (found.1, more.1)) | inr bad ↦ inr (bad.0, inr (found.0, found.1, bad.1)) ]
 ]
 
-spelt_or_fault : (origin : Labels) (items : List RawItem) → AreLowItems items → FieldChoice origin Strings items
+pub spelt_or_fault : (origin : Labels) (items : List RawItem) → AreLowItems items → FieldChoice origin Strings items
 spelt_or_fault origin [] low = inr (BadRdata, refl)
 spelt_or_fault origin (item ∷ items) low = elim (each_or_fault (item ∷ items) low) [ inl found ↦ inl (strings found.0, record { some = omega arith; each = found.1 }) | inr bad ↦ inr (bad.0, bad.1) ]
 
@@ -134,16 +133,3 @@ unmarked (octets ∷ many) rest h g = cc g.1
 pub stand_each : (many : List (List ℕ)) → AllByRecursion IsString many → AllByRecursion IsPrintedItem (map string_item many)
 stand_each [] each = tt
 stand_each (octets ∷ many) each = (printed_stands octets each.0, stand_each many each.1)
-
-pub laws : FieldLaws Strings strings (λ (items : List RawItem). items)
-laws = record {
-  only = λ v h. grind arith;
-  opens = λ origin items v h. grind arith;
-  front = λ octets low. front octets (framed_or_not octets);
-  holds = λ origin items many h. let each = each_held items many h.each in record { some = omega (arith, h.some, each.1); each = each.0 };
-  once = λ names origin items a b h k. each_once items a b h.each k.each;
-  never = λ names origin. never;
-  or_fault = λ names origin is. spelt_or_fault origin;
-  printed = λ names origin many rest fixed_size h last. printed many rest h (last refl);
-  unmarked = λ many rest fixed_size. unmarked many rest;
-}

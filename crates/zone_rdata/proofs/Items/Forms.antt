@@ -1,5 +1,5 @@
 -- What items state for a layout, if there is one, and why they state nothing.
-use Rattle.zone_rdata.proofs.Common.{◌≡◌, ℕ, ◌≤◌, List, length, sym, ap, ◌∙◌, subst, Bool, false, IsTrue, ◌↔◌, Option, Some, Result, Ok, Err, arith, OnOk, Labels, Failing, Fault, IsGenericDataFault, no_value, IfFault, StatesGeneric, RawItem, IsGeneric, fields_of, AreSpelt, StatesFor, in_words, IsUncompressed, option_map, BadRdata, Layout}
+use Rattle.zone_rdata.proofs.Common.{◌≡◌, ℕ, ◌≤◌, List, length, sym, ap, subst, Bool, false, IsTrue, ◌↔◌, Option, Some, Result, Ok, Err, arith, OnOk, Labels, Failing, Fault, IsGenericDataFault, no_value, IfFault, StatesGeneric, RawItem, IsGeneric, fields_of, AreSpelt, StatesFor, in_words, IsUncompressed, option_map, BadRdata, Layout}
 use Rattle.zone_rdata.specs.declared.fault.Failing.TheVariants as failings
 
 -- octets in the generic form that are no value of the layout

@@ -1,5 +1,5 @@
 -- The generic form: digits that join to octets, item after item.
-use Rattle.zone_rdata.proofs.Common.{[], ◌≡◌, ◌≢◌, ℕ, ◌+◌, ◌-◌, ◌/◌, ◌<◌, ◌≤◌, List, ◌∷◌, ◌++◌, length, get_or, drop, map, Ok, sym, ap, ◌∙◌, subst, arith, append_assoc, length-append, drop_all, append-nil, decode_of, decode_of-ok, decode_of-same, Fault, Item, RawItem, bare, quoted, raw, generic_mark, IsGeneric, StatesLength, JoinTo, GenericFault, no_length, long_length, bad_digits, Appends, common_steps, BadGeneric, from_place}
+use Rattle.zone_rdata.proofs.Common.{[], ◌≡◌, ◌≢◌, ℕ, ◌+◌, ◌-◌, ◌/◌, ◌<◌, ◌≤◌, List, ◌∷◌, ◌++◌, length, get_or, drop, map, Ok, sym, ◌∙◌, subst, arith, append_assoc, length-append, drop_all, append-nil, decode_of, decode_of-ok, decode_of-same, Fault, Item, RawItem, bare, raw, generic_mark, IsGeneric, StatesLength, JoinTo, GenericFault, no_length, long_length, bad_digits, Appends, common_steps, BadGeneric, from_place}
 use Rattle.zone_rdata.specs.Machine.GenericLength.{LengthFault, no_number, beyond}
 
 -- two digits for each octet

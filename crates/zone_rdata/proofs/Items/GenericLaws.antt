@@ -1,5 +1,5 @@
 -- The laws of the generic form.
-use Rattle.zone_rdata.proofs.Common.{choice_as, [], ◌≡◌, ℕ, ◌+◌, ◌<◌, ◌≤◌, ◌^◌, true, List, ◌∷◌, ◌++◌, length, map, Result, Ok, Err, ◌⊎◌, inl, inr, refl, sym, ap, ◌∙◌, arith, join_with_byte, cases_lt, cases_eq, decimal_digit, decimal_by_steps, append-nil, decode_of, decode_of-encode_lower, AreOctets, is_digit, Fault, RawItem, bare, quoted, generic_mark, IsGeneric, IsDecimal, decimal_value, StatesLength, IsGenericForm, JoinTo, StatesGeneric, GenericFault, no_length, long_length, bad_digits, digit_items, generic_items, item_text, generic_text, common_steps, decimal, FromHexError, BadGeneric, RdataTooLong, Choice, each_or_not, true_or_not, each_below, digit_test}
+use Rattle.zone_rdata.proofs.Common.{choice_as, [], ◌≡◌, ℕ, ◌+◌, ◌<◌, ◌≤◌, ◌^◌, true, List, ◌∷◌, ◌++◌, length, map, Result, Ok, Err, ◌⊎◌, inl, inr, refl, sym, ap, ◌∙◌, arith, join_with_byte, cases_lt, cases_eq, decimal_digit, decimal_by_steps, append-nil, decode_of, decode_of-encode_lower, AreOctets, is_digit, Fault, RawItem, bare, quoted, generic_mark, IsGeneric, IsDecimal, StatesLength, IsGenericForm, JoinTo, StatesGeneric, GenericFault, no_length, long_length, bad_digits, digit_items, generic_items, item_text, generic_text, common_steps, decimal, FromHexError, BadGeneric, RdataTooLong, Choice, each_or_not, true_or_not, each_below, digit_test}
 use Rattle.zone_rdata.specs.Machine.GenericLength.{LengthFault, no_number, beyond}
 use Rattle.zone_rdata.proofs.Items.GenericForm.{JoinTo-once, form_faults, form_missing}
 

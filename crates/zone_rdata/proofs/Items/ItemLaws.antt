@@ -1,5 +1,5 @@
 -- Items state at most one value, or have at most one first fault.
-use Rattle.zone_rdata.proofs.Common.{None, too_long, [], List, Option, Some, arith, inl, inr, length, refl, subst, sym, ℕ, ◌∙◌, ◌∷◌, ◌≡◌, ◌≤◌, Labels, Fault, Field, FirstFieldFault, IsFaultFor, IsGenericDataFault, IsWordsFault, in_generic_form, malformed, no_value, opaque_words, unspelt, FieldValue, items_after, octets_of, StatesGeneric, RawItem, IsGeneric, layout, IsCanonicalOf, SpellEach, States, StatesFor, in_octets, in_words}
+use Rattle.zone_rdata.proofs.Common.{None, too_long, [], List, Option, Some, arith, inl, inr, length, refl, sym, ℕ, ◌∙◌, ◌∷◌, ◌≡◌, ◌≤◌, Labels, Fault, Field, FirstFieldFault, IsFaultFor, IsGenericDataFault, IsWordsFault, in_generic_form, malformed, no_value, opaque_words, unspelt, FieldValue, items_after, octets_of, StatesGeneric, RawItem, IsGeneric, layout, IsCanonicalOf, SpellEach, States, StatesFor, in_octets, in_words}
 use Rattle.zone_rdata.proofs.Fields.AnyField.{field_fault_once, field_never, field_once}
 use Rattle.zone_rdata.proofs.Fields.FieldLaws.{NameFaultOnce, NamesNever, NamesOnce}
 use Rattle.zone_rdata.proofs.Items.GenericLaws.{generic_never_both, generic_once, generic_fault_once}

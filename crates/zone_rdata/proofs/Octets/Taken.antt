@@ -1,7 +1,7 @@
 -- Uncompressed octets, field after field.
 use Rattle.zone_rdata.proofs.Common.{nil_from_length, [], Option, ◌≡◌, ℕ, ◌+◌, ◌<◌, ◌≤◌, List, ◌∷◌, ◌++◌, length, get_or, drop, Some, refl, sym, ap, ◌∙◌, subst, arith, append_assoc, inl, inr, length-append, append-nil, drop_all, length-map, Field, FieldValue, field_octets, octets_of, HoldEach, IsSent, StringsLast, layout, IsCanonicalOf, AreSent, IsUncompressed, BeginsWithValue, BeginsWithNone, AppendsValue, AllByRecursion-back, flat_map, folded_octet, folded_label, folded, with_length, common_steps, from_place, Choice, choice_as}
 use Rattle.zone_rdata.proofs.Words.Tables.{table_row}
-use Rattle.zone_rdata.proofs.Fields.AnyField.{front_once, kind_of}
+use Rattle.zone_rdata.proofs.Fields.AnyField.{field_front, front_once}
 use Rattle.zone_rdata.proofs.Fields.FieldLaws.{AreLow}
 
 -- octets that are a value for each field, one after another, and their canonical octets
@@ -85,7 +85,7 @@ uncompressed_length fields octets canonical u = grind (arith, are_sent_length)
 reads_or_not : (row : List Field) (octets : List ℕ) → AreLow octets → Choice (Reads row octets)
 reads_or_not [] [] low = inl ([], (refl, refl))
 reads_or_not [] (c ∷ octets) low = inr (λ canonical h. absurd (omega (arith, ap length h.0)))
-reads_or_not (f ∷ row) octets low = elim ((kind_of f).laws.front octets low) [
+reads_or_not (f ∷ row) octets low = elim (field_front f octets low) [
   | inr none ↦ inr (λ canonical h. none h.0 h.1.0 h.1.2)
   | inl (value, (rest, begins)) ↦ elim (reads_or_not row rest (AllByRecursion-back _ begins.front rest (subst AreLow begins.parts low))) [
     | inl found ↦ inl (field_octets value ++ found.0, (value, (rest, found.0, begins, refl, found.1)))

@@ -1,5 +1,5 @@
 -- A word has one number at most, and a text one time.
-use Rattle.zone_rdata.proofs.Common.{◌≡◌, ℕ, Bool, true, false, not, List, ◌++◌, length, take, codes, refl, sym, ap, ◌∙◌, subst, arith, ◌==◌, Option, Some, None, bytes_eq, find, list_all, option_map, eqb-true, not-true, false≢true, map-append, length-map, take_at, bytes_eq-Decides, folded_octet, folded_label, Named, classes, type_names, number_among, IsKind, IsMnemonic, IsNumbered, IsWordAmong, by_mnemonic, by_number, IsClassWord, IsKindWord, IsWordFault, nameless, beyond, for_queries, Fault, drop-append_seam}
+use Rattle.zone_rdata.proofs.Common.{◌≡◌, ℕ, Bool, true, false, not, List, ◌++◌, length, take, codes, refl, sym, ap, ◌∙◌, subst, arith, ◌==◌, Option, Some, None, bytes_eq, list_all, eqb-true, not-true, false≢true, map-append, length-map, take_at, bytes_eq-Decides, folded_octet, folded_label, Named, classes, type_names, number_among, IsKind, IsMnemonic, IsNumbered, IsWordAmong, by_mnemonic, by_number, IsClassWord, IsKindWord, IsWordFault, nameless, beyond, for_queries, Fault, drop-append_seam}
 use Rattle.zone_rdata.proofs.Words.Tables.{each_mnemonic}
 
 -- a name and a number right after it
