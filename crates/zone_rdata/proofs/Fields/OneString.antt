@@ -1,5 +1,5 @@
 -- One character-string.
-use Rattle.zone_rdata.proofs.Common.{[], List, add-one, ap, arith, drop, inl, inr, length, length-append, refl, subst, take, ℕ, ◌++◌, ◌+◌, ◌<◌, ◌∙◌, ◌∷◌, ◌≡◌, ◌≤◌, cases_lt, length-take, Labels, with_length, FieldValue, string, RawItem, AppendsPrefix, AppendsValue, BeginsWithNone, BeginsWithValue, IsString, BadRdata, OneString}
+use Rattle.zone_rdata.proofs.Common.{[], List, add-one, ap, arith, drop, inl, inr, length, length-append, refl, subst, take, ℕ, ◌++◌, ◌+◌, ◌<◌, ◌∙◌, ◌∷◌, ◌≡◌, ◌≤◌, cases_lt, length-take, Labels, with_length, FieldValue, string, RawItem, AppendsPrefix, AppendsValue, BeginsWithNone, BeginsWithValue, IsString, BadRdata, OneString, bytes_each}
 use Rattle.zone_rdata.proofs.Fields.FieldLaws.{AreLow, AreLowItems, FieldChoice, FrontChoice, appends_plain, found_front, front_of, low_take}
 use Rattle.zone_rdata.proofs.Strings.Units.{string_or_fault}
 
@@ -30,3 +30,5 @@ front (c ∷ following) low = elim (cases_lt (length (c ∷ following)) (c + 1))
 pub spelt_or_fault : (origin : Labels) (items : List RawItem) → AreLowItems items → FieldChoice origin OneString (take 1 items)
 spelt_or_fault origin [] low = inr (BadRdata, refl)
 spelt_or_fault origin (item ∷ items) low = elim (string_or_fault item low.0) [ inl found ↦ inl (string found.0, found.1) | inr bad ↦ inr (bad.0, bad.1) ]
+
+pub ruleset strings_sent = (appends_string, bytes_each)

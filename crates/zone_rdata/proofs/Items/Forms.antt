@@ -1,6 +1,7 @@
 -- What items state for a layout, if there is one, and why they state nothing.
-use Rattle.zone_rdata.proofs.Common.{◌≡◌, ℕ, ◌≤◌, List, length, sym, ap, subst, Bool, false, IsTrue, ◌↔◌, Option, Some, Result, Ok, Err, arith, OnOk, Labels, Failing, Fault, IsGenericDataFault, no_value, IfFault, StatesGeneric, RawItem, IsGeneric, fields_of, AreSpelt, StatesFor, in_words, IsUncompressed, option_map, BadRdata, Layout}
+use Rattle.zone_rdata.proofs.Common.{◌≡◌, ℕ, ◌≤◌, List, length, sym, ap, subst, Bool, false, IsTrue, ◌↔◌, Option, Some, Result, Ok, Err, arith, OnOk, Labels, Failing, Fault, IsGenericDataFault, no_value, IfFault, StatesGeneric, RawItem, IsGeneric, fields_of, AreSpelt, StatesFor, in_words, IsUncompressed, option_map, BadRdata, Layout, IfErr-fault, in_generic_form, opaque_words}
 use Rattle.zone_rdata.specs.declared.fault.Failing.TheVariants as failings
+use Rattle.zone_rdata.specs.DataFault.{in_words as words_faulty}
 
 -- octets in the generic form that are no value of the layout
 pub form_value : (laid : Option Layout) (own : Layout) (items : List RawItem) (stated octets : List ℕ) (fault : Fault) → laid ≡ Some own → StatesGeneric items stated → octets ≡ stated → (fault ≡ BadRdata) × ((canonical : List ℕ) → IsUncompressed (fields_of own) octets canonical → ⊥) → IsGenericDataFault (option_map fields_of laid) items fault
@@ -19,3 +20,5 @@ words_read (Err failing) origin laid own items b octets e plain_items test spelt
 -- items that state a value are refused for want of memory alone
 pub memory_left : (e : Failing) (P : Fault → Type 0) → IfFault P e → ((fault : Fault) → P fault → ⊥) → e ≡ failings.Memory
 memory_left e P bad none = grind arith
+
+pub ruleset octets_read = (IfErr-fault, in_generic_form, opaque_words, words_faulty, not_marked, words_read)

@@ -1,5 +1,5 @@
 -- The generic form: digits that join to octets, item after item.
-use Rattle.zone_rdata.proofs.Common.{[], ◌≡◌, ◌≢◌, ℕ, ◌+◌, ◌-◌, ◌/◌, ◌<◌, ◌≤◌, List, ◌∷◌, ◌++◌, length, get_or, drop, map, Ok, sym, ◌∙◌, subst, arith, append_assoc, length-append, drop_all, append-nil, decode_of, decode_of-ok, decode_of-same, Fault, Item, RawItem, bare, raw, generic_mark, IsGeneric, StatesLength, JoinTo, GenericFault, no_length, long_length, bad_digits, Appends, common_steps, BadGeneric, from_place}
+use Rattle.zone_rdata.proofs.Common.{[], ◌≡◌, ◌≢◌, ℕ, ◌+◌, ◌-◌, ◌/◌, ◌<◌, ◌≤◌, List, ◌∷◌, ◌++◌, length, get_or, drop, map, Ok, sym, ◌∙◌, subst, arith, append_assoc, length-append, drop_all, append-nil, decode_of, decode_of-ok, decode_of-same, Fault, Item, RawItem, bare, raw, generic_mark, IsGeneric, StatesLength, JoinTo, GenericFault, no_length, long_length, bad_digits, Appends, common_steps, BadGeneric, from_place, err_from_is_err_and, length-map}
 use Rattle.zone_rdata.specs.Machine.GenericLength.{LengthFault, no_number, beyond}
 
 -- two digits for each octet
@@ -51,3 +51,5 @@ form_digits items digits item n fault e states short bad =
 
 pub form_parts : (items : List Item) (d : Item) → 2 ≤ length items → IsGeneric (map raw items) → map raw items ≡ generic_mark ∷ raw (get_or items 1 d) ∷ map raw (drop 2 items)
 form_parts items d two marked = grind arith
+
+pub ruleset generic_read = (err_from_is_err_and, form_faults, form_missing, form_parts, length-map)

@@ -51,3 +51,5 @@ no_number Is bound most cap number once fits room found none over n h = grind ar
 -- the number that was read, where it is no greater
 pub that_number : (Is : ℕ → Type 0) (n most cap : ℕ) (number : Option ℕ) → most < cap → number ≡ Some n → n ≤ most → IfSome number (λ n. (m : ℕ) × (Is m × (n ≡ min cap m))) → Is n
 that_number Is n most cap number room e short found = grind arith
+
+pub ruleset strings_spelt = (spelt_all, spelt_more)

@@ -1,5 +1,5 @@
 -- Data that is made part by part.
-use Rattle.zone_rdata.proofs.Common.{[], Bool, IsTrue, List, None, Option, Some, ap, arith, false, get_or, length, length-append, refl, subst, suc, sym, true, zero, ℕ, ◌++◌, ◌+◌, ◌-◌, ◌<◌, ◌↔◌, ◌∙◌, ◌∷◌, ◌≡◌, ◌≢◌, ◌≤◌, AllByRecursion, flat_map, append-nil, flat_map-append, AreOctets, with_length, Fault, Field, Built, FitsString, IsNext, IsPushFault, IsWhole, Pushes, ends_with_strings, misplaced, part_at, FieldValue, HoldEach, Holds, Suits, field_octets, fixed, is_strings, octets_of, string, strings, values_of, AreLaidOut, StringsLast, layout, ArePushedParts, Grows, IsBuilt, IsOver, IsReal, least_of, more_fields, over_data, over_string, part_field, part_fields, parts_held, Data, IsRdata, IsString, rules, BadRdata}
+use Rattle.zone_rdata.proofs.Common.{[], Bool, IsTrue, List, None, Option, Some, ap, arith, false, get_or, length, length-append, refl, subst, suc, sym, true, zero, ℕ, ◌++◌, ◌+◌, ◌-◌, ◌<◌, ◌↔◌, ◌∙◌, ◌∷◌, ◌≡◌, ◌≢◌, ◌≤◌, AllByRecursion, flat_map, append-nil, flat_map-append, AreOctets, with_length, Fault, Field, Built, FitsString, IsNext, IsPushFault, IsWhole, Pushes, ends_with_strings, misplaced, part_at, FieldValue, HoldEach, Holds, Suits, field_octets, fixed, is_strings, octets_of, string, strings, values_of, AreLaidOut, StringsLast, layout, ArePushedParts, Grows, IsBuilt, IsOver, IsReal, least_of, more_fields, over_data, over_string, part_field, part_fields, parts_held, Data, IsRdata, IsString, rules, BadRdata, if_fault_passed}
 use Rattle.zone_rdata.specs.Builder.{long_string, too_long}
 use Rattle.zone_rdata.proofs.Fields.AnyField.{field_part}
 use Rattle.zone_rdata.proofs.Octets.Layouts.{AreFor, laid_out, values_back}
@@ -180,3 +180,5 @@ finish_missing class kind laid count octets b e is few whole = grind (arith, par
 
 pub finish_made : (class kind : ℕ) (laid : Option (List Field)) (count : ℕ) (octets : List ℕ) (b : Built) (d : Data) → built class kind count octets ≡ b → IsBuilt class kind laid count octets → least_of laid ≤ count → d ≡ record { class = class; kind = kind; octets = octets } → IsWhole (layout b.class b.kind) b.parts × (d ≡ record { class = b.class; kind = b.kind; octets = octets_of b.parts })
 finish_made class kind laid count octets b d e is past made = grind (arith, whole_parts, parts_octets)
+
+pub ruleset push_faults = (if_fault_passed, push_misplaced, push_over)

@@ -3,6 +3,7 @@ use Rattle.zone_rdata.proofs.Common.{nil_from_length, [], Option, ◌≡◌, ℕ
 use Rattle.zone_rdata.proofs.Words.Tables.{table_row}
 use Rattle.zone_rdata.proofs.Fields.AnyField.{field_front, front_once}
 use Rattle.zone_rdata.proofs.Fields.FieldLaws.{AreLow}
+use Rattle.zone_rdata.specs.Wire.{beyond}
 
 -- octets that are a value for each field, one after another, and their canonical octets
 abbrev pub Reads : List Field → List ℕ → List ℕ → Type 0
@@ -95,3 +96,7 @@ reads_or_not (f ∷ row) octets low = elim (field_front f octets low) [
 
 pub canonical_or_not : (class kind : ℕ) (row : List Field) (octets : List ℕ) → layout class kind ≡ Some row → AreLow octets → Choice (IsUncompressed row octets)
 canonical_or_not class kind row octets e low = choice_as (λ canonical. canonical) (from_reads row octets) (λ none canonical u. none canonical (to_reads row octets canonical (table_row class kind row e).last u)) (reads_or_not row octets low)
+
+pub ruleset fields_taken = (taken_all, taken_more)
+
+pub ruleset only_canonical = (canonical_same, beyond)

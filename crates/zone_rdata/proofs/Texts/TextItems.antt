@@ -8,6 +8,7 @@ use Rattle.zone_rdata.proofs.Octets.Layouts.{AreFor}
 use Rattle.zone_rdata.proofs.Texts.Standing.{IsPrintedItem, bare_decimal, bare_hex}
 use Rattle.zone_rdata.proofs.Words.Tables.{table_row}
 use Rattle.zone_rdata.proofs.Texts.FieldTexts.{joined_more}
+use Rattle.zone_rdata.proofs.Octets.Wire.{table_sized}
 
 -- ---- the text is the items
 
@@ -108,3 +109,5 @@ stated_for names origin (Some row) octets table short each value =
     let values = values_of row octets in
     let sound = table row refl in
     in_words row values refl (fields_unmarked row values sound.sized value.held) (each_spelt names origin row values sound.last sound.sized value.held) (sym value.whole) short
+
+pub ruleset printed_data = (data_written, table_sized)

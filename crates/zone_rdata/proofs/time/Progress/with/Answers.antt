@@ -2,9 +2,6 @@ use Rattle.zone_rdata.proofs.Common.{refl, arith, sym, ◌∙◌, ◌≡◌, fal
 use Rattle.zone_rdata.proofs.Numbers.TimeLaws.{more_groups, stops}
 use Rattle.zone_rdata.proofs.time.Progress.with.Goals as goal
 
-pub returns-in-Some-clause-found : goal.returns-in-Some-clause-found
-returns-in-Some-clause-found c = λ text reads. more_groups text c.args.octet c.in-Some.unit c.args.self _ (sym c.in-Some.ensures.value) c.in-Some.ensures.some.0 c.if-self.true c.min-in-Some.ensures refl refl refl reads
-
 pub returns-in_default-clause-none : goal.returns-in_default-clause-none
 returns-in_default-clause-none c = λ text rest n reads.
     let other : is_digit c.args.octet ≡ false = first_of (search rules, grind (arith, nat_tests), grind (arith, nat_tests, c.if-is_ascii_digit.ensures.value), grind (arith, common_steps)) in
