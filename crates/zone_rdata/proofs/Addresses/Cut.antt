@@ -26,9 +26,8 @@ pub number_lacks : (c : ℕ) (text : List ℕ) (n : ℕ) → is_digit c ≡ fals
 number_lacks c text n miss is = each_weaker (λ d. d ≢ c) (λ d hit e. cc (sym hit ∙ ap is_digit e ∙ miss)) text is.number.digits
 
 dots_lack : (texts : List (List ℕ)) (octets : List ℕ) → AllZip IsOctetNumber texts octets → AllByRecursion (Lacks 46) texts
-dots_lack [] [] each = tt
 dots_lack (text ∷ texts) (n ∷ octets) each = (number_lacks 46 text n refl each.0, dots_lack texts octets each.1)
-dots_lack texts octets each = absurd each
+dots_lack texts octets each = grind arith
 
 parts_by : (count : ℕ) (text octets : List ℕ) (numbers : List (List ℕ)) → length numbers ≡ suc count → text ≡ join_with_byte 46 numbers → AllZip IsOctetNumber numbers octets → (length (split 46 text) ≡ suc count) × AllZip IsOctetNumber (split 46 text) octets
 parts_by count text octets [] counted parted each = absurd (omega arith)
@@ -74,9 +73,8 @@ pub last_refused : (text : List ℕ) → ((n : ℕ) → IsOctetNumber text n →
 last_refused text none octets are = last_by text octets are.numbers are.counted are.parted are.each none
 
 zip_once : (texts : List (List ℕ)) (a b : List ℕ) → AllZip IsOctetNumber texts a → AllZip IsOctetNumber texts b → a ≡ b
-zip_once [] [] [] x y = refl
 zip_once (text ∷ texts) (n ∷ a) (m ∷ b) x y = cc (x.0.number.value ∙ sym y.0.number.value, zip_once texts a b x.1 y.1)
-zip_once texts a b x y = search
+zip_once texts a b x y = grind arith
 
 pub numbers_unique : (count : ℕ) (text a b : List ℕ) → AreNumbers (suc count) text a → AreNumbers (suc count) text b → a ≡ b
 numbers_unique count text a b x y = zip_once (split 46 text) a b (numbers_parts count text a x).1 (numbers_parts count text b y).1

@@ -73,9 +73,8 @@ front octets (inr none) = inr (none_strings octets none)
 
 -- ---- the items that spell strings
 pub each_held : (items : List RawItem) (many : List (List ℕ)) → SpellEachString items many → AllByRecursion IsString many × (length many ≡ length items)
-each_held [] [] h = (tt, refl)
 each_held (item ∷ items) (octets ∷ many) h = grind (arith, each_held items many h.1)
-each_held items many h = absurd h
+each_held items many h = grind arith
 
 pub each_once : (items : List RawItem) (a b : Labels) → SpellEachString items a → SpellEachString items b → a ≡ b
 each_once [] a b h k = grind arith

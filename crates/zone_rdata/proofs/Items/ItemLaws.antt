@@ -9,13 +9,12 @@ use Rattle.zone_rdata.specs.DataFault as faults
 -- ---- items in words
 
 each_once : NamesOnce → (origin : Labels) (row : List Field) (items : List RawItem) (vs ws : List FieldValue) → SpellEach origin row items vs → SpellEach origin row items ws → vs ≡ ws
-each_once names origin [] items vs ws h k = grind arith
 each_once names origin (f ∷ row) items vs ws h k = grind (arith, field_once, each_once names origin row (items_after f items))
+each_once names origin [] items vs ws h k = grind arith
 
 first_never : NamesNever → (origin : Labels) (row : List Field) (items : List RawItem) (values : List FieldValue) (fault : Fault) → SpellEach origin row items values → FirstFieldFault origin row items fault → ⊥
-first_never names origin [] [] values fault h bad = bad
 first_never names origin (f ∷ row) items (v ∷ values) fault h bad = grind (arith, field_never, first_never names origin row (items_after f items) values fault h.1)
-first_never names origin row items values fault h bad = h
+first_never names origin row items values fault h bad = grind arith
 
 first_once : NamesNever → NameFaultOnce → (origin : Labels) (row : List Field) (items : List RawItem) (a b : Fault) → FirstFieldFault origin row items a → FirstFieldFault origin row items b → a ≡ b
 first_once names once origin [] [] a b x y = absurd x

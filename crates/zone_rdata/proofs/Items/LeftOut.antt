@@ -21,11 +21,8 @@ string_each [] many h = omega arith
 string_each (item ∷ items) many h = grind (arith, string_each items)
 
 spelt_long : (origin : Labels) (fields : List Field) (items : List RawItem) (values : List FieldValue) → SpellEach origin fields items values → length items ≤ length fields + length (octets_of values)
-spelt_long origin (Strings ∷ fields) items (strings many ∷ values) h = grind (arith, string_each, length-frames, length-append)
-spelt_long origin (Strings ∷ fields) items (v ∷ values) h = absurd h.0
-spelt_long origin (f ∷ fields) (item ∷ items) (v ∷ values) h = grind (arith, length-append, spelt_long origin fields items values h.1)
-spelt_long origin fields [] values h = omega arith
-spelt_long origin fields items values h = absurd h
+spelt_long origin (f ∷ fields) (item ∷ items) (v ∷ values) h = grind (arith, string_each, length-frames, length-append, spelt_long origin fields items values)
+spelt_long origin fields items values h = grind arith
 
 -- ---- words
 

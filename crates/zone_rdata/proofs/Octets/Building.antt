@@ -57,9 +57,8 @@ fields_push (g ∷ h ∷ row) f zero e = ap (λ k. part_field k ∷ []) (let s :
 fields_push (g ∷ h ∷ row) f (suc n) e = ap (λ r. part_field g ∷ r) (fields_push (h ∷ row) f n e)
 
 hold_push : (row : List Field) (values : List FieldValue) (f : Field) (v : FieldValue) → HoldEach row values → Holds f v → HoldEach (row ++ f ∷ []) (values ++ v ∷ [])
-hold_push [] [] f v each h = (h, tt)
 hold_push (g ∷ row) (w ∷ values) f v each h = (each.0, hold_push row values f v each.1 h)
-hold_push row values f v each h = absurd each
+hold_push row values f v each h = grind arith
 
 some_field : (o : Option Field) (v : FieldValue) → Suits o v → (f : Field) × (o ≡ Some f) × Suits (Some f) v
 some_field o v s = grind arith
@@ -97,11 +96,11 @@ record ManyParts (values : List FieldValue) : Type 0 where
   same : flat_map with_length many ≡ octets_of values
 
 join_parts : (n : ℕ) (values : List FieldValue) → HoldEach (more_fields fields.Strings n) values → ManyParts values
-join_parts zero [] h = record { many = []; each = tt; same = refl }
 join_parts (suc n) (string s ∷ values) h =
     let rest = join_parts n values h.1 in
     record { many = s ∷ rest.many; each = (h.0, rest.each); same = ap (λ o. with_length s ++ o) rest.same }
 join_parts (suc n) (v ∷ values) h = absurd h.0
+join_parts zero [] h = record { many = []; each = tt; same = refl }
 join_parts n values h = absurd h
 
 last_whole : (f : Field) (n : ℕ) (values : List FieldValue) → HoldEach (part_fields (f ∷ []) (suc n)) values → WholeParts (f ∷ []) (octets_of values)

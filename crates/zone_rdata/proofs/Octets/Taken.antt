@@ -11,11 +11,9 @@ Reads [] octets canonical = (octets ≡ []) × (canonical ≡ [])
 Reads (f ∷ row) octets canonical = (value : FieldValue) × ((rest more : List ℕ) × BeginsWithValue f octets value rest × (canonical ≡ field_octets value ++ more) × Reads row rest more)
 
 reads_by : (row : List Field) (values : List FieldValue) (octets : List ℕ) → StringsLast row → HoldEach row values → AreSent values octets → Reads row octets (octets_of values)
-reads_by [] [] octets last held sent = (sent, refl)
 reads_by (f ∷ []) (v ∷ []) octets last held sent = grind arith
-reads_by (f ∷ []) (v ∷ w ∷ values) octets last held sent = absurd held.1
 reads_by (f ∷ g ∷ row) (v ∷ values) octets last held sent = grind (arith, reads_by (g ∷ row) values sent.1 last.1 held.1 sent.4)
-reads_by row values octets last held sent = absurd held
+reads_by row values octets last held sent = grind arith
 
 pub to_reads : (row : List Field) (octets canonical : List ℕ) → StringsLast row → IsUncompressed row octets canonical → Reads row octets canonical
 to_reads row octets canonical last u = grind (arith, reads_by)
