@@ -1,7 +1,6 @@
 -- What is proved of the kinds of fields: a file each, and what they share.
 pub mod Name
 pub mod Number
-pub mod Time
 pub mod Address
 pub mod OneString
 pub mod Strings

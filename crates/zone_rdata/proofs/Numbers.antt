@@ -1,4 +1,2 @@
--- Decimal numbers and times.
-pub mod TimeChoice
+-- Times.
 pub mod TimeLaws
-pub mod Times

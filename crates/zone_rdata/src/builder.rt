@@ -171,6 +171,7 @@ impl RdataBuilder {
     /// # Errors
     ///
     /// Those of `push_octets` and `push_string`.
+    #[tactic(auto, using(crate::proofs::Octets::Building::push_faults))]
     pub fn push(&mut self, part: Part) -> Result<(), NarrowFailing>
         ensures ok { OnOk result (Pushes self.old (value_of part.entry) self.new) }
         ensures fault { IfErr result (IfFault (IsPushFault self.old (value_of part.entry))) }
@@ -215,6 +216,7 @@ impl RdataBuilder {
     }
 
     /// The data of the parts that were pushed, borrowed. `None`: a part is missing.
+    #[tactic(auto, using(crate::proofs::Octets::Building::finish_missing))]
     pub fn whole(&self) -> Option<RdataRef<'_>>
         ensures whole { IfSome result (λ _.
             IsWhole (layout self.now.class self.now.kind) self.now.parts) }
@@ -272,6 +274,7 @@ fn known(part: Part)
 }
 
 /// Appends the octets of a part. If it is refused, `out` is unchanged.
+#[tactic(auto, using(crate::proofs::Octets::Building::over_as))]
 fn append(part: Part, out: &mut Vec<u8>) -> Result<(), NarrowFailing>
     requires { length out.old.items ≤ LONGEST_DATA }
     ensures ok { OnOk result (Grows out.old.items (value_of part.entry) out.new.items) }

@@ -24,6 +24,7 @@ use hex::decode_to_slice;
 /// The first of: `BadGeneric` for a length that is missing or no decimal number, `RdataTooLong` for
 /// one over 65,535, and `BadGeneric` for digits that aren't those of so many octets; and `Memory`
 /// where memory is refused.
+#[tactic(auto, using(crate::proofs::Items::GenericForm::generic_read))]
 pub(crate) fn read_generic(items: &[Item], octets: &mut Vec<u8>) -> Result<(), NarrowFailing>
     requires { IsGeneric (map raw items.now) }
     ensures found { OnOk result (StatesGeneric (map raw items.now) octets.new.items) }
@@ -39,6 +40,7 @@ pub(crate) fn read_generic(items: &[Item], octets: &mut Vec<u8>) -> Result<(), N
 }
 
 /// The number of octets that an item states.
+#[tactic(auto, using(crate::specs::Machine::GenericLength::no_number))]
 fn length_of(item: Item) -> Result<usize, Cause>
     ensures found { IfOk result (λ n. StatesLength (raw item.entry) n) }
     ensures short { IfOk result (λ n. n ≤ LONGEST_DATA) }

@@ -98,6 +98,7 @@ impl Kind {
     ///
     /// `UnknownType` where it is no such word or the number is over 65535, and `MetaType` where no
     /// record can have the type.
+    #[tactic(auto, using(std::proofs::lemmas::Grind::common_steps))]
     pub fn read_word(word: &[u8]) -> Result<Kind, Cause>
         ensures found { IfOk result (IsKindWord word.now) }
         ensures err { IfErr result (λ cause. IsWordFault word.now (fault_for cause)) }

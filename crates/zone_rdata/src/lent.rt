@@ -93,6 +93,7 @@ impl<'a> RdataRef<'a> {
     /// # Errors
     ///
     /// `out` refuses octets. A prefix of the text may have been appended.
+    #[tactic(auto, using(crate::proofs::Texts::TextItems::printed_data))]
     pub fn print<S: Sink>(&self, out: &mut S) -> Result<(), S::Error>
         ensures ok { OnOk result (S.takes out.old (data_text self.now) out.new) }
         ensures err { OnErr result (TakesSome S.takes out.old out.new) }

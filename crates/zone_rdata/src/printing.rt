@@ -24,6 +24,7 @@ fn push_space<S: Sink>(place: usize, out: &mut S) -> Result<(), S::Error>
 }
 
 /// Appends the fields, parted by single spaces.
+#[tactic(auto, using(crate::proofs::Texts::FieldTexts::printed_last))]
 fn push_fields<S: Sink>(layout: Layout, octets: &[u8], out: &mut S) -> Result<(), S::Error>
     requires sized { AllByRecursion IsSized (fields_of layout) }
     requires laid { AreLaidOut (fields_of layout) octets.now }
@@ -67,6 +68,7 @@ const HEX_LEN: usize = 32;
 /// # Errors
 ///
 /// `out` refuses octets. A prefix of the digits may have been appended.
+#[tactic(auto, using(crate::proofs::Texts::FieldTexts::digits_all))]
 pub fn push_hex<S: Sink>(octets: &[u8], out: &mut S) -> Result<(), S::Error>
     ensures ok { OnOk result (S.takes out.old (encode_lower octets.now) out.new) }
     ensures err { OnErr result (TakesSome S.takes out.old out.new) }

@@ -79,6 +79,7 @@ fn read_in_form(
 
 /// Reads the canonical octets that items state for a layout, in words or in the generic form. They
 /// come in the place of those of before.
+#[tactic(auto, using(crate::proofs::Items::Forms::octets_read))]
 fn read_octets(
     layout: Option<Layout>,
     items: &[Item],
@@ -181,6 +182,7 @@ impl Rdata {
     ///
     /// `RdataTooLong` over 65,535 octets, `BadRdata` where they aren't exactly one value of the
     /// layout; and `Memory` where memory is refused.
+    #[tactic(auto, using(crate::proofs::Octets::Taken::only_canonical))]
     pub fn from_wire(
         alloc: Global,
         class: Class,
@@ -319,6 +321,7 @@ impl Rdata {
     /// # Errors
     ///
     /// `out` refuses octets. A prefix of the text may have been appended.
+    #[tactic(auto, using(crate::proofs::Texts::TextItems::printed_data))]
     pub fn print<S: Sink>(&self, out: &mut S) -> Result<(), S::Error>
         ensures ok { OnOk result (S.takes out.old (data_text self.now) out.new) }
         ensures err { OnErr result (TakesSome S.takes out.old out.new) }

@@ -32,6 +32,7 @@ impl Progress {
     ghost use Rattle.zone_rdata.specs.Machine.TimeProgress.{ReadsTime};
 
     /// What is read with one more octet. `None`: no time begins with these octets.
+    #[tactic(auto, using(crate::proofs::Numbers::TimeLaws::more_groups))]
     fn with(self, octet: u8) -> Option<Progress>
         requires { (self.total ≤ CAP) × (self.number ≤ CAP) }
         ensures found { IfSome result (λ next. (text : Octets)
@@ -59,6 +60,7 @@ impl Progress {
     }
 
     /// The time that was read if no octet follows. `None`: it is none.
+    #[tactic(auto, using(crate::proofs::Numbers::TimeLaws::ends_grouped))]
     fn seconds(self) -> Option<u64>
         ensures found { IfSome result (λ n.
             (text : Octets) → ReadsTime text self → IsCapped (IsTime text) n) }
@@ -75,6 +77,7 @@ impl Progress {
 
 /// The seconds that a text states, at most 4294967296: decimal digits, or one or more groups of
 /// digits and a unit w, d, h, m or s, summed. `None`: it is no time.
+#[tactic(auto, using(crate::specs::Number::plain))]
 pub fn seconds_of(text: &[u8]) -> Option<u64>
     ensures found { IfSome result (IsCapped (IsTime text.now)) }
     ensures none { IfNone result (NothingIs (IsTime text.now)) }

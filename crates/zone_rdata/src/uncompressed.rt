@@ -15,6 +15,7 @@ use std::alloc::Global;
 /// # Errors
 ///
 /// `BadRdata` where they aren't; and `Memory` where memory is refused.
+#[tactic(auto, using(crate::proofs::Octets::Taken::fields_taken))]
 pub(crate) fn canonical_of(
     alloc: Global,
     layout: Layout,

@@ -60,6 +60,7 @@ fn unescaped_run(octets: &[u8], at: usize) -> usize
 }
 
 /// As `unescaped_len`, octet by octet.
+#[tactic(auto, using(crate::proofs::Strings::UnescapedRuns::runs_of_few))]
 fn unescaped_len_of_few(octets: &[u8]) -> usize
     ensures { result ≡ prefix_len is_unescaped octets.now }
 {

@@ -38,6 +38,7 @@ fn numbered(name: &[u8], word: &[u8]) -> Option<u64>
 }
 
 /// The first row whose mnemonic a word is, in any letter case. `None`: there is none.
+#[tactic(auto, using(crate::proofs::Words::AnyCase::row_tests))]
 pub fn row_named<'r, R: Row>(rows: &'r [R], word: &[u8]) -> Option<&'r R>
     ensures { option_copied result
         ≡ find (λ row. bytes_eq (folded_label word.now) (folded_label (R.names row).mnemonic))

@@ -1,7 +1,7 @@
 -- Two colons in a row: where an address has them.
-use Rattle.zone_rdata.proofs.Common.{[], ◌≡◌, ℕ, zero, suc, ◌+◌, ◌-◌, ◌<◌, ◌≤◌, Bool, true, false, inl, inr, List, ◌∷◌, ◌++◌, length, take, drop, replicate, refl, sym, ap, ◌∙◌, subst, arith, append_assoc, length-append, take_at, drop_at, drop_more, drop_all, drop-replicate, replicate-append-replicate, length-replicate, append-nil, get_or_at, get_or_append_left, take-append-drop, cases_lt, AddressPart, AreParts, parts_text, ArePartsOf, AreAround, IsIpv6Address, eight, fewer, Lacks, HasGapAt}
+use Rattle.zone_rdata.proofs.Common.{[], ◌≡◌, ◌≢◌, ℕ, zero, suc, ◌+◌, ◌-◌, ◌<◌, ◌≤◌, Bool, true, false, inl, inr, List, ◌∷◌, ◌++◌, length, take, drop, replicate, refl, sym, ap, ◌∙◌, arith, append_assoc, length-append, take_at, drop_at, drop_more, drop_all, drop-replicate, replicate-append-replicate, length-replicate, append-nil, get_or_at, get_or_append_left, take-append-drop, cases_lt, AddressPart, AreParts, parts_text, ArePartsOf, AreAround, IsIpv6Address, eight, fewer, Lacks, HasGapAt}
 use Rattle.zone_rdata.proofs.Addresses.Cut.{group_lacks, last_lacks}
-use Rattle.zone_rdata.proofs.Addresses.AddressParts.{parts_unique}
+use Rattle.zone_rdata.proofs.Addresses.AddressParts.{parts_some, parts_unique}
 
 -- no two colons in a row, from the first octet on
 abbrev NoGaps : List ℕ → Type 0
@@ -10,42 +10,35 @@ NoGaps (c ∷ []) = Unit {0}
 NoGaps (c ∷ d ∷ text) = (c ≡ 58 → d ≡ 58 → ⊥) × NoGaps (d ∷ text)
 
 no_gaps_at : (text : List ℕ) (k : ℕ) → NoGaps text → HasGapAt text k → ⊥
-no_gaps_at [] k none at = omega (arith, at.0)
-no_gaps_at (c ∷ []) k none at = omega (arith, at.1)
 no_gaps_at (c ∷ d ∷ text) zero none at = none.0 at.0 at.1
 no_gaps_at (c ∷ d ∷ text) (suc k) none at = no_gaps_at (d ∷ text) k none.1 at
+no_gaps_at text k none at = grind arith
 
 no_gaps_tail : (c : ℕ) (text : List ℕ) → NoGaps (c ∷ text) → NoGaps text
 no_gaps_tail c text none = grind arith
 
-no_gaps_lacks : (text : List ℕ) → Lacks 58 text → NoGaps text
-no_gaps_lacks (c ∷ d ∷ text) lacks = (λ e f. lacks.0 e, no_gaps_lacks (d ∷ text) lacks.1)
-no_gaps_lacks text lacks = tt
+no_gaps_more : (c : ℕ) (text : List ℕ) → c ≢ 58 → NoGaps text → NoGaps (c ∷ text)
+no_gaps_more c text other none = grind arith
 
--- a part with a colon after it
-no_gaps_part : (text rest : List ℕ) → Lacks 58 text → NoGaps (58 ∷ rest) → NoGaps (text ++ 58 ∷ rest)
-no_gaps_part [] rest lacks none = none
-no_gaps_part (c ∷ []) rest lacks none = (λ e f. lacks.0 e, none)
-no_gaps_part (c ∷ d ∷ text) rest lacks none = (λ e f. lacks.0 e, no_gaps_part (d ∷ text) rest lacks.1 none)
+no_gaps_run : (text rest : List ℕ) → Lacks 58 text → NoGaps rest → NoGaps (text ++ rest)
+no_gaps_run [] rest lacks none = none
+no_gaps_run (c ∷ text) rest lacks none = no_gaps_more c (text ++ rest) lacks.0 (no_gaps_run text rest lacks.1 none)
 
-no_gaps_between : (text rest : List ℕ) → 0 < length text → Lacks 58 text → NoGaps (58 ∷ rest) → NoGaps (58 ∷ text ++ 58 ∷ rest)
-no_gaps_between [] rest some lacks none = absurd (omega arith)
-no_gaps_between (c ∷ text) rest some lacks none = grind (arith, no_gaps_part)
+-- a part with a colon before it
+no_gaps_part : (text rest : List ℕ) → 0 < length text → Lacks 58 text → NoGaps rest → NoGaps (58 ∷ text ++ rest)
+no_gaps_part [] rest some lacks none = absurd (omega arith)
+no_gaps_part (c ∷ text) rest some lacks none = (λ e f. lacks.0 f, no_gaps_run (c ∷ text) rest lacks none)
 
-no_gaps_parts : (ends : Bool) (parts : List AddressPart) → AreParts ends parts → NoGaps (58 ∷ parts_text parts)
-no_gaps_parts ends [] are = tt
-no_gaps_parts ends (p ∷ []) are = grind (arith, no_gaps_lacks, last_lacks ends p are)
-no_gaps_parts ends (p ∷ q ∷ parts) are = no_gaps_between p.text (parts_text (q ∷ parts)) are.0.some (group_lacks 58 p refl are.0) (no_gaps_parts ends (q ∷ parts) are.1)
+no_gaps_parts : (ends : Bool) (p : AddressPart) (parts : List AddressPart) (rest : List ℕ) → AreParts ends (p ∷ parts) → NoGaps rest → NoGaps (58 ∷ parts_text (p ∷ parts) ++ rest)
+no_gaps_parts ends p [] rest are none = no_gaps_part p.text rest (parts_some ends p [] are) (last_lacks ends p are) none
+no_gaps_parts ends p (q ∷ parts) rest are none = rw (append_assoc p.text (58 ∷ parts_text (q ∷ parts)) rest) (no_gaps_part p.text (58 ∷ parts_text (q ∷ parts) ++ rest) are.0.some (group_lacks 58 p refl are.0) (no_gaps_parts ends q parts rest are.1 none))
 
--- groups with a colon after all of them
-no_gaps_groups : (p : AddressPart) (parts : List AddressPart) → AreParts false (p ∷ parts) → NoGaps (58 ∷ parts_text (p ∷ parts) ++ 58 ∷ [])
-no_gaps_groups p [] (inl is) = no_gaps_between p.text [] is.some (group_lacks 58 p refl is) tt
-no_gaps_groups p [] (inr are) = absurd cc
-no_gaps_groups p (q ∷ parts) are = grind (arith, no_gaps_groups q parts are.1, append_assoc p.text (58 ∷ parts_text (q ∷ parts)) (58 ∷ []), no_gaps_between p.text (parts_text (q ∷ parts) ++ 58 ∷ []) are.0.some (group_lacks 58 p refl are.0) (no_gaps_groups q parts are.1))
+no_gaps_all : (ends : Bool) (parts : List AddressPart) (rest : List ℕ) → AreParts ends parts → NoGaps rest → NoGaps (parts_text parts ++ rest)
+no_gaps_all ends [] rest are none = none
+no_gaps_all ends (p ∷ parts) rest are none = no_gaps_tail 58 (parts_text (p ∷ parts) ++ rest) (no_gaps_parts ends p parts rest are none)
 
 no_gaps_front : (parts : List AddressPart) → AreParts false parts → NoGaps (parts_text parts ++ 58 ∷ [])
-no_gaps_front [] are = tt
-no_gaps_front (p ∷ parts) are = no_gaps_tail 58 (parts_text (p ∷ parts) ++ 58 ∷ []) (no_gaps_groups p parts are)
+no_gaps_front parts are = no_gaps_all false parts (58 ∷ []) are tt
 
 -- the first of the places with two colons
 pub record IsFirstGap (text : List ℕ) (at : ℕ) : Type 0 where
@@ -62,7 +55,7 @@ front_gap text front back octets parted are =
     grind (arith, append_assoc, length-append, no_gaps_front, get_or_at, get_or_append_left, no_gaps_at)
 
 parts_no_gap : (ends : Bool) (text octets : List ℕ) → ArePartsOf ends text octets → (k : ℕ) → HasGapAt text k → ⊥
-parts_no_gap ends text octets are k at = grind (arith, no_gaps_at, no_gaps_tail, no_gaps_parts)
+parts_no_gap ends text octets are k at = no_gaps_at text k (rw (are.parted, ← (append-nil (parts_text are.parts))) (no_gaps_all ends are.parts [] are.each tt)) at
 
 -- a text without `::` has eight groups or is refused
 pub refused_without_gap : (text : List ℕ) → ((k : ℕ) → HasGapAt text k → ⊥) → ((octets : List ℕ) → ArePartsOf true text octets → length octets ≡ 16 → ⊥) → (octets : List ℕ) → IsIpv6Address text octets → ⊥
@@ -80,7 +73,7 @@ pub refused_at_gap : (text back : List ℕ) (at : ℕ) → back ≡ drop (at + 2
 refused_at_gap text back at e first refused octets (eight are len) = parts_no_gap true text octets are at first.here
 refused_at_gap text back at e first refused octets (fewer front' back' parted around) =
     let same = around_gap text front' back' at octets first parted around in
-    refused octets (subst (λ t. AreAround (take at text) t octets) (same.1 ∙ sym e) (subst (λ t. AreAround t back' octets) same.0 around))
+    refused octets (rw (← same.0, e, ← same.1) around)
 
 pub found_at_gap : (text back : List ℕ) (at : ℕ) → back ≡ drop (at + 2) text → at + 2 ≤ length text → HasGapAt text at → (octets : List ℕ) → AreAround (take at text) back octets → IsIpv6Address text octets
 found_at_gap text back at e inside gap octets around = fewer (take at text) back (grind (arith, drop_more, take-append-drop) ∙ ap (λ t. take at text ++ 58 ∷ 58 ∷ t) (sym e)) around
@@ -108,5 +101,4 @@ groups_unique text a b (fewer front back parted x) (fewer front' back' parted' y
     let first = front_gap text front back x.before parted x.front_parts in
     let p = around_gap text front back (length front) a first parted x in
     let q = around_gap text front' back' (length front) b first parted' y in
-    let z = subst (λ t. AreAround front t b) (q.1 ∙ sym p.1) (subst (λ t. AreAround t back' b) (q.0 ∙ sym p.0) y) in
-    cc (parts_unique false front x.before z.before x.front_parts z.front_parts, parts_unique true back x.after z.after x.back_parts z.back_parts)
+    grind (arith, parts_unique false front x.before y.before x.front_parts, parts_unique true back x.after y.after x.back_parts)

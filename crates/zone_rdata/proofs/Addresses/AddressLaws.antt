@@ -4,7 +4,7 @@ use Rattle.std.specs.Net.Addr.{segments_of}
 use Rattle.std.proofs.NetLemmas.Texts.{IsZeroRun-longest_zero_run, longest_zero_run_first}
 use Rattle.std.proofs.NetLemmas.Alphabet.{IsDigitOrDot, IsHexOrColon, All-ipv4_text, All-hex_groups_text}
 use Rattle.std.proofs.lemmas.Str.Parse.{IsNumeralModel, numerals_by_fold}
-use Rattle.zone_rdata.proofs.Numbers.Times.{AreDigits}
+use Rattle.zone_rdata.proofs.Numbers.TimeLaws.{AreDigits}
 use Rattle.zone_rdata.proofs.Addresses.AddressTexts.{four_digits, four_encoded}
 use Rattle.zone_rdata.proofs.Addresses.AddressParts.{parts_some}
 
@@ -17,12 +17,7 @@ number_printed : (n : ℕ) → n < 256 → IsOctetNumber (decimal n) n
 number_printed n fits = grind (arith, decimal_nonempty, digits_decimal, own, digits_value-decimal)
 
 pub ipv4_printed : (octets : List ℕ) → length octets ≡ 4 → AreOctets octets → IsIpv4Address (ipv4_text octets) octets
-ipv4_printed (a ∷ b ∷ c ∷ d ∷ []) len each = record {
-  numbers = decimal a ∷ decimal b ∷ decimal c ∷ decimal d ∷ [];
-  counted = refl;
-  parted = simp append_assoc;
-  each = (number_printed a each.0, (number_printed b each.1.0, (number_printed c each.1.1.0, (number_printed d each.1.1.1.0, tt))));
-}
+ipv4_printed (a ∷ b ∷ c ∷ d ∷ []) len each = record { numbers = decimal a ∷ decimal b ∷ decimal c ∷ decimal d ∷ []; counted = refl; parted = simp append_assoc; each = (number_printed a each.0, (number_printed b each.1.0, (number_printed c each.1.1.0, (number_printed d each.1.1.1.0, tt)))) }
 ipv4_printed octets len each = absurd (omega arith)
 
 -- ---- groups
@@ -91,20 +86,17 @@ around_printed : (groups octets : List ℕ) (start len : ℕ) → length groups 
 around_printed groups octets start len count each value run long =
     let front = take start groups in
     let back = drop (start + len) groups in
-    let split : AllGroups (front ++ drop start groups) = subst AllGroups (sym (take-append-drop start groups)) each in
-    let front_len : length front ≡ start = length-take-le start groups (omega (arith, run.0)) in
-    let back_len = length-drop (start + len) groups in
-    let middle : drop start groups ≡ replicate len 0 ++ back = sym (take-append-drop len (drop start groups)) ∙ ap (λ t. t ++ drop len (drop start groups)) run.1 ∙ ap (λ t. replicate len 0 ++ t) (drop-drop len start groups) in
+    let split : AllGroups (front ++ drop start groups) = rw (take-append-drop start groups) each in
+    let middle : drop start groups ≡ replicate len 0 ++ back = grind (arith, take-append-drop len (drop start groups), drop-drop len start groups) in
     let whole : groups ≡ front ++ (replicate len 0 ++ back) = sym (take-append-drop start groups) ∙ ap (λ t. front ++ t) middle in
-    let gap : 16 - length (pairs front) - length (pairs back) ≡ 2 * len = omega (arith, length-pairs front, length-pairs back, front_len, back_len, run.0) in
-    let zeros : pairs (replicate len 0 ++ back) ≡ replicate (16 - length (pairs front) - length (pairs back)) 0 ++ pairs back = pairs-append (replicate len 0) back ∙ ap (λ o. o ++ pairs back) (zero_pairs len ∙ ap (λ k. replicate k 0) (sym gap)) in
+    let gap : 16 - length (pairs front) - length (pairs back) ≡ 2 * len = omega (arith, length-pairs front, length-pairs back, length-take-le start groups, length-drop (start + len) groups, run.0) in
     fewer (parted_groups front) (parted_groups back) (append_assoc (parted_groups front) (58 ∷ 58 ∷ []) (parted_groups back)) (record {
       before = pairs front;
       after = pairs back;
       front_parts = groups_printed false front (AllByRecursion-front (λ n. n < 2 ^ 16) front (drop start groups) split);
-      back_parts = groups_printed true back (AllByRecursion-back (λ n. n < 2 ^ 16) (take (start + len) groups) back (subst AllGroups (sym (take-append-drop (start + len) groups)) each));
-      room = omega (arith, length-pairs front, length-pairs back, front_len, back_len, run.0);
-      value = sym value ∙ ap pairs whole ∙ pairs-append front (replicate len 0 ++ back) ∙ ap (λ o. pairs front ++ o) zeros;
+      back_parts = groups_printed true back (AllByRecursion-back (λ n. n < 2 ^ 16) (take (start + len) groups) back (rw (take-append-drop (start + len) groups) each));
+      room = omega (arith, gap, run.0, length-pairs front, length-pairs back, length-take-le start groups, length-drop (start + len) groups);
+      value = grind (arith, gap, pairs-append front (replicate len 0 ++ back), pairs-append (replicate len 0) back, zero_pairs len);
     })
 
 pub ipv6_printed : (octets : List ℕ) → length octets ≡ 16 → AreOctets octets → IsIpv6Address (ipv6_text octets) octets

@@ -2,9 +2,8 @@
 use Rattle.zone_rdata.proofs.Common.{All-replicate, recursion_from_All, [], ◌≡◌, ℕ, ◌-◌, ◌<◌, Bool, true, false, inl, inr, List, ◌∷◌, ◌++◌, length, replicate, refl, sym, ◌∙◌, subst, arith, length-append, AllZip, length-replicate, decode_of-ok, decode_sized-ok, decode_sized-twice, AreOctets, IsOctetNumber, IsIpv4Address, AddressPart, IsGroup, AreParts, parts_octets, ArePartsOf, IsIpv6Address, eight, fewer, AllByRecursion-append, common_steps, bytes_each}
 
 numbers_bytes : (numbers : List (List ℕ)) (octets : List ℕ) → AllZip IsOctetNumber numbers octets → (length octets ≡ length numbers) × AreOctets octets
-numbers_bytes [] [] each = (refl, tt)
 numbers_bytes (a ∷ numbers) (n ∷ octets) each = grind (arith, numbers_bytes numbers octets each.1)
-numbers_bytes numbers octets each = absurd each
+numbers_bytes numbers octets each = grind arith
 
 pub ipv4_count : (text octets : List ℕ) → IsIpv4Address text octets → length octets ≡ 4
 ipv4_count text octets are = (numbers_bytes are.numbers octets are.each).0 ∙ are.counted

@@ -1,5 +1,5 @@
 -- The parts of an address between its colons.
-use Rattle.zone_rdata.proofs.Common.{[], ◌≡◌, ℕ, ◌+◌, ◌<◌, ◌≤◌, ◌==◌, Bool, inl, inr, List, ◌∷◌, ◌++◌, length, map, refl, sym, ap, ◌∙◌, subst, arith, append_assoc, length-append, AllByRecursion, join_with_byte, append-nil, IsIpv4Address, AddressPart, AreParts, parts_text, parts_octets, ArePartsOf, Lacks, IsCutAtFirst, IsGroupOf, IsLastPartOf, NoneFits, join_with_byte-slice_split, length-slice_split, common_steps}
+use Rattle.zone_rdata.proofs.Common.{[], ◌≡◌, ℕ, ◌+◌, ◌<◌, ◌≤◌, ◌==◌, Bool, inl, inr, List, ◌∷◌, ◌++◌, length, map, refl, sym, ap, arith, append_assoc, length-append, AllByRecursion, join_with_byte, append-nil, IsIpv4Address, AddressPart, AreParts, parts_text, parts_octets, ArePartsOf, Lacks, IsCutAtFirst, IsGroupOf, IsLastPartOf, NoneFits, join_with_byte-slice_split, length-slice_split, common_steps}
 use Rattle.zone_rdata.proofs.Addresses.Cut.{split, split_cut, split_join, split_lacks, group_lacks, group_same, last_lacks, last_same}
 
 some_numbers : (text : List ℕ) (numbers : List (List ℕ)) → length numbers ≡ 4 → text ≡ join_with_byte 46 numbers → 0 < length text
@@ -34,8 +34,7 @@ parts_lack ends (p ∷ q ∷ parts) are = (group_lacks 58 p refl are.0, parts_la
 
 found_by : (ends : Bool) (text octets : List ℕ) (parts : List AddressPart) → 0 < length text → AreParts ends parts → text ≡ parts_text parts → octets ≡ parts_octets parts → HaveParts ends (split 58 text) octets
 found_by ends text octets [] some are parted value = absurd (omega (arith, ap length parted))
-found_by ends text octets (p ∷ parts) some are parted value =
-    rw (ap (split 58) parted ∙ split_join 58 p.text _ (parts_lack ends (p ∷ parts) are), value) (have_parts ends (p ∷ parts) are)
+found_by ends text octets (p ∷ parts) some are parted value = grind (arith, split_join, parts_lack ends (p ∷ parts) are, have_parts ends (p ∷ parts) are)
 
 -- parts are what stands between the colons
 pub parts_found : (ends : Bool) (text octets : List ℕ) → 0 < length text → ArePartsOf ends text octets → HaveParts ends (split 58 text) octets
@@ -56,11 +55,11 @@ parts_listed ends text octets have = grind (arith, listed ends (split 58 text) o
 have_once : (ends : Bool) (texts : List (List ℕ)) (a b : List ℕ) → HaveParts ends texts a → HaveParts ends texts b → a ≡ b
 have_once ends [] a b x y = cc
 have_once ends (text ∷ []) a b x y = last_same ends (record { text = text; octets = a }) (record { text = text; octets = b }) x y refl
-have_once ends (text ∷ next ∷ texts) a b x y = cc (group_same text x.0 y.0 x.2 y.2, have_once ends (next ∷ texts) x.1 y.1 x.3 y.3)
+have_once ends (text ∷ next ∷ texts) a b x y = grind (arith, group_same text x.0 y.0 x.2 y.2, have_once ends (next ∷ texts) x.1 y.1 x.3 y.3)
 
 none_empty : (ends : Bool) (parts : List AddressPart) → AreParts ends parts → parts_text parts ≡ [] → parts_octets parts ≡ []
 none_empty ends [] are e = refl
-none_empty ends (p ∷ parts) are e = absurd (omega (arith, parts_some ends p parts are, ap length e))
+none_empty ends (p ∷ parts) are e = grind (arith, parts_some ends p parts are)
 
 pub parts_unique : (ends : Bool) (text a b : List ℕ) → ArePartsOf ends text a → ArePartsOf ends text b → a ≡ b
 parts_unique ends [] a b x y = cc (none_empty ends x.parts x.each (sym x.parted), none_empty ends y.parts y.each (sym y.parted))
@@ -83,16 +82,13 @@ split_some c text = omega (arith, length-slice_split (λ b. b == c) text)
 left_first : (ends : Bool) (text rest group after octets others : List ℕ) → IsCutAtFirst 58 rest group after → HaveReadParts ends text rest octets → HaveParts ends (split 58 text) others → (added : List ℕ) × (more : List ℕ) × IsGroupOf group added × HaveParts ends (split 58 after) more × (others ≡ octets ++ (added ++ more))
 left_first ends text rest group after octets others cut reads have =
     let left = reads.comes others have in
-    let first = comes_first ends group (split 58 after) left.0 (split_some 58 after) (subst (λ t. HaveParts ends t left.0) (split_cut 58 rest group after cut) left.1) in
-    (first.0, first.1, first.2, first.3, cc (left.2, first.4))
+    grind (arith, comes_first ends group (split 58 after) left.0 (split_some 58 after) (rw (split_cut 58 rest group after cut) at left.1))
 
 pub parts_more : (ends : Bool) (text rest group after octets added : List ℕ) → IsCutAtFirst 58 rest group after → IsGroupOf group added → HaveReadParts ends text rest octets → HaveReadParts ends text after (octets ++ added)
 parts_more ends text rest group after octets added cut is reads = record {
   some = reads.some;
   goes = λ more have. rw append_assoc (reads.goes (added ++ more) (rw (split_cut 58 rest group after cut) (grind (arith, split_some 58 after))));
-  comes = λ others have.
-      let left = left_first ends text rest group after octets others cut reads have in
-      (left.1, left.3, cc (group_same group added left.0 is left.2, append_assoc octets added left.1));
+  comes = λ others have. grind (arith, left_first ends text rest group after octets others cut reads have, group_same, append_assoc);
 }
 
 -- where no group goes on
@@ -102,7 +98,7 @@ parts_stop ends text rest group after octets cut reads stops others are short =
     grind (arith, common_steps)
 
 pub parts_ended : (ends : Bool) (text rest octets added : List ℕ) → Lacks 58 rest → HaveReadParts ends text rest octets → IsLastPartOf ends rest added → ArePartsOf ends text (octets ++ added)
-parts_ended ends text rest octets added lacks reads is = parts_listed ends text (octets ++ added) (reads.goes added (rw (split_lacks 58 rest lacks) is))
+parts_ended ends text rest octets added lacks reads is = grind (arith, parts_listed, split_lacks, reads.goes added)
 
 pub parts_unended : (ends : Bool) (text rest octets : List ℕ) → Lacks 58 rest → HaveReadParts ends text rest octets → NoneFits (IsLastPartOf ends rest) octets → (others : List ℕ) → ArePartsOf ends text others → length others ≤ 16 → ⊥
 parts_unended ends text rest octets lacks reads stops others are short =
@@ -117,5 +113,4 @@ pub part_full : (ends : Bool) (text own old : List ℕ) → IsLastPartOf ends te
 part_full ends text own old is long added last = omega (arith, ap length (last_same ends (record { text = text; octets = added }) (record { text = text; octets = own }) last is refl))
 
 pub part_refused : (ends : Bool) (text old : List ℕ) → ((octets : List ℕ) → IsGroupOf text octets → ⊥) → ((octets : List ℕ) → IsIpv4Address text octets → ⊥) → NoneFits (IsLastPartOf ends text) old
-part_refused ends text old none none' added (inl is) = absurd (none added is)
-part_refused ends text old none none' added (inr are) = absurd (none' added are.1)
+part_refused ends text old none none' added last = elim last [ inl is ↦ absurd (none added is) | inr are ↦ absurd (none' added are.1) ]

@@ -1,5 +1,5 @@
 -- Addresses in text, cut at dots and colons.
-use Rattle.zone_rdata.proofs.Common.{[], ◌≡◌, ◌≢◌, ℕ, suc, ◌-◌, ◌==◌, Bool, true, false, inl, inr, List, ◌∷◌, ◌++◌, length, replicate, refl, sym, ap, ◌∙◌, subst, arith, AllByRecursion, AllZip, All, join_with_byte, slice_split, ne_eqb, drop_at, All-drop, All-from_recursion, recursion_from_All, is_hex_digit, IsOk-decode_sized, is_digit, IsOctetNumber, AreNumbers, IsIpv4Address, AddressPart, IsGroup, IsLastPart, Lacks, IsCutAtFirst, AllByRecursion-append, join_with_byte-slice_split, slice_split_at, slice_split_none, each_weaker}
+use Rattle.zone_rdata.proofs.Common.{[], ◌≡◌, ◌≢◌, ℕ, suc, ◌-◌, ◌==◌, Bool, true, false, inl, inr, List, ◌∷◌, ◌++◌, length, replicate, refl, sym, ap, ◌∙◌, subst, arith, AllByRecursion, AllZip, All, join_with_byte, slice_split, ne_eqb, drop_at, All-drop, All-from_recursion, recursion_from_All, is_hex_digit, IsOk-decode_sized, is_digit, IsOctetNumber, AreNumbers, AddressPart, IsGroup, IsLastPart, Lacks, IsCutAtFirst, AllByRecursion-append, join_with_byte-slice_split, slice_split_at, slice_split_none, each_weaker}
 
 -- ---- cutting
 
@@ -26,13 +26,12 @@ pub number_lacks : (c : ℕ) (text : List ℕ) (n : ℕ) → is_digit c ≡ fals
 number_lacks c text n miss is = each_weaker (λ d. d ≢ c) (λ d hit e. cc (sym hit ∙ ap is_digit e ∙ miss)) text is.number.digits
 
 dots_lack : (texts : List (List ℕ)) (octets : List ℕ) → AllZip IsOctetNumber texts octets → AllByRecursion (Lacks 46) texts
-dots_lack [] [] each = tt
 dots_lack (text ∷ texts) (n ∷ octets) each = (number_lacks 46 text n refl each.0, dots_lack texts octets each.1)
-dots_lack texts octets each = absurd each
+dots_lack texts octets each = grind arith
 
 parts_by : (count : ℕ) (text octets : List ℕ) (numbers : List (List ℕ)) → length numbers ≡ suc count → text ≡ join_with_byte 46 numbers → AllZip IsOctetNumber numbers octets → (length (split 46 text) ≡ suc count) × AllZip IsOctetNumber (split 46 text) octets
 parts_by count text octets [] counted parted each = absurd (omega arith)
-parts_by count text octets (first ∷ numbers) counted parted each = rw (ap (split 46) parted ∙ split_join 46 first numbers (dots_lack (first ∷ numbers) octets each)) (counted, each)
+parts_by count text octets (first ∷ numbers) counted parted each = grind (arith, split_join, dots_lack (first ∷ numbers) octets each)
 
 -- numbers are what stands between the dots
 pub numbers_parts : (count : ℕ) (text octets : List ℕ) → AreNumbers (suc count) text octets → (length (split 46 text) ≡ suc count) × AllZip IsOctetNumber (split 46 text) octets
@@ -74,9 +73,8 @@ pub last_refused : (text : List ℕ) → ((n : ℕ) → IsOctetNumber text n →
 last_refused text none octets are = last_by text octets are.numbers are.counted are.parted are.each none
 
 zip_once : (texts : List (List ℕ)) (a b : List ℕ) → AllZip IsOctetNumber texts a → AllZip IsOctetNumber texts b → a ≡ b
-zip_once [] [] [] x y = refl
 zip_once (text ∷ texts) (n ∷ a) (m ∷ b) x y = cc (x.0.number.value ∙ sym y.0.number.value, zip_once texts a b x.1 y.1)
-zip_once texts a b x y = search
+zip_once texts a b x y = grind arith
 
 pub numbers_unique : (count : ℕ) (text a b : List ℕ) → AreNumbers (suc count) text a → AreNumbers (suc count) text b → a ≡ b
 numbers_unique count text a b x y = zip_once (split 46 text) a b (numbers_parts count text a x).1 (numbers_parts count text b y).1
@@ -93,7 +91,7 @@ pub group_lacks : (c : ℕ) (p : AddressPart) → is_hex_digit c ≡ false → I
 group_lacks c p miss is =
     let zeros : List ℕ = replicate (4 - length p.text) 48 in
     let passes = ((IsOk-decode_sized (zeros ++ p.text) 2).0 (rw is.value refl)).1 in
-    let here : All (λ c. is_hex_digit c ≡ true) p.text = subst (All (λ c. is_hex_digit c ≡ true)) (drop_at zeros p.text (length zeros) refl) (All-drop (λ c. is_hex_digit c ≡ true) (length zeros) (zeros ++ p.text) passes) in
+    let here = rw (drop_at zeros p.text (length zeros) refl) at (All-drop (λ c. is_hex_digit c ≡ true) (length zeros) (zeros ++ p.text) passes) in
     each_weaker (λ d. d ≢ c) (λ d hit e. cc (sym hit ∙ ap is_hex_digit e ∙ miss)) p.text (recursion_from_All (λ c. is_hex_digit c ≡ true) p.text here)
 
 pub group_same : (text a b : List ℕ) → IsGroup (record { text = text; octets = a }) → IsGroup (record { text = text; octets = b }) → a ≡ b
@@ -108,4 +106,4 @@ pub last_same : (ends : Bool) (p q : AddressPart) → IsLastPart ends p → IsLa
 last_same ends p q (inl x) (inl y) e = cc
 last_same ends p q (inl x) (inr y) e = absurd (numbers_none q.text (subst (Lacks 46) e (group_lacks 46 p refl x)) 2 q.octets y.1)
 last_same ends p q (inr x) (inl y) e = absurd (numbers_none p.text (subst (Lacks 46) (sym e) (group_lacks 46 q refl y)) 2 p.octets x.1)
-last_same ends p q (inr x) (inr y) e = numbers_unique 3 p.text p.octets q.octets x.1 (subst (λ t. IsIpv4Address t q.octets) (sym e) y.1)
+last_same ends p q (inr x) (inr y) e = grind (arith, numbers_unique 3 p.text p.octets q.octets x.1)

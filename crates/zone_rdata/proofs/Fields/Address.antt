@@ -1,11 +1,9 @@
 -- An address of a fixed number of octets.
-use Rattle.zone_rdata.proofs.Common.{List, ap, arith, inl, inr, length, refl, subst, sym, ℕ, ◌+◌, ◌*◌, ◌==◌, ◌∙◌, ◌≡◌, ◌≤◌, ◌⊎◌, if◌then◌else◌, take_at, IsIpv6Address, ipv4_text, ipv6_text, fixed, AreFixed, IsAddress, address_text, of_ipv4, of_ipv6, StandsBare, BadRdata, Octets}
-use Rattle.zone_rdata.proofs.Addresses.AddressChoice.{address_or_not}
-use Rattle.zone_rdata.proofs.Addresses.AddressFields.{address_fixed}
+use Rattle.zone_rdata.proofs.Common.{List, ap, arith, inl, inr, length, refl, subst, sym, ℕ, ◌+◌, ◌*◌, ◌==◌, ◌∙◌, ◌≡◌, ◌≤◌, ◌⊎◌, if◌then◌else◌, IsIpv6Address, ipv4_text, ipv6_text, fixed, AreFixed, IsAddress, address_text, of_ipv4, of_ipv6, StandsBare, Octets}
 use Rattle.zone_rdata.proofs.Addresses.AddressGaps.{groups_unique}
 use Rattle.zone_rdata.proofs.Addresses.AddressLaws.{ipv4_plain, ipv4_printed, ipv6_plain, ipv6_printed, ipv6_some}
 use Rattle.zone_rdata.proofs.Addresses.Cut.{numbers_unique}
-use Rattle.zone_rdata.proofs.Fields.FieldLaws.{FieldLaws, SizedField, bare_item, bare_or_fault, mark, mark_text, sized_front, value_or_fault}
+use Rattle.zone_rdata.proofs.Fields.FieldLaws.{SizedField, mark}
 use Rattle.zone_rdata.proofs.Texts.Standing.{bare_address}
 use Rattle.zone_rdata.proofs.Fields.FieldLengths.{ipv4_length, ipv6_length}
 use Rattle.zone_rdata.proofs.Addresses.AddressParts.{ipv4_some}
@@ -13,7 +11,7 @@ use Rattle.zone_rdata.proofs.Addresses.AddressParts.{ipv4_some}
 pub sized : (n : ℕ) → SizedField (Octets n) fixed n
 sized n = record { plain = λ e. cc; single = λ e. cc; only = λ v h. grind arith; size = λ octets h. h.size; read = λ octets low size. (octets, record { size = size; each = low }, refl) }
 
-once : (n : ℕ) (text a b : List ℕ) → IsAddress n text a → IsAddress n text b → a ≡ b
+pub once : (n : ℕ) (text a b : List ℕ) → IsAddress n text a → IsAddress n text b → a ≡ b
 once n text a b (of_ipv4 e h) (of_ipv4 d k) = numbers_unique 3 text a b h k
 once n text a b (of_ipv4 e h) (of_ipv6 d k) = absurd (omega arith)
 once n text a b (of_ipv6 e h) (of_ipv4 d k) = absurd (omega arith)
@@ -25,14 +23,14 @@ text_of_ipv4 octets e = ap (λ (n : ℕ). if n == 4 then ipv4_text octets else i
 text_of_ipv6 : (octets : List ℕ) → length octets ≡ 16 → address_text octets ≡ ipv6_text octets
 text_of_ipv6 octets e = ap (λ (n : ℕ). if n == 4 then ipv4_text octets else ipv6_text octets) e
 
-printed : (n : ℕ) (octets : List ℕ) → (n ≡ 4) ⊎ (n ≡ 16) → AreFixed n octets → IsAddress n (address_text octets) octets
+pub printed : (n : ℕ) (octets : List ℕ) → (n ≡ 4) ⊎ (n ≡ 16) → AreFixed n octets → IsAddress n (address_text octets) octets
 printed n octets (inl e) h = grind (arith, text_of_ipv4, ipv4_printed)
 printed n octets (inr e) h = of_ipv6 e (subst (λ t. IsIpv6Address t octets) (sym (text_of_ipv6 octets (h.size ∙ e))) (ipv6_printed octets (h.size ∙ e) h.each))
 
-unmarked : (n : ℕ) (octets : List ℕ) → (n ≡ 4) ⊎ (n ≡ 16) → AreFixed n octets → address_text octets ≡ mark → ⊥
+pub unmarked : (n : ℕ) (octets : List ℕ) → (n ≡ 4) ⊎ (n ≡ 16) → AreFixed n octets → address_text octets ≡ mark → ⊥
 unmarked n octets k h e = grind (arith, text_of_ipv4, ipv4_plain, text_of_ipv6, ipv6_plain)
 
-stands : (n : ℕ) (octets : List ℕ) → (n ≡ 4) ⊎ (n ≡ 16) → AreFixed n octets → StandsBare (address_text octets)
+pub stands : (n : ℕ) (octets : List ℕ) → (n ≡ 4) ⊎ (n ≡ 16) → AreFixed n octets → StandsBare (address_text octets)
 stands n octets (inl e) h =
     let size : length octets ≡ 4 = h.size ∙ e in
     subst StandsBare (sym (text_of_ipv4 octets size)) (bare_address (ipv4_text octets) (ipv4_some _ octets (ipv4_printed octets size h.each)) (ipv4_plain octets size h.each))
@@ -40,25 +38,5 @@ stands n octets (inr e) h =
     let size : length octets ≡ 16 = h.size ∙ e in
     subst StandsBare (sym (text_of_ipv6 octets size)) (bare_address (ipv6_text octets) (ipv6_some _ octets (ipv6_printed octets size h.each)) (ipv6_plain octets size h.each))
 
-few : (n : ℕ) (octets : List ℕ) → (n ≡ 4) ⊎ (n ≡ 16) → AreFixed n octets → length (address_text octets) + 1 ≤ 4 * length octets
+pub few : (n : ℕ) (octets : List ℕ) → (n ≡ 4) ⊎ (n ≡ 16) → AreFixed n octets → length (address_text octets) + 1 ≤ 4 * length octets
 few n octets k h = grind (arith, text_of_ipv4, ipv4_length, text_of_ipv6, ipv6_length)
-
-pub laws : (n : ℕ) → FieldLaws (Octets n) fixed bare_item
-laws n = record {
-  only = (sized n).only;
-  opens = λ origin items v h. grind arith;
-  part = λ v s fits real. grind arith;
-  back = λ octets rest h last. ap fixed (take_at octets rest n h.size);
-  low = λ octets h. h.each;
-  short = λ octets many fixed_size h. grind arith;
-  front = sized_front (Octets n) n (sized n);
-  holds = λ origin text octets h. address_fixed n text octets h;
-  once = λ names origin text a b h k. once n text a b h k;
-  never = λ names origin text octets fault h bad. bad.1 octets h;
-  or_fault = λ names origin is. bare_or_fault origin (Octets n) (λ e. cc) (λ e. cc) (λ text each.
-      value_or_fault origin (Octets n) text fixed BadRdata (IsAddress n text) (λ octets h. h) (λ none. (refl, none)) (address_or_not n text));
-  printed = λ names origin octets rest fixed_size h last. (printed n octets fixed_size h, refl);
-  stands = λ octets fixed_size h. (stands n octets fixed_size h, tt);
-  unmarked = λ octets rest fixed_size h g. unmarked n octets fixed_size h (mark_text (address_text octets) rest g);
-  few = λ octets fixed_size h. few n octets fixed_size h;
-}

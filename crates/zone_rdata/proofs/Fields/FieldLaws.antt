@@ -1,7 +1,6 @@
 -- What is proved of every kind of field, and what kinds share.
-use Rattle.zone_rdata.proofs.Common.{[], List, Option, Some, arith, decimal, drop, get_or, inl, inr, length, length-append, refl, subst, take, true, ℕ, ◌++◌, ◌+◌, ◌*◌, ◌<◌, ◌^◌, ◌∷◌, ◌≡◌, ◌≢◌, ◌≤◌, ◌⊎◌, AllByRecursion, IfSome, cases_lt, false≢true, take-append-drop, Labels, IsName, SpellingFault, Spells, is_digit, Fault, Field, FitsString, FieldValue, Holds, IsFieldFault, IsSent, SpellsField, Suits, field_at, field_items, field_octets, field_text, items_after, own_items, IsGeneric, RawItem, bare, quoted, IsSized, AppendsPrefix, AppendsValue, BeginsWithNone, BeginsWithValue, IsReal, part_field, item_text, common_steps, name_text, NameFault, BadRdata, Name, OneString, Strings, Choice}
+use Rattle.zone_rdata.proofs.Common.{[], List, Option, arith, decimal, drop, get_or, inl, inr, length, length-append, refl, subst, take, true, ℕ, ◌<◌, ◌^◌, ◌∷◌, ◌≡◌, ◌≢◌, ◌≤◌, ◌⊎◌, AllByRecursion, IfSome, cases_lt, false≢true, take-append-drop, Labels, IsName, SpellingFault, Spells, is_digit, Fault, Field, FieldValue, Holds, IsFieldFault, IsSent, SpellsField, field_octets, IsGeneric, RawItem, bare, AppendsPrefix, AppendsValue, BeginsWithNone, BeginsWithValue, item_text, common_steps, name_text, NameFault, Name, Strings}
 use Rattle.zone_rdata.proofs.Items.GenericLaws.{decimal-is}
-use Rattle.zone_rdata.proofs.Texts.Standing.{IsPrintedItem}
 
 -- ---- what the crate of names proves of them
 
@@ -42,7 +41,7 @@ low_take n octets low = grind (arith, common_steps)
 pub low_drop : (n : ℕ) (octets : List ℕ) → AreLow octets → AreLow (drop n octets)
 low_drop n octets low = grind (arith, common_steps)
 
--- ---- the laws of a kind
+-- ---- what is so or not of octets and of items
 
 -- items spell a value of the field or have a fault
 abbrev pub FieldChoice : List (List ℕ) → Field → List RawItem → Type 0
@@ -51,44 +50,6 @@ FieldChoice origin f items = ((value : FieldValue) × SpellsField origin f items
 -- octets begin with a value of the field or with none
 abbrev pub FrontChoice : Field → List ℕ → Type 0
 FrontChoice f octets = ((value : FieldValue) × ((rest : List ℕ) × BeginsWithValue f octets value rest)) ⊎ BeginsWithNone f octets
-
--- the laws of a kind whose values are `value` of something and spelled by `items` of something
-pub record FieldLaws {X I : Type 0} (f : Field) (value : X → FieldValue) (items : I → List RawItem) : Type 0 where
-  -- it holds no other value, and no other items spell one
-  pub only : (v : FieldValue) → Holds f v → (x : X) × (v ≡ value x)
-  pub opens : (origin : Labels) (all : List RawItem) (v : FieldValue) → SpellsField origin f all v → (i : I) × (x : X) × (all ≡ items i) × (v ≡ value x)
-  -- a part for it is a value, of one octet at least
-  pub part : (v : FieldValue) → Suits (Some f) v → FitsString v → IsReal v → Holds (part_field f) v × (0 < length (field_octets v))
-  -- its octets are read back, are octets, and few
-  pub back : (x : X) (rest : List ℕ) → Holds f (value x) → (f ≡ Strings → rest ≡ []) → field_at f (field_octets (value x) ++ rest) ≡ value x
-  pub low : (x : X) → Holds f (value x) → AreLow (field_octets (value x))
-  pub short : (x : X) → f ≢ Strings → IsSized f → Holds f (value x) → length (field_octets (value x)) ≤ 256
-  pub front : (octets : List ℕ) → AreLow octets → FrontChoice f octets
-  -- items spell a value that it holds, and one alone, or have a fault
-  pub holds : (origin : Labels) (i : I) (x : X) → SpellsField origin f (items i) (value x) → Holds f (value x)
-  pub once : NamesOnce → (origin : Labels) (i : I) (x y : X) → SpellsField origin f (items i) (value x) → SpellsField origin f (items i) (value y) → x ≡ y
-  pub never : NamesNever → (origin : Labels) (i : I) (x : X) (fault : Fault) → SpellsField origin f (items i) (value x) → IsFieldFault origin f (items i) fault → ⊥
-  pub or_fault : NameOrFault → (origin : Labels) → IsName origin → (all : List RawItem) → AreLowItems all → FieldChoice origin f (own_items f all)
-  -- the items that are printed spell the value, stand in a file as they are, and are not in the
-  -- generic form
-  pub printed : NamesPrinted → (origin : Labels) (x : X) (rest : List RawItem) → IsSized f → Holds f (value x) → (f ≡ Strings → rest ≡ []) → SpellsField origin f (own_items f (field_items (value x) ++ rest)) (value x) × (items_after f (field_items (value x) ++ rest) ≡ rest)
-  pub stands : (x : X) → IsSized f → Holds f (value x) → AllByRecursion IsPrintedItem (field_items (value x))
-  pub unmarked : (x : X) (rest : List RawItem) → IsSized f → Holds f (value x) → IsGeneric (field_items (value x) ++ rest) → ⊥
-  -- its text and a space have at most four octets for each of its own
-  pub few : (x : X) → IsSized f → Holds f (value x) → length (field_text (value x)) + 1 ≤ 4 * length (field_octets (value x))
-
--- ---- one bare item
-
-abbrev pub bare_item : List ℕ → List RawItem
-bare_item text = bare text ∷ []
-
-pub bare_or_fault : (origin : Labels) (f : Field) → f ≢ Strings → f ≢ OneString → ((text : List ℕ) → AreLow text → FieldChoice origin f (bare text ∷ [])) → (items : List RawItem) → AreLowItems items → FieldChoice origin f (take 1 items)
-bare_or_fault origin f many one own [] low = inr (BadRdata, grind arith)
-bare_or_fault origin f many one own (quoted text ∷ items) low = inr (BadRdata, grind arith)
-bare_or_fault origin f many one own (bare text ∷ items) low = own text low.0
-
-pub value_or_fault : {X : Type 0} (origin : Labels) (f : Field) (text : List ℕ) (value : X → FieldValue) (own : Fault) (Stated : X → Type 0) → ((x : X) → Stated x → SpellsField origin f (bare text ∷ []) (value x)) → (((x : X) → Stated x → ⊥) → IsFieldFault origin f (bare text ∷ []) own) → Choice Stated → FieldChoice origin f (bare text ∷ [])
-value_or_fault origin f text value own Stated spelt bad h = grind arith
 
 -- the mark of the generic form as a text
 abbrev pub mark : List ℕ

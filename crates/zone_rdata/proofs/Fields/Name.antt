@@ -1,15 +1,16 @@
 -- A domain name.
-use Rattle.zone_rdata.proofs.Common.{[], List, Some, ap, append_assoc, arith, drop, inl, inr, length, length-append, refl, suc, sym, take, zero, ℕ, ◌++◌, ◌<◌, ◌∙◌, ◌∷◌, ◌≡◌, ◌≤◌, ◌⊎◌, AllByRecursion, flat_map, cases_eq, cases_lt, append-nil, length-drop, Labels, IsFoldedOctet, IsLabel, IsName, folded_label, wire, with_length, AllByRecursion-append, AllByRecursion-back, fault_of, FieldValue, name, AppendsValue, BeginsWithNone, BeginsWithValue, BeginsWithSent, labels_of-wire_append, bare_name, label_text, name_text, octet_text, Name, common_steps, Decided, each_or_not, each_weaker}
-use Rattle.zone_rdata.proofs.Fields.FieldLaws.{AreLow, FieldLaws, FrontChoice, bare_item, bare_or_fault, found_front, mark_text}
-use Rattle.zone_rdata.proofs.Octets.Sent.{HasCut, cut_more, cut_none, folded_some, goes_on, name_by, no_first, no_room, sent_once}
-use Rattle.zone_name.proofs.Texts.Lengths.{name_text_length}
+use Rattle.zone_rdata.proofs.Common.{[], List, ap, append_assoc, arith, drop, inl, inr, length, refl, sym, ℕ, ◌++◌, ◌<◌, ◌∙◌, ◌∷◌, ◌≡◌, ◌⊎◌, AllByRecursion, flat_map, cases_eq, cases_lt, append-nil, drop_at, folded, Labels, IsFoldedOctet, IsLabel, IsName, wire, with_length, AllByRecursion-append, FieldValue, name, AppendsValue, BeginsWithNone, BeginsWithValue, BeginsWithSent, label_text, name_text, octet_text, Name, common_steps, Decided, each_or_not, each_weaker}
+use Rattle.zone_rdata.proofs.Fields.FieldLaws.{AreLow, FrontChoice, found_front}
+use Rattle.zone_rdata.proofs.Octets.Sent.{sent_labels, sent_once}
+use Rattle.zone_rdata.proofs.Words.WordChoice.{same_or_not}
+use Rattle.zone_name.specs.Name.{labels_of}
 
 -- ---- its octets
 low_labels : (labels : Labels) → AllByRecursion IsLabel labels → AreLow (flat_map with_length labels)
 low_labels [] each = tt
 low_labels (label ∷ labels) each = AllByRecursion-append (λ c. c < 256) (with_length label) (flat_map with_length labels) (omega (arith, each.0.short), each_weaker (λ c. c < 256) (λ c is. is.octet) label each.0.each) (low_labels labels each.1)
 
-low : (labels : Labels) → IsName labels → AreLow (wire labels)
+pub low : (labels : Labels) → IsName labels → AreLow (wire labels)
 low labels h = AllByRecursion-append (λ c. c < 256) (flat_map with_length labels) (0 ∷ []) (low_labels labels h.each) (omega arith, tt)
 
 -- ---- the name at the beginning of octets
@@ -44,30 +45,23 @@ label_or_not label = grind (arith, each_or_not IsFoldedOctet octet_or_not label,
 abbrev SentChoice : List ℕ → Type 0
 SentChoice octets = ((labels : Labels) × ((rest : List ℕ) × BeginsWithSent octets labels rest)) ⊎ ((labels : Labels) (rest : List ℕ) → BeginsWithSent octets labels rest → ⊥)
 
--- a name that ends here has the labels that were cut off
-ended_labels : (octets rest following tail : List ℕ) (labels own : Labels) (c : ℕ) → (cut : HasCut octets labels rest) → rest ≡ c ∷ following → c ≡ 0 → BeginsWithSent octets own tail → IsName labels
-ended_labels octets rest following tail labels own c cut e nothing b =
-    let next = goes_on octets rest tail labels own cut b in
-    grind (arith, goes_on, folded_some, name_by, AllByRecursion-back, append-nil)
+name_or_not : (labels : Labels) → Decided (IsName labels)
+name_or_not labels = grind (arith, each_or_not IsLabel label_or_not labels, cases_lt 255 (length (wire labels)))
 
-root_by : (octets rest following : List ℕ) (labels : Labels) (c : ℕ) → HasCut octets labels rest → rest ≡ c ∷ following → c ≡ 0 → Decided (IsName labels) → SentChoice octets
-root_by octets rest following labels c cut e nothing (inl is) = inl (labels, (following, grind (arith, append_assoc)))
-root_by octets rest following labels c cut e nothing (inr none) = inr (λ own tail b. none (ended_labels octets rest following tail labels own c cut e nothing b))
+sent_or_not : (octets : List ℕ) → SentChoice octets
+sent_or_not octets =
+    let sent = labels_of octets in
+    let rest = drop (length (wire sent)) octets in
+    elim (same_or_not octets (wire sent ++ rest)) [
+      | inr other ↦ inr (λ labels tail b. other (grind (arith, sent_labels octets tail labels b, b.parts, drop_at)))
+      | inl parts ↦ elim (name_or_not (folded sent)) [
+        | inl is ↦ inl (folded sent, (rest, record { is_name = is; sent = sent; folds = refl; parts = parts }))
+        | inr none ↦ inr (λ labels tail b. none (rw (sent_labels octets tail labels b, b.folds) b.is_name))
+      ]
+    ]
 
-sent_by : (octets rest : List ℕ) (labels : Labels) (fuel : ℕ) → length rest ≤ fuel → HasCut octets labels rest → SentChoice octets
-sent_by octets [] labels fuel enough cut = inr (no_first octets [] labels cut refl)
-sent_by octets (c ∷ following) labels zero enough cut = absurd (omega arith)
-sent_by octets (c ∷ following) labels (suc fuel) enough cut = elim (cases_lt 0 c) [
-  | inr nothing ↦ root_by octets (c ∷ following) following labels c cut refl (omega arith) (grind (arith, each_or_not IsLabel label_or_not labels, cases_lt 255 (length (wire labels))))
-  | inl some ↦ elim (cases_lt (length following) c) [
-    | inl few ↦ inr (no_room octets (c ∷ following) labels c following cut refl some few)
-    | inr fits ↦
-        sent_by octets (drop c following) (labels ++ folded_label (take c following) ∷ []) fuel (omega (arith, length-drop c following)) (cut_more octets (c ∷ following) labels (labels ++ folded_label (take c following) ∷ []) c following (take c following) (drop c following) cut refl some fits refl refl refl)
-  ]
-]
-
-front : (octets : List ℕ) → FrontChoice Name octets
-front octets = elim (sent_by octets octets [] (length octets) (omega arith) (cut_none octets [] refl)) [
+pub front : (octets : List ℕ) → FrontChoice Name octets
+front octets = elim (sent_or_not octets) [
   | inl found ↦ found_front Name octets found.1.0 (wire found.0) (appends_name octets found.1.0 [] (wire found.0) found.0 found.1.1 refl)
   | inr none ↦ inr (none_name octets none)
 ]
@@ -83,28 +77,6 @@ no_mark : (front : List ℕ) → front ++ 46 ∷ [] ≡ 92 ∷ 35 ∷ [] → ⊥
 no_mark [] e = omega (arith, ap length e)
 no_mark (a ∷ xs) e = grind (arith, common_steps)
 
-name_unmarked : (labels : Labels) → name_text labels ≡ 92 ∷ 35 ∷ [] → ⊥
+pub name_unmarked : (labels : Labels) → name_text labels ≡ 92 ∷ 35 ∷ [] → ⊥
 name_unmarked [] e = omega (arith, ap length e)
 name_unmarked (label ∷ labels) e = let dot = dot_last label labels in no_mark dot.0 (sym dot.1 ∙ e)
-
-pub laws : FieldLaws Name name bare_item
-laws = record {
-  only = λ v h. grind arith;
-  opens = λ origin items v h. grind arith;
-  part = λ v s fits real. grind (arith, length-append);
-  back = λ labels rest h last. ap name (labels_of-wire_append labels rest h.each);
-  low = low;
-  short = λ labels many fixed_size h. omega (arith, h.short);
-  front = λ octets each. front octets;
-  holds = λ origin text labels h. h.name;
-  once = λ names origin text a b h k. names (Some origin) text a b h k;
-  never = λ names origin text labels fault h bad. names (Some origin) text labels bad.0 h bad.1;
-  or_fault = λ names origin is. bare_or_fault origin Name (λ e. cc) (λ e. cc) (λ text each. elim (names (Some origin) text is each) [
-    | inl found ↦ inl (name found.0, found.1)
-    | inr bad ↦ inr (fault_of bad.0, (bad.0, bad.1, refl))
-  ]);
-  printed = λ names origin labels rest fixed_size h last. (names (Some origin) labels h, refl);
-  stands = λ labels fixed_size h. (bare_name labels h, tt);
-  unmarked = λ labels rest fixed_size h g. name_unmarked labels (mark_text (name_text labels) rest g);
-  few = λ labels fixed_size h. omega (arith, name_text_length labels);
-}

@@ -1,14 +1,13 @@
--- A number of 16 or of 32 bits, written in decimal digits.
-use Rattle.zone_rdata.proofs.Common.{List, ap, arith, decimal, length, refl, sym, ℕ, ◌^◌, ◌∙◌, ◌≡◌, take_at, u16_value, u32_value, IsDecimal, length-decimal-le, BadNumber, Serial, U16, Choice, below_or_not}
+-- A number of 16 or of 32 bits, written in decimal digits or as a time.
+use Rattle.zone_rdata.proofs.Common.{List, arith, length, refl, sym, ℕ, ◌^◌, ◌∙◌, ◌≡◌, u16_value, u32_value, IsDecimal, Serial, Time, U16, Choice, below_or_not}
 use Rattle.std.specs.Int.{byte_len, from_be_bytes, to_be_bytes, Width, w16, w32}
-use Rattle.std.proofs.lemmas.Nat.{be_bytes_2, be_bytes_4, from_be_bytes-to_be_bytes_2, from_be_bytes-to_be_bytes_4}
+use Rattle.std.proofs.lemmas.Nat.{be_bytes_2, be_bytes_4}
 use Rattle.zone_rdata.specs.Fields.Number.{IsNumber, SpellsNumber}
-use Rattle.zone_rdata.proofs.Fields.FieldLaws.{AreLow, FieldLaws, SizedField, bare_item, bare_or_fault, low_at, mark_text, number_unmarked, sized_front, value_or_fault}
-use Rattle.zone_rdata.proofs.Items.GenericLaws.{decimal-is, decimal_or_not}
-use Rattle.zone_rdata.proofs.Texts.Standing.{bare_decimal}
+use Rattle.zone_rdata.proofs.Fields.FieldLaws.{AreLow, SizedField, low_at}
+use Rattle.zone_rdata.proofs.Items.GenericLaws.{decimal_or_not}
 
 -- a text stands for one number of a width at most
-spelled_or_not : (w : Width) (text : List ℕ) → Choice (SpellsNumber w text)
+pub spelled_or_not : (w : Width) (text : List ℕ) → Choice (SpellsNumber w text)
 spelled_or_not w text =
     below_or_not (IsDecimal text) (256 ^ byte_len w) (λ a b h k. h.value ∙ sym k.value) (decimal_or_not text)
 
@@ -23,26 +22,6 @@ u16_read octets low size =
 pub u16_sized : SizedField U16 u16_value 2
 u16_sized = record { plain = λ e. cc; single = λ e. cc; only = λ v h. grind arith; size = λ n h. refl; read = u16_read }
 
-pub u16_laws : FieldLaws U16 u16_value bare_item
-u16_laws = record {
-  only = u16_sized.only;
-  opens = λ origin items v h. grind arith;
-  part = (λ v s fits real. grind arith);
-  back = λ n rest h last. ap u16_value (ap (from_be_bytes w16) (take_at (to_be_bytes w16 n) rest 2 refl) ∙ from_be_bytes-to_be_bytes_2 n h);
-  low = λ n short. (omega arith, (omega arith, tt));
-  short = λ n many fixed_size h. omega arith;
-  front = sized_front U16 2 u16_sized;
-  holds = λ origin text n h. h.1;
-  once = λ names origin text a b h k. h.0.value ∙ sym k.0.value;
-  never = λ names origin text n fault h bad. bad.1 n h;
-  or_fault = λ names origin is. bare_or_fault origin U16 (λ e. cc) (λ e. cc) (λ text each.
-      value_or_fault origin U16 text u16_value BadNumber (SpellsNumber w16 text) (λ n h. h) (λ none. (refl, none)) (spelled_or_not w16 text));
-  printed = λ names origin n rest fixed_size h last. ((decimal-is n (omega arith), h), refl);
-  stands = λ n fixed_size h. (bare_decimal n (omega arith), tt);
-  unmarked = λ n rest fixed_size h g. number_unmarked n (omega arith) (mark_text (decimal n) rest g);
-  few = λ n fixed_size h. omega (arith, length-decimal-le 5 n (omega arith) (omega arith) (omega arith));
-}
-
 -- ---- 32 bits
 
 serial_read : (octets : List ℕ) → AreLow octets → length octets ≡ 4
@@ -54,22 +33,5 @@ serial_read octets low size =
 pub serial_sized : SizedField Serial u32_value 4
 serial_sized = record { plain = λ e. cc; single = λ e. cc; only = λ v h. grind arith; size = λ n h. refl; read = serial_read }
 
-pub serial_laws : FieldLaws Serial u32_value bare_item
-serial_laws = record {
-  only = serial_sized.only;
-  opens = λ origin items v h. grind arith;
-  part = (λ v s fits real. grind arith);
-  back = λ n rest h last. ap u32_value (ap (from_be_bytes w32) (take_at (to_be_bytes w32 n) rest 4 refl) ∙ from_be_bytes-to_be_bytes_4 n h);
-  low = λ n short. (omega arith, (omega arith, (omega arith, (omega arith, tt))));
-  short = λ n many fixed_size h. omega arith;
-  front = sized_front Serial 4 serial_sized;
-  holds = λ origin text n h. h.1;
-  once = λ names origin text a b h k. h.0.value ∙ sym k.0.value;
-  never = λ names origin text n fault h bad. bad.1 n h;
-  or_fault = λ names origin is. bare_or_fault origin Serial (λ e. cc) (λ e. cc) (λ text each.
-      value_or_fault origin Serial text u32_value BadNumber (SpellsNumber w32 text) (λ n h. h) (λ none. (refl, none)) (spelled_or_not w32 text));
-  printed = λ names origin n rest fixed_size h last. ((decimal-is n (omega arith), h), refl);
-  stands = λ n fixed_size h. (bare_decimal n (omega arith), tt);
-  unmarked = λ n rest fixed_size h g. number_unmarked n (omega arith) (mark_text (decimal n) rest g);
-  few = λ n fixed_size h. omega (arith, length-decimal-le 10 n (omega arith) (omega arith) (omega arith));
-}
+pub time_sized : SizedField Time u32_value 4
+time_sized = grind (arith, serial_sized)

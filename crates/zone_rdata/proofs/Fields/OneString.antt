@@ -1,9 +1,7 @@
 -- One character-string.
-use Rattle.zone_rdata.proofs.Common.{[], List, add-one, ap, arith, drop, inl, inr, length, length-append, refl, subst, take, ℕ, ◌++◌, ◌+◌, ◌<◌, ◌∙◌, ◌∷◌, ◌≡◌, ◌≤◌, cases_lt, length-take, take_at, Labels, with_length, FieldValue, string, RawItem, AppendsPrefix, AppendsValue, BeginsWithNone, BeginsWithValue, IsString, BadRdata, OneString}
-use Rattle.zone_rdata.proofs.Fields.FieldLaws.{AreLow, AreLowItems, FieldChoice, FieldLaws, FrontChoice, appends_plain, found_front, front_of, low_take}
-use Rattle.zone_rdata.proofs.Strings.StringLaws.{printed_spells, printed_stands, string-never_both, string-once}
+use Rattle.zone_rdata.proofs.Common.{[], List, add-one, ap, arith, drop, inl, inr, length, length-append, refl, subst, take, ℕ, ◌++◌, ◌+◌, ◌<◌, ◌∙◌, ◌∷◌, ◌≡◌, ◌≤◌, cases_lt, length-take, Labels, with_length, FieldValue, string, RawItem, AppendsPrefix, AppendsValue, BeginsWithNone, BeginsWithValue, IsString, BadRdata, OneString, bytes_each}
+use Rattle.zone_rdata.proofs.Fields.FieldLaws.{AreLow, AreLowItems, FieldChoice, FrontChoice, appends_plain, found_front, front_of, low_take}
 use Rattle.zone_rdata.proofs.Strings.Units.{string_or_fault}
-use Rattle.zone_rdata.proofs.Fields.FieldLengths.{string_length}
 
 -- ---- the string at the beginning of octets
 
@@ -22,32 +20,15 @@ as_string octets v rest b = grind arith
 pub none_string : (octets : List ℕ) (c count : ℕ) (following : List ℕ) → octets ≡ c ∷ following → count ≡ c + 1 → length octets < count → BeginsWithNone OneString octets
 none_string octets c count following e same few v rest b = grind (arith, as_string, length-append)
 
-front : (octets : List ℕ) → AreLow octets → FrontChoice OneString octets
+pub front : (octets : List ℕ) → AreLow octets → FrontChoice OneString octets
 front [] low = inr (λ v rest b. let s = as_string [] v rest b in omega (arith, ap length s.1))
 front (c ∷ following) low = elim (cases_lt (length (c ∷ following)) (c + 1)) [
   | inl few ↦ inr (none_string (c ∷ following) c (c + 1) following refl refl few)
   | inr fits ↦ found_front OneString (c ∷ following) (drop (c + 1) (c ∷ following)) (take (c + 1) (c ∷ following)) (appends_string (c ∷ following) (drop (c + 1) (c ∷ following)) [] (take (c + 1) (c ∷ following)) c (c + 1) following low refl refl (front_of (c + 1) (c ∷ following) fits))
 ]
 
-spelt_or_fault : (origin : Labels) (items : List RawItem) → AreLowItems items → FieldChoice origin OneString (take 1 items)
+pub spelt_or_fault : (origin : Labels) (items : List RawItem) → AreLowItems items → FieldChoice origin OneString (take 1 items)
 spelt_or_fault origin [] low = inr (BadRdata, refl)
 spelt_or_fault origin (item ∷ items) low = elim (string_or_fault item low.0) [ inl found ↦ inl (string found.0, found.1) | inr bad ↦ inr (bad.0, bad.1) ]
 
-pub laws : FieldLaws OneString string (λ (item : RawItem). item ∷ [])
-laws = record {
-  only = λ v h. grind arith;
-  opens = λ origin items v h. grind arith;
-  part = λ v s fits real. grind arith;
-  back = λ octets rest h last. ap string (take_at octets rest (length octets) refl);
-  low = λ octets h. (omega (arith, h.short), h.each);
-  short = λ octets many fixed_size h. omega (arith, h.short);
-  front = front;
-  holds = λ origin item octets h. h.string;
-  once = λ names origin item a b h k. string-once item a b h k;
-  never = λ names origin item octets fault h bad. string-never_both item octets fault h bad;
-  or_fault = λ names origin is. spelt_or_fault origin;
-  printed = λ names origin octets rest fixed_size h last. (printed_spells octets h, refl);
-  stands = λ octets fixed_size h. (printed_stands octets h, tt);
-  unmarked = λ octets rest fixed_size h g. cc g.1;
-  few = λ octets fixed_size h. string_length octets;
-}
+pub ruleset strings_sent = (appends_string, bytes_each)

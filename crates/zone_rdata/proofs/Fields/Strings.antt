@@ -1,27 +1,25 @@
 -- One or more character-strings, up to the end of the data.
-use Rattle.zone_rdata.proofs.Common.{[], List, ap, append_assoc, arith, drop, inl, inr, length, length-append, map, refl, subst, suc, sym, take, zero, ℕ, ◌++◌, ◌<◌, ◌∙◌, ◌∷◌, ◌≡◌, ◌≤◌, ◌⊎◌, AllByRecursion, flat_map, cases_lt, append-nil, drop_all, length-drop, length-map, take_all, Labels, with_length, AllByRecursion-append, Fault, strings, string_item, AreStrings, FirstStringFault, SpellEachString, SpellsStrings, StringsFault, strings_of, IsGeneric, RawItem, AppendsPrefix, AppendsValue, BeginsWithNone, AreWithLengths, IsString, SpellsString, StringFault, rules, common_steps, BadRdata, Strings, after}
-use Rattle.zone_rdata.proofs.Fields.FieldLaws.{AreLow, AreLowItems, FieldChoice, FieldLaws, FrontChoice, appends_plain, found_front, front_of, low_drop}
+use Rattle.zone_rdata.proofs.Common.{[], List, ap, append_assoc, arith, drop, inl, inr, length, length-append, map, refl, subst, sym, take, ℕ, ◌++◌, ◌<◌, ◌∙◌, ◌∷◌, ◌≡◌, ◌≤◌, ◌⊎◌, AllByRecursion, flat_map, cases_lt, append-nil, drop_all, length-map, take_all, Labels, with_length, AllByRecursion-append, Fault, strings, string_item, AreStrings, FirstStringFault, SpellEachString, SpellsStrings, StringsFault, strings_of, IsGeneric, RawItem, AppendsPrefix, AppendsValue, BeginsWithNone, AreWithLengths, IsString, Decided, each_or_not, rules, common_steps, BadRdata, Strings, after}
+use Rattle.zone_rdata.proofs.Fields.FieldLaws.{AreLow, AreLowItems, FieldChoice, FrontChoice, appends_plain, found_front, front_of, low_drop}
 use Rattle.zone_rdata.proofs.Fields.OneString.{low_string}
 use Rattle.zone_rdata.proofs.Octets.Sent.{frame_at, frame_same, frames_push}
 use Rattle.zone_rdata.proofs.Octets.StringFields.{strings_back}
 use Rattle.zone_rdata.proofs.Strings.StringLaws.{fault-once, printed_spells, printed_stands, string-never_both, string-once}
 use Rattle.zone_rdata.proofs.Strings.Units.{string_or_fault}
 use Rattle.zone_rdata.proofs.Texts.Standing.{IsPrintedItem}
-use Rattle.zone_rdata.proofs.Fields.FieldLengths.{strings_length}
+use Rattle.zone_rdata.proofs.Words.WordChoice.{same_or_not}
 
 -- ---- its octets
-low_each : (many : List (List ℕ)) → AllByRecursion IsString many → AreLow (flat_map with_length many)
+pub low_each : (many : List (List ℕ)) → AllByRecursion IsString many → AreLow (flat_map with_length many)
 low_each [] each = tt
 low_each (text ∷ many) each = AllByRecursion-append (λ c. c < 256) (with_length text) (flat_map with_length many) (omega (arith, each.0.short), each.0.each) (low_each many each.1)
 
-back : (many : List (List ℕ)) (rest : List ℕ) → rest ≡ [] → strings_of (flat_map with_length many ++ rest) ≡ many
+pub back : (many : List (List ℕ)) (rest : List ℕ) → rest ≡ [] → strings_of (flat_map with_length many ++ rest) ≡ many
 back many rest last = grind (arith, ℕ, append-nil, strings_back)
 
 -- ---- strings up to the end of octets
 pub appends_strings : (octets rest old new : List ℕ) → AreWithLengths octets → AppendsPrefix (length octets) octets rest old new → AppendsValue Strings octets rest old new
-appends_strings octets rest old new framed grows =
-    let is = take_all (length octets) octets (omega arith) ∙ framed.2 in
-    appends_plain Strings octets rest old new (length octets) (strings framed.0) (λ e. cc) framed.1 is (λ e. grows.following ∙ drop_all (length octets) octets (omega arith)) grows
+appends_strings octets rest old new framed grows = grind (arith, appends_plain Strings octets rest old new (length octets) (strings framed.0), take_all, drop_all)
 
 pub none_strings : (octets : List ℕ) → (AreWithLengths octets → ⊥) → BeginsWithNone Strings octets
 none_strings octets none v rest b = none (search rules)
@@ -52,7 +50,7 @@ framed_empty octets none framed = grind (arith, frames_some)
 strings_first : (many whole : List (List ℕ)) (rest : List ℕ) → flat_map with_length many ++ rest ≡ flat_map with_length whole → (more : List (List ℕ)) × (rest ≡ flat_map with_length more)
 strings_first [] whole rest e = (whole, e)
 strings_first (x ∷ many) [] rest e = absurd (omega (arith, ap length e))
-strings_first (x ∷ many) (y ∷ whole) rest e = strings_first many whole rest (frame_same x y (flat_map with_length many ++ rest) (flat_map with_length whole) (sym (append_assoc (with_length x) (flat_map with_length many) rest) ∙ e)).1
+strings_first (x ∷ many) (y ∷ whole) rest e = strings_first many whole rest (grind (arith, append_assoc, frame_same x y))
 
 short_by : (more : List (List ℕ)) (c : ℕ) (following : List ℕ) → c ∷ following ≡ flat_map with_length more → length following < c → ⊥
 short_by [] c following e few = absurd (omega (arith, ap length e))
@@ -61,41 +59,36 @@ short_by (x ∷ more) c following e few = grind (arith, length-append)
 pub framed_short : (octets rest : List ℕ) (c count : ℕ) (following : List ℕ) → Framed octets rest → rest ≡ c ∷ following → count ≡ c → length following < count → AreWithLengths octets → ⊥
 framed_short octets rest c count following so_far e same few framed = grind (arith, strings_first, short_by)
 
-framed_by : (octets rest : List ℕ) (fuel : ℕ) → 0 < length octets → length rest ≤ fuel → Framed octets rest → AreWithLengths octets ⊎ (AreWithLengths octets → ⊥)
-framed_by octets [] fuel some enough framed = inl (grind (arith, common_steps))
-framed_by octets (c ∷ following) zero some enough framed = absurd (omega arith)
-framed_by octets (c ∷ following) (suc fuel) some enough framed = elim (cases_lt (length following) c) [
-  | inl few ↦ inr (framed_short octets (c ∷ following) c c following framed refl refl few)
-  | inr fits ↦ framed_by octets (drop c following) fuel some (omega (arith, length-drop c following)) (framed_more octets (c ∷ following) c c following (drop c following) framed refl refl fits refl)
-]
+string_or_not : (text : List ℕ) → Decided (IsString text)
+string_or_not text = grind (arith, cases_lt 255 (length text), each_or_not (λ c. c < 256) (λ c. grind (arith, cases_lt c 256)) text)
 
-framed_or_not : (octets : List ℕ) → AreLow octets → AreWithLengths octets ⊎ (AreWithLengths octets → ⊥)
-framed_or_not [] low = inr (framed_empty [] refl)
-framed_or_not (c ∷ octets) low = framed_by (c ∷ octets) (c ∷ octets) (length (c ∷ octets)) (omega arith) (omega arith) (record { many = []; each = tt; parts = refl; low = low })
+pub framed_or_not : (octets : List ℕ) → AreWithLengths octets ⊎ (AreWithLengths octets → ⊥)
+framed_or_not octets =
+    let many = strings_of octets in
+    grind (arith, same_or_not octets (flat_map with_length many), strings_back, cases_lt 0 (length many), each_or_not IsString string_or_not many)
 
-front : (octets : List ℕ) → AreWithLengths octets ⊎ (AreWithLengths octets → ⊥) → FrontChoice Strings octets
+pub front : (octets : List ℕ) → AreWithLengths octets ⊎ (AreWithLengths octets → ⊥) → FrontChoice Strings octets
 front octets (inl framed) = found_front Strings octets (drop (length octets) octets) (take (length octets) octets) (appends_strings octets (drop (length octets) octets) [] (take (length octets) octets) framed (front_of (length octets) octets (omega arith)))
 front octets (inr none) = inr (none_strings octets none)
 
 -- ---- the items that spell strings
-each_held : (items : List RawItem) (many : List (List ℕ)) → SpellEachString items many → AllByRecursion IsString many × (length many ≡ length items)
-each_held [] [] h = (tt, refl)
+pub each_held : (items : List RawItem) (many : List (List ℕ)) → SpellEachString items many → AllByRecursion IsString many × (length many ≡ length items)
 each_held (item ∷ items) (octets ∷ many) h = grind (arith, each_held items many h.1)
-each_held items many h = absurd h
+each_held items many h = grind arith
 
-each_once : (items : List RawItem) (a b : Labels) → SpellEachString items a → SpellEachString items b → a ≡ b
+pub each_once : (items : List RawItem) (a b : Labels) → SpellEachString items a → SpellEachString items b → a ≡ b
 each_once [] a b h k = grind arith
 each_once (item ∷ items) [] b h k = absurd h
 each_once (item ∷ items) (x ∷ a) (y ∷ b) h k = ap (λ z. z ∷ a) (string-once item x y h.0 k.0) ∙ ap (λ z. y ∷ z) (each_once items a b h.1 k.1)
 each_once items a b h k = absurd k
 
-each_never : (items : List RawItem) (many : List (List ℕ)) (fault : Fault) → SpellEachString items many → FirstStringFault items fault → ⊥
+pub each_never : (items : List RawItem) (many : List (List ℕ)) (fault : Fault) → SpellEachString items many → FirstStringFault items fault → ⊥
 each_never [] many fault h bad = bad
 each_never (item ∷ items) [] fault h bad = h
 each_never (item ∷ items) (octets ∷ many) fault h (inl bad) = string-never_both item octets fault h.0 bad
 each_never (item ∷ items) (octets ∷ many) fault h (inr more) = each_never items many fault h.1 more.2
 
-never : (items : List RawItem) (many : List (List ℕ)) (fault : Fault) → SpellsStrings items many → StringsFault items fault → ⊥
+pub never : (items : List RawItem) (many : List (List ℕ)) (fault : Fault) → SpellsStrings items many → StringsFault items fault → ⊥
 never [] many fault h bad = omega (arith, h.some)
 never (item ∷ items) many fault h bad = each_never (item ∷ items) many fault h.each bad
 
@@ -113,16 +106,14 @@ fault_once (item ∷ items) a b x y = first_once (item ∷ items) a b x y
 abbrev StringsChoice : List RawItem → Type 0
 StringsChoice items = ((many : List (List ℕ)) × SpellEachString items many) ⊎ ((fault : Fault) × FirstStringFault items fault)
 
-next_string : (item : RawItem) (items : List RawItem) → ((octets : List ℕ) × SpellsString item octets) ⊎ ((fault : Fault) × StringFault item fault) → StringsChoice items → StringsChoice (item ∷ items)
-next_string item items (inr bad) rest = inr (bad.0, inl bad.1)
-next_string item items (inl found) (inl more) = inl (found.0 ∷ more.0, (found.1, more.1))
-next_string item items (inl found) (inr bad) = inr (bad.0, inr (found.0, found.1, bad.1))
-
 each_or_fault : (items : List RawItem) → AreLowItems items → StringsChoice items
 each_or_fault [] low = inl ([], tt)
-each_or_fault (item ∷ items) low = next_string item items (string_or_fault item low.0) (each_or_fault items low.1)
+each_or_fault (item ∷ items) low = elim (string_or_fault item low.0) [
+  | inr bad ↦ inr (bad.0, inl bad.1)
+  | inl found ↦ elim (each_or_fault items low.1) [ inl more ↦ inl (found.0 ∷ more.0, (found.1, more.1)) | inr bad ↦ inr (bad.0, inr (found.0, found.1, bad.1)) ]
+]
 
-spelt_or_fault : (origin : Labels) (items : List RawItem) → AreLowItems items → FieldChoice origin Strings items
+pub spelt_or_fault : (origin : Labels) (items : List RawItem) → AreLowItems items → FieldChoice origin Strings items
 spelt_or_fault origin [] low = inr (BadRdata, refl)
 spelt_or_fault origin (item ∷ items) low = elim (each_or_fault (item ∷ items) low) [ inl found ↦ inl (strings found.0, record { some = omega arith; each = found.1 }) | inr bad ↦ inr (bad.0, bad.1) ]
 
@@ -131,32 +122,13 @@ each_printed : (many : List (List ℕ)) → AllByRecursion IsString many → Spe
 each_printed [] each = tt
 each_printed (octets ∷ many) each = (printed_spells octets each.0, each_printed many each.1)
 
-printed : (many : List (List ℕ)) (rest : List RawItem) → AreStrings many → rest ≡ [] → SpellsStrings (map string_item many ++ rest) many × ([] ≡ rest)
+pub printed : (many : List (List ℕ)) (rest : List RawItem) → AreStrings many → rest ≡ [] → SpellsStrings (map string_item many ++ rest) many × ([] ≡ rest)
 printed many rest h last = grind (arith, append-nil, length-map, each_printed)
 
-unmarked : (many : List (List ℕ)) (rest : List RawItem) → AreStrings many → IsGeneric (map string_item many ++ rest) → ⊥
+pub unmarked : (many : List (List ℕ)) (rest : List RawItem) → AreStrings many → IsGeneric (map string_item many ++ rest) → ⊥
 unmarked [] rest h g = omega (arith, h.some)
 unmarked (octets ∷ many) rest h g = cc g.1
 
-stand_each : (many : List (List ℕ)) → AllByRecursion IsString many → AllByRecursion IsPrintedItem (map string_item many)
+pub stand_each : (many : List (List ℕ)) → AllByRecursion IsString many → AllByRecursion IsPrintedItem (map string_item many)
 stand_each [] each = tt
 stand_each (octets ∷ many) each = (printed_stands octets each.0, stand_each many each.1)
-
-pub laws : FieldLaws Strings strings (λ (items : List RawItem). items)
-laws = record {
-  only = λ v h. grind arith;
-  opens = λ origin items v h. grind arith;
-  part = λ v s fits real. grind arith;
-  back = λ many rest h last. ap strings (back many rest (last refl));
-  low = λ many h. low_each many h.each;
-  short = λ many none fixed_size h. absurd (none refl);
-  front = λ octets low. front octets (framed_or_not octets low);
-  holds = λ origin items many h. let each = each_held items many h.each in record { some = omega (arith, h.some, each.1); each = each.0 };
-  once = λ names origin items a b h k. each_once items a b h.each k.each;
-  never = λ names origin. never;
-  or_fault = λ names origin is. spelt_or_fault origin;
-  printed = λ names origin many rest fixed_size h last. printed many rest h (last refl);
-  stands = λ many fixed_size h. stand_each many h.each;
-  unmarked = λ many rest fixed_size. unmarked many rest;
-  few = λ many fixed_size h. strings_length many h.some;
-}

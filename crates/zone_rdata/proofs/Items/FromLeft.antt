@@ -1,5 +1,5 @@
 -- Items read from the left, field after field.
-use Rattle.zone_rdata.proofs.Common.{[], ◌≡◌, ℕ, ◌+◌, ◌-◌, ◌<◌, ◌≤◌, List, ◌∷◌, ◌++◌, length, get_or, take, drop, map, sym, ap, ◌∙◌, subst, arith, append_assoc, Bor, Bool, IsTrue, ◌↔◌, inr, append-nil, length-drop, take_all, drop_all, drop-drop, Labels, Fault, Item, Field, FirstFieldFault, IsWordsFault, unspelt, too_long, IsFieldFault, FieldValue, field_octets, octets_of, own_items, RawItem, raw, IsGeneric, AppendsFirst, AreSpelt, SpellEach, common_steps, bytes_eq, BadRdata, RdataTooLong, Bare, rules, from_place}
+use Rattle.zone_rdata.proofs.Common.{[], ◌≡◌, ℕ, ◌+◌, ◌-◌, ◌<◌, ◌≤◌, List, ◌∷◌, ◌++◌, length, get_or, take, drop, map, sym, ap, ◌∙◌, subst, arith, append_assoc, Bor, Bool, IsTrue, ◌↔◌, inr, append-nil, length-drop, take_all, drop_all, drop-drop, Labels, Fault, Item, Field, FirstFieldFault, IsWordsFault, unspelt, too_long, IsFieldFault, FieldValue, field_octets, octets_of, own_items, RawItem, raw, IsGeneric, AppendsFirst, AreSpelt, SpellEach, common_steps, bytes_eq, BadRdata, RdataTooLong, Bare, rules, from_place, if_fault_passed}
 
 -- some fields were read, and what the items that are left are for the other fields, all items are
 -- for all fields
@@ -38,7 +38,7 @@ read_all origin row own items i left octets same past none read =
 
 -- all is spelled, and takes too many octets
 pub read_long : (origin : Labels) (fields : List Field) (items : List RawItem) (octets : List ℕ) → 65535 < length octets → AreSpelt origin fields items octets → IsWordsFault origin fields items RdataTooLong
-read_long origin fields items octets long all = too_long all.values all.spelt (subst (λ o. 65535 < length o) all.written long)
+read_long origin fields items octets long all = grind (arith, too_long)
 
 -- a text of two octets is those two
 pub two_octets : (text : List ℕ) (a b : ℕ) → length text ≡ 2 → get_or text 0 0 ≡ a → get_or text 1 0 ≡ b → text ≡ a ∷ b ∷ []
@@ -51,3 +51,5 @@ generic_first [] first text mark r some at is marks e = absurd (omega arith)
 generic_first (i ∷ items) first text mark r some at is marks e =
     let same = ap raw (sym at ∙ is) in
     search rules
+
+pub ruleset words_from_left = (if_fault_passed, drop_all, length-drop, read_all, read_bad, read_more)

@@ -1,5 +1,5 @@
 -- The generic form: digits that join to octets, item after item.
-use Rattle.zone_rdata.proofs.Common.{[], ◌≡◌, ◌≢◌, ℕ, ◌+◌, ◌-◌, ◌/◌, ◌<◌, ◌≤◌, List, ◌∷◌, ◌++◌, length, get_or, drop, map, Ok, sym, ap, ◌∙◌, subst, arith, append_assoc, length-append, drop_all, append-nil, decode_of, decode_of-ok, decode_of-same, Fault, Item, RawItem, bare, quoted, raw, generic_mark, IsGeneric, StatesLength, JoinTo, GenericFault, no_length, long_length, bad_digits, Appends, common_steps, BadGeneric, from_place}
+use Rattle.zone_rdata.proofs.Common.{[], ◌≡◌, ◌≢◌, ℕ, ◌+◌, ◌-◌, ◌/◌, ◌<◌, ◌≤◌, List, ◌∷◌, ◌++◌, length, get_or, drop, map, Ok, sym, ◌∙◌, subst, arith, append_assoc, length-append, drop_all, append-nil, decode_of, decode_of-ok, decode_of-same, Fault, Item, RawItem, bare, raw, generic_mark, IsGeneric, StatesLength, JoinTo, GenericFault, no_length, long_length, bad_digits, Appends, common_steps, BadGeneric, from_place, err_from_is_err_and, length-map}
 use Rattle.zone_rdata.specs.Machine.GenericLength.{LengthFault, no_number, beyond}
 
 -- two digits for each octet
@@ -9,8 +9,7 @@ half_length text front e = let twice = (decode_of-ok text front e).2 in omega ar
 -- items are digits of one list of octets
 pub JoinTo-once : (items : List RawItem) (a b : List ℕ) → JoinTo items a → JoinTo items b → a ≡ b
 JoinTo-once [] a b x y = x ∙ sym y
-JoinTo-once (bare text ∷ items) a b x y = grind (arith, JoinTo-once items x.1 y.1 x.4 y.4)
-JoinTo-once (quoted text ∷ items) a b x y = absurd x
+JoinTo-once (item ∷ items) a b x y = grind (arith, JoinTo-once items)
 
 -- the items up to a place join to the octets, and those from it on to what follows
 pub record HaveJoined (items : List RawItem) (rest : List RawItem) (octets : List ℕ) : Type 0 where
@@ -44,7 +43,7 @@ form_faults items digits item _ e (no_number none) = no_length (item ∷ digits,
 form_faults items digits item _ e (beyond n states over) = long_length n digits (record { item = item; parts = e; states = states }) over
 
 pub form_missing : (items : List RawItem) → IsGeneric items → length items ≤ 1 → GenericFault items BadGeneric
-form_missing items marked short = no_length marked (λ n digits form. absurd (omega (arith, ap length form.parts)))
+form_missing items marked short = grind (arith, no_length)
 
 pub form_digits : (items digits : List RawItem) (item : RawItem) (n : ℕ) (fault : Fault) → items ≡ generic_mark ∷ item ∷ digits → StatesLength item n → n ≤ 65535 → (fault ≡ BadGeneric) × ((octets : List ℕ) → JoinTo digits octets → length octets ≢ n) → GenericFault items fault
 form_digits items digits item n fault e states short bad =
@@ -52,3 +51,5 @@ form_digits items digits item n fault e states short bad =
 
 pub form_parts : (items : List Item) (d : Item) → 2 ≤ length items → IsGeneric (map raw items) → map raw items ≡ generic_mark ∷ raw (get_or items 1 d) ∷ map raw (drop 2 items)
 form_parts items d two marked = grind arith
+
+pub ruleset generic_read = (err_from_is_err_and, form_faults, form_missing, form_parts, length-map)

@@ -1,11 +1,11 @@
 -- The laws of the generic form.
-use Rattle.zone_rdata.proofs.Common.{choice_as, [], ◌≡◌, ℕ, ◌+◌, ◌<◌, ◌≤◌, ◌^◌, true, List, ◌∷◌, ◌++◌, length, map, Result, Ok, Err, ◌⊎◌, inl, inr, refl, sym, ap, ◌∙◌, arith, join_with_byte, cases_lt, cases_eq, decimal_digit, decimal_by_steps, append-nil, decode_of, decode_of-encode_lower, AreOctets, is_digit, Fault, RawItem, bare, quoted, generic_mark, IsGeneric, IsDecimal, decimal_value, StatesLength, IsGenericForm, JoinTo, StatesGeneric, GenericFault, no_length, long_length, bad_digits, digit_items, generic_items, item_text, generic_text, common_steps, decimal, FromHexError, BadGeneric, RdataTooLong, Choice, each_or_not, true_or_not, each_below, digit_test}
+use Rattle.zone_rdata.proofs.Common.{choice_as, [], ◌≡◌, ℕ, ◌+◌, ◌<◌, ◌≤◌, ◌^◌, true, List, ◌∷◌, ◌++◌, length, map, Result, Ok, Err, ◌⊎◌, inl, inr, refl, sym, ap, ◌∙◌, arith, join_with_byte, cases_lt, cases_eq, decimal_digit, decimal_by_steps, append-nil, decode_of, decode_of-encode_lower, AreOctets, is_digit, Fault, RawItem, bare, quoted, generic_mark, IsGeneric, IsDecimal, StatesLength, IsGenericForm, JoinTo, StatesGeneric, GenericFault, no_length, long_length, bad_digits, digit_items, generic_items, item_text, generic_text, common_steps, decimal, FromHexError, BadGeneric, RdataTooLong, Choice, each_or_not, true_or_not, each_below, digit_test}
 use Rattle.zone_rdata.specs.Machine.GenericLength.{LengthFault, no_number, beyond}
 use Rattle.zone_rdata.proofs.Items.GenericForm.{JoinTo-once, form_faults, form_missing}
 
 -- two forms of the same items
 forms_digits : (items : List RawItem) (m n : ℕ) (a b : List RawItem) → IsGenericForm items m a → IsGenericForm items n b → a ≡ b
-forms_digits items m n a b f g = let e = sym f.parts ∙ g.parts in cc
+forms_digits items m n a b f g = grind arith
 
 forms_length : (items : List RawItem) (m n : ℕ) (a b : List RawItem) → IsGenericForm items m a → IsGenericForm items n b → m ≡ n
 forms_length items m n a b f g = grind arith
@@ -27,11 +27,7 @@ generic_fault_once items _ _ _ _ = refl
 
 -- ---- a text is a decimal number or none
 pub decimal_or_not : (text : List ℕ) → Choice (IsDecimal text)
-decimal_or_not [] = inr (λ n h. absurd (omega (arith, h.some)))
-decimal_or_not (c ∷ text) = elim (each_or_not (λ d. is_digit d ≡ true) (λ d. true_or_not (is_digit d)) (c ∷ text)) [
-  | inl each ↦ inl (decimal_value (c ∷ text), record { some = omega arith; digits = each; value = refl })
-  | inr none ↦ inr (λ n h. none h.digits)
-]
+decimal_or_not text = grind (arith, each_or_not (λ d. is_digit d ≡ true) (λ d. true_or_not (is_digit d)) text, cases_lt 0 (length text))
 
 length_or_fault : (item : RawItem) → ((n : ℕ) × StatesLength item n × (n ≤ 65535)) ⊎ ((fault : Fault) × LengthFault item fault)
 length_or_fault (quoted text) = inr (BadGeneric, no_number (λ n h. h))

@@ -1,5 +1,5 @@
 -- Items state at most one value, or have at most one first fault.
-use Rattle.zone_rdata.proofs.Common.{None, too_long, [], List, Option, Some, arith, inl, inr, length, refl, subst, sym, ℕ, ◌∙◌, ◌∷◌, ◌≡◌, ◌≤◌, Labels, Fault, Field, FirstFieldFault, IsFaultFor, IsGenericDataFault, IsWordsFault, in_generic_form, malformed, no_value, opaque_words, unspelt, FieldValue, items_after, octets_of, StatesGeneric, RawItem, IsGeneric, layout, IsCanonicalOf, SpellEach, States, StatesFor, in_octets, in_words}
+use Rattle.zone_rdata.proofs.Common.{None, too_long, [], List, Option, Some, arith, inl, inr, length, refl, sym, ℕ, ◌∙◌, ◌∷◌, ◌≡◌, ◌≤◌, Labels, Fault, Field, FirstFieldFault, IsFaultFor, IsGenericDataFault, IsWordsFault, in_generic_form, malformed, no_value, opaque_words, unspelt, FieldValue, items_after, octets_of, StatesGeneric, RawItem, IsGeneric, layout, IsCanonicalOf, SpellEach, States, StatesFor, in_octets, in_words}
 use Rattle.zone_rdata.proofs.Fields.AnyField.{field_fault_once, field_never, field_once}
 use Rattle.zone_rdata.proofs.Fields.FieldLaws.{NameFaultOnce, NamesNever, NamesOnce}
 use Rattle.zone_rdata.proofs.Items.GenericLaws.{generic_never_both, generic_once, generic_fault_once}
@@ -9,16 +9,12 @@ use Rattle.zone_rdata.specs.DataFault as faults
 -- ---- items in words
 
 each_once : NamesOnce → (origin : Labels) (row : List Field) (items : List RawItem) (vs ws : List FieldValue) → SpellEach origin row items vs → SpellEach origin row items ws → vs ≡ ws
+each_once names origin (f ∷ row) items vs ws h k = grind (arith, field_once, each_once names origin row (items_after f items))
 each_once names origin [] items vs ws h k = grind arith
-each_once names origin (f ∷ row) items (v ∷ vs) [] h k = absurd k
-each_once names origin (f ∷ row) items (v ∷ vs) (w ∷ ws) h k = grind (arith, field_once, each_once names origin row (items_after f items) vs ws h.1 k.1)
-each_once names origin row items vs ws h k = absurd h
 
 first_never : NamesNever → (origin : Labels) (row : List Field) (items : List RawItem) (values : List FieldValue) (fault : Fault) → SpellEach origin row items values → FirstFieldFault origin row items fault → ⊥
-first_never names origin [] [] values fault h bad = bad
-first_never names origin (f ∷ row) items (v ∷ values) fault h (inl bad) = grind (arith, field_never)
-first_never names origin (f ∷ row) items (v ∷ values) fault h (inr more) = first_never names origin row (items_after f items) values fault h.1 more.2
-first_never names origin row items values fault h bad = h
+first_never names origin (f ∷ row) items (v ∷ values) fault h bad = grind (arith, field_never, first_never names origin row (items_after f items) values fault h.1)
+first_never names origin row items values fault h bad = grind arith
 
 first_once : NamesNever → NameFaultOnce → (origin : Labels) (row : List Field) (items : List RawItem) (a b : Fault) → FirstFieldFault origin row items a → FirstFieldFault origin row items b → a ≡ b
 first_once names once origin [] [] a b x y = absurd x
@@ -38,20 +34,17 @@ words_fault_once names once origin row items _ _ (too_long _ _ _) (too_long _ _ 
 
 -- ---- items of a layout, in words or in the generic form
 
-same_row : (laid : Option (List Field)) (a b : List Field) → laid ≡ Some a → laid ≡ Some b → a ≡ b
-same_row laid a b x y = let e : Some a ≡ Some b = sym x ∙ y in cc
-
 -- items in the generic form, and those that have a fault of it, begin with the mark
 generic_marks : (items : List RawItem) (octets : List ℕ) → StatesGeneric items octets → IsGeneric items
 generic_marks items octets s = (s.form.item ∷ s.digits, s.form.parts)
 
 form_fault_marks : (laid : Option (List Field)) (items : List RawItem) (fault : Fault) → IsGenericDataFault laid items fault → IsGeneric items
-form_fault_marks laid items fault h = grind (arith, generic_marks)
+form_fault_marks laid items fault h = grind arith
 
 for_once : NamesOnce → (origin : Labels) (laid : Option (List Field)) (items : List RawItem) (a b : List ℕ) → ((stated a b : List ℕ) → IsCanonicalOf laid stated a → IsCanonicalOf laid stated b → a ≡ b) → StatesFor origin laid items a → StatesFor origin laid items b → a ≡ b
-for_once names origin laid items a b once (in_words row vs e unmarked h is short) has = grind (arith, same_row, each_once, generic_marks)
+for_once names origin laid items a b once (in_words row vs e unmarked h is short) has = grind (arith, each_once, generic_marks)
 for_once names origin laid items a b once (in_octets stated) (in_words row vs e unmarked h is short) = absurd (unmarked (generic_marks items stated.0 stated.1))
-for_once names origin laid items a b once (in_octets h) (in_octets k) = cc (once h.0 a b h.2 (subst (λ o. IsCanonicalOf laid o b) (generic_once items k.0 h.0 k.1 h.1) k.2))
+for_once names origin laid items a b once (in_octets h) (in_octets k) = grind (arith, generic_once items k.0 h.0 k.1 h.1, once h.0 a b h.2)
 
 form_never : (laid : Option (List Field)) (items : List RawItem) (stated octets : List ℕ) (fault : Fault) → StatesGeneric items stated → IsCanonicalOf laid stated octets → IsGenericDataFault laid items fault → ⊥
 form_never laid items stated octets _ form canonical (malformed fault bad) = generic_never_both items stated fault form bad
@@ -59,7 +52,7 @@ form_never laid items stated octets _ form canonical (no_value row stated' e for
 
 pub for_never : NamesOnce → NamesNever → (origin : Labels) (laid : Option (List Field)) (items : List RawItem) (octets : List ℕ) (fault : Fault) → StatesFor origin laid items octets → IsFaultFor origin laid items fault → ⊥
 for_never once names origin laid items octets _ (in_words row vs e unmarked h is short) (in_generic_form fault bad) = unmarked (form_fault_marks laid items fault bad)
-for_never once names origin laid items octets fault given (faults.in_words row' x e' unmarked2 bad) = grind (arith, same_row, words_never, generic_marks)
+for_never once names origin laid items octets fault given (faults.in_words row' x e' unmarked2 bad) = grind (arith, words_never, generic_marks)
 for_never once names origin laid items octets fault given (opaque_words e' unmarked2) = grind arith
 for_never once names origin laid items octets _ (in_octets h) (in_generic_form fault bad) = form_never laid items h.0 octets fault h.1 h.2 bad
 
@@ -74,7 +67,7 @@ for_fault_once names once origin laid items _ _ (in_generic_form fault bad) (in_
 for_fault_once names once origin laid items _ _ (in_generic_form fault bad) (faults.in_words row fault' e unmarked bad') = absurd (unmarked (form_fault_marks laid items fault bad))
 for_fault_once names once origin laid items _ _ (in_generic_form fault bad) (opaque_words e unmarked) = absurd (unmarked (form_fault_marks laid items fault bad))
 for_fault_once names once origin laid items _ _ (faults.in_words row fault e unmarked bad) (in_generic_form fault' bad') = absurd (unmarked (form_fault_marks laid items fault' bad'))
-for_fault_once names once origin laid items _ _ (faults.in_words row fault e unmarked bad) (faults.in_words row' fault' e' unmarked2 bad') = grind (arith, same_row, words_fault_once)
+for_fault_once names once origin laid items _ _ (faults.in_words row fault e unmarked bad) (faults.in_words row' fault' e' unmarked2 bad') = grind (arith, words_fault_once)
 for_fault_once names once origin laid items _ _ (faults.in_words row fault e unmarked bad) (opaque_words e' unmarked2) = let clash : Some row ≡ None = sym e ∙ e' in cc
 for_fault_once names once origin laid items _ _ (opaque_words e unmarked) (in_generic_form fault bad) = absurd (unmarked (form_fault_marks laid items fault bad))
 for_fault_once names once origin laid items _ _ (opaque_words e unmarked) (faults.in_words row fault e' unmarked2 bad) = let clash : Some row ≡ None = sym e' ∙ e in cc

@@ -14,44 +14,34 @@ IsWritten (quoted text) = ⊤
 
 joined_long : (first more : List RawItem) (octets : List ℕ) → AllByRecursion IsWritten first → JoinTo (first ++ more) octets → length first ≤ length octets
 joined_long [] more octets written h = omega arith
-joined_long (bare text ∷ first) more octets written h = grind (arith, decode_of-ok, length-append, joined_long first more h.1 written.1 h.4)
-joined_long (quoted text ∷ first) more octets written h = absurd h
+joined_long (item ∷ first) more octets written h = grind (arith, decode_of-ok, length-append, joined_long first more)
 
 string_each : (items : List RawItem) (many : List (List ℕ)) → SpellEachString items many → length items ≤ length many
 string_each [] many h = omega arith
-string_each (item ∷ items) [] h = absurd h
-string_each (item ∷ items) (octets ∷ many) h = omega (arith, string_each items many h.1)
+string_each (item ∷ items) many h = grind (arith, string_each items)
 
 spelt_long : (origin : Labels) (fields : List Field) (items : List RawItem) (values : List FieldValue) → SpellEach origin fields items values → length items ≤ length fields + length (octets_of values)
-spelt_long origin (Strings ∷ fields) items (strings many ∷ values) h = grind (arith, string_each, length-frames, length-append)
-spelt_long origin (Strings ∷ fields) items (v ∷ values) h = absurd h.0
-spelt_long origin (f ∷ fields) (item ∷ items) (v ∷ values) h = grind (arith, length-append, spelt_long origin fields items values h.1)
-spelt_long origin fields [] values h = omega arith
-spelt_long origin fields items values h = absurd h
+spelt_long origin (f ∷ fields) (item ∷ items) (v ∷ values) h = grind (arith, string_each, length-frames, length-append, spelt_long origin fields items values)
+spelt_long origin fields items values h = grind arith
 
 -- ---- words
 
 strings_fault : (first more others : List RawItem) (fault : Fault) → LeavesOut more others → FirstStringFault (first ++ others) fault → FirstStringFault (first ++ more) fault
 strings_fault (item ∷ first) more others fault out (inl bad) = inl bad
 strings_fault (item ∷ first) more others fault out (inr h) = inr (h.0, h.1, strings_fault first more others fault out h.2)
-strings_fault [] [] others fault out bad = subst (λ t. FirstStringFault t fault) out bad
-strings_fault [] (item ∷ more) others fault (inr left) bad = inr (left.0, left.1, strings_fault [] more others fault left.2 bad)
-strings_fault [] (item ∷ more) others fault (inl kept) bad = grind (arith, strings_fault [] more kept.0 fault kept.2)
+strings_fault [] [] others fault out bad = grind arith
+strings_fault [] (item ∷ more) others fault out bad = grind (arith, strings_fault [] more)
 
 abbrev SpellSome : List RawItem → Type 0
 SpellSome items = (many : List (List ℕ)) × SpellEachString items many
-
-string_before : (item : RawItem) (items others : List RawItem) (many : List (List ℕ)) → ((rest : List (List ℕ)) → SpellEachString others rest → SpellSome items) → SpellEachString (item ∷ others) many → SpellSome (item ∷ items)
-string_before item items others [] goes h = absurd h
-string_before item items others (octets ∷ many) goes h = let all = goes many h.1 in (octets ∷ all.0, (h.0, all.1))
 
 strings_more : (first more others : List RawItem) (many : List (List ℕ)) → LeavesOut more others → SpellEachString (first ++ others) many → SpellSome (first ++ more)
 strings_more (item ∷ first) more others [] out h = absurd h
 strings_more (item ∷ first) more others (octets ∷ many) out h = let all = strings_more first more others many out h.1 in (octets ∷ all.0, (h.0, all.1))
 strings_more [] [] others many out h = ([], tt)
 strings_more [] (item ∷ more) others many (inr left) h = let all = strings_more [] more others many left.2 h in (left.0 ∷ all.0, (left.1, all.1))
-strings_more [] (item ∷ more) others many (inl kept) h =
-    string_before item more kept.0 many (λ rest found. strings_more [] more kept.0 rest kept.2 found) (subst (λ t. SpellEachString t many) kept.1 h)
+strings_more [] (item ∷ more) others [] (inl kept) h = absurd (rw kept.1 at h)
+strings_more [] (item ∷ more) others (octets ∷ many) (inl kept) h = let here = rw kept.1 at h in let all = strings_more [] more kept.0 many kept.2 here.1 in (octets ∷ all.0, (here.0, all.1))
 
 all_strings : (origin : Labels) (item : RawItem) (first more others : List RawItem) (value : FieldValue) → LeavesOut more others → SpellsField origin Strings (item ∷ first ++ others) value → (all : FieldValue) × SpellsField origin Strings (item ∷ first ++ more) all
 all_strings origin item first more others (strings many) out h =
@@ -85,7 +75,7 @@ form_same : (a b : RawItem) (items others digits : List RawItem) (n : ℕ) → I
 form_same a b items others digits n form = grind arith
 
 digits_of : (a b : RawItem) (items digits : List RawItem) (n : ℕ) → IsGenericForm (a ∷ b ∷ items) n digits → digits ≡ items
-digits_of a b items digits n form = let e = form.parts in cc
+digits_of a b items digits n form = grind arith
 
 mark_same : (a : RawItem) (items others : List RawItem) → IsGeneric (a ∷ items) → IsGeneric (a ∷ others)
 mark_same a items others marked = (others, (let e = marked.1 in cc))
@@ -176,7 +166,7 @@ begin_by n items kept [] more others whole are_kept many out = absurd (omega (ar
 begin_by n items kept (item ∷ first) more others whole are_kept many out = grind arith
 
 pub begin_with : (m n : ℕ) (items kept : List RawItem) → n < m → AreShortened m items kept → BeginWith n items kept
-begin_with m n items kept less short = grind (arith, begin_by)
+begin_with m n items kept less short = grind (arith, begin_by n items kept short.first)
 
 -- an item before both
 pub after_item : (n : ℕ) (item : RawItem) (items kept : List RawItem) → AreShortened n items kept → AreShortened n (item ∷ items) (item ∷ kept)

@@ -7,9 +7,8 @@ use Rattle.zone_rdata.proofs.Items.ItemChoice.{joined_low}
 use Rattle.zone_rdata.proofs.Octets.Layouts.{AreFor, canonical_laid, canonical_length, laid_out, low_values}
 
 pub spelt_hold : (origin : Labels) (row : List Field) (items : List RawItem) (values : List FieldValue) → SpellEach origin row items values → HoldEach row values
-spelt_hold origin [] [] [] h = tt
 spelt_hold origin (f ∷ row) items (v ∷ values) h = (field_holds origin f (own_items f items) v h.0, spelt_hold origin row (items_after f items) values h.1)
-spelt_hold origin row items values h = absurd h
+spelt_hold origin row items values h = grind arith
 
 -- the octets that items state for a layout of the table are data
 stated_laid : (origin : Labels) (class kind : ℕ) (laid : Option (List Field)) (items : List RawItem) (octets : List ℕ) → laid ≡ layout class kind → StatesFor origin laid items octets → AreFor laid octets

@@ -25,8 +25,8 @@ pub record HaveSpelt (items left : List RawItem) (old now : List ℕ) : Type 0 w
 
 pub spelt_more : (all items : List Item) (i : ℕ) (item d : Item) (old now new : List ℕ) → i < length items → item ≡ get_or items i d → HaveSpelt (map raw all) (map raw (drop i items)) old now → Appends (SpellsString (raw item)) with_length now new → HaveSpelt (map raw all) (map raw (drop (i + 1) items)) old new
 spelt_more all items i item d old now new lt is read h =
-    let here = subst (λ x. HaveSpelt (map raw all) x old now) (ap (map raw) (from_place items i item d lt is)) read in
-    record { leads = λ many each. subst (Appends (SpellEachString (map raw all)) (flat_map with_length) old) (sym (ap (λ o. o ++ flat_map with_length many) h.written ∙ append_assoc now (with_length h.value) (flat_map with_length many))) (here.leads (h.value ∷ many) (h.stated, each)); fault = λ fault bad. here.fault fault (inr (h.value, h.stated, bad)) }
+    let here = rw (from_place items i item d lt is) at read in
+    record { leads = λ many each. grind (arith, here.leads (h.value ∷ many) (h.stated, each), append_assoc); fault = λ fault bad. here.fault fault (inr (h.value, h.stated, bad)) }
 
 -- there is an item
 some_first : (items : List RawItem) (fault : Fault) → FirstStringFault items fault → StringsFault items fault
@@ -51,3 +51,5 @@ no_number Is bound most cap number once fits room found none over n h = grind ar
 -- the number that was read, where it is no greater
 pub that_number : (Is : ℕ → Type 0) (n most cap : ℕ) (number : Option ℕ) → most < cap → number ≡ Some n → n ≤ most → IfSome number (λ n. (m : ℕ) × (Is m × (n ≡ min cap m))) → Is n
 that_number Is n most cap number room e short found = grind arith
+
+pub ruleset strings_spelt = (spelt_all, spelt_more)

@@ -1,7 +1,7 @@
 -- Data that is made part by part.
-use Rattle.zone_rdata.proofs.Common.{[], Bool, IsTrue, List, None, Option, Some, ap, arith, false, get_or, length, length-append, refl, subst, suc, sym, true, zero, ℕ, ◌++◌, ◌+◌, ◌-◌, ◌<◌, ◌↔◌, ◌∙◌, ◌∷◌, ◌≡◌, ◌≢◌, ◌≤◌, AllByRecursion, flat_map, append-nil, flat_map-append, AreOctets, with_length, Fault, Field, Built, FitsString, IsNext, IsPushFault, IsWhole, Pushes, ends_with_strings, misplaced, part_at, FieldValue, HoldEach, Holds, Suits, field_octets, fixed, is_strings, octets_of, string, strings, values_of, AreLaidOut, StringsLast, layout, ArePushedParts, Grows, IsBuilt, IsOver, IsReal, least_of, more_fields, over_data, over_string, part_field, part_fields, parts_held, Data, IsRdata, IsString, rules, BadRdata}
+use Rattle.zone_rdata.proofs.Common.{[], Bool, IsTrue, List, None, Option, Some, ap, arith, false, get_or, length, length-append, refl, subst, suc, sym, true, zero, ℕ, ◌++◌, ◌+◌, ◌-◌, ◌<◌, ◌↔◌, ◌∙◌, ◌∷◌, ◌≡◌, ◌≢◌, ◌≤◌, AllByRecursion, flat_map, append-nil, flat_map-append, AreOctets, with_length, Fault, Field, Built, FitsString, IsNext, IsPushFault, IsWhole, Pushes, ends_with_strings, misplaced, part_at, FieldValue, HoldEach, Holds, Suits, field_octets, fixed, is_strings, octets_of, string, strings, values_of, AreLaidOut, StringsLast, layout, ArePushedParts, Grows, IsBuilt, IsOver, IsReal, least_of, more_fields, over_data, over_string, part_field, part_fields, parts_held, Data, IsRdata, IsString, rules, BadRdata, if_fault_passed}
 use Rattle.zone_rdata.specs.Builder.{long_string, too_long}
-use Rattle.zone_rdata.proofs.Fields.AnyField.{kind_of}
+use Rattle.zone_rdata.proofs.Fields.AnyField.{field_part}
 use Rattle.zone_rdata.proofs.Octets.Layouts.{AreFor, laid_out, values_back}
 use Rattle.zone_rdata.proofs.Words.Tables.{table_row}
 use Rattle.zone_rdata.specs.declared.field.Field.TheVariants as fields
@@ -48,7 +48,7 @@ plain_last row each = tt
 
 more_push : (n : ℕ) → more_fields fields.Strings (suc n) ≡ more_fields fields.Strings n ++ fields.OneString ∷ []
 more_push zero = refl
-more_push (suc n) = ap (λ r. fields.OneString ∷ r) (more_push n)
+more_push (suc n) = grind (arith, more_push n)
 
 fields_push : (row : List Field) (f : Field) (n : ℕ) → part_at row n ≡ Some f → part_fields row (suc n) ≡ part_fields row n ++ part_field f ∷ []
 fields_push [] f n e = absurd (let s : None ≡ Some f = e in cc)
@@ -57,9 +57,8 @@ fields_push (g ∷ h ∷ row) f zero e = ap (λ k. part_field k ∷ []) (let s :
 fields_push (g ∷ h ∷ row) f (suc n) e = ap (λ r. part_field g ∷ r) (fields_push (h ∷ row) f n e)
 
 hold_push : (row : List Field) (values : List FieldValue) (f : Field) (v : FieldValue) → HoldEach row values → Holds f v → HoldEach (row ++ f ∷ []) (values ++ v ∷ [])
-hold_push [] [] f v each h = (h, tt)
 hold_push (g ∷ row) (w ∷ values) f v each h = (each.0, hold_push row values f v each.1 h)
-hold_push row values f v each h = absurd each
+hold_push row values f v each h = grind arith
 
 some_field : (o : Option Field) (v : FieldValue) → Suits o v → (f : Field) × (o ≡ Some f) × Suits (Some f) v
 some_field o v s = grind arith
@@ -75,17 +74,15 @@ pushed_field row f count octets part held e holds some =
     let here = part_fields row count in
     let values = values_of here octets in
     let next : part_fields row (suc count) ≡ here ++ part_field f ∷ [] = fields_push row f count e in
-    let same : octets_of (values ++ part ∷ []) ≡ octets ++ field_octets part = octets_push values part ∙ ap (λ o. o ++ field_octets part) held.1.whole in
     let each = hold_push here values (part_field f) part held.1.held holds in
-    let last : StringsLast (here ++ part_field f ∷ []) = plain_last (here ++ part_field f ∷ []) (subst (λ r. AllByRecursion (λ g. g ≢ fields.Strings) r) next (plain_fields row (suc count))) in
-    grind (arith, length-append, laid_out, values_back)
+    let last : StringsLast (here ++ part_field f ∷ []) = plain_last (here ++ part_field f ∷ []) (rw next at (plain_fields row (suc count))) in
+    grind (arith, length-append, laid_out, values_back, octets_push)
 
 pub pushed_part : (laid : Option (List Field)) (count : ℕ) (octets : List ℕ) (part : FieldValue) → ArePushedParts laid count octets → IsNext laid count part → FitsString part → IsReal part → Pushed laid count octets part
 pushed_part None count octets part held next fits real = grind arith
 pushed_part (Some row) count octets part held next fits real =
     let f = some_field (part_at row count) part next in
-    let own = (kind_of f.0).laws.part part f.2 fits real in
-    pushed_field row f.0 count octets part held f.1 own.0 own.1
+    grind (arith, pushed_field row f.0 count octets part held f.1, field_part)
 
 -- ---- all parts
 pub record WholeParts (row : List Field) (octets : List ℕ) : Type 0 where
@@ -99,11 +96,11 @@ record ManyParts (values : List FieldValue) : Type 0 where
   same : flat_map with_length many ≡ octets_of values
 
 join_parts : (n : ℕ) (values : List FieldValue) → HoldEach (more_fields fields.Strings n) values → ManyParts values
-join_parts zero [] h = record { many = []; each = tt; same = refl }
 join_parts (suc n) (string s ∷ values) h =
     let rest = join_parts n values h.1 in
     record { many = s ∷ rest.many; each = (h.0, rest.each); same = ap (λ o. with_length s ++ o) rest.same }
 join_parts (suc n) (v ∷ values) h = absurd h.0
+join_parts zero [] h = record { many = []; each = tt; same = refl }
 join_parts n values h = absurd h
 
 last_whole : (f : Field) (n : ℕ) (values : List FieldValue) → HoldEach (part_fields (f ∷ []) (suc n)) values → WholeParts (f ∷ []) (octets_of values)
@@ -132,7 +129,7 @@ whole_by row n values last past h = absurd h
 pub whole_laid : (row : List Field) (count : ℕ) (octets : List ℕ) → StringsLast row → length row ≤ count → ArePushedParts (Some row) count octets → AreLaidOut row octets
 whole_laid row count octets last past held =
     let whole = whole_by row count (values_of (part_fields row count) octets) last past held.1.held in
-    subst (AreLaidOut row) (whole.same ∙ held.1.whole) (laid_out row whole.own last whole.each)
+    grind (arith, laid_out)
 
 -- ---- what the code answers
 pub over_as : (octets more : List ℕ) (v : FieldValue) → FitsString v → more ≡ field_octets v → (fault : Fault) → IsOver octets (fixed more) fault → IsOver octets v fault
@@ -142,26 +139,24 @@ abbrev pub built : ℕ → ℕ → ℕ → List ℕ → Built
 built class kind count octets = record { class = class; kind = kind; parts = parts_held (layout class kind) count octets }
 
 grown_octets : (laid : Option (List Field)) (count : ℕ) (octets : List ℕ) (part : FieldValue) → ArePushedParts laid count octets → octets_of (parts_held laid count octets ++ part ∷ []) ≡ octets ++ field_octets part
-grown_octets laid count octets part held = octets_push (parts_held laid count octets) part ∙ ap (λ o. o ++ field_octets part) (parts_octets laid count octets held)
+grown_octets laid count octets part held = grind (arith, octets_push, parts_octets)
 
 -- the layout that is held is that of the class and type
 by_layout : (class kind : ℕ) (laid : Option (List Field)) (count : ℕ) (octets : List ℕ) (part : FieldValue) → IsBuilt class kind laid count octets → IsNext laid count part → IsNext (layout class kind) count part
-by_layout class kind laid count octets part is next = subst (λ l. IsNext l count part) is.looked_up next
+by_layout class kind laid count octets part is next = grind arith
 
 next_parts : (class kind : ℕ) (laid : Option (List Field)) (count : ℕ) (octets : List ℕ) (part : FieldValue) → IsBuilt class kind laid count octets → IsNext laid count part → IsNext (layout class kind) (length (parts_held (layout class kind) count octets)) part
-next_parts class kind laid count octets part is next = subst (λ n. IsNext (layout class kind) n part) (sym (parts_length (layout class kind) count octets is.held)) (by_layout class kind laid count octets part is next)
+next_parts class kind laid count octets part is next = grind (arith, parts_length, by_layout)
 
 pub push_misplaced : (class kind : ℕ) (laid : Option (List Field)) (count : ℕ) (octets : List ℕ) (b : Built) (part : FieldValue) (r : Bool) → built class kind count octets ≡ b → IsBuilt class kind laid count octets → r ≡ false → (IsTrue r ↔ IsNext laid count part) → IsPushFault b part BadRdata
-push_misplaced class kind laid count octets b part r e is refused test =
-    let own : IsTrue r ↔ IsNext (layout class kind) count part = subst (λ l. IsTrue r ↔ IsNext l count part) is.looked_up test in
-    grind (arith, parts_length, false, true, misplaced, layout)
+push_misplaced class kind laid count octets b part r e is refused test = grind (arith, parts_length, false, true, misplaced, layout)
 
 over_push : (class kind : ℕ) (laid : Option (List Field)) (count : ℕ) (octets : List ℕ) (part : FieldValue) (fault : Fault) → IsBuilt class kind laid count octets → IsNext laid count part → IsOver octets part fault → IsPushFault (built class kind count octets) part fault
 over_push class kind laid count octets part _ is next (over_string none) = long_string (next_parts class kind laid count octets part is next) none
 over_push class kind laid count octets part _ is next (over_data fits h) = too_long (next_parts class kind laid count octets part is next) fits (omega (arith, ap length (grown_octets (layout class kind) count octets part is.held), length-append octets (field_octets part)))
 
 pub push_over : (class kind : ℕ) (laid : Option (List Field)) (count : ℕ) (octets : List ℕ) (b : Built) (part : FieldValue) (fault : Fault) → built class kind count octets ≡ b → IsBuilt class kind laid count octets → IsNext laid count part → IsOver octets part fault → IsPushFault b part fault
-push_over class kind laid count octets b part fault e is next over = subst (λ v. IsPushFault v part fault) e (over_push class kind laid count octets part fault is next over)
+push_over class kind laid count octets b part fault e is next over = grind (arith, over_push)
 
 pub push_built : (class kind : ℕ) (laid : Option (List Field)) (count : ℕ) (octets new : List ℕ) (part : FieldValue) → IsBuilt class kind laid count octets → IsNext laid count part → IsReal part → Grows octets part new → IsBuilt class kind laid (count + 1) new
 push_built class kind laid count octets new part is next real g = grind (arith, pushed_part (layout class kind) count octets part is.held (by_layout class kind laid count octets part is next) g.string_fits real, length-append octets (field_octets part))
@@ -180,11 +175,9 @@ pub parts_data : (class kind : ℕ) (laid : Option (List Field)) (count : ℕ) (
 parts_data class kind laid count octets is past each = grind (arith, parts_for class kind (layout class kind) count octets refl is.held (subst (λ l. least_of l ≤ count) is.looked_up past))
 
 pub finish_missing : (class kind : ℕ) (laid : Option (List Field)) (count : ℕ) (octets : List ℕ) (b : Built) → built class kind count octets ≡ b → IsBuilt class kind laid count octets → count < least_of laid → IsWhole (layout b.class b.kind) b.parts → ⊥
-finish_missing class kind laid count octets b e is few whole =
-    let fewer : count < least_of (layout class kind) = subst (λ l. count < least_of l) is.looked_up few in
-    grind (arith, parts_length)
+finish_missing class kind laid count octets b e is few whole = grind (arith, parts_length)
 
 pub finish_made : (class kind : ℕ) (laid : Option (List Field)) (count : ℕ) (octets : List ℕ) (b : Built) (d : Data) → built class kind count octets ≡ b → IsBuilt class kind laid count octets → least_of laid ≤ count → d ≡ record { class = class; kind = kind; octets = octets } → IsWhole (layout b.class b.kind) b.parts × (d ≡ record { class = b.class; kind = b.kind; octets = octets_of b.parts })
-finish_made class kind laid count octets b d e is past made =
-    let enough : least_of (layout class kind) ≤ count = subst (λ l. least_of l ≤ count) is.looked_up past in
-    grind (arith, whole_parts, parts_octets)
+finish_made class kind laid count octets b d e is past made = grind (arith, whole_parts, parts_octets)
+
+pub ruleset push_faults = (if_fault_passed, push_misplaced, push_over)

@@ -10,11 +10,9 @@ values_next : (f : Field) (row : List Field) (v : FieldValue) (octets : List ℕ
 values_next f row v octets h last = grind (arith, field_back, ℕ, drop_at)
 
 pub values_back : (row : List Field) (values : List FieldValue) → StringsLast row → HoldEach row values → values_of row (octets_of values) ≡ values
-values_back [] [] last h = refl
 values_back (f ∷ []) (v ∷ []) last h = values_next f [] v [] h.0 (λ e. refl)
-values_back (f ∷ []) (v ∷ w ∷ values) last h = absurd h.1
 values_back (f ∷ g ∷ row) (v ∷ values) last h = values_next f (g ∷ row) v (octets_of values) h.0 (λ e. absurd (last.0 e)) ∙ ap (λ vs. v ∷ vs) (values_back (g ∷ row) values last.1 h.1)
-values_back row values last h = absurd h
+values_back row values last h = grind arith
 
 pub laid_out : (row : List Field) (values : List FieldValue) → StringsLast row → HoldEach row values → AreLaidOut row (octets_of values)
 laid_out row values last h = grind (arith, values_back)
@@ -32,9 +30,8 @@ pub canonical_length : (laid : Option (List Field)) (octets canonical : List ℕ
 canonical_length laid octets canonical is = grind (arith, uncompressed_length)
 
 pub low_values : (row : List Field) (values : List FieldValue) → HoldEach row values → AreLow (octets_of values)
-low_values [] [] held = tt
-low_values (f ∷ row) (v ∷ values) held = AllByRecursion-append (λ c. c < 256) (field_octets v) (octets_of values) (field_low f v held.0) (low_values row values held.1)
-low_values row values held = absurd held
+low_values (f ∷ row) (v ∷ values) held = grind (arith, AllByRecursion-append, field_low, low_values row values held.1)
+low_values row values held = grind arith
 
 pub held_data : (class kind : ℕ) (row : List Field) (values : List FieldValue) → layout class kind ≡ Some row → HoldEach row values → length (octets_of values) ≤ 65535 → IsData class kind (octets_of values)
 held_data class kind row values e held short = grind (arith, low_values, laid_out, table_row)

@@ -1,5 +1,7 @@
 -- Uncompressed octets: what stands at their front, and that it is one thing.
-use Rattle.zone_rdata.proofs.Common.{[], ◌≡◌, ℕ, ◌<◌, ◌≤◌, List, ◌∷◌, ◌++◌, length, take, drop, Result, Err, refl, sym, ap, ◌∙◌, subst, arith, append_assoc, length-append, flat_map, AllByRecursion, append-nil, take-append-drop, length-map, length-take, map-append, flat_map-append, Labels, IsLabel, IsName, folded_label, folded, with_length, wire, IsLabelFault, BeginsWithSent, AllByRecursion-append, AllByRecursion-back, common_steps, ◌↔◌, NameFault}
+use Rattle.zone_rdata.proofs.Common.{[], ◌≡◌, ℕ, ◌<◌, ◌≤◌, List, ◌∷◌, ◌++◌, length, take, drop, Result, Err, refl, sym, ap, ◌∙◌, subst, arith, append_assoc, length-append, flat_map, AllByRecursion, append-nil, append_cancel_left, take-append-drop, length-map, length-take, map-append, flat_map-append, Labels, IsLabel, IsName, folded_label, folded, with_length, wire, IsLabelFault, BeginsWithSent, AllByRecursion-append, AllByRecursion-back, common_steps, ◌↔◌, NameFault}
+use Rattle.zone_name.proofs.InOctets.Octets.{AreSome, labels_of-frames}
+use Rattle.zone_name.specs.Name.{labels_by, labels_of}
 use Rattle.zone_name.specs.declared.fault.NameFault.TheVariants.{EmptyLabel, LabelTooLong, NameTooLong}
 
 -- ---- lists one after another
@@ -24,23 +26,15 @@ pub frames_push : (many : List (List ℕ)) (x a : List ℕ) → flat_map with_le
 frames_push many x a = grind (arith, append_assoc, append-nil, flat_map-append)
 
 -- ---- names
-abbrev pub AreSome : List (List ℕ) → Type 0
-AreSome labels = AllByRecursion (λ label. 0 < length label) labels
-
 pub folded_some : (sent : Labels) → AllByRecursion IsLabel (folded sent) → AreSome sent
 folded_some [] each = tt
 folded_some (label ∷ sent) each = grind (arith, length-map, folded_some sent each.1)
 
--- labels that were cut off stand first in every name there
-pub labels_first : (sent whole : List (List ℕ)) (rest tail : List ℕ) → AreSome sent → flat_map with_length sent ++ rest ≡ wire whole ++ tail → (more : List (List ℕ)) × (whole ≡ sent ++ more) × (rest ≡ wire more ++ tail)
-labels_first [] whole rest tail some e = (whole, refl, e)
-labels_first ([] ∷ sent) whole rest tail some e = absurd (omega (arith, some.0))
-labels_first ((c ∷ label) ∷ sent) [] rest tail some e = cc
-labels_first ((c ∷ label) ∷ sent) (l ∷ whole) rest tail some e =
-    let shape = sym (append_assoc (with_length (c ∷ label)) (flat_map with_length sent) rest) ∙ e ∙ ap (λ t. t ++ tail) (append_assoc (with_length l) (flat_map with_length whole) (0 ∷ [])) ∙ append_assoc (with_length l) (wire whole) tail in
-    let cut = frame_same (c ∷ label) l (flat_map with_length sent ++ rest) (wire whole ++ tail) shape in
-    let next = labels_first sent whole rest tail some.1 cut.1 in
-    (next.0, ap (λ h. h ∷ whole) (sym cut.0) ∙ ap (λ t. (c ∷ label) ∷ t) next.1, next.2)
+-- a name at the beginning has the labels that are found there
+pub sent_labels : (octets tail : List ℕ) (name : Labels) (b : BeginsWithSent octets name tail) → labels_of octets ≡ b.sent
+sent_labels octets tail name b =
+    let some = folded_some b.sent (subst (AllByRecursion IsLabel) (sym b.folds) b.is_name.each) in
+    grind (arith, labels_of-frames b.sent (0 ∷ tail) some, append_assoc, append-nil)
 
 -- the labels that were cut off so far
 pub record HasCut (octets : List ℕ) (labels : Labels) (rest : List ℕ) : Type 0 where
@@ -49,15 +43,16 @@ pub record HasCut (octets : List ℕ) (labels : Labels) (rest : List ℕ) : Type
   pub some : AreSome sent
   pub parts : octets ≡ flat_map with_length sent ++ rest
 
-pub cut_none : (octets : List ℕ) (labels : Labels) → labels ≡ [] → HasCut octets labels octets
-cut_none octets labels e = record { sent = []; folds = sym e; some = tt; parts = refl }
-
 pub cut_more : (octets rest : List ℕ) (labels new : List (List ℕ)) (c : ℕ) (following label after : List ℕ) → HasCut octets labels rest → rest ≡ c ∷ following → 0 < c → c ≤ length following → label ≡ take c following → after ≡ drop c following → new ≡ labels ++ folded_label label ∷ [] → HasCut octets new after
 cut_more octets rest labels new c following label after cut e some fits front back grown = grind (arith, common_steps, length-take, map-append, AllByRecursion-append, frame_at, frames_push)
 
 -- a name there goes on from what was cut off
 pub goes_on : (octets rest tail : List ℕ) (labels name : Labels) (cut : HasCut octets labels rest) (b : BeginsWithSent octets name tail) → (more : List (List ℕ)) × (b.sent ≡ cut.sent ++ more) × (rest ≡ wire more ++ tail)
-goes_on octets rest tail labels name cut b = grind (arith, labels_first)
+goes_on octets rest tail labels name cut b =
+    let found = labels_of-frames cut.sent rest cut.some in
+    let more = labels_by found.0 rest in
+    let whole : b.sent ≡ cut.sent ++ more = sym (sent_labels octets tail name b) ∙ ap labels_of cut.parts ∙ found.1 in
+    (more, whole, append_cancel_left (flat_map with_length cut.sent) rest (wire more ++ tail) (grind (arith, flat_map-append, append_assoc, cut.parts, b.parts)))
 
 pub no_first : (octets rest : List ℕ) (labels : Labels) → HasCut octets labels rest → length rest ≡ 0 → (name : Labels) (tail : List ℕ) → BeginsWithSent octets name tail → ⊥
 no_first octets rest labels cut none name tail b =
@@ -91,14 +86,7 @@ pub no_label : (octets rest : List ℕ) (labels : Labels) (c : ℕ) (following l
 no_label octets rest labels c following label fault r cut e some fits same is only empty long too_long name tail b = grind (arith, length-take c following, next_fits octets rest labels c following cut e some fits name tail b)
 
 -- ---- a name at the beginning is one name
-pub name_by : (more : List (List ℕ)) (rest tail : List ℕ) → AreSome more → 0 ∷ rest ≡ wire more ++ tail → (more ≡ []) × (rest ≡ tail)
-name_by [] rest tail some e = (refl, (cc))
-name_by (x ∷ more) rest tail some e = grind arith
-
 pub sent_once : (octets rest tail : List ℕ) (a b : Labels) → BeginsWithSent octets a rest → BeginsWithSent octets b tail → (a ≡ b) × (rest ≡ tail)
 sent_once octets rest tail a b x y =
-    let some_x = folded_some x.sent (subst (AllByRecursion IsLabel) (sym x.folds) x.is_name.each) in
-    let some_y = folded_some y.sent (subst (AllByRecursion IsLabel) (sym y.folds) y.is_name.each) in
-    let next = labels_first x.sent y.sent (0 ∷ rest) tail some_x (sym (x.parts ∙ append_assoc (flat_map with_length x.sent) (0 ∷ []) rest) ∙ y.parts) in
-    let same = name_by next.0 rest tail (AllByRecursion-back (λ l. 0 < length l) x.sent next.0 (subst AreSome next.1 some_y)) next.2 in
-    (sym x.folds ∙ ap folded (sym (next.1 ∙ ap (λ t. x.sent ++ t) same.0 ∙ append-nil x.sent)) ∙ y.folds, same.1)
+    let same : x.sent ≡ y.sent = sym (sent_labels octets rest a x) ∙ sent_labels octets tail b y in
+    (sym x.folds ∙ ap folded same ∙ y.folds, append_cancel_left (wire x.sent) rest tail (sym x.parts ∙ y.parts ∙ ap (λ s. wire s ++ tail) (sym same)))

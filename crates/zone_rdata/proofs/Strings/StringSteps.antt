@@ -1,5 +1,5 @@
 -- The octets of a string as the code reads them, unit by unit.
-use Rattle.zone_rdata.proofs.Common.{[], ◌≡◌, ℕ, ◌<◌, ◌≤◌, List, ◌∷◌, ◌++◌, length, sym, ap, ◌∙◌, subst, arith, append_assoc, length-append, flat_map_more, map_push, length-map, Written, text_of, octet_of, IsUnit, no_octet, BeginsWithUnit, written_text, written_octets, RawItem, ReachesUnit, StringFault, long_string, item_text, AllByRecursion-append, StringTooLong, AllByRecursion, false, map, refl, nat_eq, eqb-false, or_parts, list_any, AreOctets, SpellsString}
+use Rattle.zone_rdata.proofs.Common.{[], ◌≡◌, ℕ, ◌<◌, ◌≤◌, List, ◌∷◌, ◌++◌, length, sym, ap, ◌∙◌, subst, arith, append_assoc, length-append, flat_map_more, map_push, length-map, Written, text_of, octet_of, IsUnit, no_octet, BeginsWithUnit, written_text, written_octets, RawItem, ReachesUnit, StringFault, long_string, item_text, AllByRecursion-append, StringTooLong, AllByRecursion, false, map, refl, nat_eq, eqb-false, or_parts, list_any, AreOctets, SpellsString, bad_escape}
 use Rattle.zone_name.specs.Spelling.{plain}
 
 -- the octets of the units up to a place of an item's text
@@ -47,3 +47,5 @@ spells_itself item text e none short octets = record {
   value = (plain_written text).1;
   string = record { short = short; each = octets };
 }
+
+pub ruleset steps_read = (bad_escape, read_more)

@@ -1,5 +1,5 @@
 -- How many octets at the front take no escape between quotes.
-use Rattle.zone_rdata.proofs.Common.{[], ◌≡◌, ◌∙◌, ℕ, ◌+◌, Bool, true, false, cond, List, ◌∷◌, ◌++◌, length, take, drop, refl, sym, ap, arith, inside_text, unit_text, flat_map-append, take-append-drop, append_assoc, append-nil, prefix_len, is_unescaped}
+use Rattle.zone_rdata.proofs.Common.{[], ◌≡◌, ◌∙◌, ℕ, ◌+◌, Bool, true, false, cond, List, ◌∷◌, ◌++◌, length, take, drop, refl, sym, ap, arith, inside_text, unit_text, flat_map-append, take-append-drop, append_assoc, append-nil, prefix_len, is_unescaped, first_fails, one_more, prefix_len-le-length}
 
 itself : (c : ℕ) → is_unescaped c ≡ true → unit_text c ≡ c ∷ []
 itself c e = grind arith
@@ -42,3 +42,5 @@ pub shown_all : (whole rest text plain after : List ℕ) (n : ℕ)
 shown_all whole rest text plain [] n len front back none shown =
     cc (shown.left, in_parts rest plain [] n len front back, append-nil plain)
 shown_all whole rest text plain (c ∷ after) n len front back none shown = absurd (omega (arith, none))
+
+pub ruleset runs_of_few = (first_fails, one_more, prefix_len-le-length)

@@ -1,5 +1,5 @@
 -- The text of data, field after field.
-use Rattle.zone_rdata.proofs.Common.{[], ◌≡◌, ◌∙◌, ◌≤◌, take-append-drop, ℕ, zero, suc, ◌+◌, ◌<◌, List, ◌∷◌, ◌++◌, length, get_or, take, drop, map, refl, sym, ap, arith, append_assoc, Some, encode_lower, flat_map, join_with_byte, take_at, drop_at, append-nil, Field, field_at, values_of, field_text, AreLaidOut, BeginsWithField, after_field, spaced, generic_head, laid_out_text, generic_text, common_steps, encode_with, labels_of, wire, HoldsName, Name, from_place}
+use Rattle.zone_rdata.proofs.Common.{[], ◌≡◌, ◌∙◌, ◌≤◌, take-append-drop, ℕ, zero, suc, ◌+◌, ◌<◌, List, ◌∷◌, ◌++◌, length, get_or, take, drop, map, refl, sym, ap, arith, append_assoc, Some, encode_lower, flat_map, join_with_byte, take_at, drop_at, append-nil, Field, field_at, values_of, field_text, AreLaidOut, BeginsWithField, after_field, spaced, generic_head, laid_out_text, generic_text, common_steps, encode_with, labels_of, wire, HoldsName, Name, from_place, eqb-true}
 
 -- octets of a layout begin with its first field, and go on with the others
 pub first_field : (f : Field) (row : List Field) (octets : List ℕ) → AreLaidOut (f ∷ row) octets → BeginsWithField f octets × AreLaidOut row (after_field f octets)
@@ -67,3 +67,5 @@ pub digits_all : (whole rest text : List ℕ) → length rest ≤ 0 → HaveDigi
 unfolding encode_with
 digits_all whole [] text none so_far = sym (so_far.left ∙ append-nil text)
 digits_all whole (c ∷ rest) text none so_far = absurd (omega (arith, none))
+
+pub ruleset printed_last = (eqb-true, nothing_follows)

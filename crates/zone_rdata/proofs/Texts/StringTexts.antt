@@ -27,3 +27,5 @@ quoted_more whole rest text string after some so_far at is = grind (arith, first
 
 pub quoted_all : (whole rest text : List ℕ) → length rest ≤ 0 → HaveQuoted whole rest text → text ≡ strings_text whole
 quoted_all whole rest text none so_far = grind (arith, common_steps, no_strings, append-nil)
+
+pub ruleset quoted_strings = (first_string, quoted_first, quoted_all)

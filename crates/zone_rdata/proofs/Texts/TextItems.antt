@@ -8,6 +8,7 @@ use Rattle.zone_rdata.proofs.Octets.Layouts.{AreFor}
 use Rattle.zone_rdata.proofs.Texts.Standing.{IsPrintedItem, bare_decimal, bare_hex}
 use Rattle.zone_rdata.proofs.Words.Tables.{table_row}
 use Rattle.zone_rdata.proofs.Texts.FieldTexts.{joined_more}
+use Rattle.zone_rdata.proofs.Octets.Wire.{table_sized}
 
 -- ---- the text is the items
 
@@ -31,15 +32,12 @@ field_spaced : (f : Field) (v : FieldValue) → Holds f v → all_spaced (map wr
 field_spaced f v h = grind (arith, strings_spaced, append-nil)
 
 each_spaced : (row : List Field) (values : List FieldValue) → HoldEach row values → all_spaced (map written_item (flat_map field_items values)) ≡ all_spaced (map field_text values)
-each_spaced [] [] h = refl
 each_spaced (f ∷ row) (v ∷ values) h = grind (arith, each_spaced row values h.1, map-append, flat_map-append, field_spaced)
-each_spaced row values h = absurd h
+each_spaced row values h = grind arith
 
 written_for : (laid : Option (List Field)) (octets : List ℕ) → AreFor laid octets → laid_out_text laid octets ≡ join_with_byte 32 (map written_item (laid_out_items laid octets))
 written_for None octets value = grind (arith, printed_text)
-written_for (Some row) octets value =
-    let values = values_of row octets in
-    joined_spaced (map field_text values) ∙ ap (drop 1) (sym (each_spaced row values value.held)) ∙ sym (joined_spaced (map written_item (flat_map field_items values)))
+written_for (Some row) octets value = grind (arith, joined_spaced, each_spaced)
 
 -- what is printed field by field is the text
 pub data_written : (d : Data) → IsRdata d → laid_out_text (layout d.class d.kind) d.octets ≡ data_text d
@@ -55,9 +53,8 @@ digits_stand [] low = tt
 digits_stand (c ∷ octets) low = (bare_hex c octets low, tt)
 
 each_stand : (row : List Field) (values : List FieldValue) → AllByRecursion IsSized row → HoldEach row values → ArePrintedItems (flat_map field_items values)
-each_stand [] [] sized h = tt
 each_stand (f ∷ row) (v ∷ values) sized h = grind (arith, each_stand row values sized.1 h.1, AllByRecursion-append, field_stands)
-each_stand row values sized h = absurd h
+each_stand row values sized h = grind arith
 
 laid_out_stand : (laid : Option (List Field)) (octets : List ℕ) → ((row : List Field) → laid ≡ Some row → IsLayout row) → length octets ≤ 65535 → AreOctets octets → AreFor laid octets → ArePrintedItems (laid_out_items laid octets)
 laid_out_stand None octets table short low value = (bare_unit (escaped 35) (refl, (λ e. omega arith), (λ e. omega arith)), (bare_decimal (length octets) (omega arith), digits_stand octets low))
@@ -77,7 +74,7 @@ laid_out_some None octets table value = omega arith
 laid_out_some (Some row) octets table value = each_some row (values_of row octets) (table row refl) value.held
 
 pub data_some : (d : Data) → IsRdata d → 0 < length (data_items d)
-data_some d h = laid_out_some (layout d.class d.kind) d.octets (λ row e. grind arith) h.octets.value
+data_some d h = grind (arith, laid_out_some)
 
 -- ---- the items spell the values
 
@@ -86,19 +83,16 @@ next_spelt : NamesPrinted → (origin : Labels) (f : Field) (row : List Field) (
 next_spelt names origin f row v items values sized h last rest = grind (arith, field_printed)
 
 each_spelt : NamesPrinted → (origin : Labels) (row : List Field) (values : List FieldValue) → StringsLast row → AllByRecursion IsSized row → HoldEach row values → SpellEach origin row (flat_map field_items values) values
-each_spelt names origin [] [] last sized h = tt
 each_spelt names origin (f ∷ []) (v ∷ []) last sized h = next_spelt names origin f [] v [] [] sized.0 h.0 (λ e. refl) tt
-each_spelt names origin (f ∷ []) (v ∷ w ∷ values) last sized h = absurd h.1
 each_spelt names origin (f ∷ g ∷ row) (v ∷ values) last sized h =
     next_spelt names origin f (g ∷ row) v (flat_map field_items values) values sized.0 h.0 (λ e. absurd (last.0 e)) (each_spelt names origin (g ∷ row) values last.1 sized.1 h.1)
-each_spelt names origin row values last sized h = absurd h
+each_spelt names origin row values last sized h = grind arith
 
 -- ---- the first item is not the mark of the generic form
 
 fields_unmarked : (row : List Field) (values : List FieldValue) → AllByRecursion IsSized row → HoldEach row values → IsGeneric (flat_map field_items values) → ⊥
-fields_unmarked [] [] sized h g = cc g.1
 fields_unmarked (f ∷ row) (v ∷ values) sized h g = field_unmarked f v (flat_map field_items values) sized.0 h.0 g
-fields_unmarked row values sized h g = h
+fields_unmarked row values sized h g = grind arith
 
 -- ---- the items state the data
 
@@ -108,3 +102,5 @@ stated_for names origin (Some row) octets table short each value =
     let values = values_of row octets in
     let sound = table row refl in
     in_words row values refl (fields_unmarked row values sound.sized value.held) (each_spelt names origin row values sound.last sound.sized value.held) (sym value.whole) short
+
+pub ruleset printed_data = (data_written, table_sized)

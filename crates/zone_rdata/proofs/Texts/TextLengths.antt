@@ -27,9 +27,8 @@ kind_length class n is = either_form (λ word. length word ≤ 10) n (numbered_l
 
 -- the texts of values with a space before each
 each_few : (row : List Field) (values : List FieldValue) → AllByRecursion IsSized row → HoldEach row values → length (flat_map (λ t. 32 ∷ t) (map field_text values)) ≤ 4 * length (octets_of values)
-each_few [] [] sized h = omega arith
 each_few (f ∷ row) (v ∷ values) sized h = grind (arith, each_few row values sized.1 h.1, length-append, field_few)
-each_few row values sized h = absurd h
+each_few row values sized h = grind arith
 
 joined_length : (texts : List (List ℕ)) → length (join_with_byte 32 texts) ≤ length (flat_map (λ t. 32 ∷ t) texts)
 joined_length [] = omega arith
@@ -37,16 +36,11 @@ joined_length (text ∷ texts) = omega (arith, ap length (joined_more text texts
 
 -- the mark, a number of at most five digits, two spaces, and two digits for each octet
 generic_length : (octets : List ℕ) → length octets ≤ 65535 → length (generic_text octets) ≤ 4 * length octets + 8
-generic_length [] short = omega arith
-generic_length (c ∷ octets) short =
-    let count = decimal (length (c ∷ octets)) in
-    omega (arith, length-append (codes "\\# " ++ count) (32 ∷ encode_lower (c ∷ octets)), length-append (codes "\\# ") count, length-encode_with lower_digits (c ∷ octets), length-decimal-le 5 (length (c ∷ octets)) (omega arith) (omega arith) (omega arith))
+generic_length octets short = grind (arith, length-append, length-encode_with, length-decimal-le 5)
 
 text_length : (laid : Option (List Field)) (octets : List ℕ) → ((row : List Field) → laid ≡ Some row → IsLayout row) → length octets ≤ 65535 → AreFor laid octets → length (laid_out_text laid octets) ≤ 4 * length octets + 8
 text_length None octets table short value = generic_length octets short
-text_length (Some row) octets table short value =
-    let values = values_of row octets in
-    omega (arith, joined_length (map field_text values), each_few row values (table row refl).sized value.held, ap length value.whole)
+text_length (Some row) octets table short value = grind (arith, joined_length, each_few, table row refl)
 
 -- four for each octet of the data, and eight
 pub data_text_length : (d : Data) → IsRdata d → length (data_text d) ≤ 4 * length d.octets + 8

@@ -1,5 +1,5 @@
 -- Words that are equal in any case of their letters.
-use Rattle.zone_rdata.proofs.Common.{cases_Bool, ◌≡◌, ℕ, ◌<◌, ◌≤◌, true, false, List, map, sym, ap, ◌∙◌, arith, IsTrue, ◌↔◌, inl, inr, Some, None, min, subst, bytes_eq, Bool, find, option_map, cases_lt, bytes_eq-Decides, folded_label, Named, ascends, IsKind, IsNumbered, IsWordAmong, by_mnemonic, by_number, IsKindWord, IsWordFault, for_queries, beyond, Fault, to_ascii_lowercase, UnknownType, MetaType}
+use Rattle.zone_rdata.proofs.Common.{cases_Bool, ◌≡◌, ℕ, ◌<◌, ◌≤◌, true, false, List, map, sym, ap, ◌∙◌, arith, IsTrue, ◌↔◌, inl, inr, Some, None, min, subst, bytes_eq, Bool, find, option_map, cases_lt, bytes_eq-Decides, folded_label, Named, ascends, IsKind, IsNumbered, IsWordAmong, by_mnemonic, by_number, IsKindWord, IsWordFault, for_queries, beyond, Fault, to_ascii_lowercase, UnknownType, MetaType, common_steps}
 use Rattle.zone_rdata.proofs.Words.Tables.{find_mapped, row_is, no_row}
 
 lowercase_folds_all : (text : List ℕ) → map to_ascii_lowercase text ≡ folded_label text
@@ -14,7 +14,7 @@ pub same_test : (word name mnemonic : List ℕ) → name ≡ mnemonic → folded
 same_test word name mnemonic e same = grind (arith, bytes_eq-Decides)
 
 pub other_test : (word name mnemonic : List ℕ) → name ≡ mnemonic → (folded_label word ≡ folded_label name → ⊥) → bytes_eq (folded_label word) (folded_label mnemonic) ≡ false
-other_test word name mnemonic e other = elim (cases_Bool (bytes_eq (folded_label word) (folded_label mnemonic))) [ inl same ↦ absurd (other ((bytes_eq-Decides _ _).0 same ∙ ap folded_label (sym e))) | inr differs ↦ differs ]
+other_test word name mnemonic e other = grind (arith, cases_Bool, bytes_eq-Decides)
 
 -- ---- the number that a word stands for
 
@@ -37,3 +37,5 @@ kind_refused word n found fault h = elim (cases_lt n 65536) [
       subst (IsWordFault word) (sym (h.0 lt)) (for_queries n (subst (IsKindWord word) e found.1.0) lt h.2)
   | inr ge ↦ subst (IsWordFault word) (sym (h.1 ge)) (beyond found.0 found.1.0 (let e = found.1.1 in omega arith))
 ]
+
+pub ruleset row_tests = (common_steps, same_test, other_test)

@@ -1,5 +1,5 @@
 -- A word has one number at most, and a text one time.
-use Rattle.zone_rdata.proofs.Common.{◌≡◌, ℕ, Bool, true, false, not, List, ◌++◌, length, take, codes, refl, sym, ap, ◌∙◌, subst, arith, ◌==◌, Option, Some, None, bytes_eq, find, list_all, option_map, eqb-true, not-true, false≢true, map-append, length-map, take_at, bytes_eq-Decides, folded_octet, folded_label, Named, classes, type_names, number_among, IsKind, IsMnemonic, IsNumbered, IsWordAmong, by_mnemonic, by_number, IsClassWord, IsKindWord, IsWordFault, nameless, beyond, for_queries, Fault, drop-append_seam}
+use Rattle.zone_rdata.proofs.Common.{◌≡◌, ℕ, Bool, true, false, not, List, ◌++◌, length, take, codes, refl, sym, ap, ◌∙◌, subst, arith, ◌==◌, Option, Some, None, bytes_eq, list_all, eqb-true, not-true, false≢true, map-append, length-map, take_at, bytes_eq-Decides, folded_octet, folded_label, Named, classes, type_names, number_among, IsKind, IsMnemonic, IsNumbered, IsWordAmong, by_mnemonic, by_number, IsClassWord, IsKindWord, IsWordFault, nameless, beyond, for_queries, Fault, drop-append_seam}
 use Rattle.zone_rdata.proofs.Words.Tables.{each_mnemonic}
 
 -- a name and a number right after it
@@ -8,7 +8,7 @@ pub numbered_once : (name word : List ℕ) (a b : ℕ) → IsNumbered name word 
 numbered_once name word a b x y = cc (length-map x.front folded_octet, length-map y.front folded_octet, drop-append_seam x.front x.digits, drop-append_seam y.front y.digits)
 
 numbered_front : (name word : List ℕ) (n : ℕ) (x : IsNumbered name word n) → folded_label word ≡ folded_label name ++ folded_label x.digits
-numbered_front name word n x = rw (x.parts, map-append, x.named) refl
+numbered_front name word n x = grind (arith, map-append)
 
 -- a mnemonic of a table
 
@@ -30,9 +30,7 @@ the_number n found e = grind (arith, eqb-true)
 
 mnemonic_number : (rows : List Named) → own_numbers rows ≡ true → (word : List ℕ) (n : ℕ) → IsMnemonic rows word n → number_among rows word ≡ Some n
 unfolding own_numbers
-mnemonic_number rows own word n x =
-    ap (λ w. option_map (λ row. row.number) (find (λ row. bytes_eq w (folded_label row.mnemonic)) rows)) x.same
-    ∙ the_number n (number_among rows x.name) (each_mnemonic (λ n name. is_number n (number_among rows name)) rows own n x.name x.row)
+mnemonic_number rows own word n x = grind (arith, the_number n (number_among rows x.name) (each_mnemonic (λ n name. is_number n (number_among rows name)) rows own n x.name x.row), x.same)
 
 pub mnemonic_once : (rows : List Named) → own_numbers rows ≡ true → (word : List ℕ) (a b : ℕ) → IsMnemonic rows word a → IsMnemonic rows word b → a ≡ b
 mnemonic_once rows own word a b x y = cc (mnemonic_number rows own word a x, mnemonic_number rows own word b y)
@@ -52,10 +50,8 @@ class_number = mnemonic_number classes refl
 -- words
 
 pub word_once : (rows : List Named) (name : List ℕ) → own_numbers rows ≡ true → unlike name rows ≡ true → (word : List ℕ) (a b : ℕ) → IsWordAmong rows name word a → IsWordAmong rows name word b → a ≡ b
-word_once rows name own apart word a b (by_mnemonic x) (by_mnemonic y) = mnemonic_once rows own word a b x y
-word_once rows name own apart word a b (by_mnemonic x) (by_number y) = absurd (mnemonic_or_numbered rows name apart word a b x y)
-word_once rows name own apart word a b (by_number x) (by_mnemonic y) = absurd (mnemonic_or_numbered rows name apart word b a y x)
-word_once rows name own apart word a b (by_number x) (by_number y) = numbered_once name word a b x y
+word_once rows name own apart word a b (by_mnemonic x) y = grind (arith, mnemonic_once rows own word a b x, mnemonic_or_numbered rows name apart word a b x)
+word_once rows name own apart word a b (by_number x) y = grind (arith, mnemonic_or_numbered rows name apart word b a, numbered_once name word a b x)
 
 pub class_word_once : (word : List ℕ) (a b : ℕ) → IsClassWord word a → IsClassWord word b → a ≡ b
 unfolding is_number own_numbers unlike

@@ -1,5 +1,5 @@
 -- What is found in a table of rows, and what holds of each row.
-use Rattle.zone_rdata.proofs.Common.{[], ◌≡◌, ℕ, ◌<◌, List, ◌∷◌, length, map, Bool, true, false, not, cond, ◌&&◌, ◌||◌, ◌==◌, nat_lt, nat_le, bytes_eq, Option, Some, None, refl, sym, ap, ◌∙◌, subst, arith, AllByRecursion, find, list_all, option_map, eqb-true, eq-eqb, and_parts, or_cases, not-true, cond-true, false≢true, nat_tests, bytes_eq-Decides, folded_label, Field, IsLayout, IsSized, StringsLast, fields_in, layout, is_strings, Named, NamedType, in_every, in_one, ascend, ascends, mnemonic_among, number_among, types, IsMnemonic}
+use Rattle.zone_rdata.proofs.Common.{[], ◌≡◌, ℕ, ◌<◌, List, ◌∷◌, length, map, Bool, true, not, cond, ◌&&◌, ◌||◌, ◌==◌, nat_le, bytes_eq, Option, Some, None, refl, ap, subst, arith, AllByRecursion, find, list_all, option_map, eqb-true, eq-eqb, and_parts, or_cases, not-true, nat_tests, bytes_eq-Decides, folded_label, Field, IsLayout, IsSized, StringsLast, fields_in, layout, is_strings, Named, NamedType, in_every, in_one, ascend, ascends, mnemonic_among, number_among, types, IsMnemonic}
 use Rattle.std.proofs.lemmas.Option.{cond_some}
 use Rattle.zone_rdata.specs.declared.field.Field.TheVariants as fields
 
@@ -16,9 +16,7 @@ found_passes q (y ∷ ys) x e = grind (arith, found_passes q ys x)
 -- what holds of each element holds of it
 pub found_each : {X : Type 0} (p q : X → Bool) (xs : List X) (x : X) → list_all p xs ≡ true → find q xs ≡ Some x → p x ≡ true
 found_each p q [] x all e = absurd cc
-found_each p q (y ∷ ys) x all e =
-    let both = and_parts (p y) (list_all p ys) all in
-    found_by y x (find q ys) (λ z. p z ≡ true) (q y) e (λ t. both.0) (found_each p q ys x both.1)
+found_each p q (y ∷ ys) x all e = grind (arith, and_parts, found_each p q ys x)
 
 -- where there is none, none passes
 pub none_passes : {X : Type 0} (q : X → Bool) (xs : List X) → find q xs ≡ None → list_all (λ x. not (q x)) xs ≡ true
@@ -44,23 +42,18 @@ each_mnemonic p rows all n word e = grind (arith, mnemonic_by, found_each, found
 -- rows whose numbers ascend from above one are above it
 found_above : (low : ℕ) (rows : List Named) (q : Named → Bool) (x : Named) → ascend low rows ≡ true → find q rows ≡ Some x → low < x.number
 found_above low [] q x up e = absurd cc
-found_above low (row ∷ rows) q x up e =
-    let both = and_parts (nat_lt low row.number) (ascend row.number rows) up in
-    let here : low < row.number = grind (arith, nat_tests) in
-    found_by row x (find q rows) (λ z. low < z.number) (q row) e (λ t. here) (λ more. let above = found_above row.number rows q x both.1 more in omega arith)
+found_above low (row ∷ rows) q x up e = grind (arith, and_parts, nat_tests, found_above row.number rows q x)
 
 own_after : (row x : Named) (rest : Option Named) → row.number < x.number → rest ≡ Some x → cond (x.number == row.number) (Some row) rest ≡ Some x
 own_after row x rest above e = grind (arith, eqb-true)
 
 ascends_from : (low : ℕ) (rows : List Named) → ascend low rows ≡ true → ascends rows ≡ true
-ascends_from low [] up = refl
-ascends_from low (row ∷ rows) up = (and_parts (nat_lt low row.number) (ascend row.number rows) up).1
+ascends_from low rows up = grind (arith, and_parts)
 
 -- a row is the one of its number
 own_row : (rows : List Named) (q : Named → Bool) (x : Named) → ascends rows ≡ true → find q rows ≡ Some x → find (λ row. x.number == row.number) rows ≡ Some x
 own_row [] q x up e = absurd cc
-own_row (row ∷ rows) q x up e =
-    cc (found_by row x (find q rows) (λ z. cond (z.number == row.number) (Some row) (find (λ other. z.number == other.number) rows) ≡ Some z) (q row) e (λ t. cond-true _ _ _ (eq-eqb row.number row.number refl)) (λ more. own_after row x (find (λ other. x.number == other.number) rows) (found_above row.number rows q x up more) (own_row rows q x (ascends_from row.number rows up) more)))
+own_row (row ∷ rows) q x up e = grind (arith, found_above row.number rows q x, eqb-true, eq-eqb, ascends_from, own_row rows q x)
 
 -- the row of a word has a number of which the word is the mnemonic
 pub row_is : (rows : List Named) → ascends rows ≡ true → (word : List ℕ) (row : Named) → find (λ row. bytes_eq (folded_label word) (folded_label row.mnemonic)) rows ≡ Some row → IsMnemonic rows word row.number
@@ -76,9 +69,7 @@ number_is rows up word n = grind (arith, bytes_eq, row_is)
 
 -- a word of no row is no mnemonic
 pub no_row : (rows : List Named) (word : List ℕ) → find (λ row. bytes_eq (folded_label word) (folded_label row.mnemonic)) rows ≡ None → (n : ℕ) → IsMnemonic rows word n → ⊥
-no_row rows word e n x =
-    let other : bytes_eq (folded_label word) (folded_label x.name) ≡ false = not-true _ (each_mnemonic (λ _ name. not (bytes_eq (folded_label word) (folded_label name))) rows (none_passes (λ row. bytes_eq (folded_label word) (folded_label row.mnemonic)) rows e) n x.name x.row) in
-    false≢true (sym other ∙ (bytes_eq-Decides (folded_label word) (folded_label x.name)).1 x.same)
+no_row rows word e n x = grind (arith, each_mnemonic (λ _ name. not (bytes_eq (folded_label word) (folded_label name))) rows (none_passes (λ row. bytes_eq (folded_label word) (folded_label row.mnemonic)) rows e) n x.name x.row, bytes_eq-Decides)
 
 -- ---- layouts
 
@@ -108,9 +99,7 @@ abbrev is_layout : List Field → Bool
 is_layout row = nat_le (length row) 7 && (strings_last row && list_all is_sized row)
 
 last_is : (row : List Field) → strings_last row ≡ true → StringsLast row
-last_is (f ∷ g ∷ row) e =
-    let both = and_parts (not (is_strings f)) (strings_last (g ∷ row)) e in
-    (λ same. false≢true (sym (not-true (is_strings f) both.0) ∙ ap is_strings same), last_is (g ∷ row) both.1)
+last_is (f ∷ g ∷ row) e = grind (arith, and_parts, not-true, last_is (g ∷ row))
 last_is row e = tt
 
 sized_is : (f : Field) → is_sized f ≡ true → IsSized f
@@ -118,7 +107,7 @@ sized_is f e = grind (arith, or_cases, eqb-true)
 
 each_sized : (row : List Field) → list_all is_sized row ≡ true → AllByRecursion IsSized row
 each_sized [] e = tt
-each_sized (f ∷ row) e = let both = and_parts (is_sized f) (list_all is_sized row) e in (sized_is f both.0, each_sized row both.1)
+each_sized (f ∷ row) e = grind (arith, and_parts, sized_is, each_sized row)
 
 -- what every layout of the table is
 pub table_row : (class kind : ℕ) (row : List Field) → layout class kind ≡ Some row → IsLayout row

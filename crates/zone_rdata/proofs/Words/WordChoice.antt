@@ -5,7 +5,7 @@ use Rattle.zone_rdata.proofs.Words.Tables.{row_is, no_row}
 
 -- two texts are equal or not
 pub same_or_not : (a b : List ℕ) → Decided (a ≡ b)
-same_or_not a b = elim (true_or_not (bytes_eq a b)) [ inl same ↦ inl ((bytes_eq-Decides a b).0 same) | inr other ↦ inr (λ h. other ((bytes_eq-Decides a b).1 h)) ]
+same_or_not a b = grind (arith, true_or_not (bytes_eq a b), bytes_eq-Decides)
 
 -- ---- a mnemonic
 mnemonic_by : (rows : List Named) → ascends rows ≡ true → (word : List ℕ) (found : Option Named) → find (λ row. bytes_eq (folded_label word) (folded_label row.mnemonic)) rows ≡ found → Choice (IsMnemonic rows word)

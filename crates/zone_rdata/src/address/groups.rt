@@ -62,6 +62,7 @@ fn push_last(octets: &mut ArrayVec<u8, LENGTH>, text: &[u8], ends: bool) -> Opti
 
 /// The octets of groups parted by colons, at most sixteen; where `ends` is so, the last two groups
 /// may be four decimal numbers (RFC 4291 2.2). `None`: the text isn't so.
+#[tactic(auto, using(crate::proofs::Addresses::AddressParts::parts_ended))]
 pub(super) fn octets_of_parts(text: &[u8], ends: bool) -> Option<ArrayVec<u8, LENGTH>>
     ensures found { IfSome result (λ octets. ArePartsOf ends text.now octets.items) }
     ensures none { IfNone result ((octets : Octets) → ArePartsOf ends text.now octets

@@ -37,6 +37,7 @@ fn octets_of_eight(text: &[u8]) -> Option<[u8; 16]>
 
 /// The octets of the groups before and after `::`, and of the zero groups between them. `None`:
 /// these texts aren't groups, or there are too many.
+#[tactic(auto, using(crate::proofs::Addresses::AddressGaps::around_written))]
 fn octets_around(front: &[u8], back: &[u8]) -> Option<[u8; 16]>
     ensures found { IfSome result (λ octets. AreAround front.now back.now octets) }
     ensures none { IfNone result (NothingIs (AreAround front.now back.now)) }

@@ -29,6 +29,7 @@ pub(crate) fn push_name(
 }
 
 /// Appends the name at the beginning of octets, in lower case.
+#[tactic(auto, using(crate::proofs::Fields::Name::appends_name))]
 pub(crate) fn push_sent_name<'o>(
     octets: &'o [u8],
     canonical: &mut Vec<u8>,

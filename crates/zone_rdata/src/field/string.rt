@@ -12,6 +12,7 @@ use crate::fault::Fault;
 use crate::narrow_failing::NarrowFailing;
 
 /// Appends the string at the beginning of octets, with its length.
+#[tactic(auto, using(crate::proofs::Fields::OneString::strings_sent))]
 pub(crate) fn push_sent_string<'o>(
     octets: &'o [u8],
     canonical: &mut Vec<u8>,

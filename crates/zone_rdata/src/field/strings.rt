@@ -21,6 +21,7 @@ use crate::string::{push_string, push_string_text};
 use zone_name::Sink;
 
 /// Appends the strings that the items spell, one or more, each after its length.
+#[tactic(auto, using(crate::proofs::Items::Values::strings_spelt))]
 pub(crate) fn push_strings(items: &[Item], octets: &mut Vec<u8>) -> Result<(), NarrowFailing>
     ensures found { OnOk result
         (Appends (SpellsStrings (map raw items.now)) (flat_map with_length) octets.old.items
@@ -72,6 +73,7 @@ fn are_strings(octets: &[u8]) -> bool
 }
 
 /// Appends the strings in quotes, parted by single spaces.
+#[tactic(auto, using(crate::proofs::Texts::StringTexts::quoted_strings))]
 pub(crate) fn push_strings_text<S: Sink>(octets: &[u8], out: &mut S) -> Result<(), S::Error>
     requires some { 0 < length octets.now }
     requires strings { HoldsStrings octets.now }

@@ -2,14 +2,6 @@ use Rattle.zone_rdata.proofs.Common.{take_all, length-drop, sym, subst, arith, m
 use Rattle.zone_rdata.proofs.Items.GenericForm.{form_parts, form_faults, form_missing, form_digits}
 use Rattle.zone_rdata.proofs.generic.read_generic.Goals as goal
 
-pub returns-in_err-len-in-len2-up-clause-fault : goal.returns-in_err-len-in-len2-up-clause-fault
-returns-in_err-len-in-len2-up-clause-fault c =
-    let p = err_from_is_err_and c.from_residual.result c.from_residual.ensures.1 in
-    rw (p.1, p.2) (form_faults _ _ _ _ (form_parts c.args.items.now _ c.in-len2-up.len_at_least c.requires) c.in_err-len-in-len2-up.ensures.fault)
-
-pub returns-in_default-clause-fault : goal.returns-in_default-clause-fault
-returns-in_default-clause-fault c = rw c.of.ensures (form_missing _ c.requires (omega (arith, c.in_default.len_below, length-map c.args.items.now raw)))
-
 pub returns-in_ok-len-in-len2-up-clause-fault : goal.returns-in_ok-len-in-len2-up-clause-fault
 returns-in_ok-len-in-len2-up-clause-fault c =
     IfErr-fault c.join_digits.result _ _

@@ -13,6 +13,3 @@ pub loop-i-preserved : goal.loop-i-preserved
 loop-i-preserved g c =
     Took-more _ g.met.S.Sink.joins _ _ _ _ _ _ c.loop-i.invariant (g.met.S.Sink.joins _ _ _ _ _ c.in_ok-push_space.ensures.ok c.in_ok-rest.ensures.ok)
     (printed_more _ _ _ _ _ c.loop-i.i _ _ c.loop-i-test.true refl c.loop-i.invariant.known c.in_ok-rest.ensures.rest)
-
-pub push_text-requires-clause-last : goal.push_text-requires-clause-last
-push_text-requires-clause-last g c = λ last. nothing_follows _ _ _ _ c.loop-i.i _ _ c.loop-i-test.true refl c.loop-i.invariant.known (eqb-true _ _ last)

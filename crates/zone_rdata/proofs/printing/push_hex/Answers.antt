@@ -10,8 +10,3 @@ pub loop-rest-preserved : goal.loop-rest-preserved
 loop-rest-preserved g c =
     Took-more _ g.met.S.Sink.joins _ _ _ _ _ _ c.loop-rest.invariant c.in_ok-push_hex_of_few.ensures.ok
     (digits_more _ _ _ _ _ _ c.split_at.ensures.front c.split_at.ensures.back c.loop-rest.invariant.known)
-
-pub returns-clause-ok : goal.returns-clause-ok
-returns-clause-ok g c =
-    subst (λ t. g.S.Sink.takes c.args.out.now t c.loop-rest.out)
-    (digits_all _ _ _ (grind (arith, nat_tests, c.loop-rest-test.ensures, c.is_empty.ensures)) c.loop-rest.invariant.known) c.loop-rest.invariant.taken

@@ -4,9 +4,3 @@ use Rattle.zone_rdata.proofs.string.string_of.Goals as goal
 
 pub returns-then-is_full-clause-fault : goal.returns-then-is_full-clause-fault
 returns-then-is_full-clause-fault c = read_full (raw c.args.item) c.loop-octets.octets.items c.loop-octets.rest.now c.in-Octet.after.now c.in-Octet.octet c.loop-octets.invariant c.in-Octet.ensures (grind (arith, nat_tests, c.is_full.ensures, c.if-is_full.true))
-
-pub loop-octets-preserved : goal.loop-octets-preserved
-loop-octets-preserved c = read_more (raw c.args.item) c.loop-octets.octets.items c.loop-octets.rest.now c.in-Octet.after.now c.push.new.self.items c.in-Octet.octet c.loop-octets.invariant c.in-Octet.ensures (grind (arith, nat_tests, c.is_full.ensures, c.if-is_full.false)) c.push.ensures.items
-
-pub returns-in-BadEscape-clause-fault : goal.returns-in-BadEscape-clause-fault
-returns-in-BadEscape-clause-fault c = bad_escape c.loop-octets.invariant.before c.loop-octets.rest.now c.loop-octets.invariant.reaches c.in-BadEscape.ensures

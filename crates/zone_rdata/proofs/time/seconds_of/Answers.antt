@@ -1,11 +1,6 @@
 use Rattle.zone_rdata.proofs.Common.{plain, if_none_any, if_none_weaker}
-use Rattle.zone_rdata.proofs.Numbers.Times.{time_stops, read_whole}
+use Rattle.zone_rdata.proofs.Numbers.TimeLaws.{time_stops, read_whole}
 use Rattle.zone_rdata.proofs.time.seconds_of.Goals as goal
-
-pub returns-in-Some-clause-found : goal.returns-in-Some-clause-found
-returns-in-Some-clause-found c =
-    let found = c.in-Some.ensures.found in
-    (found.0, (plain found.1.0, found.1.1))
 
 pub returns-in_err-so_far-clause-none : goal.returns-in_err-so_far-clause-none
 returns-in_err-so_far-clause-none c = if_none_any c.from_residual.result _ (time_stops c.args.text.now c.loop-octet.octet-index _ c.loop-octet.so_far c.loop-octet-test.true c.loop-octet.invariant c.in_err-so_far.ensures.none)

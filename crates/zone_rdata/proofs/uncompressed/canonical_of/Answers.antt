@@ -8,12 +8,6 @@ returns-in_err-rest-clause-fault c =
     (λ fault bad. (bad.0, taken_bad _ _ c.args.octets.now c.loop-field.field-index _ _ c.loop-field.rest.now c.loop-field.canonical.items c.fields-field-items.ensures c.requires c.loop-field-test.true refl c.loop-field.invariant bad.1))
     c.in_err-rest.ensures.fault
 
-pub loop-field-preserved : goal.loop-field-preserved
-loop-field-preserved c = taken_more _ c.args.octets.now c.loop-field.field-index _ _ c.loop-field.rest.now _ _ _ c.loop-field-test.true refl c.loop-field.invariant c.in_ok-rest.ensures.found
-
 pub returns-then-not-is_empty-clause-fault : goal.returns-then-not-is_empty-clause-fault
 returns-then-not-is_empty-clause-fault c =
     rw c.of.ensures (refl, taken_over _ _ c.args.octets.now c.loop-field.field-index c.loop-field.rest.now c.loop-field.canonical.items c.fields-field-items.ensures c.requires c.loop-field-test.false c.loop-field.invariant (grind (arith, nat_tests, c.is_empty.ensures, c.if-not-is_empty.true)))
-
-pub returns-clause-found : goal.returns-clause-found
-returns-clause-found c = taken_all _ _ c.args.octets.now c.loop-field.field-index c.loop-field.rest.now _ c.fields-field-items.ensures c.loop-field-test.false c.loop-field.invariant (grind (arith, nat_tests, c.is_empty.ensures, c.if-not-is_empty.false))

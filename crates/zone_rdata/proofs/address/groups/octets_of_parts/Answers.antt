@@ -2,11 +2,6 @@ use Rattle.zone_rdata.proofs.Common.{refl, ◌<◌, length, sym, subst, arith, A
 use Rattle.zone_rdata.proofs.Addresses.AddressParts.{HaveReadParts, parts_more, parts_stop, parts_ended, parts_unended}
 use Rattle.zone_rdata.proofs.address.groups.octets_of_parts.Goals as goal
 
-pub loop-group-init : goal.loop-group-init
-loop-group-init c =
-    let some : 0 < length c.args.text.now = grind (arith, c.if-is_empty.ensures) in
-    subst (HaveReadParts c.args.ends c.args.text.now c.args.text.now) (sym c.new-octets.ensures) (record { some = some; goes = λ more have. have; comes = λ others have. (others, have, refl) })
-
 pub returns-in_err-push_group-clause-none : goal.returns-in_err-push_group-clause-none
 returns-in_err-push_group-clause-none c = if_none_any _ _ (parts_stop c.args.ends c.args.text.now _ _ _ _ c.in-Some.ensures.some c.loop-group.invariant c.in_err-push_group.ensures.none)
 
@@ -17,8 +12,3 @@ loop-group-preserved c =
 
 pub returns-in_err-push_last-clause-none : goal.returns-in_err-push_last-clause-none
 returns-in_err-push_last-clause-none c = if_none_any _ _ (parts_unended c.args.ends c.args.text.now _ _ c.in_default.ensures.none c.loop-group.invariant c.in_err-push_last.ensures.none)
-
-pub returns-clause-found : goal.returns-clause-found
-returns-clause-found c =
-    let added = c.in_ok-push_last.ensures.some in
-    subst (ArePartsOf c.args.ends c.args.text.now) (sym added.1.1) (parts_ended c.args.ends c.args.text.now _ _ added.0 c.in_default.ensures.none c.loop-group.invariant added.1.0)

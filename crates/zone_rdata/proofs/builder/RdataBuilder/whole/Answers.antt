@@ -2,9 +2,6 @@ use Rattle.zone_rdata.proofs.Common.{AreOctets, subst, arith}
 use Rattle.zone_rdata.proofs.Octets.Building.{finish_missing, finish_made, parts_data}
 use Rattle.zone_rdata.proofs.builder.RdataBuilder.whole.Goals as goal
 
-pub returns-then-self-least_parts-clause-none : goal.returns-then-self-least_parts-clause-none
-returns-then-self-least_parts-clause-none c = finish_missing c.self.inside.class c.self.inside.kind _ c.self.inside.count c.self.inside.octets.items _ c.self.view_is c.self.invariant (omega arith)
-
 pub of_octets-requires : goal.of_octets-requires
 of_octets-requires c = rw c.deref-2.ensures.value (parts_data c.self.inside.class c.self.inside.kind _ c.self.inside.count c.self.inside.octets.items c.self.invariant (omega arith) (subst AreOctets c.deref.ensures.value c.are_octets.ensures.each))
 

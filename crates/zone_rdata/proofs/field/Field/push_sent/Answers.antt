@@ -1,13 +1,12 @@
 use Rattle.zone_rdata.proofs.Common.{◌≡◌, ◌⊎◌, inl, inr, sym, subst, arith, IfOk-weaker, Field, u32_value, u16_value, fixed, BeginsWithNone, Serial, Time, IfErr-fault, bytes_each}
 use Rattle.zone_rdata.proofs.Fields.FieldLaws.{SizedField, appends_sized}
 use Rattle.zone_rdata.proofs.Fields.Address as address
-use Rattle.zone_rdata.proofs.Fields.Number.{serial_sized, u16_sized}
-use Rattle.zone_rdata.proofs.Fields.Time as time
+use Rattle.zone_rdata.proofs.Fields.Number.{serial_sized, time_sized, u16_sized}
 use Rattle.zone_rdata.proofs.field.Field.push_sent.Goals as goal
 
 number_of_32 : (f : Field) → (f ≡ Serial) ⊎ (f ≡ Time) → SizedField f u32_value 4
 number_of_32 f (inl e) = subst (λ g. SizedField g u32_value 4) (sym e) serial_sized
-number_of_32 f (inr e) = subst (λ g. SizedField g u32_value 4) (sym e) time.sized
+number_of_32 f (inr e) = subst (λ g. SizedField g u32_value 4) (sym e) time_sized
 
 pub returns-in-Name-clause-fault : goal.returns-in-Name-clause-fault
 returns-in-Name-clause-fault c =

@@ -7,9 +7,3 @@ returns-in_err-push_string-clause-fault c =
     each_fault_passed c.from_residual.result c.in_err-push_string.field-0.0 _ _ c.from_residual.ensures.1
     (λ fault bad. spelt_bad c.args.items.now c.args.items.now c.loop-item.item-index _ _ _ _ fault c.loop-item-test.true refl c.loop-item.invariant bad)
     c.in_err-push_string.ensures.fault
-
-pub loop-item-preserved : goal.loop-item-preserved
-loop-item-preserved c = spelt_more c.args.items.now c.args.items.now c.loop-item.item-index _ _ _ _ _ c.loop-item-test.true refl c.loop-item.invariant c.in_ok-push_string.ensures.found
-
-pub returns-clause-found : goal.returns-clause-found
-returns-clause-found c = spelt_all c.args.items.now c.args.items.now c.loop-item.item-index _ _ (grind (arith, nat_tests, c.is_empty.ensures, c.if-is_empty.false)) c.loop-item-test.false c.loop-item.invariant

@@ -1,4 +1,4 @@
-use Rattle.zone_rdata.proofs.Common.{◌≡◌, ℕ, min, arith, common_steps, IfErr-weaker, IsKindWord, fault_for, nameless}
+use Rattle.zone_rdata.proofs.Common.{IfErr-weaker, fault_for, nameless}
 use Rattle.zone_rdata.proofs.Words.AnyCase.{kind_refused}
 use Rattle.zone_rdata.proofs.kind.Kind.read_word.Goals as goal
 
@@ -7,8 +7,3 @@ returns-in-Some-clause-err c = IfErr-weaker c.admitted.result _ _ (λ cause. kin
 
 pub returns-in-None-clause-err : goal.returns-in-None-clause-err
 returns-in-None-clause-err c = nameless c.in-None.ensures.none
-
-pub returns-in-Some-clause-found : goal.returns-in-Some-clause-found
-returns-in-Some-clause-found c =
-    let found : (m : ℕ) × (IsKindWord c.args.word.now m × (c.in-Some.number ≡ min 4294967296 m)) = c.in-Some.ensures.found in
-    grind (arith, common_steps)

@@ -11,12 +11,6 @@ invariant_of-result c = record {
   octets = canonical_data c.args.class c.args.kind _ c.args.octets.now _ c.layout_of.ensures.fields c.in_ok-octets.ensures.found (omega arith) (subst AreOctets c.deref.ensures.value c.are_octets.ensures.each);
 }
 
-pub returns-clause-only : goal.returns-clause-only
-returns-clause-only c = λ canonical is. (canonical_same c.args.class c.args.kind _ _ _ _ c.layout_of.ensures.fields c.in_ok-octets.ensures.found (subst (λ l. IsCanonicalOf l c.args.octets.now canonical) (sym c.layout_of.ensures.fields) is.stands), tt)
-
 pub returns-in_err-octets-clause-fault : goal.returns-in_err-octets-clause-fault
 returns-in_err-octets-clause-fault c =
     if_fault_passed c.from_residual.result c.in_err-octets.field-0.0 _ _ c.from_residual.ensures.1 (λ fault bad. wire_fault c.args.class c.args.kind _ _ fault c.layout_of.ensures.fields (omega arith) bad) c.in_err-octets.ensures.fault
-
-pub returns-then-octets-gt-LONGEST_DATA-clause-fault : goal.returns-then-octets-gt-LONGEST_DATA-clause-fault
-returns-then-octets-gt-LONGEST_DATA-clause-fault c = beyond (omega arith)

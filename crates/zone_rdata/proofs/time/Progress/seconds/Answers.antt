@@ -1,11 +1,9 @@
-use Rattle.zone_rdata.proofs.Numbers.Times.{ends_grouped, ends_both, ends_none}
+use Rattle.zone_rdata.proofs.Common.{sym, ◌∙◌}
+use Rattle.zone_rdata.proofs.Numbers.TimeLaws.{ends_grouped, ends_none}
 use Rattle.zone_rdata.proofs.time.Progress.seconds.Goals as goal
 
-pub returns-in-true-false-clause-found : goal.returns-in-true-false-clause-found
-returns-in-true-false-clause-found c = λ text reads. ends_grouped text c.args.self c.in-true-false.is-0 c.in-true-false.is-1 reads
-
 pub returns-in_default-clause-none : goal.returns-in_default-clause-none
-returns-in_default-clause-none c = λ text n reads. ends_both text n c.args.self c.in_default.is-0 c.in_default.is-1 reads
+returns-in_default-clause-none c = λ text n reads. ends_none text n c.args.self (c.in_default.is-0 ∙ sym c.in_default.is-1) reads
 
 pub returns-in_default-2-clause-none : goal.returns-in_default-2-clause-none
-returns-in_default-2-clause-none c = λ text n reads. ends_none text n c.args.self c.in_default.is-0 c.in_default.is-1 reads
+returns-in_default-2-clause-none c = λ text n reads. ends_none text n c.args.self (c.in_default.is-0 ∙ sym c.in_default.is-1) reads

@@ -1,9 +1,6 @@
 use Rattle.zone_rdata.proofs.Common.{refl, arith, sym, ◌∙◌, ◌≡◌, false, rules, nat_tests, common_steps, is_digit}
-use Rattle.zone_rdata.proofs.Numbers.Times.{more_groups, stops}
+use Rattle.zone_rdata.proofs.Numbers.TimeLaws.{more_groups, stops}
 use Rattle.zone_rdata.proofs.time.Progress.with.Goals as goal
-
-pub returns-in-Some-clause-found : goal.returns-in-Some-clause-found
-returns-in-Some-clause-found c = λ text reads. more_groups text c.args.octet c.in-Some.unit c.args.self _ (sym c.in-Some.ensures.value) c.in-Some.ensures.some.0 c.if-self.true c.min-in-Some.ensures refl refl refl reads
 
 pub returns-in_default-clause-none : goal.returns-in_default-clause-none
 returns-in_default-clause-none c = λ text rest n reads.
