@@ -2,7 +2,6 @@
 pub mod FedPieces
 pub mod FirstEntries
 pub mod OpenEntries
-pub mod ScanReads
 pub mod ScanSteps
 pub mod Scanned
 pub mod StopMarks

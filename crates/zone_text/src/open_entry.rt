@@ -85,7 +85,7 @@ impl OpenEntry {
     }
 
     /// Where they leave the entry.
-    #[tactic(auto, using(crate::proofs::Scanning::OpenEntries::entry_is))]
+    #[tactic(auto, using(crate::proofs::Scanning::Scanned::entry_is))]
     pub fn state(&self) -> EntryState
         ensures state { result ≡ self.now.state }
         ensures is { EntryIs self.now.octets result }

@@ -129,9 +129,7 @@ cut_on octets rest left kept so_far found =
 
 -- a bare item and what stops it, or what stands there in place of an item
 pub cut_bare : (octets rest text stopped after : List ℕ) (kept new : List RawItem) (stop n : ℕ) → IsCutTo octets rest kept → n ≡ prefix_len goes_on rest → text ≡ take n rest → stopped ≡ drop n rest → stopped ≡ stop ∷ after → stop ≢ 92 → KeepsBare text kept new → IsCutTo octets stopped new
-cut_bare octets rest text stopped after kept new stop zero so_far len front back first other keeps =
-    let same : new ≡ kept = subst (λ t. KeepsBare t kept new) front keeps in
-    subst (λ t. IsCutTo octets t new) (sym back) (subst (IsCutTo octets rest) (sym same) so_far)
+cut_bare octets rest text stopped after kept new stop zero so_far len front back first other keeps = search rules
 cut_bare octets [] text stopped after kept new stop (suc n) so_far len front back first other keeps = absurd (omega (arith, len))
 cut_bare octets (c ∷ rest) text stopped after kept new stop (suc n) so_far len front back first other keeps =
     let item : Keeps (raw.bare (c ∷ take n rest)) kept new = subst (λ t. KeepsBare t kept new) front keeps in

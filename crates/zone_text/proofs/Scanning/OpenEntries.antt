@@ -1,20 +1,13 @@
 -- An entry at the front of octets and one that comes in pieces, by what scans of them found.
 use Rattle.zone_text.proofs.Tokens.Lasting.{breaks_for_good}
-use Rattle.zone_text.proofs.Common.{Breaks, BreaksForGood, ClosesNothing, Cuts, Ends, Fault, IsBrokenOff, IsFirstEntry, IsOneEntry, KeepsItems, List, LostEscape, MatchOption, On, Option, RawItem, ScanState, Scanned, ScansTo, Step, Token, [], ap, append-nil, arith, beginning, common_steps, cut_from, drop, end_fault_of, length, refl, rules, scan_of, subst, sym, take, take-append-drop, zero, ℕ, ◌++◌, ◌+◌, ◌<◌, ◌∙◌, ◌∷◌, ◌≡◌, ◌≤◌}
+use Rattle.zone_text.proofs.Common.{Breaks, BreaksForGood, Cuts, Ends, Fault, IsBrokenOff, IsFirstEntry, IsOneEntry, KeepsItems, List, MatchOption, On, Option, RawItem, ScanState, Scanned, ScansTo, Step, Token, [], ap, append-nil, arith, beginning, common_steps, cut_from, drop, end_fault_of, length, refl, rules, scan_of, subst, sym, take, take-append-drop, zero, ℕ, ◌++◌, ◌+◌, ◌<◌, ◌∙◌, ◌≡◌, ◌≤◌}
 use Rattle.zone_text.proofs.Scanning.FedPieces.{takes_part}
 use Rattle.zone_text.proofs.Files.Followed.{scans_on}
-use Rattle.zone_text.proofs.Scanning.Scanned.{at_end, closes_nothing, ends_entry, loses_escape, stays_open, step_goes_on, unfinished_depth}
+use Rattle.zone_text.proofs.Scanning.Scanned.{at_end, ends_entry, entry_is, step_goes_on, unfinished_depth}
 use Rattle.zone_text.specs.Machine.OpenEntry.{state_of}
-use Rattle.zone_text.specs.OpenEntry.{EndIs, EntryIs, HeldEntry, TakesFrom}
+use Rattle.zone_text.specs.OpenEntry.{EndIs, HeldEntry, TakesFrom}
 use Rattle.zone_text.specs.declared.open_entry.EntryState.TheVariants as states
 use Rattle.zone_text.specs.declared.open_entry.Taken.{Taken}
-
--- where the octets leave the entry
-pub entry_is : (octets : List ℕ) (step : Step) → ScansTo beginning octets step → EntryIs octets (state_of step)
-entry_is octets (On at) scanned = stays_open octets at scanned
-entry_is octets Ends scanned = ends_entry octets scanned
-entry_is octets LostEscape scanned = loses_escape octets scanned
-entry_is octets ClosesNothing scanned = closes_nothing octets scanned
 
 -- where the input ends
 by_end : (octets : List ℕ) (fault : Option Fault) → MatchOption fault ((tokens : List Token) × Cuts octets tokens × ((cut_from zero tokens).ended ≡ [])) (λ f. (tokens : List Token) × Breaks octets tokens f × ((cut_from zero tokens).ended ≡ [])) → EndIs octets fault
@@ -60,8 +53,7 @@ takes_on old new piece part held at step found taken before on old_is is front w
 
 -- or ended or broken
 pub takes_none : (old new : HeldEntry) (piece held : List ℕ) (step : Step) (taken : Taken) → ScansTo beginning held step → ((at : ScanState) → step ≡ On at → ⊥) → old ≡ record { octets = held; state = state_of step } → new ≡ old → taken.len ≡ 0 → taken.state ≡ state_of step → TakesFrom old piece taken new
-takes_none old new piece held step taken before settled old_is new_is len state =
-    grind (arith, common_steps, append-nil, entry_is, state_of)
+takes_none old new piece held step taken before settled old_is new_is len state = search (rules, common_steps, append-nil, entry_is)
 
 -- the parentheses that are open are no more than the octets
 pub depth_fits : (held : List ℕ) (at : ScanState) (step : Step) → ScansTo beginning held step → step ≡ On at → at.depth ≤ length held
@@ -82,8 +74,7 @@ scanned_all rest at found is on =
 
 pub some_taken : (octets : List ℕ) (found : Scanned) → found ≡ scan_of beginning octets → found.step ≡ Ends → (0 < length octets → 0 < found.taken) → 0 < found.taken
 unfolding scan_of
-some_taken [] found is ends moves = absurd (let h : On beginning ≡ Ends = sym (ap (λ (f : Scanned). f.step) is) ∙ ends in cc)
-some_taken (c ∷ octets) found is ends moves = moves (omega arith)
+some_taken octets found is ends moves = grind (arith, common_steps)
 
 pub first_whole : (octets entry : List ℕ) (found : Scanned) (left : List RawItem) → found ≡ scan_of beginning octets → found.step ≡ Ends → entry ≡ take found.taken octets → 0 < found.taken → found.taken ≤ length octets → KeepsItems entry left → IsFirstEntry octets found.taken left
 first_whole octets entry found left is ends front some within keeps =

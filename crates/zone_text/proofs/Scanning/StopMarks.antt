@@ -36,15 +36,13 @@ prefix_ends (x ∷ xs) = elim (prefix_step stops_bare x xs) [
 -- ---- what the bits tell
 
 pub tells_after : (stops : Stops) (octets : List ℕ) (n k : ℕ) (bits : ℕ) → bits ≡ mask_l (map stops_bare (take n octets)) → n ≤ 64 → n ≤ length octets → k < n → stops.bits ≡ bits / 2 ^ k / 2 ^ 1 → stops.unseen ≡ length octets - n → Tells stops (drop (k + 1) octets)
-tells_after stops octets n k bits of few within less is unseen =
-    grind (arith, common_steps, length-drop, after_bits, mask_l, stops_bare)
+tells_after stops octets n k bits of few within less is unseen = grind (arith, common_steps, length-drop, after_bits)
 
 -- ---- the first stop
 
 -- the lowest of the bits that are known
 pub known_len : (stops : Stops) (octets : List ℕ) → Tells stops octets → stops.bits ≢ 0 → count_trailing_zeros 64 stops.bits ≡ prefix_len goes_on octets
-known_len stops octets tells some =
-    grind (arith, common_steps, mask_l, stops_bare, count_trailing_zeros, first_inside)
+known_len stops octets tells some = grind (arith, common_steps, first_inside)
 
 pub known_rest : (stops new : Stops) (octets : List ℕ) (k : ℕ) → Tells stops octets → stops.bits ≢ 0 → k ≡ prefix_len goes_on octets → new.bits ≡ stops.bits / 2 ^ k / 2 ^ 1 → new.unseen ≡ stops.unseen → Tells new (drop (k + 1) octets)
 known_rest stops new octets k tells some len is unseen =
@@ -82,9 +80,7 @@ abbrev pub is_low_blank : ℕ → Bool
 is_low_blank c = not (stops_bare c) || (eqb c 10 || is_blank c)
 
 pub blank_stop : (rest stopped after : List ℕ) (stop len : ℕ) → len ≡ prefix_len goes_on rest → stopped ≡ drop len rest → stopped ≡ stop ∷ after → stop ≤ 32 → stop ≢ 10 → is_blank stop ≡ true
-blank_stop rest stopped after stop len is back first low other =
-    let ends : EndsAt stops_bare stopped = subst (EndsAt stops_bare) (sym (back ∙ ap (λ k. drop k rest) is)) (prefix_ends rest) in
-    (let row : is_low_blank stop ≡ true = every_below is_low_blank 33 refl stop (omega arith) in rw ((subst (EndsAt stops_bare) first ends), ne_eqb stop 10 other) at row)
+blank_stop rest stopped after stop len is back first low other = grind (arith, prefix_ends, every_below, ne_eqb)
 
 -- the low four bits of each lane are a place in a table of 16
 pub low_places : (v : List ℕ) → length v ≡ 64 → SwzOk w8 16 64 0 (zip2 bit_and v (replicate 64 15))
@@ -144,9 +140,7 @@ prefix_by : (k : ℕ) (xs : List ℕ) → k ≤ length xs → AllByRecursion (λ
 prefix_by zero [] within each ends = refl
 prefix_by zero (x ∷ xs) within each ends = ap (λ (b : Bool). cond (not b) (1 + prefix_len goes_on xs) 0) ends
 prefix_by (suc k) [] within each ends = absurd (omega arith)
-prefix_by (suc k) (x ∷ xs) within each ends =
-    let more : prefix_len goes_on xs ≡ k = prefix_by k xs (omega arith) each.1 ends in
-    ap (λ (b : Bool). cond (not b) (1 + prefix_len goes_on xs) 0) each.0 ∙ omega (arith, more)
+prefix_by (suc k) (x ∷ xs) within each ends = grind (arith, prefix_by k xs (omega arith) each.1 ends)
 
 -- the octets before one go on with the item
 abbrev pub GoesTo : List ℕ → ℕ → Type 0

@@ -4,7 +4,6 @@ use Rattle.std.proofs.lemmas.List.Elements.{All-cons}
 use Rattle.zone_name.specs.Spelling.{BeginsWithEscape}
 use Rattle.zone_text.proofs.Tokens.TokenEnds.{first_at}
 use Rattle.zone_text.specs.declared.items.Extent.{Extent}
-use Rattle.zone_text.specs.declared.items.Extent.TheVariants.{Bare, Quoted}
 
 -- the first octets are written octets of an item, and what follows ends it or is a backslash
 pub record IsWrittenTo (ends : ℕ → Bool) (octets : List ℕ) (len : ℕ) : Type 0 where
@@ -65,8 +64,7 @@ escape_more ends octets escape rest octet len k n so_far less is back found fits
 -- ---- the end of the item
 
 backslash : (extent : Extent) → ends_within extent 92 ≡ false
-backslash Bare = refl
-backslash Quoted = refl
+backslash extent = search rules
 
 pub len_is : (extent : Extent) (octets : List ℕ) (len : ℕ) → IsWrittenTo (ends_within extent) octets len → NoUnit (ends_within extent) (drop len octets) → len ≡ item_len (ends_within extent) octets
 len_is extent octets len is none =

@@ -86,8 +86,7 @@ no_quoted octets after inside ending c n whole is len front back other =
 
 pub end_of_text : (octets : List ℕ) → length octets ≡ 0 → IsNoToken (front_of 1 octets)
 unfolding front_of
-end_of_text [] none = tt
-end_of_text (c ∷ octets) none = absurd (omega (arith, none))
+end_of_text octets none = search rules
 
 -- ---- what is known of the token in front
 
@@ -103,22 +102,17 @@ in_front_shorter octets rest items found =
 
 -- a token ends before those after it
 stops_before : (p : Token) (tokens : List Token) → AllByRecursion IsToken tokens → AllFollow (p ∷ tokens) → Stops p (text tokens)
-stops_before (bare units) [] each follow = at_end refl
-stops_before p [] each follow = search rules
-stops_before p (q ∷ tokens) each follow = next_stops p q (text tokens) each.0 follow.0
+stops_before p tokens each follow = search (rules, at_end, next_stops)
 
 room : (p : Token) → HasRoom 1 p
-room closing = omega arith
-room p = tt
+room p = search rules
 
 first_takes : (octets : List ℕ) (p : Token) (tokens : List Token) → AreTokensOf octets (p ∷ tokens) → front_of 1 octets ≡ takes p (text tokens)
 first_takes octets p tokens are = ap (front_of 1) are.whole ∙ front_takes 1 p (text tokens) are.each.0 (stops_before p tokens are.each.1 are.follow) (room p)
 
 -- the first of them is the token in front
 pub tokens_after : (octets left : List ℕ) (items : List RawItem) → IsInFront octets items left → (p : Token) (more : List Token) → AreTokensOf octets (p ∷ more) → (items ≡ item_of p) × AreTokensOf left more
-tokens_after octets left items found p more are =
-    let e : takes found.token left ≡ takes p (text more) = sym found.front ∙ first_takes octets p more are in
-    (sym found.stated ∙ cc, record { whole = cc; each = are.each.1; follow = follow_after p more are.follow })
+tokens_after octets left items found p more are = search (rules, first_takes, follow_after)
 
 pub no_tokens : (octets : List ℕ) → IsNoToken (front_of 1 octets) → (p : Token) (more : List Token) → AreTokensOf octets (p ∷ more) → ⊥
 no_tokens octets none p more are = subst IsNoToken (first_takes octets p more are) none

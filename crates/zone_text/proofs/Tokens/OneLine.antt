@@ -1,8 +1,8 @@
 -- The line feeds of an entry that is cut as its end is looked for: the one that ends it.
 use Rattle.std.specs.List.{prefix_len}
 use Rattle.zone_rdata.specs.Item as raw
-use Rattle.zone_text.proofs.Common.{common_steps, AllByRecursion, Bool, IsToken, IsUnit, List, RawItem, Token, Written, [], ap, append_assoc, arith, bare, blank, comment, cond, decimal, drop, ends_item, eqb-true, escaped, false, is_blank, is_digit, item_of, item_text, length, length-append, list_any, nat_eq, ne_eqb, plain, quoted, refl, stops_bare, subst, sum_by-append, sum_by-cons, sym, take, take-append-drop, take-append_seam, token_text, true, written_text, zero-add, ℕ, ◌++◌, ◌+◌, ◌-◌, ◌==◌, ◌∙◌, ◌∷◌, ◌≡◌}
-use Rattle.zone_text.proofs.Scanning.FirstEntries.{IsCutTo, IsInside, IsPassed}
+use Rattle.zone_text.proofs.Common.{common_steps, AllByRecursion, Bool, IsToken, IsUnit, List, RawItem, Token, Written, [], ap, append_assoc, arith, bare, cond, decimal, drop, ends_item, eqb-true, escaped, false, item_of, item_text, length, length-append, list_any, nat_eq, ne_eqb, plain, refl, stops_bare, subst, sum_by-append, sum_by-cons, sym, take, take-append-drop, take-append_seam, token_text, written_text, zero-add, ℕ, ◌++◌, ◌+◌, ◌-◌, ◌==◌, ◌∙◌, ◌∷◌, ◌≡◌}
+use Rattle.zone_text.proofs.Scanning.FirstEntries.{IsCutTo, IsPassed}
 use Rattle.zone_text.proofs.Files.Left.{line_feeds}
 use Rattle.zone_text.proofs.Scanning.StopMarks.{goes_on, prefix_each}
 
@@ -33,24 +33,13 @@ passed_bare rest stopped n len back =
     passed_none rest (take n rest) stopped (sym (take-append-drop n rest) ∙ ap (λ t. take n rest ++ t) (sym back)) (none_in _ (other_than_ten stops_bare false (λ e. cc)) (take n rest) each)
 
 pub passed_gap : (octets rest : List ℕ) → IsPassed octets [] rest → line_feeds rest ≡ line_feeds octets
-passed_gap octets rest found = passed_none octets (token_text found.token) rest found.takes.whole (by found.token found.takes.token found.inside found.stated)
-  where
-    by : (p : Token) → IsToken p → IsInside p → item_of p ≡ [] → line_feeds (token_text p) ≡ 0
-    by (blank c) is inside e = none_first c [] (other_than_ten is_blank true (λ e. cc) c is)
-    by (comment octets) is inside e = none_first 59 octets refl ∙ none_in _ (λ d. ne_eqb d 10) octets is
-    by p is inside e = grind arith
+passed_gap octets rest found = grind (arith, common_steps, passed_none, line_feeds, none_first, other_than_ten, none_in, ne_eqb)
 
 none_written : (units : List Written) → AllByRecursion (IsUnit ends_item) units → line_feeds (written_text units) ≡ 0
 none_written [] each = refl
 none_written (plain c ∷ units) each = none_first c (written_text units) (other_than_ten ends_item false (λ e. cc) c each.0.0) ∙ none_written units each.1
 none_written (escaped c ∷ units) each = none_first 92 (c ∷ written_text units) refl ∙ none_first c (written_text units) (ne_eqb c 10 each.0.1) ∙ none_written units each.1
-none_written (decimal x y z ∷ units) each =
-    let digit = other_than_ten is_digit true (λ e. cc) in
-    none_first 92 (x ∷ y ∷ z ∷ written_text units) refl
-    ∙ none_first x (y ∷ z ∷ written_text units) (digit x each.0.0)
-    ∙ none_first y (z ∷ written_text units) (digit y each.0.1)
-    ∙ none_first z (written_text units) (digit z each.0.2)
-    ∙ none_written units each.1
+none_written (decimal x y z ∷ units) each = grind (arith, other_than_ten, none_first, none_written units each.1)
 
 pub passed_escaped : (octets text rest : List ℕ) → IsPassed octets (raw.bare text ∷ []) rest → line_feeds rest ≡ line_feeds octets
 passed_escaped octets text rest found = passed_none octets (token_text found.token) rest found.takes.whole (by found.token found.takes.token found.stated)
@@ -60,15 +49,7 @@ passed_escaped octets text rest found = passed_none octets (token_text found.tok
     by p is e = absurd cc
 
 pub passed_item : (octets rest : List ℕ) (item : RawItem) → IsPassed octets (item ∷ []) rest → line_feeds (item_text item) ≡ 0 → line_feeds rest ≡ line_feeds octets
-passed_item octets rest item found none = passed_none octets (token_text found.token) rest found.takes.whole (by found.token found.stated)
-  where
-    by : (p : Token) → item_of p ≡ item ∷ [] → line_feeds (token_text p) ≡ 0
-    by (bare units) e = let same : item ≡ raw.bare (written_text units) = cc in rw same at none
-    by (quoted units) e =
-        let same : item ≡ raw.quoted (written_text units) = cc in
-        let inside : line_feeds (written_text units) ≡ 0 = rw same at none in
-        omega (arith, none_first 34 (written_text units ++ 34 ∷ []) refl, feeds_of_both (written_text units) (34 ∷ []), inside)
-    by p e = absurd cc
+passed_item octets rest item found none = grind (arith, passed_none, line_feeds, none_first, feeds_of_both)
 
 pub one_line : (octets stopped after : List ℕ) (kept : List RawItem) (c n : ℕ) → IsCutTo octets stopped kept → line_feeds stopped ≡ line_feeds octets → stopped ≡ c ∷ after → c ≡ 10 → n ≡ length octets - length after → line_feeds (take n octets) ≡ 1
 one_line octets stopped after kept c n so_far same first is count =
