@@ -154,14 +154,14 @@ keeps_items octets part n kept first front tokens cut =
 
 -- ---- the entry at the front of a piece
 
-pub fed_entry : (old mid new : EntrySplitter) (piece rest part after : List ℕ) (n : ℕ) (raws : List RawItem) → HasFed old mid piece rest → mid.ended.decided.ending ≡ None → mid.unfinished.items ≡ [] → IsFirstEntry rest n raws → part ≡ take n rest → after ≡ drop n rest → ReadsOctets part mid.ended new.ended → new.at ≡ mid.at → new.unfinished.items ≡ mid.unfinished.items → HasFed old new piece after
-fed_entry old mid new piece rest part after n raws before none empty first front back reads at unfinished =
-    let whole : rest ≡ part ++ after = sym (take-append-drop n rest) ∙ ap (λ t. t ++ drop n rest) (sym front) ∙ ap (λ t. part ++ t) (sym back) in
+pub fed_one : (old mid new : EntrySplitter) (piece rest part after : List ℕ) (tokens : List Token) → HasFed old mid piece rest → mid.ended.decided.ending ≡ None → mid.unfinished.items ≡ [] → IsOneEntry part tokens → rest ≡ part ++ after → ReadsOctets part mid.ended new.ended → new.at ≡ mid.at → new.unfinished.items ≡ mid.unfinished.items → HasFed old new piece after
+fed_one old mid new piece rest part after tokens before none empty one whole reads at unfinished =
     let len : length rest ≡ length part + length after = ap length whole ∙ length-append part after in
     let left : length new.unfinished.items ≡ length mid.unfinished.items = ap length unfinished in
-    let one : IsOneEntry part first.tokens = subst (λ t. IsOneEntry t first.tokens) (sym front) first.one in
-    let follow : FollowsOn mid.ended [] new.ended [] part = λ origin fed given f. follow_one origin mid.ended new.ended [] part fed given first.tokens one none reads f in
+    let follow : FollowsOn mid.ended [] new.ended [] part = λ origin fed given f. follow_one origin mid.ended new.ended [] part fed given tokens one none reads f in
     let is : IsSplitter new.ended new.at new.unfinished.items = grind arith in
-    fed_more old mid new piece rest part after before none whole len is
-    (omega (arith, reads.near, left, len))
-    (rw (unfinished, empty) follow)
+    fed_more old mid new piece rest part after before none whole len is (omega (arith, reads.near, left, len)) (rw (unfinished, empty) follow)
+
+pub fed_entry : (old mid new : EntrySplitter) (piece rest part after : List ℕ) (n : ℕ) (raws : List RawItem) → HasFed old mid piece rest → mid.ended.decided.ending ≡ None → mid.unfinished.items ≡ [] → IsFirstEntry rest n raws → part ≡ take n rest → after ≡ drop n rest → ReadsOctets part mid.ended new.ended → new.at ≡ mid.at → new.unfinished.items ≡ mid.unfinished.items → HasFed old new piece after
+fed_entry old mid new piece rest part after n raws before none empty first front back reads at unfinished =
+    fed_one old mid new piece rest part after first.tokens before none empty (rw front first.one) (cc (take-append-drop n rest)) reads at unfinished

@@ -39,10 +39,10 @@ pub loop-self-preserved-then-blank-gt0 : goal.loop-self-preserved-then-blank-gt0
 loop-self-preserved-then-blank-gt0 c =
     let mid = c.loop-self.self in
     record {
-      fed = fed_lines c.args.self.now mid _ c.args.piece.now c.loop-self.rest.now c.blank_lines-blank.result.rest.now c.blank_lines-blank.result.count c.loop-self.invariant.fed
+      fed = fed_lines c.args.self.now mid c.args.piece.now c.loop-self.rest.now c.blank_lines-blank.result.rest.now c.blank_lines-blank.result.count c.loop-self.invariant.fed
           (none_found mid.ended.decided.ending c.if-is_none.ensures)
           (none_left mid.unfinished.items mid.unfinished.len c.is_empty-in-loop-self.result mid.unfinished.ok.0 c.is_empty-in-loop-self.ensures c.if-is_empty.true)
-          c.blank_lines-blank.ensures.are c.blank_lines-blank.ensures.few refl refl refl;
+          c.blank_lines-blank.ensures.are;
       nothing = λ none. absurd (not_empty c.loop-self.rest.now c.loop-self-test.ensures (c.loop-self.invariant.nothing none).1);
     }
 
