@@ -6,8 +6,7 @@ pub loop-len-init : goal.loop-len-init
 loop-len-init c = plain_so_far (ends_within c.args.extent) _ _ c.requires.within c.requires.plain c.requires.stops
 
 pub loop-len-preserved : goal.loop-len-preserved
-loop-len-preserved c =
-    escape_more (ends_within c.args.extent) _ _ _ _ _ _ _ c.loop-len.invariant c.loop-len-test.true c.if-text-len-eq92.true c.split_at.ensures.back c.in-Some.ensures.found c.plain_len.ensures.within c.plain_len.ensures.plain c.plain_len.ensures.stops refl
+loop-len-preserved c = grind (arith, escape_more)
 
 pub returns-in_default-clause-len : goal.returns-in_default-clause-len
 returns-in_default-clause-len c =

@@ -3,8 +3,7 @@ use Rattle.zone_text.proofs.Tokens.TokenEnds.{first_at, nothing_left}
 use Rattle.zone_text.proofs.items.plain_len.Goals as goal
 
 pub returns-then-stops_at-clause-stops : goal.returns-then-stops_at-clause-stops
-returns-then-stops_at-clause-stops c =
-    (rw (first_at _ _ c.loop-index-test.true) (sym c.stops_at.ensures ∙ c.if-stops_at.true))
+returns-then-stops_at-clause-stops c = grind (arith, first_at)
 
 pub loop-index-preserved : goal.loop-index-preserved
 loop-index-preserved c =
@@ -14,6 +13,4 @@ pub returns-clause-stops : goal.returns-clause-stops
 returns-clause-stops c = rw (nothing_left c.args.text.now (length c.args.text.now) (omega arith)) tt
 
 pub returns-clause-plain : goal.returns-clause-plain
-returns-clause-plain c =
-    let same : c.loop-index.index ≡ length c.args.text.now = omega (arith, c.loop-index-test.false, c.loop-index.auto.index-end) in
-    subst (λ k. All (λ d. stops_within c.args.extent d ≡ false) (take k c.args.text.now)) same c.loop-index.invariant
+returns-clause-plain c = grind arith

@@ -34,14 +34,10 @@ returns-else-plain-text-clause-found c =
     c.split_at.ensures.front c.split_at.ensures.back (omega (arith, c.split_at.ensures.front_len, within))
 
 pub returns-then-octet-le32-clause-found : goal.returns-then-octet-le32-clause-found
-returns-then-octet-le32-clause-found c =
-    plain_front _ _ c.in_ok-first.first.now c.in_ok-first.ensures.cases.0 (λ e. omega (arith, e, c.if-octet-le32.true)) (λ e. omega (arith, e, c.if-octet-le32.true))
-    (ends_but_mark c.in_ok-first.first.now (sym c.stops_bare.ensures ∙ c.if-not-stops_bare.false) (λ e. omega (arith, e, c.if-octet-le32.true)))
+returns-then-octet-le32-clause-found c = grind (arith, plain_front, ends_but_mark)
 
 pub returns-else-octet-eq59-clause-found : goal.returns-else-octet-eq59-clause-found
-returns-else-octet-eq59-clause-found c =
-    plain_front _ _ c.in_ok-first.first.now c.in_ok-first.ensures.cases.0 c.if-octet-eq34.false c.if-octet-eq59.false
-    (ends_but_mark c.in_ok-first.first.now (sym c.stops_bare.ensures ∙ c.if-not-stops_bare.false) c.if-octet-eq92.false)
+returns-else-octet-eq59-clause-found c = grind (arith, plain_front, ends_but_mark)
 
 pub returns-in_err-quote-clause-none : goal.returns-in_err-quote-clause-none
 returns-in_err-quote-clause-none c =
@@ -58,5 +54,4 @@ returns-then-quote-eq34-clause-found c =
     quoted_front _ _ _ _ _ c.in_ok-first.first.now _ _ c.in_ok-first.ensures.cases.0 c.if-octet-eq34.true c.quoted_len.ensures.len c.split_at-then-octet-eq34.ensures.front c.split_at-then-octet-eq34.ensures.back c.in_ok-quote.ensures.cases.0 c.if-quote-eq34.true
 
 pub returns-then-octet-eq59-clause-found : goal.returns-then-octet-eq59-clause-found
-returns-then-octet-eq59-clause-found c =
-    comment_front _ _ _ c.in_ok-first.first.now _ c.in_ok-first.ensures.cases.0 c.if-octet-eq59.true c.comment_len.ensures.len c.split_at-then-octet-eq59.ensures.back
+returns-then-octet-eq59-clause-found c = grind (arith, comment_front)

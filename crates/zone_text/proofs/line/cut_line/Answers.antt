@@ -30,9 +30,7 @@ returns-then-stop-eq10-clause-line c =
     (passed_bare _ _ _ c.bare_len-len.ensures.len c.split_at.ensures.back ∙ c.loop-rest.invariant.line) c.in-Some.ensures.cases.0 c.if-stop-eq10.true refl
 
 pub loop-rest-smaller-then-stop-le32 : goal.loop-rest-smaller-then-stop-le32
-loop-rest-smaller-then-stop-le32 c =
-    let first : length c.split_at.result.1.now ≡ suc (length c.in-Some.after.now) = ap length c.in-Some.ensures.cases.0 in
-    omega (arith, first, c.split_at.ensures.back_len)
+loop-rest-smaller-then-stop-le32 c = grind arith
 
 pub loop-rest-preserved-then-stop-le32 : goal.loop-rest-preserved-then-stop-le32
 loop-rest-preserved-then-stop-le32 c =

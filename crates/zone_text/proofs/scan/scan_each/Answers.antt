@@ -11,20 +11,10 @@ loop-index-preserved-then-not-moves c =
     }
 
 pub loop-index-preserved : goal.loop-index-preserved
-loop-index-preserved c =
-    let e = sym c.take_octet.ensures ∙ c.in-On.is in
-    let more = rises c.loop-index.at c.in-On.next _ e in
-    record {
-      found = one_on c.args.start c.loop-index.at c.in-On.next c.args.octets.now c.loop-index.index c.loop-index-test.true e c.loop-index.invariant.found;
-      shallow = omega arith;
-    }
+loop-index-preserved c = search (rules, rises, one_on)
 
 pub returns-in_default : goal.returns-in_default
-returns-in_default c = record {
-  found = search (rules, at_octet);
-  within = omega arith;
-  moves = λ some. omega arith;
-}
+returns-in_default c = search (rules, at_octet)
 
 pub returns-clause-found : goal.returns-clause-found
 returns-clause-found c = all_taken c.args.start c.loop-index.at c.args.octets.now c.loop-index.index (omega arith) c.loop-index.invariant.found

@@ -17,9 +17,7 @@ scan-found-requires c =
     omega (arith, depth, len, c.requires.fits)
 
 pub invariant_of-self-2 : goal.invariant_of-self-2
-invariant_of-self-2 c =
-    rw c.in_ok-extend_from_slice.ensures.items
-    (part_scanned c.self.inside.octets.items c.args.piece.now c.split_at.result.0.now c.in-On.at c.self.inside.step c.scan-found.result c.self.invariant c.in-On.is c.scan-found.ensures.found c.split_at.ensures.front)
+invariant_of-self-2 c = grind (arith, part_scanned)
 
 pub returns-clause-taken : goal.returns-clause-taken
 returns-clause-taken c =

@@ -4,9 +4,7 @@ use Rattle.zone_text.proofs.Scanning.StopMarks.{goes_on, known_len, known_rest, 
 use Rattle.zone_text.proofs.stops.Stops.bare_len.Goals as goal
 
 pub overflow_add-result : goal.overflow_add-result
-overflow_add-result c =
-    let same = unknown_len c.args.self c.args.octets.now c.split_at.result.1.now (length c.args.octets.now - c.args.self.unseen) c.bare_len-more.result.0 c.requires.tells c.if-self-eq0.true refl c.split_at.ensures.back c.bare_len-more.ensures.len in
-    record { fits = omega (arith, same, prefix_len-le-length goes_on c.args.octets.now) }
+overflow_add-result c = grind (arith, unknown_len, prefix_len-le-length, goes_on)
 
 pub returns-then-self-eq0-clause-len : goal.returns-then-self-eq0-clause-len
 returns-then-self-eq0-clause-len c =
