@@ -230,7 +230,7 @@ fn scan_each(octets: &[u8], start: ScanState) -> Scanned
 }
 
 /// How many octets at the beginning leave the state as it is, as far as that is seen at a glance.
-#[tactic(auto, using(crate::proofs::Scanning::ScanSteps::quiet_at))]
+#[tactic(auto, using(crate::proofs::Scanning::Scanned::quiet_at))]
 fn quiet_front(octets: &[u8], at: ScanState) -> usize
     ensures within { result ≤ length octets.now }
     ensures reaches { scan_of at octets.now ≡ further result (scan_of at (drop result octets.now)) }

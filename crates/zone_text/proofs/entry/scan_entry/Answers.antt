@@ -1,4 +1,4 @@
-use Rattle.zone_text.proofs.Scanning.OpenEntries.{first_broken, first_whole, scanned_all, some_taken}
+use Rattle.zone_text.proofs.Scanning.FedPieces.{first_broken, first_whole, scanned_all, some_taken}
 use Rattle.zone_text.proofs.Scanning.Scanned.{entry_is}
 use Rattle.zone_text.proofs.Common.{BadEscape, ClosesNothing, LostEscape, UnbalancedParenthesis, ap, beginning, map, raw, ◌≡◌}
 unfoldable use Rattle.zone_text.specs.Machine.Scan.{scan_of}

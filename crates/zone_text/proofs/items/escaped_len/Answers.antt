@@ -1,5 +1,5 @@
 use Rattle.zone_text.proofs.Common.{IsBadEscape, arith, at_backslash, ends_within, refl, subst, sym}
-use Rattle.zone_text.proofs.Tokens.EscapedItems.{at_mark, ended, escape_more, len_is, plain_so_far}
+use Rattle.zone_text.proofs.Tokens.ItemsLeft.{at_mark, ended, escape_more, len_is, plain_so_far}
 use Rattle.zone_text.proofs.items.escaped_len.Goals as goal
 
 pub loop-len-init : goal.loop-len-init

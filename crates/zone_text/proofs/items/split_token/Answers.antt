@@ -1,6 +1,5 @@
 use Rattle.zone_text.proofs.Common.{ap, arith, ends_item, false, length, or_parts, refl, stops_bare, sym, ◌+◌, ◌==◌, ◌∙◌, ◌∷◌, ◌≡◌, ◌≤◌}
-use Rattle.zone_text.proofs.Tokens.EscapedItems.{ended, ends_but_mark, plain_first, plain_so_far}
-use Rattle.zone_text.proofs.Tokens.ItemsLeft.{bare_front, comment_front, end_of_text, no_bare, no_quoted, plain_front, quoted_front}
+use Rattle.zone_text.proofs.Tokens.ItemsLeft.{ended, ends_but_mark, plain_first, plain_so_far, bare_front, comment_front, end_of_text, no_bare, no_quoted, plain_front, quoted_front}
 use Rattle.zone_text.proofs.items.split_token.Goals as goal
 use Rattle.zone_text.proofs.items.split_token.Goals.{else-plain-text-via-then-plain-text+else-text-plain-eq92, else-plain-text-via-else-plain-text}
 use Rattle.zone_text.specs.declared.items.Extent.TheVariants.{Bare}

@@ -4,9 +4,8 @@ use Rattle.std.proofs.lemmas.List.Sums.{prefix_len-le-length}
 use Rattle.std.specs.List.{prefix_len}
 use Rattle.zone_text.proofs.Common.{All, EndsAt, ap, arith, drop, drop-drop, false, length, map, raw, refl, stops_bare, subst, suc, sym, take, ◌∙◌, ◌≡◌}
 use Rattle.zone_text.proofs.Files.Left.{line_feeds}
-use Rattle.zone_text.proofs.Scanning.FirstEntries.{IsCutTo, blank_passed, comment_passed, cut_bare, cut_ended, cut_more, cut_none, cut_on, item_passed}
+use Rattle.zone_text.proofs.Scanning.FirstEntries.{IsCutTo, blank_passed, comment_passed, cut_bare, cut_ended, cut_more, cut_none, cut_on, item_passed, one_line, passed_bare, passed_escaped, passed_gap, passed_item}
 use Rattle.zone_text.proofs.Tokens.ItemsLeft.{in_front_shorter}
-use Rattle.zone_text.proofs.Tokens.OneLine.{one_line, passed_bare, passed_escaped, passed_gap, passed_item}
 use Rattle.zone_text.proofs.Scanning.StopMarks.{blank_stop, goes_on, prefix_each, prefix_ends}
 use Rattle.zone_text.proofs.line.cut_line.Goals as goal
 use Rattle.zone_text.proofs.line.cut_line.Goals.{in-Some-item+in_ok-keep-in-Some-item, in-None}

@@ -1,5 +1,5 @@
 use Rattle.zone_text.proofs.Common.{arith, rules, sym, ◌∙◌}
-use Rattle.zone_text.proofs.Scanning.ScanSteps.{all_taken, at_octet, one_on, rises, stays}
+use Rattle.zone_text.proofs.Scanning.Scanned.{all_taken, at_octet, one_on, rises, stays}
 use Rattle.zone_text.proofs.scan.scan_each.Goals as goal
 
 pub loop-index-preserved-then-not-moves : goal.loop-index-preserved-then-not-moves

@@ -1,5 +1,5 @@
 use Rattle.zone_text.proofs.Common.{ap, arith, length, refl, sym, ◌≡◌}
-use Rattle.zone_text.proofs.Scanning.OpenEntries.{depth_fits, part_scanned, takes_none, takes_on}
+use Rattle.zone_text.proofs.Scanning.FedPieces.{depth_fits, part_scanned, takes_none, takes_on}
 use Rattle.zone_text.specs.Machine.OpenEntry.{state_of}
 use Rattle.zone_text.specs.OpenEntry.{HeldEntry}
 use Rattle.zone_text.proofs.open_entry.OpenEntry.take.Goals as goal
