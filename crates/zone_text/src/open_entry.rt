@@ -99,6 +99,7 @@ impl OpenEntry {
     /// # Errors
     ///
     /// `AllocError`. Nothing is taken then.
+    #[tactic(auto, using(crate::proofs::Scanning::FedPieces::part_scanned))]
     pub fn take(&mut self, piece: &[u8]) -> Result<Taken, AllocError>
         requires fits { length self.old.octets + length piece.now < 2 ^ 64 }
         ensures taken { IfOk result (λ taken. TakesFrom self.old piece.now taken self.new) }

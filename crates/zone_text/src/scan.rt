@@ -202,6 +202,7 @@ fn quiet_len(octets: &[u8]) -> usize
 }
 
 /// As `scan`, octet by octet.
+#[tactic(auto, using(crate::proofs::Scanning::Scanned::scan_steps))]
 fn scan_each(octets: &[u8], start: ScanState) -> Scanned
     requires { start.depth + length octets.now < 2 ^ 64 }
     ensures found { result ≡ scan_of start octets.now }

@@ -5,7 +5,7 @@ use Rattle.zone_text.proofs.Scanning.FedPieces.{FollowsOn, HasFed, fed_more}
 use Rattle.zone_text.proofs.Tokens.Cuttings.{cuts, is_cut, one_cut, one_token_more}
 use Rattle.zone_text.proofs.Files.Followed.{follow_one}
 use Rattle.zone_text.proofs.Tokens.Fronts.{Begins, HasRoom, Stops, Takes, begins}
-use Rattle.zone_text.proofs.Tokens.ItemsLeft.{ended, plain_so_far, bare_front, in_front_takes}
+use Rattle.zone_text.proofs.Tokens.ItemsLeft.{ended, plain_so_far, bare_front, in_front_takes, in_front_shorter}
 use Rattle.zone_text.proofs.Tokens.TokenEnds.{first_at}
 use Rattle.std.proofs.lemmas.List.Elements.{All-from_recursion}
 use Rattle.zone_text.specs.declared.items.Extent.TheVariants.{Bare}
@@ -223,3 +223,5 @@ one_line octets stopped after kept c n so_far same first is count =
     let entry : take n octets ≡ front ++ fed = rw (taken, whole) (take-append_seam (front ++ fed) after) in
     let feeds : line_feeds (take n octets) ≡ line_feeds front + 1 = ap line_feeds entry ∙ feeds_of_both front fed in
     omega (arith, feeds, none, same)
+
+pub ruleset line_parts = (cut_none, goes_on, in_front_shorter, prefix_len-le-length)

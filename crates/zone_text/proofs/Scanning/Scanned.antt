@@ -369,3 +369,5 @@ pub at_end : (octets : List ℕ) (at : ScanState) → scan_of beginning octets �
 at_end octets at e =
     let read : IsRead octets (On at) = read_by octets (On at) e in
     end_by octets read.tokens (end_fault_of at) read.cut (no_ended read.tokens read.entries)
+
+pub ruleset scan_steps = (all_taken, at_octet, one_on, rises, stays)

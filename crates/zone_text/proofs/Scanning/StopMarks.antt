@@ -1,4 +1,5 @@
 -- Where bare items stop, as the bits of 64 octets tell it.
+use Rattle.std.proofs.lemmas.List.Sums.{prefix_len-le-length}
 use Rattle.std.proofs.Common.{Fits, ap₂, bit_and, bit_or, eqb, w8, ◌*◌, ◌/◌, ◌%◌}
 use Rattle.std.proofs.lemmas.Bool.{agree_below}
 use Rattle.std.proofs.lemmas.List.{ext_get_or, get_or-map}
@@ -169,3 +170,5 @@ last_found stops octets rest seen more back within each ends none unseen so_far 
     let there : prefix_len goes_on rest ≡ prefix_len goes_on (drop seen octets) = ap (prefix_len goes_on) back in
     let left : length (drop (more + 1) rest) ≡ length rest - (more + 1) = length-drop (more + 1) rest in
     (omega (arith, so_far, first, there), unknown_rest stops octets rest seen more back (tells_none stops (drop (more + 1) rest) none (omega arith)))
+
+pub ruleset stop_lengths = (goes_on, known_len, prefix_len-le-length, unknown_len)

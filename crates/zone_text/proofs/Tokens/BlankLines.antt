@@ -1,10 +1,11 @@
 -- Lines without items: what is cut of them, and what follows from octets with such lines after them.
-use Rattle.zone_text.proofs.Common.{AllByRecursion, AreBlankLines, EndedEntries, EntrySplitter, IsBlankLine, IsOneEntry, List, None, ReadsOctets, Token, [], add-zero, ap, append_assoc, arith, comment, commented, common_steps, decides_none, flat_map, item_of, length, line_feed, ne_eqb, no_lines, one_line_more, refl, rules, subst, sum_by-cons, sym, ℕ, ◌++◌, ◌+◌, ◌<◌, ◌∙◌, ◌∷◌, ◌≡◌, ◌≢◌, ◌≤◌}
+use Rattle.zone_text.proofs.Entries.Begun.{none_found, none_left}
+use Rattle.zone_text.proofs.Common.{AllByRecursion, AreBlankLines, EndedEntries, EntrySplitter, IsBlankLine, IsOneEntry, List, None, ReadsOctets, Token, [], add-zero, ap, append_assoc, arith, comment, commented, common_steps, decides_none, flat_map, item_of, length, line_feed, ne_eqb, no_lines, one_line_more, refl, rules, subst, sum_by-cons, sym, ℕ, ◌++◌, ◌+◌, ◌<◌, ◌∙◌, ◌∷◌, ◌≡◌, ◌≢◌, ◌≤◌, false, ◌==◌, take-append-drop}
 use Rattle.zone_text.specs.Machine.Blank.{line_feed as fed_line}
 use Rattle.zone_text.proofs.Tokens.Cuttings.{one_cut}
 use Rattle.zone_text.proofs.Entries.EntryTaken.{lines_after, takes_entry}
 use Rattle.zone_text.proofs.Files.Left.{line_feeds}
-use Rattle.zone_text.proofs.Scanning.FedPieces.{HasFed}
+use Rattle.zone_text.proofs.Scanning.FedPieces.{HasFed, fed_more, takes_part}
 use Rattle.zone_text.proofs.Scanning.FirstEntries.{fed_one}
 
 -- ---- a line as an entry
@@ -78,3 +79,8 @@ lines_joined octets middle _ n _ before (one_line_more line rest more others is)
 -- a line has an octet at least
 pub line_shorter : (line rest : List ℕ) → IsBlankLine line rest → length rest < length line
 line_shorter line rest h = grind (arith, common_steps)
+
+pub not_empty : (octets : List ℕ) → false ≡ (length octets == 0) → octets ≡ [] → ⊥
+not_empty octets some none = search rules
+
+pub ruleset feeds = (fed_lines, fed_more, none_found, none_left, not_empty, take-append-drop, takes_part)

@@ -179,3 +179,5 @@ broken_front depth rest fault (not_closed some whole) = grind arith
 pub front_stops : (depth : ℕ) (octets : List ℕ) (fault : Option Fault) → Ends depth octets fault → front_of depth octets ≡ stops fault
 unfolding front_of
 front_stops depth octets fault ends = search (rules, broken_front)
+
+pub ruleset comment_parts = (comment_dropped, comment_each, comment_ends, comment_whole)

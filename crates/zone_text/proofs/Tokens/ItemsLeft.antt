@@ -247,3 +247,7 @@ all_taken entry rest kept none leaves tokens cuts =
     by : (so_far : List RawItem) (more : List Token) → AreTokensOf rest more → so_far ++ flat_map item_of more ≡ flat_map item_of tokens → so_far ≡ flat_map item_of tokens
     by so_far [] are items = sym (append-nil so_far) ∙ items
     by so_far (p ∷ more) are items = absurd (no_tokens rest none p more are)
+
+pub ruleset item_fronts = (bare_front, comment_front, end_of_text, ends_but_mark, eqb-false, plain_front)
+
+pub ruleset item_lengths = (escape_more, plain_so_far)

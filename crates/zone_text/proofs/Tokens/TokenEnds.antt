@@ -43,3 +43,5 @@ pub comment_seen : (text : List ℕ) (i k n bits : ℕ) → k ≤ 64 → k ≤ l
 comment_seen text i k n bits few room are some so_far = grind (arith, length-drop, first_inside, before_prefix)
 
 pub ruleset comment_lengths = (comment_ends, comment_goes_on, comment_whole)
+
+pub ruleset plain_lengths = (first_at, nothing_left)

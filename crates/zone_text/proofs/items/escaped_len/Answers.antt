@@ -1,12 +1,6 @@
-use Rattle.zone_text.proofs.Common.{IsBadEscape, arith, at_backslash, ends_within, refl, subst, sym}
-use Rattle.zone_text.proofs.Tokens.ItemsLeft.{at_mark, ended, escape_more, len_is, plain_so_far}
+use Rattle.zone_text.proofs.Common.{IsBadEscape, arith, at_backslash, subst, sym}
+use Rattle.zone_text.proofs.Tokens.ItemsLeft.{at_mark, ended, len_is}
 use Rattle.zone_text.proofs.items.escaped_len.Goals as goal
-
-pub loop-len-init : goal.loop-len-init
-loop-len-init c = plain_so_far (ends_within c.args.extent) _ _ c.requires.within c.requires.plain c.requires.stops
-
-pub loop-len-preserved : goal.loop-len-preserved
-loop-len-preserved c = grind (arith, escape_more)
 
 pub returns-in_default-clause-len : goal.returns-in_default-clause-len
 returns-in_default-clause-len c =

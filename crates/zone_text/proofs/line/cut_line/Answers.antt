@@ -2,22 +2,12 @@ use Rattle.zone_text.specs.Machine.Stops.{Tells}
 use Rattle.std.proofs.lemmas.List.Elements.{All-from_recursion}
 use Rattle.std.proofs.lemmas.List.Sums.{prefix_len-le-length}
 use Rattle.std.specs.List.{prefix_len}
-use Rattle.zone_text.proofs.Common.{All, EndsAt, ap, arith, drop, drop-drop, false, length, map, raw, refl, stops_bare, subst, suc, sym, take, ◌∙◌, ◌≡◌}
+use Rattle.zone_text.proofs.Common.{All, EndsAt, ap, arith, drop, drop-drop, false, map, raw, refl, stops_bare, subst, sym, take, ◌∙◌, ◌≡◌}
 use Rattle.zone_text.proofs.Files.Left.{line_feeds}
-use Rattle.zone_text.proofs.Scanning.FirstEntries.{IsCutTo, blank_passed, comment_passed, cut_bare, cut_ended, cut_more, cut_none, cut_on, item_passed, one_line, passed_bare, passed_escaped, passed_gap, passed_item}
-use Rattle.zone_text.proofs.Tokens.ItemsLeft.{in_front_shorter}
+use Rattle.zone_text.proofs.Scanning.FirstEntries.{IsCutTo, blank_passed, comment_passed, cut_bare, cut_ended, cut_more, cut_on, item_passed, one_line, passed_bare, passed_escaped, passed_gap, passed_item}
 use Rattle.zone_text.proofs.Scanning.StopMarks.{blank_stop, goes_on, prefix_each, prefix_ends}
 use Rattle.zone_text.proofs.line.cut_line.Goals as goal
 use Rattle.zone_text.proofs.line.cut_line.Goals.{in-Some-item+in_ok-keep-in-Some-item, in-None}
-
-pub loop-rest-init : goal.loop-rest-init
-loop-rest-init c = record { cut = cut_none _ _ (ap (map raw) c.clear.ensures.items); tells = c.unseen-stops.ensures; line = refl }
-
-pub bare_len-len-requires : goal.bare_len-len-requires
-bare_len-len-requires c = record { tells = c.loop-rest.invariant.tells }
-
-pub split_at-requires : goal.split_at-requires
-split_at-requires c = omega (arith, c.bare_len-len.ensures.len, prefix_len-le-length goes_on c.loop-rest.rest.now)
 
 pub returns-then-stop-eq10-clause-first : goal.returns-then-stop-eq10-clause-first
 returns-then-stop-eq10-clause-first c =
@@ -27,9 +17,6 @@ pub returns-then-stop-eq10-clause-line : goal.returns-then-stop-eq10-clause-line
 returns-then-stop-eq10-clause-line c =
     one_line _ _ _ _ _ _ (cut_bare _ _ _ _ _ _ _ _ _ c.loop-rest.invariant.cut c.bare_len-len.ensures.len c.split_at.ensures.front c.split_at.ensures.back c.in-Some.ensures.cases.0 c.if-stop-eq92.false c.in_ok-keep_bare.ensures)
     (passed_bare _ _ _ c.bare_len-len.ensures.len c.split_at.ensures.back ∙ c.loop-rest.invariant.line) c.in-Some.ensures.cases.0 c.if-stop-eq10.true refl
-
-pub loop-rest-smaller-then-stop-le32 : goal.loop-rest-smaller-then-stop-le32
-loop-rest-smaller-then-stop-le32 c = grind arith
 
 pub loop-rest-preserved-then-stop-le32 : goal.loop-rest-preserved-then-stop-le32
 loop-rest-preserved-then-stop-le32 c =
@@ -49,9 +36,6 @@ escaped_item-requires c =
       stops = subst (λ k. EndsAt stops_bare (drop k c.loop-rest.rest.now)) (sym len) (prefix_ends c.loop-rest.rest.now);
     }
 
-pub loop-rest-smaller-then-stop-eq92 : goal.loop-rest-smaller-then-stop-eq92
-loop-rest-smaller-then-stop-eq92 c = in_front_shorter _ _ _ c.in-Some-escaped_item.ensures.found
-
 pub loop-rest-preserved-then-stop-eq92 : goal.loop-rest-preserved-then-stop-eq92
 loop-rest-preserved-then-stop-eq92 c =
     let passed = item_passed _ _ _ c.in-Some-escaped_item.ensures.found in
@@ -60,9 +44,6 @@ loop-rest-preserved-then-stop-eq92 c =
       tells = c.unseen-stops-then-stop-eq92.ensures;
       line = passed_escaped _ _ _ passed ∙ c.loop-rest.invariant.line;
     }
-
-pub loop-rest-smaller : goal.loop-rest-smaller
-loop-rest-smaller c = omega (arith, in_front_shorter _ _ _ c.in-Some-split_token.ensures.found, c.split_at.ensures.back_len)
 
 pub loop-rest-preserved : goal.loop-rest-preserved
 loop-rest-preserved c =

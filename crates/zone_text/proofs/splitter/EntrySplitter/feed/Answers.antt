@@ -1,28 +1,13 @@
-use Rattle.zone_text.proofs.Common.{List, [], ap, arith, count_by, false, length, refl, rules, sym, take-append-drop, true, ℕ, ◌+◌, ◌==◌, ◌∙◌, ◌≡◌}
-use Rattle.zone_text.proofs.Tokens.BlankLines.{fed_lines}
+use Rattle.zone_text.proofs.Common.{length, refl, rules, true}
+use Rattle.zone_text.proofs.Tokens.BlankLines.{not_empty}
 use Rattle.zone_text.proofs.Scanning.FirstEntries.{keeps_items, fed_entry}
 use Rattle.zone_text.proofs.Entries.Begun.{none_found, none_left, some_found}
-use Rattle.zone_text.proofs.Scanning.FedPieces.{fed_more, fed_all, fed_fault, takes_part, depth_within}
+use Rattle.zone_text.proofs.Scanning.FedPieces.{fed_all, fed_fault, depth_within}
 use Rattle.zone_text.proofs.splitter.EntrySplitter.feed.Goals as goal
 use Rattle.zone_text.proofs.splitter.EntrySplitter.feed.Goals.{then-loop-self-test+else-is_none, else-loop-self-test}
 
-not_empty : (octets : List ℕ) → false ≡ (length octets == 0) → octets ≡ [] → ⊥
-not_empty octets some none = search rules
-
 pub scan-found-requires : goal.scan-found-requires
 scan-found-requires c = search (rules, depth_within)
-
-pub take_part-requires-clause-scanned : goal.take_part-requires-clause-scanned
-take_part-requires-clause-scanned c = takes_part c.loop-self.self.at c.loop-self.rest.now c.split_at-in-loop-self.result.0.now c.scan-found.result c.scan-found.ensures.found c.split_at-in-loop-self.ensures.front
-
-pub read_cut-requires-clause-count : goal.read_cut-requires-clause-count
-read_cut-requires-clause-count c = search rules
-
-pub loop-self-preserved : goal.loop-self-preserved
-loop-self-preserved c = search (rules, fed_more, none_found, take-append-drop, not_empty)
-
-pub loop-self-preserved-then-blank-gt0 : goal.loop-self-preserved-then-blank-gt0
-loop-self-preserved-then-blank-gt0 c = search (rules, fed_lines, none_found, none_left, not_empty)
 
 pub loop-self-preserved-in-Some : goal.loop-self-preserved-in-Some
 loop-self-preserved-in-Some c =
@@ -36,9 +21,6 @@ loop-self-preserved-in-Some c =
           (c.in_ok-read_cut.ensures (rw c.deref.ensures.value (keeps_items _ _ _ _ first c.split_at.ensures.front))) refl refl;
       nothing = λ none. absurd (not_empty c.loop-self.rest.now c.loop-self-test.ensures (c.loop-self.invariant.nothing none).1);
     }
-
-pub returns-clause-settled : goal.returns-clause-settled
-returns-clause-settled c = search rules
 
 pub returns-clause-follow : goal.returns-clause-follow
 returns-clause-follow c =
