@@ -1,4 +1,5 @@
 -- Where bare items stop, as the bits of 64 octets tell it.
+use Rattle.std.proofs.lemmas.List.Elements.{All-from_recursion}
 use Rattle.std.proofs.lemmas.List.Sums.{prefix_len-le-length}
 use Rattle.std.proofs.Common.{Fits, ap₂, bit_and, bit_or, eqb, w8, ◌*◌, ◌/◌, ◌%◌}
 use Rattle.std.proofs.lemmas.Bool.{agree_below}
@@ -20,19 +21,18 @@ use Rattle.zone_text.specs.declared.stops.Stops.{Stops}
 abbrev pub goes_on : ℕ → Bool
 goes_on c = not (stops_bare c)
 
-pub prefix_each : (xs : List ℕ) → AllByRecursion (λ c. stops_bare c ≡ false) (take (prefix_len goes_on xs) xs)
-prefix_each [] = tt
-prefix_each (x ∷ xs) = elim (prefix_step stops_bare x xs) [
-  | inl stop ↦ subst (λ k. AllByRecursion (λ c. stops_bare c ≡ false) (take k (x ∷ xs))) (sym stop.1) tt
-  | inr on ↦ subst (λ k. AllByRecursion (λ c. stops_bare c ≡ false) (take k (x ∷ xs))) (sym on.1) (on.0, prefix_each xs)
-]
+prefix_parts : (xs : List ℕ) → AllByRecursion (λ c. stops_bare c ≡ false) (take (prefix_len goes_on xs) xs) × EndsAt stops_bare (drop (prefix_len goes_on xs) xs)
+prefix_parts [] = (tt, tt)
+prefix_parts (x ∷ xs) =
+    let P : ℕ → Type 0 = λ k. AllByRecursion (λ c. stops_bare c ≡ false) (take k (x ∷ xs)) × EndsAt stops_bare (drop k (x ∷ xs)) in
+    elim (prefix_step stops_bare x xs) [
+      | inl stop ↦ subst P (sym stop.1) (tt, stop.0)
+      | inr on ↦ subst P (sym on.1) ((on.0, (prefix_parts xs).0), (prefix_parts xs).1)
+    ]
 
-pub prefix_ends : (xs : List ℕ) → EndsAt stops_bare (drop (prefix_len goes_on xs) xs)
-prefix_ends [] = tt
-prefix_ends (x ∷ xs) = elim (prefix_step stops_bare x xs) [
-  | inl stop ↦ subst (λ k. EndsAt stops_bare (drop k (x ∷ xs))) (sym stop.1) stop.0
-  | inr on ↦ subst (λ k. EndsAt stops_bare (drop k (x ∷ xs))) (sym on.1) (prefix_ends xs)
-]
+-- the octets before the first stop, and those from it on
+pub prefix_stops : (xs : List ℕ) (n : ℕ) → n ≡ prefix_len goes_on xs → (n ≤ length xs) × All (λ c. stops_bare c ≡ false) (take n xs) × EndsAt stops_bare (drop n xs)
+prefix_stops xs n len = rw len (prefix_len-le-length goes_on xs, All-from_recursion _ _ (prefix_parts xs).0, (prefix_parts xs).1)
 
 -- ---- what the bits tell
 
@@ -81,7 +81,7 @@ abbrev pub is_low_blank : ℕ → Bool
 is_low_blank c = not (stops_bare c) || (eqb c 10 || is_blank c)
 
 pub blank_stop : (rest stopped after : List ℕ) (stop len : ℕ) → len ≡ prefix_len goes_on rest → stopped ≡ drop len rest → stopped ≡ stop ∷ after → stop ≤ 32 → stop ≢ 10 → is_blank stop ≡ true
-blank_stop rest stopped after stop len is back first low other = grind (arith, prefix_ends, every_below, ne_eqb)
+blank_stop rest stopped after stop len is back first low other = grind (arith, prefix_stops rest len is, every_below, ne_eqb)
 
 -- the low four bits of each lane are a place in a table of 16
 pub low_places : (v : List ℕ) → length v ≡ 64 → SwzOk w8 16 64 0 (zip2 bit_and v (replicate 64 15))
