@@ -104,7 +104,7 @@ all_taken : (at next : ScanState) (octets : List ℕ) (found : Scanned) → foun
 unfolding scan_of
 all_taken at next octets found is on =
     ap (λ (f : Scanned). f.taken)
-    (is ∙ ap (scan_of at) (sym (append-nil octets)) ∙ step_goes_on at next octets [] (ap (λ (f : Scanned). f.step) (sym is) ∙ on))
+    (is ∙ ap (scan_of at) (sym (append-nil octets)) ∙ step_goes_on octets [] at next (ap (λ (f : Scanned). f.step) (sym is) ∙ on))
     ∙ (let h : length octets + 0 ≡ length octets = omega arith in h)
 
 open_takes_all : (at : ScanState) (octets : List ℕ) (found : Scanned) (step : Step) → found ≡ scan_of at octets → found.step ≡ step → state_of step ≡ states.Open → found.taken ≡ length octets
@@ -150,10 +150,7 @@ pub scanned_part : (rest part : List ℕ) (step : Step) (found : Scanned) → fo
 scanned_part rest part step found is front e = subst (λ s. ScansTo beginning part s) e (takes_part beginning rest part found is front)
 
 pub scanned_all : (rest : List ℕ) (at : ScanState) (found : Scanned) → found ≡ scan_of beginning rest → found.step ≡ On at → ScansTo beginning rest (On at)
-unfolding scan_of
-scanned_all rest at found is on =
-    ap (scan_of beginning) (sym (append-nil rest)) ∙ step_goes_on beginning at rest [] (ap (λ (f : Scanned). f.step) (sym is) ∙ on)
-    ∙ ap (λ (n : ℕ). record { taken = n; step = On at }) (let h : length rest + 0 ≡ length rest = omega arith in h)
+scanned_all rest at found is on = grind (arith, all_taken beginning at rest found is on)
 
 pub some_taken : (octets : List ℕ) (found : Scanned) → found ≡ scan_of beginning octets → found.step ≡ Ends → (0 < length octets → 0 < found.taken) → 0 < found.taken
 unfolding scan_of

@@ -17,7 +17,7 @@ use Rattle.zone_text.proofs.Files.Left.{line_feeds}
 
 -- ---- line feeds
 
-feeds_of_both : (xs ys : List ℕ) → line_feeds (xs ++ ys) ≡ line_feeds xs + line_feeds ys
+pub feeds_of_both : (xs ys : List ℕ) → line_feeds (xs ++ ys) ≡ line_feeds xs + line_feeds ys
 feeds_of_both xs ys = sum_by-append (λ c. cond (c == 10) 1 0) xs ys
 
 pub none_of_any : (xs : List ℕ) → list_any (λ y. nat_eq y 10) xs ≡ false → line_feeds xs ≡ 0
@@ -30,7 +30,7 @@ other_than_ten is b not c e = grind (arith, common_steps, eqb-true)
 none_first : (c : ℕ) (xs : List ℕ) → (c == 10) ≡ false → line_feeds (c ∷ xs) ≡ line_feeds xs
 none_first c xs e = sum_by-cons (λ d. cond (d == 10) 1 0) c xs ∙ ap (λ (b : Bool). cond b 1 0 + line_feeds xs) e ∙ zero-add (line_feeds xs)
 
-none_in : (P : ℕ → Type 0) → ((c : ℕ) → P c → (c == 10) ≡ false) → (xs : List ℕ) → AllByRecursion P xs → line_feeds xs ≡ 0
+pub none_in : (P : ℕ → Type 0) → ((c : ℕ) → P c → (c == 10) ≡ false) → (xs : List ℕ) → AllByRecursion P xs → line_feeds xs ≡ 0
 none_in P other [] each = refl
 none_in P other (c ∷ xs) each = none_first c xs (other c each.0) ∙ none_in P other xs each.1
 

@@ -279,18 +279,14 @@ all_say (p ∷ tokens) step depth at rest fault each follow last past ends scann
 
 -- ---- where a scan goes on and stops
 
-module _ (at : ScanState) (rest b : List ℕ) where
-  go_on_by : (step : Step) → ((next : ScanState) → (scan_of next rest).step ≡ On at → scan_of next (rest ++ b) ≡ further (length rest) (scan_of at b)) → (scan_on (λ next. scan_of next rest) step).step ≡ On at → scan_on (λ next. scan_of next (rest ++ b)) step ≡ further (suc (length rest)) (scan_of at b)
-  go_on_by step more e = grind arith
-
 -- a scan that doesn't stop goes on after the octets
-pub step_goes_on : (start at : ScanState) (a b : List ℕ) → (scan_of start a).step ≡ On at → scan_of start (a ++ b) ≡ further (length a) (scan_of at b)
+pub step_goes_on : (a b : List ℕ) (start at : ScanState) → (scan_of start a).step ≡ On at → scan_of start (a ++ b) ≡ further (length a) (scan_of at b)
 unfolding scan_of
-step_goes_on start at [] b e = search rules
-step_goes_on start at (c ∷ rest) b e = go_on_by at rest b (step_of start c) (λ next more. step_goes_on next at rest b more) e
+step_goes_on [] b start at e = search rules
+step_goes_on (c ∷ rest) b start at e = grind (arith, step_goes_on rest b)
 
 pub goes_on : (start at : ScanState) (a b : List ℕ) → scan_of start a ≡ record { taken = length a; step = On at } → scan_of start (a ++ b) ≡ further (length a) (scan_of at b)
-goes_on start at a b e = step_goes_on start at a b (ap (λ (found : Scanned). found.step) e)
+goes_on start at a b e = step_goes_on a b start at (ap (λ (found : Scanned). found.step) e)
 
 front_by : (start : ScanState) (c : ℕ) (rest : List ℕ) (step : Step) → step_of start c ≡ step → ((next : ScanState) → scan_of next (take (scan_of next rest).taken rest) ≡ scan_of next rest) → scan_of start (take (scan_on (λ next. scan_of next rest) step).taken (c ∷ rest)) ≡ scan_on (λ next. scan_of next rest) step
 unfolding scan_of
@@ -302,17 +298,14 @@ unfolding scan_of
 stops_at start [] = refl
 stops_at start (c ∷ rest) = front_by start c rest (step_of start c) refl (λ next. stops_at next rest)
 
-within_by : (rest : List ℕ) (step : Step) → ((next : ScanState) → (scan_of next rest).taken ≤ length rest) → (scan_on (λ next. scan_of next rest) step).taken ≤ suc (length rest)
-within_by rest step more = search rules
-
-pub taken_within : (start : ScanState) (octets : List ℕ) → (scan_of start octets).taken ≤ length octets
+taken_within : (octets : List ℕ) (start : ScanState) → (scan_of start octets).taken ≤ length octets
 unfolding scan_of
-taken_within start [] = omega arith
-taken_within start (c ∷ rest) = within_by rest (step_of start c) (λ next. taken_within next rest)
+taken_within [] start = omega arith
+taken_within (c ∷ rest) start = grind (arith, taken_within rest)
 
 -- of those octets it takes all
 pub takes_front : (start : ScanState) (octets : List ℕ) → length (take (scan_of start octets).taken octets) ≡ (scan_of start octets).taken
-takes_front start octets = simp length-take (omega (arith, taken_within start octets))
+takes_front start octets = search (rules, length-take, taken_within)
 
 depth_by : (start at : ScanState) (c : ℕ) (rest : List ℕ) (step : Step) → step_of start c ≡ step → ((next : ScanState) → (scan_of next rest).step ≡ On at → at.depth ≤ next.depth + length rest) → (scan_on (λ next. scan_of next rest) step).step ≡ On at → at.depth ≤ start.depth + suc (length rest)
 depth_by start at c rest step same more e = grind arith

@@ -6,7 +6,7 @@ use Rattle.zone_text.proofs.Tokens.Cuttings.{one_cut}
 use Rattle.zone_text.proofs.Entries.EntryTaken.{lines_after, takes_entry}
 use Rattle.zone_text.proofs.Files.Left.{line_feeds}
 use Rattle.zone_text.proofs.Scanning.FedPieces.{HasFed, fed_more, takes_part}
-use Rattle.zone_text.proofs.Scanning.FirstEntries.{fed_one}
+use Rattle.zone_text.proofs.Scanning.FirstEntries.{fed_one, feeds_of_both, none_in}
 
 -- ---- a line as an entry
 
@@ -19,8 +19,7 @@ record IsEmpty (octets : List ℕ) : Type 0 where
   some : 1 ≤ length octets
 
 one_fed : (octets : List ℕ) → AllByRecursion (λ c. c ≢ 10) octets → 1 ≡ line_feeds (octets ++ 10 ∷ [])
-one_fed [] each = refl
-one_fed (c ∷ octets) each = grind (arith, common_steps, ne_eqb, sum_by-cons, one_fed octets each.1)
+one_fed octets each = omega (arith, none_in _ (λ d. ne_eqb d 10) octets each, feeds_of_both octets (10 ∷ []))
 
 line_alone : (line rest : List ℕ) → IsBlankLine line rest → (octets : List ℕ) × (line ≡ octets ++ rest) × IsEmpty octets
 line_alone line rest (fed_line e) = (
