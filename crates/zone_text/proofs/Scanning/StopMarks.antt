@@ -1,4 +1,5 @@
 -- Where bare items stop, as the bits of 64 octets tell it.
+use Rattle.std.proofs.Math.Logic.{⊎_elim}
 use Rattle.std.proofs.lemmas.List.Elements.{All-from_recursion}
 use Rattle.std.proofs.lemmas.List.Sums.{prefix_len-le-length}
 use Rattle.std.proofs.Common.{Fits, ap₂, bit_and, bit_or, eqb, w8, ◌*◌, ◌/◌, ◌%◌}
@@ -25,10 +26,7 @@ prefix_parts : (xs : List ℕ) → AllByRecursion (λ c. stops_bare c ≡ false)
 prefix_parts [] = (tt, tt)
 prefix_parts (x ∷ xs) =
     let P : ℕ → Type 0 = λ k. AllByRecursion (λ c. stops_bare c ≡ false) (take k (x ∷ xs)) × EndsAt stops_bare (drop k (x ∷ xs)) in
-    elim (prefix_step stops_bare x xs) [
-      | inl stop ↦ subst P (sym stop.1) (tt, stop.0)
-      | inr on ↦ subst P (sym on.1) ((on.0, (prefix_parts xs).0), (prefix_parts xs).1)
-    ]
+    ⊎_elim (λ stop. subst P (sym stop.1) (tt, stop.0)) (λ on. subst P (sym on.1) ((on.0, (prefix_parts xs).0), (prefix_parts xs).1)) (prefix_step stops_bare x xs)
 
 -- the octets before the first stop, and those from it on
 pub prefix_stops : (xs : List ℕ) (n : ℕ) → n ≡ prefix_len goes_on xs → (n ≤ length xs) × All (λ c. stops_bare c ≡ false) (take n xs) × EndsAt stops_bare (drop n xs)
@@ -71,10 +69,7 @@ every_below : (p : ℕ → Bool) (n : ℕ) → all_below p n ≡ true → (i : �
 every_below p zero all i less = absurd (omega arith)
 every_below p (suc n) all i less =
     let parts = and_parts (p n) (all_below p n) all in
-    elim (cases_lt i n) [
-      | inl before ↦ every_below p n parts.1 i before
-      | inr at ↦ let e : n ≡ i = omega arith in subst (λ k. p k ≡ true) e parts.0
-    ]
+    ⊎_elim (every_below p n parts.1 i) (λ at. let e : n ≡ i = omega arith in subst (λ k. p k ≡ true) e parts.0) (cases_lt i n)
 
 -- of what stops an item, all that is no greater than a space but a line feed is a blank
 abbrev pub is_low_blank : ℕ → Bool
