@@ -1,8 +1,5 @@
 -- What a scan finds of octets: where entries end, and which are read at one look.
 pub mod FedPieces
 pub mod FirstEntries
-pub mod OpenEntries
-pub mod ScanReads
-pub mod ScanSteps
 pub mod Scanned
 pub mod StopMarks

@@ -2,11 +2,9 @@
 pub mod BlankLines
 pub mod CutAgain
 pub mod Cuttings
-pub mod EscapedItems
 pub mod ForGood
 pub mod Fronts
 pub mod ItemsLeft
 pub mod Lasting
-pub mod OneLine
 pub mod StandingItems
 pub mod TokenEnds

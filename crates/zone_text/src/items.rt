@@ -45,6 +45,7 @@ impl Extent {
 }
 
 /// The number of octets before the first that ends the item or is a backslash.
+#[tactic(auto, using(crate::proofs::Tokens::TokenEnds::plain_lengths))]
 pub(crate) fn plain_len(text: &[u8], extent: Extent) -> usize
     ensures within { result ≤ length text.now }
     ensures plain { All (λ c. stops_within extent c ≡ false) (take result text.now) }
@@ -62,6 +63,7 @@ pub(crate) fn plain_len(text: &[u8], extent: Extent) -> usize
 /// be plain. A backslash that begins no escape ends it.
 // Not inlined: few items have a backslash.
 #[inline(never)]
+#[tactic(auto, using(crate::proofs::Tokens::ItemsLeft::item_lengths))]
 fn escaped_len(text: &[u8], plain: usize, extent: Extent) -> usize
     requires within { plain ≤ length text.now }
     requires plain { All (λ c. stops_within extent c ≡ false) (take plain text.now) }
@@ -84,6 +86,7 @@ fn escaped_len(text: &[u8], plain: usize, extent: Extent) -> usize
 /// rest. `None`: a backslash that begins no escape stands in its place.
 // Inlined: a call's answer would be cleared for each item, with a backslash or not.
 #[inline(always)]
+#[tactic(auto, using(crate::proofs::Tokens::ItemsLeft::item_fronts))]
 pub(crate) fn escaped_item(text: &[u8], plain: usize) -> Option<(&[u8], &[u8])>
     requires within { plain ≤ length text.now }
     requires plain { All (λ c. stops_bare c ≡ false) (take plain text.now) }
@@ -119,6 +122,7 @@ fn quoted_len(text: &[u8]) -> usize
 /// closed.
 // A call would cost a line with a quoted item or a comment more than its tests do.
 #[inline(always)]
+#[tactic(auto, using(crate::proofs::Tokens::ItemsLeft::item_fronts))]
 pub(crate) fn split_token(text: &[u8]) -> Option<(Option<Item<'_>>, &[u8])>
     ensures found { IfSome result (λ found.
         IsInFront text.now (option_to_list (option_map raw found.0)) found.1.now) }

@@ -38,6 +38,7 @@ fn is_on_one_line(item: Item) -> bool
 /// # Errors
 ///
 /// `AllocError`. `items` holds nothing that is used again.
+#[tactic(auto, using(crate::proofs::Scanning::FirstEntries::line_parts))]
 pub(crate) fn cut_line<'t>(
     octets: &'t [u8],
     items: &mut Vec<Item<'t>>,

@@ -66,7 +66,7 @@ fn state_of(step: Step) -> EntryState
 
 impl OpenEntry {
     /// No octets yet.
-    #[tactic(auto, using(crate::proofs::Scanning::OpenEntries::none_held))]
+    #[tactic(auto, using(crate::proofs::Scanning::FedPieces::none_held))]
     pub fn new(alloc: Global) -> OpenEntry
         ensures octets { result.octets ≡ [] }
         ensures state { result.state ≡ Open }
@@ -85,7 +85,7 @@ impl OpenEntry {
     }
 
     /// Where they leave the entry.
-    #[tactic(auto, using(crate::proofs::Scanning::OpenEntries::entry_is))]
+    #[tactic(auto, using(crate::proofs::Scanning::Scanned::entry_is))]
     pub fn state(&self) -> EntryState
         ensures state { result ≡ self.now.state }
         ensures is { EntryIs self.now.octets result }
@@ -99,6 +99,7 @@ impl OpenEntry {
     /// # Errors
     ///
     /// `AllocError`. Nothing is taken then.
+    #[tactic(auto, using(crate::proofs::Scanning::FedPieces::part_scanned))]
     pub fn take(&mut self, piece: &[u8]) -> Result<Taken, AllocError>
         requires fits { length self.old.octets + length piece.now < 2 ^ 64 }
         ensures taken { IfOk result (λ taken. TakesFrom self.old piece.now taken self.new) }
@@ -123,7 +124,7 @@ impl OpenEntry {
     /// What is wrong with the entry where the input ends after its octets: an open quote,
     /// parenthesis or escape, or what broke it. `None`: the octets are a whole entry, or there are
     /// none.
-    #[tactic(auto, using(crate::proofs::Scanning::OpenEntries::end_is))]
+    #[tactic(auto, using(crate::proofs::Scanning::FedPieces::end_is))]
     pub fn end_fault(&self) -> Option<Fault>
         ensures open { self.now.state ≡ Open → EndIs self.now.octets result }
         ensures ended { self.now.state ≡ Ended → result ≡ None }
@@ -138,7 +139,7 @@ impl OpenEntry {
     }
 
     /// Lets go of the octets: the next entry begins.
-    #[tactic(auto, using(crate::proofs::Scanning::OpenEntries::none_held))]
+    #[tactic(auto, using(crate::proofs::Scanning::FedPieces::none_held))]
     pub fn clear(&mut self)
         ensures octets { self.new.octets ≡ [] }
         ensures state { self.new.state ≡ Open }

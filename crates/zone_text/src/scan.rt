@@ -202,6 +202,7 @@ fn quiet_len(octets: &[u8]) -> usize
 }
 
 /// As `scan`, octet by octet.
+#[tactic(auto, using(crate::proofs::Scanning::Scanned::scan_steps))]
 fn scan_each(octets: &[u8], start: ScanState) -> Scanned
     requires { start.depth + length octets.now < 2 ^ 64 }
     ensures found { result ≡ scan_of start octets.now }
@@ -230,7 +231,7 @@ fn scan_each(octets: &[u8], start: ScanState) -> Scanned
 }
 
 /// How many octets at the beginning leave the state as it is, as far as that is seen at a glance.
-#[tactic(auto, using(crate::proofs::Scanning::ScanSteps::quiet_at))]
+#[tactic(auto, using(crate::proofs::Scanning::Scanned::quiet_at))]
 fn quiet_front(octets: &[u8], at: ScanState) -> usize
     ensures within { result ≤ length octets.now }
     ensures reaches { scan_of at octets.now ≡ further result (scan_of at (drop result octets.now)) }

@@ -41,6 +41,7 @@ impl EntrySplitter {
     }
 
     /// Takes the octets of a piece up to a fault.
+    #[tactic(auto, using(crate::proofs::Tokens::BlankLines::feeds))]
     pub(crate) fn feed(&mut self, piece: &[u8]) -> Result<(), AllocError>
         requires is { IsSplitter self.old.ended self.old.at self.old.unfinished.items }
         requires fits { reach self.old + length piece.now < 2 ^ 64 }

@@ -80,6 +80,7 @@ impl Stops {
     /// The number of octets before the first that ends a bare item or is a backslash, and what is
     /// known of those after that one.
     #[inline(always)]
+    #[tactic(auto, using(crate::proofs::Scanning::StopMarks::stop_lengths))]
     pub(crate) fn bare_len(self, octets: &[u8]) -> (usize, Stops)
         requires tells { Tells self octets.now }
         ensures len { result.0 ≡ prefix_len (λ c. not (stops_bare c)) octets.now }

@@ -1,19 +1,44 @@
 -- The entry at the front of octets, token by token, without parentheses.
-use Rattle.zone_text.proofs.Common.{All, AreKept, Cuts, EndsAt, EntrySplitter, IsFirstEntry, IsInFront, IsOneEntry, IsSplitter, Keeps, KeepsBare, KeepsItems, List, None, RawItem, ReadsOctets, Token, [], ap, append-nil, append_assoc, arith, at_backslash, at_end, at_octet, bare, blank, closing, comment, drop, ends_item, false, flat_map, get_or, inl, is_blank, item_of, length, length-append, length-take, line_feed, opening, refl, rules, stops_bare, subst, suc, sym, take, take-append-drop, take-append_seam, text_of, token_text, true, zero, ℕ, ⊤, ◌++◌, ◌+◌, ◌-◌, ◌<◌, ◌∙◌, ◌∷◌, ◌≡◌, ◌≢◌, ◌≤◌}
+use Rattle.zone_text.proofs.Common.{All, AreKept, Cuts, EndsAt, EntrySplitter, IsFirstEntry, IsInFront, IsOneEntry, IsSplitter, Keeps, KeepsBare, KeepsItems, List, None, RawItem, ReadsOctets, Token, [], ap, append-nil, append_assoc, arith, at_backslash, at_end, at_octet, bare, blank, closing, comment, drop, ends_item, false, flat_map, get_or, inl, is_blank, item_of, length, length-append, length-take, line_feed, opening, refl, rules, stops_bare, subst, suc, sym, take, take-append-drop, take-append_seam, text_of, token_text, true, zero, ℕ, ⊤, ◌++◌, ◌+◌, ◌-◌, ◌<◌, ◌∙◌, ◌∷◌, ◌≡◌, ◌≢◌, ◌≤◌, common_steps, AllByRecursion, Bool, IsToken, IsUnit, Written, cond, decimal, eqb-true, escaped, item_text, list_any, nat_eq, ne_eqb, plain, sum_by-append, sum_by-cons, written_text, zero-add, ◌==◌, quoted}
 use Rattle.zone_rdata.specs.Item as raw
 use Rattle.zone_text.proofs.Scanning.FedPieces.{FollowsOn, HasFed, fed_more}
 use Rattle.zone_text.proofs.Tokens.Cuttings.{cuts, is_cut, one_cut, one_token_more}
 use Rattle.zone_text.proofs.Files.Followed.{follow_one}
 use Rattle.zone_text.proofs.Tokens.Fronts.{Begins, HasRoom, Stops, Takes, begins}
-use Rattle.zone_text.proofs.Tokens.EscapedItems.{ended, plain_so_far}
-use Rattle.zone_text.proofs.Tokens.ItemsLeft.{bare_front, in_front_takes}
+use Rattle.zone_text.proofs.Tokens.ItemsLeft.{ended, plain_so_far, bare_front, in_front_takes, in_front_shorter}
 use Rattle.zone_text.proofs.Tokens.TokenEnds.{first_at}
 use Rattle.std.proofs.lemmas.List.Elements.{All-from_recursion}
 use Rattle.zone_text.specs.declared.items.Extent.TheVariants.{Bare}
 use Rattle.zone_text.proofs.Entries.Kept.{keeps_more}
-use Rattle.zone_text.proofs.Scanning.StopMarks.{goes_on, prefix_each, prefix_ends}
+use Rattle.zone_text.proofs.Scanning.StopMarks.{goes_on, prefix_stops}
 use Rattle.std.proofs.lemmas.List.Sums.{prefix_len-le-length}
 use Rattle.std.specs.List.{prefix_len}
+use Rattle.zone_text.proofs.Files.Left.{line_feeds}
+
+-- ---- line feeds
+
+pub feeds_of_both : (xs ys : List ℕ) → line_feeds (xs ++ ys) ≡ line_feeds xs + line_feeds ys
+feeds_of_both xs ys = sum_by-append (λ c. cond (c == 10) 1 0) xs ys
+
+pub none_of_any : (xs : List ℕ) → list_any (λ y. nat_eq y 10) xs ≡ false → line_feeds xs ≡ 0
+none_of_any [] none = refl
+none_of_any (y ∷ xs) none = grind (arith, common_steps, sum_by-cons, none_of_any xs)
+
+other_than_ten : (is : ℕ → Bool) (b : Bool) → (is 10 ≡ b → ⊥) → (c : ℕ) → is c ≡ b → (c == 10) ≡ false
+other_than_ten is b not c e = grind (arith, common_steps, eqb-true)
+
+none_first : (c : ℕ) (xs : List ℕ) → (c == 10) ≡ false → line_feeds (c ∷ xs) ≡ line_feeds xs
+none_first c xs e = sum_by-cons (λ d. cond (d == 10) 1 0) c xs ∙ ap (λ (b : Bool). cond b 1 0 + line_feeds xs) e ∙ zero-add (line_feeds xs)
+
+pub none_in : (P : ℕ → Type 0) → ((c : ℕ) → P c → (c == 10) ≡ false) → (xs : List ℕ) → AllByRecursion P xs → line_feeds xs ≡ 0
+none_in P other [] each = refl
+none_in P other (c ∷ xs) each = none_first c xs (other c each.0) ∙ none_in P other xs each.1
+
+none_written : (units : List Written) → AllByRecursion (IsUnit ends_item) units → line_feeds (written_text units) ≡ 0
+none_written [] each = refl
+none_written (plain c ∷ units) each = none_first c (written_text units) (other_than_ten ends_item false (λ e. cc) c each.0.0) ∙ none_written units each.1
+none_written (escaped c ∷ units) each = none_first 92 (c ∷ written_text units) refl ∙ none_first c (written_text units) (ne_eqb c 10 each.0.1) ∙ none_written units each.1
+none_written (decimal x y z ∷ units) each = grind (arith, other_than_ten, none_first, none_written units each.1)
 
 -- ---- the token at the front
 
@@ -24,26 +49,41 @@ IsInside closing = ⊥
 IsInside line_feed = ⊥
 IsInside p = ⊤
 
--- such a token at the front of octets, its items and the rest
+token_feeds : (p : Token) → IsToken p → IsInside p → ((units : List Written) → p ≡ quoted units → line_feeds (written_text units) ≡ 0) → line_feeds (token_text p) ≡ 0
+token_feeds (blank c) is inside none = none_first c [] (other_than_ten is_blank true (λ e. cc) c is)
+token_feeds (comment octets) is inside none = none_first 59 octets refl ∙ none_in _ (λ d. ne_eqb d 10) octets is
+token_feeds (bare units) is inside none = none_written units is.1
+token_feeds (quoted units) is inside none = omega (arith, none_first 34 (written_text units ++ 34 ∷ []) refl, feeds_of_both (written_text units) (34 ∷ []), none units refl)
+token_feeds p is inside none = absurd inside
+
+-- such a token at the front of octets, on one line, its items and the rest
 pub record IsPassed (octets : List ℕ) (items : List RawItem) (rest : List ℕ) : Type 0 where
   pub token : Token
   pub takes : Takes zero octets token rest
   pub inside : IsInside token
   pub stated : item_of token ≡ items
+  pub none : line_feeds (token_text token) ≡ 0
 
 pub blank_passed : (octets rest : List ℕ) (c : ℕ) → octets ≡ c ∷ rest → is_blank c ≡ true → IsPassed octets [] rest
-blank_passed octets rest c whole is = record { token = blank c; takes = record { whole = whole; token = is; stop = tt; room = tt }; inside = tt; stated = refl }
+blank_passed octets rest c whole is =
+    record { token = blank c; takes = record { whole = whole; token = is; stop = tt; room = tt }; inside = tt; stated = refl; none = token_feeds (blank c) is tt (λ units e. absurd cc) }
 
-passed_by : (octets rest : List ℕ) (items : List RawItem) (found : IsInFront octets items rest) → IsInside found.token → IsPassed octets items rest
-passed_by octets rest items found inside =
+passed_by : (octets rest : List ℕ) (items : List RawItem) (found : IsInFront octets items rest) → ((text : List ℕ) → items ≡ raw.quoted text ∷ [] → line_feeds text ≡ 0) → IsInside found.token → IsPassed octets items rest
+passed_by octets rest items found none inside =
     let takes = in_front_takes octets rest items found in
-    record { token = found.token; takes = record { whole = takes.whole; token = takes.token; stop = takes.stop; room = room found.token inside }; inside = inside; stated = found.stated }
+    record {
+      token = found.token;
+      takes = record { whole = takes.whole; token = takes.token; stop = takes.stop; room = room found.token inside };
+      inside = inside;
+      stated = found.stated;
+      none = token_feeds found.token takes.token inside (λ units e. none (written_text units) (sym found.stated ∙ ap item_of e));
+    }
   where
     room : (p : Token) → IsInside p → HasRoom zero p
     room p inside = grind arith
 
-pub item_passed : (octets rest : List ℕ) (item : RawItem) → IsInFront octets (item ∷ []) rest → IsPassed octets (item ∷ []) rest
-item_passed octets rest item found = passed_by octets rest (item ∷ []) found (by found.token found.stated)
+pub item_passed : (octets rest : List ℕ) (item : RawItem) → IsInFront octets (item ∷ []) rest → ((text : List ℕ) → item ≡ raw.quoted text → line_feeds text ≡ 0) → IsPassed octets (item ∷ []) rest
+item_passed octets rest item found none = passed_by octets rest (item ∷ []) found (λ text e. none text cc) (by found.token found.stated)
   where
     by : (p : Token) → item_of p ≡ item ∷ [] → IsInside p
     by p e = grind arith
@@ -51,20 +91,18 @@ item_passed octets rest item found = passed_by octets rest (item ∷ []) found (
 pub comment_passed : (octets after rest : List ℕ) (c : ℕ) → octets ≡ c ∷ after → c ≡ 59 → IsInFront octets [] rest → IsPassed octets [] rest
 comment_passed octets after rest c whole is found =
     let takes = in_front_takes octets rest [] found in
-    passed_by octets rest [] found (by found.token (begins c after found.token rest takes.token (sym whole ∙ takes.whole)))
+    passed_by octets rest [] found (λ text e. absurd cc) (by found.token (begins c after found.token rest takes.token (sym whole ∙ takes.whole)))
   where
     by : (p : Token) → Begins c p → IsInside p
     by p first = grind arith
 
 pub bare_passed : (octets item rest more : List ℕ) (next n : ℕ) → 0 < n → n ≡ prefix_len goes_on octets → item ≡ take n octets → rest ≡ drop n octets → rest ≡ next ∷ more → next ≢ 92 → IsPassed octets (raw.bare item ∷ []) rest
 bare_passed octets item rest more next n some len front back first other =
-    let within : n ≤ length octets = omega (arith, len, prefix_len-le-length goes_on octets) in
-    let each : All (λ d. stops_bare d ≡ false) (take n octets) = subst (λ k. All (λ d. stops_bare d ≡ false) (take k octets)) (sym len) (All-from_recursion _ _ (prefix_each octets)) in
-    let ends : EndsAt stops_bare (drop n octets) = subst (λ k. EndsAt stops_bare (drop k octets)) (sym len) (prefix_ends octets) in
+    let stops = prefix_stops octets n len in
     let stop : n < length octets → get_or octets n 0 ≢ 92 = λ less is.
     let same : get_or octets n 0 ∷ drop (n + 1) octets ≡ next ∷ more = sym (first_at octets n less) ∙ sym back ∙ first in
     other (let e : get_or octets n 0 ≡ next = cc in sym e ∙ is) in
-    item_passed octets rest (raw.bare item) (bare_front octets item rest n (ended Bare octets n (plain_so_far ends_item octets n within each ends) stop) front back (omega (arith, some, ap length front, length-take n octets, within)))
+    item_passed octets rest (raw.bare item) (bare_front octets item rest n (ended Bare octets n (plain_so_far ends_item octets n stops.0 stops.1 stops.2) stop) front back (omega (arith, some, ap length front, length-take n octets, stops.0))) (λ text e. absurd cc)
 
 -- ---- tokens up to the line feed
 
@@ -73,6 +111,7 @@ bare_passed octets item rest more next n some len front back first other =
 pub record IsCutTo (octets rest : List ℕ) (kept : List RawItem) : Type 0 where
   pub front : List ℕ
   pub whole : octets ≡ front ++ rest
+  pub none : line_feeds front ≡ 0
   pub so_far : List RawItem
   pub are_kept : AreKept so_far kept
   pub goes : (tail after : List ℕ) (more : List Token) → rest ≡ tail ++ after → 0 < length tail → IsOneEntry tail more → (tokens : List Token) × IsOneEntry (front ++ tail) tokens × (flat_map item_of tokens ≡ so_far ++ flat_map item_of more)
@@ -81,6 +120,7 @@ pub cut_none : (octets : List ℕ) (kept : List RawItem) → kept ≡ [] → IsC
 cut_none octets kept none = record {
   front = [];
   whole = refl;
+  none = refl;
   so_far = [];
   are_kept = subst (AreKept []) (sym none) (inl refl);
   goes = λ tail after more e some one. (more, one, refl);
@@ -108,6 +148,7 @@ more_by : (octets rest left : List ℕ) (kept new items : List RawItem) (so_far 
 more_by octets rest left kept new items so_far found are_kept = record {
   front = so_far.front ++ token_text found.token;
   whole = so_far.whole ∙ ap (λ t. so_far.front ++ t) found.takes.whole ∙ sym (append_assoc so_far.front (token_text found.token) left);
+  none = omega (arith, feeds_of_both so_far.front (token_text found.token), so_far.none, found.none);
   so_far = so_far.so_far ++ items;
   are_kept = are_kept;
   goes = λ tail after more e some one.
@@ -129,15 +170,13 @@ cut_on octets rest left kept so_far found =
 
 -- a bare item and what stops it, or what stands there in place of an item
 pub cut_bare : (octets rest text stopped after : List ℕ) (kept new : List RawItem) (stop n : ℕ) → IsCutTo octets rest kept → n ≡ prefix_len goes_on rest → text ≡ take n rest → stopped ≡ drop n rest → stopped ≡ stop ∷ after → stop ≢ 92 → KeepsBare text kept new → IsCutTo octets stopped new
-cut_bare octets rest text stopped after kept new stop zero so_far len front back first other keeps =
-    let same : new ≡ kept = subst (λ t. KeepsBare t kept new) front keeps in
-    subst (λ t. IsCutTo octets t new) (sym back) (subst (IsCutTo octets rest) (sym same) so_far)
+cut_bare octets rest text stopped after kept new stop zero so_far len front back first other keeps = search rules
 cut_bare octets [] text stopped after kept new stop (suc n) so_far len front back first other keeps = absurd (omega (arith, len))
 cut_bare octets (c ∷ rest) text stopped after kept new stop (suc n) so_far len front back first other keeps =
     let item : Keeps (raw.bare (c ∷ take n rest)) kept new = subst (λ t. KeepsBare t kept new) front keeps in
     cut_more octets (c ∷ rest) stopped kept new (raw.bare (c ∷ take n rest)) so_far (bare_passed (c ∷ rest) (c ∷ take n rest) stopped after stop (suc n) (omega arith) len refl back first other) item
 
-pub cut_ended : (octets rest after : List ℕ) (raws : List RawItem) (c n : ℕ) → IsCutTo octets rest raws → rest ≡ c ∷ after → c ≡ 10 → n ≡ length octets - length after → IsFirstEntry octets n raws
+pub cut_ended : (octets rest after : List ℕ) (raws : List RawItem) (c n : ℕ) → IsCutTo octets rest raws → rest ≡ c ∷ after → c ≡ 10 → n ≡ length octets - length after → IsFirstEntry octets n raws × (line_feeds (take n octets) ≡ 1)
 cut_ended octets rest after raws c n so_far first is count =
     let fed : List ℕ = 10 ∷ [] in
     let e : rest ≡ fed ++ after = first ∙ ap (λ d. d ∷ after) is in
@@ -148,7 +187,7 @@ cut_ended octets rest after raws c n so_far first is count =
     let last : length (so_far.front ++ fed) ≡ length so_far.front + length fed = length-append so_far.front fed in
     let taken : n ≡ length (so_far.front ++ fed) = omega (arith, count, len) in
     let entry : take n octets ≡ so_far.front ++ fed = rw (taken, whole) (take-append_seam (so_far.front ++ fed) after) in
-    search rules
+    (search rules, omega (arith, ap line_feeds entry, feeds_of_both so_far.front fed, so_far.none))
 
 pub keeps_items : (octets part : List ℕ) (n : ℕ) (kept : List RawItem) → IsFirstEntry octets n kept → part ≡ take n octets → KeepsItems part kept
 keeps_items octets part n kept first front tokens cut =
@@ -156,14 +195,16 @@ keeps_items octets part n kept first front tokens cut =
 
 -- ---- the entry at the front of a piece
 
-pub fed_entry : (old mid new : EntrySplitter) (piece rest part after : List ℕ) (n : ℕ) (raws : List RawItem) → HasFed old mid piece rest → mid.ended.decided.ending ≡ None → mid.unfinished.items ≡ [] → IsFirstEntry rest n raws → part ≡ take n rest → after ≡ drop n rest → ReadsOctets part mid.ended new.ended → new.at ≡ mid.at → new.unfinished.items ≡ mid.unfinished.items → HasFed old new piece after
-fed_entry old mid new piece rest part after n raws before none empty first front back reads at unfinished =
-    let whole : rest ≡ part ++ after = sym (take-append-drop n rest) ∙ ap (λ t. t ++ drop n rest) (sym front) ∙ ap (λ t. part ++ t) (sym back) in
+pub fed_one : (old mid new : EntrySplitter) (piece rest part after : List ℕ) (tokens : List Token) → HasFed old mid piece rest → mid.ended.decided.ending ≡ None → mid.unfinished.items ≡ [] → IsOneEntry part tokens → rest ≡ part ++ after → ReadsOctets part mid.ended new.ended → new.at ≡ mid.at → new.unfinished.items ≡ mid.unfinished.items → HasFed old new piece after
+fed_one old mid new piece rest part after tokens before none empty one whole reads at unfinished =
     let len : length rest ≡ length part + length after = ap length whole ∙ length-append part after in
     let left : length new.unfinished.items ≡ length mid.unfinished.items = ap length unfinished in
-    let one : IsOneEntry part first.tokens = subst (λ t. IsOneEntry t first.tokens) (sym front) first.one in
-    let follow : FollowsOn mid.ended [] new.ended [] part = λ origin fed given f. follow_one origin mid.ended new.ended [] part fed given first.tokens one none reads f in
+    let follow : FollowsOn mid.ended [] new.ended [] part = λ origin fed given f. follow_one origin mid.ended new.ended [] part fed given tokens one none reads f in
     let is : IsSplitter new.ended new.at new.unfinished.items = grind arith in
-    fed_more old mid new piece rest part after before none whole len is
-    (omega (arith, reads.near, left, len))
-    (rw (unfinished, empty) follow)
+    fed_more old mid new piece rest part after before none whole len is (omega (arith, reads.near, left, len)) (rw (unfinished, empty) follow)
+
+pub fed_entry : (old mid new : EntrySplitter) (piece rest part after : List ℕ) (n : ℕ) (raws : List RawItem) → HasFed old mid piece rest → mid.ended.decided.ending ≡ None → mid.unfinished.items ≡ [] → IsFirstEntry rest n raws → part ≡ take n rest → after ≡ drop n rest → ReadsOctets part mid.ended new.ended → new.at ≡ mid.at → new.unfinished.items ≡ mid.unfinished.items → HasFed old new piece after
+fed_entry old mid new piece rest part after n raws before none empty first front back reads at unfinished =
+    fed_one old mid new piece rest part after first.tokens before none empty (rw front first.one) (cc (take-append-drop n rest)) reads at unfinished
+
+pub ruleset line_parts = (cut_none, goes_on, in_front_shorter, prefix_len-le-length)

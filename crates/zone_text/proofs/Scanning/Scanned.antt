@@ -1,108 +1,292 @@
 -- What a scan says of the octets that it took: where it goes on and stops, and the tokens that they
 -- are.
-use Rattle.zone_text.proofs.Common.{BadEscape, Breaks, BreaksAtEnd, ClosesNothing, Cut, Cuts, Ends, Fault, IsBroken, IsBrokenOff, IsCutOff, IsLostEscape, IsOneEntry, IsOpen, List, LostEscape, MatchOption, None, On, Option, ScanState, Scanned, Some, StaysBroken, Step, Token, UnbalancedParenthesis, UnclosedQuote, [], ap, arith, beginning, closing_stays, cond_both, cut_from, depth_past, end_fault_of, eqb-false, eqb-true, escape_open, escape_stays, further, in_front_of, length, length-take, line_feed, no_escape, no_quote, no_quoted_escape, not_closed, quote_open, quoted_escape_open, quoted_escape_stays, refl, rules, scan_of, scan_on, step_of, subst, suc, sym, take, take-length, text, unclosed, zero, ℕ, ◌++◌, ◌+◌, ◌∷◌, ◌≡◌, ◌≤◌}
+use Rattle.zone_text.proofs.Common.{add-one, AllByRecursion, at_line_end, one_digit, two_digits, too_great, decimal, escaped, octet_of, AllFollow, BadEscape, Breaks, BreaksAtEnd, ClosesNothing, Comment, Cut, Cuts, Ends, Escaped, Fault, IsCutOff, IsLostEscape, IsOneEntry, IsOpen, IsToken, IsUnit, List, LostEscape, MatchOption, MayEndBefore, None, On, Open, Option, Quoted, QuotedEscaped, ScanState, Scanned, ScansTo, Some, StaysBroken, Step, Token, UnbalancedParenthesis, Written, [], ap, append-nil, append_assoc, arith, bare, beginning, blank, closing, closing_stays, comment, common_steps, cut_from, cutting, depth_after, depth_past, end_fault_of, ends_item, ends_within, eqb-true, escape_open, escape_stays, false, further, in_front_of, inl, inr, is_blank, is_quote, is_digit, length, length-append, length-take, line_feed, moves, ne_eqb, no_escape, no_quote, no_quoted_escape, not_closed, nothing_left, open_at, opening, plain, quote_open, quoted, quoted_escape_open, quoted_escape_stays, refl, rules, scan_of, scan_on, step_of, subst, suc, sym, take, text, text_of, token_text, true, unclosed, written_text, zero, ℕ, ◌++◌, ◌+◌, ◌-◌, ◌∙◌, ◌∷◌, ◌≡◌, ◌≢◌, ◌≤◌, ◌⊎◌, AreQuiet, Bool, drop, get_or, or_parts, ◌<◌, ◌||◌}
 use Rattle.zone_text.specs.Breaks.{closes_nothing as closes_none}
-use Rattle.zone_text.proofs.Tokens.Cuttings.{IsCut, cuts, breaks, no_token, one_token_more, text_on}
-use Rattle.zone_text.proofs.Tokens.ForGood.{stays_for_good, ends_not_for_good}
-use Rattle.zone_text.proofs.Scanning.ScanReads.{Reads, reads, EscapeAt, RanOut, EndsNone, ends, closes, runs_out, in_quote, in_escape, in_quoted_escape, then_more, escape_is_bad}
-use Rattle.zone_text.proofs.Tokens.Fronts.{Ends as EndsAt, HasRoom, Takes}
+use Rattle.std.proofs.lemmas.Bool.{le-leb, lt-leb}
+use Rattle.zone_text.specs.Machine.OpenEntry.{state_of}
+use Rattle.zone_text.specs.OpenEntry.{EntryIs}
+use Rattle.zone_text.specs.declared.scan.AfterBackslash.{AfterBackslash}
+use Rattle.zone_text.specs.declared.scan.AfterBackslash.TheVariants.{Inside, Whole, Lost}
+use Rattle.zone_text.specs.declared.scan.Escape.{Escape}
+use Rattle.zone_text.specs.declared.scan.Escape.TheVariants.{Begun, One, Two}
+use Rattle.zone_text.specs.Lasting.{after_backslash as after_backslash_alone, after_digit, after_two_digits}
+use Rattle.zone_text.specs.Machine.Scan.{after_backslash}
+use Rattle.zone_text.specs.declared.items.Extent.{Extent}
+use Rattle.zone_text.specs.declared.items.Extent.TheVariants as extents
+use Rattle.zone_text.proofs.Tokens.Cuttings.{IsCut, room_of, breaks, cuts, cutting_is, depth_on, follow_after, last_after, some_octet, stop_of}
+use Rattle.zone_text.proofs.Tokens.ForGood.{bad_is_malformed, ends_not_for_good, stays_for_good}
+use Rattle.zone_text.proofs.Tokens.Fronts.{Ends as EndsAt, HasRoom, Stops}
 
--- ---- what the last step says
+-- ---- an octet that leaves the state as it is
 
-abbrev pub fault_of : Step → Option Fault
+pub stays : (at : ScanState) (c : ℕ) → moves at.mode c ≡ false → step_of at c ≡ On at
+stays at c e = grind arith
+
+-- ---- answers joined
+
+pub at_octet : (at : ScanState) (octets : List ℕ) (i : ℕ) → i < length octets → scan_of at (drop i octets) ≡ scan_on (λ next. scan_of next (drop (i + 1) octets)) (step_of at (get_or octets i 0))
+unfolding scan_of
+at_octet at octets i in_range = grind (arith, common_steps)
+
+-- one octet more, and the scan goes on
+pub one_on : (start at next : ScanState) (octets : List ℕ) (i : ℕ) → i < length octets → step_of at (get_or octets i 0) ≡ On next → scan_of start octets ≡ further i (scan_of at (drop i octets)) → scan_of start octets ≡ further (i + 1) (scan_of next (drop (i + 1) octets))
+one_on start at next octets i in_range e before = search (rules, at_octet)
+
+-- and the depth grows by one at the most
+
+abbrev Rises : ℕ → Step → Type 0
+Rises depth (On next) = next.depth ≤ depth + 1
+Rises depth step = Unit {0}
+
+pub rises : (at next : ScanState) (c : ℕ) → step_of at c ≡ On next → next.depth ≤ at.depth + 1
+rises at next c e = subst (Rises at.depth) e (search rules)
+
+-- ---- where the scan stops
+
+pub all_taken : (start at : ScanState) (octets : List ℕ) (i : ℕ) → i ≡ length octets → scan_of start octets ≡ further i (scan_of at (drop i octets)) → record { taken = length octets; step = On at } ≡ scan_of start octets
+unfolding scan_of
+all_taken start at octets i e before = grind (arith, common_steps)
+
+-- ---- octets that leave an open state as it is
+
+quiet_on : (octets : List ℕ) (i : ℕ) → i < length octets → moves Open (get_or octets i 0) ≡ false → AreQuiet octets i → AreQuiet octets (i + 1)
+quiet_on octets i less still quiet depth = grind (arith, one_on (open_at depth) (open_at depth) (open_at depth) octets i less (stays (open_at depth) (get_or octets i 0) still) (quiet depth))
+
+pub four_on : (octets : List ℕ) (i : ℕ) (first second third fourth : Bool) → first ≡ moves Open (get_or octets i 0) → second ≡ moves Open (get_or octets (i + 1) 0) → third ≡ moves Open (get_or octets (i + 2) 0) → fourth ≡ moves Open (get_or octets (i + 3) 0) → (first || second || third || fourth) ≡ false → i ≤ length octets → 4 ≤ length octets - i → AreQuiet octets i → AreQuiet octets (i + 4)
+four_on octets i first second third fourth is1 is2 is3 is4 none within fits quiet =
+    let p3 = or_parts (first || second || third) fourth none in
+    let p2 = or_parts (first || second) third p3.0 in
+    let p1 = or_parts first second p2.0 in
+    let two : i + 1 + 1 ≡ i + 2 = omega arith in
+    let three : i + 2 + 1 ≡ i + 3 = omega arith in
+    let four : i + 3 + 1 ≡ i + 4 = omega arith in
+    let q1 = quiet_on octets i (omega arith) (sym is1 ∙ p1.0) quiet in
+    let q2 = subst (AreQuiet octets) two (quiet_on octets (i + 1) (omega arith) (sym is2 ∙ p1.1) q1) in
+    let q3 = subst (AreQuiet octets) three (quiet_on octets (i + 2) (omega arith) (sym is3 ∙ p2.1) q2) in
+    subst (AreQuiet octets) four (quiet_on octets (i + 3) (omega arith) (sym is4 ∙ p3.1) q3)
+
+pub quiet_at : (at : ScanState) (octets : List ℕ) (n : ℕ) → at.mode ≡ Open → AreQuiet octets n → scan_of at octets ≡ further n (scan_of at (drop n octets))
+quiet_at at octets n is quiet =
+    subst (λ mode. scan_of (record { mode = mode; depth = at.depth }) octets ≡ further n (scan_of (record { mode = mode; depth = at.depth }) (drop n octets))) (sym is) (quiet at.depth)
+
+-- ---- one octet
+
+-- where it leads on, the scan takes the others from there
+on_more : (at next : ScanState) (c : ℕ) (rest : List ℕ) (step : Step) → ScansTo at (c ∷ rest) step → step_of at c ≡ On next → ScansTo next rest step
+unfolding scan_of
+on_more at next c rest step scanned e = grind (arith, common_steps)
+
+abbrev IsLast : Step → Type 0
+IsLast (On at) = ⊥
+IsLast step = Unit {0}
+
+-- else it is the last
+is_last : (at : ScanState) (c : ℕ) (rest : List ℕ) (step last : Step) → ScansTo at (c ∷ rest) step → step_of at c ≡ last → IsLast last → (step ≡ last) × (rest ≡ [])
+unfolding scan_of
+is_last at c rest step last scanned e is = grind (arith, common_steps)
+
+none_more : (at : ScanState) (step : Step) → ScansTo at [] step → step ≡ On at
+unfolding scan_of
+none_more at step scanned = ap (λ (f : Scanned). f.step) (sym scanned)
+
+-- ---- written octets leave a scan where it was
+
+abbrev inside : Extent → ℕ → ScanState
+inside extents.Bare depth = open_at depth
+inside extents.Quoted depth = record { mode = Quoted; depth = depth }
+
+abbrev in_escape : Extent → Escape → ℕ → ScanState
+in_escape extents.Bare escape depth = record { mode = Escaped escape; depth = depth }
+in_escape extents.Quoted escape depth = record { mode = QuotedEscaped escape; depth = depth }
+
+-- where an octet after a backslash leads
+abbrev Goes : Extent → ℕ → List ℕ → Step → AfterBackslash → Type 0
+Goes extent depth rest step (Inside escape) = ScansTo (in_escape extent escape depth) rest step
+Goes extent depth rest step Whole = ScansTo (inside extent depth) rest step
+Goes extent depth rest step Lost = step ≡ LostEscape
+
+escape_goes : (extent : Extent) (escape : Escape) (depth c : ℕ) (rest : List ℕ) (step : Step) (after : AfterBackslash) → ScansTo (in_escape extent escape depth) (c ∷ rest) step → after_backslash escape c ≡ after → Goes extent depth rest step after
+escape_goes extents.Bare escape depth c rest step (Inside next) scanned e = on_more (in_escape extents.Bare escape depth) _ c rest step scanned (rw e refl)
+escape_goes extents.Bare escape depth c rest step Whole scanned e = on_more (in_escape extents.Bare escape depth) _ c rest step scanned (rw e refl)
+escape_goes extents.Bare escape depth c rest step Lost scanned e = (is_last (in_escape extents.Bare escape depth) c rest step LostEscape scanned (rw e refl) tt).0
+escape_goes extents.Quoted escape depth c rest step (Inside next) scanned e = on_more (in_escape extents.Quoted escape depth) _ c rest step scanned (rw e refl)
+escape_goes extents.Quoted escape depth c rest step Whole scanned e = on_more (in_escape extents.Quoted escape depth) _ c rest step scanned (rw e refl)
+escape_goes extents.Quoted escape depth c rest step Lost scanned e = (is_last (in_escape extents.Quoted escape depth) c rest step LostEscape scanned (rw e refl) tt).0
+
+backslash_on : (extent : Extent) (depth : ℕ) (rest : List ℕ) (step : Step) → ScansTo (inside extent depth) (92 ∷ rest) step → ScansTo (in_escape extent Begun depth) rest step
+backslash_on extents.Bare depth rest step scanned = on_more (open_at depth) _ 92 rest step scanned refl
+backslash_on extents.Quoted depth rest step scanned = on_more (inside extents.Quoted depth) _ 92 rest step scanned refl
+
+backslash_goes : (extent : Extent) (depth : ℕ) (c : ℕ) (rest : List ℕ) (step : Step) → ScansTo (inside extent depth) (92 ∷ c ∷ rest) step → Goes extent depth rest step (after_backslash Begun c)
+backslash_goes extent depth c rest step scanned = escape_goes extent Begun depth c rest step _ (backslash_on extent depth (c ∷ rest) step scanned) refl
+
+digits_go : (extent : Extent) (depth x y : ℕ) (rest : List ℕ) (step : Step) → is_digit x ≡ true → ScansTo (inside extent depth) (92 ∷ x ∷ y ∷ rest) step → Goes extent depth rest step (after_backslash (One x) y)
+digits_go extent depth x y rest step dx scanned = escape_goes extent (One x) depth y rest step _ (rw dx at (backslash_goes extent depth x (y ∷ rest) step scanned)) refl
+
+number_goes : (extent : Extent) (depth x y z : ℕ) (rest : List ℕ) (step : Step) → is_digit x ≡ true → is_digit y ≡ true → ScansTo (inside extent depth) (92 ∷ x ∷ y ∷ z ∷ rest) step → Goes extent depth rest step (after_backslash (Two x y) z)
+number_goes extent depth x y z rest step dx dy scanned = escape_goes extent (Two x y) depth z rest step _ (rw dy at (digits_go extent depth x y (z ∷ rest) step dx scanned)) refl
+
+still : (c : ℕ) → ends_item c ≡ false → c ≢ 92 → moves Open c ≡ false
+still c ends other = grind (arith, common_steps, ne_eqb)
+
+unit_scanned : (extent : Extent) (depth : ℕ) (w : Written) (rest : List ℕ) (step : Step) → IsUnit (ends_within extent) w → ScansTo (inside extent depth) (text_of w ++ rest) step → ScansTo (inside extent depth) rest step
+unit_scanned extents.Bare depth (plain c) rest step is scanned = on_more (open_at depth) _ c rest step scanned (stays (open_at depth) c (still c is.0 is.1))
+unit_scanned extents.Quoted depth (plain c) rest step is scanned = on_more (inside extents.Quoted depth) _ c rest step scanned (rw (is.0, ne_eqb c 92 is.1) refl)
+unit_scanned extent depth (escaped c) rest step is scanned = rw (is.0, ne_eqb c 10 is.1, ne_eqb c 13 is.2) at (backslash_goes extent depth c rest step scanned)
+unit_scanned extent depth (decimal x y z) rest step is scanned = rw (is.2, le-leb (octet_of (decimal x y z)) 255 is.3) at (number_goes extent depth x y z rest step is.0 is.1 scanned)
+
+units_scanned : (extent : Extent) (depth : ℕ) (units : List Written) (rest : List ℕ) (step : Step) → AllByRecursion (IsUnit (ends_within extent)) units → ScansTo (inside extent depth) (written_text units ++ rest) step → ScansTo (inside extent depth) rest step
+units_scanned extent depth [] rest step each scanned = scanned
+units_scanned extent depth (w ∷ units) rest step each scanned = search (rules, unit_scanned, append_assoc, units_scanned extent depth units rest step each.1 (unit_scanned extent depth w (written_text units ++ rest) step each.0 (rw append_assoc at scanned)))
+
+-- ---- what breaks a text
+
+lost_scanned : (extent : Extent) (depth : ℕ) (rest : List ℕ) (step : Step) → IsLostEscape rest → ScansTo (inside extent depth) rest step → step ≡ LostEscape
+lost_scanned extent depth rest step (at_line_end c more e is) scanned = grind (arith, backslash_goes extent depth c more step (rw e at scanned))
+lost_scanned extent depth rest step (one_digit x c more e dx nc) scanned = rw nc at (digits_go extent depth x c more step dx (rw e at scanned))
+lost_scanned extent depth rest step (two_digits x y c more e dx dy nc) scanned = rw nc at (number_goes extent depth x y c more step dx dy (rw e at scanned))
+lost_scanned extent depth rest step (too_great x y z more e dx dy dz great) scanned = rw (dz, lt-leb (octet_of (decimal x y z)) 255 great) at (number_goes extent depth x y z more step dx dy (rw e at scanned))
+
+-- the octets ran out, and the input's end has the fault
+abbrev RanOut : Option Fault → Step → Type 0
+RanOut fault (On at) = end_fault_of at ≡ fault
+RanOut fault step = ⊥
+
+ran_out : (extent : Extent) (escape : Escape) (depth : ℕ) (step : Step) → ScansTo (in_escape extent escape depth) [] step → RanOut (Some BadEscape) step
+ran_out extents.Bare escape depth step scanned = rw (none_more (in_escape extents.Bare escape depth) step scanned) refl
+ran_out extents.Quoted escape depth step scanned = rw (none_more (in_escape extents.Quoted escape depth) step scanned) refl
+
+cut_scanned : (extent : Extent) (depth : ℕ) (rest : List ℕ) (step : Step) → IsCutOff rest → ScansTo (inside extent depth) rest step → RanOut (Some BadEscape) step
+cut_scanned extent depth rest step (after_backslash_alone e) scanned = ran_out extent Begun depth step (backslash_on extent depth [] step (rw e at scanned))
+cut_scanned extent depth rest step (after_digit x e dx) scanned = ran_out extent (One x) depth step (rw dx at (backslash_goes extent depth x [] step (rw e at scanned)))
+cut_scanned extent depth rest step (after_two_digits x y e dx dy) scanned = ran_out extent (Two x y) depth step (rw dy at (digits_go extent depth x y [] step dx (rw e at scanned)))
+
+abbrev fault_of : Step → Option Fault
 fault_of (On at) = end_fault_of at
 fault_of Ends = None
 fault_of LostEscape = Some BadEscape
 fault_of ClosesNothing = Some UnbalancedParenthesis
 
 -- what is left after the tokens
-abbrev pub Left : Step → List ℕ → Type 0
+abbrev Left : Step → List ℕ → Type 0
 Left (On at) rest = BreaksAtEnd rest
 Left Ends rest = rest ≡ []
 Left step rest = StaysBroken rest
 
 -- one entry that a line feed ends, or one that is open
-abbrev pub entry_by : Step → List Token → Cut
+abbrev entry_by : Step → List Token → Cut
 entry_by Ends tokens = record { ended = tokens ∷ []; open_tokens = [] }
 entry_by step tokens = record { ended = []; open_tokens = tokens }
 
-pub record IsRead (step : Step) (depth : ℕ) (octets : List ℕ) : Type 0 where
-  pub tokens : List Token
-  pub rest : List ℕ
-  pub whole : octets ≡ text tokens ++ rest
-  pub left : Left step rest
-  pub cut : IsCut depth octets tokens (fault_of step)
-  pub entries : cut_from depth tokens ≡ entry_by step tokens
+-- what the last step says of tokens from a depth on, and of what is left after them
+record Says (step : Step) (depth : ℕ) (tokens : List Token) (rest : List ℕ) (broken : Option Fault) : Type 0 where
+  fault : fault_of step ≡ broken
+  left : Left step rest
+  entries : cut_from depth tokens ≡ entry_by step tokens
 
--- ---- entries
+says_end : (step : Step) (depth : ℕ) (rest : List ℕ) (fault : Option Fault) → RanOut fault step → BreaksAtEnd rest → Says step depth [] rest fault
+says_end (On at) depth rest fault ran left = record { fault = ran; left = left; entries = cc }
+says_end step depth rest fault ran left = absurd ran
 
-no_entry : (depth : ℕ) → cut_from depth [] ≡ record { ended = []; open_tokens = [] }
-no_entry depth = cc
+says_lost : (step : Step) (depth : ℕ) (rest : List ℕ) → step ≡ LostEscape → StaysBroken rest → Says step depth [] rest (Some BadEscape)
+says_lost step depth rest is left = rw is (record { fault = refl; left = left; entries = cc })
 
--- ---- what is read
+escape_says : (extent : Extent) (step : Step) (depth : ℕ) (after rest : List ℕ) → IsLostEscape after ⊎ IsCutOff after → ScansTo (inside extent depth) after step → (IsLostEscape after → StaysBroken rest) → (IsCutOff after → BreaksAtEnd rest) → Says step depth [] rest (Some BadEscape)
+escape_says extent step depth after rest (inl lost) scanned stay ends = says_lost step depth rest (lost_scanned extent depth after step lost scanned) (stay lost)
+escape_says extent step depth after rest (inr cut) scanned stay ends = says_end step depth rest (Some BadEscape) (cut_scanned extent depth after step cut scanned) (ends cut)
 
--- no token
-stop_read : (step : Step) (depth : ℕ) (octets : List ℕ) → EndsAt depth octets (fault_of step) → Left step octets → entry_by step [] ≡ record { ended = []; open_tokens = [] } → IsRead step depth octets
-stop_read step depth octets stop left e = search (rules, no_token, no_entry)
+in_quote : (step : Step) (depth : ℕ) (units : List Written) (rest after : List ℕ) → AllByRecursion (IsUnit is_quote) units → rest ≡ 34 ∷ written_text units ++ after → ScansTo (open_at depth) rest step → ScansTo (inside extents.Quoted depth) after step
+in_quote step depth units rest after each whole scanned = units_scanned extents.Quoted depth units after step each (on_more (open_at depth) (inside extents.Quoted depth) 34 (written_text units ++ after) step (rw whole at scanned) refl)
 
-line_read : (octets : List ℕ) → octets ≡ 10 ∷ [] → IsRead Ends zero octets
-line_read octets e = record {
-  tokens = line_feed ∷ [];
-  rest = [];
-  whole = e;
-  left = refl;
-  cut = one_token_more zero octets [] line_feed [] None (record { whole = e; token = tt; stop = tt; room = tt }) (no_token zero [] None (refl, refl));
-  entries = refl;
-}
+out_says : (step : Step) (depth : ℕ) (rest : List ℕ) (fault : Option Fault) → rest ≡ [] → unclosed depth ≡ fault → ScansTo (open_at depth) rest step → Says step depth [] rest fault
+out_says step depth rest fault none is scanned = rw (none_more (open_at depth) step (rw none at scanned)) (record { fault = is; left = nothing_left none; entries = cc })
 
-at_depth : (step last : Step) (depth : ℕ) (octets : List ℕ) → step ≡ last → depth ≡ 0 → IsRead last zero octets → IsRead step depth octets
-at_depth step last depth octets e d read = search rules
+stop_says : (step : Step) (depth : ℕ) (rest : List ℕ) (fault : Option Fault) → EndsAt depth rest fault → ScansTo (open_at depth) rest step → Says step depth [] rest fault
+stop_says step depth rest None ends scanned = out_says step depth rest None ends.1 (rw ends.0 refl) scanned
+stop_says step depth rest (Some fault) (closes_none after d e) scanned = rw (is_last (open_at depth) 41 after step ClosesNothing (rw e at scanned) (rw d refl) tt).0 (record { fault = refl; left = closing_stays after e; entries = cc })
+stop_says step depth rest (Some fault) (no_escape bad) scanned = escape_says extents.Bare step depth rest rest (bad_is_malformed rest bad) scanned (λ lost. escape_stays lost) (λ cut. escape_open cut)
+stop_says step depth rest (Some fault) (no_quoted_escape units after each whole bad) scanned = escape_says extents.Quoted step depth after rest (bad_is_malformed after bad) (in_quote step depth units rest after each whole scanned) (λ lost. quoted_escape_stays units after each whole lost) (λ cut. quoted_escape_open units after each whole cut)
+stop_says step depth rest (Some fault) (no_quote units each whole) scanned =
+    rw (none_more (inside extents.Quoted depth) step (in_quote step depth units rest [] each (whole ∙ ap (λ t. 34 ∷ t) (sym (append-nil (written_text units)))) scanned)) (record { fault = refl; left = quote_open units each whole; entries = cc })
+stop_says step depth rest (Some fault) (not_closed some whole) scanned = out_says step depth rest (Some UnbalancedParenthesis) whole (rw (ne_eqb depth 0 (omega arith)) refl) scanned
 
--- the octets ran out
-out_read : (step : Step) (fault : Option Fault) (depth : ℕ) (octets : List ℕ) → RanOut fault step → EndsAt depth octets fault → BreaksAtEnd octets → IsRead step depth octets
-out_read (On at) fault depth octets ran stop left = stop_read (On at) depth octets (subst (EndsAt depth octets) (sym ran) stop) left refl
-out_read step fault depth octets ran stop left = absurd ran
+-- ---- a token
 
-escape_read : (step : Step) (depth : ℕ) (octets after : List ℕ) → EscapeAt step after → IsBroken depth octets BadEscape → (IsCutOff after → BreaksAtEnd octets) → (IsLostEscape after → StaysBroken octets) → IsRead step depth octets
-escape_read (On at) depth octets after open_escape broken at_the_end stays = stop_read (On at) depth octets (subst (EndsAt depth octets) (sym open_escape.0) broken) (at_the_end open_escape.1) refl
-escape_read LostEscape depth octets after open_escape broken at_the_end stays = stop_read LostEscape depth octets broken (stays open_escape) refl
-escape_read step depth octets after open_escape broken at_the_end stays = absurd open_escape
+-- the token ends no entry
+abbrev EndsNone : ℕ → Token → Type 0
+EndsNone depth line_feed = depth ≢ 0
+EndsNone depth p = Unit {0}
 
-in_entry : (step : Step) (p : Token) (tokens : List Token) → in_front_of p (entry_by step tokens) ≡ entry_by step (p ∷ tokens)
-in_entry step p tokens = search rules
+abbrev after : Token → ℕ → ScanState
+after (comment octets) depth = record { mode = Comment; depth = depth }
+after p depth = open_at (depth_past depth p)
+
+blank_still : (c : ℕ) → is_blank c ≡ true → moves Open c ≡ false
+blank_still c is = grind (arith, common_steps, eqb-true)
+
+comment_scanned : (depth : ℕ) (octets rest : List ℕ) (step : Step) → AllByRecursion (λ c. c ≢ 10) octets → ScansTo (after (comment octets) depth) (octets ++ rest) step → ScansTo (after (comment octets) depth) rest step
+comment_scanned depth [] rest step each scanned = scanned
+comment_scanned depth (c ∷ octets) rest step each scanned = search (rules, comment_scanned depth octets rest step each.1, on_more, stays, ne_eqb)
+
+token_scanned : (depth : ℕ) (p : Token) (rest : List ℕ) (step : Step) → IsToken p → HasRoom depth p → EndsNone depth p → ScansTo (open_at depth) (token_text p ++ rest) step → ScansTo (after p depth) rest step
+token_scanned depth (blank c) rest step is room none scanned = search (rules, on_more, stays, blank_still)
+token_scanned depth (comment octets) rest step is room none scanned = search (rules, comment_scanned, on_more)
+token_scanned depth (bare units) rest step is room none scanned = units_scanned extents.Bare depth units rest step is.1 scanned
+token_scanned depth (quoted units) rest step is room none scanned =
+    on_more (inside extents.Quoted depth) (open_at depth) 34 rest step (in_quote step depth units _ (34 ∷ rest) is (ap (λ t. 34 ∷ t) (append_assoc (written_text units) (34 ∷ []) rest)) scanned) refl
+token_scanned depth opening rest step is room none scanned = rw add-one at (on_more (open_at depth) (open_at (depth + 1)) 40 rest step scanned refl)
+token_scanned depth closing rest step is room none scanned = on_more (open_at depth) (open_at (depth - 1)) 41 rest step scanned (rw (ne_eqb depth 0 (omega arith)) refl)
+token_scanned depth line_feed rest step is room none scanned = on_more (open_at depth) (open_at depth) 10 rest step scanned (rw (ne_eqb depth 0 none) refl)
 
 token_on : (depth : ℕ) (p : Token) (tokens : List Token) → HasRoom depth p → EndsNone depth p → cut_from depth (p ∷ tokens) ≡ in_front_of p (cut_from (depth_past depth p) tokens)
 token_on depth p tokens room none = search rules
 
-token_read : (step : Step) (depth : ℕ) (octets : List ℕ) (p : Token) (rest : List ℕ) → Takes depth octets p rest → EndsNone depth p → IsRead step (depth_past depth p) rest → IsRead step depth octets
-token_read step depth octets p rest front none more = grind (arith, text_on octets rest more.rest p more.tokens front.whole more.whole, one_token_more depth octets rest p more.tokens (fault_of step) front more.cut, token_on depth p more.tokens front.room none, in_entry step p more.tokens)
+in_entry : (step : Step) (p : Token) (tokens : List Token) → in_front_of p (entry_by step tokens) ≡ entry_by step (p ∷ tokens)
+in_entry step p tokens = search rules
 
-unclosed_ends : (depth : ℕ) (octets : List ℕ) → octets ≡ [] → EndsAt depth octets (unclosed depth)
-unclosed_ends depth octets e = grind (arith, cond_both, eqb-true, eqb-false, not_closed)
+-- after a comment what is left is scanned as where none is open
+after_says : (step : Step) (depth : ℕ) (p : Token) (octets : List ℕ) (tokens : List Token) (rest : List ℕ) (fault : Option Fault) → Stops p octets → ScansTo (after p depth) octets step → ((like : Step) → ScansTo (open_at (depth_past depth p)) octets like → Says like (depth_past depth p) tokens rest fault) → Says step (depth_past depth p) tokens rest fault
+unfolding scan_of
+after_says step depth (comment octets) [] tokens rest fault stop scanned more =
+    let like : Says (On (open_at depth)) depth tokens rest fault = more (On (open_at depth)) refl in
+    rw (none_more (after (comment octets) depth) step scanned) (record { fault = like.fault; left = like.left; entries = like.entries })
+after_says step depth (comment octets) (c ∷ left) tokens rest fault stop scanned more = more step (rw stop (rw stop at scanned))
+after_says step depth p octets tokens rest fault stop scanned more = more step scanned
 
-pub is_read : (step : Step) (depth : ℕ) (octets : List ℕ) → Reads step depth octets → IsRead step depth octets
-is_read step _ _ (ends depth octets e d f) = search (rules, at_depth, line_read)
-is_read step _ _ (closes depth octets e d f) = at_depth step ClosesNothing depth octets e d (stop_read ClosesNothing zero octets (closes_none [] refl f) (closing_stays [] f) refl)
-is_read step _ _ (runs_out depth octets ran f) = search (rules, out_read, unclosed_ends)
-is_read step _ _ (in_quote depth octets units ran each f) = out_read step (Some UnclosedQuote) depth octets ran (no_quote units each f) (quote_open units each f)
-is_read step _ _ (in_escape depth octets open_escape) = search (rules, escape_read, escape_is_bad, no_escape, escape_open, escape_stays)
-is_read step _ _ (in_quoted_escape depth octets units after each f open_escape) = search (rules, escape_read, escape_is_bad, no_quoted_escape, quoted_escape_open, quoted_escape_stays)
-is_read step _ _ (then_more depth octets p rest front none more) = token_read step depth octets p rest front none (is_read step (depth_past depth p) rest more)
+-- ---- all tokens
+
+token_says : (step : Step) (depth at : ℕ) (p : Token) (tokens : List Token) (rest : List ℕ) (fault : Option Fault) → AllByRecursion IsToken (p ∷ tokens) → AllFollow (p ∷ tokens) → MayEndBefore (p ∷ tokens) rest → depth_after depth (p ∷ tokens) ≡ Some at → EndsAt at rest fault → ScansTo (open_at depth) (text (p ∷ tokens) ++ rest) step → ((like : Step) → depth_after (depth_past depth p) tokens ≡ Some at → ScansTo (open_at (depth_past depth p)) (text tokens ++ rest) like → Says like (depth_past depth p) tokens rest fault) → EndsNone depth p → Says step depth (p ∷ tokens) rest fault
+token_says step depth at p tokens rest fault each follow last past ends scanned more none =
+    let room : HasRoom depth p = room_of depth at p tokens past in
+    let read : ScansTo (after p depth) (text tokens ++ rest) step = token_scanned depth p (text tokens ++ rest) step each.0 room none (rw append_assoc at scanned) in
+    let next : Says step (depth_past depth p) tokens rest fault = after_says step depth p (text tokens ++ rest) tokens rest fault (stop_of p tokens at rest fault each.1 follow last ends) read (λ like. more like (sym (depth_on depth p tokens room) ∙ past)) in
+    record { fault = next.fault; left = next.left; entries = token_on depth p tokens room none ∙ ap (in_front_of p) next.entries ∙ in_entry step p tokens }
+
+whole_ends : (depth : ℕ) (rest : List ℕ) (fault : Option Fault) → depth ≡ zero → rest ≡ [] → EndsAt depth rest fault → fault ≡ None
+whole_ends depth rest fault d e ends = grind arith
+
+all_say : (tokens : List Token) (step : Step) (depth at : ℕ) (rest : List ℕ) (fault : Option Fault) → AllByRecursion IsToken tokens → AllFollow tokens → MayEndBefore tokens rest → depth_after depth tokens ≡ Some at → EndsAt at rest fault → ScansTo (open_at depth) (text tokens ++ rest) step → Says step depth tokens rest fault
+all_say [] step depth at rest fault each follow last past ends scanned = stop_says step depth rest fault (let same : at ≡ depth = cc in rw same at ends) scanned
+all_say (line_feed ∷ []) step zero at rest fault each follow last past ends scanned =
+    let end = is_last (open_at zero) 10 rest step Ends scanned refl tt in
+    rw end.0 (record { fault = sym (whole_ends at rest fault (let same : at ≡ zero = cc in same) end.1 ends); left = end.1; entries = refl })
+all_say (line_feed ∷ q ∷ tokens) step zero at rest fault each follow last past ends scanned =
+    absurd (omega (arith, ap length (is_last (open_at zero) 10 (text (q ∷ tokens) ++ rest) step Ends scanned refl tt).1, length-append (text (q ∷ tokens)) rest, length-append (token_text q) (text tokens), some_octet q each.1.0))
+all_say (line_feed ∷ tokens) step (suc depth) at rest fault each follow last past ends scanned =
+    token_says step (suc depth) at line_feed tokens rest fault each follow last past ends scanned (λ like on read. all_say tokens like (suc depth) at rest fault each.1 (follow_after line_feed tokens follow) (last_after line_feed tokens rest last) on ends read) (λ e. omega arith)
+all_say (p ∷ tokens) step depth at rest fault each follow last past ends scanned =
+    token_says step depth at p tokens rest fault each follow last past ends scanned (λ like on read. all_say tokens like (depth_past depth p) at rest fault each.1 (follow_after p tokens follow) (last_after p tokens rest last) on ends read) tt
 
 -- ---- where a scan goes on and stops
 
-module _ (at : ScanState) (rest b : List ℕ) where
-  go_on_by : (step : Step) → ((next : ScanState) → (scan_of next rest).step ≡ On at → scan_of next (rest ++ b) ≡ further (length rest) (scan_of at b)) → (scan_on (λ next. scan_of next rest) step).step ≡ On at → scan_on (λ next. scan_of next (rest ++ b)) step ≡ further (suc (length rest)) (scan_of at b)
-  go_on_by step more e = grind arith
-
 -- a scan that doesn't stop goes on after the octets
-pub step_goes_on : (start at : ScanState) (a b : List ℕ) → (scan_of start a).step ≡ On at → scan_of start (a ++ b) ≡ further (length a) (scan_of at b)
+pub step_goes_on : (a b : List ℕ) (start at : ScanState) → (scan_of start a).step ≡ On at → scan_of start (a ++ b) ≡ further (length a) (scan_of at b)
 unfolding scan_of
-step_goes_on start at [] b e = search rules
-step_goes_on start at (c ∷ rest) b e = go_on_by at rest b (step_of start c) (λ next more. step_goes_on next at rest b more) e
+step_goes_on [] b start at e = search rules
+step_goes_on (c ∷ rest) b start at e = grind (arith, step_goes_on rest b)
 
 pub goes_on : (start at : ScanState) (a b : List ℕ) → scan_of start a ≡ record { taken = length a; step = On at } → scan_of start (a ++ b) ≡ further (length a) (scan_of at b)
-goes_on start at a b e = step_goes_on start at a b (ap (λ (found : Scanned). found.step) e)
+goes_on start at a b e = step_goes_on a b start at (ap (λ (found : Scanned). found.step) e)
 
 front_by : (start : ScanState) (c : ℕ) (rest : List ℕ) (step : Step) → step_of start c ≡ step → ((next : ScanState) → scan_of next (take (scan_of next rest).taken rest) ≡ scan_of next rest) → scan_of start (take (scan_on (λ next. scan_of next rest) step).taken (c ∷ rest)) ≡ scan_on (λ next. scan_of next rest) step
 unfolding scan_of
@@ -114,17 +298,14 @@ unfolding scan_of
 stops_at start [] = refl
 stops_at start (c ∷ rest) = front_by start c rest (step_of start c) refl (λ next. stops_at next rest)
 
-within_by : (rest : List ℕ) (step : Step) → ((next : ScanState) → (scan_of next rest).taken ≤ length rest) → (scan_on (λ next. scan_of next rest) step).taken ≤ suc (length rest)
-within_by rest step more = search rules
-
-pub taken_within : (start : ScanState) (octets : List ℕ) → (scan_of start octets).taken ≤ length octets
+taken_within : (octets : List ℕ) (start : ScanState) → (scan_of start octets).taken ≤ length octets
 unfolding scan_of
-taken_within start [] = omega arith
-taken_within start (c ∷ rest) = within_by rest (step_of start c) (λ next. taken_within next rest)
+taken_within [] start = omega arith
+taken_within (c ∷ rest) start = grind (arith, taken_within rest)
 
 -- of those octets it takes all
 pub takes_front : (start : ScanState) (octets : List ℕ) → length (take (scan_of start octets).taken octets) ≡ (scan_of start octets).taken
-takes_front start octets = simp length-take (omega (arith, taken_within start octets))
+takes_front start octets = search (rules, length-take, taken_within)
 
 depth_by : (start at : ScanState) (c : ℕ) (rest : List ℕ) (step : Step) → step_of start c ≡ step → ((next : ScanState) → (scan_of next rest).step ≡ On at → at.depth ≤ next.depth + length rest) → (scan_on (λ next. scan_of next rest) step).step ≡ On at → at.depth ≤ start.depth + suc (length rest)
 depth_by start at c rest step same more e = grind arith
@@ -137,33 +318,22 @@ unfinished_depth start at (c ∷ rest) e = depth_by start at c rest (step_of sta
 
 -- ---- the tokens of octets that a scan took whole
 
-read_by : (octets : List ℕ) (step : Step) → scan_of beginning octets ≡ record { taken = length octets; step = step } → IsRead step zero octets
-read_by octets step e =
-    let P : Scanned → Type 0 = λ found. Reads found.step zero (take found.taken octets) in
-    is_read step zero octets (subst (Reads step zero) (take-length octets) (subst P e (reads octets beginning tt)))
+record IsRead (octets : List ℕ) (step : Step) : Type 0 where
+  tokens : List Token
+  rest : List ℕ
+  whole : octets ≡ text tokens ++ rest
+  left : Left step rest
+  cut : IsCut zero octets tokens (fault_of step)
+  entries : cut_from zero tokens ≡ entry_by step tokens
+
+read_by : (octets : List ℕ) (step : Step) → ScansTo beginning octets step → IsRead octets step
+read_by octets step scanned =
+    let is = cutting_is octets in
+    let says = all_say (cutting octets).tokens step zero is.at is.rest (cutting octets).broken is.each is.follow is.last is.parentheses is.ends (subst (λ t. ScansTo beginning t step) is.whole scanned) in
+    record { tokens = (cutting octets).tokens; rest = is.rest; whole = is.whole; left = says.left; cut = rw says.fault is; entries = says.entries }
 
 no_ended : (tokens : List Token) → cut_from zero tokens ≡ record { ended = []; open_tokens = tokens } → (cut_from zero tokens).ended ≡ []
 no_ended tokens e = ap (λ (cut : Cut). cut.ended) e
-
-pub ends_entry : (octets : List ℕ) → scan_of beginning octets ≡ record { taken = length octets; step = Ends } → (tokens : List Token) × IsOneEntry octets tokens
-ends_entry octets e =
-    let read : IsRead Ends zero octets = read_by octets Ends e in
-    (read.tokens, record { cut = cuts octets read.tokens read.cut; ended = read.entries })
-
-pub stays_open : (octets : List ℕ) (at : ScanState) → scan_of beginning octets ≡ record { taken = length octets; step = On at } → IsOpen octets
-stays_open octets at e =
-    let read : IsRead (On at) zero octets = read_by octets (On at) e in
-    record { tokens = read.tokens; are = search rules; none = no_ended read.tokens read.entries; goes_on = ends_not_for_good octets read.tokens read.rest read.whole read.left }
-
-pub loses_escape : (octets : List ℕ) → scan_of beginning octets ≡ record { taken = length octets; step = LostEscape } → IsBrokenOff octets BadEscape
-loses_escape octets e =
-    let read : IsRead LostEscape zero octets = read_by octets LostEscape e in
-    record { tokens = read.tokens; breaks = stays_for_good octets read.tokens BadEscape (breaks octets read.tokens BadEscape read.cut) read.rest read.whole read.left; none = no_ended read.tokens read.entries }
-
-pub closes_nothing : (octets : List ℕ) → scan_of beginning octets ≡ record { taken = length octets; step = ClosesNothing } → IsBrokenOff octets UnbalancedParenthesis
-closes_nothing octets e =
-    let read : IsRead ClosesNothing zero octets = read_by octets ClosesNothing e in
-    record { tokens = read.tokens; breaks = stays_for_good octets read.tokens UnbalancedParenthesis (breaks octets read.tokens UnbalancedParenthesis read.cut) read.rest read.whole read.left; none = no_ended read.tokens read.entries }
 
 -- what the input's end makes of the octets
 abbrev AtEnd : List ℕ → Option Fault → Type 0
@@ -172,7 +342,25 @@ AtEnd octets fault = MatchOption fault ((tokens : List Token) × Cuts octets tok
 end_by : (octets : List ℕ) (tokens : List Token) (fault : Option Fault) → IsCut zero octets tokens fault → (cut_from zero tokens).ended ≡ [] → AtEnd octets fault
 end_by octets tokens fault is none = search rules
 
+-- where the octets leave the entry
+pub entry_is : (octets : List ℕ) (step : Step) → ScansTo beginning octets step → EntryIs octets (state_of step)
+entry_is octets step scanned = by step (read_by octets step scanned)
+  where
+    by : (step : Step) → IsRead octets step → EntryIs octets (state_of step)
+    by (On at) read = record { tokens = read.tokens; are = search rules; none = no_ended read.tokens read.entries; goes_on = ends_not_for_good octets read.tokens read.rest read.whole read.left }
+    by Ends read = search (rules, cuts)
+    by LostEscape read = search (rules, stays_for_good, breaks, no_ended)
+    by ClosesNothing read = search (rules, stays_for_good, breaks, no_ended)
+
+pub ends_entry : (octets : List ℕ) → ScansTo beginning octets Ends → (tokens : List Token) × IsOneEntry octets tokens
+ends_entry octets scanned = entry_is octets Ends scanned
+
+pub stays_open : (octets : List ℕ) (at : ScanState) → ScansTo beginning octets (On at) → IsOpen octets
+stays_open octets at scanned = entry_is octets (On at) scanned
+
 pub at_end : (octets : List ℕ) (at : ScanState) → scan_of beginning octets ≡ record { taken = length octets; step = On at } → MatchOption (end_fault_of at) ((tokens : List Token) × Cuts octets tokens × ((cut_from zero tokens).ended ≡ [])) (λ fault. (tokens : List Token) × Breaks octets tokens fault × ((cut_from zero tokens).ended ≡ []))
 at_end octets at e =
-    let read : IsRead (On at) zero octets = read_by octets (On at) e in
+    let read : IsRead octets (On at) = read_by octets (On at) e in
     end_by octets read.tokens (end_fault_of at) read.cut (no_ended read.tokens read.entries)
+
+pub ruleset scan_steps = (all_taken, at_octet, one_on, rises, stays)

@@ -1,4 +1,7 @@
 -- Where bare items stop, as the bits of 64 octets tell it.
+use Rattle.std.proofs.Math.Logic.{⊎_elim}
+use Rattle.std.proofs.lemmas.List.Elements.{All-from_recursion}
+use Rattle.std.proofs.lemmas.List.Sums.{prefix_len-le-length}
 use Rattle.std.proofs.Common.{Fits, ap₂, bit_and, bit_or, eqb, w8, ◌*◌, ◌/◌, ◌%◌}
 use Rattle.std.proofs.lemmas.Bool.{agree_below}
 use Rattle.std.proofs.lemmas.List.{ext_get_or, get_or-map}
@@ -19,32 +22,26 @@ use Rattle.zone_text.specs.declared.stops.Stops.{Stops}
 abbrev pub goes_on : ℕ → Bool
 goes_on c = not (stops_bare c)
 
-pub prefix_each : (xs : List ℕ) → AllByRecursion (λ c. stops_bare c ≡ false) (take (prefix_len goes_on xs) xs)
-prefix_each [] = tt
-prefix_each (x ∷ xs) = elim (prefix_step stops_bare x xs) [
-  | inl stop ↦ subst (λ k. AllByRecursion (λ c. stops_bare c ≡ false) (take k (x ∷ xs))) (sym stop.1) tt
-  | inr on ↦ subst (λ k. AllByRecursion (λ c. stops_bare c ≡ false) (take k (x ∷ xs))) (sym on.1) (on.0, prefix_each xs)
-]
+prefix_parts : (xs : List ℕ) → AllByRecursion (λ c. stops_bare c ≡ false) (take (prefix_len goes_on xs) xs) × EndsAt stops_bare (drop (prefix_len goes_on xs) xs)
+prefix_parts [] = (tt, tt)
+prefix_parts (x ∷ xs) =
+    let P : ℕ → Type 0 = λ k. AllByRecursion (λ c. stops_bare c ≡ false) (take k (x ∷ xs)) × EndsAt stops_bare (drop k (x ∷ xs)) in
+    ⊎_elim (λ stop. subst P (sym stop.1) (tt, stop.0)) (λ on. subst P (sym on.1) ((on.0, (prefix_parts xs).0), (prefix_parts xs).1)) (prefix_step stops_bare x xs)
 
-pub prefix_ends : (xs : List ℕ) → EndsAt stops_bare (drop (prefix_len goes_on xs) xs)
-prefix_ends [] = tt
-prefix_ends (x ∷ xs) = elim (prefix_step stops_bare x xs) [
-  | inl stop ↦ subst (λ k. EndsAt stops_bare (drop k (x ∷ xs))) (sym stop.1) stop.0
-  | inr on ↦ subst (λ k. EndsAt stops_bare (drop k (x ∷ xs))) (sym on.1) (prefix_ends xs)
-]
+-- the octets before the first stop, and those from it on
+pub prefix_stops : (xs : List ℕ) (n : ℕ) → n ≡ prefix_len goes_on xs → (n ≤ length xs) × All (λ c. stops_bare c ≡ false) (take n xs) × EndsAt stops_bare (drop n xs)
+prefix_stops xs n len = rw len (prefix_len-le-length goes_on xs, All-from_recursion _ _ (prefix_parts xs).0, (prefix_parts xs).1)
 
 -- ---- what the bits tell
 
 pub tells_after : (stops : Stops) (octets : List ℕ) (n k : ℕ) (bits : ℕ) → bits ≡ mask_l (map stops_bare (take n octets)) → n ≤ 64 → n ≤ length octets → k < n → stops.bits ≡ bits / 2 ^ k / 2 ^ 1 → stops.unseen ≡ length octets - n → Tells stops (drop (k + 1) octets)
-tells_after stops octets n k bits of few within less is unseen =
-    grind (arith, common_steps, length-drop, after_bits, mask_l, stops_bare)
+tells_after stops octets n k bits of few within less is unseen = grind (arith, common_steps, length-drop, after_bits)
 
 -- ---- the first stop
 
 -- the lowest of the bits that are known
 pub known_len : (stops : Stops) (octets : List ℕ) → Tells stops octets → stops.bits ≢ 0 → count_trailing_zeros 64 stops.bits ≡ prefix_len goes_on octets
-known_len stops octets tells some =
-    grind (arith, common_steps, mask_l, stops_bare, count_trailing_zeros, first_inside)
+known_len stops octets tells some = grind (arith, common_steps, first_inside)
 
 pub known_rest : (stops new : Stops) (octets : List ℕ) (k : ℕ) → Tells stops octets → stops.bits ≢ 0 → k ≡ prefix_len goes_on octets → new.bits ≡ stops.bits / 2 ^ k / 2 ^ 1 → new.unseen ≡ stops.unseen → Tells new (drop (k + 1) octets)
 known_rest stops new octets k tells some len is unseen =
@@ -72,19 +69,14 @@ every_below : (p : ℕ → Bool) (n : ℕ) → all_below p n ≡ true → (i : �
 every_below p zero all i less = absurd (omega arith)
 every_below p (suc n) all i less =
     let parts = and_parts (p n) (all_below p n) all in
-    elim (cases_lt i n) [
-      | inl before ↦ every_below p n parts.1 i before
-      | inr at ↦ let e : n ≡ i = omega arith in subst (λ k. p k ≡ true) e parts.0
-    ]
+    ⊎_elim (every_below p n parts.1 i) (λ at. let e : n ≡ i = omega arith in subst (λ k. p k ≡ true) e parts.0) (cases_lt i n)
 
 -- of what stops an item, all that is no greater than a space but a line feed is a blank
 abbrev pub is_low_blank : ℕ → Bool
 is_low_blank c = not (stops_bare c) || (eqb c 10 || is_blank c)
 
 pub blank_stop : (rest stopped after : List ℕ) (stop len : ℕ) → len ≡ prefix_len goes_on rest → stopped ≡ drop len rest → stopped ≡ stop ∷ after → stop ≤ 32 → stop ≢ 10 → is_blank stop ≡ true
-blank_stop rest stopped after stop len is back first low other =
-    let ends : EndsAt stops_bare stopped = subst (EndsAt stops_bare) (sym (back ∙ ap (λ k. drop k rest) is)) (prefix_ends rest) in
-    (let row : is_low_blank stop ≡ true = every_below is_low_blank 33 refl stop (omega arith) in rw ((subst (EndsAt stops_bare) first ends), ne_eqb stop 10 other) at row)
+blank_stop rest stopped after stop len is back first low other = grind (arith, prefix_stops rest len is, every_below, ne_eqb)
 
 -- the low four bits of each lane are a place in a table of 16
 pub low_places : (v : List ℕ) → length v ≡ 64 → SwzOk w8 16 64 0 (zip2 bit_and v (replicate 64 15))
@@ -144,9 +136,7 @@ prefix_by : (k : ℕ) (xs : List ℕ) → k ≤ length xs → AllByRecursion (λ
 prefix_by zero [] within each ends = refl
 prefix_by zero (x ∷ xs) within each ends = ap (λ (b : Bool). cond (not b) (1 + prefix_len goes_on xs) 0) ends
 prefix_by (suc k) [] within each ends = absurd (omega arith)
-prefix_by (suc k) (x ∷ xs) within each ends =
-    let more : prefix_len goes_on xs ≡ k = prefix_by k xs (omega arith) each.1 ends in
-    ap (λ (b : Bool). cond (not b) (1 + prefix_len goes_on xs) 0) each.0 ∙ omega (arith, more)
+prefix_by (suc k) (x ∷ xs) within each ends = grind (arith, prefix_by k xs (omega arith) each.1 ends)
 
 -- the octets before one go on with the item
 abbrev pub GoesTo : List ℕ → ℕ → Type 0
@@ -175,3 +165,5 @@ last_found stops octets rest seen more back within each ends none unseen so_far 
     let there : prefix_len goes_on rest ≡ prefix_len goes_on (drop seen octets) = ap (prefix_len goes_on) back in
     let left : length (drop (more + 1) rest) ≡ length rest - (more + 1) = length-drop (more + 1) rest in
     (omega (arith, so_far, first, there), unknown_rest stops octets rest seen more back (tells_none stops (drop (more + 1) rest) none (omega arith)))
+
+pub ruleset stop_lengths = (goes_on, known_len, prefix_len-le-length, unknown_len)

@@ -1,5 +1,5 @@
 -- The entries that line feeds have ended, cut out of their tokens again, whatever follows them.
-use Rattle.zone_text.proofs.Common.{AllByRecursion, EndInLineFeed, Entry, List, Some, Token, [], and_last, ap, arith, closing, common_steps, count_by, cut_from, depth_after, entry_of, flat_map, in_front, in_front_of, length, line_feed, numbered, opening, refl, rules, suc, text, zero, ℕ, ◌++◌, ◌+◌, ◌<◌, ◌==◌, ◌∷◌, ◌≡◌}
+use Rattle.zone_text.proofs.Common.{AllByRecursion, EndInLineFeed, Entry, List, Some, Token, [], and_last, ap, arith, closing, common_steps, count_by, cut_from, depth_after, flat_map, in_front, in_front_of, length, line_feed, numbered, opening, refl, rules, suc, text, zero, ℕ, ◌++◌, ◌+◌, ◌<◌, ◌==◌, ◌∷◌, ◌≡◌}
 
 abbrev pub joined : List (List Token) → List Token
 joined entries = flat_map (λ (e : List Token). e) entries
@@ -84,6 +84,4 @@ and_last_after ended more others = grind (arith, common_steps)
 -- entries with others after them have the lines that they have by themselves
 pub numbered_front : (line : ℕ) (ended more : List (List Token)) → (others : List Entry) × (numbered line (ended ++ more) ≡ numbered line ended ++ others)
 numbered_front line [] more = (numbered line more, refl)
-numbered_front line (entry ∷ ended) more =
-    let rest = numbered_front (line + count_by (λ c. c == 10) (text entry)) ended more in
-    (rest.0, ap (λ t. entry_of line entry ∷ t) rest.1)
+numbered_front line (entry ∷ ended) more = search (rules, numbered_front (line + count_by (λ c. c == 10) (text entry)) ended more)

@@ -102,7 +102,7 @@ last_in_front p q tokens after last = subst (λ P. P) (sym (last_same p q tokens
 pub one_token_more : (depth : ℕ) (octets rest : List ℕ) (p : Token) (tokens : List Token) (fault : Option Fault) → Takes depth octets p rest → IsCut (depth_past depth p) rest tokens fault → IsCut depth octets (p ∷ tokens) fault
 one_token_more depth octets rest p tokens fault front more = grind (arith, common_steps, text_on, follow_on, depth_on)
 
-some_octet : (p : Token) → IsToken p → 0 < length (token_text p)
+pub some_octet : (p : Token) → IsToken p → 0 < length (token_text p)
 some_octet (bare []) is = absurd (omega (arith, is.0))
 some_octet (bare (w ∷ units)) is = search rules
 some_octet p is = omega arith
@@ -119,7 +119,7 @@ cut_is zero depth octets enough = absurd (omega arith)
 cut_is (suc n) depth octets enough = cut_by_front depth octets (cut_by n) (front_of depth octets) (front_is depth octets) (λ at rest less. cut_is n at rest (omega arith))
 
 -- what follows a token ends it
-stop_of : (p : Token) (tokens : List Token) (depth : ℕ) (after : List ℕ) (fault : Option Fault) → AllByRecursion IsToken tokens → AllFollow (p ∷ tokens) → MayEndBefore (p ∷ tokens) after → Ends depth after fault → Stops p (text tokens ++ after)
+pub stop_of : (p : Token) (tokens : List Token) (depth : ℕ) (after : List ℕ) (fault : Option Fault) → AllByRecursion IsToken tokens → AllFollow (p ∷ tokens) → MayEndBefore (p ∷ tokens) after → Ends depth after fault → Stops p (text tokens ++ after)
 stop_of p tokens depth after fault each follow last ends = search (rules, stops_at_end, append_assoc, next_stops)
 
 pub follow_after : (p : Token) (tokens : List Token) → AllFollow (p ∷ tokens) → AllFollow tokens

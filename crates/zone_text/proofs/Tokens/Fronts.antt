@@ -101,9 +101,7 @@ pub first_octet_is : (c d : ℕ) (rest : List ℕ) → c ≡ d → c ∷ rest �
 first_octet_is c d rest e = ap (λ t. t ∷ rest) e
 
 no_unit_bad : (out : ℕ → Bool) (c : ℕ) (rest : List ℕ) → out c ≡ false → NoUnit out (c ∷ rest) → IsBadEscape (c ∷ rest)
-no_unit_bad out c rest e (at_end h) = absurd cc
-no_unit_bad out c rest e (at_octet x more h end) = let same : c ≡ x = cc in absurd (both_ways (out c) e (ap out same ∙ end))
-no_unit_bad out c rest e (at_backslash bad) = bad
+no_unit_bad out c rest e h = search (rules, both_ways)
 
 quoted_is : (depth c : ℕ) (octets : List ℕ) (units : List Written) (rest : List ℕ) → c ≡ 34 → octets ≡ written_text units ++ rest → AllByRecursion (IsUnit is_quote) units → NoUnit is_quote rest → IsFront depth (c ∷ octets) (quoted_front units rest)
 quoted_is depth c octets units [] is whole each none =
@@ -181,3 +179,5 @@ broken_front depth rest fault (not_closed some whole) = grind arith
 pub front_stops : (depth : ℕ) (octets : List ℕ) (fault : Option Fault) → Ends depth octets fault → front_of depth octets ≡ stops fault
 unfolding front_of
 front_stops depth octets fault ends = search (rules, broken_front)
+
+pub ruleset comment_parts = (comment_dropped, comment_each, comment_ends, comment_whole)

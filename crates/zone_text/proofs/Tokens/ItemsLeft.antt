@@ -1,11 +1,99 @@
 -- The items of tokens, gathered from the left: the first token of a text, and the items of those
 -- after it.
-use Rattle.zone_text.proofs.Common.{AllByRecursion, AllFollow, AreKept, AreTokensOf, BadEscape, Bool, Cuts, IsInFront, IsNoToken, IsToken, IsUnit, Keeps, KeepsItems, List, NoUnit, RawItem, Sign, Some, Token, UnitsAre, Written, [], a_blank, a_closing, a_line_feed, a_quote, a_semicolon, an_opening, ap, append-nil, append_assoc, arith, at_end, bare, before_line_feed, blank, both_ways, closing, comment, cond_both, drop, drop-append_seam, ends_item, eqb-true, false, flat_map, front_of, is_quote, item_len, item_of, length, length-append, line_feed, of_item, opening, quoted, refl, rules, sign_of, stops, subst, sym, take, take-append_seam, takes, text, text_of, text_of-some, true, units_first, units_first_are, written_text, ℕ, ◌++◌, ◌<◌, ◌∙◌, ◌∷◌, ◌≡◌, ◌≢◌}
+use Rattle.zone_text.proofs.Common.{AllByRecursion, AllFollow, AreKept, AreTokensOf, BadEscape, Bool, Cuts, IsInFront, IsNoToken, IsToken, IsUnit, Keeps, KeepsItems, List, NoUnit, RawItem, Sign, Some, Token, UnitsAre, Written, [], a_blank, a_closing, a_line_feed, a_quote, a_semicolon, an_opening, ap, append-nil, append_assoc, arith, at_end, bare, before_line_feed, blank, both_ways, closing, comment, cond_both, drop, drop-append_seam, ends_item, eqb-true, false, flat_map, front_of, is_quote, item_len, item_of, length, length-append, line_feed, of_item, opening, quoted, refl, rules, sign_of, subst, sym, take, take-append_seam, takes, text, text_of, text_of-some, true, units_first, units_first_are, written_text, ℕ, ◌++◌, ◌<◌, ◌∙◌, ◌∷◌, ◌≡◌, ◌≢◌, All, AllByRecursion-append, EndsAt, Units, at_octet, ends_within, eqb-false, flat_map-append, get_or, length-drop, length-take, map, ne_eqb, or_parts, plain, recursion_from_All, stops_bare, suc, take-append-drop, unit_of_escape, units_first_only, ◌+◌, ◌-◌, ◌==◌, ◌||◌, ◌≤◌}
 use Rattle.zone_rdata.specs.Item as raw
 use Rattle.zone_text.specs.Machine.Cutting as cutting
 use Rattle.zone_text.proofs.Tokens.Cuttings.{follow_after, next_stops, shorter}
 use Rattle.zone_text.proofs.Tokens.Fronts.{HasRoom, IsFront, IsSign, Stops, Takes, at_sign, comment_dropped, first_octet_is, front_is, front_takes, sign_is, sign_of_item}
 use Rattle.zone_text.proofs.Entries.Kept.{keeps_more}
+use Rattle.std.proofs.lemmas.List.Elements.{All-cons}
+use Rattle.zone_name.specs.Spelling.{BeginsWithEscape}
+use Rattle.zone_text.proofs.Tokens.TokenEnds.{first_at}
+use Rattle.zone_text.specs.declared.items.Extent.{Extent}
+
+-- the first octets are written octets of an item, and what follows ends it or is a backslash
+pub record IsWrittenTo (ends : ℕ → Bool) (octets : List ℕ) (len : ℕ) : Type 0 where
+  pub units : List Written
+  pub each : AllByRecursion (IsUnit ends) units
+  pub text : take len octets ≡ written_text units
+  pub stops : EndsAt (λ c. ends c || c == 92) (drop len octets)
+  pub within : len ≤ length octets
+
+plain_text : (octets : List ℕ) → written_text (map plain octets) ≡ octets
+plain_text [] = refl
+plain_text (c ∷ octets) = ap (λ t. c ∷ t) (plain_text octets)
+
+plain_units : (ends : ℕ → Bool) (octets : List ℕ) → AllByRecursion (λ c. (ends c || c == 92) ≡ false) octets → AllByRecursion (IsUnit ends) (map plain octets)
+plain_units ends [] each = tt
+plain_units ends (c ∷ octets) each = let p = or_parts (ends c) (c == 92) each.0 in ((p.0, eqb-false c 92 p.1), plain_units ends octets each.1)
+
+each_plain : (ends : ℕ → Bool) (octets : List ℕ) → All (λ c. (ends c || c == 92) ≡ false) octets → AllByRecursion (IsUnit ends) (map plain octets)
+each_plain ends octets each = plain_units ends octets (recursion_from_All (λ c. (ends c || c == 92) ≡ false) octets each)
+
+pub plain_so_far : (ends : ℕ → Bool) (octets : List ℕ) (n : ℕ) → n ≤ length octets → All (λ c. (ends c || c == 92) ≡ false) (take n octets) → EndsAt (λ c. ends c || c == 92) (drop n octets) → IsWrittenTo ends octets n
+plain_so_far ends octets n within each stops = record {
+  units = map plain (take n octets);
+  each = each_plain ends (take n octets) each;
+  text = sym (plain_text (take n octets));
+  stops = stops;
+  within = within;
+}
+
+-- octets after a plain one
+pub plain_first : (stops : ℕ → Bool) (octets after : List ℕ) (c n k : ℕ) → octets ≡ c ∷ after → stops c ≡ false → k ≡ 1 + n → All (λ d. stops d ≡ false) (take n after) → EndsAt stops (drop n after) → All (λ d. stops d ≡ false) (take k octets) × EndsAt stops (drop k octets)
+plain_first stops octets after c n k whole goes_on more each ends =
+    let size : k ≡ suc n = omega arith in
+    rw (whole, size) (All-cons (λ d. stops d ≡ false) c (take n after) goes_on each, ends)
+
+pub at_mark : (octets escape : List ℕ) (len : ℕ) → len < length octets → get_or octets len 0 ≡ 92 → escape ≡ drop (len + 1) octets → drop len octets ≡ 92 ∷ escape
+at_mark octets escape len less is back = first_at octets len less ∙ ap (λ m. m ∷ drop (len + 1) octets) is ∙ ap (λ t. 92 ∷ t) (sym back)
+
+pub escape_more : (ends : ℕ → Bool) (octets escape rest : List ℕ) (octet len k n : ℕ) → IsWrittenTo ends octets len → len < length octets → get_or octets len 0 ≡ 92 → escape ≡ drop (len + 1) octets → BeginsWithEscape (92 ∷ escape) octet rest → k ≤ length rest → All (λ c. (ends c || c == 92) ≡ false) (take k rest) → EndsAt (λ c. ends c || c == 92) (drop k rest) → n ≡ length octets - length rest + k → IsWrittenTo ends octets n
+escape_more ends octets escape rest octet len k n so_far less is back found fits each stops count =
+    let more_text : List ℕ = text_of found.escape ++ take k rest in
+    let front : List ℕ = take len octets ++ more_text in
+    let new : List Written = found.escape ∷ map plain (take k rest) in
+    let behind : drop len octets ≡ more_text ++ drop k rest = at_mark octets escape len less is back ∙ found.parts ∙ ap (λ t. text_of found.escape ++ t) (sym (take-append-drop k rest)) ∙ sym (append_assoc (text_of found.escape) (take k rest) (drop k rest)) in
+    let whole : octets ≡ front ++ drop k rest = sym (take-append-drop len octets) ∙ ap (λ t. take len octets ++ t) behind ∙ sym (append_assoc (take len octets) more_text (drop k rest)) in
+    let all : length octets ≡ length front + length (drop k rest) = ap length whole ∙ length-append front (drop k rest) in
+    let size : n ≡ length front = omega (arith, count, all, length-append (take len octets) more_text, length-append (text_of found.escape) (take k rest), length-take k rest, length-drop k rest, fits) in
+    let taken : take n octets ≡ front = ap (λ m. take m octets) size ∙ ap (take (length front)) whole ∙ take-append_seam front (drop k rest) in
+    let left : drop n octets ≡ drop k rest = ap (λ m. drop m octets) size ∙ ap (drop (length front)) whole ∙ drop-append_seam front (drop k rest) in
+    record {
+      units = so_far.units ++ new;
+      each = AllByRecursion-append (IsUnit ends) so_far.units new so_far.each (unit_of_escape ends found.escape found.is_escape, each_plain ends (take k rest) each);
+      text = taken ∙ ap (λ t. t ++ more_text) so_far.text ∙ ap (λ t. written_text so_far.units ++ (text_of found.escape ++ t)) (sym (plain_text (take k rest))) ∙ sym (flat_map-append text_of so_far.units new);
+      stops = subst (EndsAt (λ c. ends c || c == 92)) (sym left) stops;
+      within = omega (arith, size, all);
+    }
+
+-- ---- the end of the item
+
+backslash : (extent : Extent) → ends_within extent 92 ≡ false
+backslash extent = search rules
+
+pub len_is : (extent : Extent) (octets : List ℕ) (len : ℕ) → IsWrittenTo (ends_within extent) octets len → NoUnit (ends_within extent) (drop len octets) → len ≡ item_len (ends_within extent) octets
+len_is extent octets len is none =
+    let whole : octets ≡ written_text is.units ++ drop len octets = sym (take-append-drop len octets) ∙ ap (λ t. t ++ drop len octets) is.text in
+    let size : len ≡ length (written_text is.units) = omega (arith, length-take len octets, is.within, ap length is.text) in
+    size ∙ sym (ap (λ (found : Units). length (written_text found.units)) (units_first_only (ends_within extent) octets is.units (drop len octets) (backslash extent) whole is.each none))
+
+stops_or : (a b : Bool) → (a || b) ≡ true → b ≡ false → a ≡ true
+stops_or a b e none = search rules
+
+-- what stops a bare item ends it, but for a backslash
+pub ends_but_mark : (c : ℕ) → stops_bare c ≡ true → c ≢ 92 → ends_item c ≡ true
+ends_but_mark c stops other = stops_or (ends_item c) (c == 92) stops (ne_eqb c 92 other)
+
+ended_by : (ends : ℕ → Bool) (rest : List ℕ) → EndsAt (λ c. ends c || c == 92) rest → ((c : ℕ) (more : List ℕ) → rest ≡ c ∷ more → c ≢ 92) → NoUnit ends rest
+ended_by ends [] at other = at_end refl
+ended_by ends (c ∷ more) at other = at_octet c more refl (stops_or (ends c) (c == 92) at (ne_eqb c 92 (other c more refl)))
+
+pub ended : (extent : Extent) (octets : List ℕ) (len : ℕ) → IsWrittenTo (ends_within extent) octets len → (len < length octets → get_or octets len 0 ≢ 92) → len ≡ item_len (ends_within extent) octets
+ended extent octets len is other = len_is extent octets len is (ended_by (ends_within extent) (drop len octets) is.stops (λ c more e mark.
+    let less : len < length octets = omega (arith, length-drop len octets, ap length e) in
+    let first : get_or octets len 0 ∷ drop (len + 1) octets ≡ c ∷ more = sym (first_at octets len less) ∙ e in
+    other less (let same : get_or octets len 0 ≡ c = cc in same ∙ mark)))
 
 -- ---- the first token by its first octet
 
@@ -82,12 +170,11 @@ no_quoted octets after inside ending c n whole is len front back other =
   where
     by : (units : List Written) (rest : List ℕ) → ((more : List ℕ) → rest ≢ 34 ∷ more) → IsNoToken (cutting.quoted_front units rest)
     by units [] none = tt
-    by units (d ∷ more) none = cond_both (is_quote d) (takes (quoted units) more) (stops (Some BadEscape)) IsNoToken (λ e. none more (first_octet_is d 34 more (eqb-true d 34 e))) (λ e. tt)
+    by units (d ∷ more) none = cond_both (is_quote d) (takes (quoted units) more) (cutting.stops (Some BadEscape)) IsNoToken (λ e. none more (first_octet_is d 34 more (eqb-true d 34 e))) (λ e. tt)
 
 pub end_of_text : (octets : List ℕ) → length octets ≡ 0 → IsNoToken (front_of 1 octets)
 unfolding front_of
-end_of_text [] none = tt
-end_of_text (c ∷ octets) none = absurd (omega (arith, none))
+end_of_text octets none = search rules
 
 -- ---- what is known of the token in front
 
@@ -103,22 +190,17 @@ in_front_shorter octets rest items found =
 
 -- a token ends before those after it
 stops_before : (p : Token) (tokens : List Token) → AllByRecursion IsToken tokens → AllFollow (p ∷ tokens) → Stops p (text tokens)
-stops_before (bare units) [] each follow = at_end refl
-stops_before p [] each follow = search rules
-stops_before p (q ∷ tokens) each follow = next_stops p q (text tokens) each.0 follow.0
+stops_before p tokens each follow = search (rules, at_end, next_stops)
 
 room : (p : Token) → HasRoom 1 p
-room closing = omega arith
-room p = tt
+room p = search rules
 
 first_takes : (octets : List ℕ) (p : Token) (tokens : List Token) → AreTokensOf octets (p ∷ tokens) → front_of 1 octets ≡ takes p (text tokens)
 first_takes octets p tokens are = ap (front_of 1) are.whole ∙ front_takes 1 p (text tokens) are.each.0 (stops_before p tokens are.each.1 are.follow) (room p)
 
 -- the first of them is the token in front
 pub tokens_after : (octets left : List ℕ) (items : List RawItem) → IsInFront octets items left → (p : Token) (more : List Token) → AreTokensOf octets (p ∷ more) → (items ≡ item_of p) × AreTokensOf left more
-tokens_after octets left items found p more are =
-    let e : takes found.token left ≡ takes p (text more) = sym found.front ∙ first_takes octets p more are in
-    (sym found.stated ∙ cc, record { whole = cc; each = are.each.1; follow = follow_after p more are.follow })
+tokens_after octets left items found p more are = search (rules, first_takes, follow_after)
 
 pub no_tokens : (octets : List ℕ) → IsNoToken (front_of 1 octets) → (p : Token) (more : List Token) → AreTokensOf octets (p ∷ more) → ⊥
 no_tokens octets none p more are = subst IsNoToken (first_takes octets p more are) none
@@ -165,3 +247,7 @@ all_taken entry rest kept none leaves tokens cuts =
     by : (so_far : List RawItem) (more : List Token) → AreTokensOf rest more → so_far ++ flat_map item_of more ≡ flat_map item_of tokens → so_far ≡ flat_map item_of tokens
     by so_far [] are items = sym (append-nil so_far) ∙ items
     by so_far (p ∷ more) are items = absurd (no_tokens rest none p more are)
+
+pub ruleset item_fronts = (bare_front, comment_front, end_of_text, ends_but_mark, eqb-false, plain_front)
+
+pub ruleset item_lengths = (escape_more, plain_so_far)

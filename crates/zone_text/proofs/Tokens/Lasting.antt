@@ -1,5 +1,5 @@
 -- What is settled of a text by its front.
-use Rattle.zone_text.proofs.Common.{AllByRecursion-append, AllByRecursion-back, AllByRecursion-front, AllFollow, BadEscape, Breaks, BreaksForGood, Cuts, EndInLineFeed, Fault, IsBadEscape, IsBroken, IsEscape, IsLostEscape, IsToken, List, MayEndBefore, None, Option, Some, StaysBroken, Token, UnbalancedParenthesis, Written, [], ap, append-nil, append_assoc, at_line_end, closes_nothing, closing_stays, comment, depth_after, depth_past, escape_stays, flat_map-append, no_escape, no_quoted_escape, one_digit, quoted_escape_stays, refl, rules, subst, sym, text, text_of, token_text, too_great, two_digits, written_text, zero, ℕ, ◌++◌, ◌∙◌, ◌∷◌, ◌≡◌, arith}
+use Rattle.zone_text.proofs.Common.{AllByRecursion-append, AllByRecursion-back, AllByRecursion-front, AllFollow, BadEscape, Breaks, BreaksForGood, Cuts, EndInLineFeed, Fault, IsBadEscape, IsBroken, IsEscape, IsLostEscape, List, MayEndBefore, None, Option, Some, StaysBroken, Token, UnbalancedParenthesis, Written, [], ap, append-nil, append_assoc, at_line_end, closes_nothing, closing_stays, comment, depth_after, depth_past, escape_stays, flat_map-append, no_escape, no_quoted_escape, one_digit, quoted_escape_stays, rules, subst, sym, text, text_of, too_great, two_digits, written_text, zero, ℕ, ◌++◌, ◌∙◌, ◌∷◌, ◌≡◌, arith}
 use Rattle.zone_text.proofs.Tokens.Fronts.{front_stops}
 use Rattle.zone_text.proofs.Tokens.Cuttings.{IsCut, is_cut, cuts, is_broken, breaks, last_after, last_in_front, follow_after, depth_on, room_of}
 
@@ -55,26 +55,7 @@ pub record IsParted (octets : List ℕ) (tokens more : List Token) (fault : Opti
   pub back : IsCut zero rest more fault
 
 pub parted : (octets : List ℕ) (tokens more : List Token) (fault : Option Fault) → depth_after zero tokens ≡ Some zero → IsCut zero octets (tokens ++ more) fault → IsParted octets tokens more fault
-parted octets tokens more fault balanced is = record {
-  rest = text more ++ is.rest;
-  whole = is.whole ∙ ap (λ t. t ++ is.rest) (flat_map-append token_text tokens more) ∙ append_assoc (text tokens) (text more) is.rest;
-  front = record {
-    whole = refl;
-    each = AllByRecursion-front IsToken tokens more is.each;
-    follow = follow_front tokens more is.follow;
-    balanced = balanced;
-  };
-  back = record {
-    rest = is.rest;
-    at = is.at;
-    whole = refl;
-    each = AllByRecursion-back IsToken tokens more is.each;
-    follow = follow_back tokens more is.follow;
-    last = last_back tokens more is.rest is.last;
-    parentheses = sym (depth_append zero zero tokens more balanced) ∙ is.parentheses;
-    ends = is.ends;
-  };
-}
+parted octets tokens more fault balanced is = search (rules, flat_map-append, append_assoc, AllByRecursion-front, follow_front, AllByRecursion-back, follow_back, last_back, depth_append)
 
 pub cut_parted : (octets : List ℕ) (tokens more : List Token) → depth_after zero tokens ≡ Some zero → Cuts octets (tokens ++ more) → (rest : List ℕ) × (octets ≡ text tokens ++ rest) × Cuts (text tokens) tokens × Cuts rest more
 cut_parted octets tokens more balanced cut =

@@ -40,10 +40,8 @@ comment_past text i k n bits room are none so_far =
     omega (arith, so_far, next, after, before_prefix (drop i text), before_prefix (drop (i + k) text))
 
 pub comment_seen : (text : List ℕ) (i k n bits : ℕ) → k ≤ 64 → k ≤ length text - i → bits ≡ mask_l (map (λ c. c == 10) (take k (drop i text))) → bits ≢ 0 → n ≡ i + length (before_line_feed (drop i text)) → (i + count_trailing_zeros 64 bits ≡ n) × (i + count_trailing_zeros 64 bits ≤ length text)
-comment_seen text i k n bits few room are some so_far =
-    let left : length (drop i text) ≡ length text - i = length-drop i text in
-    let found = first_inside (λ c. c == 10) k (drop i text) (omega arith) few (λ e. some (are ∙ e)) in
-    let first : count_trailing_zeros 64 bits ≡ prefix_len (λ c. not (c == 10)) (drop i text) = ap (count_trailing_zeros 64) are ∙ found.0 in
-    (omega (arith, so_far, first, before_prefix (drop i text)), omega (arith, first, found.1))
+comment_seen text i k n bits few room are some so_far = grind (arith, length-drop, first_inside, before_prefix)
 
 pub ruleset comment_lengths = (comment_ends, comment_goes_on, comment_whole)
+
+pub ruleset plain_lengths = (first_at, nothing_left)

@@ -1,13 +1,6 @@
-use Rattle.zone_text.proofs.Common.{IsBadEscape, arith, at_backslash, ends_within, refl, subst, sym}
-use Rattle.zone_text.proofs.Tokens.EscapedItems.{at_mark, ended, escape_more, len_is, plain_so_far}
+use Rattle.zone_text.proofs.Common.{IsBadEscape, arith, at_backslash, subst, sym}
+use Rattle.zone_text.proofs.Tokens.ItemsLeft.{at_mark, ended, len_is}
 use Rattle.zone_text.proofs.items.escaped_len.Goals as goal
-
-pub loop-len-init : goal.loop-len-init
-loop-len-init c = plain_so_far (ends_within c.args.extent) _ _ c.requires.within c.requires.plain c.requires.stops
-
-pub loop-len-preserved : goal.loop-len-preserved
-loop-len-preserved c =
-    escape_more (ends_within c.args.extent) _ _ _ _ _ _ _ c.loop-len.invariant c.loop-len-test.true c.if-text-len-eq92.true c.split_at.ensures.back c.in-Some.ensures.found c.plain_len.ensures.within c.plain_len.ensures.plain c.plain_len.ensures.stops refl
 
 pub returns-in_default-clause-len : goal.returns-in_default-clause-len
 returns-in_default-clause-len c =

@@ -1,5 +1,5 @@
 use Rattle.zone_text.proofs.Common.{ends_within, length, ◌-◌}
-use Rattle.zone_text.proofs.Tokens.EscapedItems.{IsWrittenTo}
+use Rattle.zone_text.proofs.Tokens.ItemsLeft.{IsWrittenTo}
 use Rattle.zone_text.proofs.items.escaped_len.Given as goal
 
 abbrev pub invariant-loop-len : goal.invariant-loop-len

@@ -1,5 +1,5 @@
 use Rattle.zone_text.proofs.Common.{arith, is_quote}
-use Rattle.zone_text.proofs.Tokens.EscapedItems.{ended, plain_so_far}
+use Rattle.zone_text.proofs.Tokens.ItemsLeft.{ended, plain_so_far}
 use Rattle.zone_text.proofs.items.quoted_len.Goals as goal
 use Rattle.zone_text.proofs.items.quoted_len.Goals.{else-plain-text-via-then-plain-text+else-text-plain-eq92, else-plain-text-via-else-plain-text}
 use Rattle.zone_text.specs.declared.items.Extent.TheVariants.{Quoted}

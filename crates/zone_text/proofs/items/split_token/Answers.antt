@@ -1,12 +1,8 @@
 use Rattle.zone_text.proofs.Common.{ap, arith, ends_item, false, length, or_parts, refl, stops_bare, sym, ◌+◌, ◌==◌, ◌∙◌, ◌∷◌, ◌≡◌, ◌≤◌}
-use Rattle.zone_text.proofs.Tokens.EscapedItems.{ended, ends_but_mark, plain_first, plain_so_far}
-use Rattle.zone_text.proofs.Tokens.ItemsLeft.{bare_front, comment_front, end_of_text, no_bare, no_quoted, plain_front, quoted_front}
+use Rattle.zone_text.proofs.Tokens.ItemsLeft.{ended, plain_first, plain_so_far, bare_front, no_bare, no_quoted, quoted_front}
 use Rattle.zone_text.proofs.items.split_token.Goals as goal
 use Rattle.zone_text.proofs.items.split_token.Goals.{else-plain-text-via-then-plain-text+else-text-plain-eq92, else-plain-text-via-else-plain-text}
 use Rattle.zone_text.specs.declared.items.Extent.TheVariants.{Bare}
-
-pub returns-in_err-first-clause-none : goal.returns-in_err-first-clause-none
-returns-in_err-first-clause-none c = rw c.from_residual.ensures (end_of_text _ c.in_err-first.ensures.cases)
 
 pub escaped_item-requires-clause-plain : goal.escaped_item-requires-clause-plain
 escaped_item-requires-clause-plain c =
@@ -33,16 +29,6 @@ returns-else-plain-text-clause-found c =
     ]))
     c.split_at.ensures.front c.split_at.ensures.back (omega (arith, c.split_at.ensures.front_len, within))
 
-pub returns-then-octet-le32-clause-found : goal.returns-then-octet-le32-clause-found
-returns-then-octet-le32-clause-found c =
-    plain_front _ _ c.in_ok-first.first.now c.in_ok-first.ensures.cases.0 (λ e. omega (arith, e, c.if-octet-le32.true)) (λ e. omega (arith, e, c.if-octet-le32.true))
-    (ends_but_mark c.in_ok-first.first.now (sym c.stops_bare.ensures ∙ c.if-not-stops_bare.false) (λ e. omega (arith, e, c.if-octet-le32.true)))
-
-pub returns-else-octet-eq59-clause-found : goal.returns-else-octet-eq59-clause-found
-returns-else-octet-eq59-clause-found c =
-    plain_front _ _ c.in_ok-first.first.now c.in_ok-first.ensures.cases.0 c.if-octet-eq34.false c.if-octet-eq59.false
-    (ends_but_mark c.in_ok-first.first.now (sym c.stops_bare.ensures ∙ c.if-not-stops_bare.false) c.if-octet-eq92.false)
-
 pub returns-in_err-quote-clause-none : goal.returns-in_err-quote-clause-none
 returns-in_err-quote-clause-none c =
     rw c.from_residual-in_err-quote.ensures (no_quoted _ _ _ _ c.in_ok-first.first.now _ c.in_ok-first.ensures.cases.0 c.if-octet-eq34.true c.quoted_len.ensures.len c.split_at-then-octet-eq34.ensures.front c.split_at-then-octet-eq34.ensures.back
@@ -56,7 +42,3 @@ returns-else-quote-eq34-clause-none c =
 pub returns-then-quote-eq34-clause-found : goal.returns-then-quote-eq34-clause-found
 returns-then-quote-eq34-clause-found c =
     quoted_front _ _ _ _ _ c.in_ok-first.first.now _ _ c.in_ok-first.ensures.cases.0 c.if-octet-eq34.true c.quoted_len.ensures.len c.split_at-then-octet-eq34.ensures.front c.split_at-then-octet-eq34.ensures.back c.in_ok-quote.ensures.cases.0 c.if-quote-eq34.true
-
-pub returns-then-octet-eq59-clause-found : goal.returns-then-octet-eq59-clause-found
-returns-then-octet-eq59-clause-found c =
-    comment_front _ _ _ c.in_ok-first.first.now _ c.in_ok-first.ensures.cases.0 c.if-octet-eq59.true c.comment_len.ensures.len c.split_at-then-octet-eq59.ensures.back

@@ -2,37 +2,17 @@ use Rattle.zone_text.specs.Machine.Stops.{Tells}
 use Rattle.std.proofs.lemmas.List.Elements.{All-from_recursion}
 use Rattle.std.proofs.lemmas.List.Sums.{prefix_len-le-length}
 use Rattle.std.specs.List.{prefix_len}
-use Rattle.zone_text.proofs.Common.{All, EndsAt, ap, arith, drop, drop-drop, false, length, map, raw, refl, stops_bare, subst, suc, sym, take, ◌∙◌, ◌≡◌}
+use Rattle.zone_text.proofs.Common.{All, EndsAt, ap, arith, drop, drop-drop, false, map, raw, refl, stops_bare, subst, sym, take, ◌∙◌, ◌≡◌}
 use Rattle.zone_text.proofs.Files.Left.{line_feeds}
-use Rattle.zone_text.proofs.Scanning.FirstEntries.{IsCutTo, blank_passed, comment_passed, cut_bare, cut_ended, cut_more, cut_none, cut_on, item_passed}
-use Rattle.zone_text.proofs.Tokens.ItemsLeft.{in_front_shorter}
-use Rattle.zone_text.proofs.Tokens.OneLine.{one_line, passed_bare, passed_escaped, passed_gap, passed_item}
-use Rattle.zone_text.proofs.Scanning.StopMarks.{blank_stop, goes_on, prefix_each, prefix_ends}
+use Rattle.zone_text.proofs.Scanning.FirstEntries.{IsCutTo, blank_passed, comment_passed, cut_bare, cut_ended, cut_more, cut_on, item_passed}
+use Rattle.zone_text.proofs.Scanning.StopMarks.{blank_stop, prefix_stops}
 use Rattle.zone_text.proofs.line.cut_line.Goals as goal
 use Rattle.zone_text.proofs.line.cut_line.Goals.{in-Some-item+in_ok-keep-in-Some-item, in-None}
 
-pub loop-rest-init : goal.loop-rest-init
-loop-rest-init c = record { cut = cut_none _ _ (ap (map raw) c.clear.ensures.items); tells = c.unseen-stops.ensures; line = refl }
-
-pub bare_len-len-requires : goal.bare_len-len-requires
-bare_len-len-requires c = record { tells = c.loop-rest.invariant.tells }
-
-pub split_at-requires : goal.split_at-requires
-split_at-requires c = omega (arith, c.bare_len-len.ensures.len, prefix_len-le-length goes_on c.loop-rest.rest.now)
-
-pub returns-then-stop-eq10-clause-first : goal.returns-then-stop-eq10-clause-first
-returns-then-stop-eq10-clause-first c =
-    cut_ended _ _ _ _ _ _ (cut_bare _ _ _ _ _ _ _ _ _ c.loop-rest.invariant.cut c.bare_len-len.ensures.len c.split_at.ensures.front c.split_at.ensures.back c.in-Some.ensures.cases.0 c.if-stop-eq92.false c.in_ok-keep_bare.ensures) c.in-Some.ensures.cases.0 c.if-stop-eq10.true refl
-
-pub returns-then-stop-eq10-clause-line : goal.returns-then-stop-eq10-clause-line
-returns-then-stop-eq10-clause-line c =
-    one_line _ _ _ _ _ _ (cut_bare _ _ _ _ _ _ _ _ _ c.loop-rest.invariant.cut c.bare_len-len.ensures.len c.split_at.ensures.front c.split_at.ensures.back c.in-Some.ensures.cases.0 c.if-stop-eq92.false c.in_ok-keep_bare.ensures)
-    (passed_bare _ _ _ c.bare_len-len.ensures.len c.split_at.ensures.back ∙ c.loop-rest.invariant.line) c.in-Some.ensures.cases.0 c.if-stop-eq10.true refl
-
-pub loop-rest-smaller-then-stop-le32 : goal.loop-rest-smaller-then-stop-le32
-loop-rest-smaller-then-stop-le32 c =
-    let first : length c.split_at.result.1.now ≡ suc (length c.in-Some.after.now) = ap length c.in-Some.ensures.cases.0 in
-    omega (arith, first, c.split_at.ensures.back_len)
+pub returns-then-stop-eq10 : goal.returns-then-stop-eq10
+returns-then-stop-eq10 c =
+    let end = cut_ended _ _ _ _ _ _ (cut_bare _ _ _ _ _ _ _ _ _ c.loop-rest.invariant.cut c.bare_len-len.ensures.len c.split_at.ensures.front c.split_at.ensures.back c.in-Some.ensures.cases.0 c.if-stop-eq92.false c.in_ok-keep_bare.ensures) c.in-Some.ensures.cases.0 c.if-stop-eq10.true refl in
+    record { first = end.0; line = end.1 }
 
 pub loop-rest-preserved-then-stop-le32 : goal.loop-rest-preserved-then-stop-le32
 loop-rest-preserved-then-stop-le32 c =
@@ -40,42 +20,28 @@ loop-rest-preserved-then-stop-le32 c =
     record {
       cut = cut_on _ _ _ _ (cut_bare _ _ _ _ _ _ _ _ _ c.loop-rest.invariant.cut c.bare_len-len.ensures.len c.split_at.ensures.front c.split_at.ensures.back c.in-Some.ensures.cases.0 c.if-stop-eq92.false c.in_ok-keep_bare.ensures) blank;
       tells = subst (Tells c.bare_len-len.result.1) (sym (drop-drop 1 c.bare_len-len.result.0 c.loop-rest.rest.now) ∙ ap (drop 1) (sym c.split_at.ensures.back ∙ c.in-Some.ensures.cases.0)) c.bare_len-len.ensures.tells;
-      line = passed_gap _ _ blank ∙ passed_bare _ _ _ c.bare_len-len.ensures.len c.split_at.ensures.back ∙ c.loop-rest.invariant.line;
     }
 
 pub escaped_item-requires : goal.escaped_item-requires
 escaped_item-requires c =
-    let len : c.bare_len-len.result.0 ≡ prefix_len goes_on c.loop-rest.rest.now = c.bare_len-len.ensures.len in
-    record {
-      within = omega (arith, len, prefix_len-le-length goes_on c.loop-rest.rest.now);
-      plain = subst (λ k. All (λ d. stops_bare d ≡ false) (take k c.loop-rest.rest.now)) (sym len) (All-from_recursion _ _ (prefix_each c.loop-rest.rest.now));
-      stops = subst (λ k. EndsAt stops_bare (drop k c.loop-rest.rest.now)) (sym len) (prefix_ends c.loop-rest.rest.now);
-    }
-
-pub loop-rest-smaller-then-stop-eq92 : goal.loop-rest-smaller-then-stop-eq92
-loop-rest-smaller-then-stop-eq92 c = in_front_shorter _ _ _ c.in-Some-escaped_item.ensures.found
+    let stops = prefix_stops _ _ c.bare_len-len.ensures.len in record { within = stops.0; plain = stops.1; stops = stops.2 }
 
 pub loop-rest-preserved-then-stop-eq92 : goal.loop-rest-preserved-then-stop-eq92
 loop-rest-preserved-then-stop-eq92 c =
-    let passed = item_passed _ _ _ c.in-Some-escaped_item.ensures.found in
+    let passed = item_passed _ _ _ c.in-Some-escaped_item.ensures.found (λ text e. absurd cc) in
     record {
       cut = cut_more _ _ _ _ _ _ c.loop-rest.invariant.cut passed c.in_ok-keep.ensures;
       tells = c.unseen-stops-then-stop-eq92.ensures;
-      line = passed_escaped _ _ _ passed ∙ c.loop-rest.invariant.line;
     }
-
-pub loop-rest-smaller : goal.loop-rest-smaller
-loop-rest-smaller c = omega (arith, in_front_shorter _ _ _ c.in-Some-split_token.ensures.found, c.split_at.ensures.back_len)
 
 pub loop-rest-preserved : goal.loop-rest-preserved
 loop-rest-preserved c =
     let cut = cut_bare _ _ _ _ _ _ _ _ _ c.loop-rest.invariant.cut c.bare_len-len.ensures.len c.split_at.ensures.front c.split_at.ensures.back c.in-Some.ensures.cases.0 c.if-stop-eq92.false c.in_ok-keep_bare.ensures in
-    let passed : IsCutTo c.args.octets.now c.in-Some-split_token.left.now (map raw c.match-item.items.items) × (line_feeds c.in-Some-split_token.left.now ≡ line_feeds c.split_at.result.1.now) = elim c.match-item.branch [
-      | in-Some-item+in_ok-keep-in-Some-item w ↦
-          let item = item_passed _ _ _ (rw w.in-Some-item.is at c.in-Some-split_token.ensures.found) in
-          rw w.items-is (cut_more _ _ _ _ _ _ cut item w.in_ok-keep-in-Some-item.ensures, passed_item _ _ _ item (w.is_on_one_line.ensures w.if-is_on_one_line.true))
-      | in-None w ↦
-          let comment = comment_passed _ _ _ _ c.in-Some.ensures.cases.0 w.if-stop-eq59.true (rw w.in-None.is at c.in-Some-split_token.ensures.found) in
-          rw w.items-is (cut_on _ _ _ _ cut comment, passed_gap _ _ comment)
-    ] in
-    record { cut = passed.0; tells = c.unseen-stops-in-loop-rest.ensures; line = passed.1 ∙ passed_bare _ _ _ c.bare_len-len.ensures.len c.split_at.ensures.back ∙ c.loop-rest.invariant.line }
+    record {
+      cut = elim c.match-item.branch [
+        | in-Some-item+in_ok-keep-in-Some-item w ↦
+            rw w.items-is (cut_more _ _ _ _ _ _ cut (item_passed _ _ _ (rw w.in-Some-item.is at c.in-Some-split_token.ensures.found) (λ text e. rw e at (w.is_on_one_line.ensures w.if-is_on_one_line.true))) w.in_ok-keep-in-Some-item.ensures)
+        | in-None w ↦ rw w.items-is (cut_on _ _ _ _ cut (comment_passed _ _ _ _ c.in-Some.ensures.cases.0 w.if-stop-eq59.true (rw w.in-None.is at c.in-Some-split_token.ensures.found)))
+      ];
+      tells = c.unseen-stops-in-loop-rest.ensures;
+    }

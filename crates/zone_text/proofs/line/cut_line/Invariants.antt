@@ -1,6 +1,5 @@
-use Rattle.zone_text.proofs.Common.{length, map, raw, ◌≡◌}
+use Rattle.zone_text.proofs.Common.{length, map, raw}
 use Rattle.zone_text.proofs.Scanning.FirstEntries.{IsCutTo}
-use Rattle.zone_text.proofs.Files.Left.{line_feeds}
 use Rattle.zone_text.specs.Machine.Stops.{Tells}
 use Rattle.zone_text.proofs.line.cut_line.Given as goal
 
@@ -8,7 +7,6 @@ abbrev pub invariant-loop-rest : goal.invariant-loop-rest
 invariant-loop-rest l = record {
   cut : IsCutTo l.octets l.rest (map raw l.items.items);
   tells : Tells l.stops l.rest;
-  line : line_feeds l.rest ≡ line_feeds l.octets;
 }
 
 abbrev pub decreases-loop-rest : goal.decreases-loop-rest

@@ -1,6 +1,6 @@
 use Rattle.zone_text.proofs.Common.{not-true, rules, sym, ◌∙◌, ◌≡◌}
 use Rattle.zone_text.proofs.Files.Left.{line_feeds}
-use Rattle.zone_text.proofs.Tokens.OneLine.{none_of_any}
+use Rattle.zone_text.proofs.Scanning.FirstEntries.{none_of_any}
 use Rattle.zone_text.proofs.line.is_on_one_line.Goals as goal
 
 pub returns : goal.returns

@@ -1,5 +1,5 @@
 use Rattle.zone_text.proofs.Common.{arith}
-use Rattle.zone_text.proofs.Scanning.ScanSteps.{four_on}
+use Rattle.zone_text.proofs.Scanning.Scanned.{four_on}
 use Rattle.zone_text.proofs.scan.quiet_len.Goals as goal
 
 pub loop-len-preserved : goal.loop-len-preserved

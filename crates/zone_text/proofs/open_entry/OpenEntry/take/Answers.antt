@@ -1,5 +1,5 @@
 use Rattle.zone_text.proofs.Common.{ap, arith, length, refl, sym, ◌≡◌}
-use Rattle.zone_text.proofs.Scanning.OpenEntries.{depth_fits, part_scanned, takes_none, takes_on}
+use Rattle.zone_text.proofs.Scanning.FedPieces.{depth_fits, takes_none, takes_on}
 use Rattle.zone_text.specs.Machine.OpenEntry.{state_of}
 use Rattle.zone_text.specs.OpenEntry.{HeldEntry}
 use Rattle.zone_text.proofs.open_entry.OpenEntry.take.Goals as goal
@@ -15,11 +15,6 @@ scan-found-requires c =
     let depth = depth_fits c.self.inside.octets.items c.in-On.at c.self.inside.step c.self.invariant c.in-On.is in
     let len : length c.self.inside.octets.items ≡ length c.args.self.now.octets = ap (λ (e : HeldEntry). length e.octets) c.self.view_is in
     omega (arith, depth, len, c.requires.fits)
-
-pub invariant_of-self-2 : goal.invariant_of-self-2
-invariant_of-self-2 c =
-    rw c.in_ok-extend_from_slice.ensures.items
-    (part_scanned c.self.inside.octets.items c.args.piece.now c.split_at.result.0.now c.in-On.at c.self.inside.step c.scan-found.result c.self.invariant c.in-On.is c.scan-found.ensures.found c.split_at.ensures.front)
 
 pub returns-clause-taken : goal.returns-clause-taken
 returns-clause-taken c =

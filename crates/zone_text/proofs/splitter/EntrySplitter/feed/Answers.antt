@@ -1,50 +1,13 @@
-use Rattle.zone_text.proofs.Common.{List, [], ap, arith, count_by, false, length, refl, rules, sym, take-append-drop, true, ℕ, ◌+◌, ◌==◌, ◌∙◌, ◌≡◌}
-use Rattle.zone_text.proofs.Tokens.BlankLines.{fed_lines}
+use Rattle.zone_text.proofs.Common.{length, refl, rules, true}
+use Rattle.zone_text.proofs.Tokens.BlankLines.{not_empty}
 use Rattle.zone_text.proofs.Scanning.FirstEntries.{keeps_items, fed_entry}
 use Rattle.zone_text.proofs.Entries.Begun.{none_found, none_left, some_found}
-use Rattle.zone_text.proofs.Scanning.FedPieces.{fed_more, fed_all, fed_fault, takes_part, depth_within}
+use Rattle.zone_text.proofs.Scanning.FedPieces.{fed_all, fed_fault, depth_within}
 use Rattle.zone_text.proofs.splitter.EntrySplitter.feed.Goals as goal
 use Rattle.zone_text.proofs.splitter.EntrySplitter.feed.Goals.{then-loop-self-test+else-is_none, else-loop-self-test}
 
-not_empty : (octets : List ℕ) → false ≡ (length octets == 0) → octets ≡ [] → ⊥
-not_empty octets some none =
-    let empty : (length octets == 0) ≡ true = ap (λ (l : List ℕ). length l == 0) none in
-    let clash : false ≡ true = some ∙ empty in
-    cc
-
 pub scan-found-requires : goal.scan-found-requires
-scan-found-requires c =
-    let depth = depth_within c.loop-self.self.ended c.loop-self.self.at c.loop-self.self.unfinished.items c.loop-self.invariant.fed.is in
-    omega (arith, depth, c.loop-self.invariant.fed.near, c.loop-self.invariant.fed.is.line, c.requires.fits)
-
-pub take_part-requires-clause-scanned : goal.take_part-requires-clause-scanned
-take_part-requires-clause-scanned c = takes_part c.loop-self.self.at c.loop-self.rest.now c.split_at-in-loop-self.result.0.now c.scan-found.result c.scan-found.ensures.found c.split_at-in-loop-self.ensures.front
-
-pub read_cut-requires-clause-count : goal.read_cut-requires-clause-count
-read_cut-requires-clause-count c =
-    sym (rw c.in-Some.is at c.in_ok-taken.ensures.line) ∙ ap (count_by (λ c. c == 10)) (sym c.split_at.ensures.front)
-
-pub loop-self-preserved : goal.loop-self-preserved
-loop-self-preserved c =
-    record {
-      fed = fed_more c.args.self.now c.loop-self.self c.take_part.new.self c.args.piece.now c.loop-self.rest.now c.split_at-in-loop-self.result.0.now c.split_at-in-loop-self.result.1.now c.loop-self.invariant.fed
-          (none_found c.loop-self.self.ended.decided.ending c.if-is_none.ensures)
-          (rw (c.split_at-in-loop-self.ensures.front, c.split_at-in-loop-self.ensures.back) (sym (take-append-drop c.scan-found.result.taken c.loop-self.rest.now)))
-          (let h : length c.loop-self.rest.now ≡ length c.split_at-in-loop-self.result.0.now + length c.split_at-in-loop-self.result.1.now = omega (arith, c.split_at-in-loop-self.ensures.front_len, c.split_at-in-loop-self.ensures.back_len, c.scan-found.ensures.within) in h)
-          c.in_ok-take_part.ensures.is c.in_ok-take_part.ensures.near c.in_ok-take_part.ensures.follow;
-      nothing = λ none. absurd (not_empty c.loop-self.rest.now c.loop-self-test.ensures (c.loop-self.invariant.nothing none).1);
-    }
-
-pub loop-self-preserved-then-blank-gt0 : goal.loop-self-preserved-then-blank-gt0
-loop-self-preserved-then-blank-gt0 c =
-    let mid = c.loop-self.self in
-    record {
-      fed = fed_lines c.args.self.now mid _ c.args.piece.now c.loop-self.rest.now c.blank_lines-blank.result.rest.now c.blank_lines-blank.result.count c.loop-self.invariant.fed
-          (none_found mid.ended.decided.ending c.if-is_none.ensures)
-          (none_left mid.unfinished.items mid.unfinished.len c.is_empty-in-loop-self.result mid.unfinished.ok.0 c.is_empty-in-loop-self.ensures c.if-is_empty.true)
-          c.blank_lines-blank.ensures.are c.blank_lines-blank.ensures.few refl refl refl;
-      nothing = λ none. absurd (not_empty c.loop-self.rest.now c.loop-self-test.ensures (c.loop-self.invariant.nothing none).1);
-    }
+scan-found-requires c = search (rules, depth_within)
 
 pub loop-self-preserved-in-Some : goal.loop-self-preserved-in-Some
 loop-self-preserved-in-Some c =
@@ -58,9 +21,6 @@ loop-self-preserved-in-Some c =
           (c.in_ok-read_cut.ensures (rw c.deref.ensures.value (keeps_items _ _ _ _ first c.split_at.ensures.front))) refl refl;
       nothing = λ none. absurd (not_empty c.loop-self.rest.now c.loop-self-test.ensures (c.loop-self.invariant.nothing none).1);
     }
-
-pub returns-clause-settled : goal.returns-clause-settled
-returns-clause-settled c = search rules
 
 pub returns-clause-follow : goal.returns-clause-follow
 returns-clause-follow c =

@@ -1,5 +1,5 @@
 use Rattle.zone_text.proofs.Common.{BadEscape, ClosesNothing, LostEscape, UnbalancedParenthesis}
-use Rattle.zone_text.proofs.Scanning.Scanned.{closes_nothing, loses_escape}
+use Rattle.zone_text.proofs.Scanning.Scanned.{entry_is}
 use Rattle.zone_text.proofs.Scanning.FedPieces.{is_on, follows_on, is_ended, follows_entry, is_refused, follows_break}
 use Rattle.zone_text.proofs.splitter.EntrySplitter.take_part.Goals as goal
 
@@ -25,7 +25,7 @@ returns-in-LostEscape-clause-is c =
 
 pub returns-in-LostEscape-clause-follow : goal.returns-in-LostEscape-clause-follow
 returns-in-LostEscape-clause-follow c =
-    follows_break BadEscape _ c.refuse.new.self _ c.args.self.now.at _ _ _ c.args.step LostEscape loses_escape (record { is = c.requires.is; undecided = c.requires.undecided; scanned = c.requires.scanned }) c.in-LostEscape.is (record { records = c.refuse.ensures.records; ending = c.refuse.ensures.ending; line = c.refuse.ensures.line }) c.drop_unfinished-in-LostEscape.ensures.ended c.drop_unfinished-in-LostEscape.ensures.none
+    follows_break BadEscape _ c.refuse.new.self _ c.args.self.now.at _ _ _ c.args.step LostEscape (λ octets. entry_is octets LostEscape) (record { is = c.requires.is; undecided = c.requires.undecided; scanned = c.requires.scanned }) c.in-LostEscape.is (record { records = c.refuse.ensures.records; ending = c.refuse.ensures.ending; line = c.refuse.ensures.line }) c.drop_unfinished-in-LostEscape.ensures.ended c.drop_unfinished-in-LostEscape.ensures.none
 
 pub returns-in-ClosesNothing-clause-is : goal.returns-in-ClosesNothing-clause-is
 returns-in-ClosesNothing-clause-is c =
@@ -33,4 +33,4 @@ returns-in-ClosesNothing-clause-is c =
 
 pub returns-in-ClosesNothing-clause-follow : goal.returns-in-ClosesNothing-clause-follow
 returns-in-ClosesNothing-clause-follow c =
-    follows_break UnbalancedParenthesis _ c.refuse-in-ClosesNothing.new.self _ c.args.self.now.at _ _ _ c.args.step ClosesNothing closes_nothing (record { is = c.requires.is; undecided = c.requires.undecided; scanned = c.requires.scanned }) c.in-ClosesNothing.is (record { records = c.refuse-in-ClosesNothing.ensures.records; ending = c.refuse-in-ClosesNothing.ensures.ending; line = c.refuse-in-ClosesNothing.ensures.line }) c.drop_unfinished-in-ClosesNothing.ensures.ended c.drop_unfinished-in-ClosesNothing.ensures.none
+    follows_break UnbalancedParenthesis _ c.refuse-in-ClosesNothing.new.self _ c.args.self.now.at _ _ _ c.args.step ClosesNothing (λ octets. entry_is octets ClosesNothing) (record { is = c.requires.is; undecided = c.requires.undecided; scanned = c.requires.scanned }) c.in-ClosesNothing.is (record { records = c.refuse-in-ClosesNothing.ensures.records; ending = c.refuse-in-ClosesNothing.ensures.ending; line = c.refuse-in-ClosesNothing.ensures.line }) c.drop_unfinished-in-ClosesNothing.ensures.ended c.drop_unfinished-in-ClosesNothing.ensures.none
