@@ -17,9 +17,7 @@ reads_on lower origin after before [] others a b e f x y = record {
   first = ap (λ t. t ++ b) (sym x.0);
   fault = λ found is. let end = x.1 in absurd cc;
 }
-reads_on lower origin after before (entry ∷ entries) others a b e f (stated (states_none n xs)) (stated (states_none m ys)) = reads_on lower origin after (entry ∷ before) entries others a b e f xs ys
-reads_on lower origin after before (entry ∷ entries) others a b e f (stated (states_none n xs)) (stated (states_one q more r at w ys)) = absurd (nothing_or_record origin before entry q.rr n r)
-reads_on lower origin after before (entry ∷ entries) others a b e f (stated (states_none n xs)) (refused fault h u v) = absurd (nothing_or_fault lower origin before entry fault n h)
+reads_on lower origin after before (entry ∷ entries) others a b e f (stated (states_none n xs)) y = grind (arith, reads_on lower origin after (entry ∷ before) entries others a b e f xs, nothing_or_record origin before entry, nothing_or_fault lower origin before entry)
 reads_on lower origin after before (entry ∷ entries) others a b e f (stated (states_one p more r at w xs)) (stated (states_none m ys)) = absurd (nothing_or_record origin before entry p.rr m r)
 reads_on lower origin after before (entry ∷ entries) others a b e f (stated (states_one p more r at w xs)) (stated (states_one q left s place v ys)) = grind (arith, reads_on lower origin after (entry ∷ before) entries others more left e f xs ys, stays_on p q a b more left e f (record_once lower origin before entry p.rr q.rr r s) (at ∙ sym place) w v (reads_on lower origin after (entry ∷ before) entries others more left e f xs ys))
 reads_on lower origin after before (entry ∷ entries) others a b e f (stated (states_one p more r at w xs)) (refused fault h u v) = absurd (record_or_fault lower origin before entry p.rr fault r h)
