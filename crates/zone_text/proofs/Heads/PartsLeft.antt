@@ -1,20 +1,9 @@
 -- The words before a record's type as they are written, found from the left.
-use Rattle.zone_text.proofs.Common.{arith, common_steps, AllByRecursion, Bor, HasValue, HaveTexts, IfSome, IsSomeAnd, List, None, Option, RawItem, Some, Word, [], ap, begins_with_digit, class, class_among, false, is_class_word, is_some, option_map, parts_after, refl, subst, sym, true, ttl, ttl_among, word_after, map, raw, ℕ, ◌++◌, ◌∷◌, ◌≡◌}
-use Rattle.zone_rdata.specs.Item.{bare}
+use Rattle.zone_text.proofs.Common.{arith, common_steps, AllByRecursion, HasValue, HaveTexts, IfSome, IsSomeAnd, List, None, Option, RawItem, Some, Word, [], ap, class, class_among, parts_after, refl, subst, sym, ttl, ttl_among, word_after, map, raw, ◌++◌, ◌∷◌, ◌≡◌}
 use Rattle.zone_text.proofs.Heads.WordsLeft.{class_kept, class_pushed, next_part, parts_by, ttl_kept, ttl_pushed}
 use Rattle.zone_text.specs.PartsIn.{ArePartsIn}
 use Rattle.zone_text.specs.declared.parts.RecordParts.{RecordParts}
 use Rattle.zone_text.specs.declared.parts.WordTexts.{WordTexts}
-
--- ---- one word more
-
-pub ttl_found : (words : List Word) (texts next : WordTexts) (text : List ℕ) → HaveTexts words texts → begins_with_digit text ≡ true → is_some texts.ttl ≡ false → option_map (λ (t : Bor (List ℕ)). t.now) next.ttl ≡ Some text → next.class ≡ texts.class → IsSomeAnd (word_after words (bare text)) (λ word. HaveTexts (words ++ word ∷ []) next)
-ttl_found words texts next text have digit none own same =
-    grind (arith, ttl_pushed, class_kept)
-
-pub class_found : (words : List Word) (texts next : WordTexts) (text : List ℕ) → HaveTexts words texts → begins_with_digit text ≡ false → is_some texts.class ≡ false → is_class_word text ≡ true → option_map (λ (t : Bor (List ℕ)). t.now) next.class ≡ Some text → next.ttl ≡ texts.ttl → IsSomeAnd (word_after words (bare text)) (λ word. HaveTexts (words ++ word ∷ []) next)
-class_found words texts next text have no_digit none is_word own same =
-    grind (arith, class_pushed, ttl_kept)
 
 -- ---- all words
 

@@ -138,3 +138,5 @@ has_head origin before entry d name items after more values word number kind is 
 
 pub after_words : (items rest : List Item) (n : ℕ) (more : List RawItem) → rest ≡ drop n items → map raw rest ≡ more → drop n (map raw items) ≡ more
 after_words items rest n more back e = drop-map raw n items ∙ (ap (map raw) (sym back) ∙ e)
+
+pub ruleset one_more = (ttl_pushed, class_kept, class_pushed, ttl_kept)
