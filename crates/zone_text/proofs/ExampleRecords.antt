@@ -6,6 +6,7 @@ use Rattle.zone_rdata.specs.Field.{FieldValue, name, u32_value, fixed, octets_of
 use Rattle.zone_rdata.specs.Fields.Address.{of_ipv4}
 use Rattle.zone_rdata.specs.Spelling.{RawItem, bare}
 use Rattle.zone_rdata.specs.Number as number
+use Rattle.zone_text.proofs.Entries.Lines.{contents_by}
 use Rattle.zone_text.proofs.Heads.ClassWords.{time_first}
 
 pub n_name : IsName (under 110 x)
@@ -51,10 +52,6 @@ ns_kind = record { short = lit< tt; stored = refl }
 
 pub states_server : (above : List (List ℕ)) (class : ℕ) (text : List ℕ) → text ≢ codes "\\#" → Spells (Some above) text (under 110 x) → States above class 2 (bare text ∷ []) (wire (under 110 x))
 states_server above class text not_mark spells = record { stated = in_words (Name ∷ []) (name (under 110 x) ∷ []) refl (λ is. let e = is.1 in not_mark (let mark : text ≡ codes "\\#" = cc in mark)) (spells, tt) refl (lit≤ tt) }
-
--- what an entry states, by its words, its owner, its class, its type and the items of its data
-pub contents_by : (origin : List (List ℕ)) (before : List Entry) (entry : Entry) (owner above : List (List ℕ)) (number kind : ℕ) (words : List Word) (word : List ℕ) (items : List RawItem) (octets : List ℕ) → parts_in (statement_of entry) ≡ Some (record { words = words; rest = bare word ∷ items }) → IsOwner origin before (statement_of entry) owner → AllByRecursion HasValue words → HasClass before entry number → IsOrigin origin before above → IsKindWord word kind → IsKind kind → States above number kind items octets → HasContents origin before entry owner (record { class = number; kind = kind; octets = octets })
-contents_by origin before entry owner above number kind words word items octets split owns values has under_it named is states = grind (arith, common_steps, bare)
 
 ns_fits : (owner : List (List ℕ)) (class ttl : ℕ) → IsName owner → IsClass class → ttl ≤ 2147483647 → IsRecord (ns owner class ttl)
 unfolding labels_of
