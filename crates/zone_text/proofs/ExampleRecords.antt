@@ -1,11 +1,12 @@
 -- Names, words, NS records, the SOA of `x.` and addresses that files spell, for examples.
-use Rattle.zone_text.proofs.Common.{AllByRecursion, Data, EmptyLabel, Entry, EntryStates, HasClass, HasContents, HasHead, HasTtl, HasValue, IsClass, IsClassWord, IsDecimal, IsKind, IsKindWord, IsName, IsOrigin, IsOwner, IsRecord, IsTime, IsTtl, IsWordFault, List, MetaType, Some, SpellingFault, Spells, States, StatesMinimum, UnknownType, Word, [], absolute, address, arith, at_origin, begins_with_digit, beyond, by_mnemonic, by_number, codes, decimal_value, empty_label, false, folded_octet, for_queries, in_words, inr, is_digit, is_dot, labels_of, lit<, lit≤, minimum, ns, parts_in, plain, refl, relative, rules, soa, statement_of, true, under, wire, within, x, ℕ, ◌<◌, ◌^◌, ◌∷◌, ◌≡◌, ◌≢◌, ◌≤◌, common_steps}
+use Rattle.zone_text.proofs.Common.{AllByRecursion, Data, EmptyLabel, Entry, EntryStates, HasClass, HasContents, HasTtl, HasValue, IsClass, IsClassWord, IsDecimal, IsKind, IsKindWord, IsName, IsOrigin, IsOwner, IsRecord, IsTime, IsTtl, IsWordFault, List, MetaType, Some, SpellingFault, Spells, States, StatesMinimum, UnknownType, Word, [], absolute, address, arith, at_origin, begins_with_digit, beyond, by_mnemonic, by_number, codes, decimal_value, empty_label, false, folded_octet, for_queries, in_words, inr, is_digit, is_dot, labels_of, lit<, lit≤, minimum, ns, parts_in, plain, refl, relative, rules, soa, statement_of, true, under, wire, within, x, ℕ, ◌<◌, ◌^◌, ◌∷◌, ◌≡◌, ◌≢◌, ◌≤◌, common_steps}
 use Rattle.zone_rdata.specs.declared.field.Field.TheVariants.{Name, Serial, Time, Octets}
 use Rattle.zone_rdata.specs.Address.{IsOctetNumber}
 use Rattle.zone_rdata.specs.Field.{FieldValue, name, u32_value, fixed, octets_of}
 use Rattle.zone_rdata.specs.Fields.Address.{of_ipv4}
 use Rattle.zone_rdata.specs.Spelling.{RawItem, bare}
 use Rattle.zone_rdata.specs.Number as number
+use Rattle.zone_text.proofs.Entries.Lines.{contents_by}
 use Rattle.zone_text.proofs.Heads.ClassWords.{time_first}
 
 pub n_name : IsName (under 110 x)
@@ -59,23 +60,7 @@ ns_fits owner class ttl good is short = search rules
 -- an entry of `NS` and a text for `n.x.`, after words and an owner
 pub states_server_by : (text : List ℕ) (origin : List (List ℕ)) (before : List Entry) (entry : Entry) (owner above : List (List ℕ)) (class ttl : ℕ) (words : List Word) → text ≢ codes "\\#" → Spells (Some above) text (under 110 x) → parts_in (statement_of entry) ≡ Some (record { words = words; rest = bare (codes "NS") ∷ bare text ∷ [] }) → IsOwner origin before (statement_of entry) owner → AllByRecursion HasValue words → HasClass before entry class → IsOrigin origin before above → HasTtl origin before entry ttl → IsName owner → IsClass class → ttl ≤ 2147483647 → EntryStates origin before entry (ns owner class ttl)
 states_server_by text origin before entry owner above class ttl words not_mark spells split owns values has under_it lasts good is short = record {
-  contents = record {
-    items = bare text ∷ [];
-    above = above;
-    head = record {
-      parts = record { words = words; rest = bare (codes "NS") ∷ bare text ∷ [] };
-      word = codes "NS";
-      split = split;
-      owner = owns;
-      words = values;
-      class = has;
-      rest = refl;
-      named = is_ns;
-      kind = ns_kind;
-    };
-    under = under_it;
-    states = states_server above class text not_mark spells;
-  };
+  contents = contents_by origin before entry owner above class 2 words (codes "NS") (bare text ∷ []) _ split owns values has under_it is_ns ns_kind (states_server above class text not_mark spells);
   ttl = lasts;
   fits = ns_fits owner class ttl good is short;
 }
@@ -141,21 +126,12 @@ soa_fits : (ttl : ℕ) → ttl ≤ 2147483647 → IsRecord (soa ttl)
 unfolding labels_of
 soa_fits ttl short = search rules
 
--- the entry's head, by its words, its owner, its class and its type
-has_head : (before : List Entry) (entry : Entry) (owner : List (List ℕ)) (words : List Word) (word : List ℕ) (kind : ℕ) (items : List RawItem) → parts_in (statement_of entry) ≡ Some (record { words = words; rest = bare word ∷ items }) → IsOwner x before (statement_of entry) owner → AllByRecursion HasValue words → HasClass before entry 1 → IsKindWord word kind → IsKind kind → HasHead x before entry owner 1 kind items
-has_head before entry owner words word kind items split owns values has named is =
-    grind (arith, common_steps, bare)
-
-pub soa_head : (text : List ℕ) (before : List Entry) (entry : Entry) (words : List Word) → parts_in (statement_of entry) ≡ Some (record { words = words; rest = bare (codes "SOA") ∷ soa_items text }) → IsOwner x before (statement_of entry) x → AllByRecursion HasValue words → HasClass before entry 1 → HasHead x before entry x 1 6 (soa_items text)
-soa_head text before entry words split owns values has =
-    has_head before entry x words (codes "SOA") 6 (soa_items text) split owns values has
-    (by_mnemonic (record { name = codes "SOA"; row = refl; same = refl })) (record { short = lit< tt; stored = refl })
-
 abbrev pub soa_data : ℕ → Data
 soa_data last = record { class = 1; kind = 6; octets = octets_of (soa_values last) }
 
 pub soa_contents : (text : List ℕ) (last : ℕ) (before : List Entry) (entry : Entry) (words : List Word) → IsTime text last → last < 2 ^ 32 → parts_in (statement_of entry) ≡ Some (record { words = words; rest = bare (codes "SOA") ∷ soa_items text }) → IsOwner x before (statement_of entry) x → AllByRecursion HasValue words → HasClass before entry 1 → IsOrigin x before x → HasContents x before entry x (soa_data last)
-soa_contents text last before entry words time short split owns values has under_it = grind (arith, soa_head text before entry words split owns values has, soa_states text last time short)
+soa_contents text last before entry words time short split owns values has under_it =
+    contents_by x before entry x x 1 6 words (codes "SOA") (soa_items text) _ split owns values has under_it (by_mnemonic (record { name = codes "SOA"; row = refl; same = refl })) (record { short = lit< tt; stored = refl }) (soa_states text last time short)
 
 -- an entry of this SOA with the MINIMUM 5
 pub states_soa : (before : List Entry) (entry : Entry) (ttl : ℕ) (words : List Word) → parts_in (statement_of entry) ≡ Some (record { words = words; rest = bare (codes "SOA") ∷ soa_items (codes "5") }) → IsOwner x before (statement_of entry) x → AllByRecursion HasValue words → HasClass before entry 1 → IsOrigin x before x → HasTtl x before entry ttl → ttl ≤ 2147483647 → EntryStates x before entry (soa ttl)
@@ -193,21 +169,10 @@ address_states = record {
   ) refl (lit≤ tt);
 }
 
-address_kind : IsKind 1
-address_kind = record { short = lit< tt; stored = refl }
-
 -- an entry of the items `A 10.0.0.1` after words and an owner
 pub states_address : (before : List Entry) (entry : Entry) (owner : List (List ℕ)) (ttl : ℕ) (words : List Word) → parts_in (statement_of entry) ≡ Some (record { words = words; rest = bare (codes "A") ∷ bare (codes "10.0.0.1") ∷ [] }) → IsOwner x before (statement_of entry) owner → AllByRecursion HasValue words → HasClass before entry 1 → IsOrigin x before x → HasTtl x before entry ttl → IsName owner → ttl ≤ 2147483647 → EntryStates x before entry (address owner ttl)
 states_address before entry owner ttl words split owns values has under_it lasts good short = record {
-  contents = record {
-    items = bare (codes "10.0.0.1") ∷ [];
-    above = x;
-    head =
-        has_head before entry owner words (codes "A") 1 (bare (codes "10.0.0.1") ∷ []) split owns values has
-        (by_mnemonic (record { name = codes "A"; row = refl; same = refl })) address_kind;
-    under = under_it;
-    states = address_states;
-  };
+  contents = contents_by x before entry owner x 1 1 words (codes "A") (bare (codes "10.0.0.1") ∷ []) _ split owns values has under_it (by_mnemonic (record { name = codes "A"; row = refl; same = refl })) (record { short = lit< tt; stored = refl }) address_states;
   ttl = lasts;
   fits = search rules;
 }

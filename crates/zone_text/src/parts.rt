@@ -46,6 +46,7 @@ fn is_class_word(text: &[u8]) -> bool
 
 impl<'t> WordTexts<'t> {
     /// The texts with that of one more word. `None`: the item is no word before the type.
+    #[tactic(auto, using(crate::proofs::Heads::WordsLeft::one_more))]
     fn with(&self, text: &'t [u8]) -> Option<WordTexts<'t>>
         ensures found { (words : List Word) → HaveTexts words self.now → IfSome result
             (λ next. IsSomeAnd (word_after words (bare text.now))

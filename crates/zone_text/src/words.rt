@@ -61,6 +61,7 @@ impl Words {
     /// # Errors
     ///
     /// `BadTtl` and `BadClass` for a word without a value.
+    #[tactic(auto, using(crate::proofs::Heads::WordsLeft::no_word))]
     fn with(&self, text: &[u8]) -> Result<Option<Words>, Cause>
         ensures found { (words : List Word) → HaveValues words self.now → IfOk result (λ next.
             IfSome next (λ values. IsSomeAnd (word_after words (bare text.now))

@@ -1,8 +1,6 @@
 -- An entry after others that state nothing or a record has an outcome: nothing, a record or a first
 -- fault.
-use Rattle.zone_text.proofs.Heads.WordsLeft.{parts_by}
-use Rattle.zone_text.proofs.Common.{AllByRecursion, AllByRecursion-append, AllState, AreOctetItems, BadDirective, BadTtl, Bool, Choices, Data, Entry, EntryFault, EntryStates, Fault, HasClass, HasContents, HasHeadOf, HasTtl, HasValue, Head, IncludeDirective, IsClass, IsClassWord, IsDataFault, IsKind, IsKindWord, IsLastMinimum, IsLastOwner, IsName, IsNameFaultAfter, IsOrigin, IsOwner, IsTime, IsTtl, Labels, List, Lower, MatchOption, NoOwner, NoTtl, None, Option, Parts, PartsFault, Record, Some, SpellingFault, Spells, SpellsAfter, Statement, StatementFault, States, StatesMinimum, StatesNothing, UnknownDirective, UnknownType, Word, WordFault, [], ap, arith, cases_eq, cases_lt, class, class_among, class_word, data_of, fault_of, if◌then◌else◌, includes, inl, inr, is_class_word, latest, long, minimum, no_items, none, of_parts, of_rdata, of_statement, of_ttl, option_and_then, option_or, owned, owner_text, parts_after, parts_in, refl, rules, sets_origin, sets_ttl, stated_ttl, statement_by, statement_of, subst, sym, true, ttl, unknown, unless_stated, unowned, word_after, ℕ, ◌++◌, ◌<◌, ◌∙◌, ◌∷◌, ◌≡◌, ◌⊎◌}
-use Rattle.zone_name.specs.declared.fault.NameFault.{NameFault}
+use Rattle.zone_text.proofs.Common.{fault_of, AllByRecursion, AllByRecursion-append, AllState, AreOctetItems, BadDirective, BadTtl, Bool, Choices, Data, Entry, EntryFault, EntryStates, Fault, HasClass, HasContents, HasHeadOf, HasTtl, HasValue, Head, IncludeDirective, IsClass, IsClassWord, IsDataFault, IsKind, IsKindWord, IsLastMinimum, IsLastOwner, IsName, IsNameFaultAfter, IsOrigin, IsOwner, IsTime, IsTtl, Labels, List, Lower, MatchOption, NoOwner, NoTtl, None, Option, Parts, PartsFault, Record, Some, SpellsAfter, Statement, StatementFault, States, StatesMinimum, StatesNothing, UnknownDirective, UnknownType, Word, WordFault, [], arith, cases_eq, cases_lt, class, class_among, class_word, data_of, if◌then◌else◌, includes, inl, inr, is_class_word, latest, long, minimum, no_items, none, of_parts, of_rdata, of_statement, of_ttl, option_and_then, option_or, owned, owner_text, parts_after, parts_in, refl, rules, sets_origin, sets_ttl, stated_ttl, statement_by, statement_of, true, ttl, unknown, unless_stated, unowned, word_after, ℕ, ◌++◌, ◌<◌, ◌∷◌, ◌≡◌, ◌⊎◌}
 use Rattle.zone_rdata.specs.Spelling.{RawItem, bare, quoted}
 use Rattle.zone_text.proofs.Entries.Entered.{nothing_or_parts}
 use Rattle.zone_text.proofs.Entries.Inherits.{contents_once}
@@ -23,31 +21,20 @@ origin_is origin (entry ∷ before) is states = origin_by origin before entry st
 abbrev pub OwnerChoice : List (List ℕ) → List Entry → Option (List ℕ) → Type 0
 OwnerChoice origin before o = ((name : List (List ℕ)) × (MatchOption o (IsLastOwner origin before name) (λ text. SpellsAfter origin before text name) × IsName name)) ⊎ ((name : List (List ℕ)) → MatchOption o (IsLastOwner origin before name) (λ text. SpellsAfter origin before text name) → ⊥)
 
-owner_nothing : (origin : List (List ℕ)) (before : List Entry) (form : Statement) → StatesNothing origin before form → OwnerChoice origin before None → OwnerChoice origin before (owner_text form)
-owner_nothing origin before form h last = search rules
-
-owner_record : (origin : List (List ℕ)) (before : List Entry) (form : Statement) (name : List (List ℕ)) → IsOwner origin before form name → OwnerChoice origin before None → OwnerChoice origin before (owner_text form)
-owner_record origin before form name h last = search rules
-
-owner_by : (origin : List (List ℕ)) (before : List Entry) (entry : Entry) → StatesNothing origin before (statement_of entry) ⊎ ((r : Record) × EntryStates origin before entry r) → OwnerChoice origin before None → OwnerChoice origin before (owner_text (statement_of entry))
-owner_by origin before entry (inl n) last = owner_nothing origin before (statement_of entry) n last
-owner_by origin before entry (inr s) last = search (rules, owner_record)
+owner_by : (origin : List (List ℕ)) (before : List Entry) (form : Statement) → StatesNothing origin before form ⊎ ((name : List (List ℕ)) × (IsOwner origin before form name × IsName name)) → OwnerChoice origin before None → OwnerChoice origin before (owner_text form)
+owner_by origin before form found last = grind arith
 
 pub last_owner : (origin : List (List ℕ)) (before : List Entry) → AllState origin before → OwnerChoice origin before None
 last_owner origin [] states = inr (λ name h. h)
-last_owner origin (entry ∷ before) states = owner_by origin before entry states.0 (last_owner origin before states.1)
+last_owner origin (entry ∷ before) states = owner_by origin before (statement_of entry) (elim states.0 [ inl nothing ↦ inl nothing | inr s ↦ inr (s.0.owner, (s.1.contents.head.owner, s.1.fits.owner)) ]) (last_owner origin before states.1)
 
 abbrev pub NameChoice : List (List ℕ) → List Entry → List ℕ → Type 0
 NameChoice origin before text = ((name : List (List ℕ)) × (SpellsAfter origin before text name × IsName name)) ⊎ ((fault : Fault) × IsNameFaultAfter origin before text fault)
 
-name_by : (origin : List (List ℕ)) (before : List Entry) (text : List ℕ) (above : List (List ℕ)) → IsOrigin origin before above → ((name : List (List ℕ)) × Spells (Some above) text name) ⊎ ((fault : NameFault) × SpellingFault (Some above) text fault) → NameChoice origin before text
-name_by origin before text above under (inl found) = inl (found.0, ((above, (under, found.1)), found.1.name))
-name_by origin before text above under (inr bad) = inr (fault_of bad.0, (above, (under, (bad.0, bad.1, refl))))
-
 pub name_or_fault : Choices → (origin : List (List ℕ)) (before : List Entry) (text : List ℕ) → IsName origin → AllState origin before → AllByRecursion (λ c. c < 256) text → NameChoice origin before text
 name_or_fault choices origin before text is states low =
     let above = origin_is origin before is states in
-    name_by origin before text above.0 above.1.0 (choices.name above.0 text above.1.1 low)
+    elim (choices.name above.0 text above.1.1 low) [ inl name ↦ inl (name.0, ((above.0, (above.1.0, name.1)), name.1.name)) | inr bad ↦ inr (fault_of bad.0, (above.0, (above.1.0, (bad.0, bad.1, refl)))) ]
 
 -- ---- the class
 
@@ -62,16 +49,13 @@ class_in_parts : (o : Option Parts) (later : Option (List ℕ)) → ((parts : Pa
 class_in_parts None later have fact = fact
 class_in_parts (Some parts) later have fact = search (rules, class_among_words)
 
-words_have : (origin : List (List ℕ)) (before : List Entry) (entry : Entry) → StatesNothing origin before (statement_of entry) ⊎ ((r : Record) × EntryStates origin before entry r) → (parts : Parts) → parts_in (statement_of entry) ≡ Some parts → AllByRecursion HasValue parts.words
-words_have origin before entry h parts e = search rules
-
 class_before : (origin : List (List ℕ)) (before : List Entry) → AllState origin before → ClassFact (latest class_word before)
 class_before origin [] states = search rules
-class_before origin (entry ∷ before) states = class_in_parts (parts_in (statement_of entry)) (latest class_word before) (words_have origin before entry states.0) (class_before origin before states.1)
+class_before origin (entry ∷ before) states = class_in_parts (parts_in (statement_of entry)) (latest class_word before) (λ parts split. search rules) (class_before origin before states.1)
 
 pub class_is : (origin : List (List ℕ)) (before : List Entry) (entry : Entry) (parts : Parts) → AllState origin before → parts_in (statement_of entry) ≡ Some parts → AllByRecursion HasValue parts.words → (number : ℕ) × (HasClass before entry number × IsClass number)
 class_is origin before entry parts states split words =
-    class_in_parts (parts_in (statement_of entry)) (latest class_word before) (λ other e. let both : Some parts ≡ Some other = sym split ∙ e in let same : parts ≡ other = cc in subst (λ p. AllByRecursion HasValue p.words) same words) (class_before origin before states)
+    class_in_parts (parts_in (statement_of entry)) (latest class_word before) (λ other e. grind arith) (class_before origin before states)
 
 -- ---- the words before the type
 
@@ -90,12 +74,9 @@ pub record AreGood (parts : Parts) : Type 0 where
   pub known : AllByRecursion IsKnown parts.words
   pub low : AreOctetItems parts.rest
 
-good_by : (words : List Word) (item : RawItem) (items : List RawItem) (o : Option Word) → word_after words item ≡ o → AllByRecursion IsKnown words → AreOctetItems (item ∷ items) → ((word : Word) → AllByRecursion IsKnown (words ++ word ∷ []) → AreGood (parts_after (words ++ word ∷ []) items)) → AreGood (parts_by words item items o)
-good_by words item items o e known low goes = grind (arith, AllByRecursion-append, after_known)
-
 pub parts_good : (items : List RawItem) (words : List Word) → AllByRecursion IsKnown words → AreOctetItems items → AreGood (parts_after words items)
 parts_good [] words known low = record { known = known; low = tt }
-parts_good (item ∷ items) words known low = good_by words item items (word_after words item) refl known low (λ word more. parts_good items (words ++ word ∷ []) more low.1)
+parts_good (item ∷ items) words known low = grind (arith, AllByRecursion-append, after_known, (λ (word : Word) (more : AllByRecursion IsKnown (words ++ word ∷ [])). parts_good items (words ++ word ∷ []) more low.1))
 
 abbrev WordChoice : Word → Type 0
 WordChoice word = HasValue word ⊎ ((fault : Fault) × WordFault word fault)
@@ -107,18 +88,12 @@ ttl_word_by lower text (inl found) = elim (cases_lt 2147483647 found.0) [
   | inr short ↦ inl (found.0, record { time = found.1; short = short })
 ]
 
-ttl_word : (text : List ℕ) → ((seconds : ℕ) × IsTtl text seconds) ⊎ ((seconds : ℕ) → IsTtl text seconds → ⊥) → WordChoice (ttl text)
-ttl_word text h = search rules
-
 class_or_not : (n : ℕ) → IsClass n ⊎ (IsClass n → ⊥)
 class_or_not n = grind (arith, cases_lt n 65536, cases_eq n 0, cases_eq n 254, cases_eq n 255)
 
-class_word_by : (text : List ℕ) (number : ℕ) → IsClassWord text number → IsClass number ⊎ (IsClass number → ⊥) → WordChoice (class text)
-class_word_by text number is h = search rules
-
 word_or_fault : Lower → Choices → (word : Word) → IsKnown word → WordChoice word
-word_or_fault lower choices (ttl text) known = ttl_word text (ttl_word_by lower text (choices.time text))
-word_or_fault lower choices (class text) known = let found = class_word_of text known in class_word_by text found.0 found.1 (class_or_not found.0)
+word_or_fault lower choices (ttl text) known = grind (arith, ttl_word_by lower text (choices.time text))
+word_or_fault lower choices (class text) known = grind (arith, class_word_of text known, class_or_not (class_word_of text known).0)
 
 abbrev Choice : (ℕ → Type 0) → Type 0
 Choice P = ((n : ℕ) × P n) ⊎ ((n : ℕ) → P n → ⊥)
@@ -164,19 +139,13 @@ Outcome origin before entry = StatesNothing origin before (statement_of entry) �
 abbrev PartsChoice : List Word → List RawItem → Type 0
 PartsChoice words rest = (AllByRecursion HasValue words × ((word : List ℕ) × ((items : List RawItem) × ((n : ℕ) × ((rest ≡ bare word ∷ items) × (AreOctetItems items × (IsKindWord word n × IsKind n))))))) ⊎ ((fault : Fault) × PartsFault words rest fault)
 
-word_by : (word : Word) (words : List Word) (rest : List RawItem) → WordChoice word → PartsChoice words rest → PartsChoice (word ∷ words) rest
-word_by word words rest given others = grind arith
-
 parts_or_fault : Lower → Choices → (words : List Word) (rest : List RawItem) → AllByRecursion IsKnown words → AreOctetItems rest → PartsChoice words rest
 parts_or_fault lower choices [] (bare text ∷ items) known low = grind (arith, (choices.kind text))
 parts_or_fault lower choices [] rest known low = inr (UnknownType, refl)
-parts_or_fault lower choices (word ∷ words) rest known low = word_by word words rest (word_or_fault lower choices word known.0) (parts_or_fault lower choices words rest known.1 low)
+parts_or_fault lower choices (word ∷ words) rest known low = grind (arith, word_or_fault lower choices word known.0, parts_or_fault lower choices words rest known.1 low)
 
 abbrev OwnerOutcome : List (List ℕ) → List Entry → Statement → Type 0
 OwnerOutcome origin before form = ((owner : List (List ℕ)) × (IsOwner origin before form owner × IsName owner)) ⊎ ((fault : Fault) × StatementFault origin before form fault)
-
-abbrev DirectiveChoice : List (List ℕ) → List Entry → Statement → Type 0
-DirectiveChoice origin before form = StatesNothing origin before form ⊎ ((fault : Fault) × StatementFault origin before form fault)
 
 -- the items of a form
 abbrev LowForm : Statement → Type 0
@@ -186,21 +155,22 @@ LowForm (owned owner items) = AreOctetItems (owner ∷ items)
 LowForm (unowned items) = AreOctetItems items
 LowForm form = Unit {0}
 
+low_form : (first : Option ℕ) (items : List RawItem) → AreOctetItems items → LowForm (statement_by first items)
+low_form first items low = search rules
+
 module _ (lower : Lower) (choices : Choices) (origin : List (List ℕ)) (before : List Entry) (entry : Entry) (is : IsName origin) (states : AllState origin before) where
   from_ttl : (owner : Labels) (rdata : Data) → IsName owner → IsClass rdata.class → HasContents origin before entry owner rdata → Choice (HasTtl origin before entry) → Outcome origin before entry
   from_ttl owner rdata name holds has (inr no_ttl) = inr (inr (NoTtl, of_ttl owner rdata has (none no_ttl)))
   from_ttl owner rdata name holds has (inl found) = elim (cases_lt 2147483647 found.0) [
     | inl over ↦ inr (inr (BadTtl, of_ttl owner rdata has (long found.0 found.1 over)))
-    | inr short ↦
-        let r : Record = record { owner = owner; class = rdata.class; kind = rdata.kind; ttl = found.0; octets = rdata.octets } in
-        inr (inl (
-          r,
-          record {
-            contents = record { items = has.items; above = has.above; head = has.head; under = has.under; states = has.states };
-            ttl = found.1;
-            fits = record { owner = name; ttl = short; rdata = record { class = holds; kind = has.head.kind; octets = choices.stated has.above rdata.class rdata.kind has.items rdata.octets has.states } };
-          },
-        ))
+    | inr short ↦ inr (inl (
+      record { owner = owner; class = rdata.class; kind = rdata.kind; ttl = found.0; octets = rdata.octets },
+      record {
+        contents = has;
+        ttl = found.1;
+        fits = record { owner = name; ttl = short; rdata = record { class = holds; kind = has.head.kind; octets = choices.stated has.above rdata.class rdata.kind has.items rdata.octets has.states } };
+      },
+    ))
   ]
 
   from_rdata : (head : Head) (above : List (List ℕ)) → IsName head.owner → IsClass head.class → HasHeadOf origin before entry head → IsOrigin origin before above → ((octets : List ℕ) × States above head.class head.kind head.items octets) ⊎ ((fault : Fault) × IsDataFault above head.class head.kind head.items fault) → Outcome origin before entry
@@ -220,53 +190,26 @@ module _ (lower : Lower) (choices : Choices) (origin : List (List ℕ)) (before 
       let has : HasHeadOf origin before entry head = record { parts = parts; word = found.1.0; split = split; owner = owns; words = found.0; class = number.1.0; rest = facts.0; named = facts.1.1.0; kind = facts.1.1.1 } in
       from_rdata head above.0 name number.1.1 has above.1.0 (choices.rdata above.0 number.0 found.1.1.1.0 found.1.1.0 above.1.1 facts.1.0)
 
-  from_owner : (parts : Parts) → parts_in (statement_of entry) ≡ Some parts → AreGood parts → OwnerOutcome origin before (statement_of entry) → Outcome origin before entry
-  from_owner parts split good (inr bad) = inr (inr (bad.0, of_statement bad.1))
-  from_owner parts split good (inl found) = from_parts parts found.0 split found.1.0 found.1.1 (parts_or_fault lower choices parts.words parts.rest good.known good.low)
-
-  -- ---- the owner
-
-  last_outcome : (items : List RawItem) → OwnerChoice origin before None → OwnerOutcome origin before (unowned items)
-  last_outcome items given = grind arith
-
-  owned_outcome : (owner : RawItem) (items : List RawItem) → AreOctetItems (owner ∷ items) → OwnerOutcome origin before (owned owner items)
-  owned_outcome (bare text) items low = name_or_fault choices origin before text is states low.0
-  owned_outcome (quoted text) items low = inr (NoOwner, refl)
-
-  -- ---- directives
-
-  origin_text_by : (text : List ℕ) → NameChoice origin before text → DirectiveChoice origin before (sets_origin (bare text ∷ []))
-  origin_text_by text given = grind arith
-
-  origin_or_fault : (items : List RawItem) → AreOctetItems items → DirectiveChoice origin before (sets_origin items)
-  origin_or_fault (bare text ∷ []) low = origin_text_by text (name_or_fault choices origin before text is states low.0)
-  origin_or_fault items low = inr (BadDirective, refl)
-
-  default_by : (text : List ℕ) → ((seconds : ℕ) × IsTtl text seconds) ⊎ ((seconds : ℕ) → IsTtl text seconds → ⊥) → DirectiveChoice origin before (sets_ttl (bare text ∷ []))
-  default_by text given = grind arith
-
-  default_or_fault : (items : List RawItem) → DirectiveChoice origin before (sets_ttl items)
-  default_or_fault (bare text ∷ []) = default_by text (ttl_word_by lower text (choices.time text))
-  default_or_fault items = inr (BadDirective, refl)
-
-  directive_outcome : DirectiveChoice origin before (statement_of entry) → Outcome origin before entry
-  directive_outcome given = grind arith
-
   -- ---- the form
 
-  outcome_by : (form : Statement) → statement_of entry ≡ form → LowForm form → Outcome origin before entry
-  outcome_by no_items e low = directive_outcome (subst (DirectiveChoice origin before) (sym e) (inl tt))
-  outcome_by (sets_origin items) e low = directive_outcome (subst (DirectiveChoice origin before) (sym e) (origin_or_fault items low))
-  outcome_by (sets_ttl items) e low = directive_outcome (subst (DirectiveChoice origin before) (sym e) (default_or_fault items))
-  outcome_by includes e low = directive_outcome (subst (DirectiveChoice origin before) (sym e) (inr (IncludeDirective, refl)))
-  outcome_by unknown e low = directive_outcome (subst (DirectiveChoice origin before) (sym e) (inr (UnknownDirective, refl)))
-  outcome_by (owned owner items) e low =
-      from_owner (parts_after [] items) (ap parts_in e) (parts_good items [] tt low.1) (subst (OwnerOutcome origin before) (sym e) (owned_outcome owner items low))
-  outcome_by (unowned items) e low =
-      from_owner (parts_after [] items) (ap parts_in e) (parts_good items [] tt low) (subst (OwnerOutcome origin before) (sym e) (last_outcome items (last_owner origin before states)))
+  form_choice : (form : Statement) → LowForm form → (StatesNothing origin before form ⊎ ((fault : Fault) × StatementFault origin before form fault)) ⊎ ((items : List RawItem) × (parts_in form ≡ Some (parts_after [] items)) × AreOctetItems items × OwnerOutcome origin before form)
+  form_choice no_items low = inl (inl tt)
+  form_choice includes low = inl (inr (IncludeDirective, refl))
+  form_choice unknown low = inl (inr (UnknownDirective, refl))
+  form_choice (sets_origin (bare text ∷ [])) low = elim (name_or_fault choices origin before text is states low.0) [ inl name ↦ inl (inl (name.0, name.1.0)) | inr bad ↦ inl (inr bad) ]
+  form_choice (sets_origin items) low = inl (inr (BadDirective, refl))
+  form_choice (sets_ttl (bare text ∷ [])) low = grind (arith, ttl_word_by lower text (choices.time text))
+  form_choice (sets_ttl items) low = inl (inr (BadDirective, refl))
+  form_choice (owned (bare text) items) low = inr (items, refl, low.1, name_or_fault choices origin before text is states low.0)
+  form_choice (owned (quoted text) items) low = inr (items, refl, low.1, inr (NoOwner, refl))
+  form_choice (unowned items) low = inr (items, refl, low, grind (arith, last_owner origin before states))
 
-low_form : (first : Option ℕ) (items : List RawItem) → AreOctetItems items → LowForm (statement_by first items)
-low_form first items low = search rules
-
-pub entry_outcome : Lower → Choices → (origin : List (List ℕ)) (before : List Entry) (entry : Entry) → IsName origin → AllState origin before → AreOctetItems entry.items → Outcome origin before entry
-entry_outcome lower choices origin before entry is states low = outcome_by lower choices origin before entry is states (statement_of entry) refl (low_form entry.first entry.items low)
+  pub entry_outcome : AreOctetItems entry.items → Outcome origin before entry
+  entry_outcome items_low = elim (form_choice (statement_of entry) (low_form entry.first entry.items items_low)) [
+    | inl (inl nothing) ↦ inl nothing
+    | inl (inr bad) ↦ inr (inr (bad.0, of_statement bad.1))
+    | inr (items, split, low, inr bad) ↦ inr (inr (bad.0, of_statement bad.1))
+    | inr (items, split, low, inl owner) ↦
+        let good = parts_good items [] tt low in
+        from_parts (parts_after [] items) owner.0 split owner.1.0 owner.1.1 (parts_or_fault lower choices (parts_after [] items).words (parts_after [] items).rest good.known good.low)
+  ]

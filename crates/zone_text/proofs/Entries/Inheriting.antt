@@ -1,6 +1,6 @@
 -- The parser state is what the look back over the entries finds: one entry more, and the TTL that
 -- a record inherits.
-use Rattle.zone_text.proofs.Common.{Data, Entry, HasContents, HasHeadOf, Head, IsLastMinimum, IsLastOwner, IsOneOrNone, IsOrigin, IsStateAfter, IsTime, IsTtlOrNone, Labels, List, Lower, MatchOption, None, Option, ParserState, RawItem, SetsOrigin, SetsTtl, Some, SpellsAfter, Statement, StatesMinimum, StatesNothing, [], ap, default_ttl_text, inl, inr, latest, minimum, one_bare, option_or, origin_text, owner_text, parts_in, refl, rules, sets_origin, sets_ttl, stated_ttl, statement_of, subst, sym, ttl_text, with_owner, ℕ, ◌∙◌, ◌∷◌, ◌≡◌, arith}
+use Rattle.zone_text.proofs.Common.{Data, Entry, HasContents, HasHeadOf, Head, IsLastMinimum, IsLastOwner, IsOneOrNone, IsOrigin, IsStateAfter, IsTime, IsTtlOrNone, Labels, List, Lower, MatchOption, None, Option, ParserState, RawItem, SetsOrigin, SetsTtl, Some, SpellsAfter, Statement, StatesMinimum, StatesNothing, [], default_ttl_text, inl, inr, latest, minimum, one_bare, option_or, origin_text, owner_text, parts_in, refl, rules, sets_origin, sets_ttl, stated_ttl, statement_of, subst, ttl_text, with_owner, ℕ, ◌∷◌, ◌≡◌, arith}
 use Rattle.zone_rdata.specs.Item.{bare}
 use Rattle.zone_text.proofs.Entries.EntryOutcome.{states_no_minimum, no_minimum}
 
@@ -50,16 +50,14 @@ one_bare_is items text e = grind arith
 pub origin_set : (origin : Labels) (before : List Entry) (entry : Entry) (d next : ParserState) (items : List RawItem) → IsStateAfter origin before d → statement_of entry ≡ sets_origin items → SetsOrigin items d next → StatesNothing origin before (statement_of entry) × IsStateAfter origin (entry ∷ before) next
 origin_set origin before entry d next items so_far form sets =
     let spells : SpellsAfter origin before sets.text next.origin = (d.origin, (so_far.under, sets.spelled)) in
-    let text : origin_text (statement_of entry) ≡ Some sets.text = ap origin_text form ∙ ap (λ items. origin_text (sets_origin items)) (one_bare_is items sets.text sets.item) in
-    let under : IsOrigin origin (entry ∷ before) next.origin = rw text spells in (
-      subst (StatesNothing origin before) (sym form) (rw (one_bare_is items sets.text sets.item) (next.origin, spells)),
-      subst (IsStateAfter origin (entry ∷ before)) (sym sets.others) (leaves origin before entry (sets_origin items) d next.origin d.default_ttl form refl refl so_far under (search rules)),
-    )
+    let item : items ≡ bare sets.text ∷ [] = one_bare_is items sets.text sets.item in
+    let states : StatesNothing origin before (sets_origin items) = rw item (next.origin, spells) in
+    let under : IsOrigin origin (entry ∷ before) next.origin = rw (form, item) spells in
+    (rw form states, rw sets.others (leaves origin before entry (sets_origin items) d next.origin d.default_ttl form refl refl so_far under (search rules)))
 
 pub ttl_set : (origin : Labels) (before : List Entry) (entry : Entry) (d next : ParserState) (items : List RawItem) → IsStateAfter origin before d → statement_of entry ≡ sets_ttl items → SetsTtl items d next → StatesNothing origin before (statement_of entry) × IsStateAfter origin (entry ∷ before) next
 ttl_set origin before entry d next items so_far form sets =
-    let text : default_ttl_text (statement_of entry) ≡ Some sets.text = ap default_ttl_text form ∙ ap (λ items. default_ttl_text (sets_ttl items)) (one_bare_is items sets.text sets.item) in
-    let default : IsTtlOrNone (latest default_ttl_text (entry ∷ before)) (Some sets.seconds) = rw text (sets.ttl) in (
-      subst (StatesNothing origin before) (sym form) (rw (one_bare_is items sets.text sets.item) (sets.seconds, sets.ttl)),
-      subst (IsStateAfter origin (entry ∷ before)) (sym sets.others) (leaves origin before entry (sets_ttl items) d d.origin (Some sets.seconds) form refl refl so_far (same_origin origin before entry (sets_ttl items) d.origin form refl so_far.under) default),
-    )
+    let item : items ≡ bare sets.text ∷ [] = one_bare_is items sets.text sets.item in
+    let states : StatesNothing origin before (sets_ttl items) = rw item (sets.seconds, sets.ttl) in
+    let default : IsTtlOrNone (latest default_ttl_text (entry ∷ before)) (Some sets.seconds) = rw (form, item) (sets.ttl) in
+    (rw form states, rw sets.others (leaves origin before entry (sets_ttl items) d d.origin (Some sets.seconds) form refl refl so_far (same_origin origin before entry (sets_ttl items) d.origin form refl so_far.under) default))

@@ -21,13 +21,10 @@ no_longer (w ∷ units) = omega (arith, text_of-some w, no_longer units, length-
 units_spell : (out : ℕ → Bool) (units : List Written) (item : RawItem) → AllByRecursion (IsUnit out) units → item_text item ≡ written_text units → IsShort item → SpellsString item (written_octets units)
 units_spell out units item each text short = grind (arith, units_anywhere out units each, no_longer units, octets_low out units each (subst Low text short.octets))
 
-same_item : (a b : RawItem) → a ∷ [] ≡ b ∷ [] → a ≡ b
-same_item a b e = cc
-
 -- a short item spells a string
 pub short_spells : (p : Token) (item : RawItem) → IsToken p → item ∷ [] ≡ item_of p → IsShort item → (octets : List ℕ) × SpellsString item octets
-short_spells (bare units) item is e short = (written_octets units, units_spell _ units item is.1 (ap item_text (same_item item _ e)) short)
-short_spells (quoted units) item is e short = (written_octets units, units_spell _ units item is (ap item_text (same_item item _ e)) short)
+short_spells (bare units) item is e short = (written_octets units, units_spell _ units item is.1 (cc) short)
+short_spells (quoted units) item is e short = (written_octets units, units_spell _ units item is (cc) short)
 short_spells p item is e short = absurd cc
 
 -- ---- items of tokens

@@ -1,6 +1,6 @@
 -- An entry of very many items has the fault that it has where some that spell strings are left out,
 -- and states nothing.
-use Rattle.zone_text.proofs.Common.{AllByRecursion, AreKept, AreShortened, Bool, Cuts, Data, DecidesEntry, Entry, EntryFault, EntryStates, Err, Fault, HasContents, HasHeadOf, Head, IsOwner, IsWritten, Labels, LeavesOut, List, None, Ok, OnOk, Option, ParserState, Parts, PartsFault, PendingRecords, Place, RawItem, Record, Result, Some, Statement, StatementFault, StatesNothing, Token, Word, [], after_item, ap, are_many, arith, begin_with, class, class_among, class_word, common_steps, data_of, decides_fault, decides_none, decides_one, directive, entry_of, false, fault_of_all, flat_map, if◌then◌else◌, includes, inl, inr, is_blank, item_of, length, no_items, of_parts, of_rdata, of_statement, of_ttl, one_bare, owned, parts_after, parts_in, refl, rules, sets_origin, sets_ttl, slice_get, state_none, statement_by, statement_of, subst, sym, true, ttl, ttl_among, unknown, unless_stated, unowned, word_after, ℕ, ⊤, ◌++◌, ◌+◌, ◌==◌, ◌∙◌, ◌∷◌, ◌≡◌, ◌≤◌}
+use Rattle.zone_text.proofs.Common.{AllByRecursion, AreKept, AreShortened, Bool, Cuts, Data, DecidesEntry, Entry, EntryFault, Err, Fault, HasContents, HasHeadOf, Head, IsOwner, IsWritten, Labels, LeavesOut, List, None, Ok, OnOk, Option, ParserState, Parts, PartsFault, PendingRecords, Place, RawItem, Result, Some, Statement, StatementFault, StatesNothing, Token, Word, [], after_item, ap, are_many, arith, begin_with, class, class_among, class_word, common_steps, data_of, decides_fault, decides_none, decides_one, directive, entry_of, false, fault_of_all, flat_map, if◌then◌else◌, includes, inl, inr, is_blank, item_of, length, no_items, of_parts, of_rdata, of_statement, of_ttl, one_bare, owned, parts_after, parts_in, refl, rules, sets_origin, sets_ttl, slice_get, state_none, statement_by, statement_of, subst, sym, true, ttl, ttl_among, unknown, unless_stated, unowned, word_after, ℕ, ⊤, ◌++◌, ◌+◌, ◌==◌, ◌∙◌, ◌∷◌, ◌≡◌, ◌≤◌}
 use Rattle.zone_rdata.specs.Item.{bare}
 use Rattle.zone_text.proofs.Entries.Kept.{items_written}
 use Rattle.zone_text.proofs.Heads.WordsLeft.{class_kept, class_pushed, parts_by, ttl_kept, ttl_pushed}
@@ -24,19 +24,9 @@ free_one (Some text) = 0
 abbrev free : List Word → ℕ
 free words = free_one (ttl_among words) + free_one (class_among words)
 
-stated_none : (o : Option (List ℕ)) (word found : Word) → unless_stated o word ≡ Some found → (o ≡ None) × (word ≡ found)
-stated_none o word found e = search rules
-
-ttl_less : (words : List Word) (text : List ℕ) (word : Word) → unless_stated (ttl_among words) (ttl text) ≡ Some word → free (words ++ word ∷ []) + 1 ≡ free words
-unfolding free_one
-ttl_less words text word e = search (rules, stated_none, ttl_pushed, class_kept)
-
-class_less : (words : List Word) (text : List ℕ) (word : Word) → unless_stated (class_among words) (class text) ≡ Some word → free (words ++ word ∷ []) + 1 ≡ free words
-unfolding free_one
-class_less words text word e = search (rules, stated_none, class_pushed, ttl_kept)
-
 bare_less : (a b : Bool) (words : List Word) (text : List ℕ) (word : Word) → (if a then unless_stated (ttl_among words) (ttl text) else if b then unless_stated (class_among words) (class text) else None) ≡ Some word → free (words ++ word ∷ []) + 1 ≡ free words
-bare_less a b words text word e = search (rules, ttl_less, class_less)
+unfolding free_one
+bare_less a b words text word e = grind (arith, ttl_pushed, class_kept, class_pushed, ttl_kept)
 
 free_less : (words : List Word) (item : RawItem) (word : Word) → word_after words item ≡ Some word → free (words ++ word ∷ []) + 1 ≡ free words
 free_less words item word e = search (rules, bare_less)
@@ -113,20 +103,15 @@ module _ (origin : Labels) (before : List Entry) where
   shown_fault : (fault : Fault) (form : Statement) → IsLong form → StatementFault origin before (shown form) fault ≡ StatementFault origin before form fault
   shown_fault fault form long = grind arith
 
-  shown_owner : (name : Labels) (form : Statement) → IsLong form → IsOwner origin before (shown form) name ≡ IsOwner origin before form name
-  shown_owner name form long = grind arith
+  owner_shown : (name : Labels) (form other : Statement) → LongForms form other → IsOwner origin before other name → IsOwner origin before form name
+  owner_shown name form other long is = grind arith
 
   none_stated : (form : Statement) → IsLong form → StatesNothing origin before form → ⊥
   none_stated form long n = grind arith
 
--- what a form shows, the other shows
-as_kept : (P : Statement → Type 0) → ((form : Statement) → IsLong form → P (shown form) ≡ P form) → (form other : Statement) → LongForms form other → P other → P form
-as_kept P same form other h p = subst (λ Q. Q) (sym (same other h.other_long) ∙ ap P h.same ∙ same form h.long) p
-
 parts_of_first : (words : List Word) (item : RawItem) (items kept : List RawItem) (fault : Fault) → PartsFault words (item ∷ kept) fault → PartsFault words (item ∷ items) fault
 parts_of_first [] item items kept fault bad = grind arith
-parts_of_first (word ∷ words) item items kept fault (inl bad) = inl bad
-parts_of_first (word ∷ words) item items kept fault (inr more) = inr (more.0, parts_of_first words item items kept fault more.1)
+parts_of_first (word ∷ words) item items kept fault bad = grind (arith, parts_of_first words item items kept fault)
 
 -- ---- the entry
 
@@ -147,8 +132,6 @@ head_long origin before entry kept head long has =
     let found = forms.parts has.parts has.split in
     let begin = begin_with 65548 65547 found.parts.rest has.parts.rest (omega arith) found.long.long.short in
     let firsts : begin.item ∷ begin.others ≡ bare has.word ∷ head.items = sym begin.are_kept ∙ has.rest in
-    let same : begin.item ≡ bare has.word = cc in
-    let tails : begin.others ≡ head.items = cc in
     let written : AllByRecursion IsWritten (begin.item ∷ begin.rest) = subst (AllByRecursion IsWritten) begin.whole found.long.long.written in
     let classes : class_word (statement_of (with_items entry kept)) ≡ class_word (statement_of entry) = rw (has.split, found.split, found.long.words) refl in
     grind arith
@@ -160,28 +143,24 @@ contents_none origin before entry kept owner rdata long has =
     state_none has.above rdata.class rdata.kind found.items has.items rdata.octets found.long.written found.long.short has.states
 
 fault_kept : (origin : Labels) (before : List Entry) (entry : Entry) (kept : List RawItem) (fault : Fault) → Long 65552 entry.items kept → EntryFault origin before (with_items entry kept) fault → EntryFault origin before entry fault
-fault_kept origin before entry kept fault long (of_statement bad) = of_statement (as_kept _ (shown_fault origin before fault) (statement_of entry) _ (forms_long entry.first entry.items kept long) bad)
+fault_kept origin before entry kept fault long (of_statement bad) =
+    let forms = forms_long entry.first entry.items kept long in
+    of_statement (subst (λ Q. Q) (sym (shown_fault origin before fault _ forms.other_long) ∙ ap (λ form. StatementFault origin before form fault) forms.same ∙ shown_fault origin before fault _ forms.long) bad)
 fault_kept origin before entry kept fault long (of_parts owner parts is split bad) =
     let forms = forms_long entry.first entry.items kept long in
     let found = forms.parts parts split in
-    of_parts owner found.parts (as_kept _ (shown_owner origin before owner) (statement_of entry) _ forms is) found.split (let begin = begin_with 65548 65547 found.parts.rest parts.rest (omega arith) found.long.long.short in grind (arith, begin_with, parts_of_first))
+    of_parts owner found.parts (owner_shown origin before owner (statement_of entry) _ forms is) found.split (let begin = begin_with 65548 65547 found.parts.rest parts.rest (omega arith) found.long.long.short in grind (arith, begin_with, parts_of_first))
 fault_kept origin before entry kept fault long (of_rdata owner number kind items above has under bad) =
     let found = head_long origin before entry kept (record { owner = owner; class = number; kind = kind; items = items }) long has in
     of_rdata owner number kind found.items above found.has under (fault_of_all above number kind found.items items fault found.long.written found.long.short bad)
 fault_kept origin before entry kept fault long (of_ttl owner rdata has bad) = absurd (contents_none origin before entry kept owner rdata long has)
 
-record_kept : (origin : Labels) (before : List Entry) (entry : Entry) (kept : List RawItem) (r : Record) → Long 65552 entry.items kept → EntryStates origin before (with_items entry kept) r → ⊥
-record_kept origin before entry kept r long states = contents_none origin before entry kept r.owner (data_of r) long states.contents
-
-decides_by : (origin : Labels) (before : List Entry) (entry : Entry) (kept : List RawItem) (place : Place) (old new : PendingRecords) (next : ParserState) → Long 65552 entry.items kept → DecidesEntry origin before (with_items entry kept) place old new next → DecidesEntry origin before entry place old new next
-decides_by origin before entry kept place old new next long (decides_none leaves same) = absurd (none_stated origin before _ (forms_long entry.first entry.items kept long).other_long leaves.0)
-decides_by origin before entry kept place old new next long (decides_one r states are more same) = absurd (record_kept origin before entry kept r long states)
-decides_by origin before entry kept place old new next long (decides_fault fault bad same ending) = decides_fault fault (fault_kept origin before entry kept fault long bad) same ending
-
 -- what is decided by the items that are kept, is decided by the entry
 pub decides_kept : (origin : Labels) (before : List Entry) (entry : Entry) (kept : List RawItem) (place : Place) (old new : PendingRecords) (next : ParserState) → AllByRecursion IsWritten entry.items → AreKept entry.items kept → DecidesEntry origin before (with_items entry kept) place old new next → DecidesEntry origin before entry place old new next
 decides_kept origin before entry kept place old new next written (inl all) h = subst (λ items. DecidesEntry origin before (with_items entry items) place old new next) all h
-decides_kept origin before entry kept place old new next written (inr short) h = decides_by origin before entry kept place old new next (record { short = short; written = written }) h
+decides_kept origin before entry kept place old new next written (inr short) (decides_none leaves same) = absurd (none_stated origin before _ (forms_long entry.first entry.items kept (record { short = short; written = written })).other_long leaves.0)
+decides_kept origin before entry kept place old new next written (inr short) (decides_one r states are more same) = absurd (contents_none origin before entry kept r.owner (data_of r) (record { short = short; written = written }) states.contents)
+decides_kept origin before entry kept place old new next written (inr short) (decides_fault fault bad same ending) = decides_fault fault (fault_kept origin before entry kept fault (record { short = short; written = written }) bad) same ending
 
 -- what an entry of these octets and items decides, an entry decides of whose items these are kept
 pub entry_kept : {T E : Type 0} (result : Result T E) (origin : Labels) (before : List Entry) (line : ℕ) (octets : List ℕ) (tokens : List Token) (kept : List RawItem) (place : Place) (old new : PendingRecords) (next : ParserState) → Cuts octets tokens → AreKept (flat_map item_of tokens) kept → OnOk result (DecidesEntry origin before (record { line = line; first = slice_get octets 0; items = kept }) place old new next) → OnOk result (DecidesEntry origin before (entry_of line tokens) place old new next)

@@ -1,5 +1,5 @@
 -- A record entry whose parts are read in a known state: what it states, or why it is refused.
-use Rattle.zone_text.proofs.Common.{BadTtl, Data, Entry, EntryFault, EntryStates, Fault, HasContents, HasHeadOf, HasOwnerOrNone, HasTtl, Head, IsDataFault, IsLastMinimum, IsLastOwner, IsOneOrNone, IsOwner, IsReadTo, IsRecord, IsRecordEntry, IsStateAfter, IsTtlOrNone, Labels, List, Lower, MatchOption, NoOwner, NoTtl, None, Option, ParserState, RawItem, Record, Some, States, arith, long, minimum, none, of_rdata, of_ttl, option_or, owned, refl, rules, stated_ttl, statement_of, subst, sym, ttl_text, with_owner, ℕ, ◌<◌, ◌∙◌, ◌∷◌, ◌≡◌}
+use Rattle.zone_text.proofs.Common.{BadTtl, Data, Entry, EntryFault, EntryStates, Fault, HasContents, HasHeadOf, HasOwnerOrNone, HasTtl, Head, IsDataFault, IsLastMinimum, IsLastOwner, IsOneOrNone, IsOwner, IsReadTo, IsRecord, IsRecordEntry, IsStateAfter, IsTtlOrNone, Labels, List, Lower, MatchOption, NoOwner, NoTtl, None, Option, ParserState, RawItem, Record, Some, States, arith, long, minimum, none, of_rdata, of_ttl, option_or, owned, refl, rules, stated_ttl, statement_of, subst, sym, ttl_text, with_owner, ℕ, ◌<◌, ◌∷◌, ◌≡◌}
 use Rattle.zone_text.proofs.Entries.Inheriting.{has_by, minimum_by, none_by, record_leaves, ttl_stated}
 
 -- ---- the owner
@@ -23,21 +23,15 @@ module _ (origin : Labels) (before : List Entry) (entry : Entry) where
   pub read_to : (d : ParserState) (name : Labels) (items : List RawItem) (head : Head) (own : Option ℕ) (rdata : Data) (a stated soa last result found : Option ℕ) → IsRecordEntry origin before entry d name items → HasHeadOf origin before entry head × IsTtlOrNone (ttl_text (statement_of entry)) own → rdata.class ≡ head.class → rdata.kind ≡ head.kind → States d.origin head.class head.kind head.items rdata.octets → a ≡ option_or own d.default_ttl → stated ≡ option_or a d.last_ttl → soa ≡ minimum rdata → last ≡ option_or soa d.minimum → result ≡ option_or stated last → result ≡ found → IsReadTo origin before entry d head own rdata last found
   read_to d name items head own rdata a stated soa last result found is has class kind states first second of_soa least third is_found = grind arith
 
-abbrev data_with : Head → Data → Data
-data_with head rdata = record { class = head.class; kind = head.kind; octets = rdata.octets }
-
-same_data : (head : Head) (d : Data) → d.class ≡ head.class → d.kind ≡ head.kind → d ≡ data_with head d
-same_data head d a b = rw (a, b) refl
-
-has_contents : (origin : Labels) (before : List Entry) (entry : Entry) (d : ParserState) (head : Head) (own : Option ℕ) (rdata : Data) (last found : Option ℕ) → IsReadTo origin before entry d head own rdata last found → HasContents origin before entry head.owner (data_with head rdata)
-has_contents origin before entry d head own rdata last found is = record { items = head.items; above = d.origin; head = is.has; under = is.state.under; states = is.states }
+has_contents : (origin : Labels) (before : List Entry) (entry : Entry) (d : ParserState) (head : Head) (own : Option ℕ) (rdata : Data) (last found : Option ℕ) → IsReadTo origin before entry d head own rdata last found → HasContents origin before entry head.owner rdata
+has_contents origin before entry d head own rdata last found is = record { items = head.items; above = d.origin; head = rw (is.class, is.kind) (is.has); under = is.state.under; states = rw (is.class, is.kind) (is.states) }
 
 last_is : Lower → (origin : Labels) (before : List Entry) (entry : Entry) (d : ParserState) (head : Head) (own : Option ℕ) (rdata : Data) (last found : Option ℕ) → IsReadTo origin before entry d head own rdata last found → IsOneOrNone (IsLastMinimum origin (entry ∷ before)) last
-last_is lower origin before entry d head own rdata last found is = grind (arith, same_data head rdata is.class is.kind, (minimum_by lower origin before entry head.owner (data_with head rdata) (minimum (data_with head rdata)) d.minimum (has_contents origin before entry d head own rdata last found is) refl is.state.minimum))
+last_is lower origin before entry d head own rdata last found is = rw is.least (minimum_by lower origin before entry head.owner rdata (minimum rdata) d.minimum (has_contents origin before entry d head own rdata last found is) refl is.state.minimum)
 
 pub no_ttl : Lower → (origin : Labels) (before : List Entry) (entry : Entry) (d : ParserState) (head : Head) (own : Option ℕ) (rdata : Data) (last : Option ℕ) → IsReadTo origin before entry d head own rdata last None → EntryFault origin before entry NoTtl
 no_ttl lower origin before entry d head own rdata last is =
-    of_ttl head.owner (data_with head rdata) (has_contents origin before entry d head own rdata last None is)
+    of_ttl head.owner rdata (has_contents origin before entry d head own rdata last None is)
     (none (none_by (stated_ttl before entry) (option_or (option_or own d.default_ttl) d.last_ttl) last (IsLastMinimum origin (entry ∷ before)) (ttl_stated origin before entry (with_owner is.held d) own is.state is.own_ttl) (last_is lower origin before entry d head own rdata last None is) (sym is.ttl)))
 
 ttl_is : Lower → (origin : Labels) (before : List Entry) (entry : Entry) (d : ParserState) (head : Head) (own : Option ℕ) (rdata : Data) (last : Option ℕ) (n : ℕ) → IsReadTo origin before entry d head own rdata last (Some n) → HasTtl origin before entry n
@@ -50,11 +44,10 @@ long_ttl lower origin before entry d head own rdata last n is over = search (rul
 
 pub states_record : Lower → (origin : Labels) (before : List Entry) (entry : Entry) (d : ParserState) (head : Head) (own : Option ℕ) (rdata : Data) (last : Option ℕ) (n : ℕ) (r : Record) → IsReadTo origin before entry d head own rdata last (Some n) → r ≡ record { owner = head.owner; class = rdata.class; kind = rdata.kind; ttl = n; octets = rdata.octets } → IsRecord r → EntryStates origin before entry r
 states_record lower origin before entry d head own rdata last n r is e fits =
-    let same : r ≡ record { owner = head.owner; class = head.class; kind = head.kind; ttl = n; octets = rdata.octets } = e ∙ rw (is.class, is.kind) refl in
-    subst (EntryStates origin before entry) (sym same) (record {
+    rw e (record {
       contents = has_contents origin before entry d head own rdata last (Some n) is;
       ttl = ttl_is lower origin before entry d head own rdata last n is;
-      fits = subst IsRecord same fits;
+      fits = rw e at fits;
     })
 
 pub record_left : Lower → (origin : Labels) (before : List Entry) (entry : Entry) (d next : ParserState) (head : Head) (own : Option ℕ) (rdata : Data) (last found : Option ℕ) (owner : Option Labels) → IsReadTo origin before entry d head own rdata last found → next.origin ≡ d.origin → next.class ≡ head.class → next.default_ttl ≡ d.default_ttl → next.last_ttl ≡ option_or own d.last_ttl → next.minimum ≡ last → IsOneOrNone (IsLastOwner origin (entry ∷ before)) owner → IsStateAfter origin (entry ∷ before) (with_owner owner next)

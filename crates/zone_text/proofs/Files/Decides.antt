@@ -1,5 +1,5 @@
 -- What is decided of a prefix stays, whatever octets follow it.
-use Rattle.zone_text.proofs.Common.{AreTokens, Breaks, BreaksForGood, Cuts, Ending, Entry, Fault, FileDecides, FileReads, Line, List, Lower, None, Placed, ReadEach, Some, Stays, Token, [], and_last, ap, append-nil, append_assoc, broken, cut_from, decided, ended_entries, entries_of, inl, inr, open_line, refused, rules, stated, states_none, states_one, subst, sym, text, undecided, whole, zero, ℕ, ◌++◌, ◌∙◌, ◌∷◌, ◌≡◌, arith}
+use Rattle.zone_text.proofs.Common.{AreTokens, Breaks, Cuts, Ending, Entry, Fault, FileDecides, FileReads, Line, List, Lower, None, Placed, ReadEach, Some, Stays, Token, [], and_last, ap, append-nil, append_assoc, broken, cut_from, decided, ended_entries, entries_of, inl, inr, open_line, refused, rules, stated, states_none, states_one, sym, text, undecided, whole, zero, ℕ, ◌++◌, ◌∙◌, ◌∷◌, ◌≡◌, arith}
 use Rattle.zone_text.proofs.Tokens.Cuttings.{one_cut, one_break, cut_not_broken, cut_or_broken}
 use Rattle.zone_text.proofs.Tokens.Lasting.{cut_joined, break_joined, cut_parted, break_parted, breaks_for_good}
 use Rattle.zone_text.proofs.Tokens.CutAgain.{joined, cut_whole, cut_ended, cut_again, ended_at_zero, and_last_after, numbered_front}
@@ -17,9 +17,7 @@ reads_on lower origin after before [] others a b e f x y = record {
   first = ap (λ t. t ++ b) (sym x.0);
   fault = λ found is. let end = x.1 in absurd cc;
 }
-reads_on lower origin after before (entry ∷ entries) others a b e f (stated (states_none n xs)) (stated (states_none m ys)) = reads_on lower origin after (entry ∷ before) entries others a b e f xs ys
-reads_on lower origin after before (entry ∷ entries) others a b e f (stated (states_none n xs)) (stated (states_one q more r at w ys)) = absurd (nothing_or_record origin before entry q.rr n r)
-reads_on lower origin after before (entry ∷ entries) others a b e f (stated (states_none n xs)) (refused fault h u v) = absurd (nothing_or_fault lower origin before entry fault n h)
+reads_on lower origin after before (entry ∷ entries) others a b e f (stated (states_none n xs)) y = grind (arith, reads_on lower origin after (entry ∷ before) entries others a b e f xs, nothing_or_record origin before entry, nothing_or_fault lower origin before entry)
 reads_on lower origin after before (entry ∷ entries) others a b e f (stated (states_one p more r at w xs)) (stated (states_none m ys)) = absurd (nothing_or_record origin before entry p.rr m r)
 reads_on lower origin after before (entry ∷ entries) others a b e f (stated (states_one p more r at w xs)) (stated (states_one q left s place v ys)) = grind (arith, reads_on lower origin after (entry ∷ before) entries others more left e f xs ys, stays_on p q a b more left e f (record_once lower origin before entry p.rr q.rr r s) (at ∙ sym place) w v (reads_on lower origin after (entry ∷ before) entries others more left e f xs ys))
 reads_on lower origin after before (entry ∷ entries) others a b e f (stated (states_one p more r at w xs)) (refused fault h u v) = absurd (record_or_fault lower origin before entry p.rr fault r h)
@@ -55,10 +53,7 @@ tokens_of octets all other (inr (fault, x)) (inr (another, y)) = (one_break octe
 
 joined_tokens : (front rest : List ℕ) (tokens : List Token) → Cuts front (joined (cut_from zero tokens).ended) → (others : List Token) × AreTokens (front ++ rest) (joined (cut_from zero tokens).ended ++ others)
 joined_tokens front rest tokens cut =
-    elim (cut_or_broken rest) [
-      | inl found ↦ (found.0, inl (cut_joined front rest (joined (cut_from zero tokens).ended) found.0 cut (cut_ended zero tokens).ends found.1))
-      | inr found ↦ (found.0, inr (found.1, break_joined front rest (joined (cut_from zero tokens).ended) found.0 found.1 cut (cut_ended zero tokens).ends found.2))
-    ]
+    grind (arith, cut_or_broken rest, cut_joined front rest, break_joined front rest, (cut_ended zero tokens).ends)
 
 pub goes_on : (octets more : List ℕ) (tokens all : List Token) → AreTokens octets tokens → AreTokens (octets ++ more) all → GoesOn tokens all
 goes_on octets more tokens all x y =
@@ -88,24 +83,20 @@ pub broken_once : Lower → (origin : List (List ℕ)) (octets : List ℕ) (toke
 broken_once lower origin octets tokens all fault other a b e f x y xs ys = grind (arith, one_break octets tokens all fault other x y, one_break, reads_once)
 
 module _ (lower : Lower) (origin : List (List ℕ)) (octets : List ℕ) where
+  -- nothing was decided but of the ended entries, and others follow them
+  stays_by : (after : Ending) (tokens : List Token) (entries : List Entry) (a b : List Placed) (e f : Ending) → ((others : List Entry) × (entries ≡ ended_entries tokens ++ others)) → ReadEach origin None [] (ended_entries tokens) a e → ReadEach origin after [] entries b f → Stays a e b f
+  stays_by after tokens entries a b e f on xs ys = reads_on lower origin after [] (ended_entries tokens) on.0 a b e f xs (rw (← on.1) ys)
+
   pub decided_stays : (more : List ℕ) (a b : List Placed) (e f : Ending) → FileDecides origin octets a e → FileDecides origin (octets ++ more) b f → Stays a e b f
-  decided_stays more a b e f (undecided ps are absent xs) (undecided qs others none ys) =
-      let on = ended_on ps qs (goes_on octets more ps qs are others) in
-      reads_on lower origin None [] (ended_entries ps) on.0 a b e f xs (subst (λ es. ReadEach origin None [] es b f) on.1 ys)
-  decided_stays more a b e f (undecided ps are absent xs) (decided qs fault good ys) =
-      let on = ended_on ps qs (goes_on octets more ps qs are (inr (fault, good.breaks))) in
-      reads_on lower origin (Some (fault, Line (open_line qs))) [] (ended_entries ps) on.0 a b e f xs (subst (λ es. ReadEach origin (Some (fault, Line (open_line qs))) [] es b f) on.1 ys)
+  decided_stays more a b e f (undecided ps are absent xs) (undecided qs others none ys) = stays_by None ps (ended_entries qs) a b e f (ended_on ps qs (goes_on octets more ps qs are others)) xs ys
+  decided_stays more a b e f (undecided ps are absent xs) (decided qs fault good ys) = stays_by _ ps (ended_entries qs) a b e f (ended_on ps qs (goes_on octets more ps qs are (inr (fault, good.breaks)))) xs ys
   decided_stays more a b e f (decided ps fault good xs) (undecided qs others none ys) =
       let still = breaks_for_good octets more ps fault good in
-      absurd (none fault (subst (λ p. BreaksForGood (octets ++ more) p fault) (tokens_of (octets ++ more) ps qs (inr (fault, still.breaks)) others) still))
+      absurd (none fault (rw (← tokens_of (octets ++ more) ps qs (inr (fault, still.breaks)) others) still))
   decided_stays more a b e f (decided ps fault good xs) (decided qs other better ys) = same_stays a b e f (broken_once lower origin (octets ++ more) ps qs fault other a b e f (breaks_for_good octets more ps fault good).breaks better.breaks xs ys)
 
   pub decided_stays_at_end : (more : List ℕ) (a b : List Placed) (e f : Ending) → FileDecides origin octets a e → FileReads origin (octets ++ more) b f → Stays a e b f
-  decided_stays_at_end more a b e f (undecided ps are absent xs) (whole qs cut ys) =
-      let on = entries_on ps qs (goes_on octets more ps qs are (inl cut)) in
-      reads_on lower origin None [] (ended_entries ps) on.0 a b e f xs (subst (λ es. ReadEach origin None [] es b f) on.1 ys)
-  decided_stays_at_end more a b e f (undecided ps are absent xs) (broken qs fault breaks ys) =
-      let on = ended_on ps qs (goes_on octets more ps qs are (inr (fault, breaks))) in
-      reads_on lower origin (Some (fault, Line (open_line qs))) [] (ended_entries ps) on.0 a b e f xs (subst (λ es. ReadEach origin (Some (fault, Line (open_line qs))) [] es b f) on.1 ys)
+  decided_stays_at_end more a b e f (undecided ps are absent xs) (whole qs cut ys) = stays_by None ps (entries_of qs) a b e f (entries_on ps qs (goes_on octets more ps qs are (inl cut))) xs ys
+  decided_stays_at_end more a b e f (undecided ps are absent xs) (broken qs fault breaks ys) = stays_by _ ps (ended_entries qs) a b e f (ended_on ps qs (goes_on octets more ps qs are (inr (fault, breaks)))) xs ys
   decided_stays_at_end more a b e f (decided ps fault good xs) (whole qs cut ys) = grind (arith, cut_not_broken (octets ++ more) qs ps fault cut (breaks_for_good octets more ps fault good).breaks)
   decided_stays_at_end more a b e f (decided ps fault good xs) (broken qs other breaks ys) = same_stays a b e f (broken_once lower origin (octets ++ more) ps qs fault other a b e f (breaks_for_good octets more ps fault good).breaks breaks xs ys)

@@ -1,9 +1,8 @@
 -- A file of octets has a reading, and something is decided of it.
-use Rattle.zone_rdata.specs.Spelling.{RawItem}
-use Rattle.zone_text.proofs.Common.{AllByRecursion, AllByRecursion-back, AllByRecursion-front, AllState, AreOctetItems, Breaks, BreaksAtEnd, Choices, Cut, Ending, Entry, Fault, FileDecides, FileReads, IsName, Line, List, Lower, None, Placed, ReadEach, Some, StaysBroken, Token, [], arith, broken, count_by, cut_from, decided, ended_entries, entries_of, flat_map, flat_map-append, inl, inr, item_of, numbered, open_line, refl, refused, rules, stated, states_one, subst, sym, text, token_text, undecided, whole, zero, ℕ, ◌++◌, ◌+◌, ◌<◌, ◌==◌, ◌∷◌, ◌⊎◌}
+use Rattle.zone_text.proofs.Common.{AllByRecursion, AllByRecursion-back, AllByRecursion-front, AllState, AreOctetItems, Choices, Cut, Ending, Entry, FileDecides, FileReads, IsName, Line, List, Lower, None, Placed, ReadEach, Some, Token, [], arith, broken, count_by, cut_from, decided, ended_entries, entries_of, flat_map, flat_map-append, inl, inr, item_of, numbered, open_line, refl, refused, rules, stated, states_none, states_one, subst, sym, text, undecided, whole, zero, ℕ, ◌+◌, ◌<◌, ◌==◌, ◌∷◌}
 use Rattle.zone_text.proofs.Tokens.Cuttings.{cut_not_broken, cut_or_broken}
 use Rattle.zone_text.proofs.Files.Left.{entries_text}
-use Rattle.zone_text.proofs.Entries.EntryOutcome.{Outcome, entry_outcome}
+use Rattle.zone_text.proofs.Entries.EntryOutcome.{entry_outcome}
 use Rattle.zone_text.proofs.Tokens.ForGood.{break_stays_or_ends, ends_not_for_good}
 
 -- ---- the items of entries are octets
@@ -11,12 +10,9 @@ use Rattle.zone_text.proofs.Tokens.ForGood.{break_stays_or_ends, ends_not_for_go
 abbrev AreLow : List ℕ → Type 0
 AreLow octets = AllByRecursion (λ c. c < 256) octets
 
-low_item : (p : Token) (items : List RawItem) → AreLow (token_text p) → AreOctetItems items → AreOctetItems (item_of p ++ items)
-low_item p items low others = grind (arith, AllByRecursion-front)
-
 low_items : (tokens : List Token) → AreLow (text tokens) → AreOctetItems (flat_map item_of tokens)
 low_items [] low = tt
-low_items (p ∷ tokens) low = low_item p (flat_map item_of tokens) (AllByRecursion-front _ (token_text p) (text tokens) low) (low_items tokens (AllByRecursion-back _ (token_text p) (text tokens) low))
+low_items (p ∷ tokens) low = grind (arith, AllByRecursion-front, AllByRecursion-back, low_items tokens)
 
 abbrev AreLowEntries : List Entry → Type 0
 AreLowEntries entries = AllByRecursion (λ (entry : Entry). AreOctetItems entry.items) entries
@@ -35,19 +31,18 @@ low_ended_of tokens low =
 abbrev Readings : List (List ℕ) → Ending → List Entry → List Entry → Type 0
 Readings origin after before entries = (placed : List Placed) × ((ending : Ending) × ReadEach origin after before entries placed ending)
 
-next_reading : (origin : List (List ℕ)) (after : Ending) (before : List Entry) (entry : Entry) (entries : List Entry) → AllState origin before → Outcome origin before entry → (AllState origin (entry ∷ before) → Readings origin after (entry ∷ before) entries) → Readings origin after before (entry ∷ entries)
-next_reading origin after before entry entries states (inl n) goes = search rules
-next_reading origin after before entry entries states (inr (inl found)) goes =
-    let rest = goes (inr found, states) in
-    let p : Placed = record { rr = found.0; place = Line entry.line } in
-    (p ∷ rest.0, (rest.1.0, stated (states_one p rest.0 found.1 refl refl rest.1.1)))
-next_reading origin after before entry entries states (inr (inr bad)) goes = ([], (Some (bad.0, Line entry.line), refused bad.0 bad.1 refl refl))
-
 module _ (lower : Lower) (choices : Choices) (origin : List (List ℕ)) where
   readings : IsName origin → (after : Ending) (entries before : List Entry) → AllState origin before → AreLowEntries entries → Readings origin after before entries
   readings is after [] before states low = ([], (after, (refl, refl)))
-  readings is after (entry ∷ entries) before states low =
-      next_reading origin after before entry entries states (entry_outcome lower choices origin before entry is states low.0) (λ more. readings is after entries (entry ∷ before) more low.1)
+  readings is after (entry ∷ entries) before states low = elim (entry_outcome lower choices origin before entry is states low.0) [
+    | inl nothing ↦
+        let rest = readings is after entries (entry ∷ before) (inl nothing, states) low.1 in
+        (rest.0, (rest.1.0, stated (states_none nothing rest.1.1)))
+    | inr (inl found) ↦
+        let rest = readings is after entries (entry ∷ before) (inr found, states) low.1 in
+        (record { rr = found.0; place = Line entry.line } ∷ rest.0, (rest.1.0, stated (states_one _ rest.0 found.1 refl refl rest.1.1)))
+    | inr (inr bad) ↦ ([], (Some (bad.0, Line entry.line), refused bad.0 bad.1 refl refl))
+  ]
 
   pub file_reads : (octets : List ℕ) → IsName origin → AllByRecursion (λ c. c < 256) octets → (placed : List Placed) × ((ending : Ending) × FileReads origin octets placed ending)
   file_reads octets is low = elim (cut_or_broken octets) [
@@ -61,19 +56,19 @@ module _ (lower : Lower) (choices : Choices) (origin : List (List ℕ)) where
 
   -- ---- something is decided of a prefix
 
-  broken_by : (octets : List ℕ) → IsName origin → (tokens : List Token) (fault : Fault) (breaks : Breaks octets tokens fault) → AreLowEntries (ended_entries tokens) → StaysBroken breaks.rest ⊎ BreaksAtEnd breaks.rest → (placed : List Placed) × ((ending : Ending) × FileDecides origin octets placed ending)
-  broken_by octets is tokens fault breaks low (inl stays) =
-      let found = readings is (Some (fault, Line (open_line tokens))) (ended_entries tokens) [] tt low in
-      (found.0, (found.1.0, decided tokens fault (record { breaks = breaks; stays = stays }) found.1.1))
-  broken_by octets is tokens fault breaks low (inr ends) =
-      let found = readings is None (ended_entries tokens) [] tt low in
-      (found.0, (found.1.0, undecided tokens (inr (fault, breaks)) (ends_not_for_good octets tokens breaks.rest breaks.whole ends) found.1.1))
-
   pub file_is_decided : (octets : List ℕ) → IsName origin → AllByRecursion (λ c. c < 256) octets → (placed : List Placed) × ((ending : Ending) × FileDecides origin octets placed ending)
   file_is_decided octets is low = elim (cut_or_broken octets) [
     | inl cut ↦
         let found = readings is None (ended_entries cut.0) [] tt (low_ended_of cut.0 (subst AreLow cut.1.whole low)) in
         (found.0, (found.1.0, undecided cut.0 (inl cut.1) (λ fault good. cut_not_broken octets cut.0 cut.0 fault cut.1 good.breaks) found.1.1))
     | inr bad ↦
-        broken_by octets is bad.0 bad.1 bad.2 (low_ended_of bad.0 (AllByRecursion-front _ (text bad.0) bad.2.rest (subst AreLow bad.2.whole low))) (break_stays_or_ends octets bad.0 bad.1 bad.2)
+        let low_ended = low_ended_of bad.0 (AllByRecursion-front _ (text bad.0) bad.2.rest (subst AreLow bad.2.whole low)) in
+        elim (break_stays_or_ends octets bad.0 bad.1 bad.2) [
+          | inl stays ↦
+              let found = readings is (Some (bad.1, Line (open_line bad.0))) (ended_entries bad.0) [] tt low_ended in
+              (found.0, (found.1.0, decided bad.0 bad.1 (record { breaks = bad.2; stays = stays }) found.1.1))
+          | inr ends ↦
+              let found = readings is None (ended_entries bad.0) [] tt low_ended in
+              (found.0, (found.1.0, undecided bad.0 (inr (bad.1, bad.2)) (ends_not_for_good octets bad.0 bad.2.rest bad.2.whole ends) found.1.1))
+        ]
   ]

@@ -1,9 +1,9 @@
 -- What octets leave of a file: the entries that line feeds have ended, and the octets after them.
-use Rattle.zone_text.proofs.Common.{AreTokens, Breaks, BreaksAtEnd, BreaksForGood, Cut, Cuts, Cutting, Ending, Entry, Fault, List, None, Option, Place, Placed, ReadEach, Some, StaysBroken, Token, [], add-zero, add_assoc, and_last, ap, append-nil, append_assoc, arith, common_steps, count_by, cut_from, cutting, ended_entries, entries_of, flat_map, flat_map-append, inl, inr, numbered, refl, refused, reverse, rules, stated, states_none, states_one, subst, sum_by-append, sym, text, zero, ℕ, ◌++◌, ◌+◌, ◌==◌, ◌∙◌, ◌∷◌, ◌≡◌, ◌⊎◌}
-use Rattle.zone_text.proofs.Tokens.Cuttings.{cut_not_broken, IsCut, cutting_is, cutting_only, reads_cut, reads_broken}
-use Rattle.zone_text.proofs.Tokens.Lasting.{cut_joined, break_joined, IsParted, parted as parted_at, both_cut}
-use Rattle.zone_text.proofs.Tokens.CutAgain.{joined, AreEnded, cut_ended, again_zero, cut_whole, cut_again, ended_at_zero, numbered_front}
-use Rattle.zone_text.proofs.Files.Decides.{parted}
+use Rattle.zone_text.proofs.Common.{AreTokens, Breaks, BreaksAtEnd, BreaksForGood, Cuts, Ending, Entry, Fault, List, None, Place, Placed, ReadEach, Some, StaysBroken, Token, [], add-zero, add_assoc, and_last, ap, append-nil, append_assoc, arith, common_steps, count_by, cut_from, ended_entries, entries_of, flat_map, flat_map-append, inl, inr, numbered, refl, refused, reverse, rules, stated, states_none, states_one, subst, sum_by-append, sym, text, zero, ℕ, ◌++◌, ◌+◌, ◌==◌, ◌∙◌, ◌∷◌, ◌≡◌, ◌⊎◌}
+use Rattle.zone_text.proofs.Tokens.Cuttings.{cut_not_broken}
+use Rattle.zone_text.proofs.Tokens.Lasting.{cut_joined, break_joined}
+use Rattle.zone_text.proofs.Tokens.CutAgain.{joined, AreEnded, cut_ended, again_zero, cut_whole, numbered_front}
+use Rattle.zone_text.proofs.Files.Decides.{ended_on, goes_on, parted}
 use Rattle.zone_text.proofs.Tokens.ForGood.{break_stays_or_ends, stays_for_good, ends_not_for_good}
 
 pub text_of_entries : (entries : List (List Token)) → flat_map text entries ≡ text (joined entries)
@@ -16,32 +16,8 @@ and_last_joined ended open_tokens = grind (arith, common_steps)
 pub entries_text : (tokens : List Token) → flat_map text (and_last (cut_from zero tokens).ended (cut_from zero tokens).open_tokens) ≡ text tokens
 entries_text tokens = search (rules, text_of_entries, and_last_joined, cut_whole)
 
-ended_stay : (octets more : List ℕ) → (others : List (List Token)) × ((cut_from zero (cutting (octets ++ more)).tokens).ended ≡ (cut_from zero (cutting octets).tokens).ended ++ others)
-ended_stay octets more =
-    let tokens : List Token = (cutting octets).tokens in
-    let fault : Option Fault = (cutting octets).broken in
-    let is : IsCut zero octets tokens fault = cutting_is octets in
-    let cut : Cut = cut_from zero tokens in
-    let front : List Token = joined cut.ended in
-    let part : IsParted octets front cut.open_tokens fault = parted_at octets front cut.open_tokens fault (ended_at_zero is.at tokens is.parentheses) (subst (λ (t : List Token). IsCut zero octets t fault) (sym (cut_whole zero tokens)) is) in
-    let rest : List ℕ = part.rest ++ more in
-    let back : Cutting = cutting rest in
-    let found : IsCut zero (text front ++ rest) (front ++ back.tokens) back.broken = both_cut (text front) rest front back.tokens back.broken part.front (cut_ended zero tokens).ends (cutting_is rest) in
-    let now : cutting (octets ++ more) ≡ record { tokens = front ++ back.tokens; broken = back.broken } = ap cutting (ap (λ t. t ++ more) part.whole ∙ append_assoc (text front) part.rest more) ∙ cutting_only (text front ++ rest) (front ++ back.tokens) back.broken found in
-    ((cut_from zero back.tokens).ended, ap (λ (c : Cutting). (cut_from zero c.tokens).ended) now ∙ ap (λ (c : Cut). c.ended) (cut_again tokens back.tokens))
-
-tokens_are : (octets : List ℕ) (tokens : List Token) → AreTokens octets tokens → (cutting octets).tokens ≡ tokens
-tokens_are octets tokens (inl cut) = ap (λ (c : Cutting). c.tokens) (reads_cut octets tokens cut)
-tokens_are octets tokens (inr broken) = ap (λ (c : Cutting). c.tokens) (reads_broken octets tokens broken.0 broken.1)
-
-ended_cutting_stays : (octets more : List ℕ) → (others : List Entry) × (ended_entries (cutting (octets ++ more)).tokens ≡ ended_entries (cutting octets).tokens ++ others)
-ended_cutting_stays octets more =
-    let stay = ended_stay octets more in
-    let lines = numbered_front 1 (cut_from zero (cutting octets).tokens).ended stay.0 in
-    (lines.0, ap (numbered 1) stay.1 ∙ lines.1)
-
 pub ended_entries_stay : (octets more : List ℕ) (tokens later : List Token) → AreTokens octets tokens → AreTokens (octets ++ more) later → (others : List Entry) × (ended_entries later ≡ ended_entries tokens ++ others)
-ended_entries_stay octets more tokens later before after = grind (arith, ended_cutting_stays octets more, tokens_are (octets ++ more) later after, tokens_are octets tokens before)
+ended_entries_stay octets more tokens later before after = ended_on tokens later (goes_on octets more tokens later before after)
 
 pub ended_entries_first : (tokens : List Token) → (others : List Entry) × (entries_of tokens ≡ ended_entries tokens ++ others)
 ended_entries_first tokens = by (cut_from zero tokens).ended (cut_from zero tokens).open_tokens

@@ -7,9 +7,7 @@ use Rattle.zone_text.proofs.Entries.Entered.{record_once, fault_once, record_or_
 
 pub reads_once : Lower → (origin : List (List ℕ)) (after : Ending) (before entries : List Entry) (a b : List Placed) (e f : Ending) → ReadEach origin after before entries a e → ReadEach origin after before entries b f → (a ≡ b) × (e ≡ f)
 reads_once lower origin after before [] a b e f x y = (x.0 ∙ sym y.0, x.1 ∙ sym y.1)
-reads_once lower origin after before (entry ∷ entries) a b e f (stated (states_none n xs)) (stated (states_none m ys)) = reads_once lower origin after (entry ∷ before) entries a b e f xs ys
-reads_once lower origin after before (entry ∷ entries) a b e f (stated (states_none n xs)) (stated (states_one q others r at w ys)) = absurd (nothing_or_record origin before entry q.rr n r)
-reads_once lower origin after before (entry ∷ entries) a b e f (stated (states_none n xs)) (refused fault h u v) = absurd (nothing_or_fault lower origin before entry fault n h)
+reads_once lower origin after before (entry ∷ entries) a b e f (stated (states_none n xs)) y = grind (arith, reads_once lower origin after (entry ∷ before) entries a b e f xs, nothing_or_record origin before entry, nothing_or_fault lower origin before entry)
 reads_once lower origin after before (entry ∷ entries) a b e f (stated (states_one p more r at w xs)) (stated (states_none m ys)) = absurd (nothing_or_record origin before entry p.rr m r)
 reads_once lower origin after before (entry ∷ entries) a b e f (stated (states_one p more r at w xs)) (stated (states_one q others s place v ys)) = grind (arith, reads_once lower origin after (entry ∷ before) entries more others e f xs ys, record_once lower origin before entry p.rr q.rr r s)
 reads_once lower origin after before (entry ∷ entries) a b e f (stated (states_one p more r at w xs)) (refused fault h u v) = absurd (record_or_fault lower origin before entry p.rr fault r h)

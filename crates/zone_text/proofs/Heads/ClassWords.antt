@@ -56,8 +56,8 @@ digits_all : (text : List ℕ) → are_digits text ≡ true → (0 < length text
 digits_all text e = grind (arith, and_parts, each_digit)
 
 named_class : (text : List ℕ) (found : Option ℕ) → number_among classes text ≡ found → is_some found ≡ true → (m : ℕ) × IsClassWord text m
-named_class text None e some = absurd cc
 named_class text (Some n) e some = (n, by_mnemonic (number_is classes refl text n e))
+named_class text None e some = absurd cc
 
 numbered_class : (text : List ℕ) → (bytes_eq (take 5 (folded_label text)) (codes "class") && are_digits (drop 5 text)) ≡ true → (m : ℕ) × IsClassWord text m
 numbered_class text e =
@@ -79,9 +79,7 @@ class_word_of text e = elim (or_cases _ _ e) [ inl named ↦ named_class text (n
 -- ---- the words of directives, in any letter case
 
 same_test : (a b : Bool) (xs ys : List ℕ) → b ≡ bytes_eq xs ys → (a ≡ true → xs ≡ ys) → (xs ≡ ys → a ≡ true) → a ≡ b
-same_test true false xs ys e there back = sym (e ∙ (bytes_eq-Decides xs ys).1 (there refl))
-same_test false true xs ys e there back = back ((bytes_eq-Decides xs ys).0 (sym e))
-same_test a b xs ys e there back = refl
+same_test a b xs ys e there back = grind (arith, bytes_eq-Decides)
 
 -- a test of two words is that of their octets
 pub word_test : (is : Bool) (xs ys : List ℕ) → (IsTrue is ↔ (xs ≡ ys)) → is ≡ bytes_eq xs ys

@@ -1,20 +1,8 @@
 -- The words before a record's type, read from the left.
 use Rattle.zone_rdata.proofs.Numbers.TimeLaws.{one_time}
-use Rattle.zone_text.proofs.Common.{AllByRecursion, AllByRecursion-append, AreWordsOf, Bool, Entry, EntryFault, Fault, HasHead, HasValue, HaveValues, IsClass, IsClassWord, IsKind, IsKindWord, IsRecordEntry, IsSomeAnd, IsTime, IsTtl, IsWordFault, Item, Labels, List, MatchOption, None, NothingIs, Option, ParserState, Parts, PartsFault, RawItem, Some, UnknownType, Word, WordFault, Words, [], add-one, ap, append-nil, append_assoc, arith, begins_with_digit, class, class_among, drop, drop-cons, drop-map, false, get_or, inl, inr, is_class_word, is_some, length, map, min, of_parts, parts_after, raw, refl, rules, subst, sym, true, ttl, ttl_among, unwrap_or, word_after, ℕ, ◌++◌, ◌+◌, ◌<◌, ◌∙◌, ◌∷◌, ◌≡◌, ◌≤◌}
+use Rattle.zone_text.proofs.Common.{AllByRecursion, AllByRecursion-append, AreWordsOf, Bool, Entry, EntryFault, Fault, HasHead, HasValue, HaveValues, IsClass, IsClassWord, IsKind, IsKindWord, IsRecordEntry, IsSomeAnd, IsTime, IsTtl, IsWordFault, Item, Labels, List, None, NothingIs, Option, ParserState, Parts, PartsFault, RawItem, Some, UnknownType, Word, WordFault, Words, [], add-one, ap, append-nil, append_assoc, arith, begins_with_digit, class, class_among, drop, drop-cons, drop-map, false, get_or, inr, is_class_word, is_some, length, map, min, of_parts, parts_after, raw, refl, rules, subst, sym, true, ttl, ttl_among, unwrap_or, word_after, ℕ, ◌++◌, ◌+◌, ◌<◌, ◌∙◌, ◌∷◌, ◌≡◌, ◌≤◌}
 use Rattle.zone_rdata.specs.Item.{bare}
 use Rattle.zone_text.proofs.Heads.ClassWords.{class_word_of, class_word_known}
-
--- ---- whether a word was stated before
-
--- a value is there where its text is
-stated_too : (o : Option (List ℕ)) (v : Option ℕ) (Is : List ℕ → ℕ → Type 0) → MatchOption o (v ≡ None) (λ text. IsSomeAnd v (Is text)) → is_some o ≡ is_some v
-stated_too o v Is h = search rules
-
-ttl_word : (words : List Word) (v : Words) (text : List ℕ) → HaveValues words v → begins_with_digit text ≡ true → is_some v.ttl ≡ false → word_after words (bare text) ≡ Some (ttl text)
-ttl_word words v text have digit none = search rules
-
-class_after : (words : List Word) (v : Words) (text : List ℕ) → HaveValues words v → begins_with_digit text ≡ false → is_some v.class ≡ false → is_class_word text ≡ true → word_after words (bare text) ≡ Some (class text)
-class_after words v text have no_digit none is = search rules
 
 -- ---- one word more
 
@@ -34,32 +22,22 @@ pub ttl_kept : (words : List Word) (text : List ℕ) → ttl_among (words ++ cla
 ttl_kept (class other ∷ words) text = ttl_kept words text
 ttl_kept words text = refl
 
-abbrev NextHas : List Word → Words → Word → Type 0
-NextHas words next word = HaveValues (words ++ word ∷ []) next
-
 pub takes_ttl : (words : List Word) (v next : Words) (text : List ℕ) (n : ℕ) → HaveValues words v → begins_with_digit text ≡ true → is_some v.ttl ≡ false → IsTtl text n → next.ttl ≡ Some n → next.class ≡ v.class → IsSomeAnd (word_after words (bare text)) (λ word. HaveValues (words ++ word ∷ []) next)
 takes_ttl words v next text n have digit none is own same =
-    let before : is_some (ttl_among words) ≡ false = stated_too (ttl_among words) v.ttl IsTtl have.ttl ∙ none in
-    let P : Option Word → Type 0 = λ o. IsSomeAnd o (NextHas words next) in
-    subst P (sym (ttl_word words v text have digit none)) (record {
+    let before : ttl_among words ≡ None = grind arith in
+    rw (digit, before) (record {
       each = AllByRecursion-append HasValue words (ttl text ∷ []) have.each ((n, is), tt);
-      ttl = rw (ttl_pushed words text before, own) is;
+      ttl = rw (ttl_pushed words text (ap is_some before), own) is;
       class = rw (class_kept words text, same) (have.class);
     })
 
 pub takes_class : (words : List Word) (v next : Words) (text : List ℕ) (n : ℕ) → HaveValues words v → begins_with_digit text ≡ false → is_some v.class ≡ false → IsClassWord text n → IsClass n → next.class ≡ Some n → next.ttl ≡ v.ttl → IsSomeAnd (word_after words (bare text)) (λ word. HaveValues (words ++ word ∷ []) next)
 takes_class words v next text n have no_digit none is good own same =
-    let before : is_some (class_among words) ≡ false = stated_too (class_among words) v.class IsClassWord have.class ∙ none in
-    let P : Option Word → Type 0 = λ o. IsSomeAnd o (NextHas words next) in
-    subst P (sym (class_after words v text have no_digit none (class_word_known text n is))) (record {
-      each = AllByRecursion-append HasValue words (class text ∷ []) have.each ((n, (is, good)), tt);
-      ttl = rw (ttl_kept words text, same) (have.ttl);
-      class = rw (class_pushed words text before, own) is;
-    })
+    grind (arith, AllByRecursion-append, class_pushed, ttl_kept, class_word_known text n is)
 
 -- a class that holds no zone data
 pub refuses_class : (words : List Word) (v : Words) (text : List ℕ) (n : ℕ) (fault : Fault) → HaveValues words v → begins_with_digit text ≡ false → is_some v.class ≡ false → IsClassWord text n → WordFault (class text) fault → IsSomeAnd (word_after words (bare text)) (λ word. WordFault word fault)
-refuses_class words v text n fault have no_digit none is bad = grind (arith, class_after words v text have no_digit none (class_word_known text n is))
+refuses_class words v text n fault have no_digit none is bad = grind (arith, class_word_known text n is)
 
 pub no_class_word : (text : List ℕ) (b : Bool) → is_class_word text ≡ b → NothingIs (IsClassWord text) → b ≡ false
 no_class_word text true e none = let found = class_word_of text e in absurd (none found.0 found.1)
@@ -96,19 +74,17 @@ some_of P o h = search rules
 abbrev Extends : List RawItem → Type 0
 Extends items = (words : List Word) → (others : List Word) × ((parts_after words items).words ≡ words ++ others)
 
-extend_by : (words : List Word) (item : RawItem) (items : List RawItem) (o : Option Word) → Extends items → (others : List Word) × ((parts_by words item items o).words ≡ words ++ others)
-extend_by words item items None goes = ([], sym (append-nil words))
-extend_by words item items (Some word) goes =
-    let more = goes (words ++ word ∷ []) in
-    (word ∷ more.0, more.1 ∙ append_assoc words (word ∷ []) more.0)
-
 extends : (items : List RawItem) → Extends items
 extends [] words = ([], sym (append-nil words))
-extends (item ∷ items) words = extend_by words item items (word_after words item) (extends items)
+extends (item ∷ items) words = elim (word_after words item) as (λ o. (others : List Word) × ((parts_by words item items o).words ≡ words ++ others)) [
+  | None ↦ ([], sym (append-nil words))
+  | Some word ↦ let more = extends items (words ++ word ∷ []) in (word ∷ more.0, more.1 ∙ append_assoc words (word ∷ []) more.0)
+]
 
-leftmost : (words others : List Word) (word : Word) (rest : List RawItem) (fault : Fault) → AllByRecursion HasValue words → WordFault word fault → PartsFault (words ++ word ∷ others) rest fault
-leftmost [] others word rest fault have bad = inl bad
-leftmost (w ∷ words) others word rest fault have bad = inr (have.0, leftmost words others word rest fault have.1 bad)
+-- the fault of what stands after words that have values
+past_words : (words more : List Word) (rest : List RawItem) (fault : Fault) → AllByRecursion HasValue words → PartsFault more rest fault → PartsFault (words ++ more) rest fault
+past_words [] more rest fault have bad = bad
+past_words (word ∷ words) more rest fault have bad = inr (have.0, past_words words more rest fault have.1 bad)
 
 -- the next item is a word without a value
 pub read_fault : (items rest more : List RawItem) (v : Words) (item : RawItem) (fault : Fault) → ReadsWords items v rest → rest ≡ item ∷ more → ((words : List Word) → HaveValues words v → IsSomeAnd (word_after words item) (λ word. WordFault word fault)) → PartsFault (parts_after [] items).words (parts_after [] items).rest fault
@@ -118,7 +94,7 @@ read_fault items rest more v item fault reads front some =
     reads.parts ∙ (ap (parts_after reads.words) front ∙ next_part reads.words item more (Some found.0) found.1.0)
     in
     let others = extends more (reads.words ++ found.0 ∷ []) in
-    grind (arith, some_of, next_part, extends, append_assoc, leftmost)
+    grind (arith, some_of, next_part, extends, append_assoc, past_words)
 
 -- the item at an index is the first of those from there on
 pub item_at : (items : List Item) (i : ℕ) (d x : Item) → i < length items → get_or items i d ≡ x → drop i (map raw items) ≡ raw x ∷ drop (i + 1) (map raw items)
@@ -141,14 +117,9 @@ time_over text n found over seconds is = grind (arith, one_time text found.0 sec
 pub words_refused : (origin : Labels) (before : List Entry) (entry : Entry) (d : ParserState) (name : Labels) (items : List RawItem) (fault : Fault) → IsRecordEntry origin before entry d name items → PartsFault (parts_after [] items).words (parts_after [] items).rest fault → EntryFault origin before entry fault
 words_refused origin before entry d name items fault is bad = of_parts name (parts_after [] items) is.owner is.parts bad
 
--- the fault of what stands after words that have values
-past_words : (words : List Word) (rest : List RawItem) (fault : Fault) → AllByRecursion HasValue words → PartsFault [] rest fault → PartsFault words rest fault
-past_words [] rest fault have bad = bad
-past_words (word ∷ words) rest fault have bad = inr (have.0, past_words words rest fault have.1 bad)
-
 kind_refused : (origin : Labels) (before : List Entry) (entry : Entry) (d : ParserState) (name : Labels) (items after : List RawItem) (values : Words) (fault : Fault) → IsRecordEntry origin before entry d name items → AreWordsOf (parts_after [] items) values after → PartsFault [] after fault → EntryFault origin before entry fault
 kind_refused origin before entry d name items after values fault is are bad =
-    of_parts name (parts_after [] items) is.owner is.parts (past_words _ _ fault are.words.each (subst (λ rest. PartsFault [] rest fault) (sym are.rest) bad))
+    of_parts name (parts_after [] items) is.owner is.parts (simp append-nil at (past_words (parts_after [] items).words [] (parts_after [] items).rest fault are.words.each (rw are.rest bad)))
 
 no_bare : (after : List RawItem) → ((text : List ℕ) (rest : List RawItem) → after ≡ bare text ∷ rest → ⊥) → PartsFault [] after UnknownType
 no_bare after none = search rules
@@ -167,3 +138,5 @@ has_head origin before entry d name items after more values word number kind is 
 
 pub after_words : (items rest : List Item) (n : ℕ) (more : List RawItem) → rest ≡ drop n items → map raw rest ≡ more → drop n (map raw items) ≡ more
 after_words items rest n more back e = drop-map raw n items ∙ (ap (map raw) (sym back) ∙ e)
+
+pub ruleset one_more = (ttl_pushed, class_kept, class_pushed, ttl_kept)

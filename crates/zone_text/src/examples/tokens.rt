@@ -1,4 +1,6 @@
 //! Texts that are cut into tokens, and texts that break.
+#![tactic(auto, using(crate::proofs::Tokens::Cuttings::broken_is_read), unfolding(zone_name::specs::Machine::Units::units_by, zone_name::specs::Machine::Units::units_first, crate::specs::Machine::Cutting::before_line_feed, crate::specs::Machine::Cutting::from_line_feed, crate::specs::Machine::Cutting::front_of, crate::specs::Machine::Cutting::cut_by, crate::specs::Machine::Cutting::cutting))]
+
 ghost use Rattle.std.specs.Prelude.{◌∷◌, [], codes};
 ghost use Rattle.zone_name.specs.Spelling.{decimal, escaped, plain};
 ghost use Rattle.zone_rdata.specs.declared.fault.Fault.TheVariants.{BadEscape, UnbalancedParenthesis, UnclosedQuote};

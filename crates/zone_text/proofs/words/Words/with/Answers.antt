@@ -1,5 +1,5 @@
 use Rattle.zone_text.proofs.Common.{err_from_is_err_and, refl, sym, ◌∙◌}
-use Rattle.zone_text.proofs.Heads.WordsLeft.{takes_ttl, takes_class, refuses_class, no_word}
+use Rattle.zone_text.proofs.Heads.WordsLeft.{takes_ttl, takes_class, refuses_class}
 use Rattle.zone_text.proofs.words.Words.with.Goals as goal
 
 pub returns-then-begins_with_digit-clause-found : goal.returns-then-begins_with_digit-clause-found
@@ -11,10 +11,6 @@ returns-in_err-class-clause-fault c words have =
     let p = err_from_is_err_and c.from_residual-in_err-class.result c.from_residual-in_err-class.ensures.1 in
     let bad = c.in_err-class.ensures.err in
     rw (p.1, p.2) (refuses_class words _ _ bad.1.0 _ have (sym c.begins_with_digit.ensures ∙ c.if-begins_with_digit.false) (sym c.is_some-2.ensures ∙ c.if-is_some-2.false) bad.1.1.0 bad)
-
-pub returns-in_default-clause-none : goal.returns-in_default-clause-none
-returns-in_default-clause-none c words have =
-    no_word words _ (sym c.begins_with_digit.ensures ∙ c.if-begins_with_digit.false) (rw c.in_default.is at c.in_ok-class.ensures.none)
 
 pub returns-clause-found : goal.returns-clause-found
 returns-clause-found c words have =
