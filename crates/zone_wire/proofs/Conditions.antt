@@ -9,6 +9,10 @@ unless_one go b given = grind arith
 pub unless_holds : {E Holds : Type 0} {own : E} {next : E → Type 0} {e : E} → Holds → Unless Holds own next e → next e
 unless_holds is given = grind arith
 
+pub unless_own : {E Holds : Type 0} {own : E} {next : E → Type 0} {e : E} → (Holds → ⊥) → Unless Holds own next e → own ≡ e
+unless_own off (fails n) = refl
+unless_own off (holds x n) = absurd (off x)
+
 -- what holds of each fault
 pub unless_each : {E Holds : Type 0} {own : E} {next : E → Type 0} {e : E} (P : E → Type 0) → P own → (next e → P e) → Unless Holds own next e → P e
 unless_each P here later given = grind arith

@@ -1,9 +1,9 @@
 -- Data that is refused has one first fault, that at which its fields stop being read.
 use Rattle.zone_wire.proofs.Common.{BadRdata, DataFault, Err, Fault, Field, FieldFault, FieldValue, FieldsFault, IsFieldAt, List, MatchOption, Name, None, Ok, Option, Outcome, RecordAt, Result, Some, Strings, [], and_then, ap, data_at, field_at, flat_map, get_or, inl, inr, layout, length, name, name_before, named, nat_eq, nat_le, nat_lt, octets_between, octets_of, outcome, pointwise, refl, refused, sized_before, strings, strings_before, strings_of, subst, sym, value_at, values_at, walk, with_length, ℕ, ◌&&◌, ◌+◌, ◌<◌, ◌∙◌, ◌∷◌, ◌≡◌, ◌≤◌, arith, AnswerFault, AnswerStates, AreFieldsAt, AreValuesAt, ComesAfter, Found, HoldEach, IsDataAt, IsNameAt, NameFault, OrderFault, OwnFault, Placed, QuestionAt, Record, StringsLast, table_row}
 use Rattle.zone_wire.proofs.Fields.ReadFields.{data_reads, value_reads, value_shows}
-use Rattle.zone_wire.proofs.Messages.MessageFaults.{err_same, fails_test, stops, name_refused, name_one, name_not_both}
+use Rattle.zone_wire.proofs.Messages.MessageFaults.{err_same, fails_test, stops}
 use Rattle.zone_wire.proofs.Messages.Sections.{passes}
-use Rattle.zone_wire.proofs.Names.Walking.{walk_names, one_name}
+use Rattle.zone_wire.proofs.Names.Walking.{walk_names, one_name, name_refused, name_one, name_not_both}
 use Rattle.zone_wire.proofs.Conditions.{unless_one, unless_holds}
 
 -- what is read for a field is its value, and conversely
