@@ -1,6 +1,6 @@
 -- Data that is refused has one first fault, that at which its fields stop being read.
-use Rattle.zone_wire.proofs.Common.{BadRdata, DataFault, Err, Fault, Field, FieldFault, FieldValue, FieldsFault, IsFieldAt, List, MatchOption, Name, None, Ok, Option, Outcome, RecordAt, Result, Some, Strings, [], and_then, ap, data_at, field_at, flat_map, get_or, inl, inr, layout, length, name, name_before, named, nat_eq, nat_le, nat_lt, octets_between, octets_of, outcome, pointwise, refl, refused, sized_before, strings, strings_before, strings_of, subst, sym, value_at, values_at, walk, with_length, ℕ, ◌&&◌, ◌+◌, ◌<◌, ◌∙◌, ◌∷◌, ◌≡◌, ◌≤◌, arith, AnswerFault, AnswerStates, AreFieldsAt, AreValuesAt, ComesAfter, Found, HoldEach, IsDataAt, IsNameAt, NameFault, OrderFault, OwnFault, Placed, QuestionAt, Record, StringsLast, table_row}
-use Rattle.zone_wire.proofs.Fields.ReadFields.{data_reads, value_reads, value_shows}
+use Rattle.zone_wire.proofs.Common.{BadRdata, DataFault, Err, Fault, Field, FieldFault, FieldValue, FieldsFault, IsFieldAt, List, MatchOption, MatchResult, Name, None, Ok, Option, Outcome, RecordAt, Result, Some, Strings, [], and_then, ap, data_at, field_at, flat_map, get_or, inl, inr, layout, length, name, name_before, named, nat_eq, nat_le, nat_lt, octets_between, octets_of, outcome, pointwise, refl, refused, sized_before, strings, strings_before, strings_of, subst, sym, value_at, values_at, walk, with_length, ℕ, ◌&&◌, ◌+◌, ◌<◌, ◌∙◌, ◌∷◌, ◌≡◌, ◌≤◌, arith, AnswerFault, AnswerStates, AreFieldsAt, AreValuesAt, ComesAfter, Found, HoldEach, IsDataAt, IsNameAt, NameFault, OrderFault, OwnFault, Placed, QuestionAt, Record, StringsLast, table_row}
+use Rattle.zone_wire.proofs.Fields.ReadFields.{data_reads, data_shown, value_reads, value_shows}
 use Rattle.zone_wire.proofs.Messages.MessageFaults.{err_same, fails_test, stops}
 use Rattle.zone_wire.proofs.Messages.Sections.{passes}
 use Rattle.zone_wire.proofs.Names.Walking.{walk_names, one_name, name_refused, name_one, name_not_both}
@@ -63,6 +63,14 @@ pub data_faults : (octets : List ℕ) (a : RecordAt) (fault : Fault) → ((k : �
 unfolding data_at
 data_faults octets a fault each within e = layout_fault octets each a.end within a.start fault (layout a.class a.kind) e
 
+-- what is read as data is its data, and data that is refused has this first fault
+pub data_told : (octets : List ℕ) (a : RecordAt) → ((k : ℕ) → get_or octets k 0 < 256) → a.end ≤ length octets → MatchResult (data_at octets a) (IsDataAt octets a) (DataFault octets a)
+data_told octets a each within = by (data_at octets a) refl
+  where
+    by : (r : Result (List ℕ) Fault) → data_at octets a ≡ r → MatchResult r (IsDataAt octets a) (DataFault octets a)
+    by (Ok canonical) e = data_shown octets a canonical each within e
+    by (Err fault) e = data_faults octets a fault each within e
+
 -- ---- data and answers have one first fault, and none where they have a value
 module _ (octets : List ℕ) (end : ℕ) (within : end ≤ length octets) where
   value_one : (field : Field) (start past late : ℕ) (v w : FieldValue) → IsFieldAt octets end field start past v → IsFieldAt octets end field start late w → (v ≡ w) × (past ≡ late)
@@ -121,7 +129,7 @@ pub data_not_both : (octets : List ℕ) (a : RecordAt) (f : Fault) (canonical : 
 data_not_both octets a f canonical within is has = row_not_both octets a.end within a.start f canonical (layout a.class a.kind) (λ fields e. (table_row a.class a.kind fields e).last) is has
 
 -- the data of a record
-one_data : (octets : List ℕ) (a : RecordAt) (c d : List ℕ) → a.end ≤ length octets → IsDataAt octets a c → IsDataAt octets a d → c ≡ d
+pub one_data : (octets : List ℕ) (a : RecordAt) (c d : List ℕ) → a.end ≤ length octets → IsDataAt octets a c → IsDataAt octets a d → c ≡ d
 one_data octets a c d inside is too = grind (arith, data_reads)
 
 pub record_unique : (octets : List ℕ) (a : RecordAt) (r t : Record) → a.end ≤ length octets → AnswerStates octets a r → AnswerStates octets a t → r ≡ t

@@ -1,7 +1,7 @@
 -- The faults of messages are those at which the sections of a message stop being read.
 use Rattle.zone_wire.proofs.Common.{AreAt, Bool, Bytes, EitherIs, Err, Fault, FaultIn, Found, HasCounts, IsMessage, IsNameAt, IsPartAt, IsQuestionAt, IsRecordAt, IsResponse, IsVerdict, List, MatchResult, MessageFault, NameFault, NoFault, None, Ok, Option, Outcome, PartFault, QuestionAt, RecordAt, Result, Sections, ShortMessage, Some, TrailingOctets, Unless, [], ancount_of, and_from, and_parts, and_then, ap, arcount_of, arith, at_offset, cond-false, cond_both, each_from, eq-eqb, eqb-false, eqb-true, fails, false, false_from_ne_true, header_fault, holds, if◌then◌else◌, inl, inr, inside, le-leb, le-ltb, leb-true, length, ltb-false, named, nat_le, ne_eqb, not, not-false, outcome, qdcount_of, question_at, question_by, record_at, record_by, refl, refused, sections_of, slice_index, subst, suc, sym, to_the_end, true, u16_at, unless_faulted, walk, zero, ℕ, ◌&&◌, ◌/◌, ◌==◌, ◌∙◌, ◌∷◌, ◌≡◌, ◌≤◌, ◌⊎◌}
-use Rattle.zone_wire.proofs.Conditions.{unless_holds, unless_own}
-use Rattle.zone_wire.proofs.Messages.Sections.{not_other, part_reads, sections_read}
+use Rattle.zone_wire.proofs.Conditions.{tells_more, unless_holds, unless_own}
+use Rattle.zone_wire.proofs.Messages.Sections.{not_other, one_message, part_reads, sections_read}
 use Rattle.zone_wire.proofs.Names.Walking.{name_refused, name_refuses, name_walks, walk_names}
 
 pub err_same : {X E : Type 0} (e f : E) → (let r : Result X E = Err e in r) ≡ Err f → e ≡ f
@@ -26,21 +26,9 @@ pub record Judges {X E : Type 0} (Given : Type 0) (r : Result X E) (Is : X → T
   pub tells : Given → MatchResult r Is Bad
   pub refuses : (e : E) → Bad e → r ≡ Err e
 
-pub tells_more : {X E : Type 0} (Is : X → Type 0) (Bad Worse : E → Type 0) (r : Result X E) → ((e : E) → Bad e → Worse e) → MatchResult r Is Bad → MatchResult r Is Worse
-tells_more Is Bad Worse (Ok x) go is = is
-tells_more Is Bad Worse (Err e) go bad = go e bad
-
-pub verdict : {X E : Type 0} {Given : Type 0} {Is : X → Type 0} {Bad : E → Type 0} (r : Result X E) → Judges Given r Is Bad → ((x : X) → Is x → r ≡ Ok x) → Given → IsVerdict Is Bad
-verdict {X} {E} {Given} {Is} {Bad} r j reads given = record {
-  one_of = by r (j.tells given);
-  never_both = λ x e is bad. let read = reads x is in let refused = j.refuses e bad in cc;
-  one_value = λ x y is too. let read = reads x is in let also = reads y too in cc;
-  one_fault = λ e f bad too. let refused = j.refuses e bad in let also = j.refuses f too in cc;
-}
-  where
-    by : (r : Result X E) → MatchResult r Is Bad → EitherIs Is Bad
-    by (Ok x) is = inl (x, is)
-    by (Err e) bad = inr (e, bad)
+pub either : {X E : Type 0} (Is : X → Type 0) (Bad : E → Type 0) (r : Result X E) → MatchResult r Is Bad → EitherIs Is Bad
+either Is Bad (Ok x) is = inl (x, is)
+either Is Bad (Err e) bad = inr (e, bad)
 
 -- what begins with a name
 part_judges : {X : Type 0} (octets : List ℕ) (by : Found → X) (end_of : X → ℕ) (offset : ℕ) → Judges (Bytes octets) (inside octets by end_of (outcome octets (walk octets offset))) (IsPartAt octets by end_of offset) (PartFault octets (IsPartAt octets by end_of) offset)
@@ -141,4 +129,4 @@ module _ (octets : List ℕ) where
 
   -- octets are a message, or have a first fault
   pub message_verdict : Bytes octets → IsVerdict (IsMessage octets) (λ (e : Fault × ℕ). MessageFault octets e.0 e.1)
-  message_verdict = verdict (sections_of octets) message_judged (sections_read octets)
+  message_verdict each = record { one_of = either (IsMessage octets) _ (sections_of octets) (message_judged.tells each); never_both = never_both; one_value = one_message octets; one_fault = one_fault }
