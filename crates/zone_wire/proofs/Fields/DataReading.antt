@@ -1,9 +1,10 @@
 -- The data of a record is read into a builder, field after field and string after string.
 use Rattle.zone_wire.proofs.Common.{AllByRecursion, AllByRecursion-append, AreStrings, Awaits, AwaitsStrings, BadRdata, Built, Err, Fault, FieldValue, Framed, Holds, IsNext, IsString, IsValueAt, List, Ok, OneString, PutsValue, Some, Strings, Suits, [], and_parts, ap, append-nil, append_assoc, arith, bytes_each, common_steps, cond-false, field_octets, flat_map, flat_map-append, framed_short, layout, length, length-append, ltb-true, map, map-append, octets_between, octets_of, put_after, refl, slice_index, some_frames, string, strings, strings_before, subst, sym, value_at, with_length, ℕ, ◌++◌, ◌+◌, ◌<◌, ◌∙◌, ◌∷◌, ◌≡◌, ◌≤◌, rules, Cursor, Reads, Pushes, Field, data_of, next_value, ◌≢◌, HoldEach, IsPushFault, IsRead, IsReadyFor, IsRecordAt, IsSized, IsWhole, None, Option, PutsValues, RawRecord, RecordAt, Result, and_then, cond-true, data_at, drop, drop_all, ends_with_strings, eq-eqb, fixed, get_or, inl, inr, length-take, long_string, misplaced, name, octets_push, option_or, part_at, parts_for, slice_get, suc, table_row, too_long, u16_value, u32_value, values_at, zero, ◌*◌, ◌-◌, if◌then◌else◌}
 use Rattle.zone_rdata.specs.Machine.Fronts.{AreWithLengths}
-use Rattle.zone_wire.proofs.Fields.ReadFields.{strings_read, Shown, part_bytes, strings_each, value_shows, values_show}
+use Rattle.zone_wire.proofs.Fields.ReadFields.{strings_read, Shown, part_bytes, strings_each, value_shows}
 use Rattle.zone_wire.proofs.Fields.FieldReading.{between_first, between_join, part_len, sized_fails, string_sized}
 use Rattle.zone_rdata.proofs.Fields.AnyField.{field_short}
+use Rattle.zone_wire.proofs.Fields.DataFaults.{values_told}
 use Rattle.zone_wire.proofs.Messages.Sections.{and_then_err, and_then_ok}
 use Rattle.zone_wire.proofs.Records.ReadRecords.{IsRow, each_row}
 
@@ -57,7 +58,7 @@ module _ (from to : Cursor) (old now : Built) (h : HavePut from to old now) wher
 
   module _ (next : Cursor) (text : List ℕ) (reads : Reads to next OneString (string text)) where
     stands : IsString text × (to.at ≤ next.at) × (octets_between from.message.now to.at next.at ≡ with_length text)
-    stands = let shows = shown from to OneString (string text, next.at) h.same reads.read in (shows.0, shows.2.0, shows.2.1)
+    stands = let shows = shown from to OneString (string text, next.at) h.same reads.read in (shows.held, shows.stands.0, shows.stands.1)
 
     pub string_put : (new : Built) → Pushes now (string text) new → HavePut from next old new
     string_put new pushed = record {
@@ -172,7 +173,7 @@ module _ (from : Cursor) (fields : List Field) (old : Built) (laid : layout old.
         next = λ part suits. subst (λ o. IsNext o (length now.parts) part) (sym (same_laid to now count h)) (subst (λ o. Suits o part) (sym at) suits);
         sized = sized;
         room = λ value past read.
-            let one = field_short field value other sized (shown from to field (value, past) h.same read).0 in
+            let one = field_short field value other sized (shown from to field (value, past) h.same read).held in
             omega (arith, one, plain.1, table.few, within_fields fields count field here, ap (λ ps. length (octets_of ps)) parts);
       }
 
@@ -220,7 +221,7 @@ module _ (from : Cursor) (fields : List Field) (old : Built) (laid : layout old.
         values = h.values;
         read = read;
         put = h.put;
-        whole = omega (arith, parts_whole fields h.values (values_show from.message.now from.octets from.end from.inside fields from.at h.values read).0, ap length (own_parts to now count h));
+        whole = omega (arith, parts_whole fields h.values (rw read at (values_told from.message.now from.octets from.end from.inside fields from.at)).0, ap length (own_parts to now count h));
       }
 
 -- ---- the data of a record

@@ -1,8 +1,5 @@
 -- The record that an answer states is one.
 use Rattle.zone_wire.proofs.Common.{AllByRecursion, AreFieldsAt, AreValuesAt, BadClass, Bool, Bytes, CompressibleType, Field, FieldValue, HoldEach, IsData, IsName, IsRecord, IsRecordAt, List, MatchOption, MetaType, None, Ok, Option, Placed, Record, RecordAt, Some, Strings, [], ap, arith, bytes_each, common_steps, compressible, data_at, false, filter, handed_on, if◌then◌else◌, is_meta, is_no_class, layout, length, list_any, nat_eq, octets_between, octets_of, own_record, refl, subst, sym, true, u16_at, ℕ, ⊤, ◌+◌, ◌<◌, ◌∷◌, ◌≡◌, ◌≢◌, ◌≤◌, ◌⊎◌}
-use Rattle.zone_wire.proofs.Fields.ReadFields.{data_shown}
-use Rattle.zone_wire.proofs.Messages.Sections.{ok_same, leads, passes_on}
-use Rattle.zone_wire.proofs.Names.Walking.{take_each, drop_each}
 
 -- a layout holds no strings, or strings alone
 abbrev pub IsRow : Option (List Field) → Type 0
