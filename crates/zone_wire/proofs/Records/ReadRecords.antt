@@ -11,17 +11,3 @@ each_row class kind = grind arith
 
 pub part_short : (octets : List ℕ) (start end : ℕ) → length (octets_between octets start end) ≤ length octets
 part_short octets start end = grind (arith, common_steps)
-
-abbrev Fit : List Placed → Type 0
-Fit placed = AllByRecursion (λ (p : Placed). IsRecord p.rr) placed
-
-filter_fit : (test : Placed → Bool) (placed : List Placed) → Fit placed → Fit (filter test placed)
-filter_fit test [] fits = tt
-filter_fit test (p ∷ placed) fits = by (test p) (filter_fit test placed fits.1)
-  where
-    by : (keep : Bool) → Fit (filter test placed) → Fit (if keep then p ∷ filter test placed else filter test placed)
-    by true rest = (fits.0, rest)
-    by false rest = rest
-
-pub handed_fit : (placed : List Placed) → Fit placed → Fit (handed_on placed)
-handed_fit placed fits = grind (arith, filter_fit)

@@ -37,8 +37,7 @@ asks_true zone q is = and_from (q.kind == 252) (agrees zone q.name q.class) (eq-
 
 -- a message after others is read, or has a first fault
 abbrev pub Judged : List StatedMessage → List ℕ → Result StatedMessage (List Placed × Fault × ℕ) → Type 0
-Judged before octets (Ok p) = (p.octets ≡ octets) × IsReadAfter before p
-Judged before octets (Err e) = FaultAfter before octets e.0 e.1 e.2
+Judged before octets r = MatchResult r (λ p. (p.octets ≡ octets) × IsReadAfter before p) (λ e. FaultAfter before octets e.0 e.1 e.2)
 
 module _ (before : List StatedMessage) (octets : List ℕ) (each : Bytes octets) (few : length octets ≤ 65535) where
   by_test : (test : Bool) (good bad : Result StatedMessage (List Placed × Fault × ℕ)) → (test ≡ true → Judged before octets good) → (test ≡ false → Judged before octets bad) → Judged before octets (if test then good else bad)
