@@ -1,11 +1,11 @@
 -- The walk: the one list of places that is a walk, how it ends, the names that it finds, and how it is carried on from place to place.
 use Rattle.zone_wire.proofs.Common.{AllByRecursion, At, Found, IsLabel, IsLabel-folded, IsNameAt, IsPointerAt, IsLabelAt, List, MatchOption, NameFault, None, Option, Outcome, ShortMessage, Some, Spot, Standing, Visit, [], after_label, after_pointer, arith, at_fault, at_label, at_pointer, at_root, bytes_each, common_steps, drop, ending, flat_map, get_or, get_or-drop, label, label_at, length, length-append, length-drop, length-take-le, lit≤, named, outcome, outset, past_label, past_pointer, pointer, refl, refused, root, rules, standing_in, subst, suc, sym, take, visit, walk, walk_by, walk_on, wire, with_length, zero, ℕ, ◌*◌, ◌+◌, ◌<◌, ◌∙◌, ◌∷◌, ◌≡◌, ◌≤◌, LeadToLast, labels_in, pointers_in, Fault, IsWalk, Walks, ap, by_pointer, outside, over_label, to_fault, to_root, append-nil, unwrap_or, ◌++◌}
-use Rattle.zone_wire.proofs.Names.Spots.{Shows, standing_shows, standing_root, standing_label, standing_pointer, standing_outside, standing_fault}
+use Rattle.zone_wire.proofs.Names.Spots.{Shows, standing_is, standing_shows}
 
 -- ---- the walk is the one list of places that is a walk
-walk_step : (n : ℕ) (message : List ℕ) (spot : Spot) (standing : Option Standing) → standing_in message spot ≡ standing → walk_on (walk_by n message) spot standing ≡ walk_by (suc n) message spot
+walk_step : (n : ℕ) (message : List ℕ) (spot : Spot) (standing : Option Standing) → Shows message spot standing → walk_on (walk_by n message) spot standing ≡ walk_by (suc n) message spot
 unfolding walk_by
-walk_step n message spot standing e = ap (walk_on (walk_by n message) spot) (sym e)
+walk_step n message spot standing is = ap (walk_on (walk_by n message) spot) (sym (standing_is message spot standing is))
 
 -- n places are enough for a walk from a spot on
 record IsEnough (n : ℕ) (spot : Spot) : Type 0 where
@@ -29,12 +29,11 @@ WalksAt message spot visits ends = Walks message spot.offset spot.bound spot.poi
 -- a walk from a spot on is the one that is computed
 same : {message : List ℕ} (n : ℕ) {spot : Spot} {visits : List Visit} {ends : Option Fault} → WalksAt message spot visits ends → IsEnough n spot → visits ≡ walk_by n message spot
 same zero w is = absurd (omega (arith, is.short, is.few, is.enough))
-same {message} (suc n) {spot} (outside past) is = walk_step n message spot None (standing_outside message spot past)
-same {message} (suc n) {spot} (to_root here first) is = walk_step n message spot (Some at_root) (standing_root message spot here first)
-same {message} (suc n) {spot} (to_fault {fault = fault} here) is = walk_step n message spot (Some (at_fault fault)) (standing_fault message spot fault here)
-same {message} (suc n) {spot} (over_label {size = size} here room rest) is = grind (arith, same n {spot = past_label spot size} rest (enough_label {message = message} is (here, room)), enough_label {message = message} is (here, room), walk_step n message spot (Some (at_label size)) (standing_label message spot size here room))
-same {message} (suc n) {spot} (by_pointer {target = target} here few rest) is =
-    cc (same n {spot = past_pointer spot target} rest (enough_pointer {message = message} is (here, few)), walk_step n message spot (Some (at_pointer target)) (standing_pointer message spot target here few))
+same {message} (suc n) {spot} (outside past) is = walk_step n message spot None past
+same {message} (suc n) {spot} (to_root here first) is = walk_step n message spot (Some at_root) (here, first)
+same {message} (suc n) {spot} (to_fault {fault = fault} here) is = walk_step n message spot (Some (at_fault fault)) here
+same {message} (suc n) {spot} (over_label {size = size} here room rest) is = cc (same n {spot = past_label spot size} rest (enough_label {message = message} is (here, room)), walk_step n message spot (Some (at_label size)) (here, room))
+same {message} (suc n) {spot} (by_pointer {target = target} here few rest) is = cc (same n {spot = past_pointer spot target} rest (enough_pointer {message = message} is (here, few)), walk_step n message spot (Some (at_pointer target)) (here, few))
 
 -- and that is a walk
 walks_on : (n : ℕ) (message : List ℕ) (spot : Spot) (standing : Option Standing) → IsEnough (suc n) spot → Shows message spot standing → ((next : Spot) → IsEnough n next → WalksAt message next (walk_by n message next) (ending (walk_by n message next))) → WalksAt message spot (walk_on (walk_by n message) spot standing) (ending (walk_on (walk_by n message) spot standing))
