@@ -1,6 +1,6 @@
 -- The names that proofs here cite most: of definitions, and of std.
 pub use Rattle.std.proofs.Common.{Bool, List, [], ap, append_assoc, ap₂, arith, false, get_or-drop, inl, inr, length, length-append, lit<, lit≤, nat_eq, nat_le, nat_lt, refl, rules, subst, suc, sym, take-add, true, vec_len, zero, ℕ, ◌%◌, ◌*◌, ◌++◌, ◌+◌, ◌-◌, ◌/◌, ◌<◌, ◌^◌, ◌∙◌, ◌∷◌, ◌≡◌, ◌≢◌, ◌≤◌}
-pub use Rattle.std.proofs.lemmas.Bool.{and_cases, and_from, and_parts, cases_lt, cond-false, cond-true, cond_both, eq-eqb, eqb-false, eqb-true, false≢true, le-leb, le-ltb, leb-false, leb-true, lt-leb, lt-ltb, ltb-false, ltb-true, ne_eqb, not-false, or_from, or_left, or_parts, or_right, true_from_ne_false}
+pub use Rattle.std.proofs.lemmas.Bool.{and_cases, and_from, and_parts, cases_lt, cond-false, cond-true, cond_both, eq-eqb, eqb-false, eqb-true, false_from_ne_true, false≢true, le-leb, le-ltb, leb-false, leb-true, lt-leb, lt-ltb, ltb-false, ltb-true, ne_eqb, not-false, or_from, or_left, or_parts, or_right, true_from_ne_false}
 pub use Rattle.std.proofs.lemmas.Bool.Decides.{nat_tests}
 pub use Rattle.std.proofs.lemmas.Grind.{common_steps}
 pub use Rattle.std.proofs.lemmas.List.{append-nil, drop-drop, drop-take, drop_all, drop_at, drop_more, length-drop, length-map, length-set, length-take, length-take-le, map-append, reverse-reverse, take-append-drop, take-map, take-take, take_all, take_at, take_more_set}

@@ -1,5 +1,5 @@
 -- Conditions in an order, and the tests that decide them.
-use Rattle.zone_wire.proofs.Common.{AllByRecursion, Bool, Err, List, Option, Result, Some, Unless, [], and_from, and_parts, fails, false, holds, if◌then◌else◌, list_all, refl, subst, true, ◌∷◌, ◌≡◌, arith}
+use Rattle.zone_wire.proofs.Common.{AllByRecursion, Bool, Err, List, MatchResult, Ok, Option, Result, Some, Unless, [], and_from, and_parts, fails, false, holds, if◌then◌else◌, list_all, refl, subst, true, ◌∷◌, ◌≡◌, arith}
 
 -- conditions have one first fault
 pub unless_one : {E Holds : Type 0} {next : E → Type 0} {first e f : E} → ((a b : E) → next a → next b → a ≡ b) → Unless Holds first next e → Unless Holds first next f → e ≡ f
@@ -8,6 +8,10 @@ unless_one go b given = grind arith
 -- one that holds leaves the fault to those after it
 pub unless_holds : {E Holds : Type 0} {own : E} {next : E → Type 0} {e : E} → Holds → Unless Holds own next e → next e
 unless_holds is given = grind arith
+
+pub unless_own : {E Holds : Type 0} {own : E} {next : E → Type 0} {e : E} → (Holds → ⊥) → Unless Holds own next e → own ≡ e
+unless_own off (fails n) = refl
+unless_own off (holds x n) = absurd (off x)
 
 -- what holds of each fault
 pub unless_each : {E Holds : Type 0} {own : E} {next : E → Type 0} {e : E} (P : E → Type 0) → P own → (next e → P e) → Unless Holds own next e → P e
@@ -22,9 +26,13 @@ pub option_unless : {E Holds : Type 0} {next : E → Type 0} (test : Bool) (own 
 option_unless {E} {Holds} {next} true own rest e off by go h = let same : own ≡ e = cc in subst (Unless Holds own next) same (fails (λ x. let no = off x in cc))
 option_unless false own rest e off by go h = let x = by refl in holds x (go x h)
 
-pub result_unless : {X E Holds : Type 0} {next : E → Type 0} (test : Bool) (own : E) (rest : Result X E) (e : E) → (Holds → test ≡ false) → (test ≡ false → Holds) → (Holds → rest ≡ Err e → next e) → (if test then Err own else rest) ≡ Err e → Unless Holds own next e
-result_unless {X} {E} {Holds} {next} true own rest e off by go h = let same : own ≡ e = cc in subst (Unless Holds own next) same (fails (λ x. let no = off x in cc))
-result_unless false own rest e off by go h = let x = by refl in holds x (go x h)
+pub tells_more : {X E : Type 0} (Is : X → Type 0) (Bad Worse : E → Type 0) (r : Result X E) → ((e : E) → Bad e → Worse e) → MatchResult r Is Bad → MatchResult r Is Worse
+tells_more Is Bad Worse (Ok x) go is = is
+tells_more Is Bad Worse (Err e) go bad = go e bad
+
+pub told_test : {X E Holds : Type 0} (Is : X → Type 0) (next : E → Type 0) (test : Bool) (own : E) (rest : Result X E) → (Holds → test ≡ false) → (test ≡ false → Holds) → (Holds → MatchResult rest Is next) → MatchResult (if test then Err own else rest) Is (Unless Holds own next)
+told_test Is next true own rest off by go = fails (λ x. let no = off x in cc)
+told_test {Holds = Holds} Is next false own rest off by go = tells_more Is next (Unless Holds own next) rest (λ e bad. holds (by refl) bad) (go (by refl))
 
 -- all elements pass a test of what holds of each
 pub all_pass : {X : Type 0} (P : X → Type 0) (test : X → Bool) → ((x : X) → P x → test x ≡ true) → (xs : List X) → AllByRecursion P xs → list_all test xs ≡ true

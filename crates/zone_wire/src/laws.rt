@@ -44,7 +44,7 @@ pub fn a_name_is_bounded()
 
 /// A walk has at most 256 places, all of them in the message: at most 127 labels and 128 pointers,
 /// and what is neither stands at the last place alone.
-#[tactic(auto, using(crate::proofs::Names::Walking::walk_laws))]
+#[tactic(auto, using(crate::proofs::Names::Walking::walk_lies))]
 pub fn a_walk_is_bounded()
     ensures places { (message : Octets) (offset : ℕ) (visits : List Visit)
         (ending : Option Fault)
@@ -82,7 +82,7 @@ pub fn a_name_is_walked()
 {}
 
 /// Where the walk ends at the root, a name stands.
-#[tactic(auto, using(crate::proofs::Names::WalkLaws::root_is_name))]
+#[tactic(auto, using(crate::proofs::Names::Walking::root_is_name))]
 pub fn a_walk_to_the_root_is_a_name()
     ensures { (message : Octets) (offset : ℕ) (visits : List Visit)
         → ((i : ℕ) → slice_index message i < 256)

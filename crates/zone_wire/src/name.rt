@@ -27,6 +27,7 @@ pub struct Decoded {
 ///
 /// The fault at the first spot of the name that has one, and the steps of the walk: one for each
 /// spot that was looked at.
+#[tactic(auto, using(crate::proofs::Names::Walking::name_says))]
 pub fn name_at(message: &[u8], offset: usize) -> Result<Decoded, (Fault, u16)>
     ensures found { IfOk result
         (λ d. (pointers : ℕ) × IsNameAt message.now offset (found_by d pointers)) }

@@ -161,6 +161,7 @@ impl Transfer {
     }
 
     /// Takes the records of a message's answers up to the first fault.
+    #[tactic(auto, using(crate::proofs::Transfers::Progress::answers_are_taken))]
     fn take_answers(
         &mut self,
         message: &Message<'_>,

@@ -1,67 +1,51 @@
 -- Data that is refused has one first fault, that at which its fields stop being read.
-use Rattle.zone_wire.proofs.Common.{BadRdata, DataFault, Err, Fault, Field, FieldFault, FieldValue, FieldsFault, IsFieldAt, List, MatchOption, Name, None, Ok, Option, Outcome, RecordAt, Result, Some, Strings, [], and_then, ap, data_at, field_at, flat_map, get_or, inl, inr, layout, length, name, name_before, named, nat_eq, nat_le, nat_lt, octets_between, octets_of, outcome, pointwise, refl, refused, sized_before, strings, strings_before, strings_of, subst, sym, value_at, values_at, walk, with_length, ℕ, ◌&&◌, ◌+◌, ◌<◌, ◌∙◌, ◌∷◌, ◌≡◌, ◌≤◌, arith, AnswerFault, AnswerStates, AreFieldsAt, AreValuesAt, ComesAfter, Found, HoldEach, IsDataAt, IsNameAt, NameFault, OrderFault, OwnFault, Placed, QuestionAt, Record, StringsLast, table_row}
+use Rattle.zone_wire.proofs.Common.{AnswerFault, AnswerStates, AreFieldsAt, AreValuesAt, BadRdata, ComesAfter, DataFault, Err, Fault, Field, FieldFault, FieldValue, FieldsFault, Found, HoldEach, IsDataAt, IsFieldAt, IsNameAt, List, MatchOption, MatchResult, Name, NameFault, None, Ok, Option, OrderFault, Outcome, OwnFault, Placed, QuestionAt, Record, RecordAt, Result, Some, Strings, StringsLast, [], and_then, ap, arith, cond_both, data_at, eqb-false, eqb-true, field_at, flat_map, get_or, inl, inr, layout, length, name, name_before, named, nat_eq, nat_le, nat_lt, octets_between, octets_of, outcome, pointwise, refl, refused, sized_before, strings, strings_before, strings_of, subst, sym, table_row, value_at, values_at, walk, with_length, ℕ, ◌&&◌, ◌+◌, ◌<◌, ◌==◌, ◌∙◌, ◌∷◌, ◌≡◌, ◌≤◌}
 use Rattle.zone_wire.proofs.Fields.ReadFields.{data_reads, value_reads, value_shows}
-use Rattle.zone_wire.proofs.Messages.MessageFaults.{err_same, fails_test, stops, name_refused, name_one, name_not_both}
+use Rattle.zone_wire.proofs.Messages.MessageFaults.{err_same, fails_test, stops}
 use Rattle.zone_wire.proofs.Messages.Sections.{passes}
-use Rattle.zone_wire.proofs.Names.Walking.{walk_names, one_name}
+use Rattle.zone_wire.proofs.Names.Walking.{walk_names, one_name, name_refused, name_one, name_not_both}
 use Rattle.zone_wire.proofs.Conditions.{unless_one, unless_holds}
 
--- what is read for a field is its value, and conversely
+-- what is read for a field is its value, and where none is read this is why
 module _ (octets : List ℕ) (each : (k : ℕ) → get_or octets k 0 < 256) (end : ℕ) (within : end ≤ length octets) where
-  strings_end : (bs : List ℕ) (v : FieldValue × ℕ) → strings_before end bs ≡ Ok v → v.1 ≡ end
-  strings_end bs v e = sym (ap (λ (x : FieldValue × ℕ). x.1) (passes (nat_lt 0 (length bs) && pointwise nat_eq (flat_map with_length (strings_of bs)) bs) (strings (strings_of bs), end) v BadRdata e).1)
-
-  strings_at_end : (start : ℕ) (v : FieldValue × ℕ) → value_at octets end start Strings ≡ Ok v → v.1 ≡ end
-  unfolding value_at
-  strings_at_end start v e = strings_end (octets_between octets start end) v e
-
-  pub value_has : (start : ℕ) (field : Field) (v : FieldValue × ℕ) → value_at octets end start field ≡ Ok v → IsFieldAt octets end field start v.1 v.0
-  value_has start field v e =
-      let shown = value_shows octets each end within start field v e in
-      record { held = shown.0; stands = shown.2; inside = shown.1; last = λ is. strings_at_end start v (subst (λ f. value_at octets end start f ≡ Ok v) is e) }
-
-  pub value_is : (start past : ℕ) (field : Field) (value : FieldValue) → IsFieldAt octets end field start past value → value_at octets end start field ≡ Ok (value, past)
-  value_is start past field value h = value_reads octets end start past field value h.last h.held h.inside within h.stands
-
   name_fault : (start : ℕ) (o : Outcome) (fault : Fault) → outcome octets (walk octets start) ≡ o → name_before end o ≡ Err fault → FieldFault octets end Name start fault
   name_fault start (refused f steps) fault is e = inl (name_refused octets start fault steps (is ∙ ap (λ x. refused x steps) (err_same f fault e)))
   name_fault start (named found) fault is e = grind (arith, fails_test (nat_le found.end end) (name found.labels, found.end) BadRdata fault e, walk_names octets start found each is)
 
   no_value : (start : ℕ) (field : Field) (fault : Fault) → value_at octets end start field ≡ Err fault → (past : ℕ) (value : FieldValue) → IsFieldAt octets end field start past value → ⊥
-  no_value start field fault e past value h = let is = value_is start past field value h in cc
-
-  sized_fault : (start : ℕ) (field : Field) (size : ℕ) (fault : Fault) → sized_before octets end start field size ≡ Err fault → fault ≡ BadRdata
-  sized_fault start field size fault e = sym (fails_test (nat_le (start + size) end) (field_at field (octets_between octets start (start + size)), start + size) BadRdata fault e).1
-
-  strings_fault : (bs : List ℕ) (fault : Fault) → strings_before end bs ≡ Err fault → fault ≡ BadRdata
-  strings_fault bs fault e = sym (fails_test (nat_lt 0 (length bs) && pointwise nat_eq (flat_map with_length (strings_of bs)) bs) (strings (strings_of bs), end) BadRdata fault e).1
+  no_value start field fault e past value h = let is = value_reads octets end start past field value h.last h.held h.inside within h.stands in cc
 
   -- where a field has no value, this is why
-  pub field_faults : (start : ℕ) (field : Field) (fault : Fault) → value_at octets end start field ≡ Err fault → FieldFault octets end field start fault
+  field_faults : (start : ℕ) (field : Field) (fault : Fault) → value_at octets end start field ≡ Err fault → FieldFault octets end field start fault
   unfolding value_at
   field_faults start Name fault e = name_fault start (outcome octets (walk octets start)) fault refl e
-  field_faults start Strings fault e = (strings_fault (octets_between octets start end) fault e, no_value start Strings fault e)
-  field_faults start field fault e = (sized_fault start field _ fault e, no_value start field fault e)
+  field_faults start Strings fault e = (sym (fails_test _ _ BadRdata fault e).1, no_value start Strings fault e)
+  field_faults start field fault e = (sym (fails_test _ _ BadRdata fault e).1, no_value start field fault e)
 
-  -- the first of fields that has no value
-  pub values_fault : (fields : List Field) (start : ℕ) (fault : Fault) → values_at octets end start fields ≡ Err fault → FieldsFault octets end fields start fault
-  values_fault [] start fault e = grind arith
-  values_fault (field ∷ fields) start fault e =
-      elim (stops (value_at octets end start field) _ fault e) [
-        | inl h ↦ inl (field_faults start field fault h)
-        | inr v ↦ elim (stops (values_at octets end v.0.1 fields) _ fault v.1.1) [
-          | inl h ↦ inr (v.0.1, v.0.0, value_has start field v.0 v.1.0, values_fault fields v.0.1 fault h)
-          | inr h ↦ (let t : ⊥ = cc in absurd t)
-        ]
-      ]
+  pub values_told : (fields : List Field) (start : ℕ) → MatchResult (values_at octets end start fields) (λ values. HoldEach fields values × AreValuesAt octets start end values) (FieldsFault octets end fields start)
+  values_told [] start = cond_both (start == end) (Ok []) (Err BadRdata) (λ r. MatchResult r (λ values. HoldEach [] values × AreValuesAt octets start end values) (FieldsFault octets end [] start)) (λ same. (tt, eqb-true start end same)) (λ other. (refl, eqb-false start end other))
+  values_told (field ∷ fields) start = first (value_at octets end start field) refl (λ past. values_told fields past)
+    where
+      others : (v : FieldValue × ℕ) → IsFieldAt octets end field start v.1 v.0 → (r : Result (List FieldValue) Fault) → MatchResult r (λ values. HoldEach fields values × AreValuesAt octets v.1 end values) (FieldsFault octets end fields v.1) → MatchResult (and_then r (λ more. let x : Result (List FieldValue) Fault = Ok (v.0 ∷ more) in x)) (λ values. HoldEach (field ∷ fields) values × AreValuesAt octets start end values) (FieldsFault octets end (field ∷ fields) start)
+      others v is (Ok values) rest = ((is.held, rest.0), (v.1, is.inside, is.stands, rest.1))
+      others v is (Err fault) bad = inr (v.1, v.0, is, bad)
 
-  layout_fault : (start : ℕ) (fault : Fault) (o : Option (List Field)) → (let r : Result (List ℕ) Fault = elim o [ None ↦ Ok (octets_between octets start end) | Some fields ↦ and_then (values_at octets end start fields) (λ values. Ok (octets_of values)) ] in r) ≡ Err fault → MatchOption o ⊥ (λ fields. FieldsFault octets end fields start fault)
-  layout_fault start fault o e = grind (arith, stops, values_fault)
+      first : (r : Result (FieldValue × ℕ) Fault) → value_at octets end start field ≡ r → ((past : ℕ) → MatchResult (values_at octets end past fields) (λ values. HoldEach fields values × AreValuesAt octets past end values) (FieldsFault octets end fields past)) → MatchResult (and_then r (λ v. and_then (values_at octets end v.1 fields) (λ more. let x : Result (List FieldValue) Fault = Ok (v.0 ∷ more) in x))) (λ values. HoldEach (field ∷ fields) values × AreValuesAt octets start end values) (FieldsFault octets end (field ∷ fields) start)
+      first (Ok v) e more = others v (value_shows octets each end within start field v e) (values_at octets end v.1 fields) (more v.1)
+      first (Err fault) e more = inl (field_faults start field fault e)
 
--- data that is refused has this first fault
-pub data_faults : (octets : List ℕ) (a : RecordAt) (fault : Fault) → ((k : ℕ) → get_or octets k 0 < 256) → a.end ≤ length octets → data_at octets a ≡ Err fault → DataFault octets a fault
+-- what is read as data is its data, and data that is refused has this first fault
+pub data_told : (octets : List ℕ) (a : RecordAt) → ((k : ℕ) → get_or octets k 0 < 256) → a.end ≤ length octets → MatchResult (data_at octets a) (IsDataAt octets a) (DataFault octets a)
 unfolding data_at
-data_faults octets a fault each within e = layout_fault octets each a.end within a.start fault (layout a.class a.kind) e
+data_told octets a each within = by (layout a.class a.kind)
+  where
+    laid : (fields : List Field) (r : Result (List FieldValue) Fault) → MatchResult r (λ values. HoldEach fields values × AreValuesAt octets a.start a.end values) (FieldsFault octets a.end fields a.start) → MatchResult (and_then r (λ values. let x : Result (List ℕ) Fault = Ok (octets_of values) in x)) (AreFieldsAt octets a.start a.end fields) (FieldsFault octets a.end fields a.start)
+    laid fields (Ok values) is = record { values = values; held = is.0; stand = is.1; whole = refl }
+    laid fields (Err fault) bad = bad
+
+    by : (o : Option (List Field)) → MatchResult (let r : Result (List ℕ) Fault = elim o [ None ↦ Ok (octets_between octets a.start a.end) | Some fields ↦ and_then (values_at octets a.end a.start fields) (λ values. Ok (octets_of values)) ] in r) (λ canonical. MatchOption o (canonical ≡ octets_between octets a.start a.end) (λ fields. AreFieldsAt octets a.start a.end fields canonical)) (λ fault. MatchOption o ⊥ (λ fields. FieldsFault octets a.end fields a.start fault))
+    by None = refl
+    by (Some fields) = laid fields (values_at octets a.end a.start fields) (values_told octets each a.end within fields a.start)
 
 -- ---- data and answers have one first fault, and none where they have a value
 module _ (octets : List ℕ) (end : ℕ) (within : end ≤ length octets) where
@@ -121,7 +105,7 @@ pub data_not_both : (octets : List ℕ) (a : RecordAt) (f : Fault) (canonical : 
 data_not_both octets a f canonical within is has = row_not_both octets a.end within a.start f canonical (layout a.class a.kind) (λ fields e. (table_row a.class a.kind fields e).last) is has
 
 -- the data of a record
-one_data : (octets : List ℕ) (a : RecordAt) (c d : List ℕ) → a.end ≤ length octets → IsDataAt octets a c → IsDataAt octets a d → c ≡ d
+pub one_data : (octets : List ℕ) (a : RecordAt) (c d : List ℕ) → a.end ≤ length octets → IsDataAt octets a c → IsDataAt octets a d → c ≡ d
 one_data octets a c d inside is too = grind (arith, data_reads)
 
 pub record_unique : (octets : List ℕ) (a : RecordAt) (r t : Record) → a.end ≤ length octets → AnswerStates octets a r → AnswerStates octets a t → r ≡ t

@@ -1,11 +1,13 @@
 -- The data of a record is read into a builder, field after field and string after string.
-use Rattle.zone_wire.proofs.Common.{AllByRecursion, AllByRecursion-append, AreStrings, Awaits, AwaitsStrings, BadRdata, Built, Err, Fault, FieldValue, Framed, Holds, IsNext, IsString, IsValueAt, List, Ok, OneString, PutsValue, Some, Strings, Suits, [], and_parts, ap, append-nil, append_assoc, arith, bytes_each, common_steps, cond-false, field_octets, flat_map, flat_map-append, framed_short, layout, length, length-append, ltb-true, map, map-append, octets_between, octets_of, put_after, refl, slice_index, some_frames, string, strings, strings_before, subst, sym, value_at, with_length, ℕ, ◌++◌, ◌+◌, ◌<◌, ◌∙◌, ◌∷◌, ◌≡◌, ◌≤◌, rules, Cursor, Reads, Pushes, Field, data_of, next_value, ◌≢◌, HoldEach, IsPushFault, IsRead, IsReadyFor, IsRecordAt, IsSized, IsWhole, None, Option, PutsValues, RawRecord, RecordAt, Result, and_then, cond-true, data_at, drop, drop_all, ends_with_strings, eq-eqb, fixed, get_or, inl, inr, length-take, long_string, misplaced, name, octets_push, option_or, part_at, parts_for, slice_get, suc, table_row, too_long, u16_value, u32_value, values_at, zero, ◌*◌, ◌-◌, if◌then◌else◌}
+use Rattle.zone_wire.proofs.Common.{AllByRecursion, AllByRecursion-append, AreStrings, Awaits, AwaitsStrings, BadRdata, Built, Cursor, Err, Fault, Field, FieldValue, Framed, HoldEach, Holds, IsNext, IsPushFault, IsRead, IsReadyFor, IsRecordAt, IsSized, IsString, IsValueAt, IsWhole, List, None, Ok, OneString, Option, Pushes, PutsValue, PutsValues, RawRecord, Reads, RecordAt, Result, Some, Strings, Suits, [], and_parts, and_then, ap, append-nil, append_assoc, arith, bytes_each, common_steps, cond-false, cond-true, data_at, data_of, drop, drop_all, drop_more, ends_with_strings, eq-eqb, field_octets, fixed, flat_map, flat_map-append, framed_short, get_or, if◌then◌else◌, inl, inr, layout, length, length-append, length-take, long_string, ltb-true, map, map-append, misplaced, name, next_value, octets_between, octets_of, octets_push, option_or, part_at, parts_for, put_after, refl, rules, slice_get, slice_index, some_frames, string, strings, strings_before, subst, suc, sym, table_row, too_long, u16_value, u32_value, value_at, values_at, with_length, zero, ℕ, ◌*◌, ◌++◌, ◌+◌, ◌-◌, ◌<◌, ◌∙◌, ◌∷◌, ◌≡◌, ◌≢◌, ◌≤◌}
 use Rattle.zone_rdata.specs.Machine.Fronts.{AreWithLengths}
-use Rattle.zone_wire.proofs.Fields.ReadFields.{strings_read, Shown, part_bytes, strings_each, value_shows, values_show}
+use Rattle.zone_wire.proofs.Fields.ReadFields.{strings_read, Shown, part_bytes, strings_each, value_shows}
 use Rattle.zone_wire.proofs.Fields.FieldReading.{between_first, between_join, part_len, sized_fails, string_sized}
 use Rattle.zone_rdata.proofs.Fields.AnyField.{field_short}
+use Rattle.zone_wire.proofs.Fields.DataFaults.{values_told}
 use Rattle.zone_wire.proofs.Messages.Sections.{and_then_err, and_then_ok}
 use Rattle.zone_wire.proofs.Records.ReadRecords.{IsRow, each_row}
+use Rattle.std.proofs.lemmas.Option.{get_or_from_slice_get, slice_get_cases, slice_get_within}
 
 -- ---- strings
 -- strings were put from one place to another
@@ -57,7 +59,7 @@ module _ (from to : Cursor) (old now : Built) (h : HavePut from to old now) wher
 
   module _ (next : Cursor) (text : List ℕ) (reads : Reads to next OneString (string text)) where
     stands : IsString text × (to.at ≤ next.at) × (octets_between from.message.now to.at next.at ≡ with_length text)
-    stands = let shows = shown from to OneString (string text, next.at) h.same reads.read in (shows.0, shows.2.0, shows.2.1)
+    stands = let shows = shown from to OneString (string text, next.at) h.same reads.read in (shows.held, shows.stands.0, shows.stands.1)
 
     pub string_put : (new : Built) → Pushes now (string text) new → HavePut from next old new
     string_put new pushed = record {
@@ -119,25 +121,16 @@ module _ (from : Cursor) where
 -- ---- the data of a record is read into a builder
 -- ---- the fields of a layout
 from_here : (fields : List Field) (i : ℕ) (field : Field) → slice_get fields i ≡ Some field → drop i fields ≡ field ∷ drop (i + 1) fields
-from_here [] i field e = absurd (let t : ⊥ = cc in t)
-from_here (f ∷ fields) zero field e = let same : f ≡ field = cc in ap (λ g. g ∷ fields) same
-from_here (f ∷ fields) (suc i) field e = rw (let n : suc i + 1 ≡ suc (i + 1) = omega arith in n) (from_here fields i field e)
+from_here fields i field e = drop_more fields i field (slice_get_within fields i field e) ∙ ap (λ f. f ∷ drop (i + 1) fields) (get_or_from_slice_get fields i field field e)
 
 none_here : (fields : List Field) (i : ℕ) → slice_get fields i ≡ None → drop i fields ≡ []
-none_here [] i e = drop_all i (let fs : List Field = [] in fs) (omega arith)
-none_here (f ∷ fields) zero e = absurd (let t : ⊥ = cc in t)
-none_here (f ∷ fields) (suc i) e = none_here fields i e
+none_here fields i e = grind (arith, drop_all, slice_get_cases fields i)
 
 -- what holds of each field holds of this one
 field_of : (P : Field → Type 0) (fields : List Field) (i : ℕ) (field : Field) → slice_get fields i ≡ Some field → AllByRecursion P fields → P field
 field_of P [] i field e each = absurd (let t : ⊥ = cc in t)
 field_of P (f ∷ fields) zero field e each = let same : f ≡ field = cc in subst P same each.0
 field_of P (f ∷ fields) (suc i) field e each = field_of P fields i field e each.1
-
-within_fields : (fields : List Field) (i : ℕ) (field : Field) → slice_get fields i ≡ Some field → i < length fields
-within_fields [] i field e = absurd (let t : ⊥ = cc in t)
-within_fields (f ∷ fields) zero field e = omega arith
-within_fields (f ∷ fields) (suc i) field e = let h = within_fields fields i field e in omega arith
 
 -- the values of the fields before a place were put
 pub record HaveValues (from to : Cursor) (fields : List Field) (old now : Built) (count : ℕ) : Type 0 where
@@ -172,8 +165,8 @@ module _ (from : Cursor) (fields : List Field) (old : Built) (laid : layout old.
         next = λ part suits. subst (λ o. IsNext o (length now.parts) part) (sym (same_laid to now count h)) (subst (λ o. Suits o part) (sym at) suits);
         sized = sized;
         room = λ value past read.
-            let one = field_short field value other sized (shown from to field (value, past) h.same read).0 in
-            omega (arith, one, plain.1, table.few, within_fields fields count field here, ap (λ ps. length (octets_of ps)) parts);
+            let one = field_short field value other sized (shown from to field (value, past) h.same read).held in
+            omega (arith, one, plain.1, table.few, slice_get_within fields count field here, ap (λ ps. length (octets_of ps)) parts);
       }
 
   strings_ready : (to : Cursor) (now : Built) (count : ℕ) (field : Field) → fields ≡ Strings ∷ [] → slice_get fields count ≡ Some field → HaveValues from to fields old now count → IsReadyFor to now field
@@ -220,7 +213,7 @@ module _ (from : Cursor) (fields : List Field) (old : Built) (laid : layout old.
         values = h.values;
         read = read;
         put = h.put;
-        whole = omega (arith, parts_whole fields h.values (values_show from.message.now from.octets from.end from.inside fields from.at h.values read).0, ap length (own_parts to now count h));
+        whole = omega (arith, parts_whole fields h.values (rw read at (values_told from.message.now from.octets from.end from.inside fields from.at)).0, ap length (own_parts to now count h));
       }
 
 -- ---- the data of a record
@@ -278,21 +271,13 @@ module _ (octets : List ℕ) (a : RecordAt) (class kind : ℕ) (same_class : cla
   pub octets_are_taken : (fault : Fault) → None ≡ layout class kind → a.end ≤ a.start + 65535 → IsPushFault old (fixed (octets_between octets a.start a.end)) fault → ⊥
   octets_are_taken fault row short bad = by fault bad
     where
-      part : FieldValue
-      part = fixed (octets_between octets a.start a.end)
-
       none : old.parts ≡ []
       none = ap (λ (b : Built). b.parts) new
 
-      next : IsNext (layout old.class old.kind) (length old.parts) (fixed (octets_between octets a.start a.end))
-      next = subst (λ o. IsNext o (length old.parts) (fixed (octets_between octets a.start a.end))) (sym (builder_laid None row)) (subst (λ (ps : List FieldValue). IsNext None (length ps) (fixed (octets_between octets a.start a.end))) (sym none) tt)
-
       by : (fault : Fault) → IsPushFault old (fixed (octets_between octets a.start a.end)) fault → ⊥
-      by _ (misplaced wrong) = wrong next
+      by _ (misplaced wrong) = wrong (rw (builder_laid None row, none) tt)
       by _ (long_string n long) = long tt
-      by _ (too_long n fits over) =
-          let size : length (octets_of (old.parts ++ fixed (octets_between octets a.start a.end) ∷ [])) ≡ length (octets_between octets a.start a.end) = ap (λ ps. length (octets_of (ps ++ fixed (octets_between octets a.start a.end) ∷ []))) none ∙ ap length (append-nil (octets_between octets a.start a.end)) in
-          omega (arith, over, size, short, length-take (a.end - a.start) (drop a.start octets))
+      by _ (too_long n fits over) = omega (arith, over, short, length-take (a.end - a.start) (drop a.start octets), ap (λ ps. length (octets_of (ps ++ fixed (octets_between octets a.start a.end) ∷ []))) none, ap length (append-nil (octets_between octets a.start a.end)))
 
 -- likewise of a record as it is kept
 module _ (raw now : RawRecord) (view : raw ≡ now) (class kind : ℕ) (same_class : class ≡ now.at.class) (same_kind : kind ≡ now.at.kind) (old : Built) (new : old ≡ record { class = class; kind = kind; parts = [] }) where

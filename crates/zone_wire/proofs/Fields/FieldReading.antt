@@ -1,8 +1,7 @@
 -- The values of fields are read in a message: parts of its octets, numbers, and names.
 use Rattle.zone_wire.proofs.Common.{BadRdata, Err, Fault, Field, FieldValue, Found, IsNameAt, List, Name, NameFault, Octets, Ok, OneString, Serial, U16, [], ap, arith, common_steps, cond-false, drop, drop-drop, drop-take, drop_more, field_at, fixed, get_or, length, lt-leb, name, name_before, octets_between, outcome, refl, sized_before, slice_index, string, string_at, sym, take, take-append-drop, take-take, take_all, u16_at, u16_value, u32_at, u32_value, value_at, walk, ℕ, ◌++◌, ◌+◌, ◌-◌, ◌<◌, ◌∙◌, ◌∷◌, ◌≡◌, ◌≤◌, Cursor, Reads, TakesOctets, next_value, Awaits, Built, FitsString, IsPushFault, IsReadyFor, Pushes, PutsValue, Some, Suits, Time, length-append, octets_push, parts_for, put_after, ◌⊎◌, rules, IfErr, IfErr-fault, IfFault, Failing, Result}
 use Rattle.zone_wire.proofs.Fields.ReadFields.{name_reads}
-use Rattle.zone_wire.proofs.Messages.MessageFaults.{name_refuses}
-use Rattle.zone_wire.proofs.Names.Walking.{name_walks}
+use Rattle.zone_wire.proofs.Names.Walking.{name_walks, name_refuses}
 
 -- ---- parts of octets
 part_get : (octets : List ℕ) (start past k i : ℕ) → i ≡ start + k → i < past → get_or (octets_between octets start past) k 0 ≡ get_or octets i 0

@@ -1,5 +1,6 @@
 -- The data of a record is read as the values that stand there.
-use Rattle.zone_wire.proofs.Common.{AreFieldsAt, AreStrings, AreValuesAt, Fault, Field, FieldValue, Found, HoldEach, Holds, IsDataAt, IsValueAt, List, MatchOption, Name, None, Octets, Ok, OneString, Option, Outcome, RecordAt, Result, Some, Strings, StringsLast, U16, [], and_from, and_then, ap, arith, common_steps, cond-true, data_at, eq-eqb, field_at, field_octets, fixed, flat_map, from_be_bytes, from_be_bytes-to_be_bytes_2, from_be_bytes-to_be_bytes_4, get_or, layout, le-leb, length, length-frames, lt-ltb, name, name_before, named, octets_between, octets_of, refl, rules, sized_before, slice_index, string, strings, strings_before, suc, sym, table_row, take, take_all, to_be_bytes, u16_value, u32_value, value_at, values_at, w16, w32, with_length, ℕ, ◌+◌, ◌<◌, ◌^◌, ◌∙◌, ◌∷◌, ◌≡◌, ◌≤◌, AllByRecursion, IsString, Serial, Time, and_parts, be_bytes_4, bytes_each, drop, length-take, ltb-true, outcome, refused, some_frames, string_at, strings_by, strings_of, walk, zero, ◌-◌, ◌==◌}
+use Rattle.zone_wire.proofs.Common.{AllByRecursion, AreFieldsAt, AreStrings, AreValuesAt, Fault, Field, FieldValue, Found, HoldEach, Holds, IsDataAt, IsFieldAt, IsString, IsValueAt, List, MatchOption, Name, None, Octets, Ok, OneString, Option, Outcome, RecordAt, Result, Serial, Some, Strings, StringsLast, Time, U16, [], and_from, and_parts, and_then, ap, append-nil, arith, be_bytes_4, bytes_each, common_steps, cond-true, data_at, drop, eq-eqb, field_at, field_octets, fixed, flat_map, from_be_bytes, from_be_bytes-to_be_bytes_2, from_be_bytes-to_be_bytes_4, get_or, layout, le-leb, length, length-frames, length-take, lt-ltb, ltb-true, name, name_before, named, octets_between, octets_of, outcome, refl, refused, rules, sized_before, slice_index, some_frames, string, string_at, strings, strings_before, strings_by, strings_of, suc, sym, table_row, take, take_all, to_be_bytes, u16_value, u32_value, value_at, values_at, w16, w32, walk, with_length, zero, ℕ, ◌+◌, ◌-◌, ◌<◌, ◌==◌, ◌^◌, ◌∙◌, ◌∷◌, ◌≡◌, ◌≤◌}
+use Rattle.zone_rdata.proofs.Fields.AnyField.{field_back}
 use Rattle.zone_rdata.proofs.Octets.StringFields.{strings_back}
 use Rattle.zone_wire.proofs.Messages.Sections.{and_then_ok, ok_same, leads, passes}
 use Rattle.zone_wire.proofs.Names.Walking.{name_walks, walk_names, take_each, drop_each}
@@ -15,11 +16,9 @@ name_reads end found o e h = ap (name_before end) e ∙ cond-true _ _ _ (le-leb 
 sized_reads : (octets : List ℕ) (end start next : ℕ) (field : Field) (v : FieldValue) (size : ℕ) → length (field_octets v) ≡ size → field_at field (field_octets v) ≡ v → next ≤ end → end ≤ length octets → (start ≤ next) × (octets_between octets start next ≡ field_octets v) → sized_before octets end start field size ≡ Ok (v, next)
 sized_reads octets end start next field v size len back before within stands = grind (arith, part_text)
 
-long_back : (n : ℕ) → n < 2 ^ 32 → u32_value (from_be_bytes w32 (take 4 (to_be_bytes w32 n))) ≡ u32_value n
-long_back n h = ap u32_value (from_be_bytes-to_be_bytes_4 n h)
-
-two_back : (n : ℕ) → n < 2 ^ 16 → u16_value (from_be_bytes w16 (take 2 (to_be_bytes w16 n))) ≡ u16_value n
-two_back n h = ap u16_value (from_be_bytes-to_be_bytes_2 n h)
+-- a value is read back from its octets
+back : (field : Field) (v : FieldValue) → Holds field v → (field ≡ Strings → ⊥) → field_at field (field_octets v) ≡ v
+back field v h other = ap (field_at field) (sym (append-nil (field_octets v))) ∙ field_back field v [] h (λ e. absurd (other e))
 
 -- the first octet of a part
 pub part_first : (octets : List ℕ) (start past : ℕ) → start < past → get_or (octets_between octets start past) 0 0 ≡ slice_index octets start
@@ -35,10 +34,11 @@ string_size octets start next text within stands = grind (arith, part_first)
 pub value_reads : (octets : List ℕ) (end start next : ℕ) (field : Field) (v : FieldValue) → (field ≡ Strings → next ≡ end) → Holds field v → next ≤ end → end ≤ length octets → IsValueAt octets start next v → value_at octets end start field ≡ Ok (v, next)
 unfolding value_at
 value_reads octets end start next Name (name labels) last h before within s = grind (arith, name_reads, name_walks)
-value_reads octets end start next field (u32_value n) last h before within s = search (rules, sized_reads, long_back)
-value_reads octets end start next U16 (u16_value n) last h before within s = sized_reads octets end start next U16 (u16_value n) 2 refl (two_back n h) before within s
-value_reads octets end start next (Octets n) (fixed text) last h before within s = sized_reads octets end start next (Octets n) (fixed text) n h.size (ap fixed (take_all n text (omega (arith, h.size)))) before within s
-value_reads octets end start next OneString (string text) last h before within s = sized_reads octets end start next OneString (string text) (1 + slice_index octets start) (string_size octets start next text (omega arith) s) (ap string (take_all (length text) text (omega arith))) before within s
+value_reads octets end start next Serial (u32_value n) last h before within s = sized_reads octets end start next Serial (u32_value n) 4 refl (back Serial (u32_value n) h (λ e. cc)) before within s
+value_reads octets end start next Time (u32_value n) last h before within s = sized_reads octets end start next Time (u32_value n) 4 refl (back Time (u32_value n) h (λ e. cc)) before within s
+value_reads octets end start next U16 (u16_value n) last h before within s = sized_reads octets end start next U16 (u16_value n) 2 refl (back U16 (u16_value n) h (λ e. cc)) before within s
+value_reads octets end start next (Octets n) (fixed text) last h before within s = sized_reads octets end start next (Octets n) (fixed text) n h.size (back (Octets n) (fixed text) h (λ e. cc)) before within s
+value_reads octets end start next OneString (string text) last h before within s = sized_reads octets end start next OneString (string text) (1 + slice_index octets start) (string_size octets start next text (omega arith) s) (back OneString (string text) h (λ e. cc)) before within s
 value_reads octets end start next Strings (strings many) last h before within s = let e : next ≡ end = last refl in strings_read (octets_between octets start end) end many h (ap (octets_between octets start) (sym e) ∙ s.1) ∙ ap (λ n. Ok (strings many, n)) (sym e)
 value_reads octets end start next field v last h before within s = absurd h
 
@@ -59,7 +59,7 @@ data_reads octets a canonical within is = layout_reads octets a.start a.end cano
 
 -- ---- what is read as the data of a record is its data
 abbrev pub Shown : List ℕ → ℕ → ℕ → Field → FieldValue × ℕ → Type 0
-Shown octets end start field v = Holds field v.0 × (v.1 ≤ end) × IsValueAt octets start v.1 v.0
+Shown octets end start field v = IsFieldAt octets end field start v.1 v.0
 
 strings_each_by : (n : ℕ) (octets : List ℕ) → ((k : ℕ) → get_or octets k 0 < 256) → AllByRecursion IsString (strings_by n octets)
 strings_each_by zero octets small = tt
@@ -107,7 +107,7 @@ module _ (octets : List ℕ) (each : (k : ℕ) → get_or octets k 0 < 256) (end
       let past = start + (1 + slice_index octets start) in
       let bs = octets_between octets start past in
       let h = framed bs (slice_index octets start) (part_bytes start past) (part_size start (1 + slice_index octets start) fits) (part_first octets start past (omega arith)) in
-      (h.0, fits, (omega arith, h.1))
+      record { held = h.0; inside = fits; stands = (omega arith, h.1); last = λ e. cc }
     where
       framed : (bs : List ℕ) (size : ℕ) → ((k : ℕ) → get_or bs k 0 < 256) → length bs ≡ 1 + size → get_or bs 0 0 ≡ size → IsString (string_at bs) × (bs ≡ with_length (string_at bs))
       framed [] size small len first = absurd (omega (arith, len))
@@ -125,29 +125,9 @@ module _ (octets : List ℕ) (each : (k : ℕ) → get_or octets k 0 < 256) (end
   pub value_shows : (start : ℕ) (field : Field) (v : FieldValue × ℕ) → value_at octets end start field ≡ Ok v → Shown octets end start field v
   unfolding value_at
   value_shows start Name v e = name_shows start (outcome octets (walk octets start)) v refl e
-  value_shows start Serial v e = sized_shows start 4 Serial v (λ fits. (long_short _ (take_each 4 _ (part_bytes start (start + 4))), fits, long_stands start fits)) e
-  value_shows start Time v e = sized_shows start 4 Time v (λ fits. (long_short _ (take_each 4 _ (part_bytes start (start + 4))), fits, long_stands start fits)) e
+  value_shows start Serial v e = sized_shows start 4 Serial v (λ fits. record { held = long_short _ (take_each 4 _ (part_bytes start (start + 4))); inside = fits; stands = long_stands start fits; last = λ f. cc }) e
+  value_shows start Time v e = sized_shows start 4 Time v (λ fits. record { held = long_short _ (take_each 4 _ (part_bytes start (start + 4))); inside = fits; stands = long_stands start fits; last = λ f. cc }) e
   value_shows start (Octets n) v e = sized_shows start n (Octets n) v (fixed_shows start n) e
   value_shows start OneString v e = sized_shows start (1 + slice_index octets start) OneString v (string_shows start) e
   value_shows start Strings v e = strings_show start v e
-  value_shows start U16 v e = sized_shows start 2 U16 v (λ fits. (two_short _ (take_each 2 _ (part_bytes start (start + 2))), fits, two_stands start fits)) e
-
-  pub values_show : (fields : List Field) (start : ℕ) (values : List FieldValue) → values_at octets end start fields ≡ Ok values → HoldEach fields values × AreValuesAt octets start end values
-  values_show [] start values e = let p = passes (start == end) [] values _ e in search rules
-  values_show (f ∷ fields) start values e =
-      let one = leads (value_at octets end start f) _ values e in
-      let rest = leads (values_at octets end one.first.1 fields) _ values one.goes_on in
-      let here = value_shows start f one.first one.is in
-      let others = values_show fields one.first.1 rest.first rest.is in
-      search rules
-
-  layout_shows : (start : ℕ) (canonical : List ℕ) (o : Option (List Field)) → (let r : Result (List ℕ) Fault = elim o [ None ↦ Ok (octets_between octets start end) | Some fields ↦ and_then (values_at octets end start fields) (λ values. Ok (octets_of values)) ] in r) ≡ Ok canonical → MatchOption o (canonical ≡ octets_between octets start end) (λ fields. AreFieldsAt octets start end fields canonical)
-  layout_shows start canonical None e = sym (ok_same _ _ e)
-  layout_shows start canonical (Some fields) e =
-      let l = leads (values_at octets end start fields) _ canonical e in
-      let values = values_show fields start l.first l.is in
-      search rules
-
-pub data_shown : (octets : List ℕ) (a : RecordAt) (canonical : List ℕ) → ((k : ℕ) → get_or octets k 0 < 256) → a.end ≤ length octets → data_at octets a ≡ Ok canonical → IsDataAt octets a canonical
-unfolding data_at
-data_shown octets a canonical each within e = layout_shows octets each a.end within a.start canonical (layout a.class a.kind) e
+  value_shows start U16 v e = sized_shows start 2 U16 v (λ fits. record { held = two_short _ (take_each 2 _ (part_bytes start (start + 2))); inside = fits; stands = two_stands start fits; last = λ f. cc }) e

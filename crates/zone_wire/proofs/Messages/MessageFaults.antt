@@ -1,36 +1,14 @@
 -- The faults of messages are those at which the sections of a message stop being read.
-use Rattle.zone_wire.proofs.Common.{AreAt, Bool, Err, Fault, FaultIn, Found, HasCounts, IsMessage, IsNameAt, IsPartAt, IsQuestionAt, IsRecordAt, IsVerdict, List, MessageFault, NameFault, NoFault, None, Ok, Option, Outcome, PartFault, QuestionAt, RecordAt, Result, Sections, ShortMessage, Some, TrailingOctets, Unless, [], after_header, ancount_of, and_from, and_parts, and_then, ap, arcount_of, arith, at_offset, each_from, ending, eq-eqb, eqb-true, fails, false, get_or, header_fault, holds, if◌then◌else◌, inl, inr, inside, le-leb, le-ltb, leb-true, length, ltb-false, named, nat_le, not, not-false, outcome, qdcount_of, question_at, question_by, questions_from, record_at, record_by, records_from, refl, refused, sections_of, subst, suc, sym, to_the_end, true, u16_at, unless_faulted, walk, zero, ℕ, ◌&&◌, ◌<◌, ◌==◌, ◌∙◌, ◌∷◌, ◌≡◌, ◌⊎◌}
-use Rattle.zone_wire.proofs.Conditions.{unless_one, unless_holds}
-use Rattle.zone_wire.proofs.Messages.Sections.{one_part, one_message, each_shows, question_shows, record_shows, response_of, sections_shown, at_offset_shows, part_reads, sixteen, not_other}
-use Rattle.zone_wire.proofs.Names.Walking.{Measures, name_walks, walk_names, walk_measures, walk_ends, walk_is}
+use Rattle.zone_wire.proofs.Common.{AreAt, Bool, Bytes, EitherIs, Err, Fault, FaultIn, Found, HasCounts, IsMessage, IsNameAt, IsPartAt, IsQuestionAt, IsRecordAt, IsResponse, IsVerdict, List, MatchResult, MessageFault, NameFault, NoFault, None, Ok, Option, Outcome, PartFault, QuestionAt, RecordAt, Result, Sections, ShortMessage, Some, TrailingOctets, Unless, [], ancount_of, and_from, and_parts, and_then, ap, arcount_of, arith, at_offset, cond-false, cond_both, each_from, eq-eqb, eqb-false, eqb-true, fails, false, false_from_ne_true, header_fault, holds, if◌then◌else◌, inl, inr, inside, le-leb, le-ltb, leb-true, length, ltb-false, named, nat_le, ne_eqb, not, not-false, outcome, qdcount_of, question_at, question_by, record_at, record_by, refl, refused, sections_of, slice_index, subst, suc, sym, to_the_end, true, u16_at, unless_faulted, walk, zero, ℕ, ◌&&◌, ◌/◌, ◌==◌, ◌∙◌, ◌∷◌, ◌≡◌, ◌≤◌, ◌⊎◌}
+use Rattle.zone_wire.proofs.Conditions.{tells_more, unless_holds, unless_own}
+use Rattle.zone_wire.proofs.Messages.Sections.{not_other, one_message, part_reads, sections_read}
+use Rattle.zone_wire.proofs.Names.Walking.{name_refused, name_refuses, name_walks, walk_names}
 
 pub err_same : {X E : Type 0} (e f : E) → (let r : Result X E = Err e in r) ≡ Err f → e ≡ f
 err_same e f same = cc
 
 pub some_same : {X : Type 0} (x y : X) → Some x ≡ Some y → x ≡ y
 some_same x y e = cc
-
--- a name that has a fault is none that a walk finds
-pub name_refused : (octets : List ℕ) (offset : ℕ) (fault : Fault) (steps : ℕ) → outcome octets (walk octets offset) ≡ refused fault steps → NameFault octets offset fault
-name_refused octets offset fault steps e =
-    let measured : Measures (refused fault steps) (walk octets offset) = subst (λ (o : Outcome). Measures o (walk octets offset)) e (walk_measures octets offset) in
-    (walk octets offset, walk_is octets offset (Some fault) measured.1)
-
-pub name_refuses : (octets : List ℕ) (offset : ℕ) (fault : Fault) → NameFault octets offset fault → (steps : ℕ) × (outcome octets (walk octets offset) ≡ refused fault steps)
-name_refuses octets offset fault is = by (outcome octets (walk octets offset)) refl (walk_measures octets offset)
-  where
-    ends : ending (walk octets offset) ≡ Some fault
-    ends = sym (walk_ends octets offset is.0 (Some fault) is.1)
-
-    by : (o : Outcome) → outcome octets (walk octets offset) ≡ o → Measures o (walk octets offset) → (steps : ℕ) × (outcome octets (walk octets offset) ≡ refused fault steps)
-    by (named found) e m = let h = ends in cc
-    by (refused f steps) e m = (steps, e ∙ ap (λ x. refused x steps) (some_same f fault (sym m.1 ∙ ends)))
-
-pub name_one : (octets : List ℕ) (offset : ℕ) (f g : Fault) → NameFault octets offset f → NameFault octets offset g → f ≡ g
-name_one octets offset f g is too = grind (arith, name_refuses octets offset f is, name_refuses octets offset g too)
-
-pub name_not_both : (octets : List ℕ) (offset : ℕ) (found : Found) (f : Fault) → IsNameAt octets offset found → NameFault octets offset f → ⊥
-name_not_both octets offset found f is fault = grind (arith, name_walks octets offset found is, name_refuses octets offset f fault)
 
 -- a test that fails
 pub fails_test : {X E : Type 0} (test : Bool) (x : X) (fault other : E) → (if test then (let r : Result X E = Ok x in r) else Err fault) ≡ Err other → (test ≡ false) × (fault ≡ other)
@@ -40,160 +18,115 @@ fails_test test x fault other e = grind arith
 pub stops : {X Y E : Type 0} (r : Result X E) (next : X → Result Y E) (e : E) → and_then r next ≡ Err e → (r ≡ Err e) ⊎ ((x : X) × ((r ≡ Ok x) × (next x ≡ Err e)))
 stops r next e h = grind arith
 
--- what begins with a name
-part_faults : {X : Type 0} (octets : List ℕ) (by : Found → X) (end_of : X → ℕ) → ((k : ℕ) → get_or octets k 0 < 256) → (offset : ℕ) (fault : Fault) (Is : ℕ → X → Type 0) → ((x : X) → Is offset x → IsPartAt octets by end_of offset x) → inside octets by end_of (outcome octets (walk octets offset)) ≡ Err fault → PartFault octets Is offset fault
-part_faults {X} octets by end_of each offset fault Is part e = of (outcome octets (walk octets offset)) refl e
-  where
-    of : (o : Outcome) → outcome octets (walk octets offset) ≡ o → inside octets by end_of o ≡ Err fault → PartFault octets Is offset fault
-    of (refused f steps) is h = inl (subst (NameFault octets offset) (err_same f fault h) (name_refused octets offset f steps is))
-    of (named found) is h = inr (sym (fails_test (nat_le (end_of (by found)) (length octets)) (by found) ShortMessage fault h).1, found, walk_names octets offset found each is, λ x at. let read = part_reads offset x (part x at) in cc)
-
-question_faults : (octets : List ℕ) → ((k : ℕ) → get_or octets k 0 < 256) → (offset : ℕ) (fault : Fault) → question_at octets offset ≡ Err fault → PartFault octets (IsQuestionAt octets) offset fault
-question_faults octets each offset fault = part_faults octets (question_by octets) (λ (q : QuestionAt). q.end) each offset fault (IsQuestionAt octets) (λ q is. is)
-
-record_faults : (octets : List ℕ) → ((k : ℕ) → get_or octets k 0 < 256) → (offset : ℕ) (fault : Fault) → record_at octets offset ≡ Err fault → PartFault octets (IsRecordAt octets) offset fault
-record_faults octets each offset fault = part_faults octets (record_by octets offset) (λ (r : RecordAt). r.end) each offset fault (IsRecordAt octets) (λ r is. is)
-
-at_offset_stops : {X : Type 0} (offset : ℕ) (r : Result X Fault) (e : Fault × ℕ) → at_offset offset r ≡ Err e → (r ≡ Err e.0) × (e.1 ≡ offset)
-at_offset_stops offset r e h = grind arith
-
--- parts one after another
-module _ {X : Type 0} (octets : List ℕ) (Is : ℕ → X → Type 0) (end_of : X → ℕ) where
-  abbrev After : Type 1
-  After = ℕ → Fault × ℕ → Type 0
-
-  first_faults : (read : ℕ → Result X Fault) → ((offset : ℕ) (x : X) → read offset ≡ Ok x → Is offset x) → ((offset : ℕ) (fault : Fault) → read offset ≡ Err fault → PartFault octets Is offset fault) → (next : After) (count offset : ℕ) (e : Fault × ℕ) → each_from read end_of count offset ≡ Err e → FaultIn octets Is end_of count next offset e
-  first_faults read shows faults next zero offset e h = cc
-  first_faults read shows faults next (suc count) offset e h =
-      elim (stops (at_offset offset (read offset)) _ e h) [
-        | inl k ↦ (let s = at_offset_stops offset (read offset) e k in inl (faults offset e.0 s.0, s.1))
-        | inr k ↦ inr (
-          k.0,
-          shows offset k.0 (at_offset_shows offset (read offset) k.0 k.1.0),
-          elim (stops (each_from read end_of count (end_of k.0)) _ e k.1.1) [
-            | inl more ↦ first_faults read shows faults next count (end_of k.0) e more
-            | inr last ↦ (let t : ⊥ = cc in absurd t)
-          ],
-        )
-      ]
-
-  -- where all stand, what comes next has the fault
-  fault_after : (next : After) (parts : List X) (count offset past : ℕ) (e : Fault × ℕ) → length parts ≡ count → AreAt Is end_of offset parts past → next past e → FaultIn octets Is end_of count next offset e
-  fault_after next [] count offset past e size stand is = grind arith
-  fault_after next (x ∷ parts) zero offset past e size stand is = absurd (omega arith)
-  fault_after next (x ∷ parts) (suc count) offset past e size stand is = inr (x, stand.0, fault_after next parts count (end_of x) past e (omega arith) stand.1 is)
-
-  module _ (names : (offset : ℕ) (x : X) → Is offset x → (found : Found) × IsNameAt octets offset found) (one : (offset : ℕ) (x y : X) → Is offset x → Is offset y → x ≡ y) where
-    part_not_both : (offset : ℕ) (x : X) (f : Fault) → Is offset x → PartFault octets Is offset f → ⊥
-    part_not_both offset x f is (inl fault) = let n = names offset x is in name_not_both octets offset n.0 f n.1 fault
-    part_not_both offset x f is (inr none) = none.3 x is
-
-    part_one : (offset : ℕ) (f g : Fault) → PartFault octets Is offset f → PartFault octets Is offset g → f ≡ g
-    part_one offset f g (inl is) (inl too) = name_one octets offset f g is too
-    part_one offset f g (inl is) (inr too) = absurd (name_not_both octets offset too.1 f too.2 is)
-    part_one offset f g (inr is) (inl too) = absurd (name_not_both octets offset is.1 g is.2 too)
-    part_one offset f g (inr is) (inr too) = is.0 ∙ sym too.0
-
-    fault_in_one : (next : After) → ((offset : ℕ) (e f : Fault × ℕ) → next offset e → next offset f → e ≡ f) → (count offset : ℕ) (e f : Fault × ℕ) → FaultIn octets Is end_of count next offset e → FaultIn octets Is end_of count next offset f → e ≡ f
-    fault_in_one next go zero offset e f is too = go offset e f is too
-    fault_in_one next go (suc count) offset e f (inl is) (inl too) = let same = part_one offset e.0 f.0 is.0 too.0 in let there = is.1 ∙ sym too.1 in ap (λ (x : Fault). (x, e.1)) same ∙ ap (λ (n : ℕ). (f.0, n)) there
-    fault_in_one next go (suc count) offset e f (inl is) (inr too) = absurd (part_not_both offset too.0 e.0 too.1 is.0)
-    fault_in_one next go (suc count) offset e f (inr is) (inl too) = absurd (part_not_both offset is.0 f.0 is.1 too.0)
-    fault_in_one next go (suc count) offset e f (inr is) (inr too) =
-        fault_in_one next go count (end_of too.0) e f (subst (λ x. FaultIn octets Is end_of count next (end_of x) e) (one offset is.0 too.0 is.1 too.1) is.2) too.2
-
-    fault_past : (next : After) (parts : List X) (count offset past : ℕ) (e : Fault × ℕ) → length parts ≡ count → AreAt Is end_of offset parts past → FaultIn octets Is end_of count next offset e → next past e
-    fault_past next [] count offset past e size stand is = grind arith
-    fault_past next (x ∷ parts) zero offset past e size stand is = absurd (omega arith)
-    fault_past next (x ∷ parts) (suc count) offset past e size stand (inl is) = absurd (part_not_both offset x e.0 stand.0 is.0)
-    fault_past next (x ∷ parts) (suc count) offset past e size stand (inr is) =
-        fault_past next parts count (end_of x) past e (omega arith) stand.1 (subst (λ y. FaultIn octets Is end_of count next (end_of y) e) (one offset is.0 x is.1 stand.0) is.2)
-
--- a test of a header, and those after it
-tested : {Holds : Type 0} {next : Fault × ℕ → Type 0} (octets : List ℕ) (test : Bool) (own : Fault) (rest : Option Fault) (r : Result Sections (Fault × ℕ)) (e : Fault × ℕ) → (Holds → test ≡ false) → (test ≡ false → Holds) → (Holds → unless_faulted rest r ≡ Err e → next e) → unless_faulted (if test then Some own else rest) r ≡ Err e → Unless Holds (own, 0) next e
-tested {Holds} {next} octets true own rest r e off by go h = subst (Unless Holds (own, 0) next) (err_same (own, 0) e h) (fails (λ x. let no = off x in cc))
-tested octets false own rest r e off by go h = let x = by refl in holds x (go x h)
-
-abbrev counted : List ℕ → Bool
-counted octets = nat_le (qdcount_of octets) 1 && u16_at octets 8 == 0
-
-counts_of : (octets : List ℕ) → HasCounts octets → not (counted octets) ≡ false
-counts_of octets h = ap not (and_from (nat_le (qdcount_of octets) 1) (u16_at octets 8 == 0) (le-leb _ _ h.0) (eq-eqb _ _ h.1))
-
-counts_by : (octets : List ℕ) → not (counted octets) ≡ false → HasCounts octets
-counts_by octets e = let p = and_parts (nat_le (qdcount_of octets) 1) (u16_at octets 8 == 0) (not-false _ e) in (leb-true _ _ p.0, eqb-true _ _ p.1)
-
 pub same_by : (a b : ℕ) → not (a == b) ≡ false → a ≡ b
 same_by a b e = eqb-true a b (not-false _ e)
 
-abbrev left_over : List ℕ → ℕ → Fault × ℕ → Type 0
-left_over octets end e = Unless (end ≡ length octets) (TrailingOctets, 0) NoFault e
+-- What decides between values and faults: what it gives is so, if octets are bytes, and a fault that is so is given.
+pub record Judges {X E : Type 0} (Given : Type 0) (r : Result X E) (Is : X → Type 0) (Bad : E → Type 0) : Type 0 where
+  pub tells : Given → MatchResult r Is Bad
+  pub refuses : (e : E) → Bad e → r ≡ Err e
 
-abbrev additional_fault : List ℕ → ℕ → Fault × ℕ → Type 0
-additional_fault octets = FaultIn octets (IsRecordAt octets) (λ r. r.end) (arcount_of octets) (left_over octets)
+pub either : {X E : Type 0} (Is : X → Type 0) (Bad : E → Type 0) (r : Result X E) → MatchResult r Is Bad → EitherIs Is Bad
+either Is Bad (Ok x) is = inl (x, is)
+either Is Bad (Err e) bad = inr (e, bad)
 
-abbrev answers_fault : List ℕ → ℕ → Fault × ℕ → Type 0
-answers_fault octets = FaultIn octets (IsRecordAt octets) (λ r. r.end) (ancount_of octets) (additional_fault octets)
+-- what begins with a name
+part_judges : {X : Type 0} (octets : List ℕ) (by : Found → X) (end_of : X → ℕ) (offset : ℕ) → Judges (Bytes octets) (inside octets by end_of (outcome octets (walk octets offset))) (IsPartAt octets by end_of offset) (PartFault octets (IsPartAt octets by end_of) offset)
+part_judges {X} octets by end_of offset = record { tells = λ each. told each (outcome octets (walk octets offset)) refl; refuses = refused_for }
+  where
+    over : (found : Found) → IsNameAt octets offset found → nat_le (end_of (by found)) (length octets) ≡ false → inside octets by end_of (outcome octets (walk octets offset)) ≡ Err ShortMessage
+    over found name late = ap (inside octets by end_of) (name_walks octets offset found name) ∙ cond-false _ _ _ late
 
-abbrev questions_fault : List ℕ → Fault × ℕ → Type 0
-questions_fault octets = FaultIn octets (IsQuestionAt octets) (λ q. q.end) (qdcount_of octets) (answers_fault octets) 12
+    fits : (found : Found) → IsNameAt octets offset found → nat_le (end_of (by found)) (length octets) ≡ true → IsPartAt octets by end_of offset (by found)
+    fits found name here = record { found = found; name = name; stands = refl; inside = leb-true _ _ here }
 
-module _ (octets : List ℕ) (each : (k : ℕ) → get_or octets k 0 < 256) where
-  record_run : (next : ℕ → Fault × ℕ → Type 0) (count offset : ℕ) (e : Fault × ℕ) (k : List RecordAt × ℕ → Result Sections (Fault × ℕ)) → ((run : List RecordAt × ℕ) → k run ≡ Err e → next run.1 e) → and_then (records_from octets count offset) k ≡ Err e → FaultIn octets (IsRecordAt octets) (λ r. r.end) count next offset e
-  record_run next count offset e k go h = elim (stops (records_from octets count offset) k e h) [
-    | inl x ↦ first_faults octets (IsRecordAt octets) (λ r. r.end) (record_at octets) (record_shows octets each) (record_faults octets each) next count offset e x
-    | inr x ↦ (let s = each_shows (record_at octets) (λ (r : RecordAt). r.end) (IsRecordAt octets) (record_shows octets each) count offset x.0 x.1.0 in
-        fault_after octets (IsRecordAt octets) (λ r. r.end) next x.0.0 count offset x.0.1 e s.0 s.1 (go x.0 x.1.1))
-  ]
+    told : Bytes octets → (o : Outcome) → outcome octets (walk octets offset) ≡ o → MatchResult (inside octets by end_of o) (IsPartAt octets by end_of offset) (PartFault octets (IsPartAt octets by end_of) offset)
+    told each (refused fault steps) is = inl (name_refused octets offset fault steps is)
+    told each (named found) is =
+        let name = walk_names octets offset found each is in
+        cond_both _ _ _ (λ r. MatchResult r (IsPartAt octets by end_of offset) (PartFault octets (IsPartAt octets by end_of) offset)) (fits found name)
+        (λ late. inr (refl, found, name, λ x at. let read = part_reads offset x at in let short = over found name late in cc))
 
-  end_fault : (end : ℕ) (s : Sections) (e : Fault × ℕ) → to_the_end octets end s ≡ Err e → left_over octets end e
-  end_fault end s e h = grind (arith, fails_test, true, eq-eqb, fails)
+    refused_for : (fault : Fault) → PartFault octets (IsPartAt octets by end_of) offset fault → inside octets by end_of (outcome octets (walk octets offset)) ≡ Err fault
+    refused_for fault (inl bad) = ap (inside octets by end_of) (name_refuses octets offset fault bad).1
+    refused_for fault (inr bad) = over bad.1 bad.2 (false_from_ne_true _ (λ here. bad.3 (by bad.1) (fits bad.1 bad.2 here))) ∙ ap Err (sym bad.0)
 
-  after_faults : (e : Fault × ℕ) → after_header octets ≡ Err e → questions_fault octets e
-  after_faults e h = elim (stops (questions_from octets (qdcount_of octets) 12) _ e h) [
-    | inl x ↦ first_faults octets (IsQuestionAt octets) (λ q. q.end) (question_at octets) (question_shows octets each) (question_faults octets each) (answers_fault octets) (qdcount_of octets) 12 e x
-    | inr x ↦ (let s = each_shows (question_at octets) (λ (q : QuestionAt). q.end) (IsQuestionAt octets) (question_shows octets each) (qdcount_of octets) 12 x.0 x.1.0 in
-        fault_after octets (IsQuestionAt octets) (λ q. q.end) (answers_fault octets) x.0.0 (qdcount_of octets) 12 x.0.1 e s.0 s.1
-        (record_run (additional_fault octets) (ancount_of octets) x.0.1 e _ (λ a. record_run (left_over octets) (arcount_of octets) a.1 e _ (λ d. end_fault d.1 _ e)) x.1.1))
-  ]
+-- parts one after another
+module _ {X Y : Type 0} (octets : List ℕ) (read : ℕ → Result X Fault) (end_of : X → ℕ) (Is : ℕ → X → Type 0) (reads : (offset : ℕ) (x : X) → Is offset x → read offset ≡ Ok x) (part : (offset : ℕ) → Judges (Bytes octets) (read offset) (Is offset) (PartFault octets Is offset)) (IsAll : Y → Type 0) (next : ℕ → Fault × ℕ → Type 0) where
+  regroup : (x : X) (k : List X × ℕ → Result Y (Fault × ℕ)) (r : Result (List X × ℕ) (Fault × ℕ)) → and_then r (λ run. k (x ∷ run.0, run.1)) ≡ and_then (and_then r (λ others. Ok (x ∷ others.0, others.1))) k
+  regroup x k (Ok run) = refl
+  regroup x k (Err e) = refl
 
-  -- where the sections of a message stop being read, it has its first fault
-  pub sections_fault : (e : Fault × ℕ) → sections_of octets ≡ Err e → MessageFault octets e.0 e.1
-  unfolding sections_of header_fault
-  sections_fault e h =
-      tested octets _ _ _ _ e (λ x. le-ltb _ _ x) (λ t. ltb-false _ _ t)
-      (λ _. tested octets _ _ _ _ e (λ x. not_other _ _ (sixteen octets x)) (λ t. response_of octets (same_by _ _ t))
-      (λ _. tested octets _ _ _ _ e (not_other _ _) (same_by _ _)
-      (λ _. tested octets _ _ _ _ e (not_other _ _) (same_by _ _)
-      (λ _. tested octets _ _ None _ e (counts_of octets) (counts_by octets) (λ _. after_faults e))))) h
+  each_judges : (count offset : ℕ) (k : List X × ℕ → Result Y (Fault × ℕ)) → ((xs : List X) (past : ℕ) → length xs ≡ count → AreAt Is end_of offset xs past → Judges (Bytes octets) (k (xs, past)) IsAll (next past)) → Judges (Bytes octets) (and_then (each_from read end_of count offset) k) IsAll (FaultIn octets Is end_of count next offset)
+  each_judges zero offset k go = go [] offset refl refl
+  each_judges (suc count) offset k go =
+      let more : (x : X) → Is offset x → Judges (Bytes octets) (and_then (each_from read end_of count (end_of x)) (λ run. k (x ∷ run.0, run.1))) IsAll (FaultIn octets Is end_of count next (end_of x)) = λ x is. each_judges count (end_of x) (λ run. k (x ∷ run.0, run.1)) (λ xs past size are. go (x ∷ xs) past (ap suc size) (is, are)) in
+      record { tells = λ each. told (read offset) ((part offset).tells each) (λ x is. (more x is).tells each); refuses = refused_for (λ x is. (more x is).refuses) }
+    where
+      told : (r : Result X Fault) → MatchResult r (Is offset) (PartFault octets Is offset) → ((x : X) → Is offset x → MatchResult (and_then (each_from read end_of count (end_of x)) (λ run. k (x ∷ run.0, run.1))) IsAll (FaultIn octets Is end_of count next (end_of x))) → MatchResult (and_then (and_then (at_offset offset r) (λ first. and_then (each_from read end_of count (end_of first)) (λ others. Ok (first ∷ others.0, others.1)))) k) IsAll (FaultIn octets Is end_of (suc count) next offset)
+      told (Ok x) is more = subst (λ r. MatchResult r IsAll (FaultIn octets Is end_of (suc count) next offset)) (regroup x k (each_from read end_of count (end_of x))) (tells_more IsAll (FaultIn octets Is end_of count next (end_of x)) _ _ (λ e bad. inr (x, is, bad)) (more x is))
+      told (Err fault) bad more = inl (bad, refl)
 
--- a message has one first fault
+      refused_for : ((x : X) → Is offset x → (e : Fault × ℕ) → FaultIn octets Is end_of count next (end_of x) e → and_then (each_from read end_of count (end_of x)) (λ run. k (x ∷ run.0, run.1)) ≡ Err e) → (e : Fault × ℕ) → FaultIn octets Is end_of (suc count) next offset e → and_then (each_from read end_of (suc count) offset) k ≡ Err e
+      refused_for more e (inl bad) = grind (arith, (part offset).refuses e.0 bad.0)
+      refused_for more e (inr bad) = cc (reads offset bad.0 bad.1, more bad.0 bad.1 e bad.2, regroup bad.0 k (each_from read end_of count (end_of bad.0)))
+
+-- a test of a header, and those after it
+test_judges : {Given Holds : Type 0} {IsAll : Sections → Type 0} {next : Fault × ℕ → Type 0} (test : Bool) (own : Fault) (rest : Option Fault) (r : Result Sections (Fault × ℕ)) → (Holds → test ≡ false) → (test ≡ false → Holds) → (Holds → Judges Given (unless_faulted rest r) IsAll next) → Judges Given (unless_faulted (if test then Some own else rest) r) IsAll (Unless Holds (own, 0) next)
+test_judges true own rest r off by go = record { tells = λ given. fails (λ x. let no = off x in cc); refuses = λ e bad. ap Err (unless_own (λ x. let no = off x in cc) bad) }
+test_judges {Holds = Holds} {IsAll = IsAll} {next = next} false own rest r off by go = record { tells = λ given. tells_more IsAll next (Unless Holds (own, 0) next) (unless_faulted rest r) (λ e bad. holds (by refl) bad) ((go (by refl)).tells given); refuses = λ e bad. (go (by refl)).refuses e (unless_holds (by refl) bad) }
+
+-- a response to a query, by the first five bits of its third octet
+sixteen : (octets : List ℕ) → IsResponse octets → not (slice_index octets 2 / 8 == 16) ≡ false
+sixteen octets is = not_other _ _ (omega (arith, is.0, is.1))
+
+response_of : (octets : List ℕ) → not (slice_index octets 2 / 8 == 16) ≡ false → IsResponse octets
+response_of octets e = let same = same_by _ _ e in (omega (arith, same), omega (arith, same))
+
+counts_of : (octets : List ℕ) → HasCounts octets → not (nat_le (qdcount_of octets) 1 && u16_at octets 8 == 0) ≡ false
+counts_of octets h = ap not (and_from (nat_le (qdcount_of octets) 1) (u16_at octets 8 == 0) (le-leb _ _ h.0) (eq-eqb _ _ h.1))
+
+counts_by : (octets : List ℕ) → not (nat_le (qdcount_of octets) 1 && u16_at octets 8 == 0) ≡ false → HasCounts octets
+counts_by octets e = let p = and_parts (nat_le (qdcount_of octets) 1) (u16_at octets 8 == 0) (not-false _ e) in (leb-true _ _ p.0, eqb-true _ _ p.1)
+
 module _ (octets : List ℕ) where
-  part_named : {X : Type 0} {by : Found → X} {end_of : X → ℕ} (offset : ℕ) (x : X) → IsPartAt octets by end_of offset x → (found : Found) × IsNameAt octets offset found
-  part_named offset x is = (is.found, is.name)
+  end_judges : (end : ℕ) (s : Sections) → (end ≡ length octets → IsMessage octets s) → Judges (Bytes octets) (to_the_end octets end s) (IsMessage octets) (Unless (end ≡ length octets) (TrailingOctets, 0) NoFault)
+  end_judges end s is = record { tells = λ each. grind (arith, eqb-true, eqb-false, fails); refuses = λ e bad. grind (arith, ne_eqb) }
 
-  records_one : (next : ℕ → Fault × ℕ → Type 0) → ((offset : ℕ) (e f : Fault × ℕ) → next offset e → next offset f → e ≡ f) → (count offset : ℕ) (e f : Fault × ℕ) → FaultIn octets (IsRecordAt octets) (λ r. r.end) count next offset e → FaultIn octets (IsRecordAt octets) (λ r. r.end) count next offset f → e ≡ f
-  records_one = fault_in_one octets (IsRecordAt octets) (λ r. r.end) (λ o x. part_named o x) (λ o x y. one_part o x y)
+  -- octets are read as the sections of a message, and refused for its first fault
+  pub message_judged : Judges (Bytes octets) (sections_of octets) (IsMessage octets) (λ (e : Fault × ℕ). MessageFault octets e.0 e.1)
+  unfolding sections_of header_fault
+  message_judged =
+      test_judges _ _ _ _ (le-ltb _ _) (ltb-false _ _) (λ twelve.
+      test_judges _ _ _ _ (sixteen octets) (response_of octets) (λ response.
+      test_judges _ _ _ _ (not_other _ _) (same_by _ _) (λ whole.
+      test_judges _ _ _ _ (not_other _ _) (same_by _ _) (λ no_error.
+      test_judges _ _ None _ (counts_of octets) (counts_by octets) (λ counts.
+      each_judges octets (question_at octets) (λ q. q.end) (IsQuestionAt octets) part_reads (part_judges octets (question_by octets) (λ (q : QuestionAt). q.end)) (IsMessage octets) _ (qdcount_of octets) 12 _ (λ questions past_questions question_count questions_at.
+      each_judges octets (record_at octets) (λ r. r.end) (IsRecordAt octets) (λ o x. part_reads o x) (λ o. part_judges octets (record_by octets o) (λ (r : RecordAt). r.end) o) (IsMessage octets) _ (ancount_of octets) past_questions _ (λ answers past_answers answer_count answers_at.
+      each_judges octets (record_at octets) (λ r. r.end) (IsRecordAt octets) (λ o x. part_reads o x) (λ o. part_judges octets (record_by octets o) (λ (r : RecordAt). r.end) o) (IsMessage octets) _ (arcount_of octets) past_answers _ (λ additional end additional_count additional_at.
+      end_judges end _ (λ same. record {
+        header = record { twelve = twelve; response = response; whole = whole; no_error = no_error; counts = counts };
+        id = refl;
+        question_count = question_count;
+        answer_count = answer_count;
+        additional_count = additional_count;
+        past_questions = past_questions;
+        past_answers = past_answers;
+        questions = questions_at;
+        answers = answers_at;
+        additional = subst (λ n. AreAt (IsRecordAt octets) (λ r. r.end) past_answers additional n) same additional_at;
+      })))))))))
 
-  records_past : (next : ℕ → Fault × ℕ → Type 0) (parts : List RecordAt) (count offset past : ℕ) (e : Fault × ℕ) → length parts ≡ count → AreAt (IsRecordAt octets) (λ r. r.end) offset parts past → FaultIn octets (IsRecordAt octets) (λ r. r.end) count next offset e → next past e
-  records_past = fault_past octets (IsRecordAt octets) (λ r. r.end) (λ o x. part_named o x) (λ o x y. one_part o x y)
+  pub sections_fault : (e : Fault × ℕ) → Bytes octets → sections_of octets ≡ Err e → MessageFault octets e.0 e.1
+  sections_fault e each is = rw is at (message_judged.tells each)
 
   pub one_fault : (e f : Fault × ℕ) → MessageFault octets e.0 e.1 → MessageFault octets f.0 f.1 → e ≡ f
-  one_fault e f = unless_one (λ a b. unless_one (λ a b. unless_one (λ a b. unless_one (λ a b. unless_one
-      (fault_in_one octets (IsQuestionAt octets) (λ q. q.end) part_named one_part (answers_fault octets)
-      (records_one (additional_fault octets) (records_one (left_over octets) (λ offset a b. unless_one (λ x y no. absurd no)) (arcount_of octets)) (ancount_of octets)) (qdcount_of octets) 12)))))
+  one_fault e f is too = let refused = message_judged.refuses e is in let also = message_judged.refuses f too in cc
 
   pub never_both : (s : Sections) (e : Fault × ℕ) → IsMessage octets s → MessageFault octets e.0 e.1 → ⊥
-  never_both s e is fault =
-      let h = is.header in
-      let questions = unless_holds h.counts (unless_holds h.no_error (unless_holds h.whole (unless_holds h.response (unless_holds h.twelve fault)))) in
-      let answers = fault_past octets (IsQuestionAt octets) (λ q. q.end) part_named one_part (answers_fault octets) s.questions (qdcount_of octets) 12 is.past_questions e is.question_count is.questions questions in
-      grind (arith, unless_holds, fault_past, part_named, one_part, records_past)
+  never_both s e is bad = let read = sections_read octets s is in let refused = message_judged.refuses e bad in cc
 
   -- octets are a message, or have a first fault
-  pub message_verdict : ((k : ℕ) → get_or octets k 0 < 256) → IsVerdict (IsMessage octets) (λ (e : Fault × ℕ). MessageFault octets e.0 e.1)
-  message_verdict each = record { one_of = by (sections_of octets) refl; never_both = never_both; one_value = one_message octets; one_fault = one_fault }
-    where
-      by : (r : Result Sections (Fault × ℕ)) → sections_of octets ≡ r → ((s : Sections) × IsMessage octets s) ⊎ ((e : Fault × ℕ) × MessageFault octets e.0 e.1)
-      by (Ok s) e = inl (s, sections_shown octets s each e)
-      by (Err f) e = inr (f, sections_fault octets each f e)
+  pub message_verdict : Bytes octets → IsVerdict (IsMessage octets) (λ (e : Fault × ℕ). MessageFault octets e.0 e.1)
+  message_verdict each = record { one_of = either (IsMessage octets) _ (sections_of octets) (message_judged.tells each); never_both = never_both; one_value = one_message octets; one_fault = one_fault }

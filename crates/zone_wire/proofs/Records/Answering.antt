@@ -1,12 +1,12 @@
 -- An answer of a message is read as the record that it states, in the order of a transfer, or has its first fault.
-use Rattle.zone_wire.proofs.Common.{eqb-false, ne_eqb, AllByRecursion, AsksFor, Bool, ComesAfter, IsClass, List, Placed, QuestionAt, Record, [], and_from, arith, bytes_decides, eq-eqb, false, is_no_class, list_any, nat_eq, or_from, pointwise_decides, refl, rules, same_name, same_record, true, ℕ, ⊤, ◌++◌, ◌==◌, ◌∷◌, ◌≡◌, ◌≢◌, AnswerStates, BadClass, CompressibleType, Fault, IsRecord, MetaType, None, Ok, RecordAt, Result, and_parts, answer_record, compressible, data_at, eqb-true, get_or, is_meta, length, or_parts, order_fault, own_record, subst, ttl_of, ◌&&◌, ◌<◌, ◌≤◌, AgreeWith, Bytes, Err, IsRecordAt, Option, OrderFault, OwnFault, Some, ZoneAsked, agrees, and_cases, fails, if◌then◌else◌, not, not-false, zone_of, AnswerFault, AnswersGive, AreRecordsAt, Message, answers_of, before_others, inl, inr, no_more, states}
-use Rattle.zone_wire.proofs.Fields.ReadFields.{data_shown}
-use Rattle.zone_wire.proofs.Messages.Sections.{ok_same, leads, passes_on, not_other}
+use Rattle.zone_wire.proofs.Common.{eqb-false, ne_eqb, AllByRecursion, AsksFor, Bool, ComesAfter, IsClass, List, Placed, QuestionAt, Record, [], and_from, arith, bytes_decides, eq-eqb, false, is_no_class, list_any, nat_eq, or_from, pointwise_decides, refl, rules, same_name, same_record, true, ℕ, ⊤, ◌++◌, ◌==◌, ◌∷◌, ◌≡◌, ◌≢◌, AnswerStates, AreFieldsAt, AreValuesAt, BadClass, CompressibleType, DataFault, Fault, Field, FieldValue, HoldEach, IsData, IsDataAt, IsKind, IsName, IsReadable, IsRecord, MatchOption, MatchResult, MetaType, None, Ok, RecordAt, Result, and_parts, and_then, answer_record, ap, bytes_each, common_steps, compressible, data_at, eqb-true, is_meta, layout, length, octets_between, octets_of, or_parts, order_fault, own_record, subst, sym, ttl_of, ◌&&◌, ◌<◌, ◌≤◌, AgreeWith, Bytes, Err, IsRecordAt, Option, OrderFault, OwnFault, Some, ZoneAsked, agrees, and_cases, fails, if◌then◌else◌, not, not-false, zone_of, AnswerFault, AnswersGive, AreRecordsAt, Message, answers_of, before_others, inl, inr, no_more, states}
+use Rattle.zone_wire.proofs.Messages.Sections.{not_other}
 use Rattle.zone_rdata.proofs.Octets.Layouts.{held_data, stringless_short}
-use Rattle.zone_wire.proofs.Fields.DataFaults.{data_faults}
-use Rattle.zone_wire.proofs.Conditions.{option_unless, result_unless}
-use Rattle.zone_wire.proofs.Messages.MessageFaults.{some_same, stops, same_by}
-use Rattle.zone_wire.proofs.Records.ReadRecords.{record_fits}
+use Rattle.zone_wire.proofs.Fields.DataFaults.{data_told}
+use Rattle.zone_wire.proofs.Conditions.{option_unless, told_test}
+use Rattle.zone_wire.proofs.Messages.MessageFaults.{some_same, same_by}
+use Rattle.zone_wire.proofs.Names.Walking.{take_each, drop_each}
+use Rattle.zone_wire.proofs.Records.ReadRecords.{IsRow, each_row, part_short}
 use Rattle.zone_wire.specs.AnswerFault.{refused}
 
 pub holds_data : (n : ℕ) → IsClass n → is_no_class n ≡ false
@@ -47,17 +47,6 @@ pub each_other : (kind : ℕ) (kinds : List ℕ) → list_any (nat_eq kind) kind
 each_other kind [] e = tt
 each_other kind (k ∷ kinds) e = let parts = or_parts (nat_eq kind k) (list_any (nat_eq kind) kinds) e in (eqb-false kind k parts.0, each_other kind kinds parts.1)
 
-pub record_shown : (octets : List ℕ) (a : RecordAt) (r : Record) → ((k : ℕ) → get_or octets k 0 < 256) → a.end ≤ length octets → own_record octets a ≡ Ok r → IsRecord r → AnswerStates octets a r
-unfolding own_record
-record_shown octets a r each within e =
-    let class = passes_on (is_no_class a.class) BadClass _ r e in
-    let kind = passes_on (is_meta a.kind) MetaType _ r class.1 in
-    let read = passes_on (list_any (nat_eq a.kind) compressible) CompressibleType _ r kind.1 in
-    let states = λ (canonical : List ℕ). let x : Result Record Fault = Ok (record { owner = a.owner; class = a.class; kind = a.kind; ttl = ttl_of a.ttl; octets = canonical }) in x in
-    let l = leads (data_at octets a) states r read.1 in
-    let stated : IsRecord (record { owner = a.owner; class = a.class; kind = a.kind; ttl = ttl_of a.ttl; octets = l.first }) → AnswerStates octets a (record { owner = a.owner; class = a.class; kind = a.kind; ttl = ttl_of a.ttl; octets = l.first }) = λ fits. record { owner = refl; class = refl; kind = refl; ttl = refl; rdata = data_shown octets a l.first each within l.is; fits = fits; readable = each_other a.kind compressible read.0 } in
-    subst (λ (x : Record). IsRecord x → AnswerStates octets a x) (ok_same _ _ l.goes_on) stated
-
 -- records that agree in each part
 pub equal_parts : (r t : Record) → r.owner ≡ t.owner → r.class ≡ t.class → r.kind ≡ t.kind → r.ttl ≡ t.ttl → r.octets ≡ t.octets → r ≡ t
 equal_parts r t owner class kind ttl octets = grind arith
@@ -72,10 +61,6 @@ records_equal r s e = search (rules, and_parts, equal_parts, names_equal, eqb-tr
 pub agree_parts : (name other : List (List ℕ)) (class last : ℕ) → (same_name name other && class == last) ≡ true → (name ≡ other) × (class ≡ last)
 agree_parts name other class last e = let p = and_parts (same_name name other) (class == last) e in (names_equal name other p.0, eqb-true _ _ p.1)
 
-pub answer_shown : (octets : List ℕ) (questions : List QuestionAt) (before : List Placed) (a : RecordAt) (r : Record) → answer_record octets questions before a ≡ Ok r → (own_record octets a ≡ Ok r) × (order_fault questions before r ≡ None)
-unfolding answer_record
-answer_shown octets questions before a r e = grind arith
-
 -- ---- the faults of answers are those at which their records stop being read
 -- class and type take two octets
 pub record_words : (octets : List ℕ) (offset : ℕ) (a : RecordAt) → Bytes octets → IsRecordAt octets offset a → (a.class < 65536) × (a.kind < 65536)
@@ -84,18 +69,41 @@ record_words octets offset a each is = grind arith
 class_by : (n : ℕ) → n < 65536 → is_no_class n ≡ false → IsClass n
 class_by n few e = grind arith
 
--- an answer that stands in octets
 module _ (octets : List ℕ) (each : Bytes octets) (few : length octets ≤ 65535) where
-  -- by itself it is refused with its first fault
-  pub own_faults : (offset : ℕ) (a : RecordAt) (fault : Fault) → IsRecordAt octets offset a → own_record octets a ≡ Err fault → OwnFault octets a fault
-  unfolding own_record
-  own_faults offset a fault at e =
-      let words = record_words octets offset a each at in
-      search (rules, result_unless, holds_data, class_by, none_of, each_other, stops, data_faults)
+  values_short : (class kind start end : ℕ) (fields : List Field) (values : List FieldValue) → layout class kind ≡ Some fields → HoldEach fields values → AreValuesAt octets start end values → IsRow (Some fields) → length (octets_of values) ≤ 65535
+  values_short class kind start end fields values row held stand given = grind (arith, common_steps, stringless_short)
 
-  -- by itself it states the record as which it is read
-  pub own_states : (offset : ℕ) (a : RecordAt) (r : Record) → IsRecordAt octets offset a → own_record octets a ≡ Ok r → AnswerStates octets a r
-  own_states offset a r at e = record_shown octets a r each at.inside e (record_fits held_data stringless_short octets each few offset a r at e)
+  data_by : (class kind start end : ℕ) (canonical : List ℕ) (row : Option (List Field)) → layout class kind ≡ row → MatchOption row (canonical ≡ octets_between octets start end) (λ fields. AreFieldsAt octets start end fields canonical) → IsData class kind canonical
+  data_by class kind start end canonical None row is = grind (arith, common_steps, part_short, bytes_each, take_each, drop_each)
+  data_by class kind start end canonical (Some fields) row is =
+      subst (IsData class kind) (sym is.whole)
+      (held_data class kind fields is.values row is.held (values_short class kind start end fields is.values row is.held is.stand (subst IsRow row (each_row class kind))))
+
+  -- an answer that stands in octets states the record as which it is read by itself, and is refused with its first fault
+  pub own_told : (offset : ℕ) (a : RecordAt) → IsRecordAt octets offset a → MatchResult (own_record octets a) (AnswerStates octets a) (OwnFault octets a)
+  unfolding own_record
+  own_told offset a at =
+      let words = record_words octets offset a each at in
+      told_test (AnswerStates octets a) _ (is_no_class a.class) BadClass _ (holds_data a.class) (class_by a.class words.0) (λ class.
+      told_test (AnswerStates octets a) _ (is_meta a.kind) MetaType _ (λ k. k.stored) (λ stored. record { short = words.1; stored = stored }) (λ kind.
+      told_test (AnswerStates octets a) (DataFault octets a) (list_any (nat_eq a.kind) compressible) CompressibleType _ (none_of a.kind compressible) (each_other a.kind compressible) (λ readable.
+      by class kind readable (data_at octets a) (data_told octets a each at.inside))))
+    where
+      by : IsClass a.class → IsKind a.kind → IsReadable a.kind → (r : Result (List ℕ) Fault) → MatchResult r (IsDataAt octets a) (DataFault octets a) → MatchResult (and_then r (λ canonical. let x : Result Record Fault = Ok (record { owner = a.owner; class = a.class; kind = a.kind; ttl = ttl_of a.ttl; octets = canonical }) in x)) (AnswerStates octets a) (DataFault octets a)
+      by class kind readable (Ok canonical) is = record {
+        owner = refl;
+        class = refl;
+        kind = refl;
+        ttl = refl;
+        rdata = is;
+        readable = readable;
+        fits = record {
+          owner = subst IsName (sym (ap (λ (x : RecordAt). x.owner) at.stands)) at.name.name;
+          ttl = grind arith;
+          rdata = record { class = class; kind = kind; octets = data_by a.class a.kind a.start a.end canonical (layout a.class a.kind) refl is };
+        };
+      }
+      by class kind readable (Err fault) bad = bad
 
 pub agrees_by : (zone : Option ZoneAsked) (name : List (List ℕ)) (class : ℕ) → agrees zone name class ≡ true → AgreeWith zone name class
 agrees_by None name class e = tt
@@ -141,29 +149,26 @@ pub each_stands : (octets : List ℕ) (offset end : ℕ) (answers : List RecordA
 each_stands octets offset end [] are = tt
 each_stands octets offset end (a ∷ answers) are = ((offset, are.0), each_stands octets a.end end answers are.1)
 
-ordered : (r : Record) (o : Option Fault) (fault : Fault) → (let x : Result Record Fault = elim o [ Some f ↦ Err f | None ↦ Ok r ] in x) ≡ Err fault → o ≡ Some fault
-ordered r o fault e = grind arith
-
 module _ (octets : List ℕ) (each : Bytes octets) (few : length octets ≤ 65535) (questions : List QuestionAt) where
-  answer_faults : (before : List Placed) (a : RecordAt) (fault : Fault) → IsInMessage octets a → answer_record octets questions before a ≡ Err fault → AnswerFault octets questions before a fault
+  answer_told : (before : List Placed) (a : RecordAt) → IsInMessage octets a → MatchResult (answer_record octets questions before a) (λ r. AnswerStates octets a r × ComesAfter questions before r) (AnswerFault octets questions before a)
   unfolding answer_record
-  answer_faults before a fault at e = elim (stops (own_record octets a) _ fault e) [
-    | inl h ↦ inl (own_faults octets each few at.0 a fault at.1 h)
-    | inr h ↦ inr (h.0, own_states octets each few at.0 a h.0 at.1 h.1.0, order_faults questions before h.0 fault (ordered h.0 (order_fault questions before h.0) fault h.1.1))
-  ]
+  answer_told before a at = by (own_record octets a) (own_told octets each few at.0 a at.1)
+    where
+      judged : (r : Record) → AnswerStates octets a r → (o : Option Fault) → order_fault questions before r ≡ o → MatchResult (let x : Result Record Fault = elim o [ Some fault ↦ Err fault | None ↦ Ok r ] in x) (λ r. AnswerStates octets a r × ComesAfter questions before r) (AnswerFault octets questions before a)
+      judged r is None e = (is, order_stands questions before r e)
+      judged r is (Some fault) e = inr (r, is, order_faults questions before r fault e)
 
-  answer_states : (before : List Placed) (a : RecordAt) (r : Record) → IsInMessage octets a → answer_record octets questions before a ≡ Ok r → AnswerStates octets a r × ComesAfter questions before r
-  answer_states before a r at e =
-      let shown = answer_shown octets questions before a r e in
-      (own_states octets each few at.0 a r at.1 shown.0, order_stands questions before r shown.1)
+      by : (r : Result Record Fault) → MatchResult r (AnswerStates octets a) (OwnFault octets a) → MatchResult (and_then r (λ r. let x : Result Record Fault = elim (order_fault questions before r) [ Some fault ↦ Err fault | None ↦ Ok r ] in x)) (λ r. AnswerStates octets a r × ComesAfter questions before r) (AnswerFault octets questions before a)
+      by (Ok r) is = judged r is (order_fault questions before r) refl
+      by (Err fault) bad = inl bad
 
   -- the records that are read are given
   pub answers_give : (number : ℕ) (answers : List RecordAt) (before : List Placed) → AllByRecursion (IsInMessage octets) answers → let x = answers_of number octets questions before answers in AnswersGive number octets questions before answers x.placed x.fault
   answers_give number [] before at = no_more
-  answers_give number (a ∷ answers) before at = by (answer_record octets questions before a) refl (λ p. answers_give number answers (before ++ p ∷ []) at.1)
+  answers_give number (a ∷ answers) before at = by (answer_record octets questions before a) (answer_told before a at.0) (λ p. answers_give number answers (before ++ p ∷ []) at.1)
     where
-      by : (r : Result Record Fault) → answer_record octets questions before a ≡ r → ((p : Placed) → let x = answers_of number octets questions (before ++ p ∷ []) answers in AnswersGive number octets questions (before ++ p ∷ []) answers x.placed x.fault) → let x = before_others number a.offset r (λ p. answers_of number octets questions (before ++ p ∷ []) answers) in AnswersGive number octets questions before (a ∷ answers) x.placed x.fault
-      by (Err fault) e others = refused (answer_faults before a fault at.0 e)
-      by (Ok r) e others = let s = answer_states before a r at.0 e in states s.0 refl s.1 (others (record { rr = r; place = Message number a.offset }))
+      by : (r : Result Record Fault) → MatchResult r (λ r. AnswerStates octets a r × ComesAfter questions before r) (AnswerFault octets questions before a) → ((p : Placed) → let x = answers_of number octets questions (before ++ p ∷ []) answers in AnswersGive number octets questions (before ++ p ∷ []) answers x.placed x.fault) → let x = before_others number a.offset r (λ p. answers_of number octets questions (before ++ p ∷ []) answers) in AnswersGive number octets questions before (a ∷ answers) x.placed x.fault
+      by (Err fault) bad others = refused bad
+      by (Ok r) is others = states is.0 refl is.1 (others (record { rr = r; place = Message number a.offset }))
 
 pub ruleset order_verdicts = (order_faults, order_stands)

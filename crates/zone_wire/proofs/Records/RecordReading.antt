@@ -1,8 +1,7 @@
 -- An answer is read as the record that it states, or has its first fault.
 use Rattle.zone_wire.proofs.Common.{AnswerStates, Built, Bytes, Data, DataFault, Err, Failing, Fault, IfErr, IfFault, IfOk, IsClass, IsDataAt, IsErr, IsKind, IsRead, IsReadable, IsRecord, IsRecordAt, List, Ok, OwnFault, RawRecord, Record, RecordAt, Result, data_at, holds, octets_of, refl, subst, ttl_of, ℕ, ◌≡◌, arith}
 use Rattle.zone_rdata.specs.declared.fault.Failing.TheVariants as failings
-use Rattle.zone_wire.proofs.Fields.DataFaults.{data_faults, own_not_both, record_unique}
-use Rattle.zone_wire.proofs.Fields.ReadFields.{data_shown}
+use Rattle.zone_wire.proofs.Fields.DataFaults.{data_told, own_not_both, record_unique}
 
 -- ---- one record, or one fault
 abbrev pub IsOnlyAnswer : List ℕ → RecordAt → Result Record Failing → Type 0
@@ -26,10 +25,10 @@ pub own_data : (octets : List ℕ) (a : RecordAt) (fault : Fault) → IsClass a.
 own_data octets a fault class kind readable is = holds class (holds kind (holds readable is))
 
 pub data_is_refused : (raw now : RawRecord) → raw ≡ now → (offset : ℕ) → Bytes raw.octets → IsRecordAt raw.octets offset raw.at → (fault : Fault) → data_at now.octets now.at ≡ Err fault → DataFault now.octets now.at fault
-data_is_refused raw now view offset each at fault e = grind (arith, data_faults)
+data_is_refused raw now view offset each at fault e = grind (arith, data_told now.octets now.at)
 
 pub data_is_read : (raw now : RawRecord) → raw ≡ now → (offset : ℕ) → Bytes raw.octets → IsRecordAt raw.octets offset raw.at → (b : Built) (canonical : List ℕ) → IsRead now.octets now.at b → canonical ≡ octets_of b.parts → IsDataAt now.octets now.at canonical
-data_is_read raw now view offset each at b canonical is same = grind (arith, data_shown)
+data_is_read raw now view offset each at b canonical is same = grind (arith, data_told now.octets now.at)
 
 -- the record of an answer that is made of its parts
 pub stated : (raw now : RawRecord) → raw ≡ now → (class kind ttl : ℕ) (d : Data) (r : Record)

@@ -1,25 +1,16 @@
 -- A stream is cut into frames and read in one way, and what is decided for its beginning stays.
-use Rattle.zone_wire.proofs.Common.{Bool, IsFramed, List, [], ap, append_assoc, arith, common_steps, drop, flat_map, frame, get_or, get_or-drop, length, length-drop, length-take-le, lit<, nat_lt, refl, rules, suc, sym, take, take-append-drop, u16_at, zero, ℕ, ◌%◌, ◌*◌, ◌++◌, ◌+◌, ◌/◌, ◌<◌, ◌∙◌, ◌∷◌, ◌≡◌, ◌≤◌, AllByRecursion, AnswersGive, Bytes, Fault, FaultAfter, IsRecord, Option, Place, Placed, QuestionAt, ReadAfter, RecordAt, StatedMessage, StreamDecides, StreamReads, front_bytes, handed_on, no_more, reads, states, stops, stream_records, subst, whole, AllByRecursion-append, Some, filter, filter-append, not, ◌==◌, AreRead, EitherIs, Err, IsReadAfter, IsVerdict, Message, None, Ok, Result, append-nil, inl, inr, next_message, octets_in, placed_in}
+use Rattle.zone_wire.proofs.Common.{AllByRecursion, AllByRecursion-append, AnswersGive, AreRead, Bool, Bytes, EitherIs, Err, Fault, FaultAfter, IsFramed, IsReadAfter, IsRecord, IsVerdict, List, Message, None, Ok, Option, Place, Placed, QuestionAt, ReadAfter, RecordAt, Result, Some, StatedMessage, StreamDecides, StreamReads, [], ap, append-nil, append_assoc, arith, cases_lt, common_steps, drop, filter, filter-append, flat_map, frame, front_bytes, get_or, get_or-drop, handed_on, if◌then◌else◌, inl, inr, length, length-drop, length-take-le, lit<, nat_lt, next_message, no_more, not, octets_in, placed_in, reads, refl, rules, states, stops, stream_records, subst, suc, sym, take, take-append-drop, u16_at, whole, zero, ℕ, ◌%◌, ◌*◌, ◌++◌, ◌+◌, ◌/◌, ◌<◌, ◌==◌, ◌∙◌, ◌∷◌, ◌≡◌, ◌≤◌}
 use Rattle.zone_wire.specs.AnswerFault.{refused}
+use Rattle.zone_rdata.proofs.Octets.Sent.{append_same}
 use Rattle.zone_wire.proofs.Conditions.{unless_each}
-use Rattle.zone_wire.proofs.Transfers.GivenMessages.{records_show, reads_up_to, Judged, judged}
-use Rattle.zone_wire.proofs.Records.ReadRecords.{handed_fit}
+use Rattle.zone_wire.proofs.Transfers.GivenMessages.{records_show, reads_up_to, judged}
+use Rattle.zone_wire.proofs.Messages.MessageFaults.{either}
 use Rattle.zone_wire.proofs.Transfers.GivenTransfers.{message_bytes}
 use Rattle.zone_wire.proofs.Transfers.OneReading.{GoesOn, read_goes_on, one_way, fault_one, one_read, read_not_refused}
 
--- two lists, each with more after it, where the first are as long
-pub front_unique : {X : Type 0} (a b c d : List X) → length a ≡ length b → a ++ c ≡ b ++ d → (a ≡ b) × (c ≡ d)
-front_unique [] b c d len e = grind (arith, common_steps)
-front_unique (x ∷ a) [] c d len e = absurd (omega (arith, len))
-front_unique (x ∷ a) (y ∷ b) c d len e =
-    let tail : a ++ c ≡ b ++ d = cc in
-    let shorter : length a ≡ length b = omega (arith, len) in
-    let rest = front_unique a b c d shorter tail in
-    grind arith
-
 -- a frame at the beginning of a stream
 pub frame_unique : (a b c d : List ℕ) → frame a ++ c ≡ frame b ++ d → (a ≡ b) × (c ≡ d)
-frame_unique a b c d e = grind (arith, front_unique)
+frame_unique a b c d e = grind (arith, append_same)
 
 -- octets are cut into frames in one way, if what is left holds no whole one
 pub frames_unique : (ms ns : List (List ℕ)) (r s : List ℕ) → length r < 2 + u16_at r 0 → length s < 2 + u16_at s 0 → flat_map frame ms ++ r ≡ flat_map frame ns ++ s → (ms ≡ ns) × (r ≡ s)
@@ -70,18 +61,16 @@ framed_after high low more h l fits next =
 cut_off : (stream : List ℕ) → length stream < 2 + u16_at stream 0 → Framing stream
 cut_off stream h = grind arith
 
-below_or_not : {X : Type 0} (a b : ℕ) (test : Bool) → nat_lt a b ≡ test → (a < b → X) → (b ≤ a → X) → X
-below_or_not a b test e f g = grind arith
-
 -- each stream of octets is cut into frames
 frames_by : (n : ℕ) (stream : List ℕ) → length stream ≤ n → ((i : ℕ) → get_or stream i 0 < 256) → Framing stream
 frames_by n [] few each = cut_off [] (lit< tt)
 frames_by n (c ∷ []) few each = cut_off (c ∷ []) (omega arith)
 frames_by zero (high ∷ low ∷ more) few each = absurd (omega (arith, few))
 frames_by (suc n) (high ∷ low ∷ more) few each =
-    below_or_not (length more) (high * 256 + low) (nat_lt (length more) (high * 256 + low)) refl
-    (λ short. cut_off (high ∷ low ∷ more) (omega (arith, short)))
-    (λ fits. framed_after high low more (each 0) (each 1) fits (frames_by n (drop (high * 256 + low) more) (omega (arith, few, length-drop (high * 256 + low) more)) (λ i. rw get_or-drop (each (suc (suc (high * 256 + low + i)))))))
+    elim (cases_lt (length more) (high * 256 + low)) [
+      | inl short ↦ cut_off (high ∷ low ∷ more) (omega (arith, short))
+      | inr fits ↦ framed_after high low more (each 0) (each 1) fits (frames_by n (drop (high * 256 + low) more) (omega (arith, few, length-drop (high * 256 + low) more)) (λ i. rw get_or-drop (each (suc (suc (high * 256 + low + i))))))
+    ]
 
 pub framing : (stream : List ℕ) → ((i : ℕ) → get_or stream i 0 < 256) → Framing stream
 framing stream each = frames_by (length stream) stream (omega arith) each
@@ -102,6 +91,13 @@ stream_decides stream each messages rest framed = record {
 abbrev Fit : List Placed → Type 0
 Fit placed = AllByRecursion (λ (p : Placed). IsRecord p.rr) placed
 
+filter_fit : (test : Placed → Bool) (placed : List Placed) → Fit placed → Fit (filter test placed)
+filter_fit test [] fits = tt
+filter_fit test (p ∷ placed) fits = let rest = filter_fit test placed fits.1 in grind arith
+
+handed_fit : (placed : List Placed) → Fit placed → Fit (handed_on placed)
+handed_fit placed fits = grind (arith, filter_fit)
+
 give_fit : {number : ℕ} {octets : List ℕ} {questions : List QuestionAt} {before : List Placed} {answers : List RecordAt} {placed : List Placed} {stop : Option (Fault × ℕ)} → AnswersGive number octets questions before answers placed stop → Fit placed
 give_fit no_more = tt
 give_fit (states is place comes rest) = (is.fits, give_fit rest)
@@ -121,17 +117,8 @@ read_fits stream placed ending r = let d = r.frames in subst Fit (sym d.stated) 
 -- ---- a stream is read in one way, and what is decided for its beginning stays
 pub one_reading : (stream : List ℕ) (placed other : List Placed) (ending late : Option (Fault × Place)) → StreamReads stream placed ending → StreamReads stream other late → (placed ≡ other) × (ending ≡ late)
 one_reading stream placed other ending late given also =
-    let is = given.frames in
-    let too = also.frames in
-    let same = framed_unique stream is.messages too.messages is.rest too.rest is.framed too.framed in
-    let one = one_way too.messages is.all too.all given.first also.first (subst (λ m. ReadAfter [] m is.all given.first) same.0 is.read) too.read in
-    let messages = same.0 in
-    let rest = same.1 in
-    let records = one.0 in
-    let first = one.1 in
-    let ends = given.ends in
-    let others = also.ends in
-    (is.stated ∙ ap handed_on one.0 ∙ sym too.stated, cc)
+    let same = framed_unique stream given.frames.messages also.frames.messages given.frames.rest also.frames.rest given.frames.framed also.frames.framed in
+    grind (arith, framed_unique, one_way)
 
 pub one_decision : (stream : List ℕ) (placed other : List Placed) (ending late : Option (Fault × Place)) → StreamDecides stream placed ending → StreamDecides stream other late → (placed ≡ other) × (ending ≡ late)
 one_decision stream placed other ending late is too =
@@ -146,17 +133,16 @@ pub handed_more : (placed more : List Placed) → (rest : List Placed) × (hande
 handed_more [] more = (handed_on more, refl)
 handed_more (opening ∷ others) more = let test = λ (p : Placed). not (p.rr.kind == 6) in (filter test more, ap (λ x. opening ∷ x) (filter-append test others more))
 
-handed_goes_on : (all every placed other : List Placed) (ending late : Option (Fault × Place)) → GoesOn all ending every late → placed ≡ handed_on all → other ≡ handed_on every → (rest : List Placed) × (other ≡ placed ++ rest)
-handed_goes_on all every placed other ending late x is too = grind (arith, handed_more all x.more)
+decided_goes_on : (stream more : List ℕ) (placed other : List Placed) (ending late : Option (Fault × Place)) → StreamDecides stream placed ending → StreamDecides (stream ++ more) other late → GoesOn placed ending other late
+decided_goes_on stream more placed other ending late is too =
+    let x = messages_go_on stream more is.messages too.messages is.rest too.rest is.all too.all ending late is.framed too.framed is.read too.read in
+    grind (arith, handed_more is.all x.more)
 
 pub records_stay : (stream more : List ℕ) (placed other : List Placed) (ending late : Option (Fault × Place)) → StreamDecides stream placed ending → StreamDecides (stream ++ more) other late → (rest : List Placed) × (other ≡ placed ++ rest)
-records_stay stream more placed other ending late is too = grind (arith, handed_goes_on is.all too.all placed other ending late (messages_go_on stream more is.messages too.messages is.rest too.rest is.all too.all ending late is.framed too.framed is.read too.read) is.stated too.stated)
+records_stay stream more placed other ending late is too = let x = decided_goes_on stream more placed other ending late is too in (x.more, x.goes_on)
 
 pub fault_stays : (stream more : List ℕ) (placed other : List Placed) (e : Fault × Place) (late : Option (Fault × Place)) → StreamDecides stream placed (Some e) → StreamDecides (stream ++ more) other late → (other ≡ placed) × (late ≡ Some e)
-fault_stays stream more placed other e late is too = grind (arith, messages_go_on stream more is.messages too.messages is.rest too.rest is.all too.all (Some e) late is.framed too.framed is.read too.read)
-
-pub records_are_read : (stream more : List ℕ) (placed other : List Placed) (ending late : Option (Fault × Place)) → StreamDecides stream placed ending → StreamReads (stream ++ more) other late → (rest : List Placed) × (other ≡ placed ++ rest)
-records_are_read stream more placed other ending late is too = records_stay stream more placed other ending too.first is too.frames
+fault_stays stream more placed other e late is too = (decided_goes_on stream more placed other (Some e) late is too).stays e refl
 
 pub fault_is_read : (stream more : List ℕ) (placed other : List Placed) (e : Fault × Place) (late : Option (Fault × Place)) → StreamDecides stream placed (Some e) → StreamReads (stream ++ more) other late → (other ≡ placed) × (late ≡ Some e)
 fault_is_read stream more placed other e late is too = grind (arith, fault_stays stream more placed other e too.first is too.frames)
@@ -208,15 +194,11 @@ IsRefused before octets e = FaultAfter before octets e.0 e.1 e.2
 
 pub message_verdict : (before : List StatedMessage) (octets : List ℕ) → Bytes octets → length octets ≤ 65535 → IsVerdict (IsOne before octets) (IsRefused before octets)
 message_verdict before octets each few = record {
-  one_of = by (next_message before octets) (judged before octets each few);
+  one_of = either (IsOne before octets) (IsRefused before octets) (next_message before octets) (judged before octets each few);
   never_both = λ p e is fault. read_not_refused before p e is.1 (subst (λ o. FaultAfter before o e.0 e.1 e.2) (sym is.0) fault);
   one_value = λ p q is too. one_read before p q (is.0 ∙ sym too.0) is.1 too.1;
   one_fault = fault_one before octets;
 }
-  where
-    by : (r : Result StatedMessage (List Placed × Fault × ℕ)) → Judged before octets r → EitherIs (IsOne before octets) (IsRefused before octets)
-    by (Ok p) is = inl (p, is)
-    by (Err e) is = inr (e, is)
 
 pub ruleset something_of_streams = (some_reading, some_decision)
 

@@ -1,9 +1,8 @@
 -- The records of messages up to the first fault are those that are read.
-use Rattle.zone_wire.proofs.Common.{AllByRecursion, Answered, AreRead, AskAfter, AsksIn, Bool, Bytes, Err, Fault, FaultAfter, GiveAfter, HasFirstId, IsMessage, IsReadAfter, List, Message, None, Ok, Option, Place, Placed, QuestionAt, ReadAfter, Result, Sections, Some, StatedMessage, ZoneAsked, [], agrees, and_from, and_parts, ap, append-nil, append_assoc, asked_in, asks_for, eq-eqb, eqb-true, fails, false, flat_map-append, has_first_id, holds, if◌then◌else◌, inl, inr, length, list_all, next_message, octets_in, of_answers, of_sections, placed_in, reads, refl, sections_of, stops, stream_records, subst, sym, true, whole, zone_of, ℕ, ◌++◌, ◌+◌, ◌==◌, ◌∙◌, ◌∷◌, ◌≡◌, ◌≤◌, arith}
+use Rattle.zone_wire.proofs.Common.{AllByRecursion, Answered, AreRead, AskAfter, AsksIn, Bool, Bytes, Err, Fault, FaultAfter, GiveAfter, HasFirstId, IsMessage, IsReadAfter, List, MatchResult, Message, MessageFault, None, Ok, Option, Place, Placed, QuestionAt, ReadAfter, Result, Sections, Some, StatedMessage, ZoneAsked, [], agrees, and_from, and_parts, ap, append-nil, append_assoc, asked_in, asks_for, eq-eqb, eqb-true, fails, false, flat_map-append, has_first_id, holds, if◌then◌else◌, inl, inr, length, list_all, next_message, octets_in, of_answers, of_sections, placed_in, reads, refl, sections_of, stops, stream_records, subst, sym, true, whole, zone_of, ℕ, ◌++◌, ◌+◌, ◌==◌, ◌∙◌, ◌∷◌, ◌≡◌, ◌≤◌, arith}
 use Rattle.zone_wire.proofs.Records.Answering.{agrees_by, agrees_true, each_stands, answers_give}
 use Rattle.zone_wire.proofs.Conditions.{all_by, all_pass}
-use Rattle.zone_wire.proofs.Messages.MessageFaults.{sections_fault}
-use Rattle.zone_wire.proofs.Messages.Sections.{sections_shown}
+use Rattle.zone_wire.proofs.Messages.MessageFaults.{message_judged}
 
 -- one message more
 pub placed_grow : (before : List StatedMessage) (p : StatedMessage) → placed_in before ++ p.placed ≡ placed_in (before ++ p ∷ [])
@@ -38,8 +37,7 @@ asks_true zone q is = and_from (q.kind == 252) (agrees zone q.name q.class) (eq-
 
 -- a message after others is read, or has a first fault
 abbrev pub Judged : List StatedMessage → List ℕ → Result StatedMessage (List Placed × Fault × ℕ) → Type 0
-Judged before octets (Ok p) = (p.octets ≡ octets) × IsReadAfter before p
-Judged before octets (Err e) = FaultAfter before octets e.0 e.1 e.2
+Judged before octets r = MatchResult r (λ p. (p.octets ≡ octets) × IsReadAfter before p) (λ e. FaultAfter before octets e.0 e.1 e.2)
 
 module _ (before : List StatedMessage) (octets : List ℕ) (each : Bytes octets) (few : length octets ≤ 65535) where
   by_test : (test : Bool) (good bad : Result StatedMessage (List Placed × Fault × ℕ)) → (test ≡ true → Judged before octets good) → (test ≡ false → Judged before octets bad) → Judged before octets (if test then good else bad)
@@ -48,10 +46,9 @@ module _ (before : List StatedMessage) (octets : List ℕ) (each : Bytes octets)
   by_answers : (s : Sections) (placed : List Placed) (stop : Option (Fault × ℕ)) → IsMessage octets s → HasFirstId before s → AskAfter before s → GiveAfter before octets s placed stop → Judged before octets (of_answers octets s (record { placed = placed; fault = stop }))
   by_answers s placed stop is id asks give = grind (arith, holds)
 
-  by_sections : (r : Result Sections (Fault × ℕ)) → sections_of octets ≡ r → Judged before octets (of_sections before octets r)
-  by_sections (Err e) is = inl (refl, sections_fault octets each e is)
-  by_sections (Ok s) is =
-      let m = sections_shown octets s each is in
+  by_sections : (r : Result Sections (Fault × ℕ)) → MatchResult r (IsMessage octets) (λ (e : Fault × ℕ). MessageFault octets e.0 e.1) → Judged before octets (of_sections before octets r)
+  by_sections (Err e) bad = inl (refl, bad)
+  by_sections (Ok s) m =
       let zone = zone_of (asked_in before) (placed_in before) in
       let all = list_all (asks_for zone) s.questions in
       let give = answers_give octets each few (asked_in before ++ s.questions) (length before + 1) s.answers (placed_in before) (each_stands octets m.past_questions m.past_answers s.answers m.answers) in
@@ -63,7 +60,7 @@ module _ (before : List StatedMessage) (octets : List ℕ) (each : Bytes octets)
 
   pub judged : Judged before octets (next_message before octets)
   unfolding next_message
-  judged = by_sections (sections_of octets) refl
+  judged = by_sections (sections_of octets) ((message_judged octets).tells each)
 
 -- what is found is what is read
 pub records_show : (messages : List (List ℕ)) (before : List StatedMessage) → AllByRecursion Bytes messages → AllByRecursion (λ octets. length octets ≤ 65535) messages → let x = stream_records before messages in ReadAfter before messages x.placed x.fault

@@ -3,6 +3,8 @@ use Rattle.zone_wire.proofs.Common.{ne_eqb, AllByRecursion, AreStatedMessages, L
 use Rattle.zone_wire.proofs.Records.Answering.{OpensWith, is_soa, InOrder, follows_comes}
 use Rattle.zone_wire.proofs.Transfers.GivenMessages.{placed_grow, asked_grow}
 use Rattle.zone_wire.specs.AnswerFault.{refused}
+use Rattle.std.proofs.lemmas.List.Folds.{list_any-append}
+use Rattle.zone_name.proofs.InOctets.Pushing.{AllByRecursion-back, AllByRecursion-front}
 
 -- records in order, in two parts
 pub in_order_parts : (zone : Record) (before xs ys : List Placed) → InOrder zone before (xs ++ ys) → InOrder zone before xs × InOrder zone (before ++ xs) ys
@@ -15,13 +17,10 @@ opens_more zone before here opens order = grind arith
 abbrev pub octets_of_parts : List StatedMessage → List (List ℕ)
 octets_of_parts parts = map (λ p. p.octets) parts
 
-pub any_append : (xs ys : List Placed) → list_any is_soa (xs ++ ys) ≡ (list_any is_soa xs || list_any is_soa ys)
-any_append xs ys = grind (arith, common_steps)
-
 -- an SOA, records that are none, and the SOA again are in order
 pub rest_in_order : (zone : Record) (opening closing : Placed) (done others : List Placed) → closing.rr ≡ opening.rr → list_any is_soa done ≡ false → AllByRecursion (λ (p : Placed). p.rr.kind ≢ 6) others → InOrder zone (opening ∷ done) (others ++ closing ∷ [])
 rest_in_order zone opening closing done [] same none each = ((none, λ kind. same), tt)
-rest_in_order zone opening closing done (p ∷ others) same none each = grind (arith, rest_in_order zone opening closing (done ++ p ∷ []) others same (grind (arith, any_append, or_from, is_soa, ne_eqb)) each.1)
+rest_in_order zone opening closing done (p ∷ others) same none each = grind (arith, rest_in_order zone opening closing (done ++ p ∷ []) others same (grind (arith, list_any-append, or_from, is_soa, ne_eqb)) each.1)
 
 others_kept : (others : List Placed) → AllByRecursion (λ (p : Placed). p.rr.kind ≢ 6) others → filter (λ (p : Placed). not (p.rr.kind == 6)) others ≡ others
 others_kept [] each = refl
@@ -79,7 +78,7 @@ transfer_reads stream placed s =
     let kind : s.closing.rr.kind ≡ 6 = ap (λ (r : Record). r.kind) s.same ∙ s.soa in
     let soa : is_soa s.closing ≡ true = eq-eqb s.closing.rr.kind 6 kind in
     let kept : handed_on all ≡ s.opening ∷ s.others = handed_transfer s.opening s.others s.closing s.no_soa kind in
-    let last : is_closed all ≡ true = any_append s.others (s.closing ∷ []) ∙ or_right (list_any is_soa s.others) (list_any is_soa (s.closing ∷ [])) (or_left (is_soa s.closing) _ soa) in
+    let last : is_closed all ≡ true = list_any-append is_soa s.others (s.closing ∷ []) ∙ or_right (list_any is_soa s.others) (list_any is_soa (s.closing ∷ [])) (or_left (is_soa s.closing) _ soa) in
     record {
       first = None;
       frames = record {
@@ -183,14 +182,10 @@ no_soa p e same = let yes : is_soa p ≡ true = eq-eqb p.rr.kind 6 same in cc
 
 closes_by : (opening : Placed) (done : List Placed) (p : Placed) (rest : List Placed) (soa : Bool) → is_soa p ≡ soa → Orders (opening ∷ done) (p ∷ rest) → (is_soa p || list_any is_soa rest) ≡ true → (Orders (opening ∷ (done ++ p ∷ [])) rest → list_any is_soa rest ≡ true → Closes opening rest) → Closes opening (p ∷ rest)
 closes_by opening done p [] true e order some more = record { others = []; closing = p; is = refl; none = tt; same = order.0.1.1 (eqb-true _ _ e) }
-closes_by opening done p (q ∷ rest) true e order some more = grind (arith, any_append)
+closes_by opening done p (q ∷ rest) true e order some more = grind (arith, list_any-append)
 closes_by opening done p rest false e order some more =
-    let c = more order.1 (second (is_soa p) (list_any is_soa rest) e some) in
+    let c = more order.1 (grind arith) in
     record { others = p ∷ c.others; closing = c.closing; is = ap (λ x. p ∷ x) c.is; none = (no_soa p e, c.none); same = c.same }
-  where
-    second : (a b : Bool) → a ≡ false → (a || b) ≡ true → b ≡ true
-    second true b h k = cc
-    second false b h k = k
 
 closes : (opening : Placed) (done rest : List Placed) → Orders (opening ∷ done) rest → list_any is_soa rest ≡ true → Closes opening rest
 closes opening done [] order some = cc
@@ -216,10 +211,6 @@ message_bytes (m ∷ messages) each =
     let body : Bytes (m ++ flat_map frame messages) = λ i. each (suc (suc i)) in
     (front_bytes m (flat_map frame messages) body, message_bytes messages (back_bytes m (flat_map frame messages) body))
 
-all_front : {X : Type 0} (P : X → Type 0) (xs ys : List X) → AllByRecursion P (xs ++ ys) → AllByRecursion P xs × AllByRecursion P ys
-all_front P [] ys each = (tt, each)
-all_front P (x ∷ xs) ys each = let rest = all_front P xs ys each.1 in ((each.0, rest.0), rest.1)
-
 answers_state : {number : ℕ} {octets : List ℕ} {questions : List QuestionAt} {before : List Placed} {answers : List RecordAt} {placed : List Placed} {stop : Option (Fault × ℕ)} → stop ≡ None → AnswersGive number octets questions before answers placed stop → AnswersState number octets answers placed
 answers_state e no_more = tt
 answers_state e (states is place comes rest) = ((is, place), answers_state e rest)
@@ -227,11 +218,10 @@ answers_state e (refused fault) = cc
 
 parts_from : (id : ℕ) (zone : Record) (number : ℕ) (before parts : List StatedMessage) → number ≡ length before + 1 → AreRead before parts → AllByRecursion (λ octets. length octets ≤ 65535) (octets_in parts) → AllByRecursion (λ (p : StatedMessage). p.sections.id ≡ id) parts → AllByRecursion (AsksFor zone) (asked_in parts) → AreStatedMessages id zone number parts
 parts_from id zone number before [] count are short ids ask = tt
-parts_from id zone number before (p ∷ parts) count are short ids ask =
-    let asks = all_front (AsksFor zone) p.sections.questions (asked_in parts) ask in (
-      record { short = short.0; message = are.0.message; same_id = ids.0; questions = asks.0; answers = subst (λ n. AnswersState n p.octets p.sections.answers p.placed) (sym count) (answers_state refl are.0.gives) },
-      parts_from id zone (number + 1) (before ++ p ∷ []) parts (omega (arith, count, length-append before (p ∷ []))) are.1 short.1 ids.1 asks.1,
-    )
+parts_from id zone number before (p ∷ parts) count are short ids ask = (
+  record { short = short.0; message = are.0.message; same_id = ids.0; questions = AllByRecursion-front (AsksFor zone) p.sections.questions (asked_in parts) ask; answers = subst (λ n. AnswersState n p.octets p.sections.answers p.placed) (sym count) (answers_state refl are.0.gives) },
+  parts_from id zone (number + 1) (before ++ p ∷ []) parts (omega (arith, count, length-append before (p ∷ []))) are.1 short.1 ids.1 (AllByRecursion-back (AsksFor zone) p.sections.questions (asked_in parts) ask),
+)
 
 asks_for : (zone : ZoneAsked) (r : Record) → r.owner ≡ zone.name → r.class ≡ zone.class → (questions : List QuestionAt) → AllByRecursion (AsksIn (Some zone)) questions → AllByRecursion (AsksFor r) questions
 asks_for zone r name class [] ask = tt

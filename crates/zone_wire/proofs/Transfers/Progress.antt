@@ -196,3 +196,5 @@ pub told_same : (b : Bool) (r s : Record) → (b ≡ true ↔ r ≡ s) → b ≡
 told_same b r s tells = same_bool b (same_record r s) (λ e. records_same r s (tells.0 e)) (λ e. tells.1 (records_equal r s e))
 
 pub ruleset message_stops = (stops_in_structure, stops_in_head, message_taken)
+
+pub ruleset answers_are_taken = (pending_all, pending_more, takes_all)

@@ -1,7 +1,6 @@
 use Rattle.zone_wire.proofs.Common.{arith, refl}
 use Rattle.zone_wire.proofs.Fields.FieldReading.{name_read, name_over, name_faulty}
-use Rattle.zone_wire.proofs.Messages.MessageFaults.{name_refused}
-use Rattle.zone_wire.proofs.Names.Walking.{walk_names, name_bounds}
+use Rattle.zone_wire.proofs.Names.Walking.{walk_names, name_bounds, name_refused}
 use Rattle.zone_wire.proofs.cursor.Cursor.name.Goals as goal
 
 pub invariant_of-self-clause-short : goal.invariant_of-self-clause-short
