@@ -1,6 +1,7 @@
 -- Of the records of an input one is the first that is refused, or all are accepted.
 use Rattle.zone_engine.proofs.Common.{◌≡◌, ◌≢◌, ◌⊎◌, ℕ, Bool, List, [], ◌∷◌, ◌++◌, refl, sym, ap, ◌∙◌, subst, inl, inr, ⊎_elim, append_assoc, append-nil, arith, cases_eq, bytes_decides, IsWithin, Record, data_of, Fault, ClassMismatch, MultipleSoa, DifferingTtl, Place, Placed, OtherClass, AreTwoSoas, OtherSoa, Accepts, IsRefusedFor, class, soa, ttl, AllAccepted, IsFirstRefused, records_of, Has, InOneSet, covered_octets, common_steps, Labels, AllByRecursion, Line, a_x, soa_of, address_of, each_Has}
-use Rattle.std.proofs.Common.{Decides}
+use Rattle.std.proofs.Common.{Decides, drop, length-append, ◌-◌, length}
+use Rattle.zone_name.proofs.Common.{drop_at, take, take-append-drop}
 use Rattle.zone_engine.proofs.Refusals.Parting.{two_partings, Decides-owner}
 
 -- a fact holds, or it doesn't
@@ -11,13 +12,13 @@ settled : {P : Type 0} (b : Bool) → Decides b P → Settled P
 settled b decides = grind arith
 
 pub not_settled : {P : Type 0} → Settled P → Settled (P → ⊥)
-not_settled is = ⊎_elim (λ p. inr (λ fails. fails p)) (λ fails. inl fails) is
+not_settled is = grind arith
 
 both_settled : {P Q : Type 0} → Settled P → Settled Q → Settled (P × Q)
-both_settled p q = ⊎_elim (λ is. ⊎_elim (λ too. inl (is, too)) (λ fails. inr (λ both. fails both.1)) q) (λ fails. inr (λ both. fails both.0)) p
+both_settled p q = grind arith
 
 either_settled : {P Q : Type 0} → Settled P → Settled Q → Settled (P ⊎ Q)
-either_settled p q = ⊎_elim (λ is. inl (inl is)) (λ fails. ⊎_elim (λ is. inl (inr is)) (λ fails_too. inr (λ one. ⊎_elim fails fails_too one)) q) p
+either_settled p q = grind arith
 
 pub same_owner : (a b : Labels) → Settled (a ≡ b)
 same_owner a b = settled _ (Decides-owner a b)
@@ -30,27 +31,16 @@ same_set r s = grind (arith, both_settled (same_owner r.owner s.owner) (both_set
 
 -- a name lies within an apex, or it doesn't
 pub is_within : (labels apex : Labels) → Settled (IsWithin labels apex)
-is_within [] apex =
-    ⊎_elim (λ same. inl ([], same)) (λ other. inr (λ (below, parts). other (at_apex below parts))) (same_owner [] apex)
-  where
-    at_apex : (below : Labels) → [] ≡ below ++ apex → [] ≡ apex
-    at_apex [] parts = parts
-    at_apex (l ∷ below) parts = cc
-is_within (label ∷ labels) apex =
-    ⊎_elim (λ same. inl ([], same)) (λ other.
-    ⊎_elim (λ (below, parts). inl (label ∷ below, ap (λ (ls : Labels). label ∷ ls) parts)) (λ fails. inr (λ (below, parts). deeper below other fails parts)) (is_within labels apex)) (same_owner (label ∷ labels) apex)
-  where
-    deeper : (below : Labels) → ((label ∷ labels) ≢ apex) → (IsWithin labels apex → ⊥) → (label ∷ labels) ≡ below ++ apex → ⊥
-    deeper [] other fails parts = other parts
-    deeper (l ∷ below) other fails parts = let rest : labels ≡ below ++ apex = cc in fails (below, rest)
+is_within labels apex =
+    let k = length labels - length apex in
+    ⊎_elim (λ same. inl (take k labels, cc (same, take-append-drop k labels)))
+    (λ other. inr (λ (below, parts). other (ap (drop k) parts ∙ drop_at below apex k (omega (arith, ap length parts, length-append below apex)))))
+    (same_owner (drop k labels) apex)
 
 -- some record has a property, or none has it
 pub some_or_none : (P : Record → Type 0) → ((r : Record) → Settled (P r)) → (records : List Record) → Settled ((r : Record) × Has records r × P r)
 some_or_none P test [] = inr (λ (r, has, p). has)
-some_or_none P test (s ∷ records) =
-    ⊎_elim (λ p. inl (s, inl refl, p)) (λ not_s.
-    ⊎_elim (λ (r, has, p). inl (r, inr has, p)) (λ none. inr (λ (r, has, p). ⊎_elim (λ is. not_s (subst P is p)) (λ more. none (r, more, p)) has))
-    (some_or_none P test records)) (test s)
+some_or_none P test (s ∷ records) = grind (arith, test s, some_or_none P test records)
 
 -- ---- a record is refused or accepted
 
@@ -90,10 +80,10 @@ one_or_all placed = first_or_all placed [] placed refl none_before
 -- ---- short lists, and names of one label outside an apex of one label
 
 pub no_other_class : (held : List Record) (r : Record) → AllByRecursion (λ s. s.class ≡ r.class) held → OtherClass held r → ⊥
-no_other_class held r each (s, has, other) = other (each_Has (λ t. t.class ≡ r.class) held s each has)
+no_other_class held r each other = grind (arith, each_Has)
 
 pub no_other_soa : (held : List Record) (r : Record) → r.kind ≢ 6 → OtherSoa held r → ⊥
-no_other_soa held r other (s, has, (is_soa, soa_s, differs)) = other is_soa
+no_other_soa held r kind other = grind (arith, other)
 
 pub fits : (held : List Record) (r : Record) → AllByRecursion (λ s. s.class ≡ r.class) held → r.kind ≢ 6 → AllByRecursion (λ s. InOneSet s r → s.ttl ≡ r.ttl) held → Accepts held r
 fits held r classes other ttls = grind (arith, no_other_class, no_other_soa, each_Has)

@@ -1,64 +1,49 @@
 -- Records of which each may stand with all before it have one ascending list, and that is a zone's
 -- or lacks what a zone needs.
-use Rattle.zone_engine.proofs.Common.{◌≡◌, ◌≢◌, ◌⊎◌, List, [], ◌∷◌, length, Ordering, Less, Equal, Greater, refl, sym, ap, ◌∙◌, subst, inl, inr, ⊎_elim, cases_eq, leb_tells, AllByRecursion, IsWithin, name_cmp, Record, IsRecord, data_of, Fault, NoSoa, OutOfZone, ZoneTooLarge, Place, Whole, Placed, Accepts, Adds, no_soa, outside, AllAccepted, records_of, Has, SameRecords, AreCompatible, Zone, IsZone, canon, text_limit, MakesZone, RefusesReading, refused, unread, unfinished, too_large, accepted_ttl, one_set, each_Has, each_from_Has, arith, Some, None, IsTotalOrder, ordering_reverse, Labels}
+use Rattle.zone_engine.proofs.Common.{◌≡◌, ◌≢◌, ◌⊎◌, List, [], ◌∷◌, length, Ordering, Less, Equal, Greater, refl, sym, ap, ◌∙◌, subst, inl, inr, ⊎_elim, cases_eq, leb_tells, AllByRecursion, IsWithin, name_cmp, Record, IsRecord, data_of, Fault, NoSoa, OutOfZone, ZoneTooLarge, Place, Whole, Placed, Accepts, Adds, accepted_class, no_soa, outside, AllAccepted, records_of, Has, SameRecords, AreCompatible, Zone, IsZone, canon, text_limit, MakesZone, RefusesReading, refused, unread, unfinished, too_large, accepted_ttl, one_set, each_Has, each_from_Has, arith, Some, None, ordering_reverse}
 use Rattle.zone_set.specs.Order.{canonical_cmp, Ascends}
-use Rattle.zone_engine.proofs.Refusals.Parting.{Has-last, Has-parts, each_accepted, all_class, all_ttl, all_soa}
+use Rattle.zone_name.proofs.Texts.Lawful.{name_cmp-exact, name_cmp-total}
+use Rattle.zone_set.proofs.Holding.Inserting.{AreCompatible-with}
+use Rattle.zone_set.proofs.Ordering.Between.{later_all}
+use Rattle.zone_set.proofs.Ordering.SetOrder.{canonical_total, exact_canonical}
+use Rattle.zone_engine.proofs.Refusals.Parting.{Has-last, Has-parts, each_accepted}
 use Rattle.zone_engine.proofs.Refusals.Deciding.{Settled, not_settled, is_within, some_or_none, one_or_all}
 
 -- ---- the ascending list
 
 -- one more record among those that ascend
-module _ (total : IsTotalOrder canonical_cmp) (r : Record) where
+module _ (r : Record) where
   added : (held : List Record) → Ascends held → ((s : Record) → Has held s → canonical_cmp r s ≡ Equal → s ≡ r) → (new : List Record) × Adds held r new
   added [] up exact = (r ∷ [], record { ascend = (tt, tt); same = λ s. (λ has. has, λ has. has) })
   added (x ∷ held) up exact = by (canonical_cmp r x) refl (added held up.1 (λ s has. exact s (inr has)))
     where
       by : (o : Ordering) → canonical_cmp r x ≡ o → (new : List Record) × Adds held r new → (new : List Record) × Adds (x ∷ held) r new
-      by Less is more = (
-        r ∷ x ∷ held,
+      by Less is more = (r ∷ x ∷ held, record { ascend = ((is, later_all r x held is up.0), up); same = λ s. (λ has. has, λ has. has) })
+      by Equal is more = (x ∷ held, record { ascend = up; same = λ s. grind (arith, exact x (inl refl) is) })
+      by Greater is (new, adds) = (
+        x ∷ new,
         record {
-          ascend = ((is, each_from_Has (λ s. canonical_cmp r s ≡ Less) held (λ s has. total.trans r x s is (each_Has (λ t. canonical_cmp x t ≡ Less) held s up.0 has))), up);
-          same = λ s. (λ has. has, λ has. has);
+          ascend = (each_from_Has (λ s. canonical_cmp x s ≡ Less) new (λ s has. grind (arith, adds.same s, each_Has (λ t. canonical_cmp x t ≡ Less) held s up.0, canonical_total.antisymm x r, is)), adds.ascend);
+          same = λ s. grind (arith, adds.same s);
         },
       )
-      by Equal is more = (
-        x ∷ held,
-        record { ascend = up; same = λ s. (λ has. inr has, ⊎_elim (λ e. inl (e ∙ sym (exact x (inl refl) is))) (λ has. has)) },
-      )
-      by Greater is (new, adds) =
-          let before : canonical_cmp x r ≡ Less = total.antisymm x r ∙ ap ordering_reverse is in (
-            x ∷ new,
-            record {
-              ascend = (
-                each_from_Has (λ s. canonical_cmp x s ≡ Less) new (λ s has. ⊎_elim (λ e. subst (λ t. canonical_cmp x t ≡ Less) (sym e) before) (λ old. each_Has (λ t. canonical_cmp x t ≡ Less) held s up.0 old) ((adds.same s).0 has)),
-                adds.ascend,
-              );
-              same = λ s. (
-                ⊎_elim (λ e. inr (inl e)) (λ has. ⊎_elim (λ e. inl e) (λ old. inr (inr old)) ((adds.same s).0 has)),
-                ⊎_elim (λ e. inr ((adds.same s).1 (inl e))) (⊎_elim (λ e. inl e) (λ old. inr ((adds.same s).1 (inr old)))),
-              );
-            },
-          )
 
--- the order tells records apart but for their class and TTL
-abbrev pub TellsApart : Type 0
-TellsApart = (r s : Record) → canonical_cmp r s ≡ Equal → (r.owner ≡ s.owner) × (data_of r ≡ data_of s)
+-- an accepted record that ties with one before it is that record
+tied_is : (held : List Record) (r : Record) → Accepts held r → (s : Record) → Has held s → canonical_cmp r s ≡ Equal → s ≡ r
+tied_is held r fits s has tied = grind (arith, accepted_class, accepted_ttl, one_set, exact_canonical)
 
-module _ (total : IsTotalOrder canonical_cmp) (apart : TellsApart) (whole : List Placed) (all : AllAccepted whole) where
-  -- an accepted record that ties with one before it is that record
-  tied_is : (held : List Record) (r : Record) → Accepts held r → (s : Record) → Has held s → canonical_cmp r s ≡ Equal → s ≡ r
-  tied_is held r fits s has tied = grind (arith, accepted_ttl, one_set)
+Accepts-same : (held others : List Record) (r : Record) → SameRecords held others → Accepts others r → Accepts held r
+Accepts-same held others r same fits = grind (arith, same, fits.one_class, fits.one_soa, fits.one_ttl)
 
-  one_list : (new : List Record) × Ascends new × SameRecords new (records_of whole)
-  one_list = each_accepted (λ ps. (new : List Record) × Ascends new × SameRecords new (records_of ps)) ([], tt, λ s. (λ has. has, λ has. has)) (λ before p fits (now, up, same).
-      let (next, adds) = added total p.rr now up (λ s has tied. tied_is (records_of before) p.rr fits s ((same s).0 has) tied) in (
-        next,
-        adds.ascend,
-        λ s. (
-          λ has. (Has-parts before (p ∷ []) s).1 (⊎_elim (λ e. inr (inl e)) (λ old. inl ((same s).0 old)) ((adds.same s).0 has)),
-          λ has. (adds.same s).1 (⊎_elim (λ old. inr ((same s).1 old)) (λ e. inl e) (Has-last before p s has)),
-        ),
-      )) whole all
+-- the one list of records that are accepted
+one_list : (whole : List Placed) → AllAccepted whole → AllByRecursion IsRecord (records_of whole) → (new : List Record) × AreCompatible new × SameRecords new (records_of whole)
+one_list whole all each = each_accepted (λ ps. (new : List Record) × AreCompatible new × SameRecords new (records_of ps)) whole all ([], grind arith, λ s. (λ has. has, λ has. has)) (λ before p has fits (now, compatible, same).
+    let accepts = Accepts-same now (records_of before) p.rr same fits in
+    let (next, adds) = added p.rr now compatible.ascend (tied_is now p.rr accepts) in (
+      next,
+      AreCompatible-with now next p.rr compatible accepts (each_Has IsRecord (records_of whole) p.rr each has) (λ s. (adds.same s).0) adds.ascend,
+      λ s. grind (arith, Has-parts before (p ∷ []) s, adds.same s, same s),
+    ))
 
 -- ---- the least owner outside
 
@@ -69,16 +54,16 @@ IsLeastOf P held r = (s : Record) → Has held s → P s → s.owner ≢ r.owner
 abbrev LeastOf : (Record → Type 0) → List Record → Type 0
 LeastOf P held = ((r : Record) × Has held r × P r × IsLeastOf P held r) ⊎ ((r : Record) → Has held r → P r → ⊥)
 
-module _ (names : IsTotalOrder name_cmp) (names_exact : (a b : Labels) → name_cmp a b ≡ Equal → a ≡ b) (P : Record → Type 0) where
+module _ (P : Record → Type 0) where
   -- the lesser of two
   lesser : (s : Record) (records : List Record) → P s → (r : Record) → Has records r → P r → IsLeastOf P records r → (o : Ordering) → name_cmp s.owner r.owner ≡ o → LeastOf P (s ∷ records)
-  lesser s records p_s r has p_r least o is = grind arith
+  lesser s records p_s r has p_r least o is = grind (arith, name_cmp-exact, name_cmp-total)
 
   with_one : (s : Record) (records : List Record) → Settled (P s) → LeastOf P records → LeastOf P (s ∷ records)
   with_one s records (inl p_s) (inl (r, has, p_r, least)) = lesser s records p_s r has p_r least (name_cmp s.owner r.owner) refl
-  with_one s records (inl p_s) (inr none) = inl (s, inl refl, p_s, λ t has_t p_t other. ⊎_elim (λ e. absurd (other (ap (λ x. x.owner) e))) (λ more. absurd (none t more p_t)) has_t)
-  with_one s records (inr not_s) (inl (r, has, p_r, least)) = inl (r, inr has, p_r, λ t has_t p_t other. ⊎_elim (λ e. absurd (not_s (subst P e p_t))) (λ more. least t more p_t other) has_t)
-  with_one s records (inr not_s) (inr none) = inr (λ r has p. ⊎_elim (λ e. not_s (subst P e p)) (λ more. none r more p) has)
+  with_one s records (inl p_s) (inr none) = inl (s, inl refl, p_s, λ t has_t p_t other. grind arith)
+  with_one s records (inr not_s) (inl (r, has, p_r, least)) = inl (r, inr has, p_r, λ t has_t p_t other. grind arith)
+  with_one s records (inr not_s) (inr none) = inr (λ r has p. grind arith)
 
   least_of : ((r : Record) → Settled (P r)) → (records : List Record) → LeastOf P records
   least_of test [] = inr (λ r has p. has)
@@ -86,25 +71,18 @@ module _ (names : IsTotalOrder name_cmp) (names_exact : (a b : Labels) → name_
 
 -- ---- a zone, or why there is none
 
-module _ (names : IsTotalOrder name_cmp) (names_exact : (a b : Labels) → name_cmp a b ≡ Equal → a ≡ b) (total : IsTotalOrder canonical_cmp) (apart : TellsApart) (placed : List Placed) (each : AllByRecursion IsRecord (records_of placed)) where
+module _ (placed : List Placed) (each : AllByRecursion IsRecord (records_of placed)) where
   abbrev Outcome : Type 0
   Outcome = ((f : Fault) × (at : Place) × RefusesReading placed None f at) ⊎ ((z : Zone) × MakesZone placed z)
 
   module _ (all : AllAccepted placed) where
     inside : (soa : Record) → Has (records_of placed) soa → soa.kind ≡ 6 → AllByRecursion (λ r. IsWithin r.owner soa.owner) (records_of placed) → Outcome
     inside soa has is_soa within =
-        let (records, up, same) = one_list total apart placed all in
+        let (records, compatible, same) = one_list placed all each in
         let z : Zone = record { apex = soa.owner; class = soa.class; records = records } in
-        let compatible : AreCompatible records = record {
-          each = each_from_Has IsRecord records (λ r is. each_Has IsRecord (records_of placed) r each ((same r).0 is));
-          ascend = up;
-          one_class = λ r s has_r has_s. all_class placed all r s ((same r).0 has_r) ((same s).0 has_s);
-          one_ttl = λ r s has_r has_s. all_ttl placed all r s ((same r).0 has_r) ((same s).0 has_s);
-          one_soa = λ r s has_r has_s. all_soa placed all r s ((same r).0 has_r) ((same s).0 has_s);
-        } in
         let zone : IsZone z = record {
           compatible = compatible;
-          class = each_from_Has (λ r. r.class ≡ soa.class) records (λ r is. all_class placed all r soa ((same r).0 is) has);
+          class = each_from_Has (λ r. r.class ≡ soa.class) records (λ r is. compatible.one_class r soa is ((same soa).1 has));
           soa = (soa, (same soa).1 has, is_soa, refl);
           within = each_from_Has (λ r. IsWithin r.owner soa.owner) records (λ r is. each_Has (λ t. IsWithin t.owner soa.owner) (records_of placed) r within ((same r).0 is));
         } in
@@ -116,7 +94,7 @@ module _ (names : IsTotalOrder name_cmp) (names_exact : (a b : Labels) → name_
         ⊎_elim (λ (soa, has, is_soa).
         ⊎_elim (λ (r, has_r, out, least). inl (OutOfZone r.owner, Whole, unfinished (OutOfZone r.owner) Whole all refl (outside r.owner (record { soa = soa; held_soa = (has, is_soa); held_owner = (r, has_r, refl); outside = out; least = least }))))
         (λ none. inside soa has is_soa (each_from_Has (λ r. IsWithin r.owner soa.owner) (records_of placed) (λ r has_r. ⊎_elim (λ within. within) (λ out. absurd (none r has_r out)) (is_within r.owner soa.owner))))
-        (least_of names names_exact (λ r. IsWithin r.owner soa.owner → ⊥) (λ r. not_settled (is_within r.owner soa.owner)) (records_of placed)))
+        (least_of (λ r. IsWithin r.owner soa.owner → ⊥) (λ r. not_settled (is_within r.owner soa.owner)) (records_of placed)))
         (λ none. inl (NoSoa, Whole, unfinished NoSoa Whole all refl (no_soa (λ r has is_soa. none (r, has, is_soa)))))
         (some_or_none (λ r. r.kind ≡ 6) (λ r. cases_eq r.kind 6) (records_of placed))
 

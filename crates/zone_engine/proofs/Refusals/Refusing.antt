@@ -1,6 +1,7 @@
 -- A reading is refused for one fault at one place, and no zone has the records of a refused one.
-use Rattle.zone_engine.proofs.Common.{◌≡◌, ◌≤◌, List, ◌∷◌, length, Less, refl, sym, ap, ◌∙◌, subst, inl, ⊎_elim, arith, IsWithin, name_cmp, Record, Fault, OutOfZone, Place, Whole, Stop, Refused, Placed, Accepts, IsRefusedFor, class, soa, ttl, HasNoSoa, IsLeastOutside, StopsFinish, no_soa, outside, AllAccepted, IsFirstRefused, records_of, Has, SameRecords, Zone, IsZone, canon, text_limit, MakesZone, RefusesReading, refused, unread, unfinished, too_large, stable_owner, each_Has, Option, None, IsTotalOrder, ordering_reverse, Labels}
-use Rattle.zone_engine.proofs.Refusals.Parting.{Partings, same, first, second, two_partings, Has-part, Has-parts, all_soa}
+use Rattle.zone_engine.proofs.Common.{◌≡◌, ◌≤◌, List, ◌∷◌, length, Less, refl, sym, ap, ◌∙◌, subst, ⊎_elim, arith, IsWithin, name_cmp, Record, Fault, OutOfZone, Place, Whole, Stop, Refused, Placed, Accepts, IsRefusedFor, class, soa, ttl, HasNoSoa, IsLeastOutside, StopsFinish, no_soa, outside, AllAccepted, IsFirstRefused, records_of, Has, SameRecords, Zone, IsZone, canon, text_limit, MakesZone, RefusesReading, refused, unread, unfinished, too_large, stable_owner, each_Has, Option, None, IsTotalOrder, ordering_reverse, Labels}
+use Rattle.zone_engine.proofs.Refusals.Parting.{Partings, same, first, second, two_partings, all_soa}
+use Rattle.zone_set.proofs.Ordering.Neighbours.{AllAccepted-from_compatible}
 
 -- ---- the first record that is refused
 
@@ -36,21 +37,8 @@ one_first placed f g at there is other = by (two_partings is.before other.before
 -- ---- records that make a zone
 
 module _ (z : Zone) (placed : List Placed) (zone : IsZone z) (same_records : SameRecords z.records (records_of placed)) where
-  in_zone : (r : Record) → Has (records_of placed) r → Has z.records r
-  in_zone r has = (same_records r).1 has
-
   zone_accepted : AllAccepted placed
-  zone_accepted before others p parts = record {
-    one_class = λ (s, has, other). other (zone.compatible.one_class s p.rr (earlier s has) here);
-    one_soa = λ (s, has, (is_soa, soa_s, other)). let one : s ≡ p.rr = zone.compatible.one_soa s p.rr (earlier s has) here soa_s is_soa in ⊎_elim (λ owner. owner (ap (λ t. t.owner) one)) (λ octets. octets (ap (λ t. t.octets) one)) other;
-    one_ttl = λ (s, has, one, other). other (zone.compatible.one_ttl s p.rr (earlier s has) here one);
-  }
-    where
-      here : Has z.records p.rr
-      here = in_zone p.rr (subst (λ ps. Has (records_of ps) p.rr) (sym parts) (Has-part before others p))
-
-      earlier : (s : Record) → Has (records_of before) s → Has z.records s
-      earlier s has = in_zone s (subst (λ ps. Has (records_of ps) s) (sym parts) ((Has-parts before (p ∷ others) s).1 (inl has)))
+  zone_accepted = AllAccepted-from_compatible z.records placed zone.compatible same_records
 
   zone_has_soa : HasNoSoa (records_of placed) → ⊥
   zone_has_soa none = let (r, has, is_soa, at) = zone.soa in none r ((same_records r).0 has) is_soa
@@ -59,16 +47,13 @@ module _ (z : Zone) (placed : List Placed) (zone : IsZone z) (same_records : Sam
   zone_has_no_outside owner least =
       let (r, has, is_soa, at) = zone.soa in
       let (s, has_s, owned) = least.held_owner in
-      let one : least.soa ≡ r = zone.compatible.one_soa least.soa r (in_zone least.soa least.held_soa.0) has least.held_soa.1 is_soa in
+      let one : least.soa ≡ r = zone.compatible.one_soa least.soa r ((same_records least.soa).1 least.held_soa.0) has least.held_soa.1 is_soa in
       let apex : z.apex ≡ least.soa.owner = sym at ∙ sym (ap (λ t. t.owner) one) in
-      least.outside (subst (λ o. IsWithin o least.soa.owner) owned (subst (IsWithin s.owner) apex (each_Has (λ t. IsWithin t.owner z.apex) z.records s zone.within (in_zone s has_s))))
+      least.outside (subst (λ o. IsWithin o least.soa.owner) owned (subst (IsWithin s.owner) apex (each_Has (λ t. IsWithin t.owner z.apex) z.records s zone.within ((same_records s).1 has_s))))
 
-  zone_not_stopped : (f : Fault) (at : Place) → StopsFinish (records_of placed) (Refused f at) → ⊥
-  zone_not_stopped f at stops = by (Refused f at) stops
-    where
-      by : (stop : Stop) → StopsFinish (records_of placed) stop → ⊥
-      by _ (no_soa none) = zone_has_soa none
-      by _ (outside owner least) = zone_has_no_outside owner least
+  zone_not_stopped : (stop : Stop) → StopsFinish (records_of placed) stop → ⊥
+  zone_not_stopped _ (no_soa none) = zone_has_soa none
+  zone_not_stopped _ (outside owner least) = zone_has_no_outside owner least
 
 -- a zone has one list of records
 abbrev pub OneZone : Type 0
@@ -80,7 +65,7 @@ same_through records others common is other r = (λ has. (other r).1 ((is r).0 h
 pub refused_or_zone : OneZone → (placed : List Placed) (f : Fault) (at : Place) → RefusesReading placed None f at → (z : Zone) → MakesZone placed z → ⊥
 refused_or_zone one placed f at (refused f' at' is) z makes = refused_not_accepted placed f' at' is (zone_accepted z placed makes.zone makes.same)
 refused_or_zone one placed f at (unread f' at' all is) z makes = cc
-refused_or_zone one placed f at (unfinished f' at' all is stops) z makes = zone_not_stopped z placed makes.zone makes.same f' at' stops
+refused_or_zone one placed f at (unfinished f' at' all is stops) z makes = zone_not_stopped z placed makes.zone makes.same (Refused f' at') stops
 refused_or_zone one placed f at (too_large w is zone_w same_w long) z makes =
     let short : length (canon z) ≤ text_limit = makes.text_short in
     let e : length (canon z) ≡ length (canon w) = ap (λ (v : Zone). length (canon v)) (one z w makes.zone zone_w (same_through z.records w.records (records_of placed) makes.same same_w)) in absurd (omega arith)
@@ -121,8 +106,8 @@ one_refusal total placed ending f g at there (unread f' at' all ends) (too_large
 one_refusal total placed ending f g at there (unfinished f' at' all ends stops) (refused g' there' other) = absurd (refused_not_accepted placed g' there' other all)
 one_refusal total placed ending f g at there (unfinished f' at' all ends stops) (unread g' there' all' ends') = cc
 one_refusal total placed ending f g at there (unfinished f' at' all ends stops) (unfinished g' there' all' ends' stops') = both_from f' g' at' there' (one_stop total placed all _ _ stops stops')
-one_refusal total placed ending f g at there (unfinished f' at' all ends stops) (too_large z ends' zone same_records long) = absurd (zone_not_stopped z placed zone same_records f' at' stops)
+one_refusal total placed ending f g at there (unfinished f' at' all ends stops) (too_large z ends' zone same_records long) = absurd (zone_not_stopped z placed zone same_records (Refused f' at') stops)
 one_refusal total placed ending f g at there (too_large z ends zone same_records long) (refused g' there' other) = absurd (refused_not_accepted placed g' there' other (zone_accepted z placed zone same_records))
 one_refusal total placed ending f g at there (too_large z ends zone same_records long) (unread g' there' all' ends') = cc
-one_refusal total placed ending f g at there (too_large z ends zone same_records long) (unfinished g' there' all' ends' stops') = absurd (zone_not_stopped z placed zone same_records g' there' stops')
+one_refusal total placed ending f g at there (too_large z ends zone same_records long) (unfinished g' there' all' ends' stops') = absurd (zone_not_stopped z placed zone same_records (Refused g' there') stops')
 one_refusal total placed ending f g at there (too_large z ends zone same_records long) (too_large w ends' zone_w same_w long_w) = (refl, refl)

@@ -1,12 +1,7 @@
-use Rattle.zone_wire.proofs.Common.{Record, ap, arith, false, is_some, record_with, refl, sym, true, [], ◌++◌, ◌∙◌, ◌∷◌, ◌≡◌}
-use Rattle.zone_rdata.specs.Lent.{record_of}
-use Rattle.zone_rdata.specs.declared.lent.RrRef.{RrRef}
+use Rattle.zone_wire.proofs.Common.{arith, false, is_some, refl, sym, true, ◌∙◌, ◌≡◌}
 use Rattle.zone_wire.proofs.Transfers.Progress.{here_at, closing_gains, opening_gains, other_gains}
 use Rattle.zone_wire.proofs.transfer.Transfer.take_record.Goals as goal
 use Rattle.zone_wire.proofs.transfer.Transfer.take_record.Goals.{else-not-is_opening-via-then-not-is_opening+else-is_soa, else-not-is_opening-via-else-not-is_opening}
-
-by_parts : (lent : RrRef) (rr : Record) → record_of lent ≡ rr → record_with lent.owner lent.ttl lent.rdata ≡ rr
-by_parts lent rr e = cc (lent.same_class, lent.same_kind)
 
 pub returns-then-is_soa-clause-gains : goal.returns-then-is_soa-clause-gains
 returns-then-is_soa-clause-gains c = λ questions placed among.
@@ -16,15 +11,13 @@ returns-then-is_soa-clause-gains c = λ questions placed among.
 pub returns-then-is_opening-clause-gains : goal.returns-then-is_opening-clause-gains
 returns-then-is_opening-clause-gains c = λ questions placed among.
     let none : is_some c.args.self.now.opening ≡ false = grind arith in
-    let same = ap (λ r. c.args.self.now.decided.placed ++ here_at r c.args.self.now.messages c.args.offset ∷ []) (by_parts c.lend-lent.result c.args.rr c.lend-lent.ensures.record) in
-    opening_gains questions placed c.args.rr c.args.offset c.args.self.now c.hand_on.new.self c.open.new.self among none c.in_ok-hand_on.ensures.others (c.in_ok-hand_on.ensures.items ∙ same) c.open.ensures.opening c.open.ensures.zone c.open.ensures.others
+    opening_gains questions placed c.args.rr c.args.offset c.args.self.now c.hand_on.new.self c.open.new.self among none c.in_ok-hand_on.ensures.others (rw c.lend.ensures.record at c.in_ok-hand_on.ensures.items) c.open.ensures.opening c.open.ensures.zone c.open.ensures.others
 
 pub returns-else-is_opening-clause-gains : goal.returns-else-is_opening-clause-gains
 returns-else-is_opening-clause-gains c = λ questions placed among.
     let some : is_some c.args.self.now.opening ≡ true = grind arith in
-    let same = ap (λ r. c.args.self.now.decided.placed ++ here_at r c.args.self.now.messages c.args.offset ∷ []) (by_parts c.lend-lent.result c.args.rr c.lend-lent.ensures.record) in
     let other : c.args.rr.kind ≡ 6 → ⊥ = λ soa. elim c.else-not-is_opening.branch [
       | else-not-is_opening-via-then-not-is_opening+else-is_soa w ↦ (let yes = w.is_soa.ensures.1 (w.kind.ensures ∙ soa) in let not_it = w.if-is_soa.false in let none : ⊥ = cc in none)
       | else-not-is_opening-via-else-not-is_opening w ↦ (let opens = w.if-not-is_opening.false in let closed = c.if-is_opening.false in let none : ⊥ = cc in none)
     ] in
-    other_gains questions placed c.args.rr c.args.offset c.args.self.now c.hand_on.new.self among some other c.in_ok-hand_on.ensures.others (c.in_ok-hand_on.ensures.items ∙ same)
+    other_gains questions placed c.args.rr c.args.offset c.args.self.now c.hand_on.new.self among some other c.in_ok-hand_on.ensures.others (rw c.lend.ensures.record at c.in_ok-hand_on.ensures.items)
