@@ -1,5 +1,5 @@
 -- What stands about a place.
-use Rattle.sorted_chunks.proofs.Common.{common_steps, ◌≡◌, ℕ, ◌+◌, ◌-◌, ◌<◌, ◌≤◌, List, [], ◌∷◌, ◌++◌, length, take, drop, get_or, sym, ap, ◌∙◌, arith, ⊎_elim, append-nil, append_assoc, take-append-drop, drop_more, drop_all, take_all, take_more, get_or_past, get_or_default, All-cons, All-from_recursion, All-nil, recursion_from_All, All, AllByRecursion, after, before, joined}
+use Rattle.sorted_chunks.proofs.Common.{common_steps, get_or-append-add, get_or_append_left, length-append, ◌≡◌, ℕ, ◌+◌, ◌-◌, ◌<◌, ◌≤◌, List, [], ◌∷◌, ◌++◌, length, take, drop, get_or, ap, ◌∙◌, arith, ⊎_elim, append-nil, append_assoc, take-append-drop, drop_more, drop_all, take_all, take_more, get_or_past, get_or_default, All, after, before, joined}
 use Rattle.std.proofs.lemmas.Bool.{cases_eq}
 use Rattle.sorted_chunks.proofs.Placing.{joined_about}
 
@@ -10,26 +10,7 @@ module _ {X : Type 0} where
 
   -- what stands before a place and after it is the whole
   pub whole_at : (cs : List (List X)) (i j : ℕ) → i ≤ length cs → before cs (record { chunk = i; offset = j }) ++ after cs (record { chunk = i; offset = j }) ≡ joined cs
-  whole_at cs i j le = ⊎_elim past within (cases_eq i (length cs))
-    where
-      c : List X
-      c = get_or cs i []
-
-      regrouped : before cs (record { chunk = i; offset = j }) ++ after cs (record { chunk = i; offset = j }) ≡ joined (take i cs) ++ (c ++ joined (drop (i + 1) cs))
-      regrouped =
-          append_assoc (joined (take i cs)) (take j c) (drop j c ++ joined (drop (i + 1) cs))
-          ∙ ap (λ l. joined (take i cs) ++ l) (sym (append_assoc (take j c) (drop j c) (joined (drop (i + 1) cs))) ∙ ap (λ l. l ++ joined (drop (i + 1) cs)) (take-append-drop j c))
-
-      past : i ≡ length cs → before cs (record { chunk = i; offset = j }) ++ after cs (record { chunk = i; offset = j }) ≡ joined cs
-      past at =
-          regrouped
-          ∙ ap (λ l. joined (take i cs) ++ (l ++ joined (drop (i + 1) cs))) (get_or_past cs i [] (omega arith))
-          ∙ ap (λ l. joined (take i cs) ++ joined l) (drop_all (i + 1) cs (omega arith))
-          ∙ append-nil (joined (take i cs))
-          ∙ ap joined (take_all i cs (omega arith))
-
-      within : (i ≡ length cs → ⊥) → before cs (record { chunk = i; offset = j }) ++ after cs (record { chunk = i; offset = j }) ≡ joined cs
-      within other = regrouped ∙ sym (joined_about cs i (omega (arith, other)))
+  whole_at cs i j le = ⊎_elim (λ past. grind (arith, get_or_past cs i [], drop_all (i + 1) cs, take_all i cs, append-nil)) (λ within. grind (arith, joined_about cs i, append_assoc (joined (take i cs)) (take j (get_or cs i [])), append_assoc (take j (get_or cs i [])) (drop j (get_or cs i [])), take-append-drop j (get_or cs i []))) (cases_eq i (length cs))
 
   -- a place after an element of a chunk is in that chunk
   pub filled_within : (cs : List (List X)) (i j : ℕ) → 0 < j → j ≤ length (get_or cs i []) → i < length cs
@@ -37,14 +18,7 @@ module _ {X : Type 0} where
 
   -- the element before a place in a chunk
   pub last_in : (cs : List (List X)) (i j : ℕ) (x : X) → 0 < j → j ≤ length (get_or cs i []) → x ≡ get_or (get_or cs i []) (j - 1) x → (front : List X) × (before cs (record { chunk = i; offset = j }) ≡ front ++ x ∷ [])
-  last_in cs i j x some le is =
-      let c = get_or cs i [] in
-      let next : j ≡ j - 1 + 1 = omega arith in (
-        joined (take i cs) ++ take (j - 1) c,
-        ap (λ n. joined (take i cs) ++ take n c) next
-            ∙ ap (λ l. joined (take i cs) ++ l) (take_more c (j - 1) x (omega arith) ∙ ap (λ y. take (j - 1) c ++ y ∷ []) (sym is))
-            ∙ sym (append_assoc (joined (take i cs)) (take (j - 1) c) (x ∷ [])),
-      )
+  last_in cs i j x some le is = (joined (take i cs) ++ take (j - 1) (get_or cs i []), grind (arith, take_more (get_or cs i []) (j - 1) x, append_assoc))
 
   -- the beginning of a chunk is after the end of the one before it
   before_chunk : (cs : List (List X)) (i : ℕ) → 0 < i → i ≤ length cs → before cs (record { chunk = i; offset = 0 }) ≡ before cs (record { chunk = i - 1; offset = length (get_or cs (i - 1) []) })
@@ -55,9 +29,7 @@ module _ {X : Type 0} where
 
   -- the element after a place in a chunk
   pub first_in : (cs : List (List X)) (i j : ℕ) (x : X) → j < length (get_or cs i []) → x ≡ get_or (get_or cs i []) j x → (rest : List X) × (after cs (record { chunk = i; offset = j }) ≡ x ∷ rest)
-  first_in cs i j x within is =
-      let c = get_or cs i [] in
-      (drop (j + 1) c ++ joined (drop (i + 1) cs), ap (λ l. l ++ joined (drop (i + 1) cs)) (drop_more c j x within ∙ ap (λ y. y ∷ drop (j + 1) c) (sym is)))
+  first_in cs i j x within is = (drop (j + 1) (get_or cs i []) ++ joined (drop (i + 1) cs), grind (arith, drop_more (get_or cs i []) j x))
 
   -- the end of a chunk is before the next one
   pub after_end : (cs : List (List X)) (i j : ℕ) → length (get_or cs i []) ≤ j → after cs (record { chunk = i; offset = j }) ≡ joined (drop (i + 1) cs)
@@ -71,14 +43,7 @@ module _ {X : Type 0} where
 
   -- what holds of each element holds of each of each chunk
   pub each_chunk : (P : X → Type 0) (cs : List (List X)) → All P (joined cs) → All (λ c. All P c) cs
-  each_chunk P [] all = All-nil (λ c. All P c)
-  each_chunk P (c ∷ cs) all =
-      let both = parts c (joined cs) (recursion_from_All P (joined (c ∷ cs)) all) in
-      All-cons (λ d. All P d) c cs (All-from_recursion P c both.0) (each_chunk P cs (All-from_recursion P (joined cs) both.1))
-    where
-      parts : (xs ys : List X) → AllByRecursion P (xs ++ ys) → AllByRecursion P xs × AllByRecursion P ys
-      parts [] ys all = (tt, all)
-      parts (x ∷ xs) ys all = let more = parts xs ys all.1 in ((all.0, more.0), more.1)
+  each_chunk P cs all = λ i e lt k d within. grind (arith, all (length (joined (take i cs)) + k) d, joined_about cs i, get_or-append-add, get_or_append_left, get_or_default, length-append)
 
   -- what holds of each element holds of the last
   pub at_last : (P : X → Type 0) (front : List X) (x : X) (xs : List X) → xs ≡ front ++ x ∷ [] → All P xs → P x

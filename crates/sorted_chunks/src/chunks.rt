@@ -86,6 +86,7 @@ impl<T: Copy, const LIMIT: usize> SortedChunks<T, LIMIT> {
     }
 
     /// The place of what is sought, where the elements that it comes after stand first.
+    #[tactic(auto, using(crate::proofs::Neighbours::at_last))]
     pub fn place_of<S: Sought<T>>(&self, sought: &S) -> Position
         requires { All (S.knows sought.now) (joined self.now) }
         ensures place { IsPlace self.now result }
@@ -122,6 +123,7 @@ impl<T: Copy, const LIMIT: usize> SortedChunks<T, LIMIT> {
     }
 
     /// `place_of` by a binary search over the chunks' first elements, and then in a chunk.
+    #[tactic(auto, using(crate::proofs::Neighbours::whole_at))]
     fn search<S: Sought<T>>(&self, sought: &S) -> Position
         requires { All (S.knows sought.now) (joined self.now) }
         ensures place { IsPlace self.now result }
@@ -143,6 +145,7 @@ impl<T: Copy, const LIMIT: usize> SortedChunks<T, LIMIT> {
     }
 
     /// The last element before a place.
+    #[tactic(auto, using(crate::proofs::Neighbours::last_in, crate::proofs::Neighbours::last_of_chunk, crate::proofs::Neighbours::lent, crate::proofs::Neighbours::filled_within))]
     pub fn last_before(&self, position: Position) -> Option<&T>
         requires { IsPlace self.now position }
         ensures { MatchOption result (before self.now position ≡ [])
@@ -159,6 +162,7 @@ impl<T: Copy, const LIMIT: usize> SortedChunks<T, LIMIT> {
     }
 
     /// The first element after a place.
+    #[tactic(auto, using(crate::proofs::Neighbours::first_in, crate::proofs::Neighbours::lent))]
     pub fn first_after(&self, position: Position) -> Option<&T>
         requires { IsPlace self.now position }
         ensures { MatchOption result (after self.now position ≡ [])
@@ -178,6 +182,7 @@ impl<T: Copy, const LIMIT: usize> SortedChunks<T, LIMIT> {
     }
 
     /// The last element.
+    #[tactic(auto, using(crate::proofs::Neighbours::before_all))]
     pub fn last(&self) -> Option<&T>
         ensures { MatchOption result (joined self.now ≡ [])
             (λ x. (front : List T) × (joined self.now ≡ front ++ x.now ∷ [])) }

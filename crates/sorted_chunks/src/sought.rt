@@ -40,6 +40,7 @@ impl<'a, T, S: Sought<T>> Sought<Chunk<T>> for AmongChunks<'a, S> {
 
 /// How many elements stand before what is sought, where those that do come first: a binary
 /// search.
+#[tactic(auto, using(crate::proofs::Parting::narrowed_up, crate::proofs::Parting::narrowed_down))]
 pub(crate) fn count_before<T, S: Sought<T>>(elements: &[T], sought: &S) -> usize
     requires { All (S.knows sought.now) elements.now }
     ensures bound { result ≤ length elements.now }

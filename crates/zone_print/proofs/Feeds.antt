@@ -1,8 +1,7 @@
 -- No part of a line has a line feed.
-use Rattle.zone_print.proofs.Common.{common_steps, ◌≡◌, ◌≢◌, ℕ, zero, suc, ◌+◌, ◌/◌, ◌%◌, ◌==◌, ◌≤◌, List, [], ◌∷◌, ◌++◌, length, drop, map, Bool, true, false, if◌then◌else◌, IsTrue, Option, None, Some, refl, codes, decimal, arith, AllByRecursion, flat_map, join_with_byte, list_all, slice_index, octet_text, label_text, name_text, Data, Record, data_of, data_items, data_text, laid_out_items, written_item, class_mnemonic, laid_out_mnemonic, word_or_numbered, class_text, kind_text, line, HasNoFeed, EndsWithItsFeed, Labels}
+use Rattle.zone_print.proofs.Common.{common_steps, ◌≡◌, ◌≢◌, ℕ, zero, suc, ◌/◌, ◌%◌, ◌==◌, ◌≤◌, List, [], ◌∷◌, ◌++◌, length, drop, map, Bool, true, false, if◌then◌else◌, IsTrue, Option, None, Some, refl, codes, decimal, arith, AllByRecursion, flat_map, join_with_byte, list_all, slice_index, octet_text, label_text, name_text, Data, Record, data_of, data_items, data_text, laid_out_items, written_item, class_mnemonic, laid_out_mnemonic, word_or_numbered, class_text, kind_text, line, HasNoFeed, EndsWithItsFeed, Labels}
 use Rattle.std.specs.Char.{digit_char}
-use Rattle.std.specs.Net.Addr.{segments_of}
-use Rattle.std.specs.Net.Text.{hex, leading_zero_digits, compressed_text, longest_zero_run}
+use Rattle.std.specs.Net.Text.{hex, leading_zero_digits}
 use Rattle.hex.specs.Hex.{lower_digits, encode_with, encode_lower}
 use Rattle.std.specs.Fmt.{digit_glyph, digits, digits_onto}
 use Rattle.zone_name.proofs.InOctets.Pushing.{AllByRecursion-append}
@@ -23,9 +22,12 @@ none_append xs ys p q = AllByRecursion-append _ xs ys p q
 none_if : (b : Bool) (xs ys : List ℕ) → (b ≡ true → HasNoFeed xs) → (b ≡ false → HasNoFeed ys) → HasNoFeed (if b then xs else ys)
 none_if b xs ys p q = grind arith
 
+each_flat : {X Y : Type 0} (P : Y → Type 0) (f : X → List Y) → ((x : X) → AllByRecursion P (f x)) → (xs : List X) → AllByRecursion P (flat_map f xs)
+each_flat P f each [] = tt
+each_flat P f each (x ∷ xs) = AllByRecursion-append P (f x) (flat_map f xs) (each x) (each_flat P f each xs)
+
 none_flat : {X : Type 0} (f : X → List ℕ) → ((x : X) → HasNoFeed (f x)) → (xs : List X) → HasNoFeed (flat_map f xs)
-none_flat f each [] = tt
-none_flat f each (x ∷ xs) = none_append (f x) (flat_map f xs) (each x) (none_flat f each xs)
+none_flat = each_flat (λ c. c ≢ 10)
 
 pub high : (c n : ℕ) → c ≡ n → 11 ≤ n → c ≢ 10
 high c n e h f = omega arith
@@ -37,9 +39,7 @@ none_glyph d = grind arith
 
 none_onto : (k n : ℕ) (acc : List ℕ) → HasNoFeed acc → HasNoFeed (digits_onto k 10 false n acc)
 none_onto zero n acc h = h
-none_onto (suc k) n acc h =
-    none_if (n / 10 == 0) (digit_glyph false (n % 10) ∷ acc) (digits_onto k 10 false (n / 10) (digit_glyph false (n % 10) ∷ acc))
-    (λ e. (none_glyph (n % 10), h)) (λ e. none_onto k (n / 10) (digit_glyph false (n % 10) ∷ acc) (none_glyph (n % 10), h))
+none_onto (suc k) n acc h = grind (arith, none_glyph (n % 10), none_onto k (n / 10) (digit_glyph false (n % 10) ∷ acc))
 
 pub none_decimal : (n : ℕ) → HasNoFeed (decimal n)
 unfolding digits
@@ -81,11 +81,8 @@ none_found rows all n (Some word) e = none_tested word (each_mnemonic (λ _ name
 none_class : (n : ℕ) → HasNoFeed (class_text n)
 none_class n = none_word (class_mnemonic n) (codes "CLASS") n (none_found classes refl n (class_mnemonic n) refl) (none_tested (codes "CLASS") refl)
 
-none_laid_out_row : (fields : Option (List Field)) (n : ℕ) → RowHasNoFeed (laid_out_mnemonic fields n)
-none_laid_out_row fields n = grind arith
-
 none_kind : (class n : ℕ) → HasNoFeed (kind_text class n)
-none_kind class n = none_word (laid_out_mnemonic (layout class n) n) (codes "TYPE") n (none_laid_out_row (layout class n) n) (none_tested (codes "TYPE") refl)
+none_kind class n = none_word (laid_out_mnemonic (layout class n) n) (codes "TYPE") n (grind arith) (none_tested (codes "TYPE") refl)
 
 none_ipv4 : (octets : List ℕ) → HasNoFeed (ipv4_text octets)
 none_ipv4 octets = grind (arith, none_decimal, none_append, high)
@@ -100,11 +97,8 @@ none_hex n = none_drop (leading_zero_digits n) (digit_char (n / 0x1000) ∷ digi
 none_groups : (groups : List ℕ) → HasNoFeed (parted_groups groups)
 none_groups groups = grind (arith, none_append, none_hex, none_flat, high)
 
-none_run : (segments : List ℕ) (run : ℕ × ℕ) → HasNoFeed (compressed_text segments run)
-none_run segments run = grind (arith, none_if, none_append, none_groups, high)
-
 none_ipv6 : (octets : List ℕ) → HasNoFeed (ipv6_text octets)
-none_ipv6 octets = none_run (segments_of octets) (longest_zero_run (segments_of octets))
+none_ipv6 octets = grind (arith, none_if, none_append, none_groups, high)
 
 none_string : (octets : List ℕ) → HasNoFeed (string_text octets)
 none_string octets = (high 34 34 refl (omega arith), none_append (inside_text octets) (34 ∷ []) (none_flat unit_text (λ c. grind arith) octets) (none_tested (34 ∷ []) refl))
@@ -130,10 +124,6 @@ none_strings (octets ∷ many) = (none_string octets, none_strings many)
 none_field : (v : FieldValue) → AreFeedless (field_items v)
 none_field v = grind (arith, none_name, none_decimal, none_if, none_ipv4, none_ipv6, none_string, none_strings)
 
-none_fields : (values : List FieldValue) → AreFeedless (flat_map field_items values)
-none_fields [] = tt
-none_fields (v ∷ values) = AllByRecursion-append _ (field_items v) (flat_map field_items values) (none_field v) (none_fields values)
-
 none_generic : (octets : List ℕ) → AreFeedless (generic_items octets)
 none_generic [] = (none_tested (codes "\\#") refl, (none_decimal 0, tt))
 none_generic (c ∷ octets) = (none_tested (codes "\\#") refl, (none_decimal (length (c ∷ octets)), (none_encoded (c ∷ octets), tt)))
@@ -145,16 +135,12 @@ none_joined (i ∷ j ∷ items) h = none_append (written_item i) (32 ∷ join_wi
 
 none_laid_out : (fields : Option (List Field)) (octets : List ℕ) → AreFeedless (laid_out_items fields octets)
 none_laid_out None octets = none_generic octets
-none_laid_out (Some fields) octets = none_fields (values_of fields octets)
+none_laid_out (Some fields) octets = each_flat (λ i. HasNoFeed (written_item i)) field_items none_field (values_of fields octets)
 
 none_data : (d : Data) → HasNoFeed (data_text d)
 none_data d = none_joined (data_items d) (none_laid_out (layout d.class d.kind) d.octets)
 
 -- ---- the line
 
-none_line : (owner ttl class kind rdata : List ℕ) → HasNoFeed owner → HasNoFeed ttl → HasNoFeed class → HasNoFeed kind → HasNoFeed rdata
-    → HasNoFeed (owner ++ 32 ∷ ttl ++ 32 ∷ class ++ 32 ∷ kind ++ 32 ∷ rdata)
-none_line owner ttl class kind rdata p q r s t = grind (arith, none_append, high)
-
 pub line_ends_with_feed : (r : Record) → EndsWithItsFeed (line r)
-line_ends_with_feed r = grind (arith, none_line (name_text r.owner) (decimal r.ttl) (class_text r.class) (kind_text r.class r.kind) (data_text (data_of r)) (none_name r.owner) (none_decimal r.ttl) (none_class r.class) (none_kind r.class r.kind) (none_data (data_of r)))
+line_ends_with_feed r = grind (arith, none_append, high, none_name r.owner, none_decimal r.ttl, none_class r.class, none_kind r.class r.kind, none_data (data_of r))

@@ -1,20 +1,12 @@
 -- A zone is fixed by its set of records: a strictly ascending list is the only one of its set.
-use Rattle.zone_print.proofs.Common.{◌≡◌, ℕ, List, [], ◌∷◌, Less, Equal, refl, sym, ap, ap₂, ◌∙◌, subst, inl, ⊎_elim, arith, Record, data_of, Placed, FileStates, records_of, Has, SameRecords, Zone, IsZone, Denotes, Labels}
-use Rattle.std.proofs.lemmas.Cmp.{on_total, then_total, nat_cmp_total, nat_list_cmp_total, tied_itself}
+use Rattle.zone_print.proofs.Common.{◌≡◌, ℕ, List, [], ◌∷◌, Less, Equal, refl, sym, ap, ap₂, ◌∙◌, inl, arith, Record, data_of, Placed, FileStates, Has, SameRecords, Zone, IsZone, Denotes, Labels}
+use Rattle.std.proofs.lemmas.Cmp.{tied_itself}
 use Rattle.std.proofs.lemmas.Map.Lookups.{exact_unsigned, exact_bytes}
-use Rattle.std.specs.Cmp.{IsTotalOrder}
 use Rattle.std.specs.Ordering.{ordering_reverse}
 use Rattle.zone_name.specs.Order.{name_cmp}
-use Rattle.zone_name.proofs.Texts.Lawful.{name_cmp-total}
-use Rattle.zone_rdata.specs.Order.{data_cmp}
-use Rattle.zone_set.specs.Order.{soa_rank, canonical_cmp, Ascends}
+use Rattle.zone_set.specs.Order.{canonical_cmp, Ascends}
 use Rattle.zone_set.proofs.Holding.Together.{each_Has}
-use Rattle.zone_set.proofs.Ordering.SetOrder.{both_equal}
-
-pub canonical_total : IsTotalOrder canonical_cmp
-canonical_total =
-    let of_data : IsTotalOrder data_cmp = then_total (on_total (λ d. d.class) nat_cmp_total) (then_total (on_total (λ d. d.kind) nat_cmp_total) (on_total (λ d. d.octets) nat_list_cmp_total)) in
-    then_total (on_total soa_rank nat_cmp_total) (then_total (on_total (λ r. r.owner) name_cmp-total) (on_total data_of of_data))
+use Rattle.zone_set.proofs.Ordering.SetOrder.{both_equal, canonical_total}
 
 -- records that the order doesn't tell apart have one owner and one data
 pub canonical_exact : ((a b : Labels) → name_cmp a b ≡ Equal → a ≡ b) → (r s : Record) → canonical_cmp r s ≡ Equal → (r.owner ≡ s.owner) × (data_of r ≡ data_of s)
@@ -37,12 +29,7 @@ not_both r s less back = let turned = sym less ∙ canonical_total.antisymm r s 
 -- the first of two ascending lists of the same records
 same_first : (r s : Record) (records others : List Record) → Ascends (r ∷ records) → Ascends (s ∷ others) → SameRecords (r ∷ records) (s ∷ others) → r ≡ s
 same_first r s records others up up_others same =
-    ⊎_elim (λ is. is) (λ later.
-    ⊎_elim (λ is. sym is) (λ later_s. absurd (not_both r s
-    (each_Has (λ t. canonical_cmp r t ≡ Less) records s up.0 later_s)
-    (each_Has (λ t. canonical_cmp s t ≡ Less) others r up_others.0 later)))
-    ((same s).1 (inl refl)))
-    ((same r).0 (inl refl))
+    grind (arith, not_both, (same r).0 (inl refl), (same s).1 (inl refl), each_Has (λ t. canonical_cmp r t ≡ Less) records s up.0, each_Has (λ t. canonical_cmp s t ≡ Less) others r up_others.0)
 
 -- what follows the first of one list follows the first of the other
 after : (r s : Record) (records others : List Record) → Ascends (r ∷ records) → r ≡ s → ((t : Record) → Has (r ∷ records) t → Has (s ∷ others) t) → (t : Record) → Has records t → Has others t
@@ -66,8 +53,5 @@ one_zone z w is_z is_w same = grind (arith, one_ascending, each_Has)
 -- a file that states one list of records denotes one zone
 pub one_zone_of_file : (origin : Labels) (octets : List ℕ) → ((a b : List Placed) → FileStates origin octets a → FileStates origin octets b → a ≡ b) → (z w : Zone) → Denotes origin octets z → Denotes origin octets w → z ≡ w
 one_zone_of_file origin octets one z w denotes other =
-    let placed : denotes.placed ≡ other.placed = one denotes.placed other.placed denotes.states other.states in
-    one_zone z w denotes.makes.zone other.makes.zone (λ r. (
-      λ has. (other.makes.same r).1 (subst (λ ps. Has (records_of ps) r) placed ((denotes.makes.same r).0 has)),
-      λ has. (denotes.makes.same r).1 (subst (λ ps. Has (records_of ps) r) (sym placed) ((other.makes.same r).0 has)),
-    ))
+    let placed = one denotes.placed other.placed denotes.states other.states in
+    one_zone z w denotes.makes.zone other.makes.zone (λ r. grind (arith, placed, denotes.makes.same r, other.makes.same r))

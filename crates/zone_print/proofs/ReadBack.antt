@@ -1,5 +1,5 @@
 -- A record's line is one entry that states the record, so lines of records are read back.
-use Rattle.zone_print.proofs.Common.{◌≡◌, ◌≢◌, ◌↔◌, ℕ, zero, ◌+◌, ◌^◌, ◌<◌, ◌≤◌, List, [], ◌∷◌, ◌++◌, length, ◌==◌, Bool, cond, false, Option, Some, refl, sym, ap, ◌∙◌, subst, decimal, add-zero, arith, rules, fold, append-nil, flat_map, AllByRecursion, count_by, name_text, Placed, Data, Record, IsRdata, IsRecord, data_of, data_items, IsClass, IsClassWord, IsKind, IsKindWord, class_text, kind_text, Cut, Entry, cut_from, entry_of, item_of, numbered, FileStates, EntriesState, states_one, IsItem, line_of, StatesWhole, Cuts, Token, text, records_of, Has, IsZone, SameRecords, Zone, canon, line, lines, text_limit, Denotes, EndsWithItsFeed, HasNoFeed, IsLineOf, placed_from, Labels, States}
+use Rattle.zone_print.proofs.Common.{◌≡◌, ◌↔◌, ℕ, zero, ◌+◌, ◌^◌, ◌<◌, ◌≤◌, List, [], ◌∷◌, ◌++◌, length, ◌==◌, cond, Option, Some, refl, sym, ap, ◌∙◌, subst, decimal, arith, rules, append-nil, flat_map, AllByRecursion, count_by, name_text, Placed, Data, Record, IsRdata, IsRecord, data_of, data_items, IsClass, IsClassWord, IsKind, IsKindWord, class_text, kind_text, Cut, Entry, cut_from, entry_of, item_of, numbered, FileStates, EntriesState, states_one, IsItem, line_of, StatesWhole, Cuts, Token, text, records_of, IsZone, SameRecords, Zone, canon, line, lines, text_limit, Denotes, EndsWithItsFeed, HasNoFeed, IsLineOf, placed_from, Labels, States}
 use Rattle.std.proofs.lemmas.Bool.Decides.{nat_tests}
 use Rattle.zone_name.specs.Name.{IsName}
 use Rattle.zone_name.specs.Spelling.{Spells}
@@ -12,6 +12,7 @@ use Rattle.zone_text.proofs.Tokens.CutAgain.{cut_ended, joined}
 use Rattle.zone_text.proofs.Files.DecidedOnce.{cut_after_all}
 use Rattle.zone_print.proofs.Feeds.{line_ends_with_feed}
 use Rattle.zone_print.proofs.Items.{LineItems, line_items}
+use Rattle.std.proofs.lemmas.List.Sums.{sum_by-append, sum_by-cons}
 
 -- what is printed for the parts of a record is read as these parts, and a line of items is one entry
 module _
@@ -62,21 +63,12 @@ equal_lines lines one_cut stated one r s is_r is_s = (λ same. one_record (lines
 
 -- ---- lines one after another
 
-no_ten : (c : ℕ) → c ≢ 10 → (c == 10) ≡ false
-no_ten c other = grind (arith, nat_tests)
-
--- the line feeds of octets that end in their one line feed, counted on
-abbrev counted_on : ℕ → List ℕ → ℕ
-counted_on n octets = fold {A = ℕ} {B = ℕ} (λ m c. m + cond {A = ℕ} (c == 10) 1 0) n octets
-
-one_more_feed : (n : ℕ) (front : List ℕ) → HasNoFeed front → counted_on n (front ++ 10 ∷ []) ≡ n + 1
-one_more_feed n [] none = refl
-one_more_feed n (c ∷ front) none =
-    ap (λ (b : Bool). counted_on (n + cond {A = ℕ} b 1 0) (front ++ 10 ∷ [])) (no_ten c none.0)
-    ∙ ap (λ m. counted_on m (front ++ 10 ∷ [])) (add-zero n) ∙ one_more_feed n front none.1
+no_feed_in : (front : List ℕ) → HasNoFeed front → count_by (λ c. c == 10) front ≡ 0
+no_feed_in [] none = refl
+no_feed_in (c ∷ front) none = grind (arith, nat_tests, sum_by-cons, no_feed_in front none.1)
 
 line_feed_in : (octets : List ℕ) → EndsWithItsFeed octets → count_by (λ c. c == 10) octets ≡ 1
-line_feed_in octets ends = ap (count_by (λ c. c == 10)) ends.split ∙ one_more_feed 0 ends.front ends.others
+line_feed_in octets ends = rw ends.split (sum_by-append (λ c. cond (c == 10) 1 0) ends.front (10 ∷ []) ∙ ap (λ n. n + 1) (no_feed_in ends.front ends.others))
 
 -- each of the entries states its record and has one line feed
 abbrev AreLines : List (List Token) → List Record → Type 0
@@ -151,7 +143,7 @@ text_back back origin z is short = record {
   states = back origin z.records is.compatible.each;
   makes = record {
     zone = is;
-    same = λ r. (subst (λ rs. Has rs r) (sym (same_records 1 z.records)), subst (λ rs. Has rs r) (same_records 1 z.records));
+    same = λ r. grind (arith, same_records 1 z.records);
     text_short = short;
   };
 }
@@ -164,7 +156,5 @@ equal_texts back one_list one_zone z w is_z is_w = (one, λ same. ap canon same)
   where
     one : canon z ≡ canon w → z ≡ w
     one same =
-        let placed : placed_from 1 z.records ≡ placed_from 1 w.records =
-        one_list [] (canon w) (placed_from 1 z.records) (placed_from 1 w.records) (subst (λ t. FileStates [] t (placed_from 1 z.records)) same (back [] z.records is_z.compatible.each)) (back [] w.records is_w.compatible.each) in
-        let records : z.records ≡ w.records = sym (same_records 1 z.records) ∙ ap records_of placed ∙ same_records 1 w.records in
-        one_zone z w is_z is_w (λ r. (subst (λ rs. Has rs r) records, subst (λ rs. Has rs r) (sym records)))
+        let placed = one_list [] (canon w) (placed_from 1 z.records) (placed_from 1 w.records) (rw same at (back [] z.records is_z.compatible.each)) (back [] w.records is_w.compatible.each) in
+        one_zone z w is_z is_w (λ r. grind (arith, placed, same_records 1 z.records, same_records 1 w.records))

@@ -43,6 +43,7 @@ pub(crate) fn push_kind<S: Sink>(out: &mut S, rr: &RrRef) -> Result<(), S::Error
 /// # Errors
 ///
 /// `out` refuses octets. A prefix of the text may have been appended.
+#[tactic(auto, using(crate::proofs::Lines::same_text))]
 pub(crate) fn push_data<S: Sink>(out: &mut S, rr: &RrRef) -> Result<(), S::Error>
     ensures { OnOk result
         (S.takes out.old (data_text (data_of (record_of rr.now)) ++ 10 ∷ []) out.new) }
@@ -70,6 +71,7 @@ pub(crate) fn push_line<S: Sink>(out: &mut S, rr: &RrRef) -> Result<(), S::Error
 /// # Errors
 ///
 /// `out` refuses octets. A prefix of the text may have been appended.
+#[tactic(auto, using(crate::proofs::Lines::line_ends))]
 pub(crate) fn push_lines<S: Sink>(
     out: &mut S,
     records: UnorderedRecords<'_>,

@@ -16,6 +16,7 @@ use zone_rdata::{Class, Stop};
 /// # Errors
 ///
 /// `Refused` at the first record that `add` refuses; `Memory`.
+#[tactic(auto, using(crate::proofs::Lists::Offering::offering))]
 pub(crate) fn offer(
     alloc: Global,
     class: Class,

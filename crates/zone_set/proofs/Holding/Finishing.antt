@@ -1,5 +1,5 @@
 -- From the records held to a zone, or to the least owner outside.
-use Rattle.zone_set.proofs.Common.{◌⊎◌, ◌≡◌, ◌≢◌, ℕ, Bool, false, ◌==◌, if◌then◌else◌, List, [], ◌∷◌, ◌++◌, Ordering, Less, Equal, nat_cmp, refl, sym, ◌∙◌, subst, inl, inr, ne_eqb, arith, AllByRecursion, ordering_then, IsWithin, name_cmp, Record, NoSoa, OutOfZone, Whole, Refused, name_cmp-exact, HasNoSoa, IsLeastOutside, StopsFinish, no_soa, outside, IsFirstOutside, canonical_cmp, Ascends, Has, AreCompatible, IsZone}
+use Rattle.zone_set.proofs.Common.{◌⊎◌, ◌≡◌, ◌≢◌, ℕ, Bool, false, ◌==◌, if◌then◌else◌, List, [], ◌∷◌, ◌++◌, Ordering, Less, Equal, nat_cmp, refl, sym, ◌∙◌, subst, inl, inr, ne_eqb, arith, AllByRecursion, ordering_then, IsWithin, name_cmp, Record, NoSoa, OutOfZone, Whole, Refused, name_cmp-exact, HasNoSoa, IsLeastOutside, StopsFinish, no_soa, outside, IsFirstOutside, canonical_cmp, Ascends, Has, AreCompatible, IsZone, IsTrue, true, ◌↔◌, false≢true}
 use Rattle.zone_set.proofs.Ordering.Between.{Has-append, Ascends-right}
 use Rattle.zone_set.proofs.Holding.Together.{each_Has, each_from_Has, soa_first}
 
@@ -11,15 +11,15 @@ pub record Walks (whole : List Record) (apex : List (List ℕ)) (left : List Rec
   pub inside : AllByRecursion (λ r. IsWithin r.owner apex) left → AllByRecursion (λ r. IsWithin r.owner apex) whole
   pub outside : (owner : List (List ℕ)) → IsFirstOutside left apex owner → IsFirstOutside whole apex owner
 
-pub Walks-start : (whole left : List Record) (apex : List (List ℕ)) → left ≡ whole → Walks whole apex left
-Walks-start whole left apex is = grind arith
+pub walks_start : (whole left : List Record) (apex : List (List ℕ)) → left ≡ whole → Walks whole apex left
+walks_start whole left apex is = grind arith
 
-module _ (whole : List Record) (apex : List (List ℕ)) (left rest : List Record) (r : Record) (walks : Walks whole apex left) (step : left ≡ r ∷ rest) where
-  pub Walks-more : IsWithin r.owner apex → Walks whole apex rest
-  Walks-more within = grind (arith, IsFirstOutside-later)
+module _ (whole : List Record) (apex : List (List ℕ)) (left rest : List Record) (r : Record) (told : Bool) (walks : Walks whole apex left) (step : left ≡ r ∷ rest) (tells : IsTrue told ↔ IsWithin r.owner apex) where
+  pub walks_more : told ≡ true → Walks whole apex rest
+  walks_more within = grind (arith, IsFirstOutside-later)
 
-  pub Walks-found : (IsWithin r.owner apex → ⊥) → IsFirstOutside whole apex r.owner
-  Walks-found out = walks.outside r.owner (subst (λ rs. IsFirstOutside rs apex r.owner) (sym step) (record { before = []; first = r; others = rest; parts = refl; inside = tt; named = refl; outside = out }))
+  pub walks_found : told ≡ false → IsFirstOutside whole apex r.owner
+  walks_found out = walks.outside r.owner (subst (λ rs. IsFirstOutside rs apex r.owner) (sym step) (record { before = []; first = r; others = rest; parts = refl; inside = tt; named = refl; outside = λ within. false≢true (sym out ∙ tells.1 within) }))
 
 -- a name lies within itself
 pub IsWithin-itself : (apex : List (List ℕ)) → IsWithin apex apex
@@ -90,4 +90,4 @@ module _ (held : List Record) (first : Record) (others : List Record) (compatibl
 pub stops_with_none : (held : List Record) → held ≡ [] → StopsFinish held (Refused NoSoa Whole)
 stops_with_none held none = no_soa (subst HasNoSoa (sym none) (λ r has soa. has))
 
-pub ruleset finishing_stops = (stops_with_none, stops_outside)
+pub ruleset finishing_stops = (stops_with_none, stops_outside, stops_without_soa)

@@ -1,5 +1,5 @@
 -- Records that are listed as they come.
-use Rattle.zone_set.proofs.Common.{AddsEach, AllAccepted, AreAllKept, IsPermutation, IsPermutation-map, entry_record, AllByRecursion, AreCompatible, Entry, Fault, Has, IsRecord, IsRefusedFor, IsSettledAs, KeepsList, List, Place, Placed, Record, Refused, SameRecords, StopsSettling, [], all_records, arith, listed, records_of, refl, refused, subst, sym, ℕ, ◌++◌, ◌↔◌, ◌∷◌, ◌≡◌, ◌⊎◌}
+use Rattle.zone_set.proofs.Common.{AddsEach, AllAccepted, AreAllKept, IsPermutation, IsPermutation-map, entry_record, AllByRecursion, AreCompatible, Entry, Fault, Has, IsRecord, IsRefusedFor, IsSettledAs, KeepsList, List, Place, Placed, Record, Refused, SameRecords, StopsSettling, [], all_records, arith, listed, records_of, refl, refused, subst, sym, ℕ, ◌++◌, ◌↔◌, ◌∷◌, ◌≡◌, ◌⊎◌, err_from_is_err_and}
 use Rattle.zone_set.proofs.Holding.Inserting.{AreCompatible-with}
 use Rattle.zone_set.proofs.Lists.ListPush.{records_listed}
 use Rattle.zone_set.proofs.Ordering.Neighbours.{AllAccepted-from_compatible}
@@ -54,3 +54,5 @@ StopsSettling-offered placed taken others p held f parts whole added why = refus
   why = grind (arith, builder.class, builder.soa, builder.ttl, same_offered taken held added);
   stands = refl;
 })
+
+pub ruleset settling_parts = (alone_kept, err_from_is_err_and)

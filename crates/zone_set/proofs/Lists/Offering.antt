@@ -1,8 +1,9 @@
 -- Records that are read back in the order in which they came.
-use Rattle.zone_set.proofs.Common.{arith, Accepts, Adds, AddsEach, AllByRecursion, AllByRecursion-front, IsRecord, IsSettledAs, List, Place, Placed, Record, Stop, StopsAdd, StopsSettling, [], ap, append-nil, append_assoc, fault, memory, placed_at, refl, subst, sym, ◌++◌, ◌∙◌, ◌∷◌, ◌≡◌, ◌⊎◌}
-use Rattle.zone_set.proofs.Lists.Taking.{AddsEach-push}
+use Rattle.zone_set.proofs.Common.{arith, Accepts, Adds, AddsEach, AllByRecursion, AllByRecursion-front, IsRecord, IsSettledAs, List, Place, Placed, Record, Stop, StopsAdd, StopsSettling, [], ap, append-nil, append_assoc, fault, memory, placed_at, refl, subst, sym, ◌++◌, ◌∙◌, ◌∷◌, ◌≡◌, ◌⊎◌, err_from_is_err_and}
+use Rattle.zone_set.proofs.Lists.Taking.{adds_each_more}
 use Rattle.zone_set.specs.ZoneList as zone_list
 use Rattle.zone_set.proofs.Lists.Listing.{IsSettledAs-offered, StopsSettling-offered}
+use Rattle.zone_set.proofs.Lists.ListPush.{each_placed}
 
 -- some first records were taken, and these are left with their places
 pub record HasOffered (placed : List Placed) (held records : List Record) (places : List Place) : Type 0 where
@@ -18,7 +19,7 @@ module _ (placed : List Placed) (held : List Record) (r : Record) (place : Place
   HasOffered-more new fits adds = record {
     taken = had.taken ++ Now ∷ [];
     parts = had.parts ∙ sym (append_assoc had.taken (Now ∷ []) (placed_at records places));
-    each = AddsEach-push [] held had.taken Now new had.each fits adds;
+    each = adds_each_more [] held had.taken Now new had.each fits adds;
   }
 
   pub StopsSettling-now : AllByRecursion (λ p. IsRecord p.rr) placed → (stop : Stop) → StopsAdd held Now stop → StopsSettling placed stop
@@ -37,3 +38,5 @@ IsSettledAs-at_end placed held records places whole had none = IsSettledAs-offer
 
     all : had.taken ≡ placed
     all = sym (had.parts ∙ ap (λ ps. had.taken ++ ps) (left records places none) ∙ append-nil had.taken)
+
+pub ruleset offering = (HasOffered-more, StopsSettling-now, IsSettledAs-at_end, each_placed, err_from_is_err_and)

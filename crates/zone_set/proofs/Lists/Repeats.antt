@@ -1,5 +1,5 @@
 -- Entries of which those of equal records were dropped, or that were moved.
-use Rattle.zone_set.proofs.Common.{All, All-from_recursion, All-permutation, AllByRecursion, AreCompatible, AreNeighbours, Bool, Entry, Has, IsEntry, IsLinked, IsPermutation, IsPermutation-sym, IsRecord, List, Record, SameRecords, [], all_records, ap, append_assoc, arith, bytes_eq-Decides, common_steps, dedup, dedup_from, entry_record, false, false≢true, from_be_bytes-to_be_bytes_2, inl, inr, is_repeat, length, length-append, map, read_record, recursion_from_All, refl, span, span_len, stored, subst, sym, take, take_at, true, ℕ, ◌++◌, ◌==◌, ◌∙◌, ◌∷◌, ◌≡◌}
+use Rattle.zone_set.proofs.Common.{All, All-from_recursion, All-permutation, AllByRecursion, AreCompatible, AreNeighbours, Bool, Entry, Has, IsEntry, IsLinked, IsPermutation, IsPermutation-sym, IsRecord, List, Record, SameRecords, [], all_records, ap, append_assoc, arith, bytes_eq-Decides, common_steps, dedup, dedup_from, entry_record, false, false≢true, from_be_bytes-to_be_bytes_2, inl, inr, is_repeat, length, length-append, map, read_record, recursion_from_All, refl, span, span_len, stored, subst, sym, take, take_at, true, ℕ, ◌++◌, ◌==◌, ◌∙◌, ◌∷◌, ◌≡◌, IsPermutation-refl, length_permutation}
 use Rattle.std.specs.Prelude.{if◌then◌else◌}
 use Rattle.std.proofs.lemmas.List.Filters.{All-dedup}
 use Rattle.zone_set.proofs.Holding.Adding.{classes}
@@ -61,9 +61,16 @@ module _ (f : Entry → Record) where
     SameRecords-dedup [] each r = (λ has. has, λ has. has)
     SameRecords-dedup (e ∷ es) each r = (fewer_has (dedup same (e ∷ es)) (e ∷ es) (λ Q. All-dedup same Q (e ∷ es)) r, enough e es each r)
 
+-- entries of which the neighbours show it are of records that can stand together
+pub AreCompatible-from_entries : (base : List (List ℕ)) (class : ℕ) (octets : List ℕ) (es : List Entry) → AllByRecursion (IsEntry base class octets) es → AreNeighbours (all_records class octets es) → AreCompatible (all_records class octets es)
+AreCompatible-from_entries base class octets es each next = AreCompatible-from_neighbours class (all_records class octets es) (each_map IsRecord (entry_record class octets) (λ e is. is.linked.whole) es each) (classes class octets es) next
+
 -- entries that were put in another order
 pub each_moved : (base : List (List ℕ)) (class : ℕ) (octets : List ℕ) (es fs : List Entry) → AllByRecursion (IsEntry base class octets) es → IsPermutation es fs → AllByRecursion (IsEntry base class octets) fs
 each_moved base class octets es fs each moves = recursion_from_All (IsEntry base class octets) fs (All-permutation (IsEntry base class octets) es fs moves (All-from_recursion (IsEntry base class octets) es each))
+
+pub compatible_moved : (base : List (List ℕ)) (class : ℕ) (octets : List ℕ) (es fs : List Entry) → AllByRecursion (IsEntry base class octets) es → IsPermutation es fs → AreNeighbours (all_records class octets fs) → AreCompatible (all_records class octets fs)
+compatible_moved base class octets es fs each moves = AreCompatible-from_entries base class octets fs (each_moved base class octets es fs each moves)
 
 -- and of which repeats were dropped
 module _ (base : List (List ℕ)) (class : ℕ) (octets : List ℕ) (es fs gs : List Entry) (each : AllByRecursion (IsEntry base class octets) es) (moves : IsPermutation es fs) (left : gs ≡ dedup (is_repeat octets) fs) where
@@ -79,6 +86,7 @@ module _ (base : List (List ℕ)) (class : ℕ) (octets : List ℕ) (es fs gs : 
       let second = SameRecords-dedup (entry_record class octets) (is_repeat octets) (IsEntry base class octets) equal fs (each_moved base class octets es fs each moves) r in
       grind (arith, left, first, second)
 
--- entries of which the neighbours show it are of records that can stand together
-pub AreCompatible-from_entries : (base : List (List ℕ)) (class : ℕ) (octets : List ℕ) (es : List Entry) → AllByRecursion (IsEntry base class octets) es → AreNeighbours (all_records class octets es) → AreCompatible (all_records class octets es)
-AreCompatible-from_entries base class octets es each next = AreCompatible-from_neighbours class (all_records class octets es) (each_map IsRecord (entry_record class octets) (λ e is. is.linked.whole) es each) (classes class octets es) next
+  pub compatible_left : AreNeighbours (all_records class octets gs) → AreCompatible (all_records class octets gs)
+  compatible_left = AreCompatible-from_entries base class octets gs each_left
+
+pub ruleset settling = (each_moved, each_left, same_left, SameRecords-moved, AreCompatible-from_entries, compatible_moved, compatible_left, IsPermutation-refl, length_permutation)

@@ -1,5 +1,5 @@
 -- Owners whose first labels tell how they lie.
-use Rattle.zone_set.proofs.Common.{arith, AreFirst, Greater, IsFirst, Less, List, [], ap, ap₂, label_cmp, name_cmp, name_cmp-total, nat_cmp, ordering_reverse, slice_cmp, sym, then_equal, ℕ, ◌∙◌, ◌∷◌, ◌≡◌}
+use Rattle.zone_set.proofs.Common.{arith, AreFirst, Greater, IsFirst, Less, List, [], ap, ap₂, label_cmp, name_cmp, name_cmp-total, nat_cmp, ordering_reverse, slice_cmp, sym, then_equal, ℕ, ◌∙◌, ◌∷◌, ◌≡◌, Equal, tied_itself, bytes_eq-Decides, Equal}
 use Rattle.zone_name.proofs.InOctets.Octets.{labels_of-cons}
 use Rattle.zone_name.specs.Name.{labels_of}
 use Rattle.zone_set.proofs.Ordering.Within.{same_ending}
@@ -16,9 +16,14 @@ order_of_first a b label other both =
     sym (ap₂ name_cmp left right ∙ same_ending (labels_of both.rest) (label ∷ []) (other ∷ []) ∙ then_equal (label_cmp label other))
 
 -- one label stands before those of the first
-pub order_of_child : (a b label : List ℕ) → IsFirst b label a → name_cmp (labels_of a) (labels_of b) ≡ Less
-order_of_child a b label first = ap (name_cmp (labels_of a)) (labels_of-first b label a first) ∙ same_ending (labels_of a) [] (label ∷ [])
+pub order_of_child : (a b : List ℕ) → (label : List ℕ) × IsFirst b label a → name_cmp (labels_of a) (labels_of b) ≡ Less
+order_of_child a b (label, first) = ap (name_cmp (labels_of a)) (labels_of-first b label a first) ∙ same_ending (labels_of a) [] (label ∷ [])
 
 -- and before those of the second
-pub order_of_parent : (a b label : List ℕ) → IsFirst a label b → name_cmp (labels_of a) (labels_of b) ≡ Greater
-order_of_parent a b label first = name_cmp-total.antisymm (labels_of a) (labels_of b) ∙ ap ordering_reverse (order_of_child b a label first)
+pub order_of_parent : (a b : List ℕ) → (label : List ℕ) × IsFirst a label b → name_cmp (labels_of a) (labels_of b) ≡ Greater
+order_of_parent a b child = name_cmp-total.antisymm (labels_of a) (labels_of b) ∙ ap ordering_reverse (order_of_child b a child)
+
+pub same_order : (a : List ℕ) → name_cmp (labels_of a) (labels_of a) ≡ Equal
+same_order a = tied_itself name_cmp-total (labels_of a)
+
+pub ruleset order_of_labels = (bytes_eq-Decides, same_order, order_of_first, order_of_child, order_of_parent)

@@ -1,18 +1,9 @@
-use Rattle.zone_set.proofs.Common.{AreNeighbours, IsEntry, IsPermutation-put_mid, IsTrue, IsPermutation-refl, IsPermutation-trans, all_records, arith, common_steps, length-drop, length_permutation, refl, subst, sym, ◌+◌, ◌-◌, ◌∙◌}
+use Rattle.zone_set.proofs.Common.{AreNeighbours, IsEntry, IsPermutation-put_mid, IsTrue, IsPermutation-trans, all_records, arith, common_steps, length-drop, length_permutation, subst, sym, ◌+◌, ◌-◌, ◌∙◌}
 use Rattle.std.proofs.lemmas.Slice.{take-put_mid_below}
-use Rattle.zone_set.proofs.Lists.Looking.{each_take, take_front, take_whole, within_front}
+use Rattle.zone_set.proofs.Lists.Looking.{each_take, take_front, within_front}
 use Rattle.zone_set.proofs.Lists.Repeats.{each_moved}
 use Rattle.zone_set.proofs.bulk.sort_runs.Goals as goal
 use Rattle.zone_set.proofs.bulk.sort_runs.Goals.{then-start-seen, else-start-seen}
-
-pub loop-hint-init : goal.loop-hint-init
-loop-hint-init g c = (
-  omega arith,
-  refl,
-  IsPermutation-refl _,
-  each_moved g.base c.args.class c.args.octets.now _ _ c.requires c.sort_by_hint.ensures,
-  λ is. tt,
-)
 
 pub stand_after-stand-requires : goal.stand_after-stand-requires
 stand_after-stand-requires g c =
@@ -45,10 +36,3 @@ loop-hint-preserved g c =
           (sym (take_front start (start + len) _ (omega arith) ∙ take-put_mid_below start (start + len - start) c.loop-hint.entries c.sort_run.new.run start (omega arith) c.loop-hint.invariant.0))
           (c.loop-hint.invariant.4 (stood is))),
     )
-
-pub returns-clause-moved : goal.returns-clause-moved
-returns-clause-moved g c = IsPermutation-trans _ _ _ c.sort_by_hint.ensures c.loop-hint.invariant.2
-
-pub returns-clause-next : goal.returns-clause-next
-returns-clause-next g c = λ is.
-    subst (λ es. AreNeighbours (all_records c.args.class c.args.octets.now es)) (take_whole c.loop-hint.start c.loop-hint.entries c.in_default.ensures.none) (c.loop-hint.invariant.4 is)

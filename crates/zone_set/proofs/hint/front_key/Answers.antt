@@ -1,14 +1,6 @@
 use Rattle.zone_set.proofs.Common.{◌-◌, length, drop, sym, ap, ◌∙◌, arith, false≢true, bytes_decides}
-use Rattle.zone_set.proofs.Hints.HintWalk.{walked_start, walked_next, walked_short, walked_found, walked_none}
+use Rattle.zone_set.proofs.Hints.HintWalk.{walked_short, walked_found, walked_none}
 use Rattle.zone_set.proofs.hint.front_key.Goals as goal
-
-pub loop-len-init : goal.loop-len-init
-loop-len-init c = walked_start c.args.base.now c.args.owner.now c.labels-labels.result _ c.labels-labels.ensures.value (ap length c.wire-octets.ensures.octets)
-
-pub loop-len-preserved : goal.loop-len-preserved
-loop-len-preserved c =
-    walked_next c.args.base.now c.args.owner.now c.loop-len.labels c.loop-len.len c.loop-len.key c.loop-len.invariant c.wire-octets.ensures.name c.in-Some.label.now c.next.new.self _ c.put_label-key.result
-    c.in-Some.ensures.steps (omega (arith, c.loop-len-test.true, ap length c.wire-ending.ensures.octets)) (omega arith) c.put_label-key.ensures
 
 pub returns-then-are_same-clause-within : goal.returns-then-are_same-clause-within
 returns-then-are_same-clause-within c =

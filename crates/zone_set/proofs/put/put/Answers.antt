@@ -1,9 +1,7 @@
-use Rattle.zone_set.proofs.Common.{◌≡◌, ℕ, List, [], ◌∷◌, ◌++◌, map, MatchOption, refl, sym, ap, ◌∙◌, subst, arith, AllByRecursion, IfSome, AllByRecursion-back, AllByRecursion-front, Record, OtherTtl, all_records, entry_record, HasOtherTtl, HoldsEntries, IsComparable, IsEntry, stored, Ascends, record_of, Has, Entry}
+use Rattle.zone_set.proofs.Common.{◌≡◌, ℕ, List, [], ◌∷◌, ◌++◌, map, MatchOption, refl, subst, arith, AllByRecursion, IfSome, AllByRecursion-back, AllByRecursion-front, Record, OtherTtl, all_records, entry_record, HasOtherTtl, HoldsEntries, IsComparable, Ascends, record_of, Has, Entry}
 use Rattle.sorted_chunks.specs.Chunks.{after, before, joined}
-use Rattle.zone_set.proofs.Holding.Adding.{on_err}
 use Rattle.zone_set.proofs.Ordering.Between.{copied, first_has, first_neighbour, last_has, last_neighbour, one_ttl, told_by, Ascends-between, IsNeighbour, Parts}
 use Rattle.zone_set.proofs.Holding.Putting.{all_comparable, each_comparable, each_put, parts_at, was_put}
-use Rattle.zone_set.proofs.Storage.Storing.{each_kept, records_kept}
 use Rattle.zone_set.proofs.put.put.Goals as goal
 use Rattle.zone_set.proofs.put.put.Goals.{After-copied-first}
 
@@ -96,19 +94,6 @@ returns-clause-one_ttl c =
     let p = (goal.at.returns-clause-one_ttl c).After-copied-first in
     moved p (λ octs. OtherTtl (all_records c.args.rr.now.class octs (joined c.args.entries.now)) (record_of c.args.rr.now) → ⊥)
     (one_ttl (record_for p) (first_part p) (last_part p) (parts p) c.copied-last.result c.copied-first.result (near_last p) (near_first p) c.is_of_other_ttl.result c.is_of_other_ttl-2.result c.is_of_other_ttl.ensures c.if-is_of_other_ttl.false c.is_of_other_ttl-2.ensures c.if-is_of_other_ttl-2.false)
-
-pub returns-in_err-insert-clause-each : goal.returns-in_err-insert-clause-each
-returns-in_err-insert-clause-each c =
-    subst (λ octs. AllByRecursion (IsEntry c.args.base.now c.args.rr.now.class octs) (joined c.insert.new.self)) (sym c.in_ok-at.ensures.appended)
-    (subst (λ chunks. AllByRecursion (IsEntry c.args.base.now c.args.rr.now.class (c.args.octets.now.items ++ stored (record_of c.args.rr.now))) (joined chunks)) (sym c.in_err-insert.ensures.unchanged)
-    (each_kept c.args.rr.now.class c.args.octets.now.items (stored (record_of c.args.rr.now)) c.args.base.now (joined c.args.entries.now) c.requires.holds.each))
-
-pub returns-in_err-insert-clause-unchanged : goal.returns-in_err-insert-clause-unchanged
-returns-in_err-insert-clause-unchanged c =
-    on_err c.from_residual-in_err-insert.result
-    (ap (λ octs. all_records c.args.rr.now.class octs (joined c.insert.new.self)) c.in_ok-at.ensures.appended
-    ∙ ap (λ chunks. all_records c.args.rr.now.class (c.args.octets.now.items ++ stored (record_of c.args.rr.now)) (joined chunks)) c.in_err-insert.ensures.unchanged
-    ∙ records_kept c.args.rr.now.class c.args.octets.now.items (stored (record_of c.args.rr.now)) c.args.base.now (joined c.args.entries.now) c.requires.holds.each)
 
 pub returns-clause-each : goal.returns-clause-each
 returns-clause-each c =

@@ -1,5 +1,4 @@
 use Rattle.zone_set.proofs.Common.{Entry, KeepsList, List, Place, Placed, Record, [], ap, listed, record_of, subst, sym, ℕ, ◌++◌, ◌∙◌, ◌∷◌, ◌≡◌}
-use Rattle.zone_set.proofs.Holding.Adding.{on_err}
 use Rattle.zone_set.proofs.Lists.ListPush.{decided, Decided, listed_more, KeepsList-more}
 use Rattle.zone_set.proofs.list.ZoneList.push.Goals as goal
 use Rattle.zone_set.proofs.list.ZoneList.push.Goals.{After-first_decides}
@@ -15,16 +14,6 @@ octs c = c.self.inside.octets.items
 
 settled : (c : After-first_decides) → Decided c.first_decides.new.class c.args.rr.now.class c.first_decides.new.base (octs c) (es c) (ps c) (listed c.self.inside.class (octs c) (es c) (ps c))
 settled c = decided c.self.inside.class c.first_decides.new.class c.args.rr.now.class c.self.inside.base c.first_decides.new.base c.args.rr.now.owner (octs c) (es c) (ps c) c.has_none-is_first.result (rw (c.as_slice.ensures.value, c.reserve.ensures.items) at c.has_none-is_first.ensures) c.first_decides.ensures.class c.first_decides.ensures.base (rw c.self.view_is c.requires.class) c.self.invariant
-
-pub invariant_of-self-in_err-at : goal.invariant_of-self-in_err-at
-invariant_of-self-in_err-at c =
-    let p = (goal.at.invariant_of-self-in_err-at c).After-first_decides in
-    rw (c.in_err-at.ensures.unchanged.0, c.in_err-at.ensures.unchanged.1, c.reserve.ensures.items) (settled p).keeps
-
-pub returns-in_err-at-clause-unchanged : goal.returns-in_err-at-clause-unchanged
-returns-in_err-at-clause-unchanged c =
-    let p = (goal.at.returns-in_err-at-clause-unchanged c).After-first_decides in
-    on_err c.from_residual-in_err-at.result (rw (c.in_err-at.ensures.unchanged.0, c.in_err-at.ensures.unchanged.1, c.reserve.ensures.items) ((settled p).same ∙ c.self.view_is))
 
 pub invariant_of-self-2 : goal.invariant_of-self-2
 invariant_of-self-2 c =
