@@ -67,7 +67,8 @@ Orders words order = (call : Call) × Calls commands words call × Asks call ord
 -- Why the words give no order: the text of an origin is bad, or by `clap` they are no command with
 -- all its arguments.
 abbrev pub IsLineFault : List Text → LineFault → Type 0
-IsLineFault words line_faults.BadOrigin = (call : Call) × Calls commands words call × HasBadOrigin call
+IsLineFault words line_faults.BadOrigin =
+    (call : Call) × Calls commands words call × HasBadOrigin call
 IsLineFault words (line_faults.Clap told) = NothingIs (Calls commands words)
 IsLineFault words line_faults.Memory = Unit {0}
 

@@ -20,7 +20,8 @@ program_app =
     program_of (codes "zonenorm")
     (command_app (codes "normalise") (codes "ORIGIN" ∷ [])
     ∷ command_app (codes "explain") (codes "ORIGIN" ∷ [])
-    ∷ command_app (codes "compare") (codes "ORIGIN1" ∷ codes "PATH1" ∷ codes "ORIGIN2" ∷ codes "PATH2" ∷ [])
+    ∷ command_app (codes "compare")
+        (codes "ORIGIN1" ∷ codes "PATH1" ∷ codes "ORIGIN2" ∷ codes "PATH2" ∷ [])
     ∷ [])
 
 -- a command with the texts of its arguments, in their order
@@ -86,7 +87,8 @@ Orders words order = (call : Call) × Calls commands words call × Asks call ord
 -- Why the words give no order: the text of an origin is bad, or by `clap` they are no command with
 -- all its arguments.
 abbrev pub IsLineFault : List Text → LineFault → Type 0
-IsLineFault words line_faults.BadOrigin = (call : Call) × Calls commands words call × HasBadOrigin call
+IsLineFault words line_faults.BadOrigin =
+    (call : Call) × Calls commands words call × HasBadOrigin call
 IsLineFault words (line_faults.Clap told) = NothingIs (Calls commands words)
 IsLineFault words line_faults.Memory = Unit {0}
 

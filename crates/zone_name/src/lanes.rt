@@ -26,7 +26,8 @@ pub(crate) fn put(room: &mut [u8], at: usize, octets: &[u8])
     room[at..at + octets.len()].copy_from_slice(octets);
 }
 
-/// Which of the 16 octets at a place are dots or backslashes, as bits, the lowest that of the first.
+/// Which of the 16 octets at a place are dots or backslashes, as bits. The lowest is that of the
+/// first.
 #[inline(always)]
 pub(crate) fn mark_bits(octets: &[u8], at: usize) -> u64
     requires { at + LANES ≤ length octets.now }

@@ -533,8 +533,8 @@ pub(crate) fn read_name(
 }
 
 /// Appends the octets of the name, in lower case, that a text without escapes spells under an
-/// origin, and tells whether it did. If not, nothing is appended: the text has an escape or a fault,
-/// the name is long, or it is the root or the origin itself.
+/// origin, and tells whether it did. If not, nothing is appended: the text has an escape or a
+/// fault, the name is long, or it is the root or the origin itself.
 ///
 /// # Errors
 ///

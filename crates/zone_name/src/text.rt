@@ -58,7 +58,8 @@ impl Sink for Spelling {
 
     ghost nothing = { λ a _. sym (append-nil a.octets.items) };
 
-    ghost joins = { λ a b c x y. fitted_twice 1021 a.octets.items b.octets.items c.octets.items x y };
+    ghost joins = { λ a b c x y.
+        fitted_twice 1021 a.octets.items b.octets.items c.octets.items x y };
 }
 
 /// Whether the octet means something else inside a master file, and takes a backslash (RFC 1035

@@ -19,7 +19,8 @@ pub(crate) fn len_of_entries(class: Class, octets: &[u8], entries: &[Entry], alo
     requires each { AllByRecursion (IsEntry base class octets.now) entries.now }
     requires alone { IsTrue alone
         → AreAllKept class octets.now (all_records class octets.now entries.now) }
-    ensures { result ≡ min (message_octets (all_records class octets.now entries.now)) (2 ^ 64 - 1) }
+    ensures { result
+        ≡ min (message_octets (all_records class octets.now entries.now)) (2 ^ 64 - 1) }
 {
     if !alone {
         return counted(class, octets, entries);
@@ -33,7 +34,8 @@ pub(crate) fn len_of_entries(class: Class, octets: &[u8], entries: &[Entry], alo
 fn counted(class: Class, octets: &[u8], entries: &[Entry]) -> u64
     ghost base: { Labels }
     requires { AllByRecursion (IsEntry base class octets.now) entries.now }
-    ensures { result ≡ min (message_octets (all_records class octets.now entries.now)) (2 ^ 64 - 1) }
+    ensures { result
+        ≡ min (message_octets (all_records class octets.now entries.now)) (2 ^ 64 - 1) }
 {
     let mut message_len: u64 = 0;
     let mut left = entries;

@@ -109,8 +109,8 @@ impl<'m, 'r> RawRrRef<'m, 'r> {
         }
     }
 
-    /// The record's data, made by a builder and borrowed from it: the parts that it had go. The room
-    /// is for the labels of names in the data.
+    /// The record's data, made by a builder and borrowed from it: the parts that it had go. The
+    /// room is for the labels of names in the data.
     pub(crate) fn rdata<'b>(
         &self,
         class: Class,

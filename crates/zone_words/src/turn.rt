@@ -81,8 +81,8 @@ fn turn_in_generic_form<'e>(entry: &'e [u8], found: &FurtherRecord, kept: usize)
     }
 }
 
-/// What becomes of a record whose data is in words, under the origin that holds for it. The data that
-/// it states is put in place of what `stated` held.
+/// What becomes of a record whose data is in words, under the origin that holds for it. The data
+/// that it states is put in place of what `stated` held.
 fn turn_in_words<'e>(
     alloc: Global,
     entry: &'e [u8],

@@ -29,7 +29,8 @@ SpellsBy Kept = SpellsCased
 SpellsBy Folded = Spells
 
 -- what was read
-abbrev pub lettered_in : Letters → Result (Labels × Bool) NameFault → Result (Labels × Bool) NameFault
+abbrev pub lettered_in : Letters → Result (Labels × Bool) NameFault
+    → Result (Labels × Bool) NameFault
 lettered_in letters (Ok (labels, is_absolute)) = Ok (lettered letters labels, is_absolute)
 lettered_in letters (Err fault) = Err fault
 

@@ -60,7 +60,8 @@ standing_in message spot =
 abbrev pub walk_on : (Spot → List Visit) → Spot → Option Standing → List Visit
 walk_on rest spot None = []
 walk_on rest spot (Some at_root) = visit spot.offset at_root ∷ []
-walk_on rest spot (Some (at_label size)) = visit spot.offset (at_label size) ∷ rest (past_label spot size)
+walk_on rest spot (Some (at_label size)) =
+    visit spot.offset (at_label size) ∷ rest (past_label spot size)
 walk_on rest spot (Some (at_pointer target)) =
     visit spot.offset (at_pointer target) ∷ rest (past_pointer spot target)
 walk_on rest spot (Some (at_fault fault)) = visit spot.offset (at_fault fault) ∷ []

@@ -39,8 +39,8 @@ pub fn one_frame_more()
         → StreamDecides (stream ++ frame p.octets) (handed_on (placed_in before ++ p.placed)) None }
     ensures refused { (stream octets : Octets) (before : List StatedMessage) (here : List Placed)
         (fault : Fault) (offset : ℕ)
-        → IsFramed stream (octets_in before) [] → AreRead [] before → length octets ≤ longest_message
-        → FaultAfter before octets here fault offset
+        → IsFramed stream (octets_in before) [] → AreRead [] before
+        → length octets ≤ longest_message → FaultAfter before octets here fault offset
         → StreamDecides (stream ++ frame octets) (handed_on (placed_in before ++ here))
         (Some (fault, Message (length before + 1) offset)) }
     ensures adds { (placed here : List Placed) → (rest : List Placed)

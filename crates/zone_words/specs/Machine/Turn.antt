@@ -42,7 +42,8 @@ TurnIs origin before line tokens stated (turns.Refused refusal) =
 TurnIs origin before line tokens stated (turns.Renamed around) =
     SayAround origin before line tokens around (renamed around.number)
 TurnIs origin before line tokens stated (turns.InOctets around) =
-    (said : SayAround origin before line tokens around (in_octets around.number stated.octets.items))
+    (said : SayAround origin before line tokens around
+        (in_octets around.number stated.octets.items))
     × (stated.staying.items ≡ text (filter stays said.back))
 
 -- it is so for whatever tokens the octets are cut into, of whose items these are kept, where the
