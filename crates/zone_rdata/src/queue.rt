@@ -1,6 +1,7 @@
 //! The records that a source has decided and not given yet.
 ghost use Rattle.std.specs.Prelude.{◌≡◌, ◌∷◌, ◌++◌, [], None, Some, OnOk, OnErr, option_map};
 ghost use Rattle.zone_rdata.specs.Lent.{placed_of, record_of};
+ghost use Rattle.zone_rdata.specs.Record.{IsRecord};
 ghost use Rattle.zone_rdata.specs.RrSource.{first_record, others};
 
 use crate::fault::{Failing, Fault, Place, Stop};
@@ -61,8 +62,10 @@ impl RecordQueue {
     pub fn push(&mut self, rr: &RrRef<'_>, place: Place) -> Result<(), AllocError>
         ensures appended { OnOk result (self.new
             ≡ self.old ++ record { rr = record_of rr.now; place = place } ∷ []) }
+        ensures record { IsRecord (record_of rr.now) }
         ensures unchanged { OnErr result (self.new ≡ self.old) }
     {
+        rr.known();
         self.turn();
         match self.slots.get_mut(self.end) {
             Some(slot) => slot.set(rr, place)?,
