@@ -1,6 +1,5 @@
 -- Addresses in text: what they state, and how they are printed.
 pub mod AddressChoice
-pub mod AddressFields
 pub mod AddressGaps
 pub mod AddressLaws
 pub mod AddressOctets

@@ -109,8 +109,7 @@ last_whole fields.Strings n (string s ∷ values) h =
     record { own = strings (s ∷ rest.many) ∷ []; each = (record { some = omega arith; each = (h.0, rest.each) }, tt); same = append-nil (with_length s ++ flat_map with_length rest.many) ∙ ap (λ o. with_length s ++ o) rest.same }
 last_whole fields.Strings n (v ∷ values) h = absurd h.0
 last_whole f n (v ∷ []) h = record { own = v ∷ []; each = (h.0, tt); same = refl }
-last_whole f n (v ∷ w ∷ values) h = absurd h.1
-last_whole f n [] h = absurd h
+last_whole f n values h = absurd (grind arith)
 
 whole_by : (row : List Field) (n : ℕ) (values : List FieldValue) → StringsLast row → length row ≤ n → HoldEach (part_fields row n) values → WholeParts row (octets_of values)
 whole_by [] zero [] last past h = record { own = []; each = tt; same = refl }

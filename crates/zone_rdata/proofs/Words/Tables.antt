@@ -5,9 +5,6 @@ use Rattle.zone_rdata.specs.declared.field.Field.TheVariants as fields
 
 -- ---- the first element that passes a test
 
-found_by : {X : Type 0} (y x : X) (rest : Option X) (P : X → Type 0) (t : Bool) → cond t (Some y) rest ≡ Some x → (t ≡ true → P y) → (rest ≡ Some x → P x) → P x
-found_by y x rest P t e here more = grind arith
-
 -- it passes the test
 pub found_passes : {X : Type 0} (q : X → Bool) (xs : List X) (x : X) → find q xs ≡ Some x → q x ≡ true
 found_passes q [] x e = absurd cc
@@ -43,9 +40,6 @@ each_mnemonic p rows all n word e = grind (arith, mnemonic_by, found_each, found
 found_above : (low : ℕ) (rows : List Named) (q : Named → Bool) (x : Named) → ascend low rows ≡ true → find q rows ≡ Some x → low < x.number
 found_above low [] q x up e = absurd cc
 found_above low (row ∷ rows) q x up e = grind (arith, and_parts, nat_tests, found_above row.number rows q x)
-
-own_after : (row x : Named) (rest : Option Named) → row.number < x.number → rest ≡ Some x → cond (x.number == row.number) (Some row) rest ≡ Some x
-own_after row x rest above e = grind (arith, eqb-true)
 
 ascends_from : (low : ℕ) (rows : List Named) → ascend low rows ≡ true → ascends rows ≡ true
 ascends_from low rows up = grind (arith, and_parts)

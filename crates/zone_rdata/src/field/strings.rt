@@ -73,7 +73,7 @@ fn are_strings(octets: &[u8]) -> bool
 }
 
 /// Appends the strings in quotes, parted by single spaces.
-#[tactic(auto, using(crate::proofs::Texts::StringTexts::quoted_strings))]
+#[tactic(auto, using(crate::proofs::Texts::FieldTexts::quoted_strings))]
 pub(crate) fn push_strings_text<S: Sink>(octets: &[u8], out: &mut S) -> Result<(), S::Error>
     requires some { 0 < length octets.now }
     requires strings { HoldsStrings octets.now }
