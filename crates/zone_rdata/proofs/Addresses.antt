@@ -4,5 +4,4 @@ pub mod AddressGaps
 pub mod AddressLaws
 pub mod AddressOctets
 pub mod AddressParts
-pub mod AddressTexts
 pub mod Cut

@@ -2,7 +2,7 @@
 use Rattle.zone_rdata.proofs.Common.{[], Bool, Err, List, Ok, Result, ap, arith, drop, false, get_or, inl, inr, length, refl, replicate, suc, sym, take, true, zero, ℕ, ◌++◌, ◌+◌, ◌-◌, ◌<◌, ◌∙◌, ◌∷◌, ◌≡◌, ◌≢◌, ◌≤◌, ◌⊎◌, cases_eq, cases_lt, AllZip, decode_sized, AreAround, ArePartsOf, IsIpv4Address, IsIpv6Address, IsOctetNumber, eight, IsAddress, of_ipv4, of_ipv6, HasGapAt, IsGroupOf, IsLastPartOf, IsDecimal, FromHexError, Choice, below_or_not, choice_as, choice_both}
 use Rattle.zone_rdata.proofs.Addresses.AddressOctets.{no_ipv4, no_ipv6}
 use Rattle.zone_rdata.proofs.Addresses.AddressGaps.{IsFirstGap, found_at_gap, refused_at_gap, refused_without_gap}
-use Rattle.zone_rdata.proofs.Addresses.AddressParts.{HaveParts, no_parts, parts_found, parts_listed, parts_unique}
+use Rattle.zone_rdata.proofs.Addresses.AddressParts.{HaveParts, parts_found, parts_listed, parts_unique}
 use Rattle.zone_rdata.proofs.Addresses.Cut.{numbers_parts, parts_numbers, split, zip_first}
 use Rattle.zone_rdata.proofs.Items.GenericLaws.{decimal_or_not}
 
@@ -40,7 +40,7 @@ texts_or_not ends (text ∷ []) = last_by ends text (group_or_not text) (ipv4_or
 texts_or_not ends (text ∷ next ∷ texts) = choice_both (λ added more. added ++ more) (λ added more is have. (added, more, is, have, refl)) (λ octets have. ((have.0, have.2), (have.1, have.3))) (group_or_not text) (texts_or_not ends (next ∷ texts))
 
 parts_or_not : (ends : Bool) (text : List ℕ) → Choice (ArePartsOf ends text)
-parts_or_not ends [] = inl ([], no_parts ends)
+parts_or_not ends [] = inl ([], record { parts = []; each = tt; parted = refl; value = refl })
 parts_or_not ends (c ∷ text) = choice_as (λ octets. octets) (parts_listed ends (c ∷ text)) (λ none octets are. none octets (parts_found ends (c ∷ text) octets (omega arith) are)) (texts_or_not ends (split 58 (c ∷ text)))
 
 -- ---- the first gap

@@ -105,9 +105,6 @@ parts_unended ends text rest octets lacks reads stops others are short =
     let left = reads.comes others (parts_found ends text others reads.some are) in
     grind (arith, parts_found, split_lacks, length-append)
 
-pub no_parts : (ends : Bool) → ArePartsOf ends [] []
-no_parts ends = record { parts = []; each = tt; parted = refl; value = refl }
-
 -- where there is no room for the last part, or it is none
 pub part_full : (ends : Bool) (text own old : List ℕ) → IsLastPartOf ends text own → 16 < length old + length own → NoneFits (IsLastPartOf ends text) old
 part_full ends text own old is long added last = omega (arith, ap length (last_same ends (record { text = text; octets = added }) (record { text = text; octets = own }) last is refl))

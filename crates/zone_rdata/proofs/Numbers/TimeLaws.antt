@@ -1,5 +1,5 @@
 -- Times: a text has one reading, octet by octet, and states one time or none.
-use Rattle.zone_rdata.proofs.Common.{[], ◌≡◌, ℕ, ◌+◌, ◌*◌, ◌<◌, ◌≤◌, ◌⊎◌, min, true, false, List, ◌∷◌, ◌++◌, length, Option, Some, refl, sym, ap, ◌∙◌, subst, arith, append_assoc, length-append, IsTrue, take, drop, get_or, inl, inr, AllByRecursion, flat_map, flat_map-append, sum_by, append-nil, take-append-drop, drop_more, take_all, nat_tests, is_digit, decimal_value, Group, IsTimeGroup, group_text, group_seconds, unit_seconds, IsTime, plain, grouped, common_steps, sum_by-append, ReadsTime, AllByRecursion-append, Choice, Decided, true_or_not}
+use Rattle.zone_rdata.proofs.Common.{[], ◌≡◌, ℕ, ◌+◌, ◌*◌, ◌<◌, ◌≤◌, ◌⊎◌, min, true, false, List, ◌∷◌, ◌++◌, length, Option, Some, refl, sym, ap, ◌∙◌, subst, arith, append_assoc, length-append, IsTrue, take, drop, get_or, inl, inr, AllByRecursion, flat_map, flat_map-append, sum_by, append-nil, take-append-drop, drop_more, nat_tests, is_digit, decimal_value, Group, IsTimeGroup, group_text, group_seconds, unit_seconds, IsTime, plain, grouped, common_steps, sum_by-append, ReadsTime, AllByRecursion-append, Choice, Decided, true_or_not}
 use Rattle.zone_rdata.specs.declared.time.Progress.{Progress}
 
 abbrev pub AreDigits : List ℕ → Type 0
@@ -100,9 +100,6 @@ pub time_stops : (text : List ℕ) (i d : ℕ) (p : Progress) → i < length tex
 time_stops text i d p lt reads stopped m time =
     let parts : text ≡ take i text ++ get_or text i d ∷ drop (i + 1) text = sym (take-append-drop i text) ∙ ap (λ t. take i text ++ t) (drop_more text i d lt) in
     stopped (take i text) (drop (i + 1) text) m reads (subst (λ t. IsTime t m) parts time)
-
-pub read_whole : (text : List ℕ) (i : ℕ) (p : Progress) → length text ≤ i → ReadsTime (take i text) p → ReadsTime text p
-read_whole text i p past reads = subst (λ t. ReadsTime t p) (take_all i text past) reads
 
 -- ---- a text states a time or none
 

@@ -21,9 +21,6 @@ reading text = answer (units_first no_octet text)
 pub string_reads : (item : RawItem) (octets : List ℕ) → SpellsString item octets → reading (item_text item) ≡ Ok octets
 string_reads item octets spells = grind (arith, length-map spells.units octet_of, units_first_only no_octet (item_text item) spells.units [] refl (spells.text ∙ sym (append-nil (written_text spells.units))) spells.each (at_end refl))
 
-bad_ended : (units : List Written) (rest more : List ℕ) → rest ≡ 92 ∷ more → ended units rest ≡ Err BadEscape
-bad_ended units rest more e = ap (ended units) e
-
 pub fault_reads : (item : RawItem) (fault : Fault) → StringFault item fault → reading (item_text item) ≡ Err fault
 fault_reads item _ (bad_escape before rest r bad) = grind (arith, units_first_only, at_backslash, le-leb)
 fault_reads item _ (long_string before w rest r full is) =

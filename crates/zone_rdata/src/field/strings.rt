@@ -55,6 +55,7 @@ pub(crate) fn push_sent_strings<'o>(
 }
 
 /// Whether octets are one string or more, each after its length.
+#[tactic(auto, using(crate::proofs::Fields::Strings::framed_empty))]
 fn are_strings(octets: &[u8]) -> bool
     ensures { IsTrue result ↔ AreWithLengths octets.now }
 {
