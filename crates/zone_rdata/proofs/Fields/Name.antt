@@ -31,8 +31,7 @@ pub front_once : (octets : List ℕ) (v w : FieldValue) (r s : List ℕ) → Beg
 front_once octets v w r s x y =
     let a = as_sent octets v r x in
     let b = as_sent octets w s y in
-    let same = sent_once octets r s a.0 b.0 a.2 b.2 in
-    (a.1 ∙ ap name same.0 ∙ sym b.1, same.1)
+    grind (arith, sent_once octets r s a.0 b.0 a.2 b.2)
 
 -- ---- labels are a name or not
 octet_or_not : (c : ℕ) → Decided (IsFoldedOctet c)

@@ -8,17 +8,13 @@ AreDigits text = AllByRecursion (λ c. is_digit c ≡ true) text
 -- digits up to the first octet that is none are one run
 run_split : (a b : List ℕ) (c d : ℕ) (r s : List ℕ) → AreDigits a → AreDigits b → is_digit c ≡ false → is_digit d ≡ false → a ++ c ∷ r ≡ b ++ d ∷ s → (a ≡ b) × (c ≡ d) × (r ≡ s)
 run_split [] [] c d r s x y p q e = (refl, cc, cc)
-run_split (a ∷ as_) (b ∷ bs) c d r s x y p q e =
-    let t : as_ ++ c ∷ r ≡ bs ++ d ∷ s = cc in
-    let rest = run_split as_ bs c d r s x.1 y.1 p q t in
-    (let k = rest.0 in cc, rest.1, rest.2)
+run_split (a ∷ as_) (b ∷ bs) c d r s x y p q e = grind (arith, run_split as_ bs c d r s x.1 y.1 p q)
 run_split a b c d r s x y p q e = cc
 
 -- an octet that is no digit stands in no digits
 no_run : (a : List ℕ) (c : ℕ) (r b : List ℕ) → AreDigits b → is_digit c ≡ false → a ++ c ∷ r ≡ b → ⊥
 no_run [] c r b each p e = grind arith
-no_run (a ∷ as_) c r [] each p e = cc
-no_run (a ∷ as_) c r (b ∷ bs) each p e = let t : as_ ++ c ∷ r ≡ bs = cc in no_run as_ c r bs each.1 p t
+no_run (a ∷ as_) c r b each p e = grind (arith, no_run as_ c r)
 
 -- a unit is no digit
 unit_no_digit : (c u : ℕ) → unit_seconds c ≡ Some u → is_digit c ≡ false
@@ -91,9 +87,7 @@ ends_grouped text p groups closed reads = (sum_by group_seconds reads.groups, (g
 
 -- groups and digits after them are no time, nor is nothing
 pub ends_none : (text : List ℕ) (n : ℕ) (p : Progress) → p.grouped ≡ p.open → ReadsTime text p → IsTime text n → ⊥
-ends_none text n p same reads time =
-    let alone = time_alone text n reads.groups reads.digits time reads.each (digits_alone reads.digits reads.last) reads.parts in
-    grind arith
+ends_none text n p same reads time = grind (arith, time_alone text n reads.groups reads.digits time reads.each (digits_alone reads.digits reads.last) reads.parts)
 
 -- an octet at which no time goes on
 pub time_stops : (text : List ℕ) (i d : ℕ) (p : Progress) → i < length text → ReadsTime (take i text) p → ((front rest : List ℕ) (n : ℕ) → ReadsTime front p → IsTime (front ++ get_or text i d ∷ rest) n → ⊥) → (m : ℕ) → IsTime text m → ⊥
