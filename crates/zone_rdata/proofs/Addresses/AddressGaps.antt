@@ -1,5 +1,5 @@
 -- Two colons in a row: where an address has them.
-use Rattle.zone_rdata.proofs.Common.{[], ◌≡◌, ◌≢◌, ℕ, zero, suc, ◌+◌, ◌-◌, ◌<◌, ◌≤◌, Bool, true, false, inl, inr, List, ◌∷◌, ◌++◌, length, take, drop, replicate, refl, sym, ap, ◌∙◌, arith, append_assoc, length-append, take_at, drop_at, drop_more, drop_all, drop-replicate, replicate-append-replicate, length-replicate, append-nil, get_or_at, get_or_append_left, take-append-drop, cases_lt, AddressPart, AreParts, parts_text, ArePartsOf, AreAround, IsIpv6Address, eight, fewer, Lacks, HasGapAt}
+use Rattle.zone_rdata.proofs.Common.{[], ◌≡◌, ◌≢◌, ℕ, zero, suc, ◌+◌, ◌-◌, ◌<◌, ◌≤◌, Bool, true, false, List, ◌∷◌, ◌++◌, length, take, drop, replicate, refl, sym, ap, ◌∙◌, arith, append_assoc, length-append, take_at, drop_at, drop_more, drop_all, drop-replicate, replicate-append-replicate, length-replicate, append-nil, get_or_at, get_or_append_left, take-append-drop, cases_lt, AddressPart, AreParts, parts_text, ArePartsOf, AreAround, IsIpv6Address, eight, fewer, Lacks, HasGapAt}
 use Rattle.zone_rdata.proofs.Addresses.Cut.{group_lacks, last_lacks}
 use Rattle.zone_rdata.proofs.Addresses.AddressParts.{parts_some, parts_unique, parts_length}
 

@@ -1,5 +1,5 @@
 -- An address in text has the octets that its field holds: how many, and that they are octets.
-use Rattle.zone_rdata.proofs.Common.{All-replicate, recursion_from_All, [], ◌≡◌, ℕ, ◌-◌, ◌<◌, Bool, true, false, inl, inr, List, ◌∷◌, ◌++◌, length, replicate, refl, sym, ◌∙◌, subst, arith, length-append, AllZip, length-replicate, decode_of-ok, decode_sized-ok, decode_sized-twice, AreOctets, IsOctetNumber, IsIpv4Address, AddressPart, IsGroup, AreParts, parts_octets, ArePartsOf, IsIpv6Address, eight, fewer, AllByRecursion-append, common_steps, bytes_each, ap, Err, Option, Some, None, IfNone, ok_or, Cause, fault_for, NoValue, AreFixed, IsAddress, of_ipv4, of_ipv6, BadRdata}
+use Rattle.zone_rdata.proofs.Common.{All-replicate, recursion_from_All, [], ◌≡◌, ℕ, ◌-◌, ◌<◌, Bool, true, false, inl, inr, List, ◌∷◌, ◌++◌, length, replicate, sym, ◌∙◌, subst, arith, length-append, AllZip, length-replicate, decode_of-ok, decode_sized-ok, decode_sized-twice, AreOctets, IsOctetNumber, IsIpv4Address, AddressPart, IsGroup, AreParts, parts_octets, ArePartsOf, IsIpv6Address, eight, fewer, AllByRecursion-append, common_steps, bytes_each, ap, Err, Option, Some, None, IfNone, ok_or, Cause, fault_for, NoValue, AreFixed, IsAddress, of_ipv4, of_ipv6, BadRdata}
 use Rattle.zone_rdata.specs.declared.cause.Cause.TheVariants as causes
 
 numbers_bytes : (numbers : List (List ℕ)) (octets : List ℕ) → AllZip IsOctetNumber numbers octets → (length octets ≡ length numbers) × AreOctets octets

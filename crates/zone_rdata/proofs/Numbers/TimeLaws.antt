@@ -1,5 +1,5 @@
 -- Times: a text has one reading, octet by octet, and states one time or none.
-use Rattle.zone_rdata.proofs.Common.{[], ◌≡◌, ℕ, ◌+◌, ◌*◌, ◌<◌, ◌≤◌, ◌⊎◌, min, true, false, List, ◌∷◌, ◌++◌, length, Option, Some, refl, sym, ap, ◌∙◌, subst, arith, append_assoc, length-append, IsTrue, take, drop, get_or, inl, inr, AllByRecursion, flat_map, flat_map-append, sum_by, append-nil, take-append-drop, drop_more, nat_tests, is_digit, decimal_value, Group, IsTimeGroup, group_text, group_seconds, unit_seconds, IsTime, plain, grouped, common_steps, sum_by-append, ReadsTime, AllByRecursion-append, Choice, Decided, true_or_not}
+use Rattle.zone_rdata.proofs.Common.{[], ◌≡◌, ℕ, ◌+◌, ◌*◌, ◌<◌, ◌⊎◌, min, true, false, List, ◌∷◌, ◌++◌, length, Option, Some, refl, sym, ap, ◌∙◌, subst, arith, append_assoc, length-append, IsTrue, take, drop, get_or, inl, inr, AllByRecursion, flat_map, flat_map-append, sum_by, append-nil, take-append-drop, drop_more, nat_tests, is_digit, decimal_value, Group, IsTimeGroup, group_text, group_seconds, unit_seconds, IsTime, plain, grouped, common_steps, sum_by-append, ReadsTime, AllByRecursion-append, Choice, Decided, true_or_not}
 use Rattle.zone_rdata.specs.declared.time.Progress.{Progress}
 
 abbrev pub AreDigits : List ℕ → Type 0

@@ -1,5 +1,5 @@
 -- Values of a layout are data: their octets hold them, are octets, and without strings few.
-use Rattle.zone_rdata.proofs.Common.{[], List, Option, Some, ap, length, refl, ℕ, ◌++◌, ◌<◌, ◌∙◌, ◌∷◌, ◌≡◌, ◌≤◌, arith, ◌≢◌, AllByRecursion, MatchOption, drop_at, Field, FieldValue, HoldEach, Holds, field_octets, octets_of, values_of, AreLaidOut, IsData, StringsLast, layout, IsCanonicalOf, AllByRecursion-append, common_steps, Strings, None, subst, sym, IfSome, AreOctets, Fault, IsSized, fields_of, option_map, BadRdata, Layout}
+use Rattle.zone_rdata.proofs.Common.{[], List, Option, Some, ap, length, refl, ℕ, ◌++◌, ◌∙◌, ◌∷◌, ◌≡◌, ◌≤◌, arith, ◌≢◌, AllByRecursion, MatchOption, drop_at, Field, FieldValue, HoldEach, Holds, field_octets, octets_of, values_of, AreLaidOut, IsData, StringsLast, layout, IsCanonicalOf, AllByRecursion-append, common_steps, Strings, None, subst, sym, IfSome, AreOctets, Fault, IsSized, fields_of, option_map, BadRdata, Layout}
 use Rattle.zone_rdata.proofs.Fields.AnyField.{field_back, field_low}
 use Rattle.zone_rdata.proofs.Octets.Taken.{uncompressed_length}
 use Rattle.zone_rdata.proofs.Words.Tables.{table_row}

@@ -1,7 +1,6 @@
 -- The string of an item, or its first fault, as an answer on lists: of the units at the beginning
 -- of its text.
-use Rattle.zone_rdata.proofs.Common.{[], cases_lt, drop, length-drop, length-take, take, take-append-drop, ◌≡◌, ℕ, zero, suc, ◌<◌, ◌≤◌, nat_le, List, ◌∷◌, ◌++◌, length, Result, Ok, Err, ◌⊎◌, inl, inr, refl, sym, ap, ◌∙◌, subst, arith, append_assoc, length-append, AllByRecursion, cases_Bool, le-leb, lt-leb, leb-true, leb-false, append-nil, length-map, flat_map-append, AreOctets, Written, escaped, text_of, octet_of, IsUnit, no_octet, written_text, written_octets, Fault, RawItem, SpellsString, StringFault, bad_escape, long_string, item_text, AllByRecursion-append, AllByRecursion-front, AllByRecursion-back, if◌then◌else◌, BadEscape, StringTooLong}
-use Rattle.zone_name.specs.Spelling.{plain, decimal}
+use Rattle.zone_rdata.proofs.Common.{[], cases_lt, drop, length-drop, length-take, take, take-append-drop, ◌≡◌, ℕ, ◌<◌, ◌≤◌, nat_le, List, ◌∷◌, ◌++◌, length, Result, Ok, Err, ◌⊎◌, inl, inr, refl, sym, ap, ◌∙◌, subst, arith, append_assoc, length-append, AllByRecursion, le-leb, lt-leb, append-nil, length-map, flat_map-append, AreOctets, Written, text_of, octet_of, IsUnit, no_octet, written_text, written_octets, Fault, RawItem, SpellsString, StringFault, bad_escape, long_string, item_text, AllByRecursion-append, AllByRecursion-front, AllByRecursion-back, if◌then◌else◌, BadEscape, StringTooLong}
 use Rattle.zone_name.specs.Machine.Units.{Units, units_first}
 use Rattle.zone_name.proofs.Spelling.Units.{NoUnit, at_end, at_octet, at_backslash, UnitsAre, units_first_are, units_first_only}
 

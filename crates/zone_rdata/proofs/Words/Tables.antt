@@ -1,5 +1,5 @@
 -- What is found in a table of rows, and what holds of each row.
-use Rattle.zone_rdata.proofs.Common.{[], ◌≡◌, ℕ, ◌<◌, List, ◌∷◌, length, map, Bool, true, not, cond, ◌&&◌, ◌||◌, ◌==◌, nat_le, bytes_eq, Option, Some, None, refl, ap, subst, arith, AllByRecursion, find, list_all, option_map, eqb-true, eq-eqb, and_parts, or_cases, not-true, nat_tests, bytes_eq-Decides, folded_label, Field, IsLayout, IsSized, StringsLast, fields_in, layout, is_strings, Named, NamedType, in_every, in_one, ascend, ascends, mnemonic_among, number_among, types, IsMnemonic}
+use Rattle.zone_rdata.proofs.Common.{[], ◌≡◌, ℕ, ◌<◌, List, ◌∷◌, length, map, Bool, true, not, ◌&&◌, ◌||◌, ◌==◌, nat_le, bytes_eq, Option, Some, None, refl, ap, subst, arith, AllByRecursion, find, list_all, option_map, eqb-true, eq-eqb, and_parts, or_cases, not-true, nat_tests, bytes_eq-Decides, folded_label, Field, IsLayout, IsSized, StringsLast, fields_in, layout, is_strings, Named, NamedType, in_every, in_one, ascend, ascends, mnemonic_among, number_among, types, IsMnemonic}
 use Rattle.std.proofs.lemmas.Option.{cond_some}
 use Rattle.zone_rdata.specs.declared.field.Field.TheVariants as fields
 

@@ -1,5 +1,5 @@
-use Rattle.zone_rdata.proofs.Common.{arith, false≢true, nat_tests}
-use Rattle.zone_rdata.proofs.Fields.Strings.{framed_empty, framed_short, framed_more}
+use Rattle.zone_rdata.proofs.Common.{false≢true}
+use Rattle.zone_rdata.proofs.Fields.Strings.{framed_short, framed_more}
 use Rattle.zone_rdata.proofs.field.strings.are_strings.Goals as goal
 
 pub returns-then-following-count : goal.returns-then-following-count
