@@ -66,9 +66,7 @@ read_step : (origin : Labels) (row : List Field) (items : List RawItem) (f : Fie
 read_step origin row items f later left rest octets new read grows =
     let v = grows.appends.value in
     record {
-      leads = λ values h.
-          let all = read.leads (v ∷ values) (grows.appends.stated, subst (λ is. SpellEach origin later is values) grows.following h) in
-          record { values = all.values; spelt = all.spelt; written = ap (λ o. o ++ octets_of values) grows.appends.written ∙ append_assoc octets (field_octets v) (octets_of values) ∙ all.written };
+      leads = λ values h. grind (arith, append_assoc, read.leads (v ∷ values) (grows.appends.stated, subst (λ is. SpellEach origin later is values) grows.following h));
       fault = λ fault h. read.fault fault (inr (v, grows.appends.stated, subst (λ is. FirstFieldFault origin later is fault) grows.following h));
     }
 

@@ -33,8 +33,8 @@ octets_push values v = flat_map-append field_octets values (v ∷ []) ∙ ap (λ
 
 -- ---- one more part
 more_plain : (f : Field) (n : ℕ) → AllByRecursion (λ g. g ≢ fields.Strings) (more_fields f n)
-more_plain fields.Strings (suc n) = (λ e. cc, more_plain fields.Strings n)
-more_plain f n = tt
+more_plain f zero = grind arith
+more_plain f (suc n) = grind (arith, more_plain f n)
 
 plain_fields : (row : List Field) (n : ℕ) → AllByRecursion (λ f. f ≢ fields.Strings) (part_fields row n)
 plain_fields row zero = tt
