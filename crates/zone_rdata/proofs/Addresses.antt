@@ -1,9 +1,7 @@
 -- Addresses in text: what they state, and how they are printed.
 pub mod AddressChoice
-pub mod AddressFields
 pub mod AddressGaps
 pub mod AddressLaws
 pub mod AddressOctets
 pub mod AddressParts
-pub mod AddressTexts
 pub mod Cut

@@ -6,4 +6,3 @@ pub mod Layouts
 pub mod Sent
 pub mod StringFields
 pub mod Taken
-pub mod Wire

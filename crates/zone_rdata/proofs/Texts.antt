@@ -1,7 +1,6 @@
 -- The canonical text of data.
 pub mod PrintedWords
 pub mod Standing
-pub mod StringTexts
 pub mod TextItems
 pub mod TextLengths
 pub mod FieldTexts

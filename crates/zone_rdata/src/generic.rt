@@ -24,7 +24,7 @@ use hex::decode_to_slice;
 /// The first of: `BadGeneric` for a length that is missing or no decimal number, `RdataTooLong` for
 /// one over 65,535, and `BadGeneric` for digits that aren't those of so many octets; and `Memory`
 /// where memory is refused.
-#[tactic(auto, using(crate::proofs::Items::GenericForm::generic_read))]
+#[tactic(auto, using(crate::proofs::Items::GenericLaws::generic_read))]
 pub(crate) fn read_generic(items: &[Item], octets: &mut Vec<u8>) -> Result<(), NarrowFailing>
     requires { IsGeneric (map raw items.now) }
     ensures found { OnOk result (StatesGeneric (map raw items.now) octets.new.items) }

@@ -25,7 +25,7 @@ pub fn is_generic(items: &[Item]) -> bool
 
 /// Reads the octets of the values that the items spell, field by field. They come in the place of
 /// those of before.
-#[tactic(auto, using(crate::proofs::Items::FromLeft::words_from_left))]
+#[tactic(auto, using(crate::proofs::Items::Values::words_from_left))]
 pub(crate) fn read_words(
     layout: Layout,
     items: &[Item],

@@ -1,14 +1,14 @@
 -- A text is an address or none.
 use Rattle.zone_rdata.proofs.Common.{[], Bool, Err, List, Ok, Result, ap, arith, drop, false, get_or, inl, inr, length, refl, replicate, suc, sym, take, true, zero, ℕ, ◌++◌, ◌+◌, ◌-◌, ◌<◌, ◌∙◌, ◌∷◌, ◌≡◌, ◌≢◌, ◌≤◌, ◌⊎◌, cases_eq, cases_lt, AllZip, decode_sized, AreAround, ArePartsOf, IsIpv4Address, IsIpv6Address, IsOctetNumber, eight, IsAddress, of_ipv4, of_ipv6, HasGapAt, IsGroupOf, IsLastPartOf, IsDecimal, FromHexError, Choice, below_or_not, choice_as, choice_both}
-use Rattle.zone_rdata.proofs.Addresses.AddressFields.{no_ipv4, no_ipv6}
+use Rattle.zone_rdata.proofs.Addresses.AddressOctets.{no_ipv4, no_ipv6}
 use Rattle.zone_rdata.proofs.Addresses.AddressGaps.{IsFirstGap, found_at_gap, refused_at_gap, refused_without_gap}
-use Rattle.zone_rdata.proofs.Addresses.AddressParts.{HaveParts, no_parts, parts_found, parts_listed, parts_unique}
+use Rattle.zone_rdata.proofs.Addresses.AddressParts.{HaveParts, parts_found, parts_listed, parts_unique}
 use Rattle.zone_rdata.proofs.Addresses.Cut.{numbers_parts, parts_numbers, split, zip_first}
 use Rattle.zone_rdata.proofs.Items.GenericLaws.{decimal_or_not}
 
 -- ---- numbers parted by dots
 octet_or_not : (text : List ℕ) → Choice (IsOctetNumber text)
-octet_or_not text = choice_as (λ n. n) (λ n h. record { number = h.0; short = omega (arith, h.1) }) (λ none n h. none n (h.number, omega (arith, h.short))) (below_or_not (IsDecimal text) 256 (λ a b h k. h.value ∙ sym k.value) (decimal_or_not text))
+octet_or_not text = grind (arith, below_or_not (IsDecimal text) 256 (λ a b h k. h.value ∙ sym k.value) (decimal_or_not text))
 
 zip_or_not : (texts : List (List ℕ)) → Choice (AllZip IsOctetNumber texts)
 zip_or_not [] = inl ([], tt)
@@ -26,13 +26,7 @@ value_by text (Ok octets) some few e = inl (octets, record { some = some; few = 
 value_by text (Err error) some few e = grind arith
 
 group_or_not : (text : List ℕ) → Choice (IsGroupOf text)
-group_or_not text = elim (cases_lt 4 (length text)) [
-  | inl long ↦ inr (λ octets h. omega (arith, h.few))
-  | inr few ↦ elim (cases_lt 0 (length text)) [
-    | inl some ↦ value_by text (decode_sized (replicate (4 - length text) 48 ++ text) 2) some few refl
-    | inr none ↦ inr (λ octets h. omega (arith, h.some))
-  ]
-]
+group_or_not text = grind (arith, cases_lt 4 (length text), cases_lt 0 (length text), value_by text (decode_sized (replicate (4 - length text) 48 ++ text) 2))
 
 last_by : (ends : Bool) (text : List ℕ) → Choice (IsGroupOf text) → Choice (IsIpv4Address text) → Choice (IsLastPartOf ends text)
 last_by ends text (inl found) four = inl (found.0, inl found.1)
@@ -46,7 +40,7 @@ texts_or_not ends (text ∷ []) = last_by ends text (group_or_not text) (ipv4_or
 texts_or_not ends (text ∷ next ∷ texts) = choice_both (λ added more. added ++ more) (λ added more is have. (added, more, is, have, refl)) (λ octets have. ((have.0, have.2), (have.1, have.3))) (group_or_not text) (texts_or_not ends (next ∷ texts))
 
 parts_or_not : (ends : Bool) (text : List ℕ) → Choice (ArePartsOf ends text)
-parts_or_not ends [] = inl ([], no_parts ends)
+parts_or_not ends [] = inl ([], record { parts = []; each = tt; parted = refl; value = refl })
 parts_or_not ends (c ∷ text) = choice_as (λ octets. octets) (parts_listed ends (c ∷ text)) (λ none octets are. none octets (parts_found ends (c ∷ text) octets (omega arith) are)) (texts_or_not ends (split 58 (c ∷ text)))
 
 -- ---- the first gap
@@ -78,10 +72,7 @@ gap_or_not (c ∷ text) = gap_here c text (cases_eq c 58) (cases_eq (get_or text
 -- ---- an address of sixteen octets
 room_by : (front back before after : List ℕ) → ArePartsOf false front before → ArePartsOf true back after → Choice (AreAround front back)
 room_by front back before after x y = elim (cases_lt 14 (length before + length after)) [
-  | inl full ↦ inr (λ octets h.
-      let a = parts_unique false front h.before before h.front_parts x in
-      let b = parts_unique true back h.after after h.back_parts y in
-      omega (arith, ap length a, ap length b, h.room))
+  | inl full ↦ inr (λ octets h. grind (arith, parts_unique false front h.before before h.front_parts x, parts_unique true back h.after after h.back_parts y))
   | inr room ↦ inl (before ++ (replicate (16 - length before - length after) 0 ++ after), record { before = before; after = after; front_parts = x; back_parts = y; room = room; value = refl })
 ]
 

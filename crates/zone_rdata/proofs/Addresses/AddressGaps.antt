@@ -1,7 +1,7 @@
 -- Two colons in a row: where an address has them.
-use Rattle.zone_rdata.proofs.Common.{[], ◌≡◌, ◌≢◌, ℕ, zero, suc, ◌+◌, ◌-◌, ◌<◌, ◌≤◌, Bool, true, false, inl, inr, List, ◌∷◌, ◌++◌, length, take, drop, replicate, refl, sym, ap, ◌∙◌, arith, append_assoc, length-append, take_at, drop_at, drop_more, drop_all, drop-replicate, replicate-append-replicate, length-replicate, append-nil, get_or_at, get_or_append_left, take-append-drop, cases_lt, AddressPart, AreParts, parts_text, ArePartsOf, AreAround, IsIpv6Address, eight, fewer, Lacks, HasGapAt}
+use Rattle.zone_rdata.proofs.Common.{[], ◌≡◌, ◌≢◌, ℕ, zero, suc, ◌+◌, ◌-◌, ◌<◌, ◌≤◌, Bool, true, false, List, ◌∷◌, ◌++◌, length, take, drop, replicate, refl, sym, ap, ◌∙◌, arith, append_assoc, length-append, take_at, drop_at, drop_more, drop_all, drop-replicate, replicate-append-replicate, length-replicate, append-nil, get_or_at, get_or_append_left, take-append-drop, cases_lt, AddressPart, AreParts, parts_text, ArePartsOf, AreAround, IsIpv6Address, eight, fewer, Lacks, HasGapAt}
 use Rattle.zone_rdata.proofs.Addresses.Cut.{group_lacks, last_lacks}
-use Rattle.zone_rdata.proofs.Addresses.AddressParts.{parts_some, parts_unique}
+use Rattle.zone_rdata.proofs.Addresses.AddressParts.{parts_some, parts_unique, parts_length}
 
 -- no two colons in a row, from the first octet on
 abbrev NoGaps : List ℕ → Type 0
@@ -102,3 +102,5 @@ groups_unique text a b (fewer front back parted x) (fewer front' back' parted' y
     let p = around_gap text front back (length front) a first parted x in
     let q = around_gap text front' back' (length front) b first parted' y in
     grind (arith, parts_unique false front x.before y.before x.front_parts, parts_unique true back x.after y.after x.back_parts)
+
+pub ruleset octets_set_around = (around_written, parts_length)

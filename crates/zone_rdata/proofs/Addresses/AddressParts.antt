@@ -65,6 +65,9 @@ pub parts_unique : (ends : Bool) (text a b : List ℕ) → ArePartsOf ends text 
 parts_unique ends [] a b x y = cc (none_empty ends x.parts x.each (sym x.parted), none_empty ends y.parts y.each (sym y.parted))
 parts_unique ends (c ∷ text) a b x y = have_once ends (split 58 (c ∷ text)) a b (parts_found ends _ a (omega arith) x) (parts_found ends _ b (omega arith) y)
 
+pub parts_length : (ends : Bool) (text a b : List ℕ) → ArePartsOf ends text a → ArePartsOf ends text b → length a ≡ length b
+parts_length ends text a b x y = ap length (parts_unique ends text a b x y)
+
 -- ---- reading part after part
 
 -- groups are read up to a place: what the rest stands for is what is missing
@@ -104,9 +107,6 @@ pub parts_unended : (ends : Bool) (text rest octets : List ℕ) → Lacks 58 res
 parts_unended ends text rest octets lacks reads stops others are short =
     let left = reads.comes others (parts_found ends text others reads.some are) in
     grind (arith, parts_found, split_lacks, length-append)
-
-pub no_parts : (ends : Bool) → ArePartsOf ends [] []
-no_parts ends = record { parts = []; each = tt; parted = refl; value = refl }
 
 -- where there is no room for the last part, or it is none
 pub part_full : (ends : Bool) (text own old : List ℕ) → IsLastPartOf ends text own → 16 < length old + length own → NoneFits (IsLastPartOf ends text) old

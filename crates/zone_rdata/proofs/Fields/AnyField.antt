@@ -4,7 +4,7 @@ use Rattle.std.proofs.lemmas.Nat.{from_be_bytes-to_be_bytes_2, from_be_bytes-to_
 use Rattle.std.specs.Int.{w16, w32}
 use Rattle.zone_name.proofs.Texts.Lengths.{name_text_length}
 use Rattle.zone_rdata.proofs.Addresses.AddressChoice.{address_or_not}
-use Rattle.zone_rdata.proofs.Addresses.AddressFields.{address_fixed}
+use Rattle.zone_rdata.proofs.Addresses.AddressOctets.{address_fixed}
 use Rattle.zone_rdata.proofs.Fields.FieldLaws.{AreLow, AreLowItems, FieldChoice, FrontChoice, NameFaultOnce, NameOrFault, NamesNever, NamesOnce, NamesPrinted, mark_text, number_unmarked, plain_front, sized_front}
 use Rattle.zone_rdata.proofs.Fields.FieldLengths.{string_length, strings_length}
 use Rattle.zone_rdata.proofs.Fields.Name.{front as name_front, front_once as name_front_once, low as low_name, name_unmarked}

@@ -2,7 +2,7 @@
 use Rattle.zone_rdata.proofs.Common.{[], List, ap, append_assoc, arith, drop, inl, inr, length, refl, sym, ℕ, ◌++◌, ◌<◌, ◌∙◌, ◌∷◌, ◌≡◌, ◌⊎◌, AllByRecursion, flat_map, cases_eq, cases_lt, append-nil, drop_at, folded, Labels, IsFoldedOctet, IsLabel, IsName, wire, with_length, AllByRecursion-append, FieldValue, name, AppendsValue, BeginsWithNone, BeginsWithValue, BeginsWithSent, label_text, name_text, octet_text, Name, common_steps, Decided, each_or_not, each_weaker}
 use Rattle.zone_rdata.proofs.Fields.FieldLaws.{AreLow, FrontChoice, found_front}
 use Rattle.zone_rdata.proofs.Octets.Sent.{sent_labels, sent_once}
-use Rattle.zone_rdata.proofs.Words.WordChoice.{same_or_not}
+use Rattle.zone_rdata.proofs.Words.OneWord.{same_or_not}
 use Rattle.zone_name.specs.Name.{labels_of}
 
 -- ---- its octets
@@ -31,8 +31,7 @@ pub front_once : (octets : List ℕ) (v w : FieldValue) (r s : List ℕ) → Beg
 front_once octets v w r s x y =
     let a = as_sent octets v r x in
     let b = as_sent octets w s y in
-    let same = sent_once octets r s a.0 b.0 a.2 b.2 in
-    (a.1 ∙ ap name same.0 ∙ sym b.1, same.1)
+    grind (arith, sent_once octets r s a.0 b.0 a.2 b.2)
 
 -- ---- labels are a name or not
 octet_or_not : (c : ℕ) → Decided (IsFoldedOctet c)

@@ -7,7 +7,7 @@ use Rattle.zone_rdata.proofs.Octets.StringFields.{strings_back}
 use Rattle.zone_rdata.proofs.Strings.StringLaws.{fault-once, printed_spells, printed_stands, string-never_both, string-once}
 use Rattle.zone_rdata.proofs.Strings.Units.{string_or_fault}
 use Rattle.zone_rdata.proofs.Texts.Standing.{IsPrintedItem}
-use Rattle.zone_rdata.proofs.Words.WordChoice.{same_or_not}
+use Rattle.zone_rdata.proofs.Words.OneWord.{same_or_not}
 
 -- ---- its octets
 pub low_each : (many : List (List ℕ)) → AllByRecursion IsString many → AreLow (flat_map with_length many)

@@ -1,5 +1,5 @@
 -- Times: a text has one reading, octet by octet, and states one time or none.
-use Rattle.zone_rdata.proofs.Common.{[], ◌≡◌, ℕ, ◌+◌, ◌*◌, ◌<◌, ◌≤◌, ◌⊎◌, min, true, false, List, ◌∷◌, ◌++◌, length, Option, Some, refl, sym, ap, ◌∙◌, subst, arith, append_assoc, length-append, IsTrue, take, drop, get_or, inl, inr, AllByRecursion, flat_map, flat_map-append, sum_by, append-nil, take-append-drop, drop_more, take_all, nat_tests, is_digit, decimal_value, Group, IsTimeGroup, group_text, group_seconds, unit_seconds, IsTime, plain, grouped, common_steps, sum_by-append, ReadsTime, AllByRecursion-append, Choice, Decided, true_or_not}
+use Rattle.zone_rdata.proofs.Common.{[], ◌≡◌, ℕ, ◌+◌, ◌*◌, ◌<◌, ◌⊎◌, min, true, false, List, ◌∷◌, ◌++◌, length, Option, Some, refl, sym, ap, ◌∙◌, subst, arith, append_assoc, length-append, IsTrue, take, drop, get_or, inl, inr, AllByRecursion, flat_map, flat_map-append, sum_by, append-nil, take-append-drop, drop_more, nat_tests, is_digit, decimal_value, Group, IsTimeGroup, group_text, group_seconds, unit_seconds, IsTime, plain, grouped, common_steps, sum_by-append, ReadsTime, AllByRecursion-append, Choice, Decided, true_or_not}
 use Rattle.zone_rdata.specs.declared.time.Progress.{Progress}
 
 abbrev pub AreDigits : List ℕ → Type 0
@@ -8,17 +8,13 @@ AreDigits text = AllByRecursion (λ c. is_digit c ≡ true) text
 -- digits up to the first octet that is none are one run
 run_split : (a b : List ℕ) (c d : ℕ) (r s : List ℕ) → AreDigits a → AreDigits b → is_digit c ≡ false → is_digit d ≡ false → a ++ c ∷ r ≡ b ++ d ∷ s → (a ≡ b) × (c ≡ d) × (r ≡ s)
 run_split [] [] c d r s x y p q e = (refl, cc, cc)
-run_split (a ∷ as_) (b ∷ bs) c d r s x y p q e =
-    let t : as_ ++ c ∷ r ≡ bs ++ d ∷ s = cc in
-    let rest = run_split as_ bs c d r s x.1 y.1 p q t in
-    (let k = rest.0 in cc, rest.1, rest.2)
+run_split (a ∷ as_) (b ∷ bs) c d r s x y p q e = grind (arith, run_split as_ bs c d r s x.1 y.1 p q)
 run_split a b c d r s x y p q e = cc
 
 -- an octet that is no digit stands in no digits
 no_run : (a : List ℕ) (c : ℕ) (r b : List ℕ) → AreDigits b → is_digit c ≡ false → a ++ c ∷ r ≡ b → ⊥
 no_run [] c r b each p e = grind arith
-no_run (a ∷ as_) c r [] each p e = cc
-no_run (a ∷ as_) c r (b ∷ bs) each p e = let t : as_ ++ c ∷ r ≡ bs = cc in no_run as_ c r bs each.1 p t
+no_run (a ∷ as_) c r b each p e = grind (arith, no_run as_ c r)
 
 -- a unit is no digit
 unit_no_digit : (c u : ℕ) → unit_seconds c ≡ Some u → is_digit c ≡ false
@@ -91,18 +87,13 @@ ends_grouped text p groups closed reads = (sum_by group_seconds reads.groups, (g
 
 -- groups and digits after them are no time, nor is nothing
 pub ends_none : (text : List ℕ) (n : ℕ) (p : Progress) → p.grouped ≡ p.open → ReadsTime text p → IsTime text n → ⊥
-ends_none text n p same reads time =
-    let alone = time_alone text n reads.groups reads.digits time reads.each (digits_alone reads.digits reads.last) reads.parts in
-    grind arith
+ends_none text n p same reads time = grind (arith, time_alone text n reads.groups reads.digits time reads.each (digits_alone reads.digits reads.last) reads.parts)
 
 -- an octet at which no time goes on
 pub time_stops : (text : List ℕ) (i d : ℕ) (p : Progress) → i < length text → ReadsTime (take i text) p → ((front rest : List ℕ) (n : ℕ) → ReadsTime front p → IsTime (front ++ get_or text i d ∷ rest) n → ⊥) → (m : ℕ) → IsTime text m → ⊥
 time_stops text i d p lt reads stopped m time =
     let parts : text ≡ take i text ++ get_or text i d ∷ drop (i + 1) text = sym (take-append-drop i text) ∙ ap (λ t. take i text ++ t) (drop_more text i d lt) in
     stopped (take i text) (drop (i + 1) text) m reads (subst (λ t. IsTime t m) parts time)
-
-pub read_whole : (text : List ℕ) (i : ℕ) (p : Progress) → length text ≤ i → ReadsTime (take i text) p → ReadsTime text p
-read_whole text i p past reads = subst (λ t. ReadsTime t p) (take_all i text past) reads
 
 -- ---- a text states a time or none
 

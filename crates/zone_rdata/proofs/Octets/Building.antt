@@ -33,8 +33,8 @@ octets_push values v = flat_map-append field_octets values (v ∷ []) ∙ ap (λ
 
 -- ---- one more part
 more_plain : (f : Field) (n : ℕ) → AllByRecursion (λ g. g ≢ fields.Strings) (more_fields f n)
-more_plain fields.Strings (suc n) = (λ e. cc, more_plain fields.Strings n)
-more_plain f n = tt
+more_plain f zero = grind arith
+more_plain f (suc n) = grind (arith, more_plain f n)
 
 plain_fields : (row : List Field) (n : ℕ) → AllByRecursion (λ f. f ≢ fields.Strings) (part_fields row n)
 plain_fields row zero = tt
@@ -109,8 +109,7 @@ last_whole fields.Strings n (string s ∷ values) h =
     record { own = strings (s ∷ rest.many) ∷ []; each = (record { some = omega arith; each = (h.0, rest.each) }, tt); same = append-nil (with_length s ++ flat_map with_length rest.many) ∙ ap (λ o. with_length s ++ o) rest.same }
 last_whole fields.Strings n (v ∷ values) h = absurd h.0
 last_whole f n (v ∷ []) h = record { own = v ∷ []; each = (h.0, tt); same = refl }
-last_whole f n (v ∷ w ∷ values) h = absurd h.1
-last_whole f n [] h = absurd h
+last_whole f n values h = absurd (grind arith)
 
 whole_by : (row : List Field) (n : ℕ) (values : List FieldValue) → StringsLast row → length row ≤ n → HoldEach (part_fields row n) values → WholeParts row (octets_of values)
 whole_by [] zero [] last past h = record { own = []; each = tt; same = refl }

@@ -1,9 +1,10 @@
 -- Values of a layout are data: their octets hold them, are octets, and without strings few.
-use Rattle.zone_rdata.proofs.Common.{[], List, Option, Some, ap, length, refl, ℕ, ◌++◌, ◌<◌, ◌∙◌, ◌∷◌, ◌≡◌, ◌≤◌, arith, ◌≢◌, AllByRecursion, MatchOption, drop_at, Field, FieldValue, HoldEach, Holds, field_octets, octets_of, values_of, AreLaidOut, IsData, StringsLast, layout, IsCanonicalOf, AllByRecursion-append, common_steps, Strings, None, subst, sym}
+use Rattle.zone_rdata.proofs.Common.{[], List, Option, Some, ap, length, refl, ℕ, ◌++◌, ◌∙◌, ◌∷◌, ◌≡◌, ◌≤◌, arith, ◌≢◌, AllByRecursion, MatchOption, drop_at, Field, FieldValue, HoldEach, Holds, field_octets, octets_of, values_of, AreLaidOut, IsData, StringsLast, layout, IsCanonicalOf, AllByRecursion-append, common_steps, Strings, None, subst, sym, IfSome, AreOctets, Fault, IsSized, fields_of, option_map, BadRdata, Layout}
 use Rattle.zone_rdata.proofs.Fields.AnyField.{field_back, field_low}
 use Rattle.zone_rdata.proofs.Octets.Taken.{uncompressed_length}
 use Rattle.zone_rdata.proofs.Words.Tables.{table_row}
 use Rattle.zone_rdata.proofs.Fields.FieldLaws.{AreLow}
+use Rattle.zone_rdata.specs.Wire.{IsWireFault, no_value}
 
 -- the first field of octets, and the fields after it
 values_next : (f : Field) (row : List Field) (v : FieldValue) (octets : List ℕ) → Holds f v → (f ≡ Strings → octets ≡ []) → values_of (f ∷ row) (field_octets v ++ octets) ≡ v ∷ values_of row octets
@@ -46,3 +47,15 @@ equal_values class kind row values others e held other_held same =
 
 pub got_back : (class kind : ℕ) (row : List Field) (values : List FieldValue) → layout class kind ≡ Some row → HoldEach row values → values_of row (octets_of values) ≡ values
 got_back class kind row values e held = grind (arith, values_back, table_row)
+
+-- ---- from uncompressed octets
+
+-- in a layout of the table octets of a fixed number are an address
+pub table_sized : (class kind : ℕ) (laid : Option Layout) → option_map fields_of laid ≡ layout class kind → IfSome laid (λ l. AllByRecursion IsSized (fields_of l))
+table_sized class kind laid e = grind (arith, common_steps)
+
+pub canonical_data : (class kind : ℕ) (laid : Option (List Field)) (octets canonical : List ℕ) → laid ≡ layout class kind → IsCanonicalOf laid octets canonical → length octets ≤ 65535 → AreOctets canonical → IsData class kind canonical
+canonical_data class kind laid octets canonical e is short each = grind (arith, canonical_length, canonical_laid)
+
+pub wire_fault : (class kind : ℕ) (laid : Option (List Field)) (octets : List ℕ) (fault : Fault) → laid ≡ layout class kind → length octets ≤ 65535 → (fault ≡ BadRdata) × ((canonical : List ℕ) → IsCanonicalOf laid octets canonical → ⊥) → IsWireFault (layout class kind) octets fault
+wire_fault class kind laid octets fault e short bad = grind (arith, no_value, layout)

@@ -8,10 +8,7 @@ use Rattle.zone_name.specs.declared.fault.NameFault.TheVariants.{EmptyLabel, Lab
 -- lists of one length are cut off alike
 pub append_same : (x y a b : List ℕ) → length x ≡ length y → x ++ a ≡ y ++ b → (x ≡ y) × (a ≡ b)
 append_same [] [] a b count e = (refl, e)
-append_same (c ∷ x) (d ∷ y) a b count e =
-    let tails : x ++ a ≡ y ++ b = cc in
-    let rest = append_same x y a b (omega arith) tails in
-    grind arith
+append_same (c ∷ x) (d ∷ y) a b count e = grind (arith, append_same x y a b)
 append_same x y a b count e = absurd (omega arith)
 
 -- what stands after its length is cut off alike
@@ -55,9 +52,7 @@ goes_on octets rest tail labels name cut b =
     (more, whole, append_cancel_left (flat_map with_length cut.sent) rest (wire more ++ tail) (grind (arith, flat_map-append, append_assoc, cut.parts, b.parts)))
 
 pub no_first : (octets rest : List ℕ) (labels : Labels) → HasCut octets labels rest → length rest ≡ 0 → (name : Labels) (tail : List ℕ) → BeginsWithSent octets name tail → ⊥
-no_first octets rest labels cut none name tail b =
-    let next = goes_on octets rest tail labels name cut b in
-    omega (arith, ap length next.2, length-append (wire next.0) tail, length-append (flat_map with_length next.0) (0 ∷ []))
+no_first octets rest labels cut none name tail b = grind (arith, goes_on octets rest tail labels name cut b, length-append)
 
 -- a label there, where the number isn't 0
 next_label : (more : List (List ℕ)) (tail following : List ℕ) (c : ℕ) → 0 < c → c ∷ following ≡ wire more ++ tail → (label : List ℕ) × (others : List (List ℕ)) × (more ≡ label ∷ others) × (length label ≡ c) × (following ≡ label ++ (wire others ++ tail))
@@ -65,9 +60,7 @@ next_label [] tail following c some e = absurd (let bad : c ≡ 0 = cc in omega 
 next_label (l ∷ others) tail following c some e = grind (arith, append_assoc)
 
 pub no_room : (octets rest : List ℕ) (labels : Labels) (c : ℕ) (following : List ℕ) → HasCut octets labels rest → rest ≡ c ∷ following → 0 < c → length following < c → (name : Labels) (tail : List ℕ) → BeginsWithSent octets name tail → ⊥
-no_room octets rest labels c following cut e some few name tail b =
-    let next = goes_on octets rest tail labels name cut b in
-    grind (arith, goes_on, next_label, length-append)
+no_room octets rest labels c following cut e some few name tail b = grind (arith, goes_on octets rest tail labels name cut b, next_label, length-append)
 
 -- what a name there says of the next label
 record Fits (labels : Labels) (label : List ℕ) : Type 0 where
@@ -78,9 +71,7 @@ fits_by : (before : List (List ℕ)) (label : List ℕ) (others : List (List ℕ
 fits_by before label others name = grind (arith, map-append, AllByRecursion-back, length-map, flat_map-append, length-append)
 
 next_fits : (octets rest : List ℕ) (labels : Labels) (c : ℕ) (following : List ℕ) → HasCut octets labels rest → rest ≡ c ∷ following → 0 < c → c ≤ length following → (name : Labels) (tail : List ℕ) → BeginsWithSent octets name tail → Fits labels (take c following)
-next_fits octets rest labels c following cut e some fits name tail b =
-    let next = goes_on octets rest tail labels name cut b in
-    grind (arith, common_steps, goes_on, next_label, length-take, append_same, take-append-drop, fits_by)
+next_fits octets rest labels c following cut e some fits name tail b = grind (arith, common_steps, goes_on octets rest tail labels name cut b, next_label, length-take, append_same, take-append-drop, fits_by)
 
 pub no_label : (octets rest : List ℕ) (labels : Labels) (c : ℕ) (following label : List ℕ) (fault : NameFault) (r : Result (Unit {0}) NameFault) → HasCut octets labels rest → rest ≡ c ∷ following → 0 < c → c ≤ length following → label ≡ take c following → r ≡ Err fault → IsLabelFault fault → ((r ≡ Err EmptyLabel) ↔ (length label ≡ 0)) → ((r ≡ Err LabelTooLong) ↔ (63 < length label)) → ((r ≡ Err NameTooLong) ↔ ((0 < length label) × (length label ≤ 63) × (255 < length (wire (labels ++ label ∷ []))))) → (name : Labels) (tail : List ℕ) → BeginsWithSent octets name tail → ⊥
 no_label octets rest labels c following label fault r cut e some fits same is only empty long too_long name tail b = grind (arith, length-take c following, next_fits octets rest labels c following cut e some fits name tail b)

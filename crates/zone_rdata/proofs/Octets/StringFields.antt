@@ -9,7 +9,7 @@ string_cut text more m = grind (arith, take_at, drop_at)
 strings_by_back : (many : List (List ℕ)) (m : ℕ) → length many ≤ m → strings_by m (flat_map with_length many) ≡ many
 strings_by_back many zero fuel = grind (arith, common_steps)
 strings_by_back [] (suc m) fuel = refl
-strings_by_back (text ∷ many) (suc m) fuel = string_cut text (flat_map with_length many) m ∙ ap (λ t. text ∷ t) (strings_by_back many m (omega arith))
+strings_by_back (text ∷ many) (suc m) fuel = grind (arith, string_cut, strings_by_back many m)
 
 -- joined strings hold those strings
 pub strings_back : (many : List (List ℕ)) → strings_of (flat_map with_length many) ≡ many

@@ -26,9 +26,7 @@ from_reads (f ∷ row) octets canonical r =
 
 reads_once : (row : List Field) (octets a b : List ℕ) → Reads row octets a → Reads row octets b → a ≡ b
 reads_once [] octets a b x y = x.1 ∙ sym y.1
-reads_once (f ∷ row) octets a b x y =
-    let same = front_once f octets x.0 y.0 x.1.0 y.1.0 x.1.2 y.1.2 in
-    grind (arith, reads_once row y.1.0 x.1.1 y.1.1)
+reads_once (f ∷ row) octets a b x y = grind (arith, front_once f octets x.0 y.0 x.1.0 y.1.0 x.1.2 y.1.2, reads_once row y.1.0 x.1.1 y.1.1)
 
 -- octets have one canonical form in a layout of the table
 pub canonical_once : (class kind : ℕ) (row : List Field) (octets a b : List ℕ) → layout class kind ≡ Some row → IsUncompressed row octets a → IsUncompressed row octets b → a ≡ b

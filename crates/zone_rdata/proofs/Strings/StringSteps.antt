@@ -32,7 +32,7 @@ read_full item octets rest after c read begins full =
 
 plain_written : (text : List ℕ) → (text ≡ written_text (map plain text)) × (text ≡ written_octets (map plain text))
 plain_written [] = (refl, refl)
-plain_written (c ∷ text) = let rest = plain_written text in (ap (λ t. c ∷ t) rest.0, ap (λ t. c ∷ t) rest.1)
+plain_written (c ∷ text) = grind (arith, plain_written text)
 
 plain_units : (text : List ℕ) → list_any (λ y. nat_eq y 92) text ≡ false → AllByRecursion (IsUnit no_octet) (map plain text)
 plain_units [] none = tt

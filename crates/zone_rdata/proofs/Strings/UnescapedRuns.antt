@@ -33,8 +33,7 @@ pub shown_more : (whole rest text plain after following : List ℕ) (n c : ℕ)
     → n ≡ prefix_len is_unescaped rest → plain ≡ take n rest → after ≡ drop n rest
     → after ≡ c ∷ following → HaveShown whole rest text
     → HaveShown whole following (text ++ (plain ++ unit_text c))
-shown_more whole rest text plain after following n c len front back first shown =
-    record { left = cc (shown.left, in_parts rest plain after n len front back, first, append_assoc text (plain ++ unit_text c) (inside_text following), append_assoc plain (unit_text c) (inside_text following)) }
+shown_more whole rest text plain after following n c len front back first shown = grind (arith, in_parts, append_assoc)
 
 pub shown_all : (whole rest text plain after : List ℕ) (n : ℕ)
     → n ≡ prefix_len is_unescaped rest → plain ≡ take n rest → after ≡ drop n rest → length after ≡ 0

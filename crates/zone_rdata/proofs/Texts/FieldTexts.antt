@@ -1,5 +1,6 @@
--- The text of data, field after field.
-use Rattle.zone_rdata.proofs.Common.{[], ◌≡◌, ◌∙◌, ◌≤◌, take-append-drop, ℕ, zero, suc, ◌+◌, ◌<◌, List, ◌∷◌, ◌++◌, length, get_or, take, drop, map, refl, sym, ap, arith, append_assoc, Some, encode_lower, flat_map, join_with_byte, take_at, drop_at, append-nil, Field, field_at, values_of, field_text, AreLaidOut, BeginsWithField, after_field, spaced, generic_head, laid_out_text, generic_text, common_steps, encode_with, labels_of, wire, HoldsName, Name, from_place, eqb-true}
+-- The text of data, field after field, and of strings, one after another.
+use Rattle.zone_rdata.proofs.Common.{[], ◌≡◌, ◌∙◌, ◌≤◌, take-append-drop, ℕ, zero, suc, ◌+◌, ◌<◌, List, ◌∷◌, ◌++◌, length, get_or, take, drop, map, refl, sym, ap, arith, append_assoc, Some, encode_lower, flat_map, join_with_byte, take_at, drop_at, append-nil, Field, field_at, values_of, field_text, AreLaidOut, BeginsWithField, after_field, spaced, generic_head, laid_out_text, generic_text, common_steps, encode_with, labels_of, wire, HoldsName, Name, from_place, eqb-true, with_length, string_at, strings_of, HoldsStrings, string_text}
+use Rattle.zone_rdata.proofs.Octets.StringFields.{first_string, no_strings}
 
 -- octets of a layout begin with its first field, and go on with the others
 pub first_field : (f : Field) (row : List Field) (octets : List ℕ) → AreLaidOut (f ∷ row) octets → BeginsWithField f octets × AreLaidOut row (after_field f octets)
@@ -69,3 +70,32 @@ digits_all whole [] text none so_far = sym (so_far.left ∙ append-nil text)
 digits_all whole (c ∷ rest) text none so_far = absurd (omega (arith, none))
 
 pub ruleset printed_last = (eqb-true, nothing_follows)
+
+-- ---- strings
+
+-- the octets after the first string
+abbrev pub following : List ℕ → List ℕ
+following octets = drop (length (with_length (string_at octets))) octets
+
+abbrev pub strings_text : List ℕ → List ℕ
+strings_text octets = join_with_byte 32 (map string_text (strings_of octets))
+
+-- a space and a text in quotes for each string
+abbrev pub more_text : List ℕ → List ℕ
+more_text octets = flat_map (λ t. 32 ∷ t) (map string_text (strings_of octets))
+
+-- strings up to a place are printed, at least one
+pub record HaveQuoted (whole rest text : List ℕ) : Type 0 where
+  pub held : HoldsStrings rest
+  pub left : strings_text whole ≡ text ++ more_text rest
+
+pub quoted_first : (whole string rest : List ℕ) → 0 < length whole → HoldsStrings whole → string ≡ string_at whole → rest ≡ following whole → HaveQuoted whole rest (string_text string)
+quoted_first whole string rest some held at is = grind (arith, first_string, joined_more)
+
+pub quoted_more : (whole rest text string after : List ℕ) → 0 < length rest → HaveQuoted whole rest text → string ≡ string_at rest → after ≡ following rest → HaveQuoted whole after (text ++ 32 ∷ string_text string)
+quoted_more whole rest text string after some so_far at is = grind (arith, first_string, append_assoc)
+
+pub quoted_all : (whole rest text : List ℕ) → length rest ≤ 0 → HaveQuoted whole rest text → text ≡ strings_text whole
+quoted_all whole rest text none so_far = grind (arith, common_steps, no_strings, append-nil)
+
+pub ruleset quoted_strings = (first_string, quoted_first, quoted_all)

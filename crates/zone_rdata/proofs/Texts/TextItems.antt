@@ -4,11 +4,10 @@ use Rattle.zone_rdata.proofs.Common.{bare_unit, escaped, [], List, None, Option,
 use Rattle.zone_rdata.proofs.Fields.AnyField.{field_printed, field_stands, field_unmarked}
 use Rattle.zone_rdata.proofs.Fields.FieldLaws.{NamesPrinted}
 use Rattle.zone_rdata.proofs.Items.GenericLaws.{printed_stated, printed_text}
-use Rattle.zone_rdata.proofs.Octets.Layouts.{AreFor}
+use Rattle.zone_rdata.proofs.Octets.Layouts.{AreFor, table_sized}
 use Rattle.zone_rdata.proofs.Texts.Standing.{IsPrintedItem, bare_decimal, bare_hex}
 use Rattle.zone_rdata.proofs.Words.Tables.{table_row}
 use Rattle.zone_rdata.proofs.Texts.FieldTexts.{joined_more}
-use Rattle.zone_rdata.proofs.Octets.Wire.{table_sized}
 
 -- ---- the text is the items
 

@@ -1,5 +1,5 @@
 -- How many octets printed words and data have at most.
-use Rattle.zone_rdata.proofs.Common.{leb-true, [], ◌≡◌, ℕ, ◌+◌, ◌*◌, ◌<◌, ◌≤◌, true, List, ◌∷◌, ◌++◌, length, map, nat_le, codes, decimal, Option, Some, None, refl, ap, arith, length-append, AllByRecursion, flat_map, join_with_byte, list_all, length-decimal-le, encode_lower, lower_digits, length-encode_with, Field, FieldValue, HoldEach, field_text, octets_of, values_of, IsLayout, IsSized, layout, laid_out_text, Data, IsRdata, Named, classes, type_names, mnemonic_among, data_text, generic_text, IsClass, IsKind, class_text, kind_text, word_or_numbered}
+use Rattle.zone_rdata.proofs.Common.{leb-true, [], ◌≡◌, ℕ, ◌+◌, ◌*◌, ◌<◌, ◌≤◌, true, List, ◌∷◌, ◌++◌, length, map, nat_le, codes, decimal, Option, Some, None, refl, ap, arith, length-append, AllByRecursion, flat_map, join_with_byte, list_all, length-decimal-le, length-encode_with, Field, FieldValue, HoldEach, field_text, octets_of, IsLayout, IsSized, layout, laid_out_text, Data, IsRdata, Named, classes, type_names, mnemonic_among, data_text, generic_text, IsClass, IsKind, class_text, kind_text, word_or_numbered}
 use Rattle.zone_rdata.proofs.Fields.AnyField.{field_few}
 use Rattle.zone_rdata.proofs.Octets.Layouts.{AreFor}
 use Rattle.zone_rdata.proofs.Words.Tables.{each_mnemonic, table_row}

@@ -1,12 +1,9 @@
 -- What is found in a table of rows, and what holds of each row.
-use Rattle.zone_rdata.proofs.Common.{[], ◌≡◌, ℕ, ◌<◌, List, ◌∷◌, length, map, Bool, true, not, cond, ◌&&◌, ◌||◌, ◌==◌, nat_le, bytes_eq, Option, Some, None, refl, ap, subst, arith, AllByRecursion, find, list_all, option_map, eqb-true, eq-eqb, and_parts, or_cases, not-true, nat_tests, bytes_eq-Decides, folded_label, Field, IsLayout, IsSized, StringsLast, fields_in, layout, is_strings, Named, NamedType, in_every, in_one, ascend, ascends, mnemonic_among, number_among, types, IsMnemonic}
+use Rattle.zone_rdata.proofs.Common.{[], ◌≡◌, ℕ, ◌<◌, List, ◌∷◌, length, map, Bool, true, not, ◌&&◌, ◌||◌, ◌==◌, nat_le, bytes_eq, Option, Some, None, refl, ap, subst, arith, AllByRecursion, find, list_all, option_map, eqb-true, eq-eqb, and_parts, or_cases, not-true, nat_tests, bytes_eq-Decides, folded_label, Field, IsLayout, IsSized, StringsLast, fields_in, layout, is_strings, Named, NamedType, in_every, in_one, ascend, ascends, mnemonic_among, number_among, types, IsMnemonic}
 use Rattle.std.proofs.lemmas.Option.{cond_some}
 use Rattle.zone_rdata.specs.declared.field.Field.TheVariants as fields
 
 -- ---- the first element that passes a test
-
-found_by : {X : Type 0} (y x : X) (rest : Option X) (P : X → Type 0) (t : Bool) → cond t (Some y) rest ≡ Some x → (t ≡ true → P y) → (rest ≡ Some x → P x) → P x
-found_by y x rest P t e here more = grind arith
 
 -- it passes the test
 pub found_passes : {X : Type 0} (q : X → Bool) (xs : List X) (x : X) → find q xs ≡ Some x → q x ≡ true
@@ -43,9 +40,6 @@ each_mnemonic p rows all n word e = grind (arith, mnemonic_by, found_each, found
 found_above : (low : ℕ) (rows : List Named) (q : Named → Bool) (x : Named) → ascend low rows ≡ true → find q rows ≡ Some x → low < x.number
 found_above low [] q x up e = absurd cc
 found_above low (row ∷ rows) q x up e = grind (arith, and_parts, nat_tests, found_above row.number rows q x)
-
-own_after : (row x : Named) (rest : Option Named) → row.number < x.number → rest ≡ Some x → cond (x.number == row.number) (Some row) rest ≡ Some x
-own_after row x rest above e = grind (arith, eqb-true)
 
 ascends_from : (low : ℕ) (rows : List Named) → ascend low rows ≡ true → ascends rows ≡ true
 ascends_from low rows up = grind (arith, and_parts)

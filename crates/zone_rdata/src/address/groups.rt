@@ -83,6 +83,7 @@ pub(super) fn octets_of_parts(text: &[u8], ends: bool) -> Option<ArrayVec<u8, LE
 
 /// The octets of four groups parted by colons, each of one to four hexadecimal digits, as in the
 /// text of a node identifier (RFC 6742 2.1). `None`: the text isn't so.
+#[tactic(auto, using(crate::proofs::Addresses::AddressParts::parts_length))]
 pub fn four_groups_of(text: &[u8]) -> Option<[u8; 8]>
     ensures found { IfSome result (λ octets. AreFourGroups text.now octets) }
     ensures none { IfNone result (NothingIs (AreFourGroups text.now)) }

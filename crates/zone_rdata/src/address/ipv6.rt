@@ -21,6 +21,7 @@ fn gap_in(text: &[u8]) -> Option<usize>
 }
 
 /// The octets of eight groups. `None`: the text isn't eight groups without `::`.
+#[tactic(auto, using(crate::proofs::Addresses::AddressParts::parts_length))]
 fn octets_of_eight(text: &[u8]) -> Option<[u8; 16]>
     ensures found { IfSome result (λ octets. ArePartsOf true text.now octets × length octets ≡ 16) }
     ensures none { IfNone result ((octets : Octets) → ArePartsOf true text.now octets
@@ -37,7 +38,7 @@ fn octets_of_eight(text: &[u8]) -> Option<[u8; 16]>
 
 /// The octets of the groups before and after `::`, and of the zero groups between them. `None`:
 /// these texts aren't groups, or there are too many.
-#[tactic(auto, using(crate::proofs::Addresses::AddressGaps::around_written))]
+#[tactic(auto, using(crate::proofs::Addresses::AddressGaps::octets_set_around))]
 fn octets_around(front: &[u8], back: &[u8]) -> Option<[u8; 16]>
     ensures found { IfSome result (λ octets. AreAround front.now back.now octets) }
     ensures none { IfNone result (NothingIs (AreAround front.now back.now)) }

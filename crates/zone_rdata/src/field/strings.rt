@@ -55,6 +55,7 @@ pub(crate) fn push_sent_strings<'o>(
 }
 
 /// Whether octets are one string or more, each after its length.
+#[tactic(auto, using(crate::proofs::Fields::Strings::framed_empty))]
 fn are_strings(octets: &[u8]) -> bool
     ensures { IsTrue result ↔ AreWithLengths octets.now }
 {
@@ -73,7 +74,7 @@ fn are_strings(octets: &[u8]) -> bool
 }
 
 /// Appends the strings in quotes, parted by single spaces.
-#[tactic(auto, using(crate::proofs::Texts::StringTexts::quoted_strings))]
+#[tactic(auto, using(crate::proofs::Texts::FieldTexts::quoted_strings))]
 pub(crate) fn push_strings_text<S: Sink>(octets: &[u8], out: &mut S) -> Result<(), S::Error>
     requires some { 0 < length octets.now }
     requires strings { HoldsStrings octets.now }

@@ -1,5 +1,5 @@
 use Rattle.zone_rdata.proofs.Common.{refl, ap, arith, length-append, length, raw, if_fault_passed}
-use Rattle.zone_rdata.proofs.Items.GenericForm.{joined_more, joined_over, joined_bad, joined_all, half_length}
+use Rattle.zone_rdata.proofs.Items.GenericLaws.{joined_more, joined_over, joined_bad, joined_all, half_length}
 use Rattle.zone_rdata.proofs.generic.join_digits.Goals as goal
 
 pub returns-then-text-len-clause-fault : goal.returns-then-text-len-clause-fault

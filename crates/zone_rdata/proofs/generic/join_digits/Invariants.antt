@@ -1,5 +1,5 @@
 use Rattle.zone_rdata.proofs.Common.{◌≤◌, length, drop, map, raw}
-use Rattle.zone_rdata.proofs.Items.GenericForm.{HaveJoined}
+use Rattle.zone_rdata.proofs.Items.GenericLaws.{HaveJoined}
 use Rattle.zone_rdata.proofs.generic.join_digits.Given as goal
 
 abbrev pub invariant-loop-item : goal.invariant-loop-item

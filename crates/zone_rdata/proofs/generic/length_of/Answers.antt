@@ -1,5 +1,5 @@
 use Rattle.zone_rdata.proofs.Common.{StatesLength, ap, arith, raw, subst, sym}
-use Rattle.zone_rdata.specs.Machine.GenericLength.{beyond, no_number}
+use Rattle.zone_rdata.specs.Machine.GenericLength.{beyond}
 use Rattle.zone_rdata.proofs.generic.length_of.Goals as goal
 
 pub returns-in-Some-clause-fault : goal.returns-in-Some-clause-fault

@@ -1,5 +1,5 @@
-use Rattle.zone_rdata.proofs.Common.{take_all, length-drop, sym, subst, arith, map, length-map, err_from_is_err_and, raw, JoinTo, IfErr-fault}
-use Rattle.zone_rdata.proofs.Items.GenericForm.{form_parts, form_faults, form_missing, form_digits}
+use Rattle.zone_rdata.proofs.Common.{take_all, length-drop, sym, subst, arith, map, raw, JoinTo, IfErr-fault}
+use Rattle.zone_rdata.proofs.Items.GenericLaws.{form_parts, form_digits}
 use Rattle.zone_rdata.proofs.generic.read_generic.Goals as goal
 
 pub returns-in_ok-len-in-len2-up-clause-fault : goal.returns-in_ok-len-in-len2-up-clause-fault

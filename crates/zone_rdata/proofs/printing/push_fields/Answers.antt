@@ -1,5 +1,5 @@
-use Rattle.zone_rdata.proofs.Common.{eqb-true, refl, Took-more, stops_after}
-use Rattle.zone_rdata.proofs.Texts.FieldTexts.{nothing_follows, printed_more}
+use Rattle.zone_rdata.proofs.Common.{refl, Took-more, stops_after}
+use Rattle.zone_rdata.proofs.Texts.FieldTexts.{printed_more}
 use Rattle.zone_rdata.proofs.printing.push_fields.Goals as goal
 
 pub returns-in_err-push_space-clause-err : goal.returns-in_err-push_space-clause-err

@@ -1,5 +1,5 @@
-use Rattle.zone_rdata.proofs.Common.{arith, nat_tests, stops_after, subst, Took-more}
-use Rattle.zone_rdata.proofs.Texts.FieldTexts.{digits_all, digits_more}
+use Rattle.zone_rdata.proofs.Common.{stops_after, Took-more}
+use Rattle.zone_rdata.proofs.Texts.FieldTexts.{digits_more}
 use Rattle.zone_rdata.proofs.printing.push_hex.Goals as goal
 
 pub returns-in_err-push_hex_of_few-clause-err : goal.returns-in_err-push_hex_of_few-clause-err

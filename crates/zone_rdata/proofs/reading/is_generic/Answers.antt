@@ -1,5 +1,5 @@
 use Rattle.zone_rdata.proofs.Common.{[], ap, arith, bytes_eq, refl, sym, true, ◌∷◌, ◌≡◌}
-use Rattle.zone_rdata.proofs.Items.FromLeft.{generic_first, two_octets}
+use Rattle.zone_rdata.proofs.Items.Values.{generic_first, two_octets}
 use Rattle.zone_rdata.proofs.reading.is_generic.Goals as goal
 
 pub returns-in-92 : goal.returns-in-92

@@ -1,5 +1,5 @@
-use Rattle.zone_rdata.proofs.Common.{drop, map, refl, ap, arith, drop_all, length-drop, length-map, raw, if_fault_passed}
-use Rattle.zone_rdata.proofs.Items.FromLeft.{read_more, read_bad, read_over, read_all, read_long}
+use Rattle.zone_rdata.proofs.Common.{drop, map, ap, arith, drop_all, length-drop, length-map, raw}
+use Rattle.zone_rdata.proofs.Items.Values.{read_over, read_all, read_long}
 use Rattle.zone_rdata.proofs.reading.read_words.Goals as goal
 
 pub returns-then-place-items-clause-fault : goal.returns-then-place-items-clause-fault

@@ -1,5 +1,5 @@
 use Rattle.zone_rdata.proofs.Common.{◌≤◌, length, drop, map, raw}
-use Rattle.zone_rdata.proofs.Items.FromLeft.{HaveRead}
+use Rattle.zone_rdata.proofs.Items.Values.{HaveRead}
 use Rattle.zone_rdata.proofs.reading.read_words.Given as goal
 
 abbrev pub invariant-loop-field : goal.invariant-loop-field

@@ -1,5 +1,5 @@
-use Rattle.zone_rdata.proofs.Common.{bad_escape, arith, nat_tests, raw}
-use Rattle.zone_rdata.proofs.Strings.StringSteps.{read_more, read_full}
+use Rattle.zone_rdata.proofs.Common.{arith, nat_tests, raw}
+use Rattle.zone_rdata.proofs.Strings.StringSteps.{read_full}
 use Rattle.zone_rdata.proofs.string.string_of.Goals as goal
 
 pub returns-then-is_full-clause-fault : goal.returns-then-is_full-clause-fault

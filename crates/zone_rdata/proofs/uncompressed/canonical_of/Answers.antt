@@ -1,5 +1,5 @@
 use Rattle.zone_rdata.proofs.Common.{refl, arith, nat_tests, if_fault_passed}
-use Rattle.zone_rdata.proofs.Octets.Taken.{taken_more, taken_bad, taken_over, taken_all}
+use Rattle.zone_rdata.proofs.Octets.Taken.{taken_bad, taken_over}
 use Rattle.zone_rdata.proofs.uncompressed.canonical_of.Goals as goal
 
 pub returns-in_err-rest-clause-fault : goal.returns-in_err-rest-clause-fault

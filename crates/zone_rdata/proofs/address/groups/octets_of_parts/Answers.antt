@@ -1,5 +1,5 @@
-use Rattle.zone_rdata.proofs.Common.{refl, ◌<◌, length, sym, subst, arith, ArePartsOf, if_none_any}
-use Rattle.zone_rdata.proofs.Addresses.AddressParts.{HaveReadParts, parts_more, parts_stop, parts_ended, parts_unended}
+use Rattle.zone_rdata.proofs.Common.{sym, subst, if_none_any}
+use Rattle.zone_rdata.proofs.Addresses.AddressParts.{HaveReadParts, parts_more, parts_stop, parts_unended}
 use Rattle.zone_rdata.proofs.address.groups.octets_of_parts.Goals as goal
 
 pub returns-in_err-push_group-clause-none : goal.returns-in_err-push_group-clause-none

@@ -1,5 +1,5 @@
 use Rattle.zone_rdata.proofs.Common.{◌≡◌, ◌/◌, ◌%◌, ◌++◌, arith, append_assoc, nat_le, digit_char, append-nil, nat_tests}
-use Rattle.zone_rdata.proofs.Addresses.AddressTexts.{group_written, shown}
+use Rattle.zone_rdata.proofs.Addresses.AddressLaws.{group_written, shown}
 use Rattle.zone_rdata.proofs.address.printing.push_group.Goals as goal
 use Rattle.zone_rdata.proofs.address.printing.push_group.Goals.{then-group-ge4096, else-group-ge4096, then-group-ge256, else-group-ge256, then-group-ge16, else-group-ge16}
 

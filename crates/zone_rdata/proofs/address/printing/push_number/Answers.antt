@@ -1,5 +1,5 @@
 use Rattle.zone_rdata.proofs.Common.{◌≡◌, ◌+◌, ◌/◌, ◌%◌, ◌++◌, arith, append_assoc, nat_le, append-nil, nat_tests}
-use Rattle.zone_rdata.proofs.Addresses.AddressTexts.{number_written, shown}
+use Rattle.zone_rdata.proofs.Addresses.AddressLaws.{number_written, shown}
 use Rattle.zone_rdata.proofs.address.printing.push_number.Goals as goal
 use Rattle.zone_rdata.proofs.address.printing.push_number.Goals.{then-octet-ge100, else-octet-ge100, then-octet-ge10, else-octet-ge10}
 

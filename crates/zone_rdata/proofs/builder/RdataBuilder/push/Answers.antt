@@ -1,5 +1,5 @@
-use Rattle.zone_rdata.proofs.Common.{value_of, if_fault_passed}
-use Rattle.zone_rdata.proofs.Octets.Building.{push_misplaced, push_over, push_built, push_made}
+use Rattle.zone_rdata.proofs.Common.{value_of}
+use Rattle.zone_rdata.proofs.Octets.Building.{push_built, push_made}
 use Rattle.zone_rdata.proofs.builder.RdataBuilder.push.Goals as goal
 
 pub invariant_of-self-2 : goal.invariant_of-self-2

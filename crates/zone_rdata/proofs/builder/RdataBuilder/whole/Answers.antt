@@ -1,5 +1,5 @@
 use Rattle.zone_rdata.proofs.Common.{AreOctets, subst, arith}
-use Rattle.zone_rdata.proofs.Octets.Building.{finish_missing, finish_made, parts_data}
+use Rattle.zone_rdata.proofs.Octets.Building.{finish_made, parts_data}
 use Rattle.zone_rdata.proofs.builder.RdataBuilder.whole.Goals as goal
 
 pub of_octets-requires : goal.of_octets-requires

@@ -9,8 +9,7 @@ number_of_32 f (inl e) = subst (λ g. SizedField g u32_value 4) (sym e) serial_s
 number_of_32 f (inr e) = subst (λ g. SizedField g u32_value 4) (sym e) time_sized
 
 pub returns-in-Name-clause-fault : goal.returns-in-Name-clause-fault
-returns-in-Name-clause-fault c =
-    IfErr-fault c.push_sent_name.result _ _ (λ fault bad. (bad.0, subst (λ f. BeginsWithNone f c.args.octets.now) (sym c.in-Name.is) bad.1)) c.push_sent_name.ensures.fault
+returns-in-Name-clause-fault c = rw c.in-Name.is c.push_sent_name.ensures.fault
 
 pub returns-in-Serial-clause-found : goal.returns-in-Serial-clause-found
 returns-in-Serial-clause-found c =
@@ -25,9 +24,7 @@ returns-in-Octets-clause-found c =
     IfOk-weaker c.push_prefix-in-Octets.result _ _ (λ rest grows. appends_sized c.args.self c.in-Octets.count (subst (λ f. SizedField f fixed c.in-Octets.count) (sym c.in-Octets.is) (address.sized c.in-Octets.count)) c.args.octets.now rest.now c.args.canonical.now.items _ (bytes_each c.args.octets.now (λ i. omega (arith, c.type_inv.octets i))) grows) c.push_prefix-in-Octets.ensures.found
 
 pub returns-in-OneString-clause-fault : goal.returns-in-OneString-clause-fault
-returns-in-OneString-clause-fault c =
-    IfErr-fault c.push_sent_string.result _ _ (λ fault bad. (bad.0, subst (λ f. BeginsWithNone f c.args.octets.now) (sym c.in-OneString.is) bad.1)) c.push_sent_string.ensures.fault
+returns-in-OneString-clause-fault c = rw c.in-OneString.is c.push_sent_string.ensures.fault
 
 pub returns-in-Strings-clause-fault : goal.returns-in-Strings-clause-fault
-returns-in-Strings-clause-fault c =
-    IfErr-fault c.push_sent_strings.result _ _ (λ fault bad. (bad.0, subst (λ f. BeginsWithNone f c.args.octets.now) (sym c.in-Strings.is) bad.1)) c.push_sent_strings.ensures.fault
+returns-in-Strings-clause-fault c = rw c.in-Strings.is c.push_sent_strings.ensures.fault

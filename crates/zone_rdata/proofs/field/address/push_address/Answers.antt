@@ -1,5 +1,5 @@
 use Rattle.zone_rdata.proofs.Common.{subst, IfSome, IsIpv4Address, IsIpv6Address, of_ipv4, of_ipv6, fault_answered}
-use Rattle.zone_rdata.proofs.Addresses.AddressFields.{missing, no_ipv4, no_ipv6}
+use Rattle.zone_rdata.proofs.Addresses.AddressOctets.{missing, no_ipv4, no_ipv6}
 use Rattle.zone_rdata.proofs.field.address.push_address.Goals as goal
 use Rattle.zone_rdata.proofs.field.address.push_address.Goals.{in-4+in_ok-address-in-4+in_ok-extend_from_slice-in-4, in-16+in_ok-address-in-16+in_ok-extend_from_slice-in-16}
 

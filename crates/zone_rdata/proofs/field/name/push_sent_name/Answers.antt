@@ -1,5 +1,5 @@
-use Rattle.zone_rdata.proofs.Common.{◌++◌, refl, ap, ◌∙◌}
-use Rattle.zone_rdata.proofs.Fields.Name.{appends_name, none_name}
+use Rattle.zone_rdata.proofs.Common.{refl}
+use Rattle.zone_rdata.proofs.Fields.Name.{none_name}
 use Rattle.zone_rdata.proofs.field.name.push_sent_name.Goals as goal
 
 pub returns-in_default-clause-fault : goal.returns-in_default-clause-fault

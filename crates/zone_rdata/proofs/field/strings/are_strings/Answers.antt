@@ -1,9 +1,6 @@
-use Rattle.zone_rdata.proofs.Common.{arith, false≢true, nat_tests}
-use Rattle.zone_rdata.proofs.Fields.Strings.{framed_empty, framed_short, framed_more}
+use Rattle.zone_rdata.proofs.Common.{false≢true}
+use Rattle.zone_rdata.proofs.Fields.Strings.{framed_short, framed_more}
 use Rattle.zone_rdata.proofs.field.strings.are_strings.Goals as goal
-
-pub returns-then-is_empty : goal.returns-then-is_empty
-returns-then-is_empty c = (λ h. absurd (false≢true h), λ framed. absurd (framed_empty c.args.octets.now (grind (arith, nat_tests, c.is_empty.ensures, c.if-is_empty.true)) framed))
 
 pub returns-then-following-count : goal.returns-then-following-count
 returns-then-following-count c = (λ h. absurd (false≢true h), λ framed. absurd (framed_short c.args.octets.now c.loop-first.rest.now c.in-Some.first.now c.from-count.result c.in-Some.following.now c.loop-first.invariant c.in-Some.ensures.cases.0 c.from-count.ensures c.if-following-count.true framed))

@@ -1,5 +1,5 @@
-use Rattle.zone_rdata.proofs.Common.{refl, arith, nat_tests, each_fault_passed}
-use Rattle.zone_rdata.proofs.Items.Values.{spelt_more, spelt_bad, spelt_all}
+use Rattle.zone_rdata.proofs.Common.{refl, each_fault_passed}
+use Rattle.zone_rdata.proofs.Items.Values.{spelt_bad}
 use Rattle.zone_rdata.proofs.field.strings.push_strings.Goals as goal
 
 pub returns-in_err-push_string-clause-fault : goal.returns-in_err-push_string-clause-fault

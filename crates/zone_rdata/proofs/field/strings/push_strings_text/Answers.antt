@@ -1,6 +1,5 @@
-use Rattle.zone_rdata.proofs.Common.{arith, subst, Took-more, stops_after}
-use Rattle.zone_rdata.proofs.Octets.StringFields.{first_string}
-use Rattle.zone_rdata.proofs.Texts.StringTexts.{quoted_first, quoted_more, quoted_all}
+use Rattle.zone_rdata.proofs.Common.{arith, Took-more, stops_after}
+use Rattle.zone_rdata.proofs.Texts.FieldTexts.{quoted_more}
 use Rattle.zone_rdata.proofs.field.strings.push_strings_text.Goals as goal
 
 pub returns-in_err-push-clause-err : goal.returns-in_err-push-clause-err

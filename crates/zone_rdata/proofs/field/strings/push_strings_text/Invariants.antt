@@ -1,5 +1,5 @@
 use Rattle.zone_rdata.proofs.Common.{length, Took}
-use Rattle.zone_rdata.proofs.Texts.StringTexts.{HaveQuoted}
+use Rattle.zone_rdata.proofs.Texts.FieldTexts.{HaveQuoted}
 use Rattle.zone_rdata.proofs.field.strings.push_strings_text.Given as goal
 
 abbrev pub invariant-loop-rest : goal.invariant-loop-rest

@@ -1,4 +1,4 @@
-use Rattle.zone_rdata.proofs.Items.ItemChoice.{data_or_fault}
+use Rattle.zone_rdata.proofs.Items.ItemLaws.{data_or_fault}
 use Rattle.zone_rdata.proofs.laws.items.data_or_fault.Goals as goal
 
 pub returns : goal.returns

@@ -1,5 +1,5 @@
 use Rattle.zone_rdata.proofs.Common.{refl}
-use Rattle.zone_rdata.proofs.Items.StatedOctets.{stated_data, stated_low}
+use Rattle.zone_rdata.proofs.Items.Forms.{stated_data, stated_low}
 use Rattle.zone_rdata.proofs.laws.items.stated_data_is_data.Goals as goal
 
 pub returns : goal.returns

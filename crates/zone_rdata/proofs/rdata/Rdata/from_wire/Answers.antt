@@ -1,7 +1,5 @@
-use Rattle.zone_rdata.proofs.Common.{IsCanonicalOf, sym, subst, arith, AreOctets, if_fault_passed}
-use Rattle.zone_rdata.specs.Wire.{beyond}
-use Rattle.zone_rdata.proofs.Octets.Wire.{canonical_data, wire_fault}
-use Rattle.zone_rdata.proofs.Octets.Taken.{canonical_same}
+use Rattle.zone_rdata.proofs.Common.{subst, arith, AreOctets, if_fault_passed}
+use Rattle.zone_rdata.proofs.Octets.Layouts.{canonical_data, wire_fault}
 use Rattle.zone_rdata.proofs.rdata.Rdata.from_wire.Goals as goal
 
 pub invariant_of-result : goal.invariant_of-result

@@ -1,6 +1,5 @@
 use Rattle.zone_rdata.proofs.Common.{map, raw, IsFaultFor, subst, AreOctets}
-use Rattle.zone_rdata.proofs.Items.StatedOctets.{stated_data, states_for}
-use Rattle.zone_rdata.proofs.Items.Forms.{memory_left}
+use Rattle.zone_rdata.proofs.Items.Forms.{stated_data, states_for, memory_left}
 use Rattle.zone_rdata.proofs.rdata.Rdata.set_from_items.Goals as goal
 
 pub invariant_of-self : goal.invariant_of-self

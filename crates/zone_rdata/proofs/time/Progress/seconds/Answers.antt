@@ -1,5 +1,5 @@
 use Rattle.zone_rdata.proofs.Common.{sym, ◌∙◌}
-use Rattle.zone_rdata.proofs.Numbers.TimeLaws.{ends_grouped, ends_none}
+use Rattle.zone_rdata.proofs.Numbers.TimeLaws.{ends_none}
 use Rattle.zone_rdata.proofs.time.Progress.seconds.Goals as goal
 
 pub returns-in_default-clause-none : goal.returns-in_default-clause-none

@@ -1,5 +1,5 @@
-use Rattle.zone_rdata.proofs.Common.{refl, arith, sym, ◌∙◌, ◌≡◌, false, rules, nat_tests, common_steps, is_digit}
-use Rattle.zone_rdata.proofs.Numbers.TimeLaws.{more_groups, stops}
+use Rattle.zone_rdata.proofs.Common.{arith, sym, ◌∙◌, ◌≡◌, false, rules, nat_tests, common_steps, is_digit}
+use Rattle.zone_rdata.proofs.Numbers.TimeLaws.{stops}
 use Rattle.zone_rdata.proofs.time.Progress.with.Goals as goal
 
 pub returns-in_default-clause-none : goal.returns-in_default-clause-none
