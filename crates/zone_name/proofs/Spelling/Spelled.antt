@@ -28,9 +28,6 @@ Says text (Err fault) = FaultAt text fault
 
 -- ---- one label or one octet more
 
-kept_push : (before : List (List Written)) (label : List Written) → kept (before ++ label ∷ []) ≡ kept before ++ written_octets label ∷ []
-kept_push before label = grind (arith, map_push)
-
 join_more : (a b c : List ℕ) → a ++ (46 ∷ (b ++ c)) ≡ ((a ++ 46 ∷ []) ++ b) ++ c
 join_more a b c = sym (append_assoc (a ++ 46 ∷ []) b c ∙ append_assoc a (46 ∷ []) (b ++ c))
 
@@ -45,7 +42,7 @@ reaches_octet text before label w rest more r is e room = grind (arith, common_s
 -- ---- the ends
 relative_end : (text : List ℕ) (before : List (List Written)) (w : Written) (label : List Written) (rest : List ℕ) → Reaches text before (w ∷ label) rest → rest ≡ [] → Finds parted text (kept before ++ written_octets (w ∷ label) ∷ [])
 relative_end text before w label rest r e =
-    rw (← kept_push before (w ∷ label)) (finds parted text (before ++ (w ∷ label) ∷ []) (omega (arith, length-append before ((w ∷ label) ∷ [])))
+    rw (← map_push written_octets before (w ∷ label)) (finds parted text (before ++ (w ∷ label) ∷ []) (omega (arith, length-append before ((w ∷ label) ∷ [])))
     (AllByRecursion-append IsWrittenLabel before ((w ∷ label) ∷ []) r.labels (record { some = omega arith; each = r.octets }, tt))
     (AllByRecursion-append (λ l. length l ≤ 63) before ((w ∷ label) ∷ []) r.short (r.room, tt)) (cc (append-nil (dotted before ++ written_text (w ∷ label)), parted_push before (w ∷ label))))
 
@@ -65,7 +62,7 @@ step_says n text before [] rest at_end other some later r enough is shorter = gr
 step_says n text before (w ∷ label) rest at_end other some later r enough is shorter = relative_end text before w label rest r is
 step_says n text before [] rest (at_dot more) other some later r enough is shorter = empty_label before rest r (inr (more, is)) (λ h. cc) other
 step_says n text before (w ∷ label) rest (at_dot more) other some later r enough is shorter =
-    rw (kept_push before (w ∷ label)) at (later (before ++ (w ∷ label) ∷ []) [] more (grind (arith, common_steps)) (omega arith))
+    rw (map_push written_octets before (w ∷ label)) at (later (before ++ (w ∷ label) ∷ []) [] more (grind (arith, common_steps)) (omega arith))
 step_says n text before label rest (at_octet c more) other some later r enough is shorter = full_label n text before label rest more c later r shorter enough is.unit is.is_unit is.value is.parts (nat_le 63 (length (written_octets label))) refl
 step_says n text before label rest at_fault other some later r enough is shorter = bad_escape before label rest r is
 

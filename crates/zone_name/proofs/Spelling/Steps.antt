@@ -14,17 +14,13 @@ after_step n (goes more open_next left) = read n more open_next left
 pub read_step : (n : ℕ) (labels : List (List ℕ)) (open_label rest : List ℕ) (ahead : Ahead) → ahead_in rest ≡ ahead → read (suc n) labels open_label rest ≡ after_step n (step_at labels open_label ahead)
 read_step n labels open_label rest ahead e = cc
 
--- an octet of a label that has room
-pub octet_step : (n : ℕ) (labels : List (List ℕ)) (open_label after : List ℕ) (c : ℕ) → length open_label < 63 → after_step n (step_at labels open_label (at_octet c after)) ≡ read n labels (open_label ++ c ∷ []) after
-octet_step n labels open_label after c room = grind (arith, lt-leb)
-
--- and of one that has none
+-- an octet of a label that has no room
 pub full_step : (labels : List (List ℕ)) (open_label after : List ℕ) (c : ℕ) → 63 ≤ length open_label → step_at labels open_label (at_octet c after) ≡ failed LabelTooLong
 full_step labels open_label after c full = grind (arith, le-leb)
 
 octet_by : (fuel : ℕ) (labels : List (List ℕ)) (open_label rest after : List ℕ) (c : ℕ) → length rest < fuel → ahead_in rest ≡ at_octet c after → length open_label < 63 → (n : ℕ) × (length rest < suc n) × (read fuel labels open_label rest ≡ read n labels (open_label ++ c ∷ []) after)
 octet_by zero labels open_label rest after c enough e room = absurd (omega arith)
-octet_by (suc n) labels open_label rest after c enough e room = grind (arith, read_step n labels open_label rest (at_octet c after) e, octet_step n labels open_label after c room)
+octet_by (suc n) labels open_label rest after c enough e room = grind (arith, read_step n labels open_label rest (at_octet c after) e, lt-leb)
 
 pub fault_by : (fuel : ℕ) (labels : List (List ℕ)) (open_label rest : List ℕ) (ahead : Ahead) (fault : NameFault) → length rest < fuel → ahead_in rest ≡ ahead → step_at labels open_label ahead ≡ failed fault → read fuel labels open_label rest ≡ Err fault
 fault_by fuel labels open_label rest ahead fault enough e fails = grind (arith, read_step)
