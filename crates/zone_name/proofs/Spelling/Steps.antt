@@ -2,7 +2,7 @@
 use Rattle.zone_name.proofs.Common.{err_from_is_err_and, nat_tests, Ahead, Bool, Closes, Collects, EmptyLabel, EndsInFault, EndsLabelAt, Err, Goes, LabelTooLong, List, NameFault, Ok, RefusesLabel, Result, Step, [], ahead_in, ap, arith, at_dot, at_octet, common_steps, done, empty, failed, false, flat_map-append, goes, inl, inr, le-leb, length, length-append, long, lt-leb, read, refl, step_at, suc, sym, wire, zero, ℕ, ◌++◌, ◌<◌, ◌||◌, ◌∙◌, ◌∷◌, ◌≡◌, ◌≤◌}
 use Rattle.zone_name.specs.Machine.LabelWalk.{reading}
 use Rattle.zone_name.proofs.InOctets.Pushing.{HoldsCasedLabels-nil, labels_of-none}
-use Rattle.zone_name.proofs.Spelling.Ahead.{ahead_shrinks}
+use Rattle.zone_name.proofs.Spelling.Ahead.{ahead_shrinks, unit_seen}
 
 -- ---- one step of the reading
 
@@ -108,3 +108,5 @@ Reads-relative text before after is_too_long is_left_out rest label following re
 pub ruleset labels_read = (reading-nil, nat_tests, HoldsCasedLabels-nil, Reads-start, labels_of-none, Reads-label)
 
 pub ruleset label_refused = (err_from_is_err_and, Refuses-label)
+
+pub ruleset full_label = (Refuses-full, unit_seen, nat_tests)
