@@ -36,9 +36,6 @@ parted_push [] label = refl
 parted_push (l ∷ []) label = join_more (written_text l) [] (written_text label)
 parted_push (l ∷ m ∷ ls) label = grind (arith, join_more, parted_push (m ∷ ls) label)
 
-reaches_octet : (text : List ℕ) (before : List (List Written)) (label : List Written) (w : Written) (rest more : List ℕ) → Reaches text before label rest → IsUnit is_dot w → rest ≡ text_of w ++ more → length label < 63 → Reaches text before (label ++ w ∷ []) more
-reaches_octet text before label w rest more r is e room = grind (arith, common_steps)
-
 -- ---- the ends
 relative_end : (text : List ℕ) (before : List (List Written)) (w : Written) (label : List Written) (rest : List ℕ) → Reaches text before (w ∷ label) rest → rest ≡ [] → Finds parted text (kept before ++ written_octets (w ∷ label) ∷ [])
 relative_end text before w label rest r e =
@@ -55,7 +52,7 @@ full_label n text before label rest more c later r shorter enough w is oc e true
     long_label before label w more (rw e at r) (grind (arith, nat_tests, length-map label octet_of, r.room, test)) is
 full_label n text before label rest more c later r shorter enough w is oc e false test =
     let open_is : written_octets (label ++ w ∷ []) ≡ written_octets label ++ c ∷ [] = cc (map_push octet_of label w) in
-    rw open_is at (later before (label ++ w ∷ []) more (reaches_octet text before label w rest more r is e (grind (arith, nat_tests, length-map label octet_of, test))) (omega arith))
+    rw open_is at (later before (label ++ w ∷ []) more (grind (arith, common_steps, nat_tests, length-map label octet_of)) (omega arith))
 
 step_says : (n : ℕ) (text : List ℕ) (before : List (List Written)) (label : List Written) (rest : List ℕ) (ahead : Ahead) → text ≢ codes "." → 0 < length text → Later n text → Reaches text before label rest → length rest < suc n → IsAhead rest ahead → Shrinks rest ahead → Says text (after_step n (step_at (kept before) (written_octets label) ahead))
 step_says n text before [] rest at_end other some later r enough is shorter = grind (arith, common_steps)

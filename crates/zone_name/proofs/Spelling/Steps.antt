@@ -44,18 +44,14 @@ refuses_by text open_label rest ahead fault so_far e fails = λ labels n enough.
 pub Refuses-full : (text open_label rest after : List ℕ) (c : ℕ) → Goes text open_label rest → at_octet c after ≡ ahead_in rest → 63 ≤ length open_label → EndsInFault text LabelTooLong
 Refuses-full text open_label rest after c so_far e full = refuses_by text open_label rest (at_octet c after) LabelTooLong so_far (sym e) (λ labels. full_step labels open_label after c full)
 
--- at a dot with no label before it
-dot_refused : (text label rest : List ℕ) → EndsLabelAt text label rest → length label ≡ 0 → EndsInFault text EmptyLabel
-dot_refused text (c ∷ label) rest at none = absurd (omega arith)
-dot_refused text [] rest at none = elim at.ends [
+-- a label that is not closed
+pub Refuses-label : (text label rest : List ℕ) (fault : NameFault) → EndsLabelAt text label rest → length label ≤ 63 → RefusesLabel label fault → EndsInFault text fault
+Refuses-label text label rest fault at short (long more) = absurd (omega arith)
+Refuses-label text (c ∷ label) rest fault at short (empty none) = absurd (omega arith)
+Refuses-label text [] rest fault at short (empty none) = elim at.ends [
   | inl e ↦ absurd (omega (arith, at.some, ap length e))
   | inr e ↦ refuses_by text [] rest (at_dot e.0) EmptyLabel at.goes (ap ahead_in e.1) (λ labels. refl)
 ]
-
--- a label that is not closed
-pub Refuses-label : (text label rest : List ℕ) (fault : NameFault) → EndsLabelAt text label rest → length label ≤ 63 → RefusesLabel label fault → EndsInFault text fault
-Refuses-label text label rest fault at short (empty none) = dot_refused text label rest at none
-Refuses-label text label rest fault at short (long more) = absurd (omega arith)
 
 -- ---- the labels of a text
 
@@ -75,10 +71,6 @@ Reads-start text held some none = grind arith
 pub reading-nil : (text : List ℕ) → length text ≡ 0 → reading text ≡ Err EmptyLabel
 unfolding reading
 reading-nil text e = grind arith
-
--- more labels take no fewer octets
-wire-more : (labels : List (List ℕ)) (label : List ℕ) → 255 < length (wire labels) → 255 < length (wire (labels ++ label ∷ []))
-wire-more labels label over = grind (arith, flat_map-append, length-append)
 
 -- a label's end, as the next step finds it
 end_step : (fuel : ℕ) (labels : List (List ℕ)) (label rest : List ℕ) → length rest < fuel → 0 < length label → rest ≡ [] → read fuel labels label rest ≡ Ok (labels ++ label ∷ [], false)
@@ -102,7 +94,7 @@ Reads-relative text before after is_too_long is_left_out rest label following re
     let reached = at.goes reads.labels reads.fuel reads.enough in (
       reads.labels ++ label ∷ [],
       cc (end_step reached.0 reads.labels label following reached.1 closes.some is),
-      (grind (arith, wire-more, reads.collects, closes.joins)),
+      (grind (arith, flat_map-append, length-append, reads.collects, closes.joins)),
     )
 
 pub ruleset labels_read = (reading-nil, nat_tests, HoldsCasedLabels-nil, Reads-start, labels_of-none, Reads-label)
