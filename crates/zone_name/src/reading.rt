@@ -279,6 +279,7 @@ fn read_label<'t>(
 }
 
 /// Reads the octets of the label that a text begins with, and returns what follows it.
+#[tactic(auto, using(crate::proofs::Spelling::Steps::full_label))]
 fn open_label<'t>(
     label: &mut ArrayVec<u8, MAX_LABEL_LEN>,
     text: &'t [u8],

@@ -3,10 +3,6 @@ use Rattle.zone_name.proofs.Common.{common_steps, ◌≡◌, ℕ, zero, suc, ◌
 use Rattle.std.proofs.lemmas.List.{length-drop}
 use Rattle.zone_name.specs.Name.{labels_of}
 
--- one label cut off the beginning
-labels_by-cut : (k m : ℕ) (text label more : List ℕ) → text ≡ label ++ more → length label ≡ suc k → labels_by (suc m) (suc k ∷ text) ≡ label ∷ labels_by m more
-labels_by-cut k m text label more e count = rw (e, take_at label more (suc k) count, drop_at label more (suc k) count) refl
-
 -- labels that are not empty
 abbrev pub AreSome : List (List ℕ) → Type 0
 AreSome labels = AllByRecursion (λ label. 0 < length label) labels
@@ -28,7 +24,7 @@ labels_by-frames [] rest m n fuel each = let e : m ≡ n = omega arith in ap (λ
 labels_by-frames ([] ∷ labels) rest m n fuel each = absurd (omega (arith, each.0))
 labels_by-frames ((c ∷ label) ∷ labels) rest zero n fuel each = absurd (omega arith)
 labels_by-frames ((c ∷ label) ∷ labels) rest (suc m) n fuel each =
-    grind (arith, common_steps, labels_by-cut, append_assoc, labels_by-frames labels rest m n)
+    grind (arith, common_steps, take_at, drop_at, append_assoc, append_assoc, labels_by-frames labels rest m n)
 
 -- frames are no fewer octets than labels
 pub length-frames : (labels : List (List ℕ)) → length labels ≤ length (flat_map with_length labels)

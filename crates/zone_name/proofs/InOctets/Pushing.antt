@@ -56,10 +56,6 @@ labels_of-finish octets new holds e = grind (arith, labels_of-wire)
 pub pushed_octets : (octets label pushed new : List ℕ) (n : ℕ) → pushed ≡ octets ++ length label ∷ [] → new ≡ pushed ++ map folded_octet (take n label) → length label ≤ n → new ≡ octets ++ with_length (folded_label label)
 pushed_octets octets label pushed new n first after all = grind (arith, take_all, append_assoc, length-map)
 
--- a length is no letter
-pub folded_length : (n : ℕ) → n ≤ 63 → folded_octet n ≡ n
-folded_length n short = grind (arith, nat_tests)
-
 -- frames hold the labels
 pub HoldsCasedLabels-frames : (labels : List (List ℕ)) → IsCasedName labels → HoldsCasedLabels (flat_map with_length labels)
 HoldsCasedLabels-frames labels name = grind (arith, labels_of-open_cased)
@@ -98,7 +94,7 @@ HoldsCasedLabels-nil octets e = grind (arith, labels_of-open_cased [] tt)
 -- the lengths stay when the letters are folded
 pub folded_frames : (labels : List (List ℕ)) → AllByRecursion IsCasedLabel labels → map folded_octet (flat_map with_length labels) ≡ flat_map with_length (folded labels)
 folded_frames [] each = refl
-folded_frames (label ∷ labels) each = grind (arith, map-append, folded_length, length-map, folded_frames labels each.1)
+folded_frames (label ∷ labels) each = grind (arith, map-append, nat_tests, length-map, folded_frames labels each.1)
 
 pub folded_labels : (labels : List (List ℕ)) → AllByRecursion IsCasedLabel labels → AllByRecursion IsLabel (folded labels)
 folded_labels [] each = tt

@@ -40,8 +40,5 @@ ahead-bad rest bad = grind (arith, ahead_is rest)
 abbrev pub has_dot : List ℕ → Bool
 has_dot rest = pointwise nat_eq (46 ∷ []) (take 1 rest)
 
-unit_dot : (w : Written) (after : List ℕ) → has_dot (text_of w ++ after) ≡ false → IsUnit no_octet w → IsUnit is_dot w
-unit_dot w after e is = grind (arith, cases_Bool, both_ways, eqb-true)
-
 pub unit_seen : (rest after : List ℕ) (c : ℕ) → has_dot rest ≡ false → BeginsWithUnit no_octet rest c after → at_octet c after ≡ ahead_in rest
-unit_seen rest after c other begins = grind (arith, unit_dot, ahead-unit)
+unit_seen rest after c other begins = grind (arith, cases_Bool, both_ways, eqb-true, ahead-unit)

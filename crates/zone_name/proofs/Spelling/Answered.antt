@@ -1,6 +1,6 @@
 -- The name that a text spells under an origin, its letters folded or kept, or its first fault, as an
 -- answer on lists.
-use Rattle.zone_name.proofs.Common.{common_steps, AllByRecursion, AreOctets, AreWrittenLabels, Bool, EmptyLabel, Err, FaultAt, Folded, HasShape, HoldsNameBy, IfErr, IfOk, IfSome, IsCasedLabel, IsCasedName, IsLabel, IsRelative, IsUnit, IsWrittenLabel, Kept, Labels, Letters, List, NameFault, NameTooLong, None, Ok, Option, Origin, RelativeName, Result, Root, Some, SpellingFault, SpellsBy, SpellsCased, WritesBy, Written, [], absolute, arith, at_origin, bytes_decides, cases_lt, codes, dotted, false, false≢true, get_or, inl, inr, is_dot, kept, length, length-map, lettered, lettered_in, long_name, name_read, nat_eq, origin_in, parted, plain, pointwise, refl, relative, root, sized, subst, sym, text_of, true, under_origin, unfounded, w8, wire, within, written_octets, written_text, ℕ, ◌++◌, ◌<◌, ◌∙◌, ◌∷◌, ◌≡◌, ◌≢◌, ◌≤◌, ◌⊎◌}
+use Rattle.zone_name.proofs.Common.{common_steps, AllByRecursion, AreOctets, AreWrittenLabels, Bool, EmptyLabel, Err, FaultAt, Folded, HasShape, HoldsNameBy, IfErr, IfSome, IsCasedLabel, IsCasedName, IsLabel, IsRelative, IsUnit, IsWrittenLabel, Kept, Labels, Letters, List, NameFault, NameTooLong, None, Ok, Option, Origin, RelativeName, Result, Root, Some, SpellingFault, SpellsBy, SpellsCased, WritesBy, Written, [], absolute, arith, at_origin, bytes_decides, cases_lt, codes, dotted, false, false≢true, get_or, inl, inr, is_dot, kept, length, length-map, lettered, long_name, name_read, nat_eq, origin_in, parted, plain, pointwise, refl, relative, root, sized, sym, text_of, true, unfounded, w8, wire, within, written_octets, written_text, ℕ, ◌++◌, ◌<◌, ◌∙◌, ◌∷◌, ◌≡◌, ◌≢◌, ◌≤◌, ◌⊎◌}
 use Rattle.zone_name.specs.declared.reading.NameShape.{NameShape}
 use Rattle.zone_name.specs.Machine.LabelWalk.{reading}
 use Rattle.std.proofs.Common.{Fits, append-nil, append_assoc}
@@ -63,18 +63,9 @@ reading_at : reading (codes "@") ≡ Ok ((64 ∷ []) ∷ [], false)
 unfolding reading
 reading_at = refl
 
-err_not_ok : (fault : NameFault) (found : List (List ℕ) × Bool) → Err fault ≡ Ok found → ⊥
-err_not_ok fault found e = cc
-
-part_not_whole : (found : Result (List (List ℕ) × Bool) NameFault) (left right : List (List ℕ)) → found ≡ Ok (left, false) → found ≡ Ok (right, true) → ⊥
-part_not_whole found left right e f = false≢true (subst (λ (r : Result (List (List ℕ) × Bool) NameFault). IfOk r (λ x. x.1 ≡ true)) (sym f ∙ e) refl)
-
-marks_differ : codes "." ≡ codes "@" → ⊥
-marks_differ e = cc
-
 -- a text that writes labels is answered by them, where they fit
 writes_answered : (letters : Letters) (origin : Option (List (List ℕ))) (text : List ℕ) (labels : List (List ℕ)) (form : NameShape) → HasShape text form → WritesBy (taken_by letters) origin text labels → ShortLabels labels → answered letters origin text form ≡ sized labels
-writes_answered letters origin text labels form dot given short = grind (arith, err_not_ok, reading_dot, absolute_reads, relative_reads, marks_differ, part_not_whole, reading_at)
+writes_answered letters origin text labels form dot given short = grind (arith, reading_dot, absolute_reads, relative_reads, reading_at)
 
 pub spells_by : (letters : Letters) (origin : Option (List (List ℕ))) (text : List ℕ) (name : List (List ℕ)) → WritesBy (taken_by letters) origin text name → IsNameBy letters name → SpellsBy letters origin text name
 spells_by Kept origin text name writes is = record { written = writes; name = is }
@@ -94,18 +85,14 @@ faultless_dot : (text : List ℕ) (fault : NameFault) → text ≡ codes "." →
 faultless_dot text fault dot h e = grind (arith, reading_dot)
 
 relative_answered : (letters : Letters) (text : List ℕ) (form : NameShape) → HasShape text form → IsRelative text → answered letters None text form ≡ Err RelativeName
-relative_answered letters text form dot is = grind (arith, err_not_ok, reading_dot, reading-parted)
-
--- a fault is the same whether letters are folded or kept
-same_by : (letters others : Letters) (origin : Option (List (List ℕ))) (found : Result (List (List ℕ) × Bool) NameFault) (fault : NameFault) → under_origin origin (lettered_in letters found) ≡ Err fault → under_origin origin (lettered_in others found) ≡ Err fault
-same_by letters others origin found fault e = grind (arith, common_steps, sized, lettered_size, joined_size)
+relative_answered letters text form dot is = grind (arith, reading_dot, reading-parted)
 
 same_fault : (letters others : Letters) (origin : Option (List (List ℕ))) (text : List ℕ) (form : NameShape) (fault : NameFault) → answered letters origin text form ≡ Err fault → answered others origin text form ≡ Err fault
-same_fault letters others origin text form fault e = grind (arith, common_steps, same_by)
+same_fault letters others origin text form fault e = grind (arith, common_steps, sized, lettered_size, joined_size)
 
 -- the first fault of a text is its answer
 pub answered-fault : (letters : Letters) (origin : Option (List (List ℕ))) (text : List ℕ) (form : NameShape) (fault : NameFault) → HasShape text form → SpellingFault origin text fault → answered letters origin text form ≡ Err fault
-answered-fault letters origin text form fault has (within f at) = grind (arith, faultless_dot, reading-fault, err_not_ok, reading_at)
+answered-fault letters origin text form fault has (within f at) = grind (arith, faultless_dot, reading-fault, reading_at)
 answered-fault letters origin text form fault has (unfounded none is) = cc (relative_answered letters text form has is)
 answered-fault letters origin text form fault has (long_name labels writes short long) = same_fault Folded letters origin text form NameTooLong (writes_answered Folded origin text labels form has writes short ∙ sized-long labels long)
 
@@ -115,13 +102,10 @@ octets_short : (label : List Written) → AllByRecursion (IsUnit is_dot) label �
 octets_short [] is each = tt
 octets_short (w ∷ label) is each = grind (arith, octets_short label is.1 (AllByRecursion-back (λ c. c < 256) (text_of w) (written_text label) each))
 
-label_is : (label : List Written) → IsWrittenLabel label → length label ≤ 63 → AreOctets (written_text label) → IsCasedLabel (written_octets label)
-label_is label is short each = grind (arith, common_steps, length-map, octets_short)
-
 dotted_are : (written : List (List Written)) → AllByRecursion IsWrittenLabel written → AreShort written → AreOctets (dotted written) → AllByRecursion IsCasedLabel (kept written)
 dotted_are [] is short each = tt
 dotted_are (label ∷ written) is short each =
-    grind (arith, common_steps, AllByRecursion-front, AllByRecursion-back, label_is, dotted_are written)
+    grind (arith, common_steps, AllByRecursion-front, AllByRecursion-back, length-map, octets_short, dotted_are written)
 
 pub parted-dotted : (label : List Written) (labels : List (List Written))
     → parted (label ∷ labels) ++ 46 ∷ [] ≡ dotted (label ∷ labels)
@@ -156,8 +140,7 @@ pub at-relative : (text : List ℕ) → text ≡ codes "@" → IsRelative text
 at-relative text e = ((plain 64 ∷ []) ∷ [], record { some = omega arith; each = (record { some = omega arith; each = ((refl, λ h. cc), tt) }, tt) }, (omega arith, tt), e)
 
 pub root_is : (letters : Letters) → IsNameBy letters []
-root_is Kept = record { each = tt; short = omega arith }
-root_is Folded = record { each = tt; short = omega arith }
+root_is letters = name_by letters [] tt (omega arith)
 
 abbrev OneOf : Letters → Option (List (List ℕ)) → List ℕ → Type 0
 OneOf letters origin text = ((labels : List (List ℕ)) × SpellsBy letters origin text labels) ⊎ ((fault : NameFault) × SpellingFault origin text fault)

@@ -1,5 +1,5 @@
 -- What a text spells, and its own first fault, is what the walk over it finds.
-use Rattle.zone_name.proofs.Common.{common_steps, Ahead, AllByRecursion, AreWrittenLabels, BadEscape, Closes, EmptyLabel, EndsLabel, EndsLabelAt, Err, FaultAt, Goes, IsUnit, IsWrittenLabel, LabelTooLong, List, NameFault, Ok, Reaches, Written, [], ahead_in, ap, append-nil, append_assoc, arith, at_dot, at_fault, at_octet, bad_escape, dotted, empty_label, failed, false, inl, inr, is_dot, kept, length, length-append, length-map, long_label, octet_of, parted, read, refl, step_at, subst, sym, text_of, true, written_octets, written_text, ℕ, ◌++◌, ◌+◌, ◌<◌, ◌∙◌, ◌∷◌, ◌≡◌, ◌≤◌}
+use Rattle.zone_name.proofs.Common.{common_steps, Ahead, AllByRecursion, AreWrittenLabels, BadEscape, EmptyLabel, EndsLabel, EndsLabelAt, Err, FaultAt, Goes, IsUnit, IsWrittenLabel, LabelTooLong, List, NameFault, Ok, Reaches, Written, [], ahead_in, ap, append-nil, append_assoc, arith, at_dot, at_fault, at_octet, bad_escape, dotted, empty_label, failed, false, inl, inr, is_dot, kept, length, length-append, length-map, long_label, octet_of, parted, read, refl, step_at, subst, sym, text_of, true, written_octets, written_text, ℕ, ◌++◌, ◌+◌, ◌<◌, ◌∙◌, ◌∷◌, ◌≡◌, ◌≤◌}
 use Rattle.zone_name.specs.Machine.LabelWalk.{reading}
 use Rattle.zone_name.proofs.Spelling.Ahead.{ahead-unit, ahead-bad}
 use Rattle.zone_name.proofs.Spelling.Units.{text_of-some}
@@ -22,12 +22,9 @@ label_ends label tail is short ends = record {
   following = omega (arith, length-append (written_text label) tail);
 }
 
-label_closes : (before : List (List ℕ)) (label : List Written) → IsWrittenLabel label → length label ≤ 63 → Closes before (written_octets label) false (before ++ written_octets label ∷ [])
-label_closes before label is short = grind (arith, length-map)
-
 dot_reads : (text : List ℕ) (before : List (List ℕ)) (label : List Written) (rest : List ℕ) → IsWrittenLabel label → length label ≤ 63 → Reads text before false (written_text label ++ 46 ∷ rest) → Reads text (before ++ written_octets label ∷ []) false rest
 dot_reads text before label rest is short reads =
-    Reads-label text before (before ++ written_octets label ∷ []) false false (written_text label ++ 46 ∷ rest) (written_octets label) (46 ∷ rest) rest 46 reads (label_ends label (46 ∷ rest) is short (inr (rest, refl))) (label_closes before label is short) refl
+    Reads-label text before (before ++ written_octets label ∷ []) false false (written_text label ++ 46 ∷ rest) (written_octets label) (46 ∷ rest) rest 46 reads (label_ends label (46 ∷ rest) is short (inr (rest, refl))) (grind (arith, length-map)) refl
 
 -- labels with dots after them are read
 dots_read : (written : List (List Written)) (text : List ℕ) (before : List (List ℕ)) (rest : List ℕ) → AllByRecursion IsWrittenLabel written → AreShort written → Reads text before false (dotted written ++ rest) → Reads text (before ++ kept written) false rest
@@ -39,7 +36,7 @@ dots_read (label ∷ written) text before rest each short reads =
 parted_reads : (written : List (List Written)) (text : List ℕ) (before : List (List ℕ)) (label : List Written) → AllByRecursion IsWrittenLabel (label ∷ written) → AreShort (label ∷ written) → Reads text before false (parted (label ∷ written)) → reading text ≡ Ok (before ++ kept (label ∷ written), false)
 parted_reads [] text before label each short reads =
     let ends = rw (append-nil (written_text label)) at (label_ends label [] each.0 short.0 (inl refl)) in
-    let found = Reads-relative text before (before ++ written_octets label ∷ []) false false (written_text label) (written_octets label) [] reads ends (label_closes before label each.0 short.0) refl in
+    let found = Reads-relative text before (before ++ written_octets label ∷ []) false false (written_text label) (written_octets label) [] reads ends (grind (arith, length-map)) refl in
     cc
 parted_reads (next ∷ written) text before label each short reads =
     cc (append_assoc before (written_octets label ∷ []) (kept (next ∷ written)), parted_reads written text (before ++ written_octets label ∷ []) next each.1 short.1 (dot_reads text before label (parted (next ∷ written)) each.0 short.0 reads))

@@ -45,14 +45,11 @@ lengths_label old now next label rest start w each some short at is =
 
 -- ---- octets that are seen to be plain, 16 at a time
 
-plain_unit : (c : ℕ) → is_plain c ≡ true → IsUnit is_dot (plain c)
-plain_unit c e = let parts = or_parts (is_dot c) (c == 92) (not-true (is_mark c) e) in (parts.0, eqb-false c 92 parts.1)
-
 -- the label after a dot, by its place
 plain_after : (octets : List ℕ) (start end : ℕ) → ArePlainFrom octets (start + 1) end
     → ArePlain (drop (start + 1) octets) (end - start - 1)
 plain_after octets start end each k h =
-    grind (arith, common_steps, is_dot, plain, get_or-drop, plain_unit)
+    grind (arith, common_steps, is_dot, plain, get_or-drop, or_parts, not-true, eqb-false)
 
 -- the rest, as it is cut off at its place
 cut_at : (old next rest : List ℕ) (n : ℕ) → WritesLengths old next rest → length next ≡ n + length rest
@@ -73,17 +70,6 @@ lengths_next old now next start end w inside dot each back some short is =
     let count = length-take-le len tail fits in
     let left = drop_more now start 0 inside ∙ ap (λ c. c ∷ tail) dot ∙ ap (λ t. 46 ∷ t) (sym (take-append-drop len tail)) in
     cut_at old next rest end (lengths_label old now next label rest start (rw left at w) (plain_each len tail (plain_after now start end each)) (omega (arith, some, count)) (omega (arith, short, count)) (omega (arith, inside, length-drop start now, ap length left)) (cc)) (omega (arith, inside, fits, some, ap length is, length-set now start len, length-drop (start + 1) now, length-drop len tail))
-
--- what was put after the first octet of the room for it
-pub laid : (rest front now : List ℕ) → length front ≤ length rest → now ≡ put_chunk 1 (46 ∷ rest) front
-    → take (length front + 1) now ≡ 46 ∷ front
-laid rest front now fits e = grind (arith, common_steps, take_more_put_chunk)
-
--- the front, where the labels end
-pub lengths_front : (old new : List ℕ) (len : ℕ) → WritesLengths old new (drop len new)
-    → len ≤ length new → length old ≡ length new → WritesLengths (take len old) (take len new) []
-lengths_front old new len w fits same =
-    grind (arith, common_steps, after_dots, written_octets, length-drop, length-append, take_at, append-nil)
 
 -- ---- the whole text
 
@@ -126,8 +112,8 @@ pub plain_room : (text front rest before after : List ℕ) (is_absolute : Bool)
     → PlainRead text (take (length front + 1) after) is_absolute
 plain_room text front rest before after is_absolute cut octets fits room same long put walk =
     let len = length front + 1 in
-    let first : take len before ≡ 46 ∷ front = laid rest front before (omega (arith, fits, long)) put in
-    let w = lengths_front before after len walk (omega (arith, fits, same)) (sym same) in
+    let first : take len before ≡ 46 ∷ front = grind (arith, common_steps, take_more_put_chunk) in
+    let w : WritesLengths (take len before) (take len after) [] = grind (arith, common_steps, after_dots, written_octets, length-drop, length-append, take_at, append-nil) in
     let labels = kept w.written in
     let says = says_by text front is_absolute w.written cut w.each w.short (cc (append-nil (after_dots w.written))) in
     let frames : take len after ≡ flat_map with_length labels = w.lengths ∙ append-nil (flat_map with_length labels) in

@@ -28,9 +28,6 @@ Says text (Err fault) = FaultAt text fault
 
 -- ---- one label or one octet more
 
-kept_push : (before : List (List Written)) (label : List Written) → kept (before ++ label ∷ []) ≡ kept before ++ written_octets label ∷ []
-kept_push before label = grind (arith, map_push)
-
 join_more : (a b c : List ℕ) → a ++ (46 ∷ (b ++ c)) ≡ ((a ++ 46 ∷ []) ++ b) ++ c
 join_more a b c = sym (append_assoc (a ++ 46 ∷ []) b c ∙ append_assoc a (46 ∷ []) (b ++ c))
 
@@ -39,13 +36,10 @@ parted_push [] label = refl
 parted_push (l ∷ []) label = join_more (written_text l) [] (written_text label)
 parted_push (l ∷ m ∷ ls) label = grind (arith, join_more, parted_push (m ∷ ls) label)
 
-reaches_octet : (text : List ℕ) (before : List (List Written)) (label : List Written) (w : Written) (rest more : List ℕ) → Reaches text before label rest → IsUnit is_dot w → rest ≡ text_of w ++ more → length label < 63 → Reaches text before (label ++ w ∷ []) more
-reaches_octet text before label w rest more r is e room = grind (arith, common_steps)
-
 -- ---- the ends
 relative_end : (text : List ℕ) (before : List (List Written)) (w : Written) (label : List Written) (rest : List ℕ) → Reaches text before (w ∷ label) rest → rest ≡ [] → Finds parted text (kept before ++ written_octets (w ∷ label) ∷ [])
 relative_end text before w label rest r e =
-    rw (← kept_push before (w ∷ label)) (finds parted text (before ++ (w ∷ label) ∷ []) (omega (arith, length-append before ((w ∷ label) ∷ [])))
+    rw (← map_push written_octets before (w ∷ label)) (finds parted text (before ++ (w ∷ label) ∷ []) (omega (arith, length-append before ((w ∷ label) ∷ [])))
     (AllByRecursion-append IsWrittenLabel before ((w ∷ label) ∷ []) r.labels (record { some = omega arith; each = r.octets }, tt))
     (AllByRecursion-append (λ l. length l ≤ 63) before ((w ∷ label) ∷ []) r.short (r.room, tt)) (cc (append-nil (dotted before ++ written_text (w ∷ label)), parted_push before (w ∷ label))))
 
@@ -58,14 +52,14 @@ full_label n text before label rest more c later r shorter enough w is oc e true
     long_label before label w more (rw e at r) (grind (arith, nat_tests, length-map label octet_of, r.room, test)) is
 full_label n text before label rest more c later r shorter enough w is oc e false test =
     let open_is : written_octets (label ++ w ∷ []) ≡ written_octets label ++ c ∷ [] = cc (map_push octet_of label w) in
-    rw open_is at (later before (label ++ w ∷ []) more (reaches_octet text before label w rest more r is e (grind (arith, nat_tests, length-map label octet_of, test))) (omega arith))
+    rw open_is at (later before (label ++ w ∷ []) more (grind (arith, common_steps, nat_tests, length-map label octet_of)) (omega arith))
 
 step_says : (n : ℕ) (text : List ℕ) (before : List (List Written)) (label : List Written) (rest : List ℕ) (ahead : Ahead) → text ≢ codes "." → 0 < length text → Later n text → Reaches text before label rest → length rest < suc n → IsAhead rest ahead → Shrinks rest ahead → Says text (after_step n (step_at (kept before) (written_octets label) ahead))
 step_says n text before [] rest at_end other some later r enough is shorter = grind (arith, common_steps)
 step_says n text before (w ∷ label) rest at_end other some later r enough is shorter = relative_end text before w label rest r is
 step_says n text before [] rest (at_dot more) other some later r enough is shorter = empty_label before rest r (inr (more, is)) (λ h. cc) other
 step_says n text before (w ∷ label) rest (at_dot more) other some later r enough is shorter =
-    rw (kept_push before (w ∷ label)) at (later (before ++ (w ∷ label) ∷ []) [] more (grind (arith, common_steps)) (omega arith))
+    rw (map_push written_octets before (w ∷ label)) at (later (before ++ (w ∷ label) ∷ []) [] more (grind (arith, common_steps)) (omega arith))
 step_says n text before label rest (at_octet c more) other some later r enough is shorter = full_label n text before label rest more c later r shorter enough is.unit is.is_unit is.value is.parts (nat_le 63 (length (written_octets label))) refl
 step_says n text before label rest at_fault other some later r enough is shorter = bad_escape before label rest r is
 

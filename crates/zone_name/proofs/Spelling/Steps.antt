@@ -2,7 +2,7 @@
 use Rattle.zone_name.proofs.Common.{err_from_is_err_and, nat_tests, Ahead, Bool, Closes, Collects, EmptyLabel, EndsInFault, EndsLabelAt, Err, Goes, LabelTooLong, List, NameFault, Ok, RefusesLabel, Result, Step, [], ahead_in, ap, arith, at_dot, at_octet, common_steps, done, empty, failed, false, flat_map-append, goes, inl, inr, le-leb, length, length-append, long, lt-leb, read, refl, step_at, suc, sym, wire, zero, ℕ, ◌++◌, ◌<◌, ◌||◌, ◌∙◌, ◌∷◌, ◌≡◌, ◌≤◌}
 use Rattle.zone_name.specs.Machine.LabelWalk.{reading}
 use Rattle.zone_name.proofs.InOctets.Pushing.{HoldsCasedLabels-nil, labels_of-none}
-use Rattle.zone_name.proofs.Spelling.Ahead.{ahead_shrinks}
+use Rattle.zone_name.proofs.Spelling.Ahead.{ahead_shrinks, unit_seen}
 
 -- ---- one step of the reading
 
@@ -14,17 +14,13 @@ after_step n (goes more open_next left) = read n more open_next left
 pub read_step : (n : ℕ) (labels : List (List ℕ)) (open_label rest : List ℕ) (ahead : Ahead) → ahead_in rest ≡ ahead → read (suc n) labels open_label rest ≡ after_step n (step_at labels open_label ahead)
 read_step n labels open_label rest ahead e = cc
 
--- an octet of a label that has room
-pub octet_step : (n : ℕ) (labels : List (List ℕ)) (open_label after : List ℕ) (c : ℕ) → length open_label < 63 → after_step n (step_at labels open_label (at_octet c after)) ≡ read n labels (open_label ++ c ∷ []) after
-octet_step n labels open_label after c room = grind (arith, lt-leb)
-
--- and of one that has none
+-- an octet of a label that has no room
 pub full_step : (labels : List (List ℕ)) (open_label after : List ℕ) (c : ℕ) → 63 ≤ length open_label → step_at labels open_label (at_octet c after) ≡ failed LabelTooLong
 full_step labels open_label after c full = grind (arith, le-leb)
 
 octet_by : (fuel : ℕ) (labels : List (List ℕ)) (open_label rest after : List ℕ) (c : ℕ) → length rest < fuel → ahead_in rest ≡ at_octet c after → length open_label < 63 → (n : ℕ) × (length rest < suc n) × (read fuel labels open_label rest ≡ read n labels (open_label ++ c ∷ []) after)
 octet_by zero labels open_label rest after c enough e room = absurd (omega arith)
-octet_by (suc n) labels open_label rest after c enough e room = grind (arith, read_step n labels open_label rest (at_octet c after) e, octet_step n labels open_label after c room)
+octet_by (suc n) labels open_label rest after c enough e room = grind (arith, read_step n labels open_label rest (at_octet c after) e, lt-leb)
 
 pub fault_by : (fuel : ℕ) (labels : List (List ℕ)) (open_label rest : List ℕ) (ahead : Ahead) (fault : NameFault) → length rest < fuel → ahead_in rest ≡ ahead → step_at labels open_label ahead ≡ failed fault → read fuel labels open_label rest ≡ Err fault
 fault_by fuel labels open_label rest ahead fault enough e fails = grind (arith, read_step)
@@ -48,18 +44,14 @@ refuses_by text open_label rest ahead fault so_far e fails = λ labels n enough.
 pub Refuses-full : (text open_label rest after : List ℕ) (c : ℕ) → Goes text open_label rest → at_octet c after ≡ ahead_in rest → 63 ≤ length open_label → EndsInFault text LabelTooLong
 Refuses-full text open_label rest after c so_far e full = refuses_by text open_label rest (at_octet c after) LabelTooLong so_far (sym e) (λ labels. full_step labels open_label after c full)
 
--- at a dot with no label before it
-dot_refused : (text label rest : List ℕ) → EndsLabelAt text label rest → length label ≡ 0 → EndsInFault text EmptyLabel
-dot_refused text (c ∷ label) rest at none = absurd (omega arith)
-dot_refused text [] rest at none = elim at.ends [
+-- a label that is not closed
+pub Refuses-label : (text label rest : List ℕ) (fault : NameFault) → EndsLabelAt text label rest → length label ≤ 63 → RefusesLabel label fault → EndsInFault text fault
+Refuses-label text label rest fault at short (long more) = absurd (omega arith)
+Refuses-label text (c ∷ label) rest fault at short (empty none) = absurd (omega arith)
+Refuses-label text [] rest fault at short (empty none) = elim at.ends [
   | inl e ↦ absurd (omega (arith, at.some, ap length e))
   | inr e ↦ refuses_by text [] rest (at_dot e.0) EmptyLabel at.goes (ap ahead_in e.1) (λ labels. refl)
 ]
-
--- a label that is not closed
-pub Refuses-label : (text label rest : List ℕ) (fault : NameFault) → EndsLabelAt text label rest → length label ≤ 63 → RefusesLabel label fault → EndsInFault text fault
-Refuses-label text label rest fault at short (empty none) = dot_refused text label rest at none
-Refuses-label text label rest fault at short (long more) = absurd (omega arith)
 
 -- ---- the labels of a text
 
@@ -79,10 +71,6 @@ Reads-start text held some none = grind arith
 pub reading-nil : (text : List ℕ) → length text ≡ 0 → reading text ≡ Err EmptyLabel
 unfolding reading
 reading-nil text e = grind arith
-
--- more labels take no fewer octets
-wire-more : (labels : List (List ℕ)) (label : List ℕ) → 255 < length (wire labels) → 255 < length (wire (labels ++ label ∷ []))
-wire-more labels label over = grind (arith, flat_map-append, length-append)
 
 -- a label's end, as the next step finds it
 end_step : (fuel : ℕ) (labels : List (List ℕ)) (label rest : List ℕ) → length rest < fuel → 0 < length label → rest ≡ [] → read fuel labels label rest ≡ Ok (labels ++ label ∷ [], false)
@@ -106,9 +94,11 @@ Reads-relative text before after is_too_long is_left_out rest label following re
     let reached = at.goes reads.labels reads.fuel reads.enough in (
       reads.labels ++ label ∷ [],
       cc (end_step reached.0 reads.labels label following reached.1 closes.some is),
-      (grind (arith, wire-more, reads.collects, closes.joins)),
+      (grind (arith, flat_map-append, length-append, reads.collects, closes.joins)),
     )
 
 pub ruleset labels_read = (reading-nil, nat_tests, HoldsCasedLabels-nil, Reads-start, labels_of-none, Reads-label)
 
 pub ruleset label_refused = (err_from_is_err_and, Refuses-label)
+
+pub ruleset full_label = (Refuses-full, unit_seen, nat_tests)

@@ -30,12 +30,9 @@ abbrev pub SaysEscape : List ℕ → Option (Written × List ℕ) → Type 0
 SaysEscape text None = IsBadEscape text
 SaysEscape text (Some (w, rest)) = IsEscape w × (text ≡ text_of w ++ rest)
 
-digits_are : (x : ℕ) (rest : List ℕ) → is_digit x ≡ true → SaysEscape (92 ∷ x ∷ rest) (digits_first x rest)
-digits_are x rest d = grind (arith, escape_reads)
-
 -- each escape that is read is what the text's spelling says
 pub escape_is : (rest : List ℕ) → SaysEscape (92 ∷ rest) (escape_first rest)
-escape_is rest = grind (arith, cond_both, digits_are, escape_reads, or_parts, eqb-false)
+escape_is rest = grind (arith, cond_both, escape_reads, or_parts, eqb-false)
 
 octet_is : (left_out : ℕ → Bool) (c : ℕ) (rest : List ℕ) → left_out c ≡ false → IsFirst left_out (c ∷ rest) (if c == 92 then escape_first rest else Some (plain c, rest))
 octet_is left_out c rest goes_on = grind (arith, cond_both, ℕ, eqb-true, unit_of_escape, escape_is, eqb-false)

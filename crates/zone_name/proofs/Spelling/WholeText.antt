@@ -122,9 +122,6 @@ dots_length [] = refl
 dots_length (label ∷ labels) =
     omega (arith, length-append label (after_dots labels), length-append label (flat_map with_length labels), dots_length labels)
 
-some_labels : (labels : List (List ℕ)) → 1 < length (wire labels) → flat_map label_text labels ≡ name_text labels
-some_labels labels some = grind (arith, common_steps)
-
 -- what is seen of octets is seen of those in front
 front_seen : (front rest : List ℕ) (seen dots : ℕ) → length front ≤ seen → list_all is_bare (take seen (front ++ rest)) ≡ true
     → dots ≡ count_by is_dot (take seen (front ++ rest)) → (list_all is_bare front ≡ true) × (count_by is_dot front ≤ dots)
@@ -141,7 +138,7 @@ text_whole labels rest seen dots some enough bare count same =
     let parts : after_dots labels ++ 46 ∷ rest ≡ front ++ rest = sym (append_assoc (after_dots labels) (46 ∷ []) rest) in
     let size : length front ≡ length (wire labels) =
     omega (arith, dots_length labels, length-append (after_dots labels) (46 ∷ []), length-append (flat_map with_length labels) (0 ∷ [])) in
-    grind (arith, common_steps, front_seen front rest seen dots, list_all-append, and_parts, count_append, take_at, bare_text, some_labels)
+    grind (arith, common_steps, front_seen front rest seen dots, list_all-append, and_parts, count_append, take_at, bare_text)
 
 pub spelled_whole : (name old new : List ℕ) (labels seen dots : ℕ) → HoldsName name → 1 < length name
     → old ≡ name ++ drop (length name) old → IsDotted old new labels → length name ≤ seen

@@ -1,5 +1,5 @@
 -- The laws of the order and of what is printed.
-use Rattle.zone_name.proofs.Common.{AllByRecursion, Bool, Equal, IsFoldedOctet, IsLabel, IsName, IsUnit, IsWrittenLabel, List, Option, Spells, Writes, Written, [], absolute, arith, bytes_decides, decimal, decimal_escape, dotted, escaped, false, flat_map, folded_label, if◌then◌else◌, is_digit, is_dot, is_printed, is_special, label_text, length-map, lists_ties, lists_total, map, name_cmp, name_text, named, nat_cmp, nat_cmp_total, nat_eq, nat_tests, octet_of, octet_text, plain, pointwise, pointwise_decides, refl, reverse, reverse-reverse, root, rules, slice_cmp, sym, text_of, texts_ties, true, written_octets, written_text, ℕ, ◌%◌, ◌+◌, ◌/◌, ◌<◌, ◌∷◌, ◌≡◌}
+use Rattle.zone_name.proofs.Common.{length-append, append_assoc, append-nil, common_steps, AllByRecursion, Bool, Equal, IsFoldedOctet, IsLabel, IsName, IsUnit, IsWrittenLabel, List, Option, Spells, Writes, Written, [], absolute, arith, bytes_decides, decimal, decimal_escape, dotted, escaped, false, flat_map, folded_label, if◌then◌else◌, is_digit, is_dot, is_printed, is_special, label_text, length-map, lists_ties, lists_total, map, name_cmp, name_text, named, nat_cmp, nat_cmp_total, nat_eq, nat_tests, octet_of, octet_text, plain, pointwise, pointwise_decides, refl, reverse, reverse-reverse, root, rules, slice_cmp, sym, text_of, texts_ties, true, written_octets, written_text, ℕ, ◌%◌, ◌+◌, ◌/◌, ◌<◌, ◌∷◌, ◌≡◌}
 use Rattle.std.specs.Cmp.{IsTotalOrder, on_total}
 
 -- names that tie are equal
@@ -40,15 +40,12 @@ written_is special printed c h e = search rules
 label_printed : (label : List ℕ) → AllByRecursion IsFoldedOctet label → AllByRecursion (IsUnit is_dot) (map printed_octet label) × (written_text (map printed_octet label) ≡ flat_map octet_text label) × (folded_label (written_octets (map printed_octet label)) ≡ label)
 label_printed [] each = (tt, refl, refl)
 label_printed (c ∷ label) each =
-    let more = label_printed label each.1 in
-    ((written_is (is_special c) (is_printed c) c each.0.octet refl, more.0), cc (printed_text (is_special c) (is_printed c) c, more.1), cc (value_by (is_special c) (is_printed c) c, more.2))
+    grind (arith, common_steps, label_printed label, written_is, printed_text, value_by, length-append, append_assoc, append-nil, length-map)
 
 name_printed : (labels : List (List ℕ)) → AllByRecursion IsLabel labels → AllByRecursion IsWrittenLabel (map (map printed_octet) labels) × (dotted (map (map printed_octet) labels) ≡ flat_map label_text labels) × (named (map (map printed_octet) labels) ≡ labels)
 name_printed [] each = (tt, refl, refl)
 name_printed (label ∷ labels) each =
-    let first = label_printed label each.0.each in
-    let more = name_printed labels each.1 in
-    (((grind (arith, length-map)), more.0), cc (first.1, more.1), cc (first.2, more.2))
+    grind (arith, common_steps, label_printed, name_printed labels, length-map, length-append, append_assoc, append-nil)
 
 printed_by : (origin : Option (List (List ℕ))) (labels : List (List ℕ)) → IsName labels → Writes origin (name_text labels) labels
 printed_by origin [] name = root refl refl

@@ -1,13 +1,10 @@
 use Rattle.zone_name.proofs.Common.{◌∙◌, ◌≡◌, ◌<◌, ◌∷◌, [], length, length-append, ap, sym, subst, arith, nat_tests, at_octet, at_fault, ahead_in, read, refl, BadEscape}
 use Rattle.zone_name.proofs.Spelling.Ahead.{ahead-bad, unit_seen, Shrinks, ahead_shrinks}
-use Rattle.zone_name.proofs.Spelling.Steps.{Goes-octet, Refuses-full, refuses_by}
+use Rattle.zone_name.proofs.Spelling.Steps.{Goes-octet, refuses_by}
 use Rattle.zone_name.proofs.reading.open_label.Goals as goal
 
 pub loop-rest-init : goal.loop-rest-init
 loop-rest-init c = (λ labels n enough. (n, enough, ap (λ t. read n labels t c.args.text.now) (sym c.requires.none)), omega (arith, c.requires.some), omega arith)
-
-pub returns-then-is_full-clause-err : goal.returns-then-is_full-clause-err
-returns-then-is_full-clause-err c = Refuses-full c.args.text.now c.loop-rest.label.items c.loop-rest.rest.now c.in-Octet.after.now c.in-Octet.octet c.loop-rest.invariant.0 (unit_seen c.loop-rest.rest.now c.in-Octet.after.now c.in-Octet.octet (sym c.starts_with.ensures.value ∙ c.if-starts_with.false) c.in-Octet.ensures) (grind (arith, nat_tests, c.is_full.ensures, c.if-is_full.true))
 
 pub loop-rest-preserved : goal.loop-rest-preserved
 loop-rest-preserved c =

@@ -1,10 +1,6 @@
 use Rattle.zone_name.proofs.Common.{nil_from_length, labels_of}
-use Rattle.zone_name.proofs.InOctets.Pushing.{HoldsCasedLabels-nil}
 use Rattle.zone_name.proofs.Spelling.Steps.{Reads-relative}
 use Rattle.zone_name.proofs.reading.read_labels.Goals as goal
-
-pub returns-then-is_empty-clause-holds : goal.returns-then-is_empty-clause-holds
-returns-then-is_empty-clause-holds c = HoldsCasedLabels-nil c.args.octets.now.items c.requires
 
 pub returns-in_default-clause-labels : goal.returns-in_default-clause-labels
 returns-in_default-clause-labels c =

@@ -22,10 +22,7 @@ whole c =
     (AllByRecursion-from_places (λ x. x < 256) text (λ k h. let f = c.type_inv.text k in omega arith))
     (omega (arith, c.if-len-gt-ROOM.false, long)) (omega (arith, long)) c.write_lengths.auto.octets (let e : 128 ≡ length c.put.new.room = omega (arith, long, c.told-room) in e) (c.put.ensures ∙ ap (λ r. put_chunk 1 r front) c.requires) (c.if-not-write_lengths.ensures refl)
 
-pub returns-clause-holds : goal.returns-clause-holds
-returns-clause-holds c = c.set_front.ensures.holds (whole c).holds
-
-pub returns-clause-labels : goal.returns-clause-labels
-returns-clause-labels c =
+pub returns : goal.returns
+returns c =
     let done = whole c in
-    (done.labels, done.reads, c.set_front.ensures.labels done.holds ∙ ap (lettered c.args.letters) done.are)
+    record { within = omega arith; holds = c.set_front.ensures.holds done.holds; labels = (done.labels, done.reads, c.set_front.ensures.labels done.holds ∙ ap (lettered c.args.letters) done.are) }
