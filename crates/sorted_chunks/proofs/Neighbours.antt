@@ -48,3 +48,5 @@ module _ {X : Type 0} where
   -- what holds of each element holds of the last
   pub at_last : (P : X → Type 0) (front : List X) (x : X) (xs : List X) → xs ≡ front ++ x ∷ [] → All P xs → P x
   at_last P front x xs is all = grind (arith, common_steps)
+
+pub ruleset last_neighbours = (last_in, last_of_chunk, lent, filled_within)

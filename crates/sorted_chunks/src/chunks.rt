@@ -145,7 +145,7 @@ impl<T: Copy, const LIMIT: usize> SortedChunks<T, LIMIT> {
     }
 
     /// The last element before a place.
-    #[tactic(auto, using(crate::proofs::Neighbours::last_in, crate::proofs::Neighbours::last_of_chunk, crate::proofs::Neighbours::lent, crate::proofs::Neighbours::filled_within))]
+    #[tactic(auto, using(crate::proofs::Neighbours::last_neighbours))]
     pub fn last_before(&self, position: Position) -> Option<&T>
         requires { IsPlace self.now position }
         ensures { MatchOption result (before self.now position ≡ [])

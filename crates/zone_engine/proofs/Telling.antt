@@ -83,3 +83,5 @@ module _ (form : Octets → Input) (reader old new : Device) where
 
   pub explains_part : (stop : Stop) (line text : List ℕ) (status : ℕ) → IsFailedWrite old new stop → IsExplanation form reader.octets line status → text ≡ line → WritesPartOfLine text old new → StopsExplain form reader old new stop
   explains_part stop line text status of_writer is same part = grind arith
+
+pub ruleset told_lines = (line_of_stop, line_of_verdict)

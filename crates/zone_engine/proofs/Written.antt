@@ -1,6 +1,7 @@
 -- From the zone that an input is read as to the canonical text that is written of it.
 use Rattle.zone_engine.proofs.Common.{common_steps, ◌≡◌, ℕ, ◌<◌, ◌≤◌, ◌-◌, ◌^◌, List, length, min, refl, Vec, Global, Option, None, IfSome, Result, IfOk, OnOk, Appends, Octets, ZoneTooLarge, Whole, Stop, Placed, Zone, canon, text_limit, StopsPush, StopsWrite, Input, IsInput, InputDenotes, InputDenotesWithin, InputReads, InputStates, ReadsZoneWithin, IsOfBytes, Normalises, NormalisesTo, StopsNormalise, WritesPrefix, IfRefused, IsRefusal, IsRefusalWithin, reading, too_large, Device, IsOfReading, ReadsToEnd, StopsReading, inl, IfSome_then, arith}
 use Rattle.zone_engine.proofs.Reading.Readers.{if_refused}
+use Rattle.zone_engine.proofs.Feeding.{is_input}
 
 abbrev ReadIsStated : Type 0
 ReadIsStated = (input : Input) (placed : List Placed) → IsInput input → InputReads input placed None → InputStates input placed
@@ -59,3 +60,5 @@ pushing_is_of_bytes limit text stop given = grind arith
 -- what is denoted within a limit is denoted
 pub denotes_within : (limit : ℕ) (form : Octets → Input) (known : Option Octets) (z : Zone) → IfSome known (λ octets. InputDenotesWithin limit (form octets) z) → IfSome known (λ octets. InputDenotes (form octets) z)
 denotes_within limit form known z denotes = grind arith
+
+pub ruleset normalised_bytes = (is_input, normalises_to, refused_pushing, pushing_is_of_bytes)

@@ -107,7 +107,7 @@ pub fn accepted_zone_within<R: OctetReader>(
 /// # Errors
 ///
 /// `Refused` where they denote none, and `Memory`.
-#[tactic(auto, using(crate::proofs::Feeding::is_input, crate::proofs::Written::normalises_to, crate::proofs::Written::refused_pushing, crate::proofs::Written::pushing_is_of_bytes))]
+#[tactic(auto, using(crate::proofs::Written::normalised_bytes))]
 pub fn normalise_bytes(alloc: Global, form: Form<'_>, octets: &[u8]) -> Result<Vec<u8>, Stop>
     ensures accepted { IfOk result (λ text.
         NormalisesTo (read_as form.entry octets.now) text.items) }

@@ -72,7 +72,7 @@ pub fn one_refusal()
 }
 
 /// An input denotes at most one zone.
-#[tactic(auto, using(crate::proofs::Reading::Inputs::one_zone, crate::proofs::Reading::Inputs::one_list))]
+#[tactic(auto, using(crate::proofs::Reading::Inputs::zones_of_inputs))]
 pub fn one_zone()
     ensures { (input : Input) → AtMostOneIs (InputDenotes input) }
 {
@@ -188,7 +188,7 @@ pub fn same_is_one_zone()
 
 /// No line that a run tells has a line feed: that on a stop, on an input that is accepted, and on a
 /// verdict. What is written is the line and one line feed.
-#[tactic(auto, using(crate::proofs::Telling::line_of_stop, crate::proofs::Telling::line_of_verdict))]
+#[tactic(auto, using(crate::proofs::Telling::told_lines))]
 pub fn each_line_is_one_line()
     ensures stop { (stop : Stop) → HasNoFeed (stop_line stop) }
     ensures records { (count : ℕ) → HasNoFeed (records_line count) }

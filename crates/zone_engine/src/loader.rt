@@ -117,7 +117,7 @@ impl ZoneLoader {
 
 /// The first stop of an input of which these records were listed before a stop: whether one of them
 /// is refused is known when they are settled.
-#[tactic(auto, using(crate::specs::Machine::Loading::earlier, crate::specs::Machine::Loading::itself))]
+#[tactic(auto, using(crate::proofs::Reading::Taken::first_stops))]
 fn first_stop(list: ZoneList, stop: Stop) -> Stop
     ensures { IsFirstStop list stop result }
 {

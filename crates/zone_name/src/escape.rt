@@ -35,7 +35,7 @@ pub fn next_unit(text: &[u8]) -> NextUnit<'_>
 
 /// The octet that an escape stands for, and what follows the escape (RFC 1035 5.1), of a text that
 /// follows its backslash. `None`: the backslash begins no escape.
-#[tactic(auto, using(crate::proofs::Spelling::Units::valued_escape, crate::proofs::Spelling::Units::escaped_found))]
+#[tactic(auto, using(crate::proofs::Spelling::Units::escapes_found))]
 pub fn escape_at(after: &[u8]) -> Option<(u8, &[u8])>
     ensures found { IfSome result (λ read. BeginsWithEscape (92 ∷ after.now) read.0 read.1.now) }
     ensures none { IfNone result (IsBadEscape (92 ∷ after.now)) }

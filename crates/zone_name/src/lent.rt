@@ -43,7 +43,7 @@ impl<'a> NameRef<'a> {
 
     /// The name at the beginning of uncompressed octets that were judged before, and the octets
     /// after it.
-    #[tactic(auto, using(crate::proofs::InOctets::Octets::front_held, crate::proofs::InOctets::Octets::front_labels))]
+    #[tactic(auto, using(crate::proofs::InOctets::Octets::names_split))]
     pub fn split_front(octets: &'a [u8]) -> (NameRef<'a>, &'a [u8])
         requires { BeginsWithName octets.now }
         ensures name { result.0 ≡ labels_of octets.now }

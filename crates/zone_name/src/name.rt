@@ -98,7 +98,7 @@ impl Name {
     }
 
     /// The root of all names: no label (RFC 1035 3.1).
-    #[tactic(auto, using(crate::proofs::InOctets::Octets::root_held, crate::proofs::InOctets::Octets::root_has_none))]
+    #[tactic(auto, using(crate::proofs::InOctets::Octets::folded_root))]
     pub fn root() -> Name
         ensures { result ≡ [] }
     {

@@ -55,3 +55,5 @@ pub one_zone_of_file : (origin : Labels) (octets : List ℕ) → ((a b : List Pl
 one_zone_of_file origin octets one z w denotes other =
     let placed = one denotes.placed other.placed denotes.states other.states in
     one_zone z w denotes.makes.zone other.makes.zone (λ r. grind (arith, placed, denotes.makes.same r, other.makes.same r))
+
+pub ruleset canonical_orders = (canonical_total, canonical_exact)

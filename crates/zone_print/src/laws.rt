@@ -32,7 +32,7 @@ pub fn each_line_ends()
 
 /// The canonical order is total, and records that it doesn't tell apart have one owner and one
 /// data.
-#[tactic(auto, using(zone_set::proofs::Ordering::SetOrder::canonical_total, crate::proofs::OneZone::canonical_exact))]
+#[tactic(auto, using(crate::proofs::OneZone::canonical_orders))]
 pub fn canonical_order_is_total()
     ensures total { IsTotalOrder canonical_cmp }
     ensures exact { (r s : Record) → canonical_cmp r s ≡ Equal → (r.owner ≡ s.owner)

@@ -306,7 +306,7 @@ fn append_octets(octets: &[u8], out: &mut Vec<u8>) -> Result<(), NarrowFailing>
 }
 
 /// Appends a string after its length. If it is refused, `out` is unchanged.
-#[tactic(auto, using(crate::specs::Machine::Building::over_data, crate::specs::Machine::Building::over_string))]
+#[tactic(auto, using(crate::proofs::Octets::Building::strings_over))]
 fn append_string(octets: &[u8], out: &mut Vec<u8>) -> Result<(), NarrowFailing>
     requires { length out.old.items ≤ LONGEST_DATA }
     ensures ok { OnOk result (Grows out.old.items (string octets.now) out.new.items) }

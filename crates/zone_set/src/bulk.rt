@@ -106,7 +106,7 @@ fn stands(octets: &[u8], at: usize) -> bool {
 }
 
 /// Whether the entries before a place stand, as is told, and those from there on after them.
-#[tactic(auto, using(crate::proofs::Lists::Looking::each_drop, crate::proofs::Lists::Looking::take_rest, crate::proofs::Lists::Looking::neighbours_joined))]
+#[tactic(auto, using(crate::proofs::Lists::Looking::standing_after))]
 fn stand_after(stand: bool, class: Class, octets: &[u8], entries: &[Entry], start: usize) -> bool
     ghost base: { Labels }
     requires each { AllByRecursion (IsEntry base class octets.now) entries.now }

@@ -46,7 +46,7 @@ pub(crate) fn is_within(hint: u64) -> bool {
 
 /// The first seven digits of the key of the labels before the base's. `None`: the owner doesn't lie
 /// at or below the base.
-#[tactic(auto, using(crate::proofs::Hints::HintWalk::walked_start, crate::proofs::Hints::HintWalk::walked_next))]
+#[tactic(auto, using(crate::proofs::Hints::HintWalk::hint_walks))]
 fn front_key(base: &Name, owner: &NameRef<'_>) -> Option<u64>
     ensures within { IfSome result (λ key. (front : List (List ℕ))
         × (owner.now ≡ front ++ base.now) × (key ≡ first_digits 7 (owner_key front))) }

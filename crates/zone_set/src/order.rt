@@ -8,7 +8,7 @@ use zone_name::laws::are_octets;
 
 /// How octets lie as unsigned strings, a missing octet first. Mostly the first eight tell, which
 /// are compared as numbers.
-#[tactic(auto, using(crate::proofs::Hints::Numbers::eights_first, crate::proofs::Hints::Numbers::then_same))]
+#[tactic(auto, using(crate::proofs::Hints::Numbers::eights_then_one))]
 pub(crate) fn octet_order(a: &[u8], b: &[u8]) -> Ordering
     ensures { result ≡ slice_cmp nat_cmp a.now b.now }
 {

@@ -104,7 +104,7 @@ pub fn entry_items<'t>(entry: &'t [u8], items: &mut Vec<Item<'t>>) -> Result<(),
 /// of the text. A token without an item is a blank, which is one octet (`is_blank` tells it by the
 /// first octet), a parenthesis, a comment without its line feed, or a line feed. `None`: the text
 /// is empty.
-#[tactic(auto, using(crate::proofs::Tokens::ItemsLeft::in_front_shorter, crate::proofs::Tokens::ItemsLeft::no_tokens))]
+#[tactic(auto, using(crate::proofs::Tokens::ItemsLeft::front_tokens))]
 pub fn first_token(text: &[u8]) -> Option<(Option<Item<'_>>, &[u8])>
     ensures none { IfNone result (text.now ≡ []) }
     ensures found { IfSome result (λ found. (p : Token) (more : List Token)

@@ -140,7 +140,7 @@ impl<'m> Answers<'m> {
 }
 
 /// The record that begins at an offset of a message. The room is for the labels of its owner.
-#[tactic(auto, using(crate::proofs::Records::Pending::record_walked, crate::proofs::Names::Walking::name_walks))]
+#[tactic(auto, using(crate::proofs::Records::Pending::records_walked))]
 fn record_at<'m, 'r>(
     message: &'m [u8],
     offset: usize,

@@ -160,7 +160,7 @@ pub(crate) fn cut_len(octets: &[u8]) -> usize
 }
 
 /// The message of a frame, after its length.
-#[tactic(auto, using(crate::proofs::Streams::Feeding::framed_whole, crate::proofs::Streams::Feeding::rest_taken))]
+#[tactic(auto, using(crate::proofs::Streams::Feeding::frames_taken))]
 fn message_of(framed: &[u8]) -> &[u8]
     requires { length framed.now ≡ 2 + u16_at framed.now 0 }
     ensures framed { framed.now ≡ frame result.now }

@@ -38,7 +38,7 @@ impl Model for LabelRoom {
 
 impl LabelRoom {
     /// No label yet.
-    #[tactic(auto, using(crate::proofs::Names::RunLaws::no_labels, crate::proofs::Names::RunLaws::empty_room))]
+    #[tactic(auto, using(crate::proofs::Names::RunLaws::empty_rooms))]
     pub(crate) fn new() -> LabelRoom
         ensures { result ≡ [] }
     {
@@ -49,7 +49,7 @@ impl LabelRoom {
     }
 
     /// Takes all labels out.
-    #[tactic(auto, using(crate::proofs::Names::RunLaws::no_labels, crate::proofs::Names::RunLaws::empty_room))]
+    #[tactic(auto, using(crate::proofs::Names::RunLaws::empty_rooms))]
     pub(crate) fn clear(&mut self)
         ensures { self.new ≡ [] }
     {

@@ -75,7 +75,7 @@ impl Transfer {
 
     /// Takes the next message. Nothing is taken after a fault in it. The builder is for the data of
     /// its records.
-    #[tactic(auto, using(crate::proofs::Transfers::Progress::stopped_next, crate::proofs::Common::on_ok_weaker))]
+    #[tactic(auto, using(crate::proofs::Transfers::Progress::read_next))]
     pub(crate) fn read(
         &mut self,
         octets: &[u8],

@@ -89,3 +89,5 @@ module _ (input : Input) where
 pub read_is_stated : ((origin : Labels) (octets : List ℕ) (placed : List Placed) → FileStates origin octets placed ↔ FileReads origin octets placed None) → ((stream : List ℕ) (placed : List Placed) → ((i : ℕ) → get_or stream i 0 < 256) → StreamReads stream placed None → StreamStates stream placed) → (input : Input) (placed : List Placed) → IsInput input → InputReads input placed None → InputStates input placed
 read_is_stated files streams (file origin octets) placed is reads = (files origin octets placed).1 reads
 read_is_stated files streams (transfer stream) placed is reads = streams stream placed (each_below 256 stream (omega arith) is) reads
+
+pub ruleset zones_of_inputs = (one_zone, one_list)

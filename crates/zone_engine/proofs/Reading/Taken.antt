@@ -113,3 +113,5 @@ module _ {Kept : Type 0} (IsOf : ReadAs → Type 0) (Leave : ReadAs → Octets �
     finishing_refused new held rest stop lists settled stops (front_refuses front more placed ending f at is parts decided refuses) = absurd (not_both (sym is ∙ none))
     finishing_refused new held rest stop lists settled stops (all_taken unrefused stands nothing) =
         finished_refused new p1.ending (rw lists.listed ((kept listed stands).stands.read ended)) settled.accepted lists.whole stop (StopsFinish-same held (records_of new) stop settled.same stops)
+
+pub ruleset first_stops = (earlier, itself)

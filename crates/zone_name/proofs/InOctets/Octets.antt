@@ -143,3 +143,7 @@ labels_of-cons len after some = grind (arith, common_steps, length-drop, labels_
 pub ruleset names_in_front = (labels_of-wire_append, BeginsWithName-wire_append)
 
 pub ruleset cased_root = (root_held_cased, root_has_none)
+
+pub ruleset names_split = (front_held, front_labels)
+
+pub ruleset folded_root = (root_held, root_has_none)

@@ -99,3 +99,5 @@ escaped_found x rest text e d n m = record { escape = escaped x; is_escape = (d,
 
 pub plain_found : (c : ℕ) (rest text : List ℕ) → text ≡ c ∷ rest → c ≢ 92 → BeginsWithUnit no_octet text c rest
 plain_found c rest text e other = record { unit = plain c; is_unit = (refl, other); value = refl; parts = e }
+
+pub ruleset escapes_found = (valued_escape, escaped_found)

@@ -180,3 +180,5 @@ pub finish_made : (class kind : ℕ) (laid : Option (List Field)) (count : ℕ) 
 finish_made class kind laid count octets b d e is past made = grind (arith, whole_parts, parts_octets)
 
 pub ruleset push_faults = (if_fault_passed, push_misplaced, push_over)
+
+pub ruleset strings_over = (over_data, over_string)

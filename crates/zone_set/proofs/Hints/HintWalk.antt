@@ -48,3 +48,5 @@ module _ (base owner left : List (List ℕ)) (len key : ℕ) (walked : IsWalked 
 
     pub walked_none : len ≤ length (wire base) → (last ≡ wire base → ⊥) → IsWithin owner base → ⊥
     walked_none fits apart within = grind (arith, common_steps)
+
+pub ruleset hint_walks = (walked_start, walked_next)

@@ -46,3 +46,5 @@ pub then_same : (m n : ℕ) (p : Ordering) → m ≡ n → ordering_then (nat_cm
 then_same m n p same = ap (λ o. ordering_then o p) (sym (nat_cmp_is m n Equal same))
 
 pub ruleset after_eights = (eights_first, then_same, low_drop, bytes_each)
+
+pub ruleset eights_then_one = (eights_first, then_same)

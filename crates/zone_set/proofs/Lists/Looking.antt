@@ -43,3 +43,5 @@ pub run_moved : {X : Type 0} (a k : ℕ) (xs ys : List X) → IsPermutation (mid
 run_moved a k xs ys moves = let whole = IsPermutation-put_mid a k xs ys moves in (length_permutation _ _ whole, whole)
 
 pub ruleset running = (run_moved, each_moved, take_whole, IsPermutation-refl, IsPermutation-trans, length-drop)
+
+pub ruleset standing_after = (each_drop, take_rest, neighbours_joined)

@@ -32,3 +32,5 @@ module _ (end place : Place) (far : List Place) (step : ℕ) (new : List Place) 
 
   pub lead_more : LeadTo last (steps ++ step ∷ []) new place
   lead_more = rw adds.1 (lead_on end place step adds.0 adds.2 adds.3 adds.4 last steps far lead)
+
+pub ruleset one_step_more = (stepped_more, lead_more)

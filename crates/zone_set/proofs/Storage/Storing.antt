@@ -52,3 +52,5 @@ all_with P before after x each one = grind (arith, AllByRecursion-front, AllByRe
 pub each_map : {X Y : Type 0} {P : X → Type 0} (Q : Y → Type 0) (f : X → Y) → ((x : X) → P x → Q (f x)) → (xs : List X) → AllByRecursion P xs → AllByRecursion Q (map f xs)
 each_map Q f tells [] each = tt
 each_map Q f tells (x ∷ xs) each = (tells x each.0, each_map Q f tells xs each.1)
+
+pub ruleset records_stored = (each_kept, records_kept)

@@ -251,3 +251,5 @@ all_taken entry rest kept none leaves tokens cuts =
 pub ruleset item_fronts = (bare_front, comment_front, end_of_text, ends_but_mark, eqb-false, plain_front)
 
 pub ruleset item_lengths = (escape_more, plain_so_far)
+
+pub ruleset front_tokens = (in_front_shorter, no_tokens)

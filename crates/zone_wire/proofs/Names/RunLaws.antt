@@ -203,3 +203,5 @@ pub ruleset lanes_are_copied = (copied_all, copied_lanes, copied_start)
 pub ruleset octets_are_copied = (copied_all, copied_octet, copied_start)
 
 pub ruleset name_is_walked = (run_alone, carries_start, spots_show)
+
+pub ruleset empty_rooms = (no_labels, empty_room)

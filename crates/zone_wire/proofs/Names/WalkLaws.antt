@@ -26,3 +26,7 @@ name_verdict message offset each = record { one_of = by (outcome message (walk m
     by : (o : Outcome) → outcome message (walk message offset) ≡ o → EitherIs (IsNameAt message offset) (NameFault message offset)
     by (named found) e = inl (found, walk_names message offset found each e)
     by (refused fault steps) e = inr (fault, name_refused message offset fault steps e)
+
+pub ruleset named_walks = (named_ending, named_steps)
+
+pub ruleset walks_from_an_offset = (one_walk, some_walk)

@@ -3,6 +3,7 @@
 use Rattle.zone_wire.proofs.Common.{AreAt, AreRecordsAt, Found, HasRecordsFrom, IsMessage, IsNameAt, IsParsed, IsQuestionAt, IsRecordAt, List, QuestionAt, RecordAt, Sections, [], ap, arith, get_or, length, map, named, outcome, parsed, question_by, raw_at, raw_from, record_at, record_by, refl, sym, u16_at, walk, ℕ, ◌-◌, ◌<◌, ◌∙◌, ◌∷◌, ◌≡◌}
 use Rattle.zone_wire.proofs.Messages.Sections.{one_part, part_reads, each_reads}
 use Rattle.zone_wire.proofs.Names.Walking.{one_name, walk_names}
+use Rattle.zone_wire.proofs.Names.Walking.{name_walks}
 
 -- records that stand somewhere are read there
 pub stand_read : (octets : List ℕ) (count offset : ℕ) (s : HasRecordsFrom octets count offset) → raw_from octets count offset ≡ map (raw_at octets) s.records
@@ -63,3 +64,5 @@ has_one_question octets s is some = by s.questions is.question_count is.question
 
 pub question_of_name : (octets : List ℕ) (questions : List QuestionAt) (h : HasOneQuestion octets questions) (found : Found) → IsNameAt octets 12 found → (questions ≡ question_by octets found ∷ []) × IsQuestionAt octets 12 (question_by octets found)
 question_of_name octets questions h found name = grind (arith, one_name)
+
+pub ruleset records_walked = (record_walked, name_walks)

@@ -154,3 +154,5 @@ follow_stands status count t unfinished fed given works going counted follow =
 
 pub finished_stands : (count : ℕ) (t : Transfer) (unfinished fed : List ℕ) (given : List Placed) → Bytes fed → count ≡ length fed → StreamReads fed (given ++ t.decided.placed) t.decided.ending → StandsForStream (source_of Finished count t unfinished) fed given
 finished_stands count t unfinished fed given octets counted reads = grind arith
+
+pub ruleset frames_taken = (framed_whole, rest_taken)

@@ -5,6 +5,7 @@ use Rattle.zone_rdata.specs.declared.queue.PendingRecords.{PendingRecords}
 use Rattle.zone_wire.specs.AnswerFault.{refused}
 use Rattle.zone_wire.proofs.Records.Answering.{names_same, records_same, names_equal, records_equal}
 use Rattle.zone_wire.proofs.Transfers.GivenMessages.{asked_grow, placed_grow}
+use Rattle.zone_wire.proofs.Common.{on_ok_weaker}
 
 pub none_of : {X : Type 0} (o : Option X) → is_some o ≡ false → o ≡ None
 none_of o e = grind arith
@@ -198,3 +199,5 @@ told_same b r s tells = same_bool b (same_record r s) (λ e. records_same r s (t
 pub ruleset message_stops = (stops_in_structure, stops_in_head, message_taken)
 
 pub ruleset answers_are_taken = (pending_all, pending_more, takes_all)
+
+pub ruleset read_next = (stopped_next, on_ok_weaker)
