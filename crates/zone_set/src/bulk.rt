@@ -21,7 +21,7 @@ const AHEAD: usize = 16;
 /// Puts entries in order and drops those of equal records, where their records can stand together.
 /// Else they are of the same records, in any order. Where they are as many as before, none was
 /// dropped.
-#[tactic(auto, using(crate::proofs::Lists::Repeats::settling, crate::proofs::Storage::MessageLens::moved_whole))]
+#[tactic(auto, using(crate::proofs::Lists::Repeats::settling))]
 pub(crate) fn settle(class: Class, base_len: usize, octets: &[u8], entries: &mut Vec<Entry>) -> bool
     ghost base: { Labels }
     requires { AllByRecursion (IsEntry base class octets.now) entries.old.items }

@@ -179,7 +179,7 @@ impl ZoneList {
 }
 
 /// `ZoneList::settle` for the parts of a list.
-#[tactic(auto, using(crate::proofs::Lists::Listing::settling_parts, crate::specs::ZoneList::memory))]
+#[tactic(auto, using(crate::proofs::Lists::Listing::settling_parts))]
 fn settle_parts(
     alloc: Global,
     class: Class,

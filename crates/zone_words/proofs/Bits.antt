@@ -55,9 +55,6 @@ bit_set bits old new at number place inside written same n =
 
 -- ---- one window
 
-pub no_bit_in_zero : (j : ℕ) → bit_at 0 j ≡ 1 → ⊥
-no_bit_in_zero j h = grind arith
-
 -- the octets up to the last that isn't 0 have all bits
 cut_octet : (bits : List ℕ) (len k : ℕ) → ((k : ℕ) → len ≤ k → get_or bits k 0 ≡ 0) → get_or (take len bits) k 0 ≡ get_or bits k 0
 cut_octet bits len k zeros =

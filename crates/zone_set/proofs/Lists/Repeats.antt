@@ -4,6 +4,7 @@ use Rattle.std.specs.Prelude.{if◌then◌else◌}
 use Rattle.std.proofs.lemmas.List.Filters.{All-dedup}
 use Rattle.zone_set.proofs.Holding.Adding.{classes}
 use Rattle.zone_set.proofs.Ordering.Neighbours.{AreCompatible-from_neighbours}
+use Rattle.zone_set.proofs.Storage.MessageLens.{moved_whole}
 use Rattle.zone_set.proofs.Storage.Storing.{each_map, read_stored}
 
 -- so many octets keep a record
@@ -89,4 +90,4 @@ module _ (base : List (List ℕ)) (class : ℕ) (octets : List ℕ) (es fs gs : 
   pub compatible_left : AreNeighbours (all_records class octets gs) → AreCompatible (all_records class octets gs)
   compatible_left = AreCompatible-from_entries base class octets gs each_left
 
-pub ruleset settling = (each_moved, each_left, same_left, SameRecords-moved, AreCompatible-from_entries, compatible_moved, compatible_left, IsPermutation-refl, length_permutation)
+pub ruleset settling = (each_moved, each_left, same_left, SameRecords-moved, AreCompatible-from_entries, compatible_moved, compatible_left, IsPermutation-refl, length_permutation, moved_whole)
