@@ -19,9 +19,6 @@ IsSettledAs-sorted class base octets es fs places held keeps same compatible is 
 pub alone_kept : {class : ℕ} {base : List (List ℕ)} {octets : List ℕ} (es fs : List Entry) (places : List Place) → KeepsList class base octets es places → IsPermutation es fs → AreAllKept class octets (all_records class octets fs)
 alone_kept {class = class} {octets = octets} es fs places keeps moves = (all_records class octets es, keeps.kept, IsPermutation-map (entry_record class octets) es fs moves)
 
-none_compatible : AreCompatible []
-none_compatible = record { each = tt; ascend = tt; one_class = λ r s has_r has_s. absurd has_r; one_ttl = λ r s has_r has_s one. absurd has_r; one_soa = λ r s has_r has_s soa_r soa_s. absurd has_r }
-
 -- records that were added one after another stand together
 compatible_each : (placed : List Placed) (old new : List Record) → AreCompatible old → AllByRecursion (λ p. IsRecord p.rr) placed → AddsEach old placed new → AreCompatible new
 compatible_each [] old new compatible whole added = subst AreCompatible (sym added) compatible
@@ -37,7 +34,7 @@ same_offered : (placed : List Placed) (held : List Record) → AddsEach [] place
 same_offered placed held added r = grind (arith, same_each placed [] held added r)
 
 accepted_offered : (placed : List Placed) (held : List Record) → AllByRecursion (λ p. IsRecord p.rr) placed → AddsEach [] placed held → AllAccepted placed
-accepted_offered placed held whole added = AllAccepted-from_compatible held placed (compatible_each placed [] held none_compatible whole added) (same_offered placed held added)
+accepted_offered placed held whole added = AllAccepted-from_compatible held placed (compatible_each placed [] held (record { each = tt; ascend = tt; one_class = λ r s has_r. absurd has_r; one_ttl = λ r s has_r. absurd has_r; one_soa = λ r s has_r. absurd has_r }) whole added) (same_offered placed held added)
 
 -- records that were offered in the order in which they came, and all taken
 pub IsSettledAs-offered : (placed : List Placed) (held : List Record) → AllByRecursion (λ p. IsRecord p.rr) placed → AddsEach [] placed held → IsSettledAs placed held

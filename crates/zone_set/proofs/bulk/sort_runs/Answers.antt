@@ -1,6 +1,7 @@
 use Rattle.zone_set.proofs.Common.{AreNeighbours, IsEntry, IsPermutation-put_mid, IsTrue, IsPermutation-trans, all_records, arith, common_steps, length-drop, length_permutation, subst, sym, ◌+◌, ◌-◌, ◌∙◌}
 use Rattle.std.proofs.lemmas.Slice.{take-put_mid_below}
-use Rattle.zone_set.proofs.Lists.Looking.{each_take, take_front, within_front}
+use Rattle.zone_set.proofs.Lists.Looking.{each_take, within_front}
+use Rattle.std.proofs.lemmas.List.{take-take}
 use Rattle.zone_set.proofs.Lists.Repeats.{each_moved}
 use Rattle.zone_set.proofs.bulk.sort_runs.Goals as goal
 use Rattle.zone_set.proofs.bulk.sort_runs.Goals.{then-start-seen, else-start-seen}
@@ -33,6 +34,6 @@ loop-hint-preserved g c =
       each_moved g.base c.args.class c.args.octets.now _ _ c.loop-hint.invariant.3 moves,
       λ is. c.stand_after-stand.ensures.all is
           (subst (λ es. AreNeighbours (all_records c.args.class c.args.octets.now es))
-          (sym (take_front start (start + len) _ (omega arith) ∙ take-put_mid_below start (start + len - start) c.loop-hint.entries c.sort_run.new.run start (omega arith) c.loop-hint.invariant.0))
+          (sym (take-take start (start + len) _ (omega arith) ∙ take-put_mid_below start (start + len - start) c.loop-hint.entries c.sort_run.new.run start (omega arith) c.loop-hint.invariant.0))
           (c.loop-hint.invariant.4 (stood is))),
     )
