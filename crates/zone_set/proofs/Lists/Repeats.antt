@@ -4,6 +4,7 @@ use Rattle.std.proofs.lemmas.List.Filters.{All-dedup}
 use Rattle.zone_set.proofs.Holding.Adding.{classes}
 use Rattle.zone_set.proofs.Ordering.Neighbours.{AreCompatible-from_neighbours}
 use Rattle.zone_set.proofs.Storage.Storing.{each_map, read_stored}
+use Rattle.zone_set.proofs.Holding.Together.{each_Has}
 
 -- so many octets keep a record
 pub span_len-stored : (r : Record) (after : List ℕ) → IsRecord r → span_len (stored r ++ after) ≡ length (stored r)
@@ -35,8 +36,7 @@ module _ (f : Entry → Record) where
   each_in (e ∷ es) held holds = (holds (f e) (inl refl), each_in es held (λ r has. holds r (inr has)))
 
   told_each : (es : List Entry) (held : List Record) → AllByRecursion (IsHeld held) es → (r : Record) → Has (map f es) r → Has held r
-  told_each [] held each r has = absurd has
-  told_each (e ∷ es) held each r has = grind (arith, told_each es held each.1 r)
+  told_each es held each r has = each_Has (Has held) (map f es) r (each_map (Has held) f (λ e is. is) es each) has
 
   -- what is left of entries is of records that they have
   fewer_has : (es fs : List Entry) → ((P : Entry → Type 0) → All P fs → All P es) → (r : Record) → Has (map f es) r → Has (map f fs) r
