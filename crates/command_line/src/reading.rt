@@ -9,6 +9,7 @@ use clap::{Arg, Command};
 use std::alloc::{AllocError, Global};
 
 /// The program with its commands. It is handed the words after its name.
+#[tactic(auto, using(std::proofs::lemmas::List::take_all))]
 pub(crate) fn readable<'a>(alloc: Global, program: &Program) -> Result<Command<'a>, AllocError>
     ensures { IfOk result (λ command. app_of command ≡ app_described program.now) }
 {

@@ -2,6 +2,5 @@
 pub mod ListPush
 pub mod Listing
 pub mod Looking
-pub mod Offering
 pub mod Repeats
 pub mod Taking

@@ -20,7 +20,7 @@ pub(crate) fn owner_order(owner: &NameRef<'_>, other: &NameRef<'_>) -> Ordering
 /// How owners lie, if their first labels tell it. Those of one hint mostly are the same, or differ
 /// in their first label alone, or one has a label before those of the other.
 #[inline(always)]
-#[tactic(auto, using(crate::proofs::Ordering::Owners::order_of_labels))]
+#[tactic(auto, using(crate::proofs::Ordering::Within::order_of_labels))]
 pub(crate) fn order_by_first_label(a: &[u8], b: &[u8]) -> Option<Ordering>
     ensures { IfSome result (λ order. order ≡ name_cmp (labels_of a.now) (labels_of b.now)) }
 {

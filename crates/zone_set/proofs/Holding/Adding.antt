@@ -44,9 +44,6 @@ holds_for es holds any which = grind arith
 octets_put : (old : List Record) (r : Record) (is_new : Bool) (new : List Record) → IsPut old r is_new new → message_octets new ≡ message_octets old + (if is_new then message_len r else 0)
 octets_put old r is_new new put = grind (arith, common_steps)
 
-octets_counted : (sum new more octets counted : ℕ) → octets ≡ min sum (2 ^ 64 - 1) → new ≡ sum + more → counted ≡ min (octets + more) (2 ^ 64 - 1) → counted ≡ min new (2 ^ 64 - 1)
-octets_counted sum new more octets counted is is_new is_counted = omega arith
-
 module _ (class : ℕ) (base : List (List ℕ)) (octets : List ℕ) (es : List Entry) (counted : ℕ) (alone : Bool) (held : List Record) (r : Record) (keeps : KeepsSets class base octets es counted alone) (are : all_records class octets es ≡ held) (no_class : IsTrue false ↔ OtherClass held r) where
   pub one_or_none : (es ≡ []) ⊎ (class ≡ r.class)
   one_or_none = one_class class octets es r (λ other. false≢true (no_class.1 (rw are at other)))
@@ -75,7 +72,7 @@ module _ (class : ℕ) (base : List (List ℕ)) (octets : List ℕ) (es : List E
       pub keeps_with : (name : List (List ℕ)) → AllByRecursion (IsEntry name r.class now) fs → (OtherTtl (all_records r.class octets es) r → ⊥) → IsRecord r → (after : ℕ) → after ≡ min (counted + (if is_new then message_len r else 0)) (2 ^ 64 - 1) → KeepsSets r.class name now fs after false
       keeps_with name each one_ttl whole after is_after = record {
         holds = record { each = each; compatible = AreCompatible-with held (all_records r.class now fs) r (rw are at keeps.holds.compatible) (accepted one_ttl) whole (λ s. (added.same s).0) added.ascend };
-        counts = octets_counted (message_octets held) (message_octets (all_records r.class now fs)) (if is_new then message_len r else 0) counted after (rw are at keeps.counts) (octets_put held r is_new (all_records r.class now fs) (rw seen at told)) is_after;
+        counts = omega (arith, rw are at keeps.counts, octets_put held r is_new (all_records r.class now fs) (rw seen at told), is_after);
         kept = λ is. cc;
       }
 

@@ -2,18 +2,13 @@
 use Rattle.zone_set.proofs.Common.{common_steps, AllByRecursion, AllByRecursion-back, AllByRecursion-front, AreNeighbours, Entry, List, Record, [], ap, append-nil, arith, drop, length, length-drop, length-take-le, map, refl, subst, suc, sym, take, take-append-drop, take-length, zero, ℕ, ◌+◌, ◌-◌, ◌∙◌, ◌∷◌, ◌≡◌, ◌≤◌, IsPermutation, IsPermutation-put_mid, IsPermutation-refl, IsPermutation-trans, length_permutation}
 use Rattle.zone_set.proofs.Lists.Repeats.{each_moved}
 use borrow.Rule.Slice.PartMut.{mid_of, put_mid}
+use Rattle.std.proofs.lemmas.List.{take-take}
 
 pub each_drop : {X : Type 0} (P : X → Type 0) (n : ℕ) (xs : List X) → AllByRecursion P xs → AllByRecursion P (drop n xs)
 each_drop P n xs each = AllByRecursion-back P (take n xs) (drop n xs) (rw take-append-drop each)
 
 pub each_take : {X : Type 0} (P : X → Type 0) (n : ℕ) (xs : List X) → AllByRecursion P xs → AllByRecursion P (take n xs)
 each_take P n xs each = AllByRecursion-front P (take n xs) (drop n xs) (rw take-append-drop each)
-
-pub take_front : {X : Type 0} (n m : ℕ) (xs : List X) → n ≤ m → take n (take m xs) ≡ take n xs
-take_front zero m xs low = refl
-take_front (suc n) zero xs low = absurd (omega (arith, low))
-take_front (suc n) (suc m) [] low = refl
-take_front (suc n) (suc m) (x ∷ xs) low = ap (λ l. x ∷ l) (take_front n m xs (omega (arith, low)))
 
 -- a place before the end of a front is within it
 pub within_front : {X : Type 0} (start len n : ℕ) (xs : List X) → n ≡ start + len → start + len ≤ length xs → start ≤ length (take n xs)

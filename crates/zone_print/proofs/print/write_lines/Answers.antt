@@ -1,5 +1,5 @@
 -- The writer took all but the lines in the buffer and those to come, or a part of them.
-use Rattle.zone_print.proofs.Common.{◌≡◌, ◌++◌, [], sym, ap, ◌∙◌, err_from_is_err_and, MatchResult-weaker, lines}
+use Rattle.zone_print.proofs.Common.{◌++◌, [], sym, ap, ◌∙◌, err_from_is_err_and, MatchResult-weaker}
 use Rattle.zone_print.proofs.Front.{left_less, left_none, part_left, part_more}
 use Rattle.zone_print.proofs.Lines.{line_moves, line_ends, line_to_come}
 use Rattle.zone_print.proofs.print.write_lines.Goals as goal
@@ -25,12 +25,10 @@ loop-rr-preserved-then-len-ge-WRITE_LEN g c =
 
 pub returns-clause-part : goal.returns-clause-part
 returns-clause-part g c =
-    let whole : c.loop-rr.buffer ++ lines c.loop-rr.rr-iterator ≡ c.as_slice-2.result.now ++ [] =
-    line_ends c.loop-rr.buffer _ c.in-None.ensures.steps.0 ∙ ap (λ l. l ++ []) (sym c.as_slice-2.ensures.value) in
+    let whole = line_ends c.loop-rr.buffer _ c.in-None.ensures.steps.0 ∙ ap (λ l. l ++ []) (sym c.as_slice-2.ensures.value) in
     MatchResult-weaker c.write_octets-2.result c.write_octets-2.ensures.part (λ x h. h) (λ stop. part_more _ _ _ _ _ _ _ c.loop-rr.invariant.left whole)
 
 pub returns-clause-text : goal.returns-clause-text
 returns-clause-text g c =
-    let whole : c.loop-rr.buffer ++ lines c.loop-rr.rr-iterator ≡ c.as_slice-2.result.now ++ [] =
-    line_ends c.loop-rr.buffer _ c.in-None.ensures.steps.0 ∙ ap (λ l. l ++ []) (sym c.as_slice-2.ensures.value) in
+    let whole = line_ends c.loop-rr.buffer _ c.in-None.ensures.steps.0 ∙ ap (λ l. l ++ []) (sym c.as_slice-2.ensures.value) in
     MatchResult-weaker c.write_octets-2.result c.write_octets-2.ensures.written (λ x taken. left_none _ _ _ _ _ _ c.loop-rr.invariant.left whole taken) (λ stop h. h)

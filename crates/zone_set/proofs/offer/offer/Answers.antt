@@ -1,6 +1,6 @@
 use Rattle.zone_set.proofs.Common.{AllByRecursion, IsRecord, Placed, err_from_is_err_and, inl, inr, placed_at, record_of, ⊎_elim}
 use Rattle.zone_set.proofs.Lists.ListPush.{each_placed}
-use Rattle.zone_set.proofs.Lists.Offering.{StopsSettling-now, IsSettledAs-at_end}
+use Rattle.zone_set.proofs.Lists.Listing.{StopsSettling-now, IsSettledAs-at_end}
 use Rattle.zone_set.proofs.offer.offer.Goals as goal
 
 pub returns-in_err-hold-clause-refused : goal.returns-in_err-hold-clause-refused
