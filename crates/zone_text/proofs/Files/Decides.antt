@@ -1,10 +1,10 @@
 -- What is decided of a prefix stays, whatever octets follow it.
-use Rattle.zone_text.proofs.Common.{AreTokens, Breaks, Cuts, Ending, Entry, Fault, FileDecides, FileReads, Line, List, Lower, None, Placed, ReadEach, Some, Stays, Token, [], and_last, ap, append-nil, append_assoc, broken, cut_from, decided, ended_entries, entries_of, inl, inr, open_line, refused, rules, stated, states_none, states_one, sym, text, undecided, whole, zero, ℕ, ◌++◌, ◌∙◌, ◌∷◌, ◌≡◌, arith}
+use Rattle.zone_text.proofs.Common.{AreTokens, Cuts, Ending, Entry, FileDecides, FileReads, List, Lower, None, Placed, ReadEach, Stays, Token, [], and_last, ap, append-nil, append_assoc, broken, cut_from, decided, ended_entries, entries_of, inl, inr, refused, rules, stated, states_none, states_one, sym, text, undecided, whole, zero, ℕ, ◌++◌, ◌∙◌, ◌∷◌, ◌≡◌, arith}
 use Rattle.zone_text.proofs.Tokens.Cuttings.{one_cut, one_break, cut_not_broken, cut_or_broken}
 use Rattle.zone_text.proofs.Tokens.Lasting.{cut_joined, break_joined, cut_parted, break_parted, breaks_for_good}
 use Rattle.zone_text.proofs.Tokens.CutAgain.{joined, cut_whole, cut_ended, cut_again, ended_at_zero, and_last_after, numbered_front}
 use Rattle.zone_text.proofs.Entries.Entered.{record_once, fault_once, record_or_fault, nothing_or_record, nothing_or_fault}
-use Rattle.zone_text.proofs.Files.OneFile.{reads_once}
+use Rattle.zone_text.proofs.Files.OneFile.{broken_once}
 
 -- ---- the readings of entries and of the same with others after them
 
@@ -78,9 +78,6 @@ entries_on tokens all (others, e) =
 -- the same reading stays
 same_stays : (a b : List Placed) (e f : Ending) → (a ≡ b) × (e ≡ f) → Stays a e b f
 same_stays a b e f same = search rules
-
-pub broken_once : Lower → (origin : List (List ℕ)) (octets : List ℕ) (tokens all : List Token) (fault other : Fault) (a b : List Placed) (e f : Ending) → Breaks octets tokens fault → Breaks octets all other → ReadEach origin (Some (fault, Line (open_line tokens))) [] (ended_entries tokens) a e → ReadEach origin (Some (other, Line (open_line all))) [] (ended_entries all) b f → (a ≡ b) × (e ≡ f)
-broken_once lower origin octets tokens all fault other a b e f x y xs ys = grind (arith, one_break octets tokens all fault other x y, one_break, reads_once)
 
 module _ (lower : Lower) (origin : List (List ℕ)) (octets : List ℕ) where
   -- nothing was decided but of the ended entries, and others follow them

@@ -1,5 +1,5 @@
 -- A file states one list of records at most, and has one reading at most; the two agree.
-use Rattle.zone_text.proofs.Common.{Ending, EntriesState, Entry, FileReads, FileStates, Line, List, Lower, None, Placed, ReadEach, Some, [], broken, ended_entries, entries_of, open_line, refl, refused, stated, states_none, states_one, subst, sym, whole, ℕ, ◌∙◌, ◌∷◌, ◌≡◌, arith, rules}
+use Rattle.zone_text.proofs.Common.{Breaks, Fault, Token, Ending, EntriesState, Entry, FileReads, FileStates, Line, List, Lower, None, Placed, ReadEach, Some, [], broken, ended_entries, entries_of, open_line, refl, refused, stated, states_none, states_one, subst, sym, whole, ℕ, ◌∙◌, ◌∷◌, ◌≡◌, arith, rules}
 use Rattle.zone_text.proofs.Tokens.Cuttings.{one_cut, one_break, cut_not_broken}
 use Rattle.zone_text.proofs.Entries.Entered.{record_once, fault_once, record_or_fault, nothing_or_record, nothing_or_fault}
 
@@ -15,15 +15,16 @@ reads_once lower origin after before (entry ∷ entries) a b e f (refused fault 
 reads_once lower origin after before (entry ∷ entries) a b e f (refused fault h u v) (stated (states_one q others s place w ys)) = absurd (record_or_fault lower origin before entry q.rr fault s h)
 reads_once lower origin after before (entry ∷ entries) a b e f (refused fault h u v) (refused other k s t) = grind (arith, fault_once lower origin before entry fault other h k)
 
+pub broken_once : Lower → (origin : List (List ℕ)) (octets : List ℕ) (tokens all : List Token) (fault other : Fault) (a b : List Placed) (e f : Ending) → Breaks octets tokens fault → Breaks octets all other → ReadEach origin (Some (fault, Line (open_line tokens))) [] (ended_entries tokens) a e → ReadEach origin (Some (other, Line (open_line all))) [] (ended_entries all) b f → (a ≡ b) × (e ≡ f)
+broken_once lower origin octets tokens all fault other a b e f x y xs ys = grind (arith, one_break octets tokens all fault other x y, one_break, reads_once)
+
 pub file_reads_once : Lower → (origin : List (List ℕ)) (octets : List ℕ) (a b : List Placed) (e f : Ending) → FileReads origin octets a e → FileReads origin octets b f → (a ≡ b) × (e ≡ f)
 file_reads_once lower origin octets a b e f (whole ps cut xs) (whole qs other ys) =
     reads_once lower origin None [] (entries_of qs) a b e f (subst (λ p. ReadEach origin None [] (entries_of p) a e) (one_cut octets ps qs cut other) xs) ys
 file_reads_once lower origin octets a b e f (whole ps cut xs) (broken qs fault breaks ys) = absurd (cut_not_broken octets ps qs fault cut breaks)
 file_reads_once lower origin octets a b e f (broken ps fault breaks xs) (whole qs cut ys) = absurd (cut_not_broken octets qs ps fault cut breaks)
 file_reads_once lower origin octets a b e f (broken ps fault breaks xs) (broken qs other more ys) =
-    let tokens : ps ≡ qs = (one_break octets ps qs fault other breaks more).0 in
-    let same : fault ≡ other = (one_break octets ps qs fault other breaks more).1 in
-    reads_once lower origin (Some (other, Line (open_line qs))) [] (ended_entries qs) a b e f (rw (← tokens, ← same) xs) ys
+    broken_once lower origin octets ps qs fault other a b e f breaks more xs ys
 
 -- what is stated is read with no fault, and the other way
 
