@@ -6,9 +6,8 @@ use Rattle.zone_text.proofs.Files.Left.{line_feeds, numbered_then, IsSplit, spli
 use Rattle.zone_text.proofs.Scanning.Scanned.{goes_on as scan_goes_on, ends_entry, stays_open, at_end}
 use Rattle.zone_text.proofs.Tokens.Cuttings.{cut_or_broken}
 use Rattle.zone_text.proofs.Tokens.Lasting.{breaks_for_good}
-use Rattle.zone_text.proofs.Files.Decides.{tokens_of, goes_on, ended_on}
+use Rattle.zone_text.proofs.Files.Decides.{tokens_of, goes_on, ended_on, read_states}
 use Rattle.zone_text.proofs.Tokens.ForGood.{break_stays_or_ends, ends_not_for_good}
-use Rattle.zone_text.proofs.Files.OneFile.{read_states}
 
 -- what is read of ended entries, the first of them on line 1
 abbrev pub ReadsEnded : List (List ℕ) → Ending → List (List Token) → List Placed → Ending → Type 0
