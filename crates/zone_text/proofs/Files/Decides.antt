@@ -50,9 +50,6 @@ file_reads_state origin octets placed given = grind (arith, read_states)
 
 -- ---- the readings of entries and of the same with others after them
 
-stays_on : (p q : Placed) (a b more others : List Placed) (e f : Ending) → p.rr ≡ q.rr → p.place ≡ q.place → a ≡ p ∷ more → b ≡ q ∷ others → Stays more e others f → Stays a e b f
-stays_on p q a b more others e f rr place x y stays = search rules
-
 pub reads_on : Lower → (origin : List (List ℕ)) (after : Ending) (before entries others : List Entry) (a b : List Placed) (e f : Ending) → ReadEach origin None before entries a e → ReadEach origin after before (entries ++ others) b f → Stays a e b f
 reads_on lower origin after before [] others a b e f x y = record {
   others = b;
@@ -61,7 +58,7 @@ reads_on lower origin after before [] others a b e f x y = record {
 }
 reads_on lower origin after before (entry ∷ entries) others a b e f (stated (states_none n xs)) y = grind (arith, reads_on lower origin after (entry ∷ before) entries others a b e f xs, nothing_or_record origin before entry, nothing_or_fault lower origin before entry)
 reads_on lower origin after before (entry ∷ entries) others a b e f (stated (states_one p more r at w xs)) (stated (states_none m ys)) = absurd (nothing_or_record origin before entry p.rr m r)
-reads_on lower origin after before (entry ∷ entries) others a b e f (stated (states_one p more r at w xs)) (stated (states_one q left s place v ys)) = grind (arith, reads_on lower origin after (entry ∷ before) entries others more left e f xs ys, stays_on p q a b more left e f (record_once lower origin before entry p.rr q.rr r s) (at ∙ sym place) w v (reads_on lower origin after (entry ∷ before) entries others more left e f xs ys))
+reads_on lower origin after before (entry ∷ entries) others a b e f (stated (states_one p more r at w xs)) (stated (states_one q left s place v ys)) = grind (arith, reads_on lower origin after (entry ∷ before) entries others more left e f xs ys, record_once lower origin before entry p.rr q.rr r s)
 reads_on lower origin after before (entry ∷ entries) others a b e f (stated (states_one p more r at w xs)) (refused fault h u v) = absurd (record_or_fault lower origin before entry p.rr fault r h)
 reads_on lower origin after before (entry ∷ entries) others a b e f (refused fault h u v) (stated (states_none m ys)) = absurd (nothing_or_fault lower origin before entry fault m h)
 reads_on lower origin after before (entry ∷ entries) others a b e f (refused fault h u v) (stated (states_one q more s place w ys)) = absurd (record_or_fault lower origin before entry q.rr fault s h)
