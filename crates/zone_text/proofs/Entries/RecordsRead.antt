@@ -1,6 +1,6 @@
 -- The parser state is what the look back over the entries finds: what one entry more leaves, and what
 -- a record entry whose parts are read in a known state states, or why it is refused.
-use Rattle.zone_text.proofs.Common.{BadTtl, Data, Entry, EntryFault, EntryStates, Fault, HasContents, HasHeadOf, HasOwnerOrNone, HasTtl, Head, IsDataFault, IsLastMinimum, IsLastOwner, IsOneOrNone, IsOwner, IsReadTo, IsRecord, IsRecordEntry, IsStateAfter, IsTtlOrNone, Labels, List, Lower, MatchOption, NoOwner, NoTtl, None, Option, ParserState, RawItem, Record, Some, States, arith, long, minimum, none, of_rdata, of_ttl, option_or, owned, refl, rules, stated_ttl, statement_of, subst, sym, ttl_text, with_owner, ℕ, ◌<◌, ◌∷◌, ◌≡◌, IsOrigin, IsTime, SetsOrigin, SetsTtl, SpellsAfter, Statement, StatesMinimum, StatesNothing, [], default_ttl_text, inl, inr, latest, owner_text, parts_in, sets_origin, sets_ttl}
+use Rattle.zone_text.proofs.Common.{BadTtl, Data, Entry, EntryFault, EntryStates, Fault, HasContents, HasHeadOf, HasOwnerOrNone, HasTtl, Head, IsDataFault, IsLastMinimum, IsLastOwner, IsOneOrNone, IsOwner, IsRecord, IsRecordEntry, IsStateAfter, IsTtlOrNone, Labels, List, Lower, MatchOption, NoOwner, NoTtl, None, Option, ParserState, RawItem, Record, Some, States, arith, long, minimum, none, of_rdata, of_ttl, option_or, owned, refl, rules, stated_ttl, statement_of, subst, sym, ttl_text, with_owner, ℕ, ◌<◌, ◌∷◌, ◌≡◌, IsOrigin, IsTime, SetsOrigin, SetsTtl, SpellsAfter, Statement, StatesMinimum, StatesNothing, [], default_ttl_text, inl, inr, latest, owner_text, parts_in, sets_origin, sets_ttl}
 use Rattle.zone_rdata.specs.Item.{bare}
 use Rattle.zone_text.proofs.Entries.EntryOutcome.{states_no_minimum, no_minimum}
 
@@ -50,6 +50,19 @@ ttl_set origin before entry d next items so_far form sets =
     let states : StatesNothing origin before (sets_ttl items) = rw item (sets.seconds, sets.ttl) in
     let default : IsTtlOrNone (latest default_ttl_text (entry ∷ before)) (Some sets.seconds) = rw (form, item) (sets.ttl) in
     (rw form states, rw sets.others (leaves origin before entry (sets_ttl items) d d.origin (Some sets.seconds) form refl refl so_far (rw form (so_far.under)) default))
+
+-- a record entry up to its data, and the TTL that is looked for
+pub record IsReadTo (origin : Labels) (before : List Entry) (entry : Entry) (d : ParserState)
+    (head : Head) (own : Option ℕ) (rdata : Data) (last found : Option ℕ) : Type 0 where
+  pub held : Option Labels
+  pub state : IsStateAfter origin before (with_owner held d)
+  pub has : HasHeadOf origin before entry head
+  pub own_ttl : IsTtlOrNone (ttl_text (statement_of entry)) own
+  pub class : rdata.class ≡ head.class
+  pub kind : rdata.kind ≡ head.kind
+  pub states : States d.origin head.class head.kind head.items rdata.octets
+  pub least : last ≡ option_or (minimum rdata) d.minimum
+  pub ttl : found ≡ option_or (option_or (option_or own d.default_ttl) d.last_ttl) last
 
 -- ---- the owner
 
