@@ -87,12 +87,11 @@ ttl_word_by lower text (inl found) = elim (cases_lt 2147483647 found.0) [
   | inr short ↦ inl (found.0, record { time = found.1; short = short })
 ]
 
-class_or_not : (n : ℕ) → IsClass n ⊎ (IsClass n → ⊥)
-class_or_not n = grind (arith, cases_lt n 65536, cases_eq n 0, cases_eq n 254, cases_eq n 255)
-
 word_or_fault : Lower → Choices → (word : Word) → IsKnown word → WordChoice word
 word_or_fault lower choices (ttl text) known = grind (arith, ttl_word_by lower text (choices.time text))
-word_or_fault lower choices (class text) known = grind (arith, class_word_of text known, class_or_not (class_word_of text known).0)
+word_or_fault lower choices (class text) known =
+    let word = class_word_of text known in
+    grind (arith, word, cases_lt word.0 65536, cases_eq word.0 0, cases_eq word.0 254, cases_eq word.0 255)
 
 abbrev Choice : (ℕ → Type 0) → Type 0
 Choice P = ((n : ℕ) × P n) ⊎ ((n : ℕ) → P n → ⊥)

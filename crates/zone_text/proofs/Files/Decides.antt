@@ -90,14 +90,11 @@ tokens_of octets all other (inl x) (inr (fault, y)) = search (rules, cut_not_bro
 tokens_of octets all other (inr (fault, x)) (inl y) = search (rules, cut_not_broken)
 tokens_of octets all other (inr (fault, x)) (inr (another, y)) = (one_break octets all other fault another x y).0
 
-joined_tokens : (front rest : List ℕ) (tokens : List Token) → Cuts front (joined (cut_from zero tokens).ended) → (others : List Token) × AreTokens (front ++ rest) (joined (cut_from zero tokens).ended ++ others)
-joined_tokens front rest tokens cut =
-    grind (arith, cut_or_broken rest, cut_joined front rest, break_joined front rest, (cut_ended zero tokens).ends)
-
 pub goes_on : (octets more : List ℕ) (tokens all : List Token) → AreTokens octets tokens → AreTokens (octets ++ more) all → GoesOn tokens all
 goes_on octets more tokens all x y =
     let front = parted octets tokens x in
-    let after = joined_tokens (text (joined (cut_from zero tokens).ended)) (front.rest ++ more) tokens front.front in
+    let ended : List Token = joined (cut_from zero tokens).ended in
+    let after : (others : List Token) × AreTokens (text ended ++ (front.rest ++ more)) (ended ++ others) = grind (arith, cut_or_broken (front.rest ++ more), cut_joined (text ended) (front.rest ++ more), break_joined (text ended) (front.rest ++ more), (cut_ended zero tokens).ends, front.front) in
     let split : octets ++ more ≡ text (joined (cut_from zero tokens).ended) ++ (front.rest ++ more) = ap (λ t. t ++ more) front.parted ∙ append_assoc (text (joined (cut_from zero tokens).ended)) front.rest more in
     (after.0, tokens_of (octets ++ more) all (joined (cut_from zero tokens).ended ++ after.0) y (rw split (after.1)))
 
