@@ -4,8 +4,6 @@ pub mod Entered
 pub mod Heads
 pub mod EntryOutcome
 pub mod EntryTaken
-pub mod Inheriting
-pub mod Inherits
 pub mod Kept
 pub mod KeptEntry
 pub mod Lines

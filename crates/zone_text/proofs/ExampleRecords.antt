@@ -1,19 +1,12 @@
 -- Names, words, NS records, the SOA of `x.` and addresses that files spell, for examples.
-use Rattle.zone_text.proofs.Common.{AllByRecursion, Data, EmptyLabel, Entry, EntryStates, HasClass, HasContents, HasTtl, HasValue, IsClass, IsClassWord, IsDecimal, IsKind, IsKindWord, IsName, IsOrigin, IsOwner, IsRecord, IsTime, IsTtl, IsWordFault, List, MetaType, Some, SpellingFault, Spells, States, StatesMinimum, UnknownType, Word, [], absolute, address, arith, at_origin, begins_with_digit, beyond, by_mnemonic, by_number, codes, decimal_value, empty_label, false, folded_octet, for_queries, in_words, inr, is_digit, is_dot, labels_of, lit<, lit≤, minimum, ns, parts_in, plain, refl, relative, rules, soa, statement_of, true, under, wire, within, x, ℕ, ◌<◌, ◌^◌, ◌∷◌, ◌≡◌, ◌≢◌, ◌≤◌, common_steps}
+use Rattle.zone_text.proofs.Common.{AllByRecursion, Data, EmptyLabel, Entry, EntryStates, HasClass, HasContents, HasTtl, HasValue, IsClass, IsClassWord, IsKind, IsKindWord, IsName, IsOrigin, IsOwner, IsRecord, IsTime, IsTtl, IsWordFault, List, MetaType, Some, SpellingFault, Spells, States, StatesMinimum, UnknownType, Word, [], absolute, address, arith, at_origin, begins_with_digit, beyond, by_mnemonic, by_number, codes, empty_label, false, folded_octet, for_queries, in_words, inr, is_dot, labels_of, lit<, lit≤, minimum, ns, parts_in, plain, refl, relative, rules, soa, statement_of, true, under, wire, within, x, ℕ, ◌<◌, ◌^◌, ◌∷◌, ◌≡◌, ◌≢◌, ◌≤◌, common_steps}
 use Rattle.zone_rdata.specs.declared.field.Field.TheVariants.{Name, Serial, Time, Octets}
-use Rattle.zone_rdata.specs.Address.{IsOctetNumber}
 use Rattle.zone_rdata.specs.Field.{FieldValue, name, u32_value, fixed, octets_of}
 use Rattle.zone_rdata.specs.Fields.Address.{of_ipv4}
 use Rattle.zone_rdata.specs.Spelling.{RawItem, bare}
 use Rattle.zone_rdata.specs.Number as number
 use Rattle.zone_text.proofs.Entries.Lines.{contents_by}
 use Rattle.zone_text.proofs.Heads.ClassWords.{time_first}
-
-pub n_name : IsName (under 110 x)
-n_name = omega arith
-
-pub ax_name : IsName (under 97 x)
-ax_name = omega arith
 
 -- `@` is the origin
 pub at_spells : (above : List (List ℕ)) → IsName above → Spells (Some above) (codes "@") above
@@ -27,7 +20,7 @@ one_octet c above no_dot no_backslash no_at good = record {
 }
 
 pub a_spells : Spells (Some x) (codes "a") (under 97 x)
-a_spells = one_octet 97 x refl (omega arith) (omega arith) ax_name
+a_spells = one_octet 97 x refl (omega arith) (omega arith) (omega arith)
 
 pub b_spells : Spells (Some (under 97 x)) (codes "b") (under 98 (under 97 x))
 b_spells = one_octet 98 (under 97 x) refl (omega arith) (omega arith) (omega arith)
@@ -35,11 +28,11 @@ b_spells = one_octet 98 (under 97 x) refl (omega arith) (omega arith) (omega ari
 pub n_x_spells : (above : List (List ℕ)) → Spells (Some above) (codes "n.x.") (under 110 x)
 n_x_spells above = record {
   written = absolute ((plain 110 ∷ []) ∷ (plain 120 ∷ []) ∷ []) (record { some = lit< tt; each = (record { some = lit< tt; each = ((refl, omega arith), tt) }, (record { some = lit< tt; each = ((refl, omega arith), tt) }, tt)) }) refl refl;
-  name = n_name;
+  name = omega arith;
 }
 
 pub sixty : IsTime (codes "60") 60
-sixty = number.plain (record { some = lit< tt; digits = (refl, (refl, tt)); value = refl })
+sixty = search rules
 
 pub is_ns : IsKindWord (codes "NS") 2
 is_ns = by_mnemonic (record { name = codes "NS"; row = refl; same = refl })
@@ -99,16 +92,13 @@ pub ns_has_no_minimum : ((word : List ℕ) (a b : ℕ) → IsKindWord word a →
 ns_has_no_minimum once before entry words items seconds split (owner, rdata, contents, field) = grind (arith, common_steps, is_ns, no_minimum)
 
 n_spells : Spells (Some x) (codes "n") (under 110 x)
-n_spells = one_octet 110 x refl (omega arith) (omega arith) n_name
+n_spells = one_octet 110 x refl (omega arith) (omega arith) (omega arith)
 
 h_spells : Spells (Some x) (codes "h") (under 104 x)
 h_spells = one_octet 104 x refl (omega arith) (omega arith) (omega arith)
 
-digit : (c n : ℕ) → is_digit c ≡ true → n ≡ decimal_value (c ∷ []) → IsDecimal (c ∷ []) n
-digit c n is value = record { some = lit< tt; digits = (is, tt); value = value }
-
 pub five : IsTime (codes "5") 5
-five = number.plain (digit 53 5 refl refl)
+five = search rules
 
 -- the items after the type's word, the last of them the MINIMUM, and what they spell
 abbrev pub soa_items : List ℕ → List RawItem
@@ -119,7 +109,7 @@ soa_values last = name (under 110 x) ∷ name (under 104 x) ∷ u32_value 1 ∷ 
 
 pub soa_states : (text : List ℕ) (last : ℕ) → IsTime text last → last < 2 ^ 32 → States x 1 6 (soa_items text) (octets_of (soa_values last))
 soa_states text last time short = record {
-  stated = in_words (Name ∷ Name ∷ Serial ∷ Time ∷ Time ∷ Time ∷ Time ∷ []) (soa_values last) refl (λ is. let e = is.1 in absurd cc) (n_spells, (h_spells, ((digit 49 1 refl refl, lit< tt), ((number.plain (digit 50 2 refl refl), lit< tt), ((number.plain (digit 51 3 refl refl), lit< tt), ((number.plain (digit 52 4 refl refl), lit< tt), ((time, short), tt))))))) refl (lit≤ tt);
+  stated = in_words (Name ∷ Name ∷ Serial ∷ Time ∷ Time ∷ Time ∷ Time ∷ []) (soa_values last) refl (λ is. let e = is.1 in absurd cc) (n_spells, (h_spells, ((search rules, lit< tt), ((search rules, lit< tt), ((search rules, lit< tt), ((search rules, lit< tt), ((time, short), tt))))))) refl (lit≤ tt);
 }
 
 soa_fits : (ttl : ℕ) → ttl ≤ 2147483647 → IsRecord (soa ttl)
@@ -153,9 +143,6 @@ minimum_too_long = refl
 pub states_ns_below : (before : List Entry) (entry : Entry) (ttl : ℕ) (words : List Word) → parts_in (statement_of entry) ≡ Some (record { words = words; rest = bare (codes "NS") ∷ bare (codes "n") ∷ [] }) → IsOwner x before (statement_of entry) x → AllByRecursion HasValue words → HasClass before entry 1 → IsOrigin x before x → HasTtl x before entry ttl → ttl ≤ 2147483647 → EntryStates x before entry (ns x 1 ttl)
 states_ns_below before entry ttl words split owns values has under_it lasts short = states_server_by (codes "n") x before entry x x 1 ttl words (λ e. absurd cc) n_spells split owns values has under_it lasts (omega arith) (omega arith) short
 
-one_digit : (c n : ℕ) → is_digit c ≡ true → n ≡ decimal_value (c ∷ []) → n ≤ 255 → IsOctetNumber (c ∷ []) n
-one_digit c n is value short = record { number = digit c n is value; short = short }
-
 address_states : States x 1 1 (bare (codes "10.0.0.1") ∷ []) (10 ∷ 0 ∷ 0 ∷ 1 ∷ [])
 address_states = record {
   stated = in_words (Octets 4 ∷ []) (fixed (10 ∷ 0 ∷ 0 ∷ 1 ∷ []) ∷ []) refl (λ is. let e = is.1 in absurd cc) (
@@ -163,7 +150,7 @@ address_states = record {
       numbers = codes "10" ∷ codes "0" ∷ codes "0" ∷ codes "1" ∷ [];
       counted = refl;
       parted = refl;
-      each = ((record { number = record { some = lit< tt; digits = (refl, (refl, tt)); value = refl }; short = lit≤ tt }), (one_digit 48 0 refl refl (lit≤ tt), (one_digit 48 0 refl refl (lit≤ tt), (one_digit 49 1 refl refl (lit≤ tt), tt))));
+      each = search rules;
     }),
     tt,
   ) refl (lit≤ tt);

@@ -2,7 +2,6 @@
 pub mod DecidedOnce
 pub mod Decides
 pub mod FileChoice
-pub mod OneFile
 pub mod Followed
 pub mod Left
 pub mod Standing

@@ -1,5 +1,5 @@
 -- What a source holds at the beginning of a file and at that of an entry.
-use Rattle.zone_text.proofs.Common.{Bool, Cuts, EndedEntries, FileDecides, Follow, IsSplitter, IsStateAfter, Labels, List, None, On, Option, ScanState, ScansTo, Some, [], arith, beginning, common_steps, false, inl, is_some, length, refl, rules, scan_of, sym, true, undecided, ℕ, ◌==◌, ◌≡◌, ◌≤◌}
+use Rattle.zone_text.proofs.Common.{Bool, Cuts, EndedEntries, FileDecides, Follow, IsSplitter, IsStateAfter, Labels, List, None, Option, ScanState, Some, [], arith, beginning, common_steps, false, inl, is_some, length, refl, scan_of, sym, true, undecided, ℕ, ◌==◌, ◌≡◌, ◌≤◌}
 use Rattle.zone_text.proofs.Files.Left.{none_cut}
 
 -- octets of which there is none, or one
@@ -17,12 +17,9 @@ pub none_found : {A : Type 0} (o : Option A) → is_some o ≡ false → o ≡ N
 none_found o is = grind arith
 
 -- no octets lead to the beginning of an entry
-pub scans_nothing : (at : ScanState) (unfinished : List ℕ) → at ≡ beginning → unfinished ≡ [] → ScansTo beginning unfinished (On at)
-unfolding scan_of
-scans_nothing at unfinished begins none = rw (begins, none) refl
-
 pub nothing_taken : (ended : EndedEntries) (at : ScanState) (unfinished : List ℕ) → at ≡ beginning → unfinished ≡ [] → 1 ≤ ended.line → IsSplitter ended at unfinished
-nothing_taken ended at unfinished begins none line = search (rules, scans_nothing)
+unfolding scan_of
+nothing_taken ended at unfinished begins none line = record { state = rw (begins, none) refl; dropped = λ found e. none; line = line }
 
 pub no_tokens : Cuts [] []
 no_tokens = record { whole = refl; each = tt; follow = tt; balanced = refl }

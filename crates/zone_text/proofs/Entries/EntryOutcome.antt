@@ -2,8 +2,7 @@
 -- fault.
 use Rattle.zone_text.proofs.Common.{fault_of, AllByRecursion, AllByRecursion-append, AllState, AreOctetItems, BadDirective, BadTtl, Bool, Choices, Data, Entry, EntryFault, EntryStates, Fault, HasClass, HasContents, HasHeadOf, HasTtl, HasValue, Head, IncludeDirective, IsClass, IsClassWord, IsDataFault, IsKind, IsKindWord, IsLastMinimum, IsLastOwner, IsName, IsNameFaultAfter, IsOrigin, IsOwner, IsTime, IsTtl, Labels, List, Lower, MatchOption, NoOwner, NoTtl, None, Option, Parts, PartsFault, Record, Some, SpellsAfter, Statement, StatementFault, States, StatesMinimum, StatesNothing, UnknownDirective, UnknownType, Word, WordFault, [], arith, cases_eq, cases_lt, class, class_among, class_word, data_of, if◌then◌else◌, includes, inl, inr, is_class_word, latest, long, minimum, no_items, none, of_parts, of_rdata, of_statement, of_ttl, option_and_then, option_or, owned, owner_text, parts_after, parts_in, refl, rules, sets_origin, sets_ttl, stated_ttl, statement_by, statement_of, true, ttl, unknown, unless_stated, unowned, word_after, ℕ, ◌++◌, ◌<◌, ◌∷◌, ◌≡◌, ◌⊎◌}
 use Rattle.zone_rdata.specs.Spelling.{RawItem, bare, quoted}
-use Rattle.zone_text.proofs.Entries.Entered.{nothing_or_parts}
-use Rattle.zone_text.proofs.Entries.Inherits.{contents_once}
+use Rattle.zone_text.proofs.Entries.Entered.{nothing_or_parts, contents_once}
 use Rattle.zone_text.proofs.Heads.ClassWords.{class_word_of}
 
 -- ---- the origin
@@ -88,12 +87,11 @@ ttl_word_by lower text (inl found) = elim (cases_lt 2147483647 found.0) [
   | inr short ↦ inl (found.0, record { time = found.1; short = short })
 ]
 
-class_or_not : (n : ℕ) → IsClass n ⊎ (IsClass n → ⊥)
-class_or_not n = grind (arith, cases_lt n 65536, cases_eq n 0, cases_eq n 254, cases_eq n 255)
-
 word_or_fault : Lower → Choices → (word : Word) → IsKnown word → WordChoice word
 word_or_fault lower choices (ttl text) known = grind (arith, ttl_word_by lower text (choices.time text))
-word_or_fault lower choices (class text) known = grind (arith, class_word_of text known, class_or_not (class_word_of text known).0)
+word_or_fault lower choices (class text) known =
+    let word = class_word_of text known in
+    grind (arith, word, cases_lt word.0 65536, cases_eq word.0 0, cases_eq word.0 254, cases_eq word.0 255)
 
 abbrev Choice : (ℕ → Type 0) → Type 0
 Choice P = ((n : ℕ) × P n) ⊎ ((n : ℕ) → P n → ⊥)

@@ -1,5 +1,5 @@
 -- An entry read after others: what it states, or its fault.
-use Rattle.zone_text.proofs.Common.{Cuts, DecidesEntry, EndedEntries, Entry, EntryFault, Err, Fault, IfFault, IsStateAfter, Labels, Line, List, None, Some, Ok, OnOk, ParserState, PendingRecords, Place, Placed, ReadsEntry, ReadsOctets, Result, Token, [], ap, append-nil, arith, decides_fault, decides_none, decides_one, entry_of, length, refl, refused, rules, stated, states_one, subst, sym, text, ℕ, ◌+◌, ◌∙◌, ◌∷◌, ◌≡◌, ◌≤◌}
+use Rattle.zone_text.proofs.Common.{Cuts, DecidesEntry, EndedEntries, Entry, EntryFault, Err, Fault, IfFault, IsStateAfter, Labels, Line, List, None, Some, Ok, OnOk, ParserState, PendingRecords, Place, Placed, ReadsEntry, ReadsOctets, Result, Token, [], ap, append-nil, arith, decides_fault, decides_none, decides_one, entry_of, length, refl, refused, rules, stated, states_one, subst, sym, ℕ, ◌+◌, ◌∙◌, ◌∷◌, ◌≡◌, ◌≤◌}
 use Rattle.zone_rdata.specs.declared.fault.Failing.{Failing}
 use Rattle.zone_rdata.specs.declared.fault.Failing.TheVariants as failings
 use Rattle.zone_text.proofs.Files.Left.{line_feeds}
@@ -17,9 +17,6 @@ pub record IsLineAfter (octets : List ℕ) (old new : EndedEntries) : Type 0 whe
 pub lines_after : (octets : List ℕ) (old new : EndedEntries) (n : ℕ) → n ≡ line_feeds octets → n ≤ length octets → new.line ≡ old.line + n → IsLineAfter octets old new
 lines_after octets old new n count few line = omega arith
 
-line_of : (octets : List ℕ) (old new : EndedEntries) (tokens : List Token) → IsLineAfter octets old new → Cuts octets tokens → new.line ≡ old.line + line_feeds (text tokens)
-line_of octets old new tokens after cut = after.count ∙ ap (λ t. old.line + line_feeds t) cut.whole
-
 -- what an entry decides is what is read of it
 entry_read : (origin : Labels) (before : List Entry) (tokens : List Token) (octets : List ℕ) (old new : EndedEntries) → old.decided.ending ≡ None → IsLineAfter octets old new → Cuts octets tokens → DecidesEntry origin before (entry_of old.line tokens) (Line old.line) old.decided new.decided new.state → ReadsEntry origin before tokens old new
 entry_read origin before tokens octets old new none after cut (decides_none leaves same) = search rules
@@ -30,7 +27,7 @@ entry_read origin before tokens octets old new none after cut (decides_one r sta
       read = stated (states_one p [] states refl refl (refl, same ∙ none));
       records = more;
       state = λ _. are;
-      line = λ _. line_of octets old new tokens after cut;
+      line = λ _. after.count ∙ ap (λ t. old.line + line_feeds t) cut.whole;
     }
 entry_read origin before tokens octets old new none after cut (decides_fault fault bad same ending) = record {
   others = [];

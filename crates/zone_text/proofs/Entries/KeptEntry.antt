@@ -3,7 +3,7 @@
 use Rattle.zone_text.proofs.Common.{AllByRecursion, AreKept, AreShortened, Bool, Cuts, Data, DecidesEntry, Entry, EntryFault, Err, Fault, HasContents, HasHeadOf, Head, IsOwner, IsWritten, Labels, LeavesOut, List, None, Ok, OnOk, Option, ParserState, Parts, PartsFault, PendingRecords, Place, RawItem, Result, Some, Statement, StatementFault, StatesNothing, Token, Word, [], after_item, ap, are_many, arith, begin_with, class, class_among, class_word, common_steps, data_of, decides_fault, decides_none, decides_one, directive, entry_of, false, fault_of_all, flat_map, if◌then◌else◌, includes, inl, inr, is_blank, item_of, length, no_items, of_parts, of_rdata, of_statement, of_ttl, one_bare, owned, parts_after, parts_in, refl, rules, sets_origin, sets_ttl, slice_get, state_none, statement_by, statement_of, subst, sym, true, ttl, ttl_among, unknown, unless_stated, unowned, word_after, ℕ, ⊤, ◌++◌, ◌+◌, ◌==◌, ◌∙◌, ◌∷◌, ◌≡◌, ◌≤◌}
 use Rattle.zone_rdata.specs.Item.{bare}
 use Rattle.zone_text.proofs.Entries.Kept.{items_written}
-use Rattle.zone_text.proofs.Heads.WordsLeft.{class_kept, class_pushed, parts_by, ttl_kept, ttl_pushed}
+use Rattle.zone_text.proofs.Heads.WordsLeft.{class_joined, parts_by, ttl_joined}
 
 -- many items, written ones, and those that are kept
 pub record Long (n : ℕ) (items kept : List RawItem) : Type 0 where
@@ -26,7 +26,7 @@ free words = free_one (ttl_among words) + free_one (class_among words)
 
 bare_less : (a b : Bool) (words : List Word) (text : List ℕ) (word : Word) → (if a then unless_stated (ttl_among words) (ttl text) else if b then unless_stated (class_among words) (class text) else None) ≡ Some word → free (words ++ word ∷ []) + 1 ≡ free words
 unfolding free_one
-bare_less a b words text word e = grind (arith, ttl_pushed, class_kept, class_pushed, ttl_kept)
+bare_less a b words text word e = grind (arith, ttl_joined, class_joined)
 
 free_less : (words : List Word) (item : RawItem) (word : Word) → word_after words item ≡ Some word → free (words ++ word ∷ []) + 1 ≡ free words
 free_less words item word e = search (rules, bare_less)

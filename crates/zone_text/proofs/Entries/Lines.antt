@@ -1,5 +1,5 @@
 -- Lines of items, and entries that state every part of a record.
-use Rattle.zone_text.proofs.Common.{HasClass, HasContents, HasValue, IsKind, IsKindWord, IsOwner, States, common_steps, AllByRecursion, AllFollow, Bool, Cuts, Entry, EntryStates, IsItem, IsOrigin, IsToken, Labels, List, MayFollow, None, Parts, Record, Some, StatesWhole, Token, Word, [], begins_with_digit, blank, class, cut_from, depth_after, entries_of, entry_of, false, flat_map, if◌then◌else◌, in_front_of, is_class_word, item_of, line_feed, line_of, owned, parts_after, parts_in, refl, rules, statement_of, text, true, ttl, unless_stated, zero, ℕ, ◌∙◌, ◌∷◌, ◌≡◌, arith}
+use Rattle.zone_text.proofs.Common.{HasClass, HasContents, HasValue, IsKind, IsKindWord, IsOwner, States, common_steps, AllByRecursion, AllFollow, Bool, Cuts, Entry, EntryStates, IsItem, IsOrigin, IsToken, Labels, List, None, Parts, Record, Some, StatesWhole, Token, Word, [], begins_with_digit, class, cut_from, depth_after, entries_of, entry_of, false, flat_map, if◌then◌else◌, is_class_word, item_of, line_of, owned, parts_after, parts_in, refl, rules, statement_of, text, true, ttl, unless_stated, zero, ℕ, ◌∷◌, ◌≡◌, arith}
 use Rattle.zone_rdata.specs.Spelling.{RawItem}
 use Rattle.zone_rdata.specs.Spelling as raw
 use Rattle.zone_text.proofs.Heads.ClassWords.{time_first, class_word_first, class_word_known}
@@ -7,40 +7,28 @@ use Rattle.zone_text.proofs.Heads.WordsLeft.{next_part}
 
 -- ---- the line of items
 
-token_of : (item : Token) → IsItem item → IsToken item
-token_of item is = search rules
-
 each_token : (items : List Token) → AllByRecursion IsItem items → AllByRecursion IsToken (line_of items)
 each_token [] are = (tt, tt)
-each_token (item ∷ []) are = (token_of item are.0, (tt, tt))
-each_token (item ∷ next ∷ items) are = (token_of item are.0, (refl, each_token (next ∷ items) are.1))
-
-item_passed : (item : Token) → IsItem item → MayFollow item (blank 32) × MayFollow item line_feed
-item_passed item is = search rules
+each_token (item ∷ []) are = ((search (rules, are.0)), (tt, tt))
+each_token (item ∷ next ∷ items) are = ((search (rules, are.0)), (refl, each_token (next ∷ items) are.1))
 
 all_follow : (items : List Token) → AllByRecursion IsItem items → AllFollow (line_of items)
 all_follow [] are = tt
-all_follow (item ∷ []) are = ((item_passed item are.0).1, tt)
-all_follow (item ∷ next ∷ items) are = ((item_passed item are.0).0, (search (rules, all_follow (next ∷ items) are.1)))
-
-item_depth : (item : Token) (tokens : List Token) → IsItem item → depth_after zero (item ∷ tokens) ≡ depth_after zero tokens
-item_depth item tokens is = search rules
+all_follow (item ∷ []) are = ((search (rules, are.0)), tt)
+all_follow (item ∷ next ∷ items) are = ((search (rules, are.0)), (search (rules, all_follow (next ∷ items) are.1)))
 
 line_depth : (items : List Token) → AllByRecursion IsItem items → depth_after zero (line_of items) ≡ Some zero
 line_depth [] are = refl
-line_depth (item ∷ []) are = item_depth item (line_feed ∷ []) are.0
-line_depth (item ∷ next ∷ items) are = item_depth item (blank 32 ∷ line_of (next ∷ items)) are.0 ∙ line_depth (next ∷ items) are.1
+line_depth (item ∷ []) are = search (rules, are.0)
+line_depth (item ∷ next ∷ items) are = search (rules, are.0, line_depth (next ∷ items) are.1)
 
 pub line_cut : (items : List Token) → AllByRecursion IsItem items → Cuts (text (line_of items)) (line_of items)
 line_cut items are = search (rules, each_token, all_follow, line_depth)
 
-item_front : (item : Token) (tokens : List Token) → IsItem item → cut_from zero (item ∷ tokens) ≡ in_front_of item (cut_from zero tokens)
-item_front item tokens is = search rules
-
 pub line_ended : (items : List Token) → AllByRecursion IsItem items → cut_from zero (line_of items) ≡ record { ended = line_of items ∷ []; open_tokens = [] }
 line_ended [] are = refl
-line_ended (item ∷ []) are = item_front item (line_feed ∷ []) are.0
-line_ended (item ∷ next ∷ items) are = search (rules, item_front, line_ended (next ∷ items) are.1)
+line_ended (item ∷ []) are = search (rules, are.0)
+line_ended (item ∷ next ∷ items) are = search (rules, are.0, line_ended (next ∷ items) are.1)
 
 pub line_entry : (items : List Token) → AllByRecursion IsItem items → entries_of (line_of items) ≡ entry_of 1 (line_of items) ∷ []
 line_entry items are = search (rules, line_ended)

@@ -1,6 +1,68 @@
--- A record entry whose parts are read in a known state: what it states, or why it is refused.
-use Rattle.zone_text.proofs.Common.{BadTtl, Data, Entry, EntryFault, EntryStates, Fault, HasContents, HasHeadOf, HasOwnerOrNone, HasTtl, Head, IsDataFault, IsLastMinimum, IsLastOwner, IsOneOrNone, IsOwner, IsReadTo, IsRecord, IsRecordEntry, IsStateAfter, IsTtlOrNone, Labels, List, Lower, MatchOption, NoOwner, NoTtl, None, Option, ParserState, RawItem, Record, Some, States, arith, long, minimum, none, of_rdata, of_ttl, option_or, owned, refl, rules, stated_ttl, statement_of, subst, sym, ttl_text, with_owner, ℕ, ◌<◌, ◌∷◌, ◌≡◌}
-use Rattle.zone_text.proofs.Entries.Inheriting.{has_by, minimum_by, none_by, record_leaves, ttl_stated}
+-- The parser state is what the look back over the entries finds: what one entry more leaves, and what
+-- a record entry whose parts are read in a known state states, or why it is refused.
+use Rattle.zone_text.proofs.Common.{BadTtl, Data, Entry, EntryFault, EntryStates, Fault, HasContents, HasHeadOf, HasOwnerOrNone, HasTtl, Head, IsDataFault, IsLastMinimum, IsLastOwner, IsOneOrNone, IsOwner, IsRecord, IsRecordEntry, IsStateAfter, IsTtlOrNone, Labels, List, Lower, MatchOption, NoOwner, NoTtl, None, Option, ParserState, RawItem, Record, Some, States, arith, long, minimum, none, of_rdata, of_ttl, option_or, owned, refl, rules, stated_ttl, statement_of, subst, sym, ttl_text, with_owner, ℕ, ◌<◌, ◌∷◌, ◌≡◌, IsOrigin, IsTime, SetsOrigin, SetsTtl, SpellsAfter, Statement, StatesMinimum, StatesNothing, [], default_ttl_text, inl, inr, latest, owner_text, parts_in, sets_origin, sets_ttl}
+use Rattle.zone_rdata.specs.Item.{bare}
+use Rattle.zone_text.proofs.Entries.EntryOutcome.{states_no_minimum, no_minimum}
+
+-- ---- an entry that is no record
+
+last_minimum : (origin : Labels) (before : List Entry) (entry : Entry) (carried : Option ℕ) → ((seconds : ℕ) → StatesMinimum origin before entry seconds → ⊥) → IsOneOrNone (IsLastMinimum origin before) carried → IsOneOrNone (IsLastMinimum origin (entry ∷ before)) carried
+last_minimum origin before entry None absent so_far = no_minimum origin before entry absent so_far
+last_minimum origin before entry (Some n) absent so_far = inr (absent, so_far)
+
+-- a directive or a blank entry leaves what it does not set
+pub leaves : (origin : Labels) (before : List Entry) (entry : Entry) (form : Statement) (d : ParserState) (name : Labels) (seconds : Option ℕ) → statement_of entry ≡ form → parts_in form ≡ None → owner_text form ≡ None → IsStateAfter origin before d → IsOrigin origin (entry ∷ before) name → IsTtlOrNone (latest default_ttl_text (entry ∷ before)) seconds → IsStateAfter origin (entry ∷ before) (record { origin = name; owner = d.owner; class = d.class; default_ttl = seconds; last_ttl = d.last_ttl; minimum = d.minimum; rdata = d.rdata })
+leaves origin before entry form d name seconds is no_parts no_owner so_far under default = grind arith
+
+-- ---- a record
+
+pub minimum_by : Lower → (origin : Labels) (before : List Entry) (entry : Entry) (owner : Labels) (rdata : Data) (own carried : Option ℕ) → HasContents origin before entry owner rdata → minimum rdata ≡ own → IsOneOrNone (IsLastMinimum origin before) carried → IsOneOrNone (IsLastMinimum origin (entry ∷ before)) (option_or own carried)
+minimum_by lower origin before entry owner rdata (Some n) carried has e so_far = inl (owner, rdata, has, e)
+minimum_by lower origin before entry owner rdata None carried has e so_far = search (rules, last_minimum, states_no_minimum)
+
+-- ---- the TTL of a record
+
+-- the TTL that is stated for a record, by itself or before it
+pub ttl_stated : (origin : Labels) (before : List Entry) (entry : Entry) (d : ParserState) (own : Option ℕ) → IsStateAfter origin before d → IsTtlOrNone (ttl_text (statement_of entry)) own → IsTtlOrNone (stated_ttl before entry) (option_or (option_or own d.default_ttl) d.last_ttl)
+ttl_stated origin before entry d own so_far own_ttl = search rules
+
+pub has_by : (o : Option (List ℕ)) (stated last : Option ℕ) (n : ℕ) (Last : ℕ → Type 0) → IsTtlOrNone o stated → IsOneOrNone Last last → option_or stated last ≡ Some n → MatchOption o (Last n) (λ text. IsTime text n)
+has_by None stated last n Last absent is e = grind arith
+has_by (Some text) None last n Last ttl is e = absurd ttl
+has_by (Some text) (Some m) last n Last ttl is e = let at : m ≡ n = cc in subst (IsTime text) at ttl.time
+
+pub none_by : (o : Option (List ℕ)) (stated last : Option ℕ) (Last : ℕ → Type 0) → IsTtlOrNone o stated → IsOneOrNone Last last → option_or stated last ≡ None → (n : ℕ) → MatchOption o (Last n) (λ text. IsTime text n) → ⊥
+none_by o stated last Last absent is e n has = search rules
+
+-- ---- directives that are read
+
+pub origin_set : (origin : Labels) (before : List Entry) (entry : Entry) (d next : ParserState) (items : List RawItem) → IsStateAfter origin before d → statement_of entry ≡ sets_origin items → SetsOrigin items d next → StatesNothing origin before (statement_of entry) × IsStateAfter origin (entry ∷ before) next
+origin_set origin before entry d next items so_far form sets =
+    let spells : SpellsAfter origin before sets.text next.origin = (d.origin, (so_far.under, sets.spelled)) in
+    let item : items ≡ bare sets.text ∷ [] = grind (arith, sets.item) in
+    let states : StatesNothing origin before (sets_origin items) = rw item (next.origin, spells) in
+    let under : IsOrigin origin (entry ∷ before) next.origin = rw (form, item) spells in
+    (rw form states, rw sets.others (leaves origin before entry (sets_origin items) d next.origin d.default_ttl form refl refl so_far under (search rules)))
+
+pub ttl_set : (origin : Labels) (before : List Entry) (entry : Entry) (d next : ParserState) (items : List RawItem) → IsStateAfter origin before d → statement_of entry ≡ sets_ttl items → SetsTtl items d next → StatesNothing origin before (statement_of entry) × IsStateAfter origin (entry ∷ before) next
+ttl_set origin before entry d next items so_far form sets =
+    let item : items ≡ bare sets.text ∷ [] = grind (arith, sets.item) in
+    let states : StatesNothing origin before (sets_ttl items) = rw item (sets.seconds, sets.ttl) in
+    let default : IsTtlOrNone (latest default_ttl_text (entry ∷ before)) (Some sets.seconds) = rw (form, item) (sets.ttl) in
+    (rw form states, rw sets.others (leaves origin before entry (sets_ttl items) d d.origin (Some sets.seconds) form refl refl so_far (rw form (so_far.under)) default))
+
+-- a record entry up to its data, and the TTL that is looked for
+pub record IsReadTo (origin : Labels) (before : List Entry) (entry : Entry) (d : ParserState)
+    (head : Head) (own : Option ℕ) (rdata : Data) (last found : Option ℕ) : Type 0 where
+  pub held : Option Labels
+  pub state : IsStateAfter origin before (with_owner held d)
+  pub has : HasHeadOf origin before entry head
+  pub own_ttl : IsTtlOrNone (ttl_text (statement_of entry)) own
+  pub class : rdata.class ≡ head.class
+  pub kind : rdata.kind ≡ head.kind
+  pub states : States d.origin head.class head.kind head.items rdata.octets
+  pub least : last ≡ option_or (minimum rdata) d.minimum
+  pub ttl : found ≡ option_or (option_or (option_or own d.default_ttl) d.last_ttl) last
 
 -- ---- the owner
 
@@ -51,4 +113,8 @@ states_record lower origin before entry d head own rdata last n r is e fits =
     })
 
 pub record_left : Lower → (origin : Labels) (before : List Entry) (entry : Entry) (d next : ParserState) (head : Head) (own : Option ℕ) (rdata : Data) (last found : Option ℕ) (owner : Option Labels) → IsReadTo origin before entry d head own rdata last found → next.origin ≡ d.origin → next.class ≡ head.class → next.default_ttl ≡ d.default_ttl → next.last_ttl ≡ option_or own d.last_ttl → next.minimum ≡ last → IsOneOrNone (IsLastOwner origin (entry ∷ before)) owner → IsStateAfter origin (entry ∷ before) (with_owner owner next)
-record_left lower origin before entry d next head own rdata last found owner is above class default_ttl last_ttl least owner_is = grind (arith, record_leaves origin before entry (with_owner is.held d) next head own owner is.state is.has is.own_ttl above class default_ttl last_ttl (subst (IsOneOrNone (IsLastMinimum origin (entry ∷ before))) (sym least) (last_is lower origin before entry d head own rdata last found is)) owner_is)
+record_left lower origin before entry d next head own rdata last found owner is above class default_ttl last_ttl least owner_is =
+    let minimum_is : IsOneOrNone (IsLastMinimum origin (entry ∷ before)) next.minimum = rw least (last_is lower origin before entry d head own rdata last found is) in
+    let state = is.state in
+    let has = is.has in
+    search (rules, is.own_ttl)

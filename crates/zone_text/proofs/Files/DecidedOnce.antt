@@ -3,8 +3,7 @@ use Rattle.zone_text.proofs.Common.{BreaksForGood, Ending, FileDecides, List, Lo
 use Rattle.zone_text.proofs.Entries.Begun.{no_tokens}
 use Rattle.zone_text.proofs.Tokens.CutAgain.{joined, cut_again, cut_whole, and_last_after}
 use Rattle.zone_text.proofs.Tokens.Cuttings.{cut_not_broken}
-use Rattle.zone_text.proofs.Files.Decides.{tokens_of, broken_once}
-use Rattle.zone_text.proofs.Files.OneFile.{reads_once}
+use Rattle.zone_text.proofs.Files.Decides.{tokens_of, broken_once, reads_once}
 use Rattle.zone_text.proofs.Files.Left.{numbered_then}
 
 pub decided_once : Lower → (origin : List (List ℕ)) (octets : List ℕ) (a b : List Placed) (e f : Ending) → FileDecides origin octets a e → FileDecides origin octets b f → (a ≡ b) × (e ≡ f)

@@ -1,15 +1,54 @@
--- What is decided of a prefix stays, whatever octets follow it.
-use Rattle.zone_text.proofs.Common.{AreTokens, Breaks, Cuts, Ending, Entry, Fault, FileDecides, FileReads, Line, List, Lower, None, Placed, ReadEach, Some, Stays, Token, [], and_last, ap, append-nil, append_assoc, broken, cut_from, decided, ended_entries, entries_of, inl, inr, open_line, refused, rules, stated, states_none, states_one, sym, text, undecided, whole, zero, ℕ, ◌++◌, ◌∙◌, ◌∷◌, ◌≡◌, arith}
+-- A file states one list of records at most, and has one reading at most; the two agree. What is
+-- decided of a prefix stays, whatever octets follow it.
+use Rattle.zone_text.proofs.Common.{AreTokens, Cuts, Ending, Entry, FileDecides, FileReads, List, Lower, None, Placed, ReadEach, Stays, Token, [], and_last, ap, append-nil, append_assoc, broken, cut_from, decided, ended_entries, entries_of, inl, inr, refused, rules, stated, states_none, states_one, sym, text, undecided, whole, zero, ℕ, ◌++◌, ◌∙◌, ◌∷◌, ◌≡◌, arith, Breaks, Fault, EntriesState, FileStates, Line, Some, open_line, refl, subst}
 use Rattle.zone_text.proofs.Tokens.Cuttings.{one_cut, one_break, cut_not_broken, cut_or_broken}
 use Rattle.zone_text.proofs.Tokens.Lasting.{cut_joined, break_joined, cut_parted, break_parted, breaks_for_good}
 use Rattle.zone_text.proofs.Tokens.CutAgain.{joined, cut_whole, cut_ended, cut_again, ended_at_zero, and_last_after, numbered_front}
 use Rattle.zone_text.proofs.Entries.Entered.{record_once, fault_once, record_or_fault, nothing_or_record, nothing_or_fault}
-use Rattle.zone_text.proofs.Files.OneFile.{reads_once}
+
+-- the readings of entries
+
+pub reads_once : Lower → (origin : List (List ℕ)) (after : Ending) (before entries : List Entry) (a b : List Placed) (e f : Ending) → ReadEach origin after before entries a e → ReadEach origin after before entries b f → (a ≡ b) × (e ≡ f)
+reads_once lower origin after before [] a b e f x y = (x.0 ∙ sym y.0, x.1 ∙ sym y.1)
+reads_once lower origin after before (entry ∷ entries) a b e f (stated (states_none n xs)) y = grind (arith, reads_once lower origin after (entry ∷ before) entries a b e f xs, nothing_or_record origin before entry, nothing_or_fault lower origin before entry)
+reads_once lower origin after before (entry ∷ entries) a b e f (stated (states_one p more r at w xs)) (stated (states_none m ys)) = absurd (nothing_or_record origin before entry p.rr m r)
+reads_once lower origin after before (entry ∷ entries) a b e f (stated (states_one p more r at w xs)) (stated (states_one q others s place v ys)) = grind (arith, reads_once lower origin after (entry ∷ before) entries more others e f xs ys, record_once lower origin before entry p.rr q.rr r s)
+reads_once lower origin after before (entry ∷ entries) a b e f (stated (states_one p more r at w xs)) (refused fault h u v) = absurd (record_or_fault lower origin before entry p.rr fault r h)
+reads_once lower origin after before (entry ∷ entries) a b e f (refused fault h u v) (stated (states_none m ys)) = absurd (nothing_or_fault lower origin before entry fault m h)
+reads_once lower origin after before (entry ∷ entries) a b e f (refused fault h u v) (stated (states_one q others s place w ys)) = absurd (record_or_fault lower origin before entry q.rr fault s h)
+reads_once lower origin after before (entry ∷ entries) a b e f (refused fault h u v) (refused other k s t) = grind (arith, fault_once lower origin before entry fault other h k)
+
+pub broken_once : Lower → (origin : List (List ℕ)) (octets : List ℕ) (tokens all : List Token) (fault other : Fault) (a b : List Placed) (e f : Ending) → Breaks octets tokens fault → Breaks octets all other → ReadEach origin (Some (fault, Line (open_line tokens))) [] (ended_entries tokens) a e → ReadEach origin (Some (other, Line (open_line all))) [] (ended_entries all) b f → (a ≡ b) × (e ≡ f)
+broken_once lower origin octets tokens all fault other a b e f x y xs ys = grind (arith, one_break octets tokens all fault other x y, one_break, reads_once)
+
+pub file_reads_once : Lower → (origin : List (List ℕ)) (octets : List ℕ) (a b : List Placed) (e f : Ending) → FileReads origin octets a e → FileReads origin octets b f → (a ≡ b) × (e ≡ f)
+file_reads_once lower origin octets a b e f (whole ps cut xs) (whole qs other ys) =
+    reads_once lower origin None [] (entries_of qs) a b e f (subst (λ p. ReadEach origin None [] (entries_of p) a e) (one_cut octets ps qs cut other) xs) ys
+file_reads_once lower origin octets a b e f (whole ps cut xs) (broken qs fault breaks ys) = absurd (cut_not_broken octets ps qs fault cut breaks)
+file_reads_once lower origin octets a b e f (broken ps fault breaks xs) (whole qs cut ys) = absurd (cut_not_broken octets qs ps fault cut breaks)
+file_reads_once lower origin octets a b e f (broken ps fault breaks xs) (broken qs other more ys) =
+    broken_once lower origin octets ps qs fault other a b e f breaks more xs ys
+
+-- what is stated is read with no fault, and the other way
+
+pub states_read : (origin : List (List ℕ)) (before entries : List Entry) (placed : List Placed) → EntriesState origin before entries placed → ReadEach origin None before entries placed None
+states_read origin before [] placed x = (x, refl)
+states_read origin before (entry ∷ entries) placed (states_none n xs) = stated (states_none n (states_read origin (entry ∷ before) entries placed xs))
+states_read origin before (entry ∷ entries) placed (states_one p more r at e xs) = stated (states_one p more r at e (states_read origin (entry ∷ before) entries more xs))
+
+pub read_states : (origin : List (List ℕ)) (after : Ending) (before entries : List Entry) (placed : List Placed) (ending : Ending) → ending ≡ None → ReadEach origin after before entries placed ending → EntriesState origin before entries placed × (after ≡ None)
+read_states origin after before [] placed ending e x = (x.0, sym x.1 ∙ e)
+read_states origin after before (entry ∷ entries) placed ending e (stated (states_none n xs)) = grind (arith, read_states origin after (entry ∷ before) entries placed ending e xs)
+read_states origin after before (entry ∷ entries) placed ending e (stated (states_one p more r at w xs)) = search (rules, read_states origin after (entry ∷ before) entries more ending e xs, states_one)
+read_states origin after before (entry ∷ entries) placed ending e (refused fault h u v) = absurd cc
+
+pub file_states_read : (origin : List (List ℕ)) (octets : List ℕ) (placed : List Placed) → FileStates origin octets placed → FileReads origin octets placed None
+file_states_read origin octets placed x = whole x.tokens x.cut (states_read origin [] (entries_of x.tokens) placed x.each)
+
+pub file_reads_state : (origin : List (List ℕ)) (octets : List ℕ) (placed : List Placed) → FileReads origin octets placed None → FileStates origin octets placed
+file_reads_state origin octets placed given = grind (arith, read_states)
 
 -- ---- the readings of entries and of the same with others after them
-
-stays_on : (p q : Placed) (a b more others : List Placed) (e f : Ending) → p.rr ≡ q.rr → p.place ≡ q.place → a ≡ p ∷ more → b ≡ q ∷ others → Stays more e others f → Stays a e b f
-stays_on p q a b more others e f rr place x y stays = search rules
 
 pub reads_on : Lower → (origin : List (List ℕ)) (after : Ending) (before entries others : List Entry) (a b : List Placed) (e f : Ending) → ReadEach origin None before entries a e → ReadEach origin after before (entries ++ others) b f → Stays a e b f
 reads_on lower origin after before [] others a b e f x y = record {
@@ -19,7 +58,7 @@ reads_on lower origin after before [] others a b e f x y = record {
 }
 reads_on lower origin after before (entry ∷ entries) others a b e f (stated (states_none n xs)) y = grind (arith, reads_on lower origin after (entry ∷ before) entries others a b e f xs, nothing_or_record origin before entry, nothing_or_fault lower origin before entry)
 reads_on lower origin after before (entry ∷ entries) others a b e f (stated (states_one p more r at w xs)) (stated (states_none m ys)) = absurd (nothing_or_record origin before entry p.rr m r)
-reads_on lower origin after before (entry ∷ entries) others a b e f (stated (states_one p more r at w xs)) (stated (states_one q left s place v ys)) = grind (arith, reads_on lower origin after (entry ∷ before) entries others more left e f xs ys, stays_on p q a b more left e f (record_once lower origin before entry p.rr q.rr r s) (at ∙ sym place) w v (reads_on lower origin after (entry ∷ before) entries others more left e f xs ys))
+reads_on lower origin after before (entry ∷ entries) others a b e f (stated (states_one p more r at w xs)) (stated (states_one q left s place v ys)) = grind (arith, reads_on lower origin after (entry ∷ before) entries others more left e f xs ys, record_once lower origin before entry p.rr q.rr r s)
 reads_on lower origin after before (entry ∷ entries) others a b e f (stated (states_one p more r at w xs)) (refused fault h u v) = absurd (record_or_fault lower origin before entry p.rr fault r h)
 reads_on lower origin after before (entry ∷ entries) others a b e f (refused fault h u v) (stated (states_none m ys)) = absurd (nothing_or_fault lower origin before entry fault m h)
 reads_on lower origin after before (entry ∷ entries) others a b e f (refused fault h u v) (stated (states_one q more s place w ys)) = absurd (record_or_fault lower origin before entry q.rr fault s h)
@@ -51,14 +90,11 @@ tokens_of octets all other (inl x) (inr (fault, y)) = search (rules, cut_not_bro
 tokens_of octets all other (inr (fault, x)) (inl y) = search (rules, cut_not_broken)
 tokens_of octets all other (inr (fault, x)) (inr (another, y)) = (one_break octets all other fault another x y).0
 
-joined_tokens : (front rest : List ℕ) (tokens : List Token) → Cuts front (joined (cut_from zero tokens).ended) → (others : List Token) × AreTokens (front ++ rest) (joined (cut_from zero tokens).ended ++ others)
-joined_tokens front rest tokens cut =
-    grind (arith, cut_or_broken rest, cut_joined front rest, break_joined front rest, (cut_ended zero tokens).ends)
-
 pub goes_on : (octets more : List ℕ) (tokens all : List Token) → AreTokens octets tokens → AreTokens (octets ++ more) all → GoesOn tokens all
 goes_on octets more tokens all x y =
     let front = parted octets tokens x in
-    let after = joined_tokens (text (joined (cut_from zero tokens).ended)) (front.rest ++ more) tokens front.front in
+    let ended : List Token = joined (cut_from zero tokens).ended in
+    let after : (others : List Token) × AreTokens (text ended ++ (front.rest ++ more)) (ended ++ others) = grind (arith, cut_or_broken (front.rest ++ more), cut_joined (text ended) (front.rest ++ more), break_joined (text ended) (front.rest ++ more), (cut_ended zero tokens).ends, front.front) in
     let split : octets ++ more ≡ text (joined (cut_from zero tokens).ended) ++ (front.rest ++ more) = ap (λ t. t ++ more) front.parted ∙ append_assoc (text (joined (cut_from zero tokens).ended)) front.rest more in
     (after.0, tokens_of (octets ++ more) all (joined (cut_from zero tokens).ended ++ after.0) y (rw split (after.1)))
 
@@ -78,9 +114,6 @@ entries_on tokens all (others, e) =
 -- the same reading stays
 same_stays : (a b : List Placed) (e f : Ending) → (a ≡ b) × (e ≡ f) → Stays a e b f
 same_stays a b e f same = search rules
-
-pub broken_once : Lower → (origin : List (List ℕ)) (octets : List ℕ) (tokens all : List Token) (fault other : Fault) (a b : List Placed) (e f : Ending) → Breaks octets tokens fault → Breaks octets all other → ReadEach origin (Some (fault, Line (open_line tokens))) [] (ended_entries tokens) a e → ReadEach origin (Some (other, Line (open_line all))) [] (ended_entries all) b f → (a ≡ b) × (e ≡ f)
-broken_once lower origin octets tokens all fault other a b e f x y xs ys = grind (arith, one_break octets tokens all fault other x y, one_break, reads_once)
 
 module _ (lower : Lower) (origin : List (List ℕ)) (octets : List ℕ) where
   -- nothing was decided but of the ended entries, and others follow them

@@ -6,9 +6,8 @@ use Rattle.zone_text.proofs.Files.Left.{line_feeds, numbered_then, IsSplit, spli
 use Rattle.zone_text.proofs.Scanning.Scanned.{goes_on as scan_goes_on, ends_entry, stays_open, at_end}
 use Rattle.zone_text.proofs.Tokens.Cuttings.{cut_or_broken}
 use Rattle.zone_text.proofs.Tokens.Lasting.{breaks_for_good}
-use Rattle.zone_text.proofs.Files.Decides.{tokens_of, goes_on, ended_on}
+use Rattle.zone_text.proofs.Files.Decides.{tokens_of, goes_on, ended_on, read_states}
 use Rattle.zone_text.proofs.Tokens.ForGood.{break_stays_or_ends, ends_not_for_good}
-use Rattle.zone_text.proofs.Files.OneFile.{read_states}
 
 -- what is read of ended entries, the first of them on line 1
 abbrev pub ReadsEnded : List (List ℕ) → Ending → List (List Token) → List Placed → Ending → Type 0
@@ -61,14 +60,13 @@ reads_so_far origin fed tokens placed (decided others fault good read) is = absu
 
 pub is_read : (origin : Labels) (entries : EndedEntries) (unfinished fed : List ℕ) (given : List Placed) → entries.decided.ending ≡ None → Follow origin entries unfinished fed given → (ended : List (List Token)) × IsRead origin ended entries unfinished fed given
 is_read origin entries unfinished fed given none follow =
-    let leave : FileLeaves origin fed entries.state entries.line unfinished = follow.leave none in
-    let found : FileDecides origin fed (given ++ entries.decided.placed) None = subst (λ e. FileDecides origin fed (given ++ entries.decided.placed) e) none follow.decided in (
+    let leave : FileLeaves origin fed entries.state entries.line unfinished = follow.leave none in (
       (cut_from zero leave.octets.tokens).ended,
       record {
         parts = split fed leave.octets.tokens unfinished leave.octets.are leave.octets.whole;
         state = leave.inherited;
         line = leave.numbered;
-        read = reads_so_far origin fed leave.octets.tokens (given ++ entries.decided.placed) found leave.octets.are;
+        read = reads_so_far origin fed leave.octets.tokens (given ++ entries.decided.placed) (rw none at follow.decided) leave.octets.are;
       },
     )
 
@@ -109,14 +107,12 @@ follow_on origin entries at unfinished part fed given scanned none follow =
 
 -- ---- an entry is ended
 
-line_more : (ended : List (List Token)) (tokens : List Token) → line_after (ended ++ tokens ∷ []) ≡ line_after ended + line_feeds (text tokens)
-line_more ended tokens = grind (arith, common_steps)
-
 -- what is left once an entry is ended that isn't refused
 left_over : (origin : Labels) (ended : List (List Token)) (old new : EndedEntries) (unfinished part fed : List ℕ) (given : List Placed) (tokens : List Token) → IsRead origin ended old unfinished fed given → IsOneEntry (unfinished ++ part) tokens → ReadsEntry origin (reverse (numbered 1 ended)) tokens old new → new.decided.ending ≡ None → FileLeaves origin (fed ++ part) new.state new.line []
 left_over origin ended old new unfinished part fed given tokens is one read none =
     let all : (cut_from zero (joined ended ++ tokens)).ended ≡ ended ++ tokens ∷ [] = one_ended ended tokens is.parts.stays one.ended in
     let octets : fed ++ part ≡ flat_map text (ended ++ tokens ∷ []) ++ [] = grind (arith, common_steps, joined, one_ended, whole_after, flat_map_more, append-nil, cut_more, numbered_then) in
+    let lines : line_after (ended ++ tokens ∷ []) ≡ line_after ended + line_feeds (text tokens) = grind (arith, common_steps) in
     record {
       octets = record {
         tokens = joined ended ++ tokens;
@@ -124,7 +120,7 @@ left_over origin ended old new unfinished part fed given tokens is one read none
         whole = octets ∙ ap (λ t. flat_map text t ++ []) (sym all);
       };
       inherited = subst (λ (t : List Entry). IsStateAfter origin t new.state) (ap (λ n. entry_of n tokens ∷ reverse (numbered 1 ended)) is.line ∙ sym (ap reverse (numbered_then 1 ended (tokens ∷ [])) ∙ (reverse-append (numbered 1 ended) ((entry_of (line_after ended) tokens) ∷ []))) ∙ ap (λ t. reverse (numbered 1 t)) (sym all)) (read.state none);
-      numbered = read.line none ∙ ap (λ n. n + line_feeds (text tokens)) is.line ∙ sym (line_more ended tokens) ∙ ap line_after (sym all);
+      numbered = read.line none ∙ ap (λ n. n + line_feeds (text tokens)) is.line ∙ sym lines ∙ ap line_after (sym all);
     }
 
 pub follow_one : (origin : Labels) (old new : EndedEntries) (unfinished part fed : List ℕ) (given : List Placed) (tokens : List Token) → IsOneEntry (unfinished ++ part) tokens → old.decided.ending ≡ None → ReadsOctets (unfinished ++ part) old new → Follow origin old unfinished fed given → Follow origin new [] (fed ++ part) given

@@ -1,5 +1,5 @@
 -- What octets leave of a file: the entries that line feeds have ended, and the octets after them.
-use Rattle.zone_text.proofs.Common.{AreTokens, Breaks, BreaksAtEnd, BreaksForGood, Cuts, Ending, Entry, Fault, List, None, Place, Placed, ReadEach, Some, StaysBroken, Token, [], add-zero, add_assoc, and_last, ap, append-nil, append_assoc, arith, common_steps, count_by, cut_from, ended_entries, entries_of, flat_map, flat_map-append, inl, inr, numbered, refl, refused, reverse, rules, stated, states_none, states_one, subst, sum_by-append, sym, text, zero, ℕ, ◌++◌, ◌+◌, ◌==◌, ◌∙◌, ◌∷◌, ◌≡◌, ◌⊎◌}
+use Rattle.zone_text.proofs.Common.{AreTokens, Breaks, BreaksForGood, Cuts, Ending, Entry, Fault, List, None, Place, Placed, ReadEach, Some, Token, [], add-zero, add_assoc, and_last, ap, append-nil, append_assoc, arith, common_steps, count_by, cut_from, ended_entries, entries_of, flat_map, flat_map-append, inl, inr, numbered, refl, refused, reverse, rules, stated, states_none, states_one, subst, sum_by-append, sym, text, zero, ℕ, ◌++◌, ◌+◌, ◌==◌, ◌∙◌, ◌∷◌, ◌≡◌}
 use Rattle.zone_text.proofs.Tokens.Cuttings.{cut_not_broken}
 use Rattle.zone_text.proofs.Tokens.Lasting.{cut_joined, break_joined}
 use Rattle.zone_text.proofs.Tokens.CutAgain.{joined, AreEnded, cut_ended, again_zero, cut_whole, numbered_front}
@@ -101,13 +101,12 @@ module _ (fed more : List ℕ) (ended : List (List Token)) (unfinished : List �
 pub none_cut : (octets : List ℕ) (tokens : List Token) → Cuts octets tokens → (fault : Fault) → BreaksForGood octets tokens fault → ⊥
 none_cut octets tokens cut fault good = cut_not_broken octets tokens tokens fault cut good.breaks
 
-none_broken : (fed more : List ℕ) (ended : List (List Token)) (unfinished : List ℕ) (tokens : List Token) (fault : Fault) (breaks : Breaks (unfinished ++ more) tokens fault) → IsSplit fed ended unfinished → ((other : Fault) → BreaksForGood (unfinished ++ more) tokens other → ⊥) → StaysBroken breaks.rest ⊎ BreaksAtEnd breaks.rest → (other : Fault) → BreaksForGood (fed ++ more) (joined ended ++ tokens) other → ⊥
-none_broken fed more ended unfinished tokens fault breaks is none (inl stays) other good = none fault (record { breaks = breaks; stays = stays })
-none_broken fed more ended unfinished tokens fault breaks is none (inr ends) other good = search (rules, ends_not_for_good, joined, after_tokens)
-
 pub none_more : (fed more : List ℕ) (ended : List (List Token)) (unfinished : List ℕ) (tokens : List Token) → IsSplit fed ended unfinished → AreTokens (unfinished ++ more) tokens → ((fault : Fault) → BreaksForGood (unfinished ++ more) tokens fault → ⊥) → (fault : Fault) → BreaksForGood (fed ++ more) (joined ended ++ tokens) fault → ⊥
 none_more fed more ended unfinished tokens is (inl cut) none fault good = search (rules, none_cut, joined, cut_more)
-none_more fed more ended unfinished tokens is (inr found) none fault good = grind (arith, none_broken fed more ended unfinished tokens found.0 found.1 is none (break_stays_or_ends (unfinished ++ more) tokens found.0 found.1) fault good)
+none_more fed more ended unfinished tokens is (inr (first, breaks)) none fault good = elim (break_stays_or_ends (unfinished ++ more) tokens first breaks) [
+  | inl stays ↦ none first (record { breaks = breaks; stays = stays })
+  | inr ends ↦ search (rules, ends_not_for_good, joined, after_tokens)
+]
 
 -- ---- the entries of those tokens
 

@@ -17,16 +17,10 @@ stands_begun origin ended unfinished follow = record {
   read = λ e. absurd cc;
 }
 
-follow_of : (origin : Labels) (status : FedStatus) (n : ℕ) (ended : EndedEntries) (unfinished fed : List ℕ) (given : List Placed) → is_finished status ≡ false → StandsForFile origin (state_of status n ended unfinished) fed given → Follow origin ended unfinished fed given
-follow_of origin status n ended unfinished fed given going stands = record {
-  decided = stands.decided going;
-  leave = stands.leave going;
-}
-
 -- a piece more
 pub stands_more : (origin : Labels) (status : FedStatus) (n more : ℕ) (old new : EndedEntries) (unfinished left part fed : List ℕ) (given : List Placed) → is_finished status ≡ false → Bytes part → more ≡ n + length part → FollowsOn old unfinished new left part → StandsForFile origin (state_of status n old unfinished) fed given → StandsForFile origin (state_of status more new left) (fed ++ part) given
 stands_more origin status n more old new unfinished left part fed given going each count on stands =
-    let follow : Follow origin new left (fed ++ part) given = on origin fed given (follow_of origin status n old unfinished fed given going stands) in
+    let follow : Follow origin new left (fed ++ part) given = on origin fed given (record { decided = stands.decided going; leave = stands.leave going }) in
     record {
       works = stands.works;
       octets = bytes_append fed part stands.octets each;
@@ -44,7 +38,7 @@ stands_finished origin status n old new unfinished left fed given going reads st
   count = stands.count;
   decided = λ e. absurd cc;
   leave = λ e. absurd cc;
-  read = λ _. reads origin fed given (follow_of origin status n old unfinished fed given going stands);
+  read = λ _. reads origin fed given (record { decided = stands.decided going; leave = stands.leave going });
 }
 
 -- ---- the whole file

@@ -1,7 +1,7 @@
 -- The words of classes among items, the digits with which a time begins, and the words of
 -- directives.
 use Rattle.std.proofs.Common.{IsTrue, ◌↔◌}
-use Rattle.zone_text.proofs.Common.{AllByRecursion, Bool, Group, IsClassWord, IsDecimal, IsNumbered, IsTime, IsTimeGroup, List, None, Option, Some, [], and_parts, ap, append_assoc, are_digits, arith, begins_with_digit, by_mnemonic, by_number, bytes_eq, bytes_eq-Decides, codes, decimal_value, drop, drop-append_seam, false, flat_map, folded_label, folded_octet, group_text, inl, inr, is_class_word, is_digit, is_some, length, length-map, list_all, map-append, or_cases, refl, rules, sym, take, take-append-drop, take-map, true, ℕ, ◌&&◌, ◌++◌, ◌<◌, ◌∙◌, ◌∷◌, ◌≡◌}
+use Rattle.zone_text.proofs.Common.{AllByRecursion, append-nil, Bool, Group, IsClassWord, IsNumbered, IsTime, IsTimeGroup, List, None, Option, Some, [], and_parts, ap, append_assoc, are_digits, arith, begins_with_digit, by_mnemonic, by_number, bytes_eq, bytes_eq-Decides, codes, decimal_value, drop, drop-append_seam, false, flat_map, folded_label, folded_octet, group_text, inl, inr, is_class_word, is_digit, is_some, length, length-map, list_all, map-append, or_cases, refl, rules, sym, take, take-append-drop, take-map, true, ℕ, ◌&&◌, ◌++◌, ◌<◌, ◌∙◌, ◌∷◌, ◌≡◌}
 use Rattle.std.proofs.Math.Bool.{or-true}
 use Rattle.zone_rdata.specs.Table.{classes, number_among}
 use Rattle.zone_rdata.proofs.Words.OneWord.{class_number}
@@ -23,13 +23,12 @@ pub class_word_known : (word : List ℕ) (n : ℕ) → IsClassWord word n → is
 class_word_known word n (by_mnemonic is) = rw (class_number word n is) refl
 class_word_known word n (by_number is) = numbered_word word n is
 
-first_folded : (word : List ℕ) → begins_with_digit (folded_label word) ≡ begins_with_digit word
-first_folded word = search rules
-
 -- and begins with no digit
 pub class_word_first : (word : List ℕ) (n : ℕ) → IsClassWord word n → begins_with_digit word ≡ false
 class_word_first word n (by_mnemonic is) = search rules
-class_word_first word n (by_number is) = sym (first_folded word) ∙ (rw (is.parts, map-append, is.named) refl)
+class_word_first word n (by_number is) =
+    let same : begins_with_digit (folded_label word) ≡ begins_with_digit word = search rules in
+    sym same ∙ (rw (is.parts, map-append, is.named) refl)
 
 digits_first : (text rest : List ℕ) → 0 < length text → AllByRecursion (λ c. is_digit c ≡ true) text → begins_with_digit (text ++ rest) ≡ true
 digits_first [] rest some each = absurd (omega arith)
@@ -39,21 +38,15 @@ groups_first : (groups : List Group) → 0 < length groups → AllByRecursion Is
 groups_first [] some each = absurd (omega arith)
 groups_first (g ∷ groups) some each = search (rules, append_assoc, digits_first)
 
-decimal_first : (text : List ℕ) (n : ℕ) → IsDecimal text n → begins_with_digit text ≡ true
-decimal_first text n is = search rules
-
 -- a time begins with a digit
 pub time_first : (text : List ℕ) (n : ℕ) → IsTime text n → begins_with_digit text ≡ true
-time_first text n h = search (rules, decimal_first, groups_first)
+time_first text n h = grind (arith, groups_first, digits_first text [], append-nil)
 
 -- what is taken for a class word is one
 
 each_digit : (text : List ℕ) → list_all is_digit text ≡ true → AllByRecursion (λ c. is_digit c ≡ true) text
 each_digit [] e = tt
 each_digit (c ∷ text) e = let both = and_parts (is_digit c) (list_all is_digit text) e in (both.0, each_digit text both.1)
-
-digits_all : (text : List ℕ) → are_digits text ≡ true → (0 < length text) × AllByRecursion (λ c. is_digit c ≡ true) text
-digits_all text e = grind (arith, and_parts, each_digit)
 
 named_class : (text : List ℕ) (found : Option ℕ) → number_among classes text ≡ found → is_some found ≡ true → (m : ℕ) × IsClassWord text m
 named_class text (Some n) e some = (n, by_mnemonic (number_is classes refl text n e))
@@ -62,7 +55,7 @@ named_class text None e some = absurd cc
 numbered_class : (text : List ℕ) → (bytes_eq (take 5 (folded_label text)) (codes "class") && are_digits (drop 5 text)) ≡ true → (m : ℕ) × IsClassWord text m
 numbered_class text e =
     let both = and_parts (bytes_eq (take 5 (folded_label text)) (codes "class")) (are_digits (drop 5 text)) e in
-    let digits = digits_all (drop 5 text) both.1 in (
+    let digits : (0 < length (drop 5 text)) × AllByRecursion (λ c. is_digit c ≡ true) (drop 5 text) = grind (arith, and_parts, each_digit, both.1) in (
       decimal_value (drop 5 text),
       by_number (record {
         front = take 5 text;

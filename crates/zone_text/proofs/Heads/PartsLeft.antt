@@ -1,6 +1,6 @@
 -- The words before a record's type as they are written, found from the left.
 use Rattle.zone_text.proofs.Common.{arith, common_steps, AllByRecursion, HasValue, HaveTexts, IfSome, IsSomeAnd, List, None, Option, RawItem, Some, Word, [], ap, class, class_among, parts_after, refl, subst, sym, ttl, ttl_among, word_after, map, raw, ◌++◌, ◌∷◌, ◌≡◌}
-use Rattle.zone_text.proofs.Heads.WordsLeft.{class_kept, class_pushed, next_part, parts_by, ttl_kept, ttl_pushed}
+use Rattle.zone_text.proofs.Heads.WordsLeft.{class_joined, next_part, parts_by, ttl_joined}
 use Rattle.zone_text.specs.PartsIn.{ArePartsIn}
 use Rattle.zone_text.specs.declared.parts.RecordParts.{RecordParts}
 use Rattle.zone_text.specs.declared.parts.WordTexts.{WordTexts}
@@ -32,7 +32,7 @@ abbrev AreAll : List Word → Type 0
 AreAll words = HasTtl words → HasClass words → AllByRecursion HasValue words
 
 all_word : (words : List Word) (item : RawItem) (word : Word) → word_after words item ≡ Some word → AreAll words → AreAll (words ++ word ∷ [])
-all_word words item word e all = grind (arith, common_steps, ttl_pushed, class_kept, class_pushed, ttl_kept)
+all_word words item word e all = grind (arith, common_steps, ttl_joined, class_joined)
 
 all_by : (words : List Word) (item : RawItem) (items : List RawItem) (o : Option Word) → word_after words item ≡ o → AreAll words → ((word : Word) → AreAll (words ++ word ∷ []) → AreAll (parts_after (words ++ word ∷ []) items).words) → AreAll (parts_after words (item ∷ items)).words
 all_by words item items None e all goes = subst (λ p. AreAll p.words) (sym (next_part words item items None e)) all

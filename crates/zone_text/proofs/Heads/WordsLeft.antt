@@ -1,39 +1,31 @@
 -- The words before a record's type, read from the left.
 use Rattle.zone_rdata.proofs.Numbers.TimeLaws.{one_time}
-use Rattle.zone_text.proofs.Common.{AllByRecursion, AllByRecursion-append, AreWordsOf, Bool, Entry, EntryFault, Fault, HasHead, HasValue, HaveValues, IsClass, IsClassWord, IsKind, IsKindWord, IsRecordEntry, IsSomeAnd, IsTime, IsTtl, IsWordFault, Item, Labels, List, None, NothingIs, Option, ParserState, Parts, PartsFault, RawItem, Some, UnknownType, Word, WordFault, Words, [], add-one, ap, append-nil, append_assoc, arith, begins_with_digit, class, class_among, drop, drop-cons, drop-map, false, get_or, inr, is_class_word, is_some, length, map, min, of_parts, parts_after, raw, refl, rules, subst, sym, true, ttl, ttl_among, unwrap_or, word_after, ℕ, ◌++◌, ◌+◌, ◌<◌, ◌∙◌, ◌∷◌, ◌≡◌, ◌≤◌}
+use Rattle.zone_text.proofs.Common.{option_or, AllByRecursion, AllByRecursion-append, AreWordsOf, Bool, Entry, EntryFault, Fault, HasHead, HasValue, HaveValues, IsClass, IsClassWord, IsKind, IsKindWord, IsRecordEntry, IsSomeAnd, IsTime, IsTtl, IsWordFault, Item, Labels, List, None, NothingIs, Option, ParserState, Parts, PartsFault, RawItem, Some, UnknownType, Word, WordFault, Words, [], add-one, ap, append-nil, append_assoc, arith, begins_with_digit, class, class_among, drop, drop-cons, drop-map, false, get_or, inr, is_class_word, is_some, length, map, min, of_parts, parts_after, raw, refl, rules, subst, sym, true, ttl, ttl_among, unwrap_or, word_after, ℕ, ◌++◌, ◌+◌, ◌<◌, ◌∙◌, ◌∷◌, ◌≡◌, ◌≤◌}
 use Rattle.zone_rdata.specs.Item.{bare}
 use Rattle.zone_text.proofs.Heads.ClassWords.{class_word_of, class_word_known}
 
 -- ---- one word more
 
-pub ttl_pushed : (words : List Word) (text : List ℕ) → is_some (ttl_among words) ≡ false → ttl_among (words ++ ttl text ∷ []) ≡ Some text
-ttl_pushed [] text none = refl
-ttl_pushed (word ∷ words) text none = grind (arith, ttl_pushed words text)
+pub ttl_joined : (words more : List Word) → ttl_among (words ++ more) ≡ option_or (ttl_among words) (ttl_among more)
+ttl_joined [] more = refl
+ttl_joined (word ∷ words) more = grind (arith, ttl_joined words more)
 
-pub class_kept : (words : List Word) (text : List ℕ) → class_among (words ++ ttl text ∷ []) ≡ class_among words
-class_kept (ttl other ∷ words) text = class_kept words text
-class_kept words text = refl
-
-pub class_pushed : (words : List Word) (text : List ℕ) → is_some (class_among words) ≡ false → class_among (words ++ class text ∷ []) ≡ Some text
-class_pushed [] text none = refl
-class_pushed (word ∷ words) text none = grind (arith, class_pushed words text)
-
-pub ttl_kept : (words : List Word) (text : List ℕ) → ttl_among (words ++ class text ∷ []) ≡ ttl_among words
-ttl_kept (class other ∷ words) text = ttl_kept words text
-ttl_kept words text = refl
+pub class_joined : (words more : List Word) → class_among (words ++ more) ≡ option_or (class_among words) (class_among more)
+class_joined [] more = refl
+class_joined (word ∷ words) more = grind (arith, class_joined words more)
 
 pub takes_ttl : (words : List Word) (v next : Words) (text : List ℕ) (n : ℕ) → HaveValues words v → begins_with_digit text ≡ true → is_some v.ttl ≡ false → IsTtl text n → next.ttl ≡ Some n → next.class ≡ v.class → IsSomeAnd (word_after words (bare text)) (λ word. HaveValues (words ++ word ∷ []) next)
 takes_ttl words v next text n have digit none is own same =
     let before : ttl_among words ≡ None = grind arith in
     rw (digit, before) (record {
       each = AllByRecursion-append HasValue words (ttl text ∷ []) have.each ((n, is), tt);
-      ttl = rw (ttl_pushed words text (ap is_some before), own) is;
-      class = rw (class_kept words text, same) (have.class);
+      ttl = rw (ttl_joined, before, own) is;
+      class = grind (arith, class_joined);
     })
 
 pub takes_class : (words : List Word) (v next : Words) (text : List ℕ) (n : ℕ) → HaveValues words v → begins_with_digit text ≡ false → is_some v.class ≡ false → IsClassWord text n → IsClass n → next.class ≡ Some n → next.ttl ≡ v.ttl → IsSomeAnd (word_after words (bare text)) (λ word. HaveValues (words ++ word ∷ []) next)
 takes_class words v next text n have no_digit none is good own same =
-    grind (arith, AllByRecursion-append, class_pushed, ttl_kept, class_word_known text n is)
+    grind (arith, AllByRecursion-append, class_joined, ttl_joined, class_word_known text n is)
 
 -- a class that holds no zone data
 pub refuses_class : (words : List Word) (v : Words) (text : List ℕ) (n : ℕ) (fault : Fault) → HaveValues words v → begins_with_digit text ≡ false → is_some v.class ≡ false → IsClassWord text n → WordFault (class text) fault → IsSomeAnd (word_after words (bare text)) (λ word. WordFault word fault)
@@ -71,10 +63,7 @@ pub some_of : (P : Word → Type 0) (o : Option Word) → IsSomeAnd o P → (wor
 some_of P o h = search rules
 
 -- whatever follows words, they stand before it
-abbrev Extends : List RawItem → Type 0
-Extends items = (words : List Word) → (others : List Word) × ((parts_after words items).words ≡ words ++ others)
-
-extends : (items : List RawItem) → Extends items
+extends : (items : List RawItem) (words : List Word) → (others : List Word) × ((parts_after words items).words ≡ words ++ others)
 extends [] words = ([], sym (append-nil words))
 extends (item ∷ items) words = elim (word_after words item) as (λ o. (others : List Word) × ((parts_by words item items o).words ≡ words ++ others)) [
   | None ↦ ([], sym (append-nil words))
@@ -104,9 +93,8 @@ item_at items i d x less is = search (rules, add-one, drop-cons, drop-map)
 
 pub time_within : (text : List ℕ) (n : ℕ) → ((m : ℕ) × (IsTime text m × (n ≡ min 4294967296 m))) → n ≤ 2147483647 → IsTime text n
 time_within text n found few =
-    let cut : n ≡ min 4294967296 found.0 = found.1.1 in
-    let same : found.0 ≡ n = omega arith in
-    subst (λ (k : ℕ). IsTime text k) same found.1.0
+    let same : found.0 ≡ n = omega (arith, found.1.1) in
+    rw same at (found.1.0)
 
 -- a time that is too long, cut off or not, is no TTL
 pub time_over : (text : List ℕ) (n : ℕ) → ((m : ℕ) × (IsTime text m × (n ≡ min 4294967296 m))) → 2147483647 < n → (seconds : ℕ) → IsTtl text seconds → ⊥
@@ -114,19 +102,13 @@ time_over text n found over seconds is = grind (arith, one_time text found.0 sec
 
 -- ---- what a record states before its data, where the state is known
 
-pub words_refused : (origin : Labels) (before : List Entry) (entry : Entry) (d : ParserState) (name : Labels) (items : List RawItem) (fault : Fault) → IsRecordEntry origin before entry d name items → PartsFault (parts_after [] items).words (parts_after [] items).rest fault → EntryFault origin before entry fault
-words_refused origin before entry d name items fault is bad = of_parts name (parts_after [] items) is.owner is.parts bad
-
 kind_refused : (origin : Labels) (before : List Entry) (entry : Entry) (d : ParserState) (name : Labels) (items after : List RawItem) (values : Words) (fault : Fault) → IsRecordEntry origin before entry d name items → AreWordsOf (parts_after [] items) values after → PartsFault [] after fault → EntryFault origin before entry fault
 kind_refused origin before entry d name items after values fault is are bad =
     of_parts name (parts_after [] items) is.owner is.parts (simp append-nil at (past_words (parts_after [] items).words [] (parts_after [] items).rest fault are.words.each (rw are.rest bad)))
 
-no_bare : (after : List RawItem) → ((text : List ℕ) (rest : List RawItem) → after ≡ bare text ∷ rest → ⊥) → PartsFault [] after UnknownType
-no_bare after none = search rules
-
 -- nothing bare stands at the type's place
 pub kind_missing : (origin : Labels) (before : List Entry) (entry : Entry) (d : ParserState) (name : Labels) (items after : List RawItem) (values : Words) → IsRecordEntry origin before entry d name items → AreWordsOf (parts_after [] items) values after → ((text : List ℕ) (rest : List RawItem) → after ≡ bare text ∷ rest → ⊥) → EntryFault origin before entry UnknownType
-kind_missing origin before entry d name items after values is are none = search (rules, kind_refused, no_bare)
+kind_missing origin before entry d name items after values is are none = kind_refused origin before entry d name items after values UnknownType is are (search rules)
 
 -- the word at the type's place is none of a type
 pub kind_unknown : (origin : Labels) (before : List Entry) (entry : Entry) (d : ParserState) (name : Labels) (items after more : List RawItem) (values : Words) (word : List ℕ) (fault : Fault) → IsRecordEntry origin before entry d name items → AreWordsOf (parts_after [] items) values after → after ≡ bare word ∷ more → IsWordFault word fault → EntryFault origin before entry fault
@@ -139,4 +121,4 @@ has_head origin before entry d name items after more values word number kind is 
 pub after_words : (items rest : List Item) (n : ℕ) (more : List RawItem) → rest ≡ drop n items → map raw rest ≡ more → drop n (map raw items) ≡ more
 after_words items rest n more back e = drop-map raw n items ∙ (ap (map raw) (sym back) ∙ e)
 
-pub ruleset one_more = (ttl_pushed, class_kept, class_pushed, ttl_kept)
+pub ruleset one_more = (ttl_joined, class_joined)

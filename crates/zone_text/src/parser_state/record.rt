@@ -35,6 +35,7 @@ impl ParserState {
     /// Reads the record of the last owner, and of the items after the owner where it is stated: the
     /// record comes after those that were decided, or the entry's fault after the owner is decided.
     #[inline(never)]
+    #[tactic(auto, using(crate::proofs::Entries::EntryTaken::refused_entry))]
     pub(crate) fn read_record(
         &mut self,
         items: &[Item],

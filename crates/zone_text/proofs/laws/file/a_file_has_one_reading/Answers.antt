@@ -1,4 +1,4 @@
-use Rattle.zone_text.proofs.Files.OneFile.{file_reads_once}
+use Rattle.zone_text.proofs.Files.Decides.{file_reads_once}
 use Rattle.zone_text.proofs.laws.file.a_file_has_one_reading.Goals as goal
 
 pub returns : goal.returns

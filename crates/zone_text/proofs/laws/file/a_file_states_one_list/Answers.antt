@@ -1,4 +1,4 @@
-use Rattle.zone_text.proofs.Files.OneFile.{file_reads_once, file_states_read}
+use Rattle.zone_text.proofs.Files.Decides.{file_reads_once, file_states_read}
 use Rattle.zone_text.proofs.Common.{None}
 use Rattle.zone_text.proofs.laws.file.a_file_states_one_list.Goals as goal
 

@@ -1,5 +1,5 @@
 use Rattle.zone_text.proofs.Common.{ap, directive_in, on_ok_weaker, ◌∙◌}
-use Rattle.zone_text.proofs.Entries.Inheriting.{origin_set, ttl_set}
+use Rattle.zone_text.proofs.Entries.RecordsRead.{origin_set, ttl_set}
 use Rattle.zone_text.proofs.parser_state.ParserState.follow.Goals as goal
 
 pub returns-in-Origin-clause-found : goal.returns-in-Origin-clause-found

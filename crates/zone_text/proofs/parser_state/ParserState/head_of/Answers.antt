@@ -1,11 +1,11 @@
-use Rattle.zone_text.proofs.Heads.WordsLeft.{after_words, has_head, kind_missing, kind_unknown, words_refused}
-use Rattle.zone_text.proofs.Common.{err_from_is_err_and, refl, rules, sym, ◌∙◌}
+use Rattle.zone_text.proofs.Heads.WordsLeft.{after_words, has_head, kind_missing, kind_unknown}
+use Rattle.zone_text.proofs.Common.{of_parts, err_from_is_err_and, refl, rules, sym, ◌∙◌}
 use Rattle.zone_text.proofs.parser_state.ParserState.head_of.Goals as goal
 
 pub returns-in_err-words-clause-fault : goal.returns-in_err-words-clause-fault
 returns-in_err-words-clause-fault c origin before entry owner is =
     let p = err_from_is_err_and c.from_residual.result c.from_residual.ensures.1 in
-    rw (p.1, p.2) (words_refused origin before entry _ owner _ _ is c.in_err-words.ensures.fault)
+    rw (p.1, p.2) (of_parts owner _ is.owner is.parts c.in_err-words.ensures.fault)
 
 pub returns-in_default-clause-fault : goal.returns-in_default-clause-fault
 returns-in_default-clause-fault c origin before entry owner is =
