@@ -49,3 +49,5 @@ module _ (base owner left : List (List ℕ)) (len key : ℕ) (walked : IsWalked 
 
     pub walked_none : len ≤ length ending → false ≡ bytes_eq last ending → IsWithin owner base → ⊥
     walked_none fits apart within = grind (arith, common_steps, bytes_eq-Decides last ending)
+
+pub ruleset hint_walks = (walked_start, walked_next)

@@ -58,3 +58,5 @@ each_map Q f tells (x ∷ xs) each = (tells x each.0, each_map Q f tells xs each
 module _ {X : Type 0} (xs lent : List X) (same : lent ≡ xs) (k : ℕ) (x : X) (within : true ≡ nat_lt k (length lent)) (is : x ≡ slice_index_or lent k x) where
   pub next_holds : (P : X → Type 0) → AllByRecursion P xs → P x
   next_holds P each = rw (is, same) (All-from_recursion P xs each k x (rw same at (ltb-true _ _ (sym within))))
+
+pub ruleset records_stored = (each_kept, records_kept)
