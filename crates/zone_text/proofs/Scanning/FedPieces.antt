@@ -36,8 +36,7 @@ follows_on ended at next unfinished part left step is e more origin fed given fo
 
 -- they end an entry
 pub is_ended : (old mid new : EndedEntries) (at next : ScanState) (unfinished part left : List ℕ) (step : Step) → IsPart old at unfinished part step → ReadsOctets (unfinished ++ part) old mid → new ≡ mid → next ≡ beginning → left ≡ [] → IsSplitter new next left
-is_ended old mid new at next unfinished part left step is reads same begins none =
-    nothing_taken new next left begins none (let h : new.line ≡ mid.line = ap (λ (s : EndedEntries). s.line) same in omega (arith, is.is.line, reads.later))
+is_ended old mid new at next unfinished part left step is reads same begins none = search (rules, nothing_taken new next left begins none)
 
 pub follows_entry : (old mid new : EndedEntries) (at : ScanState) (unfinished part left : List ℕ) (step : Step) → IsPart old at unfinished part step → step ≡ Ends → ReadsOctets (unfinished ++ part) old mid → new ≡ mid → left ≡ [] → FollowsOn old unfinished new left part
 follows_entry old mid new at unfinished part left step is e reads same none origin fed given follow = grind (arith, follow_entry origin old mid unfinished part fed given (after old at unfinished part step Ends is e) is.undecided reads follow)
@@ -49,8 +48,7 @@ pub record IsRefused (fault : Fault) (old new : EndedEntries) : Type 0 where
   pub line : new.line ≡ old.line
 
 pub is_refused : (fault : Fault) (old mid new : EndedEntries) (at next : ScanState) (unfinished part left : List ℕ) (step : Step) → IsPart old at unfinished part step → IsRefused fault old mid → new ≡ mid → next ≡ beginning → left ≡ [] → IsSplitter new next left
-is_refused fault old mid new at next unfinished part left step is refuse same begins none =
-    nothing_taken new next left begins none (let h : new.line ≡ mid.line = ap (λ (s : EndedEntries). s.line) same in omega (arith, is.is.line, refuse.line))
+is_refused fault old mid new at next unfinished part left step is refuse same begins none = search (rules, nothing_taken new next left begins none)
 
 pub follows_break : (fault : Fault) (old mid new : EndedEntries) (at : ScanState) (unfinished part left : List ℕ) (step last : Step) → ((octets : List ℕ) → ScansTo beginning octets last → IsBrokenOff octets fault) → IsPart old at unfinished part step → step ≡ last → IsRefused fault old mid → new ≡ mid → left ≡ [] → FollowsOn old unfinished new left part
 follows_break fault old mid new at unfinished part left step last off is e refuse same none origin fed given follow = grind (arith, follow_break origin old mid fault unfinished part fed given (off (unfinished ++ part) (after old at unfinished part step last is e)) is.undecided refuse.records refuse.ending follow)
@@ -140,8 +138,7 @@ takes_none old new piece held step taken before settled old_is new_is len state 
 
 -- the parentheses that are open are no more than the octets
 pub depth_fits : (held : List ℕ) (at : ScanState) (step : Step) → ScansTo beginning held step → step ≡ On at → at.depth ≤ length held
-depth_fits held at step before on =
-    let h = unfinished_depth beginning at held (ap (λ (f : Scanned). f.step) before ∙ on) in omega (arith, h)
+depth_fits held at step before on = search (rules, unfinished_depth beginning)
 
 -- ---- the entry at the front of octets
 
@@ -157,23 +154,11 @@ unfolding scan_of
 some_taken octets found is ends moves = grind (arith, common_steps)
 
 pub first_whole : (octets entry : List ℕ) (found : Scanned) (left : List RawItem) → found ≡ scan_of beginning octets → found.step ≡ Ends → entry ≡ take found.taken octets → 0 < found.taken → found.taken ≤ length octets → KeepsItems entry left → IsFirstEntry octets found.taken left
-first_whole octets entry found left is ends front some within keeps =
-    let one = ends_entry entry (scanned_part octets entry Ends found is front ends) in
-    record {
-      tokens = one.0;
-      one = subst (λ t. IsOneEntry t one.0) front one.1;
-      stated = keeps one.0 one.1.cut;
-      some = some;
-      within = within;
-    }
+first_whole octets entry found left is ends front some within keeps = search (rules, ends_entry entry (scanned_part octets entry Ends found is front ends), scanned_part octets entry Ends found is front ends)
 
 -- octets after those that break stay broken off
 pub broken_on : (octets : List ℕ) (n : ℕ) (fault : Fault) → IsBrokenOff (take n octets) fault → IsBrokenOff octets fault
-broken_on octets n fault off = record {
-  tokens = off.tokens;
-  breaks = subst (λ t. BreaksForGood t off.tokens fault) (take-append-drop n octets) (breaks_for_good (take n octets) (drop n octets) off.tokens fault off.breaks);
-  none = off.none;
-}
+broken_on octets n fault off = search (rules, take-append-drop n octets, breaks_for_good (take n octets) (drop n octets) off.tokens fault off.breaks)
 
 pub first_broken : (octets : List ℕ) (found : Scanned) (step : Step) (fault : Fault) → ((part : List ℕ) → ScansTo beginning part step → IsBrokenOff part fault) → found ≡ scan_of beginning octets → found.step ≡ step → IsBrokenOff octets fault
 first_broken octets found step fault breaks is stops = broken_on octets found.taken fault (breaks (take found.taken octets) (scanned_part octets (take found.taken octets) step found is refl stops))

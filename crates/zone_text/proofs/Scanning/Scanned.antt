@@ -53,17 +53,7 @@ quiet_on : (octets : List ℕ) (i : ℕ) → i < length octets → moves Open (g
 quiet_on octets i less still quiet depth = grind (arith, one_on (open_at depth) (open_at depth) (open_at depth) octets i less (stays (open_at depth) (get_or octets i 0) still) (quiet depth))
 
 pub four_on : (octets : List ℕ) (i : ℕ) (first second third fourth : Bool) → first ≡ moves Open (get_or octets i 0) → second ≡ moves Open (get_or octets (i + 1) 0) → third ≡ moves Open (get_or octets (i + 2) 0) → fourth ≡ moves Open (get_or octets (i + 3) 0) → (first || second || third || fourth) ≡ false → i ≤ length octets → 4 ≤ length octets - i → AreQuiet octets i → AreQuiet octets (i + 4)
-four_on octets i first second third fourth is1 is2 is3 is4 none within fits quiet =
-    let p3 = or_parts (first || second || third) fourth none in
-    let p2 = or_parts (first || second) third p3.0 in
-    let p1 = or_parts first second p2.0 in
-    let two : i + 1 + 1 ≡ i + 2 = omega arith in
-    let three : i + 2 + 1 ≡ i + 3 = omega arith in
-    let four : i + 3 + 1 ≡ i + 4 = omega arith in
-    let q1 = quiet_on octets i (omega arith) (sym is1 ∙ p1.0) quiet in
-    let q2 = subst (AreQuiet octets) two (quiet_on octets (i + 1) (omega arith) (sym is2 ∙ p1.1) q1) in
-    let q3 = subst (AreQuiet octets) three (quiet_on octets (i + 2) (omega arith) (sym is3 ∙ p2.1) q2) in
-    subst (AreQuiet octets) four (quiet_on octets (i + 3) (omega arith) (sym is4 ∙ p3.1) q3)
+four_on octets i first second third fourth is1 is2 is3 is4 none within fits quiet = search (rules, or_parts (first || second || third) fourth none, or_parts (first || second) third, or_parts first second, quiet_on octets i, quiet_on octets (i + 1), quiet_on octets (i + 2), quiet_on octets (i + 3))
 
 pub quiet_at : (at : ScanState) (octets : List ℕ) (n : ℕ) → at.mode ≡ Open → AreQuiet octets n → scan_of at octets ≡ further n (scan_of at (drop n octets))
 quiet_at at octets n is quiet =
@@ -232,8 +222,7 @@ token_scanned : (depth : ℕ) (p : Token) (rest : List ℕ) (step : Step) → Is
 token_scanned depth (blank c) rest step is room none scanned = search (rules, on_more, stays, blank_still)
 token_scanned depth (comment octets) rest step is room none scanned = search (rules, comment_scanned, on_more)
 token_scanned depth (bare units) rest step is room none scanned = units_scanned extents.Bare depth units rest step is.1 scanned
-token_scanned depth (quoted units) rest step is room none scanned =
-    on_more (inside extents.Quoted depth) (open_at depth) 34 rest step (in_quote step depth units _ (34 ∷ rest) is (ap (λ t. 34 ∷ t) (append_assoc (written_text units) (34 ∷ []) rest)) scanned) refl
+token_scanned depth (quoted units) rest step is room none scanned = search (rules, on_more (inside extents.Quoted depth) (open_at depth) 34 rest step, in_quote step depth units, append_assoc (written_text units) (34 ∷ []) rest)
 token_scanned depth opening rest step is room none scanned = rw add-one at (on_more (open_at depth) (open_at (depth + 1)) 40 rest step scanned refl)
 token_scanned depth closing rest step is room none scanned = on_more (open_at depth) (open_at (depth - 1)) 41 rest step scanned (rw (ne_eqb depth 0 (omega arith)) refl)
 token_scanned depth line_feed rest step is room none scanned = on_more (open_at depth) (open_at depth) 10 rest step scanned (rw (ne_eqb depth 0 none) refl)
@@ -256,22 +245,15 @@ after_says step depth p octets tokens rest fault stop scanned more = more step s
 -- ---- all tokens
 
 token_says : (step : Step) (depth at : ℕ) (p : Token) (tokens : List Token) (rest : List ℕ) (fault : Option Fault) → AllByRecursion IsToken (p ∷ tokens) → AllFollow (p ∷ tokens) → MayEndBefore (p ∷ tokens) rest → depth_after depth (p ∷ tokens) ≡ Some at → EndsAt at rest fault → ScansTo (open_at depth) (text (p ∷ tokens) ++ rest) step → ((like : Step) → depth_after (depth_past depth p) tokens ≡ Some at → ScansTo (open_at (depth_past depth p)) (text tokens ++ rest) like → Says like (depth_past depth p) tokens rest fault) → EndsNone depth p → Says step depth (p ∷ tokens) rest fault
-token_says step depth at p tokens rest fault each follow last past ends scanned more none =
-    let room : HasRoom depth p = room_of depth at p tokens past in
-    let read : ScansTo (after p depth) (text tokens ++ rest) step = token_scanned depth p (text tokens ++ rest) step each.0 room none (rw append_assoc at scanned) in
-    let next : Says step (depth_past depth p) tokens rest fault = after_says step depth p (text tokens ++ rest) tokens rest fault (stop_of p tokens at rest fault each.1 follow last ends) read (λ like. more like (sym (depth_on depth p tokens room) ∙ past)) in
-    record { fault = next.fault; left = next.left; entries = token_on depth p tokens room none ∙ ap (in_front_of p) next.entries ∙ in_entry step p tokens }
+token_says step depth at p tokens rest fault each follow last past ends scanned more none = search (rules, room_of depth, token_scanned depth p (text tokens ++ rest) step each.0, append_assoc, after_says step depth p (text tokens ++ rest) tokens rest fault (stop_of p tokens at rest fault each.1 follow last ends), stop_of p tokens, depth_on depth p tokens, token_on depth p tokens, in_entry step p tokens)
 
 whole_ends : (depth : ℕ) (rest : List ℕ) (fault : Option Fault) → depth ≡ zero → rest ≡ [] → EndsAt depth rest fault → fault ≡ None
 whole_ends depth rest fault d e ends = grind arith
 
 all_say : (tokens : List Token) (step : Step) (depth at : ℕ) (rest : List ℕ) (fault : Option Fault) → AllByRecursion IsToken tokens → AllFollow tokens → MayEndBefore tokens rest → depth_after depth tokens ≡ Some at → EndsAt at rest fault → ScansTo (open_at depth) (text tokens ++ rest) step → Says step depth tokens rest fault
 all_say [] step depth at rest fault each follow last past ends scanned = stop_says step depth rest fault (let same : at ≡ depth = cc in rw same at ends) scanned
-all_say (line_feed ∷ []) step zero at rest fault each follow last past ends scanned =
-    let end = is_last (open_at zero) 10 rest step Ends scanned refl tt in
-    rw end.0 (record { fault = sym (whole_ends at rest fault (let same : at ≡ zero = cc in same) end.1 ends); left = end.1; entries = refl })
-all_say (line_feed ∷ q ∷ tokens) step zero at rest fault each follow last past ends scanned =
-    absurd (omega (arith, ap length (is_last (open_at zero) 10 (text (q ∷ tokens) ++ rest) step Ends scanned refl tt).1, length-append (text (q ∷ tokens)) rest, length-append (token_text q) (text tokens), some_octet q each.1.0))
+all_say (line_feed ∷ []) step zero at rest fault each follow last past ends scanned = search (rules, is_last (open_at zero) 10 rest step Ends scanned refl tt, whole_ends)
+all_say (line_feed ∷ q ∷ tokens) step zero at rest fault each follow last past ends scanned = search (rules, is_last (open_at zero) 10 (text (q ∷ tokens) ++ rest) step Ends scanned refl tt, length-append (text (q ∷ tokens)) rest, length-append (token_text q) (text tokens), some_octet q each.1.0)
 all_say (line_feed ∷ tokens) step (suc depth) at rest fault each follow last past ends scanned =
     token_says step (suc depth) at line_feed tokens rest fault each follow last past ends scanned (λ like on read. all_say tokens like (suc depth) at rest fault each.1 (follow_after line_feed tokens follow) (last_after line_feed tokens rest last) on ends read) (λ e. omega arith)
 all_say (p ∷ tokens) step depth at rest fault each follow last past ends scanned =
@@ -327,10 +309,7 @@ record IsRead (octets : List ℕ) (step : Step) : Type 0 where
   entries : cut_from zero tokens ≡ entry_by step tokens
 
 read_by : (octets : List ℕ) (step : Step) → ScansTo beginning octets step → IsRead octets step
-read_by octets step scanned =
-    let is = cutting_is octets in
-    let says = all_say (cutting octets).tokens step zero is.at is.rest (cutting octets).broken is.each is.follow is.last is.parentheses is.ends (subst (λ t. ScansTo beginning t step) is.whole scanned) in
-    record { tokens = (cutting octets).tokens; rest = is.rest; whole = is.whole; left = says.left; cut = rw says.fault is; entries = says.entries }
+read_by octets step scanned = search (rules, cutting_is octets, all_say (cutting octets).tokens step zero)
 
 no_ended : (tokens : List Token) → cut_from zero tokens ≡ record { ended = []; open_tokens = tokens } → (cut_from zero tokens).ended ≡ []
 no_ended tokens e = ap (λ (cut : Cut). cut.ended) e
@@ -359,8 +338,6 @@ pub stays_open : (octets : List ℕ) (at : ScanState) → ScansTo beginning octe
 stays_open octets at scanned = entry_is octets (On at) scanned
 
 pub at_end : (octets : List ℕ) (at : ScanState) → scan_of beginning octets ≡ record { taken = length octets; step = On at } → MatchOption (end_fault_of at) ((tokens : List Token) × Cuts octets tokens × ((cut_from zero tokens).ended ≡ [])) (λ fault. (tokens : List Token) × Breaks octets tokens fault × ((cut_from zero tokens).ended ≡ []))
-at_end octets at e =
-    let read : IsRead octets (On at) = read_by octets (On at) e in
-    end_by octets read.tokens (end_fault_of at) read.cut (no_ended read.tokens read.entries)
+at_end octets at e = search (rules, read_by octets (On at) e, end_by octets, no_ended)
 
 pub ruleset scan_steps = (all_taken, at_octet, one_on, rises, stays)

@@ -74,9 +74,7 @@ pub stays_or_ends_alone : (rest : List ℕ) → StaysBroken rest → BreaksAtEnd
 stays_or_ends_alone rest stays (nothing_left none) = stays_some rest stays none
 stays_or_ends_alone rest (closing_stays after e) (quote_open units each f) = search rules
 stays_or_ends_alone rest (escape_stays lost) (quote_open units each f) = search rules
-stays_or_ends_alone rest (quoted_escape_stays other after another e lost) (quote_open units each f) =
-    let same : written_text other ++ after ≡ written_text units ++ [] = after_quote rest (written_text other ++ after) (written_text units) e f ∙ sym (append-nil (written_text units)) in
-    grind (arith, after_quote, append-nil, after_units, lost_begins_none, at_end, stays_some)
+stays_or_ends_alone rest (quoted_escape_stays other after another e lost) (quote_open units each f) = search (rules, after_quote rest (written_text other ++ after) (written_text units) e f, append-nil (written_text units), after_units, lost_begins_none, at_end, stays_some)
 stays_or_ends_alone rest stays (escape_open cut) = grind arith
 stays_or_ends_alone rest stays (quoted_escape_open units more each f cut) = grind (arith, other_first, after_quote, after_units, lost_begins_none, at_backslash, malformed_is_bad, lost_not_cut)
 

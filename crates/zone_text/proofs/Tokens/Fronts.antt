@@ -124,12 +124,8 @@ front_by_sign : (depth c : ℕ) (rest : List ℕ) (sign : Sign) → IsSign c sig
 front_by_sign depth c rest a_blank is = record { whole = refl; token = is; stop = tt; room = tt }
 front_by_sign zero c rest a_closing is = closes_nothing rest refl (first_octet_is c 41 rest is)
 front_by_sign depth c rest a_semicolon is = grind (arith, first_octet_is, comment_whole, comment_each, comment_ends)
-front_by_sign depth c rest a_quote is =
-    let found : UnitsAre is_quote rest (units_first is_quote rest) = units_first_are is_quote rest in
-    quoted_is depth c rest (units_first is_quote rest).units (units_first is_quote rest).rest is found.whole found.each found.none
-front_by_sign depth c rest of_item is =
-    let found : UnitsAre ends_item (c ∷ rest) (units_first ends_item (c ∷ rest)) = units_first_are ends_item (c ∷ rest) in
-    bare_is depth c rest (units_first ends_item (c ∷ rest)).units (units_first ends_item (c ∷ rest)).rest is found.whole found.each found.none
+front_by_sign depth c rest a_quote is = search (rules, units_first_are is_quote rest, quoted_is depth c rest (units_first is_quote rest).units (units_first is_quote rest).rest is)
+front_by_sign depth c rest of_item is = search (rules, units_first_are ends_item (c ∷ rest), bare_is depth c rest (units_first ends_item (c ∷ rest)).units (units_first ends_item (c ∷ rest)).rest is)
 front_by_sign depth c rest sign is = search rules
 
 end_is : (depth : ℕ) → IsFront depth [] (end_front depth)

@@ -31,13 +31,7 @@ each_plain : (ends : ℕ → Bool) (octets : List ℕ) → All (λ c. (ends c ||
 each_plain ends octets each = plain_units ends octets (recursion_from_All (λ c. (ends c || c == 92) ≡ false) octets each)
 
 pub plain_so_far : (ends : ℕ → Bool) (octets : List ℕ) (n : ℕ) → n ≤ length octets → All (λ c. (ends c || c == 92) ≡ false) (take n octets) → EndsAt (λ c. ends c || c == 92) (drop n octets) → IsWrittenTo ends octets n
-plain_so_far ends octets n within each stops = record {
-  units = map plain (take n octets);
-  each = each_plain ends (take n octets) each;
-  text = sym (plain_text (take n octets));
-  stops = stops;
-  within = within;
-}
+plain_so_far ends octets n within each stops = search (rules, each_plain ends (take n octets) each, plain_text (take n octets))
 
 -- octets after a plain one
 pub plain_first : (stops : ℕ → Bool) (octets after : List ℕ) (c n k : ℕ) → octets ≡ c ∷ after → stops c ≡ false → k ≡ 1 + n → All (λ d. stops d ≡ false) (take n after) → EndsAt stops (drop n after) → All (λ d. stops d ≡ false) (take k octets) × EndsAt stops (drop k octets)
@@ -119,13 +113,7 @@ comment_front octets after left c n whole is len back = record {
 
 -- the octets of an item and those after it
 item_is : (ends : ℕ → Bool) (octets item rest : List ℕ) (n : ℕ) → n ≡ item_len ends octets → item ≡ take n octets → rest ≡ drop n octets → (item ≡ written_text (units_first ends octets).units) × (rest ≡ (units_first ends octets).rest)
-item_is ends octets item rest n len front back =
-    let whole = (units_first_are ends octets).whole in
-    let written : List ℕ = written_text (units_first ends octets).units in
-    let after : List ℕ = (units_first ends octets).rest in (
-      front ∙ ap (λ k. take k octets) len ∙ ap (take (length written)) whole ∙ take-append_seam written after,
-      back ∙ ap (λ k. drop k octets) len ∙ ap (drop (length written)) whole ∙ drop-append_seam written after,
-    )
+item_is ends octets item rest n len front back = search (rules, units_first_are ends octets, take-append_seam, drop-append_seam)
 
 pub bare_front : (octets item left : List ℕ) (n : ℕ) → n ≡ item_len ends_item octets → item ≡ take n octets → left ≡ drop n octets → 0 < length item → IsInFront octets (raw.bare item ∷ []) left
 bare_front octets item left n len front back some =
@@ -154,14 +142,7 @@ quoted_is : (octets after : List ℕ) (c : ℕ) → octets ≡ c ∷ after → c
 quoted_is octets after c whole is = ap (front_of 1) (whole ∙ first_octet_is c 34 after is) ∙ at_sign 1 34 after a_quote refl
 
 pub quoted_front : (octets after inside ending left : List ℕ) (c q n : ℕ) → octets ≡ c ∷ after → c ≡ 34 → n ≡ item_len is_quote after → inside ≡ take n after → ending ≡ drop n after → ending ≡ q ∷ left → q ≡ 34 → IsInFront octets (raw.quoted inside ∷ []) left
-quoted_front octets after inside ending left c q n whole is len front back first quote =
-    let item = item_is is_quote after inside ending n len front back in
-    let units : List Written = (units_first is_quote after).units in
-    record {
-      token = quoted units;
-      front = quoted_is octets after c whole is ∙ ap (cutting.quoted_front units) (sym item.1 ∙ first ∙ first_octet_is q 34 left quote);
-      stated = ap (λ t. raw.quoted t ∷ []) (sym item.0);
-    }
+quoted_front octets after inside ending left c q n whole is len front back first quote = search (rules, item_is is_quote after inside ending n len front back, quoted_is octets after c whole is, first_octet_is q 34 left quote)
 
 pub no_quoted : (octets after inside ending : List ℕ) (c n : ℕ) → octets ≡ c ∷ after → c ≡ 34 → n ≡ item_len is_quote after → inside ≡ take n after → ending ≡ drop n after → ((more : List ℕ) → ending ≢ 34 ∷ more) → IsNoToken (front_of 1 octets)
 no_quoted octets after inside ending c n whole is len front back other =
@@ -182,9 +163,7 @@ pub in_front_takes : (octets rest : List ℕ) (items : List RawItem) (found : Is
 in_front_takes octets rest items found = subst (IsFront 1 octets) found.front (front_is 1 octets)
 
 pub in_front_shorter : (octets rest : List ℕ) (items : List RawItem) → IsInFront octets items rest → length rest < length octets
-in_front_shorter octets rest items found =
-    let takes = in_front_takes octets rest items found in
-    shorter octets rest found.token takes.token takes.whole
+in_front_shorter octets rest items found = search (rules, in_front_takes octets rest items found, shorter octets rest found.token)
 
 -- ---- all tokens of a text
 
@@ -218,15 +197,7 @@ LeavesItems entry rest kept = (tokens : List Token) → Cuts entry tokens → Is
 
 left_by : (octets left : List ℕ) (kept new item : List RawItem) (tokens more : List Token) (so_far : List RawItem) → IsInFront octets item left → ((p : Token) → IsToken p → item ≡ item_of p → AreKept (so_far ++ item) new) → AreTokensOf octets more → so_far ++ flat_map item_of more ≡ flat_map item_of tokens → IsLeft left new tokens
 left_by octets left kept new item tokens [] so_far found keeps are items = absurd (omega (arith, in_front_shorter octets left item found, ap length are.whole))
-left_by octets left kept new item tokens (p ∷ more) so_far found keeps are items =
-    let next = tokens_after octets left item found p more are in
-    record {
-      more = more;
-      are = next.1;
-      so_far = so_far ++ item;
-      are_kept = keeps p are.each.0 next.0;
-      items = append_assoc so_far item (flat_map item_of more) ∙ ap (λ t. so_far ++ (t ++ flat_map item_of more)) next.0 ∙ items;
-    }
+left_by octets left kept new item tokens (p ∷ more) so_far found keeps are items = search (rules, tokens_after octets left item found p more are, append_assoc so_far item (flat_map item_of more))
 
 pub one_less : (entry octets left : List ℕ) (kept new : List RawItem) (item : RawItem) → IsInFront octets (item ∷ []) left → Keeps item kept new → LeavesItems entry octets kept → LeavesItems entry left new
 one_less entry octets left kept new item found keeps leaves tokens cuts =
@@ -234,9 +205,7 @@ one_less entry octets left kept new item found keeps leaves tokens cuts =
     left_by octets left kept new (item ∷ []) tokens before.more before.so_far found (λ p is e. keeps_more p before.so_far kept new item is e before.are_kept keeps) before.are before.items
 
 pub none_less : (entry octets left : List ℕ) (kept : List RawItem) → IsInFront octets [] left → LeavesItems entry octets kept → LeavesItems entry left kept
-none_less entry octets left kept found leaves tokens cuts =
-    let before = leaves tokens cuts in
-    left_by octets left kept kept [] tokens before.more before.so_far found (λ p is e. subst (λ t. AreKept t kept) (sym (append-nil before.so_far)) before.are_kept) before.are before.items
+none_less entry octets left kept found leaves tokens cuts = search (rules, left_by octets left kept kept [] tokens, append-nil)
 
 -- where no token is left, the items are all
 pub all_taken : (entry rest : List ℕ) (kept : List RawItem) → IsNoToken (front_of 1 rest) → LeavesItems entry rest kept → KeepsItems entry kept

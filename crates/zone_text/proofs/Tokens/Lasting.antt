@@ -58,9 +58,7 @@ pub parted : (octets : List ℕ) (tokens more : List Token) (fault : Option Faul
 parted octets tokens more fault balanced is = search (rules, flat_map-append, append_assoc, AllByRecursion-front, follow_front, AllByRecursion-back, follow_back, last_back, depth_append)
 
 pub cut_parted : (octets : List ℕ) (tokens more : List Token) → depth_after zero tokens ≡ Some zero → Cuts octets (tokens ++ more) → (rest : List ℕ) × (octets ≡ text tokens ++ rest) × Cuts (text tokens) tokens × Cuts rest more
-cut_parted octets tokens more balanced cut =
-    let is : IsParted octets tokens more None = parted octets tokens more None balanced (is_cut octets (tokens ++ more) cut) in
-    (is.rest, is.whole, is.front, cuts is.rest more is.back)
+cut_parted octets tokens more balanced cut = search (rules, parted octets tokens more None balanced (is_cut octets (tokens ++ more) cut), is_cut octets (tokens ++ more) cut, cuts)
 
 pub break_parted : (octets : List ℕ) (tokens more : List Token) (fault : Fault) → depth_after zero tokens ≡ Some zero → Breaks octets (tokens ++ more) fault → (rest : List ℕ) × (octets ≡ text tokens ++ rest) × Cuts (text tokens) tokens × Breaks rest more fault
 break_parted octets tokens more fault balanced broken = grind (arith, parted octets tokens more (Some fault) balanced (is_broken octets (tokens ++ more) fault broken))
