@@ -1,5 +1,5 @@
 -- A piece fed part by part, each by what its last octet leads to.
-use Rattle.zone_text.proofs.Common.{EndedEntries, Ends, EntrySplitter, Fault, Follow, IsBrokenOff, IsSplitter, Labels, Line, List, None, On, Place, Placed, ReadsOctets, ScanState, Scanned, ScansTo, Some, Step, [], ap, append-nil, append_assoc, arith, beginning, length, rules, scan_of, subst, sym, take, ℕ, ◌++◌, ◌+◌, ◌∙◌, ◌≡◌, ◌≤◌, Breaks, BreaksForGood, Cuts, IsFirstEntry, IsOneEntry, KeepsItems, MatchOption, Option, RawItem, Token, common_steps, cut_from, drop, end_fault_of, refl, take-append-drop, zero, ◌<◌}
+use Rattle.zone_text.proofs.Common.{EndedEntries, Ends, EntrySplitter, Fault, Follow, IsBrokenOff, IsSplitter, Labels, Line, List, None, On, Place, Placed, ReadsOctets, ScanState, Scanned, ScansTo, Some, Step, [], ap, append-nil, append_assoc, arith, beginning, length, rules, scan_of, subst, sym, take, ℕ, ◌++◌, ◌+◌, ◌∙◌, ◌≡◌, ◌≤◌, IsFirstEntry, KeepsItems, Option, RawItem, common_steps, drop, end_fault_of, refl, take-append-drop, ◌<◌}
 use Rattle.zone_text.proofs.Files.Followed.{follow_fault, scans_on, follow_on, follow_entry, follow_break}
 use Rattle.zone_text.proofs.Scanning.Scanned.{stops_at, takes_front, unfinished_depth, at_end, ends_entry, entry_is, step_goes_on}
 use Rattle.zone_text.proofs.Entries.Begun.{nothing_taken}
@@ -90,12 +90,8 @@ takes_part at rest part found is cut = search (rules, takes_front, stops_at)
 pub depth_within : (ended : EndedEntries) (at : ScanState) (unfinished : List ℕ) → IsSplitter ended at unfinished → at.depth ≤ length unfinished
 depth_within ended at unfinished is = let h = unfinished_depth beginning at unfinished (ap (λ (f : Scanned). f.step) is.state) in omega (arith, h)
 
--- where the input ends
-by_end : (octets : List ℕ) (fault : Option Fault) → MatchOption fault ((tokens : List Token) × Cuts octets tokens × ((cut_from zero tokens).ended ≡ [])) (λ f. (tokens : List Token) × Breaks octets tokens f × ((cut_from zero tokens).ended ≡ [])) → EndIs octets fault
-by_end octets fault end = search rules
-
 pub end_is : (octets : List ℕ) (at : ScanState) (fault : Option Fault) → ScansTo beginning octets (On at) → fault ≡ end_fault_of at → EndIs octets fault
-end_is octets at fault scanned is = subst (EndIs octets) (sym is) (by_end octets (end_fault_of at) (at_end octets at scanned))
+end_is octets at fault scanned is = search (rules, at_end octets)
 
 -- a scan that goes on took all octets
 all_taken : (at next : ScanState) (octets : List ℕ) (found : Scanned) → found ≡ scan_of at octets → found.step ≡ On next → found.taken ≡ length octets

@@ -1,13 +1,12 @@
 -- The entry at the front of octets, token by token, without parentheses.
-use Rattle.zone_text.proofs.Common.{All, AreKept, Cuts, EndsAt, EntrySplitter, IsFirstEntry, IsInFront, IsOneEntry, IsSplitter, Keeps, KeepsBare, KeepsItems, List, None, RawItem, ReadsOctets, Token, [], ap, append-nil, append_assoc, arith, at_backslash, at_end, at_octet, bare, blank, closing, comment, drop, ends_item, false, flat_map, get_or, inl, is_blank, item_of, length, length-append, length-take, line_feed, opening, refl, rules, stops_bare, subst, suc, sym, take, take-append-drop, take-append_seam, text_of, token_text, true, zero, ℕ, ⊤, ◌++◌, ◌+◌, ◌-◌, ◌<◌, ◌∙◌, ◌∷◌, ◌≡◌, ◌≢◌, ◌≤◌, common_steps, AllByRecursion, Bool, IsToken, IsUnit, Written, cond, decimal, eqb-true, escaped, item_text, list_any, nat_eq, ne_eqb, plain, sum_by-append, sum_by-cons, written_text, zero-add, ◌==◌, quoted}
+use Rattle.zone_text.proofs.Common.{AreKept, EntrySplitter, IsFirstEntry, IsInFront, IsOneEntry, IsSplitter, Keeps, KeepsBare, KeepsItems, List, None, RawItem, ReadsOctets, Token, [], ap, append-nil, append_assoc, arith, at_backslash, at_end, at_octet, bare, blank, closing, comment, drop, ends_item, false, flat_map, get_or, inl, is_blank, item_of, length, length-append, length-take, line_feed, opening, refl, rules, subst, suc, sym, take, take-append-drop, take-append_seam, text_of, token_text, true, zero, ℕ, ⊤, ◌++◌, ◌+◌, ◌-◌, ◌<◌, ◌∙◌, ◌∷◌, ◌≡◌, ◌≢◌, common_steps, AllByRecursion, Bool, IsToken, IsUnit, Written, cond, decimal, eqb-true, escaped, list_any, nat_eq, ne_eqb, plain, sum_by-append, sum_by-cons, written_text, zero-add, ◌==◌, quoted}
 use Rattle.zone_rdata.specs.Item as raw
 use Rattle.zone_text.proofs.Scanning.FedPieces.{FollowsOn, HasFed, fed_more}
 use Rattle.zone_text.proofs.Tokens.Cuttings.{cuts, is_cut, one_cut, one_token_more}
 use Rattle.zone_text.proofs.Files.Followed.{follow_one}
-use Rattle.zone_text.proofs.Tokens.Fronts.{Begins, HasRoom, Stops, Takes, begins}
+use Rattle.zone_text.proofs.Tokens.Fronts.{Stops, Takes, begins}
 use Rattle.zone_text.proofs.Tokens.ItemsLeft.{ended, plain_so_far, bare_front, in_front_takes, in_front_shorter}
 use Rattle.zone_text.proofs.Tokens.TokenEnds.{first_at}
-use Rattle.std.proofs.lemmas.List.Elements.{All-from_recursion}
 use Rattle.zone_text.specs.declared.items.Extent.TheVariants.{Bare}
 use Rattle.zone_text.proofs.Entries.Kept.{keeps_more}
 use Rattle.zone_text.proofs.Scanning.StopMarks.{goes_on, prefix_stops}

@@ -227,9 +227,6 @@ token_scanned depth opening rest step is room none scanned = rw add-one at (on_m
 token_scanned depth closing rest step is room none scanned = on_more (open_at depth) (open_at (depth - 1)) 41 rest step scanned (rw (ne_eqb depth 0 (omega arith)) refl)
 token_scanned depth line_feed rest step is room none scanned = on_more (open_at depth) (open_at depth) 10 rest step scanned (rw (ne_eqb depth 0 none) refl)
 
-token_on : (depth : ℕ) (p : Token) (tokens : List Token) → HasRoom depth p → EndsNone depth p → cut_from depth (p ∷ tokens) ≡ in_front_of p (cut_from (depth_past depth p) tokens)
-token_on depth p tokens room none = search rules
-
 in_entry : (step : Step) (p : Token) (tokens : List Token) → in_front_of p (entry_by step tokens) ≡ entry_by step (p ∷ tokens)
 in_entry step p tokens = search rules
 
@@ -245,7 +242,7 @@ after_says step depth p octets tokens rest fault stop scanned more = more step s
 -- ---- all tokens
 
 token_says : (step : Step) (depth at : ℕ) (p : Token) (tokens : List Token) (rest : List ℕ) (fault : Option Fault) → AllByRecursion IsToken (p ∷ tokens) → AllFollow (p ∷ tokens) → MayEndBefore (p ∷ tokens) rest → depth_after depth (p ∷ tokens) ≡ Some at → EndsAt at rest fault → ScansTo (open_at depth) (text (p ∷ tokens) ++ rest) step → ((like : Step) → depth_after (depth_past depth p) tokens ≡ Some at → ScansTo (open_at (depth_past depth p)) (text tokens ++ rest) like → Says like (depth_past depth p) tokens rest fault) → EndsNone depth p → Says step depth (p ∷ tokens) rest fault
-token_says step depth at p tokens rest fault each follow last past ends scanned more none = search (rules, room_of depth, token_scanned depth p (text tokens ++ rest) step each.0, append_assoc, after_says step depth p (text tokens ++ rest) tokens rest fault (stop_of p tokens at rest fault each.1 follow last ends), stop_of p tokens, depth_on depth p tokens, token_on depth p tokens, in_entry step p tokens)
+token_says step depth at p tokens rest fault each follow last past ends scanned more none = search (rules, room_of depth, token_scanned depth p (text tokens ++ rest) step each.0, after_says step depth p (text tokens ++ rest) tokens rest fault (stop_of p tokens at rest fault each.1 follow last ends), stop_of p tokens, depth_on depth p tokens, in_entry step p tokens, append_assoc)
 
 whole_ends : (depth : ℕ) (rest : List ℕ) (fault : Option Fault) → depth ≡ zero → rest ≡ [] → EndsAt depth rest fault → fault ≡ None
 whole_ends depth rest fault d e ends = grind arith
@@ -318,9 +315,6 @@ no_ended tokens e = ap (λ (cut : Cut). cut.ended) e
 abbrev AtEnd : List ℕ → Option Fault → Type 0
 AtEnd octets fault = MatchOption fault ((tokens : List Token) × Cuts octets tokens × ((cut_from zero tokens).ended ≡ [])) (λ found. (tokens : List Token) × Breaks octets tokens found × ((cut_from zero tokens).ended ≡ []))
 
-end_by : (octets : List ℕ) (tokens : List Token) (fault : Option Fault) → IsCut zero octets tokens fault → (cut_from zero tokens).ended ≡ [] → AtEnd octets fault
-end_by octets tokens fault is none = search rules
-
 -- where the octets leave the entry
 pub entry_is : (octets : List ℕ) (step : Step) → ScansTo beginning octets step → EntryIs octets (state_of step)
 entry_is octets step scanned = by step (read_by octets step scanned)
@@ -338,6 +332,6 @@ pub stays_open : (octets : List ℕ) (at : ScanState) → ScansTo beginning octe
 stays_open octets at scanned = entry_is octets (On at) scanned
 
 pub at_end : (octets : List ℕ) (at : ScanState) → scan_of beginning octets ≡ record { taken = length octets; step = On at } → MatchOption (end_fault_of at) ((tokens : List Token) × Cuts octets tokens × ((cut_from zero tokens).ended ≡ [])) (λ fault. (tokens : List Token) × Breaks octets tokens fault × ((cut_from zero tokens).ended ≡ []))
-at_end octets at e = search (rules, read_by octets (On at) e, end_by octets, no_ended)
+at_end octets at e = search (rules, read_by octets (On at) e, no_ended)
 
 pub ruleset scan_steps = (all_taken, at_octet, one_on, rises, stays)

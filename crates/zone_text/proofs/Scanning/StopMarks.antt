@@ -13,7 +13,7 @@ use Rattle.std.specs.Prelude.{not, ◌||◌}
 use Rattle.std.specs.Simd.Lanes.{mask_l}
 use lib.Lanes.{Each1, top, zip2}
 use lib.ListN.{replicate}
-use Rattle.zone_text.proofs.Common.{common_steps, All, AllByRecursion, Bool, EndsAt, List, [], agree_below_at, and_parts, ap, arith, cases_lt, cond, drop, drop-drop, eqb-true, false, get_or, inl, inr, length, length-drop, length-map, length-take, map, min, ne_eqb, recursion_from_All, refl, stops_bare, subst, suc, sym, take, true, zero, ℕ, ◌&&◌, ◌+◌, ◌-◌, ◌<◌, ◌==◌, ◌^◌, ◌∙◌, ◌∷◌, ◌≡◌, ◌≢◌, ◌≤◌}
+use Rattle.zone_text.proofs.Common.{common_steps, All, AllByRecursion, Bool, EndsAt, List, [], agree_below_at, and_parts, ap, arith, cases_lt, cond, drop, drop-drop, eqb-true, false, get_or, length, length-drop, length-map, length-take, map, min, ne_eqb, recursion_from_All, refl, stops_bare, subst, suc, sym, take, true, zero, ℕ, ◌&&◌, ◌+◌, ◌-◌, ◌<◌, ◌==◌, ◌^◌, ◌∙◌, ◌∷◌, ◌≡◌, ◌≢◌, ◌≤◌}
 use Rattle.zone_name.proofs.InOctets.Runs.{after_bits, first_inside, none_inside, prefix_step}
 use Rattle.zone_text.specs.Machine.Stops.{Tells}
 use Rattle.zone_text.specs.Tokens.{is_blank}
@@ -47,9 +47,6 @@ known_rest stops new octets k tells some len is unseen = grind (arith, tells_aft
 -- where no bit is set, the first stop is among the unseen octets
 pub unknown_len : (stops : Stops) (octets ahead : List ℕ) (seen more : ℕ) → Tells stops octets → stops.bits ≡ 0 → seen ≡ length octets - stops.unseen → ahead ≡ drop seen octets → more ≡ prefix_len goes_on ahead → seen + more ≡ prefix_len goes_on octets
 unknown_len stops octets ahead seen more tells none is back len = grind (arith, none_inside stops_bare seen octets)
-
-pub tells_none : (stops : Stops) (octets : List ℕ) → stops.bits ≡ 0 → stops.unseen ≡ length octets → Tells stops octets
-tells_none stops octets none all = grind (arith, common_steps, mask_l, stops_bare)
 
 pub unknown_rest : (new : Stops) (octets ahead : List ℕ) (seen more : ℕ) → ahead ≡ drop seen octets → Tells new (drop (more + 1) ahead) → Tells new (drop (seen + more + 1) octets)
 unknown_rest new octets ahead seen more back tells = grind (arith, common_steps, drop-drop)
@@ -151,6 +148,6 @@ pub plain_prefix : (k : ℕ) (xs : List ℕ) → k ≤ length xs → All (λ c. 
 plain_prefix k xs within each ends = sym (prefix_by k xs within (recursion_from_All (λ c. stops_bare c ≡ false) _ each) ends)
 
 pub last_found : (stops : Stops) (octets rest : List ℕ) (seen more : ℕ) → rest ≡ drop seen octets → more ≤ length rest → All (λ c. stops_bare c ≡ false) (take more rest) → EndsAt stops_bare (drop more rest) → stops.bits ≡ 0 → stops.unseen ≡ length rest - min (length rest) (more + 1) → GoesTo octets seen → (seen + more ≡ prefix_len goes_on octets) × Tells stops (drop (seen + more + 1) octets)
-last_found stops octets rest seen more back within each ends none unseen so_far = grind (arith, plain_prefix more rest within each ends, length-drop (more + 1) rest, unknown_rest stops octets rest seen more back, tells_none stops (drop (more + 1) rest) none)
+last_found stops octets rest seen more back within each ends none unseen so_far = grind (arith, plain_prefix more rest within each ends, length-drop (more + 1) rest, unknown_rest stops octets rest seen more back, common_steps)
 
 pub ruleset stop_lengths = (goes_on, known_len, prefix_len-le-length, unknown_len)

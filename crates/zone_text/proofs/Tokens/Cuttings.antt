@@ -39,11 +39,8 @@ after_bare units (comment octets) rest is may = at_octet 59 (octets ++ rest) ref
 after_bare units (bare more) rest is may = absurd may
 after_bare units (quoted more) rest is may = at_octet 34 ((written_text more ++ 34 ∷ []) ++ rest) refl refl
 
-comment_passed : (octets : List ℕ) (q : Token) (rest : List ℕ) → MayFollow (comment octets) q → EndsComment (token_text q ++ rest)
-comment_passed octets q rest may = search rules
-
 pub next_stops : (p q : Token) (rest : List ℕ) → IsToken q → MayFollow p q → Stops p (token_text q ++ rest)
-next_stops (comment octets) q rest is may = comment_passed octets q rest may
+next_stops (comment octets) q rest is may = search rules
 next_stops (bare units) q rest is may = after_bare units q rest is may
 next_stops p q rest is may = tt
 
@@ -86,21 +83,14 @@ pub record IsCut (depth : ℕ) (octets : List ℕ) (tokens : List Token) (fault 
 pub no_token : (depth : ℕ) (octets : List ℕ) (fault : Option Fault) → Ends depth octets fault → IsCut depth octets [] fault
 no_token depth octets fault ends = search rules
 
-pub text_on : (octets rest after : List ℕ) (p : Token) (tokens : List Token) → octets ≡ token_text p ++ rest → rest ≡ text tokens ++ after → octets ≡ text (p ∷ tokens) ++ after
-text_on octets rest after p tokens e more = grind (arith, common_steps)
-
 follow_on : (p : Token) (tokens : List Token) (rest after : List ℕ) → Stops p rest → rest ≡ text tokens ++ after → AllByRecursion IsToken tokens → AllFollow tokens → AllFollow (p ∷ tokens)
 follow_on p tokens rest after stop whole each follow = search (rules, follows, append_assoc)
 
--- only the last token matters
-pub last_same : (p q : Token) (tokens : List Token) (after : List ℕ) → MayEndBefore (p ∷ q ∷ tokens) after ≡ MayEndBefore (q ∷ tokens) after
-last_same p q tokens after = grind arith
-
 pub last_in_front : (p q : Token) (tokens : List Token) (after : List ℕ) → MayEndBefore (q ∷ tokens) after → MayEndBefore (p ∷ q ∷ tokens) after
-last_in_front p q tokens after last = subst (λ P. P) (sym (last_same p q tokens after)) last
+last_in_front p q tokens after last = search rules
 
 pub one_token_more : (depth : ℕ) (octets rest : List ℕ) (p : Token) (tokens : List Token) (fault : Option Fault) → Takes depth octets p rest → IsCut (depth_past depth p) rest tokens fault → IsCut depth octets (p ∷ tokens) fault
-one_token_more depth octets rest p tokens fault front more = grind (arith, common_steps, text_on, follow_on, depth_on)
+one_token_more depth octets rest p tokens fault front more = search (rules, common_steps, follow_on, depth_on)
 
 pub some_octet : (p : Token) → IsToken p → 0 < length (token_text p)
 some_octet (bare []) is = absurd (omega (arith, is.0))

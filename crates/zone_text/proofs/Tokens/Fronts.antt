@@ -1,5 +1,5 @@
 -- The first token of a text: what is read is so, and what is so is read.
-use Rattle.zone_text.proofs.Common.{AllByRecursion, BadEscape, Bool, Fault, Front, IsBadEscape, IsBroken, IsToken, IsUnit, List, NoUnit, None, Option, Sign, Some, Token, UnitsAre, Written, [], a_blank, a_closing, a_line_feed, a_quote, a_semicolon, an_opening, ap, append-nil, append_assoc, arith, at_backslash, at_end, at_octet, bare, bare_front, before_line_feed, blank, both_ways, closes_nothing, closing, comment, cond_both, decimal, drop, drop-append_seam, end_front, ends_item, eqb-false, eqb-true, escaped, false, from_line_feed, front_by, front_of, is_blank, is_quote, length, line_feed, no_escape, no_quote, no_quoted_escape, not_closed, of_item, opening, plain, quoted, quoted_front, refl, rules, sign_of, stops, subst, suc, sym, takes, token_text, true, units_first, units_first_are, units_first_only, written_text, zero, ℕ, ◌++◌, ◌<◌, ◌==◌, ◌∙◌, ◌∷◌, ◌≡◌, ◌≢◌}
+use Rattle.zone_text.proofs.Common.{AllByRecursion, BadEscape, Bool, Fault, Front, IsBadEscape, IsBroken, IsToken, IsUnit, List, NoUnit, None, Option, Sign, Some, Token, Written, [], a_blank, a_closing, a_line_feed, a_quote, a_semicolon, an_opening, ap, append-nil, append_assoc, arith, at_backslash, at_end, at_octet, bare, bare_front, before_line_feed, blank, both_ways, closes_nothing, closing, comment, cond_both, decimal, drop, drop-append_seam, end_front, ends_item, eqb-false, eqb-true, escaped, false, from_line_feed, front_by, front_of, is_blank, is_quote, length, line_feed, no_escape, no_quote, no_quoted_escape, not_closed, of_item, opening, plain, quoted, quoted_front, refl, rules, sign_of, stops, subst, suc, sym, takes, token_text, true, units_first, units_first_are, units_first_only, written_text, zero, ℕ, ◌++◌, ◌<◌, ◌==◌, ◌∙◌, ◌∷◌, ◌≡◌, ◌≢◌}
 
 -- ---- comments
 

@@ -4,7 +4,7 @@ use Rattle.zone_text.proofs.Common.{AllByRecursion, AllFollow, AreKept, AreToken
 use Rattle.zone_rdata.specs.Item as raw
 use Rattle.zone_text.specs.Machine.Cutting as cutting
 use Rattle.zone_text.proofs.Tokens.Cuttings.{follow_after, next_stops, shorter}
-use Rattle.zone_text.proofs.Tokens.Fronts.{HasRoom, IsFront, IsSign, Stops, Takes, at_sign, comment_dropped, first_octet_is, front_is, front_takes, sign_is, sign_of_item}
+use Rattle.zone_text.proofs.Tokens.Fronts.{HasRoom, IsFront, IsSign, Takes, at_sign, comment_dropped, first_octet_is, front_is, front_takes, sign_is, sign_of_item}
 use Rattle.zone_text.proofs.Entries.Kept.{keeps_more}
 use Rattle.std.proofs.lemmas.List.Elements.{All-cons}
 use Rattle.zone_name.specs.Spelling.{BeginsWithEscape}
@@ -167,15 +167,11 @@ in_front_shorter octets rest items found = search (rules, in_front_takes octets 
 
 -- ---- all tokens of a text
 
--- a token ends before those after it
-stops_before : (p : Token) (tokens : List Token) → AllByRecursion IsToken tokens → AllFollow (p ∷ tokens) → Stops p (text tokens)
-stops_before p tokens each follow = search (rules, at_end, next_stops)
-
 room : (p : Token) → HasRoom 1 p
 room p = search rules
 
 first_takes : (octets : List ℕ) (p : Token) (tokens : List Token) → AreTokensOf octets (p ∷ tokens) → front_of 1 octets ≡ takes p (text tokens)
-first_takes octets p tokens are = ap (front_of 1) are.whole ∙ front_takes 1 p (text tokens) are.each.0 (stops_before p tokens are.each.1 are.follow) (room p)
+first_takes octets p tokens are = search (rules, front_takes, room, at_end, next_stops)
 
 -- the first of them is the token in front
 pub tokens_after : (octets left : List ℕ) (items : List RawItem) → IsInFront octets items left → (p : Token) (more : List Token) → AreTokensOf octets (p ∷ more) → (items ≡ item_of p) × AreTokensOf left more
