@@ -178,11 +178,8 @@ says_end : (step : Step) (depth : ℕ) (rest : List ℕ) (fault : Option Fault) 
 says_end (On at) depth rest fault ran left = record { fault = ran; left = left; entries = cc }
 says_end step depth rest fault ran left = absurd ran
 
-says_lost : (step : Step) (depth : ℕ) (rest : List ℕ) → step ≡ LostEscape → StaysBroken rest → Says step depth [] rest (Some BadEscape)
-says_lost step depth rest is left = rw is (record { fault = refl; left = left; entries = cc })
-
 escape_says : (extent : Extent) (step : Step) (depth : ℕ) (after rest : List ℕ) → IsLostEscape after ⊎ IsCutOff after → ScansTo (inside extent depth) after step → (IsLostEscape after → StaysBroken rest) → (IsCutOff after → BreaksAtEnd rest) → Says step depth [] rest (Some BadEscape)
-escape_says extent step depth after rest (inl lost) scanned stay ends = says_lost step depth rest (lost_scanned extent depth after step lost scanned) (stay lost)
+escape_says extent step depth after rest (inl lost) scanned stay ends = search (rules, lost_scanned extent depth after step lost scanned)
 escape_says extent step depth after rest (inr cut) scanned stay ends = says_end step depth rest (Some BadEscape) (cut_scanned extent depth after step cut scanned) (ends cut)
 
 in_quote : (step : Step) (depth : ℕ) (units : List Written) (rest after : List ℕ) → AllByRecursion (IsUnit is_quote) units → rest ≡ 34 ∷ written_text units ++ after → ScansTo (open_at depth) rest step → ScansTo (inside extents.Quoted depth) after step
@@ -227,9 +224,6 @@ token_scanned depth opening rest step is room none scanned = rw add-one at (on_m
 token_scanned depth closing rest step is room none scanned = on_more (open_at depth) (open_at (depth - 1)) 41 rest step scanned (rw (ne_eqb depth 0 (omega arith)) refl)
 token_scanned depth line_feed rest step is room none scanned = on_more (open_at depth) (open_at depth) 10 rest step scanned (rw (ne_eqb depth 0 none) refl)
 
-in_entry : (step : Step) (p : Token) (tokens : List Token) → in_front_of p (entry_by step tokens) ≡ entry_by step (p ∷ tokens)
-in_entry step p tokens = search rules
-
 -- after a comment what is left is scanned as where none is open
 after_says : (step : Step) (depth : ℕ) (p : Token) (octets : List ℕ) (tokens : List Token) (rest : List ℕ) (fault : Option Fault) → Stops p octets → ScansTo (after p depth) octets step → ((like : Step) → ScansTo (open_at (depth_past depth p)) octets like → Says like (depth_past depth p) tokens rest fault) → Says step (depth_past depth p) tokens rest fault
 unfolding scan_of
@@ -242,7 +236,7 @@ after_says step depth p octets tokens rest fault stop scanned more = more step s
 -- ---- all tokens
 
 token_says : (step : Step) (depth at : ℕ) (p : Token) (tokens : List Token) (rest : List ℕ) (fault : Option Fault) → AllByRecursion IsToken (p ∷ tokens) → AllFollow (p ∷ tokens) → MayEndBefore (p ∷ tokens) rest → depth_after depth (p ∷ tokens) ≡ Some at → EndsAt at rest fault → ScansTo (open_at depth) (text (p ∷ tokens) ++ rest) step → ((like : Step) → depth_after (depth_past depth p) tokens ≡ Some at → ScansTo (open_at (depth_past depth p)) (text tokens ++ rest) like → Says like (depth_past depth p) tokens rest fault) → EndsNone depth p → Says step depth (p ∷ tokens) rest fault
-token_says step depth at p tokens rest fault each follow last past ends scanned more none = search (rules, room_of depth, token_scanned depth p (text tokens ++ rest) step each.0, after_says step depth p (text tokens ++ rest) tokens rest fault (stop_of p tokens at rest fault each.1 follow last ends), stop_of p tokens, depth_on depth p tokens, in_entry step p tokens, append_assoc)
+token_says step depth at p tokens rest fault each follow last past ends scanned more none = search (rules, room_of depth, token_scanned depth p (text tokens ++ rest) step each.0, after_says step depth p (text tokens ++ rest) tokens rest fault (stop_of p tokens at rest fault each.1 follow last ends), stop_of p tokens, depth_on depth p tokens, append_assoc)
 
 whole_ends : (depth : ℕ) (rest : List ℕ) (fault : Option Fault) → depth ≡ zero → rest ≡ [] → EndsAt depth rest fault → fault ≡ None
 whole_ends depth rest fault d e ends = grind arith

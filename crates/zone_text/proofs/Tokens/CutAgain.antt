@@ -36,12 +36,9 @@ pub again_zero : (ended : List (List Token)) (more : List Token) → AreEnded ze
 again_zero [] more are = refl
 again_zero (entry ∷ ended) more are = are.again entry ended more refl
 
-line_ended : (ended : List (List Token)) → AreEnded zero ended → AreEnded zero ((line_feed ∷ []) ∷ ended)
-line_ended ended are = search (rules, again_zero)
-
 pub cut_ended : (depth : ℕ) (tokens : List Token) → AreEnded depth (cut_from depth tokens).ended
 cut_ended depth [] = record { each = tt; ends = tt; again = λ entry rest more e. absurd cc }
-cut_ended zero (line_feed ∷ tokens) = search (rules, line_ended, cut_ended zero tokens)
+cut_ended zero (line_feed ∷ tokens) = search (rules, again_zero, cut_ended zero tokens)
 cut_ended depth (opening ∷ tokens) = front_ended depth (suc depth) opening (cut_from (suc depth) tokens).ended _ (λ ps. refl) (cut_ended (suc depth) tokens)
 cut_ended (suc depth) (closing ∷ tokens) = search (rules, front_ended, cut_ended depth tokens)
 cut_ended depth (p ∷ tokens) = front_ended depth depth p (cut_from depth tokens).ended _ (λ ps. refl) (cut_ended depth tokens)

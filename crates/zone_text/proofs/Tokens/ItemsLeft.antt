@@ -167,11 +167,8 @@ in_front_shorter octets rest items found = search (rules, in_front_takes octets 
 
 -- ---- all tokens of a text
 
-room : (p : Token) → HasRoom 1 p
-room p = search rules
-
 first_takes : (octets : List ℕ) (p : Token) (tokens : List Token) → AreTokensOf octets (p ∷ tokens) → front_of 1 octets ≡ takes p (text tokens)
-first_takes octets p tokens are = search (rules, front_takes, room, at_end, next_stops)
+first_takes octets p tokens are = search (rules, front_takes, at_end, next_stops)
 
 -- the first of them is the token in front
 pub tokens_after : (octets left : List ℕ) (items : List RawItem) → IsInFront octets items left → (p : Token) (more : List Token) → AreTokensOf octets (p ∷ more) → (items ≡ item_of p) × AreTokensOf left more
