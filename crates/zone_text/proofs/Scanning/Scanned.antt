@@ -137,20 +137,6 @@ lost_scanned extent depth rest step (one_digit x c more e dx nc) scanned = rw nc
 lost_scanned extent depth rest step (two_digits x y c more e dx dy nc) scanned = rw nc at (number_goes extent depth x y c more step dx dy (rw e at scanned))
 lost_scanned extent depth rest step (too_great x y z more e dx dy dz great) scanned = rw (dz, lt-leb (octet_of (decimal x y z)) 255 great) at (number_goes extent depth x y z more step dx dy (rw e at scanned))
 
--- the octets ran out, and the input's end has the fault
-abbrev RanOut : Option Fault → Step → Type 0
-RanOut fault (On at) = end_fault_of at ≡ fault
-RanOut fault step = ⊥
-
-ran_out : (extent : Extent) (escape : Escape) (depth : ℕ) (step : Step) → ScansTo (in_escape extent escape depth) [] step → RanOut (Some BadEscape) step
-ran_out extents.Bare escape depth step scanned = rw (none_more (in_escape extents.Bare escape depth) step scanned) refl
-ran_out extents.Quoted escape depth step scanned = rw (none_more (in_escape extents.Quoted escape depth) step scanned) refl
-
-cut_scanned : (extent : Extent) (depth : ℕ) (rest : List ℕ) (step : Step) → IsCutOff rest → ScansTo (inside extent depth) rest step → RanOut (Some BadEscape) step
-cut_scanned extent depth rest step (after_backslash_alone e) scanned = ran_out extent Begun depth step (backslash_on extent depth [] step (rw e at scanned))
-cut_scanned extent depth rest step (after_digit x e dx) scanned = ran_out extent (One x) depth step (rw dx at (backslash_goes extent depth x [] step (rw e at scanned)))
-cut_scanned extent depth rest step (after_two_digits x y e dx dy) scanned = ran_out extent (Two x y) depth step (rw dy at (digits_go extent depth x y [] step dx (rw e at scanned)))
-
 abbrev fault_of : Step → Option Fault
 fault_of (On at) = end_fault_of at
 fault_of Ends = None
@@ -174,13 +160,18 @@ record Says (step : Step) (depth : ℕ) (tokens : List Token) (rest : List ℕ) 
   left : Left step rest
   entries : cut_from depth tokens ≡ entry_by step tokens
 
-says_end : (step : Step) (depth : ℕ) (rest : List ℕ) (fault : Option Fault) → RanOut fault step → BreaksAtEnd rest → Says step depth [] rest fault
-says_end (On at) depth rest fault ran left = record { fault = ran; left = left; entries = cc }
-says_end step depth rest fault ran left = absurd ran
+ran_out : (extent : Extent) (escape : Escape) (step : Step) (depth : ℕ) (rest : List ℕ) → ScansTo (in_escape extent escape depth) [] step → BreaksAtEnd rest → Says step depth [] rest (Some BadEscape)
+ran_out extents.Bare escape step depth rest scanned left = rw (none_more (in_escape extents.Bare escape depth) step scanned) (record { fault = refl; left = left; entries = cc })
+ran_out extents.Quoted escape step depth rest scanned left = rw (none_more (in_escape extents.Quoted escape depth) step scanned) (record { fault = refl; left = left; entries = cc })
+
+cut_says : (extent : Extent) (step : Step) (depth : ℕ) (after rest : List ℕ) → IsCutOff after → ScansTo (inside extent depth) after step → BreaksAtEnd rest → Says step depth [] rest (Some BadEscape)
+cut_says extent step depth after rest (after_backslash_alone e) scanned left = ran_out extent Begun step depth rest (backslash_on extent depth [] step (rw e at scanned)) left
+cut_says extent step depth after rest (after_digit x e dx) scanned left = ran_out extent (One x) step depth rest (rw dx at (backslash_goes extent depth x [] step (rw e at scanned))) left
+cut_says extent step depth after rest (after_two_digits x y e dx dy) scanned left = ran_out extent (Two x y) step depth rest (rw dy at (digits_go extent depth x y [] step dx (rw e at scanned))) left
 
 escape_says : (extent : Extent) (step : Step) (depth : ℕ) (after rest : List ℕ) → IsLostEscape after ⊎ IsCutOff after → ScansTo (inside extent depth) after step → (IsLostEscape after → StaysBroken rest) → (IsCutOff after → BreaksAtEnd rest) → Says step depth [] rest (Some BadEscape)
 escape_says extent step depth after rest (inl lost) scanned stay ends = search (rules, lost_scanned extent depth after step lost scanned)
-escape_says extent step depth after rest (inr cut) scanned stay ends = says_end step depth rest (Some BadEscape) (cut_scanned extent depth after step cut scanned) (ends cut)
+escape_says extent step depth after rest (inr cut) scanned stay ends = cut_says extent step depth after rest cut scanned (ends cut)
 
 in_quote : (step : Step) (depth : ℕ) (units : List Written) (rest after : List ℕ) → AllByRecursion (IsUnit is_quote) units → rest ≡ 34 ∷ written_text units ++ after → ScansTo (open_at depth) rest step → ScansTo (inside extents.Quoted depth) after step
 in_quote step depth units rest after each whole scanned = units_scanned extents.Quoted depth units after step each (on_more (open_at depth) (inside extents.Quoted depth) 34 (written_text units ++ after) step (rw whole at scanned) refl)
@@ -304,10 +295,6 @@ read_by octets step scanned = search (rules, cutting_is octets, all_say (cutting
 
 no_ended : (tokens : List Token) → cut_from zero tokens ≡ record { ended = []; open_tokens = tokens } → (cut_from zero tokens).ended ≡ []
 no_ended tokens e = ap (λ (cut : Cut). cut.ended) e
-
--- what the input's end makes of the octets
-abbrev AtEnd : List ℕ → Option Fault → Type 0
-AtEnd octets fault = MatchOption fault ((tokens : List Token) × Cuts octets tokens × ((cut_from zero tokens).ended ≡ [])) (λ found. (tokens : List Token) × Breaks octets tokens found × ((cut_from zero tokens).ended ≡ []))
 
 -- where the octets leave the entry
 pub entry_is : (octets : List ℕ) (step : Step) → ScansTo beginning octets step → EntryIs octets (state_of step)
