@@ -1,6 +1,6 @@
 -- What a scan says of the octets that it took: where it goes on and stops, and the tokens that they
 -- are.
-use Rattle.zone_text.proofs.Common.{add-one, AllByRecursion, at_line_end, one_digit, two_digits, too_great, decimal, escaped, octet_of, AllFollow, BadEscape, Breaks, BreaksAtEnd, ClosesNothing, Comment, Cut, Cuts, Ends, Escaped, Fault, IsCutOff, IsLostEscape, IsOneEntry, IsOpen, IsToken, IsUnit, List, LostEscape, MatchOption, MayEndBefore, None, On, Open, Option, Quoted, QuotedEscaped, ScanState, Scanned, ScansTo, Some, StaysBroken, Step, Token, UnbalancedParenthesis, Written, [], ap, append-nil, append_assoc, arith, bare, beginning, blank, closing, closing_stays, comment, common_steps, cut_from, cutting, depth_after, depth_past, end_fault_of, ends_item, ends_within, eqb-true, escape_open, escape_stays, false, further, in_front_of, inl, inr, is_blank, is_quote, is_digit, length, length-append, length-take, line_feed, moves, ne_eqb, no_escape, no_quote, no_quoted_escape, not_closed, nothing_left, open_at, opening, plain, quote_open, quoted, quoted_escape_open, quoted_escape_stays, refl, rules, scan_of, scan_on, step_of, subst, suc, sym, take, text, text_of, token_text, true, unclosed, written_text, zero, ℕ, ◌++◌, ◌+◌, ◌-◌, ◌∙◌, ◌∷◌, ◌≡◌, ◌≢◌, ◌≤◌, ◌⊎◌, AreQuiet, Bool, drop, get_or, or_parts, ◌<◌, ◌||◌}
+use Rattle.zone_text.proofs.Common.{add-one, AllByRecursion, at_line_end, one_digit, two_digits, too_great, decimal, escaped, octet_of, AllFollow, BadEscape, Breaks, BreaksAtEnd, ClosesNothing, Comment, Cut, Cuts, Ends, Escaped, Fault, IsCutOff, IsLostEscape, IsOneEntry, IsOpen, IsToken, IsUnit, List, LostEscape, MatchOption, MayEndBefore, None, On, Open, Option, Quoted, QuotedEscaped, ScanState, Scanned, ScansTo, Some, StaysBroken, Step, Token, UnbalancedParenthesis, Written, [], ap, append-nil, append_assoc, arith, bare, beginning, blank, closing, closing_stays, comment, common_steps, cut_from, cutting, depth_after, depth_past, end_fault_of, ends_item, ends_within, eqb-true, escape_open, escape_stays, false, further, inl, inr, is_blank, is_quote, is_digit, length, length-append, length-take, line_feed, moves, ne_eqb, no_escape, no_quote, no_quoted_escape, not_closed, nothing_left, open_at, opening, plain, quote_open, quoted, quoted_escape_open, quoted_escape_stays, refl, rules, scan_of, scan_on, step_of, subst, suc, sym, take, text, text_of, token_text, true, unclosed, written_text, zero, ℕ, ◌++◌, ◌+◌, ◌-◌, ◌∙◌, ◌∷◌, ◌≡◌, ◌≢◌, ◌≤◌, ◌⊎◌, AreQuiet, Bool, drop, get_or, or_parts, ◌<◌, ◌||◌}
 use Rattle.zone_text.specs.Breaks.{closes_nothing as closes_none}
 use Rattle.std.proofs.lemmas.Bool.{le-leb, lt-leb}
 use Rattle.zone_text.specs.Machine.OpenEntry.{state_of}

@@ -62,11 +62,11 @@ lost_not_cut : (rest : List ℕ) → IsLostEscape rest → IsCutOff rest → ⊥
 lost_not_cut rest h h2 = search rules
 
 pub stays_or_ends_alone : (rest : List ℕ) → StaysBroken rest → BreaksAtEnd rest → ⊥
-stays_or_ends_alone rest stays (nothing_left none) =  stays_some rest stays none
-stays_or_ends_alone rest (closing_stays after e) (quote_open units each f) =  search rules
-stays_or_ends_alone rest (escape_stays lost) (quote_open units each f) =  search rules
-stays_or_ends_alone rest (quoted_escape_stays other after another e lost) (quote_open units each f) =  search (rules, append-nil (written_text units), after_units, at_end, stays_some, at_backslash, malformed_is_bad)
-stays_or_ends_alone rest stays (escape_open cut) =  grind arith
+stays_or_ends_alone rest stays (nothing_left none) = stays_some rest stays none
+stays_or_ends_alone rest (closing_stays after e) (quote_open units each f) = search rules
+stays_or_ends_alone rest (escape_stays lost) (quote_open units each f) = search rules
+stays_or_ends_alone rest (quoted_escape_stays other after another e lost) (quote_open units each f) = search (rules, append-nil (written_text units), after_units, at_end, stays_some, at_backslash, malformed_is_bad)
+stays_or_ends_alone rest stays (escape_open cut) = grind arith
 stays_or_ends_alone rest stays (quoted_escape_open units more each f cut) = search (rules, after_units, at_backslash, malformed_is_bad, lost_not_cut)
 
 -- ---- a break of a text whose rest after its tokens is known

@@ -4,7 +4,7 @@ use Rattle.zone_text.proofs.Common.{AllByRecursion, AllFollow, AreKept, AreToken
 use Rattle.zone_rdata.specs.Item as raw
 use Rattle.zone_text.specs.Machine.Cutting as cutting
 use Rattle.zone_text.proofs.Tokens.Cuttings.{follow_after, next_stops, shorter}
-use Rattle.zone_text.proofs.Tokens.Fronts.{HasRoom, IsFront, IsSign, Takes, at_sign, comment_dropped, first_octet_is, front_is, front_takes, sign_is, sign_of_item}
+use Rattle.zone_text.proofs.Tokens.Fronts.{IsFront, IsSign, Takes, at_sign, comment_dropped, first_octet_is, front_is, front_takes, sign_is, sign_of_item}
 use Rattle.zone_text.proofs.Entries.Kept.{keeps_more}
 use Rattle.std.proofs.lemmas.List.Elements.{All-cons}
 use Rattle.zone_name.specs.Spelling.{BeginsWithEscape}
@@ -93,16 +93,13 @@ ended extent octets len is other = len_is extent octets len is (ended_by (ends_w
 
 -- an octet that ends an item and begins neither an item nor a comment
 pub plain_front : (octets after : List ℕ) (c : ℕ) → octets ≡ c ∷ after → c ≢ 34 → c ≢ 59 → ends_item c ≡ true → IsInFront octets [] after
-plain_front octets after c whole no_quote no_comment ends = by (sign_of c) (sign_is c) refl
+plain_front octets after c whole no_quote no_comment ends = by (sign_of c) (sign_is c) (at_sign 1 c after (sign_of c) refl)
   where
-    by : (sign : Sign) → IsSign c sign → sign_of c ≡ sign → IsInFront octets [] after
-    by a_blank is e = record { token = blank c; front = ap (front_of 1) whole ∙ at_sign 1 c after a_blank e; stated = refl }
-    by a_line_feed is e = record { token = line_feed; front = ap (front_of 1) whole ∙ at_sign 1 c after a_line_feed e; stated = refl }
-    by an_opening is e = record { token = opening; front = ap (front_of 1) whole ∙ at_sign 1 c after an_opening e; stated = refl }
-    by a_closing is e = record { token = closing; front = ap (front_of 1) whole ∙ at_sign 1 c after a_closing e; stated = refl }
+    by : (sign : Sign) → IsSign c sign → front_of 1 (c ∷ after) ≡ cutting.front_by 1 c after sign → IsInFront octets [] after
     by a_quote is e = absurd (no_quote is)
     by a_semicolon is e = absurd (no_comment is)
     by of_item is e = absurd (both_ways (ends_item c) is ends)
+    by sign is e = record { token = _; front = ap (front_of 1) whole ∙ e; stated = refl }
 
 pub comment_front : (octets after left : List ℕ) (c n : ℕ) → octets ≡ c ∷ after → c ≡ 59 → n ≡ length (before_line_feed after) → left ≡ drop n after → IsInFront octets [] left
 comment_front octets after left c n whole is len back = record {
@@ -115,28 +112,22 @@ comment_front octets after left c n whole is len back = record {
 item_is : (ends : ℕ → Bool) (octets item rest : List ℕ) (n : ℕ) → n ≡ item_len ends octets → item ≡ take n octets → rest ≡ drop n octets → (item ≡ written_text (units_first ends octets).units) × (rest ≡ (units_first ends octets).rest)
 item_is ends octets item rest n len front back = search (rules, units_first_are ends octets, take-append_seam, drop-append_seam)
 
+bare_of : (octets item left : List ℕ) (units : List Written) → 0 < length item → item ≡ written_text units → AllByRecursion (IsUnit ends_item) units → octets ≡ written_text units ++ left → NoUnit ends_item left → IsInFront octets (raw.bare item ∷ []) left
+bare_of octets item left [] some text each whole none = absurd (omega (arith, some, ap length text))
+bare_of octets item left (w ∷ units) some text each whole none = record { token = bare (w ∷ units); front = ap (front_of 1) whole ∙ front_takes 1 (bare (w ∷ units)) left (omega arith, each) none tt; stated = ap (λ t. raw.bare t ∷ []) (sym text) }
+
 pub bare_front : (octets item left : List ℕ) (n : ℕ) → n ≡ item_len ends_item octets → item ≡ take n octets → left ≡ drop n octets → 0 < length item → IsInFront octets (raw.bare item ∷ []) left
 bare_front octets item left n len front back some =
     let found : UnitsAre ends_item octets (units_first ends_item octets) = units_first_are ends_item octets in
     let is = item_is ends_item octets item left n len front back in
-    by (units_first ends_item octets).units is.0 found.each (found.whole ∙ ap (λ t. written_text (units_first ends_item octets).units ++ t) (sym is.1)) (subst (NoUnit ends_item) (sym is.1) found.none)
-  where
-    by : (units : List Written) → item ≡ written_text units → AllByRecursion (IsUnit ends_item) units → octets ≡ written_text units ++ left → NoUnit ends_item left → IsInFront octets (raw.bare item ∷ []) left
-    by [] text each whole none = absurd (omega (arith, some, ap length text))
-    by (w ∷ units) text each whole none = record {
-      token = bare (w ∷ units);
-      front = ap (front_of 1) whole ∙ front_takes 1 (bare (w ∷ units)) left (omega arith, each) none tt;
-      stated = ap (λ t. raw.bare t ∷ []) (sym text);
-    }
+    bare_of octets item left (units_first ends_item octets).units some is.0 found.each (rw is.1 found.whole) (rw is.1 found.none)
+
+no_bare_by : (units : List Written) (rest : List ℕ) → length (written_text units) ≡ 0 → IsNoToken (cutting.bare_front units rest)
+no_bare_by [] rest none = tt
+no_bare_by (w ∷ units) rest none = absurd (omega (arith, none, length-append (text_of w) (written_text units), text_of-some w))
 
 pub no_bare : (octets after : List ℕ) (c : ℕ) → octets ≡ c ∷ after → ends_item c ≡ false → item_len ends_item octets ≡ 0 → IsNoToken (front_of 1 octets)
-no_bare octets after c whole goes_on none =
-    let first : front_of 1 octets ≡ cutting.bare_front (units_first ends_item octets).units (units_first ends_item octets).rest = rw whole (at_sign 1 c after of_item (sign_of_item c goes_on)) in
-    subst IsNoToken (sym first) (by (units_first ends_item octets).units (units_first ends_item octets).rest none)
-  where
-    by : (units : List Written) (rest : List ℕ) → length (written_text units) ≡ 0 → IsNoToken (cutting.bare_front units rest)
-    by [] rest none = tt
-    by (w ∷ units) rest none = absurd (omega (arith, none, length-append (text_of w) (written_text units), text_of-some w))
+no_bare octets after c whole goes_on none = search (rules, at_sign 1 c after of_item (sign_of_item c goes_on), no_bare_by (units_first ends_item octets).units (units_first ends_item octets).rest none)
 
 quoted_is : (octets after : List ℕ) (c : ℕ) → octets ≡ c ∷ after → c ≡ 34 → front_of 1 octets ≡ cutting.quoted_front (units_first is_quote after).units (units_first is_quote after).rest
 quoted_is octets after c whole is = ap (front_of 1) (whole ∙ first_octet_is c 34 after is) ∙ at_sign 1 34 after a_quote refl
@@ -144,14 +135,12 @@ quoted_is octets after c whole is = ap (front_of 1) (whole ∙ first_octet_is c 
 pub quoted_front : (octets after inside ending left : List ℕ) (c q n : ℕ) → octets ≡ c ∷ after → c ≡ 34 → n ≡ item_len is_quote after → inside ≡ take n after → ending ≡ drop n after → ending ≡ q ∷ left → q ≡ 34 → IsInFront octets (raw.quoted inside ∷ []) left
 quoted_front octets after inside ending left c q n whole is len front back first quote = search (rules, item_is is_quote after inside ending n len front back, quoted_is octets after c whole is, first_octet_is q 34 left quote)
 
+no_quoted_by : (units : List Written) (rest : List ℕ) → ((more : List ℕ) → rest ≢ 34 ∷ more) → IsNoToken (cutting.quoted_front units rest)
+no_quoted_by units [] none = tt
+no_quoted_by units (d ∷ more) none = grind (arith, none more, eqb-true)
+
 pub no_quoted : (octets after inside ending : List ℕ) (c n : ℕ) → octets ≡ c ∷ after → c ≡ 34 → n ≡ item_len is_quote after → inside ≡ take n after → ending ≡ drop n after → ((more : List ℕ) → ending ≢ 34 ∷ more) → IsNoToken (front_of 1 octets)
-no_quoted octets after inside ending c n whole is len front back other =
-    subst IsNoToken (sym (quoted_is octets after c whole is))
-    (by (units_first is_quote after).units (units_first is_quote after).rest (λ more e. other more ((item_is is_quote after inside ending n len front back).1 ∙ e)))
-  where
-    by : (units : List Written) (rest : List ℕ) → ((more : List ℕ) → rest ≢ 34 ∷ more) → IsNoToken (cutting.quoted_front units rest)
-    by units [] none = tt
-    by units (d ∷ more) none = cond_both (is_quote d) (takes (quoted units) more) (cutting.stops (Some BadEscape)) IsNoToken (λ e. none more (first_octet_is d 34 more (eqb-true d 34 e))) (λ e. tt)
+no_quoted octets after inside ending c n whole is len front back other = search (rules, quoted_is octets after c whole is, item_is is_quote after inside ending n len front back, no_quoted_by (units_first is_quote after).units (units_first is_quote after).rest)
 
 pub end_of_text : (octets : List ℕ) → length octets ≡ 0 → IsNoToken (front_of 1 octets)
 unfolding front_of
@@ -200,15 +189,13 @@ one_less entry octets left kept new item found keeps leaves tokens cuts =
 pub none_less : (entry octets left : List ℕ) (kept : List RawItem) → IsInFront octets [] left → LeavesItems entry octets kept → LeavesItems entry left kept
 none_less entry octets left kept found leaves tokens cuts = search (rules, left_by octets left kept kept [] tokens, append-nil)
 
+all_before : (so_far : List RawItem) (rest : List ℕ) (tokens : List Token) (more : List Token) → IsNoToken (front_of 1 rest) → AreTokensOf rest more → so_far ++ flat_map item_of more ≡ flat_map item_of tokens → so_far ≡ flat_map item_of tokens
+all_before so_far rest tokens [] none are items = sym (append-nil so_far) ∙ items
+all_before so_far rest tokens (p ∷ more) none are items = absurd (no_tokens rest none p more are)
+
 -- where no token is left, the items are all
 pub all_taken : (entry rest : List ℕ) (kept : List RawItem) → IsNoToken (front_of 1 rest) → LeavesItems entry rest kept → KeepsItems entry kept
-all_taken entry rest kept none leaves tokens cuts =
-    let before = leaves tokens cuts in
-    subst (λ t. AreKept t kept) (by before.so_far before.more before.are before.items) before.are_kept
-  where
-    by : (so_far : List RawItem) (more : List Token) → AreTokensOf rest more → so_far ++ flat_map item_of more ≡ flat_map item_of tokens → so_far ≡ flat_map item_of tokens
-    by so_far [] are items = sym (append-nil so_far) ∙ items
-    by so_far (p ∷ more) are items = absurd (no_tokens rest none p more are)
+all_taken entry rest kept none leaves tokens cuts = search (rules, all_before, leaves tokens cuts)
 
 pub ruleset item_fronts = (bare_front, comment_front, end_of_text, ends_but_mark, eqb-false, plain_front)
 
