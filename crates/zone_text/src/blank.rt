@@ -17,7 +17,7 @@ pub(crate) struct BlankLines<'t> {
 /// `None`: none ends it.
 // Not inlined: so the loop over line feeds stays short.
 #[inline(never)]
-#[tactic(auto, using(crate::proofs::Tokens::Fronts::comment_parts))]
+#[tactic(auto, using(crate::proofs::Tokens::Cuttings::comment_parts))]
 fn after_comment(octets: &[u8]) -> Option<&[u8]>
     ensures { IfSome result (λ rest. IsComment octets.now rest.now) }
 {

@@ -13,9 +13,8 @@ use Rattle.zone_text.specs.Lasting.{after_backslash as after_backslash_alone, af
 use Rattle.zone_text.specs.Machine.Scan.{after_backslash}
 use Rattle.zone_text.specs.declared.items.Extent.{Extent}
 use Rattle.zone_text.specs.declared.items.Extent.TheVariants as extents
-use Rattle.zone_text.proofs.Tokens.Cuttings.{IsCut, room_of, breaks, cuts, cutting_is, depth_on, follow_after, last_after, some_octet, stop_of}
+use Rattle.zone_text.proofs.Tokens.Cuttings.{IsCut, room_of, breaks, cuts, cutting_is, depth_on, follow_after, last_after, some_octet, stop_of, Ends as EndsAt, HasRoom, Stops}
 use Rattle.zone_text.proofs.Tokens.ForGood.{bad_is_malformed, ends_not_for_good, stays_for_good}
-use Rattle.zone_text.proofs.Tokens.Fronts.{Ends as EndsAt, HasRoom, Stops}
 
 -- ---- an octet that leaves the state as it is
 

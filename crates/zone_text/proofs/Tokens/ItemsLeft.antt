@@ -3,12 +3,11 @@
 use Rattle.zone_text.proofs.Common.{AllByRecursion, AllFollow, AreKept, AreTokensOf, BadEscape, Bool, Cuts, IsInFront, IsNoToken, IsToken, IsUnit, Keeps, KeepsItems, List, NoUnit, RawItem, Sign, Some, Token, UnitsAre, Written, [], a_blank, a_closing, a_line_feed, a_quote, a_semicolon, an_opening, ap, append-nil, append_assoc, arith, at_end, bare, before_line_feed, blank, both_ways, closing, comment, cond_both, drop, drop-append_seam, ends_item, eqb-true, false, flat_map, front_of, is_quote, item_len, item_of, length, length-append, line_feed, of_item, opening, quoted, refl, rules, sign_of, subst, sym, take, take-append_seam, takes, text, text_of, text_of-some, true, units_first, units_first_are, written_text, ℕ, ◌++◌, ◌<◌, ◌∙◌, ◌∷◌, ◌≡◌, ◌≢◌, All, AllByRecursion-append, EndsAt, Units, at_octet, ends_within, eqb-false, flat_map-append, get_or, length-drop, length-take, map, ne_eqb, or_parts, plain, recursion_from_All, stops_bare, suc, take-append-drop, unit_of_escape, units_first_only, ◌+◌, ◌-◌, ◌==◌, ◌||◌, ◌≤◌}
 use Rattle.zone_rdata.specs.Item as raw
 use Rattle.zone_text.specs.Machine.Cutting as cutting
-use Rattle.zone_text.proofs.Tokens.Cuttings.{follow_after, next_stops, shorter}
-use Rattle.zone_text.proofs.Tokens.Fronts.{IsFront, IsSign, Takes, at_sign, comment_dropped, first_octet_is, front_is, front_takes, sign_is, sign_of_item}
+use Rattle.zone_text.proofs.Tokens.Cuttings.{follow_after, next_stops, shorter, IsFront, IsSign, Takes, at_sign, comment_dropped, first_octet_is, front_is, front_takes, sign_is, sign_of_item}
 use Rattle.zone_text.proofs.Entries.Kept.{keeps_more}
 use Rattle.std.proofs.lemmas.List.Elements.{All-cons}
 use Rattle.zone_name.specs.Spelling.{BeginsWithEscape}
-use Rattle.zone_text.proofs.Tokens.TokenEnds.{first_at}
+use Rattle.zone_text.proofs.Scanning.StopMarks.{first_at}
 use Rattle.zone_text.specs.declared.items.Extent.{Extent}
 
 -- the first octets are written octets of an item, and what follows ends it or is a backslash

@@ -1,7 +1,6 @@
 -- What is settled of a text by its front.
 use Rattle.zone_text.proofs.Common.{AllByRecursion-append, AllByRecursion-back, AllByRecursion-front, AllFollow, BadEscape, Breaks, BreaksForGood, Cuts, EndInLineFeed, Fault, IsBadEscape, IsBroken, IsEscape, IsLostEscape, List, MayEndBefore, None, Option, Some, StaysBroken, Token, UnbalancedParenthesis, Written, [], ap, append-nil, append_assoc, at_line_end, closes_nothing, closing_stays, comment, depth_after, depth_past, escape_stays, flat_map-append, no_escape, no_quoted_escape, one_digit, quoted_escape_stays, rules, subst, sym, text, text_of, too_great, two_digits, written_text, zero, ℕ, ◌++◌, ◌∙◌, ◌∷◌, ◌≡◌, arith}
-use Rattle.zone_text.proofs.Tokens.Fronts.{front_stops}
-use Rattle.zone_text.proofs.Tokens.Cuttings.{IsCut, is_cut, cuts, is_broken, breaks, last_after, last_in_front, follow_after, depth_on, room_of}
+use Rattle.zone_text.proofs.Tokens.Cuttings.{front_stops, IsCut, is_cut, cuts, is_broken, breaks, last_after, last_in_front, follow_after, depth_on, room_of}
 
 -- ---- tokens after tokens
 
