@@ -27,6 +27,7 @@ fn after_comment(octets: &[u8]) -> Option<&[u8]>
 }
 
 /// Takes the empty lines at the front: line feeds alone.
+#[tactic(auto, using(crate::proofs::Tokens::BlankLines::lines_taken))]
 fn empty_lines(octets: &[u8]) -> BlankLines<'_>
     ensures are { AreBlankLines octets.now result.rest.now result.count }
     ensures few { result.count + length result.rest.now ≤ length octets.now }
