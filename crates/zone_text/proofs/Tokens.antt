@@ -3,8 +3,6 @@ pub mod BlankLines
 pub mod CutAgain
 pub mod Cuttings
 pub mod ForGood
-pub mod Fronts
 pub mod ItemsLeft
 pub mod Lasting
 pub mod StandingItems
-pub mod TokenEnds

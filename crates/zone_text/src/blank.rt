@@ -17,7 +17,7 @@ pub(crate) struct BlankLines<'t> {
 /// `None`: none ends it.
 // Not inlined: so the loop over line feeds stays short.
 #[inline(never)]
-#[tactic(auto, using(crate::proofs::Tokens::Fronts::comment_parts))]
+#[tactic(auto, using(crate::proofs::Tokens::Cuttings::comment_parts))]
 fn after_comment(octets: &[u8]) -> Option<&[u8]>
     ensures { IfSome result (λ rest. IsComment octets.now rest.now) }
 {
@@ -27,6 +27,7 @@ fn after_comment(octets: &[u8]) -> Option<&[u8]>
 }
 
 /// Takes the empty lines at the front: line feeds alone.
+#[tactic(auto, using(crate::proofs::Tokens::BlankLines::lines_taken))]
 fn empty_lines(octets: &[u8]) -> BlankLines<'_>
     ensures are { AreBlankLines octets.now result.rest.now result.count }
     ensures few { result.count + length result.rest.now ≤ length octets.now }

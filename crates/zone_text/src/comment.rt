@@ -26,7 +26,7 @@ pub(crate) fn comment_len(text: &[u8]) -> usize
 }
 
 /// As `comment_len`, octet by octet.
-#[tactic(auto, using(crate::proofs::Tokens::TokenEnds::comment_lengths))]
+#[tactic(auto, using(crate::proofs::Scanning::StopMarks::comment_lengths))]
 fn comment_len_of_few(text: &[u8]) -> usize
     ensures len { result ≡ length (before_line_feed text.now) }
     ensures within { result ≤ length text.now }

@@ -45,7 +45,7 @@ impl Extent {
 }
 
 /// The number of octets before the first that ends the item or is a backslash.
-#[tactic(auto, using(crate::proofs::Tokens::TokenEnds::plain_lengths))]
+#[tactic(auto, using(crate::proofs::Scanning::StopMarks::plain_lengths))]
 pub(crate) fn plain_len(text: &[u8], extent: Extent) -> usize
     ensures within { result ≤ length text.now }
     ensures plain { All (λ c. stops_within extent c ≡ false) (take result text.now) }

@@ -1,5 +1,5 @@
 -- A piece fed part by part, each by what its last octet leads to.
-use Rattle.zone_text.proofs.Common.{EndedEntries, Ends, EntrySplitter, Fault, Follow, IsBrokenOff, IsSplitter, Labels, Line, List, None, On, Place, Placed, ReadsOctets, ScanState, Scanned, ScansTo, Some, Step, [], ap, append-nil, append_assoc, arith, beginning, length, rules, scan_of, subst, sym, take, ℕ, ◌++◌, ◌+◌, ◌∙◌, ◌≡◌, ◌≤◌, Breaks, BreaksForGood, Cuts, IsFirstEntry, IsOneEntry, KeepsItems, MatchOption, Option, RawItem, Token, common_steps, cut_from, drop, end_fault_of, refl, take-append-drop, zero, ◌<◌}
+use Rattle.zone_text.proofs.Common.{EndedEntries, Ends, EntrySplitter, Fault, Follow, IsBrokenOff, IsSplitter, Labels, Line, List, None, On, Place, Placed, ReadsOctets, ScanState, Scanned, ScansTo, Some, Step, [], ap, append-nil, append_assoc, arith, beginning, length, rules, scan_of, subst, sym, take, ℕ, ◌++◌, ◌+◌, ◌∙◌, ◌≡◌, ◌≤◌, IsFirstEntry, KeepsItems, Option, RawItem, common_steps, drop, end_fault_of, refl, take-append-drop, ◌<◌}
 use Rattle.zone_text.proofs.Files.Followed.{follow_fault, scans_on, follow_on, follow_entry, follow_break}
 use Rattle.zone_text.proofs.Scanning.Scanned.{stops_at, takes_front, unfinished_depth, at_end, ends_entry, entry_is, step_goes_on}
 use Rattle.zone_text.proofs.Entries.Begun.{nothing_taken}
@@ -36,8 +36,7 @@ follows_on ended at next unfinished part left step is e more origin fed given fo
 
 -- they end an entry
 pub is_ended : (old mid new : EndedEntries) (at next : ScanState) (unfinished part left : List ℕ) (step : Step) → IsPart old at unfinished part step → ReadsOctets (unfinished ++ part) old mid → new ≡ mid → next ≡ beginning → left ≡ [] → IsSplitter new next left
-is_ended old mid new at next unfinished part left step is reads same begins none =
-    nothing_taken new next left begins none (let h : new.line ≡ mid.line = ap (λ (s : EndedEntries). s.line) same in omega (arith, is.is.line, reads.later))
+is_ended old mid new at next unfinished part left step is reads same begins none = search (rules, nothing_taken new next left begins none)
 
 pub follows_entry : (old mid new : EndedEntries) (at : ScanState) (unfinished part left : List ℕ) (step : Step) → IsPart old at unfinished part step → step ≡ Ends → ReadsOctets (unfinished ++ part) old mid → new ≡ mid → left ≡ [] → FollowsOn old unfinished new left part
 follows_entry old mid new at unfinished part left step is e reads same none origin fed given follow = grind (arith, follow_entry origin old mid unfinished part fed given (after old at unfinished part step Ends is e) is.undecided reads follow)
@@ -49,8 +48,7 @@ pub record IsRefused (fault : Fault) (old new : EndedEntries) : Type 0 where
   pub line : new.line ≡ old.line
 
 pub is_refused : (fault : Fault) (old mid new : EndedEntries) (at next : ScanState) (unfinished part left : List ℕ) (step : Step) → IsPart old at unfinished part step → IsRefused fault old mid → new ≡ mid → next ≡ beginning → left ≡ [] → IsSplitter new next left
-is_refused fault old mid new at next unfinished part left step is refuse same begins none =
-    nothing_taken new next left begins none (let h : new.line ≡ mid.line = ap (λ (s : EndedEntries). s.line) same in omega (arith, is.is.line, refuse.line))
+is_refused fault old mid new at next unfinished part left step is refuse same begins none = search (rules, nothing_taken new next left begins none)
 
 pub follows_break : (fault : Fault) (old mid new : EndedEntries) (at : ScanState) (unfinished part left : List ℕ) (step last : Step) → ((octets : List ℕ) → ScansTo beginning octets last → IsBrokenOff octets fault) → IsPart old at unfinished part step → step ≡ last → IsRefused fault old mid → new ≡ mid → left ≡ [] → FollowsOn old unfinished new left part
 follows_break fault old mid new at unfinished part left step last off is e refuse same none origin fed given follow = grind (arith, follow_break origin old mid fault unfinished part fed given (off (unfinished ++ part) (after old at unfinished part step last is e)) is.undecided refuse.records refuse.ending follow)
@@ -92,12 +90,8 @@ takes_part at rest part found is cut = search (rules, takes_front, stops_at)
 pub depth_within : (ended : EndedEntries) (at : ScanState) (unfinished : List ℕ) → IsSplitter ended at unfinished → at.depth ≤ length unfinished
 depth_within ended at unfinished is = let h = unfinished_depth beginning at unfinished (ap (λ (f : Scanned). f.step) is.state) in omega (arith, h)
 
--- where the input ends
-by_end : (octets : List ℕ) (fault : Option Fault) → MatchOption fault ((tokens : List Token) × Cuts octets tokens × ((cut_from zero tokens).ended ≡ [])) (λ f. (tokens : List Token) × Breaks octets tokens f × ((cut_from zero tokens).ended ≡ [])) → EndIs octets fault
-by_end octets fault end = search rules
-
 pub end_is : (octets : List ℕ) (at : ScanState) (fault : Option Fault) → ScansTo beginning octets (On at) → fault ≡ end_fault_of at → EndIs octets fault
-end_is octets at fault scanned is = subst (EndIs octets) (sym is) (by_end octets (end_fault_of at) (at_end octets at scanned))
+end_is octets at fault scanned is = search (rules, at_end octets)
 
 -- a scan that goes on took all octets
 all_taken : (at next : ScanState) (octets : List ℕ) (found : Scanned) → found ≡ scan_of at octets → found.step ≡ On next → found.taken ≡ length octets
@@ -140,8 +134,7 @@ takes_none old new piece held step taken before settled old_is new_is len state 
 
 -- the parentheses that are open are no more than the octets
 pub depth_fits : (held : List ℕ) (at : ScanState) (step : Step) → ScansTo beginning held step → step ≡ On at → at.depth ≤ length held
-depth_fits held at step before on =
-    let h = unfinished_depth beginning at held (ap (λ (f : Scanned). f.step) before ∙ on) in omega (arith, h)
+depth_fits held at step before on = search (rules, unfinished_depth beginning)
 
 -- ---- the entry at the front of octets
 
@@ -157,23 +150,11 @@ unfolding scan_of
 some_taken octets found is ends moves = grind (arith, common_steps)
 
 pub first_whole : (octets entry : List ℕ) (found : Scanned) (left : List RawItem) → found ≡ scan_of beginning octets → found.step ≡ Ends → entry ≡ take found.taken octets → 0 < found.taken → found.taken ≤ length octets → KeepsItems entry left → IsFirstEntry octets found.taken left
-first_whole octets entry found left is ends front some within keeps =
-    let one = ends_entry entry (scanned_part octets entry Ends found is front ends) in
-    record {
-      tokens = one.0;
-      one = subst (λ t. IsOneEntry t one.0) front one.1;
-      stated = keeps one.0 one.1.cut;
-      some = some;
-      within = within;
-    }
+first_whole octets entry found left is ends front some within keeps = search (rules, ends_entry entry (scanned_part octets entry Ends found is front ends), scanned_part octets entry Ends found is front ends)
 
 -- octets after those that break stay broken off
 pub broken_on : (octets : List ℕ) (n : ℕ) (fault : Fault) → IsBrokenOff (take n octets) fault → IsBrokenOff octets fault
-broken_on octets n fault off = record {
-  tokens = off.tokens;
-  breaks = subst (λ t. BreaksForGood t off.tokens fault) (take-append-drop n octets) (breaks_for_good (take n octets) (drop n octets) off.tokens fault off.breaks);
-  none = off.none;
-}
+broken_on octets n fault off = search (rules, take-append-drop n octets, breaks_for_good (take n octets) (drop n octets) off.tokens fault off.breaks)
 
 pub first_broken : (octets : List ℕ) (found : Scanned) (step : Step) (fault : Fault) → ((part : List ℕ) → ScansTo beginning part step → IsBrokenOff part fault) → found ≡ scan_of beginning octets → found.step ≡ step → IsBrokenOff octets fault
 first_broken octets found step fault breaks is stops = broken_on octets found.taken fault (breaks (take found.taken octets) (scanned_part octets (take found.taken octets) step found is refl stops))

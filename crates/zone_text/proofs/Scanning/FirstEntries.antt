@@ -1,16 +1,13 @@
 -- The entry at the front of octets, token by token, without parentheses.
-use Rattle.zone_text.proofs.Common.{All, AreKept, Cuts, EndsAt, EntrySplitter, IsFirstEntry, IsInFront, IsOneEntry, IsSplitter, Keeps, KeepsBare, KeepsItems, List, None, RawItem, ReadsOctets, Token, [], ap, append-nil, append_assoc, arith, at_backslash, at_end, at_octet, bare, blank, closing, comment, drop, ends_item, false, flat_map, get_or, inl, is_blank, item_of, length, length-append, length-take, line_feed, opening, refl, rules, stops_bare, subst, suc, sym, take, take-append-drop, take-append_seam, text_of, token_text, true, zero, ℕ, ⊤, ◌++◌, ◌+◌, ◌-◌, ◌<◌, ◌∙◌, ◌∷◌, ◌≡◌, ◌≢◌, ◌≤◌, common_steps, AllByRecursion, Bool, IsToken, IsUnit, Written, cond, decimal, eqb-true, escaped, item_text, list_any, nat_eq, ne_eqb, plain, sum_by-append, sum_by-cons, written_text, zero-add, ◌==◌, quoted}
+use Rattle.zone_text.proofs.Common.{AreKept, EntrySplitter, IsFirstEntry, IsInFront, IsOneEntry, IsSplitter, Keeps, KeepsBare, KeepsItems, List, None, RawItem, ReadsOctets, Token, [], ap, append-nil, append_assoc, arith, at_backslash, at_end, at_octet, bare, blank, closing, comment, drop, ends_item, false, flat_map, get_or, inl, is_blank, item_of, length, length-append, length-take, line_feed, opening, refl, rules, subst, suc, sym, take, take-append-drop, take-append_seam, text_of, token_text, true, zero, ℕ, ⊤, ◌++◌, ◌+◌, ◌-◌, ◌<◌, ◌∙◌, ◌∷◌, ◌≡◌, ◌≢◌, common_steps, AllByRecursion, Bool, IsToken, IsUnit, Written, cond, decimal, eqb-true, escaped, list_any, nat_eq, ne_eqb, plain, sum_by-append, sum_by-cons, written_text, zero-add, ◌==◌, quoted}
 use Rattle.zone_rdata.specs.Item as raw
 use Rattle.zone_text.proofs.Scanning.FedPieces.{FollowsOn, HasFed, fed_more}
-use Rattle.zone_text.proofs.Tokens.Cuttings.{cuts, is_cut, one_cut, one_token_more}
+use Rattle.zone_text.proofs.Tokens.Cuttings.{cuts, is_cut, one_cut, one_token_more, Stops, Takes, begins}
 use Rattle.zone_text.proofs.Files.Followed.{follow_one}
-use Rattle.zone_text.proofs.Tokens.Fronts.{Begins, HasRoom, Stops, Takes, begins}
 use Rattle.zone_text.proofs.Tokens.ItemsLeft.{ended, plain_so_far, bare_front, in_front_takes, in_front_shorter}
-use Rattle.zone_text.proofs.Tokens.TokenEnds.{first_at}
-use Rattle.std.proofs.lemmas.List.Elements.{All-from_recursion}
+use Rattle.zone_text.proofs.Scanning.StopMarks.{first_at, goes_on, prefix_stops}
 use Rattle.zone_text.specs.declared.items.Extent.TheVariants.{Bare}
 use Rattle.zone_text.proofs.Entries.Kept.{keeps_more}
-use Rattle.zone_text.proofs.Scanning.StopMarks.{goes_on, prefix_stops}
 use Rattle.std.proofs.lemmas.List.Sums.{prefix_len-le-length}
 use Rattle.std.specs.List.{prefix_len}
 use Rattle.zone_text.proofs.Files.Left.{line_feeds}
@@ -69,32 +66,13 @@ blank_passed octets rest c whole is =
     record { token = blank c; takes = record { whole = whole; token = is; stop = tt; room = tt }; inside = tt; stated = refl; none = token_feeds (blank c) is tt (λ units e. absurd cc) }
 
 passed_by : (octets rest : List ℕ) (items : List RawItem) (found : IsInFront octets items rest) → ((text : List ℕ) → items ≡ raw.quoted text ∷ [] → line_feeds text ≡ 0) → IsInside found.token → IsPassed octets items rest
-passed_by octets rest items found none inside =
-    let takes = in_front_takes octets rest items found in
-    record {
-      token = found.token;
-      takes = record { whole = takes.whole; token = takes.token; stop = takes.stop; room = room found.token inside };
-      inside = inside;
-      stated = found.stated;
-      none = token_feeds found.token takes.token inside (λ units e. none (written_text units) (sym found.stated ∙ ap item_of e));
-    }
-  where
-    room : (p : Token) → IsInside p → HasRoom zero p
-    room p inside = grind arith
+passed_by octets rest items found none inside = search (rules, in_front_takes octets rest items found, token_feeds found.token)
 
 pub item_passed : (octets rest : List ℕ) (item : RawItem) → IsInFront octets (item ∷ []) rest → ((text : List ℕ) → item ≡ raw.quoted text → line_feeds text ≡ 0) → IsPassed octets (item ∷ []) rest
-item_passed octets rest item found none = passed_by octets rest (item ∷ []) found (λ text e. none text cc) (by found.token found.stated)
-  where
-    by : (p : Token) → item_of p ≡ item ∷ [] → IsInside p
-    by p e = grind arith
+item_passed octets rest item found none = search (rules, passed_by octets rest (item ∷ []) found)
 
 pub comment_passed : (octets after rest : List ℕ) (c : ℕ) → octets ≡ c ∷ after → c ≡ 59 → IsInFront octets [] rest → IsPassed octets [] rest
-comment_passed octets after rest c whole is found =
-    let takes = in_front_takes octets rest [] found in
-    passed_by octets rest [] found (λ text e. absurd cc) (by found.token (begins c after found.token rest takes.token (sym whole ∙ takes.whole)))
-  where
-    by : (p : Token) → Begins c p → IsInside p
-    by p first = grind arith
+comment_passed octets after rest c whole is found = search (rules, in_front_takes octets rest [] found, passed_by octets rest [] found, begins c after found.token rest)
 
 pub bare_passed : (octets item rest more : List ℕ) (next n : ℕ) → 0 < n → n ≡ prefix_len goes_on octets → item ≡ take n octets → rest ≡ drop n octets → rest ≡ next ∷ more → next ≢ 92 → IsPassed octets (raw.bare item ∷ []) rest
 bare_passed octets item rest more next n some len front back first other =
@@ -165,16 +143,13 @@ pub cut_more : (octets rest left : List ℕ) (kept new : List RawItem) (item : R
 cut_more octets rest left kept new item so_far found keeps = grind (arith, more_by octets rest left kept new (item ∷ []) so_far found (keeps_more found.token so_far.so_far kept new item found.takes.token (sym found.stated) so_far.are_kept keeps))
 
 pub cut_on : (octets rest left : List ℕ) (kept : List RawItem) → IsCutTo octets rest kept → IsPassed rest [] left → IsCutTo octets left kept
-cut_on octets rest left kept so_far found =
-    more_by octets rest left kept kept [] so_far found (subst (λ t. AreKept t kept) (sym (append-nil so_far.so_far)) so_far.are_kept)
+cut_on octets rest left kept so_far found = search (rules, more_by octets rest left kept kept [] so_far found, append-nil so_far.so_far)
 
 -- a bare item and what stops it, or what stands there in place of an item
 pub cut_bare : (octets rest text stopped after : List ℕ) (kept new : List RawItem) (stop n : ℕ) → IsCutTo octets rest kept → n ≡ prefix_len goes_on rest → text ≡ take n rest → stopped ≡ drop n rest → stopped ≡ stop ∷ after → stop ≢ 92 → KeepsBare text kept new → IsCutTo octets stopped new
 cut_bare octets rest text stopped after kept new stop zero so_far len front back first other keeps = search rules
 cut_bare octets [] text stopped after kept new stop (suc n) so_far len front back first other keeps = absurd (omega (arith, len))
-cut_bare octets (c ∷ rest) text stopped after kept new stop (suc n) so_far len front back first other keeps =
-    let item : Keeps (raw.bare (c ∷ take n rest)) kept new = subst (λ t. KeepsBare t kept new) front keeps in
-    cut_more octets (c ∷ rest) stopped kept new (raw.bare (c ∷ take n rest)) so_far (bare_passed (c ∷ rest) (c ∷ take n rest) stopped after stop (suc n) (omega arith) len refl back first other) item
+cut_bare octets (c ∷ rest) text stopped after kept new stop (suc n) so_far len front back first other keeps = search (rules, cut_more octets (c ∷ rest) stopped kept new (raw.bare (c ∷ take n rest)) so_far, bare_passed (c ∷ rest) (c ∷ take n rest) stopped after stop (suc n))
 
 pub cut_ended : (octets rest after : List ℕ) (raws : List RawItem) (c n : ℕ) → IsCutTo octets rest raws → rest ≡ c ∷ after → c ≡ 10 → n ≡ length octets - length after → IsFirstEntry octets n raws × (line_feeds (take n octets) ≡ 1)
 cut_ended octets rest after raws c n so_far first is count =
@@ -190,8 +165,7 @@ cut_ended octets rest after raws c n so_far first is count =
     (search rules, omega (arith, ap line_feeds entry, feeds_of_both so_far.front fed, so_far.none))
 
 pub keeps_items : (octets part : List ℕ) (n : ℕ) (kept : List RawItem) → IsFirstEntry octets n kept → part ≡ take n octets → KeepsItems part kept
-keeps_items octets part n kept first front tokens cut =
-    subst (λ t. AreKept (flat_map item_of t) kept) (one_cut part first.tokens tokens (subst (λ t. Cuts t first.tokens) (sym front) first.one.cut) cut) first.stated
+keeps_items octets part n kept first front tokens cut = search (rules, one_cut part first.tokens tokens)
 
 -- ---- the entry at the front of a piece
 
@@ -204,7 +178,6 @@ fed_one old mid new piece rest part after tokens before none empty one whole rea
     fed_more old mid new piece rest part after before none whole len is (omega (arith, reads.near, left, len)) (rw (unfinished, empty) follow)
 
 pub fed_entry : (old mid new : EntrySplitter) (piece rest part after : List ℕ) (n : ℕ) (raws : List RawItem) → HasFed old mid piece rest → mid.ended.decided.ending ≡ None → mid.unfinished.items ≡ [] → IsFirstEntry rest n raws → part ≡ take n rest → after ≡ drop n rest → ReadsOctets part mid.ended new.ended → new.at ≡ mid.at → new.unfinished.items ≡ mid.unfinished.items → HasFed old new piece after
-fed_entry old mid new piece rest part after n raws before none empty first front back reads at unfinished =
-    fed_one old mid new piece rest part after first.tokens before none empty (rw front first.one) (cc (take-append-drop n rest)) reads at unfinished
+fed_entry old mid new piece rest part after n raws before none empty first front back reads at unfinished = search (rules, fed_one old mid new piece rest part after first.tokens before none empty, take-append-drop n rest)
 
 pub ruleset line_parts = (cut_none, goes_on, in_front_shorter, prefix_len-le-length)

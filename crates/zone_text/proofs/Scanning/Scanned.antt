@@ -1,6 +1,6 @@
 -- What a scan says of the octets that it took: where it goes on and stops, and the tokens that they
 -- are.
-use Rattle.zone_text.proofs.Common.{add-one, AllByRecursion, at_line_end, one_digit, two_digits, too_great, decimal, escaped, octet_of, AllFollow, BadEscape, Breaks, BreaksAtEnd, ClosesNothing, Comment, Cut, Cuts, Ends, Escaped, Fault, IsCutOff, IsLostEscape, IsOneEntry, IsOpen, IsToken, IsUnit, List, LostEscape, MatchOption, MayEndBefore, None, On, Open, Option, Quoted, QuotedEscaped, ScanState, Scanned, ScansTo, Some, StaysBroken, Step, Token, UnbalancedParenthesis, Written, [], ap, append-nil, append_assoc, arith, bare, beginning, blank, closing, closing_stays, comment, common_steps, cut_from, cutting, depth_after, depth_past, end_fault_of, ends_item, ends_within, eqb-true, escape_open, escape_stays, false, further, in_front_of, inl, inr, is_blank, is_quote, is_digit, length, length-append, length-take, line_feed, moves, ne_eqb, no_escape, no_quote, no_quoted_escape, not_closed, nothing_left, open_at, opening, plain, quote_open, quoted, quoted_escape_open, quoted_escape_stays, refl, rules, scan_of, scan_on, step_of, subst, suc, sym, take, text, text_of, token_text, true, unclosed, written_text, zero, ℕ, ◌++◌, ◌+◌, ◌-◌, ◌∙◌, ◌∷◌, ◌≡◌, ◌≢◌, ◌≤◌, ◌⊎◌, AreQuiet, Bool, drop, get_or, or_parts, ◌<◌, ◌||◌}
+use Rattle.zone_text.proofs.Common.{add-one, AllByRecursion, at_line_end, one_digit, two_digits, too_great, decimal, escaped, octet_of, AllFollow, BadEscape, Breaks, BreaksAtEnd, ClosesNothing, Comment, Cut, Cuts, Ends, Escaped, Fault, IsCutOff, IsLostEscape, IsOneEntry, IsOpen, IsToken, IsUnit, List, LostEscape, MatchOption, MayEndBefore, None, On, Open, Option, Quoted, QuotedEscaped, ScanState, Scanned, ScansTo, Some, StaysBroken, Step, Token, UnbalancedParenthesis, Written, [], ap, append-nil, append_assoc, arith, bare, beginning, blank, closing, closing_stays, comment, common_steps, cut_from, cutting, depth_after, depth_past, end_fault_of, ends_item, ends_within, eqb-true, escape_open, escape_stays, false, further, inl, inr, is_blank, is_quote, is_digit, length, length-append, length-take, line_feed, moves, ne_eqb, no_escape, no_quote, no_quoted_escape, not_closed, nothing_left, open_at, opening, plain, quote_open, quoted, quoted_escape_open, quoted_escape_stays, refl, rules, scan_of, scan_on, step_of, subst, suc, sym, take, text, text_of, token_text, true, unclosed, written_text, zero, ℕ, ◌++◌, ◌+◌, ◌-◌, ◌∙◌, ◌∷◌, ◌≡◌, ◌≢◌, ◌≤◌, ◌⊎◌, AreQuiet, Bool, drop, get_or, or_parts, ◌<◌, ◌||◌}
 use Rattle.zone_text.specs.Breaks.{closes_nothing as closes_none}
 use Rattle.std.proofs.lemmas.Bool.{le-leb, lt-leb}
 use Rattle.zone_text.specs.Machine.OpenEntry.{state_of}
@@ -13,9 +13,8 @@ use Rattle.zone_text.specs.Lasting.{after_backslash as after_backslash_alone, af
 use Rattle.zone_text.specs.Machine.Scan.{after_backslash}
 use Rattle.zone_text.specs.declared.items.Extent.{Extent}
 use Rattle.zone_text.specs.declared.items.Extent.TheVariants as extents
-use Rattle.zone_text.proofs.Tokens.Cuttings.{IsCut, room_of, breaks, cuts, cutting_is, depth_on, follow_after, last_after, some_octet, stop_of}
+use Rattle.zone_text.proofs.Tokens.Cuttings.{IsCut, room_of, breaks, cuts, cutting_is, depth_on, follow_after, last_after, some_octet, stop_of, Ends as EndsAt, HasRoom, Stops}
 use Rattle.zone_text.proofs.Tokens.ForGood.{bad_is_malformed, ends_not_for_good, stays_for_good}
-use Rattle.zone_text.proofs.Tokens.Fronts.{Ends as EndsAt, HasRoom, Stops}
 
 -- ---- an octet that leaves the state as it is
 
@@ -53,17 +52,7 @@ quiet_on : (octets : List ℕ) (i : ℕ) → i < length octets → moves Open (g
 quiet_on octets i less still quiet depth = grind (arith, one_on (open_at depth) (open_at depth) (open_at depth) octets i less (stays (open_at depth) (get_or octets i 0) still) (quiet depth))
 
 pub four_on : (octets : List ℕ) (i : ℕ) (first second third fourth : Bool) → first ≡ moves Open (get_or octets i 0) → second ≡ moves Open (get_or octets (i + 1) 0) → third ≡ moves Open (get_or octets (i + 2) 0) → fourth ≡ moves Open (get_or octets (i + 3) 0) → (first || second || third || fourth) ≡ false → i ≤ length octets → 4 ≤ length octets - i → AreQuiet octets i → AreQuiet octets (i + 4)
-four_on octets i first second third fourth is1 is2 is3 is4 none within fits quiet =
-    let p3 = or_parts (first || second || third) fourth none in
-    let p2 = or_parts (first || second) third p3.0 in
-    let p1 = or_parts first second p2.0 in
-    let two : i + 1 + 1 ≡ i + 2 = omega arith in
-    let three : i + 2 + 1 ≡ i + 3 = omega arith in
-    let four : i + 3 + 1 ≡ i + 4 = omega arith in
-    let q1 = quiet_on octets i (omega arith) (sym is1 ∙ p1.0) quiet in
-    let q2 = subst (AreQuiet octets) two (quiet_on octets (i + 1) (omega arith) (sym is2 ∙ p1.1) q1) in
-    let q3 = subst (AreQuiet octets) three (quiet_on octets (i + 2) (omega arith) (sym is3 ∙ p2.1) q2) in
-    subst (AreQuiet octets) four (quiet_on octets (i + 3) (omega arith) (sym is4 ∙ p3.1) q3)
+four_on octets i first second third fourth is1 is2 is3 is4 none within fits quiet = search (rules, or_parts (first || second || third) fourth none, or_parts (first || second) third, or_parts first second, quiet_on octets i, quiet_on octets (i + 1), quiet_on octets (i + 2), quiet_on octets (i + 3))
 
 pub quiet_at : (at : ScanState) (octets : List ℕ) (n : ℕ) → at.mode ≡ Open → AreQuiet octets n → scan_of at octets ≡ further n (scan_of at (drop n octets))
 quiet_at at octets n is quiet =
@@ -147,20 +136,6 @@ lost_scanned extent depth rest step (one_digit x c more e dx nc) scanned = rw nc
 lost_scanned extent depth rest step (two_digits x y c more e dx dy nc) scanned = rw nc at (number_goes extent depth x y c more step dx dy (rw e at scanned))
 lost_scanned extent depth rest step (too_great x y z more e dx dy dz great) scanned = rw (dz, lt-leb (octet_of (decimal x y z)) 255 great) at (number_goes extent depth x y z more step dx dy (rw e at scanned))
 
--- the octets ran out, and the input's end has the fault
-abbrev RanOut : Option Fault → Step → Type 0
-RanOut fault (On at) = end_fault_of at ≡ fault
-RanOut fault step = ⊥
-
-ran_out : (extent : Extent) (escape : Escape) (depth : ℕ) (step : Step) → ScansTo (in_escape extent escape depth) [] step → RanOut (Some BadEscape) step
-ran_out extents.Bare escape depth step scanned = rw (none_more (in_escape extents.Bare escape depth) step scanned) refl
-ran_out extents.Quoted escape depth step scanned = rw (none_more (in_escape extents.Quoted escape depth) step scanned) refl
-
-cut_scanned : (extent : Extent) (depth : ℕ) (rest : List ℕ) (step : Step) → IsCutOff rest → ScansTo (inside extent depth) rest step → RanOut (Some BadEscape) step
-cut_scanned extent depth rest step (after_backslash_alone e) scanned = ran_out extent Begun depth step (backslash_on extent depth [] step (rw e at scanned))
-cut_scanned extent depth rest step (after_digit x e dx) scanned = ran_out extent (One x) depth step (rw dx at (backslash_goes extent depth x [] step (rw e at scanned)))
-cut_scanned extent depth rest step (after_two_digits x y e dx dy) scanned = ran_out extent (Two x y) depth step (rw dy at (digits_go extent depth x y [] step dx (rw e at scanned)))
-
 abbrev fault_of : Step → Option Fault
 fault_of (On at) = end_fault_of at
 fault_of Ends = None
@@ -184,16 +159,18 @@ record Says (step : Step) (depth : ℕ) (tokens : List Token) (rest : List ℕ) 
   left : Left step rest
   entries : cut_from depth tokens ≡ entry_by step tokens
 
-says_end : (step : Step) (depth : ℕ) (rest : List ℕ) (fault : Option Fault) → RanOut fault step → BreaksAtEnd rest → Says step depth [] rest fault
-says_end (On at) depth rest fault ran left = record { fault = ran; left = left; entries = cc }
-says_end step depth rest fault ran left = absurd ran
+ran_out : (extent : Extent) (escape : Escape) (step : Step) (depth : ℕ) (rest : List ℕ) → ScansTo (in_escape extent escape depth) [] step → BreaksAtEnd rest → Says step depth [] rest (Some BadEscape)
+ran_out extents.Bare escape step depth rest scanned left = rw (none_more (in_escape extents.Bare escape depth) step scanned) (record { fault = refl; left = left; entries = cc })
+ran_out extents.Quoted escape step depth rest scanned left = rw (none_more (in_escape extents.Quoted escape depth) step scanned) (record { fault = refl; left = left; entries = cc })
 
-says_lost : (step : Step) (depth : ℕ) (rest : List ℕ) → step ≡ LostEscape → StaysBroken rest → Says step depth [] rest (Some BadEscape)
-says_lost step depth rest is left = rw is (record { fault = refl; left = left; entries = cc })
+cut_says : (extent : Extent) (step : Step) (depth : ℕ) (after rest : List ℕ) → IsCutOff after → ScansTo (inside extent depth) after step → BreaksAtEnd rest → Says step depth [] rest (Some BadEscape)
+cut_says extent step depth after rest (after_backslash_alone e) scanned left = ran_out extent Begun step depth rest (backslash_on extent depth [] step (rw e at scanned)) left
+cut_says extent step depth after rest (after_digit x e dx) scanned left = ran_out extent (One x) step depth rest (rw dx at (backslash_goes extent depth x [] step (rw e at scanned))) left
+cut_says extent step depth after rest (after_two_digits x y e dx dy) scanned left = ran_out extent (Two x y) step depth rest (rw dy at (digits_go extent depth x y [] step dx (rw e at scanned))) left
 
 escape_says : (extent : Extent) (step : Step) (depth : ℕ) (after rest : List ℕ) → IsLostEscape after ⊎ IsCutOff after → ScansTo (inside extent depth) after step → (IsLostEscape after → StaysBroken rest) → (IsCutOff after → BreaksAtEnd rest) → Says step depth [] rest (Some BadEscape)
-escape_says extent step depth after rest (inl lost) scanned stay ends = says_lost step depth rest (lost_scanned extent depth after step lost scanned) (stay lost)
-escape_says extent step depth after rest (inr cut) scanned stay ends = says_end step depth rest (Some BadEscape) (cut_scanned extent depth after step cut scanned) (ends cut)
+escape_says extent step depth after rest (inl lost) scanned stay ends = search (rules, lost_scanned extent depth after step lost scanned)
+escape_says extent step depth after rest (inr cut) scanned stay ends = cut_says extent step depth after rest cut scanned (ends cut)
 
 in_quote : (step : Step) (depth : ℕ) (units : List Written) (rest after : List ℕ) → AllByRecursion (IsUnit is_quote) units → rest ≡ 34 ∷ written_text units ++ after → ScansTo (open_at depth) rest step → ScansTo (inside extents.Quoted depth) after step
 in_quote step depth units rest after each whole scanned = units_scanned extents.Quoted depth units after step each (on_more (open_at depth) (inside extents.Quoted depth) 34 (written_text units ++ after) step (rw whole at scanned) refl)
@@ -232,17 +209,10 @@ token_scanned : (depth : ℕ) (p : Token) (rest : List ℕ) (step : Step) → Is
 token_scanned depth (blank c) rest step is room none scanned = search (rules, on_more, stays, blank_still)
 token_scanned depth (comment octets) rest step is room none scanned = search (rules, comment_scanned, on_more)
 token_scanned depth (bare units) rest step is room none scanned = units_scanned extents.Bare depth units rest step is.1 scanned
-token_scanned depth (quoted units) rest step is room none scanned =
-    on_more (inside extents.Quoted depth) (open_at depth) 34 rest step (in_quote step depth units _ (34 ∷ rest) is (ap (λ t. 34 ∷ t) (append_assoc (written_text units) (34 ∷ []) rest)) scanned) refl
+token_scanned depth (quoted units) rest step is room none scanned = search (rules, on_more (inside extents.Quoted depth) (open_at depth) 34 rest step, in_quote step depth units, append_assoc (written_text units) (34 ∷ []) rest)
 token_scanned depth opening rest step is room none scanned = rw add-one at (on_more (open_at depth) (open_at (depth + 1)) 40 rest step scanned refl)
 token_scanned depth closing rest step is room none scanned = on_more (open_at depth) (open_at (depth - 1)) 41 rest step scanned (rw (ne_eqb depth 0 (omega arith)) refl)
 token_scanned depth line_feed rest step is room none scanned = on_more (open_at depth) (open_at depth) 10 rest step scanned (rw (ne_eqb depth 0 none) refl)
-
-token_on : (depth : ℕ) (p : Token) (tokens : List Token) → HasRoom depth p → EndsNone depth p → cut_from depth (p ∷ tokens) ≡ in_front_of p (cut_from (depth_past depth p) tokens)
-token_on depth p tokens room none = search rules
-
-in_entry : (step : Step) (p : Token) (tokens : List Token) → in_front_of p (entry_by step tokens) ≡ entry_by step (p ∷ tokens)
-in_entry step p tokens = search rules
 
 -- after a comment what is left is scanned as where none is open
 after_says : (step : Step) (depth : ℕ) (p : Token) (octets : List ℕ) (tokens : List Token) (rest : List ℕ) (fault : Option Fault) → Stops p octets → ScansTo (after p depth) octets step → ((like : Step) → ScansTo (open_at (depth_past depth p)) octets like → Says like (depth_past depth p) tokens rest fault) → Says step (depth_past depth p) tokens rest fault
@@ -256,22 +226,15 @@ after_says step depth p octets tokens rest fault stop scanned more = more step s
 -- ---- all tokens
 
 token_says : (step : Step) (depth at : ℕ) (p : Token) (tokens : List Token) (rest : List ℕ) (fault : Option Fault) → AllByRecursion IsToken (p ∷ tokens) → AllFollow (p ∷ tokens) → MayEndBefore (p ∷ tokens) rest → depth_after depth (p ∷ tokens) ≡ Some at → EndsAt at rest fault → ScansTo (open_at depth) (text (p ∷ tokens) ++ rest) step → ((like : Step) → depth_after (depth_past depth p) tokens ≡ Some at → ScansTo (open_at (depth_past depth p)) (text tokens ++ rest) like → Says like (depth_past depth p) tokens rest fault) → EndsNone depth p → Says step depth (p ∷ tokens) rest fault
-token_says step depth at p tokens rest fault each follow last past ends scanned more none =
-    let room : HasRoom depth p = room_of depth at p tokens past in
-    let read : ScansTo (after p depth) (text tokens ++ rest) step = token_scanned depth p (text tokens ++ rest) step each.0 room none (rw append_assoc at scanned) in
-    let next : Says step (depth_past depth p) tokens rest fault = after_says step depth p (text tokens ++ rest) tokens rest fault (stop_of p tokens at rest fault each.1 follow last ends) read (λ like. more like (sym (depth_on depth p tokens room) ∙ past)) in
-    record { fault = next.fault; left = next.left; entries = token_on depth p tokens room none ∙ ap (in_front_of p) next.entries ∙ in_entry step p tokens }
+token_says step depth at p tokens rest fault each follow last past ends scanned more none = search (rules, room_of depth, token_scanned depth p (text tokens ++ rest) step each.0, after_says step depth p (text tokens ++ rest) tokens rest fault (stop_of p tokens at rest fault each.1 follow last ends), stop_of p tokens, depth_on depth p tokens, append_assoc)
 
 whole_ends : (depth : ℕ) (rest : List ℕ) (fault : Option Fault) → depth ≡ zero → rest ≡ [] → EndsAt depth rest fault → fault ≡ None
 whole_ends depth rest fault d e ends = grind arith
 
 all_say : (tokens : List Token) (step : Step) (depth at : ℕ) (rest : List ℕ) (fault : Option Fault) → AllByRecursion IsToken tokens → AllFollow tokens → MayEndBefore tokens rest → depth_after depth tokens ≡ Some at → EndsAt at rest fault → ScansTo (open_at depth) (text tokens ++ rest) step → Says step depth tokens rest fault
 all_say [] step depth at rest fault each follow last past ends scanned = stop_says step depth rest fault (let same : at ≡ depth = cc in rw same at ends) scanned
-all_say (line_feed ∷ []) step zero at rest fault each follow last past ends scanned =
-    let end = is_last (open_at zero) 10 rest step Ends scanned refl tt in
-    rw end.0 (record { fault = sym (whole_ends at rest fault (let same : at ≡ zero = cc in same) end.1 ends); left = end.1; entries = refl })
-all_say (line_feed ∷ q ∷ tokens) step zero at rest fault each follow last past ends scanned =
-    absurd (omega (arith, ap length (is_last (open_at zero) 10 (text (q ∷ tokens) ++ rest) step Ends scanned refl tt).1, length-append (text (q ∷ tokens)) rest, length-append (token_text q) (text tokens), some_octet q each.1.0))
+all_say (line_feed ∷ []) step zero at rest fault each follow last past ends scanned = search (rules, is_last (open_at zero) 10 rest step Ends scanned refl tt, whole_ends)
+all_say (line_feed ∷ q ∷ tokens) step zero at rest fault each follow last past ends scanned = search (rules, is_last (open_at zero) 10 (text (q ∷ tokens) ++ rest) step Ends scanned refl tt, length-append (text (q ∷ tokens)) rest, length-append (token_text q) (text tokens), some_octet q each.1.0)
 all_say (line_feed ∷ tokens) step (suc depth) at rest fault each follow last past ends scanned =
     token_says step (suc depth) at line_feed tokens rest fault each follow last past ends scanned (λ like on read. all_say tokens like (suc depth) at rest fault each.1 (follow_after line_feed tokens follow) (last_after line_feed tokens rest last) on ends read) (λ e. omega arith)
 all_say (p ∷ tokens) step depth at rest fault each follow last past ends scanned =
@@ -327,20 +290,10 @@ record IsRead (octets : List ℕ) (step : Step) : Type 0 where
   entries : cut_from zero tokens ≡ entry_by step tokens
 
 read_by : (octets : List ℕ) (step : Step) → ScansTo beginning octets step → IsRead octets step
-read_by octets step scanned =
-    let is = cutting_is octets in
-    let says = all_say (cutting octets).tokens step zero is.at is.rest (cutting octets).broken is.each is.follow is.last is.parentheses is.ends (subst (λ t. ScansTo beginning t step) is.whole scanned) in
-    record { tokens = (cutting octets).tokens; rest = is.rest; whole = is.whole; left = says.left; cut = rw says.fault is; entries = says.entries }
+read_by octets step scanned = search (rules, cutting_is octets, all_say (cutting octets).tokens step zero)
 
 no_ended : (tokens : List Token) → cut_from zero tokens ≡ record { ended = []; open_tokens = tokens } → (cut_from zero tokens).ended ≡ []
 no_ended tokens e = ap (λ (cut : Cut). cut.ended) e
-
--- what the input's end makes of the octets
-abbrev AtEnd : List ℕ → Option Fault → Type 0
-AtEnd octets fault = MatchOption fault ((tokens : List Token) × Cuts octets tokens × ((cut_from zero tokens).ended ≡ [])) (λ found. (tokens : List Token) × Breaks octets tokens found × ((cut_from zero tokens).ended ≡ []))
-
-end_by : (octets : List ℕ) (tokens : List Token) (fault : Option Fault) → IsCut zero octets tokens fault → (cut_from zero tokens).ended ≡ [] → AtEnd octets fault
-end_by octets tokens fault is none = search rules
 
 -- where the octets leave the entry
 pub entry_is : (octets : List ℕ) (step : Step) → ScansTo beginning octets step → EntryIs octets (state_of step)
@@ -359,8 +312,6 @@ pub stays_open : (octets : List ℕ) (at : ScanState) → ScansTo beginning octe
 stays_open octets at scanned = entry_is octets (On at) scanned
 
 pub at_end : (octets : List ℕ) (at : ScanState) → scan_of beginning octets ≡ record { taken = length octets; step = On at } → MatchOption (end_fault_of at) ((tokens : List Token) × Cuts octets tokens × ((cut_from zero tokens).ended ≡ [])) (λ fault. (tokens : List Token) × Breaks octets tokens fault × ((cut_from zero tokens).ended ≡ []))
-at_end octets at e =
-    let read : IsRead octets (On at) = read_by octets (On at) e in
-    end_by octets read.tokens (end_fault_of at) read.cut (no_ended read.tokens read.entries)
+at_end octets at e = search (rules, read_by octets (On at) e, no_ended)
 
 pub ruleset scan_steps = (all_taken, at_octet, one_on, rises, stays)

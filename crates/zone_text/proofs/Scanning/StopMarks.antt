@@ -1,8 +1,8 @@
--- Where bare items stop, as the bits of 64 octets tell it.
+-- How far comments and bare items go, octet by octet and as the bits of 64 octets tell it.
 use Rattle.std.proofs.Math.Logic.{⊎_elim}
 use Rattle.std.proofs.lemmas.List.Elements.{All-from_recursion}
 use Rattle.std.proofs.lemmas.List.Sums.{prefix_len-le-length}
-use Rattle.std.proofs.Common.{Fits, ap₂, bit_and, bit_or, eqb, w8, ◌*◌, ◌/◌, ◌%◌}
+use Rattle.std.proofs.Common.{Fits, ap₂, bit_and, bit_or, eqb, w8, ◌*◌, ◌/◌, ◌%◌, not}
 use Rattle.std.proofs.lemmas.Bool.{agree_below}
 use Rattle.std.proofs.lemmas.List.{ext_get_or, get_or-map}
 use Rattle.std.proofs.lemmas.Nat.{and_le_r}
@@ -13,20 +13,58 @@ use Rattle.std.specs.Prelude.{not, ◌||◌}
 use Rattle.std.specs.Simd.Lanes.{mask_l}
 use lib.Lanes.{Each1, top, zip2}
 use lib.ListN.{replicate}
-use Rattle.zone_text.proofs.Common.{common_steps, All, AllByRecursion, Bool, EndsAt, List, [], agree_below_at, and_parts, ap, arith, cases_lt, cond, drop, drop-drop, eqb-true, false, get_or, inl, inr, length, length-drop, length-map, length-take, map, min, ne_eqb, recursion_from_All, refl, stops_bare, subst, suc, sym, take, true, zero, ℕ, ◌&&◌, ◌+◌, ◌-◌, ◌<◌, ◌==◌, ◌^◌, ◌∙◌, ◌∷◌, ◌≡◌, ◌≢◌, ◌≤◌}
+use Rattle.zone_text.proofs.Common.{common_steps, All, AllByRecursion, Bool, EndsAt, List, [], agree_below_at, and_parts, ap, arith, cases_lt, cond, drop, drop-drop, eqb-true, false, get_or, length, length-drop, length-map, length-take, map, min, ne_eqb, recursion_from_All, refl, stops_bare, subst, suc, sym, take, true, zero, ℕ, ◌&&◌, ◌+◌, ◌-◌, ◌<◌, ◌==◌, ◌^◌, ◌∙◌, ◌∷◌, ◌≡◌, ◌≢◌, ◌≤◌, add-one, before_line_feed, drop-cons, drop_of_length-le}
 use Rattle.zone_name.proofs.InOctets.Runs.{after_bits, first_inside, none_inside, prefix_step}
 use Rattle.zone_text.specs.Machine.Stops.{Tells}
 use Rattle.zone_text.specs.Tokens.{is_blank}
 use Rattle.zone_text.specs.declared.stops.Stops.{Stops}
+
+-- ---- how far was looked
+
+pub first_at : (text : List ℕ) (i : ℕ) → i < length text → drop i text ≡ get_or text i 0 ∷ drop (i + 1) text
+first_at text i less = rw (add-one, drop-cons text i 0) refl
+
+pub nothing_left : (text : List ℕ) (i : ℕ) → length text ≤ i → drop i text ≡ []
+nothing_left text i less = drop_of_length-le text less
+
+pub comment_goes_on : (text : List ℕ) (i n : ℕ) → i < length text → get_or text i 0 ≢ 10 → n ≡ i + length (before_line_feed (drop i text)) → n ≡ i + 1 + length (before_line_feed (drop (i + 1) text))
+unfolding before_line_feed
+comment_goes_on text i n less other so_far = grind (arith, common_steps)
+
+pub comment_ends : (text : List ℕ) (i n : ℕ) → i < length text → get_or text i 0 ≡ 10 → n ≡ i + length (before_line_feed (drop i text)) → i ≡ n
+unfolding before_line_feed
+comment_ends text i n less is so_far = grind (arith, common_steps)
+
+pub comment_whole : (text : List ℕ) (i n : ℕ) → length text ≤ i → i ≤ length text → n ≡ i + length (before_line_feed (drop i text)) → length text ≡ n
+unfolding before_line_feed
+comment_whole text i n over within so_far = grind (arith, common_steps)
+
+before_prefix : (xs : List ℕ) → length (before_line_feed xs) ≡ prefix_len (λ c. not (c == 10)) xs
+unfolding before_line_feed
+before_prefix [] = refl
+before_prefix (c ∷ xs) = grind (arith, before_prefix xs)
+
+-- some of the octets after a place, by the bits that tell which are line feeds
+pub comment_past : (text : List ℕ) (i k n bits : ℕ) → k ≤ length text - i → bits ≡ mask_l (map (λ c. c == 10) (take k (drop i text))) → bits ≡ 0 → n ≡ i + length (before_line_feed (drop i text)) → n ≡ i + k + length (before_line_feed (drop (i + k) text))
+comment_past text i k n bits room are none so_far =
+    let left : length (drop i text) ≡ length text - i = length-drop i text in
+    let next : prefix_len (λ c. not (c == 10)) (drop i text) ≡ k + prefix_len (λ c. not (c == 10)) (drop k (drop i text)) = none_inside (λ c. c == 10) k (drop i text) (omega arith) (sym are ∙ none) in
+    let after : prefix_len (λ c. not (c == 10)) (drop k (drop i text)) ≡ prefix_len (λ c. not (c == 10)) (drop (i + k) text) = ap (prefix_len (λ c. not (c == 10))) (drop-drop k i text) in
+    omega (arith, so_far, next, after, before_prefix (drop i text), before_prefix (drop (i + k) text))
+
+pub comment_seen : (text : List ℕ) (i k n bits : ℕ) → k ≤ 64 → k ≤ length text - i → bits ≡ mask_l (map (λ c. c == 10) (take k (drop i text))) → bits ≢ 0 → n ≡ i + length (before_line_feed (drop i text)) → (i + count_trailing_zeros 64 bits ≡ n) × (i + count_trailing_zeros 64 bits ≤ length text)
+comment_seen text i k n bits few room are some so_far = grind (arith, length-drop, first_inside, before_prefix)
+
+pub ruleset comment_lengths = (comment_ends, comment_goes_on, comment_whole)
+
+pub ruleset plain_lengths = (first_at, nothing_left)
 
 abbrev pub goes_on : ℕ → Bool
 goes_on c = not (stops_bare c)
 
 prefix_parts : (xs : List ℕ) → AllByRecursion (λ c. stops_bare c ≡ false) (take (prefix_len goes_on xs) xs) × EndsAt stops_bare (drop (prefix_len goes_on xs) xs)
 prefix_parts [] = (tt, tt)
-prefix_parts (x ∷ xs) =
-    let P : ℕ → Type 0 = λ k. AllByRecursion (λ c. stops_bare c ≡ false) (take k (x ∷ xs)) × EndsAt stops_bare (drop k (x ∷ xs)) in
-    ⊎_elim (λ stop. subst P (sym stop.1) (tt, stop.0)) (λ on. subst P (sym on.1) ((on.0, (prefix_parts xs).0), (prefix_parts xs).1)) (prefix_step stops_bare x xs)
+prefix_parts (x ∷ xs) = grind (arith, prefix_step stops_bare x xs, prefix_parts xs)
 
 -- the octets before the first stop, and those from it on
 pub prefix_stops : (xs : List ℕ) (n : ℕ) → n ≡ prefix_len goes_on xs → (n ≤ length xs) × All (λ c. stops_bare c ≡ false) (take n xs) × EndsAt stops_bare (drop n xs)
@@ -44,17 +82,11 @@ pub known_len : (stops : Stops) (octets : List ℕ) → Tells stops octets → s
 known_len stops octets tells some = grind (arith, common_steps, first_inside)
 
 pub known_rest : (stops new : Stops) (octets : List ℕ) (k : ℕ) → Tells stops octets → stops.bits ≢ 0 → k ≡ prefix_len goes_on octets → new.bits ≡ stops.bits / 2 ^ k / 2 ^ 1 → new.unseen ≡ stops.unseen → Tells new (drop (k + 1) octets)
-known_rest stops new octets k tells some len is unseen =
-    tells_after new octets (length octets - stops.unseen) k stops.bits tells.bits (omega (arith, tells.few)) (omega arith) (omega (arith, len, (let n = length octets - stops.unseen in (first_inside stops_bare n octets (omega arith) (omega (arith, tells.few)) (λ e. some (tells.bits ∙ e))).1))) is (omega (arith, unseen, tells.within))
+known_rest stops new octets k tells some len is unseen = grind (arith, tells_after new octets (length octets - stops.unseen) k stops.bits tells.bits, first_inside stops_bare)
 
 -- where no bit is set, the first stop is among the unseen octets
 pub unknown_len : (stops : Stops) (octets ahead : List ℕ) (seen more : ℕ) → Tells stops octets → stops.bits ≡ 0 → seen ≡ length octets - stops.unseen → ahead ≡ drop seen octets → more ≡ prefix_len goes_on ahead → seen + more ≡ prefix_len goes_on octets
-unknown_len stops octets ahead seen more tells none is back len =
-    let zero_bits : mask_l (map stops_bare (take seen octets)) ≡ 0 = ap (λ k. mask_l (map stops_bare (take k octets))) is ∙ sym tells.bits ∙ none in
-    ap (λ k. seen + k) (len ∙ ap (prefix_len goes_on) back) ∙ sym (none_inside stops_bare seen octets (omega arith) zero_bits)
-
-pub tells_none : (stops : Stops) (octets : List ℕ) → stops.bits ≡ 0 → stops.unseen ≡ length octets → Tells stops octets
-tells_none stops octets none all = grind (arith, common_steps, mask_l, stops_bare)
+unknown_len stops octets ahead seen more tells none is back len = grind (arith, none_inside stops_bare seen octets)
 
 pub unknown_rest : (new : Stops) (octets ahead : List ℕ) (seen more : ℕ) → ahead ≡ drop seen octets → Tells new (drop (more + 1) ahead) → Tells new (drop (seen + more + 1) octets)
 unknown_rest new octets ahead seen more back tells = grind (arith, common_steps, drop-drop)
@@ -150,20 +182,12 @@ goes_on_64 octets ahead seen bits within room back are none so_far =
     omega (arith, so_far, next, after)
 
 pub stop_found : (stops : Stops) (octets ahead : List ℕ) (seen bits more : ℕ) → 64 ≤ length ahead → ahead ≡ drop seen octets → bits ≡ mask_l (map stops_bare (take 64 ahead)) → bits ≢ 0 → more ≡ count_trailing_zeros 64 bits → stops.bits ≡ bits / 2 ^ more / 2 ^ 1 → stops.unseen ≡ length ahead - 64 → GoesTo octets seen → (seen + more ≡ prefix_len goes_on octets) × Tells stops (drop (seen + more + 1) octets)
-stop_found stops octets ahead seen bits more room back are some len is unseen so_far =
-    let found = first_inside stops_bare 64 ahead room (omega arith) (λ e. some (are ∙ e)) in
-    let first : more ≡ prefix_len goes_on ahead = len ∙ ap (count_trailing_zeros 64) are ∙ found.0 in
-    let there : prefix_len goes_on ahead ≡ prefix_len goes_on (drop seen octets) = ap (prefix_len goes_on) back in
-    (omega (arith, so_far, first, there), unknown_rest stops octets ahead seen more back (tells_after stops ahead 64 more bits are (omega arith) room (omega (arith, first, found.1)) is unseen))
+stop_found stops octets ahead seen bits more room back are some len is unseen so_far = grind (arith, first_inside stops_bare 64 ahead room, unknown_rest stops octets ahead seen more back, tells_after stops ahead 64 more bits are)
 
 pub plain_prefix : (k : ℕ) (xs : List ℕ) → k ≤ length xs → All (λ c. stops_bare c ≡ false) (take k xs) → EndsAt stops_bare (drop k xs) → k ≡ prefix_len goes_on xs
 plain_prefix k xs within each ends = sym (prefix_by k xs within (recursion_from_All (λ c. stops_bare c ≡ false) _ each) ends)
 
 pub last_found : (stops : Stops) (octets rest : List ℕ) (seen more : ℕ) → rest ≡ drop seen octets → more ≤ length rest → All (λ c. stops_bare c ≡ false) (take more rest) → EndsAt stops_bare (drop more rest) → stops.bits ≡ 0 → stops.unseen ≡ length rest - min (length rest) (more + 1) → GoesTo octets seen → (seen + more ≡ prefix_len goes_on octets) × Tells stops (drop (seen + more + 1) octets)
-last_found stops octets rest seen more back within each ends none unseen so_far =
-    let first : more ≡ prefix_len goes_on rest = plain_prefix more rest within each ends in
-    let there : prefix_len goes_on rest ≡ prefix_len goes_on (drop seen octets) = ap (prefix_len goes_on) back in
-    let left : length (drop (more + 1) rest) ≡ length rest - (more + 1) = length-drop (more + 1) rest in
-    (omega (arith, so_far, first, there), unknown_rest stops octets rest seen more back (tells_none stops (drop (more + 1) rest) none (omega arith)))
+last_found stops octets rest seen more back within each ends none unseen so_far = grind (arith, plain_prefix more rest within each ends, length-drop (more + 1) rest, unknown_rest stops octets rest seen more back, common_steps)
 
 pub ruleset stop_lengths = (goes_on, known_len, prefix_len-le-length, unknown_len)

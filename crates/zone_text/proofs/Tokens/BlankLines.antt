@@ -83,3 +83,5 @@ pub not_empty : (octets : List ℕ) → false ≡ (length octets == 0) → octet
 not_empty octets some none = search rules
 
 pub ruleset feeds = (fed_lines, fed_more, none_found, none_left, not_empty, take-append-drop, takes_part)
+
+pub ruleset lines_taken = (fed_line, no_lines, one_line_more)

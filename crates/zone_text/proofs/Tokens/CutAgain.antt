@@ -6,15 +6,12 @@ joined entries = flat_map (λ (e : List Token). e) entries
 
 -- ---- the ended entries and the open tokens are all tokens
 
-front_whole : (p : Token) (ended : List (List Token)) (others tokens : List Token) → joined ended ++ others ≡ tokens → joined (in_front p ended others).ended ++ (in_front p ended others).open_tokens ≡ p ∷ tokens
-front_whole p ended others tokens e = search rules
-
 pub cut_whole : (depth : ℕ) (tokens : List Token) → joined (cut_from depth tokens).ended ++ (cut_from depth tokens).open_tokens ≡ tokens
 cut_whole depth [] = refl
 cut_whole zero (line_feed ∷ tokens) = ap (λ t. line_feed ∷ t) (cut_whole zero tokens)
-cut_whole depth (opening ∷ tokens) = front_whole opening (cut_from (suc depth) tokens).ended _ _ (cut_whole (suc depth) tokens)
-cut_whole (suc depth) (closing ∷ tokens) = search (rules, front_whole, cut_whole depth tokens)
-cut_whole depth (p ∷ tokens) = front_whole p (cut_from depth tokens).ended _ _ (cut_whole depth tokens)
+cut_whole depth (opening ∷ tokens) = search (rules, cut_whole (suc depth) tokens)
+cut_whole (suc depth) (closing ∷ tokens) = search (rules, cut_whole depth tokens)
+cut_whole depth (p ∷ tokens) = search (rules, cut_whole depth tokens)
 
 -- ---- ended entries: cut again with more after them they are the first, they end in a line feed,
 -- at depth zero
@@ -35,19 +32,13 @@ end_after p (q ∷ entry) rest some ends = grind arith
 front_ended : (depth next : ℕ) (p : Token) (ended : List (List Token)) (others : List Token) → ((tokens : List Token) → cut_from depth (p ∷ tokens) ≡ in_front_of p (cut_from next tokens)) → AreEnded next ended → AreEnded depth (in_front p ended others).ended
 front_ended depth next p ended others step are = grind (arith, end_after)
 
-line_after : (tokens : List Token) → EndInLineFeed tokens → EndInLineFeed (line_feed ∷ tokens)
-line_after tokens ends = search rules
-
 pub again_zero : (ended : List (List Token)) (more : List Token) → AreEnded zero ended → cut_from zero (joined ended ++ more) ≡ record { ended = ended ++ (cut_from zero more).ended; open_tokens = (cut_from zero more).open_tokens }
 again_zero [] more are = refl
 again_zero (entry ∷ ended) more are = are.again entry ended more refl
 
-line_ended : (ended : List (List Token)) → AreEnded zero ended → AreEnded zero ((line_feed ∷ []) ∷ ended)
-line_ended ended are = search (rules, line_after, again_zero)
-
 pub cut_ended : (depth : ℕ) (tokens : List Token) → AreEnded depth (cut_from depth tokens).ended
 cut_ended depth [] = record { each = tt; ends = tt; again = λ entry rest more e. absurd cc }
-cut_ended zero (line_feed ∷ tokens) = search (rules, line_ended, cut_ended zero tokens)
+cut_ended zero (line_feed ∷ tokens) = search (rules, again_zero, cut_ended zero tokens)
 cut_ended depth (opening ∷ tokens) = front_ended depth (suc depth) opening (cut_from (suc depth) tokens).ended _ (λ ps. refl) (cut_ended (suc depth) tokens)
 cut_ended (suc depth) (closing ∷ tokens) = search (rules, front_ended, cut_ended depth tokens)
 cut_ended depth (p ∷ tokens) = front_ended depth depth p (cut_from depth tokens).ended _ (λ ps. refl) (cut_ended depth tokens)
@@ -58,9 +49,6 @@ cut_again tokens more = again_zero (cut_from zero tokens).ended more (cut_ended 
 
 -- ---- their depth
 
-front_depth : (depth next : ℕ) (p : Token) (ended : List (List Token)) (others : List Token) → ((tokens : List Token) → depth_after depth (p ∷ tokens) ≡ depth_after next tokens) → ((entry : List Token) (rest : List (List Token)) → ended ≡ entry ∷ rest → depth_after next (joined ended) ≡ Some zero) → (entry : List Token) (rest : List (List Token)) → (in_front p ended others).ended ≡ entry ∷ rest → depth_after depth (joined (in_front p ended others).ended) ≡ Some zero
-front_depth depth next p ended others step are entry rest e = grind arith
-
 depth_zero : (ended : List (List Token)) → ((entry : List Token) (rest : List (List Token)) → ended ≡ entry ∷ rest → depth_after zero (joined ended) ≡ Some zero) → depth_after zero (joined ended) ≡ Some zero
 depth_zero [] are = refl
 depth_zero (entry ∷ ended) are = are entry ended refl
@@ -68,10 +56,10 @@ depth_zero (entry ∷ ended) are = are entry ended refl
 ended_depth : (depth last : ℕ) (tokens : List Token) → depth_after depth tokens ≡ Some last → (entry : List Token) (rest : List (List Token)) → (cut_from depth tokens).ended ≡ entry ∷ rest → depth_after depth (joined (cut_from depth tokens).ended) ≡ Some zero
 ended_depth depth last [] d entry rest e = absurd cc
 ended_depth zero last (line_feed ∷ tokens) d entry rest e = depth_zero (cut_from zero tokens).ended (ended_depth zero last tokens d)
-ended_depth depth last (opening ∷ tokens) d entry rest e = front_depth depth (suc depth) opening (cut_from (suc depth) tokens).ended (cut_from (suc depth) tokens).open_tokens (λ ps. refl) (ended_depth (suc depth) last tokens d) entry rest e
+ended_depth depth last (opening ∷ tokens) d entry rest e = search (rules, ended_depth (suc depth) last tokens d)
 ended_depth zero last (closing ∷ tokens) d entry rest e = absurd cc
-ended_depth (suc depth) last (closing ∷ tokens) d entry rest e = search (rules, front_depth, ended_depth depth last tokens d)
-ended_depth depth last (p ∷ tokens) d entry rest e = front_depth depth depth p (cut_from depth tokens).ended (cut_from depth tokens).open_tokens (λ ps. refl) (ended_depth depth last tokens d) entry rest e
+ended_depth (suc depth) last (closing ∷ tokens) d entry rest e = search (rules, ended_depth depth last tokens d)
+ended_depth depth last (p ∷ tokens) d entry rest e = search (rules, ended_depth depth last tokens d)
 
 pub ended_at_zero : (last : ℕ) (tokens : List Token) → depth_after zero tokens ≡ Some last → depth_after zero (joined (cut_from zero tokens).ended) ≡ Some zero
 ended_at_zero last tokens d = search (rules, depth_zero, ended_depth)

@@ -57,15 +57,6 @@ break_stays_or_ends octets tokens fault broken = search (rules, stays_or_ends)
 after_units : (units other : List Written) (after rest : List ℕ) → AllByRecursion (IsUnit is_quote) units → AllByRecursion (IsUnit is_quote) other → NoUnit is_quote after → NoUnit is_quote rest → written_text units ++ after ≡ written_text other ++ rest → after ≡ rest
 after_units units other after rest each another none no_more e = grind (arith, units_first_only is_quote (written_text units ++ after) units after refl refl each none, units_first_only is_quote (written_text units ++ after) other rest refl e another no_more)
 
-lost_begins_none : (rest : List ℕ) → IsLostEscape rest → NoUnit is_quote rest
-lost_begins_none rest lost = at_backslash (malformed_is_bad rest (inl lost))
-
-after_quote : (rest more after : List ℕ) → rest ≡ 34 ∷ more → rest ≡ 34 ∷ after → more ≡ after
-after_quote rest more after e f = cc
-
-other_first : (c d : ℕ) (rest more after : List ℕ) → rest ≡ c ∷ more → rest ≡ d ∷ after → (c ≡ d → ⊥) → ⊥
-other_first c d rest more after e f apart = apart (cc)
-
 -- an escape that further octets can't mend isn't cut off
 lost_not_cut : (rest : List ℕ) → IsLostEscape rest → IsCutOff rest → ⊥
 lost_not_cut rest h h2 = search rules
@@ -74,11 +65,9 @@ pub stays_or_ends_alone : (rest : List ℕ) → StaysBroken rest → BreaksAtEnd
 stays_or_ends_alone rest stays (nothing_left none) = stays_some rest stays none
 stays_or_ends_alone rest (closing_stays after e) (quote_open units each f) = search rules
 stays_or_ends_alone rest (escape_stays lost) (quote_open units each f) = search rules
-stays_or_ends_alone rest (quoted_escape_stays other after another e lost) (quote_open units each f) =
-    let same : written_text other ++ after ≡ written_text units ++ [] = after_quote rest (written_text other ++ after) (written_text units) e f ∙ sym (append-nil (written_text units)) in
-    grind (arith, after_quote, append-nil, after_units, lost_begins_none, at_end, stays_some)
+stays_or_ends_alone rest (quoted_escape_stays other after another e lost) (quote_open units each f) = search (rules, append-nil (written_text units), after_units, at_end, stays_some, at_backslash, malformed_is_bad)
 stays_or_ends_alone rest stays (escape_open cut) = grind arith
-stays_or_ends_alone rest stays (quoted_escape_open units more each f cut) = grind (arith, other_first, after_quote, after_units, lost_begins_none, at_backslash, malformed_is_bad, lost_not_cut)
+stays_or_ends_alone rest stays (quoted_escape_open units more each f cut) = search (rules, after_units, at_backslash, malformed_is_bad, lost_not_cut)
 
 -- ---- a break of a text whose rest after its tokens is known
 

@@ -3,12 +3,11 @@
 use Rattle.zone_text.proofs.Common.{AllByRecursion, AllFollow, AreKept, AreTokensOf, BadEscape, Bool, Cuts, IsInFront, IsNoToken, IsToken, IsUnit, Keeps, KeepsItems, List, NoUnit, RawItem, Sign, Some, Token, UnitsAre, Written, [], a_blank, a_closing, a_line_feed, a_quote, a_semicolon, an_opening, ap, append-nil, append_assoc, arith, at_end, bare, before_line_feed, blank, both_ways, closing, comment, cond_both, drop, drop-append_seam, ends_item, eqb-true, false, flat_map, front_of, is_quote, item_len, item_of, length, length-append, line_feed, of_item, opening, quoted, refl, rules, sign_of, subst, sym, take, take-append_seam, takes, text, text_of, text_of-some, true, units_first, units_first_are, written_text, ℕ, ◌++◌, ◌<◌, ◌∙◌, ◌∷◌, ◌≡◌, ◌≢◌, All, AllByRecursion-append, EndsAt, Units, at_octet, ends_within, eqb-false, flat_map-append, get_or, length-drop, length-take, map, ne_eqb, or_parts, plain, recursion_from_All, stops_bare, suc, take-append-drop, unit_of_escape, units_first_only, ◌+◌, ◌-◌, ◌==◌, ◌||◌, ◌≤◌}
 use Rattle.zone_rdata.specs.Item as raw
 use Rattle.zone_text.specs.Machine.Cutting as cutting
-use Rattle.zone_text.proofs.Tokens.Cuttings.{follow_after, next_stops, shorter}
-use Rattle.zone_text.proofs.Tokens.Fronts.{HasRoom, IsFront, IsSign, Stops, Takes, at_sign, comment_dropped, first_octet_is, front_is, front_takes, sign_is, sign_of_item}
+use Rattle.zone_text.proofs.Tokens.Cuttings.{follow_after, next_stops, shorter, IsFront, IsSign, Takes, at_sign, comment_dropped, first_octet_is, front_is, front_takes, sign_is, sign_of_item}
 use Rattle.zone_text.proofs.Entries.Kept.{keeps_more}
 use Rattle.std.proofs.lemmas.List.Elements.{All-cons}
 use Rattle.zone_name.specs.Spelling.{BeginsWithEscape}
-use Rattle.zone_text.proofs.Tokens.TokenEnds.{first_at}
+use Rattle.zone_text.proofs.Scanning.StopMarks.{first_at}
 use Rattle.zone_text.specs.declared.items.Extent.{Extent}
 
 -- the first octets are written octets of an item, and what follows ends it or is a backslash
@@ -31,13 +30,7 @@ each_plain : (ends : ℕ → Bool) (octets : List ℕ) → All (λ c. (ends c ||
 each_plain ends octets each = plain_units ends octets (recursion_from_All (λ c. (ends c || c == 92) ≡ false) octets each)
 
 pub plain_so_far : (ends : ℕ → Bool) (octets : List ℕ) (n : ℕ) → n ≤ length octets → All (λ c. (ends c || c == 92) ≡ false) (take n octets) → EndsAt (λ c. ends c || c == 92) (drop n octets) → IsWrittenTo ends octets n
-plain_so_far ends octets n within each stops = record {
-  units = map plain (take n octets);
-  each = each_plain ends (take n octets) each;
-  text = sym (plain_text (take n octets));
-  stops = stops;
-  within = within;
-}
+plain_so_far ends octets n within each stops = search (rules, each_plain ends (take n octets) each, plain_text (take n octets))
 
 -- octets after a plain one
 pub plain_first : (stops : ℕ → Bool) (octets after : List ℕ) (c n k : ℕ) → octets ≡ c ∷ after → stops c ≡ false → k ≡ 1 + n → All (λ d. stops d ≡ false) (take n after) → EndsAt stops (drop n after) → All (λ d. stops d ≡ false) (take k octets) × EndsAt stops (drop k octets)
@@ -99,16 +92,13 @@ ended extent octets len is other = len_is extent octets len is (ended_by (ends_w
 
 -- an octet that ends an item and begins neither an item nor a comment
 pub plain_front : (octets after : List ℕ) (c : ℕ) → octets ≡ c ∷ after → c ≢ 34 → c ≢ 59 → ends_item c ≡ true → IsInFront octets [] after
-plain_front octets after c whole no_quote no_comment ends = by (sign_of c) (sign_is c) refl
+plain_front octets after c whole no_quote no_comment ends = by (sign_of c) (sign_is c) (at_sign 1 c after (sign_of c) refl)
   where
-    by : (sign : Sign) → IsSign c sign → sign_of c ≡ sign → IsInFront octets [] after
-    by a_blank is e = record { token = blank c; front = ap (front_of 1) whole ∙ at_sign 1 c after a_blank e; stated = refl }
-    by a_line_feed is e = record { token = line_feed; front = ap (front_of 1) whole ∙ at_sign 1 c after a_line_feed e; stated = refl }
-    by an_opening is e = record { token = opening; front = ap (front_of 1) whole ∙ at_sign 1 c after an_opening e; stated = refl }
-    by a_closing is e = record { token = closing; front = ap (front_of 1) whole ∙ at_sign 1 c after a_closing e; stated = refl }
+    by : (sign : Sign) → IsSign c sign → front_of 1 (c ∷ after) ≡ cutting.front_by 1 c after sign → IsInFront octets [] after
     by a_quote is e = absurd (no_quote is)
     by a_semicolon is e = absurd (no_comment is)
     by of_item is e = absurd (both_ways (ends_item c) is ends)
+    by sign is e = record { token = _; front = ap (front_of 1) whole ∙ e; stated = refl }
 
 pub comment_front : (octets after left : List ℕ) (c n : ℕ) → octets ≡ c ∷ after → c ≡ 59 → n ≡ length (before_line_feed after) → left ≡ drop n after → IsInFront octets [] left
 comment_front octets after left c n whole is len back = record {
@@ -119,58 +109,37 @@ comment_front octets after left c n whole is len back = record {
 
 -- the octets of an item and those after it
 item_is : (ends : ℕ → Bool) (octets item rest : List ℕ) (n : ℕ) → n ≡ item_len ends octets → item ≡ take n octets → rest ≡ drop n octets → (item ≡ written_text (units_first ends octets).units) × (rest ≡ (units_first ends octets).rest)
-item_is ends octets item rest n len front back =
-    let whole = (units_first_are ends octets).whole in
-    let written : List ℕ = written_text (units_first ends octets).units in
-    let after : List ℕ = (units_first ends octets).rest in (
-      front ∙ ap (λ k. take k octets) len ∙ ap (take (length written)) whole ∙ take-append_seam written after,
-      back ∙ ap (λ k. drop k octets) len ∙ ap (drop (length written)) whole ∙ drop-append_seam written after,
-    )
+item_is ends octets item rest n len front back = search (rules, units_first_are ends octets, take-append_seam, drop-append_seam)
+
+bare_of : (octets item left : List ℕ) (units : List Written) → 0 < length item → item ≡ written_text units → AllByRecursion (IsUnit ends_item) units → octets ≡ written_text units ++ left → NoUnit ends_item left → IsInFront octets (raw.bare item ∷ []) left
+bare_of octets item left [] some text each whole none = absurd (omega (arith, some, ap length text))
+bare_of octets item left (w ∷ units) some text each whole none = record { token = bare (w ∷ units); front = ap (front_of 1) whole ∙ front_takes 1 (bare (w ∷ units)) left (omega arith, each) none tt; stated = ap (λ t. raw.bare t ∷ []) (sym text) }
 
 pub bare_front : (octets item left : List ℕ) (n : ℕ) → n ≡ item_len ends_item octets → item ≡ take n octets → left ≡ drop n octets → 0 < length item → IsInFront octets (raw.bare item ∷ []) left
 bare_front octets item left n len front back some =
     let found : UnitsAre ends_item octets (units_first ends_item octets) = units_first_are ends_item octets in
     let is = item_is ends_item octets item left n len front back in
-    by (units_first ends_item octets).units is.0 found.each (found.whole ∙ ap (λ t. written_text (units_first ends_item octets).units ++ t) (sym is.1)) (subst (NoUnit ends_item) (sym is.1) found.none)
-  where
-    by : (units : List Written) → item ≡ written_text units → AllByRecursion (IsUnit ends_item) units → octets ≡ written_text units ++ left → NoUnit ends_item left → IsInFront octets (raw.bare item ∷ []) left
-    by [] text each whole none = absurd (omega (arith, some, ap length text))
-    by (w ∷ units) text each whole none = record {
-      token = bare (w ∷ units);
-      front = ap (front_of 1) whole ∙ front_takes 1 (bare (w ∷ units)) left (omega arith, each) none tt;
-      stated = ap (λ t. raw.bare t ∷ []) (sym text);
-    }
+    bare_of octets item left (units_first ends_item octets).units some is.0 found.each (rw is.1 found.whole) (rw is.1 found.none)
+
+no_bare_by : (units : List Written) (rest : List ℕ) → length (written_text units) ≡ 0 → IsNoToken (cutting.bare_front units rest)
+no_bare_by [] rest none = tt
+no_bare_by (w ∷ units) rest none = absurd (omega (arith, none, length-append (text_of w) (written_text units), text_of-some w))
 
 pub no_bare : (octets after : List ℕ) (c : ℕ) → octets ≡ c ∷ after → ends_item c ≡ false → item_len ends_item octets ≡ 0 → IsNoToken (front_of 1 octets)
-no_bare octets after c whole goes_on none =
-    let first : front_of 1 octets ≡ cutting.bare_front (units_first ends_item octets).units (units_first ends_item octets).rest = rw whole (at_sign 1 c after of_item (sign_of_item c goes_on)) in
-    subst IsNoToken (sym first) (by (units_first ends_item octets).units (units_first ends_item octets).rest none)
-  where
-    by : (units : List Written) (rest : List ℕ) → length (written_text units) ≡ 0 → IsNoToken (cutting.bare_front units rest)
-    by [] rest none = tt
-    by (w ∷ units) rest none = absurd (omega (arith, none, length-append (text_of w) (written_text units), text_of-some w))
+no_bare octets after c whole goes_on none = search (rules, at_sign 1 c after of_item (sign_of_item c goes_on), no_bare_by (units_first ends_item octets).units (units_first ends_item octets).rest none)
 
 quoted_is : (octets after : List ℕ) (c : ℕ) → octets ≡ c ∷ after → c ≡ 34 → front_of 1 octets ≡ cutting.quoted_front (units_first is_quote after).units (units_first is_quote after).rest
 quoted_is octets after c whole is = ap (front_of 1) (whole ∙ first_octet_is c 34 after is) ∙ at_sign 1 34 after a_quote refl
 
 pub quoted_front : (octets after inside ending left : List ℕ) (c q n : ℕ) → octets ≡ c ∷ after → c ≡ 34 → n ≡ item_len is_quote after → inside ≡ take n after → ending ≡ drop n after → ending ≡ q ∷ left → q ≡ 34 → IsInFront octets (raw.quoted inside ∷ []) left
-quoted_front octets after inside ending left c q n whole is len front back first quote =
-    let item = item_is is_quote after inside ending n len front back in
-    let units : List Written = (units_first is_quote after).units in
-    record {
-      token = quoted units;
-      front = quoted_is octets after c whole is ∙ ap (cutting.quoted_front units) (sym item.1 ∙ first ∙ first_octet_is q 34 left quote);
-      stated = ap (λ t. raw.quoted t ∷ []) (sym item.0);
-    }
+quoted_front octets after inside ending left c q n whole is len front back first quote = search (rules, item_is is_quote after inside ending n len front back, quoted_is octets after c whole is, first_octet_is q 34 left quote)
+
+no_quoted_by : (units : List Written) (rest : List ℕ) → ((more : List ℕ) → rest ≢ 34 ∷ more) → IsNoToken (cutting.quoted_front units rest)
+no_quoted_by units [] none = tt
+no_quoted_by units (d ∷ more) none = grind (arith, none more, eqb-true)
 
 pub no_quoted : (octets after inside ending : List ℕ) (c n : ℕ) → octets ≡ c ∷ after → c ≡ 34 → n ≡ item_len is_quote after → inside ≡ take n after → ending ≡ drop n after → ((more : List ℕ) → ending ≢ 34 ∷ more) → IsNoToken (front_of 1 octets)
-no_quoted octets after inside ending c n whole is len front back other =
-    subst IsNoToken (sym (quoted_is octets after c whole is))
-    (by (units_first is_quote after).units (units_first is_quote after).rest (λ more e. other more ((item_is is_quote after inside ending n len front back).1 ∙ e)))
-  where
-    by : (units : List Written) (rest : List ℕ) → ((more : List ℕ) → rest ≢ 34 ∷ more) → IsNoToken (cutting.quoted_front units rest)
-    by units [] none = tt
-    by units (d ∷ more) none = cond_both (is_quote d) (takes (quoted units) more) (cutting.stops (Some BadEscape)) IsNoToken (λ e. none more (first_octet_is d 34 more (eqb-true d 34 e))) (λ e. tt)
+no_quoted octets after inside ending c n whole is len front back other = search (rules, quoted_is octets after c whole is, item_is is_quote after inside ending n len front back, no_quoted_by (units_first is_quote after).units (units_first is_quote after).rest)
 
 pub end_of_text : (octets : List ℕ) → length octets ≡ 0 → IsNoToken (front_of 1 octets)
 unfolding front_of
@@ -182,21 +151,12 @@ pub in_front_takes : (octets rest : List ℕ) (items : List RawItem) (found : Is
 in_front_takes octets rest items found = subst (IsFront 1 octets) found.front (front_is 1 octets)
 
 pub in_front_shorter : (octets rest : List ℕ) (items : List RawItem) → IsInFront octets items rest → length rest < length octets
-in_front_shorter octets rest items found =
-    let takes = in_front_takes octets rest items found in
-    shorter octets rest found.token takes.token takes.whole
+in_front_shorter octets rest items found = search (rules, in_front_takes octets rest items found, shorter octets rest found.token)
 
 -- ---- all tokens of a text
 
--- a token ends before those after it
-stops_before : (p : Token) (tokens : List Token) → AllByRecursion IsToken tokens → AllFollow (p ∷ tokens) → Stops p (text tokens)
-stops_before p tokens each follow = search (rules, at_end, next_stops)
-
-room : (p : Token) → HasRoom 1 p
-room p = search rules
-
 first_takes : (octets : List ℕ) (p : Token) (tokens : List Token) → AreTokensOf octets (p ∷ tokens) → front_of 1 octets ≡ takes p (text tokens)
-first_takes octets p tokens are = ap (front_of 1) are.whole ∙ front_takes 1 p (text tokens) are.each.0 (stops_before p tokens are.each.1 are.follow) (room p)
+first_takes octets p tokens are = search (rules, front_takes, at_end, next_stops)
 
 -- the first of them is the token in front
 pub tokens_after : (octets left : List ℕ) (items : List RawItem) → IsInFront octets items left → (p : Token) (more : List Token) → AreTokensOf octets (p ∷ more) → (items ≡ item_of p) × AreTokensOf left more
@@ -218,15 +178,7 @@ LeavesItems entry rest kept = (tokens : List Token) → Cuts entry tokens → Is
 
 left_by : (octets left : List ℕ) (kept new item : List RawItem) (tokens more : List Token) (so_far : List RawItem) → IsInFront octets item left → ((p : Token) → IsToken p → item ≡ item_of p → AreKept (so_far ++ item) new) → AreTokensOf octets more → so_far ++ flat_map item_of more ≡ flat_map item_of tokens → IsLeft left new tokens
 left_by octets left kept new item tokens [] so_far found keeps are items = absurd (omega (arith, in_front_shorter octets left item found, ap length are.whole))
-left_by octets left kept new item tokens (p ∷ more) so_far found keeps are items =
-    let next = tokens_after octets left item found p more are in
-    record {
-      more = more;
-      are = next.1;
-      so_far = so_far ++ item;
-      are_kept = keeps p are.each.0 next.0;
-      items = append_assoc so_far item (flat_map item_of more) ∙ ap (λ t. so_far ++ (t ++ flat_map item_of more)) next.0 ∙ items;
-    }
+left_by octets left kept new item tokens (p ∷ more) so_far found keeps are items = search (rules, tokens_after octets left item found p more are, append_assoc so_far item (flat_map item_of more))
 
 pub one_less : (entry octets left : List ℕ) (kept new : List RawItem) (item : RawItem) → IsInFront octets (item ∷ []) left → Keeps item kept new → LeavesItems entry octets kept → LeavesItems entry left new
 one_less entry octets left kept new item found keeps leaves tokens cuts =
@@ -234,19 +186,15 @@ one_less entry octets left kept new item found keeps leaves tokens cuts =
     left_by octets left kept new (item ∷ []) tokens before.more before.so_far found (λ p is e. keeps_more p before.so_far kept new item is e before.are_kept keeps) before.are before.items
 
 pub none_less : (entry octets left : List ℕ) (kept : List RawItem) → IsInFront octets [] left → LeavesItems entry octets kept → LeavesItems entry left kept
-none_less entry octets left kept found leaves tokens cuts =
-    let before = leaves tokens cuts in
-    left_by octets left kept kept [] tokens before.more before.so_far found (λ p is e. subst (λ t. AreKept t kept) (sym (append-nil before.so_far)) before.are_kept) before.are before.items
+none_less entry octets left kept found leaves tokens cuts = search (rules, left_by octets left kept kept [] tokens, append-nil)
+
+all_before : (so_far : List RawItem) (rest : List ℕ) (tokens : List Token) (more : List Token) → IsNoToken (front_of 1 rest) → AreTokensOf rest more → so_far ++ flat_map item_of more ≡ flat_map item_of tokens → so_far ≡ flat_map item_of tokens
+all_before so_far rest tokens [] none are items = sym (append-nil so_far) ∙ items
+all_before so_far rest tokens (p ∷ more) none are items = absurd (no_tokens rest none p more are)
 
 -- where no token is left, the items are all
 pub all_taken : (entry rest : List ℕ) (kept : List RawItem) → IsNoToken (front_of 1 rest) → LeavesItems entry rest kept → KeepsItems entry kept
-all_taken entry rest kept none leaves tokens cuts =
-    let before = leaves tokens cuts in
-    subst (λ t. AreKept t kept) (by before.so_far before.more before.are before.items) before.are_kept
-  where
-    by : (so_far : List RawItem) (more : List Token) → AreTokensOf rest more → so_far ++ flat_map item_of more ≡ flat_map item_of tokens → so_far ≡ flat_map item_of tokens
-    by so_far [] are items = sym (append-nil so_far) ∙ items
-    by so_far (p ∷ more) are items = absurd (no_tokens rest none p more are)
+all_taken entry rest kept none leaves tokens cuts = search (rules, all_before, leaves tokens cuts)
 
 pub ruleset item_fronts = (bare_front, comment_front, end_of_text, ends_but_mark, eqb-false, plain_front)
 

@@ -1,7 +1,6 @@
 -- What is settled of a text by its front.
 use Rattle.zone_text.proofs.Common.{AllByRecursion-append, AllByRecursion-back, AllByRecursion-front, AllFollow, BadEscape, Breaks, BreaksForGood, Cuts, EndInLineFeed, Fault, IsBadEscape, IsBroken, IsEscape, IsLostEscape, List, MayEndBefore, None, Option, Some, StaysBroken, Token, UnbalancedParenthesis, Written, [], ap, append-nil, append_assoc, at_line_end, closes_nothing, closing_stays, comment, depth_after, depth_past, escape_stays, flat_map-append, no_escape, no_quoted_escape, one_digit, quoted_escape_stays, rules, subst, sym, text, text_of, too_great, two_digits, written_text, zero, ℕ, ◌++◌, ◌∙◌, ◌∷◌, ◌≡◌, arith}
-use Rattle.zone_text.proofs.Tokens.Fronts.{front_stops}
-use Rattle.zone_text.proofs.Tokens.Cuttings.{IsCut, is_cut, cuts, is_broken, breaks, last_after, last_in_front, follow_after, depth_on, room_of}
+use Rattle.zone_text.proofs.Tokens.Cuttings.{front_stops, IsCut, is_cut, cuts, is_broken, breaks, last_after, last_in_front, follow_after, depth_on, room_of}
 
 -- ---- tokens after tokens
 
@@ -58,9 +57,7 @@ pub parted : (octets : List ℕ) (tokens more : List Token) (fault : Option Faul
 parted octets tokens more fault balanced is = search (rules, flat_map-append, append_assoc, AllByRecursion-front, follow_front, AllByRecursion-back, follow_back, last_back, depth_append)
 
 pub cut_parted : (octets : List ℕ) (tokens more : List Token) → depth_after zero tokens ≡ Some zero → Cuts octets (tokens ++ more) → (rest : List ℕ) × (octets ≡ text tokens ++ rest) × Cuts (text tokens) tokens × Cuts rest more
-cut_parted octets tokens more balanced cut =
-    let is : IsParted octets tokens more None = parted octets tokens more None balanced (is_cut octets (tokens ++ more) cut) in
-    (is.rest, is.whole, is.front, cuts is.rest more is.back)
+cut_parted octets tokens more balanced cut = search (rules, parted octets tokens more None balanced (is_cut octets (tokens ++ more) cut), is_cut octets (tokens ++ more) cut, cuts)
 
 pub break_parted : (octets : List ℕ) (tokens more : List Token) (fault : Fault) → depth_after zero tokens ≡ Some zero → Breaks octets (tokens ++ more) fault → (rest : List ℕ) × (octets ≡ text tokens ++ rest) × Cuts (text tokens) tokens × Breaks rest more fault
 break_parted octets tokens more fault balanced broken = grind (arith, parted octets tokens more (Some fault) balanced (is_broken octets (tokens ++ more) fault broken))

@@ -1,5 +1,5 @@
 -- Items that stand as they are printed are the items of one line.
-use Rattle.zone_text.proofs.Common.{AllByRecursion, IfSome, IsItem, IsUnit, List, Token, Written, [], ap, append_assoc, arith, bare, ends_item, false, flat_map, is_blank, item_of, join_with_byte, length, line_of, map, quoted, refl, rules, slice_get, sym, text, token_text, written_text, ℕ, ◌++◌, ◌<◌, ◌∷◌, ◌≡◌, ◌≢◌}
+use Rattle.zone_text.proofs.Common.{AllByRecursion, IfSome, IsItem, IsUnit, List, Token, Written, [], ap, append_assoc, arith, bare, ends_item, false, flat_map, is_blank, item_of, join_with_byte, length, line_of, map, quoted, refl, rules, slice_get, sym, text, token_text, written_text, ℕ, ◌++◌, ◌<◌, ◌∙◌, ◌∷◌, ◌≡◌, ◌≢◌}
 use Rattle.zone_name.proofs.Texts.Bare.{StandsBare, not_bare}
 use Rattle.zone_rdata.specs.Spelling.{RawItem}
 use Rattle.zone_rdata.specs.Spelling as raw
@@ -35,25 +35,17 @@ token_of (raw.quoted octets) stands = record {
 
 -- ---- a line of items
 
-tokens_for : (items : List RawItem) → AllByRecursion IsPrintedItem items → List Token
-tokens_for [] stand = []
-tokens_for (item ∷ items) stand = (token_of item stand.0).token ∷ tokens_for items stand.1
+line_text : (tokens : List Token) → text (line_of tokens) ≡ join_with_byte 32 (map token_text tokens) ++ 10 ∷ []
+line_text [] = refl
+line_text (item ∷ []) = refl
+line_text (item ∷ next ∷ tokens) = search (rules, append_assoc, line_text (next ∷ tokens))
 
-are_for : (items : List RawItem) (stand : AllByRecursion IsPrintedItem items) → AllByRecursion IsItem (tokens_for items stand)
-unfolding tokens_for
-are_for [] stand = tt
-are_for (item ∷ items) stand = ((token_of item stand.0).is, are_for items stand.1)
-
-items_for : (items : List RawItem) (stand : AllByRecursion IsPrintedItem items) → flat_map item_of (tokens_for items stand) ≡ items
-unfolding tokens_for
-items_for [] stand = refl
-items_for (item ∷ items) stand = search (rules, token_of, items_for items stand.1)
-
-line_for : (items : List RawItem) (stand : AllByRecursion IsPrintedItem items) → text (line_of (tokens_for items stand)) ≡ join_with_byte 32 (map written_item items) ++ 10 ∷ []
-unfolding tokens_for
-line_for [] stand = refl
-line_for (item ∷ []) stand = ap (λ t. t ++ 10 ∷ []) (token_of item stand.0).written
-line_for (item ∷ next ∷ items) stand = search (rules, token_of, append_assoc, line_for (next ∷ items) stand.1)
+tokens_for : (items : List RawItem) → AllByRecursion IsPrintedItem items → (tokens : List Token) × AllByRecursion IsItem tokens × (flat_map item_of tokens ≡ items) × (map token_text tokens ≡ map written_item items)
+tokens_for [] stand = ([], tt, refl, refl)
+tokens_for (item ∷ items) stand =
+    let it = token_of item stand.0 in
+    let rest = tokens_for items stand.1 in
+    (it.token ∷ rest.0, (it.is, rest.1), cc (it.same, rest.2), cc (it.written, rest.3))
 
 -- the tokens whose line is written with the items
 pub record TokensOf (items : List RawItem) : Type 0 where
@@ -63,7 +55,9 @@ pub record TokensOf (items : List RawItem) : Type 0 where
   pub written : text (line_of tokens) ≡ join_with_byte 32 (map written_item items) ++ 10 ∷ []
 
 pub tokens_of : (items : List RawItem) → AllByRecursion IsPrintedItem items → TokensOf items
-tokens_of items stand = record { tokens = tokens_for items stand; each = are_for items stand; same = items_for items stand; written = line_for items stand }
+tokens_of items stand =
+    let found = tokens_for items stand in
+    record { tokens = found.0; each = found.1; same = found.2; written = line_text found.0 ∙ ap (λ t. join_with_byte 32 t ++ 10 ∷ []) found.3 }
 
 -- ---- where a line begins
 

@@ -2,7 +2,7 @@ use Rattle.std.proofs.Common.{w8}
 use Rattle.std.proofs.lemmas.Simd.{chunk-fits, length-chunk, zip2_splat}
 use Rattle.zone_name.proofs.InOctets.OctetLanes.{mask_is}
 use Rattle.zone_text.proofs.Common.{arith, refl, ◌==◌}
-use Rattle.zone_text.proofs.Tokens.TokenEnds.{comment_past, comment_seen}
+use Rattle.zone_text.proofs.Scanning.StopMarks.{comment_past, comment_seen}
 use Rattle.zone_text.proofs.comment.comment_len.Goals as goal
 use lib.Lanes.{chunk}
 

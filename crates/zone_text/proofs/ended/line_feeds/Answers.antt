@@ -1,4 +1,4 @@
-use Rattle.zone_text.proofs.Common.{[], ap, arith, count_by, sym, ◌++◌, ◌==◌, ◌∙◌, ◌∷◌, ◌≡◌, ℕ}
+use Rattle.zone_text.proofs.Common.{[], ap, arith, count_by, sym, ◌++◌, ◌==◌, ◌∙◌, ◌∷◌, ◌≡◌}
 use Rattle.zone_text.proofs.Scanning.FirstEntries.{feeds_of_both, none_of_any}
 use Rattle.zone_text.proofs.ended.line_feeds.Goals as goal
 

@@ -1,10 +1,6 @@
 use Rattle.zone_text.specs.Machine.Stops.{Tells}
-use Rattle.std.proofs.lemmas.List.Elements.{All-from_recursion}
-use Rattle.std.proofs.lemmas.List.Sums.{prefix_len-le-length}
-use Rattle.std.specs.List.{prefix_len}
-use Rattle.zone_text.proofs.Common.{All, EndsAt, ap, arith, drop, drop-drop, false, map, raw, refl, stops_bare, subst, sym, take, ◌∙◌, ◌≡◌}
-use Rattle.zone_text.proofs.Files.Left.{line_feeds}
-use Rattle.zone_text.proofs.Scanning.FirstEntries.{IsCutTo, blank_passed, comment_passed, cut_bare, cut_ended, cut_more, cut_on, item_passed}
+use Rattle.zone_text.proofs.Common.{ap, drop, drop-drop, refl, subst, sym, ◌∙◌}
+use Rattle.zone_text.proofs.Scanning.FirstEntries.{blank_passed, comment_passed, cut_bare, cut_ended, cut_more, cut_on, item_passed}
 use Rattle.zone_text.proofs.Scanning.StopMarks.{blank_stop, prefix_stops}
 use Rattle.zone_text.proofs.line.cut_line.Goals as goal
 use Rattle.zone_text.proofs.line.cut_line.Goals.{in-Some-item+in_ok-keep-in-Some-item, in-None}

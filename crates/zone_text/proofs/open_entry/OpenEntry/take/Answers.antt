@@ -1,7 +1,6 @@
-use Rattle.zone_text.proofs.Common.{ap, arith, length, refl, sym, ◌≡◌}
+use Rattle.zone_text.proofs.Common.{ap, arith, refl, sym}
 use Rattle.zone_text.proofs.Scanning.FedPieces.{depth_fits, takes_none, takes_on}
 use Rattle.zone_text.specs.Machine.OpenEntry.{state_of}
-use Rattle.zone_text.specs.OpenEntry.{HeldEntry}
 use Rattle.zone_text.proofs.open_entry.OpenEntry.take.Goals as goal
 
 pub returns-in_default : goal.returns-in_default
@@ -11,10 +10,7 @@ returns-in_default c = record {
 }
 
 pub scan-found-requires : goal.scan-found-requires
-scan-found-requires c =
-    let depth = depth_fits c.self.inside.octets.items c.in-On.at c.self.inside.step c.self.invariant c.in-On.is in
-    let len : length c.self.inside.octets.items ≡ length c.args.self.now.octets = ap (λ (e : HeldEntry). length e.octets) c.self.view_is in
-    omega (arith, depth, len, c.requires.fits)
+scan-found-requires c = grind (arith, depth_fits c.self.inside.octets.items c.in-On.at c.self.inside.step c.self.invariant c.in-On.is)
 
 pub returns-clause-taken : goal.returns-clause-taken
 returns-clause-taken c =

@@ -11,16 +11,9 @@ scan-found-requires c = search (rules, depth_within)
 
 pub loop-self-preserved-in-Some : goal.loop-self-preserved-in-Some
 loop-self-preserved-in-Some c =
-    let mid = c.loop-self.self in
     let first = rw c.in-Some.is at c.in_ok-taken.ensures.first in
-    record {
-      fed = fed_entry c.args.self.now mid _ c.args.piece.now c.loop-self.rest.now c.split_at.result.0.now c.split_at.result.1.now c.in-Some.taken _ c.loop-self.invariant.fed
-          (none_found mid.ended.decided.ending c.if-is_none.ensures)
-          (none_left mid.unfinished.items mid.unfinished.len c.is_empty-in-loop-self.result mid.unfinished.ok.0 c.is_empty-in-loop-self.ensures c.if-is_empty.true)
-          first c.split_at.ensures.front c.split_at.ensures.back
-          (c.in_ok-read_cut.ensures (rw c.deref.ensures.value (keeps_items _ _ _ _ first c.split_at.ensures.front))) refl refl;
-      nothing = λ none. absurd (not_empty c.loop-self.rest.now c.loop-self-test.ensures (c.loop-self.invariant.nothing none).1);
-    }
+    let read = c.in_ok-read_cut.ensures (rw c.deref.ensures.value (keeps_items _ _ _ _ first c.split_at.ensures.front)) in
+    search (rules, fed_entry c.args.self.now c.loop-self.self, none_found, none_left, not_empty)
 
 pub returns-clause-follow : goal.returns-clause-follow
 returns-clause-follow c =

@@ -3,8 +3,7 @@ use Rattle.zone_text.proofs.Scanning.StopMarks.{known_len, known_rest, unknown_l
 use Rattle.zone_text.proofs.stops.Stops.bare_len.Goals as goal
 
 pub returns-then-self-eq0-clause-len : goal.returns-then-self-eq0-clause-len
-returns-then-self-eq0-clause-len c =
-    unknown_len c.args.self c.args.octets.now c.split_at.result.1.now (length c.args.octets.now - c.args.self.unseen) c.bare_len-more.result.0 c.requires.tells c.if-self-eq0.true refl c.split_at.ensures.back c.bare_len-more.ensures.len
+returns-then-self-eq0-clause-len c = cc (unknown_len c.args.self c.args.octets.now c.split_at.result.1.now (length c.args.octets.now - c.args.self.unseen) c.bare_len-more.result.0 c.requires.tells c.if-self-eq0.true refl c.split_at.ensures.back c.bare_len-more.ensures.len)
 
 pub returns-then-self-eq0-clause-tells : goal.returns-then-self-eq0-clause-tells
 returns-then-self-eq0-clause-tells c =
