@@ -269,15 +269,7 @@ module _ (octets : List ℕ) (a : RecordAt) (class kind : ℕ) (same_class : cla
 
   -- opaque data is at most 65,535 octets
   pub octets_are_taken : (fault : Fault) → None ≡ layout class kind → a.end ≤ a.start + 65535 → IsPushFault old (fixed (octets_between octets a.start a.end)) fault → ⊥
-  octets_are_taken fault row short bad = by fault bad
-    where
-      none : old.parts ≡ []
-      none = ap (λ (b : Built). b.parts) new
-
-      by : (fault : Fault) → IsPushFault old (fixed (octets_between octets a.start a.end)) fault → ⊥
-      by _ (misplaced wrong) = wrong (rw (builder_laid None row, none) tt)
-      by _ (long_string n long) = long tt
-      by _ (too_long n fits over) = omega (arith, over, short, length-take (a.end - a.start) (drop a.start octets), ap (λ ps. length (octets_of (ps ++ fixed (octets_between octets a.start a.end) ∷ []))) none, ap length (append-nil (octets_between octets a.start a.end)))
+  octets_are_taken fault row short bad = grind (arith, append-nil, builder_laid, length-take)
 
 -- likewise of a record as it is kept
 module _ (raw now : RawRecord) (view : raw ≡ now) (class kind : ℕ) (same_class : class ≡ now.at.class) (same_kind : kind ≡ now.at.kind) (old : Built) (new : old ≡ record { class = class; kind = kind; parts = [] }) where

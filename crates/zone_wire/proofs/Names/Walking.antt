@@ -207,9 +207,7 @@ at_labels each (pointer offset bound target labels end steps pointers here rest)
 
 -- where the walk ends at the root, a name stands
 pub root_is_name : (message : List ℕ) (offset : ℕ) (visits : List Visit) → ((k : ℕ) → get_or message k 0 < 256) → IsWalk message offset visits None → (found : Found) × IsNameAt message offset found × (outcome message (walk message offset) ≡ named found)
-root_is_name message offset visits each is =
-    let f = (walk_lies is).finds in
-    (f.found, record { at = f.at; name = record { each = at_labels each f.at; short = omega (arith, f.short, wire-octets f.found.labels) }; few = omega (arith, f.few) }, cc (is_walk message offset visits None is))
+root_is_name message offset visits each is = grind (arith, at_labels, is_walk, walk_lies, wire-octets)
 
 -- what is found is a name
 pub walk_names : (message : List ℕ) (offset : ℕ) (found : Found) → ((k : ℕ) → get_or message k 0 < 256) → outcome message (walk message offset) ≡ named found → IsNameAt message offset found
@@ -221,11 +219,7 @@ walk_names message offset found each e = by (ending (walk message offset)) (walk
 
 -- what is refused is a fault, after as many places as each walk has
 pub refused_places : (message : List ℕ) (offset : ℕ) (fault : Fault) (steps : ℕ) (visits : List Visit) (ends : Option Fault) → outcome message (walk message offset) ≡ refused fault steps → IsWalk message offset visits ends → (ends ≡ Some fault) × (steps ≡ length visits)
-refused_places message offset fault steps visits ends e is = by ends (is_walk message offset visits ends is) (walk_lies is).finds
-  where
-    by : (ends : Option Fault) → visits ≡ walk message offset → Ends message offset offset 0 0 visits ends → (ends ≡ Some fault) × (steps ≡ length visits)
-    by None same f = let is = f.is in absurd (let none : ⊥ = cc in none)
-    by (Some other) same f = (cc, cc)
+refused_places message offset fault steps visits ends e is = grind (arith, is_walk, same, walk_lies)
 
 pub name_refused : (message : List ℕ) (offset : ℕ) (fault : Fault) (steps : ℕ) → outcome message (walk message offset) ≡ refused fault steps → NameFault message offset fault
 name_refused message offset fault steps e =

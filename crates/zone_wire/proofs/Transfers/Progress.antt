@@ -3,6 +3,7 @@ use Rattle.zone_wire.proofs.Common.{AfterClosing, AgreeWith, Among, AnswerFault,
 use Rattle.zone_rdata.specs.declared.fault.Failing.TheVariants as failings
 use Rattle.zone_rdata.specs.declared.queue.PendingRecords.{PendingRecords}
 use Rattle.zone_wire.specs.AnswerFault.{refused}
+use Rattle.std.proofs.lemmas.Bool.Decides.{same_from_decides}
 use Rattle.zone_wire.proofs.Records.Answering.{names_same, records_same, names_equal, records_equal}
 use Rattle.zone_wire.proofs.Transfers.GivenMessages.{asked_grow, placed_grow}
 
@@ -85,19 +86,6 @@ takes_all octets answers left old new none p = by p.rest (sym none ∙ p.left_is
     by [] h so_far questions placed among = takes_last (so_far questions placed among) no_more
     by (a ∷ rest) h so_far questions placed among = cc
 
--- the next answer has a fault
-takes_up_to : (octets : List ℕ) (answers : List RecordAt) (first : RawRecord) (left before : List RawRecord) (old mid new : Transfer) (fault : Fault) (offset : ℕ) → Pending octets answers before old mid → before ≡ first ∷ left → new ≡ mid → offset ≡ first.at.offset
-    → ((questions : List QuestionAt) (placed : List Placed) → Among questions placed mid → AnswerFault first.octets questions placed first.at fault)
-    → (questions : List QuestionAt) (placed : List Placed) → Among questions placed old → TakesUpTo octets answers questions placed old new (Some (fault, offset))
-takes_up_to octets answers first left before old mid new fault offset p e same there refuses questions placed among = rw same (by p.rest (sym e ∙ p.left_is) p.so_far)
-  where
-    by : (rest : List RecordAt) → first ∷ left ≡ map (raw_at octets) rest → Reached octets answers rest old mid → TakesUpTo octets answers questions placed old mid (Some (fault, offset))
-    by [] h so_far = cc
-    by (a ∷ rest) h so_far =
-        let is : first ≡ raw_at octets a = cc in
-        let s = so_far questions placed among in
-        rw (there ∙ ap (λ (r : RawRecord). r.at.offset) is) (takes_last s (refused (subst (λ (r : RawRecord). AnswerFault r.octets questions (placed ++ s.here) r.at fault) is (refuses questions (placed ++ s.here) s.gains.among))))
-
 -- what the ID and the questions of a message leave
 first_id_after : (before : List StatedMessage) (p : StatedMessage) → HasFirstId before p.sections → Some p.sections.id ≡ first_id (before ++ p ∷ [])
 first_id_after before p same = grind arith
@@ -158,7 +146,14 @@ stopped_next octets before old mid decided failing number offset after count tak
 pub stopped_by : (octets : List ℕ) (answers : List RecordAt) (first : RawRecord) (left before : List RawRecord) (old mid new : Transfer) (failing : Failing) (offset : ℕ) → Pending octets answers before old mid → before ≡ first ∷ left → offset ≡ first.at.offset
     → IfFault (λ f. (questions : List QuestionAt) (placed : List Placed) → Among questions placed mid → AnswerFault first.octets questions placed first.at f) failing → IfFault (λ _. new ≡ mid) failing
     → (questions : List QuestionAt) (placed : List Placed) → Among questions placed old → IfNoMemory (TakesUpTo octets answers questions placed old new) (Err (failing, offset))
-stopped_by octets answers first left before old mid new (failings.Fault fault) offset p e there refuses same questions placed among = takes_up_to octets answers first left before old mid new fault offset p e same there refuses questions placed among
+stopped_by octets answers first left before old mid new (failings.Fault fault) offset p e there refuses same questions placed among = rw same (by p.rest (sym e ∙ p.left_is) p.so_far)
+  where
+    by : (rest : List RecordAt) → first ∷ left ≡ map (raw_at octets) rest → Reached octets answers rest old mid → TakesUpTo octets answers questions placed old mid (Some (fault, offset))
+    by [] h so_far = cc
+    by (a ∷ rest) h so_far =
+        let is : first ≡ raw_at octets a = cc in
+        let s = so_far questions placed among in
+        rw (there ∙ ap (λ (r : RawRecord). r.at.offset) is) (takes_last s (refused (subst (λ (r : RawRecord). AnswerFault r.octets questions (placed ++ s.here) r.at fault) is (refuses questions (placed ++ s.here) s.gains.among))))
 stopped_by octets answers first left before old mid new failings.Memory offset p e there refuses same questions placed among = tt
 
 -- a message after others, by what its answers give
@@ -183,17 +178,14 @@ asked_one (x ∷ []) q e = record { at = x; one = refl; same = cc }
 asked_one (x ∷ y ∷ questions) q e = cc
 
 -- names that are compared from their ends
-same_bool : (a b : Bool) → (a ≡ true → b ≡ true) → (b ≡ true → a ≡ true) → a ≡ b
-same_bool a b f g = grind arith
-
 pub reversed_same : (n m : List (List ℕ)) → pointwise (pointwise nat_eq) (reverse n) (reverse m) ≡ same_name n m
-reversed_same n m = same_bool _ _
-    (λ e. names_same n m (sym (reverse-reverse n) ∙ ap reverse (names_equal (reverse n) (reverse m) e) ∙ reverse-reverse m))
-    (λ e. names_same (reverse n) (reverse m) (ap reverse (names_equal n m e)))
+reversed_same n m = same_from_decides _ _
+    (λ e. sym (reverse-reverse n) ∙ ap reverse (names_equal (reverse n) (reverse m) e) ∙ reverse-reverse m, λ e. names_same (reverse n) (reverse m) (ap reverse e))
+    (names_equal n m, names_same n m)
 
 -- a test that tells whether records are equal
 pub told_same : (b : Bool) (r s : Record) → (b ≡ true ↔ r ≡ s) → b ≡ same_record r s
-told_same b r s tells = same_bool b (same_record r s) (λ e. records_same r s (tells.0 e)) (λ e. tells.1 (records_equal r s e))
+told_same b r s tells = same_from_decides b (same_record r s) tells (records_equal r s, records_same r s)
 
 pub ruleset message_stops = (stops_in_structure, stops_in_head, message_taken)
 

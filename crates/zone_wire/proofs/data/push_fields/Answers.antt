@@ -11,8 +11,5 @@ returns-in_err-push_field-clause-fault c =
     (λ fault bad. field_bad c.args.cursor.now (fields_of c.args.fields) c.args.builder.now c.requires.laid c.requires.new c.loop-field.cursor c.loop-field.builder c.loop-field.count c.in-Some.field fault (sym c.field.ensures ∙ c.in-Some.is) c.loop-field.invariant bad)
     c.in_err-push_field.ensures.fault
 
-pub loop-field-preserved : goal.loop-field-preserved
-loop-field-preserved c = field_put c.args.cursor.now (fields_of c.args.fields) c.args.builder.now c.requires.laid c.requires.new c.loop-field.cursor c.push_field.new.cursor c.loop-field.builder c.push_field.new.builder c.loop-field.count c.in-Some.field (sym c.field.ensures ∙ c.in-Some.is) c.loop-field.invariant c.in_ok-push_field.ensures.found
-
 pub returns-clause-found : goal.returns-clause-found
 returns-clause-found c = all_values c.args.cursor.now (fields_of c.args.fields) c.args.builder.now c.requires.laid c.requires.new c.loop-field.cursor c.loop-field.builder c.loop-field.count (sym c.field.ensures ∙ c.in_default.is) (grind arith) c.loop-field.invariant
