@@ -1,12 +1,11 @@
 -- The data of a record is read into a builder, field after field and string after string.
 use Rattle.zone_wire.proofs.Common.{AllByRecursion, AllByRecursion-append, AreStrings, Awaits, AwaitsStrings, BadRdata, Built, Cursor, Err, Fault, Field, FieldValue, Framed, HoldEach, Holds, IsNext, IsPushFault, IsRead, IsReadyFor, IsRecordAt, IsSized, IsString, IsValueAt, IsWhole, List, None, Ok, OneString, Option, Pushes, PutsValue, PutsValues, RawRecord, Reads, RecordAt, Result, Some, Strings, Suits, [], and_parts, and_then, ap, append-nil, append_assoc, arith, bytes_each, common_steps, cond-false, cond-true, data_at, data_of, drop, drop_all, drop_more, ends_with_strings, eq-eqb, field_octets, fixed, flat_map, flat_map-append, framed_short, get_or, if◌then◌else◌, inl, inr, layout, length, length-append, length-take, long_string, ltb-true, map, map-append, misplaced, name, next_value, octets_between, octets_of, octets_push, option_or, part_at, parts_for, put_after, refl, rules, slice_get, slice_index, some_frames, string, strings, strings_before, subst, suc, sym, table_row, too_long, u16_value, u32_value, value_at, values_at, with_length, zero, ℕ, ◌*◌, ◌++◌, ◌+◌, ◌-◌, ◌<◌, ◌∙◌, ◌∷◌, ◌≡◌, ◌≢◌, ◌≤◌}
 use Rattle.zone_rdata.specs.Machine.Fronts.{AreWithLengths}
-use Rattle.zone_wire.proofs.Fields.ReadFields.{strings_read, Shown, part_bytes, strings_each, value_shows}
+use Rattle.zone_wire.proofs.Fields.ReadFields.{strings_read, Shown, part_bytes, strings_each, value_shows, IsRow, each_row}
 use Rattle.zone_wire.proofs.Fields.FieldReading.{between_first, between_join, part_len, sized_fails, string_sized}
 use Rattle.zone_rdata.proofs.Fields.AnyField.{field_short}
 use Rattle.zone_wire.proofs.Fields.DataFaults.{values_told}
 use Rattle.zone_wire.proofs.Messages.Sections.{and_then_err, and_then_ok}
-use Rattle.zone_wire.proofs.Records.ReadRecords.{IsRow, each_row}
 use Rattle.std.proofs.lemmas.Option.{get_or_from_slice_get, slice_get_cases, slice_get_within}
 
 -- ---- strings
@@ -40,14 +39,11 @@ string_suits part s = grind arith
 pub shown : (from to : Cursor) (field : Field) (v : FieldValue × ℕ) → data_of to ≡ data_of from → next_value to field ≡ Ok v → Shown from.message.now from.end to.at field v
 shown from to field v same read = subst (λ (d : List ℕ × ℕ). Shown d.0 d.1 to.at field v) same (value_shows to.message.now to.octets to.end to.inside to.at field v read)
 
-string_stands : (octets : List ℕ) (start past : ℕ) (v : FieldValue) → Holds OneString v → IsValueAt octets start past v → (text : List ℕ) × (v ≡ string text) × IsString text × (start ≤ past) × (octets_between octets start past ≡ with_length text)
-string_stands octets start past v held stands = grind arith
-
 module _ (from to : Cursor) (old now : Built) (h : HavePut from to old now) where
   string_room : (v : FieldValue) (past : ℕ) → AwaitsStrings from old → next_value to OneString ≡ Ok (v, past) → length (octets_of now.parts) + length (field_octets v) ≤ 65535
   string_room v past w read =
       let shows = shown from to OneString (v, past) h.same read in
-      grind (arith, from.inside, string_stands, flat_map-append, length-append, octets_of_strings, part_len)
+      grind (arith, from.inside, flat_map-append, length-append, octets_of_strings, part_len)
 
   pub next_string : AwaitsStrings from old → Awaits to now OneString
   next_string w = record {
@@ -142,9 +138,6 @@ pub record HaveValues (from to : Cursor) (fields : List Field) (old now : Built)
   pub fails : (fault : Fault) → values_at from.message.now from.end to.at (drop count fields) ≡ Err fault → values_at from.message.now from.end from.at fields ≡ Err fault
   pub same : data_of to ≡ data_of from
 
-plain_parts : (field : Field) (value : FieldValue) → field ≢ Strings → Holds field value → parts_for value ≡ value ∷ []
-plain_parts field value other held = grind arith
-
 module _ (from : Cursor) (fields : List Field) (old : Built) (laid : layout old.class old.kind ≡ Some fields) (new : old.parts ≡ []) where
   own_parts : (to : Cursor) (now : Built) (count : ℕ) (h : HaveValues from to fields old now count) → now.parts ≡ flat_map parts_for h.values
   own_parts to now count h = ap (λ (b : Built). b.parts) h.put ∙ ap (λ ps. ps ++ flat_map parts_for h.values) new
@@ -189,7 +182,7 @@ module _ (from : Cursor) (fields : List Field) (old : Built) (laid : layout old.
       let more : flat_map parts_for (h.values ++ p.value ∷ []) ≡ flat_map parts_for h.values ++ parts_for p.value = flat_map-append parts_for h.values (p.value ∷ []) ∙ ap (λ t. flat_map parts_for h.values ++ t) (append-nil (parts_for p.value)) in
       let goes : values_at from.message.now from.end to.at (drop count fields) ≡ and_then (values_at from.message.now from.end past.at rest) (λ others. Ok (p.value ∷ others)) = ap (values_at from.message.now from.end to.at) (from_here fields count field here) ∙ and_then_ok (value_at from.message.now from.end to.at field) (p.value, past.at) _ (from_next to now count field _ h p.reads.read) in
       let same : data_of past ≡ data_of from = p.reads.same ∙ h.same in
-      grind (arith, length-append, append_assoc, field_of, plain_parts, field_short, table_row, octets_push)
+      grind (arith, length-append, append_assoc, field_of, field_short, table_row, octets_push)
 
   pub field_bad : (to : Cursor) (now : Built) (count : ℕ) (field : Field) (fault : Fault) → slice_get fields count ≡ Some field → HaveValues from to fields old now count → next_value to field ≡ Err fault → values_at from.message.now from.end from.at fields ≡ Err fault
   field_bad to now count field fault here h e = h.fails fault (ap (values_at from.message.now from.end to.at) (from_here fields count field here) ∙ and_then_err (value_at from.message.now from.end to.at field) fault _ (from_next to now count field _ h e))

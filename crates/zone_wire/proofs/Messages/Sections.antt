@@ -28,9 +28,6 @@ each_reads read end_of Is reads [] count offset past size are = grind (arith, co
 each_reads read end_of Is reads (x ∷ xs) zero offset past size are = absurd (omega arith)
 each_reads read end_of Is reads (x ∷ xs) (suc count) offset past size are = grind (arith, reads offset x are.0, each_reads read end_of Is reads xs count (end_of x) past (omega arith) are.1)
 
-opens : (octets : List ℕ) (fault : Option Fault) → fault ≡ None → unless_faulted fault (after_header octets) ≡ after_header octets
-opens octets fault e = cc
-
 pub questions_read : (octets : List ℕ) (s : Sections) (is : IsMessage octets s) → questions_from octets (u16_at octets 4) 12 ≡ Ok (s.questions, is.past_questions)
 questions_read octets s is = each_reads (question_at octets) (λ q. q.end) (IsQuestionAt octets) part_reads s.questions (u16_at octets 4) 12 is.past_questions is.question_count is.questions
 
@@ -38,7 +35,7 @@ questions_read octets s is = each_reads (question_at octets) (λ q. q.end) (IsQu
 pub sections_read : (octets : List ℕ) (s : Sections) → IsMessage octets s → sections_of octets ≡ Ok s
 unfolding sections_of
 sections_read octets s is =
-    opens octets (header_fault octets) (header_reads octets is.header)
+    ap (λ (h : Option Fault). unless_faulted h (after_header octets)) (header_reads octets is.header)
     ∙ and_then_ok _ (s.questions, is.past_questions) _ (questions_read octets s is)
     ∙ and_then_ok _ (s.answers, is.past_answers) _ (each_reads (record_at octets) (λ r. r.end) (IsRecordAt octets) (λ o x. part_reads o x) s.answers (u16_at octets 6) is.past_questions is.past_answers is.answer_count is.answers)
     ∙ and_then_ok _ (s.additional, length octets) _ (each_reads (record_at octets) (λ r. r.end) (IsRecordAt octets) (λ o x. part_reads o x) s.additional (u16_at octets 10) is.past_answers (length octets) is.additional_count is.additional)
@@ -61,13 +58,6 @@ leads r next y e = grind arith
 -- a test that is passed
 pub passes : {X E : Type 0} (test : Bool) (x y : X) (fault : E) → (if test then Ok x else Err fault) ≡ Ok y → (test ≡ true) × (x ≡ y)
 passes test x y fault e = grind arith
-
-pub passes_on : {X E : Type 0} (test : Bool) (fault : E) (rest : Result X E) (x : X) → (if test then Err fault else rest) ≡ Ok x → (test ≡ false) × (rest ≡ Ok x)
-passes_on test fault rest x e = grind arith
-
-pub header_shows : (octets : List ℕ) → header_fault octets ≡ None → HasHeader octets
-unfolding header_fault
-header_shows octets e = grind arith
 
 pub one_message : (octets : List ℕ) (s t : Sections) → IsMessage octets s → IsMessage octets t → s ≡ t
 one_message octets s t is too = ok_same s t (sym (sections_read octets s is) ∙ sections_read octets t too)
@@ -98,7 +88,8 @@ header_refused octets fault e = ap (λ (h : Option Fault). unless_faulted h (aft
 
 -- a header without a fault counts its parts
 pub has_header : (octets : List ℕ) → None ≡ header_fault octets → HasHeader octets
-has_header octets e = header_shows octets (sym e)
+unfolding header_fault
+has_header octets e = grind arith
 
 module _ (octets : List ℕ) (none : None ≡ header_fault octets) where
   pub questions_refused : (e : Fault × ℕ) → Err e ≡ run_end_of (questions_from octets (u16_at octets 4) 12) → sections_of octets ≡ Err e

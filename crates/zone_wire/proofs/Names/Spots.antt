@@ -13,23 +13,13 @@ Shows message spot (Some (at_fault fault)) = FaultHere message spot.offset spot.
 neither : (a b c d : ℕ) → nat_lt a b || nat_le c d ≡ false → (b ≤ a) × (d < c)
 neither a b c d e = grind (arith, nat_tests)
 
-shows_label : (message : List ℕ) (spot : Spot) → 0 < slice_index message spot.offset → slice_index message spot.offset ≤ 63 → Shows message spot (Some (label_of message spot (slice_index message spot.offset)))
-shows_label message spot some short = grind (arith, cond_both, leb-true, leb-false, ltb-true, ltb-false, at_fault, at_label, fails, holds)
-
 good_target : (a b : ℕ) → 12 ≤ a → a < b → nat_lt a 12 || nat_le b a ≡ false
 good_target a b h k = grind (arith, nat_tests)
-
-shows_pointer : (message : List ℕ) (spot : Spot) → 192 ≤ slice_index message spot.offset → Shows message spot (Some (pointer_of message spot (target_at message spot.offset)))
-shows_pointer message spot first = grind (arith, cond_both, leb-true, leb-false, ltb-true, ltb-false, at_fault, at_pointer, fails, holds, neither, good_target)
 
 -- what stands at a place shows its octets
 pub standing_shows : (message : List ℕ) (spot : Spot) → Shows message spot (standing_in message spot)
 unfolding standing_in
-standing_shows message spot = grind (arith, nat_tests, shows_label, shows_pointer)
-
--- where an octet above zero stands, the message goes on
-pub here_of : (message : List ℕ) (i : ℕ) → 0 < slice_index message i → i < length message
-here_of message i h = grind (arith, common_steps)
+standing_shows message spot = grind (arith, nat_tests, cond_both, leb-true, leb-false, ltb-true, ltb-false, at_fault, at_label, fails, holds, at_pointer, neither, good_target)
 
 -- one thing stands at a place
 label_fine : (message : List ℕ) (spot : Spot) (size : ℕ) (fault : Fault) → IsLabelAt message spot.offset size → spot.octets + size + 2 ≤ 255 → FaultHere message spot.offset spot.bound spot.pointers spot.octets fault → ⊥
@@ -57,7 +47,7 @@ one_standing message spot (Some (at_fault f)) (Some (at_label n)) is too = absur
 one_standing message spot (Some (at_pointer n)) (Some (at_pointer m)) is too = grind arith
 one_standing message spot (Some (at_pointer n)) (Some (at_fault f)) is too = absurd (pointer_fine message spot n f is.0 is.1 too)
 one_standing message spot (Some (at_fault f)) (Some (at_pointer n)) is too = absurd (pointer_fine message spot n f too.0 too.1 is)
-one_standing message spot s t is too = grind (arith, here_of)
+one_standing message spot s t is too = grind (arith, common_steps)
 
 pub standing_is : (message : List ℕ) (spot : Spot) (s : Option Standing) → Shows message spot s → standing_in message spot ≡ s
 standing_is message spot s is = one_standing message spot (standing_in message spot) s (standing_shows message spot) is

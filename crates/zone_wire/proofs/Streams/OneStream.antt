@@ -34,9 +34,6 @@ frames_extend (m ∷ ms) (n ∷ ns) r s more cut e =
     let rest = frames_extend ms ns r s more cut one.1 in
     (rest.0, cc)
 
-pub framed_extends : (stream more : List ℕ) (ms ns : List (List ℕ)) (r s : List ℕ) → IsFramed stream ms r → IsFramed (stream ++ more) ns s → (after : List (List ℕ)) × (ns ≡ ms ++ after)
-framed_extends stream more ms ns r s is longer = grind (arith, frames_extend, append_assoc, flat_map, frame)
-
 -- frames of a stream, and a rest
 pub record Framing (stream : List ℕ) : Type 0 where
   pub messages : List (List ℕ)
@@ -127,7 +124,7 @@ one_decision stream placed other ending late is too =
 
 -- the messages of a longer stream go on
 messages_go_on : (stream more : List ℕ) (ms ns : List (List ℕ)) (r s : List ℕ) (placed other : List Placed) (ending late : Option (Fault × Place)) → IsFramed stream ms r → IsFramed (stream ++ more) ns s → ReadAfter [] ms placed ending → ReadAfter [] ns other late → GoesOn placed ending other late
-messages_go_on stream more ms ns r s placed other ending late is longer read also = grind (arith, framed_extends, read_goes_on)
+messages_go_on stream more ms ns r s placed other ending late is longer read also = grind (arith, read_goes_on, frames_extend, append_assoc, flat_map, frame)
 
 pub handed_more : (placed more : List Placed) → (rest : List Placed) × (handed_on (placed ++ more) ≡ handed_on placed ++ rest)
 handed_more [] more = (handed_on more, refl)

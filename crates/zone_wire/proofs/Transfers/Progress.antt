@@ -31,9 +31,6 @@ stands_after questions placed rr t among some going other = grind arith
 pub closed_after : (questions : List QuestionAt) (placed : List Placed) (rr : Record) (t : Transfer) → Among questions placed t → t.closed ≡ true → OrderFault questions placed rr AfterClosing
 closed_after questions placed rr t among closed = grind (arith, fails)
 
-gains_more : (here more : List Placed) (questions : List QuestionAt) (placed : List Placed) (old mid new : Transfer) → Gains here questions placed old mid → Gains more questions (placed ++ here) mid new → Gains (here ++ more) questions placed old new
-gains_more here more questions placed old mid new first next = grind (arith, common_steps)
-
 -- answers up to some were read, and whatever those give that are still to come, all of them give it after the records of those
 pub record SoFar (octets : List ℕ) (answers rest : List RecordAt) (questions : List QuestionAt) (placed : List Placed) (old new : Transfer) : Type 0 where
   pub here : List Placed
@@ -56,7 +53,7 @@ pub pending_all : (octets : List ℕ) (answers : List RecordAt) (left : List Raw
 pending_all octets answers left t e = search rules
 
 so_far_more : (octets : List ℕ) (answers : List RecordAt) (a : RecordAt) (rest : List RecordAt) (questions : List QuestionAt) (placed : List Placed) (old mid new : Transfer) → mid.messages ≡ old.messages → (s : SoFar octets answers (a ∷ rest) questions placed old mid) → Takes octets a questions (placed ++ s.here) mid new → SoFar octets answers rest questions placed old new
-so_far_more octets answers a rest questions placed old mid new messages s takes = grind (arith, append_assoc, gains_more, states)
+so_far_more octets answers a rest questions placed old mid new messages s takes = grind (arith, append_assoc, states, common_steps)
 
 pub pending_more : (octets : List ℕ) (answers : List RecordAt) (first : RawRecord) (left before : List RawRecord) (old mid new : Transfer) → Pending octets answers before old mid → before ≡ first ∷ left → new.messages ≡ mid.messages → new.decided.ending ≡ mid.decided.ending → ((questions : List QuestionAt) (placed : List Placed) → Among questions placed mid → Takes first.octets first.at questions placed mid new) → Pending octets answers left old new
 pending_more octets answers first left before old mid new p e messages ending takes = by p.rest (sym e ∙ p.left_is) p.so_far

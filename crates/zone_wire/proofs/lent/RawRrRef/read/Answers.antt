@@ -1,5 +1,5 @@
 use Rattle.zone_wire.proofs.Common.{AnswerStates, Ok, fault_answered, if_fault_passed, rules}
-use Rattle.zone_wire.proofs.Records.RecordReading.{only_failing, only_answer, own_data}
+use Rattle.zone_wire.proofs.Records.Answering.{only_failing, only_answer, own_data}
 use Rattle.zone_wire.proofs.lent.RawRrRef.read.Goals as goal
 
 pub returns-in_err-class-clause-only : goal.returns-in_err-class-clause-only
