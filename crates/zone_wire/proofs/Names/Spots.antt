@@ -10,16 +10,10 @@ Shows message spot (Some (at_label size)) = IsLabelAt message spot.offset size �
 Shows message spot (Some (at_pointer target)) = IsPointerAt message spot.offset spot.bound target × (spot.pointers < 128)
 Shows message spot (Some (at_fault fault)) = FaultHere message spot.offset spot.bound spot.pointers spot.octets fault
 
-neither : (a b c d : ℕ) → nat_lt a b || nat_le c d ≡ false → (b ≤ a) × (d < c)
-neither a b c d e = grind (arith, nat_tests)
-
-good_target : (a b : ℕ) → 12 ≤ a → a < b → nat_lt a 12 || nat_le b a ≡ false
-good_target a b h k = grind (arith, nat_tests)
-
 -- what stands at a place shows its octets
 pub standing_shows : (message : List ℕ) (spot : Spot) → Shows message spot (standing_in message spot)
 unfolding standing_in
-standing_shows message spot = grind (arith, nat_tests, cond_both, leb-true, leb-false, ltb-true, ltb-false, at_fault, at_label, fails, holds, at_pointer, neither, good_target)
+standing_shows message spot = grind (arith, nat_tests, cond_both, leb-true, leb-false, ltb-true, ltb-false, at_fault, at_label, fails, holds, at_pointer)
 
 -- one thing stands at a place
 label_fine : (message : List ℕ) (spot : Spot) (size : ℕ) (fault : Fault) → IsLabelAt message spot.offset size → spot.octets + size + 2 ≤ 255 → FaultHere message spot.offset spot.bound spot.pointers spot.octets fault → ⊥

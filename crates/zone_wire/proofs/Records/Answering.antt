@@ -124,19 +124,13 @@ last_test false fault other e = (refl, some_same fault other e)
 abbrev other_soa_test : Record → Placed → Bool
 other_soa_test r opening = r.kind == 6 && not (same_record r opening.rr)
 
-other_records : (r s : Record) → not (same_record r s) ≡ true → r ≢ s
-other_records r s e same = grind (arith, records_same)
-
-kept_soa : (r : Record) (opening : Placed) → other_soa_test r opening ≡ false → r.kind ≡ 6 → r ≡ opening.rr
-kept_soa r opening e kind = grind (arith, and_cases, eq-eqb, records_equal, not-false)
-
 -- a record after others is refused with its first fault
 pub order_faults : (questions : List QuestionAt) (before : List Placed) (r : Record) (fault : Fault) → order_fault questions before r ≡ Some fault → OrderFault questions before r fault
-order_faults questions before r fault e = grind (arith, option_unless, not_other, same_by, last_test, disagrees, kept_soa, agrees, zone_of, fails, other_records)
+order_faults questions before r fault e = grind (arith, option_unless, not_other, same_by, last_test, disagrees, agrees, zone_of, fails, records_same, and_cases, eq-eqb, records_equal, not-false)
 
 -- a record that isn't refused stands after others
 pub order_stands : (questions : List QuestionAt) (before : List Placed) (r : Record) → order_fault questions before r ≡ None → ComesAfter questions before r
-order_stands questions before r e = grind (arith, agrees_by, kept_soa)
+order_stands questions before r e = grind (arith, agrees_by, and_cases, eq-eqb, records_equal, not-false)
 
 -- ---- the records of a message's answers up to the first that has a fault are those that are read
 -- it stands somewhere
