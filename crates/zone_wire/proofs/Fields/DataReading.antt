@@ -18,9 +18,6 @@ pub record HavePut (from to : Cursor) (old now : Built) : Type 0 where
   pub same : data_of to ≡ data_of from
   pub past : from.at ≤ to.at
 
-nothing_between : (octets : List ℕ) (start : ℕ) → octets_between octets start start ≡ []
-nothing_between octets start = grind arith
-
 pub octets_of_strings : (many : List (List ℕ)) → octets_of (map string many) ≡ flat_map with_length many
 octets_of_strings [] = refl
 octets_of_strings (text ∷ many) = ap (λ o. with_length text ++ o) (octets_of_strings many)
@@ -31,9 +28,6 @@ put_parts old now parts e P h = subst P (sym e) h
 
 pub length-strings : (many : List (List ℕ)) → length (map string many) ≡ length many
 length-strings many = grind (arith, common_steps)
-
-string_suits : (part : FieldValue) → Suits (Some OneString) part → Suits (Some Strings) part
-string_suits part s = grind arith
 
 -- what is read at a later place stands in the data
 pub shown : (from to : Cursor) (field : Field) (v : FieldValue × ℕ) → data_of to ≡ data_of from → next_value to field ≡ Ok v → Shown from.message.now from.end to.at field v
@@ -48,7 +42,7 @@ module _ (from to : Cursor) (old now : Built) (h : HavePut from to old now) wher
   pub next_string : AwaitsStrings from old → Awaits to now OneString
   next_string w = record {
     next = λ part suits. put_parts old now (map string h.many) h.put (λ (b : Built). IsNext (layout b.class b.kind) (length b.parts) part)
-        (subst (λ n. IsNext (layout old.class old.kind) n part) (sym (length-append old.parts (map string h.many))) (w.next (length (map string h.many)) part (string_suits part suits)));
+        (subst (λ n. IsNext (layout old.class old.kind) n part) (sym (length-append old.parts (map string h.many))) (w.next (length (map string h.many)) part (grind arith)));
     sized = tt;
     room = λ value past read. string_room value past w read;
   }
@@ -94,7 +88,7 @@ module _ (from : Cursor) where
   strings_fault none = strings_none none
 
   pub string_missing : from.at ≡ from.end → next_value from Strings ≡ Err BadRdata
-  string_missing same = strings_fault (λ framed. no_frames framed.0 framed.1.some (sym framed.2 ∙ ap (octets_between from.message.now from.at) (sym same) ∙ nothing_between from.message.now from.at))
+  string_missing same = strings_fault (λ framed. no_frames framed.0 framed.1.some (sym framed.2 ∙ ap (octets_between from.message.now from.at) (sym same) ∙ grind arith))
     where
       no_frames : (many : List (List ℕ)) → 0 < length many → flat_map with_length many ≡ [] → ⊥
       no_frames [] some e = omega arith
@@ -119,9 +113,6 @@ module _ (from : Cursor) where
 from_here : (fields : List Field) (i : ℕ) (field : Field) → slice_get fields i ≡ Some field → drop i fields ≡ field ∷ drop (i + 1) fields
 from_here fields i field e = drop_more fields i field (slice_get_within fields i field e) ∙ ap (λ f. f ∷ drop (i + 1) fields) (get_or_from_slice_get fields i field field e)
 
-none_here : (fields : List Field) (i : ℕ) → slice_get fields i ≡ None → drop i fields ≡ []
-none_here fields i e = grind (arith, drop_all, slice_get_cases fields i)
-
 -- what holds of each field holds of this one
 field_of : (P : Field → Type 0) (fields : List Field) (i : ℕ) (field : Field) → slice_get fields i ≡ Some field → AllByRecursion P fields → P field
 field_of P [] i field e each = absurd (let t : ⊥ = cc in t)
@@ -142,9 +133,6 @@ module _ (from : Cursor) (fields : List Field) (old : Built) (laid : layout old.
   own_parts : (to : Cursor) (now : Built) (count : ℕ) (h : HaveValues from to fields old now count) → now.parts ≡ flat_map parts_for h.values
   own_parts to now count h = ap (λ (b : Built). b.parts) h.put ∙ ap (λ ps. ps ++ flat_map parts_for h.values) new
 
-  same_laid : (to : Cursor) (now : Built) (count : ℕ) → HaveValues from to fields old now count → layout now.class now.kind ≡ Some fields
-  same_laid to now count h = ap (λ (b : Built). layout b.class b.kind) h.put ∙ laid
-
   plain_next : (to : Cursor) (now : Built) (count : ℕ) (field : Field) → AllByRecursion (λ f. f ≢ Strings) fields → slice_get fields count ≡ Some field → HaveValues from to fields old now count → Awaits to now field
   plain_next to now count field others here h =
       let table = table_row old.class old.kind fields laid in
@@ -155,7 +143,7 @@ module _ (from : Cursor) (fields : List Field) (old : Built) (laid : layout old.
       let number : length now.parts ≡ count = ap length parts ∙ plain.0 in
       let at : part_at fields (length now.parts) ≡ Some field = ap (part_at fields) number ∙ ap (λ o. option_or o (if ends_with_strings fields then Some Strings else None)) here in
       record {
-        next = λ part suits. subst (λ o. IsNext o (length now.parts) part) (sym (same_laid to now count h)) (subst (λ o. Suits o part) (sym at) suits);
+        next = λ part suits. subst (λ o. IsNext o (length now.parts) part) (sym (ap (λ (b : Built). layout b.class b.kind) h.put ∙ laid)) (subst (λ o. Suits o part) (sym at) suits);
         sized = sized;
         room = λ value past read.
             let one = field_short field value other sized (shown from to field (value, past) h.same read).held in
@@ -201,7 +189,7 @@ module _ (from : Cursor) (fields : List Field) (old : Built) (laid : layout old.
   pub all_values : (to : Cursor) (now : Built) (count : ℕ) → slice_get fields count ≡ None → to.at ≡ to.end → HaveValues from to fields old now count → PutsValues from.message.now from.end from.at fields old now
   all_values to now count here done h =
       let same : to.at ≡ from.end = done ∙ ap (λ (d : List ℕ × ℕ). d.1) h.same in
-      let read : values_at from.message.now from.end from.at fields ≡ Ok h.values = h.leads [] (ap (values_at from.message.now from.end to.at) (none_here fields count here) ∙ cond-true _ _ _ (eq-eqb to.at from.end same)) ∙ ap Ok (append-nil h.values) in
+      let read : values_at from.message.now from.end from.at fields ≡ Ok h.values = h.leads [] (ap (values_at from.message.now from.end to.at) (let e : drop count fields ≡ [] = grind (arith, drop_all, slice_get_cases fields count) in e) ∙ cond-true _ _ _ (eq-eqb to.at from.end same)) ∙ ap Ok (append-nil h.values) in
       record {
         values = h.values;
         read = read;

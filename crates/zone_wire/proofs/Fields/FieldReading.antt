@@ -54,12 +54,9 @@ pub two_cut : (c : Cursor) (fault : Fault) → (fault ≡ BadRdata) × (c.end < 
 unfolding value_at
 two_cut c fault = sized_refused c 2 U16 fault refl
 
-long_value : (part : List ℕ) (n : ℕ) → length part ≡ 4 → n ≡ u32_at part 0 → field_at Serial part ≡ u32_value n
-long_value part n len is = grind (arith, common_steps)
-
 pub long_read : (old new : Cursor) (part : List ℕ) (n : ℕ) → TakesOctets old new 4 part → n ≡ u32_at part 0 → Reads old new Serial (u32_value n)
 unfolding value_at
-long_read old new part n taken is = sized_read old new 4 Serial part (u32_value n) refl taken (long_value part n taken.len is)
+long_read old new part n taken is = sized_read old new 4 Serial part (u32_value n) refl taken (grind (arith, common_steps, taken.len))
 
 pub long_cut : (c : Cursor) (fault : Fault) → (fault ≡ BadRdata) × (c.end < c.at + 4) → next_value c Serial ≡ Err fault
 unfolding value_at

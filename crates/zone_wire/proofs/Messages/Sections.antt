@@ -43,9 +43,6 @@ sections_read octets s is =
     ∙ ap (λ n. Ok (record s { id = n })) (sym is.id)
 
 -- ---- what is read as the sections of a message are its sections
-pub ok_same : {X E : Type 0} (x y : X) → (let r : Result X E = Ok x in r) ≡ Ok y → x ≡ y
-ok_same x y e = cc
-
 -- what leads to a value has a value
 pub record Leads {X Y E : Type 0} (r : Result X E) (next : X → Result Y E) (y : Y) : Type 0 where
   pub first : X
@@ -60,7 +57,7 @@ pub passes : {X E : Type 0} (test : Bool) (x y : X) (fault : E) → (if test the
 passes test x y fault e = grind arith
 
 pub one_message : (octets : List ℕ) (s t : Sections) → IsMessage octets s → IsMessage octets t → s ≡ t
-one_message octets s t is too = ok_same s t (sym (sections_read octets s is) ∙ sections_read octets t too)
+one_message octets s t is too = let read = sections_read octets s is in let also = sections_read octets t too in cc
 
 -- ---- where names, questions and records of a message end, and the first fault before that
 ended_inside : (message : List ℕ) (offset : ℕ) → ((k : ℕ) → get_or message k 0 < 256) → (o : Outcome) → outcome message (walk message offset) ≡ o → (end : ℕ) → Ok end ≡ name_end_of o → end ≤ length message

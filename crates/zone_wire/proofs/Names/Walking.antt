@@ -279,12 +279,9 @@ pub record Carries (message : List ℕ) (offset : ℕ) (spot : Spot) (labels : L
   pub octets : spot.octets ≡ label_octets labels
   pub goes_on : (visits : List Visit) (ends : Option Fault) → WalksAt message spot visits ends → (all : List Visit) × IsWalk message offset all ends × (outcome message all ≡ carried labels end steps spot.pointers (outcome message visits))
 
-carried-none : (o : Outcome) → o ≡ carried [] None 0 0 o
-carried-none o = grind arith
-
 -- the start
 pub carries_start : (message : List ℕ) (offset : ℕ) → Carries message offset (outset offset) [] None 0
-carries_start message offset = record { few = omega arith; pointers = omega arith; short = omega arith; octets = refl; goes_on = λ visits ends w. (visits, w, carried-none (outcome message visits)) }
+carries_start message offset = record { few = omega arith; pointers = omega arith; short = omega arith; octets = refl; goes_on = λ visits ends w. (visits, w, grind arith) }
 
 octets_of-push : (labels : List (List ℕ)) (l : List ℕ) → label_octets (labels ++ l ∷ []) ≡ label_octets labels + 1 + length l
 octets_of-push labels l = grind (arith, common_steps)

@@ -58,15 +58,7 @@ names_equal n m e = (pointwise_decides bytes_decides n m).0 e
 pub records_equal : (r s : Record) → same_record r s ≡ true → r ≡ s
 records_equal r s e = search (rules, and_parts, equal_parts, names_equal, eqb-true)
 
--- a name and class that agree with the zone
-pub agree_parts : (name other : List (List ℕ)) (class last : ℕ) → (same_name name other && class == last) ≡ true → (name ≡ other) × (class ≡ last)
-agree_parts name other class last e = let p = and_parts (same_name name other) (class == last) e in (names_equal name other p.0, eqb-true _ _ p.1)
-
 -- ---- the faults of answers are those at which their records stop being read
--- class and type take two octets
-pub record_words : (octets : List ℕ) (offset : ℕ) (a : RecordAt) → Bytes octets → IsRecordAt octets offset a → (a.class < 65536) × (a.kind < 65536)
-record_words octets offset a each is = grind arith
-
 class_by : (n : ℕ) → n < 65536 → is_no_class n ≡ false → IsClass n
 class_by n few e = grind arith
 
@@ -84,7 +76,7 @@ module _ (octets : List ℕ) (each : Bytes octets) (few : length octets ≤ 6553
   pub own_told : (offset : ℕ) (a : RecordAt) → IsRecordAt octets offset a → MatchResult (own_record octets a) (AnswerStates octets a) (OwnFault octets a)
   unfolding own_record
   own_told offset a at =
-      let words = record_words octets offset a each at in
+      let words : (a.class < 65536) × (a.kind < 65536) = grind arith in
       told_test (AnswerStates octets a) _ (is_no_class a.class) BadClass _ (holds_data a.class) (class_by a.class words.0) (λ class.
       told_test (AnswerStates octets a) _ (is_meta a.kind) MetaType _ (λ k. k.stored) (λ stored. record { short = words.1; stored = stored }) (λ kind.
       told_test (AnswerStates octets a) (DataFault octets a) (list_any (nat_eq a.kind) compressible) CompressibleType _ (none_of a.kind compressible) (each_other a.kind compressible) (λ readable.
@@ -108,7 +100,7 @@ module _ (octets : List ℕ) (each : Bytes octets) (few : length octets ≤ 6553
 
 pub agrees_by : (zone : Option ZoneAsked) (name : List (List ℕ)) (class : ℕ) → agrees zone name class ≡ true → AgreeWith zone name class
 agrees_by None name class e = tt
-agrees_by (Some zone) name class e = agree_parts name zone.name class zone.class e
+agrees_by (Some zone) name class e = let p = and_parts (same_name name zone.name) (class == zone.class) e in (names_equal name zone.name p.0, eqb-true _ _ p.1)
 
 pub agrees_true : (zone : Option ZoneAsked) (name : List (List ℕ)) (class : ℕ) → AgreeWith zone name class → agrees zone name class ≡ true
 agrees_true None name class is = refl

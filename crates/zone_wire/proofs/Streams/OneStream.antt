@@ -159,14 +159,11 @@ frames_join stream more messages others rest last is next = grind (arith, common
 pub frame_is : (octets : List ℕ) → length octets ≤ 65535 → IsFramed (frame octets) (octets ∷ []) []
 frame_is octets few = record { whole = sym (append-nil (frame octets ++ []) ∙ append-nil (frame octets)); short = (few, tt); cut = lit< tt }
 
-frame_after : (stream octets : List ℕ) (messages : List (List ℕ)) → length octets ≤ 65535 → IsFramed stream messages [] → IsFramed (stream ++ frame octets) (messages ++ octets ∷ []) []
-frame_after stream octets messages few is = frames_join stream (frame octets) messages (octets ∷ []) [] [] is (frame_is octets few)
-
 pub frame_read : (stream : List ℕ) (before : List StatedMessage) (p : StatedMessage) → IsFramed stream (octets_in before) [] → AreRead [] before → length p.octets ≤ 65535 → IsReadAfter before p → StreamDecides (stream ++ frame p.octets) (handed_on (placed_in before ++ p.placed)) None
 frame_read stream before p framed are few is = record {
   messages = octets_in before ++ p.octets ∷ [];
   rest = [];
-  framed = frame_after stream p.octets (octets_in before) few framed;
+  framed = frames_join stream (frame p.octets) (octets_in before) (p.octets ∷ []) [] [] framed (frame_is p.octets few);
   all = placed_in before ++ p.placed;
   read = reads_up_to [] before (p.octets ∷ []) p.placed None are (subst (λ x. ReadAfter before (p.octets ∷ []) x None) (append-nil p.placed) (reads is whole));
   stated = refl;
@@ -176,7 +173,7 @@ pub frame_refused : (stream octets : List ℕ) (before : List StatedMessage) (he
 frame_refused stream octets before here fault offset framed are few is = record {
   messages = octets_in before ++ octets ∷ [];
   rest = [];
-  framed = frame_after stream octets (octets_in before) few framed;
+  framed = frames_join stream (frame octets) (octets_in before) (octets ∷ []) [] [] framed (frame_is octets few);
   all = placed_in before ++ here;
   read = reads_up_to [] before (octets ∷ []) here _ are (stops is);
   stated = refl;

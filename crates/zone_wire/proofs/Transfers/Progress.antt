@@ -84,9 +84,6 @@ takes_all octets answers left old new none p = by p.rest (sym none ∙ p.left_is
     by (a ∷ rest) h so_far questions placed among = cc
 
 -- what the ID and the questions of a message leave
-first_id_after : (before : List StatedMessage) (p : StatedMessage) → HasFirstId before p.sections → Some p.sections.id ≡ first_id (before ++ p ∷ [])
-first_id_after before p same = grind arith
-
 pub has_first_id : (before : List StatedMessage) (s : Sections) (id : Option ℕ) → id ≡ first_id before → MatchOption id ⊤ (λ first. s.id ≡ first) → HasFirstId before s
 has_first_id before s id e h = grind arith
 
@@ -119,7 +116,7 @@ takes_whole octets before s old mid new after is head decided count takes =
       };
       after = record {
         count = count ∙ number ∙ sym (length-append before (p ∷ []));
-        id = takes.gains.id ∙ head.id ∙ first_id_after before p head.same_id;
+        id = takes.gains.id ∙ head.id ∙ (grind arith);
         among = rw (asked_grow before p) at (rw (placed_grow before p) at takes.gains.among);
       };
       handed = λ given e. takes.gains.handed given (ap (λ d. given ++ d.placed) decided ∙ e) ∙ ap handed_on (placed_grow before p);
