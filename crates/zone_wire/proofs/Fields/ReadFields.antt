@@ -1,5 +1,5 @@
 -- The data of a record is read as the values that stand there.
-use Rattle.zone_wire.proofs.Common.{AllByRecursion, AreFieldsAt, AreStrings, AreValuesAt, Fault, Field, FieldValue, Found, HoldEach, Holds, IsDataAt, IsFieldAt, IsString, IsValueAt, List, MatchOption, Name, None, Octets, Ok, OneString, Option, Outcome, RecordAt, Result, Serial, Some, Strings, StringsLast, Time, U16, [], and_from, and_parts, and_then, ap, append-nil, arith, be_bytes_4, bytes_each, common_steps, cond-true, data_at, drop, eq-eqb, field_at, field_octets, fixed, flat_map, from_be_bytes, from_be_bytes-to_be_bytes_2, from_be_bytes-to_be_bytes_4, get_or, layout, le-leb, length, length-frames, length-take, lt-ltb, ltb-true, name, name_before, named, octets_between, octets_of, outcome, refl, refused, rules, sized_before, slice_index, some_frames, string, string_at, strings, strings_before, strings_by, strings_of, suc, sym, table_row, take, take_all, to_be_bytes, u16_value, u32_value, value_at, values_at, w16, w32, walk, with_length, zero, ℕ, ⊤, ◌+◌, ◌-◌, ◌<◌, ◌==◌, ◌^◌, ◌∙◌, ◌∷◌, ◌≡◌, ◌≢◌, ◌≤◌, ◌⊎◌}
+use Rattle.zone_wire.proofs.Common.{AllByRecursion, AreFieldsAt, AreStrings, AreValuesAt, Fault, Field, FieldValue, Found, HoldEach, Holds, IsDataAt, IsFieldAt, IsString, IsValueAt, List, MatchOption, Name, None, Octets, Ok, OneString, Option, Outcome, RecordAt, Result, Serial, Some, Strings, StringsLast, Time, U16, [], and_from, and_parts, and_then, ap, append-nil, arith, be_bytes_4, bytes_each, common_steps, cond-true, data_at, drop, eq-eqb, field_at, field_octets, fixed, flat_map, from_be_bytes, get_or, layout, le-leb, length, length-frames, length-take, lt-ltb, ltb-true, name, name_before, named, octets_between, octets_of, outcome, refl, refused, rules, sized_before, slice_index, some_frames, string, string_at, strings, strings_before, strings_by, strings_of, suc, sym, table_row, take, take_all, to_be_bytes, u16_value, u32_value, value_at, values_at, w16, w32, walk, with_length, zero, ℕ, ⊤, ◌+◌, ◌-◌, ◌<◌, ◌^◌, ◌∙◌, ◌∷◌, ◌≡◌, ◌≢◌, ◌≤◌, ◌⊎◌}
 use Rattle.zone_rdata.proofs.Fields.AnyField.{field_back}
 use Rattle.zone_rdata.proofs.Octets.StringFields.{strings_back}
 use Rattle.zone_wire.proofs.Messages.Sections.{and_then_ok, passes}

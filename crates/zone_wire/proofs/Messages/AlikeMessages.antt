@@ -1,5 +1,5 @@
 -- A message is judged by itself, and by what messages before it that are alike have in common.
-use Rattle.zone_wire.proofs.Common.{AllByRecursion, AnswersGive, AreAlike, AskAfter, AsksIn, ComesAfter, Fault, FaultAfter, GiveAfter, HasFirstId, IsReadAfter, List, Option, OrderFault, Placed, QuestionAt, Record, RecordAt, Sections, Some, StatedMessage, StreamKept, ZoneAsked, [], ap, asked_in, first_id, inl, inr, is_closed, no_more, opening_of, placed_in, refl, states, subst, sym, zone_of, ℕ, ◌++◌, ◌+◌, ◌∷◌, ◌≡◌, common_steps, arith}
+use Rattle.zone_wire.proofs.Common.{AllByRecursion, AnswersGive, AreAlike, AskAfter, AsksIn, Fault, FaultAfter, GiveAfter, HasFirstId, IsReadAfter, List, Option, OrderFault, Placed, QuestionAt, Record, RecordAt, Sections, Some, StatedMessage, StreamKept, ZoneAsked, [], ap, asked_in, first_id, inl, inr, is_closed, no_more, opening_of, placed_in, refl, states, subst, sym, zone_of, ℕ, ◌++◌, ◌+◌, ◌∷◌, ◌≡◌, common_steps, arith}
 use Rattle.zone_wire.specs.AnswerFault.{refused}
 use Rattle.zone_wire.proofs.Conditions.{unless_same}
 

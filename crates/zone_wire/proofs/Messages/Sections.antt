@@ -1,5 +1,5 @@
 -- The sections of a message: as what they are read, and where they end.
-use Rattle.zone_wire.proofs.Common.{AreAt, AreRecordsAt, Bool, Err, Fault, Found, HasHeader, IsMessage, IsParsed, IsPartAt, IsQuestionAt, IsRecordAt, IsResponse, List, MatchResult, MessageFault, None, Ok, Option, Outcome, QuestionAt, RecordAt, Result, Sections, Some, TrailingOctets, [], after_header, and_then, ap, arith, at_offset, common_steps, cond-false, cond-true, each_from, eq-eqb, eqb-true, false, get_or, header_fault, if◌then◌else◌, inside, leb-true, length, name_end_of, named, nat_le, ne_eqb, not, outcome, parsed, part_end_of, question_at, question_by, questions_from, record_at, records_from, refl, refused, rules, run_end_of, sections_of, sections_or_none, slice_index, subst, suc, sym, to_the_end, true, u16_at, unless_faulted, walk, zero, ℕ, ⊤, ◌+◌, ◌-◌, ◌/◌, ◌<◌, ◌==◌, ◌∙◌, ◌∷◌, ◌≡◌, ◌≢◌, ◌≤◌}
+use Rattle.zone_wire.proofs.Common.{AreAt, AreRecordsAt, Bool, Err, Fault, Found, HasHeader, IsMessage, IsParsed, IsPartAt, IsQuestionAt, IsRecordAt, List, MatchResult, MessageFault, None, Ok, Option, Outcome, Result, Sections, Some, TrailingOctets, [], after_header, and_then, ap, arith, common_steps, cond-true, each_from, eq-eqb, false, get_or, header_fault, if◌then◌else◌, inside, length, name_end_of, named, ne_eqb, not, outcome, parsed, part_end_of, question_at, questions_from, record_at, records_from, refl, refused, run_end_of, sections_of, sections_or_none, subst, suc, sym, true, u16_at, unless_faulted, walk, zero, ℕ, ◌+◌, ◌-◌, ◌<◌, ◌==◌, ◌∙◌, ◌∷◌, ◌≡◌, ◌≢◌, ◌≤◌}
 use Rattle.zone_wire.proofs.Names.Walking.{name_walks, walk_names, one_name, name_bounds}
 
 pub and_then_ok : {X Y E : Type 0} (r : Result X E) (x : X) (next : X → Result Y E) → r ≡ Ok x → and_then r next ≡ next x

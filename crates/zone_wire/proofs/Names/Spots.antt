@@ -1,5 +1,5 @@
 -- What stands at a place, read off the octets, and back.
-use Rattle.zone_wire.proofs.Common.{BadPointer, Fault, FaultHere, IsLabelAt, IsPointerAt, List, None, Option, Some, Spot, Standing, TooManyPointers, ap, arith, at_fault, at_label, at_pointer, at_root, cases_lt, common_steps, cond-false, cond-true, cond_both, eq-eqb, eqb-false, eqb-true, fails, false, holds, if◌then◌else◌, inl, inr, label_of, le-leb, le-ltb, leb-false, leb-true, length, lt-leb, lt-ltb, ltb-false, ltb-true, ne_eqb, nat_le, nat_lt, nat_tests, pointer_of, refl, rules, slice_index, standing_in, sym, target_at, true_from_ne_false, ℕ, ◌+◌, ◌<◌, ◌||◌, ◌∙◌, ◌≡◌, ◌≤◌}
+use Rattle.zone_wire.proofs.Common.{Fault, FaultHere, IsLabelAt, IsPointerAt, List, None, Option, Some, Spot, Standing, ap, arith, at_fault, at_label, at_pointer, at_root, common_steps, cond_both, fails, holds, inl, inr, leb-false, leb-true, length, ltb-false, ltb-true, nat_tests, slice_index, standing_in, sym, ℕ, ◌+◌, ◌<◌, ◌∙◌, ◌≡◌, ◌≤◌}
 use Rattle.zone_wire.proofs.Conditions.{unless_holds, unless_one}
 
 -- what the octets at a place are, by what stands there

@@ -1,5 +1,5 @@
 -- The walk: the one list of places that is a walk, how it ends, the names that it finds, and how it is carried on from place to place.
-use Rattle.zone_wire.proofs.Common.{AllByRecursion, At, EitherIs, Fault, Found, IsLabel, IsLabel-folded, IsLabelAt, IsNameAt, IsPointerAt, IsVerdict, IsWalk, LeadToLast, List, MatchOption, NameFault, None, Option, Outcome, ShortMessage, Some, Spot, Standing, Visit, Walks, [], after_label, after_pointer, ap, append-nil, arith, at_fault, at_label, at_pointer, at_root, by_pointer, bytes_each, common_steps, drop, ending, flat_map, get_or, get_or-drop, inl, inr, label, label_at, labels_in, length, length-append, length-drop, length-take-le, lit≤, named, outcome, outset, outside, over_label, past_label, past_pointer, pointer, pointers_in, refl, refused, root, rules, standing_in, subst, suc, sym, take, to_fault, to_root, unwrap_or, visit, walk, walk_by, walk_on, wire, with_length, zero, ℕ, ◌*◌, ◌++◌, ◌+◌, ◌<◌, ◌∙◌, ◌∷◌, ◌≡◌, ◌≤◌}
+use Rattle.zone_wire.proofs.Common.{AllByRecursion, At, EitherIs, Fault, Found, IsLabel, IsLabel-folded, IsLabelAt, IsNameAt, IsPointerAt, IsVerdict, IsWalk, LeadToLast, List, MatchOption, NameFault, None, Option, Outcome, ShortMessage, Some, Spot, Standing, Visit, Walks, [], after_label, after_pointer, ap, append-nil, arith, at_fault, at_label, at_pointer, at_root, by_pointer, bytes_each, common_steps, drop, ending, flat_map, get_or, get_or-drop, inl, inr, label, label_at, labels_in, length, length-append, length-drop, length-take-le, lit≤, named, outcome, outset, outside, over_label, past_label, past_pointer, pointer, pointers_in, refl, refused, root, standing_in, subst, suc, sym, take, to_fault, to_root, unwrap_or, visit, walk, walk_by, walk_on, wire, with_length, zero, ℕ, ◌*◌, ◌++◌, ◌+◌, ◌<◌, ◌∙◌, ◌∷◌, ◌≡◌, ◌≤◌}
 use Rattle.zone_wire.proofs.Names.Spots.{Shows, standing_is, standing_shows}
 
 -- ---- the walk is the one list of places that is a walk

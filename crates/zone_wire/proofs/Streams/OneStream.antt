@@ -1,5 +1,5 @@
 -- A stream is cut into frames and read in one way, and what is decided for its beginning stays.
-use Rattle.zone_wire.proofs.Common.{AllByRecursion, AllByRecursion-append, AnswersGive, AreRead, Bool, Bytes, EitherIs, Err, Fault, FaultAfter, IsFramed, IsReadAfter, IsRecord, IsVerdict, List, Message, None, Ok, Option, Place, Placed, QuestionAt, ReadAfter, RecordAt, Result, Some, StatedMessage, StreamDecides, StreamReads, [], ap, append-nil, append_assoc, arith, cases_lt, common_steps, drop, filter, filter-append, flat_map, frame, front_bytes, get_or, get_or-drop, handed_on, if◌then◌else◌, inl, inr, length, length-drop, length-take-le, lit<, nat_lt, next_message, no_more, not, octets_in, placed_in, reads, refl, rules, states, stops, stream_records, subst, suc, sym, take, take-append-drop, u16_at, whole, zero, ℕ, ◌%◌, ◌*◌, ◌++◌, ◌+◌, ◌/◌, ◌<◌, ◌==◌, ◌∙◌, ◌∷◌, ◌≡◌, ◌≤◌}
+use Rattle.zone_wire.proofs.Common.{AllByRecursion, AllByRecursion-append, AnswersGive, AreRead, Bool, Bytes, Fault, FaultAfter, IsFramed, IsReadAfter, IsRecord, IsVerdict, List, Message, None, Option, Place, Placed, QuestionAt, ReadAfter, RecordAt, Some, StatedMessage, StreamDecides, StreamReads, [], ap, append-nil, append_assoc, arith, cases_lt, common_steps, drop, filter, filter-append, flat_map, frame, front_bytes, get_or, get_or-drop, handed_on, inl, inr, length, length-drop, length-take-le, lit<, next_message, no_more, not, octets_in, placed_in, reads, refl, rules, states, stops, stream_records, subst, suc, sym, take, take-append-drop, u16_at, whole, zero, ℕ, ◌%◌, ◌*◌, ◌++◌, ◌+◌, ◌/◌, ◌<◌, ◌==◌, ◌∙◌, ◌∷◌, ◌≡◌, ◌≤◌}
 use Rattle.zone_wire.specs.AnswerFault.{refused}
 use Rattle.zone_rdata.proofs.Octets.Sent.{append_same}
 use Rattle.zone_wire.proofs.Conditions.{unless_each}

@@ -1,5 +1,5 @@
-use Rattle.zone_wire.proofs.Common.{Awaits, IsReadyFor, Name, Octets, OneString, U16, ap, arith, fault_answered, next_value, on_ok_weaker, refl, rules, subst}
-use Rattle.zone_wire.proofs.Fields.FieldReading.{fixed_read, fixed_sized, long_ready, long_same, part_put, sized_refused, unrefused}
+use Rattle.zone_wire.proofs.Common.{Awaits, IsReadyFor, Name, Octets, OneString, U16, ap, arith, next_value, on_ok_weaker, refl, subst}
+use Rattle.zone_wire.proofs.Fields.FieldReading.{fixed_read, long_ready, part_put, unrefused}
 use Rattle.zone_wire.proofs.data.push_field.Goals as goal
 
 pub returns-in_ok-name-in-Name-clause-fault : goal.returns-in_ok-name-in-Name-clause-fault

@@ -1,5 +1,5 @@
 use Rattle.zone_wire.proofs.Common.{arith, fields_of, if_fault_passed, sym, ◌∙◌}
-use Rattle.zone_wire.proofs.Fields.DataReading.{field_ready, field_put, field_bad, all_values}
+use Rattle.zone_wire.proofs.Fields.DataReading.{field_ready, field_bad, all_values}
 use Rattle.zone_wire.proofs.data.push_fields.Goals as goal
 
 pub push_field-requires : goal.push_field-requires

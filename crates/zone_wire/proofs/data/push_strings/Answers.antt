@@ -1,6 +1,6 @@
-use Rattle.zone_wire.proofs.Common.{Err, List, ap, arith, false≢true, fault_answered, if_fault_passed, refl, ℕ}
+use Rattle.zone_wire.proofs.Common.{Err, List, ap, arith, false≢true, fault_answered, if_fault_passed, ℕ}
 use Rattle.zone_wire.proofs.Fields.FieldReading.{unrefused}
-use Rattle.zone_wire.proofs.Fields.DataReading.{next_string, string_put, string_past, all_put, string_missing, string_bad}
+use Rattle.zone_wire.proofs.Fields.DataReading.{next_string, string_past, string_bad}
 use Rattle.zone_wire.proofs.data.push_strings.Goals as goal
 
 pub returns-in_err-string-clause-fault : goal.returns-in_err-string-clause-fault

@@ -1,5 +1,5 @@
 use Rattle.zone_wire.proofs.Common.{IsRun, arith, subst, ℕ, ◌+◌, ◌≡◌}
-use Rattle.zone_wire.proofs.Names.RunLaws.{run_more, run_start}
+use Rattle.zone_wire.proofs.Names.RunLaws.{run_more}
 use Rattle.zone_wire.proofs.runs.run_end.Goals as goal
 
 pub loop-size-preserved : goal.loop-size-preserved

@@ -1,5 +1,5 @@
-use Rattle.zone_wire.proofs.Common.{IfErr-fault, fields_of, on_ok_weaker}
-use Rattle.zone_wire.proofs.Fields.DataReading.{data_short, laid_read, laid_refused, opaque_read, opaque_taken}
+use Rattle.zone_wire.proofs.Common.{IfErr-fault, fields_of}
+use Rattle.zone_wire.proofs.Fields.DataReading.{data_short, laid_refused, opaque_taken}
 use Rattle.zone_wire.proofs.lent.RawRrRef.push_data.Goals as goal
 
 pub returns-in-Some-clause-fault : goal.returns-in-Some-clause-fault

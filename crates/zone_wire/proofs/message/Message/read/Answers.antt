@@ -1,5 +1,3 @@
-use Rattle.zone_wire.proofs.Common.{arith, err_from_is_err_and, fault_for}
-use Rattle.zone_wire.proofs.Messages.MessageFaults.{sections_fault}
 use Rattle.zone_wire.proofs.Messages.Sections.{sections_read}
 use Rattle.zone_wire.proofs.message.Message.read.Goals as goal
 

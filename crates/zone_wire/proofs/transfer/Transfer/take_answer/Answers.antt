@@ -1,7 +1,7 @@
-use Rattle.zone_wire.proofs.Common.{fault_answered, if_fault_passed, inl, inr, sym, ◌∙◌, ◌≡◌}
+use Rattle.zone_wire.proofs.Common.{inr, sym, ◌∙◌, ◌≡◌}
 use Rattle.zone_rdata.specs.Lent.{record_of}
 use Rattle.zone_wire.proofs.Transfers.Progress.{other_gains, stands_after, closed_after}
-use Rattle.zone_wire.proofs.Records.Answering.{own_data, stated}
+use Rattle.zone_wire.proofs.Records.Answering.{stated}
 use Rattle.zone_wire.proofs.transfer.Transfer.take_answer.Goals as goal
 
 pub returns-then-self-clause-fault : goal.returns-then-self-clause-fault
