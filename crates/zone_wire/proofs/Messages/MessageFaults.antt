@@ -1,4 +1,4 @@
--- The faults of messages are those at which the sections of a message stop being read.
+-- Octets are read as the sections of a message, and refused for its first fault.
 use Rattle.zone_wire.proofs.Common.{AreAt, Bool, Bytes, EitherIs, Err, Fault, FaultIn, Found, HasCounts, IsMessage, IsNameAt, IsPartAt, IsQuestionAt, IsRecordAt, IsResponse, IsVerdict, List, MatchResult, MessageFault, NoFault, None, Ok, Option, Outcome, PartFault, QuestionAt, RecordAt, Result, Sections, ShortMessage, Some, TrailingOctets, Unless, [], ancount_of, and_from, and_parts, and_then, ap, arcount_of, arith, at_offset, cond-false, cond_both, each_from, eq-eqb, eqb-false, eqb-true, fails, false, false_from_ne_true, header_fault, holds, if◌then◌else◌, inl, inr, inside, le-leb, le-ltb, leb-true, length, ltb-false, named, nat_le, ne_eqb, not, not-false, outcome, qdcount_of, question_at, question_by, record_at, record_by, refl, refused, sections_of, slice_index, subst, suc, sym, to_the_end, true, u16_at, unless_faulted, walk, zero, ℕ, ◌&&◌, ◌/◌, ◌==◌, ◌∙◌, ◌∷◌, ◌≡◌, ◌⊎◌}
 use Rattle.zone_wire.proofs.Conditions.{tells_more, unless_holds, unless_own}
 use Rattle.zone_wire.proofs.Messages.Sections.{not_other, one_message, part_reads, sections_read}

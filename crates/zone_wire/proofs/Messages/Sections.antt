@@ -42,16 +42,6 @@ sections_read octets s is =
     ∙ cond-true _ _ _ (eq-eqb (length octets) (length octets) refl)
     ∙ ap (λ n. Ok (record s { id = n })) (sym is.id)
 
--- ---- what is read as the sections of a message are its sections
--- what leads to a value has a value
-pub record Leads {X Y E : Type 0} (r : Result X E) (next : X → Result Y E) (y : Y) : Type 0 where
-  pub first : X
-  pub is : r ≡ Ok first
-  pub goes_on : next first ≡ Ok y
-
-pub leads : {X Y E : Type 0} (r : Result X E) (next : X → Result Y E) (y : Y) → and_then r next ≡ Ok y → Leads r next y
-leads r next y e = grind arith
-
 -- a test that is passed
 pub passes : {X E : Type 0} (test : Bool) (x y : X) (fault : E) → (if test then Ok x else Err fault) ≡ Ok y → (test ≡ true) × (x ≡ y)
 passes test x y fault e = grind arith

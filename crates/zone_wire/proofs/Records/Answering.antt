@@ -43,7 +43,7 @@ InOrder zone before (p ∷ placed) = Follows zone before p × InOrder zone (befo
 pub follows_comes : (zone : Record) (questions : List QuestionAt) (before : List Placed) (p : Placed) → AllByRecursion (AsksFor zone) questions → Follows zone before p → ComesAfter questions before p.rr
 follows_comes zone questions before p ask follows = grind arith
 
--- ---- answers that are read without a fault state their records, in the order of a transfer
+-- ---- records and names that are told apart by tests
 pub each_other : (kind : ℕ) (kinds : List ℕ) → list_any (nat_eq kind) kinds ≡ false → AllByRecursion (λ k. kind ≢ k) kinds
 each_other kind [] e = tt
 each_other kind (k ∷ kinds) e = let parts = or_parts (nat_eq kind k) (list_any (nat_eq kind) kinds) e in (eqb-false kind k parts.0, each_other kind kinds parts.1)
