@@ -2,5 +2,4 @@
 pub mod Computing
 pub mod RunLaws
 pub mod Spots
-pub mod WalkLaws
 pub mod Walking

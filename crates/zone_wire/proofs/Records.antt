@@ -2,5 +2,3 @@
 pub mod Answering
 pub mod NextAnswers
 pub mod Pending
-pub mod ReadRecords
-pub mod RecordReading

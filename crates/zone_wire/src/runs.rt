@@ -62,6 +62,7 @@ fn read_runs(message: &[u8], offset: usize, labels: &mut LabelRoom) -> Option<us
 
 /// The offset after the labels that stand one after another from an offset on, which lies in the
 /// message.
+#[tactic(auto, using(crate::proofs::Names::RunLaws::run_start))]
 fn run_end(message: &[u8], start: usize) -> Option<usize>
     ensures { IfSome result (IsRun message.now start) }
 {

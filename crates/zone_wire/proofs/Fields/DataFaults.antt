@@ -1,8 +1,7 @@
 -- Data that is refused has one first fault, that at which its fields stop being read.
-use Rattle.zone_wire.proofs.Common.{AnswerFault, AnswerStates, AreFieldsAt, AreValuesAt, BadRdata, ComesAfter, DataFault, Err, Fault, Field, FieldFault, FieldValue, FieldsFault, Found, HoldEach, IsDataAt, IsFieldAt, IsNameAt, List, MatchOption, MatchResult, Name, NameFault, None, Ok, Option, OrderFault, Outcome, OwnFault, Placed, QuestionAt, Record, RecordAt, Result, Some, Strings, StringsLast, [], and_then, ap, arith, cond_both, data_at, eqb-false, eqb-true, field_at, flat_map, get_or, inl, inr, layout, length, name, name_before, named, nat_eq, nat_le, nat_lt, octets_between, octets_of, outcome, pointwise, refl, refused, sized_before, strings, strings_before, strings_of, subst, sym, table_row, value_at, values_at, walk, with_length, ℕ, ◌&&◌, ◌+◌, ◌<◌, ◌==◌, ◌∙◌, ◌∷◌, ◌≡◌, ◌≤◌}
+use Rattle.zone_wire.proofs.Common.{AnswerFault, AnswerStates, AreFieldsAt, AreValuesAt, BadRdata, ComesAfter, DataFault, Err, Fault, Field, FieldFault, FieldValue, FieldsFault, Found, HoldEach, IsDataAt, IsFieldAt, IsNameAt, List, MatchOption, MatchResult, Name, NameFault, None, Ok, Option, OrderFault, Outcome, OwnFault, Placed, QuestionAt, Record, RecordAt, Result, Some, Strings, StringsLast, [], and_then, ap, arith, cond_both, data_at, eqb-false, eqb-true, get_or, inl, inr, layout, length, name, name_before, named, nat_le, octets_between, octets_of, outcome, refl, refused, subst, sym, table_row, value_at, values_at, walk, ℕ, ◌<◌, ◌==◌, ◌∙◌, ◌∷◌, ◌≡◌, ◌≤◌}
 use Rattle.zone_wire.proofs.Fields.ReadFields.{data_reads, value_reads, value_shows}
-use Rattle.zone_wire.proofs.Messages.MessageFaults.{err_same, fails_test, stops}
-use Rattle.zone_wire.proofs.Messages.Sections.{passes}
+use Rattle.zone_wire.proofs.Messages.MessageFaults.{err_same, fails_test}
 use Rattle.zone_wire.proofs.Names.Walking.{walk_names, one_name, name_refused, name_one, name_not_both}
 use Rattle.zone_wire.proofs.Conditions.{unless_one, unless_holds}
 

@@ -1,12 +1,11 @@
 -- The data of a record is read into a builder, field after field and string after string.
-use Rattle.zone_wire.proofs.Common.{AllByRecursion, AllByRecursion-append, AreStrings, Awaits, AwaitsStrings, BadRdata, Built, Cursor, Err, Fault, Field, FieldValue, Framed, HoldEach, Holds, IsNext, IsPushFault, IsRead, IsReadyFor, IsRecordAt, IsSized, IsString, IsValueAt, IsWhole, List, None, Ok, OneString, Option, Pushes, PutsValue, PutsValues, RawRecord, Reads, RecordAt, Result, Some, Strings, Suits, [], and_parts, and_then, ap, append-nil, append_assoc, arith, bytes_each, common_steps, cond-false, cond-true, data_at, data_of, drop, drop_all, drop_more, ends_with_strings, eq-eqb, field_octets, fixed, flat_map, flat_map-append, framed_short, get_or, if◌then◌else◌, inl, inr, layout, length, length-append, length-take, long_string, ltb-true, map, map-append, misplaced, name, next_value, octets_between, octets_of, octets_push, option_or, part_at, parts_for, put_after, refl, rules, slice_get, slice_index, some_frames, string, strings, strings_before, subst, suc, sym, table_row, too_long, u16_value, u32_value, value_at, values_at, with_length, zero, ℕ, ◌*◌, ◌++◌, ◌+◌, ◌-◌, ◌<◌, ◌∙◌, ◌∷◌, ◌≡◌, ◌≢◌, ◌≤◌}
+use Rattle.zone_wire.proofs.Common.{AllByRecursion, AllByRecursion-append, AreStrings, Awaits, AwaitsStrings, BadRdata, Built, Cursor, Err, Fault, Field, FieldValue, Framed, HoldEach, Holds, IsNext, IsPushFault, IsRead, IsReadyFor, IsRecordAt, IsSized, IsString, IsWhole, List, None, Ok, OneString, Option, Pushes, PutsValue, PutsValues, RawRecord, Reads, RecordAt, Result, Some, Strings, Suits, [], and_parts, and_then, ap, append-nil, append_assoc, arith, bytes_each, common_steps, cond-false, cond-true, data_at, data_of, drop, drop_all, drop_more, ends_with_strings, eq-eqb, field_octets, fixed, flat_map, flat_map-append, framed_short, get_or, if◌then◌else◌, inl, inr, layout, length, length-append, length-take, ltb-true, map, map-append, name, next_value, octets_between, octets_of, octets_push, option_or, part_at, parts_for, put_after, refl, rules, slice_get, slice_index, some_frames, string, strings, strings_before, subst, suc, sym, table_row, u16_value, u32_value, value_at, values_at, with_length, zero, ℕ, ◌*◌, ◌++◌, ◌+◌, ◌<◌, ◌∙◌, ◌∷◌, ◌≡◌, ◌≢◌, ◌≤◌}
 use Rattle.zone_rdata.specs.Machine.Fronts.{AreWithLengths}
-use Rattle.zone_wire.proofs.Fields.ReadFields.{strings_read, Shown, part_bytes, strings_each, value_shows}
+use Rattle.zone_wire.proofs.Fields.ReadFields.{strings_read, Shown, part_bytes, strings_each, value_shows, IsRow, each_row}
 use Rattle.zone_wire.proofs.Fields.FieldReading.{between_first, between_join, part_len, sized_fails, string_sized}
 use Rattle.zone_rdata.proofs.Fields.AnyField.{field_short}
 use Rattle.zone_wire.proofs.Fields.DataFaults.{values_told}
 use Rattle.zone_wire.proofs.Messages.Sections.{and_then_err, and_then_ok}
-use Rattle.zone_wire.proofs.Records.ReadRecords.{IsRow, each_row}
 use Rattle.std.proofs.lemmas.Option.{get_or_from_slice_get, slice_get_cases, slice_get_within}
 
 -- ---- strings
@@ -19,9 +18,6 @@ pub record HavePut (from to : Cursor) (old now : Built) : Type 0 where
   pub same : data_of to ≡ data_of from
   pub past : from.at ≤ to.at
 
-nothing_between : (octets : List ℕ) (start : ℕ) → octets_between octets start start ≡ []
-nothing_between octets start = grind arith
-
 pub octets_of_strings : (many : List (List ℕ)) → octets_of (map string many) ≡ flat_map with_length many
 octets_of_strings [] = refl
 octets_of_strings (text ∷ many) = ap (λ o. with_length text ++ o) (octets_of_strings many)
@@ -33,26 +29,20 @@ put_parts old now parts e P h = subst P (sym e) h
 pub length-strings : (many : List (List ℕ)) → length (map string many) ≡ length many
 length-strings many = grind (arith, common_steps)
 
-string_suits : (part : FieldValue) → Suits (Some OneString) part → Suits (Some Strings) part
-string_suits part s = grind arith
-
 -- what is read at a later place stands in the data
 pub shown : (from to : Cursor) (field : Field) (v : FieldValue × ℕ) → data_of to ≡ data_of from → next_value to field ≡ Ok v → Shown from.message.now from.end to.at field v
 shown from to field v same read = subst (λ (d : List ℕ × ℕ). Shown d.0 d.1 to.at field v) same (value_shows to.message.now to.octets to.end to.inside to.at field v read)
-
-string_stands : (octets : List ℕ) (start past : ℕ) (v : FieldValue) → Holds OneString v → IsValueAt octets start past v → (text : List ℕ) × (v ≡ string text) × IsString text × (start ≤ past) × (octets_between octets start past ≡ with_length text)
-string_stands octets start past v held stands = grind arith
 
 module _ (from to : Cursor) (old now : Built) (h : HavePut from to old now) where
   string_room : (v : FieldValue) (past : ℕ) → AwaitsStrings from old → next_value to OneString ≡ Ok (v, past) → length (octets_of now.parts) + length (field_octets v) ≤ 65535
   string_room v past w read =
       let shows = shown from to OneString (v, past) h.same read in
-      grind (arith, from.inside, string_stands, flat_map-append, length-append, octets_of_strings, part_len)
+      grind (arith, from.inside, flat_map-append, length-append, octets_of_strings, part_len)
 
   pub next_string : AwaitsStrings from old → Awaits to now OneString
   next_string w = record {
     next = λ part suits. put_parts old now (map string h.many) h.put (λ (b : Built). IsNext (layout b.class b.kind) (length b.parts) part)
-        (subst (λ n. IsNext (layout old.class old.kind) n part) (sym (length-append old.parts (map string h.many))) (w.next (length (map string h.many)) part (string_suits part suits)));
+        (subst (λ n. IsNext (layout old.class old.kind) n part) (sym (length-append old.parts (map string h.many))) (w.next (length (map string h.many)) part (grind arith)));
     sized = tt;
     room = λ value past read. string_room value past w read;
   }
@@ -98,7 +88,7 @@ module _ (from : Cursor) where
   strings_fault none = strings_none none
 
   pub string_missing : from.at ≡ from.end → next_value from Strings ≡ Err BadRdata
-  string_missing same = strings_fault (λ framed. no_frames framed.0 framed.1.some (sym framed.2 ∙ ap (octets_between from.message.now from.at) (sym same) ∙ nothing_between from.message.now from.at))
+  string_missing same = strings_fault (λ framed. no_frames framed.0 framed.1.some (sym framed.2 ∙ ap (octets_between from.message.now from.at) (sym same) ∙ grind arith))
     where
       no_frames : (many : List (List ℕ)) → 0 < length many → flat_map with_length many ≡ [] → ⊥
       no_frames [] some e = omega arith
@@ -123,9 +113,6 @@ module _ (from : Cursor) where
 from_here : (fields : List Field) (i : ℕ) (field : Field) → slice_get fields i ≡ Some field → drop i fields ≡ field ∷ drop (i + 1) fields
 from_here fields i field e = drop_more fields i field (slice_get_within fields i field e) ∙ ap (λ f. f ∷ drop (i + 1) fields) (get_or_from_slice_get fields i field field e)
 
-none_here : (fields : List Field) (i : ℕ) → slice_get fields i ≡ None → drop i fields ≡ []
-none_here fields i e = grind (arith, drop_all, slice_get_cases fields i)
-
 -- what holds of each field holds of this one
 field_of : (P : Field → Type 0) (fields : List Field) (i : ℕ) (field : Field) → slice_get fields i ≡ Some field → AllByRecursion P fields → P field
 field_of P [] i field e each = absurd (let t : ⊥ = cc in t)
@@ -142,15 +129,9 @@ pub record HaveValues (from to : Cursor) (fields : List Field) (old now : Built)
   pub fails : (fault : Fault) → values_at from.message.now from.end to.at (drop count fields) ≡ Err fault → values_at from.message.now from.end from.at fields ≡ Err fault
   pub same : data_of to ≡ data_of from
 
-plain_parts : (field : Field) (value : FieldValue) → field ≢ Strings → Holds field value → parts_for value ≡ value ∷ []
-plain_parts field value other held = grind arith
-
 module _ (from : Cursor) (fields : List Field) (old : Built) (laid : layout old.class old.kind ≡ Some fields) (new : old.parts ≡ []) where
   own_parts : (to : Cursor) (now : Built) (count : ℕ) (h : HaveValues from to fields old now count) → now.parts ≡ flat_map parts_for h.values
   own_parts to now count h = ap (λ (b : Built). b.parts) h.put ∙ ap (λ ps. ps ++ flat_map parts_for h.values) new
-
-  same_laid : (to : Cursor) (now : Built) (count : ℕ) → HaveValues from to fields old now count → layout now.class now.kind ≡ Some fields
-  same_laid to now count h = ap (λ (b : Built). layout b.class b.kind) h.put ∙ laid
 
   plain_next : (to : Cursor) (now : Built) (count : ℕ) (field : Field) → AllByRecursion (λ f. f ≢ Strings) fields → slice_get fields count ≡ Some field → HaveValues from to fields old now count → Awaits to now field
   plain_next to now count field others here h =
@@ -162,7 +143,7 @@ module _ (from : Cursor) (fields : List Field) (old : Built) (laid : layout old.
       let number : length now.parts ≡ count = ap length parts ∙ plain.0 in
       let at : part_at fields (length now.parts) ≡ Some field = ap (part_at fields) number ∙ ap (λ o. option_or o (if ends_with_strings fields then Some Strings else None)) here in
       record {
-        next = λ part suits. subst (λ o. IsNext o (length now.parts) part) (sym (same_laid to now count h)) (subst (λ o. Suits o part) (sym at) suits);
+        next = λ part suits. subst (λ o. IsNext o (length now.parts) part) (sym (ap (λ (b : Built). layout b.class b.kind) h.put ∙ laid)) (subst (λ o. Suits o part) (sym at) suits);
         sized = sized;
         room = λ value past read.
             let one = field_short field value other sized (shown from to field (value, past) h.same read).held in
@@ -189,7 +170,7 @@ module _ (from : Cursor) (fields : List Field) (old : Built) (laid : layout old.
       let more : flat_map parts_for (h.values ++ p.value ∷ []) ≡ flat_map parts_for h.values ++ parts_for p.value = flat_map-append parts_for h.values (p.value ∷ []) ∙ ap (λ t. flat_map parts_for h.values ++ t) (append-nil (parts_for p.value)) in
       let goes : values_at from.message.now from.end to.at (drop count fields) ≡ and_then (values_at from.message.now from.end past.at rest) (λ others. Ok (p.value ∷ others)) = ap (values_at from.message.now from.end to.at) (from_here fields count field here) ∙ and_then_ok (value_at from.message.now from.end to.at field) (p.value, past.at) _ (from_next to now count field _ h p.reads.read) in
       let same : data_of past ≡ data_of from = p.reads.same ∙ h.same in
-      grind (arith, length-append, append_assoc, field_of, plain_parts, field_short, table_row, octets_push)
+      grind (arith, length-append, append_assoc, field_of, field_short, table_row, octets_push)
 
   pub field_bad : (to : Cursor) (now : Built) (count : ℕ) (field : Field) (fault : Fault) → slice_get fields count ≡ Some field → HaveValues from to fields old now count → next_value to field ≡ Err fault → values_at from.message.now from.end from.at fields ≡ Err fault
   field_bad to now count field fault here h e = h.fails fault (ap (values_at from.message.now from.end to.at) (from_here fields count field here) ∙ and_then_err (value_at from.message.now from.end to.at field) fault _ (from_next to now count field _ h e))
@@ -208,7 +189,7 @@ module _ (from : Cursor) (fields : List Field) (old : Built) (laid : layout old.
   pub all_values : (to : Cursor) (now : Built) (count : ℕ) → slice_get fields count ≡ None → to.at ≡ to.end → HaveValues from to fields old now count → PutsValues from.message.now from.end from.at fields old now
   all_values to now count here done h =
       let same : to.at ≡ from.end = done ∙ ap (λ (d : List ℕ × ℕ). d.1) h.same in
-      let read : values_at from.message.now from.end from.at fields ≡ Ok h.values = h.leads [] (ap (values_at from.message.now from.end to.at) (none_here fields count here) ∙ cond-true _ _ _ (eq-eqb to.at from.end same)) ∙ ap Ok (append-nil h.values) in
+      let read : values_at from.message.now from.end from.at fields ≡ Ok h.values = h.leads [] (ap (values_at from.message.now from.end to.at) (let e : drop count fields ≡ [] = grind (arith, drop_all, slice_get_cases fields count) in e) ∙ cond-true _ _ _ (eq-eqb to.at from.end same)) ∙ ap Ok (append-nil h.values) in
       record {
         values = h.values;
         read = read;
@@ -269,15 +250,7 @@ module _ (octets : List ℕ) (a : RecordAt) (class kind : ℕ) (same_class : cla
 
   -- opaque data is at most 65,535 octets
   pub octets_are_taken : (fault : Fault) → None ≡ layout class kind → a.end ≤ a.start + 65535 → IsPushFault old (fixed (octets_between octets a.start a.end)) fault → ⊥
-  octets_are_taken fault row short bad = by fault bad
-    where
-      none : old.parts ≡ []
-      none = ap (λ (b : Built). b.parts) new
-
-      by : (fault : Fault) → IsPushFault old (fixed (octets_between octets a.start a.end)) fault → ⊥
-      by _ (misplaced wrong) = wrong (rw (builder_laid None row, none) tt)
-      by _ (long_string n long) = long tt
-      by _ (too_long n fits over) = omega (arith, over, short, length-take (a.end - a.start) (drop a.start octets), ap (λ ps. length (octets_of (ps ++ fixed (octets_between octets a.start a.end) ∷ []))) none, ap length (append-nil (octets_between octets a.start a.end)))
+  octets_are_taken fault row short bad = grind (arith, append-nil, builder_laid, length-take)
 
 -- likewise of a record as it is kept
 module _ (raw now : RawRecord) (view : raw ≡ now) (class kind : ℕ) (same_class : class ≡ now.at.class) (same_kind : kind ≡ now.at.kind) (old : Built) (new : old ≡ record { class = class; kind = kind; parts = [] }) where

@@ -4,9 +4,6 @@ use Rattle.zone_wire.proofs.Fields.ReadFields.{name_reads}
 use Rattle.zone_wire.proofs.Names.Walking.{name_walks, name_refuses}
 
 -- ---- parts of octets
-part_get : (octets : List ℕ) (start past k i : ℕ) → i ≡ start + k → i < past → get_or (octets_between octets start past) k 0 ≡ get_or octets i 0
-part_get octets start past k i at h = grind (arith, common_steps)
-
 pub part_len : (octets : List ℕ) (start past : ℕ) → past ≤ length octets → length (octets_between octets start past) ≡ past - start
 part_len octets start past within = grind (arith, common_steps)
 
@@ -57,12 +54,9 @@ pub two_cut : (c : Cursor) (fault : Fault) → (fault ≡ BadRdata) × (c.end < 
 unfolding value_at
 two_cut c fault = sized_refused c 2 U16 fault refl
 
-long_value : (part : List ℕ) (n : ℕ) → length part ≡ 4 → n ≡ u32_at part 0 → field_at Serial part ≡ u32_value n
-long_value part n len is = grind (arith, common_steps)
-
 pub long_read : (old new : Cursor) (part : List ℕ) (n : ℕ) → TakesOctets old new 4 part → n ≡ u32_at part 0 → Reads old new Serial (u32_value n)
 unfolding value_at
-long_read old new part n taken is = sized_read old new 4 Serial part (u32_value n) refl taken (long_value part n taken.len is)
+long_read old new part n taken is = sized_read old new 4 Serial part (u32_value n) refl taken (grind (arith, common_steps, taken.len))
 
 pub long_cut : (c : Cursor) (fault : Fault) → (fault ≡ BadRdata) × (c.end < c.at + 4) → next_value c Serial ≡ Err fault
 unfolding value_at
@@ -71,17 +65,13 @@ long_cut c fault = sized_refused c 4 Serial fault refl
 pub fixed_read : (old new : Cursor) (size : ℕ) (part : List ℕ) → TakesOctets old new size part → Reads old new (Octets size) (fixed part)
 fixed_read old new size part taken = sized_read old new size (Octets size) part (fixed part) (fixed_sized old size) taken (ap fixed (take_all size part (omega (arith, taken.len))))
 
--- the string after its length
-string_value : (octets : List ℕ) (start past : ℕ) → past ≡ start + (1 + slice_index octets start) → past ≤ length octets → field_at OneString (octets_between octets start past) ≡ string (octets_between octets (start + 1) past)
-string_value octets start past at within = grind (arith, common_steps, octets_between, string, string_at, between_first, take_all, get_or)
-
 -- its length is the octet that is taken first
 module _ (old mid : Cursor) (one : List ℕ) (taken : TakesOctets old mid 1 one) where
   counted : slice_index one 0 ≡ slice_index old.message.now old.at
-  counted = grind (arith, part_get)
+  counted = grind (arith, common_steps)
 
   pub string_read : (new : Cursor) (text : List ℕ) → TakesOctets mid new (slice_index one 0) text → Reads old new OneString (string text)
-  string_read new text then = record { read = grind (arith, counted, string_value, string_sized, new.order, new.inside); same = then.same ∙ taken.same }
+  string_read new text then = record { read = grind (arith, counted, string_sized, new.order, new.inside, common_steps, octets_between, string, string_at, between_first, take_all, get_or); same = then.same ∙ taken.same }
 
   pub string_cut : (fault : Fault) → (fault ≡ BadRdata) × (mid.end < mid.at + slice_index one 0) → next_value old OneString ≡ Err fault
   string_cut fault bad = sized_refused old _ OneString fault (string_sized old) (bad.0, omega (arith, bad.1, counted, taken.at, ap (λ (d : List ℕ × ℕ). d.1) taken.same))
@@ -101,11 +91,8 @@ pub long_same : (c : Cursor) (field : Field) → (field ≡ Serial) ⊎ (field �
 unfolding value_at
 long_same c field given = grind arith
 
-long_suits : (part : FieldValue) → Suits (Some Serial) part → Suits (Some Time) part
-long_suits part s = grind arith
-
 pub long_ready : (c : Cursor) (b : Built) (field : Field) → (field ≡ Serial) ⊎ (field ≡ Time) → IsReadyFor c b field → Awaits c b Serial
-long_ready c b field given ready = grind (arith, long_suits, long_same)
+long_ready c b field given ready = grind (arith, long_same)
 
 -- ---- names
 pub name_read : (c : Cursor) (found : Found) → IsNameAt c.message.now c.at found → found.end ≤ c.end → next_value c Name ≡ Ok (name found.labels, found.end)

@@ -1,20 +1,16 @@
 -- The data of a record is read as the values that stand there.
-use Rattle.zone_wire.proofs.Common.{AllByRecursion, AreFieldsAt, AreStrings, AreValuesAt, Fault, Field, FieldValue, Found, HoldEach, Holds, IsDataAt, IsFieldAt, IsString, IsValueAt, List, MatchOption, Name, None, Octets, Ok, OneString, Option, Outcome, RecordAt, Result, Serial, Some, Strings, StringsLast, Time, U16, [], and_from, and_parts, and_then, ap, append-nil, arith, be_bytes_4, bytes_each, common_steps, cond-true, data_at, drop, eq-eqb, field_at, field_octets, fixed, flat_map, from_be_bytes, from_be_bytes-to_be_bytes_2, from_be_bytes-to_be_bytes_4, get_or, layout, le-leb, length, length-frames, length-take, lt-ltb, ltb-true, name, name_before, named, octets_between, octets_of, outcome, refl, refused, rules, sized_before, slice_index, some_frames, string, string_at, strings, strings_before, strings_by, strings_of, suc, sym, table_row, take, take_all, to_be_bytes, u16_value, u32_value, value_at, values_at, w16, w32, walk, with_length, zero, ℕ, ◌+◌, ◌-◌, ◌<◌, ◌==◌, ◌^◌, ◌∙◌, ◌∷◌, ◌≡◌, ◌≤◌}
+use Rattle.zone_wire.proofs.Common.{AllByRecursion, AreFieldsAt, AreStrings, AreValuesAt, Fault, Field, FieldValue, Found, HoldEach, Holds, IsDataAt, IsFieldAt, IsString, IsValueAt, List, MatchOption, Name, None, Octets, Ok, OneString, Option, Outcome, RecordAt, Result, Serial, Some, Strings, StringsLast, Time, U16, [], and_from, and_parts, and_then, ap, append-nil, arith, be_bytes_4, bytes_each, common_steps, cond-true, data_at, drop, eq-eqb, field_at, field_octets, fixed, flat_map, from_be_bytes, get_or, layout, le-leb, length, length-frames, length-take, lt-ltb, ltb-true, name, name_before, named, octets_between, octets_of, outcome, refl, refused, rules, sized_before, slice_index, some_frames, string, string_at, strings, strings_before, strings_by, strings_of, suc, sym, table_row, take, take_all, to_be_bytes, u16_value, u32_value, value_at, values_at, w16, w32, walk, with_length, zero, ℕ, ⊤, ◌+◌, ◌-◌, ◌<◌, ◌^◌, ◌∙◌, ◌∷◌, ◌≡◌, ◌≢◌, ◌≤◌, ◌⊎◌}
 use Rattle.zone_rdata.proofs.Fields.AnyField.{field_back}
 use Rattle.zone_rdata.proofs.Octets.StringFields.{strings_back}
-use Rattle.zone_wire.proofs.Messages.Sections.{and_then_ok, ok_same, leads, passes}
+use Rattle.zone_wire.proofs.Messages.Sections.{and_then_ok, passes}
 use Rattle.zone_wire.proofs.Names.Walking.{name_walks, walk_names, take_each, drop_each}
-
--- a part of octets that is a text
-pub part_text : (octets : List ℕ) (start end : ℕ) (text : List ℕ) → start ≤ end → end ≤ length octets → octets_between octets start end ≡ text → end ≡ start + length text
-part_text octets start end text order inside e = grind (arith, common_steps)
 
 pub name_reads : (end : ℕ) (found : Found) (o : Outcome) → o ≡ named found → found.end ≤ end → name_before end o ≡ Ok (name found.labels, found.end)
 name_reads end found o e h = ap (name_before end) e ∙ cond-true _ _ _ (le-leb _ _ h)
 
 -- a value of this many octets
 sized_reads : (octets : List ℕ) (end start next : ℕ) (field : Field) (v : FieldValue) (size : ℕ) → length (field_octets v) ≡ size → field_at field (field_octets v) ≡ v → next ≤ end → end ≤ length octets → (start ≤ next) × (octets_between octets start next ≡ field_octets v) → sized_before octets end start field size ≡ Ok (v, next)
-sized_reads octets end start next field v size len back before within stands = grind (arith, part_text)
+sized_reads octets end start next field v size len back before within stands = grind (arith, common_steps)
 
 -- a value is read back from its octets
 back : (field : Field) (v : FieldValue) → Holds field v → (field ≡ Strings → ⊥) → field_at field (field_octets v) ≡ v
@@ -117,10 +113,6 @@ module _ (octets : List ℕ) (each : (k : ℕ) → get_or octets k 0 < 256) (end
           let text : length (take c rest) ≡ c = ap length whole ∙ same in
           (record { short = omega (arith, text, small 0); each = bytes_each (take c rest) (take_each c rest (λ k. small (suc k))) }, cc)
 
-  -- strings up to the end
-  strings_show : (start : ℕ) (v : FieldValue × ℕ) → strings_before end (octets_between octets start end) ≡ Ok v → Shown octets end start Strings v
-  strings_show start v e = search (rules, passes, and_parts, ltb-true, length-take, some_frames, strings_each, part_bytes)
-
   -- what is read for a field stands there
   pub value_shows : (start : ℕ) (field : Field) (v : FieldValue × ℕ) → value_at octets end start field ≡ Ok v → Shown octets end start field v
   unfolding value_at
@@ -129,5 +121,13 @@ module _ (octets : List ℕ) (each : (k : ℕ) → get_or octets k 0 < 256) (end
   value_shows start Time v e = sized_shows start 4 Time v (λ fits. record { held = long_short _ (take_each 4 _ (part_bytes start (start + 4))); inside = fits; stands = long_stands start fits; last = λ f. cc }) e
   value_shows start (Octets n) v e = sized_shows start n (Octets n) v (fixed_shows start n) e
   value_shows start OneString v e = sized_shows start (1 + slice_index octets start) OneString v (string_shows start) e
-  value_shows start Strings v e = strings_show start v e
+  value_shows start Strings v e = search (rules, passes, and_parts, ltb-true, length-take, some_frames, strings_each, part_bytes)
   value_shows start U16 v e = sized_shows start 2 U16 v (λ fits. record { held = two_short _ (take_each 2 _ (part_bytes start (start + 2))); inside = fits; stands = two_stands start fits; last = λ f. cc }) e
+
+-- a layout holds no strings, or strings alone
+abbrev pub IsRow : Option (List Field) → Type 0
+IsRow None = ⊤
+IsRow (Some fields) = AllByRecursion (λ field. field ≢ Strings) fields ⊎ (fields ≡ Strings ∷ [])
+
+pub each_row : (class kind : ℕ) → IsRow (layout class kind)
+each_row class kind = grind arith

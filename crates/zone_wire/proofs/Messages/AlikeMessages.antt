@@ -1,5 +1,5 @@
 -- A message is judged by itself, and by what messages before it that are alike have in common.
-use Rattle.zone_wire.proofs.Common.{AllByRecursion, AnswersGive, AreAlike, AskAfter, AsksIn, ComesAfter, Fault, FaultAfter, GiveAfter, HasFirstId, IsReadAfter, List, Option, OrderFault, Placed, QuestionAt, Record, RecordAt, Sections, Some, StatedMessage, StreamKept, ZoneAsked, [], ap, asked_in, first_id, inl, inr, is_closed, no_more, opening_of, placed_in, refl, states, subst, sym, zone_of, ℕ, ◌++◌, ◌+◌, ◌∷◌, ◌≡◌, common_steps, arith}
+use Rattle.zone_wire.proofs.Common.{AllByRecursion, AnswersGive, AreAlike, AskAfter, AsksIn, Fault, FaultAfter, GiveAfter, HasFirstId, IsReadAfter, List, Option, OrderFault, Placed, QuestionAt, Record, RecordAt, Sections, Some, StatedMessage, StreamKept, ZoneAsked, [], ap, asked_in, first_id, inl, inr, is_closed, no_more, opening_of, placed_in, refl, states, subst, sym, zone_of, ℕ, ◌++◌, ◌+◌, ◌∷◌, ◌≡◌, common_steps, arith}
 use Rattle.zone_wire.specs.AnswerFault.{refused}
 use Rattle.zone_wire.proofs.Conditions.{unless_same}
 
@@ -8,9 +8,6 @@ record Alike (questions others : List QuestionAt) (before other : List Placed) :
   opening : opening_of before ≡ opening_of other
   closing : is_closed before ≡ is_closed other
   zone : before ≡ [] → zone_of questions [] ≡ zone_of others []
-
-stands_alike : (questions others : List QuestionAt) (before other : List Placed) (r : Record) → Alike questions others before other → ComesAfter questions before r → ComesAfter others other r
-stands_alike questions others before other r is comes = grind arith
 
 order_alike : (questions others : List QuestionAt) (before other : List Placed) (r : Record) (fault : Fault) → Alike questions others before other → OrderFault questions before r fault → OrderFault others other r fault
 order_alike questions others before other r fault is bad = grind (arith, unless_same)
@@ -23,7 +20,7 @@ alike_after questions others before other placed is = grind (arith, common_steps
 
 give_alike : {number : ℕ} {octets : List ℕ} {questions : List QuestionAt} {before : List Placed} {answers : List RecordAt} {placed : List Placed} {stop : Option (Fault × ℕ)} (others : List QuestionAt) (other : List Placed) → Alike questions others before other → AnswersGive number octets questions before answers placed stop → AnswersGive number octets others other answers placed stop
 give_alike others other is no_more = no_more
-give_alike {questions = questions} {before = before} others other is (states {p = p} s place comes rest) = grind (arith, give_alike others (other ++ p ∷ []) (alike_more questions others before other p is) rest, stands_alike, alike_more, states)
+give_alike {questions = questions} {before = before} others other is (states {p = p} s place comes rest) = grind (arith, give_alike others (other ++ p ∷ []) (alike_more questions others before other p is) rest, alike_more, states)
 give_alike others other is (refused (inl fault)) = refused (inl fault)
 give_alike {questions = questions} {before = before} others other is (refused {fault = fault} (inr bad)) = refused (inr (bad.0, bad.1, order_alike questions others before other bad.0 fault is bad.2))
 

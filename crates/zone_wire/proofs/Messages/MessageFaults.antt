@@ -1,5 +1,5 @@
--- The faults of messages are those at which the sections of a message stop being read.
-use Rattle.zone_wire.proofs.Common.{AreAt, Bool, Bytes, EitherIs, Err, Fault, FaultIn, Found, HasCounts, IsMessage, IsNameAt, IsPartAt, IsQuestionAt, IsRecordAt, IsResponse, IsVerdict, List, MatchResult, MessageFault, NameFault, NoFault, None, Ok, Option, Outcome, PartFault, QuestionAt, RecordAt, Result, Sections, ShortMessage, Some, TrailingOctets, Unless, [], ancount_of, and_from, and_parts, and_then, ap, arcount_of, arith, at_offset, cond-false, cond_both, each_from, eq-eqb, eqb-false, eqb-true, fails, false, false_from_ne_true, header_fault, holds, if◌then◌else◌, inl, inr, inside, le-leb, le-ltb, leb-true, length, ltb-false, named, nat_le, ne_eqb, not, not-false, outcome, qdcount_of, question_at, question_by, record_at, record_by, refl, refused, sections_of, slice_index, subst, suc, sym, to_the_end, true, u16_at, unless_faulted, walk, zero, ℕ, ◌&&◌, ◌/◌, ◌==◌, ◌∙◌, ◌∷◌, ◌≡◌, ◌≤◌, ◌⊎◌}
+-- Octets are read as the sections of a message, and refused for its first fault.
+use Rattle.zone_wire.proofs.Common.{AreAt, Bool, Bytes, EitherIs, Err, Fault, FaultIn, Found, HasCounts, IsMessage, IsNameAt, IsPartAt, IsQuestionAt, IsRecordAt, IsResponse, IsVerdict, List, MatchResult, MessageFault, NoFault, None, Ok, Option, Outcome, PartFault, QuestionAt, RecordAt, Result, Sections, ShortMessage, Some, TrailingOctets, Unless, [], ancount_of, and_from, and_parts, and_then, ap, arcount_of, arith, at_offset, cond-false, cond_both, each_from, eq-eqb, eqb-false, eqb-true, fails, false, false_from_ne_true, header_fault, holds, if◌then◌else◌, inl, inr, inside, le-leb, le-ltb, leb-true, length, ltb-false, named, nat_le, ne_eqb, not, not-false, outcome, qdcount_of, question_at, question_by, record_at, record_by, refl, refused, sections_of, slice_index, subst, suc, sym, to_the_end, true, u16_at, unless_faulted, walk, zero, ℕ, ◌&&◌, ◌/◌, ◌==◌, ◌∙◌, ◌∷◌, ◌≡◌, ◌⊎◌}
 use Rattle.zone_wire.proofs.Conditions.{tells_more, unless_holds, unless_own}
 use Rattle.zone_wire.proofs.Messages.Sections.{not_other, one_message, part_reads, sections_read}
 use Rattle.zone_wire.proofs.Names.Walking.{name_refused, name_refuses, name_walks, walk_names}
@@ -27,8 +27,7 @@ pub record Judges {X E : Type 0} (Given : Type 0) (r : Result X E) (Is : X → T
   pub refuses : (e : E) → Bad e → r ≡ Err e
 
 pub either : {X E : Type 0} (Is : X → Type 0) (Bad : E → Type 0) (r : Result X E) → MatchResult r Is Bad → EitherIs Is Bad
-either Is Bad (Ok x) is = inl (x, is)
-either Is Bad (Err e) bad = inr (e, bad)
+either Is Bad r h1 = grind arith
 
 -- what begins with a name
 part_judges : {X : Type 0} (octets : List ℕ) (by : Found → X) (end_of : X → ℕ) (offset : ℕ) → Judges (Bytes octets) (inside octets by end_of (outcome octets (walk octets offset))) (IsPartAt octets by end_of offset) (PartFault octets (IsPartAt octets by end_of) offset)
@@ -54,8 +53,7 @@ part_judges {X} octets by end_of offset = record { tells = λ each. told each (o
 -- parts one after another
 module _ {X Y : Type 0} (octets : List ℕ) (read : ℕ → Result X Fault) (end_of : X → ℕ) (Is : ℕ → X → Type 0) (reads : (offset : ℕ) (x : X) → Is offset x → read offset ≡ Ok x) (part : (offset : ℕ) → Judges (Bytes octets) (read offset) (Is offset) (PartFault octets Is offset)) (IsAll : Y → Type 0) (next : ℕ → Fault × ℕ → Type 0) where
   regroup : (x : X) (k : List X × ℕ → Result Y (Fault × ℕ)) (r : Result (List X × ℕ) (Fault × ℕ)) → and_then r (λ run. k (x ∷ run.0, run.1)) ≡ and_then (and_then r (λ others. Ok (x ∷ others.0, others.1))) k
-  regroup x k (Ok run) = refl
-  regroup x k (Err e) = refl
+  regroup x k r = grind arith
 
   each_judges : (count offset : ℕ) (k : List X × ℕ → Result Y (Fault × ℕ)) → ((xs : List X) (past : ℕ) → length xs ≡ count → AreAt Is end_of offset xs past → Judges (Bytes octets) (k (xs, past)) IsAll (next past)) → Judges (Bytes octets) (and_then (each_from read end_of count offset) k) IsAll (FaultIn octets Is end_of count next offset)
   each_judges zero offset k go = go [] offset refl refl
@@ -73,8 +71,7 @@ module _ {X Y : Type 0} (octets : List ℕ) (read : ℕ → Result X Fault) (end
 
 -- a test of a header, and those after it
 test_judges : {Given Holds : Type 0} {IsAll : Sections → Type 0} {next : Fault × ℕ → Type 0} (test : Bool) (own : Fault) (rest : Option Fault) (r : Result Sections (Fault × ℕ)) → (Holds → test ≡ false) → (test ≡ false → Holds) → (Holds → Judges Given (unless_faulted rest r) IsAll next) → Judges Given (unless_faulted (if test then Some own else rest) r) IsAll (Unless Holds (own, 0) next)
-test_judges true own rest r off by go = record { tells = λ given. fails (λ x. let no = off x in cc); refuses = λ e bad. ap Err (unless_own (λ x. let no = off x in cc) bad) }
-test_judges {Holds = Holds} {IsAll = IsAll} {next = next} false own rest r off by go = record { tells = λ given. tells_more IsAll next (Unless Holds (own, 0) next) (unless_faulted rest r) (λ e bad. holds (by refl) bad) ((go (by refl)).tells given); refuses = λ e bad. (go (by refl)).refuses e (unless_holds (by refl) bad) }
+test_judges test own rest r h1 h2 h3 = grind (arith, fails, holds, tells_more, unless_holds, unless_own)
 
 -- a response to a query, by the first five bits of its third octet
 sixteen : (octets : List ℕ) → IsResponse octets → not (slice_index octets 2 / 8 == 16) ≡ false

@@ -1,5 +1,5 @@
 -- The sections of a message: as what they are read, and where they end.
-use Rattle.zone_wire.proofs.Common.{AreAt, AreRecordsAt, Bool, Err, Fault, Found, HasHeader, IsMessage, IsParsed, IsPartAt, IsQuestionAt, IsRecordAt, IsResponse, List, MatchResult, MessageFault, None, Ok, Option, Outcome, QuestionAt, RecordAt, Result, Sections, Some, TrailingOctets, [], after_header, and_then, ap, arith, at_offset, common_steps, cond-false, cond-true, each_from, eq-eqb, eqb-true, false, get_or, header_fault, if◌then◌else◌, inside, leb-true, length, name_end_of, named, nat_le, ne_eqb, not, outcome, parsed, part_end_of, question_at, question_by, questions_from, record_at, records_from, refl, refused, rules, run_end_of, sections_of, sections_or_none, slice_index, subst, suc, sym, to_the_end, true, u16_at, unless_faulted, walk, zero, ℕ, ⊤, ◌+◌, ◌-◌, ◌/◌, ◌<◌, ◌==◌, ◌∙◌, ◌∷◌, ◌≡◌, ◌≢◌, ◌≤◌}
+use Rattle.zone_wire.proofs.Common.{AreAt, AreRecordsAt, Bool, Err, Fault, Found, HasHeader, IsMessage, IsParsed, IsPartAt, IsQuestionAt, IsRecordAt, List, MatchResult, MessageFault, None, Ok, Option, Outcome, Result, Sections, Some, TrailingOctets, [], after_header, and_then, ap, arith, common_steps, cond-true, each_from, eq-eqb, false, get_or, header_fault, if◌then◌else◌, inside, length, name_end_of, named, ne_eqb, not, outcome, parsed, part_end_of, question_at, questions_from, record_at, records_from, refl, refused, run_end_of, sections_of, sections_or_none, subst, suc, sym, true, u16_at, unless_faulted, walk, zero, ℕ, ◌+◌, ◌-◌, ◌<◌, ◌==◌, ◌∙◌, ◌∷◌, ◌≡◌, ◌≢◌, ◌≤◌}
 use Rattle.zone_wire.proofs.Names.Walking.{name_walks, walk_names, one_name, name_bounds}
 
 pub and_then_ok : {X Y E : Type 0} (r : Result X E) (x : X) (next : X → Result Y E) → r ≡ Ok x → and_then r next ≡ next x
@@ -28,9 +28,6 @@ each_reads read end_of Is reads [] count offset past size are = grind (arith, co
 each_reads read end_of Is reads (x ∷ xs) zero offset past size are = absurd (omega arith)
 each_reads read end_of Is reads (x ∷ xs) (suc count) offset past size are = grind (arith, reads offset x are.0, each_reads read end_of Is reads xs count (end_of x) past (omega arith) are.1)
 
-opens : (octets : List ℕ) (fault : Option Fault) → fault ≡ None → unless_faulted fault (after_header octets) ≡ after_header octets
-opens octets fault e = cc
-
 pub questions_read : (octets : List ℕ) (s : Sections) (is : IsMessage octets s) → questions_from octets (u16_at octets 4) 12 ≡ Ok (s.questions, is.past_questions)
 questions_read octets s is = each_reads (question_at octets) (λ q. q.end) (IsQuestionAt octets) part_reads s.questions (u16_at octets 4) 12 is.past_questions is.question_count is.questions
 
@@ -38,39 +35,19 @@ questions_read octets s is = each_reads (question_at octets) (λ q. q.end) (IsQu
 pub sections_read : (octets : List ℕ) (s : Sections) → IsMessage octets s → sections_of octets ≡ Ok s
 unfolding sections_of
 sections_read octets s is =
-    opens octets (header_fault octets) (header_reads octets is.header)
+    ap (λ (h : Option Fault). unless_faulted h (after_header octets)) (header_reads octets is.header)
     ∙ and_then_ok _ (s.questions, is.past_questions) _ (questions_read octets s is)
     ∙ and_then_ok _ (s.answers, is.past_answers) _ (each_reads (record_at octets) (λ r. r.end) (IsRecordAt octets) (λ o x. part_reads o x) s.answers (u16_at octets 6) is.past_questions is.past_answers is.answer_count is.answers)
     ∙ and_then_ok _ (s.additional, length octets) _ (each_reads (record_at octets) (λ r. r.end) (IsRecordAt octets) (λ o x. part_reads o x) s.additional (u16_at octets 10) is.past_answers (length octets) is.additional_count is.additional)
     ∙ cond-true _ _ _ (eq-eqb (length octets) (length octets) refl)
     ∙ ap (λ n. Ok (record s { id = n })) (sym is.id)
 
--- ---- what is read as the sections of a message are its sections
-pub ok_same : {X E : Type 0} (x y : X) → (let r : Result X E = Ok x in r) ≡ Ok y → x ≡ y
-ok_same x y e = cc
-
--- what leads to a value has a value
-pub record Leads {X Y E : Type 0} (r : Result X E) (next : X → Result Y E) (y : Y) : Type 0 where
-  pub first : X
-  pub is : r ≡ Ok first
-  pub goes_on : next first ≡ Ok y
-
-pub leads : {X Y E : Type 0} (r : Result X E) (next : X → Result Y E) (y : Y) → and_then r next ≡ Ok y → Leads r next y
-leads r next y e = grind arith
-
 -- a test that is passed
 pub passes : {X E : Type 0} (test : Bool) (x y : X) (fault : E) → (if test then Ok x else Err fault) ≡ Ok y → (test ≡ true) × (x ≡ y)
 passes test x y fault e = grind arith
 
-pub passes_on : {X E : Type 0} (test : Bool) (fault : E) (rest : Result X E) (x : X) → (if test then Err fault else rest) ≡ Ok x → (test ≡ false) × (rest ≡ Ok x)
-passes_on test fault rest x e = grind arith
-
-pub header_shows : (octets : List ℕ) → header_fault octets ≡ None → HasHeader octets
-unfolding header_fault
-header_shows octets e = grind arith
-
 pub one_message : (octets : List ℕ) (s t : Sections) → IsMessage octets s → IsMessage octets t → s ≡ t
-one_message octets s t is too = ok_same s t (sym (sections_read octets s is) ∙ sections_read octets t too)
+one_message octets s t is too = let read = sections_read octets s is in let also = sections_read octets t too in cc
 
 -- ---- where names, questions and records of a message end, and the first fault before that
 ended_inside : (message : List ℕ) (offset : ℕ) → ((k : ℕ) → get_or message k 0 < 256) → (o : Outcome) → outcome message (walk message offset) ≡ o → (end : ℕ) → Ok end ≡ name_end_of o → end ≤ length message
@@ -98,7 +75,8 @@ header_refused octets fault e = ap (λ (h : Option Fault). unless_faulted h (aft
 
 -- a header without a fault counts its parts
 pub has_header : (octets : List ℕ) → None ≡ header_fault octets → HasHeader octets
-has_header octets e = header_shows octets (sym e)
+unfolding header_fault
+has_header octets e = grind arith
 
 module _ (octets : List ℕ) (none : None ≡ header_fault octets) where
   pub questions_refused : (e : Fault × ℕ) → Err e ≡ run_end_of (questions_from octets (u16_at octets 4) 12) → sections_of octets ≡ Err e

@@ -1,5 +1,5 @@
 -- What stands at a place, read off the octets, and back.
-use Rattle.zone_wire.proofs.Common.{BadPointer, Fault, FaultHere, IsLabelAt, IsPointerAt, List, None, Option, Some, Spot, Standing, TooManyPointers, ap, arith, at_fault, at_label, at_pointer, at_root, cases_lt, common_steps, cond-false, cond-true, cond_both, eq-eqb, eqb-false, eqb-true, fails, false, holds, if◌then◌else◌, inl, inr, label_of, le-leb, le-ltb, leb-false, leb-true, length, lt-leb, lt-ltb, ltb-false, ltb-true, ne_eqb, nat_le, nat_lt, nat_tests, pointer_of, refl, rules, slice_index, standing_in, sym, target_at, true_from_ne_false, ℕ, ◌+◌, ◌<◌, ◌||◌, ◌∙◌, ◌≡◌, ◌≤◌}
+use Rattle.zone_wire.proofs.Common.{Fault, FaultHere, IsLabelAt, IsPointerAt, List, None, Option, Some, Spot, Standing, ap, arith, at_fault, at_label, at_pointer, at_root, common_steps, cond_both, fails, holds, inl, inr, leb-false, leb-true, length, ltb-false, ltb-true, nat_tests, slice_index, standing_in, sym, ℕ, ◌+◌, ◌<◌, ◌∙◌, ◌≡◌, ◌≤◌}
 use Rattle.zone_wire.proofs.Conditions.{unless_holds, unless_one}
 
 -- what the octets at a place are, by what stands there
@@ -10,35 +10,17 @@ Shows message spot (Some (at_label size)) = IsLabelAt message spot.offset size �
 Shows message spot (Some (at_pointer target)) = IsPointerAt message spot.offset spot.bound target × (spot.pointers < 128)
 Shows message spot (Some (at_fault fault)) = FaultHere message spot.offset spot.bound spot.pointers spot.octets fault
 
-neither : (a b c d : ℕ) → nat_lt a b || nat_le c d ≡ false → (b ≤ a) × (d < c)
-neither a b c d e = grind (arith, nat_tests)
-
-shows_label : (message : List ℕ) (spot : Spot) → 0 < slice_index message spot.offset → slice_index message spot.offset ≤ 63 → Shows message spot (Some (label_of message spot (slice_index message spot.offset)))
-shows_label message spot some short = grind (arith, cond_both, leb-true, leb-false, ltb-true, ltb-false, at_fault, at_label, fails, holds)
-
-good_target : (a b : ℕ) → 12 ≤ a → a < b → nat_lt a 12 || nat_le b a ≡ false
-good_target a b h k = grind (arith, nat_tests)
-
-shows_pointer : (message : List ℕ) (spot : Spot) → 192 ≤ slice_index message spot.offset → Shows message spot (Some (pointer_of message spot (target_at message spot.offset)))
-shows_pointer message spot first = grind (arith, cond_both, leb-true, leb-false, ltb-true, ltb-false, at_fault, at_pointer, fails, holds, neither, good_target)
-
 -- what stands at a place shows its octets
 pub standing_shows : (message : List ℕ) (spot : Spot) → Shows message spot (standing_in message spot)
 unfolding standing_in
-standing_shows message spot = grind (arith, nat_tests, shows_label, shows_pointer)
-
--- where an octet above zero stands, the message goes on
-pub here_of : (message : List ℕ) (i : ℕ) → 0 < slice_index message i → i < length message
-here_of message i h = grind (arith, common_steps)
+standing_shows message spot = grind (arith, nat_tests, cond_both, leb-true, leb-false, ltb-true, ltb-false, at_fault, at_label, fails, holds, at_pointer)
 
 -- one thing stands at a place
 label_fine : (message : List ℕ) (spot : Spot) (size : ℕ) (fault : Fault) → IsLabelAt message spot.offset size → spot.octets + size + 2 ≤ 255 → FaultHere message spot.offset spot.bound spot.pointers spot.octets fault → ⊥
 label_fine message spot size fault is room bad = grind arith
 
 pointer_fine : (message : List ℕ) (spot : Spot) (target : ℕ) (fault : Fault) → IsPointerAt message spot.offset spot.bound target → spot.pointers < 128 → FaultHere message spot.offset spot.bound spot.pointers spot.octets fault → ⊥
-pointer_fine message spot target fault is few (inl bad) = omega (arith, bad.1, is.first)
-pointer_fine message spot target fault is few (inr (inl bad)) = omega (arith, bad.1, is.first)
-pointer_fine message spot target fault is few (inr (inr (high, bad))) = unless_holds few (unless_holds (omega (arith, is.leads, is.past_header), omega (arith, is.leads, is.below)) (unless_holds is.inside bad))
+pointer_fine message spot target fault h1 h2 h3 = grind (arith, unless_holds)
 
 one_fault : (message : List ℕ) (spot : Spot) (f g : Fault) → FaultHere message spot.offset spot.bound spot.pointers spot.octets f → FaultHere message spot.offset spot.bound spot.pointers spot.octets g → f ≡ g
 one_fault message spot f g (inl is) (inl too) = unless_one (λ _ _. unless_one (λ _ _ none. absurd none)) is.2 too.2
@@ -59,7 +41,7 @@ one_standing message spot (Some (at_fault f)) (Some (at_label n)) is too = absur
 one_standing message spot (Some (at_pointer n)) (Some (at_pointer m)) is too = grind arith
 one_standing message spot (Some (at_pointer n)) (Some (at_fault f)) is too = absurd (pointer_fine message spot n f is.0 is.1 too)
 one_standing message spot (Some (at_fault f)) (Some (at_pointer n)) is too = absurd (pointer_fine message spot n f too.0 too.1 is)
-one_standing message spot s t is too = grind (arith, here_of)
+one_standing message spot s t is too = grind (arith, common_steps)
 
 pub standing_is : (message : List ℕ) (spot : Spot) (s : Option Standing) → Shows message spot s → standing_in message spot ≡ s
 standing_is message spot s is = one_standing message spot (standing_in message spot) s (standing_shows message spot) is

@@ -1,5 +1,5 @@
 -- The walk: the one list of places that is a walk, how it ends, the names that it finds, and how it is carried on from place to place.
-use Rattle.zone_wire.proofs.Common.{AllByRecursion, At, Found, IsLabel, IsLabel-folded, IsNameAt, IsPointerAt, IsLabelAt, List, MatchOption, NameFault, None, Option, Outcome, ShortMessage, Some, Spot, Standing, Visit, [], after_label, after_pointer, arith, at_fault, at_label, at_pointer, at_root, bytes_each, common_steps, drop, ending, flat_map, get_or, get_or-drop, label, label_at, length, length-append, length-drop, length-take-le, lit≤, named, outcome, outset, past_label, past_pointer, pointer, refl, refused, root, rules, standing_in, subst, suc, sym, take, visit, walk, walk_by, walk_on, wire, with_length, zero, ℕ, ◌*◌, ◌+◌, ◌<◌, ◌∙◌, ◌∷◌, ◌≡◌, ◌≤◌, LeadToLast, labels_in, pointers_in, Fault, IsWalk, Walks, ap, by_pointer, outside, over_label, to_fault, to_root, append-nil, unwrap_or, ◌++◌}
+use Rattle.zone_wire.proofs.Common.{AllByRecursion, At, EitherIs, Fault, Found, IsLabel, IsLabel-folded, IsLabelAt, IsNameAt, IsPointerAt, IsVerdict, IsWalk, LeadToLast, List, MatchOption, NameFault, None, Option, Outcome, ShortMessage, Some, Spot, Standing, Visit, Walks, [], after_label, after_pointer, ap, append-nil, arith, at_fault, at_label, at_pointer, at_root, by_pointer, bytes_each, common_steps, drop, ending, flat_map, get_or, get_or-drop, inl, inr, label, label_at, labels_in, length, length-append, length-drop, length-take-le, lit≤, named, outcome, outset, outside, over_label, past_label, past_pointer, pointer, pointers_in, refl, refused, root, standing_in, subst, suc, sym, take, to_fault, to_root, unwrap_or, visit, walk, walk_by, walk_on, wire, with_length, zero, ℕ, ◌*◌, ◌++◌, ◌+◌, ◌<◌, ◌∙◌, ◌∷◌, ◌≡◌, ◌≤◌}
 use Rattle.zone_wire.proofs.Names.Spots.{Shows, standing_is, standing_shows}
 
 -- ---- the walk is the one list of places that is a walk
@@ -207,9 +207,7 @@ at_labels each (pointer offset bound target labels end steps pointers here rest)
 
 -- where the walk ends at the root, a name stands
 pub root_is_name : (message : List ℕ) (offset : ℕ) (visits : List Visit) → ((k : ℕ) → get_or message k 0 < 256) → IsWalk message offset visits None → (found : Found) × IsNameAt message offset found × (outcome message (walk message offset) ≡ named found)
-root_is_name message offset visits each is =
-    let f = (walk_lies is).finds in
-    (f.found, record { at = f.at; name = record { each = at_labels each f.at; short = omega (arith, f.short, wire-octets f.found.labels) }; few = omega (arith, f.few) }, cc (is_walk message offset visits None is))
+root_is_name message offset visits each is = grind (arith, at_labels, is_walk, walk_lies, wire-octets)
 
 -- what is found is a name
 pub walk_names : (message : List ℕ) (offset : ℕ) (found : Found) → ((k : ℕ) → get_or message k 0 < 256) → outcome message (walk message offset) ≡ named found → IsNameAt message offset found
@@ -221,11 +219,7 @@ walk_names message offset found each e = by (ending (walk message offset)) (walk
 
 -- what is refused is a fault, after as many places as each walk has
 pub refused_places : (message : List ℕ) (offset : ℕ) (fault : Fault) (steps : ℕ) (visits : List Visit) (ends : Option Fault) → outcome message (walk message offset) ≡ refused fault steps → IsWalk message offset visits ends → (ends ≡ Some fault) × (steps ≡ length visits)
-refused_places message offset fault steps visits ends e is = by ends (is_walk message offset visits ends is) (walk_lies is).finds
-  where
-    by : (ends : Option Fault) → visits ≡ walk message offset → Ends message offset offset 0 0 visits ends → (ends ≡ Some fault) × (steps ≡ length visits)
-    by None same f = let is = f.is in absurd (let none : ⊥ = cc in none)
-    by (Some other) same f = (cc, cc)
+refused_places message offset fault steps visits ends e is = grind (arith, is_walk, same, walk_lies)
 
 pub name_refused : (message : List ℕ) (offset : ℕ) (fault : Fault) (steps : ℕ) → outcome message (walk message offset) ≡ refused fault steps → NameFault message offset fault
 name_refused message offset fault steps e =
@@ -246,6 +240,32 @@ name_one message offset f g is too = grind (arith, name_refuses message offset f
 pub name_not_both : (message : List ℕ) (offset : ℕ) (found : Found) (f : Fault) → IsNameAt message offset found → NameFault message offset f → ⊥
 name_not_both message offset found f is fault = grind (arith, name_walks message offset found is, name_refuses message offset f fault)
 
+-- ---- laws of walks and names
+pub one_walk : (message : List ℕ) (offset : ℕ) (w v : List Visit × Option Fault) → IsWalk message offset w.0 w.1 → IsWalk message offset v.0 v.1 → w ≡ v
+one_walk message offset (visits, ends) (others, late) is too = cc (is_walk message offset visits ends is, is_walk message offset others late too, (walk_lies is).ends_so, (walk_lies too).ends_so)
+
+pub some_walk : (message : List ℕ) (offset : ℕ) → (visits : List Visit) × (ends : Option Fault) × IsWalk message offset visits ends
+some_walk message offset = (walk message offset, ending (walk message offset), walk_is message offset _ refl)
+
+-- a walk where a name stands is the one that finds it
+pub named_ending : (message : List ℕ) (offset : ℕ) (found : Found) (visits : List Visit) (ends : Option Fault) → IsNameAt message offset found → IsWalk message offset visits ends → ends ≡ None
+named_ending message offset found visits ends is walks = ap (λ (v : List Visit × Option Fault). v.1) (one_walk message offset (visits, ends) (_, None) walks (name_walk message offset found is).walks)
+
+pub named_steps : (message : List ℕ) (offset : ℕ) (found : Found) (visits : List Visit) (ends : Option Fault) → IsNameAt message offset found → IsWalk message offset visits ends → length visits ≡ found.steps
+named_steps message offset found visits ends is walks =
+    let w = name_walk message offset found is in
+    let f = (walk_lies w.walks).finds in
+    let list = ap (λ (v : List Visit × Option Fault). v.0) (one_walk message offset (visits, ends) (w.visits, None) walks w.walks) in
+    ap length list ∙ cc
+
+-- a name stands at an offset, or its walk ends with a fault
+pub name_verdict : (message : List ℕ) (offset : ℕ) → ((k : ℕ) → get_or message k 0 < 256) → IsVerdict (IsNameAt message offset) (NameFault message offset)
+name_verdict message offset each = record { one_of = by (outcome message (walk message offset)) refl; never_both = name_not_both message offset; one_value = one_name message offset; one_fault = name_one message offset }
+  where
+    by : (o : Outcome) → outcome message (walk message offset) ≡ o → EitherIs (IsNameAt message offset) (NameFault message offset)
+    by (named found) e = inl (found, walk_names message offset found each e)
+    by (refused fault steps) e = inr (fault, name_refused message offset fault steps e)
+
 -- ---- a walk that is carried on from place to place: what was met so far, and the walk from here
 -- what was met so far, and then what the rest leads to
 abbrev pub carried : List (List ℕ) → Option ℕ → ℕ → ℕ → Outcome → Outcome
@@ -259,12 +279,9 @@ pub record Carries (message : List ℕ) (offset : ℕ) (spot : Spot) (labels : L
   pub octets : spot.octets ≡ label_octets labels
   pub goes_on : (visits : List Visit) (ends : Option Fault) → WalksAt message spot visits ends → (all : List Visit) × IsWalk message offset all ends × (outcome message all ≡ carried labels end steps spot.pointers (outcome message visits))
 
-carried-none : (o : Outcome) → o ≡ carried [] None 0 0 o
-carried-none o = grind arith
-
 -- the start
 pub carries_start : (message : List ℕ) (offset : ℕ) → Carries message offset (outset offset) [] None 0
-carries_start message offset = record { few = omega arith; pointers = omega arith; short = omega arith; octets = refl; goes_on = λ visits ends w. (visits, w, carried-none (outcome message visits)) }
+carries_start message offset = record { few = omega arith; pointers = omega arith; short = omega arith; octets = refl; goes_on = λ visits ends w. (visits, w, grind arith) }
 
 octets_of-push : (labels : List (List ℕ)) (l : List ℕ) → label_octets (labels ++ l ∷ []) ≡ label_octets labels + 1 + length l
 octets_of-push labels l = grind (arith, common_steps)

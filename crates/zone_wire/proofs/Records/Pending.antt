@@ -32,13 +32,9 @@ one_more_is octets count offset s some r is end e =
     let same : more.first ≡ r = one_part offset more.first r more.is is in
     grind arith
 
--- the record after this name, where a record stands
-pub record_of_name : (octets : List ℕ) (offset : ℕ) (r : RecordAt) → IsRecordAt octets offset r → (found : Found) → IsNameAt octets offset found → IsRecordAt octets offset (record_by octets offset found)
-record_of_name octets offset r is found name = grind (arith, one_name)
-
--- the same, of the name that a walk finds
+-- the record after the name that a walk finds, where a record stands
 pub record_walked : (octets : List ℕ) (offset : ℕ) → ((k : ℕ) → get_or octets k 0 < 256) → (r : RecordAt) → IsRecordAt octets offset r → (found : Found) → outcome octets (walk octets offset) ≡ named found → IsRecordAt octets offset (record_by octets offset found)
-record_walked octets offset each r is found e = record_of_name octets offset r is found (walk_names octets offset found each e)
+record_walked octets offset each r is found e = let name = walk_names octets offset found each e in grind (arith, one_name)
 
 -- the answers of a message that was parsed
 pub answers_stand : (octets : List ℕ) (answers : ℕ) → IsParsed octets answers → HasRecordsFrom octets (u16_at octets 6) answers

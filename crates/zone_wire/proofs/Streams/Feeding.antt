@@ -44,12 +44,9 @@ one_frame old new unfinished fed front octets given going each e short next foll
     let g = still_going old unfinished fed given old.decided.ending going follow.state in
     record { octets = bytes_append fed front follow.octets each; state = framed_state old new unfinished fed front octets given g e short new.decided.ending (next g.parts g.after) }
 
-going_state : (t : Transfer) (unfinished fed : List ℕ) (given : List Placed) (ending : Option (Fault × Place)) → ending ≡ None → Going t unfinished fed given → MatchOption ending (Going t unfinished fed given) (λ e. StreamDecides fed (given ++ t.decided.placed) (Some e))
-going_state t unfinished fed given ending e g = grind arith
-
 -- octets that end inside the frame
 pub inside_frame : (t : Transfer) (unfinished fed more : List ℕ) (given : List Placed) → t.decided.ending ≡ None → Bytes more → IsCut (unfinished ++ more) → Follow t unfinished fed given → Follow t (unfinished ++ more) (fed ++ more) given
-inside_frame t unfinished fed more given going each cut follow = grind (arith, still_going, append_assoc, bytes_append, going_state)
+inside_frame t unfinished fed more given going each cut follow = grind (arith, still_going, append_assoc, bytes_append)
 
 -- after a fault nothing more is decided
 faulted_state : (t : Transfer) (unfinished other fed more : List ℕ) (given : List Placed) (ending : Option (Fault × Place)) → (ending ≡ None → ⊥) → Bytes (fed ++ more) → MatchOption ending (Going t unfinished fed given) (λ e. StreamDecides fed (given ++ t.decided.placed) (Some e)) → MatchOption ending (Going t other (fed ++ more) given) (λ e. StreamDecides (fed ++ more) (given ++ t.decided.placed) (Some e))

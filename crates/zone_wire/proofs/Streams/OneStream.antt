@@ -1,5 +1,5 @@
 -- A stream is cut into frames and read in one way, and what is decided for its beginning stays.
-use Rattle.zone_wire.proofs.Common.{AllByRecursion, AllByRecursion-append, AnswersGive, AreRead, Bool, Bytes, EitherIs, Err, Fault, FaultAfter, IsFramed, IsReadAfter, IsRecord, IsVerdict, List, Message, None, Ok, Option, Place, Placed, QuestionAt, ReadAfter, RecordAt, Result, Some, StatedMessage, StreamDecides, StreamReads, [], ap, append-nil, append_assoc, arith, cases_lt, common_steps, drop, filter, filter-append, flat_map, frame, front_bytes, get_or, get_or-drop, handed_on, if◌then◌else◌, inl, inr, length, length-drop, length-take-le, lit<, nat_lt, next_message, no_more, not, octets_in, placed_in, reads, refl, rules, states, stops, stream_records, subst, suc, sym, take, take-append-drop, u16_at, whole, zero, ℕ, ◌%◌, ◌*◌, ◌++◌, ◌+◌, ◌/◌, ◌<◌, ◌==◌, ◌∙◌, ◌∷◌, ◌≡◌, ◌≤◌}
+use Rattle.zone_wire.proofs.Common.{AllByRecursion, AllByRecursion-append, AnswersGive, AreRead, Bool, Bytes, Fault, FaultAfter, IsFramed, IsReadAfter, IsRecord, IsVerdict, List, Message, None, Option, Place, Placed, QuestionAt, ReadAfter, RecordAt, Some, StatedMessage, StreamDecides, StreamReads, [], ap, append-nil, append_assoc, arith, cases_lt, common_steps, drop, filter, filter-append, flat_map, frame, front_bytes, get_or, get_or-drop, handed_on, inl, inr, length, length-drop, length-take-le, lit<, next_message, no_more, not, octets_in, placed_in, reads, refl, rules, states, stops, stream_records, subst, suc, sym, take, take-append-drop, u16_at, whole, zero, ℕ, ◌%◌, ◌*◌, ◌++◌, ◌+◌, ◌/◌, ◌<◌, ◌==◌, ◌∙◌, ◌∷◌, ◌≡◌, ◌≤◌}
 use Rattle.zone_wire.specs.AnswerFault.{refused}
 use Rattle.zone_rdata.proofs.Octets.Sent.{append_same}
 use Rattle.zone_wire.proofs.Conditions.{unless_each}
@@ -33,9 +33,6 @@ frames_extend (m ∷ ms) (n ∷ ns) r s more cut e =
     let one = frame_unique m n (flat_map frame ms ++ (r ++ more)) (flat_map frame ns ++ s) (grind (arith, append_assoc)) in
     let rest = frames_extend ms ns r s more cut one.1 in
     (rest.0, cc)
-
-pub framed_extends : (stream more : List ℕ) (ms ns : List (List ℕ)) (r s : List ℕ) → IsFramed stream ms r → IsFramed (stream ++ more) ns s → (after : List (List ℕ)) × (ns ≡ ms ++ after)
-framed_extends stream more ms ns r s is longer = grind (arith, frames_extend, append_assoc, flat_map, frame)
 
 -- frames of a stream, and a rest
 pub record Framing (stream : List ℕ) : Type 0 where
@@ -127,7 +124,7 @@ one_decision stream placed other ending late is too =
 
 -- the messages of a longer stream go on
 messages_go_on : (stream more : List ℕ) (ms ns : List (List ℕ)) (r s : List ℕ) (placed other : List Placed) (ending late : Option (Fault × Place)) → IsFramed stream ms r → IsFramed (stream ++ more) ns s → ReadAfter [] ms placed ending → ReadAfter [] ns other late → GoesOn placed ending other late
-messages_go_on stream more ms ns r s placed other ending late is longer read also = grind (arith, framed_extends, read_goes_on)
+messages_go_on stream more ms ns r s placed other ending late is longer read also = grind (arith, read_goes_on, frames_extend, append_assoc, flat_map, frame)
 
 pub handed_more : (placed more : List Placed) → (rest : List Placed) × (handed_on (placed ++ more) ≡ handed_on placed ++ rest)
 handed_more [] more = (handed_on more, refl)
@@ -162,14 +159,11 @@ frames_join stream more messages others rest last is next = grind (arith, common
 pub frame_is : (octets : List ℕ) → length octets ≤ 65535 → IsFramed (frame octets) (octets ∷ []) []
 frame_is octets few = record { whole = sym (append-nil (frame octets ++ []) ∙ append-nil (frame octets)); short = (few, tt); cut = lit< tt }
 
-frame_after : (stream octets : List ℕ) (messages : List (List ℕ)) → length octets ≤ 65535 → IsFramed stream messages [] → IsFramed (stream ++ frame octets) (messages ++ octets ∷ []) []
-frame_after stream octets messages few is = frames_join stream (frame octets) messages (octets ∷ []) [] [] is (frame_is octets few)
-
 pub frame_read : (stream : List ℕ) (before : List StatedMessage) (p : StatedMessage) → IsFramed stream (octets_in before) [] → AreRead [] before → length p.octets ≤ 65535 → IsReadAfter before p → StreamDecides (stream ++ frame p.octets) (handed_on (placed_in before ++ p.placed)) None
 frame_read stream before p framed are few is = record {
   messages = octets_in before ++ p.octets ∷ [];
   rest = [];
-  framed = frame_after stream p.octets (octets_in before) few framed;
+  framed = frames_join stream (frame p.octets) (octets_in before) (p.octets ∷ []) [] [] framed (frame_is p.octets few);
   all = placed_in before ++ p.placed;
   read = reads_up_to [] before (p.octets ∷ []) p.placed None are (subst (λ x. ReadAfter before (p.octets ∷ []) x None) (append-nil p.placed) (reads is whole));
   stated = refl;
@@ -179,7 +173,7 @@ pub frame_refused : (stream octets : List ℕ) (before : List StatedMessage) (he
 frame_refused stream octets before here fault offset framed are few is = record {
   messages = octets_in before ++ octets ∷ [];
   rest = [];
-  framed = frame_after stream octets (octets_in before) few framed;
+  framed = frames_join stream (frame octets) (octets_in before) (octets ∷ []) [] [] framed (frame_is octets few);
   all = placed_in before ++ here;
   read = reads_up_to [] before (octets ∷ []) here _ are (stops is);
   stated = refl;

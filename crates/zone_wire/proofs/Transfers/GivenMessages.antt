@@ -23,12 +23,6 @@ reads_up_to before (p ∷ parts) rest more ending are is =
     (reads are.0 (reads_up_to (before ++ p ∷ []) parts rest more ending are.1 (subst (λ b. ReadAfter b rest more ending) (sym (append_assoc before (p ∷ []) parts)) is)))
 
 -- the ID and the questions of a message after others
-id_by : (before : List StatedMessage) (s : Sections) → has_first_id before s ≡ true → HasFirstId before s
-id_by before s e = grind arith
-
-id_true : (before : List StatedMessage) (s : Sections) → HasFirstId before s → has_first_id before s ≡ true
-id_true before s is = grind arith
-
 asks_by : (zone : Option ZoneAsked) (q : QuestionAt) → asks_for zone q ≡ true → AsksIn zone q
 asks_by zone q e = let p = and_parts (q.kind == 252) (agrees zone q.name q.class) e in record { kind = eqb-true _ _ p.0; agrees = agrees_by zone q.name q.class p.1 }
 
@@ -53,10 +47,10 @@ module _ (before : List StatedMessage) (octets : List ℕ) (each : Bytes octets)
       let all = list_all (asks_for zone) s.questions in
       let give = answers_give octets each few (asked_in before ++ s.questions) (length before + 1) s.answers (placed_in before) (each_stands octets m.past_questions m.past_answers s.answers m.answers) in
       by_test (has_first_id before s) _ _
-      (λ t. by_test all _ _
-      (λ u. by_answers s _ _ m (id_by before s t) (all_by (AsksIn zone) (asks_for zone) (asks_by zone) s.questions u) give)
-      (λ u. inr (s, m, holds (id_by before s t) (fails (λ asks. let yes : all ≡ true = all_pass (AsksIn zone) (asks_for zone) (asks_true zone) s.questions asks in cc)))))
-      (λ t. inr (s, m, fails (λ id. let yes = id_true before s id in cc)))
+      (λ t. let id : HasFirstId before s = grind arith in by_test all _ _
+      (λ u. by_answers s _ _ m id (all_by (AsksIn zone) (asks_for zone) (asks_by zone) s.questions u) give)
+      (λ u. inr (s, m, holds id (fails (λ asks. let yes : all ≡ true = all_pass (AsksIn zone) (asks_for zone) (asks_true zone) s.questions asks in cc)))))
+      (λ t. inr (s, m, fails (λ id. let yes : has_first_id before s ≡ true = grind arith in cc)))
 
   pub judged : Judged before octets (next_message before octets)
   unfolding next_message

@@ -3,6 +3,7 @@ use Rattle.zone_wire.proofs.Common.{AfterClosing, AgreeWith, Among, AnswerFault,
 use Rattle.zone_rdata.specs.declared.fault.Failing.TheVariants as failings
 use Rattle.zone_rdata.specs.declared.queue.PendingRecords.{PendingRecords}
 use Rattle.zone_wire.specs.AnswerFault.{refused}
+use Rattle.std.proofs.lemmas.Bool.Decides.{same_from_decides}
 use Rattle.zone_wire.proofs.Records.Answering.{names_same, records_same, names_equal, records_equal}
 use Rattle.zone_wire.proofs.Transfers.GivenMessages.{asked_grow, placed_grow}
 use Rattle.zone_wire.proofs.Common.{on_ok_weaker}
@@ -31,9 +32,6 @@ stands_after questions placed rr t among some going other = grind arith
 pub closed_after : (questions : List QuestionAt) (placed : List Placed) (rr : Record) (t : Transfer) → Among questions placed t → t.closed ≡ true → OrderFault questions placed rr AfterClosing
 closed_after questions placed rr t among closed = grind (arith, fails)
 
-gains_more : (here more : List Placed) (questions : List QuestionAt) (placed : List Placed) (old mid new : Transfer) → Gains here questions placed old mid → Gains more questions (placed ++ here) mid new → Gains (here ++ more) questions placed old new
-gains_more here more questions placed old mid new first next = grind (arith, common_steps)
-
 -- answers up to some were read, and whatever those give that are still to come, all of them give it after the records of those
 pub record SoFar (octets : List ℕ) (answers rest : List RecordAt) (questions : List QuestionAt) (placed : List Placed) (old new : Transfer) : Type 0 where
   pub here : List Placed
@@ -56,7 +54,7 @@ pub pending_all : (octets : List ℕ) (answers : List RecordAt) (left : List Raw
 pending_all octets answers left t e = search rules
 
 so_far_more : (octets : List ℕ) (answers : List RecordAt) (a : RecordAt) (rest : List RecordAt) (questions : List QuestionAt) (placed : List Placed) (old mid new : Transfer) → mid.messages ≡ old.messages → (s : SoFar octets answers (a ∷ rest) questions placed old mid) → Takes octets a questions (placed ++ s.here) mid new → SoFar octets answers rest questions placed old new
-so_far_more octets answers a rest questions placed old mid new messages s takes = grind (arith, append_assoc, gains_more, states)
+so_far_more octets answers a rest questions placed old mid new messages s takes = grind (arith, append_assoc, states, common_steps)
 
 pub pending_more : (octets : List ℕ) (answers : List RecordAt) (first : RawRecord) (left before : List RawRecord) (old mid new : Transfer) → Pending octets answers before old mid → before ≡ first ∷ left → new.messages ≡ mid.messages → new.decided.ending ≡ mid.decided.ending → ((questions : List QuestionAt) (placed : List Placed) → Among questions placed mid → Takes first.octets first.at questions placed mid new) → Pending octets answers left old new
 pending_more octets answers first left before old mid new p e messages ending takes = by p.rest (sym e ∙ p.left_is) p.so_far
@@ -86,23 +84,7 @@ takes_all octets answers left old new none p = by p.rest (sym none ∙ p.left_is
     by [] h so_far questions placed among = takes_last (so_far questions placed among) no_more
     by (a ∷ rest) h so_far questions placed among = cc
 
--- the next answer has a fault
-takes_up_to : (octets : List ℕ) (answers : List RecordAt) (first : RawRecord) (left before : List RawRecord) (old mid new : Transfer) (fault : Fault) (offset : ℕ) → Pending octets answers before old mid → before ≡ first ∷ left → new ≡ mid → offset ≡ first.at.offset
-    → ((questions : List QuestionAt) (placed : List Placed) → Among questions placed mid → AnswerFault first.octets questions placed first.at fault)
-    → (questions : List QuestionAt) (placed : List Placed) → Among questions placed old → TakesUpTo octets answers questions placed old new (Some (fault, offset))
-takes_up_to octets answers first left before old mid new fault offset p e same there refuses questions placed among = rw same (by p.rest (sym e ∙ p.left_is) p.so_far)
-  where
-    by : (rest : List RecordAt) → first ∷ left ≡ map (raw_at octets) rest → Reached octets answers rest old mid → TakesUpTo octets answers questions placed old mid (Some (fault, offset))
-    by [] h so_far = cc
-    by (a ∷ rest) h so_far =
-        let is : first ≡ raw_at octets a = cc in
-        let s = so_far questions placed among in
-        rw (there ∙ ap (λ (r : RawRecord). r.at.offset) is) (takes_last s (refused (subst (λ (r : RawRecord). AnswerFault r.octets questions (placed ++ s.here) r.at fault) is (refuses questions (placed ++ s.here) s.gains.among))))
-
 -- what the ID and the questions of a message leave
-first_id_after : (before : List StatedMessage) (p : StatedMessage) → HasFirstId before p.sections → Some p.sections.id ≡ first_id (before ++ p ∷ [])
-first_id_after before p same = grind arith
-
 pub has_first_id : (before : List StatedMessage) (s : Sections) (id : Option ℕ) → id ≡ first_id before → MatchOption id ⊤ (λ first. s.id ≡ first) → HasFirstId before s
 has_first_id before s id e h = grind arith
 
@@ -135,7 +117,7 @@ takes_whole octets before s old mid new after is head decided count takes =
       };
       after = record {
         count = count ∙ number ∙ sym (length-append before (p ∷ []));
-        id = takes.gains.id ∙ head.id ∙ first_id_after before p head.same_id;
+        id = takes.gains.id ∙ head.id ∙ (grind arith);
         among = rw (asked_grow before p) at (rw (placed_grow before p) at takes.gains.among);
       };
       handed = λ given e. takes.gains.handed given (ap (λ d. given ++ d.placed) decided ∙ e) ∙ ap handed_on (placed_grow before p);
@@ -159,7 +141,14 @@ stopped_next octets before old mid decided failing number offset after count tak
 pub stopped_by : (octets : List ℕ) (answers : List RecordAt) (first : RawRecord) (left before : List RawRecord) (old mid new : Transfer) (failing : Failing) (offset : ℕ) → Pending octets answers before old mid → before ≡ first ∷ left → offset ≡ first.at.offset
     → IfFault (λ f. (questions : List QuestionAt) (placed : List Placed) → Among questions placed mid → AnswerFault first.octets questions placed first.at f) failing → IfFault (λ _. new ≡ mid) failing
     → (questions : List QuestionAt) (placed : List Placed) → Among questions placed old → IfNoMemory (TakesUpTo octets answers questions placed old new) (Err (failing, offset))
-stopped_by octets answers first left before old mid new (failings.Fault fault) offset p e there refuses same questions placed among = takes_up_to octets answers first left before old mid new fault offset p e same there refuses questions placed among
+stopped_by octets answers first left before old mid new (failings.Fault fault) offset p e there refuses same questions placed among = rw same (by p.rest (sym e ∙ p.left_is) p.so_far)
+  where
+    by : (rest : List RecordAt) → first ∷ left ≡ map (raw_at octets) rest → Reached octets answers rest old mid → TakesUpTo octets answers questions placed old mid (Some (fault, offset))
+    by [] h so_far = cc
+    by (a ∷ rest) h so_far =
+        let is : first ≡ raw_at octets a = cc in
+        let s = so_far questions placed among in
+        rw (there ∙ ap (λ (r : RawRecord). r.at.offset) is) (takes_last s (refused (subst (λ (r : RawRecord). AnswerFault r.octets questions (placed ++ s.here) r.at fault) is (refuses questions (placed ++ s.here) s.gains.among))))
 stopped_by octets answers first left before old mid new failings.Memory offset p e there refuses same questions placed among = tt
 
 -- a message after others, by what its answers give
@@ -184,17 +173,14 @@ asked_one (x ∷ []) q e = record { at = x; one = refl; same = cc }
 asked_one (x ∷ y ∷ questions) q e = cc
 
 -- names that are compared from their ends
-same_bool : (a b : Bool) → (a ≡ true → b ≡ true) → (b ≡ true → a ≡ true) → a ≡ b
-same_bool a b f g = grind arith
-
 pub reversed_same : (n m : List (List ℕ)) → pointwise (pointwise nat_eq) (reverse n) (reverse m) ≡ same_name n m
-reversed_same n m = same_bool _ _
-    (λ e. names_same n m (sym (reverse-reverse n) ∙ ap reverse (names_equal (reverse n) (reverse m) e) ∙ reverse-reverse m))
-    (λ e. names_same (reverse n) (reverse m) (ap reverse (names_equal n m e)))
+reversed_same n m = same_from_decides _ _
+    (λ e. sym (reverse-reverse n) ∙ ap reverse (names_equal (reverse n) (reverse m) e) ∙ reverse-reverse m, λ e. names_same (reverse n) (reverse m) (ap reverse e))
+    (names_equal n m, names_same n m)
 
 -- a test that tells whether records are equal
 pub told_same : (b : Bool) (r s : Record) → (b ≡ true ↔ r ≡ s) → b ≡ same_record r s
-told_same b r s tells = same_bool b (same_record r s) (λ e. records_same r s (tells.0 e)) (λ e. tells.1 (records_equal r s e))
+told_same b r s tells = same_from_decides b (same_record r s) tells (records_equal r s, records_same r s)
 
 pub ruleset message_stops = (stops_in_structure, stops_in_head, message_taken)
 

@@ -1,18 +1,9 @@
-use Rattle.zone_wire.proofs.Common.{Awaits, IsReadyFor, Name, Octets, OneString, U16, ap, arith, fault_answered, next_value, on_ok_weaker, refl, rules, subst}
-use Rattle.zone_wire.proofs.Fields.FieldReading.{fixed_read, fixed_sized, long_ready, long_same, part_put, sized_refused, unrefused}
+use Rattle.zone_wire.proofs.Common.{Awaits, IsReadyFor, Name, Octets, OneString, U16, ap, arith, next_value, on_ok_weaker, refl, subst}
+use Rattle.zone_wire.proofs.Fields.FieldReading.{fixed_read, long_ready, part_put, unrefused}
 use Rattle.zone_wire.proofs.data.push_field.Goals as goal
-
-pub returns-in_err-u32-in-Serial-clause-fault : goal.returns-in_err-u32-in-Serial-clause-fault
-returns-in_err-u32-in-Serial-clause-fault c = search (rules, fault_answered, long_same)
-
-pub returns-in_err-take-in-Octets-clause-fault : goal.returns-in_err-take-in-Octets-clause-fault
-returns-in_err-take-in-Octets-clause-fault c = search (rules, fault_answered, sized_refused, fixed_sized)
 
 pub returns-in_ok-name-in-Name-clause-fault : goal.returns-in_ok-name-in-Name-clause-fault
 returns-in_ok-name-in-Name-clause-fault c = unrefused c.args.cursor.now c.name.new.self c.args.builder.now Name _ (subst (IsReadyFor c.args.cursor.now c.args.builder.now) c.in-Name.is c.requires.next) tt tt (rw c.lend.ensures c.in_ok-name-in-Name.ensures.found) _ _ c.push.ensures.fault
-
-pub returns-in_ok-u32-in-Serial-clause-found : goal.returns-in_ok-u32-in-Serial-clause-found
-returns-in_ok-u32-in-Serial-clause-found c = search (rules, on_ok_weaker, part_put, long_same)
 
 pub returns-in_ok-u32-in-Serial-clause-fault : goal.returns-in_ok-u32-in-Serial-clause-fault
 returns-in_ok-u32-in-Serial-clause-fault c = unrefused c.args.cursor.now c.u32.new.self c.args.builder.now _ _ (long_ready c.args.cursor.now c.args.builder.now c.args.field c.in-Serial.is c.requires.next) tt tt c.in_ok-u32-in-Serial.ensures.found _ _ c.push-in-Serial.ensures.fault

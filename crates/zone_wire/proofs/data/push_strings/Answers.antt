@@ -1,10 +1,7 @@
-use Rattle.zone_wire.proofs.Common.{Err, List, ap, arith, false≢true, fault_answered, if_fault_passed, refl, ℕ}
+use Rattle.zone_wire.proofs.Common.{Err, List, ap, arith, false≢true, fault_answered, if_fault_passed, ℕ}
 use Rattle.zone_wire.proofs.Fields.FieldReading.{unrefused}
-use Rattle.zone_wire.proofs.Fields.DataReading.{next_string, string_put, string_past, all_put, string_missing, string_bad}
+use Rattle.zone_wire.proofs.Fields.DataReading.{next_string, string_past, string_bad}
 use Rattle.zone_wire.proofs.data.push_strings.Goals as goal
-
-pub returns-then-is_empty-clause-fault : goal.returns-then-is_empty-clause-fault
-returns-then-is_empty-clause-fault c = rw c.of.ensures (string_missing c.args.cursor.now (c.is_empty.ensures.0 c.if-is_empty.true))
 
 pub returns-in_err-string-clause-fault : goal.returns-in_err-string-clause-fault
 returns-in_err-string-clause-fault c =
@@ -16,14 +13,8 @@ loop-builder-smaller c =
     let past = string_past c.args.cursor.now c.loop-builder.cursor c.args.builder.now c.loop-builder.builder c.loop-builder.invariant c.string.new.self _ c.in_ok-string.ensures.found in
     omega (arith, past, c.string.new.self.order, ap (λ (d : List ℕ × ℕ). d.1) c.in_ok-string.ensures.found.same)
 
-pub loop-builder-preserved : goal.loop-builder-preserved
-loop-builder-preserved c = string_put c.args.cursor.now c.loop-builder.cursor c.args.builder.now c.loop-builder.builder c.loop-builder.invariant c.string.new.self _ c.in_ok-string.ensures.found c.push.new.self c.in_ok-push.ensures.ok
-
 pub returns-in_err-push-clause-fault : goal.returns-in_err-push-clause-fault
 returns-in_err-push-clause-fault c =
     let awaits = next_string c.args.cursor.now c.loop-builder.cursor c.args.builder.now c.loop-builder.builder c.loop-builder.invariant c.requires.next in
     if_fault_passed c.from_residual-in_err-push.result c.in_err-push.field-0.0 _ _ c.from_residual-in_err-push.ensures.1 (λ fault bad. bad)
     (unrefused c.loop-builder.cursor c.string.new.self c.loop-builder.builder _ _ awaits tt c.in_ok-string.ensures.short c.in_ok-string.ensures.found _ (Err c.in_err-push.field-0.0) c.in_err-push.ensures.fault)
-
-pub returns-clause-found : goal.returns-clause-found
-returns-clause-found c = all_put c.args.cursor.now c.loop-builder.cursor c.args.builder.now c.loop-builder.builder (grind arith) (c.loop-builder-test.ensures.0 refl) c.loop-builder.invariant

@@ -1,9 +1,6 @@
 use Rattle.zone_wire.proofs.Common.{IsRun, arith, subst, ℕ, ◌+◌, ◌≡◌}
-use Rattle.zone_wire.proofs.Names.RunLaws.{run_more, run_start}
+use Rattle.zone_wire.proofs.Names.RunLaws.{run_more}
 use Rattle.zone_wire.proofs.runs.run_end.Goals as goal
-
-pub loop-size-init : goal.loop-size-init
-loop-size-init c = run_start c.args.message.now c.args.start (omega arith)
 
 pub loop-size-preserved : goal.loop-size-preserved
 loop-size-preserved c =

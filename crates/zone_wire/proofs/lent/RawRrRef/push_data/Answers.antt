@@ -1,18 +1,10 @@
-use Rattle.zone_wire.proofs.Common.{IfErr-fault, fields_of, on_ok_weaker}
-use Rattle.zone_wire.proofs.Fields.DataReading.{data_short, laid_read, laid_refused, opaque_read, opaque_taken}
+use Rattle.zone_wire.proofs.Common.{IfErr-fault, fields_of}
+use Rattle.zone_wire.proofs.Fields.DataReading.{data_short, laid_refused, opaque_taken}
 use Rattle.zone_wire.proofs.lent.RawRrRef.push_data.Goals as goal
-
-pub returns-in-Some-clause-found : goal.returns-in-Some-clause-found
-returns-in-Some-clause-found c =
-    on_ok_weaker c.push_fields.result (λ puts. laid_read _ c.args.self.now c.self.view_is c.args.class c.args.kind c.requires.class c.requires.kind c.args.builder.now c.requires.new (fields_of c.in-Some.layout) c.push_fields.new.builder (rw c.requires.new at c.in-Some.ensures) puts) c.push_fields.ensures.found
 
 pub returns-in-Some-clause-fault : goal.returns-in-Some-clause-fault
 returns-in-Some-clause-fault c =
     IfErr-fault c.push_fields.result _ _ (λ fault bad. laid_refused _ c.args.self.now c.self.view_is c.args.class c.args.kind c.requires.class c.requires.kind c.args.builder.now c.requires.new (fields_of c.in-Some.layout) fault (rw c.requires.new at c.in-Some.ensures) bad) c.push_fields.ensures.fault
-
-pub returns-in-None-clause-found : goal.returns-in-None-clause-found
-returns-in-None-clause-found c =
-    on_ok_weaker c.push.result (λ pushed. opaque_read _ c.args.self.now c.self.view_is c.args.class c.args.kind c.requires.class c.requires.kind c.args.builder.now c.requires.new c.push.new.self (rw c.requires.new at c.in-None.ensures) pushed) c.push.ensures.ok
 
 pub returns-in-None-clause-fault : goal.returns-in-None-clause-fault
 returns-in-None-clause-fault c =

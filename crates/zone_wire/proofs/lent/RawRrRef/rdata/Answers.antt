@@ -1,5 +1,5 @@
 use Rattle.zone_wire.proofs.Common.{Data, ap, if_fault_passed}
-use Rattle.zone_wire.proofs.Records.RecordReading.{data_is_refused, data_is_read}
+use Rattle.zone_wire.proofs.Records.Answering.{data_is_refused, data_is_read}
 use Rattle.zone_wire.proofs.lent.RawRrRef.rdata.Goals as goal
 
 pub returns-in_err-push_data-clause-fault : goal.returns-in_err-push_data-clause-fault

@@ -1,17 +1,8 @@
-use Rattle.zone_wire.proofs.Common.{fault_answered, if_fault_passed, inl, inr, sym, ◌∙◌, ◌≡◌}
+use Rattle.zone_wire.proofs.Common.{inr, sym, ◌∙◌, ◌≡◌}
 use Rattle.zone_rdata.specs.Lent.{record_of}
 use Rattle.zone_wire.proofs.Transfers.Progress.{other_gains, stands_after, closed_after}
-use Rattle.zone_wire.proofs.Records.RecordReading.{own_data, stated}
+use Rattle.zone_wire.proofs.Records.Answering.{stated}
 use Rattle.zone_wire.proofs.transfer.Transfer.take_answer.Goals as goal
-
-pub returns-in_err-class-clause-fault : goal.returns-in_err-class-clause-fault
-returns-in_err-class-clause-fault c = fault_answered c.from_residual.result _ _ c.from_residual.ensures.1 (λ questions placed among. inl c.in_err-class.ensures.fault)
-
-pub returns-in_err-rdata-clause-fault : goal.returns-in_err-rdata-clause-fault
-returns-in_err-rdata-clause-fault c =
-    if_fault_passed c.from_residual-in_err-rdata.result c.in_err-rdata.field-0.0 _ _ c.from_residual-in_err-rdata.ensures.1
-    (λ fault bad. λ questions placed among. inl (own_data c.args.answer.now.octets c.args.answer.now.at fault c.in_ok-class.ensures.class.1 c.in_ok-class.ensures.kind.1 c.in_ok-class.ensures.readable bad))
-    c.in_err-rdata.ensures.fault
 
 pub returns-then-self-clause-fault : goal.returns-then-self-clause-fault
 returns-then-self-clause-fault c =
