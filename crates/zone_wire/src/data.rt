@@ -14,7 +14,7 @@ use zone_name::laws::are_octets;
 use zone_rdata::{Cause, Class, Field, Kind, Layout, NarrowFailing, Part, RdataBuilder, RdataRef};
 
 /// Pushes the strings that are left, each after its length: one at least.
-#[tactic(auto, using(crate::proofs::Fields::DataReading::string_missing, crate::proofs::Fields::DataReading::string_put, crate::proofs::Fields::DataReading::all_put))]
+#[tactic(auto, using(crate::proofs::Fields::DataReading::strings_pushed))]
 fn push_strings(cursor: &mut Cursor, builder: &mut RdataBuilder) -> Result<(), NarrowFailing>
     requires next { AwaitsStrings cursor.old builder.old }
     ensures found { OnOk result
@@ -31,7 +31,7 @@ fn push_strings(cursor: &mut Cursor, builder: &mut RdataBuilder) -> Result<(), N
 }
 
 /// Pushes the value of the field that is next. The room is for the labels of a name.
-#[tactic(auto, using(crate::proofs::Common::fault_answered, crate::proofs::Common::on_ok_weaker, crate::proofs::Fields::FieldReading::long_same, crate::proofs::Fields::FieldReading::sized_refused, crate::proofs::Fields::FieldReading::fixed_sized, crate::proofs::Fields::FieldReading::part_put, crate::proofs::Fields::FieldReading::fixed_read, crate::proofs::Fields::FieldReading::long_ready))]
+#[tactic(auto, using(crate::proofs::Fields::FieldReading::field_pushed))]
 fn push_field(
     field: Field,
     cursor: &mut Cursor,
@@ -84,7 +84,7 @@ fn push_fields(
 impl<'m, 'r> RawRrRef<'m, 'r> {
     /// Pushes the record's data: the values of its layout, or the octets as they are where there is
     /// none (RFC 3597 3, 4).
-    #[tactic(auto, using(crate::proofs::Fields::DataReading::laid_read, crate::proofs::Fields::DataReading::opaque_read, crate::proofs::Common::on_ok_weaker))]
+    #[tactic(auto, using(crate::proofs::Fields::DataReading::data_pushed))]
     fn push_data(
         &self,
         class: Class,

@@ -1,4 +1,6 @@
 //! Names in messages, zone transfers and the faults of both, computed from the definitions.
+#![tactic(auto, using(crate::proofs::Names::Computing::walk_computes), unfolding(crate::specs::Machine::Walk::standing_in, crate::specs::Machine::Walk::walk_by, crate::specs::Machine::Walk::walk, crate::specs::Machine::Walk::ending))]
+
 ghost use Rattle.std.specs.Prelude.{◌∷◌, ◌++◌, [], Some, None};
 ghost use Rattle.zone_wire.specs.Examples.{after_zeros, chain, labels_a, longest_walk, root_soa, soa_message, placed_soa, WalkEnds, answer_header, numbers, question_x, opening_x, server_x, record_of_class, record_x, closing_x, ends_with, message_with, small_body, small_message, first_message, second_message, soa_x, ns_x, srv_x, naptr_x, address_n, placed_at, small_records};
 ghost use Rattle.std.specs.List.{AllByRecursion};
@@ -23,7 +25,6 @@ pub fn the_root()
 {}
 
 /// Octets that run past the message, and a reserved form.
-#[tactic(auto, using(crate::proofs::Names::Computing::walk_computes), unfolding(crate::specs::Machine::Walk::standing_in, crate::specs::Machine::Walk::walk_by, crate::specs::Machine::Walk::walk, crate::specs::Machine::Walk::ending))]
 pub fn labels_that_are_none()
     ensures no_octet { WalkEnds [] 12 (Some ShortMessage) 0 }
     ensures label_too_long { WalkEnds (5 ∷ 97 ∷ []) 12 (Some ShortMessage) 1 }
@@ -34,7 +35,6 @@ pub fn labels_that_are_none()
 {}
 
 /// Pointers into the header, to themselves and back into their own run of labels.
-#[tactic(auto, using(crate::proofs::Names::Computing::walk_computes), unfolding(crate::specs::Machine::Walk::standing_in, crate::specs::Machine::Walk::walk_by, crate::specs::Machine::Walk::walk, crate::specs::Machine::Walk::ending))]
 pub fn pointers_that_lead_nowhere()
     ensures header { WalkEnds (192 ∷ 11 ∷ []) 12 (Some BadPointer) 1 }
     ensures itself { WalkEnds (192 ∷ 12 ∷ []) 12 (Some BadPointer) 1 }
@@ -42,7 +42,6 @@ pub fn pointers_that_lead_nowhere()
 {}
 
 /// A chain of 128 pointers down to the root is a name, and one of 129 is none.
-#[tactic(auto, using(crate::proofs::Names::Computing::walk_computes), unfolding(crate::specs::Machine::Walk::standing_in, crate::specs::Machine::Walk::walk_by, crate::specs::Machine::Walk::walk, crate::specs::Machine::Walk::ending))]
 pub fn chains_of_pointers()
     ensures most { WalkEnds (0 ∷ chain 128 13 12) 267 None 129 }
     ensures too_many { WalkEnds (0 ∷ chain 129 13 12) 269 (Some TooManyPointers) 129 }
@@ -57,7 +56,6 @@ pub fn a_transfer()
 
 /// The longest walk has 256 places: 127 labels, 128 pointers and the root. A label before those 127
 /// is one too many.
-#[tactic(auto, using(crate::proofs::Names::Computing::walk_computes), unfolding(crate::specs::Machine::Walk::standing_in, crate::specs::Machine::Walk::walk_by, crate::specs::Machine::Walk::walk, crate::specs::Machine::Walk::ending))]
 pub fn long_names()
     ensures longest { WalkEnds longest_walk 521 None 256 }
     ensures too_long { WalkEnds (longest_walk ++ 1 ∷ 97 ∷ 192 ∷ 12 ∷ []) 523
@@ -169,7 +167,6 @@ pub fn faults_of_answers()
 
 /// A place of a name with two faults has the first: an octet outside the message before a name of
 /// over 255 octets, and a bad target before the 129th pointer.
-#[tactic(auto, using(crate::proofs::Names::Computing::walk_computes), unfolding(crate::specs::Machine::Walk::standing_in, crate::specs::Machine::Walk::walk_by, crate::specs::Machine::Walk::walk, crate::specs::Machine::Walk::ending))]
 pub fn names_with_two_faults()
     ensures outside_and_too_long { WalkEnds (labels_a 127 ++ 1 ∷ []) 12 (Some ShortMessage) 128 }
     ensures bad_target_and_too_many { WalkEnds (chain 129 12 12) 268 (Some BadPointer) 129 }

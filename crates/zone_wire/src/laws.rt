@@ -69,7 +69,7 @@ pub fn a_walk_is_bounded()
 {}
 
 /// The walk of a name ends at the root, after as many places as the name has steps.
-#[tactic(auto, using(crate::proofs::Names::Walking::named_ending, crate::proofs::Names::Walking::named_steps))]
+#[tactic(auto, using(crate::proofs::Names::Walking::named_walks))]
 pub fn a_name_is_walked()
     ensures ending { (message : Octets) (offset : ℕ) (found : Found) (visits : List Visit)
         (ending : Option Fault)

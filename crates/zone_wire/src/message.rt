@@ -66,7 +66,7 @@ impl<'m> Message<'m> {
     }
 
     /// `parse`, with an answer of few octets.
-    #[tactic(auto, using(crate::proofs::Messages::MessageFaults::sections_fault, crate::proofs::Common::err_from_is_err_and))]
+    #[tactic(auto, using(crate::proofs::Messages::MessageFaults::message_refused))]
     pub(crate) fn read(octets: &'m [u8]) -> Result<Message<'m>, (Cause, usize)>
         ensures octets { IfOk result (λ m. m.octets ≡ octets.now) }
         ensures found { IfOk result (λ m. IsMessage octets.now m.sections) }

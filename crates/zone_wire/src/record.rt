@@ -62,7 +62,7 @@ impl<'m, 'r> RawRrRef<'m, 'r> {
     }
 
     /// `to_rr`, with an answer of few octets.
-    #[tactic(auto, using(crate::proofs::Records::Answering::own_data, crate::proofs::Common::if_fault_passed))]
+    #[tactic(auto, using(crate::proofs::Records::Answering::answer_refused))]
     pub(crate) fn read(&self, alloc: Global) -> Result<Rr, NarrowFailing>
         ensures found { IfOk result (AnswerStates self.now.octets self.now.at) }
         ensures only { (r : Record) → AnswerStates self.now.octets self.now.at r

@@ -188,7 +188,7 @@ impl Transfer {
 
     /// Takes the record that an answer states. The builder is for its data, and the room for the
     /// labels of names in that.
-    #[tactic(auto, using(crate::proofs::Records::Answering::own_data, crate::proofs::Common::fault_answered, crate::proofs::Common::if_fault_passed))]
+    #[tactic(auto, using(crate::proofs::Records::Answering::answer_not_taken))]
     fn take_answer(
         &mut self,
         answer: &RawRrRef<'_, '_>,

@@ -6,7 +6,7 @@ use Rattle.zone_set.proofs.Ordering.Neighbours.{AllAccepted-from_compatible}
 use Rattle.zone_set.specs.Builder as builder
 use Rattle.zone_set.specs.ZoneList as zone_list
 use Rattle.zone_set.proofs.Lists.Taking.{adds_each_more}
-use Rattle.zone_set.specs.ZoneList.{memory}
+use Rattle.zone_set.specs.ZoneList.{StopsSettling}
 
 -- entries that were settled are of the records that were listed
 pub IsSettledAs-sorted : (class : ℕ) (base : List (List ℕ)) (octets : List ℕ) (es fs : List Entry) (places : List Place) (held : List Record) → KeepsList class base octets es places → SameRecords (all_records class octets fs) (all_records class octets es) → AreCompatible (all_records class octets fs) → held ≡ all_records class octets fs → IsSettledAs (listed class octets es places) held
@@ -55,7 +55,7 @@ StopsSettling-offered placed taken others p held f parts whole added why = refus
   stands = refl;
 })
 
-pub ruleset settling_parts = (alone_kept, err_from_is_err_and, memory)
+pub ruleset settling_parts = (alone_kept, err_from_is_err_and, StopsSettling.memory)
 
 -- ---- records that are read back in the order in which they came
 

@@ -104,9 +104,6 @@ every_below p (suc n) all i less =
     ⊎_elim (every_below p n parts.1 i) (λ at. let e : n ≡ i = omega arith in subst (λ k. p k ≡ true) e parts.0) (cases_lt i n)
 
 -- of what stops an item, all that is no greater than a space but a line feed is a blank
-abbrev pub is_low_blank : ℕ → Bool
-is_low_blank c = not (stops_bare c) || (eqb c 10 || is_blank c)
-
 pub blank_stop : (rest stopped after : List ℕ) (stop len : ℕ) → len ≡ prefix_len goes_on rest → stopped ≡ drop len rest → stopped ≡ stop ∷ after → stop ≤ 32 → stop ≢ 10 → is_blank stop ≡ true
 blank_stop rest stopped after stop len is back first low other = grind (arith, prefix_stops rest len is, every_below, ne_eqb)
 

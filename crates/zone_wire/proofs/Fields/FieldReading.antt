@@ -1,5 +1,5 @@
 -- The values of fields are read in a message: parts of its octets, numbers, and names.
-use Rattle.zone_wire.proofs.Common.{BadRdata, Err, Fault, Field, FieldValue, Found, IsNameAt, List, Name, NameFault, Octets, Ok, OneString, Serial, U16, [], ap, arith, common_steps, cond-false, drop, drop-drop, drop-take, drop_more, field_at, fixed, get_or, length, lt-leb, name, name_before, octets_between, outcome, refl, sized_before, slice_index, string, string_at, sym, take, take-append-drop, take-take, take_all, u16_at, u16_value, u32_at, u32_value, value_at, walk, ℕ, ◌++◌, ◌+◌, ◌-◌, ◌<◌, ◌∙◌, ◌∷◌, ◌≡◌, ◌≤◌, Cursor, Reads, TakesOctets, next_value, Awaits, Built, FitsString, IsPushFault, IsReadyFor, Pushes, PutsValue, Some, Suits, Time, length-append, octets_push, parts_for, put_after, ◌⊎◌, rules, IfErr, IfErr-fault, IfFault, Failing, Result}
+use Rattle.zone_wire.proofs.Common.{on_ok_weaker, fault_answered, BadRdata, Err, Fault, Field, FieldValue, Found, IsNameAt, List, Name, NameFault, Octets, Ok, OneString, Serial, U16, [], ap, arith, common_steps, cond-false, drop, drop-drop, drop-take, drop_more, field_at, fixed, get_or, length, lt-leb, name, name_before, octets_between, outcome, refl, sized_before, slice_index, string, string_at, sym, take, take-append-drop, take-take, take_all, u16_at, u16_value, u32_at, u32_value, value_at, walk, ℕ, ◌++◌, ◌+◌, ◌-◌, ◌<◌, ◌∙◌, ◌∷◌, ◌≡◌, ◌≤◌, Cursor, Reads, TakesOctets, next_value, Awaits, Built, FitsString, IsPushFault, IsReadyFor, Pushes, PutsValue, Some, Suits, Time, length-append, octets_push, parts_for, put_after, ◌⊎◌, rules, IfErr, IfErr-fault, IfFault, Failing, Result}
 use Rattle.zone_wire.proofs.Fields.ReadFields.{name_reads}
 use Rattle.zone_wire.proofs.Names.Walking.{name_walks, name_refuses}
 
@@ -112,3 +112,5 @@ pub ruleset long_reads = (long_read, long_cut)
 pub ruleset two_reads = (two_read, two_cut)
 
 pub ruleset string_reads = (string_read, string_uncounted, string_cut)
+
+pub ruleset field_pushed = (fault_answered, on_ok_weaker, long_same, sized_refused, fixed_sized, part_put, fixed_read, long_ready)

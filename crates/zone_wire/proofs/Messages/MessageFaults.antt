@@ -1,5 +1,5 @@
 -- Octets are read as the sections of a message, and refused for its first fault.
-use Rattle.zone_wire.proofs.Common.{AreAt, Bool, Bytes, EitherIs, Err, Fault, FaultIn, Found, HasCounts, IsMessage, IsNameAt, IsPartAt, IsQuestionAt, IsRecordAt, IsResponse, IsVerdict, List, MatchResult, MessageFault, NoFault, None, Ok, Option, Outcome, PartFault, QuestionAt, RecordAt, Result, Sections, ShortMessage, Some, TrailingOctets, Unless, [], ancount_of, and_from, and_parts, and_then, ap, arcount_of, arith, at_offset, cond-false, cond_both, each_from, eq-eqb, eqb-false, eqb-true, fails, false, false_from_ne_true, header_fault, holds, if◌then◌else◌, inl, inr, inside, le-leb, le-ltb, leb-true, length, ltb-false, named, nat_le, ne_eqb, not, not-false, outcome, qdcount_of, question_at, question_by, record_at, record_by, refl, refused, sections_of, slice_index, subst, suc, sym, to_the_end, true, u16_at, unless_faulted, walk, zero, ℕ, ◌&&◌, ◌/◌, ◌==◌, ◌∙◌, ◌∷◌, ◌≡◌, ◌⊎◌}
+use Rattle.zone_wire.proofs.Common.{err_from_is_err_and, AreAt, Bool, Bytes, EitherIs, Err, Fault, FaultIn, Found, HasCounts, IsMessage, IsNameAt, IsPartAt, IsQuestionAt, IsRecordAt, IsResponse, IsVerdict, List, MatchResult, MessageFault, NoFault, None, Ok, Option, Outcome, PartFault, QuestionAt, RecordAt, Result, Sections, ShortMessage, Some, TrailingOctets, Unless, [], ancount_of, and_from, and_parts, and_then, ap, arcount_of, arith, at_offset, cond-false, cond_both, each_from, eq-eqb, eqb-false, eqb-true, fails, false, false_from_ne_true, header_fault, holds, if◌then◌else◌, inl, inr, inside, le-leb, le-ltb, leb-true, length, ltb-false, named, nat_le, ne_eqb, not, not-false, outcome, qdcount_of, question_at, question_by, record_at, record_by, refl, refused, sections_of, slice_index, subst, suc, sym, to_the_end, true, u16_at, unless_faulted, walk, zero, ℕ, ◌&&◌, ◌/◌, ◌==◌, ◌∙◌, ◌∷◌, ◌≡◌, ◌⊎◌}
 use Rattle.zone_wire.proofs.Conditions.{tells_more, unless_holds, unless_own}
 use Rattle.zone_wire.proofs.Messages.Sections.{not_other, one_message, part_reads, sections_read}
 use Rattle.zone_wire.proofs.Names.Walking.{name_refused, name_refuses, name_walks, walk_names}
@@ -127,3 +127,5 @@ module _ (octets : List ℕ) where
   -- octets are a message, or have a first fault
   pub message_verdict : Bytes octets → IsVerdict (IsMessage octets) (λ (e : Fault × ℕ). MessageFault octets e.0 e.1)
   message_verdict each = record { one_of = either (IsMessage octets) _ (sections_of octets) (message_judged.tells each); never_both = never_both; one_value = one_message octets; one_fault = one_fault }
+
+pub ruleset message_refused = (sections_fault, err_from_is_err_and)

@@ -357,3 +357,7 @@ module _ {message : List ℕ} {offset : ℕ} {spot : Spot} {labels : List (List 
 pub ruleset spots_show = (root_inside, label_shows, pointer_shows)
 
 pub ruleset name_says = (walk_names, name_walks, name_bounds, name_refused, refused_places, refused_few)
+
+pub ruleset named_walks = (named_ending, named_steps)
+
+pub ruleset walks_from_an_offset = (one_walk, some_walk)

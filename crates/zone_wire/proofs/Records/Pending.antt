@@ -2,8 +2,7 @@
 -- come.
 use Rattle.zone_wire.proofs.Common.{AreAt, AreRecordsAt, Found, HasRecordsFrom, IsMessage, IsNameAt, IsParsed, IsQuestionAt, IsRecordAt, List, QuestionAt, RecordAt, Sections, [], ap, arith, get_or, length, map, named, outcome, parsed, question_by, raw_at, raw_from, record_at, record_by, refl, sym, u16_at, walk, ℕ, ◌-◌, ◌<◌, ◌∙◌, ◌∷◌, ◌≡◌}
 use Rattle.zone_wire.proofs.Messages.Sections.{one_part, part_reads, each_reads}
-use Rattle.zone_wire.proofs.Names.Walking.{one_name, walk_names}
-use Rattle.zone_wire.proofs.Names.Walking.{name_walks}
+use Rattle.zone_wire.proofs.Names.Walking.{one_name, walk_names, name_walks}
 
 -- records that stand somewhere are read there
 pub stand_read : (octets : List ℕ) (count offset : ℕ) (s : HasRecordsFrom octets count offset) → raw_from octets count offset ≡ map (raw_at octets) s.records

@@ -1,12 +1,11 @@
 -- Answers and messages that are read one after another.
-use Rattle.zone_wire.proofs.Common.{AfterClosing, AgreeWith, Among, AnswerFault, AnswersGive, AskAfter, Bool, ComesAfter, Err, Failing, Fault, Gains, Hands, HasFirstId, HeadFault, IfFault, IfNoMemory, IsAfter, IsMessage, List, MatchOption, Message, MessageFault, None, Ok, Option, OrderFault, Placed, Question, QuestionAt, RawRecord, ReadsNext, Record, RecordAt, Result, Sections, Some, StatedMessage, StopsIn, Takes, TakesEach, TakesHead, TakesMessage, TakesMessageUpTo, TakesUpTo, TakesWhole, Transfer, [], ap, append-nil, append_assoc, asked, asked_in, fails, false, first_id, handed_on, holds, inl, is_some, length, length-append, map, nat_eq, no_more, placed_in, pointwise, raw_at, refl, reverse, reverse-reverse, same_name, same_record, states, subst, sym, true, zone_held, zone_with, ℕ, ⊤, ◌++◌, ◌+◌, ◌↔◌, ◌∙◌, ◌∷◌, ◌≡◌, common_steps, arith, rules}
+use Rattle.zone_wire.proofs.Common.{AfterClosing, AgreeWith, Among, AnswerFault, AnswersGive, AskAfter, Bool, ComesAfter, Err, Failing, Fault, Gains, Hands, HasFirstId, HeadFault, IfFault, IfNoMemory, IsAfter, IsMessage, List, MatchOption, Message, MessageFault, None, Ok, Option, OrderFault, Placed, Question, QuestionAt, RawRecord, ReadsNext, Record, RecordAt, Result, Sections, Some, StatedMessage, StopsIn, Takes, TakesEach, TakesHead, TakesMessage, TakesMessageUpTo, TakesUpTo, TakesWhole, Transfer, [], ap, append-nil, append_assoc, asked, asked_in, fails, false, first_id, handed_on, holds, inl, is_some, length, length-append, map, nat_eq, no_more, placed_in, pointwise, raw_at, refl, reverse, reverse-reverse, same_name, same_record, states, subst, sym, true, zone_held, zone_with, ℕ, ⊤, ◌++◌, ◌+◌, ◌↔◌, ◌∙◌, ◌∷◌, ◌≡◌, common_steps, arith, rules, on_ok_weaker}
 use Rattle.zone_rdata.specs.declared.fault.Failing.TheVariants as failings
 use Rattle.zone_rdata.specs.declared.queue.PendingRecords.{PendingRecords}
 use Rattle.zone_wire.specs.AnswerFault.{refused}
 use Rattle.std.proofs.lemmas.Bool.Decides.{same_from_decides}
 use Rattle.zone_wire.proofs.Records.Answering.{names_same, records_same, names_equal, records_equal}
 use Rattle.zone_wire.proofs.Transfers.GivenMessages.{asked_grow, placed_grow}
-use Rattle.zone_wire.proofs.Common.{on_ok_weaker}
 
 pub none_of : {X : Type 0} (o : Option X) → is_some o ≡ false → o ≡ None
 none_of o e = grind arith

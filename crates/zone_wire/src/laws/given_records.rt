@@ -17,7 +17,7 @@ pub fn what_is_given_was_given()
 
 /// After an answer of `next` a source stands for the record that it gave too, or for what it stood
 /// for where it gave none.
-#[tactic(auto, using(crate::proofs::Common::stands_record, crate::proofs::Common::stands_none, crate::proofs::Common::stands_stop))]
+#[tactic(auto, using(crate::proofs::Records::Answering::given_stands))]
 pub fn an_answer_is_given()
     ensures some { (old new : SourceState StreamKept) (r : Placed) (fed : List ℕ)
         (given : List Placed)

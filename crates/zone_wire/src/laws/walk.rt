@@ -6,7 +6,7 @@ ghost use Rattle.zone_wire.specs.Name.{IsNameAt};
 ghost use Rattle.zone_wire.specs.Walk.{Visit, IsWalk, NameFault};
 
 /// One list is the walk from an offset, and it ends in one way.
-#[tactic(auto, using(crate::proofs::Names::Walking::one_walk, crate::proofs::Names::Walking::some_walk))]
+#[tactic(auto, using(crate::proofs::Names::Walking::walks_from_an_offset))]
 pub fn one_walk_from_an_offset()
     ensures one { (message : Octets) (offset : ℕ) → AtMostOneIs
         (λ (walk : List Visit × Option Fault). IsWalk message offset walk.0 walk.1) }
