@@ -21,7 +21,7 @@ program_app =
     (command_app (codes "normalise") (codes "ORIGIN" ∷ [])
     ∷ command_app (codes "explain") (codes "ORIGIN" ∷ [])
     ∷ command_app (codes "compare")
-        (codes "ORIGIN1" ∷ codes "PATH1" ∷ codes "ORIGIN2" ∷ codes "PATH2" ∷ [])
+    (codes "ORIGIN1" ∷ codes "PATH1" ∷ codes "ORIGIN2" ∷ codes "PATH2" ∷ [])
     ∷ [])
 
 -- a command with the texts of its arguments, in their order

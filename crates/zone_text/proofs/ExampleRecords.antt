@@ -4,7 +4,6 @@ use Rattle.zone_rdata.specs.declared.field.Field.TheVariants.{Name, Serial, Time
 use Rattle.zone_rdata.specs.Field.{FieldValue, name, u32_value, fixed, octets_of}
 use Rattle.zone_rdata.specs.Fields.Address.{of_ipv4}
 use Rattle.zone_rdata.specs.Spelling.{RawItem, bare}
-use Rattle.zone_rdata.specs.Number as number
 use Rattle.zone_text.proofs.Entries.Lines.{contents_by}
 use Rattle.zone_text.proofs.Heads.ClassWords.{time_first}
 

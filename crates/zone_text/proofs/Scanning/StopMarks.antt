@@ -9,7 +9,7 @@ use Rattle.std.proofs.lemmas.Nat.{and_le_r}
 use Rattle.std.proofs.lemmas.Simd.{Each1-all, Each1-zip2, Each2-splat, SwzOk, SwzOk-from_below, chunk-fits, get_or-swz_l_below, length-swz_l, length-zip2, map-map, mask_l-mod, swz_l, zip2_of_maps, zip2_splat}
 use Rattle.std.specs.Int.Count.{count_trailing_zeros}
 use Rattle.std.specs.List.{prefix_len}
-use Rattle.std.specs.Prelude.{not, ◌||◌}
+use Rattle.std.specs.Prelude.{not}
 use Rattle.std.specs.Simd.Lanes.{mask_l}
 use lib.Lanes.{Each1, top, zip2}
 use lib.ListN.{replicate}

@@ -1,4 +1,4 @@
-use Rattle.zone_rdata.proofs.Common.{◌≡◌, ◌⊎◌, inl, inr, sym, subst, arith, IfOk-weaker, Field, u32_value, u16_value, fixed, BeginsWithNone, Serial, Time, IfErr-fault, bytes_each}
+use Rattle.zone_rdata.proofs.Common.{◌≡◌, ◌⊎◌, inl, inr, sym, subst, arith, IfOk-weaker, Field, u32_value, u16_value, fixed, Serial, Time, bytes_each}
 use Rattle.zone_rdata.proofs.Fields.FieldLaws.{SizedField, appends_sized}
 use Rattle.zone_rdata.proofs.Fields.Address as address
 use Rattle.zone_rdata.proofs.Fields.Number.{serial_sized, time_sized, u16_sized}
