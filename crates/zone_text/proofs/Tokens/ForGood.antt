@@ -59,7 +59,7 @@ after_units units other after rest each another none no_more e = grind (arith, u
 
 -- an escape that further octets can't mend isn't cut off
 lost_not_cut : (rest : List ℕ) → IsLostEscape rest → IsCutOff rest → ⊥
-lost_not_cut rest h h2 = search rules
+lost_not_cut rest lost cut = search rules
 
 pub stays_or_ends_alone : (rest : List ℕ) → StaysBroken rest → BreaksAtEnd rest → ⊥
 stays_or_ends_alone rest stays (nothing_left none) = stays_some rest stays none

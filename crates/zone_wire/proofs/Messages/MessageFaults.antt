@@ -27,7 +27,7 @@ pub record Judges {X E : Type 0} (Given : Type 0) (r : Result X E) (Is : X → T
   pub refuses : (e : E) → Bad e → r ≡ Err e
 
 pub either : {X E : Type 0} (Is : X → Type 0) (Bad : E → Type 0) (r : Result X E) → MatchResult r Is Bad → EitherIs Is Bad
-either Is Bad r h1 = grind arith
+either Is Bad r found = grind arith
 
 -- what begins with a name
 part_judges : {X : Type 0} (octets : List ℕ) (by : Found → X) (end_of : X → ℕ) (offset : ℕ) → Judges (Bytes octets) (inside octets by end_of (outcome octets (walk octets offset))) (IsPartAt octets by end_of offset) (PartFault octets (IsPartAt octets by end_of) offset)
@@ -71,7 +71,7 @@ module _ {X Y : Type 0} (octets : List ℕ) (read : ℕ → Result X Fault) (end
 
 -- a test of a header, and those after it
 test_judges : {Given Holds : Type 0} {IsAll : Sections → Type 0} {next : Fault × ℕ → Type 0} (test : Bool) (own : Fault) (rest : Option Fault) (r : Result Sections (Fault × ℕ)) → (Holds → test ≡ false) → (test ≡ false → Holds) → (Holds → Judges Given (unless_faulted rest r) IsAll next) → Judges Given (unless_faulted (if test then Some own else rest) r) IsAll (Unless Holds (own, 0) next)
-test_judges test own rest r h1 h2 h3 = grind (arith, fails, holds, tells_more, unless_holds, unless_own)
+test_judges test own rest r passed passes judged = grind (arith, fails, holds, tells_more, unless_holds, unless_own)
 
 -- a response to a query, by the first five bits of its third octet
 sixteen : (octets : List ℕ) → IsResponse octets → not (slice_index octets 2 / 8 == 16) ≡ false

@@ -20,7 +20,7 @@ label_fine : (message : List ℕ) (spot : Spot) (size : ℕ) (fault : Fault) →
 label_fine message spot size fault is room bad = grind arith
 
 pointer_fine : (message : List ℕ) (spot : Spot) (target : ℕ) (fault : Fault) → IsPointerAt message spot.offset spot.bound target → spot.pointers < 128 → FaultHere message spot.offset spot.bound spot.pointers spot.octets fault → ⊥
-pointer_fine message spot target fault h1 h2 h3 = grind (arith, unless_holds)
+pointer_fine message spot target fault pointer few bad = grind (arith, unless_holds)
 
 one_fault : (message : List ℕ) (spot : Spot) (f g : Fault) → FaultHere message spot.offset spot.bound spot.pointers spot.octets f → FaultHere message spot.offset spot.bound spot.pointers spot.octets g → f ≡ g
 one_fault message spot f g (inl is) (inl too) = unless_one (λ _ _. unless_one (λ _ _ none. absurd none)) is.2 too.2
