@@ -43,7 +43,7 @@ TurnIs origin before line tokens stated (turns.Renamed around) =
     SayAround origin before line tokens around (renamed around.number)
 TurnIs origin before line tokens stated (turns.InOctets around) =
     (said : SayAround origin before line tokens around
-        (in_octets around.number stated.octets.items))
+    (in_octets around.number stated.octets.items))
     × (stated.staying.items ≡ text (filter stays said.back))
 
 -- it is so for whatever tokens the octets are cut into, of whose items these are kept, where the
