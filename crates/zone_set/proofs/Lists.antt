@@ -2,5 +2,6 @@
 pub mod ListPush
 pub mod Listing
 pub mod Looking
+pub mod Offering
 pub mod Repeats
 pub mod Taking

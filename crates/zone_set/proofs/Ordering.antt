@@ -3,5 +3,6 @@ pub mod Between
 pub mod Interval
 pub mod Neighbours
 pub mod Octets
+pub mod Owners
 pub mod SetOrder
 pub mod Within

@@ -1,4 +1,5 @@
 -- Records as octets keep them, and where they stand.
+pub mod Heads
 pub mod Kept
 pub mod MessageLens
 pub mod PlaceSteps

@@ -77,7 +77,6 @@ impl ZoneBuilder {
     /// The first refusal of `add`, or the fault at the source's end; `Memory` where memory was
     /// refused or the source has failed. The records before it are held, and the one that was
     /// refused is dropped: the source has those after it left. Nothing else of the source changes.
-    #[tactic(auto, using(crate::proofs::Lists::Taking::taking))]
     pub fn take_all<S: RrSource>(&mut self, source: &mut S) -> Result<(), Stop>
         ensures taken { OnOk result
             (TakesAll self.old (S.pending source.old) self.new (S.pending source.new)) }

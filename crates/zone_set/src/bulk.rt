@@ -21,7 +21,6 @@ const AHEAD: usize = 16;
 /// Puts entries in order and drops those of equal records, where their records can stand together.
 /// Else they are of the same records, in any order. Where they are as many as before, none was
 /// dropped.
-#[tactic(auto, using(crate::proofs::Lists::Repeats::settling))]
 pub(crate) fn settle(class: Class, base_len: usize, octets: &[u8], entries: &mut Vec<Entry>) -> bool
     ghost base: { Labels }
     requires { AllByRecursion (IsEntry base class octets.now) entries.old.items }
@@ -60,7 +59,6 @@ fn sort_and_look(class: Class, base_len: usize, octets: &[u8], entries: &mut Vec
 
 /// `sort_and_look` for hints that have the digits before one. Entries of one hint are looked at as
 /// soon as they are sorted, since then the cache has their records.
-#[tactic(auto, using(crate::proofs::Lists::Looking::running))]
 fn sort_runs(class: Class, octets: &[u8], entries: &mut [Entry], front: usize) -> bool
     ghost base: { Labels }
     requires { AllByRecursion (IsEntry base class octets.now) entries.old }
@@ -106,7 +104,6 @@ fn stands(octets: &[u8], at: usize) -> bool {
 }
 
 /// Whether the entries before a place stand, as is told, and those from there on after them.
-#[tactic(auto, using(crate::proofs::Lists::Looking::standing_after))]
 fn stand_after(stand: bool, class: Class, octets: &[u8], entries: &[Entry], start: usize) -> bool
     ghost base: { Labels }
     requires each { AllByRecursion (IsEntry base class octets.now) entries.now }
@@ -123,7 +120,6 @@ fn stand_after(stand: bool, class: Class, octets: &[u8], entries: &[Entry], star
 }
 
 /// Drops each entry whose record is that of the one before it.
-#[tactic(auto, using(std::proofs::lemmas::Fn::dedup_same))]
 fn drop_repeats(entries: &mut Vec<Entry>, octets: &[u8])
     ensures { entries.new.items ≡ dedup (is_repeat octets.now) entries.old.items }
 {
@@ -151,7 +147,6 @@ pub(crate) fn are_neighbours(class: Class, octets: &[u8], entries: &[Entry]) -> 
 }
 
 /// Whether the record of one entry stands before that of another, and both may stand in one zone.
-#[tactic(auto, using(crate::proofs::Ordering::Between::is_less))]
 fn stand_next(class: Class, octets: &[u8], a: Entry, b: Entry) -> bool
     ghost base: { Labels }
     requires first { IsEntry base class octets.now a }

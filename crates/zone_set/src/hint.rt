@@ -23,7 +23,6 @@ const HIGHEST: u64 = 257 * 257 * 257 * 257 * 257 * 257;
 /// The hint of a record: a number that is never less than that of a record before it in canonical
 /// order. Most owners of a zone lie below its base, and these the first octets of the labels before
 /// the base's tell apart.
-#[tactic(auto, using(crate::specs::Machine::Hint::soa, crate::specs::Machine::Hint::before))]
 pub(crate) fn hint_of(base: &Name, owner: &NameRef<'_>, kind: Kind) -> u64
     ensures { IsHint base.now owner.now kind result }
 {
@@ -46,7 +45,6 @@ pub(crate) fn is_within(hint: u64) -> bool {
 
 /// The first seven digits of the key of the labels before the base's. `None`: the owner doesn't lie
 /// at or below the base.
-#[tactic(auto, using(crate::proofs::Hints::HintWalk::hint_walks))]
 fn front_key(base: &Name, owner: &NameRef<'_>) -> Option<u64>
     ensures within { IfSome result (λ key. (front : List (List ℕ))
         × (owner.now ≡ front ++ base.now) × (key ≡ first_digits 7 (owner_key front))) }
@@ -73,7 +71,6 @@ fn front_key(base: &Name, owner: &NameRef<'_>) -> Option<u64>
 }
 
 /// Puts a label and its end before the digits of a number.
-#[tactic(auto, using(crate::proofs::Hints::Digits::putting))]
 fn put_label(label: &[u8], after: u64) -> u64
     ensures { IsPutBefore (label_key label.now) after result }
 {
@@ -95,7 +92,6 @@ fn seven_octets(label: &[u8]) -> &[u8]
 }
 
 /// Puts a digit before those of a number, of which the last one goes.
-#[tactic(auto, using(crate::proofs::Hints::Digits::put_one))]
 fn put_digit(digit: u64, after: u64) -> u64
     requires { digit ≤ 256 }
     ensures { IsPutBefore (digit ∷ []) after result }

@@ -31,7 +31,6 @@ impl<'z> Model for KeptRecords<'z> {
 
 impl<'z> KeptRecords<'z> {
     /// The records of a class that octets keep.
-    #[tactic(auto, using(crate::proofs::Storage::Kept::kept_list))]
     pub(crate) fn new(class: Class, octets: &'z [u8]) -> KeptRecords<'z>
         requires { (records : List Record) × AreKept class octets.now records }
         ensures { (records : List Record) → AreKept class octets.now records → result ≡ records }
@@ -50,7 +49,6 @@ impl<'z> Iterator for KeptRecords<'z> {
 
     ghost remaining = { item_count (λ s. s) };
 
-    #[tactic(auto, using(crate::proofs::Storage::Kept::next_kept))]
     fn next(&mut self) -> Option<RrRef<'z>> {
         if self.octets.is_empty() {
             return None;

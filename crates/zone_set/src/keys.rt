@@ -23,7 +23,6 @@ pub(crate) fn sort_by_hint(entries: &mut [Entry])
 /// Sorts entries by their hints, and then each run of one hint. Those of one hint have the same
 /// digits before this one.
 #[cycle(keys)]
-#[tactic(auto, using(crate::proofs::Hints::Keyed::keyed_moves))]
 fn sort(entries: &mut [Entry], octets: &[u8], front: usize, digit: usize)
     ensures { IsPermutation entries.old entries.new }
 {
@@ -76,7 +75,6 @@ fn run_len(entries: &[Entry], hint: u64) -> usize
 /// seen later: of this it is known only that they are the same, and only how soon a zone is made
 /// rests on the keys.
 #[cycle(keys)]
-#[tactic(auto, using(crate::proofs::Hints::Keyed::keyed_moves))]
 pub(crate) fn sort_run(run: &mut [Entry], octets: &[u8], front: usize, hint: u64, digit: usize)
     requires { map (with_hint hint) run.old ≡ run.old }
     ensures { IsPermutation run.old run.new }
@@ -98,7 +96,6 @@ pub(crate) fn sort_run(run: &mut [Entry], octets: &[u8], front: usize, hint: u64
 }
 
 /// Gives each entry the key of its record.
-#[tactic(auto, using(crate::proofs::Hints::Keyed::hint_set))]
 fn set_keys(run: &mut [Entry], octets: &[u8], front: usize, digit: usize)
     ensures { map (λ e. e.at) run.new ≡ map (λ e. e.at) run.old }
 {
@@ -108,7 +105,6 @@ fn set_keys(run: &mut [Entry], octets: &[u8], front: usize, digit: usize)
 }
 
 /// Gives each entry one hint.
-#[tactic(auto, using(crate::proofs::Hints::Keyed::hint_set))]
 fn set_hint(run: &mut [Entry], hint: u64)
     ensures places { map (λ e. e.at) run.new ≡ map (λ e. e.at) run.old }
     ensures hints { map (with_hint hint) run.new ≡ run.new }

@@ -81,7 +81,6 @@ impl ZoneList {
     /// listed, or with the fault at the source's end; `Memory` where memory was refused or the
     /// source has failed. The records before it are listed, and the one that was refused is
     /// dropped: the source has those after it left. Nothing else of the source changes.
-    #[tactic(auto, using(crate::proofs::Lists::Taking::listing))]
     pub fn take_lent<S: LendingSource>(&mut self, source: &mut S) -> Result<(), Stop>
         ensures taken { OnOk result
             (ListsAll self.old (S.pending source.old) self.new (S.pending source.new)) }
@@ -139,7 +138,6 @@ impl ZoneList {
     /// # Errors
     ///
     /// `AllocError` where memory is refused. The list is unchanged.
-    #[tactic(auto, using(crate::proofs::Lists::ListPush::decided))]
     fn push(&mut self, rr: &RrRef<'_>, place: Place) -> Result<(), AllocError>
         requires whole { IsRecord (record_of rr.now) }
         requires class { AllByRecursion (λ p. p.rr.class ≡ rr.now.class) self.old }
@@ -179,7 +177,6 @@ impl ZoneList {
 }
 
 /// `ZoneList::settle` for the parts of a list.
-#[tactic(auto, using(crate::proofs::Lists::Listing::settling_parts))]
 fn settle_parts(
     alloc: Global,
     class: Class,

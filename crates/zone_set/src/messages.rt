@@ -13,7 +13,6 @@ use zone_rdata::{Class, RrRef};
 
 /// The octets that the records of entries take in messages, or 2^64 - 1 where they are more.
 /// `alone` tells whether the octets keep these records alone: then no record is looked at.
-#[tactic(auto, using(crate::proofs::Storage::MessageLens::alone_len))]
 pub(crate) fn len_of_entries(class: Class, octets: &[u8], entries: &[Entry], alone: bool) -> u64
     ghost base: { Labels }
     requires each { AllByRecursion (IsEntry base class octets.now) entries.now }
@@ -30,7 +29,6 @@ pub(crate) fn len_of_entries(class: Class, octets: &[u8], entries: &[Entry], alo
 }
 
 /// The octets that the records of entries take in messages, or 2^64 - 1 where they are more.
-#[tactic(auto, using(std::proofs::lemmas::List::nil_from_length))]
 fn counted(class: Class, octets: &[u8], entries: &[Entry]) -> u64
     ghost base: { Labels }
     requires { AllByRecursion (IsEntry base class octets.now) entries.now }

@@ -16,7 +16,6 @@ use zone_rdata::{Class, Stop};
 /// # Errors
 ///
 /// `Refused` at the first record that `add` refuses; `Memory`.
-#[tactic(auto, using(crate::proofs::Lists::Listing::offering))]
 pub(crate) fn offer(
     alloc: Global,
     class: Class,

@@ -8,7 +8,6 @@ use zone_name::laws::are_octets;
 
 /// How octets lie as unsigned strings, a missing octet first. Mostly the first eight tell, which
 /// are compared as numbers.
-#[tactic(auto, using(crate::proofs::Hints::Numbers::eights_then_one))]
 pub(crate) fn octet_order(a: &[u8], b: &[u8]) -> Ordering
     ensures { result ≡ slice_cmp nat_cmp a.now b.now }
 {
@@ -58,7 +57,6 @@ fn are_same_few(a: &[u8], b: &[u8]) -> bool
 }
 
 /// Whether octets are the same as far as there are eight in both.
-#[tactic(auto, using(crate::proofs::Ordering::Octets::eights_passed))]
 fn have_same_eights(a: &[u8], b: &[u8]) -> bool
     ensures same { IsTrue result → AreSameButForFew a.now b.now }
     ensures other { IsTrue result ⊎ (a.now ≢ b.now) }
@@ -79,7 +77,6 @@ fn have_same_eights(a: &[u8], b: &[u8]) -> bool
 
 /// `octet_order`, eight octets after eight. It is no part of a search, which is shorter without it.
 #[inline(never)]
-#[tactic(auto, using(crate::proofs::Hints::Numbers::after_eights))]
 fn order_after(a: &[u8], b: &[u8]) -> Ordering
     ensures { result ≡ slice_cmp nat_cmp a.now b.now }
 {

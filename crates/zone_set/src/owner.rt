@@ -20,7 +20,6 @@ pub(crate) fn owner_order(owner: &NameRef<'_>, other: &NameRef<'_>) -> Ordering
 /// How owners lie, if their first labels tell it. Those of one hint mostly are the same, or differ
 /// in their first label alone, or one has a label before those of the other.
 #[inline(always)]
-#[tactic(auto, using(crate::proofs::Ordering::Within::order_of_labels))]
 pub(crate) fn order_by_first_label(a: &[u8], b: &[u8]) -> Option<Ordering>
     ensures { IfSome result (λ order. order ≡ name_cmp (labels_of a.now) (labels_of b.now)) }
 {
@@ -38,7 +37,6 @@ pub(crate) fn order_by_first_label(a: &[u8], b: &[u8]) -> Option<Ordering>
 }
 
 /// The first label of each of two names, where the same labels follow both.
-#[tactic(auto, using(crate::proofs::Ordering::Octets::same_octets))]
 fn first_labels<'a, 'b>(a: &'a [u8], b: &'b [u8]) -> Option<(&'a [u8], &'b [u8])>
     ensures { IfSome result (λ labels. AreFirst a.now b.now labels.0.now labels.1.now) }
 {

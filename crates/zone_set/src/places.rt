@@ -50,7 +50,6 @@ impl Places {
     /// # Errors
     ///
     /// `AllocError` where memory is refused. The places are unchanged.
-    #[tactic(auto, using(crate::proofs::Storage::PlaceSteps::one_step_more))]
     pub(crate) fn push(&mut self, place: Place) -> Result<(), AllocError>
         ensures pushed { OnOk result (self.new ≡ self.old ++ place ∷ []) }
         ensures unchanged { OnErr result (self.new ≡ self.old) }

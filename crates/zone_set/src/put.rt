@@ -27,7 +27,6 @@ pub(crate) const LIMIT: usize = 512;
 ///
 /// `OtherTtl` where a record of its set has another TTL, or want of memory. The records are
 /// unchanged.
-#[tactic(auto, using(crate::proofs::Storage::Storing::records_stored))]
 pub(crate) fn put(
     entries: &mut SortedChunks<Entry, LIMIT>,
     octets: &mut Vec<u8>,

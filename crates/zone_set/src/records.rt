@@ -69,7 +69,6 @@ impl<'z> Iterator for Records<'z> {
     ghost remaining = { item_count (λ s. s) };
 
     #[inline(always)]
-    #[tactic(auto, using(crate::proofs::Storage::Storing::next_holds))]
     fn next(&mut self) -> Option<RrRef<'z>> {
         let (heads, entries) = (&mut self.heads, &mut self.entries);
         self.gone = read_ahead(self.class, self.octets, heads, self.gone, entries);

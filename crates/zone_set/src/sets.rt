@@ -104,7 +104,6 @@ impl Sets {
     }
 
     /// The records in canonical order.
-    #[tactic(auto, using(zone_rdata::proofs::Lists::each_weaker))]
     pub(crate) fn iter(&self) -> Records<'_>
         ensures records { result ≡ self.now }
         ensures compatible { AreCompatible self.now }
@@ -140,7 +139,6 @@ impl Sets {
     }
 
     /// The first owner that lies outside the zone of an apex.
-    #[tactic(auto, using(crate::proofs::Holding::Finishing::walks_start))]
     pub(crate) fn first_outside(&self, apex: &Name) -> Option<NameRef<'_>>
         ensures within { IfNone result (AllByRecursion (λ r. IsWithin r.owner apex.now) self.now) }
         ensures outside { IfSome result (λ owner. IsFirstOutside self.now apex.now owner) }
@@ -170,7 +168,6 @@ impl Sets {
     }
 
     /// The last record in canonical order.
-    #[tactic(auto, using(crate::proofs::Holding::Adding::last_linked))]
     fn last(&self) -> Option<RrRef<'_>>
         ensures { MatchOption result (self.now ≡ [])
             (λ r. (front : List Record) × (self.now ≡ front ++ record_of r ∷ [])) }
@@ -185,7 +182,6 @@ impl Sets {
     ///
     /// The first reason against it: class, then SOA, then TTL; or want of memory. Nothing is
     /// changed.
-    #[tactic(auto, using(crate::specs::Builder::class, crate::specs::Builder::soa))]
     pub(crate) fn add(&mut self, rr: &RrRef<'_>) -> Result<(), Refusal>
         requires { IsRecord (record_of rr.now) }
         ensures accepted { OnOk result (Accepts self.old (record_of rr.now)) }

@@ -1,5 +1,5 @@
 -- Numbers of first digits: their order, their bound, and digits that are put before others.
-use Rattle.zone_set.proofs.Common.{common_steps, ◌≡◌, ℕ, zero, suc, ◌+◌, ◌*◌, ◌/◌, ◌^◌, ◌<◌, ◌≤◌, List, [], ◌∷◌, ◌++◌, length, take, Ordering, Less, Equal, Greater, nat_cmp, refl, sym, ap, subst, arith, append_assoc, ranked, slice_cmp, ⊤, MatchOrdering, AreOctets, AllByRecursion-append, AllByRecursion-back, low_take, first_digits, AreDigits, IsPutBefore, label_key, append-nil, bytes_each, ◌∙◌}
+use Rattle.zone_set.proofs.Common.{common_steps, ◌≡◌, ℕ, zero, suc, ◌+◌, ◌*◌, ◌/◌, ◌^◌, ◌<◌, ◌≤◌, List, [], ◌∷◌, ◌++◌, length, take, Ordering, Less, Equal, Greater, nat_cmp, refl, sym, ap, subst, arith, append_assoc, ranked, slice_cmp, ⊤, MatchOrdering, AreOctets, AllByRecursion-append, AllByRecursion-back, low_take, first_digits, AreDigits, IsPutBefore, label_key}
 use Rattle.std.proofs.Math.Nat.{pow-suc, one-le-pow, mul-le-mul_right}
 use Rattle.zone_set.proofs.Hints.LabelKey.{label_low}
 
@@ -34,25 +34,11 @@ first_digits-less (suc n) (c ∷ x) (d ∷ y) low high h =
 pub put_one : (d after : ℕ) → IsPutBefore (d ∷ []) after (d * 288136807515649 + after / 257)
 put_one d after digits low is = grind arith
 
--- some last octets of a label were put, with the label's end, and these are left
-pub record ArePut (label left : List ℕ) (after whole : ℕ) : Type 0 where
-  pub done : List ℕ
-  pub parts : take 7 label ≡ left ++ done
-  pub puts : IsPutBefore (label_key done) after whole
-
-pub put_none : (label left : List ℕ) (after whole : ℕ) → left ≡ take 7 label → IsPutBefore (0 ∷ []) after whole → ArePut label left after whole
-put_none label left after whole is first = record { done = []; parts = sym is ∙ sym (append-nil left); puts = first }
-
 -- the octets of a label are put from the right
-pub put_next : (label left before : List ℕ) (c m n k : ℕ) → AreOctets label → ArePut label left m n → left ≡ before ++ c ∷ [] → IsPutBefore ((c + 1) ∷ []) n k → ArePut label before m k
-put_next label left before c m n k low put cut second = record {
-  done = c ∷ put.done;
-  parts = grind (arith, put.parts, append_assoc);
-  puts = grind (arith, put.parts, put.puts, label_low, AllByRecursion-back, low_take, append_assoc, AllByRecursion-append);
-}
+pub put_next : (label left done before : List ℕ) (c m n k : ℕ) → AreOctets label → take 7 label ≡ left ++ done → left ≡ before ++ c ∷ [] → IsPutBefore (label_key done) m n → IsPutBefore ((c + 1) ∷ []) n k
+    → (take 7 label ≡ before ++ c ∷ done) × IsPutBefore (label_key (c ∷ done)) m k
+put_next label left done before c m n k low so_far cut first second = grind (arith, label_low, AllByRecursion-back, low_take, append_assoc, AllByRecursion-append)
 
 -- all of them were put
-pub put_all : (label left : List ℕ) (m n : ℕ) → ArePut label left m n → length left ≡ 0 → IsPutBefore (label_key label) m n
-put_all label left m n put none = λ digits each is. grind (arith, common_steps, put.parts, put.puts)
-
-pub ruleset putting = (put_none, put_next, put_all, bytes_each)
+pub put_all : (label left done : List ℕ) (m n : ℕ) → take 7 label ≡ left ++ done → length left ≡ 0 → IsPutBefore (label_key done) m n → IsPutBefore (label_key label) m n
+put_all label left done m n so_far none put digits each is = grind (arith, common_steps)

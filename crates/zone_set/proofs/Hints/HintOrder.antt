@@ -1,15 +1,12 @@
 -- The hint has the order of records as far as it tells them apart.
-use Rattle.zone_set.proofs.Common.{AllByRecursion, AllByRecursion-front, AreDigits, Equal, Greater, IsHint, IsLabel, IsName, IsWithin, Less, List, Ordering, Record, [], after, ap, ap₂, arith, before, canonical_cmp, data_cmp, data_of, eq-eqb, first_digits, if◌then◌else◌, name_cmp, name_cmp-exact, name_cmp-total, nat_cmp, nat_cmp_total, ne_eqb, ordering_reverse, ordering_then, owner_key, refl, soa, subst, sym, then_assoc, tied_itself, within, ℕ, ◌*◌, ◌++◌, ◌<◌, ◌==◌, ◌^◌, ◌∙◌, ◌≡◌, ◌≢◌, ◌+◌}
+use Rattle.zone_set.proofs.Common.{AllByRecursion, AllByRecursion-front, AreDigits, Equal, Greater, IsHint, IsLabel, IsName, IsWithin, Less, List, Ordering, Record, [], after, ap, ap₂, arith, before, canonical_cmp, data_cmp, data_of, eq-eqb, first_digits, if◌then◌else◌, name_cmp, name_cmp-exact, name_cmp-total, nat_cmp, nat_cmp_total, ne_eqb, ordering_reverse, ordering_then, owner_key, refl, soa, subst, sym, then_assoc, tied_itself, within, ℕ, ◌*◌, ◌++◌, ◌<◌, ◌==◌, ◌^◌, ◌∙◌, ◌≡◌, ◌≢◌, ◌⊎◌}
 use Rattle.zone_set.proofs.Hints.Digits.{first_digits-bound, first_digits-less}
 use Rattle.zone_set.proofs.Hints.LabelKey.{owner_low, owners_embed}
 use Rattle.zone_set.proofs.Ordering.Within.{below_after, same_ending, within_between}
 
--- an owner below the base, and one that is neither below the base nor before it
-pub hint_within : (base owner : List (List ℕ)) (kind key hint : ℕ) → kind ≢ 6 → (front : List (List ℕ)) × (owner ≡ front ++ base) × (key ≡ first_digits 7 (owner_key front)) → hint ≡ 2 * 2 ^ 57 + key → IsHint base owner kind hint
-hint_within base owner kind key hint other (front, parts, is) hinted = within front other parts (hinted ∙ ap (λ k. 2 * 2 ^ 57 + k) is)
-
-pub hint_after : (base owner : List (List ℕ)) (kind hint : ℕ) → kind ≢ 6 → (IsWithin owner base → ⊥) → name_cmp owner base ≢ Less → hint ≡ 3 * 2 ^ 57 → IsHint base owner kind hint
-hint_after base owner kind hint other out late is = grind (arith, name_cmp-exact, after, name_cmp-total, ordering_reverse)
+-- an owner that is neither below the base nor before it
+pub hint_after : (base owner : List (List ℕ)) (kind : ℕ) (o : Ordering) → kind ≢ 6 → (IsWithin owner base → ⊥) → name_cmp owner base ≡ o → (o ≡ Equal) ⊎ (o ≡ Greater) → IsHint base owner kind (3 * 2 ^ 57)
+hint_after base owner kind o other out is apart = grind (arith, name_cmp-exact, after, name_cmp-total, ordering_reverse)
 
 less_through : (a b c : List (List ℕ)) → name_cmp a b ≡ Less → name_cmp b c ≢ Greater → name_cmp a c ≡ Less
 less_through a b c low high = grind (arith, name_cmp-total)

@@ -1,8 +1,7 @@
 -- A walk over the labels of an owner, until those that are left take no more octets than the base.
-use Rattle.zone_set.proofs.Common.{common_steps, ◌≡◌, ℕ, ◌+◌, ◌-◌, ◌^◌, ◌<◌, ◌≤◌, List, [], ◌∷◌, ◌++◌, length, drop, sym, ap, ◌∙◌, subst, arith, append_assoc, AllByRecursion, IsLabel, IsName, IsWithin, wire, labels_of-wire, AllByRecursion-front, AllByRecursion-back, first_digits, IsPutBefore, label_key, owner_key, true, false, bytes_eq-Decides}
+use Rattle.zone_set.proofs.Common.{common_steps, ◌≡◌, ℕ, ◌+◌, ◌-◌, ◌^◌, ◌<◌, ◌≤◌, List, [], ◌∷◌, ◌++◌, length, drop, sym, ap, ◌∙◌, subst, arith, append_assoc, AllByRecursion, IsLabel, IsName, IsWithin, wire, labels_of-wire, AllByRecursion-front, AllByRecursion-back, first_digits, IsPutBefore, label_key, owner_key}
 use Rattle.zone_set.proofs.Hints.Digits.{first_digits-bound}
 use Rattle.zone_set.proofs.Hints.LabelKey.{owner_low, owner_key-push}
-use Rattle.std.proofs.Common.{bytes_eq}
 
 length-wire : (label : List ℕ) (labels : List (List ℕ)) → length (wire (label ∷ labels)) ≡ length label + 1 + length (wire labels)
 length-wire label labels = grind (arith, common_steps)
@@ -39,15 +38,13 @@ module _ (base owner left : List (List ℕ)) (len key : ℕ) (walked : IsWalked 
   pub walked_short : IsName owner → key < 2 ^ 57
   walked_short name = let most = first_digits-bound 7 (owner_key walked.done) (owner_low walked.done (AllByRecursion-front IsLabel walked.done left (subst (AllByRecursion IsLabel) walked.parts name.each))) in omega (arith, most, walked.gathers)
 
-  module _ (octets ending last : List ℕ) (name : IsName owner) (base_name : IsName base) (whole : octets ≡ wire owner) (end : ending ≡ wire base) (is : last ≡ drop (length octets - len) octets) where
+  module _ (last : List ℕ) (name : IsName owner) (base_name : IsName base) (is : last ≡ drop (length (wire owner) - len) (wire owner)) where
     -- the last octets are those of the labels that are left
     last_octets : last ≡ wire left
     last_octets = grind (arith, common_steps)
 
-    pub walked_found : true ≡ bytes_eq last ending → (front : List (List ℕ)) × (owner ≡ front ++ base) × (key ≡ first_digits 7 (owner_key front))
-    walked_found same = grind (arith, AllByRecursion-back, labels_of-wire, last_octets, bytes_eq-Decides last ending)
+    pub walked_found : last ≡ wire base → (front : List (List ℕ)) × (owner ≡ front ++ base) × (key ≡ first_digits 7 (owner_key front))
+    walked_found same = grind (arith, AllByRecursion-back, labels_of-wire, last_octets)
 
-    pub walked_none : len ≤ length ending → false ≡ bytes_eq last ending → IsWithin owner base → ⊥
-    walked_none fits apart within = grind (arith, common_steps, bytes_eq-Decides last ending)
-
-pub ruleset hint_walks = (walked_start, walked_next)
+    pub walked_none : len ≤ length (wire base) → (last ≡ wire base → ⊥) → IsWithin owner base → ⊥
+    walked_none fits apart within = grind (arith, common_steps)

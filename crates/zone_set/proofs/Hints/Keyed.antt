@@ -1,7 +1,6 @@
 -- Entries whose hints were set aside while they were sorted.
-use Rattle.zone_set.proofs.Common.{arith, common_steps, Entry, IsPermutation, IsPermutation-map, List, [], ap, length, map, map-append, refl, subst, sym, take, take_more_set, with_hint, ℕ, ◌+◌, ◌<◌, ◌∙◌, ◌∷◌, ◌≡◌, IsPermutation-trans, length-drop, map-set_same}
+use Rattle.zone_set.proofs.Common.{arith, common_steps, Entry, IsPermutation, IsPermutation-map, List, [], ap, length, map, map-append, refl, subst, sym, take, take_more_set, with_hint, ℕ, ◌+◌, ◌<◌, ◌∙◌, ◌∷◌, ◌≡◌}
 use Rattle.std.proofs.Math.ListN.{set}
-use Rattle.zone_set.proofs.Lists.Looking.{run_moved}
 
 -- an entry from its parts
 abbrev pub of : ℕ → ℕ → Entry
@@ -12,8 +11,8 @@ of_places hint [] = refl
 of_places hint (e ∷ es) = ap (λ l. with_hint hint e ∷ l) (of_places hint es)
 
 -- what was keyed, moved and given the one hint that all had is what was moved
-pub permutation_keyed : (hint : ℕ) (old keyed moved new : List Entry) → map (with_hint hint) old ≡ old → map (λ e. e.at) keyed ≡ map (λ e. e.at) old → IsPermutation keyed moved → map (λ e. e.at) new ≡ map (λ e. e.at) moved → map (with_hint hint) new ≡ new → IsPermutation old new
-permutation_keyed hint old keyed moved new was places moves stay is =
+pub IsPermutation-keyed : (hint : ℕ) (old keyed moved new : List Entry) → map (with_hint hint) old ≡ old → map (λ e. e.at) keyed ≡ map (λ e. e.at) old → IsPermutation keyed moved → map (λ e. e.at) new ≡ map (λ e. e.at) moved → map (with_hint hint) new ≡ new → IsPermutation old new
+IsPermutation-keyed hint old keyed moved new was places moves stay is =
     let first : map (of hint) (map (λ e. e.at) keyed) ≡ old = ap (map (of hint)) places ∙ sym (of_places hint old) ∙ was in
     let second : map (of hint) (map (λ e. e.at) moved) ≡ new = ap (map (of hint)) (sym stay) ∙ sym (of_places hint new) ∙ is in
     subst (λ l. IsPermutation l new) first (subst (λ l. IsPermutation (map (of hint) (map (λ e. e.at) keyed)) l) second
@@ -23,7 +22,3 @@ permutation_keyed hint old keyed moved new was places moves stay is =
 pub with_hint_more : (hint : ℕ) (es : List Entry) (i at : ℕ) → i < length es → map (with_hint hint) (take i es) ≡ take i es → map (with_hint hint) (take (i + 1) (set es i (of hint at))) ≡ take (i + 1) (set es i (of hint at))
 with_hint_more hint es i at lt before =
     grind (arith, common_steps, take_more_set, with_hint, map-append)
-
-pub ruleset keyed_moves = (permutation_keyed, run_moved, IsPermutation-trans, length-drop)
-
-pub ruleset hint_set = (map-set_same, with_hint_more)

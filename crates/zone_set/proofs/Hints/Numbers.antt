@@ -1,5 +1,5 @@
 -- Octets that are compared as numbers.
-use Rattle.zone_set.proofs.Common.{AreLow, Equal, List, Ordering, [], ap, arith, common_steps, drop, from_be_bytes, length, length-take-le, low_take, nat_cmp, nat_cmp_is, ordering_then, refl, slice_cmp, subst, suc, sym, take, then_assoc, w64, zero, ℕ, ◌*◌, ◌+◌, ◌∙◌, ◌∷◌, ◌≡◌, low_drop, bytes_each}
+use Rattle.zone_set.proofs.Common.{AreLow, Equal, List, Ordering, [], ap, arith, common_steps, drop, from_be_bytes, length, length-take-le, low_take, nat_cmp, nat_cmp_is, ordering_then, refl, slice_cmp, subst, suc, sym, take, then_assoc, w64, zero, ℕ, ◌*◌, ◌+◌, ◌∙◌, ◌∷◌, ◌≡◌}
 
 -- the number of octets that go on from another
 abbrev number_on : ℕ → List ℕ → ℕ
@@ -28,6 +28,13 @@ number_of_eight x eight = grind (arith, common_steps)
 pub eights_compare : (x y : List ℕ) → length x ≡ 8 → length y ≡ 8 → AreLow x → AreLow y → nat_cmp (from_be_bytes w64 x) (from_be_bytes w64 y) ≡ slice_cmp nat_cmp x y
 eights_compare x y p q low high = grind (arith, nat_cmp, number_of_eight, numbers_compare)
 
+-- what follows numbers that differ decides nothing, and what follows equal numbers decides
+pub then_apart : (m n : ℕ) (p : Ordering) → (m ≡ n → ⊥) → ordering_then (nat_cmp m n) p ≡ nat_cmp m n
+then_apart m n p apart = grind arith
+
+pub then_same : (m n : ℕ) (p : Ordering) → m ≡ n → ordering_then (nat_cmp m n) p ≡ p
+then_same m n p same = ap (λ o. ordering_then o p) (sym (nat_cmp_is m n Equal same))
+
 -- the first eight octets of both, and what follows them
 pub eights_first : (m n : ℕ) (a b x y more others : List ℕ) → m ≡ from_be_bytes w64 x → n ≡ from_be_bytes w64 y → AreLow a → AreLow b → (x ≡ take 8 a) × (more ≡ drop 8 a) × (length more + 8 ≡ length a) → (y ≡ take 8 b) × (others ≡ drop 8 b) × (length others + 8 ≡ length b)
     → slice_cmp nat_cmp a b ≡ ordering_then (nat_cmp m n) (slice_cmp nat_cmp more others)
@@ -37,14 +44,3 @@ eights_first m n a b x y more others is_m is_n low high p q =
     let fronts = eights_compare x y long_x long_y (subst AreLow (sym p.0) (low_take 8 a low)) (subst AreLow (sym q.0) (low_take 8 b high)) in
     let cut = cut_compare 8 a b in
     rw (is_m, is_n, fronts, p.0, q.0, p.1, q.1) cut
-
--- so numbers that differ decide, and what follows equal ones does
-pub eights_decide : (m n : ℕ) (a b x y more others : List ℕ) → m ≡ from_be_bytes w64 x → n ≡ from_be_bytes w64 y → AreLow a → AreLow b → (x ≡ take 8 a) × (more ≡ drop 8 a) × (length more + 8 ≡ length a) → (y ≡ take 8 b) × (others ≡ drop 8 b) × (length others + 8 ≡ length b) → (m ≡ n → ⊥) → nat_cmp m n ≡ slice_cmp nat_cmp a b
-eights_decide m n a b x y more others is_m is_n low high p q apart = grind (arith, eights_first m n a b x y more others)
-
-pub then_same : (m n : ℕ) (p : Ordering) → m ≡ n → ordering_then (nat_cmp m n) p ≡ p
-then_same m n p same = ap (λ o. ordering_then o p) (sym (nat_cmp_is m n Equal same))
-
-pub ruleset after_eights = (eights_first, then_same, low_drop, bytes_each)
-
-pub ruleset eights_then_one = (eights_first, then_same)

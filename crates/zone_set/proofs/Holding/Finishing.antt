@@ -1,8 +1,7 @@
 -- From the records held to a zone, or to the least owner outside.
-use Rattle.zone_set.proofs.Common.{◌⊎◌, ◌≡◌, ◌≢◌, ℕ, Bool, false, ◌==◌, List, [], ◌∷◌, ◌++◌, Less, refl, sym, ◌∙◌, subst, inl, inr, ne_eqb, arith, AllByRecursion, IsWithin, name_cmp, Record, NoSoa, OutOfZone, Whole, Refused, name_cmp-exact, HasNoSoa, IsLeastOutside, StopsFinish, no_soa, outside, IsFirstOutside, canonical_cmp, Ascends, Has, AreCompatible, IsZone, IsTrue, true, ◌↔◌, false≢true}
+use Rattle.zone_set.proofs.Common.{◌⊎◌, ◌≡◌, ◌≢◌, ℕ, Bool, false, ◌==◌, if◌then◌else◌, List, [], ◌∷◌, ◌++◌, Ordering, Less, Equal, nat_cmp, refl, sym, ◌∙◌, subst, inl, inr, ne_eqb, arith, AllByRecursion, ordering_then, IsWithin, name_cmp, Record, NoSoa, OutOfZone, Whole, Refused, name_cmp-exact, HasNoSoa, IsLeastOutside, StopsFinish, no_soa, outside, IsFirstOutside, canonical_cmp, Ascends, Has, AreCompatible, IsZone}
 use Rattle.zone_set.proofs.Ordering.Between.{Has-append, Ascends-right}
 use Rattle.zone_set.proofs.Holding.Together.{each_Has, each_from_Has, soa_first}
-use Rattle.zone_set.proofs.Ordering.Interval.{by_owner}
 
 pub IsFirstOutside-later : (apex owner : List (List ℕ)) (r : Record) (others : List Record) → IsWithin r.owner apex → IsFirstOutside others apex owner → IsFirstOutside (r ∷ others) apex owner
 IsFirstOutside-later apex owner r others within found = record { before = r ∷ found.before; first = found.first; others = found.others; parts = cc found.parts; inside = (within, found.inside); named = found.named; outside = found.outside }
@@ -12,19 +11,23 @@ pub record Walks (whole : List Record) (apex : List (List ℕ)) (left : List Rec
   pub inside : AllByRecursion (λ r. IsWithin r.owner apex) left → AllByRecursion (λ r. IsWithin r.owner apex) whole
   pub outside : (owner : List (List ℕ)) → IsFirstOutside left apex owner → IsFirstOutside whole apex owner
 
-pub walks_start : (whole left : List Record) (apex : List (List ℕ)) → left ≡ whole → Walks whole apex left
-walks_start whole left apex is = grind arith
+pub Walks-start : (whole left : List Record) (apex : List (List ℕ)) → left ≡ whole → Walks whole apex left
+Walks-start whole left apex is = grind arith
 
-module _ (whole : List Record) (apex : List (List ℕ)) (left rest : List Record) (r : Record) (told : Bool) (walks : Walks whole apex left) (step : left ≡ r ∷ rest) (tells : IsTrue told ↔ IsWithin r.owner apex) where
-  pub walks_more : told ≡ true → Walks whole apex rest
-  walks_more within = grind (arith, IsFirstOutside-later)
+module _ (whole : List Record) (apex : List (List ℕ)) (left rest : List Record) (r : Record) (walks : Walks whole apex left) (step : left ≡ r ∷ rest) where
+  pub Walks-more : IsWithin r.owner apex → Walks whole apex rest
+  Walks-more within = grind (arith, IsFirstOutside-later)
 
-  pub walks_found : told ≡ false → IsFirstOutside whole apex r.owner
-  walks_found out = walks.outside r.owner (subst (λ rs. IsFirstOutside rs apex r.owner) (sym step) (record { before = []; first = r; others = rest; parts = refl; inside = tt; named = refl; outside = λ within. false≢true (sym out ∙ tells.1 within) }))
+  pub Walks-found : (IsWithin r.owner apex → ⊥) → IsFirstOutside whole apex r.owner
+  Walks-found out = walks.outside r.owner (subst (λ rs. IsFirstOutside rs apex r.owner) (sym step) (record { before = []; first = r; others = rest; parts = refl; inside = tt; named = refl; outside = out }))
 
 -- a name lies within itself
 pub IsWithin-itself : (apex : List (List ℕ)) → IsWithin apex apex
 IsWithin-itself apex = ([], refl)
+
+-- among records that are no SOA the order is first by owner
+by_owner : (b c : Bool) (o p : Ordering) → b ≡ false → c ≡ false → ordering_then (nat_cmp (if b then 0 else 1) (if c then 0 else 1)) (ordering_then o p) ≡ Less → o ≢ Equal → o ≡ Less
+by_owner b c o p no_b no_c less other = grind arith
 
 -- the first owner outside, after the SOA, is the least
 pub IsLeastOutside-from_first : (soa : Record) (others : List Record) (owner : List (List ℕ)) → AreCompatible (soa ∷ others) → soa.kind ≡ 6 → IsFirstOutside others soa.owner owner → IsLeastOutside (soa ∷ others) owner
@@ -49,8 +52,8 @@ IsLeastOutside-from_first soa others owner compatible is_soa found = record {
     after : (r : Record) → Has found.others r → (IsWithin r.owner soa.owner → ⊥) → r.owner ≢ owner → name_cmp found.first.owner r.owner ≡ Less
     after r has out other =
         let less : canonical_cmp found.first r ≡ Less = each_Has (λ s. canonical_cmp found.first s ≡ Less) found.others r (Ascends-right found.before (found.first ∷ found.others) (subst Ascends found.parts compatible.ascend.1)).0 has in
-        let order = by_owner (found.first.kind == 6) (r.kind == 6) (name_cmp found.first.owner r.owner) _ (not_soa found.first (inr (among found.first (inr (inl refl)))) first_out) less in
-        grind (arith, order, other, found.named, name_cmp-exact found.first.owner r.owner)
+        by_owner (found.first.kind == 6) (r.kind == 6) (name_cmp found.first.owner r.owner) _ (not_soa found.first (inr (among found.first (inr (inl refl)))) first_out) (not_soa r (inr (among r (inr (inr has)))) out) less
+        (λ e. other (sym (name_cmp-exact found.first.owner r.owner e) ∙ found.named))
 
     least : (r : Record) → Has (soa ∷ others) r → (IsWithin r.owner soa.owner → ⊥) → r.owner ≢ owner → name_cmp owner r.owner ≡ Less
     least r has out other = grind (arith, after r, found.parts, found.named, IsWithin-itself, Has-append found.before (found.first ∷ found.others) r, each_Has (λ s. IsWithin s.owner soa.owner) found.before r found.inside)
@@ -87,4 +90,4 @@ module _ (held : List Record) (first : Record) (others : List Record) (compatibl
 pub stops_with_none : (held : List Record) → held ≡ [] → StopsFinish held (Refused NoSoa Whole)
 stops_with_none held none = no_soa (subst HasNoSoa (sym none) (λ r has soa. has))
 
-pub ruleset finishing_stops = (stops_with_none, stops_outside, stops_without_soa)
+pub ruleset finishing_stops = (stops_with_none, stops_outside)

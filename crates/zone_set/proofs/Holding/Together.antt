@@ -1,5 +1,5 @@
 -- Records held: membership, sets, and what a refusal excludes.
-use Rattle.zone_set.proofs.Common.{◌≡◌, ◌≢◌, ℕ, Bool, true, if◌then◌else◌, List, [], ◌∷◌, Ordering, Less, nat_cmp, eqb-true, eq-eqb, refl, sym, ◌∙◌, subst, inl, inr, ⊎_elim, arith, nat_cmp_total, nat_list_cmp_total, exact_unsigned, exact_bytes, AllByRecursion, Record, Ascends, ordering_then, name_cmp-exact, name_cmp-total, AreTwoSoas, OtherSoa, Accepts, Has, InOneSet, AreCompatible, IsTrue, false, false≢true, ◌↔◌}
+use Rattle.zone_set.proofs.Common.{◌≡◌, ◌≢◌, ℕ, Bool, true, if◌then◌else◌, List, [], ◌∷◌, Ordering, Less, nat_cmp, eqb-true, eq-eqb, refl, sym, ◌∙◌, subst, inl, inr, ⊎_elim, arith, nat_cmp_total, nat_list_cmp_total, exact_unsigned, exact_bytes, AllByRecursion, Record, Ascends, ordering_then, name_cmp-exact, name_cmp-total, AreTwoSoas, OtherSoa, Accepts, Has, InOneSet, AreCompatible}
 use Rattle.zone_set.proofs.Ordering.SetOrder.{stable}
 
 -- what holds of each record, and of each that is held
@@ -48,9 +48,13 @@ pub soa_first : (first : Record) (others : List Record) → Ascends (first ∷ o
 soa_first first others ascend s has soa = grind (arith, eqb-true, soa_before, each_Has, eq-eqb)
 
 -- whether another SOA is held is told by the first record
-one_soa : (first : Record) (others : List Record) (r : Record) → AreCompatible (first ∷ others) → (AreTwoSoas first r → ⊥) → OtherSoa (first ∷ others) r → ⊥
-one_soa first others r compatible one (s, has, (soa_r, soa_s, other)) = grind (arith, soa_first)
+module _ (first : Record) (others : List Record) (compatible : AreCompatible (first ∷ others)) (r : Record) where
+  pub one_soa : (AreTwoSoas first r → ⊥) → OtherSoa (first ∷ others) r → ⊥
+  one_soa one (s, has, (soa_r, soa_s, other)) = grind (arith, soa_first)
 
-pub soa_told : (told : Bool) (held others : List Record) (first r : Record) → AreCompatible held → held ≡ first ∷ others → (IsTrue told ↔ AreTwoSoas first r) → IsTrue told ↔ OtherSoa held r
-soa_told true held others first r compatible is tells = ((λ yes. rw is (first, inl refl, tells.0 yes)), (λ other. refl))
-soa_told false held others first r compatible is tells = ((λ no. absurd (false≢true no)), (λ other. absurd (one_soa first others r (rw is at compatible) (λ two. false≢true (tells.1 two)) (rw is at other))))
+  pub other_soa : AreTwoSoas first r → OtherSoa (first ∷ others) r
+  other_soa two = (first, inl refl, two)
+
+-- a test that decides one thing decides another that stands and falls with it
+pub decides_other : {P Q : Type 0} (b : Bool) → (b ≡ true → P) → (P → b ≡ true) → (P → Q) → ((P → ⊥) → Q → ⊥) → (b ≡ true → Q) × (Q → b ≡ true)
+decides_other b holds tells more less = grind arith

@@ -86,15 +86,3 @@ module _ (r : Record) (whole : IsRecord r) {base : List (List ℕ)} {octets : Li
     });
     count = omega (arith, keeps.count, length-append ps (p ∷ []), length-append es (e ∷ []));
   }
-
--- a record that is pushed, after class and base were decided
-module _ (class now : ℕ) (r : Record) (base name : List (List ℕ)) (octets : List ℕ) (es : List Entry) (ps : List Place) (told : Bool) (held : List Placed) (e : Entry) (p : Place) (is : IsTrue told ↔ (es ≡ [])) (is_class : now ≡ (if told then r.class else class)) (is_base : name ≡ (if told then r.owner else base)) (are : listed class octets es ps ≡ held)
-    (all : AllByRecursion (λ p. p.rr.class ≡ r.class) held) (had : KeepsList class base octets es ps) (whole : IsRecord r) (at : e.at ≡ length octets) (hinted : IsHint name r.owner r.kind e.hint) where
-  after : Decided now r.class name octets es ps (listed class octets es ps)
-  after = decided class now r.class base name r.owner octets es ps told is is_class is_base (rw are all) had
-
-  pub pushed_keeps : KeepsList now name (octets ++ stored r) (es ++ e ∷ []) (ps ++ p ∷ [])
-  pushed_keeps = rw after.own (KeepsList-more r whole e p (rw after.own at after.keeps) at hinted)
-
-  pub pushed_listed : listed now (octets ++ stored r) (es ++ e ∷ []) (ps ++ p ∷ []) ≡ held ++ record { rr = r; place = p } ∷ []
-  pushed_listed = rw after.own (listed_more r whole e p (rw after.own at after.keeps) at hinted ∙ ap (λ l. l ++ record { rr = r; place = p } ∷ []) (rw after.own at after.same ∙ are))

@@ -1,14 +1,17 @@
 -- Entries that are looked at run after run, each run as soon as it is sorted.
-use Rattle.zone_set.proofs.Common.{common_steps, AllByRecursion, AllByRecursion-back, AllByRecursion-front, AreNeighbours, Entry, List, Record, [], ap, append-nil, arith, drop, length, length-drop, length-take-le, map, refl, subst, suc, sym, take, take-append-drop, take-length, zero, ℕ, ◌+◌, ◌-◌, ◌∙◌, ◌∷◌, ◌≡◌, ◌≤◌, IsPermutation, IsPermutation-put_mid, IsPermutation-refl, IsPermutation-trans, length_permutation}
-use Rattle.zone_set.proofs.Lists.Repeats.{each_moved}
-use borrow.Rule.Slice.PartMut.{mid_of, put_mid}
-use Rattle.std.proofs.lemmas.List.{take-take}
+use Rattle.zone_set.proofs.Common.{common_steps, AllByRecursion, AllByRecursion-back, AllByRecursion-front, AreNeighbours, Entry, List, Record, [], ap, append-nil, arith, drop, length, length-drop, length-take-le, map, refl, subst, suc, sym, take, take-append-drop, take-length, zero, ℕ, ◌+◌, ◌-◌, ◌∙◌, ◌∷◌, ◌≡◌, ◌≤◌}
 
 pub each_drop : {X : Type 0} (P : X → Type 0) (n : ℕ) (xs : List X) → AllByRecursion P xs → AllByRecursion P (drop n xs)
 each_drop P n xs each = AllByRecursion-back P (take n xs) (drop n xs) (rw take-append-drop each)
 
 pub each_take : {X : Type 0} (P : X → Type 0) (n : ℕ) (xs : List X) → AllByRecursion P xs → AllByRecursion P (take n xs)
 each_take P n xs each = AllByRecursion-front P (take n xs) (drop n xs) (rw take-append-drop each)
+
+pub take_front : {X : Type 0} (n m : ℕ) (xs : List X) → n ≤ m → take n (take m xs) ≡ take n xs
+take_front zero m xs low = refl
+take_front (suc n) zero xs low = absurd (omega (arith, low))
+take_front (suc n) (suc m) [] low = refl
+take_front (suc n) (suc m) (x ∷ xs) low = ap (λ l. x ∷ l) (take_front n m xs (omega (arith, low)))
 
 -- a place before the end of a front is within it
 pub within_front : {X : Type 0} (start len n : ℕ) (xs : List X) → n ≡ start + len → start + len ≤ length xs → start ≤ length (take n xs)
@@ -24,19 +27,11 @@ take_whole k xs none = grind (arith, common_steps, take_rest, append-nil, take-a
 
 module _ (f : Entry → Record) where
   -- those before a place and those from the last of these on
-  pub neighbours_joined : (n k : ℕ) (es : List Entry) → k ≡ n - 1 → AreNeighbours (map f (take n es)) → AreNeighbours (map f (drop k es)) → AreNeighbours (map f es)
-  neighbours_joined zero k es is before after = grind arith
-  neighbours_joined (suc zero) k es is before after = grind arith
-  neighbours_joined (suc (suc n)) k [] is before after = tt
-  neighbours_joined (suc (suc n)) k (d ∷ []) is before after = tt
-  neighbours_joined (suc (suc n)) k (d ∷ (e ∷ es)) is before after =
+  pub AreNeighbours-joined : (n k : ℕ) (es : List Entry) → k ≡ n - 1 → AreNeighbours (map f (take n es)) → AreNeighbours (map f (drop k es)) → AreNeighbours (map f es)
+  AreNeighbours-joined zero k es is before after = grind arith
+  AreNeighbours-joined (suc zero) k es is before after = grind arith
+  AreNeighbours-joined (suc (suc n)) k [] is before after = tt
+  AreNeighbours-joined (suc (suc n)) k (d ∷ []) is before after = tt
+  AreNeighbours-joined (suc (suc n)) k (d ∷ (e ∷ es)) is before after =
       let one : k ≡ suc n = omega (arith, is) in
-      (before.0, neighbours_joined (suc n) n (e ∷ es) (omega arith) before.1 (subst (λ j. AreNeighbours (map f (drop j (d ∷ (e ∷ es))))) one after))
-
--- a run of elements that was moved
-pub run_moved : {X : Type 0} (a k : ℕ) (xs ys : List X) → IsPermutation (mid_of a k xs) ys → (length (put_mid a k xs ys) ≡ length xs) × IsPermutation xs (put_mid a k xs ys)
-run_moved a k xs ys moves = let whole = IsPermutation-put_mid a k xs ys moves in (length_permutation _ _ whole, whole)
-
-pub ruleset running = (run_moved, each_moved, take_whole, IsPermutation-refl, IsPermutation-trans, length-drop)
-
-pub ruleset standing_after = (each_drop, take_rest, neighbours_joined)
+      (before.0, AreNeighbours-joined (suc n) n (e ∷ es) (omega arith) before.1 (subst (λ j. AreNeighbours (map f (drop j (d ∷ (e ∷ es))))) one after))

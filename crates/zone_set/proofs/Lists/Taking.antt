@@ -1,14 +1,14 @@
 -- Records taken from a source, one after another.
-use Rattle.zone_set.proofs.Common.{ClassMismatch, Err, List, ListsAll, Memory, None, Ok, Option, OtherClass, Placed, Record, Refused, Some, Stop, StopsListing, [], ap, append-nil, append_assoc, arith, false, refl, rules, subst, true, ◌++◌, ◌∙◌, ◌∷◌, ◌≡◌, err_from_is_err_and}
+use Rattle.zone_set.proofs.Common.{ClassMismatch, Err, List, ListsAll, Memory, None, Ok, Option, OtherClass, Placed, Record, Refused, Some, Stop, StopsListing, [], ap, append-nil, append_assoc, arith, false, refl, rules, subst, true, ◌++◌, ◌∙◌, ◌∷◌, ◌≡◌}
 use Rattle.zone_rdata.specs.RrSource.{Pending, answer_of, after, first_of, others}
 use Rattle.zone_set.specs.Refusal.{records_of}
 use Rattle.zone_set.specs.Builder.{Accepts, Adds, AddsEach, StopsAdd, leaves, StopsTaking, fault, failure, memory, refused as by_fault, ending as by_ending}
 use Rattle.zone_set.specs.ZoneList as zone_list
 
 -- one more at the end
-pub adds_each_more : (old mid : List Record) (taken : List Placed) (p : Placed) (new : List Record) → AddsEach old taken mid → Accepts mid p.rr → Adds mid p.rr new → AddsEach old (taken ++ p ∷ []) new
-adds_each_more old mid [] p new is fits adds = (new, subst (λ held. Accepts held p.rr) is fits, subst (λ held. Adds held p.rr new) is adds, refl)
-adds_each_more old mid (q ∷ taken) p new each fits adds = (each.0, each.1, each.2, adds_each_more each.0 mid taken p new each.3 fits adds)
+pub AddsEach-push : (old mid : List Record) (taken : List Placed) (p : Placed) (new : List Record) → AddsEach old taken mid → Accepts mid p.rr → Adds mid p.rr new → AddsEach old (taken ++ p ∷ []) new
+AddsEach-push old mid [] p new is fits adds = (new, subst (λ held. Accepts held p.rr) is fits, subst (λ held. Adds held p.rr new) is adds, refl)
+AddsEach-push old mid (q ∷ taken) p new each fits adds = (each.0, each.1, each.2, AddsEach-push each.0 mid taken p new each.3 fits adds)
 
 -- an answer with a record: it was the first
 first_parts : (pending : Pending) (p : Placed) → answer_of pending ≡ Ok (Some p) → (pending.failed ≡ false) × (pending.records ≡ p ∷ others pending.records)
@@ -26,12 +26,12 @@ pub record HasTaken (Took : List Placed → Type 0) (start left : Pending) : Typ
   pub none : start.failed ≡ true → taken ≡ []
   pub took : Took taken
 
-pub has_taken_none : (Took : List Placed → Type 0) (start : Pending) → Took [] → HasTaken Took start start
-has_taken_none Took start took = record { taken = []; parts = refl; rest = refl; none = λ fails. refl; took = took }
+pub HasTaken-start : (Took : List Placed → Type 0) (start : Pending) → Took [] → HasTaken Took start start
+HasTaken-start Took start took = record { taken = []; parts = refl; rest = refl; none = λ fails. refl; took = took }
 
 -- one more answer of the source, with a record
-pub has_taken_more : (Took : List Placed → Type 0) (start left : Pending) (had : HasTaken Took start left) (Now : List Placed → Type 0) (p : Placed) (next : Pending) → answer_of left ≡ Ok (Some p) → next ≡ after left → ((taken : List Placed) → Took taken → Now (taken ++ p ∷ [])) → HasTaken Now start next
-has_taken_more Took start left had Now p next answer is more = grind (arith, first_parts left p answer, append_assoc had.taken (p ∷ []) next.records, more had.taken had.took)
+pub HasTaken-more : (Took : List Placed → Type 0) (start left : Pending) (had : HasTaken Took start left) (Now : List Placed → Type 0) (p : Placed) (next : Pending) → answer_of left ≡ Ok (Some p) → next ≡ after left → ((taken : List Placed) → Took taken → Now (taken ++ p ∷ [])) → HasTaken Now start next
+HasTaken-more Took start left had Now p next answer is more = grind (arith, first_parts left p answer, append_assoc had.taken (p ∷ []) next.records, more had.taken had.took)
 
 -- ---- a builder that takes them, as the source has no more, or one is refused
 
@@ -62,7 +62,3 @@ module _ (old now : List Placed) (start left : Pending) (had : HasTaken (λ take
 
     pub StopsListing-memory : StopsListing old start new next Memory
     StopsListing-memory = grind (arith, first_parts left p answer, zone_list.memory)
-
-pub ruleset taking = (has_taken_none, has_taken_more, adds_each_more, StopsTaking-at_end, StopsTaking-refused)
-
-pub ruleset listing = (has_taken_none, has_taken_more, lent_first, listed_push, ListsAll-at_end, StopsListing-at_end, StopsListing-class, StopsListing-memory, append-nil, err_from_is_err_and)

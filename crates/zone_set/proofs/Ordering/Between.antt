@@ -62,11 +62,11 @@ pub copied : {X : Type 0} (P : Type 0) (Q : X → Type 0) (lent : Option (Bor X)
 copied P Q lent copy is found = grind arith
 
 module _ {X : Type 0} (P : X → Type 0) where
-  pub last_has : (before : List X) → AllByRecursion P before → (lent : Option (Bor X)) (last : Option X) → last ≡ option_copied lent → MatchOption lent (before ≡ []) (λ e. (front : List X) × (before ≡ front ++ e.now ∷ [])) → IfSome last P
-  last_has before each lent last is found = grind (arith, AllByRecursion-back)
+  pub last_has : (before : List X) → AllByRecursion P before → (last : Option X) → MatchOption last (before ≡ []) (λ e. (front : List X) × (before ≡ front ++ e ∷ [])) → IfSome last P
+  last_has before each last none = grind (arith, AllByRecursion-back)
 
-  pub first_has : (after : List X) → AllByRecursion P after → (lent : Option (Bor X)) (first : Option X) → first ≡ option_copied lent → MatchOption lent (after ≡ []) (λ e. (rest : List X) × (after ≡ e.now ∷ rest)) → IfSome first P
-  first_has after each lent first is found = grind arith
+  pub first_has : (after : List X) → AllByRecursion P after → (first : Option X) → MatchOption first (after ≡ []) (λ e. (rest : List X) × (after ≡ e ∷ rest)) → IfSome first P
+  first_has after each first none = grind arith
 
 -- an element on one side of a record's place: where a record on that side is of the record's set, so is its own
 pub record IsNeighbour {X : Type 0} (f : X → Record) (old : List Record) (side : List X) (r : Record) (e : X) : Type 0 where
@@ -87,30 +87,28 @@ module _ {X : Type 0} (f : X → Record) {old : List Record} (before after : Lis
       record { owner = sym own.owner ∙ one.owner; kind = sym own.kind ∙ one.kind; covers = sym own.covers ∙ one.covers }
   near s t has one (inr (low, high)) = flipped (between_sets r t s (sym (p.classes s has)) (flipped one) low (λ no. cc))
 
-  pub last_neighbour : (lent : Option (Bor X)) (last : Option X) → last ≡ option_copied lent → MatchOption lent (before ≡ []) (λ e. (front : List X) × (before ≡ front ++ e.now ∷ [])) → MatchOption last (before ≡ []) (IsNeighbour f old before r)
-  last_neighbour None last is none = rw is none
-  last_neighbour (Some lent) last is (front, whole) =
-      let e = lent.now in
+  pub last_neighbour : (last : Option X) → MatchOption last (before ≡ []) (λ e. (front : List X) × (before ≡ front ++ e ∷ [])) → MatchOption last (before ≡ []) (IsNeighbour f old before r)
+  last_neighbour None none = none
+  last_neighbour (Some e) (front, whole) =
       let cut : map f before ≡ map f front ++ f e ∷ [] = ap (map f) whole ∙ map-append f front (e ∷ []) in
       let ordered : Ascends (map f front ++ (f e ∷ map f after)) = rw (cut, append_assoc) at ascend in
       let high : AllByRecursion (λ t. canonical_cmp t r ≡ Less) (map f front ++ f e ∷ []) = rw cut at p.below in
-      rw is (record {
+      record {
         has = grind (arith, has_side (f e), cut, Has-append (map f front) (f e ∷ []) (f e));
         nearest = λ s has one. grind (arith, has_side s, near s (f e), cut, Has-append (map f front) (f e ∷ []) s, before_all (map f front) (f e ∷ map f after) s (f e), AllByRecursion-back (λ t. canonical_cmp t r ≡ Less) (map f front) (f e ∷ []));
-      })
+      }
 
-  pub first_neighbour : (lent : Option (Bor X)) (first : Option X) → first ≡ option_copied lent → MatchOption lent (after ≡ []) (λ e. (rest : List X) × (after ≡ e.now ∷ rest)) → MatchOption first (after ≡ []) (IsNeighbour f old after r)
-  first_neighbour None first is none = rw is none
-  first_neighbour (Some lent) first is (rest, whole) =
-      let e = lent.now in
+  pub first_neighbour : (first : Option X) → MatchOption first (after ≡ []) (λ e. (rest : List X) × (after ≡ e ∷ rest)) → MatchOption first (after ≡ []) (IsNeighbour f old after r)
+  first_neighbour None none = none
+  first_neighbour (Some e) (rest, whole) =
       let cut : map f after ≡ f e ∷ map f rest = ap (map f) whole in
       let later : Ascends (f e ∷ map f rest) = rw cut at (Ascends-right (map f before) (map f after) ascend) in
       let low : AllByRecursion (λ t. canonical_cmp r t ≢ Greater) (f e ∷ map f rest) = rw cut at p.above in
-      rw is (record {
+      record {
         has = grind (arith, has_side (f e));
         nearest = λ s has one.
             ⊎_elim (λ same. subst (λ t. InOneSet t r) same one) (λ late. near s (f e) (has_side s (inr has)) one (inr (low.0, each_Has (λ t. canonical_cmp (f e) t ≡ Less) (map f rest) s later.0 late))) (rw cut at has);
-      })
+      }
 
   -- what a neighbour tells, by a test
   module _ (side : List X) (side_old : (s : Record) → Has (map f side) s → Has old s) where
@@ -126,8 +124,8 @@ module _ {X : Type 0} (f : X → Record) {old : List Record} (before after : Lis
   after_first agree x has other = grind (arith, exact_canonical r x, p.classes x (has_side x (inr has)), has_side x (inr has), stable_number x.ttl r.ttl, one_set x r, each_Has (λ t. canonical_cmp r t ≢ Greater) (map f after) x p.above has)
 
   -- so the record goes between its neighbours
-  pub Ascends-between : (OtherTtl old r → ⊥) → (lent : Option (Bor X)) (first : Option X) → first ≡ option_copied lent → MatchOption lent (after ≡ []) (λ e. (rest : List X) × (after ≡ e.now ∷ rest)) → (b : Bool) → MatchOption first (b ≡ false) (λ e. IsTrue b ↔ (f e ≡ r)) → b ≡ false → Ascends (map f before ++ r ∷ map f after)
-  Ascends-between agree lent first same found b told is = Ascends-with (map f before) (map f after) r ascend p.below (all_after after first (copied (after ≡ []) (λ e. (rest : List X) × (after ≡ e ∷ rest)) lent first same found) told (after_first agree) (Ascends-right (map f before) (map f after) ascend))
+  pub Ascends-between : (OtherTtl old r → ⊥) → (first : Option X) → MatchOption first (after ≡ []) (λ e. (rest : List X) × (after ≡ e ∷ rest)) → (b : Bool) → MatchOption first (b ≡ false) (λ e. IsTrue b ↔ (f e ≡ r)) → b ≡ false → Ascends (map f before ++ r ∷ map f after)
+  Ascends-between agree first found b told is = Ascends-with (map f before) (map f after) r ascend p.below (all_after after first found told (after_first agree) (Ascends-right (map f before) (map f after) ascend))
     where
       all_after : (es : List X) (near : Option X) → MatchOption near (es ≡ []) (λ e. (rest : List X) × (es ≡ e ∷ rest)) → MatchOption near (b ≡ false) (λ e. IsTrue b ↔ (f e ≡ r)) → ((x : Record) → Has (map f es) x → x ≢ r → canonical_cmp r x ≡ Less) → Ascends (map f es) → AllByRecursion (λ s. canonical_cmp r s ≡ Less) (map f es)
       all_after [] near found told less later = tt

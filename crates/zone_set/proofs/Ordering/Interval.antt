@@ -7,7 +7,7 @@ use Rattle.zone_set.proofs.Holding.Together.{each_Has, each_from_Has, soa_first}
 use Rattle.zone_rdata.specs.declared.lent.RrRef.{RrRef}
 
 -- after a record that is no SOA there is none, and the order is by owner
-pub by_owner : (x y : Bool) (o p : Ordering) → x ≡ false → ordering_then (nat_cmp (if x then 0 else 1) (if y then 0 else 1)) (ordering_then o p) ≡ Less → (y ≡ false) × (o ≢ Greater)
+by_owner : (x y : Bool) (o p : Ordering) → x ≡ false → ordering_then (nat_cmp (if x then 0 else 1) (if y then 0 else 1)) (ordering_then o p) ≡ Less → (y ≡ false) × (o ≢ Greater)
 by_owner x y o p no_x less = grind arith
 
 -- the second record is no SOA

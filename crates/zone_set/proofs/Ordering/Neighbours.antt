@@ -1,5 +1,5 @@
 -- Records of which the neighbours show that all can stand together, and the list that they came in.
-use Rattle.zone_set.proofs.Common.{arith, AllAccepted, AllByRecursion, AreCompatible, AreNeighbours, Ascends, Greater, Has, InOneSet, IsRecord, Less, List, Placed, Record, SameRecords, [], ap, canonical_cmp, exact_bytes, inl, inr, map-append, nat_list_cmp_total, records_of, refl, sym, tied_itself, ℕ, ◌++◌, ◌∙◌, ◌∷◌, ◌≡◌, ◌≢◌}
+use Rattle.zone_set.proofs.Common.{arith, AllAccepted, AllByRecursion, AreCompatible, AreNeighbours, Ascends, Equal, Greater, Has, InOneSet, IsRecord, Less, List, Placed, Record, SameRecords, [], ap, canonical_cmp, exact_bytes, inl, inr, map-append, nat_list_cmp_total, records_of, refl, sym, tied_itself, ℕ, ◌++◌, ◌∙◌, ◌∷◌, ◌≡◌, ◌≢◌}
 use Rattle.zone_set.proofs.Ordering.Between.{Has-append, later_all}
 use Rattle.zone_set.proofs.Ordering.SetOrder.{between_sets, canonical_total, stable}
 use Rattle.zone_set.proofs.Holding.Together.{each_Has, flipped, soa_first, stable_number, stable_owner}
@@ -31,7 +31,10 @@ soa_alone r (t ∷ rs) classes next soa_r s has soa_s =
     let soa_t : t.kind ≡ 6 = soa_first t rs (Ascends-from_neighbours (t ∷ rs) next.1) s has soa_s in
     let owner : r.owner ≡ t.owner = stable_owner r.owner t.owner (λ other. next.0.one_soa (soa_t, soa_r, inl other)) in
     let octets : r.octets ≡ t.octets = stable nat_list_cmp_total exact_bytes r.octets t.octets (λ other. next.0.one_soa (soa_t, soa_r, inr other)) in
-    grind (arith, tied_itself canonical_total t, next.0.before, owner, octets, classes t (inr (inl refl)), soa_t)
+    let class : t.class ≡ r.class = classes t (inr (inl refl)) in
+    let tied : canonical_cmp t t ≡ Equal = tied_itself canonical_total t in
+    let less : canonical_cmp r t ≡ Less = next.0.before in
+    grind (arith, tied, less, owner, octets, class, soa_r, soa_t)
 
 -- so all can stand together
 pub AreCompatible-from_neighbours : (class : ℕ) (rs : List Record) → AllByRecursion IsRecord rs → AllByRecursion (λ r. r.class ≡ class) rs → AreNeighbours rs → AreCompatible rs

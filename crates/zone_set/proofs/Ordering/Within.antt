@@ -1,7 +1,5 @@
 -- In the order of names those at or below an apex stand together.
-use Rattle.zone_set.proofs.Common.{◌≡◌, ◌≢◌, ℕ, List, [], ◌∷◌, ◌++◌, reverse, Greater, refl, sym, ap, ap₂, ◌∙◌, arith, nat_list_cmp_total, tied_itself, reverse-reverse, reverse-append, exact_bytes, slice_cmp, IsWithin, label_cmp, name_cmp, AreFirst, IsFirst, Less, name_cmp-total, nat_cmp, ordering_reverse, then_equal, Equal, bytes_eq-Decides, Equal}
-use Rattle.zone_name.proofs.InOctets.Octets.{labels_of-cons}
-use Rattle.zone_name.specs.Name.{labels_of}
+use Rattle.zone_set.proofs.Common.{◌≡◌, ◌≢◌, ℕ, List, [], ◌∷◌, ◌++◌, reverse, Greater, refl, sym, ap, ap₂, ◌∙◌, arith, nat_list_cmp_total, tied_itself, reverse-reverse, reverse-append, exact_bytes, slice_cmp, IsWithin, label_cmp, name_cmp}
 
 -- labels that begin with others
 abbrev Begins : List (List ℕ) → List (List ℕ) → Type 0
@@ -30,29 +28,3 @@ same_ending base us vs = ap₂ (slice_cmp label_cmp) (reverse-append us base) (r
 -- a name is not after those below it
 pub below_after : (base front : List (List ℕ)) → name_cmp base (front ++ base) ≢ Greater
 below_after base front later = grind (arith, same_ending base [] front)
-
--- ---- owners whose first labels tell how they lie
-
--- the first label, and those that follow it
-labels_of-first : (octets label rest : List ℕ) → IsFirst octets label rest → labels_of octets ≡ label ∷ labels_of rest
-labels_of-first octets label rest first = grind (arith, labels_of-cons)
-
--- the same labels follow both, so the first tell the order
-pub order_of_first : (a b label other : List ℕ) → AreFirst a b label other → slice_cmp nat_cmp label other ≡ name_cmp (labels_of a) (labels_of b)
-order_of_first a b label other both =
-    let left = labels_of-first a label both.rest both.first in
-    let right = labels_of-first b other both.rest both.second in
-    sym (ap₂ name_cmp left right ∙ same_ending (labels_of both.rest) (label ∷ []) (other ∷ []) ∙ then_equal (label_cmp label other))
-
--- one label stands before those of the first
-pub order_of_child : (a b : List ℕ) → (label : List ℕ) × IsFirst b label a → name_cmp (labels_of a) (labels_of b) ≡ Less
-order_of_child a b (label, first) = ap (name_cmp (labels_of a)) (labels_of-first b label a first) ∙ same_ending (labels_of a) [] (label ∷ [])
-
--- and before those of the second
-pub order_of_parent : (a b : List ℕ) → (label : List ℕ) × IsFirst a label b → name_cmp (labels_of a) (labels_of b) ≡ Greater
-order_of_parent a b child = name_cmp-total.antisymm (labels_of a) (labels_of b) ∙ ap ordering_reverse (order_of_child b a child)
-
-pub same_order : (a : List ℕ) → name_cmp (labels_of a) (labels_of a) ≡ Equal
-same_order a = tied_itself name_cmp-total (labels_of a)
-
-pub ruleset order_of_labels = (bytes_eq-Decides, same_order, order_of_first, order_of_child, order_of_parent)

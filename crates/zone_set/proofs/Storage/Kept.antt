@@ -61,25 +61,17 @@ kept_are (suc n) class (c ∷ octets) records are few =
 pub kept_list : (class : ℕ) (octets : List ℕ) (records : List Record) → AreKept class octets records → kept_records class (length octets) octets ≡ records
 kept_list class octets records are = kept_are (length octets) class octets records are (omega arith)
 
+pub some_left : (octets : List ℕ) (told : Bool) → told ≡ (length octets == 0) → told ≡ false → octets ≡ [] → ⊥
+some_left octets told is some none = grind arith
+
 pub none_left : (octets : List ℕ) (told : Bool) → told ≡ (length octets == 0) → told ≡ true → (class : ℕ) → kept_records class (length octets) octets ≡ []
 none_left [] told is empty class = none_kept 0 class
 none_left (c ∷ octets) told is empty class = absurd (omega (arith, eqb-true (length (c ∷ octets)) 0 (sym is ∙ empty)))
 
--- the first of those that are left, and those after it
-module _ (class : ℕ) (octets : List ℕ) (records : List Record) (told : Bool) (are : AreKept class octets records) (tells : told ≡ (length octets == 0)) (some : told ≡ false) where
-  first : FirstKept class octets records
-  first = first_kept class octets records are (λ none. grind (arith, none))
-
-  pub first_stands : IsStored class octets 0
-  first_stands = first.stands
-
-  pub first_whole : IsRecord (record_from class octets 0)
-  first_whole = first.whole
-
-  pub kept_after : (rest : List ℕ) → rest ≡ drop (length (span octets 0)) octets → (left : List Record) × AreKept class rest left
-  kept_after rest left = (first.others, rw left first.rest)
-
-  pub kept_steps : (rest : List ℕ) → rest ≡ drop (length (span octets 0)) octets → kept_records class (length octets) octets ≡ record_from class octets 0 ∷ kept_records class (length rest) rest
-  kept_steps rest left = kept_list class octets records are ∙ first.parts ∙ ap (λ rs. record_from class octets 0 ∷ rs) (sym (kept_list class rest first.others (rw left first.rest)))
-
-pub ruleset next_kept = (none_left, first_stands, first_whole, kept_after, kept_steps)
+-- the first was passed, and these octets are left
+pub passed : (class : ℕ) (octets rest : List ℕ) (records : List Record) (r : Record) → AreKept class octets records → (octets ≡ [] → ⊥) → r ≡ record_from class octets 0 → rest ≡ drop (length (span octets 0)) octets
+    → (left : List Record) × AreKept class rest left × (kept_records class (length octets) octets ≡ r ∷ kept_records class (length rest) rest)
+passed class octets rest records r are some is left =
+    let f = first_kept class octets records are some in
+    let still : AreKept class rest f.others = subst (λ l. AreKept class l f.others) (sym left) f.rest in
+    (f.others, still, kept_list class octets records are ∙ f.parts ∙ ap₂ (λ s rs. s ∷ rs) (sym is) (sym (kept_list class rest f.others still)))

@@ -9,28 +9,24 @@ more_far last step (p ∷ far) more some = grind arith
 
 -- one more step from where the others lead
 module _ (end place : Place) (step : ℕ) (more : List Place) (leads : next_place end step more ≡ place) where
-  stepped_on : (last : Place) (steps : List ℕ) (far : List Place) → LeadTo last steps far end → stepped last (steps ++ step ∷ []) (far ++ more) ≡ stepped last steps far ++ place ∷ []
-  stepped_on last [] far lead = grind arith
-  stepped_on last (s ∷ steps) far (some, rest) = grind (arith, more_far last s far more some, stepped_on (next_place last s far) steps (far_left s far) rest)
+  pub stepped_more : (last : Place) (steps : List ℕ) (far : List Place) → LeadTo last steps far end → stepped last (steps ++ step ∷ []) (far ++ more) ≡ stepped last steps far ++ place ∷ []
+  stepped_more last [] far lead = grind arith
+  stepped_more last (s ∷ steps) far (some, rest) = grind (arith, more_far last s far more some, stepped_more (next_place last s far) steps (far_left s far) rest)
 
-  lead_on : (some : step ≡ 255 → more ≢ []) → far_left step more ≡ [] → (last : Place) (steps : List ℕ) (far : List Place) → LeadTo last steps far end → LeadTo last (steps ++ step ∷ []) (far ++ more) place
-  lead_on here left last [] far (none, is) = rw (none, is) (here, (left, leads))
-  lead_on here left last (s ∷ steps) far (some, rest) =
+  pub LeadTo-more : (some : step ≡ 255 → more ≢ []) → far_left step more ≡ [] → (last : Place) (steps : List ℕ) (far : List Place) → LeadTo last steps far end → LeadTo last (steps ++ step ∷ []) (far ++ more) place
+  LeadTo-more here left last [] far (none, is) = rw (none, is) (here, (left, leads))
+  LeadTo-more here left last (s ∷ steps) far (some, rest) =
       let both = more_far last s far more some in
-      ((λ is no. grind (arith, some is)), (rw (both.0, both.1) (lead_on here left (next_place last s far) steps (far_left s far) rest)))
+      ((λ is no. grind (arith, some is)), (rw (both.0, both.1) (LeadTo-more here left (next_place last s far) steps (far_left s far) rest)))
 
-module _ (end place : Place) (far : List Place) (step : ℕ) (new : List Place) (last : Place) (steps : List ℕ) (one : IsStepTo end place far step new) (lead : LeadTo last steps far end) where
-  -- the far places that a step adds
-  adds : (more : List Place) × (new ≡ far ++ more) × (next_place end step more ≡ place) × (step ≡ 255 → more ≢ []) × (far_left step more ≡ [])
-  adds = elim one [
-    | near short leads same ↦ ([], grind (arith, append-nil), grind arith, λ is. absurd (omega arith), grind arith)
-    | whole is same ↦ (place ∷ [], same, grind arith, λ e none. cc, grind arith)
-  ]
+-- what a step that was found tells
+pub record Found (end place : Place) (far : List Place) (step : ℕ) (new : List Place) : Type 0 where
+  pub more : List Place
+  pub is : new ≡ far ++ more
+  pub leads : next_place end step more ≡ place
+  pub some : step ≡ 255 → more ≢ []
+  pub left : far_left step more ≡ []
 
-  pub stepped_more : stepped last (steps ++ step ∷ []) new ≡ stepped last steps far ++ place ∷ []
-  stepped_more = rw adds.1 (stepped_on end place step adds.0 adds.2 last steps far lead)
-
-  pub lead_more : LeadTo last (steps ++ step ∷ []) new place
-  lead_more = rw adds.1 (lead_on end place step adds.0 adds.2 adds.3 adds.4 last steps far lead)
-
-pub ruleset one_step_more = (stepped_more, lead_more)
+pub found : (end place : Place) (far : List Place) (step : ℕ) (new : List Place) → IsStepTo end place far step new → Found end place far step new
+found end place far step new (near short leads same) = record { more = []; is = grind (arith, append-nil); leads = grind arith; some = λ is. absurd (omega arith); left = grind arith }
+found end place far step new (whole is same) = record { more = place ∷ []; is = same; leads = grind arith; some = λ e none. cc; left = grind arith }

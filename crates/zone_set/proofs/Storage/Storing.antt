@@ -1,7 +1,6 @@
 -- A record is read back from the octets that keep it, and stays where more are appended.
-use Rattle.zone_set.proofs.Common.{AllByRecursion, AllByRecursion-append, AllByRecursion-back, AllByRecursion-front, map, Entry, IsEntry, IsHint, IsLinked, IsRecord, IsStored, List, Record, [], all_records, ap, append-nil, append_assoc, arith, common_steps, drop, drop-append-le, drop_at, entry_record, from_be_bytes-to_be_bytes_2, from_be_bytes-to_be_bytes_4, labels_of-wire, length, read_record, record_from, refl, stored, sym, take_at, ℕ, ◌++◌, ◌<◌, ◌∙◌, ◌∷◌, ◌≡◌, All-from_recursion, nat_lt, slice_index_or, true}
+use Rattle.zone_set.proofs.Common.{AllByRecursion, AllByRecursion-append, AllByRecursion-back, AllByRecursion-front, map, Entry, IsEntry, IsHint, IsLinked, IsRecord, IsStored, List, Record, [], all_records, ap, append-nil, append_assoc, arith, common_steps, drop, drop-append-le, drop_at, entry_record, from_be_bytes-to_be_bytes_2, from_be_bytes-to_be_bytes_4, labels_of-wire, length, read_record, record_from, refl, stored, sym, take_at, ℕ, ◌++◌, ◌<◌, ◌∙◌, ◌∷◌, ◌≡◌}
 use Rattle.zone_rdata.proofs.Lists.{each_weaker}
-use Rattle.std.proofs.lemmas.Bool.{ltb-true}
 
 -- the record whose octets these begin with
 pub read_stored : (r : Record) (after : List ℕ) → IsRecord r → read_record r.class (stored r ++ after) ≡ r
@@ -53,10 +52,3 @@ all_with P before after x each one = grind (arith, AllByRecursion-front, AllByRe
 pub each_map : {X Y : Type 0} {P : X → Type 0} (Q : Y → Type 0) (f : X → Y) → ((x : X) → P x → Q (f x)) → (xs : List X) → AllByRecursion P xs → AllByRecursion Q (map f xs)
 each_map Q f tells [] each = tt
 each_map Q f tells (x ∷ xs) each = (tells x each.0, each_map Q f tells xs each.1)
-
--- what holds of each element holds of the next one, as a slice lends it
-module _ {X : Type 0} (xs lent : List X) (same : lent ≡ xs) (k : ℕ) (x : X) (within : true ≡ nat_lt k (length lent)) (is : x ≡ slice_index_or lent k x) where
-  pub next_holds : (P : X → Type 0) → AllByRecursion P xs → P x
-  next_holds P each = rw (is, same) (All-from_recursion P xs each k x (rw same at (ltb-true _ _ (sym within))))
-
-pub ruleset records_stored = (each_kept, records_kept)

@@ -1,4 +1,4 @@
-use Rattle.zone_set.proofs.Common.{sym, ◌∙◌, false≢true, record_of}
+use Rattle.zone_set.proofs.Common.{sym, ◌∙◌, inr, false≢true, record_of}
 use Rattle.zone_set.proofs.Lists.ListPush.{other_listed, same_listed}
 use Rattle.zone_set.proofs.list.ZoneList.has_other_class.Goals as goal
 
@@ -11,3 +11,7 @@ pub returns-clause-same : goal.returns-clause-same
 returns-clause-same c =
     let l = c.self.inside in
     rw (← c.self.view_is) (same_listed c.ne.result l.class c.args.rr.now.class l.octets.items l.entries.items l.places c.ne.ensures)
+
+pub returns-then-has_none-clause-same : goal.returns-then-has_none-clause-same
+returns-then-has_none-clause-same c =
+    rw (← c.self.view_is, sym c.as_slice.ensures.value ∙ c.has_none.ensures.0 c.if-has_none.true) (inr tt)

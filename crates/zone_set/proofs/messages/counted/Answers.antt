@@ -1,0 +1,11 @@
+use Rattle.zone_set.proofs.Common.{[], all_records, arith, message_octets, min, nil_from_length, subst, ℕ, ◌+◌, ◌-◌, ◌^◌, ◌≡◌, ◌≤◌}
+use Rattle.zone_set.proofs.messages.counted.Goals as goal
+
+at_end : (n sum : ℕ) → n ≤ 2 ^ 64 - 1 → min (n + 0) (2 ^ 64 - 1) ≡ min sum (2 ^ 64 - 1) → n ≡ min sum (2 ^ 64 - 1)
+at_end n sum most is = omega (arith, most, is)
+
+pub returns : goal.returns
+returns g c =
+    let left : c.loop-entry.left.now ≡ [] = nil_from_length c.loop-entry.left.now c.in_default.ensures.cases in
+    at_end c.loop-entry.message_len (message_octets (all_records c.args.class c.args.octets.now c.args.entries.now)) c.loop-entry.invariant.1
+    (subst (λ l. min (c.loop-entry.message_len + message_octets (all_records c.args.class c.args.octets.now l)) (2 ^ 64 - 1) ≡ min (message_octets (all_records c.args.class c.args.octets.now c.args.entries.now)) (2 ^ 64 - 1)) left c.loop-entry.invariant.2)
