@@ -128,7 +128,7 @@ const STRINGS: &[u8] = b"\x02ab\x01c";
 fn push_strings(alloc: Global, pending: &mut PendingRecords) -> Result<(), Fail> {
     let owner = rooted(b"b.")?;
     let data = data_of(alloc, "x.", "IN TXT ab c")??;
-    let rr = RrRef::of_parts(owner.lend(), 5, data.lend());
+    let rr = RrRef::of_parts(owner.lend().copy(), 5, data.lend());
     pending.placed.push(&rr, Place::Line(5))?;
     Ok(())
 }
