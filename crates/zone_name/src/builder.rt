@@ -1,11 +1,11 @@
 ghost use Rattle.std.specs.Prelude.{◌≡◌, ◌<◌, ◌≤◌, ◌↔◌, ◌++◌, ◌∷◌, [], List, ℕ, length, OnOk, OnErr, IfErr, Err};
 ghost use Rattle.zone_name.specs.Name.{folded_label, wire, IsName};
-ghost use Rattle.zone_name.specs.Machine.Seen.{RefusesLabel};
 ghost use Rattle.zone_name.specs.Spelling.{IsLabelFault};
 ghost use Rattle.zone_name.specs.declared.fault.NameFault.TheVariants.{EmptyLabel, LabelTooLong, NameTooLong};
 
 use crate::fault::NameFault;
-use crate::name::{MAX_LABEL_LEN, MAX_NAME_LEN, Name};
+use crate::limits::{MAX_NAME_LEN, check_label};
+use crate::name::Name;
 use arrayvec::ArrayVec;
 use std::marker::Model;
 
@@ -73,18 +73,5 @@ impl NameBuilder {
         let mut octets = self.octets;
         octets.push(0);
         Name::of_octets(octets)
-    }
-}
-
-/// Refuses octets that are no label (RFC 1035 2.3.4).
-#[tactic(auto, using(crate::specs::Machine::Seen::empty, crate::specs::Machine::Seen::long))]
-pub(crate) fn check_label(label: &[u8]) -> Result<(), NameFault>
-    ensures ok { OnOk result ((0 < length label.now) × (length label.now ≤ 63)) }
-    ensures err { IfErr result (RefusesLabel label.now) }
-{
-    match label.len() {
-        0 => Err(NameFault::EmptyLabel),
-        1..=MAX_LABEL_LEN => Ok(()),
-        _ => Err(NameFault::LabelTooLong),
     }
 }

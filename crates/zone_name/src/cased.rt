@@ -5,7 +5,8 @@ ghost use Rattle.zone_name.specs.Spelling.{SpellingFault, SpellsCased};
 ghost use Rattle.zone_name.specs.Machine.Letters.{origin_in};
 
 use crate::fault::NameFault;
-use crate::name::{MAX_NAME_LEN, Name};
+use crate::limits::MAX_NAME_LEN;
+use crate::name::Name;
 use crate::reading::{Letters, fold, read_name};
 use arrayvec::ArrayVec;
 use std::marker::Model;

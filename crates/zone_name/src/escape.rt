@@ -2,7 +2,7 @@ ghost use Rattle.std.specs.Prelude.{◌≡◌, ◌∷◌, true, IfSome, IfNone, 
 ghost use Rattle.zone_name.specs.Machine.Units.{digits_first, valued};
 ghost use Rattle.zone_name.specs.NextUnit.{IsNextUnit};
 ghost use Rattle.zone_name.specs.Spelling.{BeginsWithEscape, IsBadEscape, is_digit};
-ghost use Rattle.zone_name.specs.Text.{decimal_escape};
+ghost use Rattle.zone_name.specs.Text.{decimal_escape, is_special};
 
 /// The written octet that a text begins with (RFC 1035 5.1).
 #[derive(Drop)]
@@ -91,4 +91,19 @@ fn is_decimal_digit(octet: u8) -> bool
     ensures { result ≡ is_digit octet }
 {
     octet >= b'0' && octet <= b'9'
+}
+
+/// Whether the octet means something else inside a master file, and takes a backslash (RFC 1035
+/// 5.1).
+pub(crate) fn is_special_octet(octet: u8) -> bool
+    ensures { result ≡ is_special octet }
+{
+    octet == b'"'
+        || octet == b'$'
+        || octet == b'('
+        || octet == b')'
+        || octet == b'.'
+        || octet == b';'
+        || octet == b'@'
+        || octet == b'\\'
 }

@@ -1,17 +1,15 @@
 ghost use Rattle.std.specs.Prelude.{◌≡◌, ◌↔◌, [], drop, length, slice_index, EachIndex, IsTrue, OnOk, OnErr};
-ghost use Rattle.zone_name.specs.Name.{labels_of, wire, BeginsWithName, HoldsName, IsName, IsWithin};
+ghost use Rattle.zone_name.specs.Name.{labels_of, wire, BeginsWithName, HoldsName, IsName};
 ghost use Rattle.std.specs.List.{flat_map};
 ghost use Rattle.zone_name.specs.Machine.Shown.{IsShown};
 ghost use Rattle.zone_name.specs.Sink.{TakesSome};
 ghost use Rattle.zone_name.specs.Text.{label_text, name_text, octet_text};
 
-use crate::escape::decimal_escape;
+use crate::escape::{decimal_escape, is_special_octet};
 use crate::labels::Labels;
 use crate::lanes::{LANES, ROOM};
-use crate::name::Name;
 use crate::shown::spell_shown;
 use crate::sink::Sink;
-use crate::text::is_special_octet;
 use std::marker::Model;
 
 /// A domain name in borrowed octets: uncompressed (RFC 1035 3.1) and in lower case. Contracts
@@ -73,25 +71,11 @@ impl<'a> NameRef<'a> {
         NameRef::of_wire(self.octets)
     }
 
-    /// A copy of the name that owns its octets.
-    pub fn to_name(&self) -> Name
-        ensures { result ≡ self.now }
-    {
-        Name::holding(self.octets)
-    }
-
     /// Whether the other has the same labels.
     pub fn is_same(&self, other: &NameRef<'_>) -> bool
         ensures { IsTrue result ↔ (self.now ≡ other.now) }
     {
         self.wire() == other.wire()
-    }
-
-    /// Whether the name lies at or below the apex: the apex's labels end the name's.
-    pub fn is_within(&self, apex: &Name) -> bool
-        ensures { IsTrue result ↔ IsWithin self.now apex.now }
-    {
-        self.labels().ends_with(apex.labels())
     }
 
     /// The labels, from the leftmost.

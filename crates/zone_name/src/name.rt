@@ -1,23 +1,17 @@
 ghost use Rattle.std.specs.Prelude.{◌≡◌, ◌≤◌, ◌↔◌, List, [], length, IsOk, IsTrue, IfOk, IfErr, IfSome, OnOk, OnErr, Ok, option_copied};
 ghost use Rattle.zone_name.specs.Common.{Octets};
-ghost use Rattle.zone_name.specs.Name.{wire, labels_of, IsName, HoldsName, IsWithin, BeginsWithName};
+ghost use Rattle.zone_name.specs.Name.{wire, labels_of, IsName, HoldsName, IsWithin};
 ghost use Rattle.zone_name.specs.Spelling.{AppendsSpelled, Spells, SpellingFault};
 ghost use Rattle.zone_name.specs.Machine.Letters.{origin_in};
 
 use crate::fault::NameFault;
 use crate::labels::Labels;
 use crate::lent::NameRef;
+use crate::limits::MAX_NAME_LEN;
 use crate::reading::{Letters, hold, push_plain, read_name};
 use arrayvec::ArrayVec;
 use std::alloc::AllocError;
 use std::marker::Model;
-
-/// The most octets that a label has (RFC 1035 2.3.4).
-pub const MAX_LABEL_LEN: usize = 63;
-
-/// The most octets that a name has, with the octet that each label's length takes and the root's
-/// (RFC 1035 2.3.4).
-pub const MAX_NAME_LEN: usize = 255;
 
 /// A domain name: its uncompressed octets (RFC 1035 3.1) in lower case. Contracts see its labels.
 #[derive(Debug, Drop)]
@@ -143,7 +137,7 @@ impl Name {
     pub fn is_within(&self, apex: &Name) -> bool
         ensures { IsTrue result ↔ IsWithin self.now apex.now }
     {
-        self.labels().ends_with(apex.labels())
+        self.lend().is_within(apex)
     }
 
     /// The labels, from the leftmost.
@@ -181,13 +175,21 @@ impl Name {
     {
         Name { octets }
     }
+}
 
-    /// The name at the beginning of uncompressed octets that were judged before.
-    pub fn from_front(octets: &[u8]) -> Name
-        requires { BeginsWithName octets.now }
-        ensures { result ≡ labels_of octets.now }
+impl NameRef<'_> {
+    /// A copy of the name that owns its octets.
+    pub fn to_name(&self) -> Name
+        ensures { result ≡ self.now }
     {
-        NameRef::split_front(octets).0.to_name()
+        Name::holding(self.wire())
+    }
+
+    /// Whether the name lies at or below the apex: the apex's labels end the name's.
+    pub fn is_within(&self, apex: &Name) -> bool
+        ensures { IsTrue result ↔ IsWithin self.now apex.now }
+    {
+        self.labels().ends_with(apex.labels())
     }
 }
 

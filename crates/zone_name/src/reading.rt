@@ -10,11 +10,10 @@ ghost use Rattle.zone_name.specs.Machine.Plain.{TellsMarks, WritesLengths, is_pl
 ghost use Rattle.zone_name.specs.Machine.Seen.{Closes, EndsLabelAt, HasShape, HoldsCasedLabels, IsClosable};
 ghost use Rattle.zone_name.specs.Machine.Seen.{IsReadInto, EndsInFault, RefusesLabel};
 
-use crate::builder::check_label;
 use crate::escape::{NextUnit, next_unit};
 use crate::fault::NameFault;
 use crate::lanes::{LANES, ROOM, fold_lanes, mark_bits, put};
-use crate::name::{MAX_LABEL_LEN, MAX_NAME_LEN};
+use crate::limits::{MAX_LABEL_LEN, MAX_NAME_LEN, check_label};
 use arrayvec::ArrayVec;
 use std::alloc::AllocError;
 

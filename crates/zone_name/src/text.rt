@@ -2,9 +2,10 @@ ghost use Rattle.std.specs.Prelude.{◌≡◌, ◌++◌, [], OnOk, OnErr};
 ghost use Rattle.std.proofs.Common.{sym};
 ghost use Rattle.std.proofs.lemmas.List.{append-nil};
 ghost use Rattle.zone_name.specs.Machine.Fitting.{TakesWhatFits, fitted_twice};
-ghost use Rattle.zone_name.specs.Text.{is_special, name_text};
+ghost use Rattle.zone_name.specs.Text.{name_text};
 
-use crate::name::{MAX_NAME_LEN, Name};
+use crate::limits::MAX_NAME_LEN;
+use crate::name::Name;
 use crate::sink::Sink;
 use arrayvec::ArrayVec;
 use std::convert::Infallible;
@@ -60,19 +61,4 @@ impl Sink for Spelling {
 
     ghost joins = { λ a b c x y.
         fitted_twice 1021 a.octets.items b.octets.items c.octets.items x y };
-}
-
-/// Whether the octet means something else inside a master file, and takes a backslash (RFC 1035
-/// 5.1).
-pub(crate) fn is_special_octet(octet: u8) -> bool
-    ensures { result ≡ is_special octet }
-{
-    octet == b'"'
-        || octet == b'$'
-        || octet == b'('
-        || octet == b')'
-        || octet == b'.'
-        || octet == b';'
-        || octet == b'@'
-        || octet == b'\\'
 }

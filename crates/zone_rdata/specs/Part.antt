@@ -1,6 +1,6 @@
 -- A part of data that is pushed, as the value of its field.
-use Rattle.zone_rdata.specs.declared.builder.Part.{Part}
-use Rattle.zone_rdata.specs.declared.builder.Part.TheVariants.{Octets, U16, U32, Name, String}
+use Rattle.zone_rdata.specs.declared.part.Part.{Part}
+use Rattle.zone_rdata.specs.declared.part.Part.TheVariants.{Octets, U16, U32, Name, String}
 use Rattle.zone_rdata.specs.Field.{FieldValue, name, u32_value, u16_value, fixed, string}
 
 abbrev pub value_of : Part → FieldValue

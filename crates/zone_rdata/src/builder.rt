@@ -12,13 +12,15 @@ use crate::fault::{Failing, Fault};
 use crate::kind::Kind;
 use crate::layout::{Layout, layout_of};
 use crate::lent::RdataRef;
+use crate::limits::LONGEST_DATA;
 use crate::narrow_failing::NarrowFailing;
-use crate::rdata::{LONGEST_DATA, Rdata};
+use crate::part::Part;
+use crate::rdata::Rdata;
 use crate::string::{LONGEST_STRING, push_with_length};
 use std::alloc::Global;
 use std::marker::Model;
+use zone_name::Name;
 use zone_name::laws::are_octets;
-use zone_name::{Name, NameRef};
 
 /// Record data that is made part by part. Contracts see class, type and the parts that were pushed.
 #[derive(Debug, Drop)]
@@ -49,21 +51,6 @@ impl Model for RdataBuilder {
 
     ghost invariant = { λ b.
         IsBuilt b.class b.kind (option_map fields_of b.fields) b.count b.octets.items };
-}
-
-/// A part of data that is pushed (RFC 1035 3.3).
-#[derive(Clone, Copy)]
-pub enum Part<'p> {
-    /// An address, or the octets of opaque data.
-    Octets(&'p [u8]),
-    /// A number of 16 bits.
-    U16(u16),
-    /// A number of 32 bits, a serial or a time in seconds.
-    U32(u32),
-    /// A name.
-    Name(&'p NameRef<'p>),
-    /// A string, the next field or one more of several.
-    String(&'p [u8]),
 }
 
 impl RdataBuilder {

@@ -18,12 +18,12 @@ mod string;
 mod strings;
 mod time;
 
-use crate::builder::Part;
 use crate::cause::Cause;
 use crate::fault::Fault;
 use crate::item::Item;
 use crate::narrow_failing::NarrowFailing;
 use crate::number::push_decimal;
+use crate::part::Part;
 use crate::string::{push_string, push_string_text};
 use address::{push_address, push_address_text};
 use name::{push_name, push_sent_name, split_name};

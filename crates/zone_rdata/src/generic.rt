@@ -11,9 +11,9 @@ ghost use Rattle.zone_rdata.specs.Item.{IsGeneric, raw};
 use crate::cause::Cause;
 use crate::fault::Fault;
 use crate::item::Item;
+use crate::limits::LONGEST_DATA;
 use crate::narrow_failing::NarrowFailing;
 use crate::number::decimal_of;
-use crate::rdata::LONGEST_DATA;
 use hex::decode_to_slice;
 
 /// Reads the octets that items state in the generic form: `\#`, their number, and their hexadecimal

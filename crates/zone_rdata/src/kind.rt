@@ -1,12 +1,12 @@
-ghost use Rattle.std.specs.Prelude.{[], ◌≡◌, ◌↔◌, ◌<◌, ℕ, IsTrue, IfSome, IfNone, IfOk, IfErr, OnOk, OnErr, ◌≤◌};
+ghost use Rattle.std.specs.Prelude.{[], ◌≡◌, ◌↔◌, ◌<◌, ℕ, IsTrue, IfSome, IfNone, IfOk, IfErr, OnOk, OnErr, ◌≤◌, option_copied, option_map};
 ghost use Rattle.zone_rdata.specs.Cause.{fault_for};
-ghost use Rattle.zone_rdata.specs.Words.{IsKind, IsKindWord, kind_text, IsWordFault};
+ghost use Rattle.zone_rdata.specs.Layout.{layout};
+ghost use Rattle.zone_rdata.specs.Words.{IsKind, IsKindWord, IsWordFault, kind_text, laid_out_mnemonic};
 
 use crate::cause::Cause;
-use crate::class::Class;
+use crate::class::{Class, IN};
 use crate::fault::Fault;
-use crate::layout::row_in;
-use crate::table::TYPES;
+use crate::table::{TYPES, TypeRow, row_of};
 use crate::word::{number_of_word, push_numbered};
 use std::marker::Model;
 use zone_name::Sink;
@@ -143,4 +143,18 @@ impl Kind {
             None => push_numbered(b"TYPE", self.number, out),
         }
     }
+}
+
+/// The row of a type whose data has a layout in a class.
+pub(crate) fn row_in(class: Class, kind: Kind) -> Option<&'static TypeRow>
+    ensures fields { option_map (λ row. row.fields.now) (option_copied result) ≡ layout class kind }
+    ensures mnemonic { option_map (λ row. row.mnemonic.now) (option_copied result)
+        ≡ laid_out_mnemonic (layout class kind) kind }
+{
+    let class = class.number();
+    let row = row_of(TYPES, kind.number())?;
+    if row.in_only && class != IN {
+        return None;
+    }
+    Some(row)
 }

@@ -1,31 +1,16 @@
-ghost use Rattle.std.specs.Prelude.{◌≡◌, option_copied, option_map, slice_get};
+ghost use Rattle.std.specs.Prelude.{◌≡◌, option_map, slice_get};
 ghost use Rattle.zone_rdata.specs.Builder.{ends_with_strings, part_at};
 ghost use Rattle.zone_rdata.specs.Layout.{layout, fields_of};
-ghost use Rattle.zone_rdata.specs.Words.{IsClass, IsKind, laid_out_mnemonic};
+ghost use Rattle.zone_rdata.specs.Words.{IsClass, IsKind};
 
-use crate::class::{Class, IN};
+use crate::class::Class;
 use crate::field::Field;
-use crate::kind::Kind;
-use crate::table::{TYPES, TypeRow, row_of};
+use crate::kind::{Kind, row_in};
 
 /// The fields of one type's data, in order.
 #[derive(Clone, Copy, Debug)]
 pub struct Layout {
     fields: &'static [Field],
-}
-
-/// The row of a type whose data has a layout in a class.
-pub(crate) fn row_in(class: Class, kind: Kind) -> Option<&'static TypeRow>
-    ensures fields { option_map (λ row. row.fields.now) (option_copied result) ≡ layout class kind }
-    ensures mnemonic { option_map (λ row. row.mnemonic.now) (option_copied result)
-        ≡ laid_out_mnemonic (layout class kind) kind }
-{
-    let class = class.number();
-    let row = row_of(TYPES, kind.number())?;
-    if row.in_only && class != IN {
-        return None;
-    }
-    Some(row)
 }
 
 /// The layout of a type's data in a class. `None`: the data is opaque.

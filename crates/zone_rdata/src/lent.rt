@@ -1,4 +1,4 @@
-ghost use Rattle.std.specs.Prelude.{◌≡◌, ◌≤◌, IfOk, OnOk, OnErr};
+ghost use Rattle.std.specs.Prelude.{◌≡◌, ◌≤◌, OnOk, OnErr};
 ghost use Rattle.zone_name.specs.Sink.{TakesSome};
 ghost use Rattle.zone_rdata.specs.Record.{Data, IsRdata};
 ghost use Rattle.zone_rdata.specs.Text.{data_text};
@@ -9,8 +9,6 @@ use crate::fault::Place;
 use crate::kind::Kind;
 use crate::layout::layout_of;
 use crate::printing::push_data;
-use crate::rdata::Rdata;
-use std::alloc::{AllocError, Global};
 use std::marker::Model;
 use zone_name::{NameRef, Sink};
 
@@ -66,19 +64,6 @@ impl<'a> RdataRef<'a> {
         ensures { result.now ≡ self.now.octets }
     {
         self.octets
-    }
-
-    /// The same data, which owns its octets.
-    ///
-    /// # Errors
-    ///
-    /// `AllocError` where memory is refused.
-    pub fn to_rdata(&self, alloc: Global) -> Result<Rdata, AllocError>
-        ensures { IfOk result (λ d. d ≡ self.now) }
-    {
-        let mut data = Rdata::empty(alloc);
-        data.copy_from(self)?;
-        Ok(data)
     }
 
     /// Does nothing, and tells contracts what holds of all data.

@@ -20,6 +20,7 @@ use crate::kind::Kind;
 use crate::laws::items::{data_is_unique, faulty_items_state_none};
 use crate::layout::{Layout, layout_of};
 use crate::lent::RdataRef;
+use crate::limits::LONGEST_DATA;
 use crate::minimum::last_number_of;
 use crate::narrow_failing::NarrowFailing;
 use crate::printing::push_data;
@@ -29,9 +30,6 @@ use std::alloc::{AllocError, Global};
 use std::marker::Model;
 use zone_name::laws::are_octets;
 use zone_name::{Name, Sink};
-
-/// The most octets of record data: its length is a number of 16 bits (RFC 1035 3.2.1).
-pub(crate) const LONGEST_DATA: usize = 65535;
 
 /// The number of NULL, of which any octets are data (RFC 1035 3.3.10).
 const NULL: u16 = 10;
@@ -327,5 +325,20 @@ impl Rdata {
         ensures err { OnErr result (TakesSome S.takes out.old out.new) }
     {
         push_data(layout_of(self.class, self.kind), &self.octets, out)
+    }
+}
+
+impl RdataRef<'_> {
+    /// The same data, which owns its octets.
+    ///
+    /// # Errors
+    ///
+    /// `AllocError` where memory is refused.
+    pub fn to_rdata(&self, alloc: Global) -> Result<Rdata, AllocError>
+        ensures { IfOk result (λ d. d ≡ self.now) }
+    {
+        let mut data = Rdata::empty(alloc);
+        data.copy_from(self)?;
+        Ok(data)
     }
 }

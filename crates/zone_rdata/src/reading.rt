@@ -9,8 +9,8 @@ use crate::cause::Cause;
 use crate::fault::{Failing, Fault};
 use crate::item::Item;
 use crate::layout::Layout;
+use crate::limits::LONGEST_DATA;
 use crate::narrow_failing::NarrowFailing;
-use crate::rdata::LONGEST_DATA;
 use zone_name::Name;
 
 /// Whether the first item is the mark of the generic form, `\#` (RFC 3597 5).

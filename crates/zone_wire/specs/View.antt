@@ -2,7 +2,7 @@
 use Rattle.std.specs.Prelude.{ℕ, List}
 use Rattle.zone_name.specs.Common.{Labels}
 use Rattle.zone_wire.specs.Message.{QuestionAt, RecordAt, Sections}
-use Rattle.zone_wire.specs.declared.answers.RawFields.{RawFields}
+use Rattle.zone_wire.specs.declared.raw.RawFields.{RawFields}
 use Rattle.zone_wire.specs.declared.message.Question.{Question}
 
 -- a message: its octets, and what stands in them

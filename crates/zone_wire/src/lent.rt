@@ -1,6 +1,6 @@
 ghost use Rattle.std.specs.Prelude.{◌≡◌};
 
-use crate::answers::{RawFields, RawRr};
+use crate::raw::{RawFields, RawRr};
 use std::marker::Model;
 use zone_name::NameRef;
 

@@ -14,6 +14,7 @@ mod lent;
 mod message;
 mod name;
 mod number;
+mod raw;
 mod record;
 mod runs;
 mod spot;
@@ -22,7 +23,8 @@ mod ticks;
 mod transfer;
 mod transfer_source;
 
-pub use answers::{Answers, RawRr};
+pub use answers::Answers;
 pub use message::{Message, Question};
 pub use name::{Decoded, name_at};
+pub use raw::RawRr;
 pub use transfer_source::{TransferSource, read_transfer};

@@ -6,9 +6,9 @@ ghost use Rattle.zone_rdata.specs.Words.{IsClass, IsKind};
 ghost use Rattle.zone_wire.specs.AnswerFault.{OwnFault};
 ghost use Rattle.zone_wire.specs.Transfer.{IsReadable, AnswerStates, ttl_of};
 
-use crate::answers::RawRr;
 use crate::labels::LabelRoom;
 use crate::lent::RawRrRef;
+use crate::raw::RawRr;
 use std::alloc::Global;
 use zone_name::laws::are_octets;
 use zone_rdata::{Cause, Class, Failing, Kind, MAX_TTL, NarrowFailing, RdataBuilder, Rr, RrRef};

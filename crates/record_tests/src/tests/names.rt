@@ -392,7 +392,7 @@ impl Question for Built {
             "the labels are those that were taken",
         )?;
         check(
-            Name::from_front(name.wire()) == name,
+            NameRef::split_front(name.wire()).0.to_name() == name,
             "the octets give the name",
         )?;
         push_words(alloc, out, format_args!("{fault:?}, "))?;
