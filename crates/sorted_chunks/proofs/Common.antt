@@ -1,5 +1,5 @@
 -- The names that proofs here cite most: of definitions, and of std.
-pub use Rattle.sorted_chunks.specs.Chunks.{AreChunks, IsChunk, IsParting, IsPlace, after, before, joined}
+pub use Rattle.sorted_chunks.specs.Chunks.{AreChunks, IsParting, IsPlace, after, before, joined}
 pub use Rattle.sorted_chunks.specs.Machine.Splits.{SplitsAt}
 pub use Rattle.sorted_chunks.specs.Starts.{starts}
 pub use Rattle.std.proofs.Common.{Bool, List, MatchOption, [], ap, arith, drop, false, get_or, length, min, refl, rules, set, subst, suc, sym, take, true, true≢false, zero, ℕ, ⊎_elim, ◌++◌, ◌+◌, ◌-◌, ◌<◌, ◌^◌, ◌∙◌, ◌∷◌, ◌≡◌, ◌≤◌}

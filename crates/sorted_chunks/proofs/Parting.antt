@@ -43,11 +43,11 @@ module _ {X : Type 0} (p : X → Bool) where
   first_passes (x ∷ c) all = All-head (λ y. p y ≡ true) x c all
 
   -- the chunks by their first elements
-  chunks_parted : (limit : ℕ) (cs : List (List X)) → AreChunks limit cs → IsPartitionedBy p (joined cs) → IsPartitionedBy (starts p) cs
-  chunks_parted limit cs all parts = λ i j d le lt passes.
+  chunks_parted : (cs : List (List X)) → AreChunks cs → IsPartitionedBy p (joined cs) → IsPartitionedBy (starts p) cs
+  chunks_parted cs all parts = λ i j d le lt passes.
       let filled = all j [] lt in
       let parts_about = rw (joined_about cs j lt) at parts in
-      let early = each_chunk (λ y. p y ≡ true) (take j cs) (passes_before_chunk (joined (take j cs)) (get_or cs j []) (joined (drop (j + 1) cs)) filled.0 parts_about (ap (starts p) (get_or_default cs j [] d lt) ∙ passes)) in
+      let early = each_chunk (λ y. p y ≡ true) (take j cs) (passes_before_chunk (joined (take j cs)) (get_or cs j []) (joined (drop (j + 1) cs)) filled parts_about (ap (starts p) (get_or_default cs j [] d lt) ∙ passes)) in
       grind (arith, first_passes (get_or cs i d), early i d, get_or-take, length-take-le)
 
   -- all elements of chunks whose first elements fail
@@ -57,17 +57,17 @@ module _ {X : Type 0} (p : X → Bool) where
   fails_joined a ((x ∷ c) ∷ ds) parts fails = λ k d lt. grind (arith, parts (length a) (length a + k) d, fails 0 [], get_or-append-add a (x ∷ (c ++ joined ds)) 0 d, get_or-append-add a (x ∷ (c ++ joined ds)) k d, length-append a (x ∷ (c ++ joined ds)))
 
   -- no chunk's first element passes, so none does
-  pub parts_none : (limit : ℕ) (cs : List (List X)) (passed : ℕ) → AreChunks limit cs → passed ≡ 0 → SplitsAt (starts p) cs passed → IsParting p (joined cs) (before cs (record { chunk = 0; offset = 0 })) (after cs (record { chunk = 0; offset = 0 }))
-  parts_none limit cs passed all none splits parts = grind (arith, chunks_parted limit cs all parts)
+  pub parts_none : (cs : List (List X)) (passed : ℕ) → AreChunks cs → passed ≡ 0 → SplitsAt (starts p) cs passed → IsParting p (joined cs) (before cs (record { chunk = 0; offset = 0 })) (after cs (record { chunk = 0; offset = 0 }))
+  parts_none cs passed all none splits parts = grind (arith, chunks_parted cs all parts)
 
   -- the last chunk whose first element passes, and where the elements after that which pass end in it
-  pub parts_in : (limit : ℕ) (cs : List (List X)) (i : ℕ) (x : X) (rest : List X) (passed k : ℕ) → AreChunks limit cs → x ∷ rest ≡ get_or cs i [] → i < length cs → passed ≡ i + 1 → SplitsAt (starts p) cs passed → k ≤ length rest → SplitsAt p rest k
+  pub parts_in : (cs : List (List X)) (i : ℕ) (x : X) (rest : List X) (passed k : ℕ) → AreChunks cs → x ∷ rest ≡ get_or cs i [] → i < length cs → passed ≡ i + 1 → SplitsAt (starts p) cs passed → k ≤ length rest → SplitsAt p rest k
       → IsParting p (joined cs) (before cs (record { chunk = i; offset = k + 1 })) (after cs (record { chunk = i; offset = k + 1 }))
-  parts_in limit cs i x rest passed k all chunk within is splits le splits_rest parts =
+  parts_in cs i x rest passed k all chunk within is splits le splits_rest parts =
       let front = joined (take i cs) in
       let back = joined (drop (i + 1) cs) in
       let about : joined cs ≡ front ++ (x ∷ (rest ++ back)) = joined_about cs i within ∙ ap (λ c. front ++ (c ++ back)) (sym chunk) in
-      let chunks = split_all (starts p) cs passed splits (chunks_parted limit cs all parts) in
+      let chunks = split_all (starts p) cs passed splits (chunks_parted cs all parts) in
       let own = split_all p rest k splits_rest (part_of p (front ++ x ∷ []) rest back (joined cs) (about ∙ sym (append_assoc front (x ∷ []) (rest ++ back))) parts) in
       let first : p x ≡ true = grind (arith, chunks.0 i [], get_or-take, length-take-le) in
       let next : k + 1 ≡ suc k = omega arith in

@@ -1,5 +1,5 @@
 -- A list that is kept in chunks, and the places in it.
-use Rattle.std.specs.Prelude.{◌≡◌, ℕ, ◌+◌, ◌<◌, ◌≤◌, Bool, true, false, List, [], ◌++◌, length, ⊤, take, drop, flat_map, slice_index_or}
+use Rattle.std.specs.Prelude.{◌≡◌, ℕ, ◌+◌, ◌<◌, ◌≤◌, Bool, true, false, List, [], ◌++◌, length, take, drop, flat_map, slice_index_or}
 use Rattle.std.specs.List.{All}
 use Rattle.std.specs.List.Sorted.{IsPartitionedBy}
 use Rattle.sorted_chunks.specs.declared.position.Position.{Position}
@@ -28,9 +28,6 @@ abbrev pub IsParting : {X : Type 0} → (X → Bool) → List X → List X → L
 IsParting p whole before after = IsPartitionedBy p whole
     → All (λ x. p x ≡ true) before × All (λ x. p x ≡ false) after
 
--- not empty
-abbrev pub IsChunk : {X : Type 0} → ℕ → List X → Type 0
-IsChunk limit chunk = (0 < length chunk) × ⊤
-
-abbrev pub AreChunks : {X : Type 0} → ℕ → List (List X) → Type 0
-AreChunks {X} limit chunks = All (IsChunk {X = X} limit) chunks
+-- no chunk is empty; how long one may be isn't said
+abbrev pub AreChunks : {X : Type 0} → List (List X) → Type 0
+AreChunks chunks = All (λ chunk. 0 < length chunk) chunks

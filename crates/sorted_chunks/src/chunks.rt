@@ -8,7 +8,8 @@ use crate::sought::{AmongChunks, Sought, count_before};
 use std::alloc::{AllocError, Global};
 use std::marker::Model;
 
-/// A list in order, in chunks of at most `LIMIT` elements. Contracts see the chunks.
+/// A list in order, in chunks, none of them empty. An element that is put into one of `LIMIT` or
+/// more cuts it in two, or begins a new one after the last. Contracts see the chunks.
 #[derive(Drop)]
 pub struct SortedChunks<T, const LIMIT: usize> {
     alloc: Global,
@@ -23,7 +24,7 @@ impl<T, const LIMIT: usize> Model for SortedChunks<T, LIMIT> {
 
     ghost view = { λ s. s.chunks.items };
 
-    ghost invariant = { λ s. (2 ≤ LIMIT) × AreChunks LIMIT s.chunks.items };
+    ghost invariant = { λ s. (2 ≤ LIMIT) × AreChunks s.chunks.items };
 }
 
 impl<T: Copy, const LIMIT: usize> SortedChunks<T, LIMIT> {
