@@ -1,0 +1,49 @@
+"""What a run of a program takes: CPU seconds, peak memory and user instructions."""
+import os
+import re
+import shutil
+import subprocess
+import tempfile
+import time
+
+PLAIN = {**os.environ, "LC_ALL": "C"}
+
+
+def measured(words, stdin, stdout=os.devnull):
+    """CPU seconds and peak memory in octets, where the answer is that an input is accepted or refused."""
+    with open(stdin, "rb") as zone, open(stdout, "wb") as sink:
+        child = subprocess.Popen(words, stdin=zone, stdout=sink, stderr=subprocess.DEVNULL, env=PLAIN)
+        # the peak that wait4 tells has that of this process in it, from before the program was loaded
+        peak = 0
+        while os.waitid(os.P_PID, child.pid, os.WEXITED | os.WNOHANG | os.WNOWAIT) is None:
+            peak = max(peak, peak_of(child.pid))
+            time.sleep(0.002)
+        _, status, used = os.wait4(child.pid, 0)
+        child.returncode = os.waitstatus_to_exitcode(status)
+    return (used.ru_utime + used.ru_stime, peak) if child.returncode in (0, 3) else None
+
+
+def peak_of(pid):
+    """The peak memory of a process so far, in octets."""
+    with open(f"/proc/{pid}/status") as told:
+        found = re.search(r"VmHWM:\s+(\d+)", told.read())
+    return int(found[1]) * 1024 if found else 0
+
+
+def instructions(words, stdin):
+    """User instructions, by perf or else by valgrind."""
+    with open(stdin, "rb") as zone, tempfile.NamedTemporaryFile("r") as told:
+        if shutil.which("perf"):
+            subprocess.run(["perf", "stat", "-x,", "-e", "instructions:u", "-o", told.name, *words], stdin=zone,
+                           stdout=subprocess.DEVNULL, stderr=subprocess.DEVNULL)
+            for line in told.read().splitlines():
+                if "instructions" in line and line.split(",")[0].isdigit():
+                    return int(line.split(",")[0])
+        zone.seek(0)
+        if shutil.which("valgrind"):
+            done = subprocess.run(["valgrind", "--tool=cachegrind", "--cache-sim=no", "--cachegrind-out-file=/dev/null",
+                                   *words], stdin=zone, stdout=subprocess.DEVNULL, stderr=subprocess.PIPE, text=True)
+            for line in done.stderr.splitlines():
+                if "I   refs" in line or "I refs" in line:
+                    return int(line.split(":")[1].replace(",", ""))
+    return None
