@@ -14,9 +14,9 @@ then has only messages that a right signature covers. KEYFILE is as `tsig-keygen
 checked where --tls-ca names the certificates that are trusted.
 
 Status 0: the closing SOA came. 1: the stream stopped before it, or the server answered with an
-error code. 2: the command line is wrong. 3: a signature is wrong or missing. 4: the server can't
-be reached, or a file can't be read or written. With 1 and 3 FILE has what came, which with --key
-ends at the last right signature.
+error code or to another query. 2: the command line is wrong. 3: a signature is wrong or missing.
+4: the server can't be reached, or a file can't be read or written. With 1 and 3 FILE has what came,
+which with --key ends at the last right signature.
 
 ZONE and the name of a key are written without escapes."""
 import argparse
@@ -69,6 +69,12 @@ class BadSignature(Stopped):
     """What is wrong with the signatures."""
 
     status = 3
+
+
+class Unreached(Stopped):
+    """Why the server can't be reached."""
+
+    status = 4
 
 
 def wire_name(text):
@@ -311,9 +317,9 @@ def next_message(server, file):
     return take(server, file, length)
 
 
-def capture(server, file, signatures):
-    """Copies messages up to the one in which an SOA comes the second time. With a key they are
-    held back until a signature covers them."""
+def capture(server, file, ident, signatures):
+    """Copies messages up to the one in which an SOA comes the second time. Each has the ID of the
+    query (RFC 5936 2.2.1). With a key they are held back until a signature covers them."""
     soas = taken = 0
     kept = io.BytesIO() if signatures else file
     while soas < 2:
@@ -322,6 +328,8 @@ def capture(server, file, signatures):
         if taken > LIMIT:
             raise Stopped("the transfer is longer than zonenorm reads")
         try:
+            if struct.unpack_from("!2s", message)[0] != ident:
+                raise Stopped("a message answers another query: its ID isn't that of this one")
             must_be_no_error(message)
             soas += soas_among_answers(message)
             if signatures and signatures.check(message, soas >= 2):
@@ -373,30 +381,46 @@ def opened(path):
     return contextlib.nullcontext(sys.stdout.buffer) if path == "-" else open(path, "wb")
 
 
-def over_tls(server, given):
-    """The connection over TLS, which says that it is for DNS (RFC 9103 section 7). Whether the
-    server says so too isn't asked: NSD 4.6 doesn't."""
+def tls_context(given):
+    """How TLS is spoken: it says that it is for DNS (RFC 9103 section 7). Whether the server says
+    so too isn't asked: NSD 4.6 doesn't."""
     context = ssl.SSLContext(ssl.PROTOCOL_TLS_CLIENT)
     context.minimum_version = ssl.TLSVersion.TLSv1_3
     context.set_alpn_protocols(["dot"])
-    if given.tls_ca:
-        context.load_verify_locations(given.tls_ca)
-    else:
+    if not given.tls_ca:
         context.check_hostname, context.verify_mode = False, ssl.CERT_NONE
-    return context.wrap_socket(server, server_hostname=given.tls_hostname or given.server)
+        return context
+    try:
+        context.load_verify_locations(given.tls_ca)
+    except OSError as error:
+        raise OSError(f"{given.tls_ca} holds no certificates: {error}") from None
+    return context
+
+
+@contextlib.contextmanager
+def reaching():
+    """What is done to the server; UnicodeError is had where it is no name."""
+    try:
+        yield
+    except (OSError, UnicodeError) as error:
+        raise Unreached(error) from None
 
 
 def asked(given, message, signatures):
     """Sends the query to the server and copies its answer."""
+    context = tls_context(given) if given.tls else None
     with contextlib.ExitStack() as stack:
-        address = (given.server, given.port or (853 if given.tls else 53))
-        server = stack.enter_context(socket.create_connection(address, given.timeout))
-        if given.tls:
-            server = stack.enter_context(over_tls(server, given))
+        with reaching():
+            address = given.server, given.port
+            server = stack.enter_context(socket.create_connection(address, given.timeout))
+            if context:
+                name = given.tls_hostname or given.server
+                server = stack.enter_context(context.wrap_socket(server, server_hostname=name))
         file = stack.enter_context(opened(given.file))
-        server.sendall(struct.pack("!H", len(message)) + message)
+        with reaching():
+            server.sendall(struct.pack("!H", len(message)) + message)
         try:
-            capture(server, file, signatures)
+            capture(server, file, message[:2], signatures)
         finally:
             file.flush()
 
@@ -431,6 +455,7 @@ def main():
     words = command_line()
     given = words.parse_args()
     given.tls = given.tls or bool(given.tls_ca or given.tls_hostname)
+    given.port = given.port or (853 if given.tls else 53)
     try:
         message = query(given.zone, given.of)
     except ValueError as error:
@@ -439,9 +464,10 @@ def main():
         signatures = Signatures(key_of(given.key)) if given.key else None
         asked(given, signatures.signed(message) if signatures else message, signatures)
     except Stopped as reason:
-        print(f"capture_transfer: {reason}", file=sys.stderr)
+        where = f"{given.server} port {given.port}"
+        print(f"capture_transfer: {where}: {reason}", file=sys.stderr)
         return reason.status
-    except (OSError, UnicodeError) as error:  # the latter where SERVER is no name
+    except OSError as error:
         print(f"capture_transfer: {error}", file=sys.stderr)
         return 4
     return 0
