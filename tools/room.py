@@ -20,7 +20,7 @@ FOR_DATA = """
     set_extension set_file_name sort sort_by sort_by_cached_key sort_by_key sort_cached split_off to_ascii_lowercase
     to_ascii_uppercase to_lowercase to_mut to_owned to_path_buf to_string to_string_lossy to_uppercase to_vec try_clone
     try_from_fn try_map try_map_err try_ok_or_else try_take unwrap_or_clone wait_with_output with_added_extension
-    with_extension with_file_name write write_char write_fmt write_str writeln
+    with_extension with_file_name write write_all write_char write_fmt write_str write_vectored writeln
 """
 
 
