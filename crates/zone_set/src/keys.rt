@@ -13,6 +13,9 @@ const FEW: usize = 8;
 /// After so many digits octets are compared, and no more keys are made.
 const FAR: usize = 320;
 
+/// Of records of fewer octets the digits that all share aren't looked for: keys come to the others soon.
+const SHORT: usize = 48;
+
 /// Sorts entries by their hints.
 pub(crate) fn sort_by_hint(entries: &mut [Entry])
     ensures { IsPermutation entries.old entries.new }
@@ -115,6 +118,9 @@ fn shared_digits(run: &[Entry], octets: &[u8], front: usize) -> usize {
         return 0;
     };
     let whole = one.owner.len();
+    if whole.saturating_add(one.data.len()) < SHORT {
+        return 0;
+    }
     let mut end = one.owner;
     let mut all = true;
     let mut kinds = true;

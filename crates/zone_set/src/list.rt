@@ -127,7 +127,7 @@ impl ZoneList {
         self.list(rr, place)
     }
 
-    /// Drops repeats, where so much is held that they are looked for and there may be many.
+    /// Drops repeats, where as much is held as the mark says and there may be many.
     ///
     /// # Errors
     ///
@@ -135,17 +135,10 @@ impl ZoneList {
     fn drop_repeats_if_due(&mut self) -> Result<(), AllocError>
         ensures { Tells self.old self.new }
     {
-        if self.held() < self.mark {
+        if self.octets.len() < self.mark {
             return Ok(());
         }
         self.look_for_repeats()
-    }
-
-    /// How many octets the records take, but for their places.
-    fn held(&self) -> usize {
-        self.octets
-            .len()
-            .saturating_add(self.entries.len().saturating_mul(16))
     }
 
     /// Drops repeats, where there may be many, and sets the mark anew.
@@ -162,7 +155,7 @@ impl ZoneList {
             self.drop_repeats()?;
             growth = 2;
         }
-        self.mark = FIRST_MARK.max(self.held().saturating_mul(growth));
+        self.mark = FIRST_MARK.max(self.octets.len().saturating_mul(growth));
         Ok(())
     }
 

@@ -20,12 +20,12 @@ pub(crate) fn owner_order(owner: &NameRef<'_>, other: &NameRef<'_>) -> Ordering
     }
 }
 
-/// How owners lie, by the labels before those that end both, if these tell it.
+/// How owners lie, by the labels before the octets that end both, if these tell it.
 #[inline(never)]
 pub(crate) fn order_by_end(a: &[u8], b: &[u8]) -> Option<Ordering>
     ensures { IfSome result (λ order. order ≡ name_cmp (labels_of a.now) (labels_of b.now)) }
 {
-    let end = shared_end(a, b).len();
+    let end = shared_len(a, b);
     let (label, rest) = label_before(a, end)?;
     let (other, more) = label_before(b, end)?;
     if !are_same(rest, more) {
@@ -35,6 +35,29 @@ pub(crate) fn order_by_end(a: &[u8], b: &[u8]) -> Option<Ordering>
         Ordering::Equal => None,
         order => Some(order),
     }
+}
+
+/// How many octets end both.
+fn shared_len(a: &[u8], b: &[u8]) -> usize {
+    let (mut left, mut right) = (a, b);
+    while let (Some((rest, x)), Some((more, y))) = (
+        left.split_last_chunk::<8>(),
+        right.split_last_chunk::<8>(),
+    ) {
+        if x != y {
+            break;
+        }
+        left = rest;
+        right = more;
+    }
+    while let (Some((x, rest)), Some((y, more))) = (left.split_last(), right.split_last()) {
+        if x != y {
+            break;
+        }
+        left = rest;
+        right = more;
+    }
+    a.len().saturating_sub(left.len())
 }
 
 /// The label before the last octets of a name, and those octets.
@@ -51,10 +74,10 @@ fn label_before(name: &[u8], end: usize) -> Option<(&[u8], &[u8])>
     Some((label, rest))
 }
 
-/// The octets from the labels on that end both names, as far as these are told.
+/// The octets of the labels that end both names, as far as these are told.
 pub(crate) fn shared_end<'z>(a: &'z [u8], b: &[u8]) -> &'z [u8] {
     let (mut end, mut left) = (a, b);
-    while !are_same(left, end) {
+    while left.len() != end.len() || !are_same(left, end) {
         if left.len() > end.len() {
             match first_label(left) {
                 Some((_, rest)) => left = rest,

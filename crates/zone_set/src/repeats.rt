@@ -97,8 +97,8 @@ fn number(octets: &[u8], entries: &mut [Entry]) -> usize {
     number.saturating_add(1)
 }
 
-/// Whether it may be that a quarter of the octets or more keep repeats. A record counts as new where
-/// its hint wasn't seen or, if it was, its octets weren't: so each of them counts at most twice.
+/// Whether it may be that half of the octets or more keep repeats. A record counts as new where its
+/// hint wasn't seen or, if it was, its octets weren't: so each of them counts at most twice.
 ///
 /// # Errors
 ///
@@ -109,14 +109,17 @@ pub(crate) fn may_be_many(
     entries: &[Entry],
 ) -> Result<bool, AllocError> {
     let mut seen = Seen::new(alloc, entries.len())?;
-    let mut new_octets = 0usize;
+    let (half, mut new_octets) = (octets.len() / 2, 0usize);
     for entry in entries {
         let record = span(octets, entry.at);
         if seen.insert(mixed(entry.hint, 0)) || seen.insert(digest(entry.hint, record)) {
             new_octets = new_octets.saturating_add(record.len());
+            if new_octets > half {
+                return Ok(false);
+            }
         }
     }
-    Ok(new_octets < octets.len() - octets.len() / 4)
+    Ok(true)
 }
 
 /// A number of octets, of which others may have the same one.
