@@ -1,5 +1,6 @@
 -- From what was taken of the octets that a reader gave to what the reader's octets are read as.
 use Rattle.zone_engine.proofs.Common.{◌≡◌, ℕ, ◌<◌, ◌≤◌, ◌+◌, true, List, [], ◌++◌, length, length-append, ap, ◌∙◌, subst, append-nil, arith, ◌==◌, Option, None, IfSome, Consumes, AllByRecursion, Octets, Placed, Held, Pending, Fault, InputTooLong, Place, Whole, Stop, Zone, ReadAs, input_of, input_octets, IsInput, IsForm, all_taken, BeginsAs, IsLoadedOf, ReadsZone, ReadsZoneWithin, RefusesRead, IsOfBytes, IsOfReading, IfRefused, IsRefusalWithin, too_long, reading, common_steps, Consumes-trans, form_of, false, Result, OnOk, Labels, SourceState, as_file, as_transfer, Ok, Err, FileDecides, FileLeave, IsFile, IsTransfer, StandsForInput, TransferLeave}
+use Rattle.zone_set.proofs.Lists.Thinning.{Tells-itself}
 use Rattle.zone_engine.specs.Form.{read_as}
 use Rattle.zone_engine.specs.declared.form.Form.{Form}
 use Rattle.zone_text.specs.TextSource.{FileKept, StandsForFile}
@@ -22,7 +23,7 @@ too_many limit form old new given consumed long = grind (arith, too_long, length
 
 -- what a source begins with is taken of no octets
 pub begun : {Kept : Type 0} (IsOf : ReadAs → Type 0) (Leave : ReadAs → Octets → Kept → Octets → Type 0) (form : ReadAs) (pending : Pending) (inside : Held Kept) (listed : List Placed) (refusal : Option (Fault × Place)) → listed ≡ [] → refusal ≡ None → BeginsAs IsOf Leave pending inside form → IsLoadedOf IsOf Leave pending inside listed refusal form []
-begun IsOf Leave form pending inside listed refusal none unrefused begins = rw none (all_taken unrefused begins.stands begins.nothing)
+begun IsOf Leave form pending inside listed refusal none unrefused begins = rw none (all_taken [] unrefused begins.stands (Tells-itself []) begins.nothing)
 
 -- ---- what was read so far
 

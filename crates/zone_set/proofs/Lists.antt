@@ -5,3 +5,4 @@ pub mod Looking
 pub mod Offering
 pub mod Repeats
 pub mod Taking
+pub mod Thinning

@@ -1,7 +1,7 @@
-ghost use Rattle.std.specs.Prelude.{◌≡◌, ◌<◌, ◌≤◌, ◌++◌, ◌∷◌, ◌^◌, [], take, List, ℕ, IfNone, IfSome};
+ghost use Rattle.std.specs.Prelude.{◌≡◌, ◌<◌, ◌≤◌, ◌++◌, ◌∷◌, ◌^◌, [], length, take, List, ℕ, IfNone, IfSome};
 ghost use Rattle.zone_name.specs.Name.{IsWithin};
 ghost use Rattle.zone_set.specs.Machine.Hint.{first_digits, IsHint, IsPutBefore};
-ghost use Rattle.zone_set.specs.Machine.LabelKey.{label_key, owner_key};
+ghost use Rattle.zone_set.specs.Machine.LabelKey.{hexadecimals_below, label_key, octets_key, owner_key};
 
 use crate::order::are_same;
 use std::cmp::Ordering;
@@ -17,8 +17,8 @@ const WITHIN: u64 = 2 << 57;
 /// The hint of an owner after the base, but for those at or below it.
 const AFTER: u64 = 3 << 57;
 
-/// The highest of seven digits to the base 257.
-const HIGHEST: u64 = 257 * 257 * 257 * 257 * 257 * 257;
+/// The highest of seven digits to the base 273.
+const HIGHEST: u64 = 273 * 273 * 273 * 273 * 273 * 273;
 
 /// The hint of a record: a number that is never less than that of a record before it in canonical
 /// order. Most owners of a zone lie below its base, and these the first octets of the labels before
@@ -60,7 +60,10 @@ fn front_key(base: &Name, owner: &NameRef<'_>) -> Option<u64>
             unreachable!();
         };
         len -= label.len() + 1;
-        key = put_label(label, key);
+        // A digit takes up two octets at most: before fourteen more, seven follow.
+        if len < ending.len() + 14 {
+            key = put_label(label, key);
+        }
     }
     let (_, last) = octets.split_at(octets.len() - len);
     if are_same(last, ending) {
@@ -74,7 +77,50 @@ fn front_key(base: &Name, owner: &NameRef<'_>) -> Option<u64>
 fn put_label(label: &[u8], after: u64) -> u64
     ensures { IsPutBefore (label_key label.now) after result }
 {
-    let mut left = seven_octets(label);
+    match label.split_first() {
+        None => put_digit(0, after),
+        Some((octet, rest)) if rest.is_empty() => put_alone(*octet, after),
+        Some((octet, rest)) => put_longer(*octet, rest, after),
+    }
+}
+
+/// Puts the label of one octet, which has its end in its digit if it is hexadecimal.
+fn put_alone(octet: u8, after: u64) -> u64
+    ensures { IsPutBefore (label_key (octet ∷ [])) after result }
+{
+    let octet = octet as u64;
+    let below = hexadecimals_below(octet);
+    if below == hexadecimals_below(octet + 1) {
+        put_digit(octet + 1 + below, put_digit(0, after))
+    } else {
+        put_digit(octet + 1 + below, after)
+    }
+}
+
+/// Puts a label whose first octet others follow.
+fn put_longer(octet: u8, others: &[u8], after: u64) -> u64
+    requires { 0 < length others.now }
+    ensures { IsPutBefore (label_key (octet ∷ others.now)) after result }
+{
+    let octet = octet as u64;
+    put_digit(
+        octet + 1 + hexadecimals_below(octet + 1),
+        put_octets(others, after),
+    )
+}
+
+/// How many of the hexadecimal digits `0` to `9` and `a` to `f` are less than an octet.
+fn hexadecimals_below(octet: u64) -> u64
+    ensures { result ≡ hexadecimals_below octet }
+{
+    octet.saturating_sub(48).min(10) + octet.saturating_sub(97).min(6)
+}
+
+/// Puts octets and the end of their label before the digits of a number.
+fn put_octets(octets: &[u8], after: u64) -> u64
+    ensures { IsPutBefore (octets_key octets.now) after result }
+{
+    let mut left = seven_octets(octets);
     let mut whole = put_digit(0, after);
     while let Some((octet, before)) = left.split_last() {
         // An octet counts one more, since the end is 0.
@@ -85,16 +131,20 @@ fn put_label(label: &[u8], after: u64) -> u64
 }
 
 /// The first seven octets, after which no octet counts.
-fn seven_octets(label: &[u8]) -> &[u8]
-    ensures { result.now ≡ take 7 label.now }
+fn seven_octets(octets: &[u8]) -> &[u8]
+    ensures { result.now ≡ take 7 octets.now }
 {
-    if label.len() > 7 { &label[..7] } else { label }
+    if octets.len() > 7 {
+        &octets[..7]
+    } else {
+        octets
+    }
 }
 
 /// Puts a digit before those of a number, of which the last one goes.
 fn put_digit(digit: u64, after: u64) -> u64
-    requires { digit ≤ 256 }
+    requires { digit ≤ 272 }
     ensures { IsPutBefore (digit ∷ []) after result }
 {
-    digit * HIGHEST + after / 257
+    digit * HIGHEST + after / 273
 }

@@ -4,7 +4,7 @@ ghost use Rattle.zone_set.specs.Machine.Bulk.{with_hint};
 
 use crate::entry::Entry;
 use crate::hint::is_within;
-use crate::owner::first_label;
+use crate::owner::{first_label, shared_end};
 use crate::tie::{StoredParts, entry_order, stored_at};
 
 /// How many entries are at most sorted by their octets alone.
@@ -13,11 +13,19 @@ const FEW: usize = 8;
 /// After so many digits octets are compared, and no more keys are made.
 const FAR: usize = 320;
 
+/// Of records of fewer octets the digits that all share aren't looked for: keys come to the others soon.
+const SHORT: usize = 48;
+
 /// Sorts entries by their hints.
 pub(crate) fn sort_by_hint(entries: &mut [Entry])
     ensures { IsPermutation entries.old entries.new }
 {
     entries.sort_unstable_by(|a, b| a.hint.cmp(&b.hint));
+}
+
+/// Sorts all entries by their hints and then by their records.
+pub(crate) fn sort_all(entries: &mut [Entry], octets: &[u8], front: usize) {
+    sort(entries, octets, front, 0);
 }
 
 /// Sorts entries by their hints, and then each run of one hint. Those of one hint have the same
@@ -90,9 +98,85 @@ pub(crate) fn sort_run(run: &mut [Entry], octets: &[u8], front: usize, hint: u64
     if run.is_sorted_by(|a, b| entry_order(octets, a, b).is_le()) {
         return;
     }
+    let digit = digit.max(shared_digits(run, octets, front));
+    if digit > FAR {
+        run.sort_unstable_by(|a, b| entry_order(octets, a, b));
+        return;
+    }
     set_keys(run, octets, front, digit);
     sort(run, octets, front, digit + 8);
     set_hint(run, hint);
+}
+
+/// How many digits all records of a run have in common, or fewer.
+#[inline(never)]
+fn shared_digits(run: &[Entry], octets: &[u8], front: usize) -> usize {
+    let Some((first, rest)) = run.split_first() else {
+        return 0;
+    };
+    let Some(one) = stored_at(octets, first.at) else {
+        return 0;
+    };
+    let whole = one.owner.len();
+    if whole.saturating_add(one.data.len()) < SHORT {
+        return 0;
+    }
+    let mut end = one.owner;
+    let mut all = true;
+    let mut kinds = true;
+    let mut data = one.data;
+    let mut same = true;
+    for entry in rest {
+        let Some(other) = stored_at(octets, entry.at) else {
+            return 0;
+        };
+        all &= other.owner.len() == whole;
+        kinds &= other.kind == one.kind;
+        end = shared_end(end, other.owner);
+        if all && kinds {
+            same &= other.data.len() == one.data.len();
+            data = shared_front(data, other.data);
+        }
+    }
+    if all && end.len() == whole {
+        let kind_at = front.max(whole);
+        if kinds && same && data.len() == one.data.len() {
+            // No digit is left.
+            return FAR + 1;
+        }
+        return if kinds {
+            kind_at.saturating_add(2).saturating_add(data.len())
+        } else {
+            kind_at
+        };
+    }
+    end.len().saturating_sub(1)
+}
+
+/// The front that octets share with others, by eight.
+fn shared_front<'z>(a: &'z [u8], b: &[u8]) -> &'z [u8] {
+    let (mut left, mut right) = (a, b);
+    while let (Some((x, more)), Some((y, others))) = (
+        left.split_first_chunk::<8>(),
+        right.split_first_chunk::<8>(),
+    ) {
+        if x != y {
+            break;
+        }
+        left = more;
+        right = others;
+    }
+    while let (Some((x, more)), Some((y, others))) = (left.split_first(), right.split_first()) {
+        if x != y {
+            break;
+        }
+        left = more;
+        right = others;
+    }
+    match a.split_at_checked(a.len().saturating_sub(left.len())) {
+        Some((front, _)) => front,
+        None => a,
+    }
 }
 
 /// Gives each entry the key of its record.
@@ -115,7 +199,8 @@ fn set_hint(run: &mut [Entry], hint: u64)
 }
 
 /// Eight of the digits by which records are ordered, from one on: those of the labels of the owner
-/// from the right, each before a 0, further 0 up to the front, and the type and the data.
+/// from the right, further 0 up to the front, and the type and the data. Digits are counted as if
+/// each octet of a label and its end were one: a label of one digit takes up two.
 #[inline(never)]
 fn key_of(octets: &[u8], at: usize, front: usize, digit: usize) -> u64 {
     let Some(stored) = stored_at(octets, at) else {
@@ -123,14 +208,22 @@ fn key_of(octets: &[u8], at: usize, front: usize, digit: usize) -> u64 {
     };
     // The root's octet is no digit.
     let mut end = stored.owner.len().saturating_sub(1);
-    let mut key = key_of_data(&stored, end, front, digit);
+    let past = digit.saturating_add(16);
+    let mut key = if end < past {
+        key_of_data(&stored, end, front, digit)
+    } else {
+        0
+    };
     let mut labels = stored.owner;
     while let Some((label, rest)) = first_label(labels) {
         if end <= digit {
             break;
         }
         end = end.saturating_sub(label.len().saturating_add(1));
-        key = put_label(label, digit.saturating_sub(end), key >> 8);
+        // Those before have eight digits, even if each has one alone.
+        if end < past {
+            key = put_label(label, digit.saturating_sub(end), key);
+        }
         labels = rest;
     }
     key
@@ -150,20 +243,55 @@ fn key_of_data(stored: &StoredParts<'_>, end: usize, front: usize, digit: usize)
 fn put(octets: &[u8], from: usize, after: u64) -> u64 {
     let mut key = after;
     for octet in eight(octets, from).iter().rev() {
-        key = key >> 8 | (*octet as u64) << 56;
+        key = put_digit(*octet, key);
     }
     key
 }
 
-/// Puts the digits of a label from one on before those of a key. No label has a capital letter, so
-/// octets before those count one more, since the end is 0.
+/// Puts the digits of a label from one on, and its end, before those of a key. No label has a capital
+/// letter, so that an octet has room for each digit.
 fn put_label(label: &[u8], from: usize, after: u64) -> u64 {
+    if from > 0 {
+        return put_octets(label, from, after >> 8);
+    }
+    match label {
+        [octet] if octet.is_ascii_hexdigit() => put_digit(leading_digit(*octet), after),
+        [octet, ..] if octet.is_ascii_hexdigit() => {
+            put_digit(leading_digit(*octet) + 1, put_octets(label, 1, after >> 8))
+        }
+        [octet, ..] => put_digit(leading_digit(*octet), put_octets(label, 1, after >> 8)),
+        [] => after >> 8,
+    }
+}
+
+/// The digit of an octet that begins a label. One that is hexadecimal leaves room for that of a label
+/// that has more octets, since its own label has no end.
+fn leading_digit(octet: u8) -> u8
+    ensures { result < 255 }
+{
+    match octet {
+        ..b'0' => octet + 1,
+        b'0'..=b'9' => 49 + 2 * (octet - b'0'),
+        b':'..=b'@' => octet + 11,
+        b'A'..=b'`' => octet - 15,
+        b'a'..=b'f' => 82 + 2 * (octet - b'a'),
+        b'g'.. => octet - 9,
+    }
+}
+
+/// Puts octets of a label from one on before the digits of a key: those before the capital letters
+/// count one more, since the end is 0.
+fn put_octets(octets: &[u8], from: usize, after: u64) -> u64 {
     let mut key = after;
-    for octet in eight(label, from).iter().rev() {
-        let digit = if *octet < b'[' { *octet + 1 } else { *octet };
-        key = key >> 8 | (digit as u64) << 56;
+    for octet in eight(octets, from).iter().rev() {
+        key = put_digit(if *octet < b'[' { *octet + 1 } else { *octet }, key);
     }
     key
+}
+
+/// Puts a digit before those of a key, of which the last one goes.
+fn put_digit(digit: u8, after: u64) -> u64 {
+    after >> 8 | (digit as u64) << 56
 }
 
 /// The octets from one on, at most eight, after which none counts.

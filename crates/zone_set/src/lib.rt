@@ -19,6 +19,7 @@ mod places;
 mod put;
 mod records;
 mod refusal;
+mod repeats;
 mod sets;
 mod stored;
 mod tie;

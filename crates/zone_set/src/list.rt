@@ -1,4 +1,4 @@
-ghost use Rattle.std.specs.Prelude.{◌≡◌, ◌↔◌, ◌⊎◌, ◌++◌, ◌∷◌, IsTrue, List, [], true, false, length, IfOk, IfErr, OnOk, OnErr, if◌then◌else◌};
+ghost use Rattle.std.specs.Prelude.{◌≡◌, ◌↔◌, ◌⊎◌, ◌++◌, ◌∷◌, IsTrue, List, ℕ, [], true, false, length, IfOk, IfErr, IfSome, drop, OnOk, OnErr, if◌then◌else◌};
 ghost use Rattle.std.specs.List.{AllByRecursion};
 ghost use Rattle.zone_rdata.specs.Lent.{record_of};
 ghost use Rattle.zone_rdata.specs.Record.{IsRecord, Record};
@@ -6,26 +6,31 @@ ghost use Rattle.zone_name.specs.Common.{Labels};
 ghost use Rattle.zone_set.specs.Machine.Bulk.{placed_at, KeepsList};
 ghost use Rattle.zone_set.specs.Machine.Held.{all_records};
 ghost use Rattle.zone_set.specs.Builder.{OtherClass};
-ghost use Rattle.zone_set.specs.Machine.Stored.{stored};
+ghost use Rattle.zone_set.specs.Machine.Stored.{stored, AreKept};
 ghost use Rattle.zone_set.specs.Refusal.{records_of};
-ghost use Rattle.zone_set.specs.ZoneList.{IsSettledAs, ListsAll, StopsListing, StopsSettling};
+ghost use Rattle.zone_set.specs.Zone.{Has};
+ghost use Rattle.zone_set.specs.declared.entry.Entry.{Entry};
+ghost use Rattle.zone_set.specs.ZoneList.{IsSettledAs, ListsAll, StopsListing, StopsSettling, Tells};
 
 use crate::builder::ZoneBuilder;
 use crate::bulk::settle;
 use crate::entry::Entry;
 use crate::hint::hint_of;
+use crate::kept_records::KeptRecords;
 use crate::messages::len_of_entries;
 use crate::offer::offer;
 use crate::places::Places;
+use crate::repeats::{FIRST_MARK, Groups, may_be_many};
 use crate::sets::Sets;
-use crate::stored::append;
+use crate::stored::{append, record_at};
 use std::alloc::{AllocError, Global};
 use std::marker::Model;
 use zone_name::{Name, NameRef};
 use zone_rdata::{Class, Fault, LendingSource, Place, RrRef, Stop};
 
-/// The records of an input as they come, each with its place. Whether they can stand together is
-/// told when all are there. Contracts see them in the order in which they came.
+/// The records of an input as they come, each with its place. Repeats are dropped where there are
+/// many. Whether the records can stand together is told when all are there. Contracts see what is
+/// kept, in the order in which it came.
 #[derive(Drop)]
 pub struct ZoneList {
     alloc: Global,
@@ -39,6 +44,8 @@ pub struct ZoneList {
     entries: Vec<Entry>,
     /// Where each record stands in the input.
     places: Places,
+    /// At how many octets repeats are looked for.
+    mark: usize,
 }
 
 impl Model for ZoneList {
@@ -70,6 +77,7 @@ impl ZoneList {
             octets: Vec::new(alloc),
             entries: Vec::new(alloc),
             places: Places::new(alloc),
+            mark: FIRST_MARK,
         }
     }
 
@@ -90,7 +98,7 @@ impl ZoneList {
     {
         while let Some(placed) = source.first() {
             let place = placed.place;
-            let listed = self.list(&placed.rr, place);
+            let listed = self.take(&placed.rr, place);
             source.skip();
             if !listed? {
                 return Err(Stop::Refused(Fault::ClassMismatch, place));
@@ -98,6 +106,82 @@ impl ZoneList {
         }
         // With no record left the fault at the end, if there is one.
         source.next()?;
+        Ok(())
+    }
+
+    /// Lists a record, and tells whether none of another class is listed. Before it repeats are
+    /// dropped, where that is due.
+    ///
+    /// # Errors
+    ///
+    /// `AllocError` where memory is refused.
+    #[tactic(auto, using(crate::proofs::Lists::Thinning::tells_pushed))]
+    fn take(&mut self, rr: &RrRef<'_>, place: Place) -> Result<bool, AllocError>
+        ensures taken { IfOk result (λ is_listed. is_listed ≡ true
+            → Tells (self.old ++ record { rr = record_of rr.now; place = place } ∷ []) self.new) }
+        ensures refused { IfOk result (λ is_listed. is_listed ≡ false
+            → OtherClass (records_of self.new) (record_of rr.now) × Tells self.old self.new) }
+        ensures kept { OnErr result (Tells self.old self.new) }
+    {
+        self.drop_repeats_if_due()?;
+        self.list(rr, place)
+    }
+
+    /// Drops repeats, where as much is held as the mark says and there may be many.
+    ///
+    /// # Errors
+    ///
+    /// `AllocError` where memory is refused.
+    fn drop_repeats_if_due(&mut self) -> Result<(), AllocError>
+        ensures { Tells self.old self.new }
+    {
+        if self.octets.len() < self.mark {
+            return Ok(());
+        }
+        self.look_for_repeats()
+    }
+
+    /// Drops repeats, where there may be many, and sets the mark anew.
+    ///
+    /// # Errors
+    ///
+    /// `AllocError` where memory is refused.
+    #[inline(never)]
+    fn look_for_repeats(&mut self) -> Result<(), AllocError>
+        ensures { Tells self.old self.new }
+    {
+        let mut growth = 4;
+        if may_be_many(self.alloc, self.octets.as_slice(), self.entries.as_slice())? {
+            self.drop_repeats()?;
+            growth = 2;
+        }
+        self.mark = FIRST_MARK.max(self.octets.len().saturating_mul(growth));
+        Ok(())
+    }
+
+    /// Drops repeats, as far as they are found.
+    ///
+    /// # Errors
+    ///
+    /// `AllocError` where memory is refused. The list is unchanged.
+    fn drop_repeats(&mut self) -> Result<(), AllocError>
+        ensures { Tells self.old self.new }
+    {
+        let front = self.base.wire().len().saturating_add(6);
+        let mut groups = Groups::new(
+            self.alloc,
+            self.octets.as_slice(),
+            self.entries.as_slice(),
+            front,
+        )?;
+        let packed = ZoneList::relist(
+            self.alloc,
+            self.class,
+            self.octets.as_slice(),
+            &self.places,
+            &mut groups,
+        )?;
+        *self = packed;
         Ok(())
     }
 
@@ -155,6 +239,45 @@ impl ZoneList {
         Ok(())
     }
 
+    /// Lists records anew, each with its place, but for those of which an equal one is listed: which
+    /// one that may be is told by groups.
+    ///
+    /// # Errors
+    ///
+    /// `AllocError` where memory is refused.
+    fn relist(
+        alloc: Global,
+        class: Class,
+        octets: &[u8],
+        places: &Places,
+        groups: &mut Groups,
+    ) -> Result<ZoneList, AllocError>
+        ghost records: { List Record }
+        requires { AreKept class octets.now records }
+        ensures { IfOk result (Tells (placed_at records places.now)) }
+    {
+        let mut list = ZoneList::new(alloc);
+        for (rr, place) in KeptRecords::new(class, octets).zip(places.iter()) {
+            let number = groups.next_number();
+            if list.has(groups.kept(number), &rr) {
+                continue;
+            }
+            groups.keep(number, list.entries.len());
+            list.push(&rr, place)?;
+        }
+        Ok(list)
+    }
+
+    /// Whether the record of the entry at an index is this one.
+    fn has(&self, index: Option<usize>, rr: &RrRef<'_>) -> bool
+        ensures { IsTrue result → Has (records_of self.now) (record_of rr.now) }
+    {
+        let Some(entry) = entry_at(self.entries.as_slice(), index) else {
+            return false;
+        };
+        record_at(self.class, self.octets.as_slice(), entry.at).is_same(rr)
+    }
+
     /// The builder of all records.
     ///
     /// # Errors
@@ -171,6 +294,7 @@ impl ZoneList {
             octets,
             entries,
             places,
+            ..
         } = self;
         settle_parts(alloc, class, base, octets, entries, places)
     }
@@ -256,4 +380,13 @@ fn has_none(entries: &[Entry]) -> bool
     ensures { IsTrue result ↔ (entries.now ≡ []) }
 {
     entries.is_empty()
+}
+
+/// The entry at an index, if one is given and there is one.
+fn entry_at(entries: &[Entry], index: Option<usize>) -> Option<Entry>
+    ensures { IfSome result (λ e. (k : ℕ) × (rest : List Entry) × (drop k entries.now ≡ e ∷ rest)) }
+{
+    let (_, from) = entries.split_at_checked(index?)?;
+    let (entry, _) = from.split_first()?;
+    Some(*entry)
 }

@@ -1,7 +1,7 @@
 ghost use Rattle.std.specs.Prelude.{◌≡◌, ◌<◌, List, ℕ, length, IfSome, IsTrue};
 ghost use Rattle.zone_name.specs.Name.{labels_of};
 ghost use Rattle.zone_name.specs.Order.{name_cmp};
-ghost use Rattle.zone_set.specs.Machine.Owner.{AreFirst, IsFirst};
+ghost use Rattle.zone_set.specs.Machine.Owner.{AreFirst, IsFirst, IsLabelBefore};
 
 use crate::order::{are_same, octet_order};
 use std::cmp::Ordering;
@@ -13,8 +13,84 @@ pub(crate) fn owner_order(owner: &NameRef<'_>, other: &NameRef<'_>) -> Ordering
 {
     match order_by_first_label(owner.wire(), other.wire()) {
         Some(order) => order,
-        None => owner.cmp(other),
+        None => match order_by_end(owner.wire(), other.wire()) {
+            Some(order) => order,
+            None => owner.cmp(other),
+        },
     }
+}
+
+/// How owners lie, by the labels before the octets that end both, if these tell it.
+#[inline(never)]
+pub(crate) fn order_by_end(a: &[u8], b: &[u8]) -> Option<Ordering>
+    ensures { IfSome result (λ order. order ≡ name_cmp (labels_of a.now) (labels_of b.now)) }
+{
+    let end = shared_len(a, b);
+    let (label, rest) = label_before(a, end)?;
+    let (other, more) = label_before(b, end)?;
+    if !are_same(rest, more) {
+        return None;
+    }
+    match octet_order(label, other) {
+        Ordering::Equal => None,
+        order => Some(order),
+    }
+}
+
+/// How many octets end both.
+fn shared_len(a: &[u8], b: &[u8]) -> usize {
+    let (mut left, mut right) = (a, b);
+    while let (Some((rest, x)), Some((more, y))) = (
+        left.split_last_chunk::<8>(),
+        right.split_last_chunk::<8>(),
+    ) {
+        if x != y {
+            break;
+        }
+        left = rest;
+        right = more;
+    }
+    while let (Some((x, rest)), Some((y, more))) = (left.split_last(), right.split_last()) {
+        if x != y {
+            break;
+        }
+        left = rest;
+        right = more;
+    }
+    a.len().saturating_sub(left.len())
+}
+
+/// The label before the last octets of a name, and those octets.
+#[tactic(auto, using(crate::proofs::Ordering::Owners::label_first, crate::proofs::Ordering::Owners::label_more))]
+fn label_before(name: &[u8], end: usize) -> Option<(&[u8], &[u8])>
+    ensures { IfSome result (λ parts. IsLabelBefore name.now parts.0.now parts.1.now) }
+{
+    let (mut label, mut rest) = first_label(name)?;
+    while rest.len() > end {
+        let (next, after) = first_label(rest)?;
+        label = next;
+        rest = after;
+    }
+    Some((label, rest))
+}
+
+/// The octets of the labels that end both names, as far as these are told.
+pub(crate) fn shared_end<'z>(a: &'z [u8], b: &[u8]) -> &'z [u8] {
+    let (mut end, mut left) = (a, b);
+    while left.len() != end.len() || !are_same(left, end) {
+        if left.len() > end.len() {
+            match first_label(left) {
+                Some((_, rest)) => left = rest,
+                None => return end,
+            }
+        } else {
+            match first_label(end) {
+                Some((_, rest)) => end = rest,
+                None => return end,
+            }
+        }
+    }
+    end
 }
 
 /// How owners lie, if their first labels tell it. Those of one hint mostly are the same, or differ

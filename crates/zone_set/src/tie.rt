@@ -3,7 +3,7 @@ ghost use Rattle.zone_set.specs.Machine.Bulk as bulk;
 
 use crate::entry::Entry;
 use crate::order::{are_same, octet_order};
-use crate::owner::{first_label, order_by_first_label};
+use crate::owner::{first_label, order_by_end, order_by_first_label};
 use std::cmp::Ordering;
 
 /// How the records of entries lie, by which they are sorted. Nothing rests on it but how soon a
@@ -22,7 +22,7 @@ fn tie_order(octets: &[u8], a: usize, b: usize) -> Ordering {
         return Ordering::Equal;
     };
     match owner_order(x.owner, y.owner) {
-        Ordering::Equal if x.kind == y.kind => octet_order(x.data, y.data),
+        Ordering::Equal if x.kind == y.kind => octet_order(x.data, y.data).then(x.ttl.cmp(&y.ttl)),
         Ordering::Equal => x.kind.cmp(&y.kind),
         owners => owners,
     }
@@ -34,25 +34,30 @@ pub(crate) struct StoredParts<'z> {
     pub(crate) owner: &'z [u8],
     pub(crate) kind: u16,
     pub(crate) data: &'z [u8],
+    pub(crate) ttl: u32,
 }
 
 /// The parts of what stands at a place, if a whole record does.
 pub(crate) fn stored_at<'z>(octets: &'z [u8], at: usize) -> Option<StoredParts<'z>> {
     let (_, from) = octets.split_at_checked(at)?;
     let (head, from) = from.split_first_chunk::<9>()?;
-    let [_, _, _, _, k0, k1, owner_len, d0, d1] = *head;
+    let [t0, t1, t2, t3, k0, k1, owner_len, d0, d1] = *head;
     let (owner, from) = from.split_at_checked(owner_len as usize)?;
     let (data, _) = from.split_at_checked(u16::from_be_bytes([d0, d1]) as usize)?;
     Some(StoredParts {
         owner,
         kind: u16::from_be_bytes([k0, k1]),
         data,
+        ttl: u32::from_be_bytes([t0, t1, t2, t3]),
     })
 }
 
 /// How owners lie, by their labels from the right.
 fn owner_order(a: &[u8], b: &[u8]) -> Ordering {
     if let Some(order) = order_by_first_label(a, b) {
+        return order;
+    }
+    if let Some(order) = order_by_end(a, b) {
         return order;
     }
     let (len, other_len) = (label_count(a), label_count(b));

@@ -10,7 +10,7 @@ use Rattle.zone_rdata.specs.declared.fault.Stop.{Stop}
 use Rattle.zone_rdata.specs.declared.record.Placed.{Placed}
 use Rattle.zone_set.specs.Refusal.{AllAccepted, IsFirstRefused, records_of}
 use Rattle.zone_set.specs.Zone.{Zone, IsZone, SameRecords}
-use Rattle.zone_set.specs.ZoneList.{StopsSettling}
+use Rattle.zone_set.specs.ZoneList.{StopsSettling, Tells}
 use Rattle.zone_print.specs.Device.{Device}
 use Rattle.zone_engine.specs.Input.{Input, input_octets, InputReads}
 use Rattle.zone_engine.specs.Machine.Fed.{StandsForInput}
@@ -31,12 +31,12 @@ pub data RefusesFront (placed : List Placed)
 abbrev pub nothing_pending : Pending
 nothing_pending = record { failed = false; records = []; ending = None }
 
--- What was taken of octets that were fed: all records that the source gave, with nothing left; or
--- the input is refused by what a prefix of the octets decides
+-- What was taken of octets that were fed: what is listed tells of all records that the source gave,
+-- with nothing left; or the input is refused by what a prefix of the octets decides
 pub data IsLoaded (Stands : Octets → List Placed → Type 0) (form : ReadAs) (pending : Pending)
     (listed : List Placed) (refusal : Option (Fault × Place)) (octets : Octets) : Type 0 where
-  all_taken : refusal ≡ None → Stands octets listed → pending ≡ nothing_pending
-      → IsLoaded Stands form pending listed refusal octets
+  all_taken : (given : List Placed) → refusal ≡ None → Stands octets given → Tells given listed
+      → pending ≡ nothing_pending → IsLoaded Stands form pending listed refusal octets
   front_refuses : (front more : Octets) (placed : List Placed) (ending : Option (Fault × Place))
       (fault : Fault) (place : Place) → refusal ≡ Some (fault, place) → octets ≡ front ++ more
       → Decides (input_of form front) placed ending → RefusesFront placed ending fault place

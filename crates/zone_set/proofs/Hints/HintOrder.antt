@@ -21,7 +21,7 @@ module _ (base : List (List ℕ)) where
   digits : (x front : List (List ℕ)) → IsName x → x ≡ front ++ base → AreDigits (owner_key front)
   digits x front name is = owner_low front (AllByRecursion-front IsLabel front base (subst (AllByRecursion IsLabel) is name.each))
 
-  low : (x front : List (List ℕ)) → IsName x → x ≡ front ++ base → first_digits 7 (owner_key front) < 257 ^ 7
+  low : (x front : List (List ℕ)) → IsName x → x ≡ front ++ base → first_digits 7 (owner_key front) < 273 ^ 7
   low x front name is = first_digits-bound 7 (owner_key front) (digits x front name is)
 
   -- what is below the base is before what is after it and not below it

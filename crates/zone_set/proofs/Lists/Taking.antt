@@ -1,7 +1,9 @@
 -- Records taken from a source, one after another.
 use Rattle.zone_set.proofs.Common.{ClassMismatch, Err, List, ListsAll, Memory, None, Ok, Option, OtherClass, Placed, Record, Refused, Some, Stop, StopsListing, [], ap, append-nil, append_assoc, arith, false, refl, rules, subst, true, ◌++◌, ◌∙◌, ◌∷◌, ◌≡◌}
 use Rattle.zone_rdata.specs.RrSource.{Pending, answer_of, after, first_of, others}
+use Rattle.zone_set.proofs.Lists.Thinning.{Tells-first, Tells-trans}
 use Rattle.zone_set.specs.Refusal.{records_of}
+use Rattle.zone_set.specs.ZoneList.{Tells}
 use Rattle.zone_set.specs.Builder.{Accepts, Adds, AddsEach, StopsAdd, leaves, StopsTaking, fault, failure, memory, refused as by_fault, ending as by_ending}
 use Rattle.zone_set.specs.ZoneList as zone_list
 
@@ -45,10 +47,10 @@ module _ (old now : List Record) (start left : Pending) (had : HasTaken (λ take
 
 -- ---- a list of them
 
-pub listed_push : (old now new taken : List Placed) (p : Placed) → now ≡ old ++ taken → new ≡ now ++ p ∷ [] → new ≡ old ++ (taken ++ p ∷ [])
-listed_push old now new taken p is more = more ∙ ap (λ ps. ps ++ p ∷ []) is ∙ append_assoc old taken (p ∷ [])
+pub listed_push : (old now new taken : List Placed) (p : Placed) → Tells (old ++ taken) now → Tells (now ++ p ∷ []) new → Tells (old ++ (taken ++ p ∷ [])) new
+listed_push old now new taken p is more = Tells-trans (old ++ (taken ++ p ∷ [])) (now ++ p ∷ []) new (subst (λ ps. Tells ps (now ++ p ∷ [])) (append_assoc old taken (p ∷ [])) (Tells-first (old ++ taken) now is p)) more
 
-module _ (old now : List Placed) (start left : Pending) (had : HasTaken (λ taken. now ≡ old ++ taken) start left) where
+module _ (old now : List Placed) (start left : Pending) (had : HasTaken (λ taken. Tells (old ++ taken) now) start left) where
   pub ListsAll-at_end : (o : Option Placed) (next : Pending) → None ≡ first_of left → answer_of left ≡ Ok o → next ≡ after left → ListsAll old start now next
   ListsAll-at_end o next none answer is = search rules
 
@@ -56,9 +58,9 @@ module _ (old now : List Placed) (start left : Pending) (had : HasTaken (λ take
   StopsListing-at_end stop next answer is = grind (arith, zone_list.failure, zone_list.ending, append-nil)
 
   -- where the next record was dropped and not listed
-  module _ (p : Placed) (new : List Placed) (next : Pending) (answer : answer_of left ≡ Ok (Some p)) (is : next ≡ after left) (same : new ≡ now) where
-    pub StopsListing-class : OtherClass (records_of now) p.rr → StopsListing old start new next (Refused ClassMismatch p.place)
-    StopsListing-class other = grind (arith, first_parts left p answer, zone_list.class)
+  module _ (p : Placed) (new : List Placed) (next : Pending) (answer : answer_of left ≡ Ok (Some p)) (is : next ≡ after left) (same : Tells now new) where
+    pub StopsListing-class : OtherClass (records_of new) p.rr → StopsListing old start new next (Refused ClassMismatch p.place)
+    StopsListing-class other = grind (arith, first_parts left p answer, zone_list.class, Tells-trans (old ++ had.taken) now new had.took same)
 
     pub StopsListing-memory : StopsListing old start new next Memory
-    StopsListing-memory = grind (arith, first_parts left p answer, zone_list.memory)
+    StopsListing-memory = grind (arith, first_parts left p answer, zone_list.memory, Tells-trans (old ++ had.taken) now new had.took same)

@@ -7,15 +7,15 @@ use Rattle.zone_name.specs.Name.{IsWithin}
 use Rattle.zone_name.specs.Order.{name_cmp}
 use Rattle.zone_set.specs.Machine.LabelKey.{owner_key}
 
--- digits to the base 257
+-- digits to the base 273
 abbrev pub AreDigits : List ℕ → Type 0
-AreDigits digits = AllByRecursion (λ d. d < 257) digits
+AreDigits digits = AllByRecursion (λ d. d < 273) digits
 
 -- the first n digits as a number, high digit first, with 0 for each digit that is missing
 abbrev pub first_digits : ℕ → List ℕ → ℕ
 first_digits zero digits = 0
 first_digits (suc n) [] = 0
-first_digits (suc n) (d ∷ digits) = d * 257 ^ n + first_digits n digits
+first_digits (suc n) (d ∷ digits) = d * 273 ^ n + first_digits n digits
 
 -- an SOA goes before all else; the high bits tell where another record's owner lies to the base:
 -- before it, at or below it, or after it; the rest tells apart the owners at or below it by the

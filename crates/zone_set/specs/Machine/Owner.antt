@@ -1,5 +1,6 @@
 -- The first label of an owner, as its octets begin with it.
-use Rattle.std.specs.Prelude.{◌≡◌, ℕ, ◌<◌, List, ◌∷◌, take, drop}
+use Rattle.std.specs.Prelude.{◌≡◌, ℕ, ◌<◌, List, ◌∷◌, ◌++◌, take, drop}
+use Rattle.zone_name.specs.Name.{labels_of}
 
 -- octets begin with a label after its length, and these follow it
 pub record IsFirst (octets label rest : List ℕ) : Type 0 where
@@ -15,3 +16,8 @@ pub record AreFirst (a b label other : List ℕ) : Type 0 where
   pub rest : List ℕ
   pub first : IsFirst a label rest
   pub second : IsFirst b other rest
+
+-- a label of a name, and the octets of those that follow it
+pub record IsLabelBefore (name label rest : List ℕ) : Type 0 where
+  pub front : List (List ℕ)
+  pub parts : labels_of name ≡ front ++ label ∷ labels_of rest

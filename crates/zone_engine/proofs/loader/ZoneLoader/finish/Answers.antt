@@ -1,5 +1,5 @@
 use Rattle.zone_engine.proofs.Common.{err_from_is_err_and, MatchResult-weaker}
-use Rattle.zone_engine.proofs.Reading.Taken.{zone_of_records, zone_read, listing_refused, settling_refused, finishing_refused, first_is_of_bytes}
+use Rattle.zone_engine.proofs.Reading.Taken.{zone_of_records, zone_read, listing_refused, settling_refused, finishing_is_of_bytes, finishing_refused, first_is_of_bytes}
 use Rattle.zone_engine.proofs.loader.ZoneLoader.finish.Goals as goal
 
 pub returns-in-Err-clause-fault : goal.returns-in-Err-clause-fault
@@ -28,3 +28,7 @@ returns-in_ok-settle-in-Ok-clause-fault g c =
     MatchResult-weaker c.finish-in-Ok.result c.finish-in-Ok.ensures.stopped (λ z h. h) (λ stop stops form octets is each taken.
     finishing_refused g.S.FedSource.IsOf g.S.FedSource.Leave form _ (g.S.RrSource.pending c.finish.new.self) _ (g.S.FedSource.held c.finish.new.self) c.args.self.list octets c.args.self.refusal c.in-None.is
     c.in_ok-finish-in-None.ensures.finishes.finished (λ given. c.in_ok-finish-in-None.ensures.stands form octets given) c.take_lent.new.self _ _ stop c.in-Ok.ensures.taken c.in_ok-settle-in-Ok.ensures.taken stops taken)
+
+pub returns-in_ok-settle-in-Ok-clause-stopped : goal.returns-in_ok-settle-in-Ok-clause-stopped
+returns-in_ok-settle-in-Ok-clause-stopped g c =
+    MatchResult-weaker c.finish-in-Ok.result c.finish-in-Ok.ensures.stopped (λ z h. h) (λ stop stops. finishing_is_of_bytes _ stop stops)

@@ -1,11 +1,12 @@
 use Rattle.std.proofs.Common.{length, ◌≡◌, ◌++◌}
 use Rattle.zone_set.proofs.Lists.Taking.{HasTaken}
+use Rattle.zone_set.specs.ZoneList.{Tells}
 use Rattle.zone_set.proofs.list.ZoneList.take_lent.Given as goal
 
 -- some first records of the source were listed, and nothing else of it changed
 abbrev pub invariant-loop-placed : goal.invariant-loop-placed
 invariant-loop-placed g l =
-    HasTaken (λ taken. l.self ≡ l.fn.self ++ taken) (g.S.RrSource.pending l.fn.source) (g.S.RrSource.pending l.source)
+    HasTaken (λ taken. Tells (l.fn.self ++ taken) l.self) (g.S.RrSource.pending l.fn.source) (g.S.RrSource.pending l.source)
     × (g.S.RrSource.beside l.source ≡ g.S.RrSource.beside l.fn.source)
 
 abbrev pub decreases-loop-placed : goal.decreases-loop-placed
