@@ -1,6 +1,6 @@
 ghost use Rattle.std.specs.Prelude.{◌≡◌, drop, map, IfOk, IfErr, string_bytes};
 ghost use Rattle.zone_name.specs.Common.{NothingIs};
-ghost use Rattle.words_command.specs.Machine.Calling.{texts_of, IsOfCall};
+ghost use Rattle.words_command.specs.Machine.Calling.{texts_of, IsOfCall, IsOfOrigin};
 ghost use Rattle.words_command.specs.Order.{Asks, IsOriginText, Orders, IsLineFault, line_status, line_text};
 
 use crate::command::PROGRAM;
@@ -27,6 +27,8 @@ pub enum Order {
 pub enum LineFault {
     /// The origin is no absolute name.
     BadOrigin,
+    /// The origin is a name that lacks the dot at its end alone.
+    NoFinalDot,
     /// What `clap` tells a user in place of matches, help included.
     Clap(String),
     /// Memory was refused.
@@ -63,6 +65,9 @@ impl LineFault {
     {
         match self {
             LineFault::BadOrigin => "an origin is an absolute name",
+            LineFault::NoFinalDot => {
+                "an origin is an absolute name; this one lacks the dot at its end"
+            }
             LineFault::Clap(text) => text.as_str(),
             LineFault::Memory => OUT_OF_MEMORY,
         }
@@ -73,7 +78,9 @@ impl LineFault {
         ensures { result ≡ line_status self.now }
     {
         match self {
-            LineFault::BadOrigin | LineFault::Clap(_) => status::BAD_COMMAND_LINE,
+            LineFault::BadOrigin | LineFault::NoFinalDot | LineFault::Clap(_) => {
+                status::BAD_COMMAND_LINE
+            }
             LineFault::Memory => status::FAILED,
         }
     }
@@ -83,7 +90,8 @@ impl LineFault {
 ///
 /// # Errors
 ///
-/// `BadOrigin` where the text of the origin spells no absolute name (RFC 1035 5.1); `Clap` where
+/// `NoFinalDot` where the text of the origin spells no absolute name (RFC 1035 5.1), and would spell
+/// one with a dot at its end, and `BadOrigin` where it spells none for another reason; `Clap` where
 /// `clap` gives no matches for a command, help included; `Memory`.
 pub fn order_of(alloc: Global, words: &[String]) -> Result<Order, LineFault>
     ensures ordered { IfOk result (Orders (map string_bytes words.now)) }
@@ -140,7 +148,7 @@ impl Call<'_> {
     ///
     /// # Errors
     ///
-    /// `BadOrigin`.
+    /// `BadOrigin` and `NoFinalDot`.
     fn order(self) -> Result<Order, LineFault>
         ensures ordered { IfOk result (Asks (texts_of self.entry)) }
         ensures refused { IfErr result (IsOfCall (texts_of self.entry)) }
@@ -156,14 +164,27 @@ impl Call<'_> {
 ///
 /// # Errors
 ///
-/// `BadOrigin`.
+/// `BadOrigin` and `NoFinalDot`.
 fn origin_of(text: &str) -> Result<CasedName, LineFault>
     ensures ordered { IfOk result (IsOriginText text.now) }
-    ensures refused { IfErr result
-        (λ fault. (fault ≡ LineFault.BadOrigin) × NothingIs (IsOriginText text.now)) }
+    ensures refused { IfErr result (IsOfOrigin text.now) }
 {
     match CasedName::from_text(text.as_bytes(), None) {
         Ok(origin) => Ok(origin),
-        Err(_) => Err(LineFault::BadOrigin),
+        Err(_) => Err(fault_of(text)),
+    }
+}
+
+/// Why a text is no origin. `@` is the name of another origin, and no name without its dot.
+fn fault_of(text: &str) -> LineFault
+    requires { NothingIs (IsOriginText text.now) }
+    ensures { IsOfOrigin text.now result }
+{
+    if text == "@" {
+        return LineFault::BadOrigin;
+    }
+    match CasedName::from_text(text.as_bytes(), Some(&CasedName::root())) {
+        Ok(_) => LineFault::NoFinalDot,
+        Err(_) => LineFault::BadOrigin,
     }
 }

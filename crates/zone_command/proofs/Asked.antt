@@ -1,6 +1,7 @@
 -- From what `clap` found to the order that the words give.
-use Rattle.zone_command.proofs.Common.{◌≡◌, ℕ, Bool, true, false, nat_eq, List, sym, ◌∙◌, codes, arith, pointwise, bytes_decides, Some, None, Row, Text, first_of, NothingIs, Call, command_of, arguments_of, IsOriginText}
+use Rattle.zone_command.proofs.Common.{◌≡◌, ℕ, Bool, true, false, nat_eq, List, [], sym, ◌∙◌, codes, arith, pointwise, bytes_decides, Some, None, Row, Text, first_of, NothingIs, Call, command_of, arguments_of, IsOriginText}
 use Rattle.zone_name.specs.Spelling.{Spells}
+use Rattle.zone_command.specs.Order.{IsNoOrigin}
 use Rattle.command_line.proofs.Asked.{Given}
 
 pub no_normalise : (rows : List Row) → first_of (codes "ORIGIN") rows ≡ None → (call : Call) → command_of call ≡ codes "normalise" → Given rows (arguments_of call) → ⊥
@@ -26,3 +27,7 @@ not_same text word b test fails is = let yes : pointwise nat_eq text word ≡ tr
 pub no_origin : (text : Text) → (text ≡ codes "transfer" → ⊥) → ((name : List (List ℕ)) → Spells None text name → ⊥) → NothingIs (IsOriginText text)
 no_origin text other spells None is = other is
 no_origin text other spells (Some name) is = spells name is
+
+-- a text that spells no name under the root lacks more than a dot
+pub no_name : (text : Text) → NothingIs (IsOriginText text) → ((name : List (List ℕ)) → Spells (Some []) text name → ⊥) → IsNoOrigin text
+no_name text none spells = record { none = none; not_undotted = λ undotted. spells undotted.origin undotted.under_root }

@@ -1,6 +1,6 @@
 ghost use Rattle.std.specs.Prelude.{◌≡◌, drop, map, IfOk, IfErr, string_bytes};
 ghost use Rattle.zone_name.specs.Common.{NothingIs};
-ghost use Rattle.zone_command.specs.Machine.Calling.{texts_of, IsOfCall};
+ghost use Rattle.zone_command.specs.Machine.Calling.{texts_of, IsOfCall, IsOfOrigin};
 ghost use Rattle.zone_command.specs.Order.{Asks, IsOriginText, IsSource, Orders, IsLineFault, line_status, line_text};
 
 use crate::command::PROGRAM;
@@ -39,6 +39,8 @@ pub enum Order {
 pub enum LineFault {
     /// An origin is neither an absolute name nor the word `transfer`.
     BadOrigin,
+    /// An origin is a name that lacks the dot at its end alone.
+    NoFinalDot,
     /// What `clap` tells a user in place of matches, help included.
     Clap(String),
     /// Memory was refused.
@@ -77,6 +79,10 @@ impl LineFault {
             LineFault::BadOrigin => {
                 "F46 BadOrigin: an origin is an absolute name or the word transfer"
             }
+            LineFault::NoFinalDot => {
+                "F46 BadOrigin: an origin is an absolute name or the word transfer; \
+                 this one lacks the dot at its end"
+            }
             LineFault::Clap(text) => text.as_str(),
             LineFault::Memory => OUT_OF_MEMORY,
         }
@@ -87,7 +93,9 @@ impl LineFault {
         ensures { result ≡ line_status self.now }
     {
         match self {
-            LineFault::BadOrigin | LineFault::Clap(_) => status::BAD_COMMAND_LINE,
+            LineFault::BadOrigin | LineFault::NoFinalDot | LineFault::Clap(_) => {
+                status::BAD_COMMAND_LINE
+            }
             LineFault::Memory => status::FAILED,
         }
     }
@@ -97,8 +105,9 @@ impl LineFault {
 ///
 /// # Errors
 ///
-/// `BadOrigin` where the text of an origin is neither an absolute name nor `transfer`; `Clap` where
-/// `clap` gives no matches for one of the commands, help included; `Memory`.
+/// `NoFinalDot` where the text of an origin is neither an absolute name nor `transfer`, and would be
+/// a name with a dot at its end, and `BadOrigin` where it is neither for another reason; `Clap`
+/// where `clap` gives no matches for one of the commands, help included; `Memory`.
 pub fn order_of(alloc: Global, words: &[String]) -> Result<Order, LineFault>
     ensures ordered { IfOk result (Orders (map string_bytes words.now)) }
     ensures refused { IfErr result (IsLineFault (map string_bytes words.now)) }
@@ -173,7 +182,7 @@ impl Call<'_> {
     ///
     /// # Errors
     ///
-    /// `BadOrigin`, and `Memory`, which only paths take.
+    /// `BadOrigin` and `NoFinalDot`, and `Memory`, which only paths take.
     fn order(self, alloc: Global) -> Result<Order, LineFault>
         ensures ordered { IfOk result (Asks (texts_of self.entry)) }
         ensures refused { IfErr result (IsOfCall (texts_of self.entry)) }
@@ -201,17 +210,30 @@ impl Call<'_> {
 ///
 /// # Errors
 ///
-/// `BadOrigin`.
+/// `BadOrigin` and `NoFinalDot`.
 fn origin_of(text: &str) -> Result<Option<Name>, LineFault>
     ensures ordered { IfOk result (IsOriginText text.now) }
-    ensures refused { IfErr result
-        (λ fault. (fault ≡ LineFault.BadOrigin) × NothingIs (IsOriginText text.now)) }
+    ensures refused { IfErr result (IsOfOrigin text.now) }
 {
     if text == TRANSFER {
         return Ok(None);
     }
     match Name::from_text(text.as_bytes(), None) {
         Ok(origin) => Ok(Some(origin)),
-        Err(_) => Err(LineFault::BadOrigin),
+        Err(_) => Err(fault_of(text)),
+    }
+}
+
+/// Why a text is no origin. `@` is the name of another origin, and no name without its dot.
+fn fault_of(text: &str) -> LineFault
+    requires { NothingIs (IsOriginText text.now) }
+    ensures { IsOfOrigin text.now result }
+{
+    if text == "@" {
+        return LineFault::BadOrigin;
+    }
+    match Name::from_text(text.as_bytes(), Some(&Name::root())) {
+        Ok(_) => LineFault::NoFinalDot,
+        Err(_) => LineFault::BadOrigin,
     }
 }

@@ -233,13 +233,13 @@ whole
 a A 192.0.2.1
 => 2
 --
-an origin is an absolute name
+an origin is an absolute name; this one lacks the dot at its end
 == transfer_is_no_origin
 generic transfer
 whole
 => 2
 --
-an origin is an absolute name
+an origin is an absolute name; this one lacks the dot at its end
 ";
 
 #[test]
@@ -367,17 +367,17 @@ generic X. => generic \x01X\0
 generic . => generic \0
 generic transfer. => generic \x08transfer\0
 generic \\-a. => generic \x02-a\0
-generic x => 2 an origin is an absolute name
+generic x => 2 an origin is an absolute name; this one lacks the dot at its end
 generic @ => 2 an origin is an absolute name
 generic a.. => 2 an origin is an absolute name
-generic transfer => 2 an origin is an absolute name
+generic transfer => 2 an origin is an absolute name; this one lacks the dot at its end
 generic  => 2 an origin is an absolute name
 generic => 2 error: the following required arguments were not provided:
 generic x. y. => 2 error: unexpected argument 'y.' found
 generic -a. => 2 error: unexpected argument '-a' found
 words => words
 words . => 2 error: unexpected argument '.' found
-generic words => 2 an origin is an absolute name
+generic words => 2 an origin is an absolute name; this one lacks the dot at its end
 normalise x. => 2 error: unrecognized subcommand 'normalise'
  => 2 Writes the records of further types in the generic form, or in words
 --help => 2 Writes the records of further types in the generic form, or in words
