@@ -1,9 +1,10 @@
 -- Digits of base32hex, read one after the other, and that they stand for one list of octets.
 use Rattle.std.proofs.lemmas.Nat.{pow_pos}
-use Rattle.zone_words.proofs.Common.{AllByRecursion-append, AllZip, AllZip-get_or, AllZip-push, AppendsStated, AreOctets, List, None, Option, Some, [], add-zero, ap, append-nil, append_assoc, arith, fold, get_or, length, length-append, length_all_zip, refl, subst, suc, sym, take, take_all, take_more, zero, ℕ, ◌%◌, ◌*◌, ◌++◌, ◌+◌, ◌-◌, ◌/◌, ◌<◌, ◌^◌, ◌∙◌, ◌∷◌, ◌≡◌, ◌≤◌}
+use Rattle.zone_words.proofs.Common.{AllByRecursion-append, AllZip, AllZip-get_or, AllZip-push, AppendsStated, AreOctets, List, None, NothingStated, Option, Some, TooLong, WordsFault, [], add-zero, ap, append-nil, append_assoc, arith, fold, get_or, length, length-append, length_all_zip, refl, subst, suc, sym, take, take_all, take_more, zero, ℕ, ◌%◌, ◌*◌, ◌++◌, ◌+◌, ◌-◌, ◌/◌, ◌<◌, ◌^◌, ◌∙◌, ◌∷◌, ◌≡◌, ◌≤◌}
 use Rattle.zone_words.proofs.OfParameters.Lists.{zip_once}
-use Rattle.zone_words.proofs.LengthsBefore.{after_length_once}
-use Rattle.zone_words.specs.Kinds.Hash.{IsBase32Hex, StatesHash, base32_digit, number_of}
+use Rattle.zone_words.specs.Kinds.AfterLength.{of_no_octets, of_too_many}
+use Rattle.zone_words.specs.Kinds.Hash.{FailsHash, IsBase32Hex, base32_digit, number_of}
+use Rattle.zone_words.specs.declared.fault.WordsFault.TheVariants.{NoBase32Hex}
 
 abbrev pub IsDigit : ℕ → ℕ → Type 0
 IsDigit c d = base32_digit c ≡ Some d
@@ -220,5 +221,14 @@ one_base32 text a b x y =
 pub octet_count : (text octets : List ℕ) → IsBase32Hex text octets → length octets ≡ length text * 5 / 8
 octet_count text octets is = omega (arith, is.count, is.few, length_all_zip IsDigit text is.digits is.spelt)
 
-pub hash_once : (text a b : List ℕ) → StatesHash text a → StatesHash text b → a ≡ b
-hash_once text a b x y = after_length_once IsBase32Hex one_base32 text a b x y
+-- what is told of a text whose digits stand for no octets
+pub hash_fails : (text : List ℕ) (fault : WordsFault) → NothingStated NoBase32Hex (IsBase32Hex text) fault → FailsHash text fault
+hash_fails text fault none = rw none.0 (of_no_octets none.1)
+
+-- of one without digits
+pub no_digits_hash : (text : List ℕ) → length text ≡ 0 → FailsHash text NoBase32Hex
+no_digits_hash text empty = of_no_octets (λ octets is. let count = octet_count text octets is in let some = is.some in omega arith)
+
+-- and of one that has more digits than a hash
+pub long_hash : (text old new : List ℕ) → 408 < length text → AppendsStated (IsBase32Hex text) old new → FailsHash text TooLong
+long_hash text old new long more = of_too_many more.octets more.stated (let is = more.stated in omega (arith, is.count, is.few, length_all_zip IsDigit text is.digits is.spelt))

@@ -4,12 +4,13 @@ use Rattle.zone_words.specs.Kinds.Number.{no_number}
 use Rattle.zone_rdata.proofs.Fields.Strings.{fault_once as leftmost_once}
 use Rattle.zone_rdata.proofs.Strings.StringLaws.{fault-once, string-never_both}
 use Rattle.zone_rdata.specs.Spelling.{bare, quoted}
-use Rattle.zone_words.proofs.Base32Digits.{hash_once}
+use Rattle.zone_words.proofs.Base32Digits.{one_base32}
 use Rattle.zone_words.proofs.Base64Texts.{no_base64, one_base64}
 use Rattle.zone_words.proofs.Gateways.{up_to_fault_once, up_to_once, up_to_or_fault}
 use Rattle.zone_words.proofs.HexDigits.{no_digits, one_hex}
 use Rattle.zone_words.proofs.HexPairs.{eui_once}
 use Rattle.zone_words.proofs.JoinedItems.{joined_once}
+use Rattle.zone_words.proofs.LengthsBefore.{after_length_fault_once, after_length_once, after_length_or_fault}
 use Rattle.zone_words.proofs.Locations.{location_once, no_items}
 use Rattle.zone_words.proofs.NodeIds.{node_id_once}
 use Rattle.zone_words.proofs.Numbers.{decimal_once, in_octets_once, number_or_fault}
@@ -17,7 +18,7 @@ use Rattle.zone_words.proofs.OfName.{name_once, name_or_fault}
 use Rattle.zone_words.proofs.OfParameters.Once.{parameters_once, parameters_or_fault}
 use Rattle.zone_words.proofs.OfParameters.OneFault.{parameters_fault_once}
 use Rattle.zone_words.proofs.Prefixes.{prefixes_once}
-use Rattle.zone_words.proofs.Salts.{salt_once}
+use Rattle.zone_words.proofs.Salts.{one_salt}
 use Rattle.zone_words.proofs.StringItems.{never_first, string_once, strings_once}
 use Rattle.zone_words.proofs.Times.{time_fault_once, time_once, time_or_fault}
 use Rattle.zone_words.proofs.TypeItems.{perhaps_types_once, types_once}
@@ -25,11 +26,14 @@ use Rattle.zone_words.proofs.TypeWords.{algorithm_once, certificate_type_once, t
 use Rattle.zone_words.proofs.UnescapedTexts.{unescaped_once, unescaped_or_bad}
 use Rattle.zone_words.specs.DataItem.{items_of}
 use Rattle.zone_words.specs.FirstItem.{FirstFails, FirstStates}
+use Rattle.zone_words.specs.Kinds.AfterLength.{FailsAfterLength, StatesAfterLength}
 use Rattle.zone_words.specs.Kinds.Base64.{IsBase64}
 use Rattle.zone_words.specs.Kinds.Gateway.{FailsUpTo, StatesUpTo}
+use Rattle.zone_words.specs.Kinds.Hash.{IsBase32Hex}
 use Rattle.zone_words.specs.Kinds.Joined.{FailsAs, StatesJoined}
 use Rattle.zone_words.specs.Kinds.Name.{FailsName, StatesName}
 use Rattle.zone_words.specs.Kinds.Number.{too_large}
+use Rattle.zone_words.specs.Kinds.Salt.{IsSalt}
 use Rattle.zone_words.specs.Kinds.Strings.{FailsPerhaps, FailsString, FailsStrings, StatesPerhaps, StatesString, StatesStrings, of_string}
 use Rattle.zone_words.specs.Kinds.Value.{FailsQuotedValue, StatesQuotedValue}
 use Rattle.zone_words.specs.declared.field.BareKind.{BareKind}
@@ -67,6 +71,9 @@ by_number Stated w one = record { once = λ a b. in_octets_once Stated w a b one
 by_up_to : (most : ℕ) (octets_of : ℕ → List ℕ) (text : List ℕ) → IsOne (StatesUpTo most octets_of text) (FailsUpTo most text)
 by_up_to most octets_of text = record { once = up_to_once most octets_of text; or_fault = up_to_or_fault most octets_of text; fault_once = up_to_fault_once most text }
 
+by_length : (own : WordsFault) (StandsFor : List ℕ → List ℕ → Type 0) → ((text a b : List ℕ) → StandsFor text a → StandsFor text b → a ≡ b) → (text : List ℕ) → IsOne (StatesAfterLength StandsFor text) (FailsAfterLength own StandsFor text)
+by_length own StandsFor once text = record { once = after_length_once StandsFor once text; or_fault = after_length_or_fault own StandsFor once text; fault_once = after_length_fault_once own StandsFor text }
+
 name_is_one : (origin : Labels) (text : List ℕ) → IsOne (StatesName origin text) (FailsName origin text)
 name_is_one origin text = record {
   once = name_once origin text;
@@ -83,8 +90,8 @@ text_is_one origin CertificateType text = by_number _ w16 (certificate_type_once
 text_is_one origin RecordType text = record { once = λ a b. in_octets_once _ w16 a b (type_word_once text); or_fault = λ octets fault p q. q.1 p.number p.stated; fault_once = λ a b p q. p.0 ∙ sym q.0 }
 text_is_one origin Time text = record { once = time_once text; or_fault = time_or_fault text; fault_once = time_fault_once text }
 text_is_one origin Name text = name_is_one origin text
-text_is_one origin Salt text = by_own _ _ (salt_once text)
-text_is_one origin Hash text = by_own _ _ (hash_once text)
+text_is_one origin Salt text = by_length _ IsSalt one_salt text
+text_is_one origin Hash text = by_length _ IsBase32Hex one_base32 text
 text_is_one origin Tag text = by_own _ _ (λ a b p q. p.1 ∙ sym q.1)
 text_is_one origin Ipv4 text = by_own _ _ (numbers_unique 3 text)
 text_is_one origin Ipv6 text = by_own _ _ (groups_unique text)

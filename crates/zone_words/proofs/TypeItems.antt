@@ -1,9 +1,14 @@
--- Items that name types, and the bits of these types.
+-- Items that name types, and the bitmap of these types.
+use Rattle.std.proofs.lemmas.List.Elements.{Contains-append_cases, Contains-append_left, Contains-append_right, Contains-push, Contains-push_cases}
+use Rattle.std.proofs.lemmas.List.Sorted.{Contains-permutation, IsPermutation-sym}
+use Rattle.std.specs.List.{Contains}
 use Rattle.zone_words.proofs.Bitmaps.{windows_once}
-use Rattle.zone_words.proofs.Common.{AllByRecursion, AllByRecursion-append, DataItem, FailsPerhapsTypes, FailsTypes, HasBit, List, NameType, NamesAType, NamesType, RawItem, StatesPerhapsTypes, StatesTypes, WordsFault, [], ap, arith, flat_map, get_or, inl, inr, length, map, map_push, raw_item, subst, suc, sym, take, take_more, window_octets, zero, ℕ, ◌++◌, ◌+◌, ◌<◌, ◌↔◌, ◌∙◌, ◌∷◌, ◌≡◌, ◌≤◌, ◌⊎◌}
+use Rattle.zone_words.proofs.Bits.{none_in}
+use Rattle.zone_words.proofs.Common.{AllByRecursion, AllZip, AppendsStated, DataItem, FailsPerhapsTypes, FailsTypes, IsPermutation, List, NameType, NamesAType, NamesType, RawItem, StatesPerhapsTypes, StatesTypes, WordsFault, [], ap, arith, flat_map, get_or, inl, inr, length, map, map_push, raw_item, subst, suc, sym, take, take_more, window_octets, zero, ℕ, ◌++◌, ◌+◌, ◌<◌, ◌∙◌, ◌∷◌, ◌≡◌}
 use Rattle.zone_rdata.specs.Item.{bare, quoted}
 use Rattle.zone_words.proofs.TypeWords.{type_word_once}
-use Rattle.zone_words.specs.Machine.TypeBits.{AreBitsOf}
+use Rattle.zone_words.proofs.OfParameters.Lists.{zip_append}
+use Rattle.zone_words.specs.Kinds.Bitmap.{IsBitmapOf}
 
 item_once : (item : RawItem) (m n : ℕ) → NamesType item m → NamesType item n → m ≡ n
 item_once (bare word) m n a b = type_word_once word m n a b
@@ -11,46 +16,10 @@ item_once (quoted text) m n a b = absurd a
 
 -- ---- one item more
 
-named_before : (items : List RawItem) (item : RawItem) (n : ℕ) → NameType (items ++ item ∷ []) n → NameType items n ⊎ NamesType item n
-named_before [] item n h = elim h [ inl here ↦ inr here | inr none ↦ absurd none ]
-named_before (first ∷ items) item n h =
-    elim h [
-      | inl here ↦ inl (inl here)
-      | inr rest ↦ elim (named_before items item n rest) [
-        | inl among ↦ inl (inr among)
-        | inr last ↦ inr last
-      ]
-    ]
-
-still_named : (items : List RawItem) (item : RawItem) (n : ℕ) → NameType items n → NameType (items ++ item ∷ []) n
-still_named [] item n h = absurd h
-still_named (first ∷ items) item n h =
-    elim h [ inl here ↦ inl here | inr rest ↦ inr (still_named items item n rest) ]
-
-last_named : (items : List RawItem) (item : RawItem) (n : ℕ) → NamesType item n → NameType (items ++ item ∷ []) n
-last_named [] item n h = inl h
-last_named (first ∷ items) item n h = inr (last_named items item n h)
-
-bits_grown : (items : List RawItem) (item : RawItem) (bits new : List ℕ) (number : ℕ) → AreBitsOf items bits → NamesType item number → length new ≤ 8192 → ((n : ℕ) → HasBit new n ↔ ((n ≡ number) ⊎ HasBit bits n)) → AreBitsOf (items ++ item ∷ []) new
-bits_grown items item bits new number have names few set =
-    record {
-      few = few;
-      each = AllByRecursion-append NamesAType items (item ∷ []) have.each ((number, names), tt);
-      types = λ n. (
-        λ h. elim ((set n).0 h) [
-          | inl own ↦ last_named items item n (subst (NamesType item) (sym own) names)
-          | inr before ↦ still_named items item n ((have.types n).0 before)
-        ],
-        λ h. (set n).1 (elim (named_before items item n h) [
-          | inl among ↦ inr ((have.types n).1 among)
-          | inr last ↦ inl (item_once item n number last names)
-        ]),
-      );
-    }
-
-pub bits_more : (items : List DataItem) (i : ℕ) (d : DataItem) (bits new : List ℕ) (number : ℕ) → i < length items → AreBitsOf (map raw_item (take i items)) bits → NamesType (raw_item (get_or items i d)) number → length new ≤ 8192 → ((n : ℕ) → HasBit new n ↔ ((n ≡ number) ⊎ HasBit bits n)) → AreBitsOf (map raw_item (take (i + 1) items)) new
-bits_more items i d bits new number inside have names few set =
-    subst (λ (l : List RawItem). AreBitsOf l new) (sym (ap (map raw_item) (take_more items i d inside) ∙ map_push raw_item (take i items) (get_or items i d))) (bits_grown (map raw_item (take i items)) (raw_item (get_or items i d)) bits new number have names few set)
+pub names_more : (items : List DataItem) (i : ℕ) (d : DataItem) (numbers new : List ℕ) (number : ℕ) → i < length items → AllZip NamesType (map raw_item (take i items)) numbers → NamesType (raw_item (get_or items i d)) number → new ≡ numbers ++ number ∷ [] → AllZip NamesType (map raw_item (take (i + 1) items)) new
+names_more items i d numbers new number inside have names written =
+    let grown : map raw_item (take (i + 1) items) ≡ map raw_item (take i items) ++ raw_item (get_or items i d) ∷ [] = ap (map raw_item) (take_more items i d inside) ∙ map_push raw_item (take i items) (get_or items i d) in
+    rw (written, grown) (zip_append NamesType (map raw_item (take i items)) (raw_item (get_or items i d) ∷ []) numbers (number ∷ []) have (names, tt))
 
 -- ---- items that state no types
 
@@ -59,7 +28,54 @@ each_at [] i d inside each = absurd (omega arith)
 each_at (item ∷ items) zero d inside each = each.0
 each_at (item ∷ items) (suc i) d inside each = each_at items i d (omega arith) each.1
 
--- ---- the bitmap of the bits
+-- ---- the bitmap of the types
+
+each_named : (items : List RawItem) (numbers : List ℕ) → AllZip NamesType items numbers → AllByRecursion NamesAType items
+each_named [] numbers zip = tt
+each_named (item ∷ items) [] zip = absurd zip
+each_named (item ∷ items) (n ∷ numbers) zip = ((n, zip.0), each_named items numbers zip.1)
+
+named_among : (items : List RawItem) (numbers : List ℕ) (n : ℕ) → AllZip NamesType items numbers → NameType items n → Contains numbers n
+named_among [] numbers n zip is = absurd is
+named_among (item ∷ items) [] n zip is = absurd zip
+named_among (item ∷ items) (m ∷ numbers) n zip is =
+    elim is [
+      | inl here ↦ rw (item_once item n m here zip.0) (Contains-append_left (m ∷ []) numbers m (Contains-push [] m))
+      | inr rest ↦ Contains-append_right (m ∷ []) numbers n (named_among items numbers n zip.1 rest)
+    ]
+
+among_named : (items : List RawItem) (numbers : List ℕ) (n : ℕ) → AllZip NamesType items numbers → Contains numbers n → NameType items n
+among_named [] [] n zip has = absurd (none_in n has)
+among_named [] (m ∷ numbers) n zip has = absurd zip
+among_named (item ∷ items) [] n zip has = absurd zip
+among_named (item ∷ items) (m ∷ numbers) n zip has =
+    elim (Contains-append_cases (m ∷ []) numbers n has) [
+      | inl first ↦ elim (Contains-push_cases [] m n first) [
+        | inl none ↦ absurd (none_in n none)
+        | inr same ↦ inl (subst (NamesType item) same zip.0)
+      ]
+      | inr rest ↦ inr (among_named items numbers n zip.1 rest)
+    ]
+
+-- the bitmap of the same types in another order
+pub types_pushed : (items : List RawItem) (numbers sorted old new : List ℕ) → AllZip NamesType items numbers → IsPermutation numbers sorted → AppendsStated (IsBitmapOf (Contains sorted)) old new → AppendsStated (StatesPerhapsTypes items) old new
+types_pushed items numbers sorted old new zip same more = record {
+  octets = more.octets;
+  stated = record {
+    each = each_named items numbers zip;
+    bitmap = record {
+      windows = more.stated.windows;
+      parts = more.stated.parts;
+      each = more.stated.each;
+      ascend = more.stated.ascend;
+      types = λ n. (
+        λ have. among_named items numbers n zip (Contains-permutation sorted numbers n (IsPermutation-sym numbers sorted same) ((more.stated.types n).0 have)),
+        λ is. (more.stated.types n).1 (Contains-permutation numbers sorted n same (named_among items numbers n zip is)),
+      );
+    };
+  };
+  written = more.written;
+}
 
 -- ---- items state one bitmap
 

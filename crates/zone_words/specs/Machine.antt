@@ -4,7 +4,6 @@ pub mod Walking
 pub mod PlainLines
 pub mod Numbers
 pub mod Strings
-pub mod TypeBits
 pub mod Fields
 pub mod EntryWriting
 pub mod FedWriting

@@ -1,7 +1,7 @@
 -- The mnemonics of numbers that stand in data, a row each, their numbers ascending.
-use Rattle.std.specs.Prelude.{ℕ, List, [], ◌∷◌, codes}
+use Rattle.std.specs.Prelude.{ℕ, ◌⊎◌, List, [], ◌∷◌, codes}
 use Rattle.zone_rdata.specs.Table.{Named}
-use Rattle.zone_rdata.specs.Words.{IsKind, IsWordAmong}
+use Rattle.zone_rdata.specs.Words.{IsKind, IsMnemonic, IsWordAmong}
 use Rattle.zone_words.specs.declared.mnemonics.Mnemonic.{Mnemonic}
 
 abbrev pub row : ℕ → List ℕ → Named
@@ -125,6 +125,14 @@ algorithms =
     ∷ row 254 (codes "PRIVATEOID")
     ∷ []
 
+-- further mnemonics of them: those that BIND has in place of the registered ones
+abbrev pub further_algorithms : List Named
+further_algorithms =
+    row 6 (codes "NSEC3DSA")
+    ∷ row 7 (codes "NSEC3RSASHA1")
+    ∷ row 12 (codes "ECCGOST")
+    ∷ []
+
 -- the types of certificates (RFC 4398 2.1)
 abbrev pub certificate_types : List Named
 certificate_types =
@@ -153,3 +161,7 @@ pub record IsTypeWord (word : List ℕ) (n : ℕ) : Type 0 where
 -- stands before the digits
 abbrev pub IsNumberOrMnemonic : List Named → List ℕ → ℕ → Type 0
 IsNumberOrMnemonic rows word n = IsWordAmong rows [] word n
+
+-- the word is the number of an algorithm, or one of its mnemonics
+abbrev pub IsAlgorithm : List ℕ → ℕ → Type 0
+IsAlgorithm word n = IsNumberOrMnemonic algorithms word n ⊎ IsMnemonic further_algorithms word n

@@ -26,7 +26,7 @@ pub enum WordsFault {
     StringTooLong,
     /// A backslash is followed by digits that are no octet, or by nothing.
     BadEscape,
-    /// The data has more than 65,535 octets.
+    /// The data has more than 65,535 octets, or a salt or a hash more than 255.
     TooLong,
     /// The entry has 65,552 items or more.
     TooManyItems,

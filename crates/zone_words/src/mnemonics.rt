@@ -192,6 +192,13 @@ pub(crate) static ALGORITHMS: &[Mnemonic] = &[
     Mnemonic(254, b"PRIVATEOID"),
 ];
 
+/// Further mnemonics of algorithms of DNSSEC: those that BIND has in place of the registered ones.
+pub(crate) static FURTHER_ALGORITHMS: &[Mnemonic] = &[
+    Mnemonic(6, b"NSEC3DSA"),
+    Mnemonic(7, b"NSEC3RSASHA1"),
+    Mnemonic(12, b"ECCGOST"),
+];
+
 /// The types of certificates (RFC 4398 2.1).
 pub(crate) static CERTIFICATE_TYPES: &[Mnemonic] = &[
     Mnemonic(1, b"PKIX"),

@@ -2,8 +2,7 @@
 use Rattle.std.specs.Prelude.{◌≡◌, ℕ, ◌+◌, ◌-◌, ◌*◌, ◌^◌, ◌<◌, List, length, fold, nat_le, ◌&&◌, if◌then◌else◌, Option, Some, None}
 use Rattle.std.specs.List.{AllZip}
 use Rattle.zone_name.specs.Common.{AreOctets}
-use Rattle.zone_words.specs.Fault.{NothingStated}
-use Rattle.zone_words.specs.Kinds.AfterLength.{StatesAfterLength}
+use Rattle.zone_words.specs.Kinds.AfterLength.{FailsAfterLength, StatesAfterLength}
 use Rattle.zone_words.specs.declared.fault.WordsFault.{WordsFault}
 use Rattle.zone_words.specs.declared.fault.WordsFault.TheVariants.{NoBase32Hex}
 
@@ -35,4 +34,4 @@ abbrev pub StatesHash : List ℕ → List ℕ → Type 0
 StatesHash text octets = StatesAfterLength IsBase32Hex text octets
 
 abbrev pub FailsHash : List ℕ → WordsFault → Type 0
-FailsHash text fault = NothingStated NoBase32Hex (StatesHash text) fault
+FailsHash text fault = FailsAfterLength NoBase32Hex IsBase32Hex text fault

@@ -1,7 +1,6 @@
 -- A salt in one item, after its length (RFC 5155 3.3, 4.3).
 use Rattle.std.specs.Prelude.{◌≡◌, ℕ, List, [], codes}
-use Rattle.zone_words.specs.Fault.{NothingStated}
-use Rattle.zone_words.specs.Kinds.AfterLength.{StatesAfterLength}
+use Rattle.zone_words.specs.Kinds.AfterLength.{FailsAfterLength, StatesAfterLength}
 use Rattle.zone_words.specs.Kinds.Hex.{IsHex}
 use Rattle.zone_words.specs.declared.fault.WordsFault.{WordsFault}
 use Rattle.zone_words.specs.declared.fault.WordsFault.TheVariants.{NoHexadecimal}
@@ -15,4 +14,4 @@ abbrev pub StatesSalt : List ℕ → List ℕ → Type 0
 StatesSalt text octets = StatesAfterLength IsSalt text octets
 
 abbrev pub FailsSalt : List ℕ → WordsFault → Type 0
-FailsSalt text fault = NothingStated NoHexadecimal (StatesSalt text) fault
+FailsSalt text fault = FailsAfterLength NoHexadecimal IsSalt text fault

@@ -3,16 +3,16 @@ use Rattle.std.specs.Prelude.{List, ℕ}
 use Rattle.std.specs.Int.{w8, w16}
 use Rattle.zone_words.specs.Fault.{NothingStated}
 use Rattle.zone_words.specs.Kinds.Number.{IsInOctets, NumberFails}
-use Rattle.zone_words.specs.Mnemonics.{IsNumberOrMnemonic, IsTypeWord, algorithms, certificate_types}
+use Rattle.zone_words.specs.Mnemonics.{IsAlgorithm, IsNumberOrMnemonic, IsTypeWord, certificate_types}
 use Rattle.zone_words.specs.declared.fault.WordsFault.{WordsFault}
 use Rattle.zone_words.specs.declared.fault.WordsFault.TheVariants.{NotAType}
 
 -- an algorithm of DNSSEC, in one octet (RFC 4034 A.1)
 abbrev pub StatesAlgorithm : List ℕ → List ℕ → Type 0
-StatesAlgorithm text octets = IsInOctets (IsNumberOrMnemonic algorithms text) w8 octets
+StatesAlgorithm text octets = IsInOctets (IsAlgorithm text) w8 octets
 
 abbrev pub FailsAlgorithm : List ℕ → WordsFault → Type 0
-FailsAlgorithm text fault = NumberFails (IsNumberOrMnemonic algorithms text) w8 fault
+FailsAlgorithm text fault = NumberFails (IsAlgorithm text) w8 fault
 
 -- the type of a certificate, in two octets (RFC 4398 2.1)
 abbrev pub StatesCertificateType : List ℕ → List ℕ → Type 0

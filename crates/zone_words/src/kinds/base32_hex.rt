@@ -13,15 +13,19 @@ const MOST_DIGITS: usize = 408;
 ///
 /// # Errors
 ///
-/// `NoBase32Hex` where the text has another character, a number of digits that no octets have, or
-/// unused bits that aren't zero, and where it stands for none or more than 255 octets; and
-/// `OutOfMemory` where memory is refused. `out` may then have some of the octets.
+/// `NoBase32Hex` where the text is empty or has another character, a number of digits that no
+/// octets have, or unused bits that aren't zero; `TooLong` where it stands for more than 255 octets;
+/// and `OutOfMemory` where memory is refused. `out` may then have some of the octets.
 pub(crate) fn push_hash(text: &[u8], out: &mut Vec<u8>) -> Result<(), WordsFailing>
     ensures states { OnOk result (AppendsStated (StatesHash text.now) out.old.items out.new.items) }
     ensures fault { IfErr result (IfFault (FailsHash text.now)) }
 {
-    if text.is_empty() || text.len() > MOST_DIGITS {
+    if text.is_empty() {
         return Err(WordsFailing::Fault(WordsFault::NoBase32Hex));
+    }
+    if text.len() > MOST_DIGITS {
+        push_octets(text, out)?;
+        return Err(WordsFailing::Fault(WordsFault::TooLong));
     }
     out.push((text.len() * 5 / 8) as u8)?;
     push_octets(text, out)

@@ -1,52 +1,56 @@
-//! Type bitmaps (RFC 4034 4.1.2). Before they are parted into windows, bits are counted from the
-//! highest of the first octet.
-ghost use Rattle.std.specs.Prelude.{◌≡◌, ◌≢◌, ◌⊎◌, ◌+◌, ◌-◌, ◌<◌, ◌≤◌, ◌↔◌, ℕ, length, max, slice_index, OnOk};
+//! Type bitmaps (RFC 4034 4.1.2).
+ghost use Rattle.std.specs.Prelude.{◌≡◌, ◌≢◌, ◌/◌, ◌-◌, ◌<◌, ◌≤◌, ◌↔◌, ℕ, length, slice_index, take, OnOk};
+ghost use Rattle.std.specs.List.{AllByRecursion, Contains};
+ghost use Rattle.std.specs.List.Sorted.{IsNonDecreasing};
 ghost use Rattle.zone_words.specs.Fault.{AppendsStated};
 ghost use Rattle.zone_words.specs.Kinds.Bitmap.{HasBit, IsBitmapOf};
-ghost use Rattle.zone_words.specs.Machine.Windows.{AppendsWindow};
+ghost use Rattle.zone_words.specs.Machine.Windows.{AppendsWindow, HavePlace};
 
 use std::alloc::AllocError;
 
 /// The octets of bits that a window has at most.
 const WINDOW_LEN: usize = 32;
 
-/// Sets the bit of a type.
-pub(super) fn set_bit(bits: &mut Vec<u8>, number: u16) -> Result<(), AllocError>
-    requires { length bits.old.items ≤ 8192 }
-    ensures few { length bits.new.items ≤ 8192 }
-    ensures set { OnOk result
-        ((n : ℕ) → HasBit bits.new.items n ↔ ((n ≡ number) ⊎ HasBit bits.old.items n)) }
-{
-    let at = usize::from(number / 8);
-    grow(bits, at + 1)?;
-    bits[at] |= 1 << (7 - number % 8);
-    Ok(())
-}
-
-/// Appends octets of 0 where there are fewer than so many.
-fn grow(bits: &mut Vec<u8>, len: usize) -> Result<(), AllocError>
-    ensures most { length bits.new.items ≤ max (length bits.old.items) len }
-    ensures least { OnOk result (len ≤ length bits.new.items) }
-    ensures same { (k : ℕ) → slice_index bits.new.items k ≡ slice_index bits.old.items k }
-{
-    if bits.len() < len {
-        bits.resize(len, 0)?;
-    }
-    Ok(())
-}
-
-/// Appends the windows of the types whose bits are set.
-pub(super) fn push_windows(bits: &[u8], out: &mut Vec<u8>) -> Result<(), AllocError>
-    requires { length bits.now ≤ 8192 }
+/// Appends the windows of types in ascending order, any of which may stand there more than once.
+pub(super) fn push_windows(types: &[u16], out: &mut Vec<u8>) -> Result<(), AllocError>
+    requires { IsNonDecreasing types.now }
     ensures { OnOk result
-        (AppendsStated (IsBitmapOf (HasBit bits.now)) out.old.items out.new.items) }
+        (AppendsStated (IsBitmapOf (Contains types.now)) out.old.items out.new.items) }
 {
-    for window in 0..bits.len().div_ceil(WINDOW_LEN) {
-        let first = window * WINDOW_LEN;
-        let end = bits.len().min(first + WINDOW_LEN);
-        push_window(window as u8, &bits[first..end], out)?;
+    let mut rest = types;
+    while let Some(first) = rest.first() {
+        let window = (*first / 256) as u8;
+        let (own, after) = rest.split_at(count_in_window(window, rest));
+        push_window(window, &window_bits(own), out)?;
+        rest = after;
     }
     Ok(())
+}
+
+/// How many types at the front are those of a window.
+fn count_in_window(window: u8, types: &[u16]) -> usize
+    ensures within { result ≤ length types.now }
+    ensures own { AllByRecursion (λ n. n / 256 ≡ window) (take result types.now) }
+    ensures other { result < length types.now → slice_index types.now result / 256 ≢ window }
+{
+    for (index, number) in types.iter().enumerate() {
+        if *number / 256 != u16::from(window) {
+            return index;
+        }
+    }
+    types.len()
+}
+
+/// The bits of types in their window, from the highest of the first octet on.
+fn window_bits(types: &[u16]) -> [u8; WINDOW_LEN]
+    ensures len { length result ≡ 32 }
+    ensures bits { (k : ℕ) → HasBit result k ↔ HavePlace types.now k }
+{
+    let mut bits = [0; WINDOW_LEN];
+    for number in types {
+        bits[usize::from(*number % 256 / 8)] |= 1 << (7 - *number % 8);
+    }
+    bits
 }
 
 /// Appends a window up to its last octet that isn't 0, if it has one.

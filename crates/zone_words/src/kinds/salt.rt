@@ -13,17 +13,18 @@ const MOST_DIGITS: usize = 510;
 ///
 /// # Errors
 ///
-/// `NoHexadecimal` where the text is neither, and `OutOfMemory` where memory is refused. `out` may
-/// then have some of the octets.
+/// `NoHexadecimal` where the text is neither `-` nor the digits of octets, `TooLong` where these are
+/// more than 255, and `OutOfMemory` where memory is refused. `out` may then have some of the octets.
 pub(crate) fn push_salt(text: &[u8], out: &mut Vec<u8>) -> Result<(), WordsFailing>
     ensures states { OnOk result (AppendsStated (StatesSalt text.now) out.old.items out.new.items) }
     ensures fault { IfErr result (IfFault (FailsSalt text.now)) }
 {
-    if let [b'-'] = text {
+    if text == b"-".as_slice() {
         return Ok(out.extend_from_slice(&[0])?);
     }
     if text.len() > MOST_DIGITS {
-        return Err(WordsFailing::Fault(WordsFault::NoHexadecimal));
+        push_digits(text, out)?;
+        return Err(WordsFailing::Fault(WordsFault::TooLong));
     }
     out.push((text.len() / 2) as u8)?;
     push_digits(text, out)

@@ -1,21 +1,21 @@
 //! Types by their words, as a bitmap (RFC 4034 4.1.2).
+ghost use Rattle.std.specs.List.{AllZip};
 ghost use Rattle.std.specs.Prelude.{map, IfErr, IfNone, IfOk, IfSome, OnOk};
 ghost use Rattle.zone_name.specs.Common.{NothingIs};
 ghost use Rattle.zone_rdata.specs.Item.{raw};
 ghost use Rattle.zone_words.specs.DataItem.{raw_item};
 ghost use Rattle.zone_words.specs.Fault.{AppendsStated, IfFault};
 ghost use Rattle.zone_words.specs.Kinds.Types.{FailsPerhapsTypes, FailsTypes, NamesType, StatesPerhapsTypes, StatesTypes};
-ghost use Rattle.zone_words.specs.Machine.TypeBits.{AreBitsOf};
 
-use super::bitmap::{push_windows, set_bit};
+use super::bitmap::push_windows;
 use crate::data_item::DataItem;
 use crate::fault::{WordsFailing, WordsFault};
 use crate::mnemonics::type_of_word;
 use std::alloc::Global;
 use zone_rdata::Item;
 
-/// Room for the bits of types up to 255.
-const USUAL_LEN: usize = 32;
+/// More types than most bitmaps have, so that room for them is made once.
+const USUAL_TYPES: usize = 16;
 
 /// Appends the bitmap of the types that items name, one item or more, in any order.
 ///
@@ -45,24 +45,26 @@ pub(crate) fn push_perhaps_types(items: &[DataItem], out: &mut Vec<u8>) -> Resul
         (AppendsStated (StatesPerhapsTypes (map raw_item items.now)) out.old.items out.new.items) }
     ensures fault { IfErr result (IfFault (FailsPerhapsTypes (map raw_item items.now))) }
 {
-    let bits = bits_of_types(*out.allocator(), items)?;
-    push_windows(bits.as_slice(), out)?;
+    let mut numbers = numbers_of_types(*out.allocator(), items)?;
+    numbers.sort_unstable();
+    push_windows(numbers.as_slice(), out)?;
     Ok(())
 }
 
-/// A bit for each type that an item names.
-fn bits_of_types(alloc: Global, items: &[DataItem]) -> Result<Vec<u8>, WordsFailing>
-    ensures bits { IfOk result (λ bits. AreBitsOf (map raw_item items.now) bits.items) }
+/// The types that items name, in the order of the items.
+fn numbers_of_types(alloc: Global, items: &[DataItem]) -> Result<Vec<u16>, WordsFailing>
+    ensures numbers { IfOk result
+        (λ numbers. AllZip NamesType (map raw_item items.now) numbers.items) }
     ensures fault { IfErr result (IfFault (FailsPerhapsTypes (map raw_item items.now))) }
 {
-    let mut bits = Vec::with_capacity(alloc, USUAL_LEN)?;
+    let mut numbers = Vec::with_capacity(alloc, USUAL_TYPES)?;
     for item in items {
         let Some(number) = type_of_item(item.item) else {
             return Err(WordsFailing::Fault(WordsFault::NotAType));
         };
-        set_bit(&mut bits, number)?;
+        numbers.extend_from_slice(&[number])?;
     }
-    Ok(bits)
+    Ok(numbers)
 }
 
 /// The type that an item names. `None`: it is quoted, or no such word.

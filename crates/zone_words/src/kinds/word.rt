@@ -1,14 +1,30 @@
 //! Numbers in digits or by their mnemonics, and types by their words (RFC 4034 A.1, RFC 4398 2.1).
-ghost use Rattle.std.specs.Prelude.{IfErr, OnOk};
+ghost use Rattle.std.specs.Prelude.{IfErr, IfNone, IfSome, OnOk};
+ghost use Rattle.zone_name.specs.Common.{NothingIs};
+ghost use Rattle.zone_rdata.specs.Number.{IsCapped};
 ghost use Rattle.zone_words.specs.Fault.{AppendsStated, IfFault};
 ghost use Rattle.zone_words.specs.Kinds.Word.{FailsAlgorithm, FailsCertificateType, FailsType, StatesAlgorithm, StatesCertificateType, StatesType};
+ghost use Rattle.zone_words.specs.Mnemonics.{IsAlgorithm};
 
 use super::number::{push_one_octet, push_two_octets};
 use crate::fault::{WordsFailing, WordsFault};
-use crate::mnemonics::{ALGORITHMS, CERTIFICATE_TYPES, type_of_word};
+use crate::mnemonics::{ALGORITHMS, CERTIFICATE_TYPES, FURTHER_ALGORITHMS, type_of_word};
 use zone_rdata::number_of_word;
 
-/// Appends an algorithm of DNSSEC, in digits or by its mnemonic in any letter case (RFC 4034 A.1).
+/// The number of an algorithm of DNSSEC, in digits or by a mnemonic in any letter case (RFC 4034
+/// A.1); 2 ^ 32 where it is greater. `None`: the text is neither.
+fn algorithm_of(text: &[u8]) -> Option<u64>
+    ensures found { IfSome result (IsCapped (IsAlgorithm text.now)) }
+    ensures none { IfNone result (NothingIs (IsAlgorithm text.now)) }
+{
+    // No name stands before the digits.
+    match number_of_word(ALGORITHMS, b"", text) {
+        Some(number) => Some(number),
+        None => number_of_word(FURTHER_ALGORITHMS, b"", text),
+    }
+}
+
+/// Appends an algorithm of DNSSEC, in digits or by a mnemonic in any letter case (RFC 4034 A.1).
 ///
 /// # Errors
 ///
@@ -18,8 +34,7 @@ pub(crate) fn push_algorithm(text: &[u8], out: &mut Vec<u8>) -> Result<(), Words
         (AppendsStated (StatesAlgorithm text.now) out.old.items out.new.items) }
     ensures fault { IfErr result (IfFault (FailsAlgorithm text.now)) }
 {
-    // No name stands before the digits.
-    push_one_octet(number_of_word(ALGORITHMS, b"", text), out)?;
+    push_one_octet(algorithm_of(text), out)?;
     Ok(())
 }
 
