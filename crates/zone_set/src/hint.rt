@@ -77,11 +77,26 @@ fn front_key(base: &Name, owner: &NameRef<'_>) -> Option<u64>
 fn put_label(label: &[u8], after: u64) -> u64
     ensures { IsPutBefore (label_key label.now) after result }
 {
+    if let Some((front, _)) = label.split_first_chunk::<7>() {
+        return seven_digits(front);
+    }
     match label.split_first() {
         None => put_digit(0, after),
         Some((octet, rest)) if rest.is_empty() => put_alone(*octet, after),
         Some((octet, rest)) => put_longer(*octet, rest, after),
     }
+}
+
+/// The digits of the first seven octets of a label, after which none counts.
+fn seven_digits(front: &[u8; 7]) -> u64
+    ensures { (rest digits : List ℕ)
+        → result ≡ first_digits 7 (label_key (front.now ++ rest) ++ digits) }
+{
+    let [c0, c1, c2, c3, c4, c5, c6] = *front;
+    let first = c0 as u64 + 1 + hexadecimals_below(c0 as u64 + 1);
+    let front = (first * 273 + c1 as u64 + 1) * 273 + c2 as u64 + 1;
+    let front = (front * 273 + c3 as u64 + 1) * 273 + c4 as u64 + 1;
+    (front * 273 + c5 as u64 + 1) * 273 + c6 as u64 + 1
 }
 
 /// Puts the label of one octet, which has its end in its digit if it is hexadecimal.

@@ -22,9 +22,24 @@ fn tie_order(octets: &[u8], a: usize, b: usize) -> Ordering {
         return Ordering::Equal;
     };
     match owner_order(x.owner, y.owner) {
-        Ordering::Equal if x.kind == y.kind => octet_order(x.data, y.data).then(x.ttl.cmp(&y.ttl)),
+        Ordering::Equal if x.kind == y.kind => match octet_order(x.data, y.data) {
+            Ordering::Equal => ttl_order(octets, a, b),
+            data => data,
+        },
         Ordering::Equal => x.kind.cmp(&y.kind),
         owners => owners,
+    }
+}
+
+/// How the TTLs lie of records that stand at two places: repeats of two TTLs that take turns must
+/// come to stand together.
+fn ttl_order(octets: &[u8], a: usize, b: usize) -> Ordering {
+    match (
+        from(octets, a).first_chunk::<4>(),
+        from(octets, b).first_chunk::<4>(),
+    ) {
+        (Some(ttl), Some(other)) => u32::from_be_bytes(*ttl).cmp(&u32::from_be_bytes(*other)),
+        _ => Ordering::Equal,
     }
 }
 
@@ -34,21 +49,19 @@ pub(crate) struct StoredParts<'z> {
     pub(crate) owner: &'z [u8],
     pub(crate) kind: u16,
     pub(crate) data: &'z [u8],
-    pub(crate) ttl: u32,
 }
 
 /// The parts of what stands at a place, if a whole record does.
 pub(crate) fn stored_at<'z>(octets: &'z [u8], at: usize) -> Option<StoredParts<'z>> {
     let (_, from) = octets.split_at_checked(at)?;
     let (head, from) = from.split_first_chunk::<9>()?;
-    let [t0, t1, t2, t3, k0, k1, owner_len, d0, d1] = *head;
+    let [_, _, _, _, k0, k1, owner_len, d0, d1] = *head;
     let (owner, from) = from.split_at_checked(owner_len as usize)?;
     let (data, _) = from.split_at_checked(u16::from_be_bytes([d0, d1]) as usize)?;
     Some(StoredParts {
         owner,
         kind: u16::from_be_bytes([k0, k1]),
         data,
-        ttl: u32::from_be_bytes([t0, t1, t2, t3]),
     })
 }
 

@@ -1,5 +1,5 @@
 -- Numbers of first digits: their order, their bound, and digits that are put before others.
-use Rattle.zone_set.proofs.Common.{common_steps, ◌≡◌, ℕ, zero, suc, ◌+◌, ◌*◌, ◌/◌, ◌^◌, ◌<◌, ◌≤◌, List, [], ◌∷◌, ◌++◌, length, take, Ordering, Less, Equal, Greater, nat_cmp, refl, sym, ap, subst, arith, append_assoc, ranked, slice_cmp, ⊤, MatchOrdering, AreOctets, AllByRecursion-append, AllByRecursion-back, low_take, first_digits, AreDigits, IsPutBefore, eq-eqb, ne_eqb, ◌==◌, if◌then◌else◌}
+use Rattle.zone_set.proofs.Common.{common_steps, ◌≡◌, ℕ, zero, suc, ◌+◌, ◌*◌, ◌/◌, ◌^◌, ◌<◌, ◌≤◌, List, [], ◌∷◌, ◌++◌, length, take, Ordering, Less, Equal, Greater, nat_cmp, refl, sym, ap, subst, arith, append_assoc, ranked, slice_cmp, ⊤, MatchOrdering, AreOctets, AllByRecursion-append, AllByRecursion-back, low_take, first_digits, AreDigits, IsPutBefore, eq-eqb, ne_eqb}
 use Rattle.std.proofs.Math.Nat.{pow-suc, one-le-pow, mul-le-mul_right}
 use Rattle.zone_set.proofs.Hints.LabelKey.{octets_low}
 use Rattle.zone_set.specs.Machine.LabelKey.{first_digit, hexadecimals_below, label_key, longer_digit, octets_key}

@@ -1,5 +1,5 @@
 -- The key of labels has the order of the labels.
-use Rattle.zone_set.proofs.Common.{AllByRecursion, AllByRecursion-append, AreDigits, AreOctets, Equal, Greater, IsLabel, Less, List, MatchOrdering, Ordering, [], ap, append-nil, arith, false, flat_map, if◌then◌else◌, label_cmp, label_key, length, length-map, min, name_cmp, nat_cmp, nat_tests, ordering_then, owner_key, ranked, refl, reverse, reverse-append, slice_cmp, subst, sym, true, ℕ, ◌*◌, ◌++◌, ◌+◌, ◌-◌, ◌<◌, ◌==◌, ◌∙◌, ◌∷◌, ◌≡◌, ◌≤◌}
+use Rattle.zone_set.proofs.Common.{AllByRecursion, AllByRecursion-append, AreDigits, AreOctets, Equal, Greater, IsLabel, Less, List, MatchOrdering, Ordering, [], ap, append-nil, arith, flat_map, if◌then◌else◌, label_cmp, label_key, length, length-map, min, name_cmp, nat_cmp, nat_tests, ordering_then, owner_key, ranked, refl, reverse, reverse-append, slice_cmp, subst, sym, ℕ, ◌*◌, ◌++◌, ◌+◌, ◌-◌, ◌<◌, ◌==◌, ◌∙◌, ◌∷◌, ◌≡◌, ◌≤◌}
 use Rattle.std.proofs.Math.Nat.{le-min, le_trans, min-le_left, min-le_right}
 use lib.ListN.{length-append}
 use Rattle.std.proofs.lemmas.Grind.{flat_map-append}

@@ -1,5 +1,5 @@
 -- Records taken from a source, one after another.
-use Rattle.zone_set.proofs.Common.{ClassMismatch, Err, List, ListsAll, Memory, None, Ok, Option, OtherClass, Placed, Record, Refused, Some, Stop, StopsListing, [], ap, append-nil, append_assoc, arith, false, refl, rules, subst, true, ◌++◌, ◌∙◌, ◌∷◌, ◌≡◌}
+use Rattle.zone_set.proofs.Common.{ClassMismatch, Err, List, ListsAll, Memory, None, Ok, Option, OtherClass, Placed, Record, Refused, Some, Stop, StopsListing, [], append-nil, append_assoc, arith, false, refl, rules, subst, true, ◌++◌, ◌∷◌, ◌≡◌}
 use Rattle.zone_rdata.specs.RrSource.{Pending, answer_of, after, first_of, others}
 use Rattle.zone_set.proofs.Lists.Thinning.{Tells-first, Tells-trans}
 use Rattle.zone_set.specs.Refusal.{records_of}

@@ -1,5 +1,5 @@
 -- Owners whose first labels tell how they lie.
-use Rattle.zone_set.proofs.Common.{append_assoc, arith, AreFirst, Equal, Greater, IsFirst, Less, List, [], ap, ap₂, label_cmp, name_cmp, name_cmp-total, nat_cmp, ordering_reverse, Ordering, ordering_then, refl, reverse, reverse-append, slice_cmp, sym, then_equal, ℕ, ◌∙◌, ◌∷◌, ◌++◌, ◌≡◌, ◌≢◌}
+use Rattle.zone_set.proofs.Common.{append_assoc, arith, AreFirst, Equal, Greater, IsFirst, Less, List, [], ap, ap₂, label_cmp, name_cmp, name_cmp-total, nat_cmp, ordering_reverse, Ordering, ordering_then, reverse, reverse-append, slice_cmp, sym, then_equal, ℕ, ◌∙◌, ◌∷◌, ◌++◌, ◌≡◌, ◌≢◌}
 use Rattle.zone_name.proofs.InOctets.Octets.{labels_of-cons}
 use Rattle.zone_name.specs.Name.{labels_of}
 use Rattle.zone_set.proofs.Ordering.Within.{same_ending}

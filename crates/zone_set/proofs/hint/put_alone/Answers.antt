@@ -1,5 +1,5 @@
 use Rattle.zone_set.proofs.Common.{[], IsPutBefore, subst, sym, ◌+◌, ◌∙◌, ◌∷◌}
-use Rattle.zone_set.proofs.Hints.Digits.{put_ended, put_endless}
+use Rattle.zone_set.proofs.Hints.Digits.{put_ended}
 use Rattle.zone_set.proofs.hint.put_alone.Goals as goal
 
 pub returns-then-below-hexadecimals_below : goal.returns-then-below-hexadecimals_below

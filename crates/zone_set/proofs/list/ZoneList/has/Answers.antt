@@ -1,4 +1,4 @@
-use Rattle.zone_set.proofs.Common.{Has, IsEntry, all_records, entry_record, record_of, subst, sym, ◌∙◌}
+use Rattle.zone_set.proofs.Common.{Has, IsEntry, all_records, subst, sym, ◌∙◌}
 use Rattle.zone_set.proofs.Lists.ListPush.{records_listed}
 use Rattle.zone_set.proofs.Lists.Thinning.{has_entry, is_entry}
 use Rattle.zone_set.proofs.list.ZoneList.has.Goals as goal

@@ -1,4 +1,4 @@
-use Rattle.zone_set.proofs.Common.{[], AllByRecursion, AllByRecursion-append, placed_at, record_of, refl, subst, sym, inl, inr, ⊎_elim, ◌≡◌}
+use Rattle.zone_set.proofs.Common.{[], AllByRecursion, AllByRecursion-append, record_of, subst, sym, inl, inr, ⊎_elim, ◌≡◌}
 use Rattle.zone_set.proofs.Lists.ListPush.{each_placed}
 use Rattle.zone_set.proofs.Lists.Thinning.{HasThinned-again, HasThinned-first, Tells-at_end, Tells-itself, next_has}
 use Rattle.zone_set.proofs.list.ZoneList.relist.Goals as goal
