@@ -13,7 +13,7 @@ const FEW: usize = 8;
 /// After so many digits octets are compared, and no more keys are made.
 const FAR: usize = 320;
 
-/// Of records of fewer octets the digits that all share aren't looked for: keys come to the others soon.
+/// Below so many octets of an owner the digits that all share aren't looked for: keys soon pass them.
 const SHORT: usize = 48;
 
 /// Sorts entries by their hints.
@@ -118,7 +118,7 @@ fn shared_digits(run: &[Entry], octets: &[u8], front: usize) -> usize {
         return 0;
     };
     let whole = one.owner.len();
-    if whole.saturating_add(one.data.len()) < SHORT {
+    if whole < SHORT {
         return 0;
     }
     let mut end = one.owner;

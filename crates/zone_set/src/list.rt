@@ -150,7 +150,7 @@ impl ZoneList {
     fn look_for_repeats(&mut self) -> Result<(), AllocError>
         ensures { Tells self.old self.new }
     {
-        let mut growth = 4;
+        let mut growth = 8;
         if may_be_many(self.alloc, self.octets.as_slice(), self.entries.as_slice())? {
             self.drop_repeats()?;
             growth = 2;
