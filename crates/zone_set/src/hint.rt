@@ -1,9 +1,10 @@
 ghost use Rattle.std.specs.Prelude.{◌≡◌, ◌<◌, ◌≤◌, ◌++◌, ◌∷◌, ◌^◌, [], length, take, List, ℕ, IfNone, IfSome};
 ghost use Rattle.zone_name.specs.Name.{IsWithin};
 ghost use Rattle.zone_set.specs.Machine.Hint.{first_digits, IsHint, IsPutBefore};
-ghost use Rattle.zone_set.specs.Machine.LabelKey.{hexadecimals_below, label_key, octets_key, owner_key};
+ghost use Rattle.zone_set.specs.Machine.LabelKey.{hexadecimals_below, label_key, longer_digit, octets_key, owner_key};
 
 use crate::order::are_same;
+use crate::owner::{first_label, past_far};
 use std::cmp::Ordering;
 use zone_name::{Name, NameRef};
 use zone_rdata::Kind;
@@ -51,22 +52,17 @@ fn front_key(base: &Name, owner: &NameRef<'_>) -> Option<u64>
     ensures short { IfSome result (λ key. key < 2 ^ 57) }
     ensures none { IfNone result (IsWithin owner.now base.now → ⊥) }
 {
-    let (octets, ending) = (owner.wire(), base.wire());
-    let mut labels = owner.labels();
-    let (mut len, mut key) = (octets.len(), 0);
+    let ending = base.wire();
+    // A digit takes up two octets at most: before fourteen more, seven follow.
+    let mut left = past_far(owner.wire(), ending.len() + 14);
+    let mut key = 0;
     // The octets of the labels that are left become fewer, until they are as many as the base's.
-    while len > ending.len() {
-        let Some(label) = labels.next() else {
-            unreachable!();
-        };
-        len -= label.len() + 1;
-        // A digit takes up two octets at most: before fourteen more, seven follow.
-        if len < ending.len() + 14 {
-            key = put_label(label, key);
-        }
+    while left.len() > ending.len() {
+        let (label, rest) = first_label(left)?;
+        key = put_label(label, key);
+        left = rest;
     }
-    let (_, last) = octets.split_at(octets.len() - len);
-    if are_same(last, ending) {
+    if are_same(left, ending) {
         Some(key)
     } else {
         None
@@ -80,10 +76,14 @@ fn put_label(label: &[u8], after: u64) -> u64
     if let Some((front, _)) = label.split_first_chunk::<7>() {
         return seven_digits(front);
     }
-    match label.split_first() {
-        None => put_digit(0, after),
-        Some((octet, rest)) if rest.is_empty() => put_alone(*octet, after),
-        Some((octet, rest)) => put_longer(*octet, rest, after),
+    match label {
+        [] => put_digit(0, after),
+        [octet] => put_alone(*octet, after),
+        [octet, next, others @ ..] => put_two(
+            longer_digit(*octet),
+            *next as u64 + 1,
+            put_octets(others, after),
+        ),
     }
 }
 
@@ -103,57 +103,56 @@ fn seven_digits(front: &[u8; 7]) -> u64
 fn put_alone(octet: u8, after: u64) -> u64
     ensures { IsPutBefore (label_key (octet ∷ [])) after result }
 {
-    let octet = octet as u64;
-    let below = hexadecimals_below(octet);
-    if below == hexadecimals_below(octet + 1) {
-        put_digit(octet + 1 + below, put_digit(0, after))
-    } else {
-        put_digit(octet + 1 + below, after)
+    let digit = octet as u64 + 1 + hexadecimals_below(octet as u64);
+    match octet {
+        b'0'..=b'9' | b'a'..=b'f' => put_digit(digit, after),
+        _ => put_two(digit, 0, after),
     }
 }
 
-/// Puts a label whose first octet others follow.
-fn put_longer(octet: u8, others: &[u8], after: u64) -> u64
-    requires { 0 < length others.now }
-    ensures { IsPutBefore (label_key (octet ∷ others.now)) after result }
+/// The digit of an octet that begins a label and that others follow.
+fn longer_digit(octet: u8) -> u64
+    ensures { result ≡ longer_digit octet }
 {
-    let octet = octet as u64;
-    put_digit(
-        octet + 1 + hexadecimals_below(octet + 1),
-        put_octets(others, after),
-    )
+    octet as u64 + 1 + hexadecimals_below(octet as u64 + 1)
 }
 
 /// How many of the hexadecimal digits `0` to `9` and `a` to `f` are less than an octet.
 fn hexadecimals_below(octet: u64) -> u64
     ensures { result ≡ hexadecimals_below octet }
 {
-    octet.saturating_sub(48).min(10) + octet.saturating_sub(97).min(6)
+    match octet {
+        ..48 => 0,
+        48..58 => octet - 48,
+        58..97 => 10,
+        97..103 => octet - 87,
+        103.. => 16,
+    }
 }
 
-/// Puts octets and the end of their label before the digits of a number.
+/// Puts octets and the end of their label before the digits of a number. An octet counts one more,
+/// since the end is 0.
 fn put_octets(octets: &[u8], after: u64) -> u64
     ensures { IsPutBefore (octets_key octets.now) after result }
 {
-    let mut left = seven_octets(octets);
-    let mut whole = put_digit(0, after);
-    while let Some((octet, before)) = left.split_last() {
-        // An octet counts one more, since the end is 0.
-        whole = put_digit(*octet as u64 + 1, whole);
-        left = before;
+    match octets {
+        [] => put_digit(0, after),
+        [octet] => put_two(*octet as u64 + 1, 0, after),
+        [octet, next, others @ ..] => put_two(
+            *octet as u64 + 1,
+            *next as u64 + 1,
+            put_octets(others, after),
+        ),
     }
-    whole
 }
 
-/// The first seven octets, after which no octet counts.
-fn seven_octets(octets: &[u8]) -> &[u8]
-    ensures { result.now ≡ take 7 octets.now }
+/// Puts two digits before those of a number, of which the last two go.
+fn put_two(digit: u64, next: u64, after: u64) -> u64
+    requires first { digit ≤ 272 }
+    requires second { next ≤ 272 }
+    ensures { IsPutBefore (digit ∷ (next ∷ [])) after result }
 {
-    if octets.len() > 7 {
-        &octets[..7]
-    } else {
-        octets
-    }
+    (digit * 273 + next) * (HIGHEST / 273) + after / (273 * 273)
 }
 
 /// Puts a digit before those of a number, of which the last one goes.

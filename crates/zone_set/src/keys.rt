@@ -4,7 +4,7 @@ ghost use Rattle.zone_set.specs.Machine.Bulk.{with_hint};
 
 use crate::entry::Entry;
 use crate::hint::is_within;
-use crate::owner::{first_label, shared_end};
+use crate::owner::{first_label, past_far, shared_end};
 use crate::tie::{StoredParts, entry_order, stored_at};
 
 /// How many entries are at most sorted by their octets alone.
@@ -214,16 +214,15 @@ fn key_of(octets: &[u8], at: usize, front: usize, digit: usize) -> u64 {
     } else {
         0
     };
-    let mut labels = stored.owner;
+    // Those before have eight digits, even if each has one alone.
+    let mut labels = past_far(stored.owner, past.saturating_add(1));
+    end = labels.len().saturating_sub(1);
     while let Some((label, rest)) = first_label(labels) {
         if end <= digit {
             break;
         }
         end = end.saturating_sub(label.len().saturating_add(1));
-        // Those before have eight digits, even if each has one alone.
-        if end < past {
-            key = put_label(label, digit.saturating_sub(end), key);
-        }
+        key = put_label(label, digit.saturating_sub(end), key);
         labels = rest;
     }
     key

@@ -1,7 +1,7 @@
-ghost use Rattle.std.specs.Prelude.{◌≡◌, ◌<◌, List, ℕ, length, IfSome, IsTrue};
-ghost use Rattle.zone_name.specs.Name.{labels_of};
+ghost use Rattle.std.specs.Prelude.{◌≡◌, ◌<◌, ◌≤◌, ◌∷◌, ◌⊎◌, List, ℕ, length, IfNone, IfSome, IsTrue};
+ghost use Rattle.zone_name.specs.Name.{labels_of, wire};
 ghost use Rattle.zone_name.specs.Order.{name_cmp};
-ghost use Rattle.zone_set.specs.Machine.Owner.{AreFirst, IsFirst, IsLabelBefore};
+ghost use Rattle.zone_set.specs.Machine.Owner.{AreFirst, IsEndOf, IsFirst, IsLabelBefore};
 
 use crate::order::{are_same, octet_order};
 use std::cmp::Ordering;
@@ -135,10 +135,47 @@ fn is_child(owner: &[u8], other: &[u8]) -> bool
     }
 }
 
-/// The first label and what follows it.
+/// The octets of the labels that end a name, from the first one on after which fewer octets than
+/// said are left.
+pub(crate) fn past_far(name: &[u8], near: usize) -> &[u8]
+    ensures end { (labels : List (List ℕ)) → name.now ≡ wire labels → IsEndOf labels result.now }
+    ensures far { (result.now ≡ name.now) ⊎ (near ≤ length result.now) }
+{
+    let mut left = name;
+    while let Some(rest) = past_first(left, near) {
+        left = rest;
+    }
+    left
+}
+
+/// What follows the first label, or the first four that have an octet each, as those of an address in
+/// ip6.arpa have (RFC 3596 2.5). `None`: fewer octets than said follow.
+fn past_first(name: &[u8], near: usize) -> Option<&[u8]>
+    ensures shorter { IfSome result (λ rest. length rest.now < length name.now) }
+    ensures far { IfSome result (λ rest. near ≤ length rest.now) }
+    ensures end { IfSome result (λ rest.
+        (labels : List (List ℕ)) → name.now ≡ wire labels → IsEndOf labels rest.now) }
+{
+    // Most names are short.
+    if name.len() <= near {
+        return None;
+    }
+    match name {
+        [a, _, b, _, c, _, d, _, rest @ ..]
+            if *a == 1 && *b == 1 && *c == 1 && *d == 1 && rest.len() >= near => { Some(rest) }
+        _ => {
+            let (_, rest) = first_label(name)?;
+            if rest.len() >= near { Some(rest) } else { None }
+        }
+    }
+}
+
+/// The first label and what follows it. `None`: a name has no label.
 pub(crate) fn first_label(octets: &[u8]) -> Option<(&[u8], &[u8])>
     ensures shorter { IfSome result (λ parts. length parts.1.now < length octets.now) }
     ensures parts { IfSome result (λ parts. IsFirst octets.now parts.0.now parts.1.now) }
+    ensures none { IfNone result ((label : List ℕ) → (labels : List (List ℕ)) → 0 < length label
+        → octets.now ≡ wire (label ∷ labels) → ⊥) }
 {
     let (len, after) = octets.split_first()?;
     if *len == 0 {

@@ -1,8 +1,9 @@
 -- Numbers of first digits: their order, their bound, and digits that are put before others.
-use Rattle.zone_set.proofs.Common.{common_steps, ◌≡◌, ℕ, zero, suc, ◌+◌, ◌*◌, ◌/◌, ◌^◌, ◌<◌, ◌≤◌, List, [], ◌∷◌, ◌++◌, length, take, Ordering, Less, Equal, Greater, nat_cmp, refl, sym, ap, subst, arith, append_assoc, ranked, slice_cmp, ⊤, MatchOrdering, AreOctets, AllByRecursion-append, AllByRecursion-back, low_take, first_digits, AreDigits, IsPutBefore, eq-eqb, ne_eqb}
+use Rattle.zone_set.proofs.Common.{common_steps, ◌≡◌, ℕ, zero, suc, ◌+◌, ◌*◌, ◌/◌, ◌^◌, ◌<◌, ◌≤◌, ◌∙◌, List, [], ◌∷◌, ◌++◌, length, take, drop, slice_index_or, ◌-◌, Ordering, Less, Equal, Greater, nat_cmp, refl, sym, ap, subst, arith, append_assoc, ranked, slice_cmp, ⊤, MatchOrdering, AreOctets, AllByRecursion-append, first_digits, AreDigits, IsPutBefore}
 use Rattle.std.proofs.Math.Nat.{pow-suc, one-le-pow, mul-le-mul_right}
 use Rattle.zone_set.proofs.Hints.LabelKey.{octets_low}
-use Rattle.zone_set.specs.Machine.LabelKey.{first_digit, hexadecimals_below, label_key, longer_digit, octets_key}
+use Rattle.zone_set.proofs.Lists.Looking.{take_rest}
+use Rattle.zone_set.specs.Machine.LabelKey.{label_key, longer_digit, octets_key}
 
 -- a digit before a number of others is below the next digit before none
 digit_bound : (c p n : ℕ) → c < 273 → n < p → c * p + n < p * 273
@@ -41,27 +42,24 @@ first_digits-enough (suc n) (c ∷ x) y long = ap (λ m. c * 273 ^ n + m) (first
 pub put_one : (d after : ℕ) → IsPutBefore (d ∷ []) after (d * 413976684737889 + after / 273)
 put_one d after digits low is = grind arith
 
--- a digit before those that were put
-pub put_both : (d k m n : ℕ) (more : List ℕ) → AreDigits more → IsPutBefore more k m → IsPutBefore (d ∷ []) m n → IsPutBefore (d ∷ more) k n
-put_both d k m n more each first second digits low is = second (more ++ digits) (AllByRecursion-append (λ e. e < 273) more digits each low) (first digits low is)
+-- digits before those that were put
+pub put_both : (front more : List ℕ) (k m n : ℕ) → AreDigits more → IsPutBefore more k m → IsPutBefore front m n → IsPutBefore (front ++ more) k n
+put_both front more k m n each first second digits low is =
+    second (more ++ digits) (AllByRecursion-append (λ e. e < 273) more digits each low) (first digits low is)
+    ∙ ap (first_digits 7) (sym (append_assoc front more digits))
 
--- octets are put from the right
-pub put_next : (octets left done before : List ℕ) (c m n k : ℕ) → AreOctets octets → take 7 octets ≡ left ++ done → left ≡ before ++ c ∷ [] → IsPutBefore (octets_key done) m n → IsPutBefore ((c + 1) ∷ []) n k
-    → (take 7 octets ≡ before ++ c ∷ done) × IsPutBefore (octets_key (c ∷ done)) m k
-put_next octets left done before c m n k low so_far cut first second = grind (arith, octets_low, AllByRecursion-back, low_take, append_assoc, AllByRecursion-append)
+-- octets after two
+pub put_octets : (k m n : ℕ) (octets : List ℕ) → 2 ≤ length octets → AreOctets octets → IsPutBefore (octets_key (take (length octets - 2) (drop 2 octets))) k m
+    → IsPutBefore ((slice_index_or octets 0 0 + 1) ∷ ((slice_index_or octets 1 0 + 1) ∷ [])) m n → IsPutBefore (octets_key octets) k n
+put_octets k m n [] long low first second = absurd (omega (arith, long))
+put_octets k m n (_ ∷ []) long low first second = absurd (omega (arith, long))
+put_octets k m n (c ∷ (d ∷ others)) long low first second =
+    put_both ((c + 1) ∷ ((d + 1) ∷ [])) (octets_key others) k m n (octets_low others low.1.1) (subst (λ o. IsPutBefore (octets_key o) k m) (take_rest 2 (c ∷ (d ∷ others))) first) second
 
--- all of them were put
-pub put_all : (octets left done : List ℕ) (m n : ℕ) → take 7 octets ≡ left ++ done → length left ≡ 0 → IsPutBefore (octets_key done) m n → IsPutBefore (octets_key octets) m n
-put_all octets left done m n so_far none put digits each is = grind (arith, common_steps)
-
--- a label of one octet, with an end or without
-pub put_ended : (c k m n : ℕ) → hexadecimals_below c ≡ hexadecimals_below (c + 1) → IsPutBefore (0 ∷ []) k m → IsPutBefore (first_digit c ∷ []) m n → IsPutBefore (label_key (c ∷ [])) k n
-put_ended c k m n same first second = rw (eq-eqb (hexadecimals_below c) (hexadecimals_below (c + 1)) same) (put_both (first_digit c) k m n (0 ∷ []) (omega arith, tt) first second)
-
-pub put_endless : (c k n : ℕ) → (hexadecimals_below c ≡ hexadecimals_below (c + 1) → ⊥) → IsPutBefore (first_digit c ∷ []) k n → IsPutBefore (label_key (c ∷ [])) k n
-put_endless c k n apart put = rw (ne_eqb (hexadecimals_below c) (hexadecimals_below (c + 1)) apart) put
-
--- and one of more octets
-pub put_others : (c k m n : ℕ) (others : List ℕ) → AreOctets others → 0 < length others → IsPutBefore (octets_key others) k m → IsPutBefore (longer_digit c ∷ []) m n → IsPutBefore (label_key (c ∷ others)) k n
-put_others c k m n [] low some first second = absurd (omega (arith, some))
-put_others c k m n (d ∷ others) low some first second = put_both (longer_digit c) k m n (octets_key (d ∷ others)) (octets_low (d ∷ others) low) first second
+-- and a label of two or more
+pub put_longer : (k m n : ℕ) (label : List ℕ) → 2 ≤ length label → AreOctets label → IsPutBefore (octets_key (take (length label - 2) (drop 2 label))) k m
+    → IsPutBefore (longer_digit (slice_index_or label 0 0) ∷ ((slice_index_or label 1 0 + 1) ∷ [])) m n → IsPutBefore (label_key label) k n
+put_longer k m n [] long low first second = absurd (omega (arith, long))
+put_longer k m n (_ ∷ []) long low first second = absurd (omega (arith, long))
+put_longer k m n (c ∷ (d ∷ others)) long low first second =
+    put_both (longer_digit c ∷ ((d + 1) ∷ [])) (octets_key others) k m n (octets_low others low.1.1) (subst (λ o. IsPutBefore (octets_key o) k m) (take_rest 2 (c ∷ (d ∷ others))) first) second

@@ -1,9 +1,10 @@
 -- Owners whose first labels tell how they lie.
-use Rattle.zone_set.proofs.Common.{append_assoc, arith, AreFirst, Equal, Greater, IsFirst, Less, List, [], ap, ap₂, label_cmp, name_cmp, name_cmp-total, nat_cmp, ordering_reverse, Ordering, ordering_then, reverse, reverse-append, slice_cmp, sym, then_equal, ℕ, ◌∙◌, ◌∷◌, ◌++◌, ◌≡◌, ◌≢◌}
+use Rattle.zone_set.proofs.Common.{append_assoc, drop, flat_map, length, refl, take, wire, zero, ◌+◌, ◌<◌, ◌≤◌, arith, AreFirst, Equal, Greater, IsFirst, Less, List, [], ap, ap₂, label_cmp, name_cmp, name_cmp-total, nat_cmp, ordering_reverse, Ordering, ordering_then, reverse, reverse-append, slice_cmp, slice_index_or, sym, then_equal, ℕ, ◌∙◌, ◌∷◌, ◌++◌, ◌≡◌, ◌≢◌}
 use Rattle.zone_name.proofs.InOctets.Octets.{labels_of-cons}
-use Rattle.zone_name.specs.Name.{labels_of}
+use Rattle.std.proofs.Math.Seq.{drop-append_seam, take-append_seam}
+use Rattle.zone_name.specs.Name.{labels_of, with_length}
 use Rattle.zone_set.proofs.Ordering.Within.{same_ending}
-use Rattle.zone_set.specs.Machine.Owner.{IsLabelBefore}
+use Rattle.zone_set.specs.Machine.Owner.{IsEndOf, IsLabelBefore}
 
 -- the first label, and those that follow it
 labels_of-first : (octets label rest : List ℕ) → IsFirst octets label rest → labels_of octets ≡ label ∷ labels_of rest
@@ -49,3 +50,66 @@ order_before f g e x y other =
 pub order_of_before : (a b label other rest : List ℕ) → IsLabelBefore a label rest → IsLabelBefore b other rest → slice_cmp nat_cmp label other ≢ Equal → slice_cmp nat_cmp label other ≡ name_cmp (labels_of a) (labels_of b)
 order_of_before a b label other rest left right differ =
     sym (ap₂ name_cmp left.parts right.parts ∙ order_before left.front right.front (labels_of rest) label other differ)
+
+-- ---- the labels that end a name
+
+-- a label at the front of a name's octets is its first, and those of the others follow
+pub first_of_wire : (octets label rest : List ℕ) (labels : List (List ℕ)) → octets ≡ wire labels → IsFirst octets label rest
+    → (more : List (List ℕ)) × (labels ≡ label ∷ more) × (rest ≡ wire more)
+first_of_wire octets label rest [] is first = absurd (grind (arith, first.is, first.some))
+first_of_wire octets label rest (l ∷ more) is first =
+    let same : first.len ∷ first.after ≡ length l ∷ (l ++ wire more) = sym first.is ∙ is ∙ ap (λ o. length l ∷ o) (append_assoc l (flat_map with_length more) (0 ∷ [])) in
+    let len : first.len ≡ length l = cc same in
+    let after : first.after ≡ l ++ wire more = cc same in
+    (more, ap (λ x. x ∷ more) (sym (first.first ∙ ap₂ take len after ∙ take-append_seam l (wire more))), first.follows ∙ ap₂ drop len after ∙ drop-append_seam l (wire more))
+
+-- a name ends with all of its labels
+pub end_whole : (name : List (List ℕ)) (octets : List ℕ) → octets ≡ wire name → IsEndOf name octets
+end_whole name octets is = record { front = []; last = name; parts = refl; is = is }
+
+-- with those that end its end
+pub end_more : (name : List (List ℕ)) (octets rest : List ℕ) → IsEndOf name octets → ((labels : List (List ℕ)) → octets ≡ wire labels → IsEndOf labels rest) → IsEndOf name rest
+end_more name octets rest end more =
+    let next = more end.last end.is in
+    record {
+      front = end.front ++ next.front;
+      last = next.last;
+      parts = end.parts ∙ ap (λ ls. end.front ++ ls) next.parts ∙ sym (append_assoc end.front next.front next.last);
+      is = next.is;
+    }
+
+-- and with those after the first
+pub end_first : (octets label rest : List ℕ) → IsFirst octets label rest → (labels : List (List ℕ)) → octets ≡ wire labels → IsEndOf labels rest
+end_first octets label rest first labels is =
+    let cut = first_of_wire octets label rest labels is first in
+    record { front = label ∷ []; last = cut.0; parts = cut.1; is = cut.2 }
+
+one_octet : (len c : ℕ) (rest : List ℕ) → len ≡ 1 → IsFirst (len ∷ (c ∷ rest)) (c ∷ []) rest
+one_octet len c rest one = record {
+  len = len;
+  after = c ∷ rest;
+  is = refl;
+  some = omega (arith, one);
+  first = ap (λ n. take n (c ∷ rest)) (sym one);
+  follows = ap (λ n. drop n (c ∷ rest)) (sym one);
+}
+
+-- and with those after four of one octet each
+pub end_four : (octets : List ℕ) → 8 ≤ length octets → slice_index_or octets 0 0 ≡ 1 → slice_index_or octets 2 0 ≡ 1 → slice_index_or octets 4 0 ≡ 1 → slice_index_or octets 6 0 ≡ 1
+    → (labels : List (List ℕ)) → octets ≡ wire labels → IsEndOf labels (drop 8 octets)
+end_four [] long p q r s labels is = absurd (omega (arith, long))
+end_four (_ ∷ []) long p q r s labels is = absurd (omega (arith, long))
+end_four (_ ∷ (_ ∷ [])) long p q r s labels is = absurd (omega (arith, long))
+end_four (_ ∷ (_ ∷ (_ ∷ []))) long p q r s labels is = absurd (omega (arith, long))
+end_four (_ ∷ (_ ∷ (_ ∷ (_ ∷ [])))) long p q r s labels is = absurd (omega (arith, long))
+end_four (_ ∷ (_ ∷ (_ ∷ (_ ∷ (_ ∷ []))))) long p q r s labels is = absurd (omega (arith, long))
+end_four (_ ∷ (_ ∷ (_ ∷ (_ ∷ (_ ∷ (_ ∷ [])))))) long p q r s labels is = absurd (omega (arith, long))
+end_four (_ ∷ (_ ∷ (_ ∷ (_ ∷ (_ ∷ (_ ∷ (_ ∷ []))))))) long p q r s labels is = absurd (omega (arith, long))
+end_four (w ∷ (a ∷ (x ∷ (b ∷ (y ∷ (c ∷ (z ∷ (d ∷ rest)))))))) long p q r s labels is =
+    let fourth = z ∷ (d ∷ rest) in
+    let third = y ∷ (c ∷ fourth) in
+    let second = x ∷ (b ∷ third) in
+    let one : IsEndOf labels second = end_first (w ∷ (a ∷ second)) (a ∷ []) second (one_octet w a second p) labels is in
+    let two : IsEndOf labels third = end_more labels second third one (end_first second (b ∷ []) third (one_octet x b third q)) in
+    let three : IsEndOf labels fourth = end_more labels third fourth two (end_first third (c ∷ []) fourth (one_octet y c fourth r)) in
+    end_more labels fourth rest three (end_first fourth (d ∷ []) rest (one_octet z d rest s))

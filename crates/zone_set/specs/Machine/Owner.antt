@@ -1,6 +1,6 @@
 -- The first label of an owner, as its octets begin with it.
 use Rattle.std.specs.Prelude.{◌≡◌, ℕ, ◌<◌, List, ◌∷◌, ◌++◌, take, drop}
-use Rattle.zone_name.specs.Name.{labels_of}
+use Rattle.zone_name.specs.Name.{labels_of, wire}
 
 -- octets begin with a label after its length, and these follow it
 pub record IsFirst (octets label rest : List ℕ) : Type 0 where
@@ -21,3 +21,10 @@ pub record AreFirst (a b label other : List ℕ) : Type 0 where
 pub record IsLabelBefore (name label rest : List ℕ) : Type 0 where
   pub front : List (List ℕ)
   pub parts : labels_of name ≡ front ++ label ∷ labels_of rest
+
+-- the octets of the labels that end a name
+pub record IsEndOf (name : List (List ℕ)) (octets : List ℕ) : Type 0 where
+  pub front : List (List ℕ)
+  pub last : List (List ℕ)
+  pub parts : name ≡ front ++ last
+  pub is : octets ≡ wire last
