@@ -207,16 +207,16 @@ fn key_of(octets: &[u8], at: usize, front: usize, digit: usize) -> u64 {
         return 0;
     };
     // The root's octet is no digit.
-    let mut end = stored.owner.len().saturating_sub(1);
+    let whole = stored.owner.len().saturating_sub(1);
     let past = digit.saturating_add(16);
-    let mut key = if end < past {
-        key_of_data(&stored, end, front, digit)
+    let mut key = if whole < past {
+        key_of_data(&stored, whole, front, digit)
     } else {
         0
     };
     // Those before have eight digits, even if each has one alone.
     let mut labels = past_far(stored.owner, past.saturating_add(1));
-    end = labels.len().saturating_sub(1);
+    let mut end = labels.len().saturating_sub(1);
     while let Some((label, rest)) = first_label(labels) {
         if end <= digit {
             break;
