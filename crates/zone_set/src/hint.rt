@@ -73,17 +73,17 @@ fn front_key(base: &Name, owner: &NameRef<'_>) -> Option<u64>
 fn put_label(label: &[u8], after: u64) -> u64
     ensures { IsPutBefore (label_key label.now) after result }
 {
-    if let Some((front, _)) = label.split_first_chunk::<7>() {
-        return seven_digits(front);
-    }
     match label {
         [] => put_digit(0, after),
         [octet] => put_alone(*octet, after),
-        [octet, next, others @ ..] => put_two(
-            longer_digit(*octet),
-            *next as u64 + 1,
-            put_octets(others, after),
-        ),
+        [octet, next, others @ ..] => match label.split_first_chunk::<7>() {
+            Some((front, _)) => seven_digits(front),
+            None => put_two(
+                longer_digit(*octet),
+                *next as u64 + 1,
+                put_octets(others, after),
+            ),
+        },
     }
 }
 
@@ -130,19 +130,24 @@ fn hexadecimals_below(octet: u64) -> u64
     }
 }
 
-/// Puts octets and the end of their label before the digits of a number. An octet counts one more,
-/// since the end is 0.
+/// Puts octets and the end of their label before the digits of a number, at most four. An octet counts
+/// one more, since the end is 0.
 fn put_octets(octets: &[u8], after: u64) -> u64
+    requires { length octets.now ≤ 4 }
     ensures { IsPutBefore (octets_key octets.now) after result }
 {
     match octets {
         [] => put_digit(0, after),
-        [octet] => put_two(*octet as u64 + 1, 0, after),
-        [octet, next, others @ ..] => put_two(
-            *octet as u64 + 1,
-            *next as u64 + 1,
-            put_octets(others, after),
-        ),
+        [a] => put_two(*a as u64 + 1, 0, after),
+        [a, b] => put_two(*a as u64 + 1, *b as u64 + 1, put_digit(0, after)),
+        [a, b, c] => {
+            let after = put_two(*c as u64 + 1, 0, after);
+            put_two(*a as u64 + 1, *b as u64 + 1, after)
+        }
+        [a, b, c, d, ..] => {
+            let after = put_two(*c as u64 + 1, *d as u64 + 1, put_digit(0, after));
+            put_two(*a as u64 + 1, *b as u64 + 1, after)
+        }
     }
 }
 

@@ -254,13 +254,18 @@ fn put_label(label: &[u8], from: usize, after: u64) -> u64 {
         return put_octets(label, from, after >> 8);
     }
     match label {
-        [octet] if octet.is_ascii_hexdigit() => put_digit(leading_digit(*octet), after),
-        [octet, ..] if octet.is_ascii_hexdigit() => {
+        [octet] if is_hexadecimal(*octet) => put_digit(leading_digit(*octet), after),
+        [octet, ..] if is_hexadecimal(*octet) => {
             put_digit(leading_digit(*octet) + 1, put_octets(label, 1, after >> 8))
         }
         [octet, ..] => put_digit(leading_digit(*octet), put_octets(label, 1, after >> 8)),
         [] => after >> 8,
     }
+}
+
+/// Whether an octet is a hexadecimal digit in lower case.
+fn is_hexadecimal(octet: u8) -> bool {
+    matches!(octet, b'0'..=b'9' | b'a'..=b'f')
 }
 
 /// The digit of an octet that begins a label. One that is hexadecimal leaves room for that of a label

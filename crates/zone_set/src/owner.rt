@@ -76,7 +76,7 @@ fn label_before(name: &[u8], end: usize) -> Option<(&[u8], &[u8])>
 
 /// The octets of the labels that end both names, as far as these are told.
 pub(crate) fn shared_end<'z>(a: &'z [u8], b: &[u8]) -> &'z [u8] {
-    let (mut end, mut left) = (a, b);
+    let (mut end, mut left) = (a, past_far(b, a.len()));
     while left.len() != end.len() || !are_same(left, end) {
         if left.len() > end.len() {
             match first_label(left) {

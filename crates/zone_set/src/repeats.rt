@@ -127,11 +127,11 @@ fn digest(hint: u64, octets: &[u8]) -> u64 {
     let mut digest = mixed(hint, octets.len() as u64);
     let mut left = octets;
     while let Some((eight, rest)) = left.split_first_chunk::<8>() {
-        digest = mixed(digest, u64::from_be_bytes(*eight));
+        digest = mixed(digest, u64::from_le_bytes(*eight));
         left = rest;
     }
     match octets.last_chunk::<8>() {
-        Some(last) => mixed(digest, u64::from_be_bytes(*last)),
+        Some(last) => mixed(digest, u64::from_le_bytes(*last)),
         None => digest,
     }
 }

@@ -48,13 +48,25 @@ put_both front more k m n each first second digits low is =
     second (more ++ digits) (AllByRecursion-append (λ e. e < 273) more digits each low) (first digits low is)
     ∙ ap (first_digits 7) (sym (append_assoc front more digits))
 
--- octets after two
-pub put_octets : (k m n : ℕ) (octets : List ℕ) → 2 ≤ length octets → AreOctets octets → IsPutBefore (octets_key (take (length octets - 2) (drop 2 octets))) k m
-    → IsPutBefore ((slice_index_or octets 0 0 + 1) ∷ ((slice_index_or octets 1 0 + 1) ∷ [])) m n → IsPutBefore (octets_key octets) k n
-put_octets k m n [] long low first second = absurd (omega (arith, long))
-put_octets k m n (_ ∷ []) long low first second = absurd (omega (arith, long))
-put_octets k m n (c ∷ (d ∷ others)) long low first second =
-    put_both ((c + 1) ∷ ((d + 1) ∷ [])) (octets_key others) k m n (octets_low others low.1.1) (subst (λ o. IsPutBefore (octets_key o) k m) (take_rest 2 (c ∷ (d ∷ others))) first) second
+-- three octets and four, two at a time
+pub put_three : (k m n : ℕ) (octets : List ℕ) → length octets ≡ 3 → IsPutBefore ((slice_index_or octets 2 0 + 1) ∷ (0 ∷ [])) k m
+    → IsPutBefore ((slice_index_or octets 0 0 + 1) ∷ ((slice_index_or octets 1 0 + 1) ∷ [])) m n → AreOctets octets → IsPutBefore (octets_key octets) k n
+put_three k m n (c ∷ (d ∷ (e ∷ []))) len first second low = put_both ((c + 1) ∷ ((d + 1) ∷ [])) ((e + 1) ∷ (0 ∷ [])) k m n (octets_low (e ∷ []) low.1.1) first second
+put_three k m n [] len first second low = absurd (omega (arith, len))
+put_three k m n (_ ∷ []) len first second low = absurd (omega (arith, len))
+put_three k m n (_ ∷ (_ ∷ [])) len first second low = absurd (omega (arith, len))
+put_three k m n (_ ∷ (_ ∷ (_ ∷ (_ ∷ _)))) len first second low = absurd (omega (arith, len))
+
+pub put_four : (k l m n : ℕ) (octets : List ℕ) → length octets ≡ 4 → IsPutBefore (0 ∷ []) k l → IsPutBefore ((slice_index_or octets 2 0 + 1) ∷ ((slice_index_or octets 3 0 + 1) ∷ [])) l m
+    → IsPutBefore ((slice_index_or octets 0 0 + 1) ∷ ((slice_index_or octets 1 0 + 1) ∷ [])) m n → AreOctets octets → IsPutBefore (octets_key octets) k n
+put_four k l m n (c ∷ (d ∷ (e ∷ (f ∷ [])))) len first second third low =
+    put_both ((c + 1) ∷ ((d + 1) ∷ [])) ((e + 1) ∷ ((f + 1) ∷ (0 ∷ []))) k m n (octets_low (e ∷ (f ∷ [])) low.1.1)
+    (put_both ((e + 1) ∷ ((f + 1) ∷ [])) (0 ∷ []) k l m (omega arith, tt) first second) third
+put_four k l m n [] len first second third low = absurd (omega (arith, len))
+put_four k l m n (_ ∷ []) len first second third low = absurd (omega (arith, len))
+put_four k l m n (_ ∷ (_ ∷ [])) len first second third low = absurd (omega (arith, len))
+put_four k l m n (_ ∷ (_ ∷ (_ ∷ []))) len first second third low = absurd (omega (arith, len))
+put_four k l m n (_ ∷ (_ ∷ (_ ∷ (_ ∷ (_ ∷ _))))) len first second third low = absurd (omega (arith, len))
 
 -- and a label of two or more
 pub put_longer : (k m n : ℕ) (label : List ℕ) → 2 ≤ length label → AreOctets label → IsPutBefore (octets_key (take (length label - 2) (drop 2 label))) k m
