@@ -32,18 +32,20 @@ def peak_of(pid):
 
 def instructions(words, stdin):
     """User instructions, by perf or else by valgrind."""
-    with open(stdin, "rb") as zone, tempfile.NamedTemporaryFile("r") as told:
-        if shutil.which("perf"):
+    if shutil.which("perf"):
+        with open(stdin, "rb") as zone, tempfile.NamedTemporaryFile("r") as told:
             subprocess.run(["perf", "stat", "-x,", "-e", "instructions:u", "-o", told.name, *words], stdin=zone,
                            stdout=subprocess.DEVNULL, stderr=subprocess.DEVNULL)
             for line in told.read().splitlines():
                 if "instructions" in line and line.split(",")[0].isdigit():
                     return int(line.split(",")[0])
-        zone.seek(0)
-        if shutil.which("valgrind"):
-            done = subprocess.run(["valgrind", "--tool=cachegrind", "--cache-sim=no", "--cachegrind-out-file=/dev/null",
-                                   *words], stdin=zone, stdout=subprocess.DEVNULL, stderr=subprocess.PIPE, text=True)
-            for line in done.stderr.splitlines():
-                if "I   refs" in line or "I refs" in line:
-                    return int(line.split(":")[1].replace(",", ""))
-    return None
+    return instructions_by_valgrind(words, stdin) if shutil.which("valgrind") else None
+
+
+def instructions_by_valgrind(words, stdin):
+    """User instructions, the same in each run."""
+    with open(stdin, "rb") as zone:
+        done = subprocess.run(["valgrind", "--tool=cachegrind", "--cache-sim=no", "--cachegrind-out-file=/dev/null", *words],
+                              stdin=zone, stdout=subprocess.DEVNULL, stderr=subprocess.PIPE, text=True, env=PLAIN)
+    found = re.search(r"I +refs: +([\d,]+)", done.stderr)
+    return int(found[1].replace(",", "")) if found else None

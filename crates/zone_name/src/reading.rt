@@ -118,8 +118,46 @@ fn write_lengths(octets: &mut [u8], len: usize) -> bool
         octets[start] = label_len as u8;
         start = end;
         marks = ahead;
+        if label_len == 1 {
+            // As such labels often do, others may follow.
+            start = write_ones(octets, start, len);
+            let seen = start + 1;
+            marks = Marks { bits: 0, seen };
+        }
     }
     start == len
+}
+
+/// Writes the lengths of the labels of one octet that stand at a place, but for the last label, over
+/// the dots before them, and returns the place after them: an address in ip6.arpa has 32 (RFC 3596
+/// 2.5).
+#[tactic(auto, using(crate::proofs::Spelling::Plain::one_written))]
+fn write_ones(octets: &mut [u8], start: usize, len: usize) -> usize
+    requires within { start ≤ length octets.old }
+    requires room { len ≤ length octets.old }
+    ensures writes { (text : List ℕ) → WritesLengths text octets.old (drop start octets.old)
+        → WritesLengths text octets.new (drop result octets.new) }
+    ensures as_many { length octets.new ≡ length octets.old }
+    ensures front { start ≤ result }
+    ensures back { result ≤ length octets.old }
+{
+    let mut at = start;
+    while at + 2 < len && is_one(octets, at) {
+        octets[at] = 1;
+        at += 2;
+    }
+    at
+}
+
+/// Whether a plain octet stands between two dots at a place.
+#[inline(always)]
+fn is_one(octets: &[u8], at: usize) -> bool
+    requires { at + 2 < length octets.now }
+    ensures dot { IsTrue result → slice_index octets.now at ≡ 46 }
+    ensures plain { IsTrue result → is_plain (slice_index octets.now (at + 1)) ≡ true }
+{
+    let octet = octets[at + 1];
+    octets[at] == b'.' && octets[at + 2] == b'.' && octet != b'.' && octet != b'\\'
 }
 
 /// Puts the letters of the first `len` octets in lower case (RFC 4343 3), 16 octets at a time.

@@ -1,6 +1,6 @@
 -- A text without escapes, whose labels' lengths are written over the dots before them.
 use lib.Lanes.{put_chunk}
-use Rattle.zone_name.proofs.Common.{common_steps, AllByRecursion, AreOctets, Bool, HoldsCasedLabels, IsCasedName, IsUnit, IsWrittenLabel, List, Ok, WritesLengths, Written, [], after_dots, ap, append-nil, append_assoc, ap₂, arith, bytes_decides, dotted, drop, drop_at, drop_more, eqb-false, eqb-true, false, flat_map, flat_map-append, get_or, get_or-drop, is_dot, is_mark, is_plain, kept, labels_of, length, length-append, length-drop, length-map, length-set, length-take-le, map, map-map, map_push, nat_eq, not-true, octet_of, or_parts, parted, plain, pointwise, reading, set, set_at, suc, sym, take, take-append-drop, take_at, take_more_put_chunk, true, with_length, written_octets, written_text, zero, ℕ, ◌++◌, ◌+◌, ◌-◌, ◌<◌, ◌==◌, ◌∙◌, ◌∷◌, ◌≡◌, ◌≤◌}
+use Rattle.zone_name.proofs.Common.{common_steps, AllByRecursion, AreOctets, Bool, HoldsCasedLabels, IsCasedName, IsUnit, IsWrittenLabel, List, Ok, WritesLengths, Written, [], after_dots, ap, append-nil, append_assoc, ap₂, arith, bytes_decides, dotted, drop, drop_at, drop_more, eqb-false, eqb-true, false, flat_map, flat_map-append, get_or, get_or-drop, is_dot, is_mark, is_plain, kept, labels_of, length, length-append, length-drop, length-map, length-set, length-take-le, map, map-map, map_push, nat_eq, not-true, octet_of, or_parts, parted, plain, pointwise, reading, set, set_at, subst, suc, sym, take, take-append-drop, take_at, take_more_put_chunk, true, with_length, written_octets, written_text, zero, ℕ, ◌++◌, ◌+◌, ◌-◌, ◌<◌, ◌==◌, ◌∙◌, ◌∷◌, ◌≡◌, ◌≤◌}
 use Rattle.zone_name.proofs.InOctets.OctetLanes.{itself}
 use Rattle.zone_name.proofs.InOctets.Octets.{labels_of-open_cased}
 use Rattle.zone_name.proofs.InOctets.Pushing.{AllByRecursion-append, HoldsCasedLabels-frames, frames_push}
@@ -70,6 +70,14 @@ lengths_next old now next start end w inside dot each back some short is =
     let count = length-take-le len tail fits in
     let left = drop_more now start 0 inside ∙ ap (λ c. c ∷ tail) dot ∙ ap (λ t. 46 ∷ t) (sym (take-append-drop len tail)) in
     cut_at old next rest end (lengths_label old now next label rest start (rw left at w) (plain_each len tail (plain_after now start end each)) (omega (arith, some, count)) (omega (arith, short, count)) (omega (arith, inside, length-drop start now, ap length left)) (cc)) (omega (arith, inside, fits, some, ap length is, length-set now start len, length-drop (start + 1) now, length-drop len tail))
+
+-- the same, of a label of one octet
+pub one_written : (old now next : List ℕ) (at : ℕ) → WritesLengths old now (drop at now) → at + 2 < length now → get_or now at 0 ≡ 46
+    → is_plain (get_or now (at + 1) 0) ≡ true → next ≡ set now at 1 → WritesLengths old next (drop (at + 2) next)
+one_written old now next at w inside dot is_one is =
+    lengths_next old now next at (at + 2) w (omega (arith, inside)) dot
+    (λ k from to. subst (λ n. is_plain (get_or now n 0) ≡ true) (omega (arith, from, to)) is_one)
+    (omega (arith, inside)) (omega arith) (omega arith) (is ∙ ap (set now at) (omega arith))
 
 -- ---- the whole text
 
