@@ -118,8 +118,8 @@ fn write_lengths(octets: &mut [u8], len: usize) -> bool
         octets[start] = label_len as u8;
         start = end;
         marks = ahead;
-        if label_len == 1 {
-            // As such labels often do, others may follow.
+        if ahead.bits & 0b1111 == 0b1010 {
+            // Two labels of one octet are next, and then there may be many.
             start = write_ones(octets, start, len);
             let seen = start + 1;
             marks = Marks { bits: 0, seen };

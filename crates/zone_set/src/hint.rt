@@ -1,7 +1,7 @@
 ghost use Rattle.std.specs.Prelude.{◌≡◌, ◌<◌, ◌≤◌, ◌++◌, ◌∷◌, ◌^◌, [], length, take, List, ℕ, IfNone, IfSome};
 ghost use Rattle.zone_name.specs.Name.{IsWithin};
 ghost use Rattle.zone_set.specs.Machine.Hint.{first_digits, IsHint, IsPutBefore};
-ghost use Rattle.zone_set.specs.Machine.LabelKey.{hexadecimals_below, label_key, longer_digit, octets_key, owner_key};
+ghost use Rattle.zone_set.specs.Machine.LabelKey.{label_key, longer_digit, octets_key, owner_key};
 
 use crate::order::are_same;
 use crate::owner::{first_label, past_far};
@@ -20,6 +20,28 @@ const AFTER: u64 = 3 << 57;
 
 /// The highest of seven digits to the base 273.
 const HIGHEST: u64 = 273 * 273 * 273 * 273 * 273 * 273;
+
+/// The digits of octets that begin a label and that others follow, sixteen a row. A look-up costs
+/// less than comparisons with the ends of two ranges.
+#[rattlefmt::skip]
+static LONGER_DIGITS: [u16; 256] = [
+    1, 2, 3, 4, 5, 6, 7, 8, 9, 10, 11, 12, 13, 14, 15, 16,
+    17, 18, 19, 20, 21, 22, 23, 24, 25, 26, 27, 28, 29, 30, 31, 32,
+    33, 34, 35, 36, 37, 38, 39, 40, 41, 42, 43, 44, 45, 46, 47, 48,
+    50, 52, 54, 56, 58, 60, 62, 64, 66, 68, 69, 70, 71, 72, 73, 74,
+    75, 76, 77, 78, 79, 80, 81, 82, 83, 84, 85, 86, 87, 88, 89, 90,
+    91, 92, 93, 94, 95, 96, 97, 98, 99, 100, 101, 102, 103, 104, 105, 106,
+    107, 109, 111, 113, 115, 117, 119, 120, 121, 122, 123, 124, 125, 126, 127, 128,
+    129, 130, 131, 132, 133, 134, 135, 136, 137, 138, 139, 140, 141, 142, 143, 144,
+    145, 146, 147, 148, 149, 150, 151, 152, 153, 154, 155, 156, 157, 158, 159, 160,
+    161, 162, 163, 164, 165, 166, 167, 168, 169, 170, 171, 172, 173, 174, 175, 176,
+    177, 178, 179, 180, 181, 182, 183, 184, 185, 186, 187, 188, 189, 190, 191, 192,
+    193, 194, 195, 196, 197, 198, 199, 200, 201, 202, 203, 204, 205, 206, 207, 208,
+    209, 210, 211, 212, 213, 214, 215, 216, 217, 218, 219, 220, 221, 222, 223, 224,
+    225, 226, 227, 228, 229, 230, 231, 232, 233, 234, 235, 236, 237, 238, 239, 240,
+    241, 242, 243, 244, 245, 246, 247, 248, 249, 250, 251, 252, 253, 254, 255, 256,
+    257, 258, 259, 260, 261, 262, 263, 264, 265, 266, 267, 268, 269, 270, 271, 272,
+];
 
 /// The hint of a record: a number that is never less than that of a record before it in canonical
 /// order. Most owners of a zone lie below its base, and these the first octets of the labels before
@@ -93,8 +115,7 @@ fn seven_digits(front: &[u8; 7]) -> u64
         → result ≡ first_digits 7 (label_key (front.now ++ rest) ++ digits) }
 {
     let [c0, c1, c2, c3, c4, c5, c6] = *front;
-    let first = c0 as u64 + 1 + hexadecimals_below(c0 as u64 + 1);
-    let front = (first * 273 + c1 as u64 + 1) * 273 + c2 as u64 + 1;
+    let front = (longer_digit(c0) * 273 + c1 as u64 + 1) * 273 + c2 as u64 + 1;
     let front = (front * 273 + c3 as u64 + 1) * 273 + c4 as u64 + 1;
     (front * 273 + c5 as u64 + 1) * 273 + c6 as u64 + 1
 }
@@ -103,31 +124,18 @@ fn seven_digits(front: &[u8; 7]) -> u64
 fn put_alone(octet: u8, after: u64) -> u64
     ensures { IsPutBefore (label_key (octet ∷ [])) after result }
 {
-    let digit = octet as u64 + 1 + hexadecimals_below(octet as u64);
     match octet {
-        b'0'..=b'9' | b'a'..=b'f' => put_digit(digit, after),
-        _ => put_two(digit, 0, after),
+        b'0'..=b'9' | b'a'..=b'f' => put_digit(longer_digit(octet) - 1, after),
+        _ => put_two(longer_digit(octet), 0, after),
     }
 }
 
 /// The digit of an octet that begins a label and that others follow.
+#[inline(always)]
 fn longer_digit(octet: u8) -> u64
     ensures { result ≡ longer_digit octet }
 {
-    octet as u64 + 1 + hexadecimals_below(octet as u64 + 1)
-}
-
-/// How many of the hexadecimal digits `0` to `9` and `a` to `f` are less than an octet.
-fn hexadecimals_below(octet: u64) -> u64
-    ensures { result ≡ hexadecimals_below octet }
-{
-    match octet {
-        ..48 => 0,
-        48..58 => octet - 48,
-        58..97 => 10,
-        97..103 => octet - 87,
-        103.. => 16,
-    }
+    LONGER_DIGITS[octet as usize] as u64
 }
 
 /// Puts octets and the end of their label before the digits of a number, at most four. An octet counts
