@@ -104,8 +104,9 @@ fn write_lengths(octets: &mut [u8], len: usize) -> bool
     requires { len ≤ length octets.old }
     ensures { IsTrue result → WritesLengths octets.old octets.new (drop len octets.new) }
 {
-    let mut marks = Marks { bits: 0, seen: 1 };
-    let mut start = 0;
+    let mut start = write_ones(octets, len);
+    let seen = start + 1;
+    let mut marks = Marks { bits: 0, seen };
     while start < len {
         if octets[start] != b'.' {
             return false;
@@ -118,30 +119,22 @@ fn write_lengths(octets: &mut [u8], len: usize) -> bool
         octets[start] = label_len as u8;
         start = end;
         marks = ahead;
-        if ahead.bits & 0b1111 == 0b1010 {
-            // Two labels of one octet are next, and then there may be many.
-            start = write_ones(octets, start, len);
-            let seen = start + 1;
-            marks = Marks { bits: 0, seen };
-        }
     }
     start == len
 }
 
-/// Writes the lengths of the labels of one octet that stand at a place, but for the last label, over
-/// the dots before them, and returns the place after them: an address in ip6.arpa has 32 (RFC 3596
-/// 2.5).
+/// Writes the lengths of the labels of one octet that come first, but for the last label, over the dots
+/// before them, and returns the place after them. An address in ip6.arpa has 32 of them (RFC 3596 2.5),
+/// which need no marks.
 #[tactic(auto, using(crate::proofs::Spelling::Plain::one_written))]
-fn write_ones(octets: &mut [u8], start: usize, len: usize) -> usize
-    requires within { start ≤ length octets.old }
-    requires room { len ≤ length octets.old }
-    ensures writes { (text : List ℕ) → WritesLengths text octets.old (drop start octets.old)
-        → WritesLengths text octets.new (drop result octets.new) }
+#[inline(always)]
+fn write_ones(octets: &mut [u8], len: usize) -> usize
+    requires { len ≤ length octets.old }
+    ensures writes { WritesLengths octets.old octets.new (drop result octets.new) }
     ensures as_many { length octets.new ≡ length octets.old }
-    ensures front { start ≤ result }
-    ensures back { result ≤ length octets.old }
+    ensures within { result ≤ length octets.old }
 {
-    let mut at = start;
+    let mut at = 0;
     while at + 2 < len && is_one(octets, at) {
         octets[at] = 1;
         at += 2;
