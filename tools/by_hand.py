@@ -5,6 +5,7 @@ are gone or stand for something else, and then the answer is refused however rig
 """
 import re
 from collections import Counter
+from os.path import commonprefix
 
 from sole_clause import GOAL, head_and_rest, is_return
 
@@ -18,9 +19,10 @@ KIND = re.compile(r"([^-]+)(?:.*?-(requires|init|preserved|smaller)\b)?")
 # What the steps of a body are made of: tests, branches and ends, indexes, names of values and calls. Strings are passed over.
 TOKEN = re.compile(
     r"b?\"(?:[^\"\\]|\\.)*\"|b?'(?:[^'\\]|\\.)+'|(?P<step>\b(?:if|else|match|for|while|loop|return|break|continue)\b|=>|&&|\|\||\?|(?<=[\w)\]])\["
-    r"|\blet (?:mut )?\w+|\b[a-z_]\w*!?(?=(?:::<[^()]*>)?\()|(?<= )(?P<test>[=!<>]=|[<>])(?= ))"
+    r"|\blet (?:mut )?\w+|\b[a-z_]\w*!?(?=(?:::<[^()]*>)?\()|(?<= )(?P<test>[=!<>]=|[<>])(?= )|(?<= )(?P<sum>(?:[-+*/%^&|]|<<|>>)=?)(?= ))"
 )
 WORD = re.compile(r"\w+|[^\w\s]")
+COMMUTES = re.compile(r" (?:[+*&|^]|==|!=|&&|\|\|) ")
 
 
 def goals_answered(text):
@@ -47,15 +49,23 @@ def kind(goal):
 
 
 def has_same_steps(text, other):
-    """Whether a function makes no steps but those of another one, in their order, with other values. Of steps of one name it leaves out
-    the last, so that the others keep their numbers; and its words aren't the same in another order."""
+    """Whether a function makes no steps, and does no sums, but those of another one, in their order, with other values. Of those of one
+    name it leaves out the last, so that the others keep their numbers; and it doesn't only turn operands round."""
     one, two = (head_and_rest(it)[1] for it in (text, other))
-    left, made, kept = Counter(steps_of(two)), steps_of(two), []
-    for it in steps_of(one):
+    made, kept = steps_of(two, True), []
+    left = Counter(made)
+    for it in steps_of(one, True):
         if left[it]:
             left[it] -= 1
             kept.append(it)
-    return kept == made and (one == two or sorted(WORD.findall(one)) != sorted(WORD.findall(two)))
+    return kept == made and not turns_operands(one, two)
+
+
+def turns_operands(one, two):
+    """Whether a body has the words of another one in another order, round an operator that may not care."""
+    start = len(commonprefix([one, two]))
+    end = len(two) - len(commonprefix([one[start:][::-1], two[start:][::-1]]))
+    return one != two and sorted(WORD.findall(one)) == sorted(WORD.findall(two)) and COMMUTES.search(two[start:end]) is not None
 
 
 def makes_steps_of(text, other):
@@ -64,6 +74,7 @@ def makes_steps_of(text, other):
     return all(one.count(it) == two.count(it) for it in two)
 
 
-def steps_of(body):
-    """The steps of a body, by what the prover names them after. A value that is let go has none of its own."""
-    return ["test" if it["test"] else it["step"] for it in TOKEN.finditer(body) if it["step"] and it["step"] != "let _"]
+def steps_of(body, has_sums=False):
+    """The steps of a body, by what the prover names them after, with or without sums. A value that is let go has none of its own."""
+    found = [it for it in TOKEN.finditer(body) if it["step"] and it["step"] != "let _" and (has_sums or not it["sum"])]
+    return ["test" if it["test"] else it["step"] for it in found]
