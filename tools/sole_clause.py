@@ -12,17 +12,26 @@ GOAL = re.compile(r"(returns\S*)-clause-(\w+)$")
 
 
 class Sole:
-    """What a copy is refused by: a clause that its function ensures, or a goal of its body that is no clause's, as an invariant."""
+    """What a copy is refused by: a clause that its function ensures, or a goal, of that clause or, as an invariant, of no clause."""
 
     def __init__(self, clause=None, goal=None):
         self.clause, self.goal = clause, goal
 
     def __str__(self):
-        return f"clause: {self.clause}" if self.clause else f"goal: {self.goal}"
+        return " and ".join(self.lines)
+
+    @property
+    def lines(self):
+        """How a record says it."""
+        return [f"{word}: {it}" for word, it in (("clause", self.clause), ("goal", self.goal)) if it]
 
     def is_of(self, goal):
         """Whether an open goal of a copy that ensures this alone is the one that refuses it."""
-        return is_return(goal) if self.clause else goal == self.goal
+        return goal == self.goal if self.goal else is_return(goal)
+
+    def ensures(self, clause):
+        """Whether a copy ensures a clause, by its name: all that it has, if a goal of what it ensures is named and no clause."""
+        return clause is not None and clause == self.clause if self.clause else is_return(self.goal)
 
     def contract(self, text):
         """The text of a function without what else it ensures. A goal of a clause that stands alone is its fact where it has no name."""
@@ -30,8 +39,8 @@ class Sole:
         head, rest = head_and_rest(text)
         for line in head.splitlines(keepends=True):
             if found := CLAUSE.match(line):
-                is_kept = found[1] != "ensures" or found[2] is not None and found[2] == self.clause
-                if found[1] == "ensures" and is_kept:
+                is_kept = found[1] != "ensures" or self.ensures(found[2])
+                if found[1] == "ensures" and is_kept and self.clause:
                     line = line.replace(f"ensures {self.clause} ", "ensures ", 1)
             if is_kept:
                 kept.append(line)
@@ -54,9 +63,9 @@ class Sole:
         return re.sub(rf"\b(returns[^\s:.]*)-clause-{self.clause}(?![\w-])", r"\1", text) if self.clause else text
 
     def has(self, goal):
-        """Whether a goal of the whole contract is one of this clause."""
+        """Whether a goal of the whole contract is one of what a copy ensures."""
         found = GOAL.match(goal)
-        return found is not None and found[2] == self.clause
+        return self.ensures(found[2] if found else None)
 
 
 def is_return(goal):
@@ -84,6 +93,14 @@ def sole_of(text, goals):
         return Sole(clause=named[0]) if len(clauses) > 1 else None
     others = [it for it in goals if not is_return(it)]
     return Sole(goal=others[0]) if others and clauses else None
+
+
+def sole_at(text, sole, goal):
+    """What a copy of a function would have alone that has an open goal, with its whole contract or with one clause."""
+    if sole or not is_return(goal) or len(ensured(text)) == 1:
+        return Sole(sole.clause if sole else None, goal)
+    clause = GOAL.match(goal)
+    return Sole(clause[2], clause[1]) if clause else None
 
 
 def answers_at_once(text, clauses):
