@@ -11,6 +11,7 @@ use Rattle.clap.specs.declared.error.kind.ErrorKind.TheVariants.{OutOfMemory}
 use Rattle.clap.proofs.WalkLemmas.{first_value-rows}
 use Rattle.zone_name.specs.Common.{NothingIs}
 use Rattle.command_line.specs.Calls.{Calls, Commands, Finds, IsNoCall}
+use Rattle.command_line.specs.Machine.Telling.{EndsWell}
 use Rattle.command_line.specs.declared.no_call.NoCall.{NoCall}
 use Rattle.command_line.specs.declared.no_call.NoCall.TheVariants.{Told, Memory}
 
@@ -50,9 +51,9 @@ module _ (commands : Commands) where
   pub is_plain : (app : App) → app ≡ commands.app → is_simple app ≡ true
   is_plain app is = (and_parts _ _ (is_free app is)).0
 
-  pub fault_told : (words : List Text) (fault : NoCall) → ((call : commands.Call) → Calls commands words call → fault ≡ Memory) → IsNoCall commands words fault
-  fault_told words (Told told) memory = λ call calls. let e : Told told ≡ Memory = memory call calls in cc
-  fault_told words Memory memory = tt
+  pub fault_told : (words : List Text) (fault : NoCall) → EndsWell fault → ((call : commands.Call) → Calls commands words call → fault ≡ Memory) → IsNoCall commands words fault
+  fault_told words (Told told) ends memory = (λ call calls. let e : Told told ≡ Memory = memory call calls in cc, ends)
+  fault_told words Memory ends memory = tt
 
   module _ (words : List Text) (app : App) (found : Option (Text × List Row)) (is : app ≡ commands.app) (finds : found ≡ subcommand_of app words) where
     found_is : found ≡ subcommand_of commands.app words

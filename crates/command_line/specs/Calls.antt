@@ -1,5 +1,5 @@
 -- What the words of a command line call, by `clap` (this project's own).
-use Rattle.std.specs.Prelude.{◌≡◌, true, List, [], map, codes, string_bytes, Option, Some}
+use Rattle.std.specs.Prelude.{◌≡◌, ◌≢◌, ◌++◌, ◌∷◌, true, List, [], map, codes, string_bytes, Option, Some}
 use Rattle.std.specs.List.{AllByRecursion}
 use Rattle.clap.specs.Words.{App, Row, Rule, Text, new_rule, new_app, subcommand_of, first_of, fault_of, is_simple_and_free}
 use Rattle.clap.specs.Walk.{is_empty}
@@ -54,10 +54,15 @@ pub record Calls (commands : Commands) (words : List Text) (call : commands.Call
   pub faultless : fault_of commands.app words ≡ []
   pub finds : Finds commands (subcommand_of commands.app words) call
 
+-- a text that is told has no line feed at its end
+abbrev pub HasNoFinalLineFeed : Text → Type 0
+HasNoFinalLineFeed text = (front : Text) → text ≢ front ++ 10 ∷ []
+
 -- Why the words call nothing: by `clap` they are no command with all its arguments, or memory was
 -- refused.
 abbrev pub IsNoCall : Commands → List Text → NoCall → Type 0
-IsNoCall commands words (Told text) = NothingIs (Calls commands words)
+IsNoCall commands words (Told text) =
+    NothingIs (Calls commands words) × HasNoFinalLineFeed (string_bytes text)
 IsNoCall commands words Memory = Unit {0}
 
 -- why a program has no words: one of them is no text, or memory was refused

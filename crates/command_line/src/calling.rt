@@ -1,17 +1,17 @@
 //! The call that words are.
-ghost use Rattle.std.specs.Prelude.{◌≡◌, drop, map, IfErr, IfOk, IfSome, IsErr, IsNone, string_bytes};
-ghost use Rattle.clap.specs.Words.{kind_of, subcommand_rows_of};
+ghost use Rattle.std.specs.Prelude.{◌≡◌, ◌≢◌, ◌↔◌, ◌⊎◌, drop, map, IfErr, IfOk, IfSome, IsErr, IsNone, string_bytes};
+ghost use Rattle.clap.specs.Words.{subcommand_rows_of};
 ghost use Rattle.clap.specs.declared.error.kind.ErrorKind.TheVariants.{OutOfMemory};
 ghost use Rattle.zone_name.specs.Common.{NothingIs};
 ghost use Rattle.command_line.specs.Calls.{Calls, Commands, Finds, IsNoCall};
 ghost use Rattle.command_line.specs.Program.{app_described};
-ghost use Rattle.command_line.specs.Machine.Telling.{Tells};
+ghost use Rattle.command_line.specs.Machine.Telling.{EndsWell, IsWithoutLineFeeds, Tells};
 
 use crate::no_call::NoCall;
 use crate::program::Program;
 use crate::reading::readable;
+use clap::ArgMatches;
 use clap::error::ErrorKind;
-use clap::{ArgMatches, Error};
 use std::alloc::{AllocError, Global};
 
 /// A call of a program: one of its commands with the texts of its arguments.
@@ -47,11 +47,11 @@ pub fn call_of<'w, C: FromMatches<'w>>(alloc: Global, words: &'w [String]) -> Re
     let program = C::program();
     let matches = match readable(alloc, program)?.try_get_matches_from(words) {
         Ok(matches) => matches,
-        Err(error) => return Err(refusal(alloc, &error)),
+        Err(error) => return Err(refusal(error.kind(), error.to_string(alloc))),
     };
     match C::from_matches(&matches) {
         Some(call) => Ok(call),
-        None => Err(help(alloc, program)),
+        None => Err(told(help(alloc, program))),
     }
 }
 
@@ -65,36 +65,41 @@ pub fn after_name(words: &[String]) -> &[String]
     }
 }
 
-/// What `clap` tells in place of matches.
-fn refusal(alloc: Global, error: &Error) -> NoCall
-    ensures { kind_of error.now ≡ OutOfMemory → result ≡ NoCall.Memory }
+/// What is told in place of matches, by the kind and the text of what `clap` answers.
+fn refusal(kind: ErrorKind, text: Result<String, AllocError>) -> NoCall
+    ensures told { kind ≢ OutOfMemory → IfOk text (λ text. Tells (string_bytes text) result) }
+    ensures memory { (result ≡ NoCall.Memory) ↔ ((kind ≡ OutOfMemory) ⊎ IsErr text) }
+    ensures ends { EndsWell result }
 {
-    match error.kind() {
+    match kind {
         ErrorKind::OutOfMemory => NoCall::Memory,
-        _ => told(error.to_string(alloc)),
+        _ => told(text),
     }
 }
 
 /// The program's help, for words that name no command.
-fn help(alloc: Global, program: &Program) -> NoCall {
-    match readable(alloc, program) {
-        Ok(mut command) => told(command.render_help()),
+fn help(alloc: Global, program: &Program) -> Result<String, AllocError> {
+    readable(alloc, program)?.render_help()
+}
+
+/// What is told of a text that `clap` gives: the text without the line feeds at its end.
+fn told(text: Result<String, AllocError>) -> NoCall
+    ensures told { IfOk text (λ text. Tells (string_bytes text) result) }
+    ensures memory { (result ≡ NoCall.Memory) ↔ IsErr text }
+    ensures ends { EndsWell result }
+{
+    match text {
+        Ok(text) => NoCall::Told(without_line_feeds(text)),
         Err(_) => NoCall::Memory,
     }
 }
 
-/// The text without the line feed at its end.
-fn told(text: Result<String, AllocError>) -> NoCall
-    ensures told { IfOk text (λ text. Tells (string_bytes text) result) }
-    ensures memory { result ≡ NoCall.Memory → IsErr text }
+/// The text without the line feeds at its end.
+fn without_line_feeds(mut text: String) -> String
+    ensures { IsWithoutLineFeeds (string_bytes text) (string_bytes result) }
 {
-    match text {
-        Ok(mut text) => {
-            if text.as_str().ends_with('\n') {
-                text.pop();
-            }
-            NoCall::Told(text)
-        }
-        Err(_) => NoCall::Memory,
+    while text.as_str().ends_with('\n') {
+        text.pop();
     }
+    text
 }

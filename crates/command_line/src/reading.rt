@@ -1,28 +1,35 @@
 //! A program as `clap` reads and explains it.
-ghost use Rattle.std.specs.Prelude.{◌≡◌, IfOk};
-ghost use Rattle.clap.specs.Words.{app_of};
-ghost use Rattle.command_line.specs.Machine.Adding.{IsAddedAs};
+ghost use Rattle.std.specs.Prelude.{◌≡◌, false, IfOk, Some};
+ghost use Rattle.clap.specs.Words.{app_of, rule_of};
+ghost use Rattle.clap.specs.declared.builder.Command.TheViews.{out-Command as fields_of};
+ghost use Rattle.command_line.specs.Calls.{argument as argument_rule};
+ghost use Rattle.command_line.specs.Machine.Adding.{ShowsTexts};
 ghost use Rattle.command_line.specs.Program.{app_described, app_of_command};
 
-use crate::program::{Program, ProgramCommand};
+use crate::program::{Argument, Program, ProgramCommand};
 use clap::{Arg, Command};
 use std::alloc::{AllocError, Global};
 
 /// The program with its commands. It is handed the words after its name.
 #[tactic(auto, using(std::proofs::lemmas::List::take_all))]
 pub(crate) fn readable<'a>(alloc: Global, program: &Program) -> Result<Command<'a>, AllocError>
-    ensures { IfOk result (λ command. app_of command ≡ app_described program.now) }
+    ensures app { IfOk result (λ command. app_of command ≡ app_described program.now) }
+    ensures version { IfOk result (λ command.
+        (fields_of command).version ≡ Some program.now.version) }
+    ensures texts { IfOk result (ShowsTexts
+        program.now.about program.now.usage program.now.notes) }
 {
-    let mut command = Command::new(alloc, program.name)
-        .no_binary_name(true)
-        .version(program.version)
-        .about(program.about)
-        .override_usage(program.usage)
-        .after_help(program.notes);
+    let mut command = Command::new(alloc, program.name).no_binary_name(true);
     for row in program.commands {
         command = command.subcommand(readable_command(alloc, row, program.notes)?)?;
     }
-    Ok(command)
+    Ok(
+        command
+            .version(program.version)
+            .about(program.about)
+            .override_usage(program.usage)
+            .after_help(program.notes),
+    )
 }
 
 /// A command with its arguments and with these notes below its help.
@@ -31,17 +38,29 @@ fn readable_command<'a>(
     row: &ProgramCommand,
     notes: &'a str,
 ) -> Result<Command<'a>, AllocError>
-    ensures { IfOk result (IsAddedAs (app_of_command row.now)) }
+    ensures app { IfOk result (λ command. app_of command ≡ app_of_command row.now) }
+    ensures local { IfOk result (λ command. (fields_of command).has_globals ≡ false) }
+    ensures texts { IfOk result (ShowsTexts row.now.about row.now.usage notes.entry) }
 {
-    let mut command = Command::new(alloc, row.word)
-        .about(row.about)
-        .override_usage(row.usage)
-        .after_help(notes);
+    let mut command = Command::new(alloc, row.word);
     for argument in row.arguments {
-        let required = Arg::new(alloc, argument.id)
-            .required(true)
-            .help(argument.help);
-        command = command.arg(required)?;
+        command = command.arg(readable_argument(alloc, argument))?;
     }
-    Ok(command)
+    Ok(
+        command
+            .about(row.about)
+            .override_usage(row.usage)
+            .after_help(notes),
+    )
+}
+
+/// An argument, one required word.
+fn readable_argument<'a>(alloc: Global, argument: &Argument) -> Arg<'a>
+    ensures rule { rule_of result ≡ argument_rule argument.now.id.now }
+    ensures local { result.global ≡ false }
+    ensures help { result.help ≡ Some argument.now.help }
+{
+    Arg::new(alloc, argument.id)
+        .required(true)
+        .help(argument.help)
 }

@@ -1,7 +1,7 @@
 -- What a command line asks for (this project's own).
 use Rattle.std.specs.Prelude.{◌≡◌, ◌≢◌, ℕ, List, [], ◌∷◌, ◌++◌, codes, string_bytes, Option, Some, None, ◌⊎◌, refl}
 use Rattle.clap.specs.Words.{App, Text}
-use Rattle.command_line.specs.Calls.{Calls, Commands, command_app, program_of}
+use Rattle.command_line.specs.Calls.{Calls, Commands, HasNoFinalLineFeed, command_app, program_of}
 use Rattle.command_line.specs.declared.no_call.NoCall.{NoCall}
 use Rattle.command_line.specs.declared.no_call.NoCall.TheVariants as no_calls
 use Rattle.zone_name.specs.Common.{NothingIs, Labels}
@@ -106,13 +106,14 @@ abbrev pub Orders : List Text → Order → Type 0
 Orders words order = (call : Call) × Calls commands words call × Asks call order
 
 -- Why the words give no order: the text of an origin is bad, or lacks the dot at its end alone, or
--- by `clap` they are no command with all its arguments.
+-- by `clap` they are no command with all its arguments, and what it tells ends in no line feed.
 abbrev pub IsLineFault : List Text → LineFault → Type 0
 IsLineFault words line_faults.BadOrigin =
     (call : Call) × Calls commands words call × HasBadOrigin call
 IsLineFault words line_faults.NoFinalDot =
     (call : Call) × Calls commands words call × HasUndottedOrigin call
-IsLineFault words (line_faults.Clap told) = NothingIs (Calls commands words)
+IsLineFault words (line_faults.Clap told) =
+    NothingIs (Calls commands words) × HasNoFinalLineFeed (string_bytes told)
 IsLineFault words line_faults.Memory = Unit {0}
 
 -- what is told of words that call nothing

@@ -1,10 +1,12 @@
--- A command that is added to another one.
-use Rattle.std.specs.Prelude.{◌≡◌}
-use Rattle.clap.specs.Words.{App, AddsSubcommand, app_of, with_subcommand}
+-- What the help of a command shows.
+use Rattle.std.specs.Prelude.{◌≡◌, Some}
+use Rattle.std.specs.Borrow.{Bor}
+use Rattle.clap.specs.Words.{Text}
 use Rattle.clap.specs.declared.builder.Command.{Command}
+use Rattle.clap.specs.declared.builder.Command.TheViews.{out-Command as fields_of}
 
--- the command is added to another one as it stands
-abbrev pub IsAddedAs : App → Command → Type 0
-IsAddedAs app command =
-    (above new : Command) → AddsSubcommand above command new
-    → app_of new ≡ with_subcommand (app_of above) app.top
+-- what the command does, how it is called, and what stands below
+pub record ShowsTexts (about usage notes : Bor Text) (command : Command) : Type 0 where
+  pub does : (fields_of command).about ≡ Some about
+  pub called : (fields_of command).usage_str ≡ Some usage
+  pub below : (fields_of command).after_help ≡ Some notes

@@ -1,9 +1,21 @@
 -- What private functions tell in place of a call.
-use Rattle.std.specs.Prelude.{◌≡◌, ◌⊎◌, ◌++◌, ◌∷◌, [], ℕ, List, string_bytes}
+use Rattle.std.specs.Prelude.{◌≡◌, ◌++◌, ℕ, List, replicate, string_bytes}
+use Rattle.command_line.specs.Calls.{HasNoFinalLineFeed}
 use Rattle.command_line.specs.declared.no_call.NoCall.{NoCall}
 use Rattle.command_line.specs.declared.no_call.NoCall.TheVariants.{Told, Memory}
 
--- this text is told, but for a line feed at its end
+-- a text without the line feeds at its end
+pub record IsWithoutLineFeeds (text told : List ℕ) : Type 0 where
+  pub feeds : ℕ
+  pub parts : text ≡ told ++ replicate feeds 10
+  pub none_left : HasNoFinalLineFeed told
+
+-- what is told has no line feed at its end
+abbrev pub EndsWell : NoCall → Type 0
+EndsWell (Told told) = HasNoFinalLineFeed (string_bytes told)
+EndsWell Memory = Unit {0}
+
+-- this text is told, but for the line feeds at its end
 abbrev pub Tells : List ℕ → NoCall → Type 0
-Tells text (Told told) = (text ≡ string_bytes told) ⊎ (text ≡ string_bytes told ++ 10 ∷ [])
+Tells text (Told told) = IsWithoutLineFeeds text (string_bytes told)
 Tells text Memory = ⊥

@@ -1,9 +1,7 @@
-use Rattle.std.proofs.Common.{drop, map}
-use Rattle.command_line.specs.Program.{app_of_command}
-use Rattle.command_line.specs.declared.program.Argument.{Argument}
-use Rattle.command_line.proofs.Adding.{Completes}
+use Rattle.std.proofs.Common.{take}
+use Rattle.command_line.proofs.Adding.{HasArguments}
 use Rattle.command_line.proofs.reading.readable_command.Given as goal
 
--- the arguments that are left make it the command
+-- it has the arguments so far
 abbrev pub invariant-loop-argument : goal.invariant-loop-argument
-invariant-loop-argument l = Completes (app_of_command l.fn.row) (map (λ (argument : Argument). argument.id.now) (drop l.argument-index l.argument-items)) l.command
+invariant-loop-argument l = HasArguments l.fn.row.word.now (take l.argument-index l.argument-items) l.command
