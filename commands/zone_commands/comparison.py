@@ -1,10 +1,11 @@
 """Compares the master file of a zone with what a server sends of it, or sent."""
 import argparse
+import contextlib
 import re
 import shutil
 import time
 from dataclasses import dataclass, field
-from typing import NamedTuple, Optional
+from typing import NamedTuple
 
 from .running import (
     DIFFERENT, FAILED, PROGRAMS, REFUSED, SAME, WRONG, ZONENORM, ZONEWORDS, Failed, count, has_mark,
@@ -77,7 +78,7 @@ class Result:
     alone: tuple = ()  # and how many of them the other hasn't
     difference: str = ""  # the diff, as far as it is shown
     warning: str = ""
-    time: float = field(default_factory=time.time)
+    at: float = field(default_factory=time.time)  # when, in seconds since 1970
     number: int = 0  # its place in the list
 
     @property
@@ -152,7 +153,7 @@ class Comparing:
         return f"{self.folder}/{name}"
 
     def result(self, zone, source):
-        """What comes of a zone. `source` gives the text to compare with: `Sent`, `Captured`, `Dug`."""
+        """What comes of a zone. `source` has the other text: it is `Sent`, `Captured` or `Dug`."""
         self.warning = ""
         try:
             result = self.compared(zone, source)
@@ -164,6 +165,7 @@ class Comparing:
     def compared(self, zone, source):
         if not zone.origin.endswith("."):
             raise Failed(WRONG, f"ORIGIN has no dot at its end: {zone.origin}")
+        source.check()
         with taken(zone.file, zone.file, self.path("piped")) as file:
             ours = self.of_file(zone.origin, file, "primary", zone.file)
         theirs = source.text(zone, self)
@@ -175,11 +177,11 @@ class Comparing:
             text = f"same, serial {theirs.serial}"
             return Result(zone.origin, SAME, text, serials, records, (0, 0))
         alone, difference = self.diff(*both)
-        text = f"{alone[0]} record{'s' * (alone[0] != 1)} in {zone.file} alone, {alone[1]} from {source} alone"
-        if ours.serial == theirs.serial:
-            text = f"DIFFERENT UNDER ONE SERIAL {ours.serial}: {text}"
-        else:
-            text = f"different: serial {ours.serial} in {zone.file}, {theirs.serial} from {source}: {text}"
+        text = f"DIFFERENT UNDER ONE SERIAL {ours.serial}"
+        if ours.serial != theirs.serial:
+            text = f"different: serial {ours.serial} in {zone.file}, {theirs.serial} from {source}"
+        text += f": {alone[0]} record{'s' * (alone[0] != 1)} in {zone.file} alone, "
+        text += f"{alone[1]} from {source} alone"
         return Result(zone.origin, DIFFERENT, text, serials, records, alone, difference)
 
     def canonical(self, origin, file, path, name):
@@ -264,14 +266,25 @@ class Sent:
     def __str__(self):
         return self.server.host
 
-    def text(self, zone, comparing):
-        stream = comparing.path("stream")
+    def check(self):
+        """Fails where the server is asked no more."""
+        with self.reaching():
+            self.server.check()
+
+    @contextlib.contextmanager
+    def reaching(self):
+        """What is done with the server."""
         try:
-            self.server.transfer(zone.origin, lambda: open(stream, "wb"))
+            yield
         except ValueError as error:
             raise Failed(WRONG, str(error)) from None
         except Stopped as reason:
             raise Failed(FAILED, f"{self.server}: {reason}") from None
+
+    def text(self, zone, comparing):
+        stream = comparing.path("stream")
+        with self.reaching():
+            self.server.transfer(zone.origin, lambda: open(stream, "wb"))
         with open(stream, "rb") as file:
             return comparing.canonical("transfer", file, "secondary", self.name)
 
@@ -281,6 +294,9 @@ class Captured:
 
     def __init__(self, path):
         self.path, self.name = path, f"the transfer from {path}"
+
+    def check(self):
+        """A file is always asked."""
 
     def __str__(self):
         return self.path

@@ -22,7 +22,8 @@ def zones_in(lines, name):
             continue
         where, origin = f"{name}:{number}", words[0].lower()
         if len(words) < 2 or not origin.endswith("."):
-            yield number, bad(number, where, "the line isn't an ORIGIN with a dot at its end, and a FILE")
+            why = "the line isn't an ORIGIN with a dot at its end, and a FILE"
+            yield number, bad(number, where, why)
         elif origin in seen:
             yield number, bad(number, where, f"{words[0]} stands at line {seen[origin]} too")
         else:

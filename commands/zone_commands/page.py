@@ -3,25 +3,30 @@ import html
 import time
 
 from .results import summary, word
-from .running import DIFFERENT, FAILED, SAME
+from .running import DIFFERENT, SAME
 
 BEGIN = """<!DOCTYPE html>
 <html lang="en">
 <head>
 <meta charset="utf-8">
 <meta name="viewport" content="width=device-width, initial-scale=1">
-<meta http-equiv="Content-Security-Policy" content="default-src 'none'; style-src 'unsafe-inline'; img-src data:">
+<meta http-equiv="Content-Security-Policy"
+  content="default-src 'none'; style-src 'unsafe-inline'; img-src data:">
 <link rel="icon" href="data:,">
 <title>%(title)s</title>
 <style>
-:root { color-scheme: light dark; --line: #8886; --good: #1a7f37; --bad: #b42318; --odd: #9a5b00; --quiet: #667; }
-@media (prefers-color-scheme: dark) { :root { --good: #4cc26b; --bad: #ff7b72; --odd: #e3a33b; --quiet: #99a; } }
+:root { color-scheme: light dark; --line: #8886; --quiet: #667;
+  --good: #1a7f37; --bad: #b42318; --odd: #9a5b00; }
+@media (prefers-color-scheme: dark) {
+  :root { --quiet: #99a; --good: #4cc26b; --bad: #ff7b72; --odd: #e3a33b; }
+}
 body { font: 1rem/1.45 system-ui, sans-serif; max-width: 75rem; margin: auto; padding: 1rem; }
-h1 { font-size: 1.5rem; margin: 0; }
-h2 { font-size: 1.1rem; overflow-wrap: anywhere; margin: 2rem 0 .3rem; }
-p { margin: .3rem 0 1rem; }
+h1 { font-size: 1.5rem; margin: 0; overflow-wrap: anywhere; }
+h2 { font-size: 1.1rem; margin: 2rem 0 .3rem; overflow-wrap: anywhere; }
+p { margin: .3rem 0 1rem; overflow-wrap: anywhere; }
 table { border-collapse: collapse; width: 100%%; }
-th, td { border-bottom: 1px solid var(--line); padding: .3rem .6rem; text-align: left; vertical-align: top; }
+th, td { border-bottom: 1px solid var(--line); padding: .3rem .6rem; text-align: left;
+  vertical-align: top; }
 tbody th { font-weight: normal; overflow-wrap: anywhere; }
 .number { text-align: right; font-variant-numeric: tabular-nums; }
 .result { font-weight: 600; border-left: .3rem solid; padding-left: .5rem; white-space: nowrap; }
@@ -29,25 +34,28 @@ tbody th { font-weight: normal; overflow-wrap: anywhere; }
 .different .result { color: var(--odd); }
 .alarm .result { color: var(--bad); }
 pre { overflow-x: auto; border: 1px solid var(--line); padding: .6rem; margin: .5rem 0; }
-.file, .server { display: block; white-space: pre; padding: 0 .3rem; }
+.file, .server { display: block; padding: 0 .3rem; }
 .file { background: #ffb2002e; }
 .server { background: #2f81f72e; }
 .quiet { color: var(--quiet); }
+section { scroll-margin-top: 1rem; }
 section:target h2 { outline: 2px solid; outline-offset: .2rem; }
 @media (max-width: 45rem) {
+  pre { white-space: pre-wrap; overflow-wrap: anywhere; }
   thead { position: absolute; left: -99rem; }
   tr { display: block; border-bottom: 1px solid var(--line); padding: .5rem 0; }
-  tbody th, td { display: block; border: 0; padding: .05rem 0; text-align: left; }
-  td:empty { display: none; }
+  tbody th, td { display: block; border: 0; padding: .05rem 0; }
   tbody th { font-weight: 600; }
+  td.number { display: inline-block; padding-right: 1rem; text-align: left; }
   td[data-name]::before { content: attr(data-name) ": "; color: var(--quiet); }
+  td:empty, .same td.number:nth-child(n+4) { display: none; }
 }
 @media print {
   body { max-width: none; padding: 0; font-size: 9pt; }
   pre { white-space: pre-wrap; overflow-wrap: anywhere; }
-  .file, .server { white-space: pre-wrap; print-color-adjust: exact; -webkit-print-color-adjust: exact; }
-  tr, h2 { break-inside: avoid; break-after: avoid; }
-  tr { break-after: auto; }
+  .file, .server { print-color-adjust: exact; -webkit-print-color-adjust: exact; }
+  tr, h2 { break-inside: avoid; }
+  h2 { break-after: avoid; }
   a { color: inherit; text-decoration: none; }
   .back { display: none; }
 }
@@ -57,29 +65,29 @@ section:target h2 { outline: 2px solid; outline-offset: .2rem; }
 <h1>%(title)s</h1>
 <p>%(summary)s<br><span class="quiet">%(time)s</span></p>
 <table id="zones">
-<thead><tr><th scope="col">Zone<th scope="col">Result<th scope="col" class="number">Serial, file
-<th scope="col" class="number">Serial, server<th scope="col" class="number">Records, file
-<th scope="col" class="number">Records, server<th scope="col" class="number">File alone
-<th scope="col" class="number">Server alone</tr></thead>
+<thead><tr><th scope="col">Zone<th scope="col">Result%(columns)s</tr></thead>
 <tbody>
 """
 COLUMNS = (
-    "Serial, file", "Serial, server", "Records, file", "Records, server", "File alone", "Server alone",
+    "Serial, file", "Serial, server", "Records, file", "Records, server", "File alone",
+    "Server alone",
 )
 LEGEND = """</tbody>
 </table>
-<p><span class="file">&lt; what the file has alone</span><span class="server">&gt; what the server has alone</span></p>
+<p><span class="file">&lt; what the file has alone</span>
+<span class="server">&gt; what the server has alone</span></p>
 """
 
 
 def page(results, server):
     """The pieces of the page: all zones in a table, the worst first, and after it what is wrong."""
     results = sorted(results, key=urgency)
-    times = [it.time for it in results]
+    times = [it.at for it in results]
     values = {
         "title": f"Zones compared with {server}", "summary": summary(results), "time": span(times),
     }
-    yield BEGIN % {name: html.escape(it) for name, it in values.items()}
+    columns = "".join(f'<th scope="col" class="number">{it}' for it in COLUMNS)
+    yield BEGIN % {"columns": columns, **{name: html.escape(it) for name, it in values.items()}}
     for number, it in enumerate(results):
         yield row(number, it)
     yield LEGEND
@@ -117,7 +125,8 @@ def row(number, result):
         f'<td class="number" data-name="{column}">{html.escape(str(value))}'
         for column, value in zip(COLUMNS, (value for pair in pairs for value in pair))
     )
-    return f'<tr class="{kind}"><th scope="row">{name}<td class="result">{word(result)}{cells}</tr>\n'
+    text = f'<th scope="row">{name}<td class="result">{word(result)}{cells}'
+    return f'<tr class="{kind}">{text}</tr>\n'
 
 
 def section(number, result):

@@ -15,7 +15,8 @@ def word(result):
     """What came of a zone, in a word or some."""
     if result.is_under_one_serial:
         return "different under one serial"
-    return {SAME: "same", DIFFERENT: "different", REFUSED: "refused"}.get(result.status, "not compared")
+    words = {SAME: "same", DIFFERENT: "different", REFUSED: "refused"}
+    return words.get(result.status, "not compared")
 
 
 def summary(results):
@@ -47,7 +48,7 @@ def metrics(results, server):
         "serial": ("Serial of the SOA", lambda it: sides(it.serials)),
         "records": ("Records of the zone", lambda it: sides(it.records)),
         "records_alone": ("Records that the other side has not", lambda it: sides(it.alone)),
-        "timestamp_seconds": ("When it was compared", lambda it: {"": f"{it.time:.0f}"}),
+        "timestamp_seconds": ("When it was compared", lambda it: {"": f"{it.at:.0f}"}),
     }
     for name, (told, values) in gauges.items():
         yield f"# HELP zonenorm_compare_{name} {told}\n# TYPE zonenorm_compare_{name} gauge\n"

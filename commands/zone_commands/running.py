@@ -1,7 +1,8 @@
-"""How a command runs: its command line, the programs that it calls, many things at once, its end."""
+"""How a command runs: its command line, the programs it calls, many things at once, its end."""
 import argparse
 import contextlib
 import os
+import re
 import shutil
 import signal
 import stat
@@ -41,6 +42,11 @@ class Parser(argparse.ArgumentParser):
         given.operands += words[end + 1 :]
         return given
 
+    def add_jobs(self):
+        self.add_argument(
+            "-j", "--jobs", type=jobs, default=4, metavar="N", help="so many at once (4)"
+        )
+
     def error(self, message):
         self.exit(WRONG, f"{self.prog}: {message.removeprefix('argument ')}\n{self.format_usage()}")
 
@@ -53,9 +59,16 @@ class Parser(argparse.ArgumentParser):
 
 
 def count(text):
-    """A number of things, up to nine digits."""
-    if not (text.isascii() and text.isdigit() and len(text) <= 9):
+    """A number, of nine digits at most."""
+    if not re.fullmatch("[0-9]{1,9}", text):
         raise argparse.ArgumentTypeError(f"not a number: {text}")
+    return int(text)
+
+
+def jobs(text):
+    """How many run at once."""
+    if not 1 <= count(text) <= 1000:
+        raise argparse.ArgumentTypeError(f"not a number from 1 to 1000: {text}")
     return int(text)
 
 

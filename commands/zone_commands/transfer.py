@@ -412,6 +412,9 @@ class Server:
     def __str__(self):
         return f"{self.host} port {self.port}"
 
+    def check(self):
+        """Fails where the server is asked no more, which isn't so here."""
+
     def transfer(self, zone, opened):
         """Asks for a zone and copies the answer to the file that `opened` opens, once the server
         is reached. ValueError: the zone has no name that is one."""
@@ -443,9 +446,13 @@ class SharedServer(Server):
         super().__init__(host, port, given)
         self.heard, self.fault = -math.inf, ""
 
-    def transfer(self, zone, opened):
+    def check(self):
+        """Fails where the server is asked no more."""
         if self.fault:
             raise Unreached(f"not asked again: {self.fault}")
+
+    def transfer(self, zone, opened):
+        self.check()
         begun = time.monotonic()
         try:
             super().transfer(zone, opened)
