@@ -159,6 +159,8 @@ class Comparing:
             result = self.compared(zone, source)
         except Failed as reason:
             result = Result(zone.origin, reason.status, str(reason))
+        except OSError as error:  # of the folder
+            result = Result(zone.origin, FAILED, str(error))
         result.warning = self.warning
         return result
 

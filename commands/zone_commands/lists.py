@@ -2,30 +2,35 @@
 import argparse
 import os
 import re
+from typing import NamedTuple
 
-from .comparison import Result, Zone
+from .comparison import Zone
 from .running import FAILED, PROGRAMS, ZONENORM, Failed, has_mark, taken
 
 
-def bad(number, name, why):
-    """What comes of a line that names no zone to compare."""
-    return Result(name, FAILED, why, number=number)
+class BadLine(NamedTuple):
+    """A line that names no zone."""
+
+    file: str
+    line: int
+    text: str
 
 
 def zones_in(lines, name):
-    """The zones of lines `ORIGIN FILE`, each with its place; and what comes of bad lines, and of
-    those that name a zone again. Empty lines and those that begin with `#` are none."""
+    """The zones of lines `ORIGIN FILE`, each with its place; and the bad lines, and those that
+    name a zone again. Empty lines and those that begin with `#` are none."""
     seen = {}
     for number, line in enumerate(lines, 1):
         words = line.strip().split(maxsplit=1)
         if not words or words[0].startswith("#"):
             continue
-        where, origin = f"{name}:{number}", words[0].lower()
+        origin = words[0].lower()
         if len(words) < 2 or not origin.endswith("."):
             why = "the line isn't an ORIGIN with a dot at its end, and a FILE"
-            yield number, bad(number, where, why)
+            yield number, BadLine(name, number, why)
         elif origin in seen:
-            yield number, bad(number, where, f"{words[0]} stands at line {seen[origin]} too")
+            why = f"{words[0]} stands at line {seen[origin]} too"
+            yield number, BadLine(name, number, why)
         else:
             seen[origin] = number
             yield number, Zone(*words)

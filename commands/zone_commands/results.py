@@ -4,11 +4,21 @@ import dataclasses
 import json
 import os
 import time
+from typing import NamedTuple
 
 from .comparison import Result
 from .running import DIFFERENT, FAILED, REFUSED, SAME, Failed
 
 FORMAT = "zonenorm results 1"
+
+
+class Task(NamedTuple):
+    """What was compared: a part of a list, with a server."""
+
+    part: int
+    parts: int
+    zones: str  # a digest of the whole list
+    server: str
 
 
 def word(result):
@@ -84,33 +94,33 @@ def write_whole(path, pieces):
         raise
 
 
-def results_text(results, part, server):
+def results_text(results, task):
     """The results of a part, for `read_parts`: a line on the part, and a line for each zone."""
-    yield json.dumps({"format": FORMAT, "part": part, "server": server}) + "\n"
+    yield json.dumps({"format": FORMAT, **task._asdict()}) + "\n"
     for it in results:
         yield json.dumps(dataclasses.asdict(it)) + "\n"
 
 
 def read_parts(paths):
-    """The results of all parts by their place, and the server. A part that isn't there is told as
+    """The results of all parts by their place, and their task. A part that isn't there is told as
     a zone that wasn't compared."""
-    results, parts, of = [], {}, set()
+    results, parts, tasks = [], {}, set()
     for path in paths:
-        head, found = read_part(path)
-        number, count = head["part"]
-        if number in parts:
-            raise Failed(FAILED, f"{path} and {parts[number]} are the same part")
-        parts[number] = path
-        of.add((count, head["server"]))
+        task, found = read_part(path)
+        if task.part in parts:
+            raise Failed(FAILED, f"{path} and {parts[task.part]} are the same part")
+        parts[task.part] = path
+        tasks.add(task._replace(part=0))
         results += found
-    if len(of) != 1:
-        raise Failed(FAILED, "these aren't the parts of one run: their counts or servers differ")
-    ((count, server),) = of
+    if len(tasks) != 1:
+        why = "their numbers, lists or servers differ"
+        raise Failed(FAILED, f"these aren't the parts of one task: {why}")
+    (task,) = tasks
     results.sort(key=lambda it: it.number)
-    for number in range(1, count + 1):
-        if number not in parts:
-            results.append(Result(f"part {number}/{count}", FAILED, "its results aren't there"))
-    return results, server
+    for part in range(1, task.parts + 1):
+        if part not in parts:
+            results.append(Result(f"part {part}/{task.parts}", FAILED, "its results aren't there"))
+    return results, task
 
 
 def read_part(path):
@@ -118,12 +128,12 @@ def read_part(path):
     try:
         with open(path, encoding="utf-8") as file:
             head = json.loads(file.readline())
-            if head["format"] != FORMAT:
+            if head.pop("format") != FORMAT:
                 raise ValueError
-            return head, [Result(**json.loads(line)) for line in file]
+            return Task(**head), [Result(**json.loads(line)) for line in file]
     except OSError as error:
         raise Failed(FAILED, f"{path} can't be read: {error.strerror}") from None
-    except (ValueError, TypeError, KeyError):
+    except (ValueError, TypeError, KeyError, AttributeError):
         raise Failed(FAILED, f"{path} isn't what --results wrote") from None
 
 

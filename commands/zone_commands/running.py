@@ -15,6 +15,7 @@ from concurrent.futures import ThreadPoolExecutor
 SAME, DIFFERENT, WRONG, REFUSED, FAILED = 0, 1, 2, 3, 4  # the statuses of all commands
 ZONENORM = os.environ.get("ZONENORM", "zonenorm")
 ZONEWORDS = os.environ.get("ZONEWORDS", "zonewords")
+ENVIRONMENT = {**os.environ, "LC_ALL": "C"}
 BYTE_ORDER_MARK = b"\xef\xbb\xbf"
 
 
@@ -80,17 +81,16 @@ class Programs:
 
     def run(self, words, given, out):
         """Runs a program between two files: its status, and what it says on standard error."""
-        environment = {**os.environ, "LC_ALL": "C"}
         try:
-            with self.lock:
-                if self.is_over:
-                    raise Failed(FAILED, "interrupted")
-                started = subprocess.Popen(
-                    words, stdin=given, stdout=out, stderr=subprocess.PIPE, env=environment
-                )
-                self.running.add(started)
+            started = subprocess.Popen(
+                words, stdin=given, stdout=out, stderr=subprocess.PIPE, env=ENVIRONMENT
+            )
         except OSError as error:
             raise Failed(FAILED, f"{words[0]} can't be run: {error.strerror}") from None
+        with self.lock:
+            self.running.add(started)
+            if self.is_over:
+                started.kill()
         told = started.communicate()[1].decode(errors="replace").strip()
         with self.lock:
             self.running.discard(started)
@@ -99,7 +99,7 @@ class Programs:
         return started.returncode, told
 
     def end(self):
-        """Ends those that run, and starts no other."""
+        """Ends those that run, and others as soon as they begin."""
         with self.lock:
             self.is_over = True
             for it in self.running:
@@ -148,15 +148,14 @@ def in_order(make, items, at_once, done=lambda result: None):
     of its own; `done` is told each result as it comes."""
     own = threading.local()
 
-    def begin():
-        own.work = make()
-
     def one(item):
+        if not hasattr(own, "work"):
+            own.work = make()
         result = own.work(item)
         done(result)
         return result
 
-    threads = ThreadPoolExecutor(at_once, initializer=begin)
+    threads = ThreadPoolExecutor(at_once)
     try:
         yield from threads.map(one, items)
     finally:
