@@ -3,6 +3,7 @@ import contextlib
 import dataclasses
 import json
 import os
+import threading
 import time
 from typing import NamedTuple
 
@@ -138,33 +139,36 @@ def read_part(path):
 
 
 class Progress:
-    """How far a run is, on a terminal."""
+    """How far a run is, on a terminal: a line that is written anew five times a second."""
 
     def __init__(self, stream, total):
-        self.stream, self.total = stream if stream.isatty() else None, total
+        self.stream, self.total, self.lock = stream, total, threading.Lock()
         self.begun = self.told = time.monotonic()
         self.done = self.differ = self.failed = 0
         self.is_shown = False
 
     def add(self, result):
-        """One more is done."""
-        self.done += 1
-        self.differ += result.status == DIFFERENT
-        self.failed += result.status > DIFFERENT
-        now = time.monotonic()
-        if self.stream and now - self.told >= 0.2:
-            self.told = now
-            left = round((now - self.begun) * (self.total - self.done) / self.done)
-            self.stream.write(
-                f"\r{self.done} of {self.total} zones, {self.differ} differ, {self.failed} failed, "
-                f"{left // 60}:{left % 60:02} left\x1b[K"
-            )
-            self.stream.flush()
-            self.is_shown = True
+        """One more is done, as a thread tells."""
+        with self.lock:
+            self.done += 1
+            self.differ += result.status == DIFFERENT
+            self.failed += result.status > DIFFERENT
+            now = time.monotonic()
+            if self.stream.isatty() and now - self.told >= 0.2:
+                self.told, self.is_shown = now, True
+                left = round((now - self.begun) * (self.total - self.done) / self.done)
+                self.write(
+                    f"{self.done} of {self.total} zones, {self.differ} differ, {self.failed} "
+                    f"failed, {left // 60}:{left % 60:02} left"
+                )
 
     def clear(self):
         """Takes the line away, for other output."""
-        if self.is_shown:
-            self.stream.write("\r\x1b[K")
-            self.stream.flush()
-            self.is_shown = False
+        with self.lock:
+            if self.is_shown:
+                self.write("")
+                self.is_shown = False
+
+    def write(self, line):
+        self.stream.write(f"\r{line}\x1b[K")
+        self.stream.flush()
