@@ -143,14 +143,14 @@ def has_mark(file):
     return os.pread(file.fileno(), len(BYTE_ORDER_MARK), 0) == BYTE_ORDER_MARK
 
 
-def in_order(make, items, at_once, done=lambda result: None):
+def in_order(make, folder, items, at_once, done=lambda result: None):
     """What each item comes to, in their order, some at once. `make` gives each thread a function
-    of its own; `done` is told each result as it comes."""
+    of its own, for a folder of its own; `done` is told each result as it comes."""
     own = threading.local()
 
     def one(item):
         if not hasattr(own, "work"):
-            own.work = make()
+            own.work = make(tempfile.mkdtemp(dir=folder))
         result = own.work(item)
         done(result)
         return result
