@@ -10,6 +10,7 @@ import subprocess
 import sys
 import tempfile
 import threading
+import time
 from concurrent.futures import ThreadPoolExecutor
 
 SAME, DIFFERENT, WRONG, REFUSED, FAILED = 0, 1, 2, 3, 4  # the statuses of all commands
@@ -111,13 +112,18 @@ PROGRAMS = Programs()
 
 @contextlib.contextmanager
 def room():
-    """A folder for what is kept while the command runs."""
+    """A folder for what is kept while the command runs. It is taken away once more where a thread
+    that was interrupted put a file there meanwhile."""
     folder = tempfile.mkdtemp(prefix="zonenorm-")
     try:
         yield folder
     finally:
         PROGRAMS.end()
-        shutil.rmtree(folder, ignore_errors=True)
+        for _ in range(40):
+            shutil.rmtree(folder, ignore_errors=True)
+            if not os.path.exists(folder):
+                break
+            time.sleep(0.05)
 
 
 def taken(path, name, kept):
@@ -149,6 +155,8 @@ def in_order(make, folder, items, at_once, done=lambda result: None):
     own = threading.local()
 
     def one(item):
+        if PROGRAMS.is_over:
+            raise Failed(FAILED, "interrupted")
         if not hasattr(own, "work"):
             own.work = make(tempfile.mkdtemp(dir=folder))
         result = own.work(item)
