@@ -27,7 +27,7 @@ p { margin: .3rem 0 1rem; overflow-wrap: anywhere; }
 table { border-collapse: collapse; width: 100%%; }
 th, td { border-bottom: 1px solid var(--line); padding: .3rem .6rem; text-align: left;
   vertical-align: top; }
-tbody th { font-weight: normal; overflow-wrap: anywhere; }
+tbody th { font-weight: normal; min-width: 14rem; overflow-wrap: anywhere; }
 .number { text-align: right; font-variant-numeric: tabular-nums; }
 .result { font-weight: 600; border-left: .3rem solid; padding-left: .5rem; white-space: nowrap; }
 .same .result { color: var(--good); font-weight: normal; }
@@ -72,9 +72,7 @@ COLUMNS = (
     "Serial, file", "Serial, server", "Records, file", "Records, server", "File alone",
     "Server alone",
 )
-LEGEND = """</tbody>
-</table>
-<p><span class="file">&lt; what the file has alone</span>
+LEGEND = """<p><span class="file">&lt; what the file has alone</span>
 <span class="server">&gt; what the server has alone</span></p>
 """
 
@@ -90,7 +88,9 @@ def page(results, server):
     yield BEGIN % {"columns": columns, **{name: html.escape(it) for name, it in values.items()}}
     for number, it in enumerate(results):
         yield row(number, it)
-    yield LEGEND
+    yield "</tbody>\n</table>\n"
+    if any(it.difference for it in results):
+        yield LEGEND
     for number, it in enumerate(results):
         if has_section(it):
             yield section(number, it)
