@@ -13,7 +13,9 @@ import time
 from pathlib import Path
 from typing import NamedTuple
 
-EXAMPLES = Path(__file__).resolve().parent.parent / "examples"
+TOP = Path(__file__).resolve().parent.parent
+EXAMPLES = TOP / "examples"
+COMMANDS = TOP / "commands"
 
 
 def said(*words, **more):
@@ -145,7 +147,7 @@ SENT_BY_SIGNERS = {
 def captured(port, path, *more, python=(sys.executable,)):
     """Captures the transfer of the server at a port: the status, and what was said."""
     return said(
-        *python, EXAMPLES / "capture_transfer.py", "--port", str(port), "--timeout", "5",
+        *python, COMMANDS / "capture_transfer", "--port", str(port), "--timeout", "5",
         *more, "127.0.0.1", "example.", path,
     )
 

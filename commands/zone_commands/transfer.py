@@ -1,24 +1,7 @@
-#!/usr/bin/env python3
-"""Asks a server for a zone transfer (AXFR, RFC 5936) and keeps the octets of the answer.
+"""Zone transfers: asks a server for one (AXFR, RFC 5936), and keeps the octets of the answer.
 
-    capture_transfer.py [--port N] [--timeout SECONDS] [--class CLASS] [--key KEYFILE]
-                        [--tls] [--tls-ca FILE] [--tls-hostname NAME] SERVER ZONE FILE
-
-FILE is written anew, or is standard output where it is `-`: the messages as they came over TCP,
-each after its length, up to the one with the closing SOA or to where the stream stopped.
-`zonenorm normalise transfer` reads it, and judges it: this script looks only for the end.
-
-With --key the query is signed and the signatures of the answer are checked (TSIG, RFC 8945). FILE
-then has only messages that a right signature covers. KEYFILE is as `tsig-keygen` writes it and
-`dig -k` reads it. With --tls the server is asked over TLS 1.3 (RFC 9103); its certificate is
-checked where --tls-ca names the certificates that are trusted.
-
-Status 0: the closing SOA came. 1: the stream stopped before it, or the server answered with an
-error code or to another query. 2: the command line is wrong. 3: a signature is wrong or missing.
-4: the server can't be reached, or a file can't be read or written. With 1 and 3 FILE has what came,
-which with --key ends at the last right signature.
-
-ZONE and the name of a key are written without escapes."""
+With a key the query is signed and the signatures of the answer are checked (TSIG, RFC 8945); over
+TLS 1.3 (RFC 9103) the server's certificate is checked where certificates are trusted."""
 import argparse
 import base64
 import contextlib
@@ -30,7 +13,6 @@ import secrets
 import socket
 import ssl
 import struct
-import sys
 import time
 from typing import NamedTuple
 
@@ -65,6 +47,10 @@ class Stopped(Exception):
     status = 1
 
 
+class Silent(Stopped):
+    """The server sent nothing for as long as it may."""
+
+
 class BadSignature(Stopped):
     """What is wrong with the signatures."""
 
@@ -77,12 +63,20 @@ class Unreached(Stopped):
     status = 4
 
 
+LABEL = re.compile(r"(?:[^.\\]|\\(?:25[0-5]|2[0-4]\d|[01]\d\d|\D))+", re.A | re.S)
+NAME = re.compile(rf"\.|{LABEL.pattern}(?:\.{LABEL.pattern})*\.?", re.A | re.S)
+ESCAPE = re.compile(r"\\(?:(\d{3})|(.))", re.A | re.S)
+
+
 def wire_name(text):
-    """The octets of a name: each label after its length, and the root (RFC 1035 3.1)."""
-    labels = text.removesuffix(".").split(".") if text != "." else []
-    if not text.isascii() or "\\" in text or not all(1 <= len(label) <= 63 for label in labels):
-        raise ValueError(f"not a name in ASCII without escapes: {text}")
-    name = b"".join(bytes([len(label)]) + label.encode() for label in labels) + b"\0"
+    """The octets of a name that is written as in a master file: each label after its length, and
+    the root (RFC 1035 3.1 and 5.1)."""
+    if not text.isascii() or not NAME.fullmatch(text):
+        raise ValueError(f"not a name in ASCII: {text}")
+    labels = [ESCAPE.sub(lambda it: it[2] or chr(int(it[1])), it) for it in LABEL.findall(text)]
+    if any(len(it) > 63 for it in labels):
+        raise ValueError(f"a label of more than 63 octets: {text}")
+    name = b"".join(bytes([len(it)]) + it.encode("latin-1") for it in labels) + b"\0"
     if len(name) > 255:
         raise ValueError(f"a name of more than 255 octets: {text}")
     return name
@@ -202,7 +196,7 @@ class Key:
         try:
             self.name = wire_name(found[1].lower())
         except ValueError:
-            raise ValueError("its name isn't one in ASCII without escapes") from None
+            raise ValueError("its name isn't one in ASCII") from None
         try:
             self.secret = base64.b64decode(stated["secret"], validate=True)
         except ValueError:
@@ -302,6 +296,8 @@ def take(server, file, count):
     while len(octets) < count:
         try:
             piece = server.recv(count - len(octets))
+        except socket.timeout:
+            raise Silent("it sent nothing for as long as it may") from None
         except OSError as error:
             raise Stopped(f"the connection failed: {error}") from None
         if not piece:
@@ -339,20 +335,20 @@ def capture(server, file, ident, signatures):
             raise Stopped("a message ends too early") from None
 
 
-def port(text):
+def port_number(text):
     """A TCP port."""
-    number = int(text)
-    if not 1 <= number <= 65535:
-        raise ValueError
-    return number
+    if not re.fullmatch("[0-9]{1,5}", text) or not 1 <= int(text) <= 65535:
+        raise argparse.ArgumentTypeError(f"not a port: {text}")
+    return int(text)
 
 
 def seconds(text):
     """A time to wait."""
-    number = float(text)
-    if not (math.isfinite(number) and 0 < number <= 86400):
-        raise ValueError
-    return number
+    with contextlib.suppress(ValueError):
+        number = float(text)
+        if math.isfinite(number) and 0 < number <= 86400:
+            return number
+    raise argparse.ArgumentTypeError(f"not a number over 0 and up to 86400: {text}")
 
 
 def class_number(text):
@@ -376,102 +372,119 @@ def key_of(path):
         raise OSError(f"{path} holds no key: {error}") from None
 
 
-def opened(path):
-    """The file to write, or standard output, which stays open."""
-    return contextlib.nullcontext(sys.stdout.buffer) if path == "-" else open(path, "wb")
-
-
-def tls_context(given):
+def tls_context(trusted=None):
     """How TLS is spoken: it says that it is for DNS (RFC 9103 section 7). Whether the server says
-    so too isn't asked: NSD 4.6 doesn't."""
+    so too isn't asked: NSD 4.6 doesn't. `trusted` is a file of certificates."""
     context = ssl.SSLContext(ssl.PROTOCOL_TLS_CLIENT)
     context.minimum_version = ssl.TLSVersion.TLSv1_3
     context.set_alpn_protocols(["dot"])
-    if not given.tls_ca:
+    if not trusted:
         context.check_hostname, context.verify_mode = False, ssl.CERT_NONE
         return context
     try:
-        context.load_verify_locations(given.tls_ca)
+        context.load_verify_locations(trusted)
     except OSError as error:
-        raise OSError(f"{given.tls_ca} holds no certificates: {error}") from None
+        raise OSError(f"{trusted} holds no certificates: {error}") from None
     return context
 
 
 @contextlib.contextmanager
 def reaching():
-    """What is done to the server; UnicodeError is had where it is no name."""
+    """What is done to reach the server; UnicodeError is had where it is no name."""
     try:
         yield
     except (OSError, UnicodeError) as error:
         raise Unreached(error) from None
 
 
-def asked(given, message, signatures):
-    """Sends the query to the server and copies its answer."""
-    context = tls_context(given) if given.tls else None
-    with contextlib.ExitStack() as stack:
-        with reaching():
-            address = given.server, given.port
-            server = stack.enter_context(socket.create_connection(address, given.timeout))
-            if context:
-                name = given.tls_hostname or given.server
-                server = stack.enter_context(context.wrap_socket(server, server_hostname=name))
-        file = stack.enter_context(opened(given.file))
-        with reaching():
-            server.sendall(struct.pack("!H", len(message)) + message)
+class Server:
+    """A server, and how it is asked."""
+
+    def __init__(self, host, port, given):
+        """`given` has the options of `add_options`. OSError: a file of theirs can't be used."""
+        is_tls = given.tls or bool(given.tls_ca or given.tls_hostname)
+        self.host, self.port = host, port or (853 if is_tls else 53)
+        self.timeout, self.of = given.timeout, given.of
+        self.name = given.tls_hostname or host
+        self.context = tls_context(given.tls_ca) if is_tls else None
+        self.key = key_of(given.key) if given.key else None
+
+    def __str__(self):
+        return f"{self.host} port {self.port}"
+
+    def check(self):
+        """Fails where the server is asked no more, which isn't so here."""
+
+    def transfer(self, zone, opened):
+        """Asks for a zone and copies the answer to the file that `opened` opens, once the server
+        is reached. ValueError: the zone has no name that is one."""
+        message = query(zone, self.of)
+        ident = message[:2]
+        signatures = Signatures(self.key) if self.key else None
+        message = signatures.signed(message) if signatures else message
+        with contextlib.ExitStack() as stack:
+            with reaching():
+                address = self.host, self.port
+                server = stack.enter_context(socket.create_connection(address, self.timeout))
+                if self.context:
+                    over_tls = self.context.wrap_socket(server, server_hostname=self.name)
+                    server = stack.enter_context(over_tls)
+            file = stack.enter_context(opened())
+            with reaching():
+                server.sendall(struct.pack("!H", len(message)) + message)
+            try:
+                capture(server, file, ident, signatures)
+            finally:
+                file.flush()
+
+
+class SharedServer(Server):
+    """A server that is asked for many zones, some at once. Once it can't be reached, or is silent,
+    and answered no other query meanwhile, it is asked no more: so that costs its time once."""
+
+    def __init__(self, host, port, given):
+        super().__init__(host, port, given)
+        self.heard, self.fault = -math.inf, ""
+
+    def check(self):
+        """Fails where the server is asked no more."""
+        if self.fault:
+            raise Unreached(f"not asked again: {self.fault}")
+
+    def transfer(self, zone, opened):
+        self.check()
+        begun = time.monotonic()
         try:
-            capture(server, file, message[:2], signatures)
-        finally:
-            file.flush()
+            super().transfer(zone, opened)
+        except (Silent, Unreached) as reason:
+            if self.heard < begun:
+                self.fault = str(reason)
+            raise
+        except Stopped:
+            self.heard = time.monotonic()
+            raise
+        self.heard = time.monotonic()
 
 
-def command_line():
-    """What the command line can say."""
-    words = argparse.ArgumentParser(
-        description=__doc__, formatter_class=argparse.RawDescriptionHelpFormatter
-    )
-    words.add_argument("--port", type=port, help="1 to 65535 (default: 53, with --tls 853)")
-    words.add_argument(
-        "--timeout", type=seconds, default=30, metavar="SECONDS",
-        help="how long to wait for an octet, over 0 and up to 86400 (default: 30)",
-    )
+def add_options(words):
+    """The options on how a server is asked."""
     words.add_argument(
         "--class", dest="of", type=class_number, default="IN", metavar="CLASS",
-        help="IN, CS, CH, HS or CLASS with a number (default: IN)",
+        help="ask in this class: IN, CS, CH, HS or CLASS with a number (IN)",
     )
-    words.add_argument("--key", metavar="KEYFILE", help="the key that signs (TSIG)")
-    words.add_argument("--tls", action="store_true", help="ask over TLS")
-    words.add_argument("--tls-ca", metavar="FILE", help="certificates that are trusted, in PEM")
     words.add_argument(
-        "--tls-hostname", metavar="NAME", help="whom the certificate is of (default: SERVER)"
+        "-k", "--key", metavar="KEYFILE",
+        help="sign the query, and check the signatures of the answer, with this key (TSIG)",
     )
-    words.add_argument("server", metavar="SERVER")
-    words.add_argument("zone", metavar="ZONE")
-    words.add_argument("file", metavar="FILE")
-    return words
-
-
-def main():
-    words = command_line()
-    given = words.parse_args()
-    given.tls = given.tls or bool(given.tls_ca or given.tls_hostname)
-    given.port = given.port or (853 if given.tls else 53)
-    try:
-        message = query(given.zone, given.of)
-    except ValueError as error:
-        words.error(str(error))
-    try:
-        signatures = Signatures(key_of(given.key)) if given.key else None
-        asked(given, signatures.signed(message) if signatures else message, signatures)
-    except Stopped as reason:
-        where = f"{given.server} port {given.port}"
-        print(f"capture_transfer: {where}: {reason}", file=sys.stderr)
-        return reason.status
-    except OSError as error:
-        print(f"capture_transfer: {error}", file=sys.stderr)
-        return 4
-    return 0
-
-
-if __name__ == "__main__":
-    sys.exit(main())
+    words.add_argument(
+        "-t", "--timeout", type=seconds, default=30, metavar="SECONDS",
+        help="give up after so long without an octet (30)",
+    )
+    words.add_argument("--tls", action="store_true", help="ask over TLS")
+    words.add_argument(
+        "--tls-ca", metavar="FILE",
+        help="ask over TLS, and check the server's certificate by those of FILE",
+    )
+    words.add_argument(
+        "--tls-hostname", metavar="NAME", help="ask over TLS; whom the certificate is of (SERVER)"
+    )
