@@ -1,32 +1,19 @@
 -- From what an order's call answers, and what is told of it, to what a run leaves.
-use Rattle.zone_command.proofs.Common.{◌≡◌, ◌++◌, ℕ, List, [], sym, subst, Global, Option, IfOk, IfSome, OnErr, Result, String, string_bytes, Fault, Place, Stop, Refused, Write, Memory, text_limit, IsFailedWrite, Compares, StopsCompare, explained, told, unexplained, untold, IsReported, TellsVerdict, Normalises, ReadsToEnd, ReadsWhole, StopsReading, read_as_with, AreCompared, Device, Devices, IsLeft, WorksOn, IsStopped, Runs, StopsNormalise, TellsLine, TellsRead, refusal_line, stop_line, verdict_line, which_words, WritesPartOfLine, Verdict, arith, Order, Input, Octets}
+use Rattle.zone_command.proofs.Common.{◌≡◌, ◌++◌, ℕ, List, [], sym, subst, Option, IfSome, Stop, Write, text_limit, IsFailedWrite, Compares, StopsCompare, told, untold, TellsVerdict, Normalises, ReadsToEnd, ReadsWhole, StopsReading, read_as_with, AreCompared, Device, Devices, IsLeft, WorksOn, IsStopped, Runs, StopsNormalise, TellsLine, TellsRead, stop_line, stop_status, verdict_line, which_words, WritesPartOfLine, Verdict, arith, Order, Input, Octets}
 use Rattle.std.specs.Prelude.{None, Some}
 use Rattle.std.specs.Io.KnownBytes.{Consumes, Keeps}
 use Rattle.zone_engine.specs.Compare.{by_first, by_second}
 use Rattle.zone_engine.specs.Explain.{Explains, StopsExplain}
 use Rattle.zone_engine.specs.Reading.{ReadsFew}
 use Rattle.zone_command.specs.Run as runs
-use Rattle.zone_command.proofs.Telling.{told_as}
 use Rattle.zone_engine.specs.declared.comparison.Which.{Which}
 use Rattle.zone_command.specs.declared.order.Order.TheVariants.{Normalise, Explain, Compare}
 use Rattle.zone_command.specs.declared.order.Source.{Source}
 
 -- ---- what stopped a run is told
 
-tells : (order : Order) (old new : Devices) (words : List ℕ) (stop : Stop) (answer : ℕ) → IsStopped old new order words stop → IsReported words old.errors new.errors stop answer → Runs order old new answer
-tells order old new words _ _ is (explained stop answer line) = runs.stopped words stop answer is line
-tells order old new words _ _ is (unexplained fault place answer line) = runs.unexplained words fault place answer is line
-
--- the line of a refusal, or that memory was refused for it
-pub refusal_told : {F : Type 0} (words : List ℕ) (old new : Device) (fault : Fault) (place : Place) (line : Result (String Global) F) (answer : ℕ)
-    → IfOk line (λ l. string_bytes l ≡ refusal_line fault place)
-    → IfOk line (λ l. TellsLine (words ++ string_bytes l) 3 old new answer)
-    → OnErr line (TellsLine (words ++ stop_line Memory) 4 old new answer)
-    → IsReported words old new (Refused fault place) answer
-refusal_told words old new fault place line answer is line_told memory_told = grind (arith, told_as, explained, unexplained)
-
 -- a verdict whose line was not written whole is told as a failed write
-pub not_told : (verdict : Verdict) (output output' errors errors' : Device) (stop : Stop) (answer : ℕ) → WritesPartOfLine (verdict_line verdict) output output' → IsFailedWrite output output' stop → IsReported [] errors errors' stop answer → TellsVerdict verdict output output' errors errors' answer
+pub not_told : (verdict : Verdict) (output output' errors errors' : Device) (stop : Stop) (answer : ℕ) → WritesPartOfLine (verdict_line verdict) output output' → IsFailedWrite output output' stop → TellsLine (stop_line stop) (stop_status stop) errors errors' answer → TellsVerdict verdict output output' errors errors' answer
 not_told verdict output output' errors errors' stop answer part failed report = grind (arith, untold)
 
 -- octets of the form are an input with the origin
@@ -35,18 +22,18 @@ module _ (origin : Option (List (List ℕ))) (form : Octets → Input) (is : for
   normalises count h read works second errors =
       runs.done 0 (runs.normalised origin count (subst (λ (f : Octets → Input). IfSome old.first.octets (λ octets. Normalises (f octets) old.output.octets new.output.octets count)) is h) read second works) errors
 
-  pub normalise_stopped : (stop : Stop) (answer : ℕ) → StopsNormalise form old.first old.output new.output stop → StopsReading text_limit form old.first new.first stop → IsLeft old.second new.second → IsReported [] old.errors new.errors stop answer → Runs (Normalise origin) old new answer
+  pub normalise_stopped : (stop : Stop) (answer : ℕ) → StopsNormalise form old.first old.output new.output stop → StopsReading text_limit form old.first new.first stop → IsLeft old.second new.second → TellsLine (stop_line stop) (stop_status stop) old.errors new.errors answer → Runs (Normalise origin) old new answer
   normalise_stopped stop answer h read second report =
-      tells (Normalise origin) old new [] stop answer
+      runs.stopped [] stop answer
       (runs.normalising origin stop (subst (λ (f : Octets → Input). StopsNormalise f old.first old.output new.output stop) is h) (subst (λ (f : Octets → Input). StopsReading text_limit f old.first new.first stop) is read) second) report
 
   pub explains_input : (status : ℕ) → Explains form old.first old.output new.output status → ReadsWhole text_limit old.first new.first → WorksOn old.first new.first × WorksOn old.output new.output → IsLeft old.second new.second → IsLeft old.errors new.errors → Runs (Explain origin) old new status
   explains_input status h whole works second errors =
       runs.done status (runs.explained origin status (subst (λ (f : Octets → Input). Explains f old.first old.output new.output status) is h) whole works.0 second works.1) errors
 
-  pub explain_stopped : (stop : Stop) (answer : ℕ) → StopsExplain form old.first old.output new.output stop → TellsRead old.first new.first stop → IsLeft old.second new.second → IsReported [] old.errors new.errors stop answer → Runs (Explain origin) old new answer
+  pub explain_stopped : (stop : Stop) (answer : ℕ) → StopsExplain form old.first old.output new.output stop → TellsRead old.first new.first stop → IsLeft old.second new.second → TellsLine (stop_line stop) (stop_status stop) old.errors new.errors answer → Runs (Explain origin) old new answer
   explain_stopped stop answer h tells_read second report =
-      tells (Explain origin) old new [] stop answer (runs.explaining origin stop (subst (λ (f : Octets → Input). StopsExplain f old.first old.output new.output stop) is h) tells_read second) report
+      runs.stopped [] stop answer (runs.explaining origin stop (subst (λ (f : Octets → Input). StopsExplain f old.first old.output new.output stop) is h) tells_read second) report
 
 module _ (one other : Source) (form other_form : Octets → Input) (is : form ≡ read_as_with one.origin) (other_is : other_form ≡ read_as_with other.origin) (old new : Devices) where
   judged : (verdict : Verdict) (answer : ℕ) → AreCompared one other old new verdict → TellsVerdict verdict old.output new.output old.errors new.errors answer → Runs (Compare one other) old new answer
@@ -56,13 +43,13 @@ module _ (one other : Source) (form other_form : Octets → Input) (is : form �
   pub compares : (verdict : Verdict) (answer : ℕ) → IfSome old.first.octets (λ octets. IfSome old.second.octets (λ others. Compares (form octets) (other_form others) verdict)) → ReadsToEnd text_limit old.first new.first × ReadsToEnd text_limit old.second new.second → TellsVerdict verdict old.output new.output old.errors new.errors answer → Runs (Compare one other) old new answer
   compares verdict answer h read line = grind (arith, judged)
 
-  pub compare_stopped : (which : Which) (stop : Stop) (answer : ℕ) (words : List ℕ) → StopsCompare form other_form old.first new.first old.second new.second which stop → IsLeft old.output new.output → words ≡ which_words which → IsReported words old.errors new.errors stop answer → Runs (Compare one other) old new answer
+  pub compare_stopped : (which : Which) (stop : Stop) (answer : ℕ) (words : List ℕ) → StopsCompare form other_form old.first new.first old.second new.second which stop → IsLeft old.output new.output → words ≡ which_words which → TellsLine (words ++ stop_line stop) (stop_status stop) old.errors new.errors answer → Runs (Compare one other) old new answer
   compare_stopped which stop answer words h output named report =
-      tells (Compare one other) old new (which_words which) stop answer
+      runs.stopped (which_words which) stop answer
       (runs.comparing one other which stop
       (subst (λ (f : Octets → Input). StopsCompare f (read_as_with other.origin) old.first new.first old.second new.second which stop) is
       (subst (λ (f : Octets → Input). StopsCompare form f old.first new.first old.second new.second which stop) other_is h)) output)
-      (subst (λ (w : List ℕ). IsReported w old.errors new.errors stop answer) named report)
+      (subst (λ (w : List ℕ). TellsLine (w ++ stop_line stop) (stop_status stop) old.errors new.errors answer) named report)
 
 -- ---- how much of two inputs a comparison reads that stops
 

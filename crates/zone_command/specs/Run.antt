@@ -1,10 +1,8 @@
 -- What a run of an order reads, writes and answers (this project's own).
 use Rattle.std.specs.Prelude.{ℕ, List, [], ◌++◌, Option, IfSome}
 use Rattle.zone_name.specs.Common.{Labels}
-use Rattle.zone_rdata.specs.declared.fault.Fault.{Fault}
-use Rattle.zone_rdata.specs.declared.fault.Place.{Place}
 use Rattle.zone_rdata.specs.declared.fault.Stop.{Stop}
-use Rattle.zone_rdata.specs.declared.fault.Stop.TheVariants.{Refused, Write, Memory}
+use Rattle.zone_rdata.specs.declared.fault.Stop.TheVariants.{Write}
 use Rattle.zone_print.specs.Canonical.{text_limit}
 use Rattle.zone_print.specs.Device.{Device, WorksOn, Fails, IsLeft}
 use Rattle.zone_engine.specs.Compare.{Compares, StopsCompare}
@@ -88,15 +86,10 @@ pub data IsStopped (old new : Devices) : Order → List ℕ → Stop → Type 0 
       → IsStopped old new (Compare first second) [] Write
 
 -- What a run of an order leaves, with its exit status. It is carried out, and standard error is
--- left; or the line on what stopped it is told there; or want of memory is, in place of the line of
--- a refusal, which takes memory.
+-- left; or the line on what stopped it is told there.
 pub data Runs (order : Order) (old new : Devices) : ℕ → Type 0 where
   done : (status : ℕ) → CarriesOut old new order status → IsLeft old.errors new.errors
       → Runs order old new status
   stopped : (words : List ℕ) (stop : Stop) (status : ℕ) → IsStopped old new order words stop
       → TellsLine (words ++ stop_line stop) (stop_status stop) old.errors new.errors status
-      → Runs order old new status
-  unexplained : (words : List ℕ) (fault : Fault) (place : Place) (status : ℕ)
-      → IsStopped old new order words (Refused fault place)
-      → TellsLine (words ++ stop_line Memory) 4 old.errors new.errors status
       → Runs order old new status

@@ -1,20 +1,19 @@
-ghost use Rattle.std.specs.Prelude.{◌≡◌, ◌++◌, IfErr, IfOk, OnErr, OnOk, string_bytes};
+ghost use Rattle.std.specs.Prelude.{◌≡◌, ◌++◌, IfErr, OnErr, OnOk};
 ghost use Rattle.zone_print.specs.Device.{WorksOn};
 ghost use Rattle.zone_print.specs.Writing.{IsFailedWrite};
-ghost use Rattle.zone_rdata.specs.declared.fault.Stop.TheVariants.{Memory};
-ghost use Rattle.zone_command.specs.Machine.Telling.{IsReported, TellsVerdict};
+ghost use Rattle.zone_command.specs.Machine.Telling.{TellsVerdict};
 ghost use Rattle.zone_command.specs.Order.{line_status, line_text};
 ghost use Rattle.zone_command.specs.Run.{devices, ReadsSecond, Runs};
 ghost use Rattle.zone_engine.specs.Reading.{ReadsFew};
-ghost use Rattle.zone_engine.specs.Telling.{stop_line, verdict_line, verdict_status, which_words, TellsLine, WritesLine, WritesPartOfLine};
+ghost use Rattle.zone_engine.specs.Telling.{stop_line, stop_status, verdict_line, verdict_status, which_words, TellsLine, WritesLine, WritesPartOfLine};
 
 use crate::order::{LineFault, Order};
 use crate::status;
 use itoa::Buffer;
-use std::alloc::{AllocError, Global};
+use std::alloc::Global;
 use zone_engine::{
     Form, OUT_OF_MEMORY, OctetReader, READ_FAILED, Verdict, WRITE_FAILED, Which, compare, explain,
-    normalise, refusal_line, tell, write_line,
+    normalise, tell, tell_refusal, write_line,
 };
 use zone_print::OctetWriter;
 use zone_rdata::Stop;
@@ -24,11 +23,10 @@ use zone_rdata::Stop;
 /// answers the exit status: 0 where the canonical text was written, the zone was accepted or both
 /// are the same; 1 where two zones differ; 3 where an input is refused; 4 where reading, writing or
 /// memory failed. Of 3 and 4 a line on the error writer tells why, of a comparison after the name
-/// of the input; `explain` tells of 3 on the writer. Where that can't be told the status is 4: a
-/// proper prefix of the line was written, or, where memory was refused for it, the line
-/// `out of memory`. With 4 the writer got nothing, or a proper prefix of the text or line that the
-/// order writes. With 0 and 1 the error writer got nothing. No writer is flushed, and a reader or a
-/// writer that failed isn't called again.
+/// of the input; `explain` tells of 3 on the writer. Where that can't be told the status is 4, and a
+/// proper prefix of the line was written. With 4 the writer got nothing, or a proper prefix of the
+/// text or line that the order writes. With 0 and 1 the error writer got nothing. No writer is
+/// flushed, and a reader or a writer that failed isn't called again.
 pub fn run<R1: OctetReader, R2: OctetReader, W: OctetWriter, E: OctetWriter>(
     alloc: Global,
     order: &Order,
@@ -49,13 +47,13 @@ pub fn run<R1: OctetReader, R2: OctetReader, W: OctetWriter, E: OctetWriter>(
         Order::Normalise(origin) => {
             match normalise(alloc, Form::with_origin(origin), first, output) {
                 Ok(_) => status::SUCCESS,
-                Err(stop) => report(alloc, "", &stop, errors),
+                Err(stop) => report("", &stop, errors),
             }
         }
         Order::Explain(origin) => {
             match explain(alloc, Form::with_origin(origin), first, output) {
                 Ok(status) => status,
-                Err(stop) => report(alloc, "", &stop, errors),
+                Err(stop) => report("", &stop, errors),
             }
         }
         Order::Compare(one, other) => {
@@ -64,8 +62,8 @@ pub fn run<R1: OctetReader, R2: OctetReader, W: OctetWriter, E: OctetWriter>(
                 Form::with_origin(&other.origin),
             );
             match compare(alloc, forms.0, first, forms.1, second) {
-                Ok(verdict) => tell_verdict(alloc, verdict, output, errors),
-                Err((which, stop)) => report(alloc, words_of(which), &stop, errors),
+                Ok(verdict) => tell_verdict(verdict, output, errors),
+                Err((which, stop)) => report(words_of(which), &stop, errors),
             }
         }
     }
@@ -73,7 +71,6 @@ pub fn run<R1: OctetReader, R2: OctetReader, W: OctetWriter, E: OctetWriter>(
 
 /// Tells the verdict of a comparison, and answers its status.
 fn tell_verdict<W: OctetWriter, E: OctetWriter>(
-    alloc: Global,
     verdict: Verdict,
     output: &mut W,
     errors: &mut E,
@@ -83,7 +80,7 @@ fn tell_verdict<W: OctetWriter, E: OctetWriter>(
 {
     match write_verdict(verdict, output) {
         Ok(()) => status_of(verdict),
-        Err(stop) => report(alloc, "", &stop, errors),
+        Err(stop) => report("", &stop, errors),
     }
 }
 
@@ -129,32 +126,16 @@ fn words_of(which: Which) -> &'static str
     }
 }
 
-/// Tells why a run stopped, after these words, and answers its status. Only the line of a refusal
-/// takes memory, and where that is refused, want of memory is told.
-fn report<E: OctetWriter>(alloc: Global, words: &str, stop: &Stop, errors: &mut E) -> u8
-    ensures { IsReported words.now (E.state errors.old) (E.state errors.new) stop.now result }
+/// Tells why a run stopped, after these words, and answers its status. It takes no memory.
+fn report<E: OctetWriter>(words: &str, stop: &Stop, errors: &mut E) -> u8
+    ensures { TellsLine (words.now ++ stop_line stop.now) (stop_status stop.now)
+        (E.state errors.old) (E.state errors.new) result }
 {
     match stop {
-        Stop::Refused(fault, place) => {
-            tell_refusal(words, refusal_line(alloc, fault, *place), errors)
-        }
+        Stop::Refused(fault, place) => tell_refusal(errors, words, fault, *place, status::REFUSED),
         Stop::Read => tell(errors, words, READ_FAILED, status::FAILED),
         Stop::Write => tell(errors, words, WRITE_FAILED, status::FAILED),
         Stop::Memory => tell(errors, words, OUT_OF_MEMORY, status::FAILED),
-    }
-}
-
-/// Tells the line of a refusal after these words, or that memory was refused for it, and answers
-/// the status.
-fn tell_refusal<E: OctetWriter>(words: &str, line: Result<String, AllocError>, errors: &mut E) -> u8
-    ensures told { IfOk line (λ line. TellsLine (words.now ++ string_bytes line) 3
-        (E.state errors.old) (E.state errors.new) result) }
-    ensures untold { OnErr line (TellsLine (words.now ++ stop_line Memory) 4
-        (E.state errors.old) (E.state errors.new) result) }
-{
-    match line {
-        Ok(line) => tell(errors, words, line.as_str(), status::REFUSED),
-        Err(_) => tell(errors, words, OUT_OF_MEMORY, status::FAILED),
     }
 }
 

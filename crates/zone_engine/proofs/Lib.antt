@@ -7,3 +7,5 @@ pub mod Compared
 pub mod Headline
 pub mod Feeding
 pub mod Lines
+pub mod InMemory
+pub mod RefusalPieces

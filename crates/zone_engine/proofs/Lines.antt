@@ -1,5 +1,8 @@
 -- Lines that are written piece by piece.
-use Rattle.zone_engine.proofs.Common.{◌≡◌, ℕ, List, ◌++◌, append_assoc, subst, Option, Result, OnErr, OnOk, Appends, Appends-trans, AppendsPart, Device, Fails, IsFailedWrite, Stop, WritesLine, WritesPartOfLine, arith}
+use Rattle.zone_engine.proofs.Common.{◌≡◌, ℕ, List, ◌++◌, append_assoc, refl, subst, sym, Option, Ok, Err, WorksOn, Result, OnErr, OnOk, Appends, Appends-trans, AppendsPart, Device, Fails, IsFailedWrite, Stop, WritesLine, WritesPartOfLine, arith}
+use Rattle.zone_engine.specs.Telling.{TellsLine}
+use Rattle.zone_engine.specs.Telling as telling
+use Rattle.std.specs.Prelude.{IfErr, IsErr, IsOk}
 use Rattle.zone_print.proofs.Front.{some_more}
 
 -- a part of the front of a text is a part of the text
@@ -33,3 +36,8 @@ part_of_line_on_err r text line old new is h = subst (λ (t : List ℕ). OnErr r
 -- a write that failed
 pub failed_write : (old new : Device) (stop : Stop) → IsFailedWrite old new stop → Fails old new
 failed_write old new stop h = grind arith
+
+-- a line that was written whole, or not, is told so
+pub tells_line : (line : List ℕ) (old new : Device) (r : Result (Unit {0}) Stop) (status answer : ℕ) → OnOk r (WritesLine line old new) → OnErr r (WritesPartOfLine line old new) → OnOk r (WorksOn old new) → IfErr r (IsFailedWrite old new) → (IsOk r → answer ≡ status) → (IsErr r → answer ≡ 4) → TellsLine line status old new answer
+tells_line line old new (Ok u) status answer written rest works failed ok err = subst (λ (n : ℕ). TellsLine line status old new n) (sym (ok refl)) (telling.whole written works)
+tells_line line old new (Err stop) status answer written rest works failed ok err = subst (λ (n : ℕ). TellsLine line status old new n) (sym (err refl)) (telling.part rest (failed_write old new stop failed))

@@ -7,8 +7,9 @@ use Rattle.zone_set.specs.Zone.{Zone}
 use Rattle.zone_print.specs.Canonical.{canon, text_limit}
 use Rattle.zone_print.specs.Device.{Device, IsLeft}
 use Rattle.zone_engine.specs.Input.{Input, InputDenotes}
-use Rattle.zone_engine.specs.Normalise.{IsOfReading}
+use Rattle.zone_engine.specs.Normalise.{IsOfBytes, IsOfReading}
 use Rattle.zone_engine.specs.Reading.{ReadsToEnd, StopsReading}
+use Rattle.zone_engine.specs.Refusal.{IfRefused, IsRefusal}
 use Rattle.zone_engine.specs.declared.comparison.Verdict.{Verdict}
 use Rattle.zone_engine.specs.declared.comparison.Verdict.TheVariants.{Same, Different}
 use Rattle.zone_engine.specs.declared.comparison.Which.{Which}
@@ -59,3 +60,10 @@ pub data StopsCompare (form other_form : List ℕ → Input)
       → ReadsToEnd text_limit first first'
       → StopsReading text_limit other_form second second' stop
       → StopsCompare form other_form first first' second second' Second stop
+
+-- The same of two inputs whose octets are in memory: no read and no write fails.
+pub data StopsCompareBytes (first second : Input) : Which → Stop → Type 0 where
+  by_first_bytes : (stop : Stop) → IsOfBytes stop → IfRefused stop (IsRefusal first)
+      → StopsCompareBytes first second First stop
+  by_second_bytes : (stop : Stop) → IsOfBytes stop → (z : Zone) → InputDenotes first z
+      → IfRefused stop (IsRefusal second) → StopsCompareBytes first second Second stop

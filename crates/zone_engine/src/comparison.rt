@@ -1,12 +1,12 @@
 ghost use Rattle.std.specs.Prelude.{◌≤◌, length, IfOk, IfErr, IfSome, OnOk};
 ghost use Rattle.zone_print.specs.Canonical.{canon, text_limit};
-ghost use Rattle.zone_engine.specs.Compare.{Compares, IsVerdictOnTexts, StopsCompare};
+ghost use Rattle.zone_engine.specs.Compare.{Compares, IsVerdictOnTexts, StopsCompare, StopsCompareBytes};
 ghost use Rattle.zone_engine.specs.Form.{read_as};
 ghost use Rattle.zone_engine.specs.Reading.{ReadsToEnd};
 
 use crate::engine::accepted_zone;
 use crate::form::Form;
-use crate::octets::OctetReader;
+use crate::octets::{OctetReader, OctetSlice};
 use std::alloc::Global;
 use zone_print::laws::equal_lines_are_equal_records;
 use zone_rdata::Stop;
@@ -66,6 +66,29 @@ pub fn compare<R: OctetReader, S: OctetReader>(
         Ok(other) => Ok(first_difference(&zone, &other)),
         Err(stop) => Err((Which::Second, stop)),
     }
+}
+
+/// Compares two inputs whose octets are in memory, as [`compare`] does.
+///
+/// # Errors
+///
+/// The first input that stops it, and by what: `Refused` where it denotes no zone, and `Memory`.
+pub fn compare_bytes(
+    alloc: Global,
+    first_form: Form<'_>,
+    first: &[u8],
+    second_form: Form<'_>,
+    second: &[u8],
+) -> Result<Verdict, (Which, Stop)>
+    ensures compared { IfOk result (Compares (read_as first_form.entry first.now)
+        (read_as second_form.entry second.now)) }
+    ensures stopped { IfErr result
+        (λ why. StopsCompareBytes (read_as first_form.entry first.now)
+        (read_as second_form.entry second.now) why.0 why.1) }
+{
+    let mut first = OctetSlice { rest: first };
+    let mut second = OctetSlice { rest: second };
+    compare(alloc, first_form, &mut first, second_form, &mut second)
 }
 
 /// The verdict on the canonical texts of two zones. Each line is that of a record, and lines are

@@ -102,6 +102,21 @@ pub fn accepted_zone_within<R: OctetReader>(
     Ok(stated)
 }
 
+/// The zone that octets in memory denote.
+///
+/// # Errors
+///
+/// `Refused` where they denote none, and `Memory`.
+pub fn accepted_bytes(alloc: Global, form: Form<'_>, octets: &[u8]) -> Result<Zone, Stop>
+    ensures zone { IfOk result (InputDenotes (read_as form.entry octets.now)) }
+    ensures short { IfOk result (λ z. length (canon z) ≤ text_limit) }
+    ensures stopped { IfErr result IsOfBytes }
+    ensures fault { IfErr result (λ stop.
+        IfRefused stop (IsRefusal (read_as form.entry octets.now))) }
+{
+    accepted_zone(alloc, form, &mut OctetSlice { rest: octets })
+}
+
 /// The canonical text of the zone that the octets denote.
 ///
 /// # Errors

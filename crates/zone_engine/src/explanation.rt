@@ -10,7 +10,7 @@ ghost use Rattle.zone_engine.specs.Telling.{argument_of, place_words, refusal_li
 
 use crate::engine::accepted_zone;
 use crate::form::Form;
-use crate::line::write_line;
+use crate::line::{write_line, write_refusal};
 use crate::octets::OctetReader;
 use itoa::Buffer;
 use std::alloc::{AllocError, Global};
@@ -64,8 +64,7 @@ pub fn explain<R: OctetReader, W: OctetWriter>(
             Ok(ACCEPTED)
         }
         Err(Stop::Refused(fault, place)) => {
-            let line = refusal_line(alloc, &fault, place)?;
-            write_line(writer, "", line.as_str())?;
+            write_refusal(writer, "", &fault, place)?;
             Ok(REFUSED)
         }
         Err(stop) => Err(stop),

@@ -13,12 +13,13 @@ pub mod laws;
 mod line;
 mod loader;
 mod octets;
+mod refusal;
 
-pub use comparison::{Verdict, Which, compare};
-pub use engine::{accepted_zone, accepted_zone_within, normalise, normalise_bytes};
+pub use comparison::{Verdict, Which, compare, compare_bytes};
+pub use engine::{accepted_bytes, accepted_zone, accepted_zone_within, normalise, normalise_bytes};
 pub use explanation::{
     OUT_OF_MEMORY, READ_FAILED, WRITE_FAILED, explain, explain_line, refusal_line,
 };
 pub use form::Form;
-pub use line::{tell, write_line};
+pub use line::{tell, tell_refusal, write_line, write_refusal};
 pub use octets::{OctetReader, OctetSlice, PIECE, read_piece, zeros};

@@ -1,11 +1,12 @@
 //! Lines for people.
-ghost use Rattle.std.specs.Prelude.{◌++◌, IfErr, OnErr, OnOk};
+ghost use Rattle.std.specs.Prelude.{◌≡◌, ◌++◌, IfErr, IsErr, IsOk, OnErr, OnOk};
 ghost use Rattle.zone_print.specs.Device.{WorksOn};
 ghost use Rattle.zone_print.specs.Writing.{IsFailedWrite};
-ghost use Rattle.zone_engine.specs.Telling.{TellsLine, WritesLine, WritesPartOfLine};
+ghost use Rattle.zone_engine.specs.Telling.{refusal_line, TellsLine, WritesLine, WritesPartOfLine};
 
+use crate::refusal::RefusalRoom;
 use zone_print::{OctetWriter, write_octets};
-use zone_rdata::Stop;
+use zone_rdata::{Fault, Place, Stop};
 
 /// Writes these words, the line and a line feed. Every error of the writer ends it, `Interrupted`
 /// too, and it isn't flushed.
@@ -21,8 +22,43 @@ pub fn write_line<W: OctetWriter>(writer: &mut W, words: &str, line: &str) -> Re
     ensures works { OnOk result (WorksOn (W.state writer.old) (W.state writer.new)) }
     ensures failed { IfErr result (IsFailedWrite (W.state writer.old) (W.state writer.new)) }
 {
-    write_octets(writer, words.as_bytes())?;
-    write_octets(writer, line.as_bytes())?;
+    write_octet_line(writer, words.as_bytes(), line.as_bytes())
+}
+
+/// Writes these words, the line of a refusal and a line feed, as [`write_line`] does. It takes no
+/// memory.
+///
+/// # Errors
+///
+/// Those of `write_line`.
+pub fn write_refusal<W: OctetWriter>(
+    writer: &mut W,
+    words: &str,
+    fault: &Fault,
+    place: Place,
+) -> Result<(), Stop>
+    ensures written { OnOk result (WritesLine (words.now ++ refusal_line fault.now place)
+        (W.state writer.old) (W.state writer.new)) }
+    ensures part { OnErr result (WritesPartOfLine (words.now ++ refusal_line fault.now place)
+        (W.state writer.old) (W.state writer.new)) }
+    ensures works { OnOk result (WorksOn (W.state writer.old) (W.state writer.new)) }
+    ensures failed { IfErr result (IsFailedWrite (W.state writer.old) (W.state writer.new)) }
+{
+    let line = RefusalRoom::with_line(fault, place);
+    write_octet_line(writer, words.as_bytes(), line.as_slice())
+}
+
+/// The words, the line and a line feed.
+fn write_octet_line<W: OctetWriter>(writer: &mut W, words: &[u8], line: &[u8]) -> Result<(), Stop>
+    ensures written { OnOk result
+        (WritesLine (words.now ++ line.now) (W.state writer.old) (W.state writer.new)) }
+    ensures part { OnErr result
+        (WritesPartOfLine (words.now ++ line.now) (W.state writer.old) (W.state writer.new)) }
+    ensures works { OnOk result (WorksOn (W.state writer.old) (W.state writer.new)) }
+    ensures failed { IfErr result (IsFailedWrite (W.state writer.old) (W.state writer.new)) }
+{
+    write_octets(writer, words)?;
+    write_octets(writer, line)?;
     write_octets(writer, b"\n")
 }
 
@@ -34,7 +70,30 @@ pub fn tell<E: OctetWriter>(errors: &mut E, words: &str, line: &str, answer: u8)
     ensures { TellsLine (words.now ++ line.now) answer
         (E.state errors.old) (E.state errors.new) result }
 {
-    match write_line(errors, words, line) {
+    answered(write_line(errors, words, line), answer)
+}
+
+/// Writes these words and the line of a refusal, and answers this status: 4 where the writer failed.
+/// It takes no memory.
+pub fn tell_refusal<E: OctetWriter>(
+    errors: &mut E,
+    words: &str,
+    fault: &Fault,
+    place: Place,
+    answer: u8,
+) -> u8
+    ensures { TellsLine (words.now ++ refusal_line fault.now place) answer
+        (E.state errors.old) (E.state errors.new) result }
+{
+    answered(write_refusal(errors, words, fault, place), answer)
+}
+
+/// This status, and 4 where a line was not written whole.
+fn answered(written: Result<(), Stop>, answer: u8) -> u8
+    ensures ok { IsOk written → result ≡ answer }
+    ensures err { IsErr written → result ≡ 4 }
+{
+    match written {
         Ok(()) => answer,
         Err(_) => FAILED,
     }

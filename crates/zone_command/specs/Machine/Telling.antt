@@ -1,21 +1,9 @@
--- What private functions tell of a stop and of a verdict.
-use Rattle.std.specs.Prelude.{ℕ, List, ◌++◌}
-use Rattle.zone_rdata.specs.declared.fault.Fault.{Fault}
-use Rattle.zone_rdata.specs.declared.fault.Place.{Place}
-use Rattle.zone_rdata.specs.declared.fault.Stop.{Stop}
-use Rattle.zone_rdata.specs.declared.fault.Stop.TheVariants.{Refused, Write, Memory}
+-- What private functions tell of a verdict.
+use Rattle.std.specs.Prelude.{ℕ}
+use Rattle.zone_rdata.specs.declared.fault.Stop.TheVariants.{Write}
 use Rattle.zone_print.specs.Device.{Device, WorksOn, Fails, IsLeft}
-use Rattle.zone_engine.specs.Telling.{stop_line, stop_status, verdict_line, verdict_status, TellsLine, WritesLine, WritesPartOfLine}
+use Rattle.zone_engine.specs.Telling.{stop_line, verdict_line, verdict_status, TellsLine, WritesLine, WritesPartOfLine}
 use Rattle.zone_engine.specs.declared.comparison.Verdict.{Verdict}
-
--- why a run stopped is told after these words, or want of memory in place of the line of a refusal
-pub data IsReported (words : List ℕ) (old new : Device) : Stop → ℕ → Type 0 where
-  explained : (stop : Stop) (status : ℕ)
-      → TellsLine (words ++ stop_line stop) (stop_status stop) old new status
-      → IsReported words old new stop status
-  unexplained : (fault : Fault) (place : Place) (status : ℕ)
-      → TellsLine (words ++ stop_line Memory) 4 old new status
-      → IsReported words old new (Refused fault place) status
 
 -- the line of a verdict is told, or that writing it failed
 pub data TellsVerdict (verdict : Verdict)

@@ -4,7 +4,10 @@ use crate::tests::check_stopped;
 use std::alloc::Global;
 use std::test::Fail;
 use test_support::{check_octets, check_same};
-use zone_engine::{Form, OctetSlice, accepted_zone, accepted_zone_within};
+use zone_engine::{
+    Form, OctetSlice, Verdict, Which, accepted_bytes, accepted_zone, accepted_zone_within,
+    compare_bytes,
+};
 use zone_name::Name;
 use zone_print::{push_zone_within, write_zone_within};
 use zone_set::{Zone, ZoneBuilder};
@@ -58,5 +61,22 @@ fn an_input_at_the_limit_is_accepted(rt: HostRuntime) -> Result<(), Fail> {
     let zone = accepted_zone_within(rt.alloc(), form, &mut OctetSlice { rest: FILE }, 54)?;
     check_same("the records at the limit", zone.len(), 2)?;
     let answer = accepted_zone_within(rt.alloc(), form, &mut OctetSlice { rest: FILE }, 53);
-    check_stopped(rt.alloc(), answer.err(), "F45 InputTooLong in the input")
+    check_stopped(rt.alloc(), answer.err(), "F45 InputTooLong in the input")?;
+    let zone = accepted_bytes(rt.alloc(), form, FILE)?;
+    check_same("the records of octets in memory", zone.len(), 2)
+}
+
+#[test]
+fn octets_in_memory_are_compared(rt: HostRuntime) -> Result<(), Fail> {
+    let root = Name::root();
+    let form = Form::File(&root);
+    match compare_bytes(rt.alloc(), form, FILE, form, TEXT) {
+        Ok(verdict) => check_same("a file and its text", verdict, Verdict::Same)?,
+        Err((_, stop)) => return Err(Fail::from(stop)),
+    }
+    let Err((which, stop)) = compare_bytes(rt.alloc(), form, FILE, form, b"a") else {
+        return Err(Fail::from("accepted"));
+    };
+    check_same("the one that is refused", which, Which::Second)?;
+    check_stopped(rt.alloc(), Some(stop), "F7 UnknownType at line 1")
 }

@@ -1,22 +1,8 @@
-use Rattle.zone_engine.proofs.Common.{[], ◌∷◌, ◌++◌, refl, AppendsPart}
-use Rattle.zone_engine.proofs.Lines.{both_written, on_any_err, on_err, part_as, part_first, part_then}
+use Rattle.zone_engine.proofs.Common.{List, ap₂, ℕ, ◌++◌}
+use Rattle.zone_engine.proofs.Lines.{part_of_line_on_err}
 use Rattle.zone_engine.proofs.line.write_line.Goals as goal
-
-pub returns-in_err-write_octets-clause-part : goal.returns-in_err-write_octets-clause-part
-returns-in_err-write_octets-clause-part g c =
-    on_any_err _ _ (part_first _ _ _ (c.args.words.now ++ c.args.line.now) (10 ∷ []) refl
-    (part_first _ _ _ c.args.words.now c.args.line.now c.as_bytes.ensures.value c.in_err-write_octets.ensures.part))
-
-pub returns-in_err-write_octets-2-clause-part : goal.returns-in_err-write_octets-2-clause-part
-returns-in_err-write_octets-2-clause-part g c =
-    on_any_err _ _ (part_first _ _ _ (c.args.words.now ++ c.args.line.now) (10 ∷ []) refl
-    (part_then _ _ _ _ c.args.words.now c.args.line.now c.as_bytes.ensures.value c.in_ok-write_octets.ensures.written
-    (part_as _ _ _ c.args.line.now c.as_bytes-2.ensures.value c.in_err-write_octets-2.ensures.part)))
 
 pub returns-clause-part : goal.returns-clause-part
 returns-clause-part g c =
-    on_err c.write_octets-3.result (AppendsPart (g.W.OctetWriter.state c.write_octets-2.new.writer).octets (g.W.OctetWriter.state c.write_octets-3.new.writer).octets (10 ∷ []))
-    (AppendsPart (g.W.OctetWriter.state c.args.writer.now).octets (g.W.OctetWriter.state c.write_octets-3.new.writer).octets (c.args.words.now ++ c.args.line.now ++ 10 ∷ []))
-    (λ part. part_then _ _ _ (c.args.words.now ++ c.args.line.now) (c.args.words.now ++ c.args.line.now) (10 ∷ []) refl
-    (both_written _ _ _ _ _ c.args.words.now c.args.line.now c.as_bytes.ensures.value c.as_bytes-2.ensures.value c.in_ok-write_octets.ensures.written c.in_ok-write_octets-2.ensures.written) part)
-    c.write_octets-3.ensures.part
+    part_of_line_on_err c.write_octet_line.result (c.as_bytes.result.now ++ c.as_bytes-2.result.now) (c.args.words.now ++ c.args.line.now) (g.W.OctetWriter.state c.args.writer.now) (g.W.OctetWriter.state c.write_octet_line.new.writer)
+    (ap₂ (λ (words line : List ℕ). words ++ line) c.as_bytes.ensures.value c.as_bytes-2.ensures.value) c.write_octet_line.ensures.part
