@@ -3,6 +3,7 @@ import contextlib
 import dataclasses
 import json
 import os
+import tempfile
 import threading
 import time
 from typing import NamedTuple
@@ -77,21 +78,24 @@ def sides(pair):
 def write_whole(path, pieces):
     """Writes a file whole or not at all: what was there stays until all is written. The name of
     what is being written is one that no collector reads."""
+    encoded = {"encoding": "utf-8", "errors": "backslashreplace"}
     if os.path.exists(path) and not os.path.isfile(path):  # a pipe or a terminal
-        with open(path, "w", encoding="utf-8", errors="backslashreplace") as file:
+        with open(path, "w", **encoded) as file:
             file.writelines(pieces)
         return
-    path = os.path.realpath(path)
-    kept = f"{path}.{os.getpid()}"
+    folder, name = os.path.split(os.path.realpath(path))
+    os.umask(umask := os.umask(0))
+    file = tempfile.NamedTemporaryFile("w", dir=folder, prefix=f"{name}.", delete=False, **encoded)
     try:
-        with open(kept, "x", encoding="utf-8", errors="backslashreplace") as file:
+        with file:
             file.writelines(pieces)
             file.flush()
             os.fsync(file.fileno())
-        os.replace(kept, path)
+            os.fchmod(file.fileno(), 0o666 & ~umask)
+        os.replace(file.name, f"{folder}/{name}")
     except BaseException:
         with contextlib.suppress(OSError):
-            os.unlink(kept)
+            os.unlink(file.name)
         raise
 
 
