@@ -1,5 +1,5 @@
 -- From what an order's call answers, and what is told of it, to what a run leaves.
-use Rattle.zone_command.proofs.Common.{◌≡◌, ◌++◌, ℕ, List, [], sym, subst, Option, IfSome, Stop, Write, text_limit, IsFailedWrite, Compares, StopsCompare, told, untold, TellsVerdict, Normalises, ReadsToEnd, ReadsWhole, StopsReading, read_as_with, AreCompared, Device, Devices, IsLeft, WorksOn, IsStopped, Runs, StopsNormalise, TellsLine, TellsRead, stop_line, stop_status, verdict_line, which_words, WritesPartOfLine, Verdict, arith, Order, Input, Octets}
+use Rattle.zone_command.proofs.Common.{◌≡◌, ◌++◌, ℕ, List, [], sym, subst, Option, IfSome, Stop, Write, text_limit, IsFailedWrite, Compares, StopsCompare, told, untold, TellsVerdict, Normalises, ReadsToEnd, ReadsWhole, StopsReading, read_as_with, AreCompared, Device, Devices, IsLeft, WorksOn, Runs, StopsNormalise, TellsLine, TellsRead, stop_line, stop_status, verdict_line, which_words, WritesPartOfLine, Verdict, arith, Input, Octets}
 use Rattle.std.specs.Prelude.{None, Some}
 use Rattle.std.specs.Io.KnownBytes.{Consumes, Keeps}
 use Rattle.zone_engine.specs.Compare.{by_first, by_second}
