@@ -11,17 +11,20 @@ use crate::items::{cut_items, split_token};
 use crate::line::cut_line;
 use crate::scan::{ScanState, Step, scan};
 use std::alloc::AllocError;
-use zone_rdata::{Fault, Item};
+use zone_rdata::Item;
 
-/// What the entry at the front of octets is (RFC 1035 5.1).
-#[derive(Debug, Drop)]
+/// What the entry at the front of octets is (RFC 1035 5.1), in few octets: a `Fault` has room for a
+/// name.
+#[derive(Clone, Copy, Debug, Drop)]
 pub enum FirstEntry {
     /// It has so many octets; the last of them is the line feed that ends it.
     Whole(usize),
     /// The octets don't end it.
     Open,
-    /// They don't end it, and break by this fault, whatever follows them.
-    Broken(Fault),
+    /// They don't end it, and break by `Fault::BadEscape`, whatever follows them.
+    BadEscape,
+    /// They don't end it, and break by `Fault::UnbalancedParenthesis`, whatever follows them.
+    UnbalancedParenthesis,
 }
 
 /// The entry at the front, by a scan of the octets.
@@ -37,8 +40,8 @@ fn scan_entry<'t>(octets: &'t [u8], items: &mut Vec<Item<'t>>) -> Result<FirstEn
             Ok(FirstEntry::Whole(found.taken))
         }
         Step::On(_) => Ok(FirstEntry::Open),
-        Step::LostEscape => Ok(FirstEntry::Broken(Fault::BadEscape)),
-        Step::ClosesNothing => Ok(FirstEntry::Broken(Fault::UnbalancedParenthesis)),
+        Step::LostEscape => Ok(FirstEntry::BadEscape),
+        Step::ClosesNothing => Ok(FirstEntry::UnbalancedParenthesis),
     }
 }
 
