@@ -8,8 +8,7 @@ ghost use Rattle.zone_text.specs.Kept.{KeepsItems};
 ghost use Rattle.zone_text.specs.Tokens.{Token, AreTokensOf};
 
 use crate::items::{cut_items, split_token};
-use crate::line::cut_line;
-use crate::scan::{ScanState, Step, scan};
+use crate::walk::{Reached, walk};
 use std::alloc::AllocError;
 use zone_rdata::Item;
 
@@ -27,31 +26,24 @@ pub enum FirstEntry {
     UnbalancedParenthesis,
 }
 
-/// The entry at the front, by a scan of the octets.
-fn scan_entry<'t>(octets: &'t [u8], items: &mut Vec<Item<'t>>) -> Result<FirstEntry, AllocError>
-    ensures { IfOk result (λ found. FirstIs octets.now (map raw items.new.items) found) }
-{
-    items.clear();
-    let found = scan(octets, ScanState::beginning());
-    match found.step {
-        Step::Ends => {
-            let (entry, _) = octets.split_at(found.taken);
-            cut_items(entry, items)?;
-            Ok(FirstEntry::Whole(found.taken))
-        }
-        Step::On(_) => Ok(FirstEntry::Open),
-        Step::LostEscape => Ok(FirstEntry::BadEscape),
-        Step::ClosesNothing => Ok(FirstEntry::UnbalancedParenthesis),
-    }
-}
-
 /// As `first_entry`. After `AllocError` nothing is said of `items`.
 fn find_entry<'t>(octets: &'t [u8], items: &mut Vec<Item<'t>>) -> Result<FirstEntry, AllocError>
     ensures { IfOk result (λ found. FirstIs octets.now (map raw items.new.items) found) }
 {
-    match cut_line(octets, items)? {
-        Some(taken) => Ok(FirstEntry::Whole(taken)),
-        None => scan_entry(octets, items),
+    match walk(octets, items)? {
+        Reached::Ends(len, _feeds) => Ok(FirstEntry::Whole(len)),
+        Reached::Open(_at) => {
+            items.clear();
+            Ok(FirstEntry::Open)
+        }
+        Reached::LostEscape => {
+            items.clear();
+            Ok(FirstEntry::BadEscape)
+        }
+        Reached::ClosesNothing => {
+            items.clear();
+            Ok(FirstEntry::UnbalancedParenthesis)
+        }
     }
 }
 
