@@ -1,9 +1,8 @@
 -- A piece fed part by part, each by what its last octet leads to.
-use Rattle.zone_text.proofs.Common.{EndedEntries, Ends, EntrySplitter, Fault, Follow, IsBrokenOff, IsSplitter, Labels, Line, List, None, On, Place, Placed, ReadsOctets, ScanState, Scanned, ScansTo, Some, Step, [], ap, append-nil, append_assoc, arith, beginning, length, rules, scan_of, subst, sym, take, ℕ, ◌++◌, ◌+◌, ◌∙◌, ◌≡◌, ◌≤◌, IsFirstEntry, KeepsItems, Option, RawItem, common_steps, drop, end_fault_of, refl, take-append-drop, ◌<◌}
+use Rattle.zone_text.proofs.Common.{EndedEntries, Ends, EntrySplitter, Fault, Follow, IsBrokenOff, IsSplitter, Labels, Line, List, None, On, Place, Placed, ReadsOctets, ScanState, Scanned, ScansTo, Some, Step, [], ap, append-nil, append_assoc, arith, beginning, length, rules, scan_of, subst, sym, take, ℕ, ◌++◌, ◌+◌, ◌∙◌, ◌≡◌, ◌≤◌, Option, common_steps, end_fault_of, refl, ◌<◌}
 use Rattle.zone_text.proofs.Files.Followed.{follow_fault, scans_on, follow_on, follow_entry, follow_break}
-use Rattle.zone_text.proofs.Scanning.Scanned.{stops_at, takes_front, unfinished_depth, at_end, ends_entry, entry_is, step_goes_on}
+use Rattle.zone_text.proofs.Scanning.Scanned.{stops_at, takes_front, unfinished_depth, at_end, entry_is, step_goes_on}
 use Rattle.zone_text.proofs.Entries.Begun.{nothing_taken}
-use Rattle.zone_text.proofs.Tokens.Lasting.{breaks_for_good}
 use Rattle.zone_text.specs.Machine.OpenEntry.{state_of}
 use Rattle.zone_text.specs.OpenEntry.{EndIs, HeldEntry, TakesFrom}
 use Rattle.zone_text.specs.declared.open_entry.EntryState.TheVariants as states

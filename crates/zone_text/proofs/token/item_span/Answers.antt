@@ -1,4 +1,4 @@
-use Rattle.zone_text.proofs.Common.{IsCutOff, arith, ends_within, refl, subst, ◌∷◌}
+use Rattle.zone_text.proofs.Common.{arith, ends_within, refl, subst}
 use Rattle.zone_text.proofs.Tokens.Spans.{span_end, span_lost, span_open, span_whole, units_more}
 use Rattle.zone_text.specs.Machine.Spans.{IsCutOffBy}
 use Rattle.zone_text.proofs.token.item_span.Goals as goal
