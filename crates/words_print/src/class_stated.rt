@@ -72,6 +72,7 @@ pub(crate) fn class_stated<'t>(
             Ok(ClassStated::No)
         }
         FirstEntry::Open => Ok(ClassStated::No),
-        FirstEntry::Broken(_) => Ok(ClassStated::No),
+        FirstEntry::BadEscape => Ok(ClassStated::No),
+        FirstEntry::UnbalancedParenthesis => Ok(ClassStated::No),
     }
 }

@@ -3,3 +3,4 @@ pub mod FedPieces
 pub mod FirstEntries
 pub mod Scanned
 pub mod StopMarks
+pub mod Walking

@@ -5,4 +5,5 @@ pub mod Cuttings
 pub mod ForGood
 pub mod ItemsLeft
 pub mod Lasting
+pub mod Spans
 pub mod StandingItems

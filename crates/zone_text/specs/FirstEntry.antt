@@ -3,13 +3,14 @@ use Rattle.std.specs.Prelude.{◌≡◌, ℕ, zero, ◌<◌, ◌≤◌, List, []
 use Rattle.std.specs.List.{flat_map}
 use Rattle.zone_rdata.specs.Spelling.{RawItem}
 use Rattle.zone_rdata.specs.declared.fault.Fault.{Fault}
+use Rattle.zone_rdata.specs.declared.fault.Fault.TheVariants.{BadEscape, UnbalancedParenthesis}
 use Rattle.zone_text.specs.Decided.{AreTokens}
 use Rattle.zone_text.specs.Entries.{cut_from, item_of}
 use Rattle.zone_text.specs.Kept.{AreKept}
 use Rattle.zone_text.specs.Lasting.{BreaksForGood}
 use Rattle.zone_text.specs.Tokens.{Token, Cuts}
 use Rattle.zone_text.specs.declared.entry.FirstEntry.{FirstEntry}
-use Rattle.zone_text.specs.declared.entry.FirstEntry.TheVariants.{Whole, Open, Broken}
+use Rattle.zone_text.specs.declared.entry.FirstEntry.TheVariants as fronts
 
 -- the octets are the tokens of one entry, with the line feed that ends it
 pub record IsOneEntry (octets : List ℕ) (tokens : List Token) : Type 0 where
@@ -39,6 +40,8 @@ pub record IsBrokenOff (octets : List ℕ) (fault : Fault) : Type 0 where
 
 -- what the entry at the front is, and its items where it is whole
 abbrev pub FirstIs : List ℕ → List RawItem → FirstEntry → Type 0
-FirstIs octets kept (Whole n) = IsFirstEntry octets n kept
-FirstIs octets kept Open = IsOpen octets × (kept ≡ [])
-FirstIs octets kept (Broken fault) = IsBrokenOff octets fault × (kept ≡ [])
+FirstIs octets kept (fronts.Whole n) = IsFirstEntry octets n kept
+FirstIs octets kept fronts.Open = IsOpen octets × (kept ≡ [])
+FirstIs octets kept fronts.BadEscape = IsBrokenOff octets BadEscape × (kept ≡ [])
+FirstIs octets kept fronts.UnbalancedParenthesis =
+    IsBrokenOff octets UnbalancedParenthesis × (kept ≡ [])

@@ -8,6 +8,8 @@ pub mod Kept
 pub mod Lower
 pub mod OpenEntry
 pub mod Scan
+pub mod Spans
 pub mod Stops
+pub mod Walk
 pub mod WordTexts
 pub mod WordValues

@@ -8,47 +8,42 @@ ghost use Rattle.zone_text.specs.Kept.{KeepsItems};
 ghost use Rattle.zone_text.specs.Tokens.{Token, AreTokensOf};
 
 use crate::items::{cut_items, split_token};
-use crate::line::cut_line;
-use crate::scan::{ScanState, Step, scan};
+use crate::walk::{Reached, walk};
 use std::alloc::AllocError;
-use zone_rdata::{Fault, Item};
+use zone_rdata::Item;
 
-/// What the entry at the front of octets is (RFC 1035 5.1).
-#[derive(Debug, Drop)]
+/// What the entry at the front of octets is (RFC 1035 5.1), in few octets: a `Fault` has room for a
+/// name.
+#[derive(Clone, Copy, Debug, Drop)]
 pub enum FirstEntry {
     /// It has so many octets; the last of them is the line feed that ends it.
     Whole(usize),
     /// The octets don't end it.
     Open,
-    /// They don't end it, and break by this fault, whatever follows them.
-    Broken(Fault),
-}
-
-/// The entry at the front, by a scan of the octets.
-fn scan_entry<'t>(octets: &'t [u8], items: &mut Vec<Item<'t>>) -> Result<FirstEntry, AllocError>
-    ensures { IfOk result (λ found. FirstIs octets.now (map raw items.new.items) found) }
-{
-    items.clear();
-    let found = scan(octets, ScanState::beginning());
-    match found.step {
-        Step::Ends => {
-            let (entry, _) = octets.split_at(found.taken);
-            cut_items(entry, items)?;
-            Ok(FirstEntry::Whole(found.taken))
-        }
-        Step::On(_) => Ok(FirstEntry::Open),
-        Step::LostEscape => Ok(FirstEntry::Broken(Fault::BadEscape)),
-        Step::ClosesNothing => Ok(FirstEntry::Broken(Fault::UnbalancedParenthesis)),
-    }
+    /// They don't end it, and break by `Fault::BadEscape`, whatever follows them.
+    BadEscape,
+    /// They don't end it, and break by `Fault::UnbalancedParenthesis`, whatever follows them.
+    UnbalancedParenthesis,
 }
 
 /// As `first_entry`. After `AllocError` nothing is said of `items`.
 fn find_entry<'t>(octets: &'t [u8], items: &mut Vec<Item<'t>>) -> Result<FirstEntry, AllocError>
     ensures { IfOk result (λ found. FirstIs octets.now (map raw items.new.items) found) }
 {
-    match cut_line(octets, items)? {
-        Some(taken) => Ok(FirstEntry::Whole(taken)),
-        None => scan_entry(octets, items),
+    match walk(octets, items)? {
+        Reached::Ends(len, _feeds) => Ok(FirstEntry::Whole(len)),
+        Reached::Open(_at) => {
+            items.clear();
+            Ok(FirstEntry::Open)
+        }
+        Reached::LostEscape => {
+            items.clear();
+            Ok(FirstEntry::BadEscape)
+        }
+        Reached::ClosesNothing => {
+            items.clear();
+            Ok(FirstEntry::UnbalancedParenthesis)
+        }
     }
 }
 

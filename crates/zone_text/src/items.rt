@@ -87,7 +87,7 @@ fn escaped_len(text: &[u8], plain: usize, extent: Extent) -> usize
 // Inlined: a call's answer would be cleared for each item, with a backslash or not.
 #[inline(always)]
 #[tactic(auto, using(crate::proofs::Tokens::ItemsLeft::item_fronts))]
-pub(crate) fn escaped_item(text: &[u8], plain: usize) -> Option<(&[u8], &[u8])>
+fn escaped_item(text: &[u8], plain: usize) -> Option<(&[u8], &[u8])>
     requires within { plain ≤ length text.now }
     requires plain { All (λ c. stops_bare c ≡ false) (take plain text.now) }
     requires stops { EndsAt stops_bare (drop plain text.now) }

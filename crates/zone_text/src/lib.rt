@@ -9,7 +9,6 @@ mod entry;
 pub mod examples;
 mod items;
 pub mod laws;
-mod line;
 mod open_entry;
 mod parser_state;
 mod parts;
@@ -20,6 +19,8 @@ mod statements;
 mod stops;
 mod table;
 mod text_source;
+mod token;
+mod walk;
 mod words;
 
 pub use ended::line_feeds;

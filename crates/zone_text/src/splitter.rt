@@ -6,8 +6,8 @@ ghost use Rattle.zone_text.specs.Machine.Scan.{beginning};
 
 use crate::blank::blank_lines;
 use crate::ended::EndedEntries;
-use crate::line::cut_line;
 use crate::scan::{ScanState, Step, end_fault, scan};
+use crate::walk::{Reached, walk};
 use std::alloc::{AllocError, Global};
 use zone_name::Name;
 use zone_rdata::{Fault, Item};
@@ -62,9 +62,9 @@ impl EntrySplitter {
                     rest = blank.rest;
                     continue;
                 }
-                if let Some(taken) = cut_line(rest, &mut items)? {
-                    let (entry, after) = rest.split_at(taken);
-                    self.ended.read_cut(entry, &items, 1)?;
+                if let Reached::Ends(len, feeds) = walk(rest, &mut items)? {
+                    let (entry, after) = rest.split_at(len);
+                    self.ended.read_cut(entry, &items, feeds)?;
                     rest = after;
                     continue;
                 }

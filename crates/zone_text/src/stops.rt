@@ -1,5 +1,5 @@
 //! Where bare items stop, found 64 octets at a time (RFC 1035 5.1).
-ghost use Rattle.std.specs.Prelude.{◌≡◌, ◌+◌, ◌≤◌, drop, length, map, not, take};
+ghost use Rattle.std.specs.Prelude.{◌≡◌, ◌+◌, ◌-◌, ◌≤◌, drop, length, map, not, take};
 ghost use Rattle.std.specs.List.{prefix_len};
 ghost use Rattle.std.specs.Simd.Lanes.{mask_l};
 ghost use Rattle.zone_text.specs.Machine.ItemLengths.{stops_bare};
@@ -74,6 +74,30 @@ impl Stops {
         Stops {
             bits: 0,
             unseen: octets.len(),
+        }
+    }
+
+    /// What is known of the last of these octets, if they are so many, and else of others.
+    #[inline(always)]
+    pub(crate) fn past(self, octets: &[u8], left: &[u8]) -> Stops
+        requires tells { Tells self octets.now }
+        requires left { length left.now ≤ length octets.now
+            → left.now ≡ drop (length octets.now - length left.now) octets.now }
+        ensures { Tells result left.now }
+    {
+        if octets.len() < left.len() {
+            return Stops::unseen(left);
+        }
+        if left.len() <= self.unseen {
+            return Stops::unseen(left);
+        }
+        let passed = octets.len() - left.len();
+        if passed == 0 {
+            return self;
+        }
+        Stops {
+            bits: self.bits >> (passed - 1) >> 1,
+            unseen: self.unseen,
         }
     }
 

@@ -47,7 +47,8 @@ impl Question for Front {
         match first_entry(asked.as_bytes(), &mut items)? {
             FirstEntry::Whole(len) => push_words(alloc, out, format_args!(" whole {len}:"))?,
             FirstEntry::Open => push_text(out, " open")?,
-            FirstEntry::Broken(fault) => push_words(alloc, out, format_args!(" broken {fault:?}"))?,
+            FirstEntry::BadEscape => push_text(out, " broken BadEscape")?,
+            FirstEntry::UnbalancedParenthesis => push_text(out, " broken UnbalancedParenthesis")?,
         }
         push_items(out, &items)?;
         push_text(out, "\n")

@@ -1,9 +1,8 @@
 -- A piece fed part by part, each by what its last octet leads to.
-use Rattle.zone_text.proofs.Common.{EndedEntries, Ends, EntrySplitter, Fault, Follow, IsBrokenOff, IsSplitter, Labels, Line, List, None, On, Place, Placed, ReadsOctets, ScanState, Scanned, ScansTo, Some, Step, [], ap, append-nil, append_assoc, arith, beginning, length, rules, scan_of, subst, sym, take, ℕ, ◌++◌, ◌+◌, ◌∙◌, ◌≡◌, ◌≤◌, IsFirstEntry, KeepsItems, Option, RawItem, common_steps, drop, end_fault_of, refl, take-append-drop, ◌<◌}
+use Rattle.zone_text.proofs.Common.{EndedEntries, Ends, EntrySplitter, Fault, Follow, IsBrokenOff, IsSplitter, Labels, Line, List, None, On, Place, Placed, ReadsOctets, ScanState, Scanned, ScansTo, Some, Step, [], ap, append-nil, append_assoc, arith, beginning, length, rules, scan_of, subst, sym, take, ℕ, ◌++◌, ◌+◌, ◌∙◌, ◌≡◌, ◌≤◌, Option, common_steps, end_fault_of, refl, ◌<◌}
 use Rattle.zone_text.proofs.Files.Followed.{follow_fault, scans_on, follow_on, follow_entry, follow_break}
-use Rattle.zone_text.proofs.Scanning.Scanned.{stops_at, takes_front, unfinished_depth, at_end, ends_entry, entry_is, step_goes_on}
+use Rattle.zone_text.proofs.Scanning.Scanned.{stops_at, takes_front, unfinished_depth, at_end, entry_is, step_goes_on}
 use Rattle.zone_text.proofs.Entries.Begun.{nothing_taken}
-use Rattle.zone_text.proofs.Tokens.Lasting.{breaks_for_good}
 use Rattle.zone_text.specs.Machine.OpenEntry.{state_of}
 use Rattle.zone_text.specs.OpenEntry.{EndIs, HeldEntry, TakesFrom}
 use Rattle.zone_text.specs.declared.open_entry.EntryState.TheVariants as states
@@ -135,26 +134,3 @@ takes_none old new piece held step taken before settled old_is new_is len state 
 -- the parentheses that are open are no more than the octets
 pub depth_fits : (held : List ℕ) (at : ScanState) (step : Step) → ScansTo beginning held step → step ≡ On at → at.depth ≤ length held
 depth_fits held at step before on = search (rules, unfinished_depth beginning)
-
--- ---- the entry at the front of octets
-
--- the octets that a scan took, and all of them where the entry goes on
-pub scanned_part : (rest part : List ℕ) (step : Step) (found : Scanned) → found ≡ scan_of beginning rest → part ≡ take found.taken rest → found.step ≡ step → ScansTo beginning part step
-scanned_part rest part step found is front e = subst (λ s. ScansTo beginning part s) e (takes_part beginning rest part found is front)
-
-pub scanned_all : (rest : List ℕ) (at : ScanState) (found : Scanned) → found ≡ scan_of beginning rest → found.step ≡ On at → ScansTo beginning rest (On at)
-scanned_all rest at found is on = grind (arith, all_taken beginning at rest found is on)
-
-pub some_taken : (octets : List ℕ) (found : Scanned) → found ≡ scan_of beginning octets → found.step ≡ Ends → (0 < length octets → 0 < found.taken) → 0 < found.taken
-unfolding scan_of
-some_taken octets found is ends moves = grind (arith, common_steps)
-
-pub first_whole : (octets entry : List ℕ) (found : Scanned) (left : List RawItem) → found ≡ scan_of beginning octets → found.step ≡ Ends → entry ≡ take found.taken octets → 0 < found.taken → found.taken ≤ length octets → KeepsItems entry left → IsFirstEntry octets found.taken left
-first_whole octets entry found left is ends front some within keeps = search (rules, ends_entry entry (scanned_part octets entry Ends found is front ends), scanned_part octets entry Ends found is front ends)
-
--- octets after those that break stay broken off
-pub broken_on : (octets : List ℕ) (n : ℕ) (fault : Fault) → IsBrokenOff (take n octets) fault → IsBrokenOff octets fault
-broken_on octets n fault off = search (rules, take-append-drop n octets, breaks_for_good (take n octets) (drop n octets) off.tokens fault off.breaks)
-
-pub first_broken : (octets : List ℕ) (found : Scanned) (step : Step) (fault : Fault) → ((part : List ℕ) → ScansTo beginning part step → IsBrokenOff part fault) → found ≡ scan_of beginning octets → found.step ≡ step → IsBrokenOff octets fault
-first_broken octets found step fault breaks is stops = broken_on octets found.taken fault (breaks (take found.taken octets) (scanned_part octets (take found.taken octets) step found is refl stops))

@@ -1,5 +1,6 @@
 -- A text cut from the left, token by token: what is read is so, and what is so is read.
 use Rattle.zone_text.proofs.Common.{AllByRecursion, AllFollow, Breaks, Cuts, Cutting, Fault, Front, IsBroken, IsToken, List, MayEndBefore, MayFollow, NoUnit, None, Option, Some, Token, Written, [], ap, append-nil, append_assoc, arith, at_backslash, at_end, at_octet, bare, blank, both_ways, closes_nothing, closing, comment, common_steps, cut_by, cut_on, cutting, depth_after, depth_past, ends_item, front_of, inl, inr, is_blank, length, length-append, line_feed, no_escape, no_quote, no_quoted_escape, not_closed, opening, plain, quoted, refl, rules, subst, suc, sym, takes, text, token_text, written_text, zero, ℕ, ◌++◌, ◌<◌, ◌∙◌, ◌∷◌, ◌≡◌, ◌⊎◌, BadEscape, Bool, IsBadEscape, IsUnit, Sign, a_blank, a_closing, a_line_feed, a_quote, a_semicolon, an_opening, bare_front, before_line_feed, cond_both, decimal, drop, drop-append_seam, end_front, eqb-false, eqb-true, escaped, false, from_line_feed, front_by, is_quote, of_item, quoted_front, sign_of, stops, true, units_first, units_first_are, units_first_only, ◌==◌, ◌≢◌}
+pub use Rattle.zone_text.specs.Machine.Walk.{Ends, IsCut}
 
 -- ---- comments
 
@@ -87,11 +88,6 @@ pub record Takes (depth : ℕ) (octets : List ℕ) (p : Token) (rest : List ℕ)
   pub token : IsToken p
   pub stop : Stops p rest
   pub room : HasRoom depth p
-
--- the end of a text that is cut, or what breaks it
-abbrev pub Ends : ℕ → List ℕ → Option Fault → Type 0
-Ends depth octets None = (depth ≡ 0) × (octets ≡ [])
-Ends depth octets (Some fault) = IsBroken depth octets fault
 
 abbrev pub IsFront : ℕ → List ℕ → Front → Type 0
 IsFront depth octets (takes p rest) = Takes depth octets p rest
@@ -244,17 +240,6 @@ pub room_of : (depth at : ℕ) (p : Token) (tokens : List Token) → depth_after
 room_of depth at p tokens e = search rules
 
 -- ---- the whole text
-
--- from a depth on, the text is these tokens, and after them it ends or breaks
-pub record IsCut (depth : ℕ) (octets : List ℕ) (tokens : List Token) (fault : Option Fault) : Type 0 where
-  pub rest : List ℕ
-  pub at : ℕ
-  pub whole : octets ≡ text tokens ++ rest
-  pub each : AllByRecursion IsToken tokens
-  pub follow : AllFollow tokens
-  pub last : MayEndBefore tokens rest
-  pub parentheses : depth_after depth tokens ≡ Some at
-  pub ends : Ends at rest fault
 
 pub no_token : (depth : ℕ) (octets : List ℕ) (fault : Option Fault) → Ends depth octets fault → IsCut depth octets [] fault
 no_token depth octets fault ends = search rules

@@ -18,7 +18,7 @@ pub record IsWrittenTo (ends : ℕ → Bool) (octets : List ℕ) (len : ℕ) : T
   pub stops : EndsAt (λ c. ends c || c == 92) (drop len octets)
   pub within : len ≤ length octets
 
-plain_text : (octets : List ℕ) → written_text (map plain octets) ≡ octets
+pub plain_text : (octets : List ℕ) → written_text (map plain octets) ≡ octets
 plain_text [] = refl
 plain_text (c ∷ octets) = ap (λ t. c ∷ t) (plain_text octets)
 
@@ -26,7 +26,7 @@ plain_units : (ends : ℕ → Bool) (octets : List ℕ) → AllByRecursion (λ c
 plain_units ends [] each = tt
 plain_units ends (c ∷ octets) each = let p = or_parts (ends c) (c == 92) each.0 in ((p.0, eqb-false c 92 p.1), plain_units ends octets each.1)
 
-each_plain : (ends : ℕ → Bool) (octets : List ℕ) → All (λ c. (ends c || c == 92) ≡ false) octets → AllByRecursion (IsUnit ends) (map plain octets)
+pub each_plain : (ends : ℕ → Bool) (octets : List ℕ) → All (λ c. (ends c || c == 92) ≡ false) octets → AllByRecursion (IsUnit ends) (map plain octets)
 each_plain ends octets each = plain_units ends octets (recursion_from_All (λ c. (ends c || c == 92) ≡ false) octets each)
 
 pub plain_so_far : (ends : ℕ → Bool) (octets : List ℕ) (n : ℕ) → n ≤ length octets → All (λ c. (ends c || c == 92) ≡ false) (take n octets) → EndsAt (λ c. ends c || c == 92) (drop n octets) → IsWrittenTo ends octets n
@@ -71,7 +71,7 @@ len_is extent octets len is none =
     let size : len ≡ length (written_text is.units) = omega (arith, length-take len octets, is.within, ap length is.text) in
     size ∙ sym (ap (λ (found : Units). length (written_text found.units)) (units_first_only (ends_within extent) octets is.units (drop len octets) (backslash extent) whole is.each none))
 
-stops_or : (a b : Bool) → (a || b) ≡ true → b ≡ false → a ≡ true
+pub stops_or : (a b : Bool) → (a || b) ≡ true → b ≡ false → a ≡ true
 stops_or a b e none = search rules
 
 -- what stops a bare item ends it, but for a backslash

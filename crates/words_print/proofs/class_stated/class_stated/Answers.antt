@@ -11,5 +11,8 @@ returns-else-has_class-clause-no c = λ _. not_classed c.args.octets.now c.in-Wh
 pub returns-in-Open-clause-no : goal.returns-in-Open-clause-no
 returns-in-Open-clause-no c = λ _. open_not_classed c.args.octets.now (rw c.in-Open.is at c.in_ok-len.ensures.found).0
 
-pub returns-in-Broken-clause-no : goal.returns-in-Broken-clause-no
-returns-in-Broken-clause-no c = λ _. broken_not_classed c.args.octets.now _ (rw c.in-Broken.is at c.in_ok-len.ensures.found).0
+pub returns-in-BadEscape-clause-no : goal.returns-in-BadEscape-clause-no
+returns-in-BadEscape-clause-no c = λ _. broken_not_classed c.args.octets.now _ (rw c.in-BadEscape.is at c.in_ok-len.ensures.found).0
+
+pub returns-in-UnbalancedParenthesis-clause-no : goal.returns-in-UnbalancedParenthesis-clause-no
+returns-in-UnbalancedParenthesis-clause-no c = λ _. broken_not_classed c.args.octets.now _ (rw c.in-UnbalancedParenthesis.is at c.in_ok-len.ensures.found).0

@@ -1,0 +1,215 @@
+//! One walk over an entry, which may stop where octets end and go on with more of them (RFC 1035
+//! 5.1).
+ghost use Rattle.std.specs.Prelude.{◌≡◌, ◌≢◌, ◌==◌, ◌-◌, ◌<◌, ◌≤◌, ◌^◌, [], Bool, count_by, false, length, map, true, IfOk, OnOk};
+ghost use Rattle.zone_rdata.specs.Item.{raw};
+ghost use Rattle.zone_text.specs.Machine.ItemLengths.{stops_bare};
+ghost use Rattle.zone_text.specs.Machine.Kept.{KeepsBare};
+ghost use Rattle.zone_text.specs.Machine.Walk.{IsMark, IsWalked, KeepsToken, StandsAt};
+
+use crate::ended::line_feeds;
+use crate::items::keep;
+use crate::stops::Stops;
+use crate::token::{Span, item_of, token_span};
+use std::alloc::AllocError;
+use zone_rdata::Item;
+
+/// Where octets leave the entry that they begin.
+#[derive(Clone, Copy, Drop)]
+pub(crate) struct At {
+    /// The octets of the tokens that are whole.
+    pub(crate) start: usize,
+    /// These, and the octets of the open token that are whole units.
+    pub(crate) seen: usize,
+    /// The parentheses that are open.
+    pub(crate) depth: u64,
+    /// The line feeds of the tokens that are whole.
+    pub(crate) feeds: usize,
+}
+
+/// What a walk reaches.
+#[derive(Clone, Copy, Drop)]
+pub(crate) enum Reached {
+    /// The line feed that ends the entry: so many octets with it, and line feeds.
+    Ends(usize, usize),
+    /// The end of the octets.
+    Open(At),
+    /// A backslash that begins no escape, whatever follows.
+    LostEscape,
+    /// A `)` that closes nothing.
+    ClosesNothing,
+}
+
+/// What stands where a bare item stops.
+#[derive(Clone, Copy, Drop)]
+enum Mark {
+    /// A token of one octet, after which so many parentheses are open, and its line feeds.
+    Passes(u64, usize),
+    /// The line feed that ends the entry.
+    Ends,
+    /// A `)` that closes nothing.
+    ClosesNothing,
+    /// The beginning of a quoted item or a comment.
+    Begins,
+}
+
+impl At {
+    /// The beginning of an entry.
+    pub(crate) fn beginning() -> At
+        ensures start { result.start ≡ 0 }
+        ensures seen { result.seen ≡ 0 }
+        ensures depth { result.depth ≡ 0 }
+        ensures feeds { result.feeds ≡ 0 }
+    {
+        At {
+            start: 0,
+            seen: 0,
+            depth: 0,
+            feeds: 0,
+        }
+    }
+}
+
+/// What an octet is that stops a bare item, where so many parentheses are open.
+#[inline(always)]
+fn mark_at(stop: u8, depth: u64) -> Mark
+    requires stops { stops_bare stop ≡ true }
+    requires other { stop ≢ 92 }
+    requires fits { depth < 2 ^ 63 }
+    ensures { IsMark depth stop result }
+{
+    match stop {
+        b'\n' if depth == 0 => Mark::Ends,
+        b'\n' => Mark::Passes(depth, 1),
+        // Of what stops a bare item, the other octets up to a space are blanks.
+        _ if stop <= b' ' => Mark::Passes(depth, 0),
+        b'(' => Mark::Passes(depth + 1, 0),
+        b')' if depth == 0 => Mark::ClosesNothing,
+        b')' => Mark::Passes(depth - 1, 0),
+        _ => Mark::Begins,
+    }
+}
+
+/// Puts a bare item after those before it, where there are octets of it and items are kept.
+#[inline(always)]
+fn keep_bare<'t>(text: &'t [u8], keeps: bool, items: &mut Vec<Item<'t>>) -> Result<(), AllocError>
+    ensures { OnOk result (keeps ≡ true
+        → KeepsBare text.now (map raw items.old.items) (map raw items.new.items)) }
+{
+    if keeps && !text.is_empty() {
+        keep(Item::Bare(text), items)?;
+    }
+    Ok(())
+}
+
+/// Puts the item that a token is after those before it, where it is one and items are kept, and
+/// gives the number of its line feeds.
+#[inline(never)]
+fn keep_token<'t>(
+    token: &'t [u8],
+    keeps: bool,
+    items: &mut Vec<Item<'t>>,
+) -> Result<usize, AllocError>
+    ensures kept { IfOk result (λ feeds. KeepsToken token.now feeds keeps
+        (map raw items.old.items) (map raw items.new.items)) }
+    ensures few { IfOk result (λ feeds. feeds ≤ length token.now) }
+{
+    let Some(item) = item_of(token) else {
+        return Ok(0);
+    };
+    if keeps {
+        keep(item, items)?;
+    }
+    Ok(line_feeds(token))
+}
+
+/// Where an entry stands of which the last octets begin with no whole token, or none are left, and
+/// so many of them were seen.
+#[inline(always)]
+fn stand(octets: &[u8], rest: &[u8], seen: usize, depth: u64, feeds: usize) -> At
+    requires within { length rest.now ≤ length octets.now }
+    requires seen { seen ≤ length rest.now }
+    ensures start { result.start ≡ length octets.now - length rest.now }
+    ensures seen { result.seen - result.start ≡ seen }
+    ensures order { result.start ≤ result.seen }
+    ensures depth { result.depth ≡ depth }
+    ensures feeds { result.feeds ≡ feeds }
+{
+    let start = octets.len() - rest.len();
+    At {
+        start,
+        seen: start + seen,
+        depth,
+        feeds,
+    }
+}
+
+/// Walks on from where fewer octets left the entry, and puts the items after those before them
+/// where they are kept.
+#[inline(always)]
+fn walk_on<'t>(
+    octets: &'t [u8],
+    from: At,
+    keeps: bool,
+    items: &mut Vec<Item<'t>>,
+) -> Result<Reached, AllocError>
+    requires stands { StandsAt octets.now from keeps (map raw items.old.items) }
+    ensures { IfOk result (λ reached. IsWalked octets.now keeps (map raw items.new.items) reached) }
+{
+    let mut depth = from.depth;
+    let mut feeds = from.feeds;
+    let (_, ahead) = octets.split_at(from.start);
+    let mut stops = Stops::unseen(ahead);
+    let mut rest = ahead;
+    while !rest.is_empty() {
+        let (len, next_stops) = stops.bare_len(rest);
+        let (bare, stopped) = rest.split_at(len);
+        let Some((stop, after)) = stopped.split_first() else {
+            return Ok(Reached::Open(stand(octets, rest, rest.len(), depth, feeds)));
+        };
+        let token = if *stop == b'\\' {
+            rest
+        } else {
+            keep_bare(bare, keeps, items)?;
+            match mark_at(*stop, depth) {
+                Mark::Passes(next_depth, fed) => {
+                    depth = next_depth;
+                    feeds += fed;
+                    stops = next_stops;
+                    rest = after;
+                    continue;
+                }
+                Mark::Ends => {
+                    return Ok(Reached::Ends(octets.len() - after.len(), feeds + 1));
+                }
+                Mark::ClosesNothing => return Ok(Reached::ClosesNothing),
+                Mark::Begins => stopped,
+            }
+        };
+        match token_span(token, 0) {
+            Span::Whole(len) => {
+                let (text, left) = token.split_at(len);
+                feeds += keep_token(text, keeps, items)?;
+                stops = next_stops.past(after, left);
+                rest = left;
+            }
+            Span::Open(seen) => {
+                return Ok(Reached::Open(stand(octets, token, seen, depth, feeds)));
+            }
+            Span::Lost => return Ok(Reached::LostEscape),
+        }
+    }
+    Ok(Reached::Open(stand(octets, rest, 0, depth, feeds)))
+}
+
+/// Walks over the entry at the front of octets, and puts its items in place of what `items` held.
+///
+/// # Errors
+///
+/// `AllocError`. `items` holds nothing that is used again.
+#[inline(always)]
+pub(crate) fn walk<'t>(octets: &'t [u8], items: &mut Vec<Item<'t>>) -> Result<Reached, AllocError>
+    ensures { IfOk result (λ reached. IsWalked octets.now true (map raw items.new.items) reached) }
+{
+    items.clear();
+    walk_on(octets, At::beginning(), true, items)
+}
