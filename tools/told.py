@@ -4,8 +4,8 @@ import re
 from by_hand import has_no_answer_like, misfits_in
 
 VERDICT = re.compile(r"^fn (\S+): (.*)$")
-# What stands before the verdict on a function, of a goal that is false at values that the prover found: no answer proves it.
-FALSE = re.compile(r"^note: .* \(`(\S+)`\); the facts known there allow values at which this goal is false")
+# What stands before the verdict on a function, of a goal that is open, and maybe false at values: then no answer proves it.
+OPEN = re.compile(r"^note: .*\bis not proved that\b.* \(`(\S+)`\)(; the facts known there allow values at which this goal is false)?")
 # What a verdict begins with where a copy of a function's own body is as good as the function.
 NOT_REFUSED = ("no holes", "depends on a hole in")
 
@@ -14,14 +14,15 @@ class Told:
     """What a check tells, by the paths of functions. That of a function in a cycle of calls is told of the cycle's proof."""
 
     def __init__(self, text):
-        self.verdicts, self.false, self.misfits = {}, {}, misfits_in(text)
-        false = set()
+        self.verdicts, self.open, self.false, self.misfits = {}, {}, {}, misfits_in(text)
+        goals = []
         for line in text.splitlines():
-            if found := FALSE.match(line):
-                false.add(found[1])
+            if found := OPEN.match(line):
+                goals.append(found)
             elif found := VERDICT.match(line):
-                self.verdicts[found[1]], self.false[found[1]] = found[2], false
-                false = set()
+                self.verdicts[found[1]] = found[2]
+                self.open[found[1]], self.false[found[1]] = [it[1] for it in goals], {it[1] for it in goals if it[2]}
+                goals = []
 
     def of(self, path):
         """The verdict on a function."""
@@ -38,7 +39,8 @@ class Told:
     def goals(self, path, cycle=None):
         """The goals of a function that are open, or the answers to them refused."""
         found = re.search(r"did not prove (`[^`]+`(?:, `[^`]+`)*)", self.of(path))
-        return re.findall(rf"`{re.escape(own(path, cycle))}Answers\.([^`]+)`", self.of(path)) + re.findall(r"[^`, ]+", found[1] if found else "")
+        goals = re.findall(rf"`{re.escape(own(path, cycle))}Answers\.([^`]+)`", self.of(path)) + re.findall(r"[^`, ]+", found[1] if found else "")
+        return list(dict.fromkeys(goals + self.open.get(path, [])))
 
     def left_by_no_tactic(self, path):
         """All goals of a copy that leaves each open."""
