@@ -53,7 +53,7 @@ fronted_append : (xs ys : List Token) (cut : Cut) → fronted (xs ++ ys) cut ≡
 fronted_append [] ys cut = refl
 fronted_append (p ∷ xs) ys cut = ap (in_front_of p) (fronted_append xs ys cut)
 
-abbrev one_open : List Token → Cut
+abbrev pub one_open : List Token → Cut
 one_open tokens = record { ended = []; open_tokens = tokens }
 
 abbrev one_ended : List Token → Cut
@@ -160,10 +160,10 @@ walked_ends octets rest after feeds n keeps kept so_far first count =
       feeds_are = ap line_feeds entry ∙ feeds_of_both (text so_far.before) (10 ∷ []) ∙ ap (λ k. k + 1) so_far.feeds_are;
     }
 
-all_of : (octets rest : List ℕ) (depth feeds : ℕ) (keeps : Bool) (kept : List RawItem) (so_far : Walked octets rest depth feeds keeps kept) (more : List Token) (fault : Option Fault) → IsCut depth rest more fault → IsCut zero octets (so_far.before ++ more) fault
+pub all_of : (octets rest : List ℕ) (depth feeds : ℕ) (keeps : Bool) (kept : List RawItem) (so_far : Walked octets rest depth feeds keeps kept) (more : List Token) (fault : Option Fault) → IsCut depth rest more fault → IsCut zero octets (so_far.before ++ more) fault
 all_of octets rest depth feeds keeps kept so_far more fault is = subst (λ t. IsCut zero t (so_far.before ++ more) fault) (sym so_far.whole) (so_far.goes rest more fault (begin_self rest) is)
 
-none_ended : (octets rest : List ℕ) (depth feeds : ℕ) (keeps : Bool) (kept : List RawItem) (so_far : Walked octets rest depth feeds keeps kept) (more : List Token) → cut_from depth more ≡ one_open more → (cut_from zero (so_far.before ++ more)).ended ≡ []
+pub none_ended : (octets rest : List ℕ) (depth feeds : ℕ) (keeps : Bool) (kept : List RawItem) (so_far : Walked octets rest depth feeds keeps kept) (more : List Token) → cut_from depth more ≡ one_open more → (cut_from zero (so_far.before ++ more)).ended ≡ []
 none_ended octets rest depth feeds keeps kept so_far more is = ap (λ (cut : Cut). cut.ended) (so_far.entries more ∙ ap (fronted so_far.before) is ∙ fronted_open so_far.before more)
 
 left_is : (octets rest left : List ℕ) (depth feeds : ℕ) (keeps : Bool) (kept : List RawItem) (so_far : Walked octets rest depth feeds keeps kept) (more : List Token) → rest ≡ text more ++ left → octets ≡ text (so_far.before ++ more) ++ left
@@ -389,7 +389,7 @@ left_of token after left skip n skipped room back within less =
 
 -- ---- the place of a rest
 
-rest_at : (octets rest : List ℕ) (depth feeds : ℕ) (keeps : Bool) (kept : List RawItem) → Walked octets rest depth feeds keeps kept → rest ≡ drop (length octets - length rest) octets
+pub rest_at : (octets rest : List ℕ) (depth feeds : ℕ) (keeps : Bool) (kept : List RawItem) → Walked octets rest depth feeds keeps kept → rest ≡ drop (length octets - length rest) octets
 rest_at octets rest depth feeds keeps kept so_far =
     let len : length octets ≡ length (text so_far.before) + length rest = ap length so_far.whole ∙ length-append (text so_far.before) rest in
     let e : length octets - length rest ≡ length (text so_far.before) = omega (arith, len) in
@@ -415,7 +415,7 @@ none_seen octets = record {
 
 pub stands_begun : (octets : List ℕ) (at : At) (keeps : Bool) (kept : List RawItem) → at.start ≡ 0 → at.seen ≡ 0 → at.depth ≡ 0 → at.feeds ≡ 0 → kept ≡ [] → StandsAt octets at keeps kept
 stands_begun octets at keeps kept start seen depth feeds none =
-    rw (start, seen, depth, feeds) (record { walked = walked_none octets keeps kept none; seen = none_seen octets; within = omega arith })
+    rw (start, seen, depth, feeds) (record { walked = walked_none octets keeps kept none; seen = none_seen octets; within = omega arith; order = omega arith })
 
 -- ---- a token that isn't ended, or breaks
 
@@ -431,7 +431,7 @@ bare_to_end rest stopped n len back none some =
       len = ap length (sym (plain_text rest));
     }) (inl refl) some
 
-one_by : (depth : ℕ) (p : Token) → IsItemOrComment p → cut_from depth (p ∷ []) ≡ one_open (p ∷ [])
+pub one_by : (depth : ℕ) (p : Token) → IsItemOrComment p → cut_from depth (p ∷ []) ≡ one_open (p ∷ [])
 one_by zero (bare units) kind = refl
 one_by zero (quoted units) kind = refl
 one_by zero (comment octets) kind = refl
@@ -463,11 +463,11 @@ open_between octets zero feeds keeps kept so_far = walked_open octets [] zero fe
 open_between octets (suc depth) feeds keeps kept so_far = walked_open octets [] (suc depth) feeds keeps kept so_far [] (Some UnbalancedParenthesis) (record { rest = []; at = suc depth; whole = refl; each = tt; follow = tt; last = tt; parentheses = refl; ends = not_closed (omega arith) refl }) (nothing_left refl) refl
 
 -- no token stands there
-breaks_there : (depth : ℕ) (rest : List ℕ) (fault : Fault) → IsBroken depth rest fault → IsCut depth rest [] (Some fault)
+pub breaks_there : (depth : ℕ) (rest : List ℕ) (fault : Fault) → IsBroken depth rest fault → IsCut depth rest [] (Some fault)
 breaks_there depth rest fault broken = record { rest = rest; at = depth; whole = refl; each = tt; follow = tt; last = tt; parentheses = refl; ends = broken }
 
 -- units of a bare item, and a backslash that begins no escape
-breaks_after : (depth : ℕ) (rest after : List ℕ) (w : Written) (units : List Written) → AllByRecursion (IsUnit ends_item) (w ∷ units) → rest ≡ written_text (w ∷ units) ++ after → IsBadEscape after → IsCut depth rest (bare (w ∷ units) ∷ []) (Some BadEscape)
+pub breaks_after : (depth : ℕ) (rest after : List ℕ) (w : Written) (units : List Written) → AllByRecursion (IsUnit ends_item) (w ∷ units) → rest ≡ written_text (w ∷ units) ++ after → IsBadEscape after → IsCut depth rest (bare (w ∷ units) ∷ []) (Some BadEscape)
 breaks_after depth rest after w units each whole bad = record { rest = after; at = depth; whole = whole ∙ ap (λ t. t ++ after) (sym (append-nil (written_text (w ∷ units)))); each = ((omega arith, each), tt); follow = tt; last = tt; parentheses = depth_on depth (bare (w ∷ units)) [] tt; ends = no_escape bad }
 
 open_bare : (octets rest : List ℕ) (depth feeds : ℕ) (keeps : Bool) (kept : List RawItem) → Walked octets rest depth feeds keeps kept → (units : List Written) (after : List ℕ) → AllByRecursion (IsUnit ends_item) units → rest ≡ written_text units ++ after → RunsOut after → 0 < length rest → IsOpen octets

@@ -68,6 +68,7 @@ pub record StandsAt (octets : List ℕ) (at : At) (keeps : Bool) (kept : List Ra
   pub walked : Walked octets (drop at.start octets) at.depth at.feeds keeps kept
   pub seen : IsSeen (drop at.start octets) (at.seen - at.start)
   pub within : at.start ≤ length octets
+  pub order : at.start ≤ at.seen
 
 -- a walk came to the end of the octets there
 pub record StandsOpen (octets : List ℕ) (at : At) (keeps : Bool)
