@@ -3,7 +3,7 @@ ghost use Rattle.std.specs.Prelude.{◌≡◌, ◌<◌, ◌+◌, ◌^◌, [], le
 ghost use Rattle.zone_rdata.specs.declared.fault.Fault.{Fault};
 ghost use Rattle.zone_text.specs.OpenEntry.{EndIs, EntryIs, TakesFrom};
 ghost use Rattle.zone_text.specs.declared.open_entry.EntryState.TheVariants.{Open, Ended, Broken};
-ghost use Rattle.zone_text.specs.Machine.OpenEntry.{state_of};
+ghost use Rattle.zone_text.specs.Machine.OpenEntry.{len_of, state_of};
 
 use crate::walk::{At, Reached, end_fault, walk_more};
 use std::alloc::{AllocError, Global};
@@ -24,7 +24,7 @@ pub enum EntryState {
 /// What was taken of a piece.
 #[derive(Debug, Drop)]
 pub struct Taken {
-    /// How many of its octets: all, or those up to the end of the entry.
+    /// How many of its octets: all, or those up to the end of the entry or to what breaks it.
     pub len: usize,
     /// Where they leave the entry.
     pub state: EntryState,
@@ -58,8 +58,20 @@ fn state_of(reached: Reached) -> EntryState
     match reached {
         Reached::Open(_) => EntryState::Open,
         Reached::Ends(_, _) => EntryState::Ended,
-        Reached::LostEscape => EntryState::Broken(Fault::BadEscape),
-        Reached::ClosesNothing => EntryState::Broken(Fault::UnbalancedParenthesis),
+        Reached::LostEscape(_) => EntryState::Broken(Fault::BadEscape),
+        Reached::ClosesNothing(_) => EntryState::Broken(Fault::UnbalancedParenthesis),
+    }
+}
+
+/// How many of so many octets are the entry's.
+fn len_of(reached: Reached, all: usize) -> usize
+    ensures { result ≡ len_of reached all }
+{
+    match reached {
+        Reached::Open(_) => all,
+        Reached::Ends(len, _) => len,
+        Reached::LostEscape(len) => len,
+        Reached::ClosesNothing(len) => len,
     }
 }
 
@@ -94,7 +106,7 @@ impl OpenEntry {
     }
 
     /// Takes the octets of a piece that go on with the entry, where it is open: all, or those up to
-    /// its end. Once the entry is ended or broken nothing more is taken.
+    /// its end or to what breaks it. Once the entry is ended or broken nothing more is taken.
     ///
     /// # Errors
     ///
@@ -119,28 +131,13 @@ impl OpenEntry {
                 return Err(refused);
             }
         };
+        let len = len_of(reached, self.octets.len());
+        self.octets.truncate(len);
         self.reached = reached;
-        match reached {
-            Reached::Ends(len, _feeds) => {
-                self.octets.truncate(len);
-                Ok(Taken {
-                    len: len - held,
-                    state: EntryState::Ended,
-                })
-            }
-            Reached::Open(_at) => Ok(Taken {
-                len: piece.len(),
-                state: EntryState::Open,
-            }),
-            Reached::LostEscape => Ok(Taken {
-                len: piece.len(),
-                state: EntryState::Broken(Fault::BadEscape),
-            }),
-            Reached::ClosesNothing => Ok(Taken {
-                len: piece.len(),
-                state: EntryState::Broken(Fault::UnbalancedParenthesis),
-            }),
-        }
+        Ok(Taken {
+            len: len - held,
+            state: state_of(reached),
+        })
     }
 
     /// What is wrong with the entry where the input ends after its octets: an open quote,
@@ -154,8 +151,8 @@ impl OpenEntry {
         match self.reached {
             Reached::Open(at) => end_fault(self.octets.as_slice(), at),
             Reached::Ends(_, _) => None,
-            Reached::LostEscape => Some(Fault::BadEscape),
-            Reached::ClosesNothing => Some(Fault::UnbalancedParenthesis),
+            Reached::LostEscape(_) => Some(Fault::BadEscape),
+            Reached::ClosesNothing(_) => Some(Fault::UnbalancedParenthesis),
         }
     }
 

@@ -34,10 +34,10 @@ pub(crate) enum Reached {
     Ends(usize, usize),
     /// The end of the octets.
     Open(At),
-    /// A backslash that begins no escape, whatever follows.
-    LostEscape,
-    /// A `)` that closes nothing.
-    ClosesNothing,
+    /// A backslash that begins no escape, as so many octets show, whatever follows them.
+    LostEscape(usize),
+    /// A `)` that closes nothing, the last of so many octets.
+    ClosesNothing(usize),
 }
 
 /// What stands where a bare item stops.
@@ -182,7 +182,9 @@ fn walk_on<'t>(
                 Mark::Ends => {
                     return Ok(Reached::Ends(octets.len() - after.len(), feeds + 1));
                 }
-                Mark::ClosesNothing => return Ok(Reached::ClosesNothing),
+                Mark::ClosesNothing => {
+                    return Ok(Reached::ClosesNothing(octets.len() - after.len()));
+                }
                 Mark::Begins => stopped,
             }
         };
@@ -196,7 +198,9 @@ fn walk_on<'t>(
             Span::Open(seen) => {
                 return Ok(Reached::Open(stand(octets, token, seen, depth, feeds)));
             }
-            Span::Lost => return Ok(Reached::LostEscape),
+            Span::Lost(len) => {
+                return Ok(Reached::LostEscape(octets.len() - token.len() + len));
+            }
         }
     }
     Ok(Reached::Open(stand(octets, rest, 0, depth, feeds)))
@@ -228,7 +232,7 @@ pub(crate) fn walk_more(alloc: Global, octets: &[u8], at: At) -> Result<Reached,
             seen: at.start + seen,
             ..at
         })),
-        Span::Lost => Ok(Reached::LostEscape),
+        Span::Lost(len) => Ok(Reached::LostEscape(at.start + len)),
         Span::Whole(_) => walk_on(octets, at, false, &mut Vec::new(alloc)),
     }
 }

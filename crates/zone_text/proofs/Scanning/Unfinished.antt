@@ -1,12 +1,15 @@
 -- Octets that leave an entry open: more of them, and the end of the input after them.
 use Rattle.std.proofs.Math.Logic.{⊎_elim}
 use Rattle.std.specs.Prelude.{IfOk}
-use Rattle.zone_text.proofs.Common.{AllByRecursion, AreTokens, BadEscape, Bool, Cut, Fault, IsBadEscape, IsBroken, IsBrokenOff, IsCutOff, IsOneEntry, IsOpen, IsToken, IsUnit, List, MayEndBefore, None, Ok, Err, Option, RawItem, Result, Some, Token, UnbalancedParenthesis, UnclosedQuote, Written, [], after_backslash, after_digit, after_two_digits, ap, append-nil, append_assoc, arith, at_end, bare, both_ways, cases_lt, comment, cut_from, depth_after, depth_past, drop, ends_item, entry_of, false, inl, inr, is_quote, length, length-append, length-take, no_escape, no_quote, no_quoted_escape, not_closed, refl, subst, suc, sym, take, take-append-drop, take-append_seam, take-length, text, token_text, true, written_text, zero, ℕ, ◌++◌, ◌+◌, ◌-◌, ◌<◌, ◌∙◌, ◌∷◌, ◌≡◌, ◌≢◌, ◌≤◌, ◌⊎◌, ended_entries, Entry, numbered}
+use Rattle.zone_text.proofs.Common.{AllByRecursion, AreTokens, BadEscape, Bool, BreaksForGood, Cut, Fault, IsBadEscape, IsBroken, IsBrokenOff, IsCutOff, IsOneEntry, IsOpen, IsToken, IsUnit, List, MayEndBefore, None, Ok, Err, Option, RawItem, Result, Some, Token, UnbalancedParenthesis, UnclosedQuote, Written, [], after_backslash, after_digit, after_two_digits, ap, append-nil, append_assoc, arith, at_end, bare, both_ways, cases_lt, comment, count_by, cut_from, depth_after, depth_past, drop, ends_item, entry_of, false, inl, inr, is_quote, length, length-append, length-take, no_escape, no_quote, no_quoted_escape, not_closed, refl, subst, suc, sym, take, take-append-drop, take-append_seam, take-length, text, token_text, true, written_text, zero, ℕ, ◌++◌, ◌+◌, ◌-◌, ◌<◌, ◌==◌, ◌∙◌, ◌∷◌, ◌≡◌, ◌≢◌, ◌≤◌, ◌⊎◌, ended_entries, Entry, numbered}
 use Rattle.zone_text.proofs.Files.Left.{ended_entries_stay}
-use Rattle.zone_text.proofs.Scanning.Walking.{AreUnits, EndsEntry, IsCut, IsOpenToken, IsSeen, RunsOut, StandsAt, StandsOpen, Walked, all_of, between, breaks_after, breaks_there, in_bare, in_comment, in_quotes, none_ended, none_seen, one_by, one_open, rest_at, stands_begun, walk_open, walked_none, walked_on}
-use Rattle.zone_text.proofs.Tokens.Cuttings.{HasRoom, Stops, begins, breaks, cuts, depth_on, no_token, one_token_more}
+use Rattle.zone_text.proofs.Scanning.Walking.{AreUnits, EndsEntry, IsCut, IsOpenToken, IsSeen, RunsOut, StandsAt, StandsOpen, Walked, all_of, between, breaks_there, in_bare, in_comment, in_quotes, none_ended, none_seen, one_by, one_open, rest_at, stands_begun, walk_open, walked_none, walked_on}
+use Rattle.zone_text.proofs.Scanning.Walking.{breaks_after as bare_breaks}
+use Rattle.zone_text.proofs.Tokens.Cuttings.{cut_not_broken, one_break, HasRoom, Stops, begins, breaks, cuts, depth_on, no_token, one_token_more}
 use Rattle.zone_text.proofs.Tokens.ForGood.{malformed_is_bad}
-use Rattle.zone_text.specs.Machine.OpenEntry.{IsHeld, state_of}
+use Rattle.zone_text.proofs.Tokens.Lasting.{breaks_for_good}
+use Rattle.zone_text.proofs.Tokens.Spans.{take_past}
+use Rattle.zone_text.specs.Machine.OpenEntry.{IsHeld, len_of, state_of}
 use Rattle.zone_text.specs.OpenEntry.{EndIs, EntryIs, HeldEntry, TakesFrom}
 use Rattle.zone_text.specs.declared.open_entry.EntryState.{EntryState}
 use Rattle.zone_text.specs.declared.open_entry.EntryState.TheVariants as states
@@ -96,8 +99,8 @@ none_kept octets rest depth feeds kept is = record { before = is.before; whole =
 pub walked_bare_of_items : (octets : List ℕ) (kept : List RawItem) (found : Reached) → IsWalked octets false kept found → IsWalked octets false [] found
 walked_bare_of_items octets kept (reached.Open at) is = record { walked = none_kept octets (drop at.start octets) at.depth at.feeds kept is.walked; is_open = is.is_open; within = is.within; order = is.order }
 walked_bare_of_items octets kept (reached.Ends n feeds) is = record { tokens = is.tokens; one = is.one; stated = λ e. no_kept e; some = is.some; within = is.within; feeds_are = is.feeds_are }
-walked_bare_of_items octets kept reached.LostEscape is = is
-walked_bare_of_items octets kept reached.ClosesNothing is = is
+walked_bare_of_items octets kept (reached.LostEscape n) is = is
+walked_bare_of_items octets kept (reached.ClosesNothing n) is = is
 
 pub without_items : {E : Type 0} (octets : List ℕ) (kept : List RawItem) (result : Result Reached E) → IfOk result (λ found. IsWalked octets false kept found) → IfOk result (λ found. IsWalked octets false [] found)
 without_items octets kept (Ok found) is = walked_bare_of_items octets kept found is
@@ -113,13 +116,8 @@ pub held_is : (octets : List ℕ) (found : Reached) → IsHeld octets found → 
 held_is octets (reached.Open at) is = walk_open octets at false [] is
 held_is octets (reached.Ends n feeds) (ends, all) =
     (ends.tokens, subst (λ t. IsOneEntry t ends.tokens) (ap (λ k. take k octets) all ∙ take-length octets) ends.one)
-held_is octets reached.LostEscape is = is
-held_is octets reached.ClosesNothing is = is
-
-pub take_past : (xs ys : List ℕ) (n : ℕ) → length xs ≤ n → take n (xs ++ ys) ≡ xs ++ take (n - length xs) ys
-take_past [] ys n within = ap (λ k. take k ys) (let e : n ≡ n - 0 = omega arith in e)
-take_past (x ∷ xs) ys zero within = absurd (omega (arith, within))
-take_past (x ∷ xs) ys (suc n) within = ap (λ t. x ∷ t) (take_past xs ys n (omega (arith, within)) ∙ ap (λ k. xs ++ take k ys) (let e : n - length xs ≡ suc n - length (x ∷ xs) = omega arith in e))
+held_is octets (reached.LostEscape n) is = is
+held_is octets (reached.ClosesNothing n) is = is
 
 take_before : (xs ys : List ℕ) (n : ℕ) → n ≤ length xs → take n (xs ++ ys) ≡ take n xs
 take_before xs ys zero within = refl
@@ -127,7 +125,7 @@ take_before [] ys (suc n) within = absurd (omega (arith, within))
 take_before (x ∷ xs) ys (suc n) within = ap (λ t. x ∷ t) (take_before xs ys n (omega (arith, within)))
 
 -- an entry that was open ends after the octets held
-pub ends_after : (held piece : List ℕ) (n feeds : ℕ) → IsOpen held → EndsEntry (held ++ piece) n feeds false [] → length held < n
+ends_after : (held piece : List ℕ) (n feeds : ℕ) → IsOpen held → EndsEntry (held ++ piece) n feeds false [] → length held < n
 ends_after held piece n feeds is_open ends = ⊎_elim (λ less. less) (λ within. absurd (early within)) (cases_lt (length held) n)
   where
     early : n ≤ length held → ⊥
@@ -140,7 +138,26 @@ ends_after held piece n feeds is_open ends = ⊎_elim (λ less. less) (λ within
         let e : [] ≡ entry_of 1 ends.tokens ∷ stay.0 = sym none ∙ stay.1 ∙ ap (λ t. t ++ stay.0) some in
         let t : ⊥ = cc in t
 
-pub takes_ended : (old new : HeldEntry) (piece held : List ℕ) (n feeds : ℕ) (taken : Taken) → IsOpen held → old ≡ record { octets = held; state = states.Open } → EndsEntry (held ++ piece) n feeds false [] → taken.len ≡ n - length held → taken.state ≡ states.Ended → new ≡ record { octets = take n (held ++ piece); state = states.Ended } → TakesFrom old piece taken new
+-- octets after those that break stay broken off
+pub broken_on : (octets : List ℕ) (n : ℕ) (fault : Fault) → IsBrokenOff (take n octets) fault → IsBrokenOff octets fault
+broken_on octets n fault off = record {
+  tokens = off.tokens;
+  breaks = subst (λ t. BreaksForGood t off.tokens fault) (take-append-drop n octets) (breaks_for_good (take n octets) (drop n octets) off.tokens fault off.breaks);
+  none = off.none;
+}
+
+-- what is open isn't broken off
+not_broken : (octets : List ℕ) (fault : Fault) → IsOpen octets → IsBrokenOff octets fault → ⊥
+not_broken octets fault is_open off = by is_open.are
+  where
+    by : AreTokens octets is_open.tokens → ⊥
+    by (inl cut) = cut_not_broken octets is_open.tokens off.tokens fault cut off.breaks.breaks
+    by (inr broken) = is_open.goes_on fault (subst (λ t. BreaksForGood octets t fault) (sym (one_break octets is_open.tokens off.tokens broken.0 fault broken.1 off.breaks.breaks).0) off.breaks)
+
+breaks_after : (held piece : List ℕ) (n : ℕ) (fault : Fault) → IsOpen held → IsBrokenOff (take n (held ++ piece)) fault → length held < n
+breaks_after held piece n fault is_open off = ⊎_elim (λ less. less) (λ within. absurd (not_broken held fault is_open (broken_on held n fault (subst (λ t. IsBrokenOff t fault) (take_before held piece n within) off)))) (cases_lt (length held) n)
+
+takes_ended : (old new : HeldEntry) (piece held : List ℕ) (n feeds : ℕ) (taken : Taken) → IsOpen held → old ≡ record { octets = held; state = states.Open } → EndsEntry (held ++ piece) n feeds false [] → taken.len ≡ n - length held → taken.state ≡ states.Ended → new ≡ record { octets = take n (held ++ piece); state = states.Ended } → TakesFrom old piece taken new
 takes_ended old new piece held n feeds taken is_open old_is ends len state new_is =
     let more = ends_after held piece n feeds is_open ends in
     rw (old_is, new_is) (record {
@@ -153,7 +170,7 @@ takes_ended old new piece held n feeds taken is_open old_is ends len state new_i
       settled = λ no_open. absurd (no_open refl);
     })
 
-pub takes_all : (old new : HeldEntry) (piece held : List ℕ) (state : EntryState) (taken : Taken) → old ≡ record { octets = held; state = states.Open } → EntryIs (held ++ piece) state → taken.len ≡ length piece → taken.state ≡ state → new ≡ record { octets = held ++ piece; state = state } → TakesFrom old piece taken new
+takes_all : (old new : HeldEntry) (piece held : List ℕ) (state : EntryState) (taken : Taken) → old ≡ record { octets = held; state = states.Open } → EntryIs (held ++ piece) state → taken.len ≡ length piece → taken.state ≡ state → new ≡ record { octets = held ++ piece; state = state } → TakesFrom old piece taken new
 takes_all old new piece held state taken old_is is len state_is new_is =
     rw (old_is, new_is) (record {
       within = omega (arith, len);
@@ -164,6 +181,56 @@ takes_all old new piece held state taken old_is is len state_is new_is =
       some = λ is_o some. subst (λ k. 0 < k) (sym len) some;
       settled = λ no_open. absurd (no_open refl);
     })
+
+takes_broken : (old new : HeldEntry) (piece held : List ℕ) (n : ℕ) (fault : Fault) (taken : Taken) → IsOpen held → old ≡ record { octets = held; state = states.Open } → IsBrokenOff (take n (held ++ piece)) fault → n ≤ length (held ++ piece) → taken.len ≡ n - length held → taken.state ≡ states.Broken fault → new ≡ record { octets = take n (held ++ piece); state = states.Broken fault } → TakesFrom old piece taken new
+takes_broken old new piece held n fault taken is_open old_is off within len state new_is =
+    let more = breaks_after held piece n fault is_open off in
+    rw (old_is, new_is) (record {
+      within = omega (arith, len, within, length-append held piece);
+      octets = take_past held piece n (omega (arith, more)) ∙ ap (λ k. held ++ take k piece) (sym len);
+      state = sym state;
+      is = off;
+      all = λ is_o. absurd (let e : states.Broken fault ≡ states.Open = sym state ∙ is_o in let t : ⊥ = cc in t);
+      some = λ is_o some. omega (arith, len, more);
+      settled = λ no_open. absurd (no_open refl);
+    })
+
+-- an entry that was open takes what a walk over its octets and others came to
+pub takes_by : (old new : HeldEntry) (piece held : List ℕ) (found : Reached) (n : ℕ) (taken : Taken) → IsOpen held → old ≡ record { octets = held; state = states.Open } → IsWalked (held ++ piece) false [] found → n ≡ len_of found (length (held ++ piece)) → taken.len ≡ n - length held → taken.state ≡ state_of found → new ≡ record { octets = take n (held ++ piece); state = state_of found } → TakesFrom old piece taken new
+takes_by old new piece held (reached.Open at) n taken is_open old_is is count len state new_is =
+    takes_all old new piece held states.Open taken old_is (walk_open (held ++ piece) at false [] is) (omega (arith, len, count, length-append held piece)) state
+    (new_is ∙ ap (λ t. record { octets = t; state = states.Open }) (ap (λ k. take k (held ++ piece)) count ∙ take-length (held ++ piece)))
+takes_by old new piece held (reached.Ends k feeds) n taken is_open old_is is count len state new_is =
+    takes_ended old new piece held k feeds taken is_open old_is is (omega (arith, len, count)) state (new_is ∙ ap (λ j. record { octets = take j (held ++ piece); state = states.Ended }) count)
+takes_by old new piece held (reached.LostEscape k) n taken is_open old_is is count len state new_is =
+    takes_broken old new piece held k BadEscape taken is_open old_is is.0 is.1 (omega (arith, len, count)) state (new_is ∙ ap (λ j. record { octets = take j (held ++ piece); state = states.Broken BadEscape }) count)
+takes_by old new piece held (reached.ClosesNothing k) n taken is_open old_is is count len state new_is =
+    takes_broken old new piece held k UnbalancedParenthesis taken is_open old_is is.0 is.1 (omega (arith, len, count)) state (new_is ∙ ap (λ j. record { octets = take j (held ++ piece); state = states.Broken UnbalancedParenthesis }) count)
+
+-- and keeps its octets
+pub held_by : (held piece : List ℕ) (found : Reached) (n : ℕ) → IsOpen held → IsWalked (held ++ piece) false [] found → n ≡ len_of found (length (held ++ piece)) → (length held ≤ n) × IsHeld (take n (held ++ piece)) found
+held_by held piece (reached.Open at) n is_open is count =
+    (omega (arith, count, length-append held piece), subst (λ t. StandsOpen t at false []) (sym (ap (λ k. take k (held ++ piece)) count ∙ take-length (held ++ piece))) is)
+held_by held piece (reached.Ends k feeds) n is_open is count =
+    let more = ends_after held piece k feeds is_open is in
+    let all : List ℕ = take k (held ++ piece) in
+    let size : k ≡ length all = omega (arith, length-take k (held ++ piece), is.within) in
+    let again : take k all ≡ all = ap (λ j. take j all) size ∙ take-length all in
+    let ends : EndsEntry all k feeds false [] = record {
+      tokens = is.tokens;
+      one = subst (λ t. IsOneEntry t is.tokens) (sym again) is.one;
+      stated = λ e. no_kept e;
+      some = is.some;
+      within = omega (arith, size);
+      feeds_are = ap (count_by (λ c. c == 10)) again ∙ is.feeds_are;
+    } in
+    (omega (arith, count, more), subst (λ j. IsHeld (take j (held ++ piece)) (reached.Ends k feeds)) (sym count) (ends, size))
+held_by held piece (reached.LostEscape k) n is_open is count =
+    let more = breaks_after held piece k BadEscape is_open is.0 in
+    (omega (arith, count, more), subst (λ j. IsBrokenOff (take j (held ++ piece)) BadEscape) (sym count) is.0)
+held_by held piece (reached.ClosesNothing k) n is_open is count =
+    let more = breaks_after held piece k UnbalancedParenthesis is_open is.0 in
+    (omega (arith, count, more), subst (λ j. IsBrokenOff (take j (held ++ piece)) UnbalancedParenthesis) (sym count) is.0)
 
 pub takes_none : (old new : HeldEntry) (piece held : List ℕ) (found : Reached) (taken : Taken) → IsHeld held found → ((at : At) → found ≡ reached.Open at → ⊥) → old ≡ record { octets = held; state = state_of found } → new ≡ old → taken.len ≡ 0 → taken.state ≡ state_of found → TakesFrom old piece taken new
 takes_none old new piece held found taken is settled old_is new_is len state =
@@ -180,8 +247,8 @@ takes_none old new piece held found taken is settled old_is new_is len state =
     not_open : (found : Reached) → ((at : At) → found ≡ reached.Open at → ⊥) → state_of found ≡ states.Open → ⊥
     not_open (reached.Open at) settled e = settled at refl
     not_open (reached.Ends n feeds) settled e = let t : ⊥ = cc in t
-    not_open reached.LostEscape settled e = let t : ⊥ = cc in t
-    not_open reached.ClosesNothing settled e = let t : ⊥ = cc in t
+    not_open (reached.LostEscape n) settled e = let t : ⊥ = cc in t
+    not_open (reached.ClosesNothing n) settled e = let t : ⊥ = cc in t
 
 -- ---- the end of the input
 
@@ -201,7 +268,7 @@ escape_left octets rest depth feeds n so_far (in_bare are (inr cut) some) less =
   where
     by : (units : List Written) (after : List ℕ) → AllByRecursion (IsUnit ends_item) units → rest ≡ written_text units ++ after → IsCutOff after → EndIs octets (Some BadEscape)
     by [] after each whole cut = end_of octets rest depth feeds so_far [] (Some BadEscape) (breaks_there depth rest BadEscape (no_escape (malformed_is_bad rest (inr (subst IsCutOff (sym whole) cut))))) refl
-    by (w ∷ units) after each whole cut = end_of octets rest depth feeds so_far (bare (w ∷ units) ∷ []) (Some BadEscape) (breaks_after depth rest after w units each whole (malformed_is_bad after (inr cut))) (one_by depth (bare (w ∷ units)) tt)
+    by (w ∷ units) after each whole cut = end_of octets rest depth feeds so_far (bare (w ∷ units) ∷ []) (Some BadEscape) (bare_breaks depth rest after w units each whole (malformed_is_bad after (inr cut))) (one_by depth (bare (w ∷ units)) tt)
 
 -- they end within quotes
 quote_left : (octets rest after : List ℕ) (c depth feeds n : ℕ) → Walked octets rest depth feeds false [] → IsOpenToken rest n → (n < length rest → ⊥) → rest ≡ c ∷ after → c ≡ 34 → EndIs octets (Some UnclosedQuote)

@@ -92,8 +92,10 @@ pub record EndsEntry (octets : List ℕ) (n feeds : ℕ) (keeps : Bool)
 abbrev pub IsWalked : List ℕ → Bool → List RawItem → Reached → Type 0
 IsWalked octets keeps kept (reached.Ends n feeds) = EndsEntry octets n feeds keeps kept
 IsWalked octets keeps kept (reached.Open at) = StandsOpen octets at keeps kept
-IsWalked octets keeps kept reached.LostEscape = IsBrokenOff octets BadEscape
-IsWalked octets keeps kept reached.ClosesNothing = IsBrokenOff octets UnbalancedParenthesis
+IsWalked octets keeps kept (reached.LostEscape n) =
+    IsBrokenOff (take n octets) BadEscape × (n ≤ length octets)
+IsWalked octets keeps kept (reached.ClosesNothing n) =
+    IsBrokenOff (take n octets) UnbalancedParenthesis × (n ≤ length octets)
 
 -- ---- a token more
 

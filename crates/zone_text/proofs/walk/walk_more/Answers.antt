@@ -1,4 +1,4 @@
-use Rattle.zone_text.proofs.Common.{[], ap, arith, drop, false, map, raw, refl, subst, sym, ◌+◌, ◌-◌, ◌≡◌}
+use Rattle.zone_text.proofs.Common.{[], ap, arith, drop, false, length, length-drop, map, raw, refl, subst, sym, take, ◌+◌, ◌-◌, ◌≡◌, ◌≤◌}
 use Rattle.zone_text.proofs.Scanning.Unfinished.{without_items}
 use Rattle.zone_text.proofs.Scanning.Walking.{IsLostToken, IsOpenToken, IsSeen, walked_lost}
 use Rattle.zone_text.proofs.walk.walk_more.Goals as goal
@@ -18,7 +18,10 @@ returns-in-Open c =
     }
 
 pub returns-in-Lost : goal.returns-in-Lost
-returns-in-Lost c = walked_lost c.args.octets.now (drop c.args.at.start c.args.octets.now) c.args.at.depth c.args.at.feeds false [] c.requires.walked (subst IsLostToken c.split_at.ensures.back (rw c.in-Lost.is at c.token_span.ensures))
+returns-in-Lost c =
+    let rest = drop c.args.at.start c.args.octets.now in
+    let lost = subst (λ t. IsLostToken (take c.in-Lost.len t) × (c.in-Lost.len ≤ length t)) c.split_at.ensures.back (rw c.in-Lost.is at c.token_span.ensures) in
+    walked_lost c.args.octets.now rest c.args.at.depth c.args.at.feeds c.in-Lost.len _ false [] c.requires.walked lost (omega (arith, c.requires.within, length-drop c.args.at.start c.args.octets.now))
 
 pub returns-in-Whole : goal.returns-in-Whole
 returns-in-Whole c = without_items c.args.octets.now _ c.walk_on.result c.walk_on.ensures

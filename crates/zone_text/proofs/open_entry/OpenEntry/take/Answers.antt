@@ -1,8 +1,8 @@
 use Rattle.zone_text.proofs.Common.{IsOpen, [], ap, arith, false, length, refl, subst, sym, take, ◌++◌, ◌<◌, ◌∙◌, ◌≡◌}
-use Rattle.zone_text.proofs.Scanning.Unfinished.{ends_after, stands_on, takes_all, takes_ended}
-use Rattle.zone_text.proofs.Scanning.Walking.{EndsEntry, StandsAt, StandsOpen, walk_open}
-use Rattle.zone_text.specs.Machine.OpenEntry.{state_of}
-use Rattle.zone_text.specs.declared.open_entry.EntryState.TheVariants as states
+use Rattle.zone_text.proofs.Scanning.Unfinished.{held_by, stands_on, takes_by}
+use Rattle.zone_text.proofs.Scanning.Walking.{StandsAt, walk_open}
+use Rattle.zone_text.specs.Machine.OpenEntry.{IsHeld, len_of, state_of}
+use Rattle.zone_text.specs.Machine.Walk.{IsWalked}
 use Rattle.zone_text.proofs.open_entry.OpenEntry.take.Goals as goal
 
 pub walk_more-requires : goal.walk_more-requires
@@ -13,24 +13,25 @@ overflow_sub-result c =
     let held = c.self.inside.octets.items in
     let piece = c.args.piece.now in
     let is_open : IsOpen held = walk_open held c.in-Open.at false [] (rw c.in-Open.is at c.self.invariant) in
-    let ends : EndsEntry (held ++ piece) c.in-Ends.len c.in-Ends._feeds false [] = subst (λ t. EndsEntry t c.in-Ends.len c.in-Ends._feeds false []) (c.as_slice.ensures.value ∙ c.in_ok-extend_from_slice.ensures.items) (rw c.in-Ends.is at c.in-Ok.ensures) in
-    let more : length held < c.in-Ends.len = ends_after held piece c.in-Ends.len c.in-Ends._feeds is_open ends in
-    omega (arith, more, c.len-held.ensures, c.self.inside.octets.ok.0)
+    let is : IsWalked (held ++ piece) false [] c.in-Ok.reached = subst (λ t. IsWalked t false [] c.in-Ok.reached) (c.as_slice.ensures.value ∙ c.in_ok-extend_from_slice.ensures.items) c.in-Ok.ensures in
+    let count : c.len_of-len.result ≡ len_of c.in-Ok.reached (length (held ++ piece)) = c.len_of-len.ensures ∙ ap (len_of c.in-Ok.reached) (let e : c.len.result ≡ length (held ++ piece) = omega (arith, c.len.ensures, c.extend_from_slice.new.self.ok.0, ap length c.in_ok-extend_from_slice.ensures.items) in e) in
+    omega (arith, (held_by held piece c.in-Ok.reached c.len_of-len.result is_open is count).0, c.len-held.ensures, c.self.inside.octets.ok.0)
 
-pub returns-in-Ends-clause-taken : goal.returns-in-Ends-clause-taken
-returns-in-Ends-clause-taken c =
+pub invariant_of-self-2 : goal.invariant_of-self-2
+invariant_of-self-2 c =
     let held = c.self.inside.octets.items in
     let piece = c.args.piece.now in
     let is_open : IsOpen held = walk_open held c.in-Open.at false [] (rw c.in-Open.is at c.self.invariant) in
-    let ends : EndsEntry (held ++ piece) c.in-Ends.len c.in-Ends._feeds false [] = subst (λ t. EndsEntry t c.in-Ends.len c.in-Ends._feeds false []) (c.as_slice.ensures.value ∙ c.in_ok-extend_from_slice.ensures.items) (rw c.in-Ends.is at c.in-Ok.ensures) in
-    let more : length held < c.in-Ends.len = ends_after held piece c.in-Ends.len c.in-Ends._feeds is_open ends in
-    takes_ended c.args.self.now _ piece held c.in-Ends.len c.in-Ends._feeds _ is_open (sym c.self.view_is ∙ ap (λ r. record { octets = held; state = state_of r }) c.in-Open.is) ends (omega (arith, c.len-held.ensures, c.self.inside.octets.ok.0)) refl
-    (ap (λ t. record { octets = t; state = state_of c.in-Ok.reached }) (c.truncate-in-Ends.ensures.items ∙ ap (take c.in-Ends.len) c.in_ok-extend_from_slice.ensures.items) ∙ ap (λ r. record { octets = take c.in-Ends.len (held ++ piece); state = state_of r }) c.in-Ends.is)
+    let is : IsWalked (held ++ piece) false [] c.in-Ok.reached = subst (λ t. IsWalked t false [] c.in-Ok.reached) (c.as_slice.ensures.value ∙ c.in_ok-extend_from_slice.ensures.items) c.in-Ok.ensures in
+    let count : c.len_of-len.result ≡ len_of c.in-Ok.reached (length (held ++ piece)) = c.len_of-len.ensures ∙ ap (len_of c.in-Ok.reached) (let e : c.len.result ≡ length (held ++ piece) = omega (arith, c.len.ensures, c.extend_from_slice.new.self.ok.0, ap length c.in_ok-extend_from_slice.ensures.items) in e) in
+    subst (λ t. IsHeld t c.in-Ok.reached) (sym (c.truncate-2.ensures.items ∙ ap (take c.len_of-len.result) c.in_ok-extend_from_slice.ensures.items)) (held_by held piece c.in-Ok.reached c.len_of-len.result is_open is count).1
 
-pub returns-in-Open-reached-clause-taken : goal.returns-in-Open-reached-clause-taken
-returns-in-Open-reached-clause-taken c =
+pub returns-clause-taken : goal.returns-clause-taken
+returns-clause-taken c =
     let held = c.self.inside.octets.items in
     let piece = c.args.piece.now in
-    let stands : StandsOpen (held ++ piece) c.in-Open-reached._at false [] = subst (λ t. StandsOpen t c.in-Open-reached._at false []) (c.as_slice.ensures.value ∙ c.in_ok-extend_from_slice.ensures.items) (rw c.in-Open-reached.is at c.in-Ok.ensures) in
-    takes_all c.args.self.now _ piece held states.Open _ (sym c.self.view_is ∙ ap (λ r. record { octets = held; state = state_of r }) c.in-Open.is) (walk_open (held ++ piece) c.in-Open-reached._at false [] stands) refl refl
-    (ap (λ t. record { octets = t; state = state_of c.in-Ok.reached }) c.in_ok-extend_from_slice.ensures.items ∙ ap (λ r. record { octets = held ++ piece; state = state_of r }) c.in-Open-reached.is)
+    let is_open : IsOpen held = walk_open held c.in-Open.at false [] (rw c.in-Open.is at c.self.invariant) in
+    let is : IsWalked (held ++ piece) false [] c.in-Ok.reached = subst (λ t. IsWalked t false [] c.in-Ok.reached) (c.as_slice.ensures.value ∙ c.in_ok-extend_from_slice.ensures.items) c.in-Ok.ensures in
+    let count : c.len_of-len.result ≡ len_of c.in-Ok.reached (length (held ++ piece)) = c.len_of-len.ensures ∙ ap (len_of c.in-Ok.reached) (let e : c.len.result ≡ length (held ++ piece) = omega (arith, c.len.ensures, c.extend_from_slice.new.self.ok.0, ap length c.in_ok-extend_from_slice.ensures.items) in e) in
+    takes_by c.args.self.now _ piece held c.in-Ok.reached c.len_of-len.result _ is_open (sym c.self.view_is ∙ ap (λ r. record { octets = held; state = state_of r }) c.in-Open.is) is count (omega (arith, c.len-held.ensures, c.self.inside.octets.ok.0)) c.state_of-2.ensures
+    (ap (λ t. record { octets = t; state = state_of c.in-Ok.reached }) (c.truncate-2.ensures.items ∙ ap (take c.len_of-len.result) c.in_ok-extend_from_slice.ensures.items))
