@@ -1,6 +1,6 @@
 -- What is decided of octets by what those before them left, and what follows from octets fed and
 -- records given, part by part.
-use Rattle.zone_text.proofs.Common.{AreTokens, Breaks, Cuts, EndedEntries, Ending, Entry, Fault, FileDecides, FileLeaves, FileReads, Follow, IsBrokenOff, IsOneEntry, IsOpen, IsStateAfter, Labels, Line, List, None, Place, Placed, ReadEach, ReadsEntry, ReadsOctets, Some, Token, [], and_last, ap, append-nil, append_assoc, arith, broken, common_steps, cut_from, decided, ended_entries, entries_of, entry_of, flat_map, flat_map_more, inl, inr, length-append, numbered, open_line, refl, reverse, reverse-append, subst, sym, text, undecided, whole, zero, ℕ, ◌++◌, ◌+◌, ◌∙◌, ◌∷◌, ◌≡◌}
+use Rattle.zone_text.proofs.Common.{AreTokens, Breaks, Cuts, EndedEntries, Ending, Entry, Fault, FileDecides, FileLeaves, FileReads, Follow, IsBrokenOff, IsOneEntry, IsOpen, IsStateAfter, Labels, Line, List, None, Place, Placed, ReadEach, ReadsEntry, ReadsOctets, Some, Token, [], and_last, ap, append-nil, append_assoc, arith, broken, common_steps, cut_from, decided, ended_entries, entries_of, entry_of, flat_map, flat_map_more, inl, inr, numbered, open_line, refl, reverse, reverse-append, subst, sym, text, undecided, whole, zero, ℕ, ◌++◌, ◌+◌, ◌∙◌, ◌∷◌, ◌≡◌}
 use Rattle.zone_text.proofs.Tokens.CutAgain.{joined, AreEnded, again_zero, cut_whole}
 use Rattle.zone_text.proofs.Files.Left.{line_feeds, numbered_then, IsSplit, split, whole_after, cut_more, tokens_more, ended_as_before, one_ended, reads_then, refused_before, reads_after, break_more, for_good_more, none_cut, none_more, ended_entries_first}
 use Rattle.zone_text.specs.OpenEntry.{EndIs}

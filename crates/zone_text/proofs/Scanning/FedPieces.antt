@@ -1,5 +1,5 @@
 -- A piece fed part by part.
-use Rattle.zone_text.proofs.Common.{EndedEntries, EntrySplitter, Fault, Follow, IsBrokenOff, IsOneEntry, IsOpen, IsSplitter, Labels, Line, List, None, Place, Placed, ReadsOctets, Some, Token, [], ap, append-nil, append_assoc, arith, drop, length, length-append, length-take, rules, subst, sym, take, take-append-drop, ℕ, ◌++◌, ◌+◌, ◌<◌, ◌∙◌, ◌≡◌, ◌≤◌}
+use Rattle.zone_text.proofs.Common.{EndedEntries, EntrySplitter, Fault, Follow, IsBrokenOff, IsOneEntry, IsOpen, IsSplitter, Labels, Line, List, None, Place, Placed, ReadsOctets, Some, [], ap, append-nil, append_assoc, arith, drop, length, length-append, length-take, subst, sym, take, take-append-drop, ℕ, ◌++◌, ◌+◌, ◌<◌, ◌∙◌, ◌≡◌, ◌≤◌}
 use Rattle.zone_text.proofs.Entries.Begun.{nothing_taken}
 use Rattle.zone_text.proofs.Files.Followed.{follow_break, follow_fault, follow_on, follow_one}
 use Rattle.zone_text.specs.Machine.Feeding.{TakesPart}

@@ -1,15 +1,8 @@
 -- The entry at the front of a piece, and line feeds.
-use Rattle.zone_text.proofs.Common.{AreKept, EntrySplitter, IsFirstEntry, IsInFront, IsOneEntry, IsSplitter, Keeps, KeepsBare, KeepsItems, List, None, RawItem, ReadsOctets, Token, [], ap, append-nil, append_assoc, arith, at_backslash, at_end, at_octet, bare, blank, closing, comment, drop, ends_item, false, flat_map, get_or, inl, is_blank, item_of, length, length-append, length-take, line_feed, opening, refl, rules, subst, suc, sym, take, take-append-drop, take-append_seam, text_of, token_text, true, zero, ℕ, ⊤, ◌++◌, ◌+◌, ◌-◌, ◌<◌, ◌∙◌, ◌∷◌, ◌≡◌, ◌≢◌, common_steps, AllByRecursion, Bool, IsToken, IsUnit, Written, cond, decimal, eqb-true, escaped, list_any, nat_eq, ne_eqb, plain, sum_by-append, sum_by-cons, written_text, zero-add, ◌==◌, quoted}
-use Rattle.zone_rdata.specs.Item as raw
+use Rattle.zone_text.proofs.Common.{EntrySplitter, IsFirstEntry, IsOneEntry, IsSplitter, KeepsItems, List, None, RawItem, ReadsOctets, Token, [], ap, arith, drop, false, length, length-append, refl, rules, take, take-append-drop, ℕ, ◌++◌, ◌+◌, ◌∙◌, ◌∷◌, ◌≡◌, common_steps, AllByRecursion, Bool, cond, eqb-true, list_any, nat_eq, sum_by-append, sum_by-cons, zero-add, ◌==◌}
 use Rattle.zone_text.proofs.Scanning.FedPieces.{FollowsOn, HasFed, fed_more}
-use Rattle.zone_text.proofs.Tokens.Cuttings.{cuts, is_cut, one_cut, one_token_more, Stops, Takes, begins}
+use Rattle.zone_text.proofs.Tokens.Cuttings.{one_cut}
 use Rattle.zone_text.proofs.Files.Followed.{follow_one}
-use Rattle.zone_text.proofs.Tokens.ItemsLeft.{ended, plain_so_far, bare_front, in_front_takes, in_front_shorter}
-use Rattle.zone_text.proofs.Scanning.StopMarks.{first_at, goes_on, prefix_stops}
-use Rattle.zone_text.specs.declared.items.Extent.TheVariants.{Bare}
-use Rattle.zone_text.proofs.Entries.Kept.{keeps_more}
-use Rattle.std.proofs.lemmas.List.Sums.{prefix_len-le-length}
-use Rattle.std.specs.List.{prefix_len}
 use Rattle.zone_text.proofs.Files.Left.{line_feeds}
 use Rattle.zone_text.specs.OpenEntry.{HeldEntry}
 

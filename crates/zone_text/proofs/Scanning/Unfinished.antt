@@ -1,11 +1,11 @@
 -- Octets that leave an entry open: more of them, and the end of the input after them.
 use Rattle.std.proofs.Math.Logic.{⊎_elim}
 use Rattle.std.specs.Prelude.{IfOk}
-use Rattle.zone_text.proofs.Common.{AllByRecursion, AreTokens, BadEscape, Bool, BreaksForGood, Cut, Fault, IsBadEscape, IsBroken, IsBrokenOff, IsCutOff, IsOneEntry, IsOpen, IsToken, IsUnit, List, MayEndBefore, None, Ok, Err, Option, RawItem, Result, Some, Token, UnbalancedParenthesis, UnclosedQuote, Written, [], after_backslash, after_digit, after_two_digits, ap, append-nil, append_assoc, arith, at_end, bare, both_ways, cases_lt, comment, count_by, cut_from, depth_after, depth_past, drop, ends_item, entry_of, false, inl, inr, is_quote, length, length-append, length-take, no_escape, no_quote, no_quoted_escape, not_closed, refl, subst, suc, sym, take, take-append-drop, take-append_seam, take-length, text, token_text, true, written_text, zero, ℕ, ◌++◌, ◌+◌, ◌-◌, ◌<◌, ◌==◌, ◌∙◌, ◌∷◌, ◌≡◌, ◌≢◌, ◌≤◌, ◌⊎◌, ended_entries, Entry, numbered}
+use Rattle.zone_text.proofs.Common.{AllByRecursion, AreTokens, BadEscape, Bool, BreaksForGood, Cut, Fault, IsBrokenOff, IsCutOff, IsOneEntry, IsOpen, IsToken, IsUnit, List, None, Ok, Err, Option, RawItem, Result, Some, Token, UnbalancedParenthesis, UnclosedQuote, Written, [], after_backslash, after_digit, after_two_digits, ap, append-nil, append_assoc, arith, at_end, bare, both_ways, cases_lt, comment, count_by, cut_from, depth_past, drop, ends_item, entry_of, false, inl, inr, is_quote, length, length-append, length-take, no_escape, no_quote, no_quoted_escape, not_closed, refl, subst, suc, sym, take, take-append-drop, take-append_seam, take-length, token_text, true, written_text, zero, ℕ, ◌++◌, ◌+◌, ◌-◌, ◌<◌, ◌==◌, ◌∙◌, ◌∷◌, ◌≡◌, ◌≢◌, ◌≤◌, ended_entries, numbered}
 use Rattle.zone_text.proofs.Files.Left.{ended_entries_stay}
-use Rattle.zone_text.proofs.Scanning.Walking.{AreUnits, EndsEntry, IsCut, IsOpenToken, IsSeen, RunsOut, StandsAt, StandsOpen, Walked, all_of, between, breaks_there, in_bare, in_comment, in_quotes, none_ended, none_seen, one_by, one_open, rest_at, stands_begun, walk_open, walked_none, walked_on}
+use Rattle.zone_text.proofs.Scanning.Walking.{AreUnits, EndsEntry, IsCut, IsOpenToken, IsSeen, RunsOut, StandsAt, StandsOpen, Walked, all_of, between, breaks_there, in_bare, in_comment, in_quotes, none_ended, none_seen, one_by, one_open, rest_at, walk_open, walked_none, walked_on}
 use Rattle.zone_text.proofs.Scanning.Walking.{breaks_after as bare_breaks}
-use Rattle.zone_text.proofs.Tokens.Cuttings.{cut_not_broken, one_break, HasRoom, Stops, begins, breaks, cuts, depth_on, no_token, one_token_more}
+use Rattle.zone_text.proofs.Tokens.Cuttings.{cut_not_broken, one_break, HasRoom, Stops, begins, breaks, cuts, one_token_more}
 use Rattle.zone_text.proofs.Tokens.ForGood.{malformed_is_bad}
 use Rattle.zone_text.proofs.Tokens.Lasting.{breaks_for_good}
 use Rattle.zone_text.proofs.Tokens.Spans.{take_past}

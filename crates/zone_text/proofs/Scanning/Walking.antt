@@ -1,11 +1,11 @@
 -- A walk over an entry, token by token, which may stop where octets end.
-use Rattle.zone_text.proofs.Common.{All, AllByRecursion, AreKept, BadEscape, Bool, BreaksAtEnd, Cut, Cuts, EndsAt, Fault, IsBadEscape, IsBroken, IsBrokenOff, IsCutOff, IsFirstEntry, IsLostEscape, IsOneEntry, IsOpen, IsToken, IsUnit, Keeps, KeepsBare, List, MayEndBefore, None, NoUnit, Option, RawItem, Some, StaysBroken, Token, UnbalancedParenthesis, UnclosedQuote, Written, [], ap, append-nil, append_assoc, arith, at_end, at_line_end, at_octet, bare, blank, both_ways, closes_nothing, closing, closing_stays, comment, common_steps, cut_from, depth_after, depth_past, drop, drop-append_seam, drop-drop, ends_item, eqb-true, escape_open, escape_stays, false, flat_map, flat_map-append, in_front_of, inl, inr, is_blank, is_quote, item_of, length, length-append, length-drop, length-map, length-take, line_feed, map, ne_eqb, no_escape, no_quote, no_quoted_escape, not_closed, nothing_left, one_digit, opening, or_parts, plain, quote_open, quoted, quoted_escape_open, quoted_escape_stays, recursion_from_All, refl, rules, stops_bare, subst, suc, sum_by-cons, sym, take, take-append-drop, take-append_seam, text, text_of, token_text, too_great, true, two_digits, written_text, zero, ℕ, ⊤, ◌++◌, ◌+◌, ◌-◌, ◌<◌, ◌==◌, ◌∙◌, ◌∷◌, ◌≡◌, ◌≢◌, ◌≤◌, ◌⊎◌}
+use Rattle.zone_text.proofs.Common.{All, AllByRecursion, AreKept, BadEscape, Bool, BreaksAtEnd, Cut, Cuts, EndsAt, Fault, IsBadEscape, IsBroken, IsBrokenOff, IsCutOff, IsFirstEntry, IsLostEscape, IsOpen, IsToken, IsUnit, Keeps, KeepsBare, List, MayEndBefore, None, Option, RawItem, Some, StaysBroken, Token, UnbalancedParenthesis, UnclosedQuote, Written, [], ap, append-nil, append_assoc, arith, at_end, at_line_end, at_octet, bare, blank, both_ways, closes_nothing, closing, closing_stays, comment, common_steps, cut_from, depth_after, depth_past, drop, drop-append_seam, drop-drop, ends_item, escape_open, escape_stays, false, flat_map, flat_map-append, in_front_of, inl, inr, is_blank, is_quote, item_of, length, length-append, length-drop, length-map, length-take, line_feed, map, ne_eqb, no_escape, no_quote, no_quoted_escape, not_closed, nothing_left, one_digit, opening, or_parts, plain, quote_open, quoted, quoted_escape_open, quoted_escape_stays, recursion_from_All, refl, stops_bare, subst, suc, sum_by-cons, sym, take, take-append-drop, take-append_seam, text, token_text, too_great, true, two_digits, written_text, zero, ℕ, ⊤, ◌++◌, ◌+◌, ◌-◌, ◌<◌, ◌==◌, ◌∙◌, ◌∷◌, ◌≡◌, ◌≢◌, ◌≤◌}
 use Rattle.std.specs.List.{prefix_len}
 use Rattle.zone_rdata.specs.Item as raw
 use Rattle.zone_text.proofs.Entries.Kept.{keeps_more}
 use Rattle.zone_text.proofs.Files.Left.{line_feeds}
 use Rattle.zone_text.proofs.Scanning.StopMarks.{goes_on, prefix_stops}
-use Rattle.zone_text.proofs.Tokens.Cuttings.{Begins, HasRoom, Stops, Takes, begins, breaks, cuts, depth_on, no_token, one_token_more, some_octet}
+use Rattle.zone_text.proofs.Tokens.Cuttings.{HasRoom, Stops, Takes, begins, breaks, cuts, depth_on, no_token, one_token_more, some_octet}
 use Rattle.zone_text.proofs.Tokens.ForGood.{ends_not_for_good, malformed_is_bad, stays_for_good}
 use Rattle.zone_text.proofs.Tokens.ItemsLeft.{each_plain, ends_but_mark, plain_text}
 use Rattle.zone_text.proofs.Scanning.FirstEntries.{feeds_of_both, none_first, none_in, other_than_ten}
@@ -15,7 +15,6 @@ pub use Rattle.zone_text.specs.Machine.Walk.{BeginAs, EndsEntry, IsCut, IsMark, 
 use Rattle.zone_text.specs.Machine.Walk.{begins as mark_begins, closes_nothing as mark_closes, ends as mark_last}
 use Rattle.zone_text.specs.declared.stops.Stops.{Stops as StopBits}
 use Rattle.zone_text.specs.declared.walk.At.{At}
-use Rattle.zone_text.specs.declared.walk.Mark.{Mark}
 use Rattle.zone_text.specs.declared.walk.Mark.TheVariants as marks
 
 -- ---- what follows a token

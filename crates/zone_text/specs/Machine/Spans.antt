@@ -6,7 +6,7 @@ use Rattle.zone_rdata.specs.Spelling.{RawItem}
 use Rattle.zone_rdata.specs.Strings.{is_quote}
 use Rattle.zone_text.specs.Entries.{item_of}
 use Rattle.zone_text.specs.Lasting.{IsCutOff, IsLostEscape}
-use Rattle.zone_text.specs.Tokens.{Token, blank, opening, closing, line_feed, bare, comment, quoted, ends_item, token_text, IsToken}
+use Rattle.zone_text.specs.Tokens.{Token, bare, comment, quoted, ends_item, token_text, IsToken}
 use Rattle.zone_text.specs.declared.token.Span.{Span}
 use Rattle.zone_text.specs.declared.token.Span.TheVariants.{Whole, Open, Lost}
 

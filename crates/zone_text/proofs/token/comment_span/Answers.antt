@@ -1,4 +1,4 @@
-use Rattle.zone_text.proofs.Common.{ap, arith, refl, subst, sym}
+use Rattle.zone_text.proofs.Common.{arith, refl, subst, sym}
 use Rattle.zone_text.proofs.Tokens.Spans.{comment_is_open, comment_is_whole}
 use Rattle.zone_text.specs.Machine.Spans.{IsSeenComment}
 use Rattle.zone_text.proofs.token.comment_span.Goals as goal

@@ -1,4 +1,4 @@
-use Rattle.zone_text.proofs.Common.{ap, length, refl, sym, take, ◌-◌, ◌∙◌}
+use Rattle.zone_text.proofs.Common.{ap, take, ◌∙◌}
 use Rattle.zone_text.proofs.Tokens.Spans.{comment_item, quoted_item}
 use Rattle.zone_text.proofs.token.item_of.Goals as goal
 

@@ -1,4 +1,4 @@
-use Rattle.zone_text.proofs.Common.{[], ap, arith, drop, false, length, length-drop, map, raw, refl, subst, sym, take, ◌+◌, ◌-◌, ◌≡◌, ◌≤◌}
+use Rattle.zone_text.proofs.Common.{[], arith, drop, false, length, length-drop, subst, sym, take, ◌+◌, ◌-◌, ◌≡◌, ◌≤◌}
 use Rattle.zone_text.proofs.Scanning.Unfinished.{without_items}
 use Rattle.zone_text.proofs.Scanning.Walking.{IsLostToken, IsOpenToken, IsSeen, walked_lost}
 use Rattle.zone_text.proofs.walk.walk_more.Goals as goal

@@ -1,4 +1,4 @@
-use Rattle.zone_text.proofs.Common.{IsOpen, [], ap, arith, false, length, refl, subst, sym, take, ◌++◌, ◌<◌, ◌∙◌, ◌≡◌}
+use Rattle.zone_text.proofs.Common.{IsOpen, [], ap, arith, false, length, subst, sym, take, ◌++◌, ◌∙◌, ◌≡◌}
 use Rattle.zone_text.proofs.Scanning.Unfinished.{held_by, stands_on, takes_by}
 use Rattle.zone_text.proofs.Scanning.Walking.{StandsAt, walk_open}
 use Rattle.zone_text.specs.Machine.OpenEntry.{IsHeld, len_of, state_of}
