@@ -60,12 +60,10 @@ pub use Rattle.zone_text.specs.Machine.Cutting.{Cutting, Front, IsInFront, IsNoT
 unfoldable pub use Rattle.zone_text.specs.Machine.Cutting.{before_line_feed, cut_by, cutting, from_line_feed, front_of}
 pub use Rattle.zone_text.proofs.Entries.Heads.{HasHeadOf, Head}
 pub use Rattle.zone_text.specs.Machine.EntryReading.{DecidesEntry, HasOwnerOrNone, IsRecordEntry, SetsOrigin, SetsTtl, decides_fault, decides_none, decides_one, one_bare, with_owner}
-pub use Rattle.zone_text.specs.Machine.Feeding.{Follow, IsSplitter, ReadsEntry, ReadsOctets, ScansTo, state_of}
+pub use Rattle.zone_text.specs.Machine.Feeding.{Follow, IsSplitter, ReadsEntry, ReadsOctets, state_of}
 pub use Rattle.zone_text.specs.Machine.ItemLengths.{EndsAt, ends_within, item_len, stops_bare, stops_within}
 pub use Rattle.zone_text.specs.Machine.Kept.{IsShort, Keeps, KeepsBare}
 pub use Rattle.zone_text.specs.Machine.Lower.{Choices, Lower, Once}
-pub use Rattle.zone_text.specs.Machine.Scan.{AreQuiet, beginning, closed, comment_step, end_fault_of, ends_number, escape_step, fed_line, further, moves, on, open_at, open_step, quoted_step, scan_on, step_in, step_of, unclosed}
-unfoldable pub use Rattle.zone_text.specs.Machine.Scan.{scan_of}
 pub use Rattle.zone_text.specs.Machine.WordTexts.{HaveTexts}
 pub use Rattle.zone_text.specs.Machine.WordValues.{AreWordsOf, HaveValues}
 pub use Rattle.zone_text.specs.Outcome.{AllState, AreOctetItems}
@@ -76,12 +74,6 @@ pub use Rattle.zone_text.specs.TextSource.{AreUnfinished, FileKept, FileLeaves, 
 pub use Rattle.zone_text.specs.Tokens.{AllFollow, AreTokensOf, Cuts, IsToken, MayFollow, Token, bare, blank, closing, comment, depth_after, ends_item, is_blank, line_feed, opening, quoted, text, token_text}
 pub use Rattle.zone_text.specs.declared.ended.EndedEntries.{EndedEntries}
 pub use Rattle.zone_text.specs.declared.parser_state.ParserState.{ParserState}
-pub use Rattle.zone_text.specs.declared.scan.Mode.{Mode}
-pub use Rattle.zone_text.specs.declared.scan.Mode.TheVariants.{Comment, Escaped, Open, Quoted, QuotedEscaped}
-pub use Rattle.zone_text.specs.declared.scan.ScanState.{ScanState}
-pub use Rattle.zone_text.specs.declared.scan.Scanned.{Scanned}
-pub use Rattle.zone_text.specs.declared.scan.Step.{Step}
-pub use Rattle.zone_text.specs.declared.scan.Step.TheVariants.{ClosesNothing, Ends, LostEscape, On}
 pub use Rattle.zone_text.specs.declared.splitter.EntrySplitter.{EntrySplitter}
-pub use Rattle.zone_text.specs.declared.table.TheConstants.{MOVES_OPEN, STOPS_BARE}
+pub use Rattle.zone_text.specs.declared.table.TheConstants.{STOPS_BARE}
 pub use Rattle.zone_text.specs.declared.words.Words.{Words}

@@ -1,6 +1,6 @@
 -- What a scan finds of octets: where entries end, and which are read at one look.
 pub mod FedPieces
 pub mod FirstEntries
-pub mod Scanned
 pub mod StopMarks
+pub mod Unfinished
 pub mod Walking

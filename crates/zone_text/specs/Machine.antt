@@ -7,7 +7,6 @@ pub mod ItemLengths
 pub mod Kept
 pub mod Lower
 pub mod OpenEntry
-pub mod Scan
 pub mod Spans
 pub mod Stops
 pub mod Walk

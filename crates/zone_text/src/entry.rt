@@ -36,11 +36,11 @@ fn find_entry<'t>(octets: &'t [u8], items: &mut Vec<Item<'t>>) -> Result<FirstEn
             items.clear();
             Ok(FirstEntry::Open)
         }
-        Reached::LostEscape => {
+        Reached::LostEscape(_len) => {
             items.clear();
             Ok(FirstEntry::BadEscape)
         }
-        Reached::ClosesNothing => {
+        Reached::ClosesNothing(_len) => {
             items.clear();
             Ok(FirstEntry::UnbalancedParenthesis)
         }

@@ -13,7 +13,6 @@ mod open_entry;
 mod parser_state;
 mod parts;
 mod reader;
-mod scan;
 mod splitter;
 mod statements;
 mod stops;

@@ -29,10 +29,9 @@ impl Model for TextSource {
 
     ghost Value = { SourceState FileKept };
 
-    ghost view = { λ s. state_of s.status s.fed s.splitter.ended s.splitter.unfinished.items };
+    ghost view = { λ s. state_of s.status s.fed s.splitter.ended s.splitter.unfinished.octets };
 
-    ghost invariant = { λ s.
-        IsSource s.status s.fed s.splitter.ended s.splitter.at s.splitter.unfinished.items };
+    ghost invariant = { λ s. IsSource s.status s.fed s.splitter.ended s.splitter.unfinished };
 }
 
 impl TextSource {
@@ -125,7 +124,7 @@ impl TextSource {
     pub fn undecided(&self) -> usize
         ensures keeps { KeepsOctets self.now result }
     {
-        self.splitter.unfinished.len()
+        self.splitter.unfinished.octets().len()
     }
 
     /// The number of octets of all pieces for which `feed` answered `Ok`.

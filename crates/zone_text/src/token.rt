@@ -1,11 +1,11 @@
 //! How far a token goes that more octets than one may belong to: an item or a comment (RFC 1035
 //! 5.1).
 ghost use Rattle.std.specs.Prelude.{◌≡◌, ◌∷◌, ◌-◌, option_map, option_to_list};
-ghost use Rattle.zone_name.specs.Spelling.{is_digit};
+ghost use Rattle.zone_name.specs.Spelling.{IsBadEscape, is_digit};
 ghost use Rattle.zone_rdata.specs.Item.{raw};
 ghost use Rattle.zone_rdata.specs.Strings.{is_quote};
 ghost use Rattle.zone_text.specs.Machine.ItemLengths.{ends_within};
-ghost use Rattle.zone_text.specs.Machine.Spans.{AreUnits, IsCutOffBy, IsSeen, IsSpan, IsSeenComment, IsTokenSpan, ItemIs};
+ghost use Rattle.zone_text.specs.Machine.Spans.{AreUnits, IsLostBy, IsSeen, IsSpan, IsSeenComment, IsTokenSpan, ItemIs};
 
 use crate::comment::comment_len;
 use crate::items::{Extent, plain_len};
@@ -19,8 +19,8 @@ pub(crate) enum Span {
     Whole(usize),
     /// It isn't ended; so many of its octets are whole units.
     Open(usize),
-    /// A backslash begins no escape, whatever follows.
-    Lost,
+    /// A backslash begins no escape, whatever follows these octets.
+    Lost(usize),
 }
 
 /// Whether the octet is a digit.
@@ -30,21 +30,24 @@ fn is_digit(octet: u8) -> bool
     octet.is_ascii_digit()
 }
 
-/// Whether the octets after a backslash end where an escape may go on.
-#[tactic(auto, using(crate::proofs::Tokens::Spans::cut_offs))]
-fn is_cut_off(after: &[u8]) -> bool
-    ensures { IsCutOffBy after.now result }
+/// How many of the octets after a backslash that begins no escape show this. `None`: they end where
+/// an escape may go on.
+fn lost_len(after: &[u8]) -> Option<usize>
+    ensures { IsBadEscape (92 ∷ after.now) → IsLostBy after.now result }
 {
     let Some((first, digits)) = after.split_first() else {
-        return true;
+        return None;
     };
     if !is_digit(*first) {
-        return false;
+        return Some(1);
     }
     let Some((second, rest)) = digits.split_first() else {
-        return true;
+        return None;
     };
-    is_digit(*second) && rest.is_empty()
+    if !is_digit(*second) {
+        return Some(2);
+    }
+    if rest.is_empty() { None } else { Some(3) }
 }
 
 /// How far an item goes, without its quotes, of which so many octets are known to be whole units.
@@ -63,10 +66,9 @@ fn item_span(text: &[u8], known: usize, extent: Extent) -> Span
         }
         let (_, escape) = text.split_at(len + 1);
         let Some((_, rest)) = escape_at(escape) else {
-            return if is_cut_off(escape) {
-                Span::Open(len)
-            } else {
-                Span::Lost
+            return match lost_len(escape) {
+                Some(more) => Span::Lost(len + 1 + more),
+                None => Span::Open(len),
             };
         };
         len = text.len() - rest.len() + plain_len(rest, extent);
@@ -82,7 +84,7 @@ fn quoted_span(inside: &[u8], seen: usize) -> Span
     match item_span(inside, seen.saturating_sub(1), Extent::Quoted) {
         Span::Whole(len) => Span::Whole(len + 2),
         Span::Open(len) => Span::Open(len + 1),
-        Span::Lost => Span::Lost,
+        Span::Lost(len) => Span::Lost(len + 1),
     }
 }
 

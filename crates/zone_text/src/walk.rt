@@ -1,17 +1,18 @@
 //! One walk over an entry, which may stop where octets end and go on with more of them (RFC 1035
 //! 5.1).
-ghost use Rattle.std.specs.Prelude.{◌≡◌, ◌≢◌, ◌==◌, ◌-◌, ◌<◌, ◌≤◌, ◌^◌, [], Bool, count_by, false, length, map, true, IfOk, OnOk};
+ghost use Rattle.std.specs.Prelude.{◌≡◌, ◌≢◌, ◌∷◌, ◌-◌, ◌<◌, ◌≤◌, ◌^◌, ℕ, List, [], false, length, map, true, IfOk, OnOk};
 ghost use Rattle.zone_rdata.specs.Item.{raw};
 ghost use Rattle.zone_text.specs.Machine.ItemLengths.{stops_bare};
 ghost use Rattle.zone_text.specs.Machine.Kept.{KeepsBare};
-ghost use Rattle.zone_text.specs.Machine.Walk.{IsMark, IsWalked, KeepsToken, StandsAt};
+ghost use Rattle.zone_text.specs.Machine.Walk.{IsMark, IsWalked, KeepsToken, StandsAt, StandsOpen};
+ghost use Rattle.zone_text.specs.OpenEntry.{EndIs};
 
 use crate::ended::line_feeds;
 use crate::items::keep;
 use crate::stops::Stops;
 use crate::token::{Span, item_of, token_span};
-use std::alloc::AllocError;
-use zone_rdata::Item;
+use std::alloc::{AllocError, Global};
+use zone_rdata::{Fault, Item};
 
 /// Where octets leave the entry that they begin.
 #[derive(Clone, Copy, Drop)]
@@ -33,10 +34,10 @@ pub(crate) enum Reached {
     Ends(usize, usize),
     /// The end of the octets.
     Open(At),
-    /// A backslash that begins no escape, whatever follows.
-    LostEscape,
-    /// A `)` that closes nothing.
-    ClosesNothing,
+    /// A backslash that begins no escape, as so many octets show, whatever follows them.
+    LostEscape(usize),
+    /// A `)` that closes nothing, the last of so many octets.
+    ClosesNothing(usize),
 }
 
 /// What stands where a bare item stops.
@@ -181,7 +182,9 @@ fn walk_on<'t>(
                 Mark::Ends => {
                     return Ok(Reached::Ends(octets.len() - after.len(), feeds + 1));
                 }
-                Mark::ClosesNothing => return Ok(Reached::ClosesNothing),
+                Mark::ClosesNothing => {
+                    return Ok(Reached::ClosesNothing(octets.len() - after.len()));
+                }
                 Mark::Begins => stopped,
             }
         };
@@ -195,7 +198,9 @@ fn walk_on<'t>(
             Span::Open(seen) => {
                 return Ok(Reached::Open(stand(octets, token, seen, depth, feeds)));
             }
-            Span::Lost => return Ok(Reached::LostEscape),
+            Span::Lost(len) => {
+                return Ok(Reached::LostEscape(octets.len() - token.len() + len));
+            }
         }
     }
     Ok(Reached::Open(stand(octets, rest, 0, depth, feeds)))
@@ -212,4 +217,52 @@ pub(crate) fn walk<'t>(octets: &'t [u8], items: &mut Vec<Item<'t>>) -> Result<Re
 {
     items.clear();
     walk_on(octets, At::beginning(), true, items)
+}
+
+/// Walks on over the octets of an entry from where fewer of them left it. No items are kept. Of the
+/// token that was open there no octet is looked at again that was seen, until it is whole.
+#[inline(never)]
+pub(crate) fn walk_more(alloc: Global, octets: &[u8], at: At) -> Result<Reached, AllocError>
+    requires { StandsAt octets.now at false [] }
+    ensures { IfOk result (λ reached. IsWalked octets.now false [] reached) }
+{
+    let (_, rest) = octets.split_at(at.start);
+    match token_span(rest, at.seen - at.start) {
+        Span::Open(seen) => Ok(Reached::Open(At {
+            seen: at.start + seen,
+            ..at
+        })),
+        Span::Lost(len) => Ok(Reached::LostEscape(at.start + len)),
+        Span::Whole(_) => walk_on(octets, at, false, &mut Vec::new(alloc)),
+    }
+}
+
+/// Whether the first octet is a quote.
+fn begins_with_quote(octets: &[u8]) -> bool
+    ensures yes { result ≡ true → (after : List ℕ) × (octets.now ≡ 34 ∷ after) }
+    ensures no { result ≡ false → (after : List ℕ) → octets.now ≢ 34 ∷ after }
+{
+    match octets.split_first() {
+        Some((first, _)) => *first == b'"',
+        None => false,
+    }
+}
+
+/// What is wrong with an entry where the input ends after these octets, which a walk left open.
+/// `None`: they are a whole entry, or there are none.
+pub(crate) fn end_fault(octets: &[u8], at: At) -> Option<Fault>
+    requires { StandsOpen octets.now at false [] }
+    ensures { EndIs octets.now result }
+{
+    let (_, rest) = octets.split_at(at.start);
+    if at.seen - at.start < rest.len() {
+        return Some(Fault::BadEscape);
+    }
+    if begins_with_quote(rest) {
+        return Some(Fault::UnclosedQuote);
+    }
+    if at.depth > 0 {
+        return Some(Fault::UnbalancedParenthesis);
+    }
+    None
 }

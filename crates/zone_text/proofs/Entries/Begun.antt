@@ -1,6 +1,8 @@
 -- What a source holds at the beginning of a file and at that of an entry.
-use Rattle.zone_text.proofs.Common.{Bool, Cuts, EndedEntries, FileDecides, Follow, IsSplitter, IsStateAfter, Labels, List, None, Option, ScanState, Some, [], arith, beginning, common_steps, false, inl, is_some, length, refl, scan_of, sym, true, undecided, ℕ, ◌==◌, ◌≡◌, ◌≤◌}
+use Rattle.zone_text.proofs.Common.{Bool, Cuts, EndedEntries, FileDecides, Follow, IsSplitter, IsStateAfter, Labels, List, None, Option, Some, [], arith, common_steps, false, inl, is_some, length, refl, sym, true, undecided, ℕ, ◌==◌, ◌≡◌, ◌≤◌}
 use Rattle.zone_text.proofs.Files.Left.{none_cut}
+use Rattle.zone_text.specs.OpenEntry.{HeldEntry}
+use Rattle.zone_text.specs.declared.open_entry.EntryState.TheVariants.{Open}
 
 -- octets of which there is none, or one
 pub none_left : (octets : List ℕ) (n : ℕ) (empty : Bool) → n ≡ length octets → empty ≡ (n == 0) → empty ≡ true → octets ≡ []
@@ -16,10 +18,9 @@ some_found o is = grind arith
 pub none_found : {A : Type 0} (o : Option A) → is_some o ≡ false → o ≡ None
 none_found o is = grind arith
 
--- no octets lead to the beginning of an entry
-pub nothing_taken : (ended : EndedEntries) (at : ScanState) (unfinished : List ℕ) → at ≡ beginning → unfinished ≡ [] → 1 ≤ ended.line → IsSplitter ended at unfinished
-unfolding scan_of
-nothing_taken ended at unfinished begins none line = record { state = rw (begins, none) refl; dropped = λ found e. none; line = line }
+-- no octets are held
+pub nothing_taken : (ended : EndedEntries) (unfinished : HeldEntry) → unfinished.octets ≡ [] → unfinished.state ≡ Open → 1 ≤ ended.line → IsSplitter ended unfinished
+nothing_taken ended unfinished none is_open line = record { state = is_open; dropped = λ found e. none; line = line }
 
 pub no_tokens : Cuts [] []
 no_tokens = record { whole = refl; each = tt; follow = tt; balanced = refl }

@@ -1,9 +1,9 @@
 -- What is decided of octets by what those before them left, and what follows from octets fed and
 -- records given, part by part.
-use Rattle.zone_text.proofs.Common.{AreTokens, Breaks, Cuts, EndedEntries, Ending, Ends, Entry, Fault, FileDecides, FileLeaves, FileReads, Follow, IsBrokenOff, IsOneEntry, IsStateAfter, Labels, Line, List, None, On, Place, Placed, ReadEach, ReadsEntry, ReadsOctets, ScanState, ScansTo, Some, Step, Token, [], and_last, ap, append-nil, append_assoc, arith, beginning, broken, common_steps, cut_from, decided, end_fault_of, ended_entries, entries_of, entry_of, flat_map, flat_map_more, inl, inr, length-append, numbered, open_line, refl, reverse, reverse-append, subst, sym, text, undecided, whole, zero, ℕ, ◌++◌, ◌+◌, ◌∙◌, ◌∷◌, ◌≡◌}
+use Rattle.zone_text.proofs.Common.{AreTokens, Breaks, Cuts, EndedEntries, Ending, Entry, Fault, FileDecides, FileLeaves, FileReads, Follow, IsBrokenOff, IsOneEntry, IsOpen, IsStateAfter, Labels, Line, List, None, Place, Placed, ReadEach, ReadsEntry, ReadsOctets, Some, Token, [], and_last, ap, append-nil, append_assoc, arith, broken, common_steps, cut_from, decided, ended_entries, entries_of, entry_of, flat_map, flat_map_more, inl, inr, numbered, open_line, refl, reverse, reverse-append, subst, sym, text, undecided, whole, zero, ℕ, ◌++◌, ◌+◌, ◌∙◌, ◌∷◌, ◌≡◌}
 use Rattle.zone_text.proofs.Tokens.CutAgain.{joined, AreEnded, again_zero, cut_whole}
 use Rattle.zone_text.proofs.Files.Left.{line_feeds, numbered_then, IsSplit, split, whole_after, cut_more, tokens_more, ended_as_before, one_ended, reads_then, refused_before, reads_after, break_more, for_good_more, none_cut, none_more, ended_entries_first}
-use Rattle.zone_text.proofs.Scanning.Scanned.{goes_on as scan_goes_on, ends_entry, stays_open, at_end}
+use Rattle.zone_text.specs.OpenEntry.{EndIs}
 use Rattle.zone_text.proofs.Tokens.Cuttings.{cut_or_broken}
 use Rattle.zone_text.proofs.Tokens.Lasting.{breaks_for_good}
 use Rattle.zone_text.proofs.Files.Decides.{tokens_of, goes_on, ended_on, read_states}
@@ -83,14 +83,10 @@ break_read origin ended old unfinished fed given tokens fault is none =
 
 -- ---- the octets of the unfinished entry and others after them
 
-pub scans_on : (at : ScanState) (unfinished part : List ℕ) (step : Step) → ScansTo beginning unfinished (On at) → ScansTo at part step → ScansTo beginning (unfinished ++ part) step
-scans_on at unfinished part step before after = grind (arith, scan_goes_on, length-append)
-
 -- the octets lead on
-pub follow_on : (origin : Labels) (entries : EndedEntries) (at : ScanState) (unfinished part fed : List ℕ) (given : List Placed) → ScansTo beginning (unfinished ++ part) (On at) → entries.decided.ending ≡ None → Follow origin entries unfinished fed given → Follow origin entries (unfinished ++ part) (fed ++ part) given
-follow_on origin entries at unfinished part fed given scanned none follow =
+pub follow_on : (origin : Labels) (entries : EndedEntries) (unfinished part fed : List ℕ) (given : List Placed) → IsOpen (unfinished ++ part) → entries.decided.ending ≡ None → Follow origin entries unfinished fed given → Follow origin entries (unfinished ++ part) (fed ++ part) given
+follow_on origin entries unfinished part fed given is_open none follow =
     let found = is_read origin entries unfinished fed given none follow in
-    let is_open = stays_open (unfinished ++ part) at scanned in
     let same : (cut_from zero (joined found.0 ++ is_open.tokens)).ended ≡ found.0 = ended_as_before found.0 is_open.tokens found.1.parts.stays is_open.none in
     record {
       decided = rw none (undecided (joined found.0 ++ is_open.tokens) (tokens_more fed part found.0 unfinished is_open.tokens found.1.parts is_open.are) (none_more fed part found.0 unfinished is_open.tokens found.1.parts is_open.are is_open.goes_on) (rw same (found.1.read)));
@@ -132,11 +128,6 @@ follow_one origin old new unfinished part fed given tokens one none reads follow
       decided = undecided (joined found.0 ++ tokens) (inl cuts) (none_cut (fed ++ part) (joined found.0 ++ tokens) cuts) (rw (one_ended found.0 tokens found.1.parts.stays one.ended) (read_more origin found.0 old new unfinished fed given tokens found.1 read));
       leave = left_over origin found.0 old new unfinished part fed given tokens found.1 one read;
     }
-
-pub follow_entry : (origin : Labels) (old new : EndedEntries) (unfinished part fed : List ℕ) (given : List Placed) → ScansTo beginning (unfinished ++ part) Ends → old.decided.ending ≡ None → ReadsOctets (unfinished ++ part) old new → Follow origin old unfinished fed given → Follow origin new [] (fed ++ part) given
-follow_entry origin old new unfinished part fed given scanned none reads follow =
-    let entry = ends_entry (unfinished ++ part) scanned in
-    follow_one origin old new unfinished part fed given entry.0 entry.1 none reads follow
 
 -- ---- the octets break for good
 
@@ -180,10 +171,9 @@ end_of_lines origin entries unfinished fed given empty none follow =
     rw none (whole (joined found.0 ++ []) (all_tokens fed found.0 unfinished [] found.1.parts (record { whole = empty; each = tt; follow = tt; balanced = refl })) (rw (entries_are found.0 [] found.1.parts.stays refl) (found.1.read)))
 
 -- they break
-pub end_of_break : (origin : Labels) (old new : EndedEntries) (at : ScanState) (fault : Fault) (unfinished fed : List ℕ) (given : List Placed) → ScansTo beginning unfinished (On at) → end_fault_of at ≡ Some fault → old.decided.ending ≡ None → new.decided.placed ≡ old.decided.placed → new.decided.ending ≡ Some (fault, Line old.line) → Follow origin old unfinished fed given → Reads origin fed given new
-end_of_break origin old new at fault unfinished fed given scanned ends none records ending follow =
+pub end_of_break : (origin : Labels) (old new : EndedEntries) (fault : Fault) (unfinished fed : List ℕ) (given : List Placed) → EndIs unfinished (Some fault) → old.decided.ending ≡ None → new.decided.placed ≡ old.decided.placed → new.decided.ending ≡ Some (fault, Line old.line) → Follow origin old unfinished fed given → Reads origin fed given new
+end_of_break origin old new fault unfinished fed given breaks none records ending follow =
     let found = is_read origin old unfinished fed given none follow in
-    let breaks = rw ends at (at_end unfinished at scanned) in
     rw (records, ending) (broken (joined found.0 ++ breaks.0) fault (subst (λ t. Breaks t (joined found.0 ++ breaks.0) fault) (append-nil fed) (break_more fed [] found.0 unfinished breaks.0 fault found.1.parts (rw (append-nil) breaks.1))) (break_read origin found.0 old unfinished fed given breaks.0 fault found.1 breaks.2))
 
 -- they are the last entry
@@ -192,8 +182,7 @@ last_read origin ended old new unfinished fed given [] some is cut alone read = 
 last_read origin ended old new unfinished fed given (p ∷ tokens) some is cut alone read =
     whole (joined ended ++ p ∷ tokens) (all_tokens fed ended unfinished (p ∷ tokens) is.parts cut) (rw (entries_are ended (p ∷ tokens) is.parts.stays alone) (read_more origin ended old new unfinished fed given (p ∷ tokens) is read))
 
-pub end_of_some : (origin : Labels) (old new : EndedEntries) (at : ScanState) (unfinished fed : List ℕ) (given : List Placed) → ScansTo beginning unfinished (On at) → (unfinished ≡ [] → ⊥) → end_fault_of at ≡ None → old.decided.ending ≡ None → ReadsOctets unfinished old new → Follow origin old unfinished fed given → Reads origin fed given new
-end_of_some origin old new at unfinished fed given scanned some ends none reads follow =
+pub end_of_some : (origin : Labels) (old new : EndedEntries) (unfinished fed : List ℕ) (given : List Placed) → EndIs unfinished None → (unfinished ≡ [] → ⊥) → old.decided.ending ≡ None → ReadsOctets unfinished old new → Follow origin old unfinished fed given → Reads origin fed given new
+end_of_some origin old new unfinished fed given cut some none reads follow =
     let found = is_read origin old unfinished fed given none follow in
-    let cut = rw ends at (at_end unfinished at scanned) in
     last_read origin found.0 old new unfinished fed given cut.0 some found.1 cut.1 cut.2 (reads.reads origin (reverse (numbered 1 found.0)) cut.0 found.1.state cut.1)

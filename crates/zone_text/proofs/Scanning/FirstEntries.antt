@@ -4,6 +4,7 @@ use Rattle.zone_text.proofs.Scanning.FedPieces.{FollowsOn, HasFed, fed_more}
 use Rattle.zone_text.proofs.Tokens.Cuttings.{one_cut}
 use Rattle.zone_text.proofs.Files.Followed.{follow_one}
 use Rattle.zone_text.proofs.Files.Left.{line_feeds}
+use Rattle.zone_text.specs.OpenEntry.{HeldEntry}
 
 -- ---- line feeds
 
@@ -31,13 +32,17 @@ keeps_items octets part n kept first front tokens cut = search (rules, one_cut p
 
 -- ---- the entry at the front of a piece
 
-pub fed_one : (old mid new : EntrySplitter) (piece rest part after : List ℕ) (tokens : List Token) → HasFed old mid piece rest → mid.ended.decided.ending ≡ None → mid.unfinished.items ≡ [] → IsOneEntry part tokens → rest ≡ part ++ after → ReadsOctets part mid.ended new.ended → new.at ≡ mid.at → new.unfinished.items ≡ mid.unfinished.items → HasFed old new piece after
-fed_one old mid new piece rest part after tokens before none empty one whole reads at unfinished =
+pub fed_one : (old mid new : EntrySplitter) (piece rest part after : List ℕ) (tokens : List Token) → HasFed old mid piece rest → mid.ended.decided.ending ≡ None → mid.unfinished.octets ≡ [] → IsOneEntry part tokens → rest ≡ part ++ after → ReadsOctets part mid.ended new.ended → new.unfinished ≡ mid.unfinished → HasFed old new piece after
+fed_one old mid new piece rest part after tokens before none empty one whole reads same =
     let len : length rest ≡ length part + length after = ap length whole ∙ length-append part after in
-    let left : length new.unfinished.items ≡ length mid.unfinished.items = ap length unfinished in
+    let held : new.unfinished.octets ≡ mid.unfinished.octets = ap (λ (h : HeldEntry). h.octets) same in
     let follow : FollowsOn mid.ended [] new.ended [] part = λ origin fed given f. follow_one origin mid.ended new.ended [] part fed given tokens one none reads f in
-    let is : IsSplitter new.ended new.at new.unfinished.items = grind arith in
-    fed_more old mid new piece rest part after before none whole len is (omega (arith, reads.near, left, len)) (rw (unfinished, empty) follow)
+    let is : IsSplitter new.ended new.unfinished = record {
+      state = ap (λ (h : HeldEntry). h.state) same ∙ before.is.state;
+      dropped = λ found e. held ∙ empty;
+      line = omega (arith, before.is.line, reads.later);
+    } in
+    fed_more old mid new piece rest part after before none whole len is (omega (arith, reads.near, ap length held)) (rw (held, empty) follow)
 
-pub fed_entry : (old mid new : EntrySplitter) (piece rest part after : List ℕ) (n : ℕ) (raws : List RawItem) → HasFed old mid piece rest → mid.ended.decided.ending ≡ None → mid.unfinished.items ≡ [] → IsFirstEntry rest n raws → part ≡ take n rest → after ≡ drop n rest → ReadsOctets part mid.ended new.ended → new.at ≡ mid.at → new.unfinished.items ≡ mid.unfinished.items → HasFed old new piece after
-fed_entry old mid new piece rest part after n raws before none empty first front back reads at unfinished = search (rules, fed_one old mid new piece rest part after first.tokens before none empty, take-append-drop n rest)
+pub fed_entry : (old mid new : EntrySplitter) (piece rest part after : List ℕ) (n : ℕ) (raws : List RawItem) → HasFed old mid piece rest → mid.ended.decided.ending ≡ None → mid.unfinished.octets ≡ [] → IsFirstEntry rest n raws → part ≡ take n rest → after ≡ drop n rest → ReadsOctets part mid.ended new.ended → new.unfinished ≡ mid.unfinished → HasFed old new piece after
+fed_entry old mid new piece rest part after n raws before none empty first front back reads same = search (rules, fed_one old mid new piece rest part after first.tokens before none empty, take-append-drop n rest)

@@ -1,5 +1,5 @@
 -- A walk over an entry, token by token, which may stop where octets end.
-use Rattle.zone_text.proofs.Common.{All, AllByRecursion, AreKept, BadEscape, Bool, BreaksAtEnd, Cut, Cuts, EndsAt, Fault, IsBadEscape, IsBroken, IsBrokenOff, IsCutOff, IsFirstEntry, IsLostEscape, IsOpen, IsToken, IsUnit, Keeps, KeepsBare, List, MayEndBefore, None, Option, RawItem, Some, StaysBroken, Token, UnbalancedParenthesis, UnclosedQuote, Written, [], ap, append-nil, append_assoc, arith, at_end, at_octet, bare, blank, both_ways, closes_nothing, closing, closing_stays, comment, common_steps, cut_from, depth_after, depth_past, drop, drop-append_seam, drop-drop, ends_item, escape_open, escape_stays, false, flat_map, flat_map-append, in_front_of, inl, inr, is_blank, is_quote, item_of, length, length-append, length-drop, length-map, length-take, line_feed, map, ne_eqb, no_escape, no_quote, no_quoted_escape, not_closed, nothing_left, opening, or_parts, plain, quote_open, quoted, quoted_escape_open, quoted_escape_stays, recursion_from_All, refl, stops_bare, subst, suc, sum_by-cons, sym, take, take-append-drop, take-append_seam, text, token_text, true, written_text, zero, ℕ, ⊤, ◌++◌, ◌+◌, ◌-◌, ◌<◌, ◌==◌, ◌∙◌, ◌∷◌, ◌≡◌, ◌≢◌, ◌≤◌}
+use Rattle.zone_text.proofs.Common.{All, AllByRecursion, AreKept, BadEscape, Bool, BreaksAtEnd, Cut, Cuts, EndsAt, Fault, IsBadEscape, IsBroken, IsBrokenOff, IsCutOff, IsFirstEntry, IsLostEscape, IsOpen, IsToken, IsUnit, Keeps, KeepsBare, List, MayEndBefore, None, Option, RawItem, Some, StaysBroken, Token, UnbalancedParenthesis, UnclosedQuote, Written, [], ap, append-nil, append_assoc, arith, at_end, at_line_end, at_octet, bare, blank, both_ways, closes_nothing, closing, closing_stays, comment, common_steps, cut_from, depth_after, depth_past, drop, drop-append_seam, drop-drop, ends_item, escape_open, escape_stays, false, flat_map, flat_map-append, in_front_of, inl, inr, is_blank, is_quote, item_of, length, length-append, length-drop, length-map, length-take, line_feed, map, ne_eqb, no_escape, no_quote, no_quoted_escape, not_closed, nothing_left, one_digit, opening, or_parts, plain, quote_open, quoted, quoted_escape_open, quoted_escape_stays, recursion_from_All, refl, stops_bare, subst, suc, sum_by-cons, sym, take, take-append-drop, take-append_seam, text, token_text, too_great, true, two_digits, written_text, zero, ℕ, ⊤, ◌++◌, ◌+◌, ◌-◌, ◌<◌, ◌==◌, ◌∙◌, ◌∷◌, ◌≡◌, ◌≢◌, ◌≤◌}
 use Rattle.std.specs.List.{prefix_len}
 use Rattle.zone_rdata.specs.Item as raw
 use Rattle.zone_text.proofs.Entries.Kept.{keeps_more}
@@ -52,7 +52,7 @@ fronted_append : (xs ys : List Token) (cut : Cut) → fronted (xs ++ ys) cut ≡
 fronted_append [] ys cut = refl
 fronted_append (p ∷ xs) ys cut = ap (in_front_of p) (fronted_append xs ys cut)
 
-abbrev one_open : List Token → Cut
+abbrev pub one_open : List Token → Cut
 one_open tokens = record { ended = []; open_tokens = tokens }
 
 abbrev one_ended : List Token → Cut
@@ -159,10 +159,10 @@ walked_ends octets rest after feeds n keeps kept so_far first count =
       feeds_are = ap line_feeds entry ∙ feeds_of_both (text so_far.before) (10 ∷ []) ∙ ap (λ k. k + 1) so_far.feeds_are;
     }
 
-all_of : (octets rest : List ℕ) (depth feeds : ℕ) (keeps : Bool) (kept : List RawItem) (so_far : Walked octets rest depth feeds keeps kept) (more : List Token) (fault : Option Fault) → IsCut depth rest more fault → IsCut zero octets (so_far.before ++ more) fault
+pub all_of : (octets rest : List ℕ) (depth feeds : ℕ) (keeps : Bool) (kept : List RawItem) (so_far : Walked octets rest depth feeds keeps kept) (more : List Token) (fault : Option Fault) → IsCut depth rest more fault → IsCut zero octets (so_far.before ++ more) fault
 all_of octets rest depth feeds keeps kept so_far more fault is = subst (λ t. IsCut zero t (so_far.before ++ more) fault) (sym so_far.whole) (so_far.goes rest more fault (begin_self rest) is)
 
-none_ended : (octets rest : List ℕ) (depth feeds : ℕ) (keeps : Bool) (kept : List RawItem) (so_far : Walked octets rest depth feeds keeps kept) (more : List Token) → cut_from depth more ≡ one_open more → (cut_from zero (so_far.before ++ more)).ended ≡ []
+pub none_ended : (octets rest : List ℕ) (depth feeds : ℕ) (keeps : Bool) (kept : List RawItem) (so_far : Walked octets rest depth feeds keeps kept) (more : List Token) → cut_from depth more ≡ one_open more → (cut_from zero (so_far.before ++ more)).ended ≡ []
 none_ended octets rest depth feeds keeps kept so_far more is = ap (λ (cut : Cut). cut.ended) (so_far.entries more ∙ ap (fronted so_far.before) is ∙ fronted_open so_far.before more)
 
 left_is : (octets rest left : List ℕ) (depth feeds : ℕ) (keeps : Bool) (kept : List RawItem) (so_far : Walked octets rest depth feeds keeps kept) (more : List Token) → rest ≡ text more ++ left → octets ≡ text (so_far.before ++ more) ++ left
@@ -176,9 +176,38 @@ walked_breaks octets rest depth feeds keeps kept so_far more fault is stays open
   none = none_ended octets rest depth feeds keeps kept so_far more open_is;
 }
 
-pub walked_closes : (octets rest after : List ℕ) (feeds : ℕ) (keeps : Bool) (kept : List RawItem) → Walked octets rest zero feeds keeps kept → rest ≡ 41 ∷ after → IsBrokenOff octets UnbalancedParenthesis
-walked_closes octets rest after feeds keeps kept so_far first =
+closes_there : (octets rest after : List ℕ) (feeds : ℕ) (keeps : Bool) (kept : List RawItem) → Walked octets rest zero feeds keeps kept → rest ≡ 41 ∷ after → IsBrokenOff octets UnbalancedParenthesis
+closes_there octets rest after feeds keeps kept so_far first =
     walked_breaks octets rest zero feeds keeps kept so_far [] UnbalancedParenthesis (record { rest = rest; at = zero; whole = refl; each = tt; follow = tt; last = tt; parentheses = refl; ends = closes_nothing after refl first }) (closing_stays after first) refl
+
+begin_more : (front after tail : List ℕ) → 0 < length front → BeginAs front tail → BeginAs (front ++ after) tail
+begin_more [] after tail some begins = absurd (omega (arith, some))
+begin_more (c ∷ front) after [] some begins = absurd begins
+begin_more (c ∷ front) after (d ∷ tail) some begins = begins
+
+-- fewer octets, where one is left at least
+walked_cut : (octets rest front after : List ℕ) (depth feeds : ℕ) (keeps : Bool) (kept : List RawItem) (so_far : Walked octets rest depth feeds keeps kept) → rest ≡ front ++ after → 0 < length front → Walked (text so_far.before ++ front) front depth feeds keeps kept
+walked_cut octets rest front after depth feeds keeps kept so_far parts some = record {
+  before = so_far.before;
+  whole = refl;
+  goes = λ tail more fault begins is. so_far.goes tail more fault (subst (λ t. BeginAs t tail) (sym parts) (begin_more front after tail some begins)) is;
+  entries = so_far.entries;
+  are_kept = so_far.are_kept;
+  feeds_are = so_far.feeds_are;
+  deep = so_far.deep;
+}
+
+cut_at : (octets rest front after : List ℕ) (depth feeds n : ℕ) (keeps : Bool) (kept : List RawItem) (so_far : Walked octets rest depth feeds keeps kept) → rest ≡ front ++ after → n ≡ length octets - length after → (take n octets ≡ text so_far.before ++ front) × (n ≤ length octets)
+cut_at octets rest front after depth feeds n keeps kept so_far parts count =
+    let before : List ℕ = text so_far.before in
+    let whole : octets ≡ (before ++ front) ++ after = so_far.whole ∙ ap (λ t. before ++ t) parts ∙ sym (append_assoc before front after) in
+    let size : n ≡ length (before ++ front) = omega (arith, count, ap length whole, length-append (before ++ front) after) in
+    (ap (λ k. take k octets) size ∙ ap (take (length (before ++ front))) whole ∙ take-append_seam (before ++ front) after, omega (arith, count))
+
+pub walked_closes : (octets rest after : List ℕ) (feeds n : ℕ) (keeps : Bool) (kept : List RawItem) → Walked octets rest zero feeds keeps kept → rest ≡ 41 ∷ after → n ≡ length octets - length after → IsBrokenOff (take n octets) UnbalancedParenthesis × (n ≤ length octets)
+walked_closes octets rest after feeds n keeps kept so_far first count =
+    let cut = cut_at octets rest (41 ∷ []) after zero feeds n keeps kept so_far first count in
+    (subst (λ t. IsBrokenOff t UnbalancedParenthesis) (sym cut.0) (closes_there (text so_far.before ++ 41 ∷ []) (41 ∷ []) [] feeds keeps kept (walked_cut octets rest (41 ∷ []) after zero feeds keeps kept so_far first (omega arith)) refl), cut.1)
 
 -- the end of the octets, within a token or not
 pub walked_open : (octets rest : List ℕ) (depth feeds : ℕ) (keeps : Bool) (kept : List RawItem) (so_far : Walked octets rest depth feeds keeps kept) (more : List Token) (fault : Option Fault) (is : IsCut depth rest more fault) → BreaksAtEnd is.rest → cut_from depth more ≡ one_open more → IsOpen octets
@@ -388,7 +417,7 @@ left_of token after left skip n skipped room back within less =
 
 -- ---- the place of a rest
 
-rest_at : (octets rest : List ℕ) (depth feeds : ℕ) (keeps : Bool) (kept : List RawItem) → Walked octets rest depth feeds keeps kept → rest ≡ drop (length octets - length rest) octets
+pub rest_at : (octets rest : List ℕ) (depth feeds : ℕ) (keeps : Bool) (kept : List RawItem) → Walked octets rest depth feeds keeps kept → rest ≡ drop (length octets - length rest) octets
 rest_at octets rest depth feeds keeps kept so_far =
     let len : length octets ≡ length (text so_far.before) + length rest = ap length so_far.whole ∙ length-append (text so_far.before) rest in
     let e : length octets - length rest ≡ length (text so_far.before) = omega (arith, len) in
@@ -414,7 +443,7 @@ none_seen octets = record {
 
 pub stands_begun : (octets : List ℕ) (at : At) (keeps : Bool) (kept : List RawItem) → at.start ≡ 0 → at.seen ≡ 0 → at.depth ≡ 0 → at.feeds ≡ 0 → kept ≡ [] → StandsAt octets at keeps kept
 stands_begun octets at keeps kept start seen depth feeds none =
-    rw (start, seen, depth, feeds) (record { walked = walked_none octets keeps kept none; seen = none_seen octets; within = omega arith })
+    rw (start, seen, depth, feeds) (record { walked = walked_none octets keeps kept none; seen = none_seen octets; within = omega arith; order = omega arith })
 
 -- ---- a token that isn't ended, or breaks
 
@@ -430,7 +459,7 @@ bare_to_end rest stopped n len back none some =
       len = ap length (sym (plain_text rest));
     }) (inl refl) some
 
-one_by : (depth : ℕ) (p : Token) → IsItemOrComment p → cut_from depth (p ∷ []) ≡ one_open (p ∷ [])
+pub one_by : (depth : ℕ) (p : Token) → IsItemOrComment p → cut_from depth (p ∷ []) ≡ one_open (p ∷ [])
 one_by zero (bare units) kind = refl
 one_by zero (quoted units) kind = refl
 one_by zero (comment octets) kind = refl
@@ -462,11 +491,11 @@ open_between octets zero feeds keeps kept so_far = walked_open octets [] zero fe
 open_between octets (suc depth) feeds keeps kept so_far = walked_open octets [] (suc depth) feeds keeps kept so_far [] (Some UnbalancedParenthesis) (record { rest = []; at = suc depth; whole = refl; each = tt; follow = tt; last = tt; parentheses = refl; ends = not_closed (omega arith) refl }) (nothing_left refl) refl
 
 -- no token stands there
-breaks_there : (depth : ℕ) (rest : List ℕ) (fault : Fault) → IsBroken depth rest fault → IsCut depth rest [] (Some fault)
+pub breaks_there : (depth : ℕ) (rest : List ℕ) (fault : Fault) → IsBroken depth rest fault → IsCut depth rest [] (Some fault)
 breaks_there depth rest fault broken = record { rest = rest; at = depth; whole = refl; each = tt; follow = tt; last = tt; parentheses = refl; ends = broken }
 
 -- units of a bare item, and a backslash that begins no escape
-breaks_after : (depth : ℕ) (rest after : List ℕ) (w : Written) (units : List Written) → AllByRecursion (IsUnit ends_item) (w ∷ units) → rest ≡ written_text (w ∷ units) ++ after → IsBadEscape after → IsCut depth rest (bare (w ∷ units) ∷ []) (Some BadEscape)
+pub breaks_after : (depth : ℕ) (rest after : List ℕ) (w : Written) (units : List Written) → AllByRecursion (IsUnit ends_item) (w ∷ units) → rest ≡ written_text (w ∷ units) ++ after → IsBadEscape after → IsCut depth rest (bare (w ∷ units) ∷ []) (Some BadEscape)
 breaks_after depth rest after w units each whole bad = record { rest = after; at = depth; whole = whole ∙ ap (λ t. t ++ after) (sym (append-nil (written_text (w ∷ units)))); each = ((omega arith, each), tt); follow = tt; last = tt; parentheses = depth_on depth (bare (w ∷ units)) [] tt; ends = no_escape bad }
 
 open_bare : (octets rest : List ℕ) (depth feeds : ℕ) (keeps : Bool) (kept : List RawItem) → Walked octets rest depth feeds keeps kept → (units : List Written) (after : List ℕ) → AllByRecursion (IsUnit ends_item) units → rest ≡ written_text units ++ after → RunsOut after → 0 < length rest → IsOpen octets
@@ -511,12 +540,30 @@ lost_bare octets rest depth feeds keeps kept so_far [] after each whole lost =
 lost_bare octets rest depth feeds keeps kept so_far (w ∷ units) after each whole lost =
     walked_breaks octets rest depth feeds keeps kept so_far (bare (w ∷ units) ∷ []) BadEscape (breaks_after depth rest after w units each whole (malformed_is_bad after (inl lost))) (escape_stays lost) (one_by depth (bare (w ∷ units)) tt)
 
-pub walked_lost : (octets rest : List ℕ) (depth feeds : ℕ) (keeps : Bool) (kept : List RawItem) → Walked octets rest depth feeds keeps kept → IsLostToken rest → IsBrokenOff octets BadEscape
+lost_there : (octets rest : List ℕ) (depth feeds : ℕ) (keeps : Bool) (kept : List RawItem) → Walked octets rest depth feeds keeps kept → IsLostToken rest → IsBrokenOff octets BadEscape
 unfolding breaks_there
-walked_lost octets rest depth feeds keeps kept so_far (in_quotes_lost inside n are first lost) =
+lost_there octets rest depth feeds keeps kept so_far (in_quotes_lost inside n are first lost) =
     let whole : rest ≡ 34 ∷ written_text are.units ++ are.rest = first ∙ ap (λ t. 34 ∷ t) are.whole in
     walked_breaks octets rest depth feeds keeps kept so_far [] BadEscape (breaks_there depth rest BadEscape (no_quoted_escape are.units are.rest are.each whole (malformed_is_bad are.rest (inl lost)))) (quoted_escape_stays are.units are.rest are.each whole lost) refl
-walked_lost octets rest depth feeds keeps kept so_far (in_bare_lost n are lost) = lost_bare octets rest depth feeds keeps kept so_far are.units are.rest are.each are.whole lost
+lost_there octets rest depth feeds keeps kept so_far (in_bare_lost n are lost) = lost_bare octets rest depth feeds keeps kept so_far are.units are.rest are.each are.whole lost
+
+some_lost : (rest : List ℕ) → IsLostEscape rest → 0 < length rest
+some_lost rest (at_line_end c more e is) = omega (arith, ap length e)
+some_lost rest (one_digit x c more e dx nc) = omega (arith, ap length e)
+some_lost rest (two_digits x y c more e dx dy nc) = omega (arith, ap length e)
+some_lost rest (too_great x y z more e dx dy dz great) = omega (arith, ap length e)
+
+some_of_lost : (octets : List ℕ) → IsLostToken octets → 0 < length octets
+some_of_lost octets (in_quotes_lost inside n are first lost) = omega (arith, ap length first)
+some_of_lost octets (in_bare_lost n are lost) = omega (arith, ap length are.whole, length-append (written_text are.units) are.rest, some_lost are.rest lost)
+
+pub walked_lost : (octets rest : List ℕ) (depth feeds k n : ℕ) (keeps : Bool) (kept : List RawItem) → Walked octets rest depth feeds keeps kept → IsLostToken (take k rest) × (k ≤ length rest) → n ≡ length octets - length rest + k → IsBrokenOff (take n octets) BadEscape × (n ≤ length octets)
+walked_lost octets rest depth feeds k n keeps kept so_far (lost, within) count =
+    let front : List ℕ = take k rest in
+    let parts : rest ≡ front ++ drop k rest = sym (take-append-drop k rest) in
+    let size : n ≡ length octets - length (drop k rest) = omega (arith, count, within, length-drop k rest, ap length so_far.whole, length-append (text so_far.before) rest) in
+    let cut = cut_at octets rest front (drop k rest) depth feeds n keeps kept so_far parts size in
+    (subst (λ t. IsBrokenOff t BadEscape) (sym cut.0) (lost_there (text so_far.before ++ front) front depth feeds keeps kept (walked_cut octets rest front (drop k rest) depth feeds keeps kept so_far parts (some_of_lost front lost)) lost), cut.1)
 
 -- a comment has no item
 pub comment_kept : (front : List ℕ) (keeps : Bool) (kept : List RawItem) → ItemIs front [] → KeepsToken front 0 keeps kept kept

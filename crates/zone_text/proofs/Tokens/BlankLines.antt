@@ -1,11 +1,11 @@
 -- Lines without items: what is cut of them, and what follows from octets with such lines after them.
 use Rattle.zone_text.proofs.Entries.Begun.{none_found, none_left}
-use Rattle.zone_text.proofs.Common.{AllByRecursion, AreBlankLines, EndedEntries, EntrySplitter, IsBlankLine, IsOneEntry, List, None, ReadsOctets, Token, [], add-zero, ap, append_assoc, arith, comment, commented, common_steps, decides_none, flat_map, item_of, length, line_feed, ne_eqb, no_lines, one_line_more, refl, rules, subst, sum_by-cons, sym, ℕ, ◌++◌, ◌+◌, ◌<◌, ◌∙◌, ◌∷◌, ◌≡◌, ◌≢◌, ◌≤◌, false, ◌==◌, take-append-drop}
+use Rattle.zone_text.proofs.Common.{AllByRecursion, AreBlankLines, EndedEntries, EntrySplitter, IsBlankLine, IsOneEntry, List, None, ReadsOctets, Token, [], add-zero, ap, append_assoc, arith, comment, commented, common_steps, decides_none, flat_map, item_of, length, line_feed, ne_eqb, no_lines, one_line_more, refl, rules, subst, sum_by-cons, sym, ℕ, ◌++◌, ◌+◌, ◌<◌, ◌∙◌, ◌∷◌, ◌≡◌, ◌≢◌, ◌≤◌, false, ◌==◌}
 use Rattle.zone_text.specs.Machine.Blank.{line_feed as fed_line}
 use Rattle.zone_text.proofs.Tokens.Cuttings.{one_cut}
 use Rattle.zone_text.proofs.Entries.EntryTaken.{lines_after, takes_entry}
 use Rattle.zone_text.proofs.Files.Left.{line_feeds}
-use Rattle.zone_text.proofs.Scanning.FedPieces.{HasFed, fed_more, takes_part}
+use Rattle.zone_text.proofs.Scanning.FedPieces.{HasFed, fed_more, fed_part, part_less}
 use Rattle.zone_text.proofs.Scanning.FirstEntries.{fed_one, feeds_of_both, none_in}
 
 -- ---- a line as an entry
@@ -60,13 +60,13 @@ empty_read octets old is none =
 abbrev lines_on : ℕ → EntrySplitter → EntrySplitter
 lines_on n s = record s { ended = with_line (s.ended.line + n) s.ended }
 
-pub fed_lines : (old mid : EntrySplitter) (piece rest after : List ℕ) (n : ℕ) → HasFed old mid piece rest → mid.ended.decided.ending ≡ None → mid.unfinished.items ≡ [] → AreBlankLines rest after n → HasFed old (lines_on n mid) piece after
+pub fed_lines : (old mid : EntrySplitter) (piece rest after : List ℕ) (n : ℕ) → HasFed old mid piece rest → mid.ended.decided.ending ≡ None → mid.unfinished.octets ≡ [] → AreBlankLines rest after n → HasFed old (lines_on n mid) piece after
 fed_lines old mid piece rest _ _ before none empty no_lines = rw add-zero before
 fed_lines old mid piece rest _ _ before none empty (one_line_more line after n are is) =
     let found = line_alone line after is in
     let same : mid.ended.line + n + 1 ≡ mid.ended.line + (n + 1) = omega arith in
     fed_one old (lines_on n mid) (lines_on (n + 1) mid) piece line found.0 after found.2.tokens (fed_lines old mid piece rest line n before none empty are) none empty found.2.one found.1
-    (rw same at (empty_read found.0 (lines_on n mid).ended found.2 none)) refl refl
+    (rw same at (empty_read found.0 (lines_on n mid).ended found.2 none)) refl
 
 -- lines after lines
 pub lines_joined : (octets middle rest : List ℕ) (n more : ℕ) → AreBlankLines octets middle n → AreBlankLines middle rest more → AreBlankLines octets rest (n + more)
@@ -82,6 +82,6 @@ line_shorter line rest h = grind (arith, common_steps)
 pub not_empty : (octets : List ℕ) → false ≡ (length octets == 0) → octets ≡ [] → ⊥
 not_empty octets some none = search rules
 
-pub ruleset feeds = (fed_lines, fed_more, none_found, none_left, not_empty, take-append-drop, takes_part)
+pub ruleset feeds = (fed_part, part_less, none_found, none_left, not_empty)
 
 pub ruleset lines_taken = (fed_line, no_lines, one_line_more)

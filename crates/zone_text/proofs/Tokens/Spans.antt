@@ -1,33 +1,58 @@
 -- How far an item or a comment goes, as it is looked for from the left.
-use Rattle.zone_text.proofs.Common.{All, AllByRecursion, AllByRecursion-append, Bool, EndsAt, IsBadEscape, IsCutOff, IsLostEscape, IsUnit, List, Token, Written, [], after_backslash, after_digit, after_two_digits, ap, append-nil, append_assoc, arith, bare, before_line_feed, both_ways, comment, drop, drop-append_seam, ends_item, eqb-true, false, flat_map-append, from_line_feed, get_or, inl, inr, is_digit, is_quote, item_of, length, length-append, length-drop, length-take, map, ne_eqb, plain, quoted, refl, sym, subst, take, take-append-drop, take-append_seam, text_of, token_text, true, written_text, ℕ, ◌++◌, ◌+◌, ◌-◌, ◌<◌, ◌==◌, ◌∙◌, ◌∷◌, ◌≡◌, ◌≢◌, ◌≤◌, ◌||◌, ◌⊎◌}
+use Rattle.std.proofs.Math.Logic.{⊎_elim}
+use Rattle.zone_text.proofs.Common.{All, AllByRecursion, AllByRecursion-append, Bool, EndsAt, IsBadEscape, IsCutOff, IsLostEscape, IsUnit, List, Token, Written, [], after_backslash, after_digit, after_two_digits, ap, append-nil, append_assoc, arith, bare, before_line_feed, both_ways, comment, drop, drop-append_seam, ends_item, eqb-true, false, flat_map-append, from_line_feed, get_or, inl, inr, is_digit, is_quote, item_of, length, length-append, length-drop, length-take, map, ne_eqb, plain, quoted, refl, sym, subst, take, take-append-drop, take-append_seam, text_of, token_text, true, written_text, ℕ, ◌++◌, ◌+◌, ◌-◌, ◌<◌, ◌==◌, ◌∙◌, ◌∷◌, ◌≡◌, ◌≢◌, ◌≤◌, ◌||◌, at_line_end, one_digit, two_digits, too_great, decimal, escaped, octet_of, cases_eq, cases_lt, cases_Bool, suc, zero, Some}
 use Rattle.zone_rdata.specs.Item as raw
 use Rattle.zone_rdata.specs.Item.{RawItem}
 use Rattle.zone_text.proofs.Scanning.StopMarks.{first_at}
 use Rattle.zone_text.proofs.Scanning.StopMarks.{nothing_left as none_beyond}
 use Rattle.zone_text.proofs.Tokens.Cuttings.{EndsComment, begins, comment_dropped, comment_each, comment_ends, comment_whole, some_octet}
-use Rattle.zone_text.proofs.Tokens.ForGood.{bad_is_malformed}
 use Rattle.zone_text.proofs.Tokens.ItemsLeft.{IsWrittenTo, at_mark, each_plain, plain_text, stops_or}
-use Rattle.zone_text.specs.Machine.Spans.{AreUnits, BeginsToken, EndsHere, EndsToken, IsCutOffBy, IsItemOrComment, IsOpenToken, IsSeenComment, IsSpan, IsTokenSpan, between, in_bare, in_bare_lost, in_comment, in_quotes, in_quotes_lost}
+use Rattle.zone_text.specs.Machine.Spans.{AreUnits, BeginsToken, EndsHere, EndsToken, IsLostBy, IsItemOrComment, IsOpenToken, IsSeenComment, IsSpan, IsTokenSpan, between, in_bare, in_bare_lost, in_comment, in_quotes, in_quotes_lost}
 use Rattle.zone_text.specs.Tokens.{IsToken}
 use Rattle.zone_text.specs.declared.token.Span.{Span}
 use Rattle.zone_text.specs.declared.token.Span.TheVariants as spans
 
--- ---- the octets after a backslash
+-- ---- the octets after a backslash that begins no escape
 
-pub no_digit : (after more : List ℕ) (c : ℕ) → after ≡ c ∷ more → is_digit c ≡ false → IsCutOff (92 ∷ after) → ⊥
-no_digit after more c first other (after_backslash e) = let t : ⊥ = cc in t
-no_digit after more c first other (after_digit x e dx) = let same : x ≡ c = cc in both_ways (is_digit c) other (subst (λ d. is_digit d ≡ true) same dx)
-no_digit after more c first other (after_two_digits x y e dx dy) = let same : x ≡ c = cc in both_ways (is_digit c) other (subst (λ d. is_digit d ≡ true) same dx)
+lost_one : (after more : List ℕ) (c : ℕ) → after ≡ c ∷ more → is_digit c ≡ false → IsBadEscape (92 ∷ after) → IsLostEscape (92 ∷ c ∷ [])
+lost_one after more c first other bad =
+    ⊎_elim (λ feed. at_line_end c [] refl (inl feed))
+    (λ no_feed. ⊎_elim (λ return. at_line_end c [] refl (inr return)) (λ no_return. absurd (bad.2 (escaped c) more (other, no_feed, no_return) (ap (λ t. 92 ∷ t) first))) (cases_eq c 13))
+    (cases_eq c 10)
 
-pub no_digits : (after more rest : List ℕ) (c d : ℕ) → after ≡ c ∷ more → more ≡ d ∷ rest → is_digit d ≡ false → IsCutOff (92 ∷ after) → ⊥
-no_digits after more rest c d first second other (after_backslash e) = let t : ⊥ = cc in t
-no_digits after more rest c d first second other (after_digit x e dx) = let t : ⊥ = cc in t
-no_digits after more rest c d first second other (after_two_digits x y e dx dy) = let same : y ≡ d = cc in both_ways (is_digit d) other (subst (λ f. is_digit f ≡ true) same dy)
+lost_three : (after more rest left : List ℕ) (c d e : ℕ) → after ≡ c ∷ more → more ≡ d ∷ rest → rest ≡ e ∷ left → is_digit c ≡ true → is_digit d ≡ true → IsBadEscape (92 ∷ after) → IsLostEscape (92 ∷ c ∷ d ∷ e ∷ [])
+lost_three after more rest left c d e first second third dc dd bad =
+    ⊎_elim (λ de. ⊎_elim (λ great. too_great c d e [] refl dc dd de great) (λ few. absurd (bad.2 (decimal c d e) left (dc, dd, de, few) (ap (λ t. 92 ∷ t) (first ∙ ap (λ t. c ∷ t) (second ∙ ap (λ t. d ∷ t) third))))) (cases_lt 255 (octet_of (decimal c d e))))
+    (λ ne. two_digits c d e [] refl dc dd ne)
+    (cases_Bool (is_digit e))
 
-pub no_more : (after more rest : List ℕ) (c d : ℕ) → after ≡ c ∷ more → more ≡ d ∷ rest → (rest ≡ [] → ⊥) → IsCutOff (92 ∷ after) → ⊥
-no_more after more rest c d first second some (after_backslash e) = let t : ⊥ = cc in t
-no_more after more rest c d first second some (after_digit x e dx) = let t : ⊥ = cc in t
-no_more after more rest c d first second some (after_two_digits x y e dx dy) = some (let t : rest ≡ [] = cc in t)
+pub nothing_after : (after : List ℕ) → after ≡ [] → IsCutOff (92 ∷ after)
+nothing_after after none = after_backslash (ap (λ t. 92 ∷ t) none)
+
+pub one_after : (after digits : List ℕ) (c : ℕ) → after ≡ c ∷ digits → digits ≡ [] → is_digit c ≡ true → IsCutOff (92 ∷ after)
+one_after after digits c first none digit = after_digit c (ap (λ t. 92 ∷ t) (first ∙ ap (λ t. c ∷ t) none)) digit
+
+pub two_after : (after digits rest : List ℕ) (c d : ℕ) → after ≡ c ∷ digits → digits ≡ d ∷ rest → rest ≡ [] → is_digit c ≡ true → is_digit d ≡ true → IsCutOff (92 ∷ after)
+two_after after digits rest c d first second none digit next = after_two_digits c d (ap (λ t. 92 ∷ t) (first ∙ ap (λ t. c ∷ t) (second ∙ ap (λ t. d ∷ t) none))) digit next
+
+pub no_digit_after : (after more : List ℕ) (c : ℕ) → after ≡ c ∷ more → is_digit c ≡ false → IsBadEscape (92 ∷ after) → IsLostBy after (Some 1)
+no_digit_after after more c first other bad = (subst (λ t. IsLostEscape (92 ∷ take 1 t)) (sym first) (lost_one after more c first other bad), omega (arith, ap length first))
+
+pub one_digit_after : (after more rest : List ℕ) (c d : ℕ) → after ≡ c ∷ more → more ≡ d ∷ rest → is_digit c ≡ true → is_digit d ≡ false → IsLostBy after (Some 2)
+one_digit_after after more rest c d first second dc nd =
+    let whole : after ≡ c ∷ d ∷ rest = first ∙ ap (λ t. c ∷ t) second in
+    (subst (λ t. IsLostEscape (92 ∷ take 2 t)) (sym whole) (one_digit c d [] refl dc nd), omega (arith, ap length whole))
+
+pub two_digits_after : (after more rest : List ℕ) (c d : ℕ) → after ≡ c ∷ more → more ≡ d ∷ rest → (rest ≡ [] → ⊥) → is_digit c ≡ true → is_digit d ≡ true → IsBadEscape (92 ∷ after) → IsLostBy after (Some 3)
+two_digits_after after more [] c d first second some dc dd bad = absurd (some refl)
+two_digits_after after more (e ∷ left) c d first second some dc dd bad =
+    let whole : after ≡ c ∷ d ∷ e ∷ left = first ∙ ap (λ t. c ∷ t) second in
+    (subst (λ t. IsLostEscape (92 ∷ take 3 t)) (sym whole) (lost_three after more (e ∷ left) left c d e first second refl dc dd bad), omega (arith, ap length whole))
+
+pub take_past : (xs ys : List ℕ) (n : ℕ) → length xs ≤ n → take n (xs ++ ys) ≡ xs ++ take (n - length xs) ys
+take_past [] ys n within = ap (λ k. take k ys) (let e : n ≡ n - 0 = omega arith in e)
+take_past (x ∷ xs) ys zero within = absurd (omega (arith, within))
+take_past (x ∷ xs) ys (suc n) within = ap (λ t. x ∷ t) (take_past xs ys n (omega (arith, within)) ∙ ap (λ k. xs ++ take k ys) (let e : n - length xs ≡ suc n - length (x ∷ xs) = omega arith in e))
 
 -- ---- units
 
@@ -73,13 +98,24 @@ pub span_open : (ends : ℕ → Bool) (octets escape : List ℕ) (len : ℕ) →
 unfolding units_to
 span_open ends octets escape len is less mark back cut = (units_to ends octets len is, inr (subst IsCutOff (sym (at_mark octets escape len less mark back)) cut))
 
-pub span_lost : (ends : ℕ → Bool) (octets escape : List ℕ) (len : ℕ) → IsWrittenTo ends octets len → len < length octets → get_or octets len 0 ≡ 92 → escape ≡ drop (len + 1) octets → IsBadEscape (92 ∷ escape) → (IsCutOff (92 ∷ escape) → ⊥) → IsSpan ends octets spans.Lost
+pub span_lost : (ends : ℕ → Bool) (octets escape : List ℕ) (len more n : ℕ) → IsWrittenTo ends octets len → len < length octets → get_or octets len 0 ≡ 92 → escape ≡ drop (len + 1) octets → IsLostBy escape (Some more) → n ≡ len + 1 + more → IsSpan ends octets (spans.Lost n)
 unfolding units_to
-span_lost ends octets escape len is less mark back bad no_cut = by (bad_is_malformed (92 ∷ escape) bad)
-  where
-    by : IsLostEscape (92 ∷ escape) ⊎ IsCutOff (92 ∷ escape) → IsSpan ends octets spans.Lost
-    by (inl lost) = (len, units_to ends octets len is, subst IsLostEscape (sym (at_mark octets escape len less mark back)) lost)
-    by (inr cut) = absurd (no_cut cut)
+span_lost ends octets escape len more n is less mark back lost count =
+    let are = units_to ends octets len is in
+    let before : List ℕ = written_text are.units in
+    let whole : octets ≡ before ++ 92 ∷ escape = are.whole ∙ ap (λ t. before ++ t) (at_mark octets escape len less mark back) in
+    let left : n - length before ≡ suc more = omega (arith, count, are.len) in (
+      len,
+      record {
+        units = are.units;
+        rest = 92 ∷ take more escape;
+        each = are.each;
+        whole = ap (take n) whole ∙ take_past before (92 ∷ escape) n (omega (arith, count, are.len)) ∙ ap (λ k. before ++ take k (92 ∷ escape)) left;
+        len = are.len;
+      },
+      lost.0,
+      omega (arith, count, lost.1, are.len, ap length whole, length-append before (92 ∷ escape)),
+    )
 
 pub span_end : (ends : ℕ → Bool) (octets : List ℕ) (len : ℕ) → IsWrittenTo ends octets len → length octets ≤ len → IsSpan ends octets (spans.Open len)
 unfolding units_to
@@ -107,8 +143,10 @@ quoted_whole inside n m (are, here) count begin = by are.rest here are.whole
 pub quoted_open : (inside : List ℕ) (n m : ℕ) → IsSpan is_quote inside (spans.Open n) → m ≡ n + 1 → IsTokenSpan (34 ∷ inside) (spans.Open m)
 quoted_open inside n m (are, ended) count = in_quotes inside n are refl ended count
 
-pub quoted_lost : (inside : List ℕ) → IsSpan is_quote inside spans.Lost → IsTokenSpan (34 ∷ inside) spans.Lost
-quoted_lost inside (n, are, lost) = in_quotes_lost inside n are refl lost
+pub quoted_lost : (inside : List ℕ) (n m : ℕ) → IsSpan is_quote inside (spans.Lost n) → m ≡ n + 1 → IsTokenSpan (34 ∷ inside) (spans.Lost m)
+quoted_lost inside n m (k, are, lost, within) count =
+    let more : m ≡ suc n = omega (arith, count) in
+    (in_quotes_lost (take n inside) k are (ap (λ j. take j (34 ∷ inside)) more) lost, omega (arith, count, within))
 
 -- ---- a comment
 
@@ -162,7 +200,7 @@ goes_on (d ∷ text) more c first no_comment no_quote (inr (inr mark)) here = no
 pub bare_span : (text more : List ℕ) (c : ℕ) (span : Span) → text ≡ c ∷ more → c ≢ 59 → c ≢ 34 → IsSpan ends_item text span → IsTokenSpan text span
 bare_span text more c (spans.Whole n) first no_comment no_quote (are, here) = λ begin. bare_whole text n are.units are.rest are.each are.whole are.len here (goes_on text more c first no_comment no_quote begin)
 bare_span text more c (spans.Open n) first no_comment no_quote (are, ended) = in_bare are ended (omega (arith, ap length first))
-bare_span text more c spans.Lost first no_comment no_quote (n, are, lost) = in_bare_lost n are lost
+bare_span text more c (spans.Lost n) first no_comment no_quote (k, are, lost, within) = (in_bare_lost k are lost, within)
 
 -- ---- numbers that fit
 
@@ -197,12 +235,3 @@ bare_item token no_comment no_quote (bare units) text_is token_is kind = ap (λ 
 bare_item token no_comment no_quote (quoted units) text_is token_is kind = absurd (no_quote (written_text units ++ 34 ∷ []) text_is)
 bare_item token no_comment no_quote (comment octets) text_is token_is kind = absurd (no_comment octets text_is)
 bare_item token no_comment no_quote p text_is token_is kind = absurd kind
-
-pub one_cut : (after digits : List ℕ) (c : ℕ) → after ≡ c ∷ digits → digits ≡ [] → is_digit c ≡ true → IsCutOff (92 ∷ after)
-one_cut after digits c first none digit = after_digit c (ap (λ t. 92 ∷ t) (first ∙ ap (λ t. c ∷ t) none)) digit
-
-pub two_cut : (after digits rest : List ℕ) (c d : ℕ) (b : Bool) → after ≡ c ∷ digits → digits ≡ d ∷ rest → is_digit c ≡ true → is_digit d ≡ true → b ≡ (length rest == 0) → IsCutOffBy after b
-two_cut after digits [] c d b first second digit next is = subst (IsCutOffBy after) (sym is) (after_two_digits c d (ap (λ t. 92 ∷ t) (first ∙ ap (λ t. c ∷ t) second)) digit next)
-two_cut after digits (x ∷ rest) c d b first second digit next is = subst (IsCutOffBy after) (sym (is ∙ ne_eqb (length (x ∷ rest)) 0 (λ e. let t : ⊥ = omega (arith, e) in t))) (no_more after digits (x ∷ rest) c d first second (λ e. let t : ⊥ = cc in t))
-
-pub ruleset cut_offs = (no_digit, no_digits)

@@ -10,14 +10,12 @@ use Rattle.zone_text.specs.Decided.{FileDecides}
 use Rattle.zone_text.specs.ParserState.{IsStateAfter}
 use Rattle.zone_text.specs.Entries.{Entry, entry_of}
 use Rattle.zone_text.specs.FileReads.{FileReads, ReadEach}
-use Rattle.zone_text.specs.Machine.Scan.{beginning, scan_of}
+use Rattle.zone_text.specs.OpenEntry.{HeldEntry}
 use Rattle.zone_text.specs.Tokens.{Token, Cuts, text}
 use Rattle.zone_text.specs.TextSource.{FileKept, FileLeaves}
 use Rattle.zone_text.specs.declared.ended.EndedEntries.{EndedEntries}
 use Rattle.zone_text.specs.declared.splitter.EntrySplitter.{EntrySplitter}
-use Rattle.zone_text.specs.declared.scan.ScanState.{ScanState}
-use Rattle.zone_text.specs.declared.scan.Step.{Step}
-use Rattle.zone_text.specs.declared.scan.Step.TheVariants.{On}
+use Rattle.zone_text.specs.declared.open_entry.EntryState.TheVariants.{Open}
 
 -- An entry was read after others: the record that it states came after theirs, or its fault was
 -- decided. If it is no fault, the state and the line are those after the entry.
@@ -45,32 +43,38 @@ pub record Follow (origin : Labels) (ended : EndedEntries) (unfinished : List �
   pub decided : FileDecides origin fed (given ++ ended.decided.placed) ended.decided.ending
   pub leave : ended.decided.ending ≡ None → FileLeaves origin fed ended.state ended.line unfinished
 
--- the scan of octets took all of them, and they lead there
-abbrev pub ScansTo : ScanState → List ℕ → Step → Type 0
-ScansTo start octets step = scan_of start octets ≡ record { taken = length octets; step = step }
-
--- the octets of the unfinished entry lead to the state, and are dropped where a fault is decided
-pub record IsSplitter (ended : EndedEntries) (at : ScanState) (unfinished : List ℕ) : Type 0 where
-  pub state : ScansTo beginning unfinished (On at)
-  pub dropped : (found : Fault × Place) → ended.decided.ending ≡ Some found → unfinished ≡ []
+-- the unfinished entry isn't ended, and its octets are dropped where a fault is decided
+pub record IsSplitter (ended : EndedEntries) (unfinished : HeldEntry) : Type 0 where
+  pub state : unfinished.state ≡ Open
+  pub dropped : (found : Fault × Place) → ended.decided.ending ≡ Some found
+      → unfinished.octets ≡ []
   pub line : 1 ≤ ended.line
 
 -- the line of the unfinished entry and the number of its octets so far, together
 abbrev pub reach : EntrySplitter → ℕ
-reach s = s.ended.line + length s.unfinished.items
+reach s = s.ended.line + length s.unfinished.octets
 
 -- what follows from the octets before goes on with these
 abbrev pub FollowOn : EntrySplitter → List ℕ → EntrySplitter → Type 0
 FollowOn old part new =
     (origin : Labels) (fed : List ℕ) (given : List Placed)
-    → Follow origin old.ended old.unfinished.items fed given
-    → Follow origin new.ended new.unfinished.items (fed ++ part) given
+    → Follow origin old.ended old.unfinished.octets fed given
+    → Follow origin new.ended new.unfinished.octets (fed ++ part) given
+
+-- some of the octets at the front were taken, and the others are left
+pub record TakesPart (old : EntrySplitter) (octets left : List ℕ) (new : EntrySplitter) : Type 0 where
+  pub part : List ℕ
+  pub whole : octets ≡ part ++ left
+  pub some : 0 < length part
+  pub is : IsSplitter new.ended new.unfinished
+  pub near : reach new ≤ reach old + length part
+  pub follow : FollowOn old part new
 
 -- what is read of a file that ends there
 abbrev pub ReadsAll : EntrySplitter → EntrySplitter → Type 0
 ReadsAll old new =
     (origin : Labels) (fed : List ℕ) (given : List Placed)
-    → Follow origin old.ended old.unfinished.items fed given
+    → Follow origin old.ended old.unfinished.octets fed given
     → FileReads origin fed (given ++ new.ended.decided.placed) new.ended.decided.ending
 
 -- a source as contracts see it
@@ -93,10 +97,10 @@ state_of status fed ended unfinished = record {
 
 -- what a source holds: nothing of the unfinished entry once it has failed or the file has ended,
 -- and numbers that fit
-pub record IsSource (status : FedStatus) (fed : ℕ) (ended : EndedEntries) (at : ScanState)
-    (unfinished : List ℕ) : Type 0 where
-  pub is : is_failed status ≡ false → IsSplitter ended at unfinished
-  pub line : is_failed status ≡ false → ended.line + length unfinished ≤ fed + 1
+pub record IsSource (status : FedStatus) (fed : ℕ) (ended : EndedEntries)
+    (unfinished : HeldEntry) : Type 0 where
+  pub is : is_failed status ≡ false → IsSplitter ended unfinished
+  pub line : is_failed status ≡ false → ended.line + length unfinished.octets ≤ fed + 1
   pub fits : fed + 1 < 2 ^ 64
-  pub none_failed : is_failed status ≡ true → unfinished ≡ []
-  pub none_finished : is_finished status ≡ true → unfinished ≡ []
+  pub none_failed : is_failed status ≡ true → unfinished.octets ≡ []
+  pub none_finished : is_finished status ≡ true → unfinished.octets ≡ []

@@ -1,5 +1,5 @@
 -- How far an item or a comment goes, where octets may end before it does (RFC 1035 5.1).
-use Rattle.std.specs.Prelude.{◌≡◌, ◌≢◌, ⊤, ℕ, ◌+◌, ◌-◌, ◌<◌, ◌≤◌, List, [], ◌∷◌, ◌++◌, length, take, Bool, true, false, ◌⊎◌}
+use Rattle.std.specs.Prelude.{◌≡◌, ◌≢◌, ⊤, ℕ, ◌+◌, ◌-◌, ◌<◌, ◌≤◌, List, [], ◌∷◌, ◌++◌, length, take, Bool, true, false, ◌⊎◌, Option, Some, None}
 use Rattle.std.specs.List.{AllByRecursion}
 use Rattle.zone_name.specs.Spelling.{Written, written_text, IsUnit}
 use Rattle.zone_rdata.specs.Spelling.{RawItem}
@@ -56,14 +56,16 @@ EndsHere ends (c ∷ rest) = ends c ≡ true
 abbrev pub RunsOut : List ℕ → Type 0
 RunsOut rest = (rest ≡ []) ⊎ IsCutOff rest
 
-abbrev pub IsCutOffBy : List ℕ → Bool → Type 0
-IsCutOffBy after true = IsCutOff (92 ∷ after)
-IsCutOffBy after false = IsCutOff (92 ∷ after) → ⊥
+-- so many of the octets after a backslash show that it begins no escape, or they end within one
+abbrev pub IsLostBy : List ℕ → Option ℕ → Type 0
+IsLostBy after None = IsCutOff (92 ∷ after)
+IsLostBy after (Some n) = IsLostEscape (92 ∷ take n after) × (n ≤ length after)
 
 abbrev pub IsSpan : (ℕ → Bool) → List ℕ → Span → Type 0
 IsSpan ends octets (Whole n) = (are : AreUnits ends octets n) × EndsHere ends are.rest
 IsSpan ends octets (Open n) = (are : AreUnits ends octets n) × RunsOut are.rest
-IsSpan ends octets Lost = (n : ℕ) × (are : AreUnits ends octets n) × IsLostEscape are.rest
+IsSpan ends octets (Lost n) =
+    (k : ℕ) × (are : AreUnits ends (take n octets) k) × IsLostEscape are.rest × (n ≤ length octets)
 
 -- ---- the item or comment at the front
 
@@ -105,7 +107,7 @@ BeginsToken (c ∷ rest) = (ends_item c ≡ false) ⊎ ((c ≡ 34) ⊎ (c ≡ 59
 abbrev pub IsTokenSpan : List ℕ → Span → Type 0
 IsTokenSpan octets (Whole n) = BeginsToken octets → EndsToken octets n
 IsTokenSpan octets (Open n) = IsOpenToken octets n
-IsTokenSpan octets Lost = IsLostToken octets
+IsTokenSpan octets (Lost n) = IsLostToken (take n octets) × (n ≤ length octets)
 
 -- if the octets are an item or a comment, these are its items
 abbrev pub ItemIs : List ℕ → List RawItem → Type 0

@@ -68,6 +68,7 @@ pub record StandsAt (octets : List ℕ) (at : At) (keeps : Bool) (kept : List Ra
   pub walked : Walked octets (drop at.start octets) at.depth at.feeds keeps kept
   pub seen : IsSeen (drop at.start octets) (at.seen - at.start)
   pub within : at.start ≤ length octets
+  pub order : at.start ≤ at.seen
 
 -- a walk came to the end of the octets there
 pub record StandsOpen (octets : List ℕ) (at : At) (keeps : Bool)
@@ -91,8 +92,10 @@ pub record EndsEntry (octets : List ℕ) (n feeds : ℕ) (keeps : Bool)
 abbrev pub IsWalked : List ℕ → Bool → List RawItem → Reached → Type 0
 IsWalked octets keeps kept (reached.Ends n feeds) = EndsEntry octets n feeds keeps kept
 IsWalked octets keeps kept (reached.Open at) = StandsOpen octets at keeps kept
-IsWalked octets keeps kept reached.LostEscape = IsBrokenOff octets BadEscape
-IsWalked octets keeps kept reached.ClosesNothing = IsBrokenOff octets UnbalancedParenthesis
+IsWalked octets keeps kept (reached.LostEscape n) =
+    IsBrokenOff (take n octets) BadEscape × (n ≤ length octets)
+IsWalked octets keeps kept (reached.ClosesNothing n) =
+    IsBrokenOff (take n octets) UnbalancedParenthesis × (n ≤ length octets)
 
 -- ---- a token more
 

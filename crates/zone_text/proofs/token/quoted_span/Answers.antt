@@ -9,4 +9,4 @@ pub returns-in-Open : goal.returns-in-Open
 returns-in-Open c = quoted_open c.args.inside.now c.in-Open.len _ (rw c.in-Open.is at c.item_span.ensures) refl
 
 pub returns-in-Lost : goal.returns-in-Lost
-returns-in-Lost c = quoted_lost c.args.inside.now (rw c.in-Lost.is at c.item_span.ensures)
+returns-in-Lost c = quoted_lost c.args.inside.now c.in-Lost.len _ (rw c.in-Lost.is at c.item_span.ensures) refl

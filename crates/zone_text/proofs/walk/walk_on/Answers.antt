@@ -39,7 +39,7 @@ pub returns-in-ClosesNothing : goal.returns-in-ClosesNothing
 returns-in-ClosesNothing c =
     let so_far = walked_bare c.args.octets.now c.loop-stops.rest.now c.split_at-in-loop-stops.result.0.now c.split_at-in-loop-stops.result.1.now c.in-Some.after.now c.loop-stops.depth c.loop-stops.feeds c.in-Some.stop.now c.bare_len-len.result.0 c.args.keeps _ _ c.loop-stops.invariant.walked c.bare_len-len.ensures.len c.split_at-in-loop-stops.ensures.front c.split_at-in-loop-stops.ensures.back c.in-Some.ensures.cases.0 c.if-stop-eq92.false c.in_ok-keep_bare.ensures in
     let ends = mark_closing c.loop-stops.depth c.in-Some.stop.now (rw c.in-ClosesNothing.is at c.mark_at.ensures) in
-    walked_closes c.args.octets.now c.split_at-in-loop-stops.result.1.now c.in-Some.after.now c.loop-stops.feeds c.args.keeps _ (subst (λ d. Walked c.args.octets.now c.split_at-in-loop-stops.result.1.now d c.loop-stops.feeds c.args.keeps (map raw c.keep_bare.new.items.items)) ends.1 so_far) (first_octet _ _ _ 41 c.in-Some.ensures.cases.0 ends.0)
+    walked_closes c.args.octets.now c.split_at-in-loop-stops.result.1.now c.in-Some.after.now c.loop-stops.feeds _ c.args.keeps _ (subst (λ d. Walked c.args.octets.now c.split_at-in-loop-stops.result.1.now d c.loop-stops.feeds c.args.keeps (map raw c.keep_bare.new.items.items)) ends.1 so_far) (first_octet _ _ _ 41 c.in-Some.ensures.cases.0 ends.0) refl
 
 pub split_at-requires-in-Whole : goal.split_at-requires-in-Whole
 split_at-requires-in-Whole c =
@@ -107,4 +107,4 @@ returns-in-Lost c =
       | then-stop-eq92 w ↦ rw (w.items-is, w.token-is) (here_escape c.args.octets.now c.loop-stops.rest.now _ c.in-Some.after.now c.loop-stops.depth c.loop-stops.feeds c.in-Some.stop.now _ c.args.keeps _ c.loop-stops.invariant.walked c.bare_len-len.ensures.len c.split_at-in-loop-stops.ensures.back c.in-Some.ensures.cases.0 w.if-stop-eq92.true)
       | else-stop-eq92+in_ok-keep_bare+in-Begins w ↦ rw (w.items-is, w.token-is) (here_mark c.args.octets.now c.loop-stops.rest.now _ c.in-Some.after.now c.loop-stops.depth c.loop-stops.feeds c.in-Some.stop.now c.bare_len-len.result.0 c.args.keeps _ (walked_bare c.args.octets.now c.loop-stops.rest.now c.split_at-in-loop-stops.result.0.now c.split_at-in-loop-stops.result.1.now c.in-Some.after.now c.loop-stops.depth c.loop-stops.feeds c.in-Some.stop.now c.bare_len-len.result.0 c.args.keeps _ _ c.loop-stops.invariant.walked c.bare_len-len.ensures.len c.split_at-in-loop-stops.ensures.front c.split_at-in-loop-stops.ensures.back c.in-Some.ensures.cases.0 w.if-stop-eq92.false w.in_ok-keep_bare.ensures) c.split_at-in-loop-stops.ensures.back c.in-Some.ensures.cases.0 (rw w.in-Begins.is at w.mark_at.ensures))
     ] in
-    walked_lost c.args.octets.now c.if-stop-eq92.token.now c.loop-stops.depth c.loop-stops.feeds c.args.keeps _ here.walked (rw c.in-Lost.is at c.token_span.ensures)
+    walked_lost c.args.octets.now c.if-stop-eq92.token.now c.loop-stops.depth c.loop-stops.feeds c.in-Lost.len _ c.args.keeps _ here.walked (rw c.in-Lost.is at c.token_span.ensures) refl

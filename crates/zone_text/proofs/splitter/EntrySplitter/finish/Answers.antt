@@ -6,7 +6,7 @@ use Rattle.zone_text.proofs.splitter.EntrySplitter.finish.Goals.{then-is_none+in
 
 pub returns-clause-is : goal.returns-clause-is
 returns-clause-is c =
-    nothing_taken c.drop_unfinished.new.self.ended c.drop_unfinished.new.self.at c.drop_unfinished.new.self.unfinished.items c.drop_unfinished.ensures.at c.drop_unfinished.ensures.none
+    nothing_taken c.drop_unfinished.new.self.ended c.drop_unfinished.new.self.unfinished c.drop_unfinished.ensures.none c.drop_unfinished.ensures.state
     (subst (λ (s : EndedEntries). 1 ≤ s.line) (sym c.drop_unfinished.ensures.ended) (elim c.if-is_none.branch [
       | then-is_none+in_ok-end_last w ↦ subst (λ (s : EntrySplitter). 1 ≤ s.ended.line) (sym w.self-is) (omega (arith, w.in_ok-end_last.ensures.later, c.requires.is.line))
       | else-is_none w ↦ subst (λ (s : EntrySplitter). 1 ≤ s.ended.line) (sym w.self-is) c.requires.is.line
@@ -19,5 +19,5 @@ returns-clause-reads c origin fed given follow =
       | then-is_none+in_ok-end_last w ↦ subst (λ (s : EntrySplitter). Reads origin fed given s.ended) (sym w.self-is) (w.in_ok-end_last.ensures.reads origin fed given follow)
       | else-is_none w ↦
           let found = some_found c.args.self.now.ended.decided.ending w.if-is_none.ensures in
-          subst (λ (s : EntrySplitter). Reads origin fed given s.ended) (sym w.self-is) (end_of_fault origin c.args.self.now.ended found.0 c.args.self.now.unfinished.items fed given found.1 follow)
+          subst (λ (s : EntrySplitter). Reads origin fed given s.ended) (sym w.self-is) (end_of_fault origin c.args.self.now.ended found.0 c.args.self.now.unfinished.octets fed given found.1 follow)
     ])
