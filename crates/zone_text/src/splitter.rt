@@ -11,6 +11,9 @@ use crate::walk::{Reached, walk};
 use std::alloc::{AllocError, Global};
 use zone_name::Name;
 
+/// How many octets the unfinished entry takes at once. It copies them, and mostly ends soon.
+const AT_ONCE: usize = 1024;
+
 /// The entries that were ended, and the octets after them.
 #[derive(Drop)]
 pub(crate) struct EntrySplitter {
@@ -65,9 +68,23 @@ impl EntrySplitter {
                     continue;
                 }
             }
-            rest = self.take_part(rest)?;
+            rest = self.take_some(rest)?;
         }
         Ok(())
+    }
+
+    /// As `take_part`, of few octets at once.
+    fn take_some<'p>(&mut self, octets: &'p [u8]) -> Result<&'p [u8], AllocError>
+        requires is { IsSplitter self.old.ended self.old.unfinished }
+        requires undecided { self.old.ended.decided.ending ≡ None }
+        requires some { 0 < length octets.now }
+        requires fits { reach self.old + length octets.now < 2 ^ 64 }
+        ensures { IfOk result (λ left. TakesPart self.old octets.now left.now self.new) }
+    {
+        let (some, _) = octets.split_at(octets.len().min(AT_ONCE));
+        let taken = some.len() - self.take_part(some)?.len();
+        let (_, left) = octets.split_at(taken);
+        Ok(left)
     }
 
     /// Takes octets of the unfinished entry, and gives those that are left of them.

@@ -1,5 +1,6 @@
 -- A piece fed part by part.
-use Rattle.zone_text.proofs.Common.{EndedEntries, EntrySplitter, Fault, Follow, IsBrokenOff, IsOneEntry, IsOpen, IsSplitter, Labels, Line, List, None, Place, Placed, ReadsOctets, Some, [], ap, append-nil, append_assoc, arith, drop, length, length-append, length-take, subst, sym, take, take-append-drop, ℕ, ◌++◌, ◌+◌, ◌<◌, ◌∙◌, ◌≡◌, ◌≤◌}
+use Rattle.zone_text.proofs.Common.{EndedEntries, EntrySplitter, Fault, Follow, IsBrokenOff, IsOneEntry, IsOpen, IsSplitter, Labels, Line, List, None, Place, Placed, ReadsOctets, Some, [], ap, append-nil, append_assoc, arith, drop, length, length-append, length-take, subst, sym, take, take-append-drop, ℕ, ◌++◌, ◌+◌, ◌-◌, ◌<◌, ◌∙◌, ◌≡◌, ◌≤◌}
+use Rattle.std.proofs.Math.Seq.{drop-append_seam}
 use Rattle.zone_text.proofs.Entries.Begun.{nothing_taken}
 use Rattle.zone_text.proofs.Files.Followed.{follow_break, follow_fault, follow_on, follow_one}
 use Rattle.zone_text.specs.Machine.Feeding.{TakesPart}
@@ -25,6 +26,22 @@ whole_of held now octets left taken front = sym (take-append-drop taken.len octe
 
 len_of : (held now : HeldEntry) (octets left : List ℕ) (taken : Taken) → TakesFront held octets left taken now → length (take taken.len octets) ≡ taken.len
 len_of held now octets left taken front = omega (arith, length-take taken.len octets, front.takes.within)
+
+-- what is taken of octets at the front is taken of all
+pub some_of_part : (old new : EntrySplitter) (octets front left rest : List ℕ) (n : ℕ) → front ≡ take n octets → TakesPart old front left new → rest ≡ drop (length front - length left) octets → TakesPart old octets rest new
+some_of_part old new octets front left rest n cut takes back =
+    let beyond : List ℕ = drop n octets in
+    let whole : octets ≡ takes.part ++ (left ++ beyond) = sym (take-append-drop n octets) ∙ ap (λ (f : List ℕ). f ++ beyond) (cc (cut, takes.whole)) ∙ append_assoc takes.part left beyond in
+    let count : length front - length left ≡ length takes.part = omega (arith, ap length takes.whole, length-append takes.part left) in
+    let same : rest ≡ left ++ beyond = back ∙ ap (λ k. drop k octets) count ∙ ap (drop (length takes.part)) whole ∙ drop-append_seam takes.part (left ++ beyond) in
+    record {
+      part = takes.part;
+      whole = whole ∙ ap (λ (l : List ℕ). takes.part ++ l) (sym same);
+      some = takes.some;
+      is = takes.is;
+      near = takes.near;
+      follow = takes.follow;
+    }
 
 -- they lead on
 pub part_open : (old new : EntrySplitter) (octets left : List ℕ) (taken : Taken) → IsSplitter old.ended old.unfinished → old.ended.decided.ending ≡ None → TakesFront old.unfinished octets left taken new.unfinished → taken.state ≡ states.Open → new.ended ≡ old.ended → TakesPart old octets left new
