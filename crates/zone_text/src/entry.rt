@@ -8,6 +8,7 @@ ghost use Rattle.zone_text.specs.Kept.{KeepsItems};
 ghost use Rattle.zone_text.specs.Tokens.{Token, AreTokensOf};
 
 use crate::items::{cut_items, split_token};
+use crate::stops::Stops;
 use crate::walk::{Reached, walk};
 use std::alloc::AllocError;
 use zone_rdata::Item;
@@ -30,7 +31,7 @@ pub enum FirstEntry {
 fn find_entry<'t>(octets: &'t [u8], items: &mut Vec<Item<'t>>) -> Result<FirstEntry, AllocError>
     ensures { IfOk result (λ found. FirstIs octets.now (map raw items.new.items) found) }
 {
-    match walk(octets, items)? {
+    match walk(octets, &mut Stops::unseen(octets), items)? {
         Reached::Ends(len, _feeds) => Ok(FirstEntry::Whole(len)),
         Reached::Open(_at) => {
             items.clear();

@@ -7,6 +7,7 @@ ghost use Rattle.zone_text.specs.declared.open_entry.EntryState.TheVariants.{Ope
 use crate::blank::blank_lines;
 use crate::ended::EndedEntries;
 use crate::open_entry::{EntryState, OpenEntry};
+use crate::stops::Stops;
 use crate::walk::{Reached, walk};
 use std::alloc::{AllocError, Global};
 use zone_name::Name;
@@ -53,15 +54,17 @@ impl EntrySplitter {
     {
         let mut items = Vec::new(self.alloc);
         let mut rest = piece;
+        let mut stops = Stops::unseen(piece);
         while !rest.is_empty() && self.ended.decided.ending.is_none() {
             if self.unfinished.octets().is_empty() {
                 let blank = blank_lines(rest);
                 if blank.count > 0 {
                     self.ended.line += blank.count as u64;
                     rest = blank.rest;
+                    stops = Stops::unseen(rest);
                     continue;
                 }
-                if let Reached::Ends(len, feeds) = walk(rest, &mut items)? {
+                if let Reached::Ends(len, feeds) = walk(rest, &mut stops, &mut items)? {
                     let (entry, after) = rest.split_at(len);
                     self.ended.read_cut(entry, &items, feeds)?;
                     rest = after;
@@ -69,6 +72,7 @@ impl EntrySplitter {
                 }
             }
             rest = self.take_some(rest)?;
+            stops = Stops::unseen(rest);
         }
         Ok(())
     }

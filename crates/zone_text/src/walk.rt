@@ -1,10 +1,11 @@
 //! One walk over an entry, which may stop where octets end and go on with more of them (RFC 1035
 //! 5.1).
-ghost use Rattle.std.specs.Prelude.{◌≡◌, ◌≢◌, ◌∷◌, ◌-◌, ◌<◌, ◌≤◌, ◌^◌, ℕ, List, [], false, length, map, true, IfOk, OnOk};
+ghost use Rattle.std.specs.Prelude.{◌≡◌, ◌≢◌, ◌∷◌, ◌-◌, ◌<◌, ◌≤◌, ◌^◌, ℕ, List, [], false, length, map, true, drop, IfOk, OnOk};
 ghost use Rattle.zone_rdata.specs.Item.{raw};
 ghost use Rattle.zone_text.specs.Machine.ItemLengths.{stops_bare};
 ghost use Rattle.zone_text.specs.Machine.Kept.{KeepsBare};
-ghost use Rattle.zone_text.specs.Machine.Walk.{IsMark, IsWalked, KeepsToken, StandsAt, StandsOpen};
+ghost use Rattle.zone_text.specs.Machine.Stops.{Tells};
+ghost use Rattle.zone_text.specs.Machine.Walk.{IsMark, IsWalked, KeepsToken, StandsAt, StandsOpen, TellsAfter};
 ghost use Rattle.zone_text.specs.OpenEntry.{EndIs};
 
 use crate::ended::line_feeds;
@@ -43,7 +44,9 @@ pub(crate) enum Reached {
 /// What stands where a bare item stops.
 #[derive(Clone, Copy, Drop)]
 enum Mark {
-    /// A token of one octet, after which so many parentheses are open, and its line feeds.
+    /// A blank.
+    Blank,
+    /// Another token of one octet, after which so many parentheses are open, and its line feeds.
     Passes(u64, usize),
     /// The line feed that ends the entry.
     Ends,
@@ -82,7 +85,7 @@ fn mark_at(stop: u8, depth: u64) -> Mark
         b'\n' if depth == 0 => Mark::Ends,
         b'\n' => Mark::Passes(depth, 1),
         // Of what stops a bare item, the other octets up to a space are blanks.
-        _ if stop <= b' ' => Mark::Passes(depth, 0),
+        _ if stop <= b' ' => Mark::Blank,
         b'(' => Mark::Passes(depth + 1, 0),
         b')' if depth == 0 => Mark::ClosesNothing,
         b')' => Mark::Passes(depth - 1, 0),
@@ -145,21 +148,26 @@ fn stand(octets: &[u8], rest: &[u8], seen: usize, depth: u64, feeds: usize) -> A
 }
 
 /// Walks on from where fewer octets left the entry, and puts the items after those before them
-/// where they are kept.
+/// where they are kept. What is known of the octets ahead becomes what is known of those after the
+/// entry, where it ends.
 #[inline(always)]
 fn walk_on<'t>(
     octets: &'t [u8],
     from: At,
+    known: &mut Stops,
     keeps: bool,
     items: &mut Vec<Item<'t>>,
 ) -> Result<Reached, AllocError>
     requires stands { StandsAt octets.now from keeps (map raw items.old.items) }
-    ensures { IfOk result (λ reached. IsWalked octets.now keeps (map raw items.new.items) reached) }
+    requires known { Tells known.old (drop from.start octets.now) }
+    ensures walked { IfOk result
+        (λ reached. IsWalked octets.now keeps (map raw items.new.items) reached) }
+    ensures known { IfOk result (λ reached. TellsAfter octets.now reached known.new) }
 {
     let mut depth = from.depth;
     let mut feeds = from.feeds;
     let (_, ahead) = octets.split_at(from.start);
-    let mut stops = Stops::unseen(ahead);
+    let mut stops = *known;
     let mut rest = ahead;
     while !rest.is_empty() {
         let (len, next_stops) = stops.bare_len(rest);
@@ -172,6 +180,11 @@ fn walk_on<'t>(
         } else {
             keep_bare(bare, keeps, items)?;
             match mark_at(*stop, depth) {
+                Mark::Blank => {
+                    stops = next_stops;
+                    rest = after;
+                    continue;
+                }
                 Mark::Passes(next_depth, fed) => {
                     depth = next_depth;
                     feeds += fed;
@@ -180,6 +193,7 @@ fn walk_on<'t>(
                     continue;
                 }
                 Mark::Ends => {
+                    *known = next_stops;
                     return Ok(Reached::Ends(octets.len() - after.len(), feeds + 1));
                 }
                 Mark::ClosesNothing => {
@@ -207,16 +221,24 @@ fn walk_on<'t>(
 }
 
 /// Walks over the entry at the front of octets, and puts its items in place of what `items` held.
+/// What is known of the octets becomes what is known of those after the entry, where it ends.
 ///
 /// # Errors
 ///
 /// `AllocError`. `items` holds nothing that is used again.
 #[inline(always)]
-pub(crate) fn walk<'t>(octets: &'t [u8], items: &mut Vec<Item<'t>>) -> Result<Reached, AllocError>
-    ensures { IfOk result (λ reached. IsWalked octets.now true (map raw items.new.items) reached) }
+pub(crate) fn walk<'t>(
+    octets: &'t [u8],
+    known: &mut Stops,
+    items: &mut Vec<Item<'t>>,
+) -> Result<Reached, AllocError>
+    requires { Tells known.old octets.now }
+    ensures walked { IfOk result
+        (λ reached. IsWalked octets.now true (map raw items.new.items) reached) }
+    ensures known { IfOk result (λ reached. TellsAfter octets.now reached known.new) }
 {
     items.clear();
-    walk_on(octets, At::beginning(), true, items)
+    walk_on(octets, At::beginning(), known, true, items)
 }
 
 /// Walks on over the octets of an entry from where fewer of them left it. No items are kept. Of the
@@ -233,7 +255,10 @@ pub(crate) fn walk_more(alloc: Global, octets: &[u8], at: At) -> Result<Reached,
             ..at
         })),
         Span::Lost(len) => Ok(Reached::LostEscape(at.start + len)),
-        Span::Whole(_) => walk_on(octets, at, false, &mut Vec::new(alloc)),
+        Span::Whole(_) => {
+            let mut known = Stops::unseen(rest);
+            walk_on(octets, at, &mut known, false, &mut Vec::new(alloc))
+        }
     }
 }
 

@@ -159,6 +159,14 @@ walked_ends octets rest after feeds n keeps kept so_far first count =
       feeds_are = ap line_feeds entry ∙ feeds_of_both (text so_far.before) (10 ∷ []) ∙ ap (λ k. k + 1) so_far.feeds_are;
     }
 
+-- the octets after one that was passed
+pub after_left : (octets rest after : List ℕ) (c depth feeds n : ℕ) (keeps : Bool) (kept : List RawItem) → Walked octets rest depth feeds keeps kept → rest ≡ c ∷ after → n ≡ length octets - length after → drop n octets ≡ after
+after_left octets rest after c depth feeds n keeps kept so_far first count =
+    let front : List ℕ = text so_far.before ++ c ∷ [] in
+    let whole : octets ≡ front ++ after = so_far.whole ∙ ap (λ t. text so_far.before ++ t) first ∙ sym (append_assoc (text so_far.before) (c ∷ []) after) in
+    let taken : n ≡ length front = omega (arith, count, ap length whole, length-append front after) in
+    rw (taken, whole) (drop-append_seam front after)
+
 pub all_of : (octets rest : List ℕ) (depth feeds : ℕ) (keeps : Bool) (kept : List RawItem) (so_far : Walked octets rest depth feeds keeps kept) (more : List Token) (fault : Option Fault) → IsCut depth rest more fault → IsCut zero octets (so_far.before ++ more) fault
 all_of octets rest depth feeds keeps kept so_far more fault is = subst (λ t. IsCut zero t (so_far.before ++ more) fault) (sym so_far.whole) (so_far.goes rest more fault (begin_self rest) is)
 
@@ -236,12 +244,24 @@ walked_past octets rest left depth feeds keeps kept p so_far passes none =
 pub first_octet : (octets after : List ℕ) (c d : ℕ) → octets ≡ c ∷ after → c ≡ d → octets ≡ d ∷ after
 first_octet octets after c d first is = first ∙ ap (λ e. e ∷ after) is
 
-pub walked_mark : (octets rest left : List ℕ) (depth feeds c d f : ℕ) (keeps : Bool) (kept : List RawItem) → Walked octets rest depth feeds keeps kept → rest ≡ c ∷ left → IsMark depth c (marks.Passes d f) → Walked octets left d (feeds + f) keeps kept
-walked_mark octets rest left depth feeds c d f keeps kept so_far first (a_blank is e) =
-    let d_is : d ≡ depth = cc in
-    let f_is : f ≡ 0 = cc in
+mark_blank : (depth c : ℕ) → IsMark depth c marks.Blank → is_blank c ≡ true
+mark_blank depth c (a_blank is e) = is
+mark_blank depth c (a_line_feed is deep e) = absurd cc
+mark_blank depth c (an_opening is e) = absurd cc
+mark_blank depth c (a_closing is deep e) = absurd cc
+mark_blank depth c (mark_last is none e) = absurd cc
+mark_blank depth c (mark_closes is none e) = absurd cc
+mark_blank depth c (mark_begins is e) = absurd cc
+
+pub walked_blank : (octets rest left : List ℕ) (depth feeds c : ℕ) (keeps : Bool) (kept : List RawItem) → Walked octets rest depth feeds keeps kept → rest ≡ c ∷ left → IsMark depth c marks.Blank → Walked octets left depth feeds keeps kept
+walked_blank octets rest left depth feeds c keeps kept so_far first mark =
+    let is = mark_blank depth c mark in
     let none : line_feeds (c ∷ []) ≡ 0 = none_first c [] (other_than_ten is_blank true (λ e. cc) c is) in
-    rw (d_is, f_is) (subst (λ k. Walked octets left depth (feeds + k) keeps kept) none (walked_past octets rest left depth feeds keeps kept (blank c) so_far (record { parts = first; token = is; settled = tt; room = tt; none = tt }) refl))
+    let more : feeds + line_feeds (c ∷ []) ≡ feeds = omega (arith, none) in
+    subst (λ f. Walked octets left depth f keeps kept) more (walked_past octets rest left depth feeds keeps kept (blank c) so_far (record { parts = first; token = is; settled = tt; room = tt; none = tt }) refl)
+
+pub walked_mark : (octets rest left : List ℕ) (depth feeds c d f : ℕ) (keeps : Bool) (kept : List RawItem) → Walked octets rest depth feeds keeps kept → rest ≡ c ∷ left → IsMark depth c (marks.Passes d f) → Walked octets left d (feeds + f) keeps kept
+walked_mark octets rest left depth feeds c d f keeps kept so_far first (a_blank is e) = absurd cc
 walked_mark octets rest left depth feeds c d f keeps kept so_far first (a_line_feed is deep e) =
     let d_is : d ≡ depth = cc in
     let f_is : f ≡ 1 = cc in
@@ -259,7 +279,7 @@ walked_mark octets rest left depth feeds c d f keeps kept so_far first (mark_clo
 walked_mark octets rest left depth feeds c d f keeps kept so_far first (mark_begins is e) = absurd cc
 
 pub few_fed : (depth c d f : ℕ) → IsMark depth c (marks.Passes d f) → f ≤ 1
-few_fed depth c d f (a_blank is e) = let f_is : f ≡ 0 = cc in omega (arith, f_is)
+few_fed depth c d f (a_blank is e) = absurd cc
 few_fed depth c d f (a_line_feed is deep e) = let f_is : f ≡ 1 = cc in omega (arith, f_is)
 few_fed depth c d f (an_opening is e) = let f_is : f ≡ 0 = cc in omega (arith, f_is)
 few_fed depth c d f (a_closing is deep e) = let f_is : f ≡ 0 = cc in omega (arith, f_is)

@@ -10,7 +10,9 @@ use Rattle.zone_text.specs.FirstEntry.{IsBrokenOff, IsOneEntry}
 use Rattle.zone_text.specs.Kept.{AreKept}
 use Rattle.zone_text.specs.Machine.Kept.{Keeps}
 use Rattle.zone_text.specs.Machine.Spans.{IsItemOrComment, IsOpenToken, IsSeen}
+use Rattle.zone_text.specs.Machine.Stops.{Tells}
 use Rattle.zone_text.specs.Tokens.{Token, text, token_text, IsToken, AllFollow, depth_after, is_blank}
+use Rattle.zone_text.specs.declared.stops.Stops.{Stops}
 use Rattle.zone_text.specs.declared.walk.At.{At}
 use Rattle.zone_text.specs.declared.walk.Mark.{Mark}
 use Rattle.zone_text.specs.declared.walk.Mark.TheVariants as marks
@@ -97,11 +99,16 @@ IsWalked octets keeps kept (reached.LostEscape n) =
 IsWalked octets keeps kept (reached.ClosesNothing n) =
     IsBrokenOff (take n octets) UnbalancedParenthesis × (n ≤ length octets)
 
+-- what is known of the octets after the entry, where it ends
+abbrev pub TellsAfter : List ℕ → Reached → Stops → Type 0
+TellsAfter octets (reached.Ends n feeds) known = Tells known (drop n octets)
+TellsAfter octets found known = ⊤
+
 -- ---- a token more
 
 -- what an octet is that stops a bare item, at a depth of parentheses
 pub data IsMark (depth c : ℕ) (mark : Mark) : Type 0 where
-  a_blank : is_blank c ≡ true → mark ≡ marks.Passes depth 0 → IsMark depth c mark
+  a_blank : is_blank c ≡ true → mark ≡ marks.Blank → IsMark depth c mark
   a_line_feed : c ≡ 10 → depth ≢ 0 → mark ≡ marks.Passes depth 1 → IsMark depth c mark
   an_opening : c ≡ 40 → mark ≡ marks.Passes (depth + 1) 0 → IsMark depth c mark
   a_closing : c ≡ 41 → depth ≢ 0 → mark ≡ marks.Passes (depth - 1) 0 → IsMark depth c mark

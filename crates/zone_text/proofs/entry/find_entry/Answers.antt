@@ -4,10 +4,10 @@ use Rattle.zone_text.proofs.Scanning.Walking.{walk_open}
 use Rattle.zone_text.proofs.entry.find_entry.Goals as goal
 
 pub returns-in-Open : goal.returns-in-Open
-returns-in-Open c = (walk_open c.args.octets.now _ true _ (rw c.in-Open.is at c.in_ok-len.ensures), ap (map raw) c.clear.ensures.items)
+returns-in-Open c = (walk_open c.args.octets.now _ true _ (rw c.in-Open.is at c.in_ok-len.ensures.walked), ap (map raw) c.clear.ensures.items)
 
 pub returns-in-LostEscape : goal.returns-in-LostEscape
-returns-in-LostEscape c = (broken_on c.args.octets.now c.in-LostEscape._len BadEscape (rw c.in-LostEscape.is at c.in_ok-len.ensures).0, ap (map raw) c.clear-in-LostEscape.ensures.items)
+returns-in-LostEscape c = (broken_on c.args.octets.now c.in-LostEscape._len BadEscape (rw c.in-LostEscape.is at c.in_ok-len.ensures.walked).0, ap (map raw) c.clear-in-LostEscape.ensures.items)
 
 pub returns-in-ClosesNothing : goal.returns-in-ClosesNothing
-returns-in-ClosesNothing c = (broken_on c.args.octets.now c.in-ClosesNothing._len UnbalancedParenthesis (rw c.in-ClosesNothing.is at c.in_ok-len.ensures).0, ap (map raw) c.clear-in-ClosesNothing.ensures.items)
+returns-in-ClosesNothing c = (broken_on c.args.octets.now c.in-ClosesNothing._len UnbalancedParenthesis (rw c.in-ClosesNothing.is at c.in_ok-len.ensures.walked).0, ap (map raw) c.clear-in-ClosesNothing.ensures.items)

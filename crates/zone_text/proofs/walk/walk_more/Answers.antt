@@ -24,4 +24,4 @@ returns-in-Lost c =
     walked_lost c.args.octets.now rest c.args.at.depth c.args.at.feeds c.in-Lost.len _ false [] c.requires.walked lost (omega (arith, c.requires.within, length-drop c.args.at.start c.args.octets.now))
 
 pub returns-in-Whole : goal.returns-in-Whole
-returns-in-Whole c = without_items c.args.octets.now _ c.walk_on.result c.walk_on.ensures
+returns-in-Whole c = without_items c.args.octets.now _ c.walk_on.result c.walk_on.ensures.walked

@@ -1,22 +1,34 @@
 use Rattle.zone_text.proofs.Common.{EndsAt, arith, eqb-false, length, length-drop, map, ap, raw, refl, stops_bare, subst, sym, ◌∙◌}
 use Rattle.std.proofs.lemmas.List.{nil_from_length}
 use Rattle.zone_text.proofs.Scanning.StopMarks.{prefix_stops}
-use Rattle.zone_text.proofs.Scanning.Walking.{Here, Walked, bare_to_end, deep_of, few_of, first_octet, here_escape, here_mark, left_of, mark_closing, mark_ends, stands, tells_after, walked_bare, walked_closes, walked_ends, walked_lost, walked_mark, walked_token}
+use Rattle.zone_text.proofs.Scanning.Walking.{Here, Walked, after_left, bare_to_end, deep_of, few_of, first_octet, here_escape, here_mark, left_of, mark_closing, mark_ends, stands, tells_after, walked_bare, walked_blank, walked_closes, walked_ends, walked_lost, walked_mark, walked_token}
 use Rattle.zone_text.proofs.Tokens.Spans.{open_within, token_within}
+use Rattle.zone_text.specs.Machine.Stops.{Tells}
 use Rattle.zone_text.proofs.walk.walk_on.Goals as goal
 use Rattle.zone_text.proofs.walk.walk_on.Goals.{then-stop-eq92, else-stop-eq92+in_ok-keep_bare+in-Begins}
 
 pub split_at-requires-in-loop-stops : goal.split_at-requires-in-loop-stops
 split_at-requires-in-loop-stops c = (prefix_stops c.loop-stops.rest.now c.bare_len-len.result.0 c.bare_len-len.ensures.len).0
 
-pub returns-in_default : goal.returns-in_default
-returns-in_default c =
+pub returns-in_default-clause-walked : goal.returns-in_default-clause-walked
+returns-in_default-clause-walked c =
     stands c.args.octets.now c.loop-stops.rest.now c.loop-stops.depth c.loop-stops.feeds (length c.loop-stops.rest.now) c.args.keeps _ c.stand.result c.loop-stops.invariant.walked
     (bare_to_end c.loop-stops.rest.now c.split_at-in-loop-stops.result.1.now c.bare_len-len.result.0 c.bare_len-len.ensures.len c.split_at-in-loop-stops.ensures.back (nil_from_length c.split_at-in-loop-stops.result.1.now c.in_default.ensures.cases) (omega (arith, eqb-false (length c.loop-stops.rest.now) 0 (sym c.loop-stops-test.ensures))))
     c.stand.ensures.start c.stand.ensures.seen c.stand.ensures.order c.stand.ensures.depth c.stand.ensures.feeds
 
 pub mark_at-requires-clause-stops : goal.mark_at-requires-clause-stops
 mark_at-requires-clause-stops c = subst (EndsAt stops_bare) (sym c.split_at-in-loop-stops.ensures.back ∙ c.in-Some.ensures.cases.0) (prefix_stops c.loop-stops.rest.now c.bare_len-len.result.0 c.bare_len-len.ensures.len).2
+
+pub loop-stops-preserved-in-Blank : goal.loop-stops-preserved-in-Blank
+loop-stops-preserved-in-Blank c =
+    let so_far = walked_bare c.args.octets.now c.loop-stops.rest.now c.split_at-in-loop-stops.result.0.now c.split_at-in-loop-stops.result.1.now c.in-Some.after.now c.loop-stops.depth c.loop-stops.feeds c.in-Some.stop.now c.bare_len-len.result.0 c.args.keeps _ _ c.loop-stops.invariant.walked c.bare_len-len.ensures.len c.split_at-in-loop-stops.ensures.front c.split_at-in-loop-stops.ensures.back c.in-Some.ensures.cases.0 c.if-stop-eq92.false c.in_ok-keep_bare.ensures in
+    let next = walked_blank c.args.octets.now _ c.in-Some.after.now c.loop-stops.depth c.loop-stops.feeds c.in-Some.stop.now c.args.keeps _ so_far c.in-Some.ensures.cases.0 (rw c.in-Blank.is at c.mark_at.ensures) in
+    record {
+      walked = next;
+      tells = tells_after c.bare_len-len.result.1 c.loop-stops.rest.now c.split_at-in-loop-stops.result.1.now c.in-Some.after.now c.in-Some.stop.now c.bare_len-len.result.0 c.split_at-in-loop-stops.ensures.back c.in-Some.ensures.cases.0 c.bare_len-len.ensures.tells;
+      deep = deep_of _ _ _ _ _ _ next;
+      few = few_of _ _ _ _ _ _ next;
+    }
 
 pub loop-stops-preserved-in-Passes : goal.loop-stops-preserved-in-Passes
 loop-stops-preserved-in-Passes c =
@@ -29,14 +41,19 @@ loop-stops-preserved-in-Passes c =
       few = few_of _ _ _ _ _ _ next;
     }
 
-pub returns-in-Ends : goal.returns-in-Ends
-returns-in-Ends c =
+pub returns-in-Ends-clause-known : goal.returns-in-Ends-clause-known
+returns-in-Ends-clause-known c =
+    let so_far = walked_bare c.args.octets.now c.loop-stops.rest.now c.split_at-in-loop-stops.result.0.now c.split_at-in-loop-stops.result.1.now c.in-Some.after.now c.loop-stops.depth c.loop-stops.feeds c.in-Some.stop.now c.bare_len-len.result.0 c.args.keeps _ _ c.loop-stops.invariant.walked c.bare_len-len.ensures.len c.split_at-in-loop-stops.ensures.front c.split_at-in-loop-stops.ensures.back c.in-Some.ensures.cases.0 c.if-stop-eq92.false c.in_ok-keep_bare.ensures in
+    subst (Tells c.bare_len-len.result.1) (sym (after_left c.args.octets.now _ c.in-Some.after.now c.in-Some.stop.now c.loop-stops.depth c.loop-stops.feeds _ c.args.keeps _ so_far c.in-Some.ensures.cases.0 refl)) (tells_after c.bare_len-len.result.1 c.loop-stops.rest.now c.split_at-in-loop-stops.result.1.now c.in-Some.after.now c.in-Some.stop.now c.bare_len-len.result.0 c.split_at-in-loop-stops.ensures.back c.in-Some.ensures.cases.0 c.bare_len-len.ensures.tells)
+
+pub returns-in-Ends-clause-walked : goal.returns-in-Ends-clause-walked
+returns-in-Ends-clause-walked c =
     let so_far = walked_bare c.args.octets.now c.loop-stops.rest.now c.split_at-in-loop-stops.result.0.now c.split_at-in-loop-stops.result.1.now c.in-Some.after.now c.loop-stops.depth c.loop-stops.feeds c.in-Some.stop.now c.bare_len-len.result.0 c.args.keeps _ _ c.loop-stops.invariant.walked c.bare_len-len.ensures.len c.split_at-in-loop-stops.ensures.front c.split_at-in-loop-stops.ensures.back c.in-Some.ensures.cases.0 c.if-stop-eq92.false c.in_ok-keep_bare.ensures in
     let ends = mark_ends c.loop-stops.depth c.in-Some.stop.now (rw c.in-Ends.is at c.mark_at.ensures) in
     walked_ends c.args.octets.now c.split_at-in-loop-stops.result.1.now c.in-Some.after.now c.loop-stops.feeds _ c.args.keeps _ (subst (λ d. Walked c.args.octets.now c.split_at-in-loop-stops.result.1.now d c.loop-stops.feeds c.args.keeps (map raw c.keep_bare.new.items.items)) ends.1 so_far) (first_octet _ _ _ 10 c.in-Some.ensures.cases.0 ends.0) refl
 
-pub returns-in-ClosesNothing : goal.returns-in-ClosesNothing
-returns-in-ClosesNothing c =
+pub returns-in-ClosesNothing-clause-walked : goal.returns-in-ClosesNothing-clause-walked
+returns-in-ClosesNothing-clause-walked c =
     let so_far = walked_bare c.args.octets.now c.loop-stops.rest.now c.split_at-in-loop-stops.result.0.now c.split_at-in-loop-stops.result.1.now c.in-Some.after.now c.loop-stops.depth c.loop-stops.feeds c.in-Some.stop.now c.bare_len-len.result.0 c.args.keeps _ _ c.loop-stops.invariant.walked c.bare_len-len.ensures.len c.split_at-in-loop-stops.ensures.front c.split_at-in-loop-stops.ensures.back c.in-Some.ensures.cases.0 c.if-stop-eq92.false c.in_ok-keep_bare.ensures in
     let ends = mark_closing c.loop-stops.depth c.in-Some.stop.now (rw c.in-ClosesNothing.is at c.mark_at.ensures) in
     walked_closes c.args.octets.now c.split_at-in-loop-stops.result.1.now c.in-Some.after.now c.loop-stops.feeds _ c.args.keeps _ (subst (λ d. Walked c.args.octets.now c.split_at-in-loop-stops.result.1.now d c.loop-stops.feeds c.args.keeps (map raw c.keep_bare.new.items.items)) ends.1 so_far) (first_octet _ _ _ 41 c.in-Some.ensures.cases.0 ends.0) refl
@@ -93,16 +110,16 @@ loop-stops-preserved c =
 pub stand-requires-in-Open-clause-seen : goal.stand-requires-in-Open-clause-seen
 stand-requires-in-Open-clause-seen c = open_within c.if-stop-eq92.token.now c.in-Open.seen (rw c.in-Open.is at c.token_span.ensures)
 
-pub returns-in-Open : goal.returns-in-Open
-returns-in-Open c =
+pub returns-in-Open-clause-walked : goal.returns-in-Open-clause-walked
+returns-in-Open-clause-walked c =
     let here : Here c.args.octets.now c.loop-stops.rest.now c.in-Some.after.now c.if-stop-eq92.token.now c.loop-stops.depth c.loop-stops.feeds c.args.keeps (map raw c.if-stop-eq92.items.items) = elim c.if-stop-eq92.branch [
       | then-stop-eq92 w ↦ rw (w.items-is, w.token-is) (here_escape c.args.octets.now c.loop-stops.rest.now _ c.in-Some.after.now c.loop-stops.depth c.loop-stops.feeds c.in-Some.stop.now _ c.args.keeps _ c.loop-stops.invariant.walked c.bare_len-len.ensures.len c.split_at-in-loop-stops.ensures.back c.in-Some.ensures.cases.0 w.if-stop-eq92.true)
       | else-stop-eq92+in_ok-keep_bare+in-Begins w ↦ rw (w.items-is, w.token-is) (here_mark c.args.octets.now c.loop-stops.rest.now _ c.in-Some.after.now c.loop-stops.depth c.loop-stops.feeds c.in-Some.stop.now c.bare_len-len.result.0 c.args.keeps _ (walked_bare c.args.octets.now c.loop-stops.rest.now c.split_at-in-loop-stops.result.0.now c.split_at-in-loop-stops.result.1.now c.in-Some.after.now c.loop-stops.depth c.loop-stops.feeds c.in-Some.stop.now c.bare_len-len.result.0 c.args.keeps _ _ c.loop-stops.invariant.walked c.bare_len-len.ensures.len c.split_at-in-loop-stops.ensures.front c.split_at-in-loop-stops.ensures.back c.in-Some.ensures.cases.0 w.if-stop-eq92.false w.in_ok-keep_bare.ensures) c.split_at-in-loop-stops.ensures.back c.in-Some.ensures.cases.0 (rw w.in-Begins.is at w.mark_at.ensures))
     ] in
     stands c.args.octets.now c.if-stop-eq92.token.now c.loop-stops.depth c.loop-stops.feeds c.in-Open.seen c.args.keeps _ c.stand-in-Open.result here.walked (rw c.in-Open.is at c.token_span.ensures) c.stand-in-Open.ensures.start c.stand-in-Open.ensures.seen c.stand-in-Open.ensures.order c.stand-in-Open.ensures.depth c.stand-in-Open.ensures.feeds
 
-pub returns-in-Lost : goal.returns-in-Lost
-returns-in-Lost c =
+pub returns-in-Lost-clause-walked : goal.returns-in-Lost-clause-walked
+returns-in-Lost-clause-walked c =
     let here : Here c.args.octets.now c.loop-stops.rest.now c.in-Some.after.now c.if-stop-eq92.token.now c.loop-stops.depth c.loop-stops.feeds c.args.keeps (map raw c.if-stop-eq92.items.items) = elim c.if-stop-eq92.branch [
       | then-stop-eq92 w ↦ rw (w.items-is, w.token-is) (here_escape c.args.octets.now c.loop-stops.rest.now _ c.in-Some.after.now c.loop-stops.depth c.loop-stops.feeds c.in-Some.stop.now _ c.args.keeps _ c.loop-stops.invariant.walked c.bare_len-len.ensures.len c.split_at-in-loop-stops.ensures.back c.in-Some.ensures.cases.0 w.if-stop-eq92.true)
       | else-stop-eq92+in_ok-keep_bare+in-Begins w ↦ rw (w.items-is, w.token-is) (here_mark c.args.octets.now c.loop-stops.rest.now _ c.in-Some.after.now c.loop-stops.depth c.loop-stops.feeds c.in-Some.stop.now c.bare_len-len.result.0 c.args.keeps _ (walked_bare c.args.octets.now c.loop-stops.rest.now c.split_at-in-loop-stops.result.0.now c.split_at-in-loop-stops.result.1.now c.in-Some.after.now c.loop-stops.depth c.loop-stops.feeds c.in-Some.stop.now c.bare_len-len.result.0 c.args.keeps _ _ c.loop-stops.invariant.walked c.bare_len-len.ensures.len c.split_at-in-loop-stops.ensures.front c.split_at-in-loop-stops.ensures.back c.in-Some.ensures.cases.0 w.if-stop-eq92.false w.in_ok-keep_bare.ensures) c.split_at-in-loop-stops.ensures.back c.in-Some.ensures.cases.0 (rw w.in-Begins.is at w.mark_at.ensures))

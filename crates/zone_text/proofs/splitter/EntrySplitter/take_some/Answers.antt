@@ -1,4 +1,3 @@
-use Rattle.zone_text.proofs.Common.{refl}
 use Rattle.zone_text.proofs.Scanning.FedPieces.{some_of_part}
 use Rattle.zone_text.proofs.splitter.EntrySplitter.take_some.Goals as goal
 
