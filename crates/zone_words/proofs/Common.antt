@@ -69,9 +69,9 @@ pub use Rattle.zone_words.specs.Machine.FedWriting.{FollowInPart, FollowOn, HasW
 pub use Rattle.zone_words.specs.Machine.Further.{FindsParts, IsRecordOf, NoneIsFurther}
 pub use Rattle.zone_words.specs.Machine.Locations.{BeginsWithMinus, IsAfterMinus, IsCutAtHalf, IsNoHalf, IsWholeIn, UpTo, minus}
 pub use Rattle.zone_words.specs.Machine.Parameters.{FailsEscaped, HasName, HasNoItems, IsAddressOf, IsKeyNumber, wrong}
-pub use Rattle.zone_words.specs.Machine.PlainLines.{ArePlain, IsPlainLine, is_plain, is_unmarked, parted}
+pub use Rattle.zone_words.specs.Machine.KnownItems.{FollowsItem, FollowsItems, FrontIs, KeepsGap, PassesGap, StandsAround, before_item, from_item, past_items}
 pub use Rattle.zone_words.specs.Machine.Stated.{AddsParameter, AreSent, FailsAfter, HasStated, Holds, again, all_sent, keyless, valueless}
-pub use Rattle.zone_words.specs.Machine.Walking.{BeginsBlank, StandsAround, StandsNowhere, StayingAfter, WritesBetween}
+pub use Rattle.zone_words.specs.Machine.Walking.{BeginsBlank, WritesBetween}
 pub use Rattle.zone_words.specs.Mnemonics.{IsAlgorithm, IsNumberOrMnemonic, IsTypeWord, algorithms, certificate_types, further_algorithms, name_of, registered_types}
 pub use Rattle.zone_words.specs.Origin.{IsCasedOrigin, NamesOrigin, origin_items}
 pub use Rattle.zone_words.specs.Parameters.{AreComplete, AreOnce, Ascend, BeginWithKey, BeginWithNoKey, FailsParameters, IsNew, IsShort, IsThere, Parameter, Precede, Sent, StateEach, StatesParameter, StatesParameters, all_required, bad_value, long_value, missing_key, no_key, repeated_key, sent, sent_octets}

@@ -50,9 +50,7 @@ pub mod Places
 pub mod Locations
 pub mod KeptRecords
 pub mod Turns
-pub mod GivenTokens
-mod PlainLines
-mod PlainOctets
+pub mod KnownItems
 pub mod BecomesOnce
 pub mod Moved
 pub mod Registered

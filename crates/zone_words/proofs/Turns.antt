@@ -1,6 +1,6 @@
 -- What becomes of an entry, from the record that was found in it.
 use Rattle.zone_words.proofs.Walks.{back_each, back_follow}
-use Rattle.zone_words.proofs.Common.{AddsTold, Anew, AreOnOneLine, AreTokensOf, Bool, Cuts, DataFails, Entry, FindsParts, FurtherType, IfNone, Inherited, IsCasedOrigin, IsFurtherRecord, IsFurtherUnder, IsFurtherWord, IsGeneric, IsInherited, IsMnemonic, IsOneOrNone, IsRefused, IsTrue, Item, Labels, LineFeedWithinQuotes, List, MatchOption, Named, NamesOrigin, None, NoneIsFurther, NothingIs, Option, Parts, RawItem, Refused, SaysAnew, Some, StandsNowhere, Statement, StatesData, Token, TokensFail, TooManyItems, TouchingItem, WordsFault, Written, [], anew, ap, arith, blank, both_ways, closing, codes, comment, count_by, directive, entry_of, false, filter, find, flat_map, flat_map-append, folded_label, further_names, further_of, further_types, get_or, if◌then◌else◌, in_generic_form, includes, inl, inr, is_blank, item_of, kept, length, length-append, length-map, line_feed, line_feeds_in, map, mnemonic_among, most_items, no_data, on_more_lines, opening, option_map, option_to_list, origin_items, owned, parts_after, parts_in, raw, refl, refused, refused_of, renamed, sets_origin, sets_ttl, slice_get, statement_by, statement_of, stays, subst, suc, sym, text, too_many, touching_items, true, unknown, unowned, written, written_text, zero, ℕ, ◌++◌, ◌+◌, ◌-◌, ◌<◌, ◌==◌, ◌↔◌, ◌∙◌, ◌∷◌, ◌≡◌, ◌≤◌}
+use Rattle.zone_words.proofs.Common.{AddsTold, Anew, AreOnOneLine, AreTokensOf, Bool, Cuts, DataFails, Entry, FindsParts, FurtherType, IfNone, Inherited, IsCasedOrigin, IsFurtherRecord, IsFurtherUnder, IsFurtherWord, IsGeneric, IsInherited, IsMnemonic, IsOneOrNone, IsRefused, IsTrue, Item, Labels, LineFeedWithinQuotes, List, MatchOption, Named, NamesOrigin, None, NoneIsFurther, NothingIs, Option, Parts, RawItem, Refused, SaysAnew, Some, Statement, StatesData, Token, TokensFail, TooManyItems, TouchingItem, WordsFault, Written, [], anew, ap, arith, blank, both_ways, closing, codes, comment, count_by, directive, entry_of, false, filter, find, flat_map, flat_map-append, folded_label, further_names, further_of, further_types, get_or, if◌then◌else◌, in_generic_form, includes, inl, inr, is_blank, item_of, kept, length, length-append, length-map, line_feed, line_feeds_in, map, mnemonic_among, most_items, no_data, on_more_lines, opening, option_map, option_to_list, origin_items, owned, parts_after, parts_in, raw, refl, refused, refused_of, renamed, sets_origin, sets_ttl, slice_get, statement_by, statement_of, stays, subst, suc, sym, text, too_many, touching_items, true, unknown, unowned, written, written_text, zero, ℕ, ◌++◌, ◌+◌, ◌-◌, ◌<◌, ◌==◌, ◌↔◌, ◌∙◌, ◌∷◌, ◌≡◌, ◌≤◌}
 use Rattle.zone_rdata.specs.Item.{bare, quoted}
 use Rattle.zone_rdata.proofs.Items.LeftOut.{are_many}
 use Rattle.zone_text.proofs.Entries.Kept.{all_few, few_kept}
@@ -217,26 +217,26 @@ stays_no_origin origin before line all_tokens stated none = (
 -- ---- the entry of a record
 
 -- the data is in the generic form, and the type's word isn't to be written anew
-generic_says : (origin : Labels) (before : List Entry) (line : ℕ) (all_tokens : List Token) (found : FurtherRecord) (n : ℕ) (above : Labels) → AreOfRecord origin before line all_tokens found n above → IsGeneric (map raw found.items.now) → (n < most_items → (folded_label found.word.now ≡ folded_label found.further.now.mnemonic.now) → AreOnOneLine (map raw found.items.now) → ⊥) → (word : List ℕ) (data_items : List TouchingItem) (it : Anew) → SaysAnew origin before (entry_of line all_tokens) word data_items it → ⊥
-generic_says origin before line all_tokens found n above of generic none word data_items it (in_generic_form further over is few one_line g mnemonic) =
+generic_says : (origin : Labels) (before : List Entry) (line : ℕ) (all_tokens : List Token) (found : FurtherRecord) (kept_items : List RawItem) (above : Labels) → AreOfRecord origin before line all_tokens found kept_items above → IsGeneric (map raw found.items.now) → (length kept_items < most_items → (folded_label found.word.now ≡ folded_label found.further.now.mnemonic.now) → AreOnOneLine (map raw found.items.now) → ⊥) → (word : List ℕ) (data_items : List TouchingItem) (it : Anew) → SaysAnew origin before (entry_of line all_tokens) word data_items it → ⊥
+generic_says origin before line all_tokens found kept_items above of generic none word data_items it (in_generic_form further over is few one_line g mnemonic) =
     let same = record_once before (entry_of line all_tokens) word found.word.now (items_of data_items) of.is.all further (further_of found.further.now) is.stated of.is.is in
     none (of.less few)
     (ap folded_label (sym same.same_word) ∙ mnemonic_same word further is.stated.named mnemonic ∙ ap (λ (f : FurtherType). folded_label f.mnemonic) same.same_further)
     (subst AreOnOneLine (same.same_items ∙ of.is.few few) one_line)
-generic_says origin before line all_tokens found n above of generic none word data_items it (in_words further over octets is few one_line words states) =
+generic_says origin before line all_tokens found kept_items above of generic none word data_items it (in_words further over octets is few one_line words states) =
     let same = record_once before (entry_of line all_tokens) word found.word.now (items_of data_items) of.is.all further (further_of found.further.now) is.stated of.is.is in
     words (subst IsGeneric (sym same.same_items) (of.is.generic.1 generic))
 
-generic_fails : (origin : Labels) (before : List Entry) (line : ℕ) (all_tokens : List Token) (found : FurtherRecord) (n : ℕ) (above : Labels) → AreOfRecord origin before line all_tokens found n above → IsGeneric (map raw found.items.now) → (word : List ℕ) (data_items : List TouchingItem) (it : Refused) → IsRefused origin before (entry_of line all_tokens) word data_items it → ⊥
-generic_fails origin before line all_tokens found n above of generic word data_items it fails =
+generic_fails : (origin : Labels) (before : List Entry) (line : ℕ) (all_tokens : List Token) (found : FurtherRecord) (kept_items : List RawItem) (above : Labels) → AreOfRecord origin before line all_tokens found kept_items above → IsGeneric (map raw found.items.now) → (word : List ℕ) (data_items : List TouchingItem) (it : Refused) → IsRefused origin before (entry_of line all_tokens) word data_items it → ⊥
+generic_fails origin before line all_tokens found kept_items above of generic word data_items it fails =
     let u = fails_under origin before (entry_of line all_tokens) word data_items it fails in
     let same = record_once before (entry_of line all_tokens) word found.word.now (items_of data_items) of.is.all u.further (further_of found.further.now) u.is.stated of.is.is in
     fails_in_words origin before (entry_of line all_tokens) word data_items it fails (subst IsGeneric (sym same.same_items) (of.is.generic.1 generic))
 
-pub stays_generic : (origin : Labels) (before : List Entry) (line : ℕ) (all_tokens : List Token) (found : FurtherRecord) (n : ℕ) (above : Labels) (stated : EntryData) → AreOfRecord origin before line all_tokens found n above → IsGeneric (map raw found.items.now) → (n < most_items → (folded_label found.word.now ≡ folded_label found.further.now.mnemonic.now) → AreOnOneLine (map raw found.items.now) → ⊥) → TurnIs origin before line all_tokens stated turns.Stays
-stays_generic origin before line all_tokens found n above stated of generic none = (
-  λ front back it say. generic_says origin before line all_tokens found n above of generic none (written_text say.word) (touching_items true back) it say.says,
-  λ it fail. generic_fails origin before line all_tokens found n above of generic (written_text fail.word) (touching_items true fail.back) it fail.fails,
+pub stays_generic : (origin : Labels) (before : List Entry) (line : ℕ) (all_tokens : List Token) (found : FurtherRecord) (kept_items : List RawItem) (above : Labels) (stated : EntryData) → AreOfRecord origin before line all_tokens found kept_items above → IsGeneric (map raw found.items.now) → (length kept_items < most_items → (folded_label found.word.now ≡ folded_label found.further.now.mnemonic.now) → AreOnOneLine (map raw found.items.now) → ⊥) → TurnIs origin before line all_tokens stated turns.Stays
+stays_generic origin before line all_tokens found kept_items above stated of generic none = (
+  λ front back it say. generic_says origin before line all_tokens found kept_items above of generic none (written_text say.word) (touching_items true back) it say.says,
+  λ it fail. generic_fails origin before line all_tokens found kept_items above of generic (written_text fail.word) (touching_items true fail.back) it fail.fails,
 )
 
 -- the type's word among the tokens
@@ -265,7 +265,7 @@ split_there before line all_tokens word all further is =
     }
 
 -- the tokens of the record around the type's word
-pub record IsAround (origin : Labels) (before : List Entry) (line : ℕ) (all_tokens : List Token) (found : FurtherRecord) (n : ℕ) (above : Labels) (around : Around) : Type 0 where
+pub record IsAround (origin : Labels) (before : List Entry) (line : ℕ) (all_tokens : List Token) (found : FurtherRecord) (kept_items : List RawItem) (above : Labels) (around : Around) : Type 0 where
   pub front : List Token
   pub back : List Token
   pub units : List Written
@@ -280,20 +280,20 @@ pub record IsAround (origin : Labels) (before : List Entry) (line : ℕ) (all_to
 tokens_of : (octets : List ℕ) (all_tokens : List Token) → Cuts octets all_tokens → AreTokensOf octets all_tokens
 tokens_of octets all_tokens cut = record { whole = cut.whole; each = cut.each; follow = cut.follow }
 
-under_split : (origin : Labels) (before : List Entry) (line : ℕ) (all_tokens : List Token) (found : FurtherRecord) (n : ℕ) (above : Labels) → (of : AreOfRecord origin before line all_tokens found n above) → (at : IsSplit all_tokens found.word.now of.is.all) → IsFurtherUnder origin before (entry_of line all_tokens) (written_text at.units) (items_of (touching_items true at.back)) (further_of found.further.now) above
-under_split origin before line all_tokens found n above of at = record {
+under_split : (origin : Labels) (before : List Entry) (line : ℕ) (all_tokens : List Token) (found : FurtherRecord) (kept_items : List RawItem) (above : Labels) → (of : AreOfRecord origin before line all_tokens found kept_items above) → (at : IsSplit all_tokens found.word.now of.is.all) → IsFurtherUnder origin before (entry_of line all_tokens) (written_text at.units) (items_of (touching_items true at.back)) (further_of found.further.now) above
+under_split origin before line all_tokens found kept_items above of at = record {
   stated = subst (λ w. IsFurtherRecord before (entry_of line all_tokens) w (items_of (touching_items true at.back)) (further_of found.further.now)) at.is
       (subst (λ i. IsFurtherRecord before (entry_of line all_tokens) found.word.now i (further_of found.further.now)) at.items of.is.is);
   under = of.under;
 }
 
-around_by : (octets : List ℕ) (origin : Labels) (before : List Entry) (line : ℕ) (all_tokens : List Token) (found : FurtherRecord) (n : ℕ) (above : Labels) (around : Around) → Cuts octets all_tokens → (of : AreOfRecord origin before line all_tokens found n above) → n < most_items → StandsBeside octets found n around → of.is.all ≡ map raw found.items.now → IsSplit all_tokens found.word.now of.is.all → IsAround origin before line all_tokens found n above around
-around_by octets origin before line all_tokens found n above around cut of few stands same at =
+around_by : (octets : List ℕ) (origin : Labels) (before : List Entry) (line : ℕ) (all_tokens : List Token) (found : FurtherRecord) (kept_items : List RawItem) (above : Labels) (around : Around) → Cuts octets all_tokens → (of : AreOfRecord origin before line all_tokens found kept_items above) → length kept_items < most_items → StandsBeside octets kept_items found around → of.is.all ≡ map raw found.items.now → IsSplit all_tokens found.word.now of.is.all → IsAround origin before line all_tokens found kept_items above around
+around_by octets origin before line all_tokens found kept_items above around cut of few stands same at =
     let are : AreTokensOf octets (at.front ++ tokens.bare at.units ∷ at.back) = subst (AreTokensOf octets) at.whole (tokens_of octets all_tokens cut) in
     let len : length of.is.all ≡ length found.items.now = ap length same ∙ length-map found.items.now raw in
-    let all_kept : length (flat_map item_of all_tokens) ≡ n = of.few few in
-    let place : length (flat_map item_of at.front) ≡ n - length found.items.now - 1 = (let c = at.count in omega (arith, c, len, all_kept)) in
-    let is = stands.stands at.front at.back at.units are place in
+    let all_kept : length (flat_map item_of all_tokens) ≡ length kept_items = ap length (of.few few) in
+    let place : length (flat_map item_of at.front) ≡ length kept_items - length found.items.now - 1 = (let c = at.count in omega (arith, c, len, all_kept)) in
+    let is = stands.stands at.front at.back at.units are (ap (flat_map item_of) (sym at.whole) ∙ of.few few) place in
     record {
       front = at.front;
       back = at.back;
@@ -301,34 +301,22 @@ around_by octets origin before line all_tokens found n above around cut of few s
       whole = at.whole;
       before_is = is.0;
       after_are = record { whole = is.1; each = back_each at.front at.units at.back are.each; follow = back_follow at.front at.units at.back are.follow };
-      under = under_split origin before line all_tokens found n above of at;
+      under = under_split origin before line all_tokens found kept_items above of at;
       few = omega (arith, all_kept, few);
       items = sym same ∙ at.items;
       word = at.is;
     }
 
-pub around_there : (octets : List ℕ) (origin : Labels) (before : List Entry) (line : ℕ) (all_tokens : List Token) (found : FurtherRecord) (n : ℕ) (above : Labels) (around : Around) → Cuts octets all_tokens → AreOfRecord origin before line all_tokens found n above → n < most_items → StandsBeside octets found n around → IsAround origin before line all_tokens found n above around
-around_there octets origin before line all_tokens found n above around cut of few stands =
-    let all_kept : length (flat_map item_of all_tokens) ≡ n = of.few few in
+pub around_there : (octets : List ℕ) (origin : Labels) (before : List Entry) (line : ℕ) (all_tokens : List Token) (found : FurtherRecord) (kept_items : List RawItem) (above : Labels) (around : Around) → Cuts octets all_tokens → AreOfRecord origin before line all_tokens found kept_items above → length kept_items < most_items → StandsBeside octets kept_items found around → IsAround origin before line all_tokens found kept_items above around
+around_there octets origin before line all_tokens found kept_items above around cut of few stands =
+    let all_kept : length (flat_map item_of all_tokens) ≡ length kept_items = ap length (of.few few) in
     let less : length (flat_map item_of all_tokens) < most_items = omega (arith, all_kept, few) in
-    around_by octets origin before line all_tokens found n above around cut of few stands (of.is.few less)
+    around_by octets origin before line all_tokens found kept_items above around cut of few stands (of.is.few less)
     (split_there before line all_tokens found.word.now of.is.all (further_of found.further.now) of.is.is)
 
--- the type's word stands somewhere
-pub stands_somewhere : (octets : List ℕ) (origin : Labels) (before : List Entry) (line : ℕ) (all_tokens : List Token) (found : FurtherRecord) (n : ℕ) (above : Labels) → Cuts octets all_tokens → AreOfRecord origin before line all_tokens found n above → n < most_items → StandsNowhere octets (n - length found.items.now - 1) → ⊥
-stands_somewhere octets origin before line all_tokens found n above cut of few none =
-    let all_kept : length (flat_map item_of all_tokens) ≡ n = of.few few in
-    let less : length (flat_map item_of all_tokens) < most_items = omega (arith, all_kept, few) in
-    let same = of.is.few less in
-    let at = split_there before line all_tokens found.word.now of.is.all (further_of found.further.now) of.is.is in
-    let are : AreTokensOf octets (at.front ++ tokens.bare at.units ∷ at.back) = subst (AreTokensOf octets) at.whole (tokens_of octets all_tokens cut) in
-    let len : length of.is.all ≡ length found.items.now = ap length same ∙ length-map found.items.now raw in
-    let place : length (flat_map item_of at.front) ≡ n - length found.items.now - 1 = (let c = at.count in omega (arith, c, len, all_kept)) in
-    none at.front at.back at.units are place
-
 -- what is said of the record is said around its type's word
-say_there : (origin : Labels) (before : List Entry) (line : ℕ) (all_tokens : List Token) (found : FurtherRecord) (n : ℕ) (above : Labels) (around : Around) (a : IsAround origin before line all_tokens found n above around) (it : Anew) → SaysAnew origin before (entry_of line all_tokens) (written_text a.units) (touching_items true a.back) it → SayAround origin before line all_tokens around it
-say_there origin before line all_tokens found n above around a it says = record {
+say_there : (origin : Labels) (before : List Entry) (line : ℕ) (all_tokens : List Token) (found : FurtherRecord) (kept_items : List RawItem) (above : Labels) (around : Around) (a : IsAround origin before line all_tokens found kept_items above around) (it : Anew) → SaysAnew origin before (entry_of line all_tokens) (written_text a.units) (touching_items true a.back) it → SayAround origin before line all_tokens around it
+say_there origin before line all_tokens found kept_items above around a it says = record {
   front = a.front;
   back = a.back;
   before_is = a.before_is;
@@ -337,40 +325,40 @@ say_there origin before line all_tokens found n above around a it says = record 
 }
 
 -- a mnemonic before the generic form
-pub renamed_there : (octets : List ℕ) (origin : Labels) (before : List Entry) (line : ℕ) (all_tokens : List Token) (found : FurtherRecord) (n : ℕ) (above : Labels) (around : Around) → Cuts octets all_tokens → AreOfRecord origin before line all_tokens found n above → n < most_items → StandsBeside octets found n around → IsGeneric (map raw found.items.now) → folded_label found.word.now ≡ folded_label found.further.now.mnemonic.now → AreOnOneLine (map raw found.items.now) → SayAround origin before line all_tokens around (renamed around.number)
-renamed_there octets origin before line all_tokens found n above around cut of few stands generic same one_line =
-    let a = around_there octets origin before line all_tokens found n above around cut of few stands in
+pub renamed_there : (octets : List ℕ) (origin : Labels) (before : List Entry) (line : ℕ) (all_tokens : List Token) (found : FurtherRecord) (kept_items : List RawItem) (above : Labels) (around : Around) → Cuts octets all_tokens → AreOfRecord origin before line all_tokens found kept_items above → length kept_items < most_items → StandsBeside octets kept_items found around → IsGeneric (map raw found.items.now) → folded_label found.word.now ≡ folded_label found.further.now.mnemonic.now → AreOnOneLine (map raw found.items.now) → SayAround origin before line all_tokens around (renamed around.number)
+renamed_there octets origin before line all_tokens found kept_items above around cut of few stands generic same one_line =
+    let a = around_there octets origin before line all_tokens found kept_items above around cut of few stands in
     let f : FurtherType = further_of found.further.now in
     subst (λ k. SayAround origin before line all_tokens around (renamed k)) (sym stands.number)
-    (say_there origin before line all_tokens found n above around a _ (in_generic_form f above a.under a.few (subst AreOnOneLine a.items one_line) (subst IsGeneric a.items generic)
+    (say_there origin before line all_tokens found kept_items above around a _ (in_generic_form f above a.under a.few (subst AreOnOneLine a.items one_line) (subst IsGeneric a.items generic)
     (record { name = f.mnemonic; row = own_mnemonic (written_text a.units) f a.under.stated.named; same = ap folded_label (sym a.word) ∙ same })))
 
 -- words that state octets
-pub stated_there : (octets : List ℕ) (origin : Labels) (before : List Entry) (line : ℕ) (all_tokens : List Token) (found : FurtherRecord) (n : ℕ) (above : Labels) (around : Around) (given_items : List TouchingItem) (stated : EntryData) → Cuts octets all_tokens → AreOfRecord origin before line all_tokens found n above → AreInWords found n → StandsBeside octets found n around → ((back : List Token) → AreTokensOf around.back.now back → map raw found.items.now ≡ items_of (touching_items true back) → given_items ≡ touching_items true back) → ((back : List Token) → AreTokensOf around.back.now back → map raw found.items.now ≡ items_of (touching_items true back) → AreOnOneLine (map raw found.items.now) → stated.staying.items ≡ text (filter stays back)) → StatesData above (fields_in (further_of found.further.now).fields given_items) given_items stated.octets.items → TurnIs origin before line all_tokens stated (turns.InOctets around)
+pub stated_there : (octets : List ℕ) (origin : Labels) (before : List Entry) (line : ℕ) (all_tokens : List Token) (found : FurtherRecord) (kept_items : List RawItem) (above : Labels) (around : Around) (given_items : List TouchingItem) (stated : EntryData) → Cuts octets all_tokens → AreOfRecord origin before line all_tokens found kept_items above → AreInWords found kept_items → StandsBeside octets kept_items found around → ((back : List Token) → AreTokensOf around.back.now back → map raw found.items.now ≡ items_of (touching_items true back) → given_items ≡ touching_items true back) → ((back : List Token) → AreTokensOf around.back.now back → map raw found.items.now ≡ items_of (touching_items true back) → stated.staying.items ≡ text (filter stays back)) → StatesData above (fields_in (further_of found.further.now).fields given_items) given_items stated.octets.items → TurnIs origin before line all_tokens stated (turns.InOctets around)
 unfolding say_there
-stated_there octets origin before line all_tokens found n above around given_items stated cut of words stands given_are stays_are states =
-    let a = around_there octets origin before line all_tokens found n above around cut of words.few stands in
+stated_there octets origin before line all_tokens found kept_items above around given_items stated cut of words stands given_are stays_are states =
+    let a = around_there octets origin before line all_tokens found kept_items above around cut of words.few stands in
     let f : FurtherType = further_of found.further.now in
     subst (λ k. (said : SayAround origin before line all_tokens around (in_octets k stated.octets.items)) × (stated.staying.items ≡ text (filter stays said.back))) (sym stands.number) (
-      say_there origin before line all_tokens found n above around a _ (in_words f above stated.octets.items a.under a.few (subst AreOnOneLine a.items words.on_one_line) (λ g. words.in_words (subst IsGeneric (sym a.items) g))
+      say_there origin before line all_tokens found kept_items above around a _ (in_words f above stated.octets.items a.under a.few (subst AreOnOneLine a.items words.on_one_line) (λ g. words.in_words (subst IsGeneric (sym a.items) g))
           (subst (λ d. StatesData above (fields_in f.fields d) d stated.octets.items) (given_are a.back a.after_are a.items) states)),
-      stays_are a.back a.after_are a.items words.on_one_line,
+      stays_are a.back a.after_are a.items,
     )
 
 -- words that state none
-pub fails_there : (octets : List ℕ) (origin : Labels) (before : List Entry) (line : ℕ) (all_tokens : List Token) (found : FurtherRecord) (n : ℕ) (above : Labels) (around : Around) (given_items : List TouchingItem) (field : List ℕ) (fault : WordsFault) (it : Refused) → Cuts octets all_tokens → AreOfRecord origin before line all_tokens found n above → AreInWords found n → StandsBeside octets found n around → ((back : List Token) → AreTokensOf around.back.now back → map raw found.items.now ≡ items_of (touching_items true back) → given_items ≡ touching_items true back) → DataFails above (fields_in (further_of found.further.now).fields given_items) given_items field fault → it ≡ record { line = line; mnemonic = found.further.now.mnemonic.now; field = field; fault = fault } → TokensFail origin before line all_tokens it
-fails_there octets origin before line all_tokens found n above around given_items field fault it cut of words stands given_are fails told_is =
-    let a = around_there octets origin before line all_tokens found n above around cut of words.few stands in
+pub fails_there : (octets : List ℕ) (origin : Labels) (before : List Entry) (line : ℕ) (all_tokens : List Token) (found : FurtherRecord) (kept_items : List RawItem) (above : Labels) (around : Around) (given_items : List TouchingItem) (field : List ℕ) (fault : WordsFault) (it : Refused) → Cuts octets all_tokens → AreOfRecord origin before line all_tokens found kept_items above → AreInWords found kept_items → StandsBeside octets kept_items found around → ((back : List Token) → AreTokensOf around.back.now back → map raw found.items.now ≡ items_of (touching_items true back) → given_items ≡ touching_items true back) → DataFails above (fields_in (further_of found.further.now).fields given_items) given_items field fault → it ≡ record { line = line; mnemonic = found.further.now.mnemonic.now; field = field; fault = fault } → TokensFail origin before line all_tokens it
+fails_there octets origin before line all_tokens found kept_items above around given_items field fault it cut of words stands given_are fails told_is =
+    let a = around_there octets origin before line all_tokens found kept_items above around cut of words.few stands in
     let f : FurtherType = further_of found.further.now in
     let bad = no_data f above field fault a.under (λ g. words.in_words (subst IsGeneric (sym a.items) g)) a.few (subst AreOnOneLine a.items words.on_one_line)
     (subst (λ d. DataFails above (fields_in f.fields d) d field fault) (given_are a.back a.after_are a.items) fails) in
     subst (λ (r : Refused). TokensFail origin before line all_tokens r) (sym told_is) (record { front = a.front; back = a.back; word = a.units; split = a.whole; fails = bad })
 
 -- too many items, and a line feed within quotes
-pub many_fail : (origin : Labels) (before : List Entry) (line : ℕ) (all_tokens : List Token) (found : FurtherRecord) (n : ℕ) (above : Labels) (it : Refused) → AreOfRecord origin before line all_tokens found n above → most_items ≤ n → (IsGeneric (map raw found.items.now) → ⊥) → it ≡ record { line = line; mnemonic = found.further.now.mnemonic.now; field = codes "data"; fault = TooManyItems } → TokensFail origin before line all_tokens it
-many_fail origin before line all_tokens found n above it of many words told_is =
+pub many_fail : (origin : Labels) (before : List Entry) (line : ℕ) (all_tokens : List Token) (found : FurtherRecord) (kept_items : List RawItem) (above : Labels) (it : Refused) → AreOfRecord origin before line all_tokens found kept_items above → most_items ≤ length kept_items → (IsGeneric (map raw found.items.now) → ⊥) → it ≡ record { line = line; mnemonic = found.further.now.mnemonic.now; field = codes "data"; fault = TooManyItems } → TokensFail origin before line all_tokens it
+many_fail origin before line all_tokens found kept_items above it of many words told_is =
     let at = split_there before line all_tokens found.word.now of.is.all (further_of found.further.now) of.is.is in
-    let under = under_split origin before line all_tokens found n above of at in
+    let under = under_split origin before line all_tokens found kept_items above of at in
     subst (λ (r : Refused). TokensFail origin before line all_tokens r) (sym told_is)
     (record {
       front = at.front;
@@ -380,11 +368,11 @@ many_fail origin before line all_tokens found n above it of many words told_is =
       fails = too_many (further_of found.further.now) above under (λ g. words (of.is.generic.0 (subst IsGeneric (sym at.items) g))) (of.many many);
     })
 
-pub lines_fail : (origin : Labels) (before : List Entry) (line : ℕ) (all_tokens : List Token) (found : FurtherRecord) (n : ℕ) (above : Labels) (it : Refused) → AreOfRecord origin before line all_tokens found n above → n < most_items → (IsGeneric (map raw found.items.now) → ⊥) → (AreOnOneLine (map raw found.items.now) → ⊥) → it ≡ record { line = line; mnemonic = found.further.now.mnemonic.now; field = codes "data"; fault = LineFeedWithinQuotes } → TokensFail origin before line all_tokens it
-lines_fail origin before line all_tokens found n above it of few words lines told_is =
+pub lines_fail : (origin : Labels) (before : List Entry) (line : ℕ) (all_tokens : List Token) (found : FurtherRecord) (kept_items : List RawItem) (above : Labels) (it : Refused) → AreOfRecord origin before line all_tokens found kept_items above → length kept_items < most_items → (IsGeneric (map raw found.items.now) → ⊥) → (AreOnOneLine (map raw found.items.now) → ⊥) → it ≡ record { line = line; mnemonic = found.further.now.mnemonic.now; field = codes "data"; fault = LineFeedWithinQuotes } → TokensFail origin before line all_tokens it
+lines_fail origin before line all_tokens found kept_items above it of few words lines told_is =
     let at = split_there before line all_tokens found.word.now of.is.all (further_of found.further.now) of.is.is in
-    let under = under_split origin before line all_tokens found n above of at in
-    let all_kept : length (flat_map item_of all_tokens) ≡ n = of.few few in
+    let under = under_split origin before line all_tokens found kept_items above of at in
+    let all_kept : length (flat_map item_of all_tokens) ≡ length kept_items = ap length (of.few few) in
     let less : length (flat_map item_of all_tokens) < most_items = omega (arith, all_kept, few) in
     let same : map raw found.items.now ≡ items_of (touching_items true at.back) = sym (of.is.few less) ∙ at.items in
     subst (λ (r : Refused). TokensFail origin before line all_tokens r) (sym told_is)
@@ -458,18 +446,17 @@ turn_of_none octets kept_items line left stated form is none origin before all_t
     (none_by origin before line all_tokens form left (parts_in form) refl (forms_there octets all_tokens line kept_items form is cut are) has none)
 
 -- where a record was found
-pub turn_of_found : (octets : List ℕ) (items : List Item) (line : ℕ) (left : Inherited) (stated : EntryData) (form : Statement) (parts : Parts) (found : FurtherRecord) (above : Labels) (turn : Turn) → form ≡ statement_by (slice_get octets 0) (map raw items) → parts_in form ≡ Some parts → FindsParts parts left.is_internet found → left.origin ≡ Some above → TakesRecordsTurn octets found (length items) line above stated turn → TakesTurn octets (map raw items) line left stated turn
+pub turn_of_found : (octets : List ℕ) (items : List Item) (line : ℕ) (left : Inherited) (stated : EntryData) (form : Statement) (parts : Parts) (found : FurtherRecord) (above : Labels) (turn : Turn) → form ≡ statement_by (slice_get octets 0) (map raw items) → parts_in form ≡ Some parts → FindsParts parts left.is_internet found → left.origin ≡ Some above → TakesRecordsTurn octets found (map raw items) line above stated turn → TakesTurn octets (map raw items) line left stated turn
 turn_of_found octets items line left stated form parts found above turn is split finds some takes origin before all_tokens has cut are =
     let alike = forms_there octets all_tokens line (map raw items) form is cut are in
     let there = record_there origin before line all_tokens form left parts found alike has split finds in
     let own = no_origin (statement_of (entry_of line all_tokens)) there.is.parts there.is.split in
-    let n = length-map items raw in
     takes origin before all_tokens cut (record {
       is = there;
       under = (origin_by origin before (entry_of line all_tokens) above own).0 (subst (λ x. IsOneOrNone (IsCasedOrigin origin (entry_of line all_tokens ∷ before)) x) some has.under);
-      few = λ few. (let k = all_few (flat_map item_of all_tokens) (map raw items) are (omega (arith, n, few)) in sym (ap length k) ∙ n);
-      less = λ less. (let k = ap length (few_kept (flat_map item_of all_tokens) (map raw items) are less) in omega (arith, k, n, less));
-      many = λ many. many_by (flat_map item_of all_tokens) (map raw items) are (omega (arith, n, many));
+      few = λ few. sym (all_few (flat_map item_of all_tokens) (map raw items) are few);
+      less = λ less. (let k = ap length (few_kept (flat_map item_of all_tokens) (map raw items) are less) in omega (arith, k, less));
+      many = λ many. many_by (flat_map item_of all_tokens) (map raw items) are many;
     })
 
 -- ---- one more entry

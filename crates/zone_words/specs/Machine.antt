@@ -1,7 +1,7 @@
 -- What only private functions and proofs cite.
 pub mod Windows
 pub mod Walking
-pub mod PlainLines
+pub mod KnownItems
 pub mod Numbers
 pub mod Strings
 pub mod Fields

@@ -1,18 +1,17 @@
 //! What becomes of an entry of a master file (RFC 1035 5.1, RFC 3597 5).
-ghost use Rattle.std.specs.Prelude.{◌≡◌, ℕ, ◌-◌, ◌<◌, List, length, map, IfOk, IfSome, IfNone, OnOk, OnErr};
+ghost use Rattle.std.specs.Prelude.{◌≡◌, ℕ, ◌<◌, length, map, IfOk, OnOk, OnErr};
 ghost use Rattle.zone_name.specs.Common.{Labels};
 ghost use Rattle.zone_rdata.specs.Item.{raw, IsGeneric};
 ghost use Rattle.zone_words.specs.Machine.Turn.{AreInWords, StandsBeside, TakesRecordsTurn, TakesTurn, WritesTurn, refusal_in};
-ghost use Rattle.zone_words.specs.Machine.Walking.{StandsNowhere};
 ghost use Rattle.zone_words.specs.declared.turn.EntryData.{EntryData};
 
 use crate::data::{DataFailing, read_data};
-use crate::data_items::data_items;
 use crate::fault::WordsFault;
 use crate::further::{FurtherRecord, are_on_one_line, further_record};
 use crate::inherited::Inherited;
+use crate::known_items::{around_item, data_items};
 use crate::refusal::Refusal;
-use crate::writing::{Around, around_item};
+use crate::writing::Around;
 use std::alloc::{AllocError, Global};
 use zone_name::CasedName;
 use zone_rdata::{Item, is_generic};
@@ -41,32 +40,27 @@ pub(crate) struct EntryData {
     pub(crate) staying: Vec<u8>,
 }
 
-/// What stands around the word of a record's type, where the entry has so many items.
-fn around_type<'e>(entry: &'e [u8], found: &FurtherRecord, kept: usize) -> Option<Around<'e>>
-    requires { length found.now.items.now < kept }
-    ensures found { IfSome result (StandsBeside entry.now found.now kept) }
-    ensures none { IfNone result
-        (StandsNowhere entry.now (kept - length found.now.items.now - 1)) }
+/// What stands around the word of a record's type in an entry of which these are the items.
+fn around_type<'e>(entry: &'e [u8], items: &[Item], found: &FurtherRecord) -> Around<'e>
+    requires { length found.now.items.now < length items.now }
+    ensures { StandsBeside entry.now (map raw items.now) found.now result }
 {
-    let Some((front, back)) = around_item(entry, kept - found.items.len() - 1) else {
-        return None;
-    };
-    Some(Around {
+    let (front, back) = around_item(entry, items, items.len() - found.items.len() - 1);
+    Around {
         front,
         number: found.further.number,
         back,
-    })
+    }
 }
 
-/// What becomes of a record whose data is in the generic form, of whose entry so many items are
-/// kept.
-fn turn_in_generic_form<'e>(entry: &'e [u8], found: &FurtherRecord, kept: usize) -> Turn<'e>
-    requires { length found.now.items.now < kept }
+/// What becomes of a record whose data is in the generic form, of whose entry these items are kept.
+fn turn_in_generic_form<'e>(entry: &'e [u8], items: &[Item], found: &FurtherRecord) -> Turn<'e>
+    requires { length found.now.items.now < length items.now }
     ensures { (line : ℕ) (above : Labels) (stated : EntryData)
         → IsGeneric (map raw found.now.items.now)
-        → TakesRecordsTurn entry.now found.now kept line above stated result }
+        → TakesRecordsTurn entry.now found.now (map raw items.now) line above stated result }
 {
-    if kept >= MOST_ITEMS {
+    if items.len() >= MOST_ITEMS {
         return Turn::Stays;
     }
     if !found.has_mnemonic() {
@@ -75,10 +69,7 @@ fn turn_in_generic_form<'e>(entry: &'e [u8], found: &FurtherRecord, kept: usize)
     if !are_on_one_line(found.items) {
         return Turn::Stays;
     }
-    match around_type(entry, found, kept) {
-        Some(around) => Turn::Renamed(around),
-        None => Turn::Stays,
-    }
+    Turn::Renamed(around_type(entry, items, found))
 }
 
 /// What becomes of a record whose data is in words, under the origin that holds for it. The data
@@ -86,21 +77,19 @@ fn turn_in_generic_form<'e>(entry: &'e [u8], found: &FurtherRecord, kept: usize)
 fn turn_in_words<'e>(
     alloc: Global,
     entry: &'e [u8],
+    items: &[Item],
     found: &FurtherRecord,
-    kept: usize,
     line: u64,
     above: &CasedName,
     stated: &mut EntryData,
 ) -> Result<Turn<'e>, AllocError>
-    requires { length found.now.items.now < kept }
-    ensures { AreInWords found.now kept → IfOk result
-        (TakesRecordsTurn entry.now found.now kept line above.now stated.new) }
+    requires { length found.now.items.now < length items.now }
+    ensures { AreInWords found.now (map raw items.now) → IfOk result
+        (TakesRecordsTurn entry.now found.now (map raw items.now) line above.now stated.new) }
 {
-    let Some(around) = around_type(entry, found, kept) else {
-        return Ok(Turn::Stays);
-    };
-    let items = data_items(alloc, around.back, found.items, &mut stated.staying)?;
-    match read_data(&found.further.fields, &items, above, &mut stated.octets) {
+    let around = around_type(entry, items, found);
+    let words = data_items(alloc, around.back, found.items, &mut stated.staying)?;
+    match read_data(&found.further.fields, &words, above, &mut stated.octets) {
         Ok(()) => Ok(Turn::InOctets(around)),
         Err(DataFailing::Fault { field, fault }) => {
             Ok(Turn::Refused(found.refusal(line, field, fault)))
@@ -109,32 +98,32 @@ fn turn_in_words<'e>(
     }
 }
 
-/// What becomes of a record of whose entry so many items are kept, under the origin that holds for
-/// it. The data that it states is put in place of what `stated` held.
+/// What becomes of a record of whose entry these items are kept, under the origin that holds for it.
+/// The data that it states is put in place of what `stated` held.
 fn turn_of_record<'e>(
     alloc: Global,
     entry: &'e [u8],
+    items: &[Item],
     found: &FurtherRecord,
-    kept: usize,
     line: u64,
     above: &CasedName,
     stated: &mut EntryData,
 ) -> Result<Turn<'e>, AllocError>
-    requires { length found.now.items.now < kept }
+    requires { length found.now.items.now < length items.now }
     ensures { IfOk result
-        (TakesRecordsTurn entry.now found.now kept line above.now stated.new) }
+        (TakesRecordsTurn entry.now found.now (map raw items.now) line above.now stated.new) }
 {
     if is_generic(found.items) {
-        return Ok(turn_in_generic_form(entry, found, kept));
+        return Ok(turn_in_generic_form(entry, items, found));
     }
-    if kept >= MOST_ITEMS {
+    if items.len() >= MOST_ITEMS {
         return Ok(Turn::Refused(found.refusal(line, "data", WordsFault::TooManyItems)));
     }
     if !are_on_one_line(found.items) {
         let fault = WordsFault::LineFeedWithinQuotes;
         return Ok(Turn::Refused(found.refusal(line, "data", fault)));
     }
-    turn_in_words(alloc, entry, found, kept, line, above, stated)
+    turn_in_words(alloc, entry, items, found, line, above, stated)
 }
 
 /// What becomes of the entry on a line, of which these items are kept, where it leaves this to the
@@ -159,7 +148,7 @@ pub(crate) fn turn_of<'e>(
         return Ok(Turn::Stays);
     };
     match &left.origin {
-        Some(above) => turn_of_record(alloc, entry, &found, items.len(), line, above, stated),
+        Some(above) => turn_of_record(alloc, entry, items, &found, line, above, stated),
         None => Ok(Turn::Stays),
     }
 }

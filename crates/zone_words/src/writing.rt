@@ -1,34 +1,12 @@
 //! One entry written anew: its octets, with the type's word and the tokens after it replaced.
-ghost use Rattle.std.specs.Prelude.{◌≡◌, ◌++◌, codes, decimal, length, IfNone, IfSome, OnOk};
+ghost use Rattle.std.specs.Prelude.{◌≡◌, ◌++◌, codes, decimal, length, OnOk};
 ghost use Rattle.zone_text.specs.Tokens.{text, token_text};
-ghost use Rattle.zone_words.specs.Machine.Walking.{StandsAround, StandsNowhere, WritesBetween};
+ghost use Rattle.zone_words.specs.Machine.Walking.{WritesBetween};
 ghost use Rattle.zone_words.specs.Written.{renamed, generic_tokens, type_token};
 
 use itoa::Buffer;
 use std::alloc::AllocError;
 use zone_rdata::push_hex;
-use zone_text::first_token;
-
-/// What stands before the item after so many, and what after it.
-pub(crate) fn around_item(entry: &[u8], before: usize) -> Option<(&[u8], &[u8])>
-    ensures found { IfSome result (λ found.
-        StandsAround entry.now before found.0.now found.1.now) }
-    ensures none { IfNone result (StandsNowhere entry.now before) }
-{
-    let mut left = before;
-    let mut rest = entry;
-    while let Some((item, after)) = first_token(rest) {
-        if let Some(_item) = item {
-            if left == 0 {
-                let (front, _) = entry.split_at(entry.len() - rest.len());
-                return Some((front, after));
-            }
-            left -= 1;
-        }
-        rest = after;
-    }
-    None
-}
 
 /// Appends `TYPE` and a number (RFC 3597 5).
 #[tactic(auto, using(crate::proofs::Walks::type_pushed))]

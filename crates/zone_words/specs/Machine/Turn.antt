@@ -8,8 +8,8 @@ use Rattle.zone_text.specs.Kept.{AreKept}
 use Rattle.zone_text.specs.Tokens.{Token, Cuts, AreTokensOf, text}
 use Rattle.zone_words.specs.Entry.{AreOnOneLine, BecomesUnder, TokensFail, TokensSay, most_items}
 use Rattle.zone_words.specs.Machine.Further.{IsRecordOf}
+use Rattle.zone_words.specs.Machine.KnownItems.{StandsAround}
 use Rattle.zone_words.specs.Inherited.{IsInherited}
-use Rattle.zone_words.specs.Machine.Walking.{StandsAround}
 use Rattle.zone_words.specs.Origin.{IsCasedOrigin}
 use Rattle.zone_words.specs.Refusal.{refused_of}
 use Rattle.zone_words.specs.Rewriting.{Outcome, Refused}
@@ -54,34 +54,34 @@ TakesTurn octets kept line left stated turn =
     → IsInherited origin (entry_of line tokens ∷ before) left → Cuts octets tokens
     → AreKept (flat_map item_of tokens) kept → TurnIs origin before line tokens stated turn
 
--- the tokens are the record's, so many of their items are kept, and this origin holds there
+-- the tokens are the record's, these of their items are kept, and this origin holds there
 pub record AreOfRecord (origin : Labels) (before : List Entry) (line : ℕ) (tokens : List Token)
-    (found : FurtherRecord) (kept : ℕ) (above : Labels) : Type 0 where
+    (found : FurtherRecord) (kept : List RawItem) (above : Labels) : Type 0 where
   pub is : IsRecordOf before (entry_of line tokens) found
   pub under : IsCasedOrigin origin before above
-  pub few : kept < most_items → length (flat_map item_of tokens) ≡ kept
-  pub less : length (flat_map item_of tokens) < most_items → kept < most_items
-  pub many : most_items ≤ kept → most_items ≤ length (flat_map item_of tokens)
+  pub few : length kept < most_items → flat_map item_of tokens ≡ kept
+  pub less : length (flat_map item_of tokens) < most_items → length kept < most_items
+  pub many : most_items ≤ length kept → most_items ≤ length (flat_map item_of tokens)
 
 -- it is so for whatever tokens of the record the octets are cut into
 abbrev pub TakesRecordsTurn
-    : List ℕ → FurtherRecord → ℕ → ℕ → Labels → EntryData → Turn → Type 0
+    : List ℕ → FurtherRecord → List RawItem → ℕ → Labels → EntryData → Turn → Type 0
 TakesRecordsTurn octets found kept line above stated turn =
     (origin : Labels) (before : List Entry) (tokens : List Token) → Cuts octets tokens
     → AreOfRecord origin before line tokens found kept above
     → TurnIs origin before line tokens stated turn
 
 -- all items are kept, they are on one line, and the data isn't in the generic form
-pub record AreInWords (found : FurtherRecord) (kept : ℕ) : Type 0 where
-  pub few : kept < most_items
+pub record AreInWords (found : FurtherRecord) (kept : List RawItem) : Type 0 where
+  pub few : length kept < most_items
   pub on_one_line : AreOnOneLine (map raw found.items.now)
   pub in_words : IsGeneric (map raw found.items.now) → ⊥
 
--- these octets stand around the type's word, where so many items are all
-pub record StandsBeside (octets : List ℕ) (found : FurtherRecord) (kept : ℕ)
+-- these octets stand around the type's word, where these items are all
+pub record StandsBeside (octets : List ℕ) (kept : List RawItem) (found : FurtherRecord)
     (around : Around) : Type 0 where
-  pub stands : StandsAround octets (kept - length found.items.now - 1) around.front.now
-      around.back.now
+  pub stands : StandsAround octets kept (length kept - length found.items.now - 1)
+      around.front.now around.back.now
   pub number : around.number ≡ found.further.now.number
 
 -- what is told of it

@@ -1,17 +1,13 @@
-use Rattle.zone_words.proofs.Common.{given, map, refused_of}
-use Rattle.zone_words.proofs.Turns.{fails_there, stands_somewhere, stated_there}
+use Rattle.zone_words.proofs.Common.{given, map, raw, refused_of}
+use Rattle.zone_words.proofs.Turns.{fails_there, stated_there}
 use Rattle.zone_words.proofs.turn.turn_in_words.Goals as goal
-
-pub returns-in_default : goal.returns-in_default
-returns-in_default c words origin before tokens cut there =
-    absurd (stands_somewhere c.args.entry.now origin before c.args.line tokens c.args.found.now c.args.kept c.args.above.now cut there words.few c.in_default.ensures.none)
 
 pub returns-in-Ok : goal.returns-in-Ok
 returns-in-Ok c words origin before tokens cut there =
-    stated_there c.args.entry.now origin before c.args.line tokens c.args.found.now c.args.kept c.args.above.now c.in-Some.around (map given c.in_ok-items.items.items) (record { octets = c.read_data.new.octets; staying = c.data_items.new.staying }) cut there words c.in-Some.ensures.found c.in_ok-items.ensures.found c.in_ok-items.ensures.staying
+    stated_there c.args.entry.now origin before c.args.line tokens c.args.found.now (map raw c.args.items.now) c.args.above.now c.around_type-around.result (map given c.in_ok-words.words.items) (record { octets = c.read_data.new.octets; staying = c.data_items.new.staying }) cut there words c.around_type-around.ensures c.in_ok-words.ensures.found c.in_ok-words.ensures.staying
     (rw (c.deref.ensures.value) at c.in-Ok.ensures.states)
 
 pub returns-in-Err-Fault : goal.returns-in-Err-Fault
 returns-in-Err-Fault c words origin before tokens cut there =
-    fails_there c.args.entry.now origin before c.args.line tokens c.args.found.now c.args.kept c.args.above.now c.in-Some.around (map given c.in_ok-items.items.items) c.in-Err-Fault.field.now c.in-Err-Fault.fault (refused_of c.refusal.result) cut there words c.in-Some.ensures.found c.in_ok-items.ensures.found
+    fails_there c.args.entry.now origin before c.args.line tokens c.args.found.now (map raw c.args.items.now) c.args.above.now c.around_type-around.result (map given c.in_ok-words.words.items) c.in-Err-Fault.field.now c.in-Err-Fault.fault (refused_of c.refusal.result) cut there words c.around_type-around.ensures c.in_ok-words.ensures.found
     (rw (c.deref.ensures.value, c.in-Err-Fault.field-0-is) at c.in-Err-Fault.ensures.fault) (rw (c.in-Err-Fault.field-0-is) at c.refusal.ensures)
