@@ -7,6 +7,7 @@ ghost use Rattle.zone_text.specs.Machine.Kept.{KeepsBare};
 ghost use Rattle.zone_text.specs.Machine.Stops.{Tells};
 ghost use Rattle.zone_text.specs.Machine.Walk.{IsMark, IsWalked, KeepsToken, StandsAt, StandsOpen, TellsAfter};
 ghost use Rattle.zone_text.specs.OpenEntry.{EndIs};
+ghost use Rattle.zone_text.specs.Tokens.{is_blank};
 
 use crate::ended::line_feeds;
 use crate::items::keep;
@@ -41,12 +42,10 @@ pub(crate) enum Reached {
     ClosesNothing(usize),
 }
 
-/// What stands where a bare item stops.
+/// What stands where a bare item stops, if it is no blank.
 #[derive(Clone, Copy, Drop)]
 enum Mark {
-    /// A blank.
-    Blank,
-    /// Another token of one octet, after which so many parentheses are open, and its line feeds.
+    /// A token of one octet, after which so many parentheses are open, and its line feeds.
     Passes(u64, usize),
     /// The line feed that ends the entry.
     Ends,
@@ -73,19 +72,28 @@ impl At {
     }
 }
 
-/// What an octet is that stops a bare item, where so many parentheses are open.
+/// Whether an octet that stops a bare item is a blank.
+#[inline(always)]
+fn is_blank_stop(stop: u8) -> bool
+    requires { stops_bare stop ≡ true }
+    ensures { result ≡ is_blank stop }
+{
+    // Of what stops a bare item, the others up to a space are line feeds.
+    stop <= b' ' && stop != b'\n'
+}
+
+/// What an octet is that stops a bare item, if it is no blank, where so many parentheses are open.
 #[inline(always)]
 fn mark_at(stop: u8, depth: u64) -> Mark
     requires stops { stops_bare stop ≡ true }
     requires other { stop ≢ 92 }
+    requires marks { is_blank stop ≡ false }
     requires fits { depth < 2 ^ 63 }
     ensures { IsMark depth stop result }
 {
     match stop {
         b'\n' if depth == 0 => Mark::Ends,
         b'\n' => Mark::Passes(depth, 1),
-        // Of what stops a bare item, the other octets up to a space are blanks.
-        _ if stop <= b' ' => Mark::Blank,
         b'(' => Mark::Passes(depth + 1, 0),
         b')' if depth == 0 => Mark::ClosesNothing,
         b')' => Mark::Passes(depth - 1, 0),
@@ -169,22 +177,24 @@ fn walk_on<'t>(
     let (_, ahead) = octets.split_at(from.start);
     let mut stops = *known;
     let mut rest = ahead;
-    while !rest.is_empty() {
+    loop {
         let (len, next_stops) = stops.bare_len(rest);
         let (bare, stopped) = rest.split_at(len);
         let Some((stop, after)) = stopped.split_first() else {
             return Ok(Reached::Open(stand(octets, rest, rest.len(), depth, feeds)));
         };
+        // Most items stop so.
+        if is_blank_stop(*stop) {
+            keep_bare(bare, keeps, items)?;
+            stops = next_stops;
+            rest = after;
+            continue;
+        }
         let token = if *stop == b'\\' {
             rest
         } else {
             keep_bare(bare, keeps, items)?;
             match mark_at(*stop, depth) {
-                Mark::Blank => {
-                    stops = next_stops;
-                    rest = after;
-                    continue;
-                }
                 Mark::Passes(next_depth, fed) => {
                     depth = next_depth;
                     feeds += fed;
@@ -217,7 +227,6 @@ fn walk_on<'t>(
             }
         }
     }
-    Ok(Reached::Open(stand(octets, rest, 0, depth, feeds)))
 }
 
 /// Walks over the entry at the front of octets, and puts its items in place of what `items` held.

@@ -11,7 +11,7 @@ use Rattle.zone_text.proofs.Tokens.ItemsLeft.{each_plain, ends_but_mark, plain_t
 use Rattle.zone_text.proofs.Scanning.FirstEntries.{feeds_of_both, none_first, none_in, other_than_ten}
 pub use Rattle.zone_text.specs.Machine.Spans.{AreUnits, BeginsToken, EndsToken, IsItemOrComment, IsLostToken, IsOpenToken, IsSeen, ItemIs, RunsOut, Settles, between, in_bare, in_bare_lost, in_comment, in_quotes, in_quotes_lost}
 use Rattle.zone_text.specs.Machine.Stops.{Tells}
-pub use Rattle.zone_text.specs.Machine.Walk.{BeginAs, EndsEntry, IsCut, IsMark, KeepsAll, KeepsToken, StandsAt, StandsOpen, Walked, a_blank, a_closing, a_line_feed, an_opening, fronted}
+pub use Rattle.zone_text.specs.Machine.Walk.{BeginAs, EndsEntry, IsCut, IsMark, KeepsAll, KeepsToken, StandsAt, StandsOpen, Walked, a_closing, a_line_feed, an_opening, fronted}
 use Rattle.zone_text.specs.Machine.Walk.{begins as mark_begins, closes_nothing as mark_closes, ends as mark_last}
 use Rattle.zone_text.specs.declared.stops.Stops.{Stops as StopBits}
 use Rattle.zone_text.specs.declared.walk.At.{At}
@@ -244,24 +244,16 @@ walked_past octets rest left depth feeds keeps kept p so_far passes none =
 pub first_octet : (octets after : List ℕ) (c d : ℕ) → octets ≡ c ∷ after → c ≡ d → octets ≡ d ∷ after
 first_octet octets after c d first is = first ∙ ap (λ e. e ∷ after) is
 
-mark_blank : (depth c : ℕ) → IsMark depth c marks.Blank → is_blank c ≡ true
-mark_blank depth c (a_blank is e) = is
-mark_blank depth c (a_line_feed is deep e) = absurd cc
-mark_blank depth c (an_opening is e) = absurd cc
-mark_blank depth c (a_closing is deep e) = absurd cc
-mark_blank depth c (mark_last is none e) = absurd cc
-mark_blank depth c (mark_closes is none e) = absurd cc
-mark_blank depth c (mark_begins is e) = absurd cc
+pub no_escape_stop : (c : ℕ) → is_blank c ≡ true → c ≢ 92
+no_escape_stop c is e = absurd (let clash : false ≡ true = sym (ap is_blank e) ∙ is in cc)
 
-pub walked_blank : (octets rest left : List ℕ) (depth feeds c : ℕ) (keeps : Bool) (kept : List RawItem) → Walked octets rest depth feeds keeps kept → rest ≡ c ∷ left → IsMark depth c marks.Blank → Walked octets left depth feeds keeps kept
-walked_blank octets rest left depth feeds c keeps kept so_far first mark =
-    let is = mark_blank depth c mark in
+pub walked_blank : (octets rest left : List ℕ) (depth feeds c : ℕ) (keeps : Bool) (kept : List RawItem) → Walked octets rest depth feeds keeps kept → rest ≡ c ∷ left → is_blank c ≡ true → Walked octets left depth feeds keeps kept
+walked_blank octets rest left depth feeds c keeps kept so_far first is =
     let none : line_feeds (c ∷ []) ≡ 0 = none_first c [] (other_than_ten is_blank true (λ e. cc) c is) in
     let more : feeds + line_feeds (c ∷ []) ≡ feeds = omega (arith, none) in
     subst (λ f. Walked octets left depth f keeps kept) more (walked_past octets rest left depth feeds keeps kept (blank c) so_far (record { parts = first; token = is; settled = tt; room = tt; none = tt }) refl)
 
 pub walked_mark : (octets rest left : List ℕ) (depth feeds c d f : ℕ) (keeps : Bool) (kept : List RawItem) → Walked octets rest depth feeds keeps kept → rest ≡ c ∷ left → IsMark depth c (marks.Passes d f) → Walked octets left d (feeds + f) keeps kept
-walked_mark octets rest left depth feeds c d f keeps kept so_far first (a_blank is e) = absurd cc
 walked_mark octets rest left depth feeds c d f keeps kept so_far first (a_line_feed is deep e) =
     let d_is : d ≡ depth = cc in
     let f_is : f ≡ 1 = cc in
@@ -279,7 +271,6 @@ walked_mark octets rest left depth feeds c d f keeps kept so_far first (mark_clo
 walked_mark octets rest left depth feeds c d f keeps kept so_far first (mark_begins is e) = absurd cc
 
 pub few_fed : (depth c d f : ℕ) → IsMark depth c (marks.Passes d f) → f ≤ 1
-few_fed depth c d f (a_blank is e) = absurd cc
 few_fed depth c d f (a_line_feed is deep e) = let f_is : f ≡ 1 = cc in omega (arith, f_is)
 few_fed depth c d f (an_opening is e) = let f_is : f ≡ 0 = cc in omega (arith, f_is)
 few_fed depth c d f (a_closing is deep e) = let f_is : f ≡ 0 = cc in omega (arith, f_is)
@@ -289,7 +280,6 @@ few_fed depth c d f (mark_begins is e) = absurd cc
 
 pub mark_ends : (depth c : ℕ) → IsMark depth c marks.Ends → (c ≡ 10) × (depth ≡ 0)
 mark_ends depth c (mark_last is none e) = (is, none)
-mark_ends depth c (a_blank is e) = absurd cc
 mark_ends depth c (a_line_feed is deep e) = absurd cc
 mark_ends depth c (an_opening is e) = absurd cc
 mark_ends depth c (a_closing is deep e) = absurd cc
@@ -298,7 +288,6 @@ mark_ends depth c (mark_begins is e) = absurd cc
 
 pub mark_closing : (depth c : ℕ) → IsMark depth c marks.ClosesNothing → (c ≡ 41) × (depth ≡ 0)
 mark_closing depth c (mark_closes is none e) = (is, none)
-mark_closing depth c (a_blank is e) = absurd cc
 mark_closing depth c (a_line_feed is deep e) = absurd cc
 mark_closing depth c (an_opening is e) = absurd cc
 mark_closing depth c (a_closing is deep e) = absurd cc
@@ -307,7 +296,6 @@ mark_closing depth c (mark_begins is e) = absurd cc
 
 pub mark_token : (depth c : ℕ) (octets after : List ℕ) → octets ≡ c ∷ after → IsMark depth c marks.Begins → BeginsToken octets
 mark_token depth c octets after first (mark_begins is e) = subst BeginsToken (sym first) (inr is)
-mark_token depth c octets after first (a_blank is e) = absurd cc
 mark_token depth c octets after first (a_line_feed is deep e) = absurd cc
 mark_token depth c octets after first (an_opening is e) = absurd cc
 mark_token depth c octets after first (a_closing is deep e) = absurd cc
@@ -468,7 +456,7 @@ stands_begun octets at keeps kept start seen depth feeds none =
 -- ---- a token that isn't ended, or breaks
 
 -- a bare item goes on to the end of the octets
-pub bare_to_end : (rest stopped : List ℕ) (n : ℕ) → n ≡ prefix_len goes_on rest → stopped ≡ drop n rest → stopped ≡ [] → 0 < length rest → IsOpenToken rest (length rest)
+bare_to_end : (rest stopped : List ℕ) (n : ℕ) → n ≡ prefix_len goes_on rest → stopped ≡ drop n rest → stopped ≡ [] → 0 < length rest → IsOpenToken rest (length rest)
 bare_to_end rest stopped n len back none some =
     let all : take n rest ≡ rest = sym (append-nil (take n rest)) ∙ ap (λ t. take n rest ++ t) (sym none ∙ back) ∙ take-append-drop n rest in
     in_bare (record {
@@ -478,6 +466,11 @@ bare_to_end rest stopped n len back none some =
       whole = sym (append-nil (written_text (map plain rest)) ∙ plain_text rest);
       len = ap length (sym (plain_text rest));
     }) (inl refl) some
+
+-- so does what is left where nothing is
+pub open_to_end : (rest stopped : List ℕ) (n : ℕ) → n ≡ prefix_len goes_on rest → stopped ≡ drop n rest → stopped ≡ [] → IsOpenToken rest (length rest)
+open_to_end [] stopped n len back none = between refl refl
+open_to_end (c ∷ rest) stopped n len back none = bare_to_end (c ∷ rest) stopped n len back none (omega arith)
 
 pub one_by : (depth : ℕ) (p : Token) → IsItemOrComment p → cut_from depth (p ∷ []) ≡ one_open (p ∷ [])
 one_by zero (bare units) kind = refl

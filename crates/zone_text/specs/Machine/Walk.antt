@@ -11,7 +11,7 @@ use Rattle.zone_text.specs.Kept.{AreKept}
 use Rattle.zone_text.specs.Machine.Kept.{Keeps}
 use Rattle.zone_text.specs.Machine.Spans.{IsItemOrComment, IsOpenToken, IsSeen}
 use Rattle.zone_text.specs.Machine.Stops.{Tells}
-use Rattle.zone_text.specs.Tokens.{Token, text, token_text, IsToken, AllFollow, depth_after, is_blank}
+use Rattle.zone_text.specs.Tokens.{Token, text, token_text, IsToken, AllFollow, depth_after}
 use Rattle.zone_text.specs.declared.stops.Stops.{Stops}
 use Rattle.zone_text.specs.declared.walk.At.{At}
 use Rattle.zone_text.specs.declared.walk.Mark.{Mark}
@@ -106,9 +106,8 @@ TellsAfter octets found known = ⊤
 
 -- ---- a token more
 
--- what an octet is that stops a bare item, at a depth of parentheses
+-- what an octet is that stops a bare item and is no blank, at a depth of parentheses
 pub data IsMark (depth c : ℕ) (mark : Mark) : Type 0 where
-  a_blank : is_blank c ≡ true → mark ≡ marks.Blank → IsMark depth c mark
   a_line_feed : c ≡ 10 → depth ≢ 0 → mark ≡ marks.Passes depth 1 → IsMark depth c mark
   an_opening : c ≡ 40 → mark ≡ marks.Passes (depth + 1) 0 → IsMark depth c mark
   a_closing : c ≡ 41 → depth ≢ 0 → mark ≡ marks.Passes (depth - 1) 0 → IsMark depth c mark
