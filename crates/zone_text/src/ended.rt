@@ -1,5 +1,5 @@
 //! The entries that were ended, read one by one (RFC 1035 5.1).
-ghost use Rattle.std.specs.Prelude.{◌≡◌, ◌+◌, ◌<◌, ◌≤◌, ◌^◌, ◌==◌, [], count_by, length, map, OnOk, Some, None};
+ghost use Rattle.std.specs.Prelude.{◌≡◌, ◌+◌, ◌<◌, ◌≤◌, ◌^◌, ◌==◌, [], count_by, length, map, IfOk, OnOk, Some, None};
 ghost use Rattle.zone_rdata.specs.Item.{raw};
 ghost use Rattle.zone_text.specs.ParserState.{IsStateAfter};
 ghost use Rattle.zone_text.specs.Machine.Feeding.{ReadsOctets};
@@ -7,6 +7,8 @@ ghost use Rattle.zone_text.specs.Kept.{KeepsItems};
 
 use crate::items::cut_items;
 use crate::parser_state::ParserState;
+use crate::stops::Stops;
+use crate::walk::{Reached, walk};
 use std::alloc::{AllocError, Global};
 use zone_name::Name;
 use zone_rdata::{Fault, Item, PendingRecords, Place};
@@ -32,6 +34,22 @@ pub fn line_feeds(octets: &[u8]) -> usize
         Some((b'\n', front)) if !front.contains(&b'\n') => 1,
         _ => octets.iter().filter(|octet| **octet == b'\n').count(),
     }
+}
+
+/// Puts the items of a whole entry, which is known to be cut into tokens, in place of what `items`
+/// held, and gives the number of its line feeds.
+fn cut_entry<'t>(entry: &'t [u8], items: &mut Vec<Item<'t>>) -> Result<usize, AllocError>
+    ensures kept { OnOk result (KeepsItems entry.now (map raw items.new.items)) }
+    ensures feeds { IfOk result (λ feeds. feeds ≡ count_by (λ c. c == 10) entry.now) }
+{
+    if let Reached::Ends(len, feeds) = walk(entry, &mut Stops::unseen(entry), items)? {
+        if len == entry.len() {
+            return Ok(feeds);
+        }
+    }
+    // The end of the file ends it.
+    cut_items(entry, items)?;
+    Ok(line_feeds(entry))
 }
 
 impl EndedEntries {
@@ -60,8 +78,8 @@ impl EndedEntries {
         requires fits { self.old.line + length entry.now < 2 ^ 64 }
         ensures { OnOk result (ReadsOctets entry.now self.old self.new) }
     {
-        cut_items(entry, items)?;
-        self.read_cut(entry, items, line_feeds(entry))
+        let feeds = cut_entry(entry, items)?;
+        self.read_cut(entry, items, feeds)
     }
 
     /// Reads the entry after them, of which these are the items and the number of its line feeds.
