@@ -6,6 +6,8 @@ use Rattle.std.proofs.lemmas.List.{drop_more}
 use Rattle.zone_name.specs.Spelling.{decimal}
 use Rattle.zone_rdata.specs.Item as items
 use Rattle.zone_text.specs.Tokens.{bare, quoted}
+use Rattle.std.proofs.Common.{Bor}
+use Rattle.std.specs.Prelude.{IfNone, IfSome, None, Option, Some}
 use Rattle.zone_words.specs.DataItem.{items_of}
 use Rattle.zone_words.specs.Machine.KnownItems.{is_between}
 use Rattle.zone_words.proofs.Turns.{items_behind}
@@ -93,6 +95,17 @@ item_first octets after c first none other (comment note ∷ more) are =
 pub none_first : (octets : List ℕ) → length octets ≡ 0 → (tokens : List Token) → AreTokensOf octets tokens → from_item tokens ≡ tokens
 none_first octets none [] are = refl
 none_first octets none (p ∷ more) are = absurd (nothing_left octets p more none are)
+
+some_by : {A : Type 0} (r : Option A) (P Q : A → Type 0) → ((x : A) → P x → Q x) → IfSome r P → IfSome r Q
+some_by None P Q by p = tt
+some_by (Some x) P Q by p = by x p
+
+pub comment_passed : (octets after : List ℕ) (result : Option (Bor (List ℕ))) → octets ≡ 59 ∷ after → IfSome result (λ rest. (more : List ℕ) → octets ≡ 59 ∷ more → FrontIs octets [] rest.now) → IfSome result (λ rest. FrontIs octets [] rest.now)
+comment_passed octets after result first is = some_by result _ _ (λ rest front. front after first) is
+
+pub comment_there : (octets after : List ℕ) (result : Option (Bor (List ℕ))) → octets ≡ 59 ∷ after → IfNone result (octets ≡ []) → IfNone result ((tokens : List Token) → AreTokensOf octets tokens → from_item tokens ≡ tokens)
+comment_there octets after None first none = absurd (let clash : [] ≡ 59 ∷ after = sym none ∙ first in cc)
+comment_there octets after (Some rest) first none = tt
 
 -- ---- up to an item
 

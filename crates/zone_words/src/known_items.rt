@@ -1,6 +1,6 @@
 //! Where the items of an entry stand, which are known: what lies between them is looked at, and no
 //! octet of theirs (RFC 1035 5.1).
-ghost use Rattle.std.specs.Prelude.{◌≡◌, ◌<◌, [], IfNone, IfOk, IfSome, List, OnOk, drop, filter, length, map, true};
+ghost use Rattle.std.specs.Prelude.{◌≡◌, ◌<◌, ◌∷◌, ℕ, [], IfNone, IfOk, IfSome, List, OnOk, drop, filter, length, map, true};
 ghost use Rattle.zone_rdata.specs.Item.{raw};
 ghost use Rattle.zone_text.specs.Tokens.{Token, AreTokensOf, text};
 ghost use Rattle.zone_words.specs.DataItem.{given, items_of};
@@ -21,6 +21,19 @@ fn is_between(octet: u8) -> bool
     is_blank(octet) || matches!(octet, b'\n' | b'(' | b')')
 }
 
+/// What follows the comment at the front.
+// Not inlined: so what is found of a token takes no room where blanks are passed.
+#[inline(never)]
+fn past_comment(octets: &[u8]) -> Option<&[u8]>
+    ensures found { IfSome result (λ rest. (after : List ℕ) → octets.now ≡ 59 ∷ after
+        → FrontIs octets.now [] rest.now) }
+    ensures shorter { IfSome result (λ rest. length rest.now < length octets.now) }
+    ensures none { IfNone result (octets.now ≡ []) }
+{
+    let (_comment, after) = first_token(octets)?;
+    Some(after)
+}
+
 /// What follows the token at the front. `None`: it is an item, or there is none.
 #[inline(always)]
 fn past_token(octets: &[u8]) -> Option<&[u8]>
@@ -33,11 +46,11 @@ fn past_token(octets: &[u8]) -> Option<&[u8]>
     if is_between(*first) {
         return Some(after);
     }
-    if *first != b';' {
-        return None;
+    if *first == b';' {
+        past_comment(octets)
+    } else {
+        None
     }
-    let (_comment, after) = first_token(octets)?;
-    Some(after)
 }
 
 /// The octets from the first item on.
@@ -62,6 +75,7 @@ fn begins_with_blank(octets: &[u8]) -> bool
 }
 
 /// As `past_gap`. The parentheses, comments and line feeds before the item are put after others.
+#[inline(always)]
 fn take_gap<'e>(octets: &'e [u8], staying: &mut Vec<u8>) -> Result<&'e [u8], AllocError>
     ensures passed { IfOk result (λ rest. PassesGap octets.now rest.now) }
     ensures kept { OnOk result (KeepsGap octets.now staying.old.items staying.new.items) }
