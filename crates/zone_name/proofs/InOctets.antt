@@ -1,5 +1,6 @@
 -- Names as octets, and how they compare.
 pub mod Comparing
+pub mod Evens
 pub mod OctetLanes
 pub mod Octets
 pub mod Pushing
