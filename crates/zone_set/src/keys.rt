@@ -209,13 +209,14 @@ fn key_of(octets: &[u8], at: usize, front: usize, digit: usize) -> u64 {
     // The root's octet is no digit.
     let whole = stored.owner.len().saturating_sub(1);
     let past = digit.saturating_add(16);
-    let mut key = if whole < past {
+    let after = if whole < past {
         key_of_data(&stored, whole, front, digit)
     } else {
         0
     };
     // Those before have eight digits, even if each has one alone.
-    let mut labels = past_far(stored.owner, past.saturating_add(1));
+    let near = past_far(stored.owner, past.saturating_add(1));
+    let (mut labels, mut key) = put_hexadecimals(near, digit, after);
     let mut end = labels.len().saturating_sub(1);
     while let Some((label, rest)) = first_label(labels) {
         if end <= digit {
@@ -226,6 +227,20 @@ fn key_of(octets: &[u8], at: usize, front: usize, digit: usize) -> u64 {
         labels = rest;
     }
     key
+}
+
+/// Puts the labels of one hexadecimal digit that come first before the digits of a key, as those of an
+/// address in ip6.arpa (RFC 3596 2.5), and gives those that are left. These end no digit before one.
+fn put_hexadecimals(labels: &[u8], digit: usize, after: u64) -> (&[u8], u64) {
+    let (mut left, mut key) = (labels, after);
+    while let [len, octet, rest @ ..] = left {
+        if *len != 1 || !is_hexadecimal(*octet) || rest.len() <= digit {
+            break;
+        }
+        key = put_digit(leading_digit(*octet), key);
+        left = rest;
+    }
+    (left, key)
 }
 
 /// Eight of the digits from one on, and none before the owner's end.
