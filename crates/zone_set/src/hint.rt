@@ -1,7 +1,8 @@
 ghost use Rattle.std.specs.Prelude.{◌≡◌, ◌<◌, ◌≤◌, ◌++◌, ◌∷◌, ◌^◌, [], length, take, List, ℕ, IfNone, IfSome};
-ghost use Rattle.zone_name.specs.Name.{IsWithin};
+ghost use Rattle.zone_name.specs.Name.{IsWithin, wire};
 ghost use Rattle.zone_set.specs.Machine.Hint.{first_digits, IsHint, IsPutBefore};
 ghost use Rattle.zone_set.specs.Machine.LabelKey.{label_key, longer_digit, octets_key, owner_key};
+ghost use Rattle.zone_set.specs.Machine.Owner.{IsFirst};
 
 use crate::order::are_same;
 use crate::owner::{first_label, past_far};
@@ -80,14 +81,31 @@ fn front_key(base: &Name, owner: &NameRef<'_>) -> Option<u64>
     let mut key = 0;
     // The octets of the labels that are left become fewer, until they are as many as the base's.
     while left.len() > ending.len() {
-        let (label, rest) = first_label(left)?;
-        key = put_label(label, key);
+        let (more, rest) = put_first(left, key)?;
+        key = more;
         left = rest;
     }
     if are_same(left, ending) {
         Some(key)
     } else {
         None
+    }
+}
+
+/// Puts the first label and its end before the digits of a number, and gives what follows it. `None`: a
+/// name has no label.
+fn put_first(octets: &[u8], after: u64) -> Option<(u64, &[u8])>
+    ensures parts { IfSome result (λ put. (label : List ℕ) × IsFirst octets.now label put.1.now
+        × IsPutBefore (label_key label) after put.0) }
+    ensures none { IfNone result ((label : List ℕ) → (labels : List (List ℕ)) → 0 < length label
+        → octets.now ≡ wire (label ∷ labels) → ⊥) }
+{
+    match octets {
+        [len, octet, rest @ ..] if *len == 1 => Some((put_alone(*octet, after), rest)),
+        _ => {
+            let (label, rest) = first_label(octets)?;
+            Some((put_label(label, after), rest))
+        }
     }
 }
 

@@ -94,6 +94,12 @@ one_octet len c rest one = record {
   follows = ap (λ n. drop n (c ∷ rest)) (sym one);
 }
 
+-- a label of one octet comes first
+pub first_one : (octets : List ℕ) → 2 ≤ length octets → slice_index_or octets 0 0 ≡ 1 → IsFirst octets (slice_index_or octets 1 0 ∷ []) (drop 2 octets)
+first_one [] long one = absurd (omega (arith, long))
+first_one (_ ∷ []) long one = absurd (omega (arith, long))
+first_one (len ∷ (c ∷ rest)) long one = one_octet len c rest one
+
 -- and with those after four of one octet each
 pub end_four : (octets : List ℕ) → 8 ≤ length octets → slice_index_or octets 0 0 ≡ 1 → slice_index_or octets 2 0 ≡ 1 → slice_index_or octets 4 0 ≡ 1 → slice_index_or octets 6 0 ≡ 1
     → (labels : List (List ℕ)) → octets ≡ wire labels → IsEndOf labels (drop 8 octets)
