@@ -46,8 +46,11 @@ fn shared_len(a: &[u8], b: &[u8]) -> usize {
         left.split_last_chunk::<8>(),
         right.split_last_chunk::<8>(),
     ) {
-        if x != y {
-            break;
+        // The last octet is the highest of the number.
+        let other = u64::from_le_bytes(*x) ^ u64::from_le_bytes(*y);
+        if other != 0 {
+            let same = (other.leading_zeros() / 8) as usize;
+            return a.len().saturating_sub(left.len()).saturating_add(same);
         }
         left = rest;
         right = more;
