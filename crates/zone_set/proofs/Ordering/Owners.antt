@@ -88,7 +88,7 @@ end_first octets label rest first labels is =
     let cut = first_of_wire octets label rest labels is first in
     record { front = label ∷ []; last = cut.0; parts = cut.1; is = cut.2 }
 
-one_octet : (len c : ℕ) (rest : List ℕ) → len ≡ 1 → IsFirst (len ∷ (c ∷ rest)) (c ∷ []) rest
+pub one_octet : (len c : ℕ) (rest : List ℕ) → len ≡ 1 → IsFirst (len ∷ (c ∷ rest)) (c ∷ []) rest
 one_octet len c rest one = record {
   len = len;
   after = c ∷ rest;
@@ -97,12 +97,6 @@ one_octet len c rest one = record {
   first = ap (λ n. take n (c ∷ rest)) (sym one);
   follows = ap (λ n. drop n (c ∷ rest)) (sym one);
 }
-
--- a label of one octet comes first
-pub first_one : (octets : List ℕ) → 2 ≤ length octets → slice_index_or octets 0 0 ≡ 1 → IsFirst octets (slice_index_or octets 1 0 ∷ []) (drop 2 octets)
-first_one [] long one = absurd (omega (arith, long))
-first_one (_ ∷ []) long one = absurd (omega (arith, long))
-first_one (len ∷ (c ∷ rest)) long one = one_octet len c rest one
 
 -- and with those after as many of one octet each
 end_ones : (others octets rest : List ℕ) → octets ≡ each_after 1 others ++ rest → (labels : List (List ℕ)) → octets ≡ wire labels → IsEndOf labels rest

@@ -1,22 +1,21 @@
 use Rattle.zone_set.proofs.Common.{ap, arith, bytes_decides, false≢true, inl, inr, length, sym, wire, ◌+◌, ◌∙◌, ◌≤◌, ⊎_elim}
-use Rattle.zone_set.proofs.Hints.HintWalk.{walked_found, walked_next, walked_none, walked_short, walked_some, walked_start}
+use Rattle.zone_set.proofs.Hints.HintWalk.{walked_found, walked_gathered, walked_next, walked_none, walked_short, walked_some}
 use Rattle.zone_set.proofs.hint.front_key.Goals as goal
 
 pub loop-left-init : goal.loop-left-init
 loop-left-init c =
-    walked_start c.args.base.now c.args.owner.now c.past_far-left.result.now (c.past_far-left.ensures.end c.args.owner.now c.wire.ensures.octets)
-    (⊎_elim (λ same. inl (same ∙ c.wire.ensures.octets)) (λ far. inr (omega (arith, far, ap length c.wire-ending.ensures.octets))) c.past_far-left.ensures.far)
+    walked_gathered c.args.base.now c.args.owner.now c.past_far-near.result.now c.gather_seven-key.result.1.now _ c.gather_seven-key.result.0 (c.past_far-near.ensures.end c.args.owner.now c.wire.ensures.octets)
+    (⊎_elim (λ same. inl (same ∙ c.wire.ensures.octets)) (λ far. inr (omega (arith, far, ap length c.wire-ending.ensures.octets))) c.past_far-near.ensures.far) c.wire.ensures.name (ap length c.wire-ending.ensures.octets) c.gather_seven-key.ensures
 
-pub returns-in_err-more-clause-none : goal.returns-in_err-more-clause-none
-returns-in_err-more-clause-none c =
+pub returns-in_err-label-clause-none : goal.returns-in_err-label-clause-none
+returns-in_err-label-clause-none c =
     absurd (walked_some c.args.base.now c.args.owner.now c.loop-left.left.now c.loop-left.key c.loop-left.invariant c.wire.ensures.name
-    (omega (arith, c.loop-left-test.true, ap length c.wire-ending.ensures.octets)) c.in_err-more.ensures.none)
+    (omega (arith, c.loop-left-test.true, ap length c.wire-ending.ensures.octets)) c.in_err-label.ensures.none)
 
 pub loop-left-preserved : goal.loop-left-preserved
 loop-left-preserved c =
-    let put = c.in_ok-more.ensures.parts in
-    walked_next c.args.base.now c.args.owner.now c.loop-left.left.now c.loop-left.key c.loop-left.invariant c.wire.ensures.name put.0 c.in_ok-more.rest.now c.in_ok-more.more
-    (omega (arith, c.loop-left-test.true, ap length c.wire-ending.ensures.octets)) put.1 put.2
+    walked_next c.args.base.now c.args.owner.now c.loop-left.left.now c.loop-left.key c.loop-left.invariant c.wire.ensures.name c.in_ok-label.label.now c.in_ok-label.rest.now _
+    (omega (arith, c.loop-left-test.true, ap length c.wire-ending.ensures.octets)) c.in_ok-label.ensures.parts c.put_label-key.ensures
 
 pub returns-then-are_same-clause-within : goal.returns-then-are_same-clause-within
 returns-then-are_same-clause-within c =
