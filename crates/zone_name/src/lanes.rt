@@ -19,6 +19,13 @@ pub(crate) const EVENS: u64 = 0x5555;
 /// at.
 pub(crate) const ROOM: usize = 128;
 
+/// By the low four bits of an octet: what is printed after a backslash, but for the dot, and has these
+/// bits. Else 0, which has others.
+#[rattlefmt::skip]
+const ODD_BY_LOW_BITS: [u8; 16] = [
+    b'@', 0, b'"', 0, b'$', 0, 0, 0, b'(', b')', 0, b';', b'\\', 0, 0, 0,
+];
+
 /// Writes octets into the room for them, from a place on.
 #[tactic(auto, using(std::proofs::lemmas::Simd::put_chunk_is))]
 #[inline(always)]
@@ -83,15 +90,11 @@ pub(crate) fn dots_in(octets: &[u8], at: usize) -> Option<usize>
         (list_all is_bare (chunk at LANES octets.now) ≡ false) }
 {
     let lanes = u8x16::from_slice(&octets[at..]);
-    // The two parentheses differ in the lowest bit alone.
+    let low = lanes & u8x16::splat(15);
+    let alike = u8x16::from_array(ODD_BY_LOW_BITS).swizzle_dyn_within::<16>(low);
     let odd = lanes.simd_lt(u8x16::splat(b'!'))
         | lanes.simd_gt(u8x16::splat(b'~'))
-        | (lanes | u8x16::splat(1)).simd_eq(u8x16::splat(b')'))
-        | lanes.simd_eq(u8x16::splat(b'"'))
-        | lanes.simd_eq(u8x16::splat(b'$'))
-        | lanes.simd_eq(u8x16::splat(b';'))
-        | lanes.simd_eq(u8x16::splat(b'@'))
-        | lanes.simd_eq(u8x16::splat(b'\\'));
+        | lanes.simd_eq(alike);
     if odd.to_bitmask() != 0 {
         return None;
     }
