@@ -1,9 +1,9 @@
 //! What is seen of octets, and done to them, 16 at a time.
-ghost use Rattle.std.specs.Prelude.{◌≡◌, ◌+◌, ◌≤◌, false, true, length, map, IfSome, IfNone};
+ghost use Rattle.std.specs.Prelude.{◌≡◌, ◌+◌, ◌≤◌, false, true, length, map, IfSome, IfNone, IsTrue};
 ghost use Rattle.std.specs.List.{count_by, list_all};
 ghost use Rattle.std.specs.Simd.Lanes.{chunk, mask_l, put_chunk};
 ghost use Rattle.zone_name.specs.Machine.Shown.{is_bare};
-ghost use Rattle.zone_name.specs.Machine.Plain.{is_mark};
+ghost use Rattle.zone_name.specs.Machine.Plain.{TurnsEvens, is_mark};
 ghost use Rattle.zone_name.specs.Name.{folded_octet};
 ghost use Rattle.zone_name.specs.Spelling.{is_dot};
 
@@ -12,9 +12,19 @@ use std::simd::prelude::*;
 /// How many octets are looked at at a time.
 pub(crate) const LANES: usize = 16;
 
+/// The bits of the even ones of 16 octets, the first of which is 0.
+pub(crate) const EVENS: u64 = 0x5555;
+
 /// The room that most names are read and printed in, with 16 octets after them that may be looked
 /// at.
 pub(crate) const ROOM: usize = 128;
+
+/// By the low four bits of an octet: what is printed after a backslash, but for the dot, and has these
+/// bits. Else 0, which has others.
+#[rattlefmt::skip]
+const ODD_BY_LOW_BITS: [u8; 16] = [
+    b'@', 0, b'"', 0, b'$', 0, 0, 0, b'(', b')', 0, b';', b'\\', 0, 0, 0,
+];
 
 /// Writes octets into the room for them, from a place on.
 #[tactic(auto, using(std::proofs::lemmas::Simd::put_chunk_is))]
@@ -36,6 +46,24 @@ pub(crate) fn mark_bits(octets: &[u8], at: usize) -> u64
     let lanes = u8x16::from_slice(&octets[at..]);
     let marks = lanes.simd_eq(u8x16::splat(b'.')) | lanes.simd_eq(u8x16::splat(b'\\'));
     marks.to_bitmask()
+}
+
+/// Writes one octet over another, where of the 16 octets at a place that other one is each at an even
+/// place from there and none at an odd one, and tells whether it is. If not, all stay.
+#[inline(always)]
+pub(crate) fn turn_evens(octets: &mut [u8], at: usize, from: u8, to: u8) -> bool
+    requires { at + LANES ≤ length octets.old }
+    ensures turned { IsTrue result → TurnsEvens octets.old octets.new at from to }
+    ensures left { result ≡ false → octets.new ≡ octets.old }
+{
+    let lanes = u8x16::from_slice(&octets[at..]);
+    let found = lanes.simd_eq(u8x16::splat(from));
+    if found.to_bitmask() != EVENS {
+        return false;
+    }
+    let turned = found.select(u8x16::splat(to), lanes);
+    turned.copy_to_slice(&mut octets[at..]);
+    true
 }
 
 /// Puts the letters of the 16 octets at a place in lower case (RFC 4343 3).
@@ -62,15 +90,11 @@ pub(crate) fn dots_in(octets: &[u8], at: usize) -> Option<usize>
         (list_all is_bare (chunk at LANES octets.now) ≡ false) }
 {
     let lanes = u8x16::from_slice(&octets[at..]);
-    // The two parentheses differ in the lowest bit alone.
+    let low = lanes & u8x16::splat(15);
+    let alike = u8x16::from_array(ODD_BY_LOW_BITS).swizzle_dyn_within::<16>(low);
     let odd = lanes.simd_lt(u8x16::splat(b'!'))
         | lanes.simd_gt(u8x16::splat(b'~'))
-        | (lanes | u8x16::splat(1)).simd_eq(u8x16::splat(b')'))
-        | lanes.simd_eq(u8x16::splat(b'"'))
-        | lanes.simd_eq(u8x16::splat(b'$'))
-        | lanes.simd_eq(u8x16::splat(b';'))
-        | lanes.simd_eq(u8x16::splat(b'@'))
-        | lanes.simd_eq(u8x16::splat(b'\\'));
+        | lanes.simd_eq(alike);
     if odd.to_bitmask() != 0 {
         return None;
     }

@@ -12,7 +12,7 @@ ghost use Rattle.zone_name.specs.Machine.Seen.{IsReadInto, EndsInFault, RefusesL
 
 use crate::escape::{NextUnit, next_unit};
 use crate::fault::NameFault;
-use crate::lanes::{LANES, ROOM, fold_lanes, mark_bits, put};
+use crate::lanes::{EVENS, LANES, ROOM, fold_lanes, mark_bits, put, turn_evens};
 use crate::limits::{MAX_LABEL_LEN, MAX_NAME_LEN, check_label};
 use arrayvec::ArrayVec;
 use std::alloc::AllocError;
@@ -126,7 +126,6 @@ fn write_lengths(octets: &mut [u8], len: usize) -> bool
 /// Writes the lengths of the labels of one octet that come first, but for the last label, over the dots
 /// before them, and returns the place after them. An address in ip6.arpa has 32 of them (RFC 3596 2.5),
 /// which need no marks.
-#[tactic(auto, using(crate::proofs::Spelling::Plain::one_written))]
 #[inline(always)]
 fn write_ones(octets: &mut [u8], len: usize) -> usize
     requires { len ≤ length octets.old }
@@ -135,22 +134,46 @@ fn write_ones(octets: &mut [u8], len: usize) -> usize
     ensures within { result ≤ length octets.old }
 {
     let mut at = 0;
-    while at + 2 < len && is_one(octets, at) {
-        octets[at] = 1;
-        at += 2;
+    while at + 2 < len && octets[at + 2] == b'.' {
+        if write_eight(octets, at, len) {
+            at += LANES;
+        } else if is_one(octets, at) {
+            octets[at] = 1;
+            at += 2;
+        } else {
+            return at;
+        }
     }
     at
 }
 
-/// Whether a plain octet stands between two dots at a place.
+/// Writes the lengths of eight labels over the dots before them, if each from a place on has one octet
+/// and more octets follow, and tells whether it did. If not, all stay.
+#[inline(always)]
+fn write_eight(octets: &mut [u8], at: usize, len: usize) -> bool
+    requires begins { at ≤ len }
+    requires room { len ≤ length octets.old }
+    ensures within { IsTrue result → at + LANES < len }
+    ensures writes { IsTrue result → (before : List ℕ)
+        → WritesLengths before octets.old (drop at octets.old)
+        → WritesLengths before octets.new (drop (at + LANES) octets.new) }
+    ensures left { result ≡ false → octets.new ≡ octets.old }
+{
+    if len - at <= LANES || octets[at + LANES] != b'.' {
+        return false;
+    }
+    mark_bits(octets, at) == EVENS && turn_evens(octets, at, b'.', 1)
+}
+
+/// Whether a plain octet stands after a dot at a place.
 #[inline(always)]
 fn is_one(octets: &[u8], at: usize) -> bool
-    requires { at + 2 < length octets.now }
+    requires { at + 1 < length octets.now }
     ensures dot { IsTrue result → slice_index octets.now at ≡ 46 }
     ensures plain { IsTrue result → is_plain (slice_index octets.now (at + 1)) ≡ true }
 {
     let octet = octets[at + 1];
-    octets[at] == b'.' && octets[at + 2] == b'.' && octet != b'.' && octet != b'\\'
+    octets[at] == b'.' && octet != b'.' && octet != b'\\'
 }
 
 /// Puts the letters of the first `len` octets in lower case (RFC 4343 3), 16 octets at a time.

@@ -1,6 +1,6 @@
 ghost use Rattle.std.specs.Prelude.{◌≡◌, ◌<◌, ◌≤◌, ◌++◌, ◌∷◌, ◌^◌, [], length, take, List, ℕ, IfNone, IfSome};
 ghost use Rattle.zone_name.specs.Name.{IsWithin};
-ghost use Rattle.zone_set.specs.Machine.Hint.{first_digits, IsHint, IsPutBefore};
+ghost use Rattle.zone_set.specs.Machine.Hint.{first_digits, GathersOnes, IsHint, IsPutBefore};
 ghost use Rattle.zone_set.specs.Machine.LabelKey.{label_key, longer_digit, octets_key, owner_key};
 
 use crate::order::are_same;
@@ -76,8 +76,8 @@ fn front_key(base: &Name, owner: &NameRef<'_>) -> Option<u64>
 {
     let ending = base.wire();
     // A digit takes up two octets at most: before fourteen more, seven follow.
-    let mut left = past_far(owner.wire(), ending.len() + 14);
-    let mut key = 0;
+    let near = past_far(owner.wire(), ending.len() + 14);
+    let (mut key, mut left) = gather_seven(near, ending.len());
     // The octets of the labels that are left become fewer, until they are as many as the base's.
     while left.len() > ending.len() {
         let (label, rest) = first_label(left)?;
@@ -88,6 +88,48 @@ fn front_key(base: &Name, owner: &NameRef<'_>) -> Option<u64>
         Some(key)
     } else {
         None
+    }
+}
+
+/// The number of seven labels of one hexadecimal digit each, if they come first and octets follow that
+/// are as many as said, and what follows them; else that of no label. Most labels of an address in
+/// ip6.arpa that are looked at are these (RFC 3596 2.5).
+fn gather_seven(octets: &[u8], near: usize) -> (u64, &[u8])
+    ensures { GathersOnes octets.now near result.0 result.1.now }
+{
+    if let Some((first, rest)) = octets.split_first_chunk::<14>() {
+        if rest.len() >= near {
+            if let Some(number) = seven_alone(first) {
+                return (number, rest);
+            }
+        }
+    }
+    (0, octets)
+}
+
+/// The number of seven labels of one hexadecimal digit each, the last one's first.
+fn seven_alone(octets: &[u8; 14]) -> Option<u64>
+    ensures { IfSome result (λ number. GathersOnes octets.now 0 number []) }
+{
+    let [n0, c0, n1, c1, n2, c2, n3, c3, n4, c4, n5, c5, n6, c6] = *octets;
+    if n0 != 1 || n1 != 1 || n2 != 1 || n3 != 1 || n4 != 1 || n5 != 1 || n6 != 1 {
+        return None;
+    }
+    let number = (alone_digit(c6)? * 273 + alone_digit(c5)?) * 273 + alone_digit(c4)?;
+    let number = (number * 273 + alone_digit(c3)?) * 273 + alone_digit(c2)?;
+    Some((number * 273 + alone_digit(c1)?) * 273 + alone_digit(c0)?)
+}
+
+/// The digit of a label of one octet, if it has no other, since the octet is hexadecimal.
+#[inline(always)]
+fn alone_digit(octet: u8) -> Option<u64>
+    ensures digit { IfSome result (λ digit. label_key (octet ∷ []) ≡ digit ∷ []) }
+    ensures low { IfSome result (λ digit. digit < 273) }
+{
+    match octet {
+        b'0'..=b'9' => Some(2 * octet as u64 - 47),
+        b'a'..=b'f' => Some(2 * octet as u64 - 86),
+        _ => None,
     }
 }
 

@@ -133,7 +133,8 @@ fn shared_digits(run: &[Entry], octets: &[u8], front: usize) -> usize {
         all &= other.owner.len() == whole;
         kinds &= other.kind == one.kind;
         end = shared_end(end, other.owner);
-        if all && kinds {
+        // Data tell no digit where owners differ.
+        if all && kinds && end.len() == whole {
             same &= other.data.len() == one.data.len();
             data = shared_front(data, other.data);
         }
@@ -209,13 +210,14 @@ fn key_of(octets: &[u8], at: usize, front: usize, digit: usize) -> u64 {
     // The root's octet is no digit.
     let whole = stored.owner.len().saturating_sub(1);
     let past = digit.saturating_add(16);
-    let mut key = if whole < past {
+    let after = if whole < past {
         key_of_data(&stored, whole, front, digit)
     } else {
         0
     };
     // Those before have eight digits, even if each has one alone.
-    let mut labels = past_far(stored.owner, past.saturating_add(1));
+    let near = past_far(stored.owner, past.saturating_add(1));
+    let (mut labels, mut key) = put_hexadecimals(near, digit, after);
     let mut end = labels.len().saturating_sub(1);
     while let Some((label, rest)) = first_label(labels) {
         if end <= digit {
@@ -226,6 +228,33 @@ fn key_of(octets: &[u8], at: usize, front: usize, digit: usize) -> u64 {
         labels = rest;
     }
     key
+}
+
+/// Puts the labels of one hexadecimal digit that come first before the digits of a key, as those of an
+/// address in ip6.arpa (RFC 3596 2.5), and gives those that are left. These end no digit before one.
+fn put_hexadecimals(labels: &[u8], digit: usize, after: u64) -> (&[u8], u64) {
+    let (mut left, mut key) = (labels, after);
+    while let [len, octet, rest @ ..] = left {
+        if *len != 1 || rest.len() <= digit {
+            break;
+        }
+        let Some(first) = hexadecimal_digit(*octet) else {
+            break;
+        };
+        key = put_digit(first, key);
+        left = rest;
+    }
+    (left, key)
+}
+
+/// The digit of a label that is a hexadecimal digit, as `leading_digit` has it.
+#[inline(always)]
+fn hexadecimal_digit(octet: u8) -> Option<u8> {
+    match octet {
+        b'0'..=b'9' => Some(49 + 2 * (octet - b'0')),
+        b'a'..=b'f' => Some(82 + 2 * (octet - b'a')),
+        _ => None,
+    }
 }
 
 /// Eight of the digits from one on, and none before the owner's end.
@@ -240,8 +269,12 @@ fn key_of_data(stored: &StoredParts<'_>, end: usize, front: usize, digit: usize)
 
 /// Puts octets from one on before the digits of a key.
 fn put(octets: &[u8], from: usize, after: u64) -> u64 {
+    let few = eight(octets, from);
+    if let Some(first) = few.first_chunk::<8>() {
+        return u64::from_be_bytes(*first);
+    }
     let mut key = after;
-    for octet in eight(octets, from).iter().rev() {
+    for octet in few.iter().rev() {
         key = put_digit(*octet, key);
     }
     key

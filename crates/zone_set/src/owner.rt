@@ -1,10 +1,12 @@
-ghost use Rattle.std.specs.Prelude.{◌≡◌, ◌<◌, ◌≤◌, ◌∷◌, ◌⊎◌, List, ℕ, length, IfNone, IfSome, IsTrue};
+ghost use Rattle.std.specs.Prelude.{◌≡◌, ◌<◌, ◌≤◌, ◌∷◌, ◌⊎◌, List, ℕ, length, take, IfNone, IfSome, IsTrue};
+ghost use Rattle.zone_name.specs.Machine.Plain.{each_after};
 ghost use Rattle.zone_name.specs.Name.{labels_of, wire};
 ghost use Rattle.zone_name.specs.Order.{name_cmp};
-ghost use Rattle.zone_set.specs.Machine.Owner.{AreFirst, IsEndOf, IsFirst, IsLabelBefore};
+ghost use Rattle.zone_set.specs.Machine.Owner.{AreFirst, IsAfterLabels, IsEndOf, IsFirst, IsLabelBefore};
 
 use crate::order::{are_same, octet_order};
 use std::cmp::Ordering;
+use std::simd::prelude::*;
 use zone_name::NameRef;
 
 /// How owners lie.
@@ -44,8 +46,11 @@ fn shared_len(a: &[u8], b: &[u8]) -> usize {
         left.split_last_chunk::<8>(),
         right.split_last_chunk::<8>(),
     ) {
-        if x != y {
-            break;
+        // The last octet is the highest of the number.
+        let other = u64::from_le_bytes(*x) ^ u64::from_le_bytes(*y);
+        if other != 0 {
+            let same = (other.leading_zeros() / 8) as usize;
+            return a.len().saturating_sub(left.len()).saturating_add(same);
         }
         left = rest;
         right = more;
@@ -61,11 +66,11 @@ fn shared_len(a: &[u8], b: &[u8]) -> usize {
 }
 
 /// The label before the last octets of a name, and those octets.
-#[tactic(auto, using(crate::proofs::Ordering::Owners::label_first, crate::proofs::Ordering::Owners::label_more))]
+#[tactic(auto, using(crate::proofs::Ordering::Owners::label_more))]
 fn label_before(name: &[u8], end: usize) -> Option<(&[u8], &[u8])>
     ensures { IfSome result (λ parts. IsLabelBefore name.now parts.0.now parts.1.now) }
 {
-    let (mut label, mut rest) = first_label(name)?;
+    let (mut label, mut rest) = first_label(past_ones(name, end.saturating_add(1)))?;
     while rest.len() > end {
         let (next, after) = first_label(rest)?;
         label = next;
@@ -148,8 +153,8 @@ pub(crate) fn past_far(name: &[u8], near: usize) -> &[u8]
     left
 }
 
-/// What follows the first label, or the first four that have an octet each, as those of an address in
-/// ip6.arpa have (RFC 3596 2.5). `None`: fewer octets than said follow.
+/// What follows the first label, or the first eight or four that have an octet each, as those of an
+/// address in ip6.arpa have (RFC 3596 2.5). `None`: fewer octets than said follow.
 fn past_first(name: &[u8], near: usize) -> Option<&[u8]>
     ensures shorter { IfSome result (λ rest. length rest.now < length name.now) }
     ensures far { IfSome result (λ rest. near ≤ length rest.now) }
@@ -160,6 +165,9 @@ fn past_first(name: &[u8], near: usize) -> Option<&[u8]>
     if name.len() <= near {
         return None;
     }
+    if let Some(rest) = past_eight(name, near) {
+        return Some(rest);
+    }
     match name {
         [a, _, b, _, c, _, d, _, rest @ ..]
             if *a == 1 && *b == 1 && *c == 1 && *d == 1 && rest.len() >= near => { Some(rest) }
@@ -168,6 +176,45 @@ fn past_first(name: &[u8], near: usize) -> Option<&[u8]>
             if rest.len() >= near { Some(rest) } else { None }
         }
     }
+}
+
+/// What follows the first labels that have an octet each, as far as there are eight of them and octets
+/// follow that are as many as said.
+#[tactic(auto, using(crate::proofs::Ordering::Owners::after_none, crate::proofs::Ordering::Owners::after_more))]
+fn past_ones(name: &[u8], near: usize) -> &[u8]
+    ensures { IsAfterLabels name.now result.now }
+{
+    let mut left = name;
+    while let Some(rest) = past_eight(left, near) {
+        left = rest;
+    }
+    left
+}
+
+/// What follows the first eight labels. `None`: one of them has not one octet, or this is that of 1, or
+/// fewer octets than said follow.
+#[inline(always)]
+fn past_eight(name: &[u8], near: usize) -> Option<&[u8]>
+    ensures shorter { IfSome result (λ rest. length rest.now < length name.now) }
+    ensures far { IfSome result (λ rest. near ≤ length rest.now) }
+    ensures end { IfSome result (λ rest.
+        (labels : List (List ℕ)) → name.now ≡ wire labels → IsEndOf labels rest.now) }
+    ensures after { IfSome result (λ rest. IsAfterLabels name.now rest.now) }
+{
+    if name.len() < 16 || name.len() - 16 < near || !are_ones(name) {
+        return None;
+    }
+    Some(&name[16..])
+}
+
+/// Whether the first 16 octets are eight after 1 each, and none of these is 1.
+#[inline(always)]
+fn are_ones(octets: &[u8]) -> bool
+    requires { 16 ≤ length octets.now }
+    ensures { IsTrue result → (others : List ℕ) × (take 16 octets.now ≡ each_after 1 others) }
+{
+    let lanes = u8x16::from_slice(octets);
+    lanes.simd_eq(u8x16::splat(1)).to_bitmask() == 0x5555
 }
 
 /// The first label and what follows it. `None`: a name has no label.

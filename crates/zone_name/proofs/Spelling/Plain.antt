@@ -1,6 +1,8 @@
 -- A text without escapes, whose labels' lengths are written over the dots before them.
-use lib.Lanes.{put_chunk}
-use Rattle.zone_name.proofs.Common.{common_steps, AllByRecursion, AreOctets, Bool, HoldsCasedLabels, IsCasedName, IsUnit, IsWrittenLabel, List, Ok, WritesLengths, Written, [], after_dots, ap, append-nil, append_assoc, ap₂, arith, bytes_decides, dotted, drop, drop_at, drop_more, eqb-false, eqb-true, false, flat_map, flat_map-append, get_or, get_or-drop, is_dot, is_mark, is_plain, kept, labels_of, length, length-append, length-drop, length-map, length-set, length-take-le, map, map-map, map_push, nat_eq, not-true, octet_of, or_parts, parted, plain, pointwise, reading, set, set_at, subst, suc, sym, take, take-append-drop, take_at, take_more_put_chunk, true, with_length, written_octets, written_text, zero, ℕ, ◌++◌, ◌+◌, ◌-◌, ◌<◌, ◌==◌, ◌∙◌, ◌∷◌, ◌≡◌, ◌≤◌}
+use lib.Lanes.{chunk, mask_l, put_chunk}
+use Rattle.std.proofs.lemmas.List.{drop-set-lt}
+use Rattle.zone_name.proofs.Common.{common_steps, AllByRecursion, AreOctets, Bool, HoldsCasedLabels, IsCasedName, IsUnit, IsWrittenLabel, List, Ok, TurnsEvens, WritesLengths, Written, [], after_dots, ap, append-nil, append_assoc, ap₂, arith, bytes_decides, dotted, drop, drop_at, drop_more, each_after, eqb-false, eqb-true, false, flat_map, flat_map-append, get_or, get_or-drop, is_dot, is_mark, is_plain, kept, labels_of, length, length-append, length-drop, length-map, length-set, length-take-le, map, map-map, map_push, nat_eq, not, not-true, octet_of, or_parts, parted, plain, pointwise, reading, refl, set, set_at, subst, suc, sym, take, take-append-drop, take_at, take_more_put_chunk, true, with_length, written_octets, written_text, zero, ℕ, ◌++◌, ◌+◌, ◌-◌, ◌*◌, ◌<◌, ◌==◌, ◌∙◌, ◌∷◌, ◌≡◌, ◌≤◌}
+use Rattle.zone_name.proofs.InOctets.Evens.{even_bits, pair_at, put_none, put_pair, two_bits}
 use Rattle.zone_name.proofs.InOctets.OctetLanes.{itself}
 use Rattle.zone_name.proofs.InOctets.Octets.{labels_of-open_cased}
 use Rattle.zone_name.proofs.InOctets.Pushing.{AllByRecursion-append, HoldsCasedLabels-frames, frames_push}
@@ -72,12 +74,35 @@ lengths_next old now next start end w inside dot each back some short is =
     cut_at old next rest end (lengths_label old now next label rest start (rw left at w) (plain_each len tail (plain_after now start end each)) (omega (arith, some, count)) (omega (arith, short, count)) (omega (arith, inside, length-drop start now, ap length left)) (cc)) (omega (arith, inside, fits, some, ap length is, length-set now start len, length-drop (start + 1) now, length-drop len tail))
 
 -- the same, of a label of one octet
-pub one_written : (old now next : List ℕ) (at : ℕ) → WritesLengths old now (drop at now) → at + 2 < length now → get_or now at 0 ≡ 46
+pub one_written : (old now next : List ℕ) (at : ℕ) → WritesLengths old now (drop at now) → at + 1 < length now → get_or now at 0 ≡ 46
     → is_plain (get_or now (at + 1) 0) ≡ true → next ≡ set now at 1 → WritesLengths old next (drop (at + 2) next)
 one_written old now next at w inside dot is_one is =
     lengths_next old now next at (at + 2) w (omega (arith, inside)) dot
     (λ k from to. subst (λ n. is_plain (get_or now n 0) ≡ true) (omega (arith, from, to)) is_one)
     (omega (arith, inside)) (omega arith) (omega arith) (is ∙ ap (set now at) (omega arith))
+
+-- the same, of labels of one octet each, of whose marks the dots before them are all
+pub ones_written : (others old now rest : List ℕ) (at : ℕ) → WritesLengths old now (drop at now) → drop at now ≡ each_after 46 others ++ rest
+    → mask_l (map is_mark (each_after 46 others)) ≡ even_bits (length others)
+    → WritesLengths old (put_chunk at now (each_after 1 others)) (drop (at + 2 * length others) (put_chunk at now (each_after 1 others)))
+ones_written [] old now rest at w begins marks = rw (put_none at now) (subst (λ n. WritesLengths old now (drop n now)) (omega arith) w)
+ones_written (c ∷ others) old now rest at w begins marks =
+    let two = two_bits true (is_mark c) (mask_l (map is_mark (each_after 46 others))) (even_bits (length others)) marks in
+    let pair = pair_at at now 46 c (each_after 46 others ++ rest) begins in
+    let put = put_pair at now 1 c (each_after 1 others) pair.at_next pair.inside in
+    let next = set now at 1 in
+    let step = one_written old now next at w pair.inside pair.at_first (ap is_plain pair.at_next ∙ ap not two.1) refl in
+    let more = ones_written others old next rest (at + 2) step (drop-set-lt (at + 2) now at 1 (omega arith) ∙ pair.left) two.2 in
+    rw (sym put) (subst (λ n. WritesLengths old (put_chunk (at + 2) next (each_after 1 others)) (drop n (put_chunk (at + 2) next (each_after 1 others)))) (omega arith) more)
+
+-- the same, of eight, whose octets were turned at once
+pub eight_written : (old now next : List ℕ) (at : ℕ) → WritesLengths old now (drop at now) → TurnsEvens now next at 46 1
+    → mask_l (map is_mark (chunk at 16 now)) ≡ even_bits 8 → WritesLengths old next (drop (at + 16) next)
+eight_written old now next at w turned marks =
+    rw (turned.after) (subst (λ n. WritesLengths old (put_chunk at now (each_after 1 turned.others)) (drop n (put_chunk at now (each_after 1 turned.others)))) (omega (arith, turned.eight))
+    (ones_written turned.others old now (drop 16 (drop at now)) at w
+    (sym (take-append-drop 16 (drop at now)) ∙ ap (λ t. t ++ drop 16 (drop at now)) turned.before)
+    (sym (ap (λ v. mask_l (map is_mark v)) turned.before) ∙ marks ∙ ap even_bits (sym turned.eight))))
 
 -- ---- the whole text
 

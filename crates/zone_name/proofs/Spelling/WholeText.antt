@@ -2,9 +2,10 @@
 -- themselves.
 use Rattle.std.proofs.lemmas.List.Folds.{list_all-append}
 use Rattle.std.proofs.lemmas.List.Sums.{count_by-le-length, sum_by-append, sum_by-cons}
-use Rattle.zone_name.proofs.Common.{common_steps, AllByRecursion, BeginsWithName, Bool, HoldsName, IsLabel, List, [], and_parts, ap, append-nil, append_assoc, arith, cases_Bool, cond, count_by, drop, drop_at, false, flat_map, flat_map-append, get_or, is_bare, is_dot, label_text, labels_of, length, length-append, length-take, list_all, name_text, octet_text, put_chunk_is, refl, set, set_at, sym, take, take-add, take-append-drop, take_at, true, wire, with_length, ℕ, ◌++◌, ◌+◌, ◌-◌, ◌<◌, ◌∙◌, ◌∷◌, ◌≡◌, ◌≤◌}
+use Rattle.zone_name.proofs.Common.{common_steps, AllByRecursion, BeginsWithName, Bool, HoldsName, IsLabel, List, TurnsFront, [], and_parts, ap, ap₂, append-nil, append_assoc, arith, cases_Bool, cond, count_by, drop, drop_at, each_after, false, flat_map, flat_map-append, get_or, is_bare, is_dot, label_text, labels_of, length, length-append, length-map, length-take, list_all, map, name_text, octet_text, put_chunk_is, refl, set, set_at, sym, take, take-add, take-append-drop, take_at, true, wire, with_length, ℕ, ◌++◌, ◌+◌, ◌-◌, ◌/◌, ◌<◌, ◌∙◌, ◌∷◌, ◌≡◌, ◌≤◌}
 use Rattle.std.proofs.lemmas.List.{get_or_at}
 use lib.Lanes.{put_chunk}
+use Rattle.zone_name.proofs.InOctets.Evens.{length-each_after}
 use Rattle.zone_name.proofs.InOctets.Octets.{BeginsWithName-wire_append, labels_of-wire_append}
 
 -- each label after a dot
@@ -24,9 +25,44 @@ pub record Walk (old now : List ℕ) (at labels : ℕ) (done left : List (List �
 abbrev pub Dotted : List ℕ → List ℕ → ℕ → ℕ → Type 0
 Dotted old now at labels = (done : List (List ℕ)) × (left : List (List ℕ)) × Walk old now at labels done left
 
-pub dotted_start : (old : List ℕ) → BeginsWithName old → Dotted old old 0 0
-dotted_start old begins =
-    grind (arith, common_steps, take-append-drop)
+-- the labels of one octet that come first, and those after them
+record Ones (left : List (List ℕ)) (others rest more : List ℕ) : Type 0 where
+  pub after : List (List ℕ)
+  pub whole : left ≡ map (λ c. c ∷ []) others ++ after
+  pub each : AllByRecursion IsLabel after
+  pub parts : wire after ++ rest ≡ more
+
+ones_first : (left : List (List ℕ)) (others rest more : List ℕ) → AllByRecursion IsLabel left → wire left ++ rest ≡ each_after 1 others ++ more
+    → Ones left others rest more
+ones_first left [] rest more each e = record { after = left; whole = refl; each = each; parts = e }
+ones_first [] (c ∷ others) rest more each e = absurd (cc)
+ones_first ([] ∷ left) (c ∷ others) rest more each e = absurd (cc)
+ones_first ((x ∷ (y ∷ label)) ∷ left) (c ∷ others) rest more each e = absurd (cc)
+ones_first ((x ∷ []) ∷ left) (c ∷ others) rest more each e =
+    let o = ones_first left others rest more each.1 (cc) in
+    record { after = o.after; whole = cc (o.whole); each = o.each; parts = o.parts }
+
+dots_after_ones : (others : List ℕ) → after_dots (map (λ c. c ∷ []) others) ≡ each_after 46 others
+dots_after_ones [] = refl
+dots_after_ones (c ∷ others) = cc (dots_after_ones others)
+
+pub dotted_ones : (old now : List ℕ) (at : ℕ) → BeginsWithName old → TurnsFront old now at 1 46 → Dotted old now at (at / 2)
+dotted_ones old now at begins turned =
+    let rest = drop (length (wire (labels_of old))) old in
+    let whole : wire (labels_of old) ++ rest ≡ old = ap (λ t. t ++ rest) (sym begins.front) ∙ take-append-drop (length (wire (labels_of old))) old in
+    let ones = ones_first (labels_of old) turned.others rest (drop at old) begins.name.each (whole ∙ turned.before) in
+    let done = map (λ c. c ∷ []) turned.others in
+    let dots = dots_after_ones turned.others in (
+      done,
+      ones.after,
+      record {
+        whole = ones.whole;
+        each = ones.each;
+        parts = turned.after ∙ ap₂ (λ (s t : List ℕ). s ++ t) (sym dots) (sym ones.parts);
+        place = omega (arith, ap length dots, length-each_after 46 turned.others, turned.place);
+        count = omega (arith, turned.place, length-map turned.others (λ c. c ∷ []));
+      },
+    )
 
 pub dotted_more : (old now next : List ℕ) (at labels : ℕ) (done left : List (List ℕ)) → Walk old now at labels done left → (get_or now at 0 ≡ 0 → ⊥)
     → next ≡ set now at 46 → Dotted old next (at + (get_or now at 0 + 1)) (labels + 1)

@@ -1,8 +1,8 @@
 -- How a text without escapes becomes octets: each label's length takes the place of the dot before
 -- it.
-use Rattle.std.specs.Prelude.{◌≡◌, ℕ, ◌≤◌, ◌-◌, List, ◌∷◌, ◌++◌, length, map, Bool, not, ◌||◌, ◌==◌}
+use Rattle.std.specs.Prelude.{◌≡◌, ℕ, ◌≤◌, ◌-◌, ◌*◌, List, [], ◌∷◌, ◌++◌, length, map, drop, Bool, not, ◌||◌, ◌==◌}
 use Rattle.std.specs.List.{flat_map, AllByRecursion}
-use Rattle.std.specs.Simd.Lanes.{chunk, mask_l}
+use Rattle.std.specs.Simd.Lanes.{chunk, mask_l, put_chunk}
 use Rattle.zone_name.specs.Name.{with_length}
 use Rattle.zone_name.specs.Spelling.{Written, IsWrittenLabel, is_dot, written_text, written_octets}
 use Rattle.zone_name.specs.declared.reading.Marks.{Marks}
@@ -34,3 +34,21 @@ pub record WritesLengths (old new rest : List ℕ) : Type 0 where
   pub short : AllByRecursion (λ label. length label ≤ 63) written
   pub dots : old ≡ after_dots written ++ rest
   pub lengths : new ≡ flat_map with_length (map written_octets written) ++ rest
+
+-- each octet after one that is the same before all
+abbrev pub each_after : ℕ → List ℕ → List ℕ
+each_after first octets = flat_map (λ c. first ∷ c ∷ []) octets
+
+-- the 16 octets at a place were eight, each after one octet, and are now the same after another
+pub record TurnsEvens (old new : List ℕ) (at from to : ℕ) : Type 0 where
+  pub others : List ℕ
+  pub eight : length others ≡ 8
+  pub before : chunk at 16 old ≡ each_after from others
+  pub after : new ≡ put_chunk at old (each_after to others)
+
+-- the octets before a place were some, each after one octet, and are now the same after another
+pub record TurnsFront (old new : List ℕ) (at from to : ℕ) : Type 0 where
+  pub others : List ℕ
+  pub place : at ≡ 2 * length others
+  pub before : old ≡ each_after from others ++ drop at old
+  pub after : new ≡ each_after to others ++ drop at old

@@ -1,7 +1,9 @@
 -- A walk over the labels of an owner, until those that are left take no more octets than the base.
-use Rattle.zone_set.proofs.Common.{AllByRecursion, AllByRecursion-back, AllByRecursion-front, AreDigits, IsLabel, IsName, IsFirst, IsPutBefore, IsWithin, List, [], ap, append_assoc, arith, common_steps, first_digits, inl, inr, label_key, labels_of-wire, length, owner_key, refl, subst, sym, wire, ℕ, ⊎_elim, ◌*◌, ◌++◌, ◌+◌, ◌-◌, ◌<◌, ◌^◌, ◌∙◌, ◌∷◌, ◌≡◌, ◌≤◌, ◌⊎◌}
+use Rattle.zone_set.proofs.Common.{map, append-nil, slice_index_or, suc, zero, AllByRecursion, AllByRecursion-back, AllByRecursion-front, AreDigits, IsLabel, IsName, IsFirst, IsPutBefore, IsWithin, List, [], ap, append_assoc, arith, common_steps, first_digits, inl, inr, label_key, labels_of-wire, length, owner_key, refl, subst, sym, wire, ℕ, ⊎_elim, ◌*◌, ◌++◌, ◌+◌, ◌-◌, ◌<◌, ◌^◌, ◌∙◌, ◌∷◌, ◌≡◌, ◌≤◌, ◌⊎◌}
 use lib.ListN.{length-append}
-use Rattle.zone_set.proofs.Ordering.Owners.{first_of_wire}
+use Rattle.zone_name.specs.Machine.Plain.{each_after}
+use Rattle.zone_set.proofs.Ordering.Owners.{first_of_wire, one_octet}
+use Rattle.zone_set.specs.Machine.Hint.{GathersOnes}
 use Rattle.zone_set.specs.Machine.Owner.{IsEndOf}
 use Rattle.zone_set.proofs.Hints.Digits.{first_digits-bound, first_digits-enough}
 use Rattle.zone_set.proofs.Hints.LabelKey.{label_digits, owner_low, owner_key-append, owner_key-front, owner_key-push}
@@ -72,6 +74,12 @@ walked_start base owner octets end (inr far) =
       within = λ w. within_past base end.last end.front w.0 (omega (arith, far, takes)) (sym end.parts ∙ w.1);
     }
 
+start_none : (base owner : List (List ℕ)) (octets : List ℕ) (end : IsEndOf owner octets) (far : (octets ≡ wire owner) ⊎ (length (wire base) + 14 ≤ length octets))
+    → (walked_start base owner octets end far).gathered ≡ []
+unfolding walked_start
+start_none base owner octets end (inl whole) = refl
+start_none base owner octets end (inr far) = refl
+
 -- labels that take more octets than the base are not the base's alone
 within_rest : (base rest before : List (List ℕ)) (label : List ℕ) → length (wire base) < length (wire (label ∷ rest)) → label ∷ rest ≡ before ++ base → IsWithin rest base
 within_rest base rest [] label more is = grind arith
@@ -85,8 +93,9 @@ module _ (base owner : List (List ℕ)) (octets : List ℕ) (key : ℕ) (walked 
   gathered_low = owner_low walked.gathered (AllByRecursion-front IsLabel walked.gathered walked.left gathered_each)
 
   -- one more label is gathered
-  pub walked_next : (label rest : List ℕ) (next : ℕ) → length (wire base) < length octets → IsFirst octets label rest → IsPutBefore (label_key label) key next → IsWalked base owner rest next
-  walked_next label rest next more first put =
+  walked_on : (label rest : List ℕ) (next : ℕ) → length (wire base) < length octets → IsFirst octets label rest → next ≡ first_digits 7 (owner_key (walked.gathered ++ label ∷ []))
+      → IsWalked base owner rest next
+  walked_on label rest next more first gathers =
       let cut = first_of_wire octets label rest walked.left walked.is first in
       let same : walked.gathered ++ walked.left ≡ (walked.gathered ++ label ∷ []) ++ cut.0 = ap (λ ls. walked.gathered ++ ls) cut.1 ∙ sym (append_assoc walked.gathered (label ∷ []) cut.0) in
       record {
@@ -95,10 +104,14 @@ module _ (base owner : List (List ℕ)) (octets : List ℕ) (key : ℕ) (walked 
         left = cut.0;
         parts = walked.parts ∙ ap (λ ls. walked.passed ++ ls) same;
         is = cut.2;
-        gathers = put (owner_key walked.gathered) gathered_low walked.gathers ∙ ap (first_digits 7) (sym (owner_key-push walked.gathered label));
+        gathers = gathers;
         enough = subst (λ ls. (walked.passed ≡ []) ⊎ (length (wire base) + 14 ≤ length (wire ls))) same walked.enough;
         within = λ w. let before = walked.within w in within_rest base cut.0 before.0 label (omega (arith, more, ap length walked.is, ap (λ ls. length (wire ls)) cut.1)) (sym cut.1 ∙ before.1);
       }
+
+  pub walked_next : (label rest : List ℕ) (next : ℕ) → length (wire base) < length octets → IsFirst octets label rest → IsPutBefore (label_key label) key next → IsWalked base owner rest next
+  walked_next label rest next more first put =
+      walked_on label rest next more first (put (owner_key walked.gathered) gathered_low walked.gathers ∙ ap (first_digits 7) (sym (owner_key-push walked.gathered label)))
 
   -- there is one more, as long as more octets are left than the base has
   pub walked_some : length (wire base) < length octets → ((label : List ℕ) (labels : List (List ℕ)) → 0 < length label → octets ≡ wire (label ∷ labels) → ⊥) → ⊥
@@ -133,3 +146,78 @@ module _ (base owner : List (List ℕ)) (octets : List ℕ) (key : ℕ) (walked 
   walked_none fits apart within =
       let before = walked.within within in
       apart (walked.is ∙ ap wire (none_before walked.left before.0 base before.1 (omega (arith, fits, ap length walked.is))))
+
+-- ---- labels of one octet each
+
+-- as many values as said, from the first on
+abbrev firsts : ℕ → (ℕ → ℕ) → List ℕ
+firsts zero f = []
+firsts (suc n) f = f 0 ∷ firsts n (λ k. f (suc k))
+
+all_firsts : (octets : List ℕ) → octets ≡ firsts (length octets) (λ k. slice_index_or octets k 0)
+all_firsts [] = refl
+all_firsts (c ∷ octets) = ap (λ t. c ∷ t) (all_firsts octets)
+
+module _ (octets : List ℕ) (long : length octets ≡ 14) where
+  abbrev nth : ℕ → ℕ
+  nth k = slice_index_or octets k 0
+
+  abbrev seven : List ℕ
+  seven = nth 1 ∷ (nth 3 ∷ (nth 5 ∷ (nth 7 ∷ (nth 9 ∷ (nth 11 ∷ (nth 13 ∷ []))))))
+
+  abbrev number_of : ℕ → ℕ → ℕ → ℕ → ℕ → ℕ → ℕ → ℕ
+  number_of d0 d1 d2 d3 d4 d5 d6 = (((((d6 * 273 + d5) * 273 + d4) * 273 + d3) * 273 + d2) * 273 + d1) * 273 + d0
+
+  number_is : (d0 d1 d2 d3 d4 d5 d6 : ℕ) → number_of d0 d1 d2 d3 d4 d5 d6 ≡ first_digits 7 (d6 ∷ (d5 ∷ (d4 ∷ (d3 ∷ (d2 ∷ (d1 ∷ (d0 ∷ [])))))))
+  number_is d0 d1 d2 d3 d4 d5 d6 = omega arith
+
+  pub seven_gathered : (d0 d1 d2 d3 d4 d5 d6 : ℕ) → nth 0 ≡ 1 → nth 2 ≡ 1 → nth 4 ≡ 1 → nth 6 ≡ 1 → nth 8 ≡ 1 → nth 10 ≡ 1 → nth 12 ≡ 1
+      → label_key (nth 1 ∷ []) ≡ d0 ∷ [] → label_key (nth 3 ∷ []) ≡ d1 ∷ [] → label_key (nth 5 ∷ []) ≡ d2 ∷ [] → label_key (nth 7 ∷ []) ≡ d3 ∷ []
+      → label_key (nth 9 ∷ []) ≡ d4 ∷ [] → label_key (nth 11 ∷ []) ≡ d5 ∷ [] → label_key (nth 13 ∷ []) ≡ d6 ∷ []
+      → GathersOnes octets 0 (number_of d0 d1 d2 d3 d4 d5 d6) []
+  seven_gathered d0 d1 d2 d3 d4 d5 d6 n0 n1 n2 n3 n4 n5 n6 k0 k1 k2 k3 k4 k5 k6 =
+      let whole : octets ≡ firsts 14 nth = subst (λ n. octets ≡ firsts n nth) long (all_firsts octets) in
+      let keys : owner_key (map (λ c. c ∷ []) seven) ≡ d6 ∷ (d5 ∷ (d4 ∷ (d3 ∷ (d2 ∷ (d1 ∷ (d0 ∷ [])))))) =
+      (λ i. k6 i ++ (k5 i ++ (k4 i ++ (k3 i ++ (k2 i ++ (k1 i ++ (k0 i ++ []))))))) in
+      record {
+        others = seven;
+        begins = whole ∙ (λ i. n0 i ∷ (nth 1 ∷ (n1 i ∷ (nth 3 ∷ (n2 i ∷ (nth 5 ∷ (n3 i ∷ (nth 7 ∷ (n4 i ∷ (nth 9 ∷ (n5 i ∷ (nth 11 ∷ (n6 i ∷ (nth 13 ∷ []))))))))))))));
+        digits = number_is d0 d1 d2 d3 d4 d5 d6 ∙ ap (first_digits 7) (sym keys);
+        far = λ some. omega arith;
+      }
+
+-- and more octets follow these
+pub gathered_before : (front octets rest : List ℕ) (near number : ℕ) → GathersOnes front 0 number [] → octets ≡ front ++ rest → near ≤ length rest → GathersOnes octets near number rest
+gathered_before front octets rest near number ones is far = record {
+  others = ones.others;
+  begins = is ∙ ap (λ t. t ++ rest) (ones.begins ∙ append-nil (each_after 1 ones.others));
+  digits = ones.digits;
+  far = λ some. far;
+}
+
+pub none_gathered : (octets : List ℕ) (near : ℕ) → GathersOnes octets near 0 octets
+none_gathered octets near = record { others = []; begins = refl; digits = refl; far = λ some. absurd (omega (arith, some)) }
+
+-- as many of one octet each are gathered
+walked_ones : (base owner : List (List ℕ)) (octets : List ℕ) (key : ℕ) (walked : IsWalked base owner octets key) → IsName owner → (others rest : List ℕ) (next : ℕ)
+    → octets ≡ each_after 1 others ++ rest → (0 < length others → length (wire base) ≤ length rest) → next ≡ first_digits 7 (owner_key (walked.gathered ++ map (λ c. c ∷ []) others))
+    → IsWalked base owner rest next
+unfolding walked_on
+walked_ones base owner octets key walked name [] rest next begins far digits =
+    let same : next ≡ key = digits ∙ ap (λ ls. first_digits 7 (owner_key ls)) (append-nil walked.gathered) ∙ sym walked.gathers in
+    rw (sym begins, same) walked
+walked_ones base owner octets key walked name (c ∷ others) rest next begins far digits =
+    let after = each_after 1 others ++ rest in
+    let enough : length (wire base) ≤ length rest = far (omega arith) in
+    let long : length octets ≡ suc (suc (length after)) = ap length begins in
+    let first : IsFirst octets (c ∷ []) after = subst (λ o. IsFirst o (c ∷ []) after) (sym begins) (one_octet 1 c after refl) in
+    let number = first_digits 7 (owner_key (walked.gathered ++ (c ∷ []) ∷ [])) in
+    let step = walked_on base owner octets key walked name (c ∷ []) after number (omega (arith, long, enough, length-append (each_after 1 others) rest)) first refl in
+    walked_ones base owner after number step name others rest next refl (λ some. enough)
+    (digits ∙ ap (λ ls. first_digits 7 (owner_key ls)) (sym (append_assoc walked.gathered ((c ∷ []) ∷ []) (map (λ x. x ∷ []) others))))
+
+pub walked_gathered : (base owner : List (List ℕ)) (octets rest : List ℕ) (near next : ℕ) → IsEndOf owner octets → (octets ≡ wire owner) ⊎ (length (wire base) + 14 ≤ length octets)
+    → IsName owner → near ≡ length (wire base) → GathersOnes octets near next rest → IsWalked base owner rest next
+walked_gathered base owner octets rest near next end far name is ones =
+    walked_ones base owner octets 0 (walked_start base owner octets end far) name ones.others rest next ones.begins (λ some. omega (arith, is, ones.far some))
+    (ones.digits ∙ ap (λ ls. first_digits 7 (owner_key (ls ++ map (λ c. c ∷ []) ones.others))) (sym (start_none base owner octets end far)))

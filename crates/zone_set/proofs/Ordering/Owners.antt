@@ -1,10 +1,11 @@
 -- Owners whose first labels tell how they lie.
-use Rattle.zone_set.proofs.Common.{append_assoc, drop, flat_map, length, refl, take, wire, zero, ◌+◌, ◌<◌, ◌≤◌, arith, AreFirst, Equal, Greater, IsFirst, Less, List, [], ap, ap₂, label_cmp, name_cmp, name_cmp-total, nat_cmp, ordering_reverse, Ordering, ordering_then, reverse, reverse-append, slice_cmp, slice_index_or, sym, then_equal, ℕ, ◌∙◌, ◌∷◌, ◌++◌, ◌≡◌, ◌≢◌}
+use Rattle.zone_set.proofs.Common.{append_assoc, drop, flat_map, length, refl, take, wire, zero, ◌+◌, ◌<◌, ◌≤◌, arith, AreFirst, Equal, Greater, IsFirst, Less, List, [], ap, ap₂, map, label_cmp, name_cmp, name_cmp-total, nat_cmp, ordering_reverse, Ordering, ordering_then, reverse, reverse-append, slice_cmp, slice_index_or, subst, sym, take-append-drop, then_equal, ℕ, ◌∙◌, ◌∷◌, ◌++◌, ◌≡◌, ◌≢◌}
 use Rattle.zone_name.proofs.InOctets.Octets.{labels_of-cons}
 use Rattle.std.proofs.Math.Seq.{drop-append_seam, take-append_seam}
+use Rattle.zone_name.specs.Machine.Plain.{each_after}
 use Rattle.zone_name.specs.Name.{labels_of, with_length}
 use Rattle.zone_set.proofs.Ordering.Within.{same_ending}
-use Rattle.zone_set.specs.Machine.Owner.{IsEndOf, IsLabelBefore}
+use Rattle.zone_set.specs.Machine.Owner.{IsAfterLabels, IsEndOf, IsLabelBefore}
 
 -- the first label, and those that follow it
 labels_of-first : (octets label rest : List ℕ) → IsFirst octets label rest → labels_of octets ≡ label ∷ labels_of rest
@@ -27,8 +28,11 @@ order_of_parent a b label first = name_cmp-total.antisymm (labels_of a) (labels_
 
 -- ---- labels before those that end both
 
-pub label_first : (name label rest : List ℕ) → IsFirst name label rest → IsLabelBefore name label rest
-label_first name label rest first = record { front = []; parts = labels_of-first name label rest first }
+pub label_after : (name left label rest : List ℕ) → IsAfterLabels name left → IsFirst left label rest → IsLabelBefore name label rest
+label_after name left label rest after first = record {
+  front = after.front;
+  parts = after.parts ∙ ap (λ ls. after.front ++ ls) (labels_of-first left label rest first);
+}
 
 pub label_more : (name label rest next after : List ℕ) → IsLabelBefore name label rest → IsFirst rest next after → IsLabelBefore name next after
 label_more name label rest next after had first = record {
@@ -84,7 +88,7 @@ end_first octets label rest first labels is =
     let cut = first_of_wire octets label rest labels is first in
     record { front = label ∷ []; last = cut.0; parts = cut.1; is = cut.2 }
 
-one_octet : (len c : ℕ) (rest : List ℕ) → len ≡ 1 → IsFirst (len ∷ (c ∷ rest)) (c ∷ []) rest
+pub one_octet : (len c : ℕ) (rest : List ℕ) → len ≡ 1 → IsFirst (len ∷ (c ∷ rest)) (c ∷ []) rest
 one_octet len c rest one = record {
   len = len;
   after = c ∷ rest;
@@ -92,6 +96,40 @@ one_octet len c rest one = record {
   some = omega (arith, one);
   first = ap (λ n. take n (c ∷ rest)) (sym one);
   follows = ap (λ n. drop n (c ∷ rest)) (sym one);
+}
+
+-- and with those after as many of one octet each
+end_ones : (others octets rest : List ℕ) → octets ≡ each_after 1 others ++ rest → (labels : List (List ℕ)) → octets ≡ wire labels → IsEndOf labels rest
+end_ones [] octets rest begins labels is = end_whole labels rest (sym begins ∙ is)
+end_ones (c ∷ others) octets rest begins labels is =
+    let after = each_after 1 others ++ rest in
+    end_more labels after rest (end_first octets (c ∷ []) after (subst (λ o. IsFirst o (c ∷ []) after) (sym begins) (one_octet 1 c after refl)) labels is) (end_ones others after rest refl)
+
+after_ones : (others rest : List ℕ) → labels_of (each_after 1 others ++ rest) ≡ map (λ c. c ∷ []) others ++ labels_of rest
+after_ones [] rest = refl
+after_ones (c ∷ others) rest =
+    let after = each_after 1 others ++ rest in
+    labels_of-first (1 ∷ (c ∷ after)) (c ∷ []) after (one_octet 1 c after refl) ∙ ap (λ ls. (c ∷ []) ∷ ls) (after_ones others rest)
+
+-- eight of these
+module _ (octets : List ℕ) (ones : (others : List ℕ) × (take 16 octets ≡ each_after 1 others)) where
+  begins_ones : octets ≡ each_after 1 ones.0 ++ drop 16 octets
+  begins_ones = sym (take-append-drop 16 octets) ∙ ap (λ t. t ++ drop 16 octets) ones.1
+
+  pub end_eight : (labels : List (List ℕ)) → octets ≡ wire labels → IsEndOf labels (drop 16 octets)
+  end_eight = end_ones ones.0 octets (drop 16 octets) begins_ones
+
+  pub after_eight : IsAfterLabels octets (drop 16 octets)
+  after_eight = record { front = map (λ c. c ∷ []) ones.0; parts = ap labels_of begins_ones ∙ after_ones ones.0 (drop 16 octets) }
+
+-- labels after those that come first
+pub after_none : (name : List ℕ) → IsAfterLabels name name
+after_none name = record { front = []; parts = refl }
+
+pub after_more : (name left rest : List ℕ) → IsAfterLabels name left → IsAfterLabels left rest → IsAfterLabels name rest
+after_more name left rest first next = record {
+  front = first.front ++ next.front;
+  parts = first.parts ∙ ap (λ ls. first.front ++ ls) next.parts ∙ sym (append_assoc first.front next.front (labels_of rest));
 }
 
 -- and with those after four of one octet each

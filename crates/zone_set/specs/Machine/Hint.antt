@@ -1,8 +1,9 @@
 -- The hint of a record: a number of 64 bits by which most records of a zone are told apart. Nearly
 -- all owners of a zone end with the labels of its apex, so it counts from the labels before those.
-use Rattle.std.specs.Prelude.{◌≡◌, ◌≢◌, ℕ, zero, suc, ◌+◌, ◌*◌, ◌^◌, ◌<◌, List, [], ◌∷◌, ◌++◌}
+use Rattle.std.specs.Prelude.{◌≡◌, ◌≢◌, ℕ, zero, suc, ◌+◌, ◌*◌, ◌^◌, ◌<◌, ◌≤◌, List, [], ◌∷◌, ◌++◌, length, map}
 use Rattle.std.specs.List.{AllByRecursion}
 use Rattle.std.specs.declared.cmp.Ordering.TheVariants.{Less}
+use Rattle.zone_name.specs.Machine.Plain.{each_after}
 use Rattle.zone_name.specs.Name.{IsWithin}
 use Rattle.zone_name.specs.Order.{name_cmp}
 use Rattle.zone_set.specs.Machine.LabelKey.{owner_key}
@@ -33,3 +34,10 @@ abbrev pub IsPutBefore : List ℕ → ℕ → ℕ → Type 0
 IsPutBefore more number whole =
     (digits : List ℕ) → AreDigits digits → number ≡ first_digits 7 digits
     → whole ≡ first_digits 7 (more ++ digits)
+
+-- the number of the labels of one octet each that octets begin with, and what follows them
+pub record GathersOnes (octets : List ℕ) (near number : ℕ) (rest : List ℕ) : Type 0 where
+  pub others : List ℕ
+  pub begins : octets ≡ each_after 1 others ++ rest
+  pub digits : number ≡ first_digits 7 (owner_key (map (λ c. c ∷ []) others))
+  pub far : 0 < length others → near ≤ length rest

@@ -28,3 +28,8 @@ pub record IsEndOf (name : List (List ℕ)) (octets : List ℕ) : Type 0 where
   pub last : List (List ℕ)
   pub parts : name ≡ front ++ last
   pub is : octets ≡ wire last
+
+-- octets after those of the first labels of a name
+pub record IsAfterLabels (name rest : List ℕ) : Type 0 where
+  pub front : List (List ℕ)
+  pub parts : labels_of name ≡ front ++ labels_of rest

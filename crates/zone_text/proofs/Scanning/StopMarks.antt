@@ -1,19 +1,18 @@
 -- How far comments and bare items go, octet by octet and as the bits of 64 octets tell it.
-use Rattle.std.proofs.Math.Logic.{⊎_elim}
 use Rattle.std.proofs.lemmas.List.Elements.{All-from_recursion}
 use Rattle.std.proofs.lemmas.List.Sums.{prefix_len-le-length}
-use Rattle.std.proofs.Common.{Fits, ap₂, bit_and, bit_or, eqb, w8, ◌*◌, ◌/◌, ◌%◌, not}
+use Rattle.std.proofs.Common.{Fits, ap₂, bit_and, bit_or, eqb, w8, ◌/◌, ◌%◌, not}
 use Rattle.std.proofs.lemmas.Bool.{agree_below}
-use Rattle.std.proofs.lemmas.List.{ext_get_or, get_or-map}
 use Rattle.std.proofs.lemmas.Nat.{and_le_r}
-use Rattle.std.proofs.lemmas.Simd.{Each1-all, Each1-zip2, Each2-splat, SwzOk, SwzOk-from_below, chunk-fits, get_or-swz_l_below, length-swz_l, length-zip2, map-map, mask_l-mod, swz_l, zip2_of_maps, zip2_splat}
+use Rattle.std.proofs.lemmas.Simd.{Each1-all, Each1-zip2, Each2-splat, SwzOk, SwzOk-from_below, chunk-fits, length-zip2, map-map, mask_l-mod, swz_l, zip2_of_maps, zip2_splat}
 use Rattle.std.specs.Int.Count.{count_trailing_zeros}
 use Rattle.std.specs.List.{prefix_len}
 use Rattle.std.specs.Prelude.{not}
 use Rattle.std.specs.Simd.Lanes.{mask_l}
 use lib.Lanes.{Each1, top, zip2}
 use lib.ListN.{replicate}
-use Rattle.zone_text.proofs.Common.{common_steps, All, AllByRecursion, Bool, EndsAt, List, [], agree_below_at, and_parts, ap, arith, cases_lt, cond, drop, drop-drop, eqb-true, false, get_or, length, length-drop, length-map, length-take, map, min, ne_eqb, recursion_from_All, refl, stops_bare, subst, suc, sym, take, true, zero, ℕ, ◌&&◌, ◌+◌, ◌-◌, ◌<◌, ◌==◌, ◌^◌, ◌∙◌, ◌∷◌, ◌≡◌, ◌≢◌, ◌≤◌, add-one, before_line_feed, drop-cons, drop_of_length-le}
+use Rattle.zone_text.proofs.Common.{common_steps, All, AllByRecursion, Bool, EndsAt, List, [], agree_below_at, ap, arith, cond, drop, drop-drop, false, get_or, length, length-drop, length-map, length-take, map, min, ne_eqb, recursion_from_All, refl, stops_bare, suc, sym, take, true, zero, ℕ, ◌+◌, ◌-◌, ◌<◌, ◌==◌, ◌^◌, ◌∙◌, ◌∷◌, ◌≡◌, ◌≢◌, ◌≤◌, add-one, before_line_feed, drop-cons, drop_of_length-le}
+use Rattle.zone_name.proofs.InOctets.LookedUp.{Repeats, every_below, looked_up}
 use Rattle.zone_name.proofs.InOctets.Runs.{after_bits, first_inside, none_inside, prefix_step}
 use Rattle.zone_text.specs.Machine.Stops.{Tells}
 use Rattle.zone_text.specs.Tokens.{is_blank}
@@ -93,16 +92,6 @@ unknown_rest new octets ahead seen more back tells = grind (arith, common_steps,
 
 -- ---- 64 octets beside each other
 
-abbrev pub all_below : (ℕ → Bool) → ℕ → Bool
-all_below p zero = true
-all_below p (suc n) = p n && all_below p n
-
-every_below : (p : ℕ → Bool) (n : ℕ) → all_below p n ≡ true → (i : ℕ) → i < n → p i ≡ true
-every_below p zero all i less = absurd (omega arith)
-every_below p (suc n) all i less =
-    let parts = and_parts (p n) (all_below p n) all in
-    ⊎_elim (every_below p n parts.1 i) (λ at. let e : n ≡ i = omega arith in subst (λ k. p k ≡ true) e parts.0) (cases_lt i n)
-
 -- of what stops an item, all that is no greater than a space but a line feed is a blank
 pub blank_stop : (rest stopped after : List ℕ) (stop len : ℕ) → len ≡ prefix_len goes_on rest → stopped ≡ drop len rest → stopped ≡ stop ∷ after → stop ≤ 32 → stop ≢ 10 → is_blank stop ≡ true
 blank_stop rest stopped after stop len is back first low other = grind (arith, prefix_stops rest len is, every_below, ne_eqb)
@@ -113,23 +102,6 @@ low_places v long =
     let small = Each1-all (λ a. bit_and a 15 < 16) (λ a. omega (arith, and_le_r a 15)) v in
     SwzOk-from_below w8 16 4 64 0 (zip2 bit_and v (replicate 64 15)) refl (omega (arith, length-zip2 bit_and v (replicate 64 15) long))
     (Each1-zip2 bit_and (λ j. j < 16) v (replicate 64 15) (Each2-splat (λ a b. bit_and a b < 16) v 64 15 small))
-
--- a table t that is s four times, read there
-abbrev pub IsFourTimes : List ℕ → List ℕ → Type 0
-IsFourTimes t s = all_below (λ i. all_below (λ j. get_or t (16 * ((0 + i) / 16) + j) 0 == get_or s j 0) 16) 64 ≡ true
-
-looked_up : (t s v js : List ℕ) → length v ≡ 64 → js ≡ map (λ x. bit_and x 15) v → IsFourTimes t s → swz_l w8 16 t 0 js ≡ map (λ x. get_or s (bit_and x 15) 0) v
-looked_up t s v js fits e copies =
-    let long : length js ≡ 64 = ap length e ∙ length-map v (λ x. bit_and x 15) ∙ fits in
-    ext_get_or 0 _ _ (length-swz_l w8 16 t 0 js ∙ long ∙ sym (length-map v (λ x. get_or s (bit_and x 15) 0) ∙ fits)) (λ i h.
-    let less : i < 64 = omega (arith, length-swz_l w8 16 t 0 js) in
-    let within : i < length v = omega (arith, fits) in
-    let is : get_or js i 0 ≡ bit_and (get_or v i 0) 15 = ap (λ l. get_or l i 0) e ∙ get_or-map (λ x. bit_and x 15) v i 0 0 within in
-    let below : get_or js i 0 < 16 = omega (arith, is, and_le_r (get_or v i 0) 15) in
-    let row = every_below (λ a. all_below (λ j. get_or t (16 * ((0 + a) / 16) + j) 0 == get_or s j 0) 16) 64 copies i less in
-    get_or-swz_l_below w8 16 t 0 js i (omega arith) below
-    ∙ eqb-true _ _ (every_below (λ j. get_or t (16 * ((0 + i) / 16) + j) 0 == get_or s j 0) 16 row (get_or js i 0) below)
-    ∙ ap (λ k. get_or s k 0) is ∙ sym (get_or-map (λ x. get_or s (bit_and x 15) 0) v i 0 0 within))
 
 itself : (v : List ℕ) → v ≡ map (λ x. x) v
 itself [] = refl
@@ -146,11 +118,11 @@ map_agrees : (p q : ℕ → Bool) (v : List ℕ) → agree_below p q 256 ≡ tru
 map_agrees p q [] all fits = refl
 map_agrees p q (x ∷ v) all fits = ap₂ (λ b bs. b ∷ bs) (agree_below_at p q 256 x all fits.0.fits) (map_agrees p q v all fits.1)
 
-pub stop_bits_are : (octets t s alike z : List ℕ) → 64 ≤ length octets → ((k : ℕ) → Fits w8 (get_or octets k 0)) → IsFourTimes t s → alike ≡ swz_l w8 16 t 0 (zip2 bit_and (take 64 octets) (replicate 64 15)) → z ≡ zip2 bit_or (zip2 same_mask (take 64 octets) alike) (zip2 same_mask (take 64 octets) (replicate 64 41)) → agree_below (λ x. top 7 (stop_lane s x)) stops_bare 256 ≡ true → mask_l (map (top 7) z) % 2 ^ 64 ≡ mask_l (map stops_bare (take 64 octets))
+pub stop_bits_are : (octets t s alike z : List ℕ) → 64 ≤ length octets → ((k : ℕ) → Fits w8 (get_or octets k 0)) → Repeats 64 t s → alike ≡ swz_l w8 16 t 0 (zip2 bit_and (take 64 octets) (replicate 64 15)) → z ≡ zip2 bit_or (zip2 same_mask (take 64 octets) alike) (zip2 same_mask (take 64 octets) (replicate 64 41)) → agree_below (λ x. top 7 (stop_lane s x)) stops_bare 256 ≡ true → mask_l (map (top 7) z) % 2 ^ 64 ≡ mask_l (map stops_bare (take 64 octets))
 stop_bits_are octets t s alike z room fits copies look lanes agree =
     let v = take 64 octets in
     let long : length v ≡ 64 = omega (arith, length-take 64 octets) in
-    let read : alike ≡ map (λ x. get_or s (bit_and x 15) 0) v = look ∙ looked_up t s v _ long (zip2_splat bit_and v 64 15 long) copies in
+    let read : alike ≡ map (λ x. get_or s (bit_and x 15) 0) v = look ∙ looked_up 64 t s v _ long (zip2_splat bit_and v 64 15 long) copies in
     let same : zip2 same_mask v alike ≡ map (λ x. same_mask x (get_or s (bit_and x 15) 0)) v = zip2_of_maps same_mask (λ x. x) (λ x. get_or s (bit_and x 15) 0) v (itself v) read in
     let closing : zip2 same_mask v (replicate 64 41) ≡ map (λ x. same_mask x 41) v = zip2_splat same_mask v 64 41 long in
     let all : z ≡ map (stop_lane s) v = lanes ∙ zip2_of_maps bit_or (λ x. same_mask x (get_or s (bit_and x 15) 0)) (λ x. same_mask x 41) v same closing in

@@ -3,8 +3,8 @@ use Rattle.zone_name.proofs.InOctets.Octets.{few_labels}
 use Rattle.zone_name.proofs.Spelling.WholeText.{begins_with, put_front, spelled_whole}
 use Rattle.zone_name.proofs.shown.spell_shown.Goals as goal
 
-pub write_dots-labels-requires : goal.write_dots-labels-requires
-write_dots-labels-requires c =
+pub write_dots-labels-requires-clause-name : goal.write_dots-labels-requires-clause-name
+write_dots-labels-requires-clause-name c =
     begins_with c.args.name.now c.put.new.room c.requires.name (put_front c.args.room.now c.args.name.now c.put.new.room (omega (arith, c.requires.room)) c.put.ensures)
 
 pub overflow_add-result : goal.overflow_add-result

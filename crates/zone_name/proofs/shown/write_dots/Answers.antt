@@ -1,12 +1,15 @@
 use Rattle.zone_name.proofs.Common.{ap, arith, labels_of, length, length-append, refl}
 use Rattle.zone_name.proofs.InOctets.Octets.{few_labels}
-use Rattle.zone_name.proofs.Spelling.WholeText.{dotted_end, dotted_more}
+use Rattle.zone_name.proofs.Spelling.WholeText.{dotted_end, dotted_more, dotted_ones}
 use Rattle.zone_name.proofs.shown.write_dots.Goals as goal
 
 pub overflow_add-labels : goal.overflow_add-labels
 overflow_add-labels c =
     let inv = c.loop-octets.invariant in
-    omega (arith, ap length inv.2.whole, length-append inv.0 inv.1, inv.2.count, few_labels (labels_of c.args.octets.now) c.requires.name)
+    omega (arith, ap length inv.2.whole, length-append inv.0 inv.1, inv.2.count, few_labels (labels_of c.args.octets.now) c.requires.name.name)
+
+pub loop-octets-init : goal.loop-octets-init
+loop-octets-init c = dotted_ones c.args.octets.now c.dot_ones-at.new.octets c.dot_ones-at.result c.requires.name c.dot_ones-at.ensures
 
 pub loop-octets-preserved : goal.loop-octets-preserved
 loop-octets-preserved c =

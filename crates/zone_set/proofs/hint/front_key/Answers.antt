@@ -1,11 +1,11 @@
 use Rattle.zone_set.proofs.Common.{ap, arith, bytes_decides, false≢true, inl, inr, length, sym, wire, ◌+◌, ◌∙◌, ◌≤◌, ⊎_elim}
-use Rattle.zone_set.proofs.Hints.HintWalk.{walked_found, walked_next, walked_none, walked_short, walked_some, walked_start}
+use Rattle.zone_set.proofs.Hints.HintWalk.{walked_found, walked_gathered, walked_next, walked_none, walked_short, walked_some}
 use Rattle.zone_set.proofs.hint.front_key.Goals as goal
 
 pub loop-left-init : goal.loop-left-init
 loop-left-init c =
-    walked_start c.args.base.now c.args.owner.now c.past_far-left.result.now (c.past_far-left.ensures.end c.args.owner.now c.wire.ensures.octets)
-    (⊎_elim (λ same. inl (same ∙ c.wire.ensures.octets)) (λ far. inr (omega (arith, far, ap length c.wire-ending.ensures.octets))) c.past_far-left.ensures.far)
+    walked_gathered c.args.base.now c.args.owner.now c.past_far-near.result.now c.gather_seven-key.result.1.now _ c.gather_seven-key.result.0 (c.past_far-near.ensures.end c.args.owner.now c.wire.ensures.octets)
+    (⊎_elim (λ same. inl (same ∙ c.wire.ensures.octets)) (λ far. inr (omega (arith, far, ap length c.wire-ending.ensures.octets))) c.past_far-near.ensures.far) c.wire.ensures.name (ap length c.wire-ending.ensures.octets) c.gather_seven-key.ensures
 
 pub returns-in_err-label-clause-none : goal.returns-in_err-label-clause-none
 returns-in_err-label-clause-none c =
