@@ -15,9 +15,9 @@ pub use Rattle.std.specs.Ordering.{is_eq, nat_cmp, ordering_then}
 pub use Rattle.std.specs.Prelude.{EachIndex, map, option_map, slice_index}
 pub use Rattle.std.specs.Result.{IsOk, OnOk, is_ok}
 pub use Rattle.std.specs.declared.cmp.Ordering.TheVariants.{Equal}
-pub use Rattle.zone_name.specs.Common.{AreOctets}
+pub use Rattle.zone_name.specs.Common.{AreOctets, each_after}
 pub use Rattle.zone_name.specs.Machine.LabelWalk.{Ahead, Collects, Step, ahead_in, at_dot, at_end, at_fault, at_octet, done, failed, goes, read, reading, sized, step_at, under_origin, unit_ahead}
-pub use Rattle.zone_name.specs.Machine.Plain.{TellsMarks, TurnsEvens, TurnsFront, WritesLengths, after_dots, each_after, is_mark, is_plain}
+pub use Rattle.zone_name.specs.Machine.Plain.{TellsMarks, TurnsEvens, TurnsFront, WritesLengths, after_dots, is_mark, is_plain}
 pub use Rattle.zone_name.specs.Machine.Seen.{Closes, EndsInFault, EndsLabelAt, Goes, HasShape, HoldsCasedLabels, Joins, RefusesLabel, empty, long}
 pub use Rattle.zone_name.specs.Machine.Letters.{HoldsLabelsBy, HoldsNameBy, SpellsBy, lettered, lettered_in, name_read, origin_in}
 pub use Rattle.zone_name.specs.Machine.Shown.{IsShown, is_bare}

@@ -1,6 +1,6 @@
 -- The words that the contracts of all crates repeat.
-use Rattle.std.specs.Prelude.{◌≡◌, ℕ, ◌<◌, List, ◌⊎◌}
-use Rattle.std.specs.List.{AllByRecursion}
+use Rattle.std.specs.Prelude.{◌≡◌, ℕ, ◌<◌, List, [], ◌∷◌, ◌⊎◌}
+use Rattle.std.specs.List.{AllByRecursion, flat_map}
 
 -- a text, or what data and messages hold
 abbrev pub Octets : Type 0
@@ -13,6 +13,10 @@ Labels = List Octets
 -- each number is that of an octet
 abbrev pub AreOctets : List ℕ → Type 0
 AreOctets octets = AllByRecursion (λ c. c < 256) octets
+
+-- each octet after one that is the same before all
+abbrev pub each_after : ℕ → List ℕ → List ℕ
+each_after first octets = flat_map (λ c. first ∷ c ∷ []) octets
 
 -- nothing is so
 abbrev pub NothingIs : {A : Type 0} → (A → Type 0) → Type 0

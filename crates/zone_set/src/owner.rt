@@ -1,5 +1,5 @@
 ghost use Rattle.std.specs.Prelude.{◌≡◌, ◌<◌, ◌≤◌, ◌∷◌, ◌⊎◌, List, ℕ, length, take, IfNone, IfSome, IsTrue};
-ghost use Rattle.zone_name.specs.Machine.Plain.{each_after};
+ghost use Rattle.zone_name.specs.Common.{each_after};
 ghost use Rattle.zone_name.specs.Name.{labels_of, wire};
 ghost use Rattle.zone_name.specs.Order.{name_cmp};
 ghost use Rattle.zone_set.specs.Machine.Owner.{AreFirst, IsAfterLabels, IsEndOf, IsFirst, IsLabelBefore};

@@ -1,6 +1,6 @@
 -- Octets that each stand after one that is the same before all.
 use Rattle.zone_name.proofs.Common.{append_assoc, Bool, List, [], TurnsEvens, TurnsFront, ap, ap₂, arith, cond, drop_at, flat_map-append, length-append, put_chunk_is, take_at, drop, drop-drop, eqb, eqb-true, false, get_or, get_or-drop, length, length-drop, map, refl, set, suc, sym, take, take-append-drop, true, zero, ℕ, ◌*◌, ◌++◌, ◌+◌, ◌<◌, ◌∙◌, ◌∷◌, ◌≡◌, ◌≤◌}
-use Rattle.zone_name.specs.Machine.Plain.{each_after}
+use Rattle.zone_name.specs.Common.{each_after}
 use native.Mathlib.Numerals.{unary_clauses}
 use lib.Lanes.{mask_l, put_chunk}
 

@@ -3,6 +3,7 @@
 use Rattle.std.specs.Prelude.{◌≡◌, ℕ, ◌≤◌, ◌-◌, ◌*◌, List, [], ◌∷◌, ◌++◌, length, map, drop, Bool, not, ◌||◌, ◌==◌}
 use Rattle.std.specs.List.{flat_map, AllByRecursion}
 use Rattle.std.specs.Simd.Lanes.{chunk, mask_l, put_chunk}
+use Rattle.zone_name.specs.Common.{each_after}
 use Rattle.zone_name.specs.Name.{with_length}
 use Rattle.zone_name.specs.Spelling.{Written, IsWrittenLabel, is_dot, written_text, written_octets}
 use Rattle.zone_name.specs.declared.reading.Marks.{Marks}
@@ -34,10 +35,6 @@ pub record WritesLengths (old new rest : List ℕ) : Type 0 where
   pub short : AllByRecursion (λ label. length label ≤ 63) written
   pub dots : old ≡ after_dots written ++ rest
   pub lengths : new ≡ flat_map with_length (map written_octets written) ++ rest
-
--- each octet after one that is the same before all
-abbrev pub each_after : ℕ → List ℕ → List ℕ
-each_after first octets = flat_map (λ c. first ∷ c ∷ []) octets
 
 -- the 16 octets at a place were eight, each after one octet, and are now the same after another
 pub record TurnsEvens (old new : List ℕ) (at from to : ℕ) : Type 0 where

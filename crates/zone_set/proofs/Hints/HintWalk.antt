@@ -1,7 +1,7 @@
 -- A walk over the labels of an owner, until those that are left take no more octets than the base.
 use Rattle.zone_set.proofs.Common.{map, append-nil, slice_index_or, suc, zero, AllByRecursion, AllByRecursion-back, AllByRecursion-front, AreDigits, IsLabel, IsName, IsFirst, IsPutBefore, IsWithin, List, [], ap, append_assoc, arith, common_steps, first_digits, inl, inr, label_key, labels_of-wire, length, owner_key, refl, subst, sym, wire, ℕ, ⊎_elim, ◌*◌, ◌++◌, ◌+◌, ◌-◌, ◌<◌, ◌^◌, ◌∙◌, ◌∷◌, ◌≡◌, ◌≤◌, ◌⊎◌}
 use lib.ListN.{length-append}
-use Rattle.zone_name.specs.Machine.Plain.{each_after}
+use Rattle.zone_name.specs.Common.{each_after}
 use Rattle.zone_set.proofs.Ordering.Owners.{first_of_wire, one_octet}
 use Rattle.zone_set.specs.Machine.Hint.{GathersOnes}
 use Rattle.zone_set.specs.Machine.Owner.{IsEndOf}

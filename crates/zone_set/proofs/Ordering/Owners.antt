@@ -2,7 +2,7 @@
 use Rattle.zone_set.proofs.Common.{append_assoc, drop, flat_map, length, refl, take, wire, zero, ◌+◌, ◌<◌, ◌≤◌, arith, AreFirst, Equal, Greater, IsFirst, Less, List, [], ap, ap₂, map, label_cmp, name_cmp, name_cmp-total, nat_cmp, ordering_reverse, Ordering, ordering_then, reverse, reverse-append, slice_cmp, slice_index_or, subst, sym, take-append-drop, then_equal, ℕ, ◌∙◌, ◌∷◌, ◌++◌, ◌≡◌, ◌≢◌}
 use Rattle.zone_name.proofs.InOctets.Octets.{labels_of-cons}
 use Rattle.std.proofs.Math.Seq.{drop-append_seam, take-append_seam}
-use Rattle.zone_name.specs.Machine.Plain.{each_after}
+use Rattle.zone_name.specs.Common.{each_after}
 use Rattle.zone_name.specs.Name.{labels_of, with_length}
 use Rattle.zone_set.proofs.Ordering.Within.{same_ending}
 use Rattle.zone_set.specs.Machine.Owner.{IsAfterLabels, IsEndOf, IsLabelBefore}

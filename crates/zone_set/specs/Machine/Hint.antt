@@ -3,7 +3,7 @@
 use Rattle.std.specs.Prelude.{◌≡◌, ◌≢◌, ℕ, zero, suc, ◌+◌, ◌*◌, ◌^◌, ◌<◌, ◌≤◌, List, [], ◌∷◌, ◌++◌, length, map}
 use Rattle.std.specs.List.{AllByRecursion}
 use Rattle.std.specs.declared.cmp.Ordering.TheVariants.{Less}
-use Rattle.zone_name.specs.Machine.Plain.{each_after}
+use Rattle.zone_name.specs.Common.{each_after}
 use Rattle.zone_name.specs.Name.{IsWithin}
 use Rattle.zone_name.specs.Order.{name_cmp}
 use Rattle.zone_set.specs.Machine.LabelKey.{owner_key}
