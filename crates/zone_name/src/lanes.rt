@@ -12,7 +12,7 @@ use std::simd::prelude::*;
 /// How many octets are looked at at a time.
 pub(crate) const LANES: usize = 16;
 
-/// The bits of the even ones of 16 octets, the first of which is 0.
+/// The bits of each second one of 16 octets, from the first on.
 pub(crate) const EVENS: u64 = 0x5555;
 
 /// The room that most names are read and printed in, with 16 octets after them that may be looked
@@ -48,8 +48,8 @@ pub(crate) fn mark_bits(octets: &[u8], at: usize) -> u64
     marks.to_bitmask()
 }
 
-/// Writes one octet over another, where of the 16 octets at a place that other one is each at an even
-/// place from there and none at an odd one, and tells whether it is. If not, all stay.
+/// Writes one octet over another, if of the 16 octets at a place each second one is that other, from
+/// the first on, and no further one is, and tells whether it did. If not, all stay.
 #[inline(always)]
 pub(crate) fn turn_evens(octets: &mut [u8], at: usize, from: u8, to: u8) -> bool
     requires { at + LANES ≤ length octets.old }

@@ -100,6 +100,7 @@ fn label_end(octets: &[u8], start: usize, marks: Marks) -> (usize, Marks)
 /// first `len` octets, and tells whether each label has 1 to 63 octets and all are plain. If not,
 /// the octets say nothing.
 #[tactic(auto, using(crate::proofs::Spelling::Plain::lengths_written))]
+#[inline(always)]
 fn write_lengths(octets: &mut [u8], len: usize) -> bool
     requires { len ≤ length octets.old }
     ensures { IsTrue result → WritesLengths octets.old octets.new (drop len octets.new) }
@@ -147,8 +148,8 @@ fn write_ones(octets: &mut [u8], len: usize) -> usize
     at
 }
 
-/// Writes the lengths of eight labels over the dots before them, if each from a place on has one octet
-/// and more octets follow, and tells whether it did. If not, all stay.
+/// Writes the lengths of eight labels over the dots before them, if from a place on each has one
+/// octet and another label follows, and tells whether it did. If not, all stay.
 #[inline(always)]
 fn write_eight(octets: &mut [u8], at: usize, len: usize) -> bool
     requires begins { at ≤ len }

@@ -29,8 +29,9 @@ pub(crate) fn spell_shown(room: &mut [u8], name: &[u8]) -> bool
     }
 }
 
-/// Writes dots over the lengths of the labels of one octet that come first, by eight, as far as 16 octets
-/// follow those, and returns the place after them. An address in ip6.arpa has 32 (RFC 3596 2.5).
+/// Writes dots over the lengths of the labels of one octet that come first, by eight, as far as 16
+/// octets follow them, and returns the place after them. An address in ip6.arpa has 32 (RFC 3596
+/// 2.5).
 #[inline(always)]
 fn dot_ones(octets: &mut [u8]) -> usize
     requires { 2 * LANES ≤ length octets.old }

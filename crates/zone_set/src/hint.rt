@@ -91,20 +91,24 @@ fn front_key(base: &Name, owner: &NameRef<'_>) -> Option<u64>
     }
 }
 
-/// The number of seven labels of one hexadecimal digit each, if they come first and octets follow that
-/// are as many as said, and what follows them; else that of no label. Most labels of an address in
-/// ip6.arpa that are looked at are these (RFC 3596 2.5).
+/// The number of the first seven labels, if each is a hexadecimal digit, as in an address in
+/// ip6.arpa (RFC 3596 2.5), and octets follow that are as many as said; and what follows them. Else
+/// that of no label.
 fn gather_seven(octets: &[u8], near: usize) -> (u64, &[u8])
+    requires { near ≤ 255 }
     ensures { GathersOnes octets.now near result.0 result.1.now }
 {
-    if let Some((first, rest)) = octets.split_first_chunk::<14>() {
-        if rest.len() >= near {
-            if let Some(number) = seven_alone(first) {
-                return (number, rest);
-            }
-        }
+    // Most names are short.
+    if octets.len() < near + 14 {
+        return (0, octets);
     }
-    (0, octets)
+    let Some((first, rest)) = octets.split_first_chunk::<14>() else {
+        return (0, octets);
+    };
+    match seven_alone(first) {
+        Some(number) => (number, rest),
+        None => (0, octets),
+    }
 }
 
 /// The number of seven labels of one hexadecimal digit each, the last one's first.

@@ -215,6 +215,10 @@ fn key_of(octets: &[u8], at: usize, front: usize, digit: usize) -> u64 {
     } else {
         0
     };
+    // All digits of the owner stand before.
+    if whole <= digit {
+        return after;
+    }
     // Those before have eight digits, even if each has one alone.
     let near = past_far(stored.owner, past.saturating_add(1));
     let (mut labels, mut key) = put_hexadecimals(near, digit, after);
@@ -230,8 +234,8 @@ fn key_of(octets: &[u8], at: usize, front: usize, digit: usize) -> u64 {
     key
 }
 
-/// Puts the labels of one hexadecimal digit that come first before the digits of a key, as those of an
-/// address in ip6.arpa (RFC 3596 2.5), and gives those that are left. These end no digit before one.
+/// Puts the labels of one hexadecimal digit that come first before the digits of a key, as those of
+/// an address in ip6.arpa (RFC 3596 2.5), and gives those that are left, from one digit on.
 fn put_hexadecimals(labels: &[u8], digit: usize, after: u64) -> (&[u8], u64) {
     let (mut left, mut key) = (labels, after);
     while let [len, octet, rest @ ..] = left {
