@@ -137,6 +137,9 @@ pub(crate) fn are_neighbours(class: Class, octets: &[u8], entries: &[Entry]) -> 
     };
     let (mut last, mut left) = (*first, rest);
     while let Some((next, after)) = left.split_first() {
+        if left.len() % AHEAD == 0 && !records_stand(octets, left) {
+            return false;
+        }
         if !stand_next(class, octets, last, *next) {
             return false;
         }
