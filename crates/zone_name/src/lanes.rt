@@ -19,8 +19,8 @@ pub(crate) const EVENS: u64 = 0x5555;
 /// at.
 pub(crate) const ROOM: usize = 128;
 
-/// By the low four bits of an octet: what is printed after a backslash, but for the dot, and has these
-/// bits. Else 0, which has others.
+/// By the low four bits of an octet: what is printed after a backslash, but for the dot, and has
+/// these bits. Else 0, which has others.
 #[rattlefmt::skip]
 const ODD_BY_LOW_BITS: [u8; 16] = [
     b'@', 0, b'"', 0, b'$', 0, 0, 0, b'(', b')', 0, b';', b'\\', 0, 0, 0,
@@ -48,8 +48,8 @@ pub(crate) fn mark_bits(octets: &[u8], at: usize) -> u64
     marks.to_bitmask()
 }
 
-/// Writes one octet over another, if of the 16 octets at a place each second one is that other, from
-/// the first on, and no further one is, and tells whether it did. If not, all stay.
+/// Writes one octet over another, if of the 16 octets at a place each second one is that other,
+/// from the first on, and no further one is, and tells whether it did. If not, all stay.
 #[inline(always)]
 pub(crate) fn turn_evens(octets: &mut [u8], at: usize, from: u8, to: u8) -> bool
     requires { at + LANES ≤ length octets.old }

@@ -178,8 +178,8 @@ fn past_first(name: &[u8], near: usize) -> Option<&[u8]>
     }
 }
 
-/// What follows the first labels of one octet each, passed by eight as far as octets follow that are
-/// as many as said.
+/// What follows the first labels of one octet each, passed by eight as far as octets follow that
+/// are as many as said.
 #[tactic(auto, using(crate::proofs::Ordering::Owners::after_none, crate::proofs::Ordering::Owners::after_more))]
 fn past_ones(name: &[u8], near: usize) -> &[u8]
     ensures { IsAfterLabels name.now result.now }
@@ -191,8 +191,8 @@ fn past_ones(name: &[u8], near: usize) -> &[u8]
     left
 }
 
-/// What follows the first eight labels, if each has one octet. `None`: one hasn't, or its octet is 1, or
-/// fewer octets than said follow.
+/// What follows the first eight labels, if each has one octet. `None`: one hasn't, or its octet is
+/// 1, or fewer octets than said follow.
 #[inline(always)]
 fn past_eight(name: &[u8], near: usize) -> Option<&[u8]>
     ensures shorter { IfSome result (λ rest. length rest.now < length name.now) }
