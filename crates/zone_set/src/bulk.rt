@@ -137,6 +137,7 @@ pub(crate) fn are_neighbours(class: Class, octets: &[u8], entries: &[Entry]) -> 
     };
     let (mut last, mut left) = (*first, rest);
     while let Some((next, after)) = left.split_first() {
+        // A long run of one hint was sorted when the cache held other records than these.
         if left.len() % AHEAD == 0 && !records_stand(octets, left) {
             return false;
         }
