@@ -84,12 +84,14 @@ fn sort_runs(class: Class, octets: &[u8], entries: &mut [Entry], front: usize) -
 /// their octets come out of memory side by side, and not one after another as they are compared.
 fn records_stand(octets: &[u8], entries: &[Entry]) -> bool {
     let ahead = &entries[..entries.len().min(AHEAD + 1)];
-    let mut stand = true;
+    let (mut stand, mut shares) = (true, false);
     for next in 1..ahead.len() {
         let (a, b) = (ahead[next - 1], ahead[next]);
-        if a.hint == b.hint {
-            stand &= stands(octets, a.at) & stands(octets, b.at);
+        let shares_next = a.hint == b.hint;
+        if shares || shares_next {
+            stand &= stands(octets, a.at);
         }
+        shares = shares_next;
     }
     stand
 }
