@@ -1,0 +1,11 @@
+mod Walks
+mod Once
+mod Sets
+mod Soa
+mod SetOrder
+mod Steps
+mod OneDigest
+mod Zonemds
+mod FieldsOf
+mod OneVerdict
+mod SameDigest
