@@ -4,7 +4,7 @@ use Rattle.zone_name.specs.Common.{Labels}
 use Rattle.zone_name.specs.Name.{wire, folded, folded_octet}
 use Rattle.zone_rdata.proofs.Octets.Sent.{append_same}
 use Rattle.zone_digest.specs.NamesInData.{HasNames, IsLowered, with_names, with_none}
-use Rattle.zone_digest.specs.declared.names.NamesAt.{NamesAt}
+use Rattle.zone_digest.specs.declared.table.NamesAt.{NamesAt}
 use Rattle.zone_digest.proofs.Walks.{folded_wires, front_same, one_place}
 
 -- what is left of as many is nothing

@@ -7,8 +7,9 @@ use Rattle.zone_name.specs.Name.{folded, folded_octet, IsCasedLabel, IsCasedName
 use Rattle.zone_name.proofs.InOctets.Octets.{AreSome, AllByRecursion-weaker, labels_of-frames}
 use Rattle.zone_name.proofs.InOctets.Pushing.{folded_frames, AllByRecursion-append, AllByRecursion-back, AllByRecursion-front}
 use Rattle.zone_rdata.proofs.Octets.Sent.{frames_push, frame_at}
-use Rattle.zone_digest.specs.NamesInData.{BeginsWithCased, BeginsWithMany, HasNames, IsLowered, with_names}
-use Rattle.zone_digest.specs.declared.names.NamesAt.{NamesAt}
+use Rattle.zone_digest.specs.Machine.Front.{BeginsWithCased, BeginsWithMany}
+use Rattle.zone_digest.specs.NamesInData.{HasNames, IsLowered, with_names}
+use Rattle.zone_digest.specs.declared.table.NamesAt.{NamesAt}
 
 -- the labels that were passed over so far
 pub record HasPassed (octets rest : List ℕ) (count : ℕ) : Type 0 where

@@ -11,8 +11,8 @@ ghost use Rattle.zone_set.specs.Zone.{covered_octets, InOneSet};
 
 use crate::algorithm::{Algorithm, ZoneDigest};
 use crate::emit::{add, add_set};
-use crate::names::may_have_names;
 use crate::ordered::OrderedRecords;
+use crate::table::may_have_names;
 use sha2::{Digest, Sha384, Sha512};
 use std::alloc::{AllocError, Global};
 use zone_name::NameRef;

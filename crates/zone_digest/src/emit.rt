@@ -6,13 +6,13 @@ ghost use Rattle.zone_digest.specs.Machine.Sets.{AreAlike, AreLowered, HasLowere
 ghost use Rattle.zone_rdata.specs.Lent.{record_of};
 ghost use Rattle.zone_rdata.specs.Record.{IsRecord, Record};
 
-use crate::names::{push_lowered, stays};
+use crate::lowering::{push_lowered, stays};
 use sha2::Digest;
 use std::alloc::{AllocError, Global};
 use std::collections::BTreeSet;
 use zone_rdata::{Class, Kind, RrRef};
 
-/// What stands between a record's owner and its data.
+/// What stands between a record's owner and its data (RFC 1035 3.2.1).
 fn head_of(kind: Kind, class: Class, ttl: u32, len: u16) -> [u8; 10]
     ensures { result ≡ to_be_bytes w16 kind ++ (to_be_bytes w16 class
         ++ (to_be_bytes w32 ttl ++ to_be_bytes w16 len)) }
@@ -45,7 +45,12 @@ pub(crate) fn add<D: Digest>(hasher: &mut D, rr: &RrRef<'_>)
     add_with(hasher, rr, rr.rdata.octets());
 }
 
-/// Adds the records of one set, in order and each once, their names in lower case.
+/// Adds the canonical forms of the records of one set, in order and each once. Where no data changes
+/// it takes no memory.
+///
+/// # Errors
+///
+/// Want of memory.
 pub(crate) fn add_set<D: Digest>(
     alloc: Global,
     hasher: &mut D,
@@ -83,7 +88,7 @@ fn add_all<D: Digest>(hasher: &mut D, set: &[RrRef<'_>])
     }
 }
 
-/// Adds a record with each data.
+/// Adds the record with each of these data.
 fn add_lowered<D: Digest>(hasher: &mut D, rr: &RrRef<'_>, many: BTreeSet<Vec<u8>>)
     requires { (octets : List ℕ) → HasOctets many.keys octets → length octets < 65536 }
     ensures { (m : List ℕ) → D.holds hasher.old m
@@ -97,6 +102,10 @@ fn add_lowered<D: Digest>(hasher: &mut D, rr: &RrRef<'_>, many: BTreeSet<Vec<u8>
 }
 
 /// The data of records, names in lower case, in order and each once.
+///
+/// # Errors
+///
+/// Want of memory.
 fn lowered_set(alloc: Global, set: &[RrRef<'_>]) -> Result<BTreeSet<Vec<u8>>, AllocError>
     ensures { IfOk result (λ lowered. (octets : List ℕ) →
         HasOctets lowered.keys octets ↔ HasLowered (map record_of set.now) octets) }
@@ -112,7 +121,7 @@ fn lowered_set(alloc: Global, set: &[RrRef<'_>]) -> Result<BTreeSet<Vec<u8>>, Al
     Ok(lowered)
 }
 
-/// Whether all keep their octets.
+/// Whether the data of all keeps its octets where its names are put in lower case.
 fn all_stay(set: &[RrRef<'_>]) -> bool
     ensures { IsTrue result → AllByRecursion StaysLow (map record_of set.now) }
 {

@@ -5,8 +5,10 @@ mod algorithm;
 mod digest;
 mod emit;
 pub mod laws;
+mod lowering;
 mod names;
 mod ordered;
+mod table;
 mod verdict;
 
 pub use algorithm::{Algorithm, ZoneDigest};

@@ -1,7 +1,7 @@
 use Rattle.std.proofs.Common.{refl, map, ◌++◌, arith}
 use Rattle.zone_name.specs.Name.{folded_octet}
 use Rattle.zone_digest.proofs.Walks.{joined, lowered_names}
-use Rattle.zone_digest.proofs.names.push_lowered.Goals as goal
+use Rattle.zone_digest.proofs.lowering.push_lowered.Goals as goal
 
 pub returns : goal.returns
 returns c =
