@@ -9,3 +9,5 @@ mod Zonemds
 mod FieldsOf
 mod OneVerdict
 mod SameDigest
+mod Fits
+mod SameVerdict

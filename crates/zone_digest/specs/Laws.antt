@@ -2,7 +2,7 @@
 use Rattle.std.specs.Prelude.{◌≡◌, ◌≢◌, List, [], ◌∷◌, ◌++◌, ◌⊎◌, ◌↔◌}
 use Rattle.zone_name.specs.Common.{Octets}
 use Rattle.zone_rdata.specs.Record.{Record}
-use Rattle.zone_set.specs.Zone.{Has, Zone}
+use Rattle.zone_set.specs.Zone.{Has, InOneSet, Zone}
 use Rattle.zone_digest.specs.Digest.{IsDigest, IsLeftOut, IsLoweredRecord}
 use Rattle.zone_digest.specs.Verdict.{Fields, HasFields, IsSerial, IsZonemd, digest_octets, number}
 use Rattle.zone_digest.specs.declared.algorithm.Algorithm.{Algorithm}
@@ -45,6 +45,10 @@ HasNoPair z a = (r : Record) (f : Fields) → IsZonemd z r → HasFields r.octet
 pub record HasOneMore (z : Zone) (r : Record) (w : Zone) : Type 0 where
   pub apex : w.apex ≡ z.apex
   pub same : (s : Record) → Has w.records s ↔ ((s ≡ r) ⊎ Has z.records s)
+
+-- a record that has the TTL of the zone's records of its set (RFC 2181 5.2)
+abbrev pub HasTtlOfItsSet : Zone → Record → Type 0
+HasTtlOfItsSet z r = (s : Record) → Has z.records s → InOneSet s r → s.ttl ≡ r.ttl
 
 -- one of the findings is that a record is verified
 abbrev pub TellsVerified : List Finding → Type 0

@@ -1,17 +1,18 @@
 //! Laws of digests and verdicts: facts about their definitions alone, as the contracts of functions
 //! that do nothing.
-ghost use Rattle.std.specs.Prelude.{◌↔◌, List};
+ghost use Rattle.std.specs.Prelude.{◌≡◌, ◌↔◌, List};
 ghost use Rattle.zone_digest.specs.Digest.{IsDigest};
 ghost use Rattle.zone_digest.specs.Findings.{AreFindings};
-ghost use Rattle.zone_digest.specs.Laws.{DifferInLeftOut, DifferInLetters, HasNoPair, HasOneMore, StatesDigest, TellsVerified};
+ghost use Rattle.zone_digest.specs.Laws.{DifferInLeftOut, DifferInLetters, HasNoPair, HasOneMore, HasTtlOfItsSet, StatesDigest, TellsVerified};
 ghost use Rattle.zone_digest.specs.Verdict.{IsVerdict, IsVerified};
 ghost use Rattle.zone_digest.specs.declared.algorithm.Algorithm.{Algorithm};
 ghost use Rattle.zone_digest.specs.declared.algorithm.ZoneDigest.{ZoneDigest};
 ghost use Rattle.zone_digest.specs.declared.verdict.Finding.{Finding};
+ghost use Rattle.zone_digest.specs.declared.verdict.Verdict.{Verdict};
 ghost use Rattle.zone_digest.specs.declared.verdict.Verdict.TheVariants.{Verified};
 ghost use Rattle.zone_name.specs.Common.{AtMostOneIs};
-ghost use Rattle.zone_rdata.specs.Record.{Record};
-ghost use Rattle.zone_set.specs.Zone.{Zone};
+ghost use Rattle.zone_rdata.specs.Record.{IsRecord, Record};
+ghost use Rattle.zone_set.specs.Zone.{IsZone, SameRecords, Zone};
 
 /// A zone has at most one digest by each hash algorithm.
 pub fn one_digest_of_a_zone()
@@ -37,11 +38,25 @@ pub fn zonemd_records_dont_matter()
         → IsDigest z a d ↔ IsDigest w a d }
 {}
 
+/// A ZONEMD record can be added at the apex of a zone, if it has the zone's class and the TTL of
+/// those that are there.
+pub fn a_zonemd_record_fits()
+    ensures { (z : Zone) (r : Record) → IsZone z → IsRecord r → r.class ≡ z.class
+        → r.owner ≡ z.apex → r.kind ≡ 63 → HasTtlOfItsSet z r
+        → (w : Zone) × IsZone w × HasOneMore z r w }
+{}
+
 /// In the zone with the record that states its digest this record is verified, if the zone has no
 /// other of its scheme and hash algorithm.
 pub fn the_record_of_a_digest_is_verified()
     ensures { (z w : Zone) (r : Record) (a : Algorithm) → StatesDigest z a r → HasNoPair z a
         → HasOneMore z r w → IsVerdict w r Verified }
+{}
+
+/// A verdict depends on the apex and on the set of records alone.
+pub fn one_zone_has_one_verdict()
+    ensures { (z w : Zone) (r : Record) (v : Verdict) → z.apex ≡ w.apex
+        → SameRecords z.records w.records → IsVerdict z r v ↔ IsVerdict w r v }
 {}
 
 /// What is told of a zone says that a record is verified exactly if the zone is.
