@@ -67,7 +67,7 @@ fn digest_under<D: Digest>(alloc: Global, zone: &Zone) -> Result<D::Output, Allo
     Ok(hasher.finalize())
 }
 
-/// Adds the set where the record isn't of it, which is empty then.
+/// Adds the records that wait and empties their set, where the record is of another.
 ///
 /// # Errors
 ///

@@ -77,8 +77,8 @@ impl Question for Whole {
     }
 }
 
-/// The zones of RFC 8976, appendix A, whole, and with one octet changed. That of A.2 is refused with
-/// the record outside the zone, and stands without it too.
+/// The zones of RFC 8976, appendix A, and all but that of A.4 with one octet changed too. That of A.2
+/// stands without the record outside the zone, and is refused with it.
 const ZONES_OF_THE_RFC: &str = "\
 == example. 86400 IN TYPE6 \\# 48 036e7331076578616d706c65000561646d696e076578616d706c65007848b91c00\
 0007080000038400093a8000015180
@@ -449,8 +449,8 @@ impl Question for Digested {
 }
 
 /// Names in mixed letters in the data of each type that has them, and in data that isn't of the
-/// type's form; NSEC and HINFO, which keep their letters; and last TTLs of RRSIG records, and records of
-/// ZONEMD below the apex.
+/// type's form; NSEC and HINFO, which keep their letters; and RRSIG records with TTLs of their own,
+/// types before the SOA's, and ZONEMD at the apex and below it.
 const NAMES_IN_DATA: &str = "\
 == x. 60 IN TYPE6 \\# 30 016e01780001680178000000000100000002000000030000000400000005
 x. 60 IN TYPE3 \\# 5 014e017800
