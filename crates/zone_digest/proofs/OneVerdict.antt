@@ -2,12 +2,12 @@
 use Rattle.std.proofs.Common.{◌≡◌, refl, sym, ap, ◌∙◌, subst}
 use Rattle.zone_rdata.specs.Record.{Record}
 use Rattle.zone_set.specs.Zone.{Zone}
-use Rattle.zone_digest.specs.Verdict.{IsDigestOf, IsRepeated, IsSerial, IsVerdict, number, malformed, other_serial, unknown_scheme, unknown_algorithm, repeated, differs, verified}
+use Rattle.zone_digest.specs.Verdict.{IsDigestOf, IsRepeated, IsSerial, IsVerdictOn, number, malformed, other_serial, unknown_scheme, unknown_algorithm, repeated, differs, verified}
 use Rattle.zone_digest.specs.declared.verdict.Verdict.{Verdict}
 use Rattle.zone_digest.proofs.FieldsOf.{one_fields, one_number}
 
 module _ (z : Zone) (r : Record) where
-  one_of : (v w : Verdict) → IsVerdict z r v → IsVerdict z r w → v ≡ w
+  one_of : (v w : Verdict) → IsVerdictOn z r v → IsVerdictOn z r w → v ≡ w
   one_of v w (malformed n1) (malformed n2) = refl
   one_of v w (malformed n1) (other_serial f2 well2 no_serial2) = absurd (n1 f2 well2)
   one_of v w (malformed n1) (unknown_scheme f2 has2 other2) = absurd (n1 f2 has2.0)
@@ -58,5 +58,5 @@ module _ (z : Zone) (r : Record) where
   one_of v w (verified f1 a1 is1 once1 digest1) (differs f2 a2 is2 once2 not_digest2) = absurd (not_digest2 (subst (λ b. IsDigestOf z b f2.digest) (one_number a1 a2 (sym is1.algorithm ∙ ap (λ f. f.algorithm) (one_fields r.octets f1 f2 is1.serial.0.fields is2.serial.0.fields) ∙ is2.algorithm)) (subst (λ f. IsDigestOf z a1 f.digest) (one_fields r.octets f1 f2 is1.serial.0.fields is2.serial.0.fields) digest1)))
   one_of v w (verified f1 a1 is1 once1 digest1) (verified f2 a2 is2 once2 digest2) = refl
 
-pub one_verdict : (z : Zone) (r : Record) (v w : Verdict) → IsVerdict z r v → IsVerdict z r w → v ≡ w
+pub one_verdict : (z : Zone) (r : Record) (v w : Verdict) → IsVerdictOn z r v → IsVerdictOn z r w → v ≡ w
 one_verdict z r v w is iz = one_of z r v w is iz

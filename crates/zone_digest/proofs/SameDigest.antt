@@ -10,7 +10,7 @@ use Rattle.zone_digest.specs.Digest.{IsDigest, IsDigested, IsLeftOut, IsLoweredR
 use Rattle.zone_digest.specs.Findings.{AreFindings, IsFinding}
 use Rattle.zone_digest.specs.Laws.{AreOfOneForm, DifferInLeftOut, DifferInLetters, HasNoPair, HasOneMore, StatesDigest, TellsVerified}
 use Rattle.zone_digest.specs.NamesInData.{IsLowered, names_of}
-use Rattle.zone_digest.specs.Verdict.{digest_octets, digest_size, Fields, IsSerial, IsVerdict, IsVerified, IsWellFormed, IsZonemd, number, verified}
+use Rattle.zone_digest.specs.Verdict.{digest_octets, digest_size, Fields, IsSerial, IsVerdictOn, IsVerified, IsWellFormed, IsZonemd, number, verified}
 use Rattle.zone_digest.specs.declared.algorithm.Algorithm.{Algorithm}
 use Rattle.zone_digest.specs.declared.algorithm.Algorithm.TheVariants.{Sha384, Sha512}
 use Rattle.zone_digest.specs.declared.algorithm.ZoneDigest.{ZoneDigest}
@@ -101,7 +101,7 @@ well_stated z a r s = record {
 serial_too : (z w : Zone) (r : Record) (serial : Octets) → HasOneMore z r w → IsSerial z serial → IsSerial w serial
 serial_too z w r serial more s = record { soa = s.soa; has = (more.same s.soa).1 (inr s.has); kind = s.kind; front = s.front; back = s.back; parts = s.parts; len = s.len; others = s.others }
 
-pub stated_is_verified : (z w : Zone) (r : Record) (a : Algorithm) → StatesDigest z a r → HasNoPair z a → HasOneMore z r w → IsVerdict w r Verified
+pub stated_is_verified : (z w : Zone) (r : Record) (a : Algorithm) → StatesDigest z a r → HasNoPair z a → HasOneMore z r w → IsVerdictOn w r Verified
 stated_is_verified z w r a s none more =
     let f : Fields = record { serial = s.serial; scheme = 1; algorithm = number a; digest = digest_octets s.digest } in
     verified f a
@@ -113,18 +113,18 @@ stated_is_verified z w r a s none more =
     in_old o zonemd differs = record { has = ⊎_elim (λ same. absurd (differs same)) (λ h. h) ((more.same o).0 zonemd.has); owner = zonemd.owner ∙ more.apex; kind = zonemd.kind }
 
 -- ---- whether a zone is verified
-told_one : (z : Zone) (records : List Record) (findings : List Finding) → AllZip (IsFinding z) records findings → TellsVerified findings → (r : Record) × Has records r × IsVerdict z r Verified
+told_one : (z : Zone) (records : List Record) (findings : List Finding) → AllZip (IsFinding z) records findings → TellsVerified findings → (r : Record) × Has records r × IsVerdictOn z r Verified
 told_one z [] [] all told = absurd told
 told_one z [] (f ∷ findings) all told = absurd all
 told_one z (r ∷ records) [] all told = absurd all
-told_one z (r ∷ records) (f ∷ findings) all (inl is) = (r, inl refl, subst (IsVerdict z r) is all.0.verdict)
+told_one z (r ∷ records) (f ∷ findings) all (inl is) = (r, inl refl, subst (IsVerdictOn z r) is all.0.verdict)
 told_one z (r ∷ records) (f ∷ findings) all (inr more) = let on = told_one z records findings all.1 more in (on.0, inr on.1, on.2)
 
-one_told : (z : Zone) (records : List Record) (findings : List Finding) (r : Record) → AllZip (IsFinding z) records findings → Has records r → IsVerdict z r Verified → TellsVerified findings
+one_told : (z : Zone) (records : List Record) (findings : List Finding) (r : Record) → AllZip (IsFinding z) records findings → Has records r → IsVerdictOn z r Verified → TellsVerified findings
 one_told z [] [] r all has is = absurd has
 one_told z [] (f ∷ findings) r all has is = absurd all
 one_told z (s ∷ records) [] r all has is = absurd all
-one_told z (s ∷ records) (f ∷ findings) r all (inl same) is = inl (one_verdict z s f.verdict Verified all.0.verdict (subst (λ t. IsVerdict z t Verified) same is))
+one_told z (s ∷ records) (f ∷ findings) r all (inl same) is = inl (one_verdict z s f.verdict Verified all.0.verdict (subst (λ t. IsVerdictOn z t Verified) same is))
 one_told z (s ∷ records) (f ∷ findings) r all (inr more) is = inr (one_told z records findings r all.1 more is)
 
 pub told_verified : (z : Zone) (findings : List Finding) → AreFindings z findings → TellsVerified findings ↔ IsVerified z

@@ -4,7 +4,7 @@ use Rattle.zone_name.specs.Common.{Octets}
 use Rattle.zone_rdata.specs.Record.{Record}
 use Rattle.zone_set.specs.Zone.{SameRecords, Zone}
 use Rattle.zone_digest.specs.Digest.{IsDigested, IsLeftOut}
-use Rattle.zone_digest.specs.Verdict.{differs, Fields, IsDigestOf, IsRepeated, IsSerial, IsSupported, IsVerdict, malformed, other_serial, repeated, unknown_algorithm, unknown_scheme, verified}
+use Rattle.zone_digest.specs.Verdict.{differs, Fields, IsDigestOf, IsRepeated, IsSerial, IsSupported, IsVerdictOn, malformed, other_serial, repeated, unknown_algorithm, unknown_scheme, verified}
 use Rattle.zone_digest.specs.declared.algorithm.Algorithm.{Algorithm}
 use Rattle.zone_digest.specs.declared.verdict.Verdict.{Verdict}
 use Rattle.zone_digest.proofs.OneDigest.{same_digest}
@@ -39,7 +39,7 @@ digest_to z w one a octets (d, is, same) =
 supported_to : (z w : Zone) → AreOne z w → (r : Record) (f : Fields) (a : Algorithm) → IsSupported z r f a → IsSupported w r f a
 supported_to z w one r f a s = record { serial = (s.serial.0, serial_to z w one f.serial s.serial.1); scheme = s.scheme; algorithm = s.algorithm }
 
-carried : (z w : Zone) → AreOne z w → (r : Record) (v : Verdict) → IsVerdict z r v → IsVerdict w r v
+carried : (z w : Zone) → AreOne z w → (r : Record) (v : Verdict) → IsVerdictOn z r v → IsVerdictOn w r v
 carried z w one r v (malformed never) = malformed never
 carried z w one r v (other_serial f well never) = other_serial f well (λ s. never (serial_to w z (flipped z w one) f.serial s))
 carried z w one r v (unknown_scheme f has other) = unknown_scheme f (has.0, serial_to z w one f.serial has.1) other
@@ -48,5 +48,5 @@ carried z w one r v (repeated f a is again) = repeated f a (supported_to z w one
 carried z w one r v (differs f a is once never) = differs f a (supported_to z w one r f a is) (λ again. once (repeated_to w z (flipped z w one) r f again)) (λ d. never (digest_to w z (flipped z w one) a f.digest d))
 carried z w one r v (verified f a is once d) = verified f a (supported_to z w one r f a is) (λ again. once (repeated_to w z (flipped z w one) r f again)) (digest_to z w one a f.digest d)
 
-pub same_verdict : (z w : Zone) (r : Record) (v : Verdict) → z.apex ≡ w.apex → SameRecords z.records w.records → IsVerdict z r v ↔ IsVerdict w r v
+pub same_verdict : (z w : Zone) (r : Record) (v : Verdict) → z.apex ≡ w.apex → SameRecords z.records w.records → IsVerdictOn z r v ↔ IsVerdictOn w r v
 same_verdict z w r v apex same = (carried z w (apex, same) r v, carried w z (flipped z w (apex, same)) r v)

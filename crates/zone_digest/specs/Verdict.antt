@@ -89,28 +89,28 @@ IsDigestOf z a octets = (d : ZoneDigest) × IsDigest z a d × (octets ≡ digest
 abbrev pub HasSerial : Zone → Octets → Fields → Type 0
 HasSerial z octets f = IsWellFormed octets f × IsSerial z f.serial
 
--- and scheme SIMPLE, this hash algorithm, and no other record beside it
+-- such data with scheme SIMPLE and this hash algorithm
 pub record IsSupported (z : Zone) (r : Record) (f : Fields) (a : Algorithm) : Type 0 where
   pub serial : HasSerial z r.octets f
   pub scheme : f.scheme ≡ 1
   pub algorithm : f.algorithm ≡ number a
 
 -- the verdict: the first of these that holds
-pub data IsVerdict (z : Zone) (r : Record) : Verdict → Type 0 where
-  malformed : ((f : Fields) → IsWellFormed r.octets f → ⊥) → IsVerdict z r verdicts.Malformed
+pub data IsVerdictOn (z : Zone) (r : Record) : Verdict → Type 0 where
+  malformed : ((f : Fields) → IsWellFormed r.octets f → ⊥) → IsVerdictOn z r verdicts.Malformed
   other_serial : (f : Fields) → IsWellFormed r.octets f → (IsSerial z f.serial → ⊥)
-      → IsVerdict z r verdicts.OtherSerial
+      → IsVerdictOn z r verdicts.OtherSerial
   unknown_scheme : (f : Fields) → HasSerial z r.octets f → f.scheme ≢ 1
-      → IsVerdict z r verdicts.UnknownScheme
+      → IsVerdictOn z r verdicts.UnknownScheme
   unknown_algorithm : (f : Fields) → HasSerial z r.octets f → f.scheme ≡ 1
-      → ((a : Algorithm) → f.algorithm ≢ number a) → IsVerdict z r verdicts.UnknownAlgorithm
+      → ((a : Algorithm) → f.algorithm ≢ number a) → IsVerdictOn z r verdicts.UnknownAlgorithm
   repeated : (f : Fields) (a : Algorithm) → IsSupported z r f a → IsRepeated z r f
-      → IsVerdict z r verdicts.Repeated
+      → IsVerdictOn z r verdicts.Repeated
   differs : (f : Fields) (a : Algorithm) → IsSupported z r f a → (IsRepeated z r f → ⊥)
-      → (IsDigestOf z a f.digest → ⊥) → IsVerdict z r verdicts.Differs
+      → (IsDigestOf z a f.digest → ⊥) → IsVerdictOn z r verdicts.Differs
   verified : (f : Fields) (a : Algorithm) → IsSupported z r f a → (IsRepeated z r f → ⊥)
-      → IsDigestOf z a f.digest → IsVerdict z r verdicts.Verified
+      → IsDigestOf z a f.digest → IsVerdictOn z r verdicts.Verified
 
 -- the zone is verified: one of its ZONEMD records at the apex is
 abbrev pub IsVerified : Zone → Type 0
-IsVerified z = (r : Record) × IsZonemd z r × IsVerdict z r verdicts.Verified
+IsVerified z = (r : Record) × IsZonemd z r × IsVerdictOn z r verdicts.Verified

@@ -4,7 +4,7 @@ ghost use Rattle.std.specs.Prelude.{◌≡◌, ◌↔◌, List};
 ghost use Rattle.zone_digest.specs.Digest.{IsDigest};
 ghost use Rattle.zone_digest.specs.Findings.{AreFindings};
 ghost use Rattle.zone_digest.specs.Laws.{DifferInLeftOut, DifferInLetters, HasNoPair, HasOneMore, HasTtlOfItsSet, StatesDigest, TellsVerified};
-ghost use Rattle.zone_digest.specs.Verdict.{IsVerdict, IsVerified};
+ghost use Rattle.zone_digest.specs.Verdict.{IsVerdictOn, IsVerified};
 ghost use Rattle.zone_digest.specs.declared.algorithm.Algorithm.{Algorithm};
 ghost use Rattle.zone_digest.specs.declared.algorithm.ZoneDigest.{ZoneDigest};
 ghost use Rattle.zone_digest.specs.declared.verdict.Finding.{Finding};
@@ -22,7 +22,7 @@ pub fn one_digest_of_a_zone()
 /// A record has at most one verdict.
 #[tactic(auto, using(crate::proofs::OneVerdict::one_verdict))]
 pub fn one_verdict_of_a_record()
-    ensures { (z : Zone) (r : Record) → AtMostOneIs (IsVerdict z r) }
+    ensures { (z : Zone) (r : Record) → AtMostOneIs (IsVerdictOn z r) }
 {}
 
 /// The letters of names in data don't matter, where the names are put in lower case (RFC 4034 6.2).
@@ -50,13 +50,13 @@ pub fn a_zonemd_record_fits()
 /// other of its scheme and hash algorithm.
 pub fn the_record_of_a_digest_is_verified()
     ensures { (z w : Zone) (r : Record) (a : Algorithm) → StatesDigest z a r → HasNoPair z a
-        → HasOneMore z r w → IsVerdict w r Verified }
+        → HasOneMore z r w → IsVerdictOn w r Verified }
 {}
 
 /// A verdict depends on the apex and on the set of records alone.
 pub fn one_zone_has_one_verdict()
     ensures { (z w : Zone) (r : Record) (v : Verdict) → z.apex ≡ w.apex
-        → SameRecords z.records w.records → IsVerdict z r v ↔ IsVerdict w r v }
+        → SameRecords z.records w.records → IsVerdictOn z r v ↔ IsVerdictOn w r v }
 {}
 
 /// What is told of a zone says that a record is verified exactly if the zone is.

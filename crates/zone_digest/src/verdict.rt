@@ -1,6 +1,6 @@
 ghost use Rattle.std.specs.Prelude.{◌≡◌, ◌↔◌, ℕ, List, length, map, IfOk, IfSome, IfNone, IsTrue};
 ghost use Rattle.zone_digest.specs.Findings.{AreFindings};
-ghost use Rattle.zone_digest.specs.Verdict.{AreZonemds, Fields, HasFields, IsRepeated, IsSerial, IsVerdict, IsWellFormed, IsZonemd, digest_size, number};
+ghost use Rattle.zone_digest.specs.Verdict.{AreZonemds, Fields, HasFields, IsRepeated, IsSerial, IsVerdictOn, IsWellFormed, IsZonemd, digest_size, number};
 ghost use Rattle.zone_digest.specs.Machine.Reading.{HasOtherLike, IsOtherLike, fields_of};
 ghost use Rattle.zone_name.specs.Common.{Octets};
 ghost use Rattle.zone_rdata.specs.Lent.{record_of};
@@ -140,7 +140,7 @@ fn verdict_of(
     requires found { AreZonemds zone.now (map record_of found.now) }
     requires zonemd { IsZonemd zone.now (record_of rr.now) }
     requires zone { IsZone zone.now }
-    ensures { IfOk result (IsVerdict zone.now (record_of rr.now)) }
+    ensures { IfOk result (IsVerdictOn zone.now (record_of rr.now)) }
 {
     let Some(fields) = well_formed(rr.rdata.octets()) else {
         return Ok(Verdict::Malformed);
