@@ -1,0 +1,13 @@
+mod Walks
+mod Once
+mod Sets
+mod Soa
+mod SetOrder
+mod Steps
+mod OneDigest
+mod Zonemds
+mod FieldsOf
+mod OneVerdict
+mod SameDigest
+mod Fits
+mod SameVerdict

@@ -1,0 +1,6 @@
+pub mod NamesInData
+pub mod Digest
+pub mod Verdict
+pub mod Findings
+pub mod Laws
+pub mod Machine

@@ -1,0 +1,16 @@
+//! The digest of a zone and the verdicts on its ZONEMD records (RFC 8976).
+#![tactic(auto)]
+
+mod algorithm;
+mod digest;
+mod emit;
+pub mod laws;
+mod lowering;
+mod names;
+mod ordered;
+mod table;
+mod verdict;
+
+pub use algorithm::{Algorithm, ZoneDigest};
+pub use digest::digest_of;
+pub use verdict::{Finding, Verdict, verify};

@@ -1,0 +1,91 @@
+ghost use Rattle.std.specs.Prelude.{◌≡◌, ◌↔◌, [], ℕ, List, length, IsTrue, Some, false, IfSome, IfNone};
+ghost use Rattle.std.specs.List.{flat_map};
+ghost use Rattle.zone_digest.specs.Machine.Front.{BeginsWithCased, BeginsWithMany};
+ghost use Rattle.zone_digest.specs.NamesInData.{HasNames, names_of};
+ghost use Rattle.zone_digest.specs.declared.table.NamesAt.{NamesAt};
+ghost use Rattle.zone_name.specs.Common.{Labels};
+ghost use Rattle.zone_name.specs.Name.{wire};
+
+use crate::table::names_at;
+use zone_name::laws::are_octets;
+
+/// How many octets the name at the beginning of octets has.
+pub(crate) fn name_len(octets: &[u8]) -> Option<usize>
+    ensures found { IfSome result (λ n. (name : Labels) × (rest : List ℕ)
+        × BeginsWithCased octets.now name rest × (n ≡ length (wire name))) }
+    ensures none { IfNone result ((name : Labels) (rest : List ℕ)
+        → BeginsWithCased octets.now name rest → ⊥) }
+{
+    are_octets(octets);
+    let mut rest = octets;
+    let mut len: usize = 1;
+    loop {
+        let Some((first, following)) = rest.split_first() else {
+            return None;
+        };
+        let count = usize::from(*first);
+        if count == 0 {
+            return Some(len);
+        }
+        if count > 63 {
+            return None;
+        }
+        if following.len() < count {
+            return None;
+        }
+        if len + count + 1 > 255 {
+            return None;
+        }
+        len += count + 1;
+        rest = following.split_at(count).1;
+    }
+}
+
+/// How many octets so many names at the beginning of octets have.
+pub(crate) fn names_len(count: usize, octets: &[u8]) -> Option<usize>
+    ensures found { IfSome result (BeginsWithMany count octets.now) }
+    ensures none { IfNone result ((len : ℕ) → BeginsWithMany count octets.now len → ⊥) }
+{
+    let mut len: usize = 0;
+    for _ in 0..count {
+        let Some(next) = name_len(octets.split_at(len).1) else {
+            return None;
+        };
+        len += next;
+    }
+    Some(len)
+}
+
+/// Whether octets may follow the names, or none do.
+fn may_end(more: bool, rest: &[u8]) -> bool
+    ensures { IsTrue result ↔ (more ≡ false → rest.now ≡ []) }
+{
+    more || rest.is_empty()
+}
+
+/// The names in data of a type, with the octets before and after them.
+pub(crate) fn split_names(kind: u16, octets: &[u8]) -> Option<(&[u8], &[u8], &[u8])>
+    ensures found { IfSome result (λ r. (place : NamesAt) × (names : List Labels)
+        × (names_of kind octets.now ≡ Some place)
+        × HasNames place octets.now r.0.now names r.2.now
+        × (r.1.now ≡ flat_map wire names)) }
+    ensures none { IfNone result ((place : NamesAt) (front : List ℕ) (names : List Labels)
+        (rest : List ℕ) → names_of kind octets.now ≡ Some place
+        → HasNames place octets.now front names rest → ⊥) }
+{
+    let Some(at) = names_at(kind, octets) else {
+        return None;
+    };
+    if octets.len() < at.before {
+        return None;
+    }
+    let (front, from) = octets.split_at(at.before);
+    let Some(len) = names_len(at.count, from) else {
+        return None;
+    };
+    let (names, rest) = from.split_at(len);
+    if !may_end(at.more, rest) {
+        return None;
+    }
+    Some((front, names, rest))
+}
