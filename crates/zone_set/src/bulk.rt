@@ -84,16 +84,23 @@ fn sort_runs(class: Class, octets: &[u8], entries: &mut [Entry], front: usize) -
 /// their octets come out of memory side by side, and not one after another as they are compared.
 fn records_stand(octets: &[u8], entries: &[Entry]) -> bool {
     let ahead = &entries[..entries.len().min(AHEAD + 1)];
-    let (mut stand, mut shares) = (true, false);
+    let mut stand = true;
     for next in 1..ahead.len() {
         let (a, b) = (ahead[next - 1], ahead[next]);
-        let shares_next = a.hint == b.hint;
-        if shares || shares_next {
-            stand &= stands(octets, a.at);
+        if a.hint == b.hint {
+            stand &= stands(octets, a.at) & stands(octets, b.at);
         }
-        shares = shares_next;
     }
     stand
+}
+
+/// As `records_stand`, of the one that follows after so many, in a long run of one hint: the cache
+/// holds other records when that is sorted.
+fn stands_ahead(octets: &[u8], entry: Entry, after: &[Entry]) -> bool {
+    match after.get(AHEAD) {
+        Some(ahead) if ahead.hint == entry.hint => stands(octets, ahead.at),
+        _ => true,
+    }
 }
 
 /// Whether a record stands at a place, told by its owner's length, which is never 0.
@@ -139,8 +146,7 @@ pub(crate) fn are_neighbours(class: Class, octets: &[u8], entries: &[Entry]) -> 
     };
     let (mut last, mut left) = (*first, rest);
     while let Some((next, after)) = left.split_first() {
-        // A long run of one hint was sorted when the cache held other records than these.
-        if left.len() % AHEAD == 0 && !records_stand(octets, left) {
+        if !stands_ahead(octets, *next, after) {
             return false;
         }
         if !stand_next(class, octets, last, *next) {
