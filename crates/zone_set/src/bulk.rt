@@ -94,13 +94,20 @@ fn records_stand(octets: &[u8], entries: &[Entry]) -> bool {
     stand
 }
 
-/// As `records_stand`, of the one that follows after so many, in a long run of one hint: the cache
-/// holds other records when that is sorted.
-fn stands_ahead(octets: &[u8], entry: Entry, after: &[Entry]) -> bool {
-    match after.get(AHEAD) {
-        Some(ahead) if ahead.hint == entry.hint => stands(octets, ahead.at),
-        _ => true,
+/// As `records_stand`, of the next entries if all share a hint: in a long run the cache holds other
+/// records when that is sorted.
+fn run_stands(octets: &[u8], entries: &[Entry]) -> bool {
+    let ahead = &entries[..entries.len().min(AHEAD)];
+    let (Some(first), Some(last)) = (ahead.first(), ahead.last()) else {
+        return true;
+    };
+    let mut stand = true;
+    if first.hint == last.hint {
+        for entry in ahead {
+            stand &= stands(octets, entry.at);
+        }
     }
+    stand
 }
 
 /// Whether a record stands at a place, told by its owner's length, which is never 0.
@@ -146,7 +153,7 @@ pub(crate) fn are_neighbours(class: Class, octets: &[u8], entries: &[Entry]) -> 
     };
     let (mut last, mut left) = (*first, rest);
     while let Some((next, after)) = left.split_first() {
-        if !stands_ahead(octets, *next, after) {
+        if left.len() % AHEAD == 0 && !run_stands(octets, left) {
             return false;
         }
         if !stand_next(class, octets, last, *next) {
