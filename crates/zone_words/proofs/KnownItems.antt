@@ -344,7 +344,7 @@ around_by entry passed rest before_text left before word after n len follow_item
 pub stands_around : (entry passed rest before_text left : List ℕ) (all : List Item) (n : ℕ) (d : Item) → n < length all → FollowsItems entry (map raw (take n all)) passed → PassesGap passed rest → before_text ≡ take (length entry - length rest) entry → FollowsItem rest (raw (get_or all n d)) left → StandsAround entry (map raw all) n before_text left
 stands_around entry passed rest before_text left all n d less follow_items gap taken follows =
     let parts : map raw all ≡ map raw (take n all) ++ raw (get_or all n d) ∷ map raw (drop (n + 1) all) =
-        ap (map raw) (sym (take-append-drop n all) ∙ ap (λ t. take n all ++ t) (drop_more all n d less)) ∙ map-append raw (take n all) (get_or all n d ∷ drop (n + 1) all) in
+    ap (map raw) (sym (take-append-drop n all) ∙ ap (λ t. take n all ++ t) (drop_more all n d less)) ∙ map-append raw (take n all) (get_or all n d ∷ drop (n + 1) all) in
     subst (λ i. StandsAround entry i n before_text left) (sym parts)
     (around_by entry passed rest before_text left (map raw (take n all)) (raw (get_or all n d)) (map raw (drop (n + 1) all)) n (omega (arith, less, length-map (take n all) raw, length-take n all)) follow_items gap taken follows)
 
