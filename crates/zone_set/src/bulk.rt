@@ -96,6 +96,8 @@ fn records_stand(octets: &[u8], entries: &[Entry]) -> bool {
 
 /// As `records_stand`, of the next entries if all share a hint: in a long run the cache holds other
 /// records when that is sorted.
+// Not inlined: so it costs nothing where it isn't asked.
+#[inline(never)]
 fn run_stands(octets: &[u8], entries: &[Entry]) -> bool {
     let ahead = &entries[..entries.len().min(AHEAD)];
     let (Some(first), Some(last)) = (ahead.first(), ahead.last()) else {
@@ -113,7 +115,7 @@ fn run_stands(octets: &[u8], entries: &[Entry]) -> bool {
 /// Whether a record stands at a place, told by its owner's length, which is never 0.
 fn stands(octets: &[u8], at: usize) -> bool {
     // `tie::stored_at` tells it by the whole head, in half as much again: three loads for one.
-    match octets.get(at.saturating_add(6)) {
+    match octets.get(at.wrapping_add(6)) {
         Some(owner_len) => *owner_len != 0,
         None => false,
     }
