@@ -2,5 +2,6 @@
 pub mod PrintedWords
 pub mod Standing
 pub mod TextItems
+pub mod DigitLanes
 pub mod TextLengths
 pub mod FieldTexts

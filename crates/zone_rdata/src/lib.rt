@@ -6,6 +6,7 @@ mod address;
 mod builder;
 mod cause;
 mod class;
+mod digits;
 mod fault;
 mod fault_table;
 mod fed;

@@ -6,9 +6,9 @@ ghost use Rattle.zone_rdata.specs.Machine.Printing.{generic_head, laid_out_text,
 ghost use Rattle.zone_rdata.specs.Text.{generic_text};
 ghost use Rattle.hex.specs.Hex.{encode_lower};
 
+use crate::digits::{LANES, digits_of};
 use crate::layout::Layout;
 use arrayvec::ArrayVec;
-use hex::encode_to_slice;
 use itoa::Buffer;
 use zone_name::Sink;
 
@@ -60,9 +60,6 @@ fn push_generic_head<S: Sink>(octets: &[u8], out: &mut S) -> Result<(), S::Error
     out.push(head.as_slice())
 }
 
-/// How many octets are written in digits at a time.
-const HEX_LEN: usize = 32;
-
 /// Appends two hexadecimal digits for each octet, in lower case (RFC 4648 8).
 ///
 /// # Errors
@@ -75,7 +72,7 @@ pub fn push_hex<S: Sink>(octets: &[u8], out: &mut S) -> Result<(), S::Error>
 {
     let mut rest = octets;
     while !rest.is_empty() {
-        let (part, after) = rest.split_at(HEX_LEN.min(rest.len()));
+        let (part, after) = rest.split_at(LANES.min(rest.len()));
         push_hex_of_few(part, out)?;
         rest = after;
     }
@@ -83,15 +80,18 @@ pub fn push_hex<S: Sink>(octets: &[u8], out: &mut S) -> Result<(), S::Error>
 }
 
 /// Appends two hexadecimal digits for each octet of a few.
+#[tactic(auto)]
 fn push_hex_of_few<S: Sink>(octets: &[u8], out: &mut S) -> Result<(), S::Error>
-    requires { length octets.now ≤ HEX_LEN }
+    requires { length octets.now ≤ LANES }
     ensures ok { OnOk result (S.takes out.old (encode_lower octets.now) out.new) }
     ensures err { OnErr result (S.takes out.old [] out.new) }
 {
-    let mut room = [0; 2 * HEX_LEN];
-    let digits = &mut room[..2 * octets.len()];
-    let _ = encode_to_slice(octets, digits);
-    out.push(digits)
+    if octets.len() == LANES {
+        return out.push(&digits_of(octets));
+    }
+    let mut few = [0; LANES];
+    few[..octets.len()].copy_from_slice(octets);
+    out.push(&digits_of(&few)[..2 * octets.len()])
 }
 
 /// Appends octets in the generic form (RFC 3597 5).

@@ -1,5 +1,5 @@
-ghost use Rattle.std.specs.Prelude.{◌≡◌, ◌≤◌, [], ◌∷◌, map, length, drop, take, false, IsTrue, IfNone, IfSome, OnOk, option_map, option_to_list};
-ghost use Rattle.std.specs.List.{All};
+ghost use Rattle.std.specs.Prelude.{◌≡◌, ◌≤◌, [], ◌∷◌, map, length, drop, not, take, false, IsTrue, IfNone, IfSome, OnOk, option_map, option_to_list};
+ghost use Rattle.std.specs.List.{All, prefix_len};
 ghost use Rattle.zone_rdata.specs.Item.{bare, raw};
 ghost use Rattle.zone_rdata.specs.Strings.{is_quote};
 ghost use Rattle.zone_text.specs.Tokens.{ends_item, is_blank};
@@ -10,6 +10,7 @@ ghost use Rattle.zone_text.specs.Kept.{KeepsItems};
 
 use crate::comment::comment_len;
 use crate::table::stops_bare;
+use crate::until::len_until;
 use std::alloc::AllocError;
 use zone_name::escape_at;
 use zone_name::laws::are_octets;
@@ -31,28 +32,25 @@ pub(crate) enum Extent {
     Quoted,
 }
 
-impl Extent {
-    /// Whether the octet ends the item or is a backslash.
-    #[inline(always)]
-    fn stops_at(self, octet: u8) -> bool
-        ensures { result ≡ stops_within self octet }
-    {
-        match self {
-            Extent::Bare => stops_bare(octet),
-            Extent::Quoted => matches!(octet, b'"' | b'\\'),
-        }
-    }
-}
-
 /// The number of octets before the first that ends the item or is a backslash.
-#[tactic(auto, using(crate::proofs::Scanning::StopMarks::plain_lengths))]
 pub(crate) fn plain_len(text: &[u8], extent: Extent) -> usize
     ensures within { result ≤ length text.now }
     ensures plain { All (λ c. stops_within extent c ≡ false) (take result text.now) }
     ensures stops { EndsAt (stops_within extent) (drop result text.now) }
 {
+    match extent {
+        Extent::Bare => plain_bare_len(text),
+        Extent::Quoted => len_until(text, b'"', b'\\'),
+    }
+}
+
+/// As `plain_len`, of a bare item.
+pub(crate) fn plain_bare_len(text: &[u8]) -> usize
+    ensures len { result ≡ prefix_len (λ c. not (stops_bare c)) text.now }
+    ensures within { result ≤ length text.now }
+{
     for (index, octet) in text.iter().enumerate() {
-        if extent.stops_at(*octet) {
+        if stops_bare(*octet) {
             return index;
         }
     }

@@ -19,6 +19,7 @@ mod stops;
 mod table;
 mod text_source;
 mod token;
+mod until;
 mod walk;
 mod words;
 

@@ -5,7 +5,7 @@ ghost use Rattle.std.specs.Simd.Lanes.{mask_l};
 ghost use Rattle.zone_text.specs.Machine.ItemLengths.{stops_bare};
 ghost use Rattle.zone_text.specs.Machine.Stops.{Tells};
 
-use crate::items::{Extent, plain_len};
+use crate::items::plain_bare_len;
 use std::simd::prelude::*;
 
 /// Which of the octets ahead end a bare item or are backslashes.
@@ -58,7 +58,7 @@ fn bare_len(octets: &[u8]) -> (usize, Stops)
         seen += 64;
     }
     let (_, rest) = octets.split_at(seen);
-    let more = plain_len(rest, Extent::Bare);
+    let more = plain_bare_len(rest);
     let stops = Stops {
         bits: 0,
         unseen: rest.len() - rest.len().min(more + 1),

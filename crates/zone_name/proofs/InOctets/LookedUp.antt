@@ -1,10 +1,11 @@
 -- Lanes that are looked up in a table, each by the low four bits of its octet.
-use Rattle.std.proofs.lemmas.List.{ext_get_or, get_or-map}
+use Rattle.std.proofs.lemmas.List.{ext_get_or, get_or-map, length-replicate}
 use Rattle.std.proofs.lemmas.Nat.{and_le_r}
-use Rattle.std.proofs.lemmas.Simd.{get_or-swz_l_below, length-swz_l, swz_l}
+use Rattle.std.proofs.lemmas.Simd.{Each1-all, Each1-zip2, Each2-splat, SwzOk, SwzOk-from_below, get_or-swz_l_below, length-swz_l, length-zip2, swz_l}
 use Rattle.std.proofs.Math.Logic.{⊎_elim}
 use Rattle.std.specs.Int.Bits.{bit_and}
-use Rattle.zone_name.proofs.Common.{Bool, List, and_parts, ap, arith, cases_lt, eqb-true, get_or, length, length-map, map, subst, suc, sym, true, w8, zero, ℕ, ◌&&◌, ◌*◌, ◌+◌, ◌/◌, ◌<◌, ◌==◌, ◌∙◌, ◌≡◌}
+use Rattle.zone_name.proofs.Common.{Bool, List, and_parts, ap, arith, cases_lt, eqb-true, get_or, length, length-map, map, replicate, subst, suc, sym, true, w8, zero, ℕ, ◌&&◌, ◌*◌, ◌+◌, ◌/◌, ◌<◌, ◌==◌, ◌∙◌, ◌≡◌}
+use lib.Lanes.{zip2}
 
 abbrev pub all_below : (ℕ → Bool) → ℕ → Bool
 all_below p zero = true
@@ -32,3 +33,11 @@ looked_up n t s v js fits e copies =
     get_or-swz_l_below w8 16 t 0 js i (omega arith) below
     ∙ eqb-true _ _ (every_below (λ j. get_or t (16 * ((0 + i) / 16) + j) 0 == get_or s j 0) 16 row (get_or js i 0) below)
     ∙ ap (λ k. get_or s k 0) is ∙ sym (get_or-map (λ x. get_or s (bit_and x 15) 0) v i 0 0 within))
+
+-- the low four bits of n lanes are places in a block of a table
+pub low_places : (b n : ℕ) (v : List ℕ) → n ≡ b * 16 → length v ≡ n → SwzOk w8 16 n 0 (zip2 bit_and v (replicate n 15))
+low_places b n v blocks long =
+    let small = Each1-all (λ a. bit_and a 15 < 16) (λ a. omega (arith, and_le_r a 15)) v in
+    let same : length (zip2 bit_and v (replicate n 15)) ≡ n = length-zip2 bit_and v (replicate n 15) (long ∙ sym (length-replicate n 15)) ∙ long in
+    SwzOk-from_below w8 16 b n 0 (zip2 bit_and v (replicate n 15)) blocks (omega (arith, same))
+    (Each1-zip2 bit_and (λ j. j < 16) v (replicate n 15) (Each2-splat (λ a b. bit_and a b < 16) v n 15 small))

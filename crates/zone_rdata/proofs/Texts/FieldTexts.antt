@@ -1,5 +1,6 @@
 -- The text of data, field after field, and of strings, one after another.
-use Rattle.zone_rdata.proofs.Common.{[], ◌≡◌, ◌∙◌, ◌≤◌, take-append-drop, ℕ, zero, suc, ◌+◌, ◌<◌, List, ◌∷◌, ◌++◌, length, get_or, take, drop, map, refl, sym, ap, arith, append_assoc, Some, encode_lower, flat_map, join_with_byte, take_at, drop_at, append-nil, Field, field_at, values_of, field_text, AreLaidOut, BeginsWithField, after_field, spaced, generic_head, laid_out_text, generic_text, common_steps, encode_with, labels_of, wire, HoldsName, Name, from_place, eqb-true, with_length, string_at, strings_of, HoldsStrings, string_text}
+use Rattle.std.proofs.Math.Seq.{take-append-add, take-append_seam}
+use Rattle.zone_rdata.proofs.Common.{length-encode_with, lower_digits, ◌-◌, ◌*◌, [], ◌≡◌, ◌∙◌, ◌≤◌, take-append-drop, ℕ, zero, suc, ◌+◌, ◌<◌, List, ◌∷◌, ◌++◌, length, get_or, take, drop, map, refl, sym, ap, arith, append_assoc, Some, encode_lower, flat_map, join_with_byte, take_at, drop_at, append-nil, Field, field_at, values_of, field_text, AreLaidOut, BeginsWithField, after_field, spaced, generic_head, laid_out_text, generic_text, common_steps, encode_with, labels_of, wire, HoldsName, Name, from_place, eqb-true, with_length, string_at, strings_of, HoldsStrings, string_text}
 use Rattle.zone_rdata.proofs.Octets.StringFields.{first_string, no_strings}
 
 -- octets of a layout begin with its first field, and go on with the others
@@ -68,6 +69,18 @@ pub digits_all : (whole rest text : List ℕ) → length rest ≤ 0 → HaveDigi
 unfolding encode_with
 digits_all whole [] text none so_far = sym (so_far.left ∙ append-nil text)
 digits_all whole (c ∷ rest) text none so_far = absurd (omega (arith, none))
+
+-- the digits of the first n octets begin with those of fewer
+pub digits_before : (n : ℕ) (octets front after : List ℕ) → front ≡ octets → length octets ≤ n → take (2 * length octets) (encode_lower (take n (front ++ after))) ≡ encode_lower octets
+digits_before n octets front after same few =
+    let more : length octets + (n - length octets) ≡ n = omega arith in
+    let parts : take n (front ++ after) ≡ octets ++ take (n - length octets) after =
+    ap (λ l. take n (l ++ after)) same ∙ ap (λ k. take k (octets ++ after)) (sym more) ∙ take-append-add octets after (n - length octets) in
+    let text : encode_lower (take n (front ++ after)) ≡ encode_lower octets ++ encode_lower (take (n - length octets) after) =
+    ap encode_lower parts ∙ encode_append octets (take (n - length octets) after) in
+    ap (take (2 * length octets)) text
+    ∙ ap (λ k. take k (encode_lower octets ++ encode_lower (take (n - length octets) after))) (sym (length-encode_with lower_digits octets))
+    ∙ take-append_seam (encode_lower octets) (encode_lower (take (n - length octets) after))
 
 pub ruleset printed_last = (eqb-true, nothing_follows)
 

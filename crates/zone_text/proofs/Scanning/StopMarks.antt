@@ -3,15 +3,14 @@ use Rattle.std.proofs.lemmas.List.Elements.{All-from_recursion}
 use Rattle.std.proofs.lemmas.List.Sums.{prefix_len-le-length}
 use Rattle.std.proofs.Common.{Fits, ap₂, bit_and, bit_or, eqb, w8, ◌/◌, ◌%◌, not}
 use Rattle.std.proofs.lemmas.Bool.{agree_below}
-use Rattle.std.proofs.lemmas.Nat.{and_le_r}
-use Rattle.std.proofs.lemmas.Simd.{Each1-all, Each1-zip2, Each2-splat, SwzOk, SwzOk-from_below, chunk-fits, length-zip2, map-map, mask_l-mod, swz_l, zip2_of_maps, zip2_splat}
+use Rattle.std.proofs.lemmas.Simd.{chunk-fits, map-map, mask_l-mod, swz_l, zip2_of_maps, zip2_splat}
 use Rattle.std.specs.Int.Count.{count_trailing_zeros}
 use Rattle.std.specs.List.{prefix_len}
 use Rattle.std.specs.Prelude.{not}
 use Rattle.std.specs.Simd.Lanes.{mask_l}
 use lib.Lanes.{Each1, top, zip2}
 use lib.ListN.{replicate}
-use Rattle.zone_text.proofs.Common.{common_steps, All, AllByRecursion, Bool, EndsAt, List, [], agree_below_at, ap, arith, cond, drop, drop-drop, false, get_or, length, length-drop, length-map, length-take, map, min, ne_eqb, recursion_from_All, refl, stops_bare, suc, sym, take, true, zero, ℕ, ◌+◌, ◌-◌, ◌<◌, ◌==◌, ◌^◌, ◌∙◌, ◌∷◌, ◌≡◌, ◌≢◌, ◌≤◌, add-one, before_line_feed, drop-cons, drop_of_length-le}
+use Rattle.zone_text.proofs.Common.{common_steps, All, AllByRecursion, Bool, EndsAt, List, [], agree_below_at, ap, arith, cond, drop, drop-drop, false, get_or, length, length-drop, length-map, length-take, map, min, ne_eqb, ◌||◌, refl, stops_bare, sym, take, true, ℕ, ◌+◌, ◌-◌, ◌<◌, ◌==◌, ◌^◌, ◌∙◌, ◌∷◌, ◌≡◌, ◌≢◌, ◌≤◌, add-one, before_line_feed, drop-cons, drop_of_length-le}
 use Rattle.zone_name.proofs.InOctets.LookedUp.{Repeats, every_below, looked_up}
 use Rattle.zone_name.proofs.InOctets.Runs.{after_bits, first_inside, none_inside, prefix_step}
 use Rattle.zone_text.specs.Machine.Stops.{Tells}
@@ -26,48 +25,75 @@ first_at text i less = rw (add-one, drop-cons text i 0) refl
 pub nothing_left : (text : List ℕ) (i : ℕ) → length text ≤ i → drop i text ≡ []
 nothing_left text i less = drop_of_length-le text less
 
-pub comment_goes_on : (text : List ℕ) (i n : ℕ) → i < length text → get_or text i 0 ≢ 10 → n ≡ i + length (before_line_feed (drop i text)) → n ≡ i + 1 + length (before_line_feed (drop (i + 1) text))
-unfolding before_line_feed
-comment_goes_on text i n less other so_far = grind (arith, common_steps)
+abbrev pub same_mask : ℕ → ℕ → ℕ
+same_mask a b = cond (eqb a b) (2 ^ 8 - 1) 0
 
-pub comment_ends : (text : List ℕ) (i n : ℕ) → i < length text → get_or text i 0 ≡ 10 → n ≡ i + length (before_line_feed (drop i text)) → i ≡ n
-unfolding before_line_feed
-comment_ends text i n less is so_far = grind (arith, common_steps)
+-- how many octets stand before the first that passes
+abbrev pub len_to : (ℕ → Bool) → List ℕ → ℕ
+len_to p xs = prefix_len (λ c. not (p c)) xs
 
-pub comment_whole : (text : List ℕ) (i n : ℕ) → length text ≤ i → i ≤ length text → n ≡ i + length (before_line_feed (drop i text)) → length text ≡ n
-unfolding before_line_feed
-comment_whole text i n over within so_far = grind (arith, common_steps)
+abbrev pub is_either : ℕ → ℕ → ℕ → Bool
+is_either one other c = c == one || c == other
 
-before_prefix : (xs : List ℕ) → length (before_line_feed xs) ≡ prefix_len (λ c. not (c == 10)) xs
-unfolding before_line_feed
-before_prefix [] = refl
-before_prefix (c ∷ xs) = grind (arith, before_prefix xs)
+pub goes_past : (p : ℕ → Bool) (text : List ℕ) (i n : ℕ) → i < length text → p (get_or text i 0) ≡ false → n ≡ i + len_to p (drop i text) → n ≡ i + 1 + len_to p (drop (i + 1) text)
+goes_past p text i n less other so_far = grind (arith, common_steps, first_at, prefix_step p (get_or text i 0) (drop (i + 1) text))
 
--- some of the octets after a place, by the bits that tell which are line feeds
-pub comment_past : (text : List ℕ) (i k n bits : ℕ) → k ≤ length text - i → bits ≡ mask_l (map (λ c. c == 10) (take k (drop i text))) → bits ≡ 0 → n ≡ i + length (before_line_feed (drop i text)) → n ≡ i + k + length (before_line_feed (drop (i + k) text))
-comment_past text i k n bits room are none so_far =
+pub stops_here : (p : ℕ → Bool) (text : List ℕ) (i n : ℕ) → i < length text → p (get_or text i 0) ≡ true → n ≡ i + len_to p (drop i text) → i ≡ n
+stops_here p text i n less is so_far = grind (arith, common_steps, first_at, prefix_step p (get_or text i 0) (drop (i + 1) text))
+
+pub nothing_stops : (p : ℕ → Bool) (text : List ℕ) (i n : ℕ) → length text ≤ i → i ≤ length text → n ≡ i + len_to p (drop i text) → length text ≡ n
+nothing_stops p text i n over within so_far = grind (arith, common_steps, nothing_left)
+
+pub before_len : (xs : List ℕ) → len_to (is_either 10 10) xs ≡ length (before_line_feed xs)
+unfolding before_line_feed
+before_len [] = refl
+before_len (c ∷ xs) = grind (arith, before_len xs)
+
+-- some of the octets after a place, by the bits that tell which of them pass
+pub none_past : (p : ℕ → Bool) (text : List ℕ) (i k n bits : ℕ) → k ≤ length text - i → bits ≡ mask_l (map p (take k (drop i text))) → bits ≡ 0 → n ≡ i + len_to p (drop i text) → n ≡ i + k + len_to p (drop (i + k) text)
+none_past p text i k n bits room are none so_far =
     let left : length (drop i text) ≡ length text - i = length-drop i text in
-    let next : prefix_len (λ c. not (c == 10)) (drop i text) ≡ k + prefix_len (λ c. not (c == 10)) (drop k (drop i text)) = none_inside (λ c. c == 10) k (drop i text) (omega arith) (sym are ∙ none) in
-    let after : prefix_len (λ c. not (c == 10)) (drop k (drop i text)) ≡ prefix_len (λ c. not (c == 10)) (drop (i + k) text) = ap (prefix_len (λ c. not (c == 10))) (drop-drop k i text) in
-    omega (arith, so_far, next, after, before_prefix (drop i text), before_prefix (drop (i + k) text))
+    let next : len_to p (drop i text) ≡ k + len_to p (drop k (drop i text)) = none_inside p k (drop i text) (omega arith) (sym are ∙ none) in
+    let after : len_to p (drop k (drop i text)) ≡ len_to p (drop (i + k) text) = ap (len_to p) (drop-drop k i text) in
+    omega (arith, so_far, next, after)
 
-pub comment_seen : (text : List ℕ) (i k n bits : ℕ) → k ≤ 64 → k ≤ length text - i → bits ≡ mask_l (map (λ c. c == 10) (take k (drop i text))) → bits ≢ 0 → n ≡ i + length (before_line_feed (drop i text)) → (i + count_trailing_zeros 64 bits ≡ n) × (i + count_trailing_zeros 64 bits ≤ length text)
-comment_seen text i k n bits few room are some so_far = grind (arith, length-drop, first_inside, before_prefix)
+pub first_seen : (p : ℕ → Bool) (text : List ℕ) (i k n bits : ℕ) → k ≤ 64 → k ≤ length text - i → bits ≡ mask_l (map p (take k (drop i text))) → bits ≢ 0 → n ≡ i + len_to p (drop i text) → (i + count_trailing_zeros 64 bits ≡ n) × (i + count_trailing_zeros 64 bits ≤ length text)
+first_seen p text i k n bits few room are some so_far = grind (arith, length-drop, first_inside, prefix_len-le-length)
 
-pub ruleset comment_lengths = (comment_ends, comment_goes_on, comment_whole)
+either_bits : (a b : Bool) → top 7 (bit_or (cond a (2 ^ 8 - 1) 0) (cond b (2 ^ 8 - 1) 0)) ≡ (a || b)
+either_bits true true = refl
+either_bits true false = refl
+either_bits false true = refl
+either_bits false false = refl
 
-pub ruleset plain_lengths = (first_at, nothing_left)
+map_same : (p q : ℕ → Bool) (v : List ℕ) → ((x : ℕ) → p x ≡ q x) → map p v ≡ map q v
+map_same p q [] same = refl
+map_same p q (x ∷ v) same = ap₂ (λ b bs. b ∷ bs) (same x) (map_same p q v same)
+
+-- the bits of lanes that are one octet or the other
+pub either_mask : (one other : ℕ) (v : List ℕ) → length v ≡ 64 → mask_l (map (top 7) (zip2 bit_or (zip2 same_mask v (replicate 64 one)) (zip2 same_mask v (replicate 64 other)))) % 2 ^ 64 ≡ mask_l (map (is_either one other) v)
+either_mask one other v long =
+    let f : ℕ → ℕ = λ x. bit_or (same_mask x one) (same_mask x other) in
+    ap (λ l. mask_l (map (top 7) l) % 2 ^ 64) (zip2_of_maps bit_or (λ x. same_mask x one) (λ x. same_mask x other) v (zip2_splat same_mask v 64 one long) (zip2_splat same_mask v 64 other long))
+    ∙ ap (λ l. mask_l l % 2 ^ 64) (map-map (top 7) f v)
+    ∙ mask_l-mod (map (λ x. top 7 (f x)) v) 64 (omega (arith, length-map v (λ x. top 7 (f x)), long))
+    ∙ ap mask_l (map_same (λ x. top 7 (f x)) (is_either one other) v (λ x. either_bits (x == one) (x == other)))
+
+
 
 abbrev pub goes_on : ℕ → Bool
 goes_on c = not (stops_bare c)
 
-prefix_parts : (xs : List ℕ) → AllByRecursion (λ c. stops_bare c ≡ false) (take (prefix_len goes_on xs) xs) × EndsAt stops_bare (drop (prefix_len goes_on xs) xs)
-prefix_parts [] = (tt, tt)
-prefix_parts (x ∷ xs) = grind (arith, prefix_step stops_bare x xs, prefix_parts xs)
+prefix_parts : (p : ℕ → Bool) (xs : List ℕ) → AllByRecursion (λ c. p c ≡ false) (take (len_to p xs) xs) × EndsAt p (drop (len_to p xs) xs)
+prefix_parts p [] = (tt, tt)
+prefix_parts p (x ∷ xs) = grind (arith, prefix_step p x xs, prefix_parts p xs)
 
 -- the octets before the first stop, and those from it on
+pub stops_at_len : (p : ℕ → Bool) (xs : List ℕ) (n : ℕ) → n ≡ len_to p xs → (n ≤ length xs) × All (λ c. p c ≡ false) (take n xs) × EndsAt p (drop n xs)
+stops_at_len p xs n len = rw len (prefix_len-le-length (λ c. not (p c)) xs, All-from_recursion _ _ (prefix_parts p xs).0, (prefix_parts p xs).1)
+
 pub prefix_stops : (xs : List ℕ) (n : ℕ) → n ≡ prefix_len goes_on xs → (n ≤ length xs) × All (λ c. stops_bare c ≡ false) (take n xs) × EndsAt stops_bare (drop n xs)
-prefix_stops xs n len = rw len (prefix_len-le-length goes_on xs, All-from_recursion _ _ (prefix_parts xs).0, (prefix_parts xs).1)
+prefix_stops = stops_at_len stops_bare
 
 -- ---- what the bits tell
 
@@ -97,18 +123,9 @@ pub blank_stop : (rest stopped after : List ℕ) (stop len : ℕ) → len ≡ pr
 blank_stop rest stopped after stop len is back first low other = grind (arith, prefix_stops rest len is, every_below, ne_eqb)
 
 -- the low four bits of each lane are a place in a table of 16
-pub low_places : (v : List ℕ) → length v ≡ 64 → SwzOk w8 16 64 0 (zip2 bit_and v (replicate 64 15))
-low_places v long =
-    let small = Each1-all (λ a. bit_and a 15 < 16) (λ a. omega (arith, and_le_r a 15)) v in
-    SwzOk-from_below w8 16 4 64 0 (zip2 bit_and v (replicate 64 15)) refl (omega (arith, length-zip2 bit_and v (replicate 64 15) long))
-    (Each1-zip2 bit_and (λ j. j < 16) v (replicate 64 15) (Each2-splat (λ a b. bit_and a b < 16) v 64 15 small))
-
 itself : (v : List ℕ) → v ≡ map (λ x. x) v
 itself [] = refl
 itself (x ∷ v) = ap (λ t. x ∷ t) (itself v)
-
-abbrev pub same_mask : ℕ → ℕ → ℕ
-same_mask a b = cond (eqb a b) (2 ^ 8 - 1) 0
 
 -- a lane that is the octet of the table with its low bits, or `)`
 abbrev pub stop_lane : List ℕ → ℕ → ℕ
@@ -131,14 +148,6 @@ stop_bits_are octets t s alike z room fits copies look lanes agree =
     ∙ mask_l-mod (map (λ x. top 7 (stop_lane s x)) v) 64 (omega (arith, length-map v (λ x. top 7 (stop_lane s x)), long))
     ∙ ap mask_l (map_agrees (λ x. top 7 (stop_lane s x)) stops_bare v agree (chunk-fits w8 0 64 octets fits))
 
--- ---- octets looked at one by one
-
-prefix_by : (k : ℕ) (xs : List ℕ) → k ≤ length xs → AllByRecursion (λ c. stops_bare c ≡ false) (take k xs) → EndsAt stops_bare (drop k xs) → prefix_len goes_on xs ≡ k
-prefix_by zero [] within each ends = refl
-prefix_by zero (x ∷ xs) within each ends = ap (λ (b : Bool). cond (not b) (1 + prefix_len goes_on xs) 0) ends
-prefix_by (suc k) [] within each ends = absurd (omega arith)
-prefix_by (suc k) (x ∷ xs) within each ends = grind (arith, prefix_by k xs (omega arith) each.1 ends)
-
 -- the octets before one go on with the item
 abbrev pub GoesTo : List ℕ → ℕ → Type 0
 GoesTo octets seen = prefix_len goes_on octets ≡ seen + prefix_len goes_on (drop seen octets)
@@ -153,10 +162,7 @@ goes_on_64 octets ahead seen bits within room back are none so_far =
 pub stop_found : (stops : Stops) (octets ahead : List ℕ) (seen bits more : ℕ) → 64 ≤ length ahead → ahead ≡ drop seen octets → bits ≡ mask_l (map stops_bare (take 64 ahead)) → bits ≢ 0 → more ≡ count_trailing_zeros 64 bits → stops.bits ≡ bits / 2 ^ more / 2 ^ 1 → stops.unseen ≡ length ahead - 64 → GoesTo octets seen → (seen + more ≡ prefix_len goes_on octets) × Tells stops (drop (seen + more + 1) octets)
 stop_found stops octets ahead seen bits more room back are some len is unseen so_far = grind (arith, first_inside stops_bare 64 ahead room, unknown_rest stops octets ahead seen more back, tells_after stops ahead 64 more bits are)
 
-pub plain_prefix : (k : ℕ) (xs : List ℕ) → k ≤ length xs → All (λ c. stops_bare c ≡ false) (take k xs) → EndsAt stops_bare (drop k xs) → k ≡ prefix_len goes_on xs
-plain_prefix k xs within each ends = sym (prefix_by k xs within (recursion_from_All (λ c. stops_bare c ≡ false) _ each) ends)
-
-pub last_found : (stops : Stops) (octets rest : List ℕ) (seen more : ℕ) → rest ≡ drop seen octets → more ≤ length rest → All (λ c. stops_bare c ≡ false) (take more rest) → EndsAt stops_bare (drop more rest) → stops.bits ≡ 0 → stops.unseen ≡ length rest - min (length rest) (more + 1) → GoesTo octets seen → (seen + more ≡ prefix_len goes_on octets) × Tells stops (drop (seen + more + 1) octets)
-last_found stops octets rest seen more back within each ends none unseen so_far = grind (arith, plain_prefix more rest within each ends, length-drop (more + 1) rest, unknown_rest stops octets rest seen more back, common_steps)
+pub last_found : (stops : Stops) (octets rest : List ℕ) (seen more : ℕ) → rest ≡ drop seen octets → more ≤ length rest → more ≡ prefix_len goes_on rest → stops.bits ≡ 0 → stops.unseen ≡ length rest - min (length rest) (more + 1) → GoesTo octets seen → (seen + more ≡ prefix_len goes_on octets) × Tells stops (drop (seen + more + 1) octets)
+last_found stops octets rest seen more back within len none unseen so_far = grind (arith, length-drop (more + 1) rest, unknown_rest stops octets rest seen more back, common_steps)
 
 pub ruleset stop_lengths = (goes_on, known_len, prefix_len-le-length, unknown_len)

@@ -1,8 +1,7 @@
-use Rattle.std.proofs.lemmas.Nat.{and_le_r}
-use Rattle.std.proofs.lemmas.Simd.{Each1-all, Each1-zip2, Each2-splat, SwzOk-from_below, length-zip2, swz_l}
+use Rattle.std.proofs.lemmas.Simd.{swz_l}
 use Rattle.std.specs.Int.Bits.{bit_and}
-use Rattle.zone_name.proofs.Common.{Bool, List, ap, arith, bitmask_splat, chunk-fits, cond, count_ones, eqb, get_or, is_bare, is_dot, length, length-chunk, ltb, map, mask_l-mod, not, ones-mask_l, refl, replicate, splat_is_map, sym, w8, zip2_of_maps, zip2_splat, ℕ, ◌<◌, ◌∙◌, ◌≡◌}
-use Rattle.zone_name.proofs.InOctets.LookedUp.{looked_up}
+use Rattle.zone_name.proofs.Common.{Bool, List, ap, arith, bitmask_splat, chunk-fits, cond, count_ones, eqb, get_or, is_bare, is_dot, length, length-chunk, ltb, map, mask_l-mod, not, ones-mask_l, refl, replicate, splat_is_map, sym, w8, zip2_of_maps, zip2_splat, ℕ, ◌∙◌, ◌≡◌}
+use Rattle.zone_name.proofs.InOctets.LookedUp.{looked_up, low_places}
 use Rattle.zone_name.proofs.InOctets.OctetLanes.{all_pass, itself, mask_is, some_fail}
 use Rattle.zone_name.specs.declared.lanes.TheConstants.{ODD_BY_LOW_BITS}
 use Rattle.zone_name.proofs.lanes.dots_in.Goals as goal
@@ -17,11 +16,7 @@ read v long = looked_up 16 ODD_BY_LOW_BITS ODD_BY_LOW_BITS v _ long (zip2_splat 
 
 pub swizzle-alike : goal.swizzle-alike
 swizzle-alike c =
-    let v = chunk c.args.at 16 c.args.octets.now in
-    let long = length-chunk c.args.at 16 c.args.octets.now c.requires in
-    let small = Each1-all (λ a. bit_and a 15 < 16) (λ a. omega (arith, and_le_r a 15)) v in
-    SwzOk-from_below w8 16 1 16 0 (zip2 bit_and v (replicate 16 15)) refl (omega (arith, length-zip2 bit_and v (replicate 16 15) long))
-    (Each1-zip2 bit_and (λ j. j < 16) v (replicate 16 15) (Each2-splat (λ a b. bit_and a b < 16) v 16 15 small))
+    low_places 1 16 (chunk c.args.at 16 c.args.octets.now) refl (length-chunk c.args.at 16 c.args.octets.now c.requires)
 
 pub returns-then-odd-ne0-clause-none : goal.returns-then-odd-ne0-clause-none
 returns-then-odd-ne0-clause-none c =

@@ -1,6 +1,15 @@
-use Rattle.zone_text.proofs.Common.{All-more, false, stops_within, sym, ◌∙◌, ◌≡◌}
+use Rattle.zone_text.proofs.Common.{stops_bare}
+use Rattle.zone_text.proofs.Scanning.StopMarks.{is_either, stops_at_len}
 use Rattle.zone_text.proofs.items.plain_len.Goals as goal
 
-pub loop-index-preserved : goal.loop-index-preserved
-loop-index-preserved c =
-    All-more (λ d. stops_within c.args.extent d ≡ false) c.args.text.now c.loop-index.index 0 c.loop-index-test.true c.loop-index.invariant (sym c.stops_at.ensures ∙ c.if-stops_at.false)
+pub returns-in-Bare-clause-plain : goal.returns-in-Bare-clause-plain
+returns-in-Bare-clause-plain c = rw c.in-Bare.is (stops_at_len stops_bare c.args.text.now _ c.plain_bare_len.ensures.len).1
+
+pub returns-in-Bare-clause-stops : goal.returns-in-Bare-clause-stops
+returns-in-Bare-clause-stops c = rw c.in-Bare.is (stops_at_len stops_bare c.args.text.now _ c.plain_bare_len.ensures.len).2
+
+pub returns-in-Quoted-clause-plain : goal.returns-in-Quoted-clause-plain
+returns-in-Quoted-clause-plain c = rw c.in-Quoted.is (stops_at_len (is_either 34 92) c.args.text.now _ c.len_until.ensures.len).1
+
+pub returns-in-Quoted-clause-stops : goal.returns-in-Quoted-clause-stops
+returns-in-Quoted-clause-stops c = rw c.in-Quoted.is (stops_at_len (is_either 34 92) c.args.text.now _ c.len_until.ensures.len).2

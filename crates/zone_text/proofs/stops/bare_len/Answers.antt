@@ -12,4 +12,4 @@ pub loop-seen-preserved : goal.loop-seen-preserved
 loop-seen-preserved c = grind (arith, goes_on_64 c.args.octets.now c.split_at.result.1.now c.loop-seen.seen c.stop_bits-bits.result c.loop-seen.invariant.within c.loop-seen-test.true c.split_at.ensures.back c.stop_bits-bits.ensures c.if-bits-ne0.false c.loop-seen.invariant.so_far)
 
 pub returns : goal.returns
-returns c = grind (arith, last_found (record { bits = 0; unseen = length c.split_at-2.result.1.now - c.min.result }) c.args.octets.now c.split_at-2.result.1.now c.loop-seen.seen c.plain_len-more.result c.split_at-2.ensures.back c.plain_len-more.ensures.within c.plain_len-more.ensures.plain c.plain_len-more.ensures.stops refl)
+returns c = grind (arith, last_found (record { bits = 0; unseen = length c.split_at-2.result.1.now - c.min.result }) c.args.octets.now c.split_at-2.result.1.now c.loop-seen.seen c.plain_bare_len-more.result c.split_at-2.ensures.back c.plain_bare_len-more.ensures.within c.plain_bare_len-more.ensures.len refl)

@@ -1,0 +1,22 @@
+use Rattle.std.proofs.lemmas.Simd.{length-chunk}
+use Rattle.zone_text.proofs.Common.{arith}
+use Rattle.zone_text.proofs.Scanning.StopMarks.{either_mask, first_seen, is_either, none_past}
+use Rattle.zone_text.proofs.until.len_until.Goals as goal
+use lib.Lanes.{chunk}
+
+pub returns-then-bits-ne0-clause-len : goal.returns-then-bits-ne0-clause-len
+returns-then-bits-ne0-clause-len c =
+    let long = length-chunk c.loop-len.len 64 c.args.octets.now (omega (arith, c.loop-len.invariant.within, c.loop-len-test.true)) in
+    (first_seen (is_either c.args.one c.args.other) c.args.octets.now c.loop-len.len 64 _ _ (omega arith) c.loop-len-test.true
+    (either_mask c.args.one c.args.other (chunk c.loop-len.len 64 c.args.octets.now) long)
+    c.if-bits-ne0.true c.loop-len.invariant.so_far).0
+
+pub loop-len-preserved : goal.loop-len-preserved
+loop-len-preserved c =
+    let long = length-chunk c.loop-len.len 64 c.args.octets.now (omega (arith, c.loop-len.invariant.within, c.loop-len-test.true)) in
+    record {
+      within = omega (arith, c.loop-len.invariant.within, c.loop-len-test.true);
+      so_far = none_past (is_either c.args.one c.args.other) c.args.octets.now c.loop-len.len 64 _ _ c.loop-len-test.true
+          (either_mask c.args.one c.args.other (chunk c.loop-len.len 64 c.args.octets.now) long)
+          c.if-bits-ne0.false c.loop-len.invariant.so_far;
+    }
