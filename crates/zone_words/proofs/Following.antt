@@ -1,8 +1,10 @@
 -- What an entry leaves to those after it.
-use Rattle.zone_words.proofs.Common.{Bool, Entry, Inherited, IsCasedOrigin, IsInherited, IsInternetAfter, IsOneOrNone, Item, Labels, List, MatchOption, NamesOrigin, None, Option, RawItem, Some, SpellsCased, [], ap, arith, class_among, class_word, latest, length, map, option_map, option_or, origin_items, parts_after, raw, refl, sets_origin, statement_of, subst, sym, true, ℕ, ◌<◌, ◌∙◌, ◌∷◌, ◌≡◌}
+use Rattle.zone_words.proofs.Common.{Bool, Entry, Inherited, IsCasedOrigin, IsInherited, IsInternetAfter, IsOneOrNone, Item, Labels, List, MatchOption, NamesOrigin, None, Option, Parts, RawItem, Some, SpellsCased, [], ap, arith, class_among, class_word, latest, length, map, option_map, option_or, origin_items, raw, refl, sets_origin, statement_of, subst, sym, true, ℕ, ◌<◌, ◌∙◌, ◌∷◌, ◌≡◌}
 use Rattle.zone_rdata.specs.Item.{bare}
-use Rattle.zone_text.specs.PartsIn.{ArePartsIn}
 use Rattle.zone_text.specs.declared.parts.RecordParts.{RecordParts}
+use Rattle.zone_words.proofs.Turns.{no_origin}
+use Rattle.zone_words.specs.Machine.Further.{HasParts}
+use Rattle.std.specs.Prelude.{option_and_then}
 
 -- the origin after an entry, where it is a `$ORIGIN` with these items
 abbrev OriginAfter : Labels → List Entry → Option (List RawItem) → Labels → Type 0
@@ -16,10 +18,10 @@ class_next None (Some text) was is before after = subst (λ b. IsInternetAfter (
 class_next (Some text) last was is before after = after
 
 -- a record
-pub record_follows : (origin : Labels) (before : List Entry) (entry : Entry) (was next : Inherited) (items : List RawItem) (parts : RecordParts) (word : Option (List ℕ)) → next.origin ≡ was.origin → origin_items (statement_of entry) ≡ None → class_word (statement_of entry) ≡ class_among (parts_after [] items).words → ArePartsIn (parts_after [] items) parts → word ≡ option_map (λ text. text.now) parts.class → IsInternetAfter word was.is_internet next.is_internet → IsInherited origin before was → IsInherited origin (entry ∷ before) next
-record_follows origin before entry was next items parts word same other stated are is after has = record {
-  under = subst (IsOneOrNone (IsCasedOrigin origin (entry ∷ before))) (sym same) (subst (λ items. IsOneOrNone (OriginAfter origin before items) was.origin) (sym other) has.under);
-  internet = (let w : class_word (statement_of entry) ≡ word = stated ∙ are.class ∙ sym is in subst (λ t. IsInternetAfter (option_or t (latest class_word before)) true next.is_internet) (sym w) (class_next word (latest class_word before) was.is_internet next.is_internet has.internet after));
+pub record_follows : (origin : Labels) (before : List Entry) (entry : Entry) (was next : Inherited) (parts : RecordParts) (word : Option (List ℕ)) → next.origin ≡ was.origin → HasParts (statement_of entry) parts → word ≡ option_map (λ text. text.now) parts.class → IsInternetAfter word was.is_internet next.is_internet → IsInherited origin before was → IsInherited origin (entry ∷ before) next
+record_follows origin before entry was next parts word same record_has is after has = record {
+  under = subst (IsOneOrNone (IsCasedOrigin origin (entry ∷ before))) (sym same) (subst (λ items. IsOneOrNone (OriginAfter origin before items) was.origin) (sym (no_origin (statement_of entry) _ record_has.split)) has.under);
+  internet = (let w : class_word (statement_of entry) ≡ word = ap (option_and_then (λ (p : Parts). class_among p.words)) record_has.split ∙ record_has.are.class ∙ sym is in subst (λ t. IsInternetAfter (option_or t (latest class_word before)) true next.is_internet) (sym w) (class_next word (latest class_word before) was.is_internet next.is_internet has.internet after));
 }
 
 next_under : (origin : Labels) (before : List Entry) (items : List RawItem) (was found : Option Labels) → IsOneOrNone (IsCasedOrigin origin before) was → ((a b : Labels) → IsCasedOrigin origin before a → IsCasedOrigin origin before b → a ≡ b) → IsOneOrNone (λ name. (held : Labels) × (was ≡ Some held) × NamesOrigin held items name) found → IsOneOrNone (λ name. (above : Labels) × IsCasedOrigin origin before above × NamesOrigin above items name) found

@@ -13,9 +13,11 @@ use Rattle.zone_words.proofs.KeptRecords.{AlikeForms, kept_forms, leaves_too, no
 use Rattle.zone_words.specs.DataItem.{items_of}
 use Rattle.zone_words.specs.Entry.{in_words}
 use Rattle.zone_words.specs.Machine.EntryWriting.{PushesEntry}
+use Rattle.zone_words.specs.Machine.Further.{IsForm}
 use Rattle.zone_words.specs.Machine.Turn.{AreInWords, AreOfRecord, IsTurnWritten, SayAround, StandsBeside, TakesRecordsTurn, TakesTurn, TurnIs, WritesTurn, refusal_in, told_by}
 use Rattle.zone_words.specs.Table.{fields_in}
 use Rattle.zone_words.specs.Written.{in_octets}
+use Rattle.zone_words.specs.declared.entry_form.EntryForm.{EntryForm}
 use Rattle.zone_words.specs.declared.entry_writer.EntryWriter.{EntryWriter}
 use Rattle.zone_words.specs.declared.further.FurtherRecord.{FurtherRecord}
 use Rattle.zone_words.specs.declared.refusal.Refusal.{Refusal}
@@ -467,11 +469,11 @@ told_is (turns.Refused told_of) = refl
 told_is (turns.Renamed around) = refl
 told_is (turns.InOctets around) = refl
 
-pub entry_pushed : (octets : List ℕ) (kept_items : List RawItem) (old new : EntryWriter) (form : Statement) (turn : Turn) (stated : EntryData) → form ≡ statement_by (slice_get octets 0) kept_items → ((origin : Labels) (before : List Entry) (entry : Entry) → IsInherited origin before old.inherited → statement_of entry ≡ form → IsInherited origin (entry ∷ before) new.inherited) → TakesTurn octets kept_items old.line new.inherited stated turn → WritesTurn octets stated turn old.written.items new.written.items → AddsTold (option_to_list (option_map refused_of (refusal_in turn))) old.refusals new.refusals → new.line ≡ old.line + count_by (λ c. c == 10) octets → PushesEntry octets kept_items old new
+pub entry_pushed : (octets : List ℕ) (kept_items : List RawItem) (old new : EntryWriter) (form : EntryForm) (turn : Turn) (stated : EntryData) → IsForm (statement_by (slice_get octets 0) kept_items) form → ((origin : Labels) (before : List Entry) (entry : Entry) → IsInherited origin before old.inherited → IsForm (statement_of entry) form → IsInherited origin (entry ∷ before) new.inherited) → TakesTurn octets kept_items old.line new.inherited stated turn → WritesTurn octets stated turn old.written.items new.written.items → AddsTold (option_to_list (option_map refused_of (refusal_in turn))) old.refusals new.refusals → new.line ≡ old.line + count_by (λ c. c == 10) octets → PushesEntry octets kept_items old new
 entry_pushed octets kept_items old new form turn stated is follows takes writes adds lines origin before all_tokens has cut are =
     let kept_entry : Entry = record { line = old.line; first = slice_get octets 0; items = kept_items } in
     let alike = kept_forms octets all_tokens old.line kept_items cut are in
-    let left = leaves_too origin before (entry_of old.line all_tokens) kept_entry (length (flat_map item_of all_tokens)) new.inherited alike (follows origin before kept_entry has (sym is)) in
+    let left = leaves_too origin before (entry_of old.line all_tokens) kept_entry (length (flat_map item_of all_tokens)) new.inherited alike (follows origin before kept_entry has is) in
     let out = writes origin before old.line all_tokens cut (takes origin before all_tokens left cut are) in
     record {
       outcome = out.outcome;

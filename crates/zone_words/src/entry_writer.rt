@@ -4,13 +4,14 @@ ghost use Rattle.zone_rdata.specs.Item.{raw};
 ghost use Rattle.zone_words.specs.Machine.EntryWriting.{PushesEntry};
 ghost use Rattle.zone_words.specs.Inherited.{IsInherited};
 
+use crate::entry_form::form_of;
 use crate::inherited::Inherited;
 use crate::refusal::Refusals;
 use crate::turn::{EntryData, turn_of};
 use std::alloc::{AllocError, Global};
 use zone_name::CasedName;
 use zone_rdata::Item;
-use zone_text::{line_feeds, statement_of};
+use zone_text::line_feeds;
 
 /// What is written for entries, and what they leave to those after them.
 #[derive(Drop)]
@@ -80,11 +81,13 @@ impl EntryWriter {
         ensures written { OnErr result (self.new.written.items ≡ self.old.written.items) }
         ensures refusals { OnErr result (self.new.refusals ≡ self.old.refusals) }
     {
-        self.inherited.follow(statement_of(entry, items));
+        let form = form_of(entry, items);
+        self.inherited.follow(form);
         let turn = turn_of(
             self.alloc,
             entry,
             items,
+            form,
             self.line,
             &self.inherited,
             &mut self.stated,

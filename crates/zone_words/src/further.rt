@@ -1,19 +1,20 @@
 //! The records of further types among the entries of a master file (RFC 1035 5.1).
 ghost use Rattle.std.specs.List.{count_by};
-ghost use Rattle.std.specs.Prelude.{◌≡◌, ◌↔◌, ◌==◌, IsTrue, IfSome, IfNone, Some, [], map};
+ghost use Rattle.std.specs.Prelude.{◌≡◌, ◌↔◌, ◌==◌, IsTrue, IfSome, IfNone, List, Some, [], map};
 ghost use Rattle.zone_name.specs.Name.{folded_label};
-ghost use Rattle.zone_rdata.specs.Item.{raw};
-ghost use Rattle.zone_text.specs.Stated.{statement_in};
-ghost use Rattle.zone_text.specs.Statements.{Parts, parts_after, parts_in};
+ghost use Rattle.zone_rdata.specs.Item.{RawItem, raw};
+ghost use Rattle.zone_text.specs.PartsIn.{ArePartsIn};
+ghost use Rattle.zone_text.specs.Statements.{Parts, Statement, parts_after, parts_in};
 ghost use Rattle.zone_words.specs.Entry.{AreOnOneLine, line_feeds_in};
-ghost use Rattle.zone_words.specs.Machine.Further.{FindsParts, NoneIsFurther};
+ghost use Rattle.zone_words.specs.Machine.Further.{FindsParts, IsForm, NoneIsFurther};
 ghost use Rattle.zone_words.specs.Refusal.{refused_of};
 
+use crate::entry_form::EntryForm;
 use crate::fault::WordsFault;
 use crate::refusal::Refusal;
 use crate::table::{FurtherType, further_type_of};
 use zone_rdata::{Item, is_word};
-use zone_text::{Statement, record_parts, split_bare};
+use zone_text::{RecordParts, split_bare};
 
 /// A record of a further type: its row of the table, the type's word and the items of the data.
 #[derive(Clone, Copy)]
@@ -23,15 +24,16 @@ pub(crate) struct FurtherRecord<'i, 't> {
     pub(crate) items: &'i [Item<'t>],
 }
 
-/// The record of a further type that the items after an owner are, where the class that holds is IN
+/// The record of a further type that the parts after an owner are, where the class that holds is IN
 /// or isn't. `None`: they are none.
-fn record_of<'i, 't>(items: &'i [Item<'t>], is_internet: bool) -> Option<FurtherRecord<'i, 't>>
-    ensures found { IfSome result
-        (FindsParts (parts_after [] (map raw items.now)) is_internet) }
-    ensures none { IfNone result
-        (NoneIsFurther (parts_after [] (map raw items.now)) is_internet) }
+fn record_of<'i, 't>(parts: RecordParts<'i, 't>, is_internet: bool) -> Option<FurtherRecord<'i, 't>>
+    ensures found { IfSome result (λ found. (items : List RawItem)
+        → ArePartsIn (parts_after [] items) parts.entry
+        → FindsParts (parts_after [] items) is_internet found) }
+    ensures none { IfNone result ((items : List RawItem)
+        → ArePartsIn (parts_after [] items) parts.entry
+        → NoneIsFurther (parts_after [] items) is_internet) }
 {
-    let parts = record_parts(items);
     if !parts.have_values() {
         return None;
     }
@@ -51,24 +53,22 @@ fn record_of<'i, 't>(items: &'i [Item<'t>], is_internet: bool) -> Option<Further
     })
 }
 
-/// The record of a further type that a statement is, where the class that holds is IN or isn't.
-/// `None`: it is none.
+/// The record of a further type that an entry is, where the class that holds is IN or isn't. `None`:
+/// it is none.
 pub(crate) fn further_record<'i, 't>(
-    statement: Statement<'i, 't>,
+    form: EntryForm<'i, 't>,
     is_internet: bool,
 ) -> Option<FurtherRecord<'i, 't>>
-    ensures found { IfSome result (λ found. (parts : Parts)
-        × (parts_in (statement_in statement.entry) ≡ Some parts)
+    ensures found { IfSome result (λ found. (stated : Statement) → IsForm stated form.entry
+        → (parts : Parts) × (parts_in stated ≡ Some parts)
         × FindsParts parts is_internet found) }
-    ensures none { IfNone result ((parts : Parts)
-        → parts_in (statement_in statement.entry) ≡ Some parts
-        → NoneIsFurther parts is_internet) }
+    ensures none { IfNone result ((stated : Statement) → IsForm stated form.entry
+        → (parts : Parts) → parts_in stated ≡ Some parts → NoneIsFurther parts is_internet) }
 {
-    match statement {
-        Statement::Blank => None,
-        Statement::Directive(_) => None,
-        Statement::Owned(_, items) => record_of(items, is_internet),
-        Statement::Unowned(items) => record_of(items, is_internet),
+    match form {
+        EntryForm::Blank => None,
+        EntryForm::Directive(_) => None,
+        EntryForm::Record(parts) => record_of(parts, is_internet),
     }
 }
 

@@ -6,19 +6,20 @@ ghost use Rattle.zone_rdata.specs.Item.{raw};
 ghost use Rattle.zone_rdata.specs.Table.{in_class};
 ghost use Rattle.zone_rdata.specs.Words.{IsClassWord};
 ghost use Rattle.zone_text.specs.Entries.{Entry};
-ghost use Rattle.zone_text.specs.Inherited.{class_word};
-ghost use Rattle.zone_text.specs.Stated.{directive_in, statement_in};
-ghost use Rattle.zone_text.specs.Statements.{class_among, parts_after, statement_of};
+ghost use Rattle.zone_text.specs.Stated.{directive_in};
+ghost use Rattle.zone_text.specs.Statements.{statement_of};
 ghost use Rattle.zone_words.specs.Origin.{NamesOrigin, origin_items};
+ghost use Rattle.zone_words.specs.Machine.Further.{HasParts, IsForm};
 ghost use Rattle.zone_words.specs.Inherited.{
   IsInherited,
   IsInternetAfter,
   IsOneOrNone,
 };
 
+use crate::entry_form::EntryForm;
 use zone_name::CasedName;
 use zone_rdata::{Class, Item};
-use zone_text::{Directive, Statement, record_parts, split_bare};
+use zone_text::{Directive, RecordParts, split_bare};
 
 /// The origin and the class that hold for the next entry.
 #[derive(Debug, Drop)]
@@ -108,32 +109,28 @@ impl Inherited {
         }
     }
 
-    /// Takes what a record leaves, of which these are the items after the owner.
+    /// Takes what a record leaves, of which these are the parts after the owner.
     #[tactic(auto, using(crate::proofs::Following::record_follows))]
-    fn follow_record(&mut self, items: &[Item])
+    fn follow_record(&mut self, parts: RecordParts)
         ensures { (origin : Labels) (before : List Entry) (entry : Entry)
             → IsInherited origin before self.old
-            → origin_items (statement_of entry) ≡ None
-            → class_word (statement_of entry)
-            ≡ class_among (parts_after [] (map raw items.now)).words
+            → HasParts (statement_of entry) parts.entry
             → IsInherited origin (entry ∷ before) self.new }
     {
-        let parts = record_parts(items);
         self.is_internet = stays_internet(parts.class, self.is_internet);
     }
 
-    /// Takes what the entry of a statement leaves.
-    pub(crate) fn follow(&mut self, statement: Statement)
+    /// Takes what an entry leaves.
+    pub(crate) fn follow(&mut self, form: EntryForm)
         ensures { (origin : Labels) (before : List Entry) (entry : Entry)
             → IsInherited origin before self.old
-            → statement_of entry ≡ statement_in statement.entry
+            → IsForm (statement_of entry) form.entry
             → IsInherited origin (entry ∷ before) self.new }
     {
-        match statement {
-            Statement::Blank => {}
-            Statement::Directive(directive) => self.follow_directive(directive),
-            Statement::Owned(_, items) => self.follow_record(items),
-            Statement::Unowned(items) => self.follow_record(items),
+        match form {
+            EntryForm::Blank => {}
+            EntryForm::Directive(directive) => self.follow_directive(directive),
+            EntryForm::Record(parts) => self.follow_record(parts),
         }
     }
 }

@@ -5,6 +5,7 @@
 mod cut;
 mod data;
 mod data_item;
+mod entry_form;
 mod entry_writer;
 mod fault;
 mod fault_text;

@@ -1,11 +1,15 @@
 //! What becomes of an entry of a master file (RFC 1035 5.1, RFC 3597 5).
 ghost use Rattle.std.specs.Prelude.{◌≡◌, ℕ, ◌<◌, length, map, IfOk, OnOk, OnErr};
+ghost use Rattle.std.specs.List.{slice_get};
 ghost use Rattle.zone_name.specs.Common.{Labels};
 ghost use Rattle.zone_rdata.specs.Item.{raw, IsGeneric};
+ghost use Rattle.zone_text.specs.Statements.{statement_by};
+ghost use Rattle.zone_words.specs.Machine.Further.{IsForm};
 ghost use Rattle.zone_words.specs.Machine.Turn.{AreInWords, StandsBeside, TakesRecordsTurn, TakesTurn, WritesTurn, refusal_in};
 ghost use Rattle.zone_words.specs.declared.turn.EntryData.{EntryData};
 
 use crate::data::{DataFailing, read_data};
+use crate::entry_form::EntryForm;
 use crate::fault::WordsFault;
 use crate::further::{FurtherRecord, are_on_one_line, further_record};
 use crate::inherited::Inherited;
@@ -15,7 +19,7 @@ use crate::writing::Around;
 use std::alloc::{AllocError, Global};
 use zone_name::CasedName;
 use zone_rdata::{Item, is_generic};
-use zone_text::{MOST_ITEMS, statement_of};
+use zone_text::MOST_ITEMS;
 
 /// What becomes of an entry.
 #[derive(Clone, Copy, Debug)]
@@ -126,8 +130,9 @@ fn turn_of_record<'e>(
     turn_in_words(alloc, entry, items, found, line, above, stated)
 }
 
-/// What becomes of the entry on a line, of which these items are kept, where it leaves this to the
-/// entries after it. The data that it states is put in place of what `stated` held.
+/// What becomes of the entry on a line, of which these items are kept and which is of this form,
+/// where it leaves this to the entries after it. The data that it states is put in place of what
+/// `stated` held.
 ///
 /// # Errors
 ///
@@ -136,15 +141,16 @@ pub(crate) fn turn_of<'e>(
     alloc: Global,
     entry: &'e [u8],
     items: &[Item<'e>],
+    form: EntryForm<'_, 'e>,
     line: u64,
     left: &Inherited,
     stated: &mut EntryData,
 ) -> Result<Turn<'e>, AllocError>
+    requires { IsForm (statement_by (slice_get entry.now 0) (map raw items.now)) form }
     ensures { IfOk result
         (TakesTurn entry.now (map raw items.now) line left.now stated.new) }
 {
-    let statement = statement_of(entry, items);
-    let Some(found) = further_record(statement, left.is_internet) else {
+    let Some(found) = further_record(form, left.is_internet) else {
         return Ok(Turn::Stays);
     };
     match &left.origin {

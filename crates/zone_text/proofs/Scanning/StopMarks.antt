@@ -79,8 +79,6 @@ either_mask one other v long =
     ∙ mask_l-mod (map (λ x. top 7 (f x)) v) 64 (omega (arith, length-map v (λ x. top 7 (f x)), long))
     ∙ ap mask_l (map_same (λ x. top 7 (f x)) (is_either one other) v (λ x. either_bits (x == one) (x == other)))
 
-
-
 abbrev pub goes_on : ℕ → Bool
 goes_on c = not (stops_bare c)
 

@@ -1,13 +1,30 @@
 -- The records of further types, as the code finds them.
-use Rattle.std.specs.Prelude.{◌≡◌, ◌↔◌, ℕ, ◌<◌, Bool, true, List, ◌∷◌, length, map}
+use Rattle.std.specs.Prelude.{◌≡◌, ◌↔◌, ℕ, ◌<◌, Bool, true, List, [], ◌∷◌, length, map, Some}
 use Rattle.std.specs.List.{AllByRecursion}
 use Rattle.zone_rdata.specs.Item.{RawItem, bare, raw, IsGeneric}
 use Rattle.zone_text.specs.Entries.{Entry}
 use Rattle.zone_text.specs.Records.{HasValue}
-use Rattle.zone_text.specs.Statements.{Parts}
+use Rattle.zone_text.specs.PartsIn.{ArePartsIn}
+use Rattle.zone_text.specs.Stated.{directive_in}
+use Rattle.zone_text.specs.Statements.{Parts, Statement, no_items, parts_after, parts_in}
+use Rattle.zone_text.specs.declared.parts.RecordParts.{RecordParts}
 use Rattle.zone_words.specs.Entry.{IsFurtherRecord, most_items}
 use Rattle.zone_words.specs.Table.{FurtherType, IsFurtherWord, further_of}
+use Rattle.zone_words.specs.declared.entry_form.EntryForm.{EntryForm}
+use Rattle.zone_words.specs.declared.entry_form.EntryForm.TheVariants as forms
 use Rattle.zone_words.specs.declared.further.FurtherRecord.{FurtherRecord}
+
+-- these are the parts of the record that a statement is
+pub record HasParts (form : Statement) (read : RecordParts) : Type 0 where
+  pub items : List RawItem
+  pub split : parts_in form ≡ Some (parts_after [] items)
+  pub are : ArePartsIn (parts_after [] items) read
+
+-- what the code has of a statement
+abbrev pub IsForm : Statement → EntryForm → Type 0
+IsForm form forms.Blank = form ≡ no_items
+IsForm form (forms.Directive read) = form ≡ directive_in read
+IsForm form (forms.Record read) = HasParts form read
 
 -- the parts of a record of a further type, where the class that holds is IN or isn't
 pub record AreFurtherParts (parts : Parts) (is_internet : Bool) (word : List ℕ)

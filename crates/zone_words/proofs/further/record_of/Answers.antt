@@ -4,8 +4,8 @@ use Rattle.zone_words.proofs.FurtherWords.{further_word_once}
 use Rattle.zone_words.proofs.further.record_of.Goals as goal
 
 pub returns-then-not-is_internet-clause-none : goal.returns-then-not-is_internet-clause-none
-returns-then-not-is_internet-clause-none c word items further are =
-    let e : bare c.in-Some.word.now ∷ map raw c.in-Some.after.now ≡ bare word ∷ items = sym c.in-Some.ensures.found ∙ sym c.record_parts-parts.ensures.rest ∙ are.from_type in
+returns-then-not-is_internet-clause-none c all read word items further are =
+    let e : bare c.in-Some.word.now ∷ map raw c.in-Some.after.now ≡ bare word ∷ items = sym c.in-Some.ensures.found ∙ sym read.rest ∙ are.from_type in
     let h : bare c.in-Some.word.now ≡ bare word = cc e in
     let w : c.in-Some.word.now ≡ word = cc h in
     let same : further_of c.in-Some-further_type_of.further.now ≡ further = further_word_once word _ further (subst (λ t. IsFurtherWord t (further_of c.in-Some-further_type_of.further.now)) w c.in-Some-further_type_of.ensures.found) are.named in
