@@ -112,11 +112,12 @@ fn run_stands(octets: &[u8], entries: &[Entry]) -> bool {
     stand
 }
 
-/// Whether a record stands at a place, told by its owner's length, which is never 0.
+/// Whether a record stands at a place, told by the root's label at the end of its owner. So the lines
+/// of the cache are asked for in which the owner begins and ends.
 fn stands(octets: &[u8], at: usize) -> bool {
-    // `tie::stored_at` tells it by the whole head, in half as much again: three loads for one.
+    // `tie::stored_at` tells it by the whole head, in half as much again.
     match octets.get(at.wrapping_add(6)) {
-        Some(owner_len) => *owner_len != 0,
+        Some(owner_len) => octets.get(at.wrapping_add(8 + *owner_len as usize)) == Some(&0),
         None => false,
     }
 }
