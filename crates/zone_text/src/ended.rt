@@ -5,6 +5,7 @@ ghost use Rattle.zone_text.specs.ParserState.{IsStateAfter};
 ghost use Rattle.zone_text.specs.Machine.Feeding.{ReadsOctets};
 ghost use Rattle.zone_text.specs.Kept.{KeepsItems};
 
+use crate::feeds::line_feeds;
 use crate::items::cut_items;
 use crate::parser_state::ParserState;
 use crate::stops::Stops;
@@ -22,18 +23,6 @@ pub(crate) struct EndedEntries {
     pub(crate) state: ParserState,
     /// The line after them.
     pub(crate) line: u64,
-}
-
-/// How many line feeds the octets have.
-pub fn line_feeds(octets: &[u8]) -> usize
-    ensures count { result ≡ count_by (λ c. c == 10) octets.now }
-    ensures few { result ≤ length octets.now }
-{
-    match octets.split_last() {
-        // Most entries are one line. This looks at many octets at once.
-        Some((b'\n', front)) if !front.contains(&b'\n') => 1,
-        _ => octets.iter().filter(|octet| **octet == b'\n').count(),
-    }
 }
 
 /// Puts the items of a whole entry, which is known to be cut into tokens, in place of what `items`

@@ -7,6 +7,7 @@ mod comment;
 mod ended;
 mod entry;
 pub mod examples;
+mod feeds;
 mod items;
 pub mod laws;
 mod open_entry;
@@ -23,8 +24,8 @@ mod until;
 mod walk;
 mod words;
 
-pub use ended::line_feeds;
 pub use entry::{FirstEntry, entry_items, first_entry, first_token};
+pub use feeds::line_feeds;
 pub use items::{MOST_ITEMS, is_blank};
 pub use open_entry::{EntryState, OpenEntry, Taken};
 pub use parts::{RecordParts, record_parts, ttl_of};

@@ -9,7 +9,7 @@ ghost use Rattle.zone_text.specs.Machine.Walk.{IsMark, IsWalked, KeepsToken, Sta
 ghost use Rattle.zone_text.specs.OpenEntry.{EndIs};
 ghost use Rattle.zone_text.specs.Tokens.{is_blank};
 
-use crate::ended::line_feeds;
+use crate::feeds::line_feeds;
 use crate::items::keep;
 use crate::stops::Stops;
 use crate::token::{Span, item_of, token_span};

@@ -1,6 +1,6 @@
 use Rattle.zone_text.proofs.Common.{[], ap, arith, count_by, sym, ◌++◌, ◌==◌, ◌∙◌, ◌∷◌, ◌≡◌}
 use Rattle.zone_text.proofs.Scanning.FirstEntries.{feeds_of_both, none_of_any}
-use Rattle.zone_text.proofs.ended.line_feeds.Goals as goal
+use Rattle.zone_text.proofs.feeds.line_feeds.Goals as goal
 
 pub returns-in-Some-eq10-default-clause-count : goal.returns-in-Some-eq10-default-clause-count
 returns-in-Some-eq10-default-clause-count c =
