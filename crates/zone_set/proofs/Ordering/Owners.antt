@@ -1,6 +1,7 @@
 -- Owners whose first labels tell how they lie.
-use Rattle.zone_set.proofs.Common.{append_assoc, drop, flat_map, length, refl, take, wire, zero, ◌+◌, ◌<◌, ◌≤◌, arith, AreFirst, Equal, Greater, IsFirst, Less, List, [], ap, ap₂, map, label_cmp, name_cmp, name_cmp-total, nat_cmp, ordering_reverse, Ordering, ordering_then, reverse, reverse-append, slice_cmp, slice_index_or, subst, sym, take-append-drop, then_equal, ℕ, ◌∙◌, ◌∷◌, ◌++◌, ◌≡◌, ◌≢◌}
-use Rattle.zone_name.proofs.InOctets.Octets.{labels_of-cons}
+use Rattle.zone_set.proofs.Common.{append_assoc, drop, flat_map, length, refl, take, wire, ◌≤◌, arith, AreFirst, Equal, Greater, IsFirst, Less, List, [], ap, ap₂, map, label_cmp, name_cmp, name_cmp-total, nat_cmp, nil_from_length, ordering_reverse, Ordering, ordering_then, reverse, reverse-append, slice_cmp, slice_index_or, subst, sym, take-append-drop, then_equal, ℕ, ◌∙◌, ◌∷◌, ◌++◌, ◌≡◌, ◌≢◌}
+use Rattle.zone_name.proofs.InOctets.Octets.{labels_of-cons, labels_of-open}
+pub use Rattle.zone_name.proofs.InOctets.Octets.{root_label}
 use Rattle.std.proofs.Math.Seq.{drop-append_seam, take-append_seam}
 use Rattle.zone_name.specs.Common.{each_after}
 use Rattle.zone_name.specs.Name.{labels_of, with_length}
@@ -8,8 +9,14 @@ use Rattle.zone_set.proofs.Ordering.Within.{same_ending}
 use Rattle.zone_set.specs.Machine.Owner.{IsAfterLabels, IsEndOf, IsLabelBefore}
 
 -- the first label, and those that follow it
-labels_of-first : (octets label rest : List ℕ) → IsFirst octets label rest → labels_of octets ≡ label ∷ labels_of rest
+pub labels_of-first : (octets label rest : List ℕ) → IsFirst octets label rest → labels_of octets ≡ label ∷ labels_of rest
 labels_of-first octets label rest first = grind (arith, labels_of-cons)
+
+-- there is none where no octet is, nor at the root
+pub none_of_empty : (octets : List ℕ) → length octets ≡ 0 → labels_of octets ≡ []
+none_of_empty octets none = ap labels_of (nil_from_length octets none) ∙ labels_of-open [] tt
+
+pub ruleset without_labels = (none_of_empty, root_label)
 
 -- the same labels follow both, so the first tell the order
 pub order_of_first : (a b label other : List ℕ) → AreFirst a b label other → slice_cmp nat_cmp label other ≡ name_cmp (labels_of a) (labels_of b)
