@@ -4,12 +4,9 @@ use Rattle.std.specs.Prelude.{◌&&◌}
 use Rattle.std.specs.Ordering.{is_eq}
 use Rattle.zone_set.proofs.Ordering.Within.{below_after}
 use Rattle.zone_set.proofs.Holding.Together.{each_Has, each_from_Has, soa_first}
-use Rattle.zone_set.proofs.Ordering.SetOrder.{canonical_total}
+use Rattle.zone_set.proofs.Ordering.SetOrder.{canonical_total, data_total}
 use Rattle.zone_digest.specs.Machine.Walk.{by_owner, goes_before, put_soa}
 use Rattle.zone_digest.specs.Digest.{AscendsByOwner, digest_cmp}
-
-pub data_total : IsTotalOrder data_cmp
-data_total = then_total (on_total (λ d. d.class) nat_cmp_total) (then_total (on_total (λ d. d.kind) nat_cmp_total) (on_total (λ d. d.octets) nat_list_cmp_total))
 
 pub digest_total : IsTotalOrder digest_cmp
 digest_total = then_total (on_total (λ r. r.owner) name_cmp-total) (on_total data_of data_total)

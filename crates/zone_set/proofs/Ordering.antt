@@ -1,4 +1,5 @@
 -- The canonical order, and what stands together in it.
+pub mod Ascending
 pub mod Between
 pub mod Interval
 pub mod Neighbours

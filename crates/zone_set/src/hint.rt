@@ -1,7 +1,7 @@
-ghost use Rattle.std.specs.Prelude.{◌≡◌, ◌<◌, ◌≤◌, ◌++◌, ◌∷◌, ◌^◌, [], length, take, List, ℕ, IfNone, IfSome};
+ghost use Rattle.std.specs.Prelude.{◌≡◌, ◌≢◌, ◌↔◌, ◌<◌, ◌≤◌, ◌+◌, ◌++◌, ◌∷◌, ◌^◌, [], length, take, List, ℕ, IfNone, IfSome, IsTrue};
 ghost use Rattle.zone_name.specs.Name.{IsWithin};
 ghost use Rattle.zone_set.specs.Machine.Hint.{first_digits, GathersOnes, IsHint, IsPutBefore};
-ghost use Rattle.zone_set.specs.Machine.LabelKey.{label_key, longer_digit, octets_key, owner_key};
+ghost use Rattle.zone_set.specs.Machine.LabelKey.{hexadecimals_below, label_key, longer_digit, octets_key, owner_key};
 
 use crate::order::are_same;
 use crate::owner::{first_label, past_far};
@@ -129,12 +129,21 @@ fn seven_alone(octets: &[u8; 14]) -> Option<u64>
 fn alone_digit(octet: u8) -> Option<u64>
     ensures digit { IfSome result (λ digit. label_key (octet ∷ []) ≡ digit ∷ []) }
     ensures low { IfSome result (λ digit. digit < 273) }
+    ensures none { IfNone result (label_key (octet ∷ []) ≡ longer_digit octet ∷ (0 ∷ [])) }
 {
-    match octet {
-        b'0'..=b'9' => Some(2 * octet as u64 - 47),
-        b'a'..=b'f' => Some(2 * octet as u64 - 86),
-        _ => None,
+    if is_hexadecimal(octet) {
+        Some(longer_digit(octet) - 1)
+    } else {
+        None
     }
+}
+
+/// Whether an octet is a hexadecimal digit in lower case.
+#[inline(always)]
+pub(crate) fn is_hexadecimal(octet: u8) -> bool
+    ensures { IsTrue result ↔ (hexadecimals_below octet ≢ hexadecimals_below (octet + 1)) }
+{
+    matches!(octet, b'0'..=b'9' | b'a'..=b'f')
 }
 
 /// Puts a label and its end before the digits of a number.
@@ -170,15 +179,15 @@ fn seven_digits(front: &[u8; 7]) -> u64
 fn put_alone(octet: u8, after: u64) -> u64
     ensures { IsPutBefore (label_key (octet ∷ [])) after result }
 {
-    match octet {
-        b'0'..=b'9' | b'a'..=b'f' => put_digit(longer_digit(octet) - 1, after),
-        _ => put_two(longer_digit(octet), 0, after),
+    match alone_digit(octet) {
+        Some(digit) => put_digit(digit, after),
+        None => put_two(longer_digit(octet), 0, after),
     }
 }
 
 /// The digit of an octet that begins a label and that others follow.
 #[inline(always)]
-fn longer_digit(octet: u8) -> u64
+pub(crate) fn longer_digit(octet: u8) -> u64
     ensures { result ≡ longer_digit octet }
 {
     LONGER_DIGITS[octet as usize] as u64

@@ -3,7 +3,7 @@ ghost use Rattle.std.specs.List.Sorted.{IsPermutation};
 ghost use Rattle.zone_set.specs.Machine.Bulk.{with_hint};
 
 use crate::entry::Entry;
-use crate::hint::is_within;
+use crate::hint::{is_hexadecimal, is_within, longer_digit};
 use crate::owner::{first_label, past_far, shared_end};
 use crate::tie::{StoredParts, entry_order, stored_at};
 
@@ -239,26 +239,13 @@ fn key_of(octets: &[u8], at: usize, front: usize, digit: usize) -> u64 {
 fn put_hexadecimals(labels: &[u8], digit: usize, after: u64) -> (&[u8], u64) {
     let (mut left, mut key) = (labels, after);
     while let [len, octet, rest @ ..] = left {
-        if *len != 1 || rest.len() <= digit {
+        if *len != 1 || rest.len() <= digit || !is_hexadecimal(*octet) {
             break;
         }
-        let Some(first) = hexadecimal_digit(*octet) else {
-            break;
-        };
-        key = put_digit(first, key);
+        key = put_digit(leading_digit(*octet) - 1, key);
         left = rest;
     }
     (left, key)
-}
-
-/// The digit of a label that is a hexadecimal digit, as `leading_digit` has it.
-#[inline(always)]
-fn hexadecimal_digit(octet: u8) -> Option<u8> {
-    match octet {
-        b'0'..=b'9' => Some(49 + 2 * (octet - b'0')),
-        b'a'..=b'f' => Some(82 + 2 * (octet - b'a')),
-        _ => None,
-    }
 }
 
 /// Eight of the digits from one on, and none before the owner's end.
@@ -291,32 +278,23 @@ fn put_label(label: &[u8], from: usize, after: u64) -> u64 {
         return put_octets(label, from, after >> 8);
     }
     match label {
-        [octet] if is_hexadecimal(*octet) => put_digit(leading_digit(*octet), after),
-        [octet, ..] if is_hexadecimal(*octet) => {
-            put_digit(leading_digit(*octet) + 1, put_octets(label, 1, after >> 8))
-        }
+        [octet] if is_hexadecimal(*octet) => put_digit(leading_digit(*octet) - 1, after),
         [octet, ..] => put_digit(leading_digit(*octet), put_octets(label, 1, after >> 8)),
         [] => after >> 8,
     }
 }
 
-/// Whether an octet is a hexadecimal digit in lower case.
-fn is_hexadecimal(octet: u8) -> bool {
-    matches!(octet, b'0'..=b'9' | b'a'..=b'f')
-}
-
-/// The digit of an octet that begins a label. One that is hexadecimal leaves room for that of a label
-/// that has more octets, since its own label has no end.
+/// The digit of an octet that begins a label and that others follow: a hint's, less the capital
+/// letters. A label of one hexadecimal digit has the digit before it, and no end.
+#[inline(always)]
 fn leading_digit(octet: u8) -> u8
-    ensures { result < 255 }
+    ensures { 0 < result }
 {
-    match octet {
-        ..b'0' => octet + 1,
-        b'0'..=b'9' => 49 + 2 * (octet - b'0'),
-        b':'..=b'@' => octet + 11,
-        b'A'..=b'`' => octet - 15,
-        b'a'..=b'f' => 82 + 2 * (octet - b'a'),
-        b'g'.. => octet - 9,
+    let digit = longer_digit(octet);
+    if octet < b'[' {
+        digit as u8
+    } else {
+        (digit - 26) as u8
     }
 }
 

@@ -81,7 +81,7 @@ fn order_by_owner(rr: &RrRef<'_>, other: &RrRef<'_>) -> Ordering
     ensures { result ≡ ordering_then (name_cmp rr.now.owner other.now.owner)
         (data_cmp (data_of (record_of rr.now)) (data_of (record_of other.now))) }
 {
-    match owner_order(&rr.owner, &other.owner) {
+    match owner_order(rr.owner.wire(), other.owner.wire()) {
         Ordering::Equal => match rr.kind.number().cmp(&other.kind.number()) {
             Ordering::Equal => octet_order(rr.rdata.octets(), other.rdata.octets()),
             kinds => kinds,

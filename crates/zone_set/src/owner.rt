@@ -1,4 +1,4 @@
-ghost use Rattle.std.specs.Prelude.{◌≡◌, ◌<◌, ◌≤◌, ◌∷◌, ◌⊎◌, List, ℕ, length, take, IfNone, IfSome, IsTrue};
+ghost use Rattle.std.specs.Prelude.{◌≡◌, ◌<◌, ◌≤◌, ◌⊎◌, [], List, ℕ, drop, length, take, IfNone, IfSome, IsTrue};
 ghost use Rattle.zone_name.specs.Common.{each_after};
 ghost use Rattle.zone_name.specs.Name.{labels_of, wire};
 ghost use Rattle.zone_name.specs.Order.{name_cmp};
@@ -7,24 +7,69 @@ ghost use Rattle.zone_set.specs.Machine.Owner.{AreFirst, IsAfterLabels, IsEndOf,
 use crate::order::{are_same, octet_order};
 use std::cmp::Ordering;
 use std::simd::prelude::*;
-use zone_name::NameRef;
 
-/// How owners lie.
-pub(crate) fn owner_order(owner: &NameRef<'_>, other: &NameRef<'_>) -> Ordering
-    ensures { result ≡ name_cmp owner.now other.now }
+/// How owners lie, by the labels of their octets from the right (RFC 4034 6.1). Any octets have some.
+pub(crate) fn owner_order(a: &[u8], b: &[u8]) -> Ordering
+    ensures { result ≡ name_cmp (labels_of a.now) (labels_of b.now) }
 {
-    match order_by_first_label(owner.wire(), other.wire()) {
+    match order_by_first_label(a, b) {
         Some(order) => order,
-        None => match order_by_end(owner.wire(), other.wire()) {
+        None => match order_by_end(a, b) {
             Some(order) => order,
-            None => owner.cmp(other),
+            None => order_by_labels(a, b),
         },
     }
 }
 
+/// How owners lie, label by label.
+#[inline(never)]
+fn order_by_labels(a: &[u8], b: &[u8]) -> Ordering
+    ensures { result ≡ name_cmp (labels_of a.now) (labels_of b.now) }
+{
+    let (len, other_len) = (label_count(a), label_count(b));
+    let mut labels = past(a, len.saturating_sub(other_len));
+    let mut others = past(b, other_len.saturating_sub(len));
+    // The rightmost pair that differs decides, and else the number of labels.
+    let mut order = len.cmp(&other_len);
+    while let (Some((label, rest)), Some((other, more))) = (
+        first_label(labels),
+        first_label(others),
+    ) {
+        order = label.cmp(other).then(order);
+        labels = rest;
+        others = more;
+    }
+    order
+}
+
+/// How many labels there are.
+fn label_count(octets: &[u8]) -> usize
+    ensures { result ≡ length (labels_of octets.now) }
+{
+    let (mut left, mut count) = (octets, 0);
+    while let Some((_, rest)) = first_label(left) {
+        left = rest;
+        count += 1;
+    }
+    count
+}
+
+/// What follows so many labels.
+fn past(octets: &[u8], count: usize) -> &[u8]
+    ensures { labels_of result.now ≡ drop count (labels_of octets.now) }
+{
+    let mut left = octets;
+    for _ in 0..count {
+        if let Some((_, rest)) = first_label(left) {
+            left = rest;
+        }
+    }
+    left
+}
+
 /// How owners lie, by the labels before the octets that end both, if these tell it.
 #[inline(never)]
-pub(crate) fn order_by_end(a: &[u8], b: &[u8]) -> Option<Ordering>
+fn order_by_end(a: &[u8], b: &[u8]) -> Option<Ordering>
     ensures { IfSome result (λ order. order ≡ name_cmp (labels_of a.now) (labels_of b.now)) }
 {
     let end = shared_len(a, b);
@@ -101,7 +146,7 @@ pub(crate) fn shared_end<'z>(a: &'z [u8], b: &[u8]) -> &'z [u8] {
 /// How owners lie, if their first labels tell it. Those of one hint mostly are the same, or differ
 /// in their first label alone, or one has a label before those of the other.
 #[inline(always)]
-pub(crate) fn order_by_first_label(a: &[u8], b: &[u8]) -> Option<Ordering>
+fn order_by_first_label(a: &[u8], b: &[u8]) -> Option<Ordering>
     ensures { IfSome result (λ order. order ≡ name_cmp (labels_of a.now) (labels_of b.now)) }
 {
     if are_same(a, b) {
@@ -153,8 +198,8 @@ pub(crate) fn past_far(name: &[u8], near: usize) -> &[u8]
     left
 }
 
-/// What follows the first label, or the first eight or four that have an octet each, as those of an
-/// address in ip6.arpa have (RFC 3596 2.5). `None`: fewer octets than said follow.
+/// What follows the first label, or the first eight that have an octet each, as those of an address
+/// in ip6.arpa have (RFC 3596 2.5). `None`: fewer octets than said follow.
 fn past_first(name: &[u8], near: usize) -> Option<&[u8]>
     ensures shorter { IfSome result (λ rest. length rest.now < length name.now) }
     ensures far { IfSome result (λ rest. near ≤ length rest.now) }
@@ -168,14 +213,8 @@ fn past_first(name: &[u8], near: usize) -> Option<&[u8]>
     if let Some(rest) = past_eight(name, near) {
         return Some(rest);
     }
-    match name {
-        [a, _, b, _, c, _, d, _, rest @ ..]
-            if *a == 1 && *b == 1 && *c == 1 && *d == 1 && rest.len() >= near => { Some(rest) }
-        _ => {
-            let (_, rest) = first_label(name)?;
-            if rest.len() >= near { Some(rest) } else { None }
-        }
-    }
+    let (_, rest) = first_label(name)?;
+    if rest.len() >= near { Some(rest) } else { None }
 }
 
 /// What follows the first labels of one octet each, passed by eight as far as octets follow that
@@ -217,16 +256,16 @@ fn are_ones(octets: &[u8]) -> bool
     lanes.simd_eq(u8x16::splat(1)).to_bitmask() == 0x5555
 }
 
-/// The first label and what follows it. `None`: a name has no label.
+/// The first label and what follows it, as far as there are octets. `None`: no label is left.
+#[tactic(auto, using(crate::proofs::Ordering::Owners::without_labels))]
 pub(crate) fn first_label(octets: &[u8]) -> Option<(&[u8], &[u8])>
     ensures shorter { IfSome result (λ parts. length parts.1.now < length octets.now) }
     ensures parts { IfSome result (λ parts. IsFirst octets.now parts.0.now parts.1.now) }
-    ensures none { IfNone result ((label : List ℕ) → (labels : List (List ℕ)) → 0 < length label
-        → octets.now ≡ wire (label ∷ labels) → ⊥) }
+    ensures none { IfNone result (labels_of octets.now ≡ []) }
 {
     let (len, after) = octets.split_first()?;
     if *len == 0 {
         return None;
     }
-    after.split_at_checked(*len as usize)
+    Some(after.split_at((*len as usize).min(after.len())))
 }

@@ -3,7 +3,7 @@ ghost use Rattle.zone_set.specs.Machine.Bulk as bulk;
 
 use crate::entry::Entry;
 use crate::order::{are_same, octet_order};
-use crate::owner::{first_label, order_by_end, order_by_first_label};
+use crate::owner::owner_order;
 use std::cmp::Ordering;
 
 /// How the records of entries lie, by which they are sorted. Nothing rests on it but how soon a
@@ -63,50 +63,6 @@ pub(crate) fn stored_at<'z>(octets: &'z [u8], at: usize) -> Option<StoredParts<'
         kind: u16::from_be_bytes([k0, k1]),
         data,
     })
-}
-
-/// How owners lie, by their labels from the right.
-fn owner_order(a: &[u8], b: &[u8]) -> Ordering {
-    if let Some(order) = order_by_first_label(a, b) {
-        return order;
-    }
-    if let Some(order) = order_by_end(a, b) {
-        return order;
-    }
-    let (len, other_len) = (label_count(a), label_count(b));
-    let mut labels = past(a, len.saturating_sub(other_len));
-    let mut others = past(b, other_len.saturating_sub(len));
-    let mut order = len.cmp(&other_len);
-    while let (Some((label, rest)), Some((other, more))) = (
-        first_label(labels),
-        first_label(others),
-    ) {
-        order = label.cmp(other).then(order);
-        labels = rest;
-        others = more;
-    }
-    order
-}
-
-/// How many labels there are.
-fn label_count(octets: &[u8]) -> usize {
-    let (mut left, mut count) = (octets, 0usize);
-    while let Some((_, rest)) = first_label(left) {
-        left = rest;
-        count = count.saturating_add(1);
-    }
-    count
-}
-
-/// What follows so many labels.
-fn past(octets: &[u8], count: usize) -> &[u8] {
-    let mut left = octets;
-    for _ in 0..count {
-        if let Some((_, rest)) = first_label(left) {
-            left = rest;
-        }
-    }
-    left
 }
 
 /// Whether the same octets keep the records of two entries of one hint, whatever the entries. Those

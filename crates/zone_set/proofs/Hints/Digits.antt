@@ -1,5 +1,5 @@
 -- Numbers of first digits: their order, their bound, and digits that are put before others.
-use Rattle.zone_set.proofs.Common.{common_steps, ◌≡◌, ℕ, zero, suc, ◌+◌, ◌*◌, ◌/◌, ◌^◌, ◌<◌, ◌≤◌, ◌∙◌, List, [], ◌∷◌, ◌++◌, length, take, drop, slice_index_or, ◌-◌, Ordering, Less, Equal, Greater, nat_cmp, refl, sym, ap, subst, arith, append_assoc, ranked, slice_cmp, ⊤, MatchOrdering, AreOctets, AllByRecursion-append, first_digits, AreDigits, IsPutBefore}
+use Rattle.zone_set.proofs.Common.{◌≡◌, ℕ, zero, suc, ◌+◌, ◌*◌, ◌/◌, ◌^◌, ◌<◌, ◌≤◌, ◌∙◌, List, [], ◌∷◌, ◌++◌, length, take, drop, slice_index_or, ◌-◌, Ordering, Less, Equal, Greater, nat_cmp, refl, sym, ap, subst, arith, append_assoc, ranked, slice_cmp, ⊤, MatchOrdering, AreOctets, AllByRecursion-append, first_digits, AreDigits, IsPutBefore}
 use Rattle.std.proofs.Math.Nat.{pow-suc, one-le-pow, mul-le-mul_right}
 use Rattle.zone_set.proofs.Hints.LabelKey.{octets_low}
 use Rattle.zone_set.proofs.Lists.Looking.{take_rest}

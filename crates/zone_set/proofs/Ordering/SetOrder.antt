@@ -4,7 +4,7 @@ use Rattle.zone_set.proofs.Common.{◌≡◌, ◌≢◌, ◌==◌, if◌then◌e
 pub both_equal : (o p : Ordering) → ordering_then o p ≡ Equal → (o ≡ Equal) × (p ≡ Equal)
 both_equal o p h = grind arith
 
-data_total : IsTotalOrder data_cmp
+pub data_total : IsTotalOrder data_cmp
 data_total = then_total (on_total (λ d. d.class) nat_cmp_total) (then_total (on_total (λ d. d.kind) nat_cmp_total) (on_total (λ d. d.octets) nat_list_cmp_total))
 
 pub canonical_total : IsTotalOrder canonical_cmp

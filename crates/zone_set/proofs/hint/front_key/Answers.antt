@@ -1,4 +1,4 @@
-use Rattle.zone_set.proofs.Common.{ap, arith, bytes_decides, false≢true, inl, inr, length, sym, wire, ◌+◌, ◌∙◌, ◌≤◌, ⊎_elim}
+use Rattle.zone_set.proofs.Common.{ap, arith, bytes_decides, false≢true, inl, inr, length, sym, ◌∙◌, ⊎_elim}
 use Rattle.zone_set.proofs.Hints.HintWalk.{walked_found, walked_gathered, walked_next, walked_none, walked_short, walked_some}
 use Rattle.zone_set.proofs.hint.front_key.Goals as goal
 

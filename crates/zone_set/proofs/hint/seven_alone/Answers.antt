@@ -1,4 +1,3 @@
-use Rattle.zone_set.proofs.Common.{arith}
 use Rattle.zone_set.proofs.Hints.HintWalk.{seven_gathered}
 use Rattle.zone_set.proofs.hint.seven_alone.Goals as goal
 
