@@ -69,6 +69,8 @@ fn text_of(item: Item<'_>) -> &[u8]
 }
 
 /// The octets of the string that the item spells (RFC 1035 3.3, 5.1).
+// Not inlined: few strings have an escape, and the room for one would be cleared for each.
+#[inline(never)]
 #[tactic(auto, using(crate::proofs::Strings::StringSteps::steps_read))]
 fn string_of(item: Item<'_>) -> Result<ArrayVec<u8, LONGEST_STRING>, Cause>
     ensures found { IfOk result (λ octets. SpellsString (raw item.entry) octets.items) }

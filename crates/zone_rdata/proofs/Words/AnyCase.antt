@@ -1,5 +1,8 @@
 -- Words that are equal in any case of their letters.
 use Rattle.zone_rdata.proofs.Common.{cases_Bool, ◌≡◌, ℕ, ◌<◌, ◌≤◌, true, false, List, map, sym, ap, ◌∙◌, arith, IsTrue, ◌↔◌, inl, inr, Some, None, min, subst, bytes_eq, Bool, find, option_map, cases_lt, bytes_eq-Decides, folded_label, Named, ascends, IsKind, IsNumbered, IsWordAmong, by_mnemonic, by_number, IsKindWord, IsWordFault, for_queries, beyond, Fault, to_ascii_lowercase, UnknownType, MetaType, common_steps}
+use Rattle.std.proofs.Common.{Fits}
+use Rattle.std.specs.Int.Bits.{bit_and}
+use Rattle.zone_rdata.proofs.Common.{agree_below_at, eq-eqb, eqb-true, folded_octet, get_or, nat_eq, refl, w8, ◌==◌, ◌∷◌}
 use Rattle.zone_rdata.proofs.Words.Tables.{find_mapped, row_is, no_row}
 
 lowercase_folds_all : (text : List ℕ) → map to_ascii_lowercase text ≡ folded_label text
@@ -8,6 +11,19 @@ lowercase_folds_all text = grind arith
 -- std's comparison without regard to case, in this project's words
 pub same_word : (a b : List ℕ) (r : Bool) → IsTrue r ↔ (map to_ascii_lowercase a ≡ map to_ascii_lowercase b) → IsTrue r ↔ (folded_label a ≡ folded_label b)
 same_word a b r e = grind (arith, lowercase_folds_all)
+
+-- the bits that a letter's cases share
+caseless : (c : ℕ) → c < 256 → bit_and (folded_octet c) 223 ≡ bit_and c 223
+caseless c less = eqb-true (bit_and (folded_octet c) 223) (bit_and c 223) (agree_below_at (λ k. bit_and (folded_octet k) 223 == bit_and k 223) (λ _. true) 256 c refl less)
+
+-- words that are equal in any case begin with the same of these bits
+pub first_alike : (word wanted others more : List ℕ) (a b : ℕ) → word ≡ a ∷ others → wanted ≡ b ∷ more → ((i : ℕ) → Fits w8 (get_or word i 0)) → ((i : ℕ) → Fits w8 (get_or wanted i 0)) → folded_label word ≡ folded_label wanted → nat_eq (bit_and a 223) (bit_and b 223) ≡ true
+first_alike word wanted others more a b is other short shorter same =
+    let folds : folded_label (a ∷ others) ≡ folded_label (b ∷ more) = ap folded_label (sym is) ∙ same ∙ ap folded_label other in
+    let first : folded_octet a ≡ folded_octet b = cc folds in
+    let fit : a < 256 = (subst (λ t. Fits w8 (get_or t 0 0)) is (short 0)).fits in
+    let fits : b < 256 = (subst (λ t. Fits w8 (get_or t 0 0)) other (shorter 0)).fits in
+    eq-eqb (bit_and a 223) (bit_and b 223) (sym (caseless a fit) ∙ ap (λ c. bit_and c 223) first ∙ caseless b fits)
 
 -- the test of two words
 pub same_test : (word name mnemonic : List ℕ) → name ≡ mnemonic → folded_label word ≡ folded_label name → bytes_eq (folded_label word) (folded_label mnemonic) ≡ true
