@@ -9,6 +9,7 @@ use std::cmp::Ordering;
 use std::simd::prelude::*;
 
 /// How owners lie, by the labels of their octets from the right (RFC 4034 6.1). Any octets have some.
+#[inline(always)]
 pub(crate) fn owner_order(a: &[u8], b: &[u8]) -> Ordering
     ensures { result ≡ name_cmp (labels_of a.now) (labels_of b.now) }
 {
@@ -267,5 +268,9 @@ pub(crate) fn first_label(octets: &[u8]) -> Option<(&[u8], &[u8])>
     if *len == 0 {
         return None;
     }
-    Some(after.split_at((*len as usize).min(after.len())))
+    match after.split_at_checked(*len as usize) {
+        Some(parts) => Some(parts),
+        // A name's octets don't end within a label.
+        None => Some((after, &after[..0])),
+    }
 }
