@@ -1,5 +1,5 @@
 -- The SOA stands first among a zone's records, and in the digest's order where its type has it.
-use Rattle.zone_set.proofs.Common.{[], ◌≡◌, ◌≢◌, ℕ, ◌<◌, ◌==◌, List, ◌∷◌, refl, sym, ap, ◌∙◌, subst, arith, inl, inr, ⊎_elim, Bool, true, false, AllByRecursion, Ordering, Equal, Less, Greater, Record, Has, Ascends, canonical_cmp, data_cmp, data_of, name_cmp, name_cmp-total, name_cmp-exact, nat_cmp, nat_cmp_total, nat_list_cmp_total, on_total, then_total, tied_itself, IsTotalOrder, IsWithin, if◌then◌else◌, ordering_then, ◌↔◌, eqb-true, AreCompatible, IsTrue, nat_lt, ordering_reverse}
+use Rattle.zone_set.proofs.Common.{[], ◌≡◌, ◌≢◌, ℕ, ◌<◌, ◌==◌, List, ◌∷◌, refl, sym, ap, ◌∙◌, subst, arith, inl, inr, ⊎_elim, Bool, true, false, AllByRecursion, Ordering, Equal, Less, Greater, Record, Has, Ascends, canonical_cmp, data_cmp, data_of, name_cmp, name_cmp-total, name_cmp-exact, nat_cmp, nat_cmp_total, on_total, then_total, tied_itself, IsTotalOrder, IsWithin, if◌then◌else◌, ordering_then, ◌↔◌, eqb-true, AreCompatible, IsTrue, nat_lt, ordering_reverse}
 use Rattle.std.specs.Prelude.{◌&&◌}
 use Rattle.std.specs.Ordering.{is_eq}
 use Rattle.zone_set.proofs.Ordering.Within.{below_after}

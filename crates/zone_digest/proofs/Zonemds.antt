@@ -1,6 +1,6 @@
 -- The ZONEMD records at the apex, and their verdicts.
 use Rattle.zone_set.proofs.Common.{[], ◌≡◌, ◌≢◌, ℕ, ◌+◌, ◌-◌, ◌<◌, ◌≤◌, List, ◌∷◌, ◌++◌, length, length-append, take, drop, refl, sym, ap, ap₂, ◌∙◌, subst, arith, append_assoc, append-nil, map, inl, inr, ⊎_elim, ◌⊎◌, ◌↔◌, Less, Ascends, canonical_cmp, Record, Has, InOneSet, IsZone, AreCompatible, length-drop, take-append-drop, if◌then◌else◌, ◌==◌, Bool, true, false, eqb-true, IsWithin}
-use Rattle.std.proofs.Common.{get_or, suc, zero}
+use Rattle.std.proofs.Common.{IsTrue, get_or, suc, zero}
 use Rattle.std.specs.List.{AllZip}
 use Rattle.zone_rdata.specs.Lent.{record_of}
 use Rattle.zone_rdata.specs.declared.lent.RrRef.{RrRef}
@@ -194,6 +194,9 @@ pub is_repeated : (z : Zone) (records : List Record) (r : Record) (f : Fields) �
 is_repeated z records r f is found zonemd again =
     has_like records r f again.other ((found.same again.other).1 again.zonemd)
     (λ same. again.differs (one_zonemd z r again.other is zonemd again.zonemd same), (again.fields, again.parts, again.scheme, again.algorithm))
+
+pub not_repeated : (z : Zone) (records : List Record) (r : Record) (f : Fields) (answer : Bool) → (IsTrue answer ↔ HasOtherLike records r f) → answer ≡ false → IsZone z → AreZonemds z records → IsZonemd z r → IsRepeated z r f → ⊥
+not_repeated z records r f answer says none is found zonemd again = grind (arith, none, says.1 (is_repeated z records r f is found zonemd again))
 
 -- ---- what is told of them
 pub has_item : (found : List RrRef) (i : ℕ) (item : RrRef) → item ≡ get_or found i item → i < length found → Has (map record_of found) (record_of item)

@@ -1,3 +1,4 @@
+//! The hash algorithms of digests, and their digests.
 ghost use Rattle.std.specs.Prelude.{◌≡◌, ◌≢◌, IfSome, IfNone};
 ghost use Rattle.zone_digest.specs.Verdict.{digest_octets, digest_size, number};
 

@@ -1,3 +1,4 @@
+//! The digest of a zone (RFC 8976 3).
 ghost use Rattle.std.specs.Prelude.{◌≡◌, ◌↔◌, ◌∷◌, [], ℕ, List, take, map, false, None, IfOk, OnOk, IsTrue};
 ghost use Rattle.std.specs.List.{AllByRecursion};
 ghost use Rattle.zone_digest.specs.Digest.{AreDigestOctets, AscendsByOwner, IsDigest, IsLeftOut};

@@ -1,3 +1,4 @@
+//! Data with its names in lower case (RFC 4034 6.2).
 ghost use Rattle.std.specs.Prelude.{◌≡◌, ◌++◌, ℕ, List, map, IsTrue, OnOk};
 ghost use Rattle.zone_digest.specs.NamesInData.{IsLowered, names_of};
 ghost use Rattle.zone_name.specs.Name.{folded_octet};

@@ -1,3 +1,4 @@
+//! The names that stand in data, found by the table.
 ghost use Rattle.std.specs.Prelude.{◌≡◌, ◌↔◌, [], ℕ, List, length, IsTrue, Some, false, IfSome, IfNone};
 ghost use Rattle.std.specs.List.{flat_map};
 ghost use Rattle.zone_digest.specs.Machine.Front.{BeginsWithCased, BeginsWithMany};

@@ -1,3 +1,4 @@
+//! The records of a zone in the order of a digest.
 ghost use Rattle.std.specs.Prelude.{◌≡◌};
 ghost use Rattle.zone_digest.specs.Machine.Walk.{by_owner, goes_before};
 ghost use Rattle.zone_rdata.specs.Lent.{record_of};

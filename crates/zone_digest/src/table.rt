@@ -1,3 +1,4 @@
+//! Where names stand in data, type by type.
 ghost use Rattle.std.specs.Prelude.{◌≡◌, ℕ, List, None, false};
 ghost use Rattle.zone_digest.specs.NamesInData.{fixed_names, names_in_a6, names_of};
 

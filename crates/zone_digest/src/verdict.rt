@@ -1,6 +1,7 @@
+//! The verdicts on the ZONEMD records of a zone (RFC 8976 4).
 ghost use Rattle.std.specs.Prelude.{◌≡◌, ◌↔◌, ℕ, List, length, map, IfOk, IfSome, IfNone, IsTrue};
 ghost use Rattle.zone_digest.specs.Findings.{AreFindings};
-ghost use Rattle.zone_digest.specs.Verdict.{AreZonemds, Fields, HasFields, IsRepeated, IsSerial, IsVerdictOn, IsWellFormed, IsZonemd, digest_size, number};
+ghost use Rattle.zone_digest.specs.Verdict.{AreZonemds, Fields, HasFields, IsRepeated, IsSerial, IsSupported, IsVerdictOn, IsWellFormed, IsZonemd, digest_size, number};
 ghost use Rattle.zone_digest.specs.Machine.Reading.{HasOtherLike, IsOtherLike, fields_of};
 ghost use Rattle.zone_name.specs.Common.{Octets};
 ghost use Rattle.zone_rdata.specs.Lent.{record_of};
@@ -154,7 +155,29 @@ fn verdict_of(
     let Some(algorithm) = Algorithm::of_number(fields.algorithm) else {
         return Ok(Verdict::UnknownAlgorithm);
     };
-    if is_repeated(found, rr, &fields) {
+    supported_verdict(alloc, zone, found, rr, &fields, algorithm)
+}
+
+/// The verdict of one that has this supported algorithm.
+///
+/// # Errors
+///
+/// Want of memory.
+fn supported_verdict(
+    alloc: Global,
+    zone: &Zone,
+    found: &[RrRef<'_>],
+    rr: &RrRef<'_>,
+    fields: &ParsedFields<'_>,
+    algorithm: Algorithm,
+) -> Result<Verdict, AllocError>
+    requires found { AreZonemds zone.now (map record_of found.now) }
+    requires zonemd { IsZonemd zone.now (record_of rr.now) }
+    requires zone { IsZone zone.now }
+    requires supported { IsSupported zone.now (record_of rr.now) (fields_of fields.now) algorithm }
+    ensures { IfOk result (IsVerdictOn zone.now (record_of rr.now)) }
+{
+    if is_repeated(found, rr, fields) {
         return Ok(Verdict::Repeated);
     }
     let digest = digest_of(alloc, zone, algorithm)?;

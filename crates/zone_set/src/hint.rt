@@ -1,7 +1,7 @@
-ghost use Rattle.std.specs.Prelude.{◌≡◌, ◌≢◌, ◌↔◌, ◌<◌, ◌≤◌, ◌+◌, ◌++◌, ◌∷◌, ◌^◌, [], length, take, List, ℕ, IfNone, IfSome, IsTrue};
+ghost use Rattle.std.specs.Prelude.{◌≡◌, ◌<◌, ◌≤◌, ◌++◌, ◌∷◌, ◌^◌, [], length, take, List, ℕ, IfNone, IfSome};
 ghost use Rattle.zone_name.specs.Name.{IsWithin};
 ghost use Rattle.zone_set.specs.Machine.Hint.{first_digits, GathersOnes, IsHint, IsPutBefore};
-ghost use Rattle.zone_set.specs.Machine.LabelKey.{hexadecimals_below, label_key, longer_digit, octets_key, owner_key};
+ghost use Rattle.zone_set.specs.Machine.LabelKey.{label_key, longer_digit, octets_key, owner_key};
 
 use crate::order::are_same;
 use crate::owner::{first_label, past_far};
@@ -126,24 +126,16 @@ fn seven_alone(octets: &[u8; 14]) -> Option<u64>
 
 /// The digit of a label of one octet, if it has no other, since the octet is hexadecimal.
 #[inline(always)]
-fn alone_digit(octet: u8) -> Option<u64>
+pub(crate) fn alone_digit(octet: u8) -> Option<u64>
     ensures digit { IfSome result (λ digit. label_key (octet ∷ []) ≡ digit ∷ []) }
     ensures low { IfSome result (λ digit. digit < 273) }
     ensures none { IfNone result (label_key (octet ∷ []) ≡ longer_digit octet ∷ (0 ∷ [])) }
 {
-    if is_hexadecimal(octet) {
-        Some(longer_digit(octet) - 1)
-    } else {
-        None
+    match octet {
+        b'0'..=b'9' => Some(2 * octet as u64 - 47),
+        b'a'..=b'f' => Some(2 * octet as u64 - 86),
+        _ => None,
     }
-}
-
-/// Whether an octet is a hexadecimal digit in lower case.
-#[inline(always)]
-pub(crate) fn is_hexadecimal(octet: u8) -> bool
-    ensures { IsTrue result ↔ (hexadecimals_below octet ≢ hexadecimals_below (octet + 1)) }
-{
-    matches!(octet, b'0'..=b'9' | b'a'..=b'f')
 }
 
 /// Puts a label and its end before the digits of a number.

@@ -3,7 +3,7 @@ ghost use Rattle.std.specs.List.Sorted.{IsPermutation};
 ghost use Rattle.zone_set.specs.Machine.Bulk.{with_hint};
 
 use crate::entry::Entry;
-use crate::hint::{is_hexadecimal, is_within, longer_digit};
+use crate::hint::{alone_digit, is_within, longer_digit};
 use crate::owner::{first_label, past_far, shared_end};
 use crate::tie::{StoredParts, entry_order, stored_at};
 
@@ -239,10 +239,13 @@ fn key_of(octets: &[u8], at: usize, front: usize, digit: usize) -> u64 {
 fn put_hexadecimals(labels: &[u8], digit: usize, after: u64) -> (&[u8], u64) {
     let (mut left, mut key) = (labels, after);
     while let [len, octet, rest @ ..] = left {
-        if *len != 1 || rest.len() <= digit || !is_hexadecimal(*octet) {
+        if *len != 1 || rest.len() <= digit {
             break;
         }
-        key = put_digit(leading_digit(*octet) - 1, key);
+        let Some(first) = alone_digit(*octet) else {
+            break;
+        };
+        key = put_digit(without_capitals(first), key);
         left = rest;
     }
     (left, key)
@@ -273,25 +276,31 @@ fn put(octets: &[u8], from: usize, after: u64) -> u64 {
 
 /// Puts the digits of a label from one on, and its end, before those of a key. No label has a capital
 /// letter, so that an octet has room for each digit.
+#[tactic(auto, using(crate::proofs::Hints::LabelKey::below_most))]
 fn put_label(label: &[u8], from: usize, after: u64) -> u64 {
     if from > 0 {
         return put_octets(label, from, after >> 8);
     }
     match label {
-        [octet] if is_hexadecimal(*octet) => put_digit(leading_digit(*octet) - 1, after),
-        [octet, ..] => put_digit(leading_digit(*octet), put_octets(label, 1, after >> 8)),
         [] => after >> 8,
+        [octet] => match alone_digit(*octet) {
+            Some(digit) => put_digit(without_capitals(digit), after),
+            None => put_digit(without_capitals(longer_digit(*octet)), after >> 8),
+        },
+        [octet, ..] => put_digit(
+            without_capitals(longer_digit(*octet)),
+            put_octets(label, 1, after >> 8),
+        ),
     }
 }
 
-/// The digit of an octet that begins a label and that others follow: a hint's, less the capital
-/// letters. A label of one hexadecimal digit has the digit before it, and no end.
+/// The digit of a key for that of a hint of an octet that begins a label: those of the capital letters,
+/// 76 to 101, are left out.
 #[inline(always)]
-fn leading_digit(octet: u8) -> u8
-    ensures { 0 < result }
+fn without_capitals(digit: u64) -> u8
+    requires { digit < 273 }
 {
-    let digit = longer_digit(octet);
-    if octet < b'[' {
+    if digit < 102 {
         digit as u8
     } else {
         (digit - 26) as u8

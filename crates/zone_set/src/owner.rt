@@ -1,4 +1,4 @@
-ghost use Rattle.std.specs.Prelude.{◌≡◌, ◌<◌, ◌≤◌, ◌⊎◌, [], List, ℕ, drop, length, take, IfNone, IfSome, IsTrue};
+ghost use Rattle.std.specs.Prelude.{◌≡◌, ◌<◌, ◌≤◌, ◌∷◌, ◌⊎◌, [], List, ℕ, drop, length, take, IfNone, IfSome, IsTrue};
 ghost use Rattle.zone_name.specs.Common.{each_after};
 ghost use Rattle.zone_name.specs.Name.{labels_of, wire};
 ghost use Rattle.zone_name.specs.Order.{name_cmp};
@@ -9,6 +9,7 @@ use std::cmp::Ordering;
 use std::simd::prelude::*;
 
 /// How owners lie, by the labels of their octets from the right (RFC 4034 6.1). Any octets have some.
+#[inline(always)]
 pub(crate) fn owner_order(a: &[u8], b: &[u8]) -> Ordering
     ensures { result ≡ name_cmp (labels_of a.now) (labels_of b.now) }
 {
@@ -32,8 +33,8 @@ fn order_by_labels(a: &[u8], b: &[u8]) -> Ordering
     // The rightmost pair that differs decides, and else the number of labels.
     let mut order = len.cmp(&other_len);
     while let (Some((label, rest)), Some((other, more))) = (
-        first_label(labels),
-        first_label(others),
+        next_label(labels),
+        next_label(others),
     ) {
         order = label.cmp(other).then(order);
         labels = rest;
@@ -47,7 +48,7 @@ fn label_count(octets: &[u8]) -> usize
     ensures { result ≡ length (labels_of octets.now) }
 {
     let (mut left, mut count) = (octets, 0);
-    while let Some((_, rest)) = first_label(left) {
+    while let Some((_, rest)) = next_label(left) {
         left = rest;
         count += 1;
     }
@@ -60,11 +61,26 @@ fn past(octets: &[u8], count: usize) -> &[u8]
 {
     let mut left = octets;
     for _ in 0..count {
-        if let Some((_, rest)) = first_label(left) {
+        if let Some((_, rest)) = next_label(left) {
             left = rest;
         }
     }
     left
+}
+
+/// The first label and what follows it, of any octets, which may end within a label.
+#[tactic(auto, using(crate::proofs::Ordering::Owners::without_labels))]
+fn next_label(octets: &[u8]) -> Option<(&[u8], &[u8])>
+    ensures shorter { IfSome result (λ parts. length parts.1.now < length octets.now) }
+    ensures parts { IfSome result (λ parts. IsFirst octets.now parts.0.now parts.1.now) }
+    ensures none { IfNone result (labels_of octets.now ≡ []) }
+{
+    let (len, after) = octets.split_first()?;
+    if *len > 0 {
+        Some(after.split_at((*len as usize).min(after.len())))
+    } else {
+        None
+    }
 }
 
 /// How owners lie, by the labels before the octets that end both, if these tell it.
@@ -256,16 +272,16 @@ fn are_ones(octets: &[u8]) -> bool
     lanes.simd_eq(u8x16::splat(1)).to_bitmask() == 0x5555
 }
 
-/// The first label and what follows it, as far as there are octets. `None`: no label is left.
-#[tactic(auto, using(crate::proofs::Ordering::Owners::without_labels))]
+/// The first label and what follows it. `None`: a name has no label.
 pub(crate) fn first_label(octets: &[u8]) -> Option<(&[u8], &[u8])>
     ensures shorter { IfSome result (λ parts. length parts.1.now < length octets.now) }
     ensures parts { IfSome result (λ parts. IsFirst octets.now parts.0.now parts.1.now) }
-    ensures none { IfNone result (labels_of octets.now ≡ []) }
+    ensures none { IfNone result ((label : List ℕ) → (labels : List (List ℕ)) → 0 < length label
+        → octets.now ≡ wire (label ∷ labels) → ⊥) }
 {
     let (len, after) = octets.split_first()?;
     if *len == 0 {
         return None;
     }
-    Some(after.split_at((*len as usize).min(after.len())))
+    after.split_at_checked(*len as usize)
 }

@@ -1,5 +1,5 @@
 -- A walk over the labels of an owner, until those that are left take no more octets than the base.
-use Rattle.zone_set.proofs.Common.{map, append-nil, slice_index_or, suc, zero, AllByRecursion, AllByRecursion-back, AllByRecursion-front, AreDigits, IsLabel, IsName, IsFirst, IsPutBefore, IsWithin, List, [], ap, append_assoc, arith, common_steps, first_digits, inl, inr, label_key, labels_of, labels_of-wire, length, owner_key, refl, subst, sym, wire, ℕ, ⊎_elim, ◌*◌, ◌++◌, ◌+◌, ◌<◌, ◌^◌, ◌∙◌, ◌∷◌, ◌≡◌, ◌≤◌, ◌⊎◌}
+use Rattle.zone_set.proofs.Common.{map, append-nil, slice_index_or, suc, zero, AllByRecursion, AllByRecursion-back, AllByRecursion-front, AreDigits, IsLabel, IsName, IsFirst, IsPutBefore, IsWithin, List, [], ap, append_assoc, arith, common_steps, first_digits, inl, inr, label_key, labels_of-wire, length, owner_key, refl, subst, sym, wire, ℕ, ⊎_elim, ◌*◌, ◌++◌, ◌+◌, ◌<◌, ◌^◌, ◌∙◌, ◌∷◌, ◌≡◌, ◌≤◌, ◌⊎◌}
 use lib.ListN.{length-append}
 use Rattle.zone_name.specs.Common.{each_after}
 use Rattle.zone_set.proofs.Ordering.Owners.{first_of_wire, one_octet}
@@ -114,12 +114,12 @@ module _ (base owner : List (List ℕ)) (octets : List ℕ) (key : ℕ) (walked 
       walked_on label rest next more first (put (owner_key walked.gathered) gathered_low walked.gathers ∙ ap (first_digits 7) (sym (owner_key-push walked.gathered label)))
 
   -- there is one more, as long as more octets are left than the base has
-  pub walked_some : length (wire base) < length octets → labels_of octets ≡ [] → ⊥
+  pub walked_some : length (wire base) < length octets → ((label : List ℕ) (labels : List (List ℕ)) → 0 < length label → octets ≡ wire (label ∷ labels) → ⊥) → ⊥
   walked_some more none = by walked.left walked.is (AllByRecursion-back IsLabel walked.gathered walked.left gathered_each)
     where
       by : (left : List (List ℕ)) → octets ≡ wire left → AllByRecursion IsLabel left → ⊥
       by [] is each = omega (arith, more, ap length is, wire_some base)
-      by (label ∷ labels) is each = let bad : label ∷ labels ≡ [] = sym (labels_of-wire (label ∷ labels) each) ∙ ap labels_of (sym is) ∙ none in cc bad
+      by (label ∷ labels) is each = none label labels each.0.some is
 
   -- the number takes seven digits
   pub walked_short : key < 2 ^ 57

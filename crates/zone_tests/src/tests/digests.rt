@@ -4,7 +4,7 @@ use crate::tests::push_stop;
 use crate::tests::zones::{reading_of, taken};
 use std::alloc::Global;
 use std::test::Fail;
-use test_support::{Question, check_table, push_hex, push_text};
+use test_support::{Question, check_table, parted, push_hex, push_text};
 use zone_digest::{Algorithm, Finding, Verdict, digest_of, verify};
 use zone_set::Zone;
 
@@ -56,24 +56,37 @@ fn push_digest(
     push_text(out, "\n")
 }
 
-/// Both digests of the zone of a file, and the verdicts.
+/// Appends both digests of the zone of a file, and the verdicts, or why it has none.
+fn push_whole(alloc: Global, out: &mut Vec<u8>, file: &str) -> Result<(), Fail> {
+    match taken(alloc, reading_of(alloc, file.as_bytes())?) {
+        Ok(zone) => {
+            push_text(out, "\n")?;
+            push_digest(alloc, out, &zone, Algorithm::Sha384)?;
+            push_digest(alloc, out, &zone, Algorithm::Sha512)?;
+            push_findings(alloc, out, &zone)
+        }
+        Err(stop) => {
+            push_text(out, " ")?;
+            push_stop(alloc, out, &stop)?;
+            push_text(out, "\n")
+        }
+    }
+}
+
+/// What `push_whole` appends of a file, and, where `changed: ` and two texts stand after it, of the
+/// file with the second in place of the last that is the first.
 struct Whole;
 
 impl Question for Whole {
     fn answer(alloc: Global, asked: &'static str, out: &mut Vec<u8>) -> Result<(), Fail> {
-        match taken(alloc, reading_of(alloc, asked.as_bytes())?) {
-            Ok(zone) => {
-                push_text(out, "\n")?;
-                push_digest(alloc, out, &zone, Algorithm::Sha384)?;
-                push_digest(alloc, out, &zone, Algorithm::Sha512)?;
-                push_findings(alloc, out, &zone)
-            }
-            Err(stop) => {
-                push_text(out, " ")?;
-                push_stop(alloc, out, &stop)?;
-                push_text(out, "\n")
-            }
-        }
+        let Some((file, change)) = asked.split_once("changed: ") else {
+            return push_whole(alloc, out, asked);
+        };
+        push_whole(alloc, out, file)?;
+        push_text(out, "changed")?;
+        let (old, new) = parted(change.trim_end(), " to ")?;
+        let (front, rest) = file.rsplit_once(old).ok_or(change)?;
+        push_whole(alloc, out, format!(in alloc; "{front}{new}{rest}")?.as_str())
     }
 }
 
@@ -88,21 +101,14 @@ example. 86400 IN TYPE63 \\# 54 7848b91c0101c68090d90a7aed716bc459f9340e3d7c1370
 0b9a87153b9a9713b3c9ae5cc27777f98b8e730044c
 ns1.example. 3600 IN TYPE1 \\# 4 cb00713f
 ns2.example. 3600 IN TYPE28 \\# 16 20010db8000000000000000000000063
+changed: cb00713f to cb00703f
 =>
 SHA-384 #c68090d90a7aed716bc459f9340e3d7c1370d4d24b7e2fc3a1ddc0b9a87153b9a9713b3c9ae5cc27777f98b8\
 e730044c
 SHA-512 #500d47a50c572d7f9501a01a5fa1fc2b64b1e9a58198784a6d9b0ab95fbba8a1dc9c7836c9ac4960a5625a7a\
 67e3abe963a4d870cb97e3e67fb0a130463b33f1
 #7848b91c0101 verified
-== example. 86400 IN TYPE6 \\# 48 036e7331076578616d706c65000561646d696e076578616d706c65007848b91c00\
-0007080000038400093a8000015180
-example. 86400 IN TYPE2 \\# 13 036e7331076578616d706c6500
-example. 86400 IN TYPE2 \\# 13 036e7332076578616d706c6500
-example. 86400 IN TYPE63 \\# 54 7848b91c0101c68090d90a7aed716bc459f9340e3d7c1370d4d24b7e2fc3a1ddc\
-0b9a87153b9a9713b3c9ae5cc27777f98b8e730044c
-ns1.example. 3600 IN TYPE1 \\# 4 cb00703f
-ns2.example. 3600 IN TYPE28 \\# 16 20010db8000000000000000000000063
-=>
+changed
 SHA-384 #58652f73f8d052ea4c4401ef9e869d21480209cdb041c56955dc031a0f75ae71d64d256baacd924ecee12f04\
 3d23ad72
 SHA-512 #1d8f6178b72b0edb5719ec73f9175ddd15e7a1e82fa56bfaa55758766a379b641668f33b34ed986ac4a9c4ea\
@@ -123,28 +129,14 @@ duplicate.example. 300 IN TYPE16 \\# 29 1c49206d75737420626520646967657374656420
 duplicate.example. 300 IN TYPE16 \\# 29 1c49206d757374206265206469676573746564206a757374206f6e6365
 non-apex.example. 900 IN TYPE63 \\# 54 7848b91c0101616c6c6f776564206275742069676e6f7265642e20616c\
 6c6f776564206275742069676e6f7265642e20616c6c6f7765
+changed: 6f6e6365 to 6f6e6265
 =>
 SHA-384 #31cefb03814f5062ad12fa951ba0ef5f8da6ae354a415767246f7dc932ceb1e742a2108f529db6a33a11c014\
 93de358d
 SHA-512 #b23ccb4341b791fad428310dff62d1bbd62b57e6ee3e2b47dc70282a287958d9c903ecdfc059f2551157e07d\
 206287b5a2014c66b1154344188e525798d0b504
 #7848b91c0101 verified
-== example. 86400 IN TYPE6 \\# 48 036e7331076578616d706c65000561646d696e076578616d706c65007848b91c00\
-0007080000038400093a8000015180
-example. 86400 IN TYPE2 \\# 13 036e7331076578616d706c6500
-example. 86400 IN TYPE2 \\# 13 036e7332076578616d706c6500
-example. 86400 IN TYPE63 \\# 54 7848b91c010131cefb03814f5062ad12fa951ba0ef5f8da6ae354a415767246f7\
-dc932ceb1e742a2108f529db6a33a11c01493de358d
-ns1.example. 3600 IN TYPE1 \\# 4 cb00713f
-ns2.example. 3600 IN TYPE28 \\# 16 20010db8000000000000000000000063
-occluded.sub.example. 7200 IN TYPE16 \\# 34 2149276d206f63636c7564656420627574206d757374206265206\
-469676573746564
-sub.example. 7200 IN TYPE2 \\# 13 036e7331076578616d706c6500
-duplicate.example. 300 IN TYPE16 \\# 29 1c49206d757374206265206469676573746564206a757374206f6e6365
-duplicate.example. 300 IN TYPE16 \\# 29 1c49206d757374206265206469676573746564206a757374206f6e6265
-non-apex.example. 900 IN TYPE63 \\# 54 7848b91c0101616c6c6f776564206275742069676e6f7265642e20616c\
-6c6f776564206275742069676e6f7265642e20616c6c6f7765
-=>
+changed
 SHA-384 #8dd9bc935c8c7d4324faf93d7beeda89442209581a8c0ca82c8464f9ad518484eab68bb507711fad604bcb98\
 67ee0caf
 SHA-512 #1bff44765098867bab3557d15b30f4f8358c66cfb9fb8edf51740c7462d6cab8204f8f8dc09a0bbd5ef3b547\
@@ -164,6 +156,7 @@ ns1.example. 3600 IN TYPE1 \\# 4 cb00713f
 ns2.example. 86400 IN TYPE16 \\# 34 2154686973206578616d706c6520686173206d756c7469706c65206469676\
 5737473
 ns2.example. 3600 IN TYPE28 \\# 16 20010db8000000000000000000000063
+changed: 65737473 to 65737573
 =>
 SHA-384 #62e6cf51b02e54b9b5f967d547ce43136792901f9f88e637493daaf401c92c279dd10f0edb1c56f8080211f8\
 480ee306
@@ -173,21 +166,7 @@ SHA-512 #08cfa1115c7b948c4163a901270395ea226a930cd2cbcf2fa9a5e6eb85f37c8a4e114d8
 #7848b91c0102 verified
 #7848b91c01f0 unknown algorithm
 #7848b91cf101 unknown scheme
-== example. 86400 IN TYPE6 \\# 48 036e7331076578616d706c65000561646d696e076578616d706c65007848b91c00\
-0007080000038400093a8000015180
-example. 86400 IN TYPE2 \\# 13 036e7331076578616d706c6500
-example. 86400 IN TYPE2 \\# 13 036e7332076578616d706c6500
-example. 86400 IN TYPE63 \\# 54 7848b91c010162e6cf51b02e54b9b5f967d547ce43136792901f9f88e637493da\
-af401c92c279dd10f0edb1c56f8080211f8480ee306
-example. 86400 IN TYPE63 \\# 70 7848b91c010208cfa1115c7b948c4163a901270395ea226a930cd2cbcf2fa9a5e\
-6eb85f37c8a4e114d884e66f176eab121cb02db7d652e0cc4827e7a3204f166b47e5613fd27
-example. 86400 IN TYPE63 \\# 22 7848b91c01f0e2d523f654b9422a96c5a8f44607bbee
-example. 86400 IN TYPE63 \\# 26 7848b91cf101e1846540e33a9e4189792d18d5d131f605fc283e
-ns1.example. 3600 IN TYPE1 \\# 4 cb00713f
-ns2.example. 86400 IN TYPE16 \\# 34 2154686973206578616d706c6520686173206d756c7469706c65206469676\
-5737573
-ns2.example. 3600 IN TYPE28 \\# 16 20010db8000000000000000000000063
-=>
+changed
 SHA-384 #4de4f23d15d5669635a9a5f08f41e8a59f090f59d68f0331d8d1805f4b3813391337f6f233c10aa6665dada6\
 278eba57
 SHA-512 #6990b1608e1b79c17610eaf734bc0a6bacee68a3e0c37c794fb4aab7571ba1c6c4145035d5d0714b807edafa\
@@ -353,60 +332,14 @@ root-servers.net. 3600000 IN TYPE6 \\# 64 01610c726f6f742d73657276657273036e6574
 66572697369676e2d67727303636f6d007849a05c0000384000001c20001275000036ee80
 root-servers.net. 3600000 IN TYPE63 \\# 54 7849a05c0101f1ca0ccd91bd5573d9f431c00ee0101b2545c97602\
 be0a978a3b11dbfc1c776d5b3e86ae3d973d6b5349ba7f04340f79
+changed: ca0c1b21 to ca0c1a21
 =>
 SHA-384 #f1ca0ccd91bd5573d9f431c00ee0101b2545c97602be0a978a3b11dbfc1c776d5b3e86ae3d973d6b5349ba7f\
 04340f79
 SHA-512 #b51e6f9440972ce686855e1ac23b8f5c7cdfbc10a93816b464b8a34b78dddd6a3b476c5a912bd98913d7faa0\
 1660412e4f1d97eefa2d534f82a311ff372db04f
 #7849a05c0101 verified
-== root-servers.net. 3600000 IN TYPE6 \\# 64 01610c726f6f742d73657276657273036e657400056e73746c640c7\
-66572697369676e2d67727303636f6d007849a05c0000384000001c20001275000036ee80
-root-servers.net. 3600000 IN TYPE2 \\# 20 01610c726f6f742d73657276657273036e657400
-root-servers.net. 3600000 IN TYPE2 \\# 20 01620c726f6f742d73657276657273036e657400
-root-servers.net. 3600000 IN TYPE2 \\# 20 01630c726f6f742d73657276657273036e657400
-root-servers.net. 3600000 IN TYPE2 \\# 20 01640c726f6f742d73657276657273036e657400
-root-servers.net. 3600000 IN TYPE2 \\# 20 01650c726f6f742d73657276657273036e657400
-root-servers.net. 3600000 IN TYPE2 \\# 20 01660c726f6f742d73657276657273036e657400
-root-servers.net. 3600000 IN TYPE2 \\# 20 01670c726f6f742d73657276657273036e657400
-root-servers.net. 3600000 IN TYPE2 \\# 20 01680c726f6f742d73657276657273036e657400
-root-servers.net. 3600000 IN TYPE2 \\# 20 01690c726f6f742d73657276657273036e657400
-root-servers.net. 3600000 IN TYPE2 \\# 20 016a0c726f6f742d73657276657273036e657400
-root-servers.net. 3600000 IN TYPE2 \\# 20 016b0c726f6f742d73657276657273036e657400
-root-servers.net. 3600000 IN TYPE2 \\# 20 016c0c726f6f742d73657276657273036e657400
-root-servers.net. 3600000 IN TYPE2 \\# 20 016d0c726f6f742d73657276657273036e657400
-a.root-servers.net. 3600000 IN TYPE28 \\# 16 20010503ba3e00000000000000020030
-a.root-servers.net. 3600000 IN TYPE1 \\# 4 c6290004
-b.root-servers.net. 3600000 IN TYPE15 \\# 16 0014046d61696c036973690365647500
-b.root-servers.net. 3600000 IN TYPE28 \\# 16 2001050002000000000000000000000b
-b.root-servers.net. 3600000 IN TYPE1 \\# 4 c7090ec9
-c.root-servers.net. 3600000 IN TYPE28 \\# 16 2001050000020000000000000000000c
-c.root-servers.net. 3600000 IN TYPE1 \\# 4 c021040c
-d.root-servers.net. 3600000 IN TYPE28 \\# 16 20010500002d0000000000000000000d
-d.root-servers.net. 3600000 IN TYPE1 \\# 4 c7075b0d
-e.root-servers.net. 3600000 IN TYPE28 \\# 16 2001050000a80000000000000000000e
-e.root-servers.net. 3600000 IN TYPE1 \\# 4 c0cbe60a
-f.root-servers.net. 3600000 IN TYPE28 \\# 16 20010500002f0000000000000000000f
-f.root-servers.net. 3600000 IN TYPE1 \\# 4 c00505f1
-g.root-servers.net. 3600000 IN TYPE28 \\# 16 20010500001200000000000000000d0d
-g.root-servers.net. 3600000 IN TYPE1 \\# 4 c0702404
-h.root-servers.net. 3600000 IN TYPE28 \\# 16 20010500000100000000000000000053
-h.root-servers.net. 3600000 IN TYPE1 \\# 4 c661be35
-i.root-servers.net. 3600000 IN TYPE15 \\# 25 000a026d7801690c726f6f742d73657276657273036f726700
-i.root-servers.net. 3600000 IN TYPE28 \\# 16 200107fe000000000000000000000053
-i.root-servers.net. 3600000 IN TYPE1 \\# 4 c0249411
-j.root-servers.net. 3600000 IN TYPE28 \\# 16 200105030c2700000000000000020030
-j.root-servers.net. 3600000 IN TYPE1 \\# 4 c03a801e
-k.root-servers.net. 3600000 IN TYPE28 \\# 16 200107fd000000000000000000000001
-k.root-servers.net. 3600000 IN TYPE1 \\# 4 c1000e81
-l.root-servers.net. 3600000 IN TYPE28 \\# 16 20010500009f00000000000000000042
-l.root-servers.net. 3600000 IN TYPE1 \\# 4 c707532a
-m.root-servers.net. 3600000 IN TYPE28 \\# 16 20010dc3000000000000000000000035
-m.root-servers.net. 3600000 IN TYPE1 \\# 4 ca0c1a21
-root-servers.net. 3600000 IN TYPE6 \\# 64 01610c726f6f742d73657276657273036e657400056e73746c640c7\
-66572697369676e2d67727303636f6d007849a05c0000384000001c20001275000036ee80
-root-servers.net. 3600000 IN TYPE63 \\# 54 7849a05c0101f1ca0ccd91bd5573d9f431c00ee0101b2545c97602\
-be0a978a3b11dbfc1c776d5b3e86ae3d973d6b5349ba7f04340f79
-=>
+changed
 SHA-384 #f86720377ccf97eee9af218a55a26102ca26a1dfb8225d6bc058e99822272122ad5236fc2be6b53b051836f7\
 16cc9c74
 SHA-512 #96f03e482cb007d688ca1c0621dfa83a3a6cda0b9332eb0f8b71de69eaa07408b4985f3256915a8302f68e89\
