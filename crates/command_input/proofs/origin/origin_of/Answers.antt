@@ -1,5 +1,5 @@
-use Rattle.zone_command.proofs.Asked.{no_origin, not_same}
-use Rattle.zone_command.proofs.order.origin_of.Goals as goal
+use Rattle.command_input.proofs.Origins.{no_origin, not_same}
+use Rattle.command_input.proofs.origin.origin_of.Goals as goal
 
 pub fault_of-requires : goal.fault_of-requires
 fault_of-requires c =

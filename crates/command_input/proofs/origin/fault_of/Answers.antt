@@ -1,5 +1,5 @@
-use Rattle.zone_command.proofs.Asked.{no_name, not_same}
-use Rattle.zone_command.proofs.order.fault_of.Goals as goal
+use Rattle.command_input.proofs.Origins.{no_name, not_same}
+use Rattle.command_input.proofs.origin.fault_of.Goals as goal
 
 pub returns-in-Ok : goal.returns-in-Ok
 returns-in-Ok c = record {

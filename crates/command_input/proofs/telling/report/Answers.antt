@@ -1,4 +1,4 @@
-use Rattle.zone_command.proofs.program.report.Goals as goal
+use Rattle.command_input.proofs.telling.report.Goals as goal
 
 pub returns-in-Refused : goal.returns-in-Refused
 returns-in-Refused g c = rw c.in-Refused.is c.tell_refusal.ensures
