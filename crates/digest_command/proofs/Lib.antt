@@ -1,0 +1,4 @@
+mod Asked
+mod Findings
+mod Answering
+mod Statuses
