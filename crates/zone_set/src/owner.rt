@@ -214,8 +214,8 @@ pub(crate) fn past_far(name: &[u8], near: usize) -> &[u8]
     left
 }
 
-/// What follows the first label, or the first eight that have an octet each, as those of an address
-/// in ip6.arpa have (RFC 3596 2.5). `None`: fewer octets than said follow.
+/// What follows the first label, or the first eight or four that have an octet each, as those of an
+/// address in ip6.arpa have (RFC 3596 2.5). `None`: fewer octets than said follow.
 fn past_first(name: &[u8], near: usize) -> Option<&[u8]>
     ensures shorter { IfSome result (λ rest. length rest.now < length name.now) }
     ensures far { IfSome result (λ rest. near ≤ length rest.now) }
@@ -229,8 +229,14 @@ fn past_first(name: &[u8], near: usize) -> Option<&[u8]>
     if let Some(rest) = past_eight(name, near) {
         return Some(rest);
     }
-    let (_, rest) = first_label(name)?;
-    if rest.len() >= near { Some(rest) } else { None }
+    match name {
+        [a, _, b, _, c, _, d, _, rest @ ..]
+            if *a == 1 && *b == 1 && *c == 1 && *d == 1 && rest.len() >= near => { Some(rest) }
+        _ => {
+            let (_, rest) = first_label(name)?;
+            if rest.len() >= near { Some(rest) } else { None }
+        }
+    }
 }
 
 /// What follows the first labels of one octet each, passed by eight as far as octets follow that

@@ -12,6 +12,15 @@ each_placed P [] ps each = tt
 each_placed P (r ∷ rs) [] each = tt
 each_placed P (r ∷ rs) (p ∷ ps) each = (each.0, each_placed P rs ps each.1)
 
+-- where records or places end, those before are all
+pub all_taken : (placed taken : List Placed) (records : List Record) (places : List Place) → placed ≡ taken ++ placed_at records places → (records ≡ []) ⊎ (places ≡ []) → taken ≡ placed
+all_taken placed taken records places parts none = sym (parts ∙ ap (λ ps. taken ++ ps) (left records places none) ∙ append-nil taken)
+  where
+    left : (rs : List Record) (ps : List Place) → (rs ≡ []) ⊎ (ps ≡ []) → placed_at rs ps ≡ []
+    left [] ps none = refl
+    left (r ∷ rs) [] none = refl
+    left (r ∷ rs) (p ∷ ps) none = grind arith
+
 records_placed : (rs : List Record) (ps : List Place) → length ps ≡ length rs → records_of (placed_at rs ps) ≡ rs
 records_placed [] ps same = refl
 records_placed (r ∷ rs) [] same = cc

@@ -1,5 +1,6 @@
 -- Records that are read back in the order in which they came.
 use Rattle.zone_set.proofs.Common.{arith, Accepts, Adds, AddsEach, AllByRecursion, AllByRecursion-front, IsRecord, IsSettledAs, List, Place, Placed, Record, Stop, StopsAdd, StopsSettling, [], ap, append-nil, append_assoc, fault, memory, placed_at, refl, subst, sym, ◌++◌, ◌∙◌, ◌∷◌, ◌≡◌, ◌⊎◌}
+use Rattle.zone_set.proofs.Lists.ListPush.{all_taken}
 use Rattle.zone_set.proofs.Lists.Taking.{AddsEach-push}
 use Rattle.zone_set.specs.ZoneList as zone_list
 use Rattle.zone_set.proofs.Lists.Listing.{IsSettledAs-offered, StopsSettling-offered}
@@ -28,12 +29,4 @@ module _ (placed : List Placed) (held : List Record) (r : Record) (place : Place
       StopsSettling-offered placed had.taken (placed_at records places) Now held f had.parts (AllByRecursion-front (λ (p : Placed). IsRecord p.rr) had.taken (placed_at (r ∷ records) (place ∷ places)) each) had.each refused
 
 pub IsSettledAs-at_end : (placed : List Placed) (held records : List Record) (places : List Place) → AllByRecursion (λ p. IsRecord p.rr) placed → HasOffered placed held records places → (records ≡ []) ⊎ (places ≡ []) → IsSettledAs placed held
-IsSettledAs-at_end placed held records places whole had none = IsSettledAs-offered placed held whole (subst (λ ps. AddsEach [] ps held) all had.each)
-  where
-    left : (rs : List Record) (ps : List Place) → (rs ≡ []) ⊎ (ps ≡ []) → placed_at rs ps ≡ []
-    left [] ps none = refl
-    left (r ∷ rs) [] none = refl
-    left (r ∷ rs) (p ∷ ps) none = grind arith
-
-    all : had.taken ≡ placed
-    all = sym (had.parts ∙ ap (λ ps. had.taken ++ ps) (left records places none) ∙ append-nil had.taken)
+IsSettledAs-at_end placed held records places whole had none = IsSettledAs-offered placed held whole (subst (λ ps. AddsEach [] ps held) (all_taken placed had.taken records places had.parts none) had.each)

@@ -2,6 +2,7 @@
 use Rattle.std.specs.Prelude.{IfOk}
 use Rattle.zone_set.proofs.Common.{Bool, Err, Ok, Result, true, Accepts, AllAccepted, AllByRecursion, AllByRecursion-back, Entry, IsEntry, all_records, drop, entry_record, placed_at, suc, zero, ℕ, Fault, Has, InOneSet, IsRefusedFor, IsSettledAs, List, OtherClass, Place, Placed, Record, SameRecords, Stop, StopsSettling, [], ap, append-nil, append_assoc, arith, inl, inr, map-append, records_of, refl, subst, sym, ⊎_elim, ◌++◌, ◌↔◌, ◌∙◌, ◌∷◌, ◌≡◌, ◌≢◌, ◌⊎◌}
 use Rattle.zone_set.proofs.Holding.Together.{flipped}
+use Rattle.zone_set.proofs.Lists.ListPush.{all_taken}
 use Rattle.zone_set.proofs.Lists.Looking.{each_drop}
 use Rattle.zone_set.proofs.Ordering.Between.{Has-append}
 use Rattle.zone_set.specs.Builder as builder
@@ -248,12 +249,4 @@ module _ (placed kept : List Placed) (r : Record) (place : Place) (records : Lis
   next_has P each = (AllByRecursion-back (λ p. P p.rr) had.taken (placed_at (r ∷ records) (place ∷ places)) (subst (AllByRecursion (λ p. P p.rr)) had.parts each)).0
 
 pub Tells-at_end : (placed kept : List Placed) (records : List Record) (places : List Place) → HasThinned placed kept records places → (records ≡ []) ⊎ (places ≡ []) → Tells placed kept
-Tells-at_end placed kept records places had none = subst (λ ps. Tells ps kept) all had.tells
-  where
-    left : (rs : List Record) (ps : List Place) → (rs ≡ []) ⊎ (ps ≡ []) → placed_at rs ps ≡ []
-    left [] ps none = refl
-    left (r ∷ rs) [] none = refl
-    left (r ∷ rs) (p ∷ ps) none = grind arith
-
-    all : had.taken ≡ placed
-    all = sym (had.parts ∙ ap (λ ps. had.taken ++ ps) (left records places none) ∙ append-nil had.taken)
+Tells-at_end placed kept records places had none = subst (λ ps. Tells ps kept) (all_taken placed had.taken records places had.parts none) had.tells

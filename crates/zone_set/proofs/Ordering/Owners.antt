@@ -1,5 +1,5 @@
 -- Owners whose first labels tell how they lie.
-use Rattle.zone_set.proofs.Common.{append_assoc, drop, flat_map, length, refl, take, wire, arith, AreFirst, Equal, Greater, IsFirst, Less, List, [], ap, ap₂, map, label_cmp, name_cmp, name_cmp-total, nat_cmp, nil_from_length, ordering_reverse, Ordering, ordering_then, reverse, reverse-append, slice_cmp, subst, sym, take-append-drop, then_equal, ℕ, ◌∙◌, ◌∷◌, ◌++◌, ◌≡◌, ◌≢◌}
+use Rattle.zone_set.proofs.Common.{append_assoc, drop, flat_map, length, refl, take, wire, ◌≤◌, arith, AreFirst, Equal, Greater, IsFirst, Less, List, [], ap, ap₂, map, label_cmp, name_cmp, name_cmp-total, nat_cmp, nil_from_length, ordering_reverse, Ordering, ordering_then, reverse, reverse-append, slice_cmp, slice_index_or, subst, sym, take-append-drop, then_equal, ℕ, ◌∙◌, ◌∷◌, ◌++◌, ◌≡◌, ◌≢◌}
 use Rattle.zone_name.proofs.InOctets.Octets.{labels_of-cons, labels_of-open}
 pub use Rattle.zone_name.proofs.InOctets.Octets.{root_label}
 use Rattle.std.proofs.Math.Seq.{drop-append_seam, take-append_seam}
@@ -138,3 +138,23 @@ after_more name left rest first next = record {
   front = first.front ++ next.front;
   parts = first.parts ∙ ap (λ ls. first.front ++ ls) next.parts ∙ sym (append_assoc first.front next.front (labels_of rest));
 }
+
+-- and with those after four of one octet each
+pub end_four : (octets : List ℕ) → 8 ≤ length octets → slice_index_or octets 0 0 ≡ 1 → slice_index_or octets 2 0 ≡ 1 → slice_index_or octets 4 0 ≡ 1 → slice_index_or octets 6 0 ≡ 1
+    → (labels : List (List ℕ)) → octets ≡ wire labels → IsEndOf labels (drop 8 octets)
+end_four [] long p q r s labels is = absurd (omega (arith, long))
+end_four (_ ∷ []) long p q r s labels is = absurd (omega (arith, long))
+end_four (_ ∷ (_ ∷ [])) long p q r s labels is = absurd (omega (arith, long))
+end_four (_ ∷ (_ ∷ (_ ∷ []))) long p q r s labels is = absurd (omega (arith, long))
+end_four (_ ∷ (_ ∷ (_ ∷ (_ ∷ [])))) long p q r s labels is = absurd (omega (arith, long))
+end_four (_ ∷ (_ ∷ (_ ∷ (_ ∷ (_ ∷ []))))) long p q r s labels is = absurd (omega (arith, long))
+end_four (_ ∷ (_ ∷ (_ ∷ (_ ∷ (_ ∷ (_ ∷ [])))))) long p q r s labels is = absurd (omega (arith, long))
+end_four (_ ∷ (_ ∷ (_ ∷ (_ ∷ (_ ∷ (_ ∷ (_ ∷ []))))))) long p q r s labels is = absurd (omega (arith, long))
+end_four (w ∷ (a ∷ (x ∷ (b ∷ (y ∷ (c ∷ (z ∷ (d ∷ rest)))))))) long p q r s labels is =
+    let fourth = z ∷ (d ∷ rest) in
+    let third = y ∷ (c ∷ fourth) in
+    let second = x ∷ (b ∷ third) in
+    let one : IsEndOf labels second = end_first (w ∷ (a ∷ second)) (a ∷ []) second (one_octet w a second p) labels is in
+    let two : IsEndOf labels third = end_more labels second third one (end_first second (b ∷ []) third (one_octet x b third q)) in
+    let three : IsEndOf labels fourth = end_more labels third fourth two (end_first third (c ∷ []) fourth (one_octet y c fourth r)) in
+    end_more labels fourth rest three (end_first fourth (d ∷ []) rest (one_octet z d rest s))
