@@ -71,12 +71,12 @@ map_same p q [] same = refl
 map_same p q (x ∷ v) same = ap₂ (λ b bs. b ∷ bs) (same x) (map_same p q v same)
 
 -- the bits of lanes that are one octet or the other
-pub either_mask : (one other : ℕ) (v : List ℕ) → length v ≡ 64 → mask_l (map (top 7) (zip2 bit_or (zip2 same_mask v (replicate 64 one)) (zip2 same_mask v (replicate 64 other)))) % 2 ^ 64 ≡ mask_l (map (is_either one other) v)
-either_mask one other v long =
+pub either_mask : (n one other : ℕ) (v : List ℕ) → n ≤ 64 → length v ≡ n → mask_l (map (top 7) (zip2 bit_or (zip2 same_mask v (replicate n one)) (zip2 same_mask v (replicate n other)))) % 2 ^ 64 ≡ mask_l (map (is_either one other) v)
+either_mask n one other v few long =
     let f : ℕ → ℕ = λ x. bit_or (same_mask x one) (same_mask x other) in
-    ap (λ l. mask_l (map (top 7) l) % 2 ^ 64) (zip2_of_maps bit_or (λ x. same_mask x one) (λ x. same_mask x other) v (zip2_splat same_mask v 64 one long) (zip2_splat same_mask v 64 other long))
+    ap (λ l. mask_l (map (top 7) l) % 2 ^ 64) (zip2_of_maps bit_or (λ x. same_mask x one) (λ x. same_mask x other) v (zip2_splat same_mask v n one long) (zip2_splat same_mask v n other long))
     ∙ ap (λ l. mask_l l % 2 ^ 64) (map-map (top 7) f v)
-    ∙ mask_l-mod (map (λ x. top 7 (f x)) v) 64 (omega (arith, length-map v (λ x. top 7 (f x)), long))
+    ∙ mask_l-mod (map (λ x. top 7 (f x)) v) 64 (omega (arith, length-map v (λ x. top 7 (f x)), long, few))
     ∙ ap mask_l (map_same (λ x. top 7 (f x)) (is_either one other) v (λ x. either_bits (x == one) (x == other)))
 
 abbrev pub goes_on : ℕ → Bool

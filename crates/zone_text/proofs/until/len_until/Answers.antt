@@ -4,19 +4,20 @@ use Rattle.zone_text.proofs.Scanning.StopMarks.{either_mask, first_seen, is_eith
 use Rattle.zone_text.proofs.until.len_until.Goals as goal
 use lib.Lanes.{chunk}
 
-pub returns-then-bits-ne0-clause-len : goal.returns-then-bits-ne0-clause-len
-returns-then-bits-ne0-clause-len c =
-    let long = length-chunk c.loop-len.len 64 c.args.octets.now (omega (arith, c.loop-len.invariant.within, c.loop-len-test.true)) in
-    (first_seen (is_either c.args.one c.args.other) c.args.octets.now c.loop-len.len 64 _ _ (omega arith) c.loop-len-test.true
-    (either_mask c.args.one c.args.other (chunk c.loop-len.len 64 c.args.octets.now) long)
-    c.if-bits-ne0.true c.loop-len.invariant.so_far).0
+pub returns-then-bits-ne0 : goal.returns-then-bits-ne0
+returns-then-bits-ne0 c =
+    let long = length-chunk c.loop-len.len 16 c.args.octets.now (omega (arith, c.loop-len.invariant.within, c.loop-len-test.true)) in
+    let found = first_seen (is_either c.args.one c.args.other) c.args.octets.now c.loop-len.len 16 _ _ (omega arith) c.loop-len-test.true
+    (either_mask 16 c.args.one c.args.other (chunk c.loop-len.len 16 c.args.octets.now) (omega arith) long)
+    c.if-bits-ne0.true c.loop-len.invariant.so_far in
+    record { len = found.0; within = found.1 }
 
 pub loop-len-preserved : goal.loop-len-preserved
 loop-len-preserved c =
-    let long = length-chunk c.loop-len.len 64 c.args.octets.now (omega (arith, c.loop-len.invariant.within, c.loop-len-test.true)) in
+    let long = length-chunk c.loop-len.len 16 c.args.octets.now (omega (arith, c.loop-len.invariant.within, c.loop-len-test.true)) in
     record {
       within = omega (arith, c.loop-len.invariant.within, c.loop-len-test.true);
-      so_far = none_past (is_either c.args.one c.args.other) c.args.octets.now c.loop-len.len 64 _ _ c.loop-len-test.true
-          (either_mask c.args.one c.args.other (chunk c.loop-len.len 64 c.args.octets.now) long)
+      so_far = none_past (is_either c.args.one c.args.other) c.args.octets.now c.loop-len.len 16 _ _ c.loop-len-test.true
+          (either_mask 16 c.args.one c.args.other (chunk c.loop-len.len 16 c.args.octets.now) (omega arith) long)
           c.if-bits-ne0.false c.loop-len.invariant.so_far;
     }
