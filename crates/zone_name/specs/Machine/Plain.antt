@@ -1,6 +1,6 @@
 -- How a text without escapes becomes octets: each label's length takes the place of the dot before
 -- it.
-use Rattle.std.specs.Prelude.{◌≡◌, ℕ, ◌≤◌, ◌-◌, ◌*◌, List, [], ◌∷◌, ◌++◌, length, map, drop, Bool, not, ◌||◌, ◌==◌}
+use Rattle.std.specs.Prelude.{◌≡◌, ℕ, ◌≤◌, ◌-◌, ◌*◌, List, ◌∷◌, ◌++◌, length, map, drop, Bool, not, ◌||◌, ◌==◌}
 use Rattle.std.specs.List.{flat_map, AllByRecursion}
 use Rattle.std.specs.Simd.Lanes.{chunk, mask_l, put_chunk}
 use Rattle.zone_name.specs.Common.{each_after}

@@ -1,5 +1,5 @@
 -- Records that are read back in the order in which they came.
-use Rattle.zone_set.proofs.Common.{arith, Accepts, Adds, AddsEach, AllByRecursion, AllByRecursion-front, IsRecord, IsSettledAs, List, Place, Placed, Record, Stop, StopsAdd, StopsSettling, [], ap, append-nil, append_assoc, fault, memory, placed_at, refl, subst, sym, ◌++◌, ◌∙◌, ◌∷◌, ◌≡◌, ◌⊎◌}
+use Rattle.zone_set.proofs.Common.{Accepts, Adds, AddsEach, AllByRecursion, AllByRecursion-front, IsRecord, IsSettledAs, List, Place, Placed, Record, Stop, StopsAdd, StopsSettling, [], append_assoc, fault, memory, placed_at, subst, sym, ◌++◌, ◌∙◌, ◌∷◌, ◌≡◌, ◌⊎◌}
 use Rattle.zone_set.proofs.Lists.ListPush.{all_taken}
 use Rattle.zone_set.proofs.Lists.Taking.{AddsEach-push}
 use Rattle.zone_set.specs.ZoneList as zone_list

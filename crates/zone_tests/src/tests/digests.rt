@@ -87,7 +87,11 @@ impl Question for Whole {
         push_text(out, "changed")?;
         let (old, new) = parted(change.trim_end(), " to ")?;
         let (front, rest) = file.rsplit_once(old).ok_or(change)?;
-        push_whole(alloc, out, format!(in alloc; "{front}{new}{rest}")?.as_str())
+        push_whole(
+            alloc,
+            out,
+            format!(in alloc; "{front}{new}{rest}")?.as_str(),
+        )
     }
 }
 

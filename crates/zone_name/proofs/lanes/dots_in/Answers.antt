@@ -1,6 +1,6 @@
 use Rattle.std.proofs.lemmas.Simd.{swz_l}
 use Rattle.std.specs.Int.Bits.{bit_and}
-use Rattle.zone_name.proofs.Common.{Bool, List, ap, arith, bitmask_splat, chunk-fits, cond, count_ones, eqb, get_or, is_bare, is_dot, length, length-chunk, ltb, map, mask_l-mod, not, ones-mask_l, refl, replicate, splat_is_map, sym, w8, zip2_of_maps, zip2_splat, ℕ, ◌∙◌, ◌≡◌}
+use Rattle.zone_name.proofs.Common.{Bool, List, ap, arith, bitmask_splat, chunk-fits, cond, count_ones, eqb, get_or, is_bare, is_dot, length, length-chunk, ltb, map, not, ones-mask_l, refl, replicate, splat_is_map, sym, w8, zip2_of_maps, zip2_splat, ℕ, ◌∙◌, ◌≡◌}
 use Rattle.zone_name.proofs.InOctets.LookedUp.{looked_up, low_places}
 use Rattle.zone_name.proofs.InOctets.OctetLanes.{all_pass, itself, mask_is, some_fail}
 use Rattle.zone_name.specs.declared.lanes.TheConstants.{ODD_BY_LOW_BITS}
