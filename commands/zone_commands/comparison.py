@@ -222,11 +222,13 @@ class Comparing:
 
     def verify(self, text, name):
         """Fails where the ZONEMD records of a canonical text don't verify it."""
-        with open(text.path, "rb") as file, open(self.path("verified"), "wb") as out:
-            status, why = PROGRAMS.run([ZONEDIGEST, "verify", "."], file, out)
+        with open(text.path, "rb") as file, open(self.path("verdicts"), "w+b") as verdicts:
+            status, why = PROGRAMS.run([ZONEDIGEST, "verify", "."], file, verdicts)
+            verdicts.seek(0)
+            told = verdicts.read().decode("ascii", "backslashreplace").strip()
         if status == DIFFERENT:
-            why = why.replace("\nnot verified: ", "; ")
-            raise Failed(REFUSED, f"{name} is {why}")
+            told = told.replace("\nnot verified: ", "; ")
+            raise Failed(REFUSED, f"{name} is {told}")
         if status:
             raise Failed(FAILED, f"{name}: {why}")
 
