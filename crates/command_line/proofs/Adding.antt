@@ -1,13 +1,13 @@
 -- Arguments and commands that are added one after another.
 use Rattle.std.proofs.Common.{arith, ◌≡◌, false, List, [], ◌∷◌, ◌++◌, refl, sym, ap, ap₂, ◌∙◌, map, ℕ, ◌+◌, ◌<◌, length, take, get_or}
 use Rattle.std.proofs.lemmas.List.{map_push, take_more}
-use Rattle.clap.specs.Words.{App, AddsArg, Rule, Text, app_of, rule_of, with_rule, with_subcommand}
+use Rattle.clap.specs.Words.{App, AddsArg, Text, app_of, rule_of, with_rule, with_subcommand}
 use Rattle.clap.specs.Walk.{is_empty}
 use Rattle.clap.specs.declared.builder.Arg.{Arg}
 use Rattle.clap.specs.declared.builder.Command.{Command}
 use Rattle.clap.specs.declared.builder.Command.TheViews.{out-Command as fields_of}
-use Rattle.command_line.specs.Calls.{argument, command_app, program_of}
-use Rattle.command_line.specs.Program.{app_of_command}
+use Rattle.command_line.specs.Calls.{command_with, program_of}
+use Rattle.command_line.specs.Program.{app_of_command, rule_of_argument}
 use Rattle.command_line.specs.declared.program.Argument.{Argument}
 use Rattle.command_line.specs.declared.program.ProgramCommand.{ProgramCommand}
 
@@ -15,21 +15,19 @@ use Rattle.command_line.specs.declared.program.ProgramCommand.{ProgramCommand}
 
 -- the command has these arguments so far, of which none is global
 pub record HasArguments (word : Text) (rows : List Argument) (command : Command) : Type 0 where
-  pub is : app_of command ≡ command_app word (map (λ (row : Argument). row.id.now) rows)
+  pub is : app_of command ≡ command_with word (map rule_of_argument rows)
   pub local : (fields_of command).has_globals ≡ false
 
-with_one_argument : (word : Text) (rows : List Argument) (row : Argument) → with_rule (command_app word (map (λ (r : Argument). r.id.now) rows)) (argument row.id.now) ≡ command_app word (map (λ (r : Argument). r.id.now) (rows ++ row ∷ []))
-with_one_argument word rows row =
-    ap (λ (rules : List Rule). let app = command_app word [] in record app { top = record app.top { rules = rules } })
-    (sym (map_push argument (map (λ (r : Argument). r.id.now) rows) row.id.now) ∙ ap (map argument) (sym (map_push (λ (r : Argument). r.id.now) rows row)))
+with_one_argument : (word : Text) (rows : List Argument) (row : Argument) → with_rule (command_with word (map rule_of_argument rows)) (rule_of_argument row) ≡ command_with word (map rule_of_argument (rows ++ row ∷ []))
+with_one_argument word rows row = ap (command_with word) (sym (map_push rule_of_argument rows row))
 
 -- the command with its first arguments gets the next one
 pub one_argument_more : (word : Text) (rows : List Argument) (i : ℕ) (other : Argument) (command new : Command) (added : Arg) → i < length rows → HasArguments word (take i rows) command
-    → rule_of added ≡ argument (get_or rows i other).id.now → added.global ≡ false → AddsArg command added new
+    → rule_of added ≡ rule_of_argument (get_or rows i other) → added.global ≡ false → AddsArg command added new
     → HasArguments word (take (i + 1) rows) new
 one_argument_more word rows i other command new added lt has rule not_global adds = record {
   is = adds.shape not_global ∙ ap₂ with_rule has.is rule ∙ with_one_argument word (take i rows) (get_or rows i other)
-      ∙ ap (λ (taken : List Argument). command_app word (map (λ (row : Argument). row.id.now) taken)) (sym (take_more rows i other lt));
+      ∙ ap (λ (taken : List Argument). command_with word (map rule_of_argument taken)) (sym (take_more rows i other lt));
   local = rw (adds.globals, has.local, not_global) refl;
 }
 

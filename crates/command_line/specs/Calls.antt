@@ -1,8 +1,9 @@
 -- What the words of a command line call, by `clap` (this project's own).
-use Rattle.std.specs.Prelude.{◌≡◌, ◌≢◌, ◌++◌, ◌∷◌, true, List, [], map, codes, string_bytes, Option, Some}
+use Rattle.std.specs.Prelude.{◌≡◌, ◌≢◌, ◌++◌, ◌∷◌, Bool, true, if◌then◌else◌, List, [], map, codes, string_bytes, Option, Some}
 use Rattle.std.specs.List.{AllByRecursion}
 use Rattle.clap.specs.Words.{App, Row, Rule, Text, new_rule, new_app, subcommand_of, first_of, fault_of, is_simple_and_free}
 use Rattle.clap.specs.Walk.{is_empty}
+use Rattle.clap.specs.declared.builder.action.ArgAction.TheVariants.{SetTrue}
 use Rattle.zone_name.specs.Common.{NothingIs}
 use Rattle.command_line.specs.declared.no_call.NoCall.{NoCall}
 use Rattle.command_line.specs.declared.no_call.NoCall.TheVariants.{Told, Memory}
@@ -11,10 +12,22 @@ use Rattle.command_line.specs.declared.no_call.NoCall.TheVariants.{Told, Memory}
 abbrev pub argument : Text → Rule
 argument id = record (new_rule id) { required = true }
 
--- a command with its arguments in order
+-- a flag, two hyphens and its name, which may be given
+abbrev pub flag : Text → Rule
+flag id = record (new_rule id) { long = Some id; action = Some SetTrue }
+
+-- the text that stands for a flag that was given, and for one that wasn't
+abbrev pub flag_text : Bool → Text
+flag_text given = if given then codes "true" else codes "false"
+
+-- a command with its arguments and flags, the arguments in order
+abbrev pub command_with : Text → List Rule → App
+command_with word rules = let app = new_app word in
+    record app { top = record app.top { rules = rules } }
+
+-- a command of arguments alone
 abbrev pub command_app : Text → List Text → App
-command_app word ids = let app = new_app word in
-    record app { top = record app.top { rules = map argument ids } }
+command_app word ids = command_with word (map argument ids)
 
 -- a program with its commands, as `clap` sees it. It is handed the words after its name, and has a
 -- version to tell.

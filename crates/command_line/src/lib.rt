@@ -3,15 +3,17 @@
 #![tactic(auto)]
 
 mod calling;
+mod flag;
 mod given;
 mod no_call;
 mod program;
 mod reading;
 
 pub use calling::{FromMatches, after_name, call_of};
+pub use flag::flag_of;
 pub use given::given_words;
 pub use no_call::NoCall;
-pub use program::{Argument, Program, ProgramCommand};
+pub use program::{Argument, ArgumentKind, Program, ProgramCommand};
 
 /// The version of the programs, and what one of them tells behind it.
 #[macro_export]

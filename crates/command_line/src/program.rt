@@ -26,15 +26,27 @@ pub struct ProgramCommand {
     pub about: &'static str,
     /// How it is called.
     pub usage: &'static str,
-    /// Its arguments in order. Each is one required word.
+    /// Its arguments, those that are words in order.
     pub arguments: &'static [Argument],
 }
 
 /// An argument of a command.
 #[derive(Clone, Copy, Debug)]
 pub struct Argument {
-    /// What stands for it in a usage, by which its text is found.
+    /// What stands for it in a usage, by which its text is found; of a flag what follows its two
+    /// hyphens.
     pub id: &'static str,
     /// What it is.
     pub help: &'static str,
+    /// How it is given.
+    pub kind: ArgumentKind,
+}
+
+/// How an argument is given.
+#[derive(Clone, Copy, Debug)]
+pub enum ArgumentKind {
+    /// As one required word.
+    Word,
+    /// As a flag, two hyphens and its name, or not at all. Its text is then `true` or `false`.
+    Flag,
 }

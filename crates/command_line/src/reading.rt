@@ -2,12 +2,11 @@
 ghost use Rattle.std.specs.Prelude.{◌≡◌, false, IfOk, Some};
 ghost use Rattle.clap.specs.Words.{app_of, rule_of};
 ghost use Rattle.clap.specs.declared.builder.Command.TheViews.{out-Command as fields_of};
-ghost use Rattle.command_line.specs.Calls.{argument as argument_rule};
 ghost use Rattle.command_line.specs.Machine.Adding.{ShowsTexts};
-ghost use Rattle.command_line.specs.Program.{app_described, app_of_command};
+ghost use Rattle.command_line.specs.Program.{app_described, app_of_command, rule_of_argument};
 
-use crate::program::{Argument, Program, ProgramCommand};
-use clap::{Arg, Command};
+use crate::program::{Argument, ArgumentKind, Program, ProgramCommand};
+use clap::{Arg, ArgAction, Command};
 use std::alloc::{AllocError, Global};
 
 /// The program with its commands. It is handed the words after its name.
@@ -54,13 +53,15 @@ fn readable_command<'a>(
     )
 }
 
-/// An argument, one required word.
+/// An argument.
 fn readable_argument<'a>(alloc: Global, argument: &Argument) -> Arg<'a>
-    ensures rule { rule_of result ≡ argument_rule argument.now.id.now }
+    ensures rule { rule_of result ≡ rule_of_argument argument.now }
     ensures local { result.global ≡ false }
     ensures help { result.help ≡ Some argument.now.help }
 {
-    Arg::new(alloc, argument.id)
-        .required(true)
-        .help(argument.help)
+    let readable = Arg::new(alloc, argument.id).help(argument.help);
+    match argument.kind {
+        ArgumentKind::Word => readable.required(true),
+        ArgumentKind::Flag => readable.long(argument.id).action(ArgAction::SetTrue),
+    }
 }

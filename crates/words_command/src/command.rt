@@ -1,6 +1,6 @@
 //! The program as a table: its commands, and the texts of its help.
 
-use command_line::{Argument, Program, ProgramCommand, version};
+use command_line::{Argument, ArgumentKind, Program, ProgramCommand, version};
 
 /// The program and its commands.
 pub(crate) static PROGRAM: Program = Program {
@@ -17,6 +17,7 @@ pub(crate) static PROGRAM: Program = Program {
             arguments: &[Argument {
                 id: "ORIGIN",
                 help: "The file's origin, an absolute name",
+                kind: ArgumentKind::Word,
             }],
         },
         ProgramCommand {

@@ -18,7 +18,7 @@ pub use Rattle.zone_engine.specs.Compare.{Compares, StopsCompare}
 pub use Rattle.zone_engine.specs.Input.{Input}
 pub use Rattle.zone_command.specs.Machine.Telling.{TellsVerdict, told, untold}
 pub use Rattle.zone_engine.specs.Normalise.{Normalises, StopsNormalise}
-pub use Rattle.zone_command.specs.Order.{Asks, Call, IsLineFault, IsOriginText, Orders, arguments_of, command_of, commands}
+pub use Rattle.zone_command.specs.Order.{Asks, Call, IsLineFault, Orders, arguments_of, command_of, commands}
 pub use Rattle.zone_command.specs.Run.{AreCompared, Devices, IsStopped, Runs}
 pub use Rattle.zone_engine.specs.Reading.{ReadsToEnd, ReadsWhole, StopsReading, TellsRead}
 pub use Rattle.zone_engine.specs.Telling.{TellsLine, WritesPartOfLine, stop_line, stop_status, verdict_line, which_words}

@@ -1,4 +1,3 @@
 pub mod Common
 pub mod Asked
 pub mod Running
-pub mod Telling

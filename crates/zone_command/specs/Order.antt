@@ -1,18 +1,14 @@
 -- What a command line asks for (this project's own).
-use Rattle.std.specs.Prelude.{◌≡◌, ◌≢◌, ℕ, List, [], ◌∷◌, ◌++◌, codes, string_bytes, Option, Some, None, ◌⊎◌, refl}
+use Rattle.std.specs.Prelude.{◌≡◌, List, [], ◌∷◌, codes, string_bytes, Option, ◌⊎◌, refl}
 use Rattle.clap.specs.Words.{App, Text}
 use Rattle.command_line.specs.Calls.{Calls, Commands, HasNoFinalLineFeed, command_app, program_of}
-use Rattle.command_line.specs.declared.no_call.NoCall.{NoCall}
-use Rattle.command_line.specs.declared.no_call.NoCall.TheVariants as no_calls
 use Rattle.zone_name.specs.Common.{NothingIs, Labels}
-use Rattle.zone_name.specs.Spelling.{Spells}
-use Rattle.zone_rdata.specs.declared.fault.Stop.TheVariants.{Memory}
-use Rattle.zone_engine.specs.Telling.{stop_line}
+use Rattle.command_input.specs.Origin.{IsNoOrigin, IsOriginText, IsUndotted}
+use Rattle.command_input.specs.declared.line_fault.LineFault.{LineFault}
+use Rattle.command_input.specs.declared.line_fault.LineFault.TheVariants as line_faults
 use Rattle.zone_command.specs.declared.order.Source.{Source}
 use Rattle.zone_command.specs.declared.order.Order.{Order}
 use Rattle.zone_command.specs.declared.order.Order.TheVariants.{Normalise, Explain, Compare}
-use Rattle.zone_command.specs.declared.order.LineFault.{LineFault}
-use Rattle.zone_command.specs.declared.order.LineFault.TheVariants as line_faults
 
 -- the program with its commands and their arguments, as `clap` sees it
 abbrev pub program_app : App
@@ -54,12 +50,6 @@ commands = record {
   simple = refl;
 }
 
--- what a text given as an origin asks for: the word `transfer` for a transfer, any other
--- text for a master file under the origin that it spells as an absolute name
-abbrev pub IsOriginText : Text → Option Labels → Type 0
-IsOriginText text None = text ≡ codes "transfer"
-IsOriginText text (Some origin) = Spells None text origin
-
 -- what the texts of an origin and a path ask for
 pub record IsSource (origin path : Text) (source : Source) : Type 0 where
   pub is_origin : IsOriginText origin source.origin
@@ -72,19 +62,6 @@ Asks (explain text) (Explain origin) = IsOriginText text origin
 Asks (compare origin path origin' path') (Compare first second) =
     IsSource origin path first × IsSource origin' path' second
 Asks _ _ = ⊥
-
--- A text that asks for nothing and spells a name under the root: a dot at its end is all that is
--- missing. `@`, which spells the root there, stands for another origin and lacks none.
-pub record IsUndotted (text : Text) : Type 0 where
-  pub none : NothingIs (IsOriginText text)
-  pub no_at : text ≢ codes "@"
-  pub origin : Labels
-  pub under_root : Spells (Some []) text origin
-
--- a text that asks for nothing for another reason
-pub record IsNoOrigin (text : Text) : Type 0 where
-  pub none : NothingIs (IsOriginText text)
-  pub not_undotted : IsUndotted text → ⊥
 
 -- the first text of an origin that asks for nothing is such a one
 abbrev pub HasOrigin : (Text → Type 0) → Call → Type 0
@@ -115,27 +92,3 @@ IsLineFault words line_faults.NoFinalDot =
 IsLineFault words (line_faults.Clap told) =
     NothingIs (Calls commands words) × HasNoFinalLineFeed (string_bytes told)
 IsLineFault words line_faults.Memory = Unit {0}
-
--- what is told of words that call nothing
-abbrev pub told_fault : NoCall → LineFault
-told_fault (no_calls.Told text) = line_faults.Clap text
-told_fault no_calls.Memory = line_faults.Memory
-
--- the exit status of a command line that gives no order
-abbrev pub line_status : LineFault → ℕ
-line_status line_faults.BadOrigin = 2
-line_status line_faults.NoFinalDot = 2
-line_status (line_faults.Clap told) = 2
-line_status line_faults.Memory = 4
-
--- what the user is told of a bad origin
-abbrev pub bad_origin_line : List ℕ
-bad_origin_line = codes "F46 BadOrigin: an origin is an absolute name or the word transfer"
-
--- what the user is told of it
-abbrev pub line_text : LineFault → List ℕ
-line_text line_faults.BadOrigin = bad_origin_line
-line_text line_faults.NoFinalDot =
-    bad_origin_line ++ codes "; this one lacks the dot at its end"
-line_text (line_faults.Clap told) = string_bytes told
-line_text line_faults.Memory = stop_line Memory

@@ -1,6 +1,6 @@
 //! The program as a table: its commands, and the texts of its help.
 
-use command_line::{Argument, Program, ProgramCommand, version};
+use command_line::{Argument, ArgumentKind, Program, ProgramCommand, version};
 
 /// The program and its commands.
 pub(crate) static PROGRAM: Program = Program {
@@ -17,6 +17,7 @@ pub(crate) static PROGRAM: Program = Program {
             arguments: &[Argument {
                 id: "ORIGIN",
                 help: ORIGIN,
+                kind: ArgumentKind::Word,
             }],
         },
         ProgramCommand {
@@ -26,6 +27,7 @@ pub(crate) static PROGRAM: Program = Program {
             arguments: &[Argument {
                 id: "ORIGIN",
                 help: ORIGIN,
+                kind: ArgumentKind::Word,
             }],
         },
         ProgramCommand {
@@ -36,18 +38,22 @@ pub(crate) static PROGRAM: Program = Program {
                 Argument {
                     id: "ORIGIN1",
                     help: ORIGIN,
+                    kind: ArgumentKind::Word,
                 },
                 Argument {
                     id: "PATH1",
                     help: PATH,
+                    kind: ArgumentKind::Word,
                 },
                 Argument {
                     id: "ORIGIN2",
                     help: ORIGIN,
+                    kind: ArgumentKind::Word,
                 },
                 Argument {
                     id: "PATH2",
                     help: PATH,
+                    kind: ArgumentKind::Word,
                 },
             ],
         },

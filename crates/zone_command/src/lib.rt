@@ -4,7 +4,7 @@
 mod command;
 mod order;
 mod program;
-mod status;
 
-pub use order::{LineFault, Order, Source, order_after_name, order_of};
-pub use program::{refuse, run};
+pub use command_input::{LineFault, refuse};
+pub use order::{Order, Source, order_after_name, order_of};
+pub use program::run;

@@ -1,18 +1,13 @@
 ghost use Rattle.std.specs.Prelude.{◌≡◌, drop, map, IfOk, IfErr, string_bytes};
-ghost use Rattle.zone_name.specs.Common.{NothingIs};
-ghost use Rattle.zone_command.specs.Machine.Calling.{texts_of, IsOfCall, IsOfOrigin};
-ghost use Rattle.zone_command.specs.Order.{Asks, IsOriginText, IsSource, Orders, IsLineFault, line_status, line_text};
+ghost use Rattle.zone_command.specs.Machine.Calling.{texts_of, IsOfCall};
+ghost use Rattle.zone_command.specs.Order.{Asks, IsSource, Orders, IsLineFault};
 
 use crate::command::PROGRAM;
-use crate::status;
 use clap::ArgMatches;
-use command_line::{FromMatches, NoCall, Program, after_name, call_of};
-use std::alloc::{AllocError, Global};
-use zone_engine::OUT_OF_MEMORY;
+use command_input::{LineFault, origin_of};
+use command_line::{FromMatches, Program, after_name, call_of};
+use std::alloc::Global;
 use zone_name::Name;
-
-/// The word that stands in the place of an origin where the input is a transfer.
-const TRANSFER: &str = "transfer";
 
 /// One input of a comparison.
 #[derive(Debug, Drop)]
@@ -32,73 +27,6 @@ pub enum Order {
     Explain(Option<Name>),
     /// Tell whether two inputs denote one zone, or at which line their canonical texts differ.
     Compare(Source, Source),
-}
-
-/// Why a command line is no order.
-#[derive(Debug, Drop)]
-pub enum LineFault {
-    /// An origin is neither an absolute name nor the word `transfer`.
-    BadOrigin,
-    /// An origin is a name that lacks the dot at its end alone.
-    NoFinalDot,
-    /// What `clap` tells a user in place of matches, help included.
-    Clap(String),
-    /// Memory was refused.
-    Memory,
-}
-
-impl From<AllocError> for LineFault {
-    ghost use Rattle.zone_command.specs.declared.order.LineFault.TheVariants as line_faults;
-
-    ghost from_gives = { λ _ e. e ≡ line_faults.Memory };
-
-    fn from(_error: AllocError) -> LineFault {
-        LineFault::Memory
-    }
-}
-
-impl From<NoCall> for LineFault {
-    ghost use Rattle.zone_command.specs.Order.{told_fault};
-
-    ghost from_gives = { λ no_call fault. fault ≡ told_fault no_call };
-
-    fn from(no_call: NoCall) -> LineFault {
-        match no_call {
-            NoCall::Told(text) => LineFault::Clap(text),
-            NoCall::Memory => LineFault::Memory,
-        }
-    }
-}
-
-impl LineFault {
-    /// The text for the user, without a line feed at its end.
-    pub fn text(&self) -> &str
-        ensures { result.now ≡ line_text self.now }
-    {
-        match self {
-            LineFault::BadOrigin => {
-                "F46 BadOrigin: an origin is an absolute name or the word transfer"
-            }
-            LineFault::NoFinalDot => {
-                "F46 BadOrigin: an origin is an absolute name or the word transfer; \
-                 this one lacks the dot at its end"
-            }
-            LineFault::Clap(text) => text.as_str(),
-            LineFault::Memory => OUT_OF_MEMORY,
-        }
-    }
-
-    /// The exit status.
-    pub fn status(&self) -> u8
-        ensures { result ≡ line_status self.now }
-    {
-        match self {
-            LineFault::BadOrigin | LineFault::NoFinalDot | LineFault::Clap(_) => {
-                status::BAD_COMMAND_LINE
-            }
-            LineFault::Memory => status::FAILED,
-        }
-    }
 }
 
 /// The order that the words after the program's name give. The origins are judged from the left.
@@ -203,37 +131,5 @@ impl Call<'_> {
                 Ok(Order::Compare(first, second))
             }
         }
-    }
-}
-
-/// The origin that a text gives, none for a transfer.
-///
-/// # Errors
-///
-/// `BadOrigin` and `NoFinalDot`.
-fn origin_of(text: &str) -> Result<Option<Name>, LineFault>
-    ensures ordered { IfOk result (IsOriginText text.now) }
-    ensures refused { IfErr result (IsOfOrigin text.now) }
-{
-    if text == TRANSFER {
-        return Ok(None);
-    }
-    match Name::from_text(text.as_bytes(), None) {
-        Ok(origin) => Ok(Some(origin)),
-        Err(_) => Err(fault_of(text)),
-    }
-}
-
-/// Why a text is no origin. `@` is the name of another origin, and no name without its dot.
-fn fault_of(text: &str) -> LineFault
-    requires { NothingIs (IsOriginText text.now) }
-    ensures { IsOfOrigin text.now result }
-{
-    if text == "@" {
-        return LineFault::BadOrigin;
-    }
-    match Name::from_text(text.as_bytes(), Some(&Name::root())) {
-        Ok(_) => LineFault::NoFinalDot,
-        Err(_) => LineFault::BadOrigin,
     }
 }

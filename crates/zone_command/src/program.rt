@@ -2,21 +2,20 @@ ghost use Rattle.std.specs.Prelude.{◌≡◌, ◌++◌, IfErr, OnErr, OnOk};
 ghost use Rattle.zone_print.specs.Device.{WorksOn};
 ghost use Rattle.zone_print.specs.Writing.{IsFailedWrite};
 ghost use Rattle.zone_command.specs.Machine.Telling.{TellsVerdict};
-ghost use Rattle.zone_command.specs.Order.{line_status, line_text};
 ghost use Rattle.zone_command.specs.Run.{devices, ReadsSecond, Runs};
 ghost use Rattle.zone_engine.specs.Reading.{ReadsFew};
 ghost use Rattle.zone_engine.specs.Telling.{stop_line, stop_status, verdict_line, verdict_status, which_words, TellsLine, WritesLine, WritesPartOfLine};
 
-use crate::order::{LineFault, Order};
-use crate::status;
+use crate::order::Order;
+use command_input::{report, status};
 use itoa::Buffer;
 use std::alloc::Global;
-use zone_engine::{
-    Form, OUT_OF_MEMORY, OctetReader, READ_FAILED, Verdict, WRITE_FAILED, Which, compare, explain,
-    normalise, tell, tell_refusal, write_line,
-};
+use zone_engine::{Form, OctetReader, Verdict, Which, compare, explain, normalise, write_line};
 use zone_print::OctetWriter;
 use zone_rdata::Stop;
+
+/// The exit status of a comparison of two zones that differ.
+const DIFFERENT: u8 = 1;
 
 /// The whole program over two readers, a writer and an error writer. `normalise` and `explain` read
 /// the first reader alone, and a comparison reads the second once the first was accepted. It
@@ -112,7 +111,7 @@ fn status_of(verdict: Verdict) -> u8
 {
     match verdict {
         Verdict::Same => status::SUCCESS,
-        Verdict::Different(_) => status::DIFFERENT,
+        Verdict::Different(_) => DIFFERENT,
     }
 }
 
@@ -124,25 +123,4 @@ fn words_of(which: Which) -> &'static str
         Which::First => "first: ",
         Which::Second => "second: ",
     }
-}
-
-/// Tells why a run stopped, after these words, and answers its status. It takes no memory.
-fn report<E: OctetWriter>(words: &str, stop: &Stop, errors: &mut E) -> u8
-    ensures { TellsLine (words.now ++ stop_line stop.now) (stop_status stop.now)
-        (E.state errors.old) (E.state errors.new) result }
-{
-    match stop {
-        Stop::Refused(fault, place) => tell_refusal(errors, words, fault, *place, status::REFUSED),
-        Stop::Read => tell(errors, words, READ_FAILED, status::FAILED),
-        Stop::Write => tell(errors, words, WRITE_FAILED, status::FAILED),
-        Stop::Memory => tell(errors, words, OUT_OF_MEMORY, status::FAILED),
-    }
-}
-
-/// Tells why a command line is no order, and answers the status: 4 where that could not be told.
-pub fn refuse<E: OctetWriter>(fault: &LineFault, errors: &mut E) -> u8
-    ensures { TellsLine (line_text fault.now) (line_status fault.now)
-        (E.state errors.old) (E.state errors.new) result }
-{
-    tell(errors, "", fault.text(), fault.status())
 }

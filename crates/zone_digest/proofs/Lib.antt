@@ -11,3 +11,5 @@ mod OneVerdict
 mod SameDigest
 mod Fits
 mod SameVerdict
+mod SoaNumbers
+mod OneTtl

@@ -8,7 +8,8 @@ use Rattle.zone_rdata.specs.Record.{Record}
 use Rattle.zone_set.specs.Zone.{Has, Zone}
 use Rattle.zone_digest.specs.Digest.{IsDigest, IsDigested, IsLeftOut, IsLoweredRecord}
 use Rattle.zone_digest.specs.Findings.{AreFindings, IsFinding}
-use Rattle.zone_digest.specs.Laws.{AreOfOneForm, DifferInLeftOut, DifferInLetters, HasNoPair, HasOneMore, StatesDigest, TellsVerified}
+use Rattle.zone_digest.specs.Laws.{AreOfOneForm, DifferInLeftOut, DifferInLetters, HasNoPair, HasOneMore, TellsVerified}
+use Rattle.zone_digest.specs.Wanted.{StatesDigest}
 use Rattle.zone_digest.specs.NamesInData.{IsLowered, names_of}
 use Rattle.zone_digest.specs.Verdict.{digest_octets, digest_size, Fields, IsSerial, IsVerdictOn, IsVerified, IsWellFormed, IsZonemd, number, verified}
 use Rattle.zone_digest.specs.declared.algorithm.Algorithm.{Algorithm}
@@ -74,7 +75,7 @@ same_but_left_out z w a d differ = (
 )
 
 -- ---- the record that states a digest
-size_of : (z : Zone) (a : Algorithm) (d : ZoneDigest) → IsDigest z a d → length (digest_octets d) ≡ digest_size a
+pub size_of : (z : Zone) (a : Algorithm) (d : ZoneDigest) → IsDigest z a d → length (digest_octets d) ≡ digest_size a
 size_of z Sha384 d (m, made, is) = ap (λ e. length (digest_octets e)) is ∙ length-sha384 m
 size_of z Sha512 d (m, made, is) = ap (λ e. length (digest_octets e)) is ∙ length-sha512 m
 

@@ -1,6 +1,7 @@
 -- The ZONEMD records at the apex, and their verdicts.
 use Rattle.zone_set.proofs.Common.{[], ◌≡◌, ◌≢◌, ℕ, ◌+◌, ◌-◌, ◌<◌, ◌≤◌, List, ◌∷◌, ◌++◌, length, length-append, take, drop, refl, sym, ap, ap₂, ◌∙◌, subst, arith, append_assoc, append-nil, map, inl, inr, ⊎_elim, ◌⊎◌, ◌↔◌, Less, Ascends, canonical_cmp, Record, Has, InOneSet, IsZone, AreCompatible, length-drop, take-append-drop, if◌then◌else◌, ◌==◌, Bool, true, false, eqb-true, IsWithin}
 use Rattle.std.proofs.Common.{get_or, suc, zero}
+use Rattle.std.specs.Prelude.{None, Some, slice_get}
 use Rattle.std.specs.List.{AllZip}
 use Rattle.zone_rdata.specs.Lent.{record_of}
 use Rattle.zone_rdata.specs.declared.lent.RrRef.{RrRef}
@@ -123,7 +124,7 @@ module _ (z : Zone) (is : IsZone z) (first : Record) (others : List Record) (kno
       own : first.kind ≡ 6
       own = (first_soa z.apex first others (subst AreCompatible known is.compatible) (is.soa.0, subst (λ l. Has l is.soa.0) known is.soa.1, is.soa.2, is.soa.3)).0
 
-  first_is : (first.kind ≡ 6) × Has z.records first
+  pub first_is : (first.kind ≡ 6) × Has z.records first
   first_is = ((first_soa z.apex first others (subst AreCompatible known is.compatible) (is.soa.0, subst (λ l. Has l is.soa.0) known is.soa.1, is.soa.2, is.soa.3)).0, subst (λ l. Has l first) (sym known) (inl refl))
 
   long_enough : (serial : Octets) → IsSerial z serial → 20 ≤ length first.octets
@@ -182,6 +183,13 @@ repeated_is z records r f found has =
       algorithm = on.2.1.3;
     }
 
+-- ZONEMD records at the apex are of one set
+pub one_ttl : (z : Zone) (r s : Record) → IsZone z → IsZonemd z r → IsZonemd z s → r.ttl ≡ s.ttl
+one_ttl z r s is one two = is.compatible.one_ttl r s one.has two.has (record { owner = one.owner ∙ sym two.owner; kind = one.kind ∙ sym two.kind; covers = uncovered r one.kind ∙ sym (uncovered s two.kind) })
+  where
+    uncovered : (t : Record) → t.kind ≡ 63 → (if t.kind == 46 then take 2 t.octets else []) ≡ []
+    uncovered t kind = ap (λ (k : ℕ). if k == 46 then take 2 t.octets else []) kind
+
 -- records of the apex of one data are one record
 one_zonemd : (z : Zone) (r s : Record) → IsZone z → IsZonemd z r → IsZonemd z s → s.octets ≡ r.octets → s ≡ r
 one_zonemd z r s is one two same =
@@ -212,3 +220,14 @@ told_more z found i item told new f is fits grown all one =
     subst (λ rs. AllZip (IsFinding z) rs new) (sym (one_more found i item is fits))
     (subst (AllZip (IsFinding z) (map record_of (take i found) ++ record_of item ∷ [])) (sym grown)
     (zip_push (IsFinding z) (map record_of (take i found)) told (record_of item) f all one))
+
+-- ---- the first of those that were found
+pub first_found : (z : Zone) (found : List RrRef) (item : RrRef) → AreZonemds z (map record_of found) → Some item ≡ slice_get found 0 → IsZonemd z (record_of item)
+first_found z [] item are is = absurd (let bad : Some item ≡ None = is in cc)
+first_found z (x ∷ found) item are is =
+    let same : item ≡ x = grind (arith, is) in
+    (are.same (record_of item)).0 (inl (ap record_of same))
+
+pub none_of_none : (z : Zone) (found : List RrRef) → AreZonemds z (map record_of found) → None ≡ slice_get found 0 → (r : Record) → IsZonemd z r → ⊥
+none_of_none z [] are none r zonemd = (are.same r).1 zonemd
+none_of_none z (x ∷ found) are none r zonemd = absurd (let bad : None ≡ Some x = none in cc)

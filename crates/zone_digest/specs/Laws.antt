@@ -1,12 +1,10 @@
 -- What the laws speak of.
-use Rattle.std.specs.Prelude.{◌≡◌, ◌≢◌, List, [], ◌∷◌, ◌++◌, ◌⊎◌, ◌↔◌}
-use Rattle.zone_name.specs.Common.{Octets}
+use Rattle.std.specs.Prelude.{◌≡◌, ◌≢◌, List, [], ◌∷◌, ◌⊎◌, ◌↔◌}
 use Rattle.zone_rdata.specs.Record.{Record}
 use Rattle.zone_set.specs.Zone.{Has, InOneSet, Zone}
-use Rattle.zone_digest.specs.Digest.{IsDigest, IsLeftOut, IsLoweredRecord}
-use Rattle.zone_digest.specs.Verdict.{Fields, HasFields, IsSerial, IsZonemd, digest_octets, number}
+use Rattle.zone_digest.specs.Digest.{IsLeftOut, IsLoweredRecord}
+use Rattle.zone_digest.specs.Verdict.{Fields, HasFields, IsZonemd, number}
 use Rattle.zone_digest.specs.declared.algorithm.Algorithm.{Algorithm}
-use Rattle.zone_digest.specs.declared.algorithm.ZoneDigest.{ZoneDigest}
 use Rattle.zone_digest.specs.declared.verdict.Finding.{Finding}
 use Rattle.zone_digest.specs.declared.verdict.Verdict.TheVariants.{Verified}
 
@@ -25,16 +23,6 @@ pub record DifferInLetters (z w : Zone) : Type 0 where
 pub record DifferInLeftOut (z w : Zone) : Type 0 where
   pub apex : z.apex ≡ w.apex
   pub same : (r : Record) → (IsLeftOut z.apex r → ⊥) → Has z.records r ↔ Has w.records r
-
--- a ZONEMD record at the apex with the zone's serial, scheme SIMPLE and its digest by an algorithm
-pub record StatesDigest (z : Zone) (a : Algorithm) (r : Record) : Type 0 where
-  pub owner : r.owner ≡ z.apex
-  pub kind : r.kind ≡ 63
-  pub serial : Octets
-  pub is_serial : IsSerial z serial
-  pub digest : ZoneDigest
-  pub is_digest : IsDigest z a digest
-  pub octets : r.octets ≡ serial ++ 1 ∷ number a ∷ digest_octets digest
 
 -- no ZONEMD record at the apex has this scheme and hash algorithm
 abbrev pub HasNoPair : Zone → Algorithm → Type 0

@@ -2,5 +2,6 @@ pub mod NamesInData
 pub mod Digest
 pub mod Verdict
 pub mod Findings
+pub mod Wanted
 pub mod Laws
 pub mod Machine

@@ -23,6 +23,16 @@ impl Algorithm {
         }
     }
 
+    /// Its number.
+    pub fn number(self) -> u8
+        ensures { result ≡ number self }
+    {
+        match self {
+            Algorithm::Sha384 => 1,
+            Algorithm::Sha512 => 2,
+        }
+    }
+
     /// How many octets its digests have.
     pub(crate) fn size(self) -> usize
         ensures { result ≡ digest_size self }

@@ -1,9 +1,10 @@
-ghost use Rattle.std.specs.Prelude.{◌≡◌, ◌↔◌, ◌∷◌, [], ℕ, List, take, map, false, None, IfOk, OnOk, IsTrue};
+ghost use Rattle.std.specs.Prelude.{◌≡◌, ◌↔◌, ◌∷◌, [], ℕ, List, length, take, map, false, None, IfOk, OnOk, IsTrue};
 ghost use Rattle.std.specs.List.{AllByRecursion};
 ghost use Rattle.zone_digest.specs.Digest.{AreDigestOctets, AscendsByOwner, IsDigest, IsLeftOut};
 ghost use Rattle.zone_digest.specs.Machine.Sets.{AreAlike, IsOfFirst};
 ghost use Rattle.zone_digest.specs.Machine.Walk.{HasWalked, HaveOneClass};
 ghost use Rattle.zone_digest.specs.NamesInData.{names_of};
+ghost use Rattle.zone_digest.specs.Verdict.{digest_octets, digest_size};
 ghost use Rattle.zone_name.specs.Common.{Labels};
 ghost use Rattle.zone_rdata.specs.Lent.{record_of};
 ghost use Rattle.zone_rdata.specs.Record.{data_of, IsRecord, Record};
@@ -31,8 +32,11 @@ const RRSIG: u16 = 46;
 /// # Errors
 ///
 /// Want of memory.
+#[tactic(auto, using(crate::proofs::SameDigest::size_of))]
 pub fn digest_of(alloc: Global, zone: &Zone, algorithm: Algorithm) -> Result<ZoneDigest, AllocError>
-    ensures { IfOk result (IsDigest zone.now algorithm) }
+    ensures digest { IfOk result (IsDigest zone.now algorithm) }
+    ensures size { IfOk result (λ digest.
+        length (digest_octets digest) ≡ digest_size algorithm) }
 {
     match algorithm {
         Algorithm::Sha384 => Ok(ZoneDigest::Sha384(digest_under::<Sha384>(alloc, zone)?)),

@@ -3,8 +3,9 @@
 ghost use Rattle.std.specs.Prelude.{◌≡◌, ◌↔◌, List};
 ghost use Rattle.zone_digest.specs.Digest.{IsDigest};
 ghost use Rattle.zone_digest.specs.Findings.{AreFindings};
-ghost use Rattle.zone_digest.specs.Laws.{DifferInLeftOut, DifferInLetters, HasNoPair, HasOneMore, HasTtlOfItsSet, StatesDigest, TellsVerified};
+ghost use Rattle.zone_digest.specs.Laws.{DifferInLeftOut, DifferInLetters, HasNoPair, HasOneMore, HasTtlOfItsSet, TellsVerified};
 ghost use Rattle.zone_digest.specs.Verdict.{IsVerdictOn, IsVerified};
+ghost use Rattle.zone_digest.specs.Wanted.{IsWanted, StatesDigest};
 ghost use Rattle.zone_digest.specs.declared.algorithm.Algorithm.{Algorithm};
 ghost use Rattle.zone_digest.specs.declared.algorithm.ZoneDigest.{ZoneDigest};
 ghost use Rattle.zone_digest.specs.declared.verdict.Finding.{Finding};
@@ -44,6 +45,13 @@ pub fn a_zonemd_record_fits()
     ensures { (z : Zone) (r : Record) → IsZone z → IsRecord r → r.class ≡ z.class
         → r.owner ≡ z.apex → r.kind ≡ 63 → HasTtlOfItsSet z r
         → (w : Zone) × IsZone w × HasOneMore z r w }
+{}
+
+/// The record that a zone wants has the TTL of the ZONEMD records that are there, so it can be added.
+#[tactic(auto, using(crate::proofs::OneTtl::has_ttl))]
+pub fn the_wanted_record_fits()
+    ensures { (z : Zone) (r : Record) (a : Algorithm) → IsZone z → IsWanted z a r
+        → HasTtlOfItsSet z r }
 {}
 
 /// In the zone with the record that states its digest this record is verified, if the zone has no

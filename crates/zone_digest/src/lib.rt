@@ -8,9 +8,13 @@ pub mod laws;
 mod lowering;
 mod names;
 mod ordered;
+mod serial;
 mod table;
 mod verdict;
+mod wanted;
 
 pub use algorithm::{Algorithm, ZoneDigest};
 pub use digest::digest_of;
+pub use serial::serial_of;
 pub use verdict::{Finding, Verdict, verify};
+pub use wanted::zonemd_of;

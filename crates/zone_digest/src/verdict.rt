@@ -8,6 +8,7 @@ ghost use Rattle.zone_set.specs.Zone.{IsZone};
 
 use crate::algorithm::Algorithm;
 use crate::digest::{ZONEMD, digest_of};
+use crate::serial::serial_of;
 use std::alloc::{AllocError, Global};
 use zone_rdata::RrRef;
 use zone_set::Zone;
@@ -93,7 +94,7 @@ fn findings_of<'z>(
 /// # Errors
 ///
 /// Want of memory.
-fn zonemds_of<'z>(alloc: Global, zone: &'z Zone) -> Result<Vec<RrRef<'z>>, AllocError>
+pub(crate) fn zonemds_of<'z>(alloc: Global, zone: &'z Zone) -> Result<Vec<RrRef<'z>>, AllocError>
     ensures found { IfOk result (λ found. AreZonemds zone.now (map record_of found.items)) }
     ensures zone { IsZone zone.now }
 {
@@ -109,21 +110,6 @@ fn zonemds_of<'z>(alloc: Global, zone: &'z Zone) -> Result<Vec<RrRef<'z>>, Alloc
         }
     }
     Ok(found)
-}
-
-/// The serial of the SOA, 4 octets.
-fn serial_of(zone: &Zone) -> Option<&[u8]>
-    ensures found { IfSome result (λ serial. (octets : Octets) →
-        IsSerial zone.now octets ↔ (octets ≡ serial.now)) }
-    ensures none { IfNone result ((octets : Octets) → IsSerial zone.now octets → ⊥) }
-{
-    let soa = zone.records().next()?;
-    let octets = soa.rdata.octets();
-    if octets.len() < 20 {
-        return None;
-    }
-    let (_, numbers) = octets.split_at(octets.len() - 20);
-    Some(numbers.split_at(4).0)
 }
 
 /// The verdict of one of the ZONEMD records at the apex.
@@ -168,10 +154,7 @@ fn verdict_of(
 fn has_serial(zone: &Zone, octets: &[u8]) -> bool
     ensures { IsTrue result ↔ IsSerial zone.now octets.now }
 {
-    match serial_of(zone) {
-        Some(serial) => are_same(octets, serial),
-        None => false,
-    }
+    are_same(octets, serial_of(zone).to_be_bytes().as_slice())
 }
 
 /// The fields of data that has them.

@@ -8,6 +8,7 @@ mod line_buffer;
 mod print;
 mod write;
 
+pub use line::push_line;
 pub use print::{
     TEXT_LIMIT, canon_len, push_zone, push_zone_within, text_fits, write_zone, write_zone_within,
 };

@@ -52,12 +52,12 @@ pub(crate) fn push_data<S: Sink>(out: &mut S, rr: &RrRef) -> Result<(), S::Error
     out.push(b"\n")
 }
 
-/// Appends the record's line.
+/// Appends the record's line, with its line feed.
 ///
 /// # Errors
 ///
 /// `out` refuses octets. A prefix of the line may have been appended.
-pub(crate) fn push_line<S: Sink>(out: &mut S, rr: &RrRef) -> Result<(), S::Error>
+pub fn push_line<S: Sink>(out: &mut S, rr: &RrRef) -> Result<(), S::Error>
     ensures { OnOk result (S.takes out.old (line (record_of rr.now)) out.new) }
 {
     rr.owner.print(out)?;

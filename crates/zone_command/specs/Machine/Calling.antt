@@ -1,10 +1,10 @@
 -- What private functions of the command line answer.
 use Rattle.clap.specs.Words.{Text}
-use Rattle.zone_command.specs.Order.{Call, normalise, explain, compare, IsNoOrigin, IsUndotted, HasBadOrigin, HasUndottedOrigin}
+use Rattle.zone_command.specs.Order.{Call, normalise, explain, compare, HasBadOrigin, HasUndottedOrigin}
 use Rattle.zone_command.specs.declared.order.Call as code
 use Rattle.zone_command.specs.declared.order.Call.TheVariants as calls
-use Rattle.zone_command.specs.declared.order.LineFault.{LineFault}
-use Rattle.zone_command.specs.declared.order.LineFault.TheVariants.{BadOrigin, NoFinalDot, Clap, Memory}
+use Rattle.command_input.specs.declared.line_fault.LineFault.{LineFault}
+use Rattle.command_input.specs.declared.line_fault.LineFault.TheVariants.{BadOrigin, NoFinalDot, Clap, Memory}
 
 -- a command with the texts of its arguments
 abbrev pub texts_of : code.Call → Call
@@ -18,13 +18,6 @@ abbrev pub HasPaths : Call → Type 0
 HasPaths (normalise origin) = ⊥
 HasPaths (explain origin) = ⊥
 HasPaths (compare origin path origin' path') = Unit {0}
-
--- a fault that the text of an origin makes
-abbrev pub IsOfOrigin : Text → LineFault → Type 0
-IsOfOrigin text BadOrigin = IsNoOrigin text
-IsOfOrigin text NoFinalDot = IsUndotted text
-IsOfOrigin text (Clap told) = ⊥
-IsOfOrigin text Memory = ⊥
 
 -- a fault that the texts of a command make: that of an origin, or want of memory for its paths
 abbrev pub IsOfCall : Call → LineFault → Type 0

@@ -4,8 +4,9 @@ use crate::tests::push_stop;
 use crate::tests::zones::{reading_of, taken};
 use std::alloc::Global;
 use std::test::Fail;
-use test_support::{Question, check_table, push_hex, push_text};
-use zone_digest::{Algorithm, Finding, Verdict, digest_of, verify};
+use test_support::{Question, check_table, push_hex, push_text, push_words};
+use zone_digest::{Algorithm, Finding, Verdict, digest_of, serial_of, verify, zonemd_of};
+use zone_print::push_line;
 use zone_set::Zone;
 
 /// The words of a verdict.
@@ -778,4 +779,52 @@ d5e3287f03f83e18e26a293ba0a41bfbee
 #[test]
 fn verdicts(rt: HostRuntime) -> Result<(), Fail> {
     check_table::<Judged>(rt.alloc(), VERDICTS)
+}
+
+/// Appends the number of a hash algorithm and the record that a zone wants by it.
+fn push_wanted(
+    alloc: Global,
+    out: &mut Vec<u8>,
+    zone: &Zone,
+    algorithm: Algorithm,
+) -> Result<(), Fail> {
+    let number = algorithm.number();
+    push_words(alloc, out, format_args!("{number} "))?;
+    let wanted = zonemd_of(alloc, zone, algorithm)?;
+    Ok(push_line(out, &wanted.lend())?)
+}
+
+/// The serial of the zone of a file, and the records that it wants.
+struct Wants;
+
+impl Question for Wants {
+    fn answer(alloc: Global, asked: &'static str, out: &mut Vec<u8>) -> Result<(), Fail> {
+        let zone = taken(alloc, reading_of(alloc, asked.as_bytes())?)?;
+        let serial = serial_of(&zone);
+        push_words(alloc, out, format_args!(" {serial}\n"))?;
+        push_wanted(alloc, out, &zone, Algorithm::Sha384)?;
+        push_wanted(alloc, out, &zone, Algorithm::Sha512)
+    }
+}
+
+/// A zone that has nothing but its SOA, and that with a ZONEMD record of another TTL.
+const WANTED: &str = "\
+== x. 60 IN TYPE6 \\# 30 016e01780001680178000000000100000002000000030000000400000005
+=> 1
+1 x. 60 IN TYPE63 \\# 54 000000010101965841cb8633bf69e3e7218820478ee487dae11891215c706ebbc8c06b5abf\
+d5e3287f03f83e18e26a293ba0a41bfbef
+2 x. 60 IN TYPE63 \\# 70 00000001010253cf0684a5812c5af802398a31086c810aec27f255e2cbe8bc2db132d9a48b\
+62bd6c590506f59e3cdb6c6b6aa31ee8c83683f3a24d91ab9c91418e00945f8198
+== x. 60 IN TYPE6 \\# 30 016e01780001680178000000000100000002000000030000000400000005
+x. 70 IN TYPE63 \\# 18 000000010201414141414141414141414141
+=> 1
+1 x. 70 IN TYPE63 \\# 54 000000010101965841cb8633bf69e3e7218820478ee487dae11891215c706ebbc8c06b5abf\
+d5e3287f03f83e18e26a293ba0a41bfbef
+2 x. 70 IN TYPE63 \\# 70 00000001010253cf0684a5812c5af802398a31086c810aec27f255e2cbe8bc2db132d9a48b\
+62bd6c590506f59e3cdb6c6b6aa31ee8c83683f3a24d91ab9c91418e00945f8198
+";
+
+#[test]
+fn wanted_records(rt: HostRuntime) -> Result<(), Fail> {
+    check_table::<Wants>(rt.alloc(), WANTED)
 }

@@ -1,7 +1,8 @@
 use Rattle.std.proofs.Common.{◌∙◌, List, ap, arith, map}
 use Rattle.std.proofs.lemmas.List.{take_all}
 use Rattle.clap.specs.Simple.{app_of_fields}
-use Rattle.command_line.specs.Calls.{command_app}
+use Rattle.command_line.specs.Calls.{command_with}
+use Rattle.command_line.specs.Program.{rule_of_argument}
 use Rattle.command_line.specs.declared.program.Argument.{Argument}
 use Rattle.command_line.proofs.Adding.{one_argument_more}
 use Rattle.command_line.proofs.reading.readable_command.Goals as goal
@@ -12,4 +13,4 @@ loop-argument-preserved c = one_argument_more _ c.args.row.now.arguments.now c.l
 pub returns-clause-app : goal.returns-clause-app
 returns-clause-app c =
     ap app_of_fields c.after_help.ensures ∙ ap app_of_fields c.override_usage.ensures ∙ ap app_of_fields c.about.ensures ∙ c.loop-argument.invariant.is
-    ∙ ap (λ (rows : List Argument). command_app c.args.row.now.word.now (map (λ (row : Argument). row.id.now) rows)) (take_all c.loop-argument.argument-index c.args.row.now.arguments.now (omega (arith, c.loop-argument-test.false)))
+    ∙ ap (λ (rows : List Argument). command_with c.args.row.now.word.now (map rule_of_argument rows)) (take_all c.loop-argument.argument-index c.args.row.now.arguments.now (omega (arith, c.loop-argument-test.false)))

@@ -48,7 +48,7 @@ returns-then-not-are_same c =
     let supported : IsSupported c.args.zone.now (record_of c.args.rr.now) f a = record { serial = (well, serial); scheme = omega (arith, c.if-fields-ne1.false); algorithm = c.in-Some-of_number.ensures.found } in
     let once : IsRepeated c.args.zone.now (record_of c.args.rr.now) f → ⊥ = λ again. (let is = c.is_repeated.ensures.1 (is_repeated c.args.zone.now (map record_of c.args.found.now) (record_of c.args.rr.now) f c.requires.zone c.requires.found c.requires.zonemd again) in grind (arith, is, c.if-is_repeated.false)) in
     differs f a supported once (λ d. (
-    let one : d.0 ≡ c.in_ok-digest.digest = one_digest c.args.zone.now a d.0 c.in_ok-digest.digest d.1 c.in_ok-digest.ensures in
+    let one : d.0 ≡ c.in_ok-digest.digest = one_digest c.args.zone.now a d.0 c.in_ok-digest.digest d.1 c.in_ok-digest.ensures.digest in
     let is = c.are_same.ensures.1 (d.2 ∙ ap digest_octets one ∙ sym c.octets-2.ensures) in
     grind (arith, is, c.if-not-are_same.true)))
 
@@ -60,4 +60,4 @@ returns c =
     let a = c.in-Some-of_number.algorithm in
     let supported : IsSupported c.args.zone.now (record_of c.args.rr.now) f a = record { serial = (well, serial); scheme = omega (arith, c.if-fields-ne1.false); algorithm = c.in-Some-of_number.ensures.found } in
     let once : IsRepeated c.args.zone.now (record_of c.args.rr.now) f → ⊥ = λ again. (let is = c.is_repeated.ensures.1 (is_repeated c.args.zone.now (map record_of c.args.found.now) (record_of c.args.rr.now) f c.requires.zone c.requires.found c.requires.zonemd again) in grind (arith, is, c.if-is_repeated.false)) in
-    verified f a supported once (c.in_ok-digest.digest, c.in_ok-digest.ensures, c.are_same.ensures.0 c.if-not-are_same.false ∙ c.octets-2.ensures)
+    verified f a supported once (c.in_ok-digest.digest, c.in_ok-digest.ensures.digest, c.are_same.ensures.0 c.if-not-are_same.false ∙ c.octets-2.ensures)

@@ -1,0 +1,2 @@
+mod Origins
+mod Lines

@@ -1,0 +1,12 @@
+//! What the command lines of programs that read zones have in common: the origin of an input, why
+//! words are no order, and what is told where a run stops.
+#![tactic(auto)]
+
+mod line_fault;
+mod origin;
+pub mod status;
+mod telling;
+
+pub use line_fault::LineFault;
+pub use origin::origin_of;
+pub use telling::{refuse, report};

@@ -1,0 +1,32 @@
+//! What a user is told where no order was given, or where a run stopped.
+ghost use Rattle.std.specs.Prelude.{◌++◌};
+ghost use Rattle.command_input.specs.LineFault.{line_status, line_text};
+ghost use Rattle.zone_engine.specs.Telling.{stop_line, stop_status, TellsLine};
+
+use crate::line_fault::LineFault;
+use crate::status;
+use zone_engine::{OUT_OF_MEMORY, READ_FAILED, WRITE_FAILED, tell, tell_refusal};
+use zone_print::OctetWriter;
+use zone_rdata::Stop;
+
+/// Tells why a run stopped, after these words, and answers its status: 4 where that could not be
+/// told. It takes no memory.
+pub fn report<E: OctetWriter>(words: &str, stop: &Stop, errors: &mut E) -> u8
+    ensures { TellsLine (words.now ++ stop_line stop.now) (stop_status stop.now)
+        (E.state errors.old) (E.state errors.new) result }
+{
+    match stop {
+        Stop::Refused(fault, place) => tell_refusal(errors, words, fault, *place, status::REFUSED),
+        Stop::Read => tell(errors, words, READ_FAILED, status::FAILED),
+        Stop::Write => tell(errors, words, WRITE_FAILED, status::FAILED),
+        Stop::Memory => tell(errors, words, OUT_OF_MEMORY, status::FAILED),
+    }
+}
+
+/// Tells why a command line is no order, and answers the status: 4 where that could not be told.
+pub fn refuse<E: OctetWriter>(fault: &LineFault, errors: &mut E) -> u8
+    ensures { TellsLine (line_text fault.now) (line_status fault.now)
+        (E.state errors.old) (E.state errors.new) result }
+{
+    tell(errors, "", fault.text(), fault.status())
+}

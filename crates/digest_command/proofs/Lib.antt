@@ -1,0 +1,3 @@
+mod Asked
+mod Findings
+mod Answering

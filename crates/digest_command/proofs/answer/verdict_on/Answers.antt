@@ -1,0 +1,13 @@
+use Rattle.std.proofs.Common.{List, ap, refl, subst, sym, ℕ, ◌∙◌}
+use Rattle.std.specs.Global.{Vec}
+use Rattle.zone_digest.specs.Findings.{AreFindings}
+use Rattle.zone_digest.specs.declared.verdict.Finding.{Finding}
+use Rattle.digest_command.proofs.Answering.{told}
+use Rattle.digest_command.proofs.answer.verdict_on.Goals as goal
+
+pub returns : goal.returns
+returns c =
+    let findings = c.as_slice-findings.result.now in
+    let are = subst (λ (fs : List Finding). AreFindings c.args.zone.now fs) (sym c.as_slice-findings.ensures.value) c.in_ok-findings.ensures in
+    told c.args.zone.now c.serial_of.result findings c.into_bytes.result.items ((c.serial_of.ensures _).1 refl) are (ap (λ (v : Vec ℕ). v.items) c.into_bytes.ensures.value ∙ c.in_ok-findings_text.ensures)
+    (c.findings_tell_whether_a_zone_is_verified.ensures c.args.zone.now findings are) c.status_of.result c.status_of.ensures

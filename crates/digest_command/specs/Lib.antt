@@ -1,0 +1,4 @@
+pub mod Order
+pub mod Lines
+pub mod Run
+pub mod Machine

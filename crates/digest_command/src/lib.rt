@@ -1,0 +1,14 @@
+//! The orders of the command line of `zonedigest`, and what a run of one reads, writes and answers.
+#![tactic(auto)]
+
+mod answer;
+mod command;
+mod lines;
+mod notation;
+mod order;
+mod program;
+
+pub use command_input::{LineFault, refuse};
+pub use notation::Notation;
+pub use order::{Order, order_after_name, order_of};
+pub use program::run;

@@ -1,0 +1,39 @@
+ghost use Rattle.digest_command.specs.Run.{devices, Runs};
+ghost use Rattle.zone_engine.specs.Reading.{ReadsFew};
+
+use crate::answer::answer_to;
+use crate::order::Order;
+use command_input::report;
+use std::alloc::Global;
+use zone_engine::OctetReader;
+use zone_print::{OctetWriter, write_octets};
+
+/// The whole program over a reader, a writer and an error writer. It answers the exit status: of an
+/// order to verify 0 where the zone is verified, and 1 where it isn't, with lines on the writer that
+/// tell of its ZONEMD records; of one to digest 0, with the record that the zone wants on the
+/// writer; 3 where the input is refused; 4 where reading, writing or memory failed. Of 3 and 4 a
+/// line on the error writer tells why. Where that can't be told the status is 4, and a proper prefix
+/// of the line was written. With 3 the writer got nothing, with 4 nothing or a proper prefix of the
+/// lines, and with 0 and 1 the error writer got nothing. No writer is flushed, and a reader or a
+/// writer that failed isn't called again.
+pub fn run<R: OctetReader, W: OctetWriter, E: OctetWriter>(
+    alloc: Global,
+    order: &Order,
+    input: &mut R,
+    output: &mut W,
+    errors: &mut E,
+) -> u8
+    ensures ran { Runs order.now
+        (devices (R.state input.old) (W.state output.old) (E.state errors.old))
+        (devices (R.state input.new) (W.state output.new) (E.state errors.new)) result }
+    ensures few { ReadsFew (R.state input.old) (R.state input.new) }
+{
+    let answer = match answer_to(alloc, order, input) {
+        Ok(answer) => answer,
+        Err(stop) => return report("", &stop, errors),
+    };
+    match write_octets(output, answer.text.as_slice()) {
+        Ok(()) => answer.status,
+        Err(stop) => report("", &stop, errors),
+    }
+}
