@@ -1,3 +1,4 @@
 mod Asked
 mod Findings
 mod Answering
+mod Statuses

@@ -1,5 +1,5 @@
 -- What a run of an order reads, writes and answers (this project's own).
-use Rattle.std.specs.Prelude.{◌≡◌, ℕ, List, Option, IfSome}
+use Rattle.std.specs.Prelude.{◌≡◌, ℕ, List, Option, IfSome, ◌⊎◌}
 use Rattle.std.specs.Int.{to_be_bytes, w32}
 use Rattle.std.specs.Io.KnownBytes.{Appends}
 use Rattle.zone_name.specs.Common.{Labels}
@@ -20,6 +20,7 @@ use Rattle.zone_engine.specs.Form.{read_as_with}
 use Rattle.zone_engine.specs.Input.{Input, InputDenotes}
 use Rattle.zone_engine.specs.Normalise.{IsOfReading}
 use Rattle.zone_engine.specs.Reading.{ReadsToEnd, StopsReading}
+use Rattle.zone_engine.specs.Refusal.{IsRefused}
 use Rattle.zone_engine.specs.Telling.{stop_line, stop_status, TellsLine}
 use Rattle.digest_command.specs.Lines.{findings_text, record_line}
 use Rattle.digest_command.specs.declared.notation.Notation.{Notation}
@@ -35,11 +36,12 @@ pub record Devices : Type 1 where
 abbrev pub devices : Device → Device → Device → Devices
 devices input output errors = record { input = input; output = output; errors = errors }
 
--- the input that octets are for an order
+-- the origin of an order's input, none of a transfer
 abbrev pub origin_of : Order → Option Labels
 origin_of (Verify origin) = origin
 origin_of (Digest origin algorithm notation) = origin
 
+-- the input that octets are for an order
 abbrev pub input_for : Order → List ℕ → Input
 input_for order octets = read_as_with (origin_of order) octets
 
@@ -93,3 +95,18 @@ pub data Runs (order : Order) (old new : Devices) : ℕ → Type 0 where
   stopped : (stop : Stop) (status : ℕ) → IsStopped order old new stop
       → TellsLine (stop_line stop) (stop_status stop) old.errors new.errors status
       → Runs order old new status
+
+-- What a status tells of an input: of an order to verify 0 that it denotes a zone that is verified,
+-- and 1 that it denotes one that isn't; of any order 3 that it is refused. An input is one of the
+-- three.
+pub record TellsInput (order : Order) (input : Input) (status : ℕ) : Type 0 where
+  pub verified_zone : (origin : Option Labels) (z : Zone) → order ≡ Verify origin
+      → InputDenotes input z → IsVerified z → status ≡ 0
+  pub other_zone : (origin : Option Labels) (z : Zone) → order ≡ Verify origin
+      → InputDenotes input z → (IsVerified z → ⊥) → status ≡ 1
+  pub refused : IsRefused input → status ≡ 3
+
+-- the status does so where the octets of the input are known, but for 4, with which a run failed
+abbrev pub TellsKnown : Order → Option (List ℕ) → ℕ → Type 0
+TellsKnown order known status =
+    IfSome known (λ octets. (status ≡ 4) ⊎ TellsInput order (input_for order octets) status)

@@ -1,4 +1,4 @@
-ghost use Rattle.digest_command.specs.Run.{devices, Runs};
+ghost use Rattle.digest_command.specs.Run.{devices, Runs, TellsKnown};
 ghost use Rattle.zone_engine.specs.Reading.{ReadsFew};
 
 use crate::answer::answer_to;
@@ -6,6 +6,7 @@ use crate::order::Order;
 use command_input::report;
 use std::alloc::Global;
 use zone_engine::OctetReader;
+use zone_engine::laws::{no_zone_of_a_refused_input, one_zone};
 use zone_print::{OctetWriter, write_octets};
 
 /// The whole program over a reader, a writer and an error writer. It answers the exit status: of an
@@ -26,8 +27,11 @@ pub fn run<R: OctetReader, W: OctetWriter, E: OctetWriter>(
     ensures ran { Runs order.now
         (devices (R.state input.old) (W.state output.old) (E.state errors.old))
         (devices (R.state input.new) (W.state output.new) (E.state errors.new)) result }
+    ensures told { TellsKnown order.now (R.state input.old).octets result }
     ensures few { ReadsFew (R.state input.old) (R.state input.new) }
 {
+    one_zone();
+    no_zone_of_a_refused_input();
     let answer = match answer_to(alloc, order, input) {
         Ok(answer) => answer,
         Err(stop) => return report("", &stop, errors),
