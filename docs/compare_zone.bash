@@ -3,7 +3,7 @@
 _zone_commands() {
     local name=${1##*/} word=${COMP_WORDS[COMP_CWORD]} before=${COMP_WORDS[COMP_CWORD - 1]}
     local asking='--class --key --timeout --tls --tls-ca --tls-hostname -k -t'
-    local comparing="$asking --lines -g -n -q -s -u -x -c" options
+    local comparing="$asking --lines -g -n -q -s -u -x -z -c" options
     COMPREPLY=()
     case $name in
         compare_zone) options="$comparing -d" ;;

@@ -125,6 +125,16 @@ zone:
     return ["knotd", "-c", str(folder / "knot.conf")]
 
 
+def signing_knot(hashing="sha384"):
+    """Knot, which signs and has a digest by SHA-384 or SHA-512 in the zone."""
+    return functools.partial(
+        knot,
+        more=f"    dnssec-signing: on\n    zonemd-generate: zonemd-{hashing}\n"
+        "    zonefile-sync: -1\n    zonefile-load: difference-no-serial\n"
+        "    journal-content: all\n",
+    )
+
+
 SERVERS = {"BIND": named, "NSD": nsd, "Knot": knot}
 # Servers that sign by themselves, each with a type that it then sends beside those of signatures.
 SIGNERS = {
@@ -133,11 +143,8 @@ SIGNERS = {
         named, top="dnssec-policy hashed { nsec3param iterations 0 optout no salt-length 8; };",
         more="inline-signing yes; dnssec-policy hashed;",
     ),
-    "Knot, signing": functools.partial(
-        knot,
-        more="    dnssec-signing: on\n    zonemd-generate: zonemd-sha384\n    zonefile-sync: -1\n"
-        "    zonefile-load: difference-no-serial\n    journal-content: all\n",
-    ),
+    "Knot, signing": signing_knot(),
+    "Knot, signing with SHA-512": signing_knot("sha512"),
 }
 SENT_BY_SIGNERS = {
     "BIND, signing": "TYPE65534", "BIND, signing with NSEC3": "TYPE50", "Knot, signing": "TYPE63",
@@ -193,12 +200,24 @@ def signed_zone(folder, file=EXAMPLES / "example.canonical", *more):
     return folder / "signed"
 
 
-def signed_by_knot(folder, file):
+def signed_by_knot(folder, file, hashing="sha384"):
     """A zone signed by Knot's kzonesign, as a file of records in words."""
     (folder / "signed").mkdir()
     shutil.copy(file, folder / "zone")
-    knot(folder, "zone", 53, more="    dnssec-signing: on\n    zonemd-generate: zonemd-sha384\n")
+    more = f"    dnssec-signing: on\n    zonemd-generate: zonemd-{hashing}\n"
+    knot(folder, "zone", 53, more=more)
     words = ["-c", folder / "knot.conf", "-o", folder / "signed", "example."]
     status, text = said("kzonesign", *words)
     assert status == 0, text
     return folder / "signed" / "zone"
+
+
+def signed_by_ldns(folder, file, *hashing):
+    """A zone signed by ldns-signzone with these digests, as a file of records in words."""
+    shutil.copy(file, folder / "zone")
+    status, key = said("ldns-keygen", "-a", "ECDSAP256SHA256", "example", cwd=folder)
+    assert status == 0, key
+    words = [word for it in hashing for word in ("-z", it)]
+    status, text = said("ldns-signzone", *words, "-f", "signed", "zone", key, cwd=folder)
+    assert status == 0, text
+    return folder / "signed"

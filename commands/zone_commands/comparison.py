@@ -8,8 +8,8 @@ from dataclasses import dataclass, field
 from typing import NamedTuple
 
 from .running import (
-    DIFFERENT, FAILED, PROGRAMS, REFUSED, SAME, WRONG, ZONENORM, ZONEWORDS, Failed, count, has_mark,
-    taken,
+    DIFFERENT, FAILED, PROGRAMS, REFUSED, SAME, WRONG, ZONEDIGEST, ZONENORM, ZONEWORDS, Failed,
+    count, has_mark, taken,
 )
 from .transfer import Stopped
 
@@ -52,6 +52,10 @@ def add_options(words):
     words.add_argument(
         "-x", action="append", type=type_number, default=[], metavar="TYPE",
         help="leave out the records of a type, named as CAA or as TYPE257; for each type one -x",
+    )
+    words.add_argument(
+        "-z", action="store_true",
+        help="refuse a transfer that its ZONEMD records do not verify, by zonedigest",
     )
     words.add_argument(
         "--lines", type=count, default=200, metavar="N",
@@ -140,6 +144,7 @@ class Comparing:
     def __init__(self, given, folder):
         """`given` has the options of `add_options`."""
         self.folder, self.lines, self.without_serial = folder, given.lines, given.s
+        self.verifies = given.z
         self.words = given.g or not given.n and shutil.which(ZONEWORDS) is not None
         self.missing = "" if self.words or given.n else (
             "; zonewords, which knows more words, isn't there"
@@ -173,6 +178,8 @@ class Comparing:
         theirs = source.text(zone, self)
         if ours.apex != theirs.apex:
             raise Failed(FAILED, f"{source.name} is of another zone")
+        if self.verifies:
+            self.verify(theirs, source.name)
         both = self.without(ours, "a"), self.without(theirs, "b")
         serials, records = (ours.serial, theirs.serial), (ours.records, theirs.records)
         if are_same(*both):
@@ -212,6 +219,18 @@ class Comparing:
                 raise Failed(WRONG if status == WRONG else FAILED, f"{name}: {why}")
             generic.seek(0)
             return self.canonical(origin, generic, path, name)
+
+    def verify(self, text, name):
+        """Fails where the ZONEMD records of a canonical text don't verify it."""
+        with open(text.path, "rb") as file, open(self.path("verdicts"), "w+b") as verdicts:
+            status, why = PROGRAMS.run([ZONEDIGEST, "verify", "."], file, verdicts)
+            verdicts.seek(0)
+            told = verdicts.read().decode("ascii", "backslashreplace").strip()
+        if status == DIFFERENT:
+            told = told.replace("\nnot verified: ", "; ")
+            raise Failed(REFUSED, f"{name} is {told}")
+        if status:
+            raise Failed(FAILED, f"{name}: {why}")
 
     def without(self, text, name):
         """The path of a text without what is left out of the comparison."""

@@ -16,6 +16,7 @@ from concurrent.futures import ThreadPoolExecutor
 SAME, DIFFERENT, WRONG, REFUSED, FAILED = 0, 1, 2, 3, 4  # the statuses of all commands
 ZONENORM = os.environ.get("ZONENORM", "zonenorm")
 ZONEWORDS = os.environ.get("ZONEWORDS", "zonewords")
+ZONEDIGEST = os.environ.get("ZONEDIGEST", "zonedigest")
 ENVIRONMENT = {**os.environ, "LC_ALL": "C"}
 BYTE_ORDER_MARK = b"\xef\xbb\xbf"
 
