@@ -13,3 +13,4 @@ mod Fits
 mod SameVerdict
 mod SoaNumbers
 mod OneTtl
+pub mod SeenBefore

@@ -3,3 +3,4 @@ pub mod Front
 pub mod Sets
 pub mod Walk
 pub mod Reading
+pub mod Seen

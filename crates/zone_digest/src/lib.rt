@@ -4,10 +4,12 @@
 mod algorithm;
 mod digest;
 mod emit;
+mod fields;
 pub mod laws;
 mod lowering;
 mod names;
 mod ordered;
+mod seen;
 mod serial;
 mod table;
 mod verdict;

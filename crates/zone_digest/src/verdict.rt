@@ -3,12 +3,15 @@ ghost use Rattle.std.specs.Prelude.{◌≡◌, ◌↔◌, ℕ, List, length, map
 ghost use Rattle.zone_digest.specs.Findings.{AreFindings};
 ghost use Rattle.zone_digest.specs.Verdict.{AreZonemds, Fields, HasFields, IsRepeated, IsSerial, IsSupported, IsVerdictOn, IsWellFormed, IsZonemd, digest_size, number};
 ghost use Rattle.zone_digest.specs.Machine.Reading.{HasOtherLike, IsOtherLike, fields_of};
+ghost use Rattle.zone_digest.specs.Machine.Seen.{IsSeenElsewhere};
 ghost use Rattle.zone_name.specs.Common.{Octets};
 ghost use Rattle.zone_rdata.specs.Lent.{record_of};
 ghost use Rattle.zone_set.specs.Zone.{IsZone};
 
 use crate::algorithm::Algorithm;
 use crate::digest::{ZONEMD, digest_of};
+use crate::fields::{ParsedFields, fields_at};
+use crate::seen::Seen;
 use crate::serial::serial_of;
 use std::alloc::{AllocError, Global};
 use zone_rdata::RrRef;
@@ -43,15 +46,6 @@ pub struct Finding<'z> {
     pub verdict: Verdict,
 }
 
-/// The fields of ZONEMD data (RFC 8976 2.2).
-#[derive(Clone, Copy, Debug)]
-pub(crate) struct ParsedFields<'a> {
-    pub(crate) serial: &'a [u8],
-    pub(crate) scheme: u8,
-    pub(crate) algorithm: u8,
-    pub(crate) digest: &'a [u8],
-}
-
 /// The verdict of each ZONEMD record at the apex, in canonical order. The zone is verified if one of
 /// them is [`Verdict::Verified`].
 ///
@@ -80,12 +74,12 @@ fn findings_of<'z>(
     ensures { IfOk result (λ findings. AreFindings zone.now findings.items) }
 {
     let mut findings = Vec::new(alloc);
+    let mut seen = Seen::none();
     for rr in found {
-        let verdict = verdict_of(alloc, zone, found, rr)?;
-        findings.push(Finding {
-            octets: rr.rdata.octets(),
-            verdict,
-        })?;
+        let octets = rr.rdata.octets();
+        let verdict = verdict_of(alloc, zone, found, seen, rr)?;
+        findings.push(Finding { octets, verdict })?;
+        seen = seen.with(octets);
     }
     Ok(findings)
 }
@@ -113,7 +107,7 @@ pub(crate) fn zonemds_of<'z>(alloc: Global, zone: &'z Zone) -> Result<Vec<RrRef<
     Ok(found)
 }
 
-/// The verdict of one of the ZONEMD records at the apex.
+/// The verdict of one of the ZONEMD records at the apex, where these were seen before it.
 ///
 /// # Errors
 ///
@@ -122,9 +116,11 @@ fn verdict_of(
     alloc: Global,
     zone: &Zone,
     found: &[RrRef<'_>],
+    seen: Seen,
     rr: &RrRef<'_>,
 ) -> Result<Verdict, AllocError>
     requires found { AreZonemds zone.now (map record_of found.now) }
+    requires seen { IsSeenElsewhere zone.now (record_of rr.now) seen }
     requires zonemd { IsZonemd zone.now (record_of rr.now) }
     requires zone { IsZone zone.now }
     ensures { IfOk result (IsVerdictOn zone.now (record_of rr.now)) }
@@ -141,10 +137,13 @@ fn verdict_of(
     let Some(algorithm) = Algorithm::of_number(fields.algorithm) else {
         return Ok(Verdict::UnknownAlgorithm);
     };
+    if seen.has(algorithm) {
+        return Ok(Verdict::Repeated);
+    }
     supported_verdict(alloc, zone, found, rr, &fields, algorithm)
 }
 
-/// The verdict of one that has this supported algorithm.
+/// The verdict of one that has this supported algorithm, where none before it does.
 ///
 /// # Errors
 ///
@@ -178,25 +177,6 @@ fn has_serial(zone: &Zone, octets: &[u8]) -> bool
     ensures { IsTrue result ↔ IsSerial zone.now octets.now }
 {
     are_same(octets, serial_of(zone).to_be_bytes().as_slice())
-}
-
-/// The fields of data that has them.
-fn fields_at(octets: &[u8]) -> Option<ParsedFields<'_>>
-    ensures found { IfSome result (λ p. HasFields octets.now (fields_of p)) }
-    ensures none { IfNone result ((f : Fields) → HasFields octets.now f → ⊥) }
-{
-    if octets.len() < 6 {
-        return None;
-    }
-    let (serial, rest) = octets.split_at(4);
-    let (scheme, rest) = rest.split_first()?;
-    let (algorithm, digest) = rest.split_first()?;
-    Some(ParsedFields {
-        serial,
-        scheme: *scheme,
-        algorithm: *algorithm,
-        digest,
-    })
 }
 
 /// The fields of well-formed data.

@@ -2,7 +2,7 @@
 use Rattle.std.specs.Prelude.{◌≡◌, ◌≢◌, List, [], ◌∷◌, ◌⊎◌}
 use Rattle.zone_rdata.specs.Record.{Record}
 use Rattle.zone_digest.specs.Verdict.{Fields, HasFields}
-use Rattle.zone_digest.specs.declared.verdict.ParsedFields.{ParsedFields}
+use Rattle.zone_digest.specs.declared.fields.ParsedFields.{ParsedFields}
 
 abbrev pub fields_of : ParsedFields → Fields
 fields_of p = record {

@@ -1,7 +1,7 @@
 -- Each test decides what its verdict says.
-use Rattle.std.proofs.Common.{arith, subst, sym}
+use Rattle.std.proofs.Common.{◌≡◌, ◌∙◌, arith, subst, sym}
 use Rattle.zone_digest.specs.Machine.Reading.{fields_of}
-use Rattle.zone_digest.specs.Verdict.{IsWellFormed, malformed, other_serial, unknown_algorithm, unknown_scheme}
+use Rattle.zone_digest.specs.Verdict.{IsWellFormed, malformed, other_serial, repeated, unknown_algorithm, unknown_scheme}
 use Rattle.zone_digest.proofs.verdict.verdict_of.Goals as goal
 
 pub returns-in_default : goal.returns-in_default
@@ -33,3 +33,13 @@ supported_verdict-requires-clause-supported c =
     let well = subst (λ o. IsWellFormed o f) c.octets.ensures c.in-Some.ensures.found in
     let serial = c.has_serial.ensures.0 c.if-not-has_serial.false in
     record { serial = (well, serial); scheme = omega (arith, c.if-fields-ne1.false); algorithm = c.in-Some-of_number.ensures.found }
+
+pub returns-then-has : goal.returns-then-has
+returns-then-has c =
+    let f = fields_of c.in-Some.fields in
+    let well = subst (λ o. IsWellFormed o f) c.octets.ensures c.in-Some.ensures.found in
+    let serial = c.has_serial.ensures.0 c.if-not-has_serial.false in
+    let scheme : f.scheme ≡ 1 = omega (arith, c.if-fields-ne1.false) in
+    let number_is = c.in-Some-of_number.ensures.found in
+    let again = c.requires.seen c.in-Some-of_number.algorithm (sym c.has.ensures ∙ c.if-has.true) f scheme number_is in
+    repeated f c.in-Some-of_number.algorithm (record { serial = (well, serial); scheme = scheme; algorithm = number_is }) again

@@ -1,0 +1,32 @@
+//! The fields of ZONEMD data (RFC 8976 2.2).
+ghost use Rattle.std.specs.Prelude.{IfSome, IfNone};
+ghost use Rattle.zone_digest.specs.Verdict.{Fields, HasFields};
+ghost use Rattle.zone_digest.specs.Machine.Reading.{fields_of};
+
+/// The fields of ZONEMD data (RFC 8976 2.2).
+#[derive(Clone, Copy, Debug)]
+pub(crate) struct ParsedFields<'a> {
+    pub(crate) serial: &'a [u8],
+    pub(crate) scheme: u8,
+    pub(crate) algorithm: u8,
+    pub(crate) digest: &'a [u8],
+}
+
+/// The fields of data that has them.
+pub(crate) fn fields_at(octets: &[u8]) -> Option<ParsedFields<'_>>
+    ensures found { IfSome result (λ p. HasFields octets.now (fields_of p)) }
+    ensures none { IfNone result ((f : Fields) → HasFields octets.now f → ⊥) }
+{
+    if octets.len() < 6 {
+        return None;
+    }
+    let (serial, rest) = octets.split_at(4);
+    let (scheme, rest) = rest.split_first()?;
+    let (algorithm, digest) = rest.split_first()?;
+    Some(ParsedFields {
+        serial,
+        scheme: *scheme,
+        algorithm: *algorithm,
+        digest,
+    })
+}
