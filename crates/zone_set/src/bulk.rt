@@ -112,11 +112,15 @@ fn run_stands(octets: &[u8], entries: &[Entry]) -> bool {
     stand
 }
 
-/// Whether a record stands at a place, told by the root's label at the end of its owner. So the lines
-/// of the cache are asked for in which the owner begins and ends.
+/// The octets of an owner that mostly ends in the line of the cache in which it begins.
+const SHORT_OWNER: u8 = 40;
+
+/// Whether a record stands at a place, where its owner is long told by the root's label at its end. So
+/// the lines of the cache are asked for in which the owner begins and ends.
 fn stands(octets: &[u8], at: usize) -> bool {
     // `tie::stored_at` tells it by the whole head, in half as much again.
     match octets.get(at.wrapping_add(6)) {
+        Some(owner_len) if *owner_len <= SHORT_OWNER => true,
         Some(owner_len) => octets.get(at.wrapping_add(8 + *owner_len as usize)) == Some(&0),
         None => false,
     }
