@@ -7,4 +7,3 @@ pub mod Letters
 pub mod Plain
 pub mod Shown
 pub mod Joined
-pub mod Fitting

@@ -26,4 +26,4 @@ pub use labels::Labels;
 pub use lent::NameRef;
 pub use limits::{MAX_LABEL_LEN, MAX_NAME_LEN};
 pub use name::Name;
-pub use sink::{Room, Sink};
+pub use sink::{FixedBuffer, Room, Sink};

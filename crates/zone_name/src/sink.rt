@@ -1,10 +1,13 @@
 ghost use Rattle.std.specs.Prelude.{◌≡◌, ◌-◌, ◌++◌, ℕ, List, [], length, OnOk, OnErr};
 ghost use Rattle.std.proofs.Common.{rules, sym};
 ghost use Rattle.std.proofs.lemmas.List.{append-nil};
-ghost use Rattle.zone_name.specs.Machine.Joined.{appended_twice, counted_twice};
+ghost use Rattle.zone_name.specs.Machine.Joined.{appended_twice, counted_twice, fitted_twice};
+ghost use Rattle.zone_name.specs.Sink.{TakesWhatFits};
 
+use arrayvec::ArrayVec;
 use std::alloc::AllocError;
 use std::convert::Infallible;
+use std::marker::Model;
 
 /// What takes octets, one slice after another: a vector that grows by them, or a count of them.
 pub trait Sink {
@@ -65,4 +68,52 @@ impl Sink for Room {
     ghost nothing = { λ a. Prim.search rules };
 
     ghost joins = { λ a b c x y. counted_twice a.left b.left c.left x y };
+}
+
+/// Room in which a text of at most `N` octets is made without memory. Octets that don't fit are
+/// dropped. Contracts see the octets.
+#[derive(Debug, Drop)]
+pub struct FixedBuffer<const N: usize> {
+    octets: ArrayVec<u8, N>,
+}
+
+impl<const N: usize> Model for FixedBuffer<N> {
+    ghost use Rattle.std.specs.Prelude.{List, ℕ};
+
+    ghost Value = { List ℕ };
+
+    ghost view = { λ b. b.octets.items };
+}
+
+impl<const N: usize> FixedBuffer<N> {
+    /// No octet yet.
+    pub fn new() -> FixedBuffer<N>
+        ensures { result ≡ [] }
+    {
+        FixedBuffer {
+            octets: ArrayVec::new(),
+        }
+    }
+
+    /// The octets.
+    pub fn as_slice(&self) -> &[u8]
+        ensures { result.now ≡ self.now }
+    {
+        self.octets.as_slice()
+    }
+}
+
+impl<const N: usize> Sink for FixedBuffer<N> {
+    ghost takes = { λ a x b. TakesWhatFits N a x b };
+
+    type Error = Infallible;
+
+    fn push(&mut self, octets: &[u8]) -> Result<(), Infallible> {
+        let _ = self.octets.try_extend_from_slice(octets);
+        Ok(())
+    }
+
+    ghost nothing = { λ a _. sym (append-nil a) };
+
+    ghost joins = { λ a b c x y. fitted_twice N a b c x y };
 }

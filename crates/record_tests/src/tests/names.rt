@@ -5,7 +5,7 @@ use std::test::Fail;
 use test_support::{
     Question, check, check_lines, check_table, parted, push_hex, push_text, push_words, rooted,
 };
-use zone_name::{CasedName, Name, NameBuilder, NameFault, NameRef, escape_at};
+use zone_name::{CasedName, FixedBuffer, Name, NameBuilder, NameFault, NameRef, escape_at};
 
 /// The name of a text under an origin; an empty origin is none.
 pub(super) fn named(text: &[u8], origin: &[u8]) -> Result<Name, NameFault> {
@@ -74,7 +74,9 @@ impl Question for Spelled {
         check(octets.as_slice() == name.wire(), "its octets are pushed")?;
         push_hex(alloc, out, name.wire())?;
         push_text(out, " ")?;
-        Ok(name.push_text(out)?)
+        let mut spelling: FixedBuffer<1021> = FixedBuffer::new();
+        let Ok(()) = name.push_text(&mut spelling);
+        Ok(out.extend_from_slice(spelling.as_slice())?)
     }
 }
 
