@@ -8,3 +8,4 @@ pub mod Plain
 pub mod Shown
 pub mod Joined
 pub mod Fitting
+pub mod Formatted
