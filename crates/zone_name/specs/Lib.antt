@@ -5,4 +5,5 @@ pub mod Spelling
 pub mod NextUnit
 pub mod Text
 pub mod Sink
+pub mod FormatterSink
 pub mod Machine

@@ -7,3 +7,4 @@ pub mod Letters
 pub mod Plain
 pub mod Shown
 pub mod Joined
+pub mod Formatted

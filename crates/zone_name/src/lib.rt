@@ -4,8 +4,10 @@
 
 mod builder;
 mod cased;
+mod display;
 mod escape;
 mod fault;
+mod formatter_sink;
 mod labels;
 mod lanes;
 pub mod laws;
@@ -22,6 +24,7 @@ pub use builder::NameBuilder;
 pub use cased::CasedName;
 pub use escape::{NextUnit, decimal_escape, escape_at, next_unit};
 pub use fault::NameFault;
+pub use formatter_sink::FormatterSink;
 pub use labels::Labels;
 pub use lent::NameRef;
 pub use limits::{MAX_LABEL_LEN, MAX_NAME_LEN};
