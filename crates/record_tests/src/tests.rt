@@ -12,6 +12,7 @@ mod names;
 mod parsing;
 mod primitives;
 mod records;
+mod shown;
 mod wire;
 mod words;
 

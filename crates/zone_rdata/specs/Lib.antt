@@ -23,6 +23,8 @@ pub mod LeftOut
 pub mod Wire
 pub mod DataFault
 pub mod Text
+pub mod RecordText
+pub mod StopText
 pub mod RrSource
 pub mod FedSource
 pub mod Machine

@@ -5,6 +5,8 @@ ghost use Rattle.zone_rdata.specs.declared.fault.Failing.TheVariants as failings
 use crate::cause::Cause;
 use crate::fault::Failing;
 use std::alloc::AllocError;
+use std::error::Error;
+use std::fmt;
 use std::marker::Model;
 use zone_name::NameFault;
 
@@ -80,3 +82,18 @@ impl From<NarrowFailing> for Failing {
         narrow.widened()
     }
 }
+
+/// The line of the failing.
+impl fmt::Display for NarrowFailing {
+    ghost use Rattle.std.specs.Prelude.{Some};
+    ghost use Rattle.zone_rdata.specs.StopText.{failing_line};
+
+    ghost output = { λ failing. Some (failing_line failing) };
+
+    fn fmt<W: fmt::Write>(&self, f: &mut fmt::Formatter<W>) -> fmt::Result {
+        let copy = NarrowFailing { cause: self.cause };
+        copy.widened().fmt(f)
+    }
+}
+
+impl Error for NarrowFailing {}
