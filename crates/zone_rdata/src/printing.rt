@@ -80,7 +80,6 @@ pub fn push_hex<S: Sink>(octets: &[u8], out: &mut S) -> Result<(), S::Error>
 }
 
 /// Appends two hexadecimal digits for each octet of a few.
-#[tactic(auto)]
 fn push_hex_of_few<S: Sink>(octets: &[u8], out: &mut S) -> Result<(), S::Error>
     requires { length octets.now ≤ LANES }
     ensures ok { OnOk result (S.takes out.old (encode_lower octets.now) out.new) }
