@@ -39,6 +39,19 @@ pub fn push_string(item: Item, out: &mut Vec<u8>) -> Result<(), NarrowFailing>
         push_with_length(text, out)?;
         return Ok(());
     }
+    push_unescaped(item, out)
+}
+
+/// As `push_string`, of an item that has an escape or is long.
+// Not inlined: few strings are so, and the room for one would be cleared for each.
+#[inline(never)]
+fn push_unescaped(item: Item, out: &mut Vec<u8>) -> Result<(), NarrowFailing>
+    ensures found { OnOk result
+        (Appends (SpellsString (raw item.entry)) with_length out.old.items out.new.items) }
+    ensures fault { (fault : Fault) → result ≡ Err (Failing.Fault fault)
+        → StringFault (raw item.entry) fault }
+    ensures err { OnErr result (out.new.items ≡ out.old.items) }
+{
     let octets = string_of(item)?;
     push_with_length(octets.as_slice(), out)?;
     Ok(())
@@ -69,8 +82,6 @@ fn text_of(item: Item<'_>) -> &[u8]
 }
 
 /// The octets of the string that the item spells (RFC 1035 3.3, 5.1).
-// Not inlined: few strings have an escape, and the room for one would be cleared for each.
-#[inline(never)]
 #[tactic(auto, using(crate::proofs::Strings::StringSteps::steps_read))]
 fn string_of(item: Item<'_>) -> Result<ArrayVec<u8, LONGEST_STRING>, Cause>
     ensures found { IfOk result (λ octets. SpellsString (raw item.entry) octets.items) }
