@@ -14,6 +14,7 @@ mod open_entry;
 mod parser_state;
 mod parts;
 mod reader;
+mod row;
 mod splitter;
 mod statements;
 mod stops;

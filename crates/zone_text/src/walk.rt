@@ -1,20 +1,19 @@
 //! One walk over an entry, which may stop where octets end and go on with more of them (RFC 1035
 //! 5.1).
-ghost use Rattle.std.specs.Prelude.{◌≡◌, ◌≢◌, ◌∷◌, ◌-◌, ◌<◌, ◌≤◌, ◌^◌, ℕ, List, [], false, length, map, take, true, drop, IfOk, OnOk};
-ghost use Rattle.std.specs.List.{All, HoldsAt};
+ghost use Rattle.std.specs.Prelude.{◌≡◌, ◌≢◌, ◌∷◌, ◌-◌, ◌<◌, ◌≤◌, ◌^◌, ℕ, List, [], false, length, map, true, drop, IfOk, OnOk};
 ghost use Rattle.zone_rdata.specs.Item.{raw};
 ghost use Rattle.zone_text.specs.Machine.ItemLengths.{stops_bare};
 ghost use Rattle.zone_text.specs.Machine.Kept.{KeepsBare};
 ghost use Rattle.zone_text.specs.Machine.Stops.{Tells};
-ghost use Rattle.zone_text.specs.Machine.Walk.{IsInRow, IsMark, IsWalked, KeepsToken, StandsAt, StandsOpen, TellsAfter};
+ghost use Rattle.zone_text.specs.Machine.Walk.{IsMark, IsWalked, KeepsToken, StandsAt, StandsOpen, TellsAfter};
 ghost use Rattle.zone_text.specs.OpenEntry.{EndIs};
 ghost use Rattle.zone_text.specs.Tokens.{is_blank};
 
 use crate::feeds::line_feeds;
-use crate::items::{is_blank, keep};
+use crate::items::keep;
+use crate::row::{len_to_blank, row_len};
 use crate::stops::Stops;
 use crate::token::{Span, item_of, token_span};
-use crate::until::len_until;
 use std::alloc::{AllocError, Global};
 use zone_rdata::{Fault, Item};
 
@@ -250,30 +249,6 @@ pub(crate) fn walk<'t>(
 {
     items.clear();
     walk_on(octets, At::beginning(), known, true, items)
-}
-
-/// How many octets of bare items and blanks in a row there are, before a line feed, a parenthesis, a
-/// quote, a comment or a backslash.
-fn row_len(octets: &[u8]) -> usize
-    ensures within { result ≤ length octets.now }
-    ensures row { All IsInRow (take result octets.now) }
-{
-    let (line, _) = octets.split_at(len_until(octets, b'\n', b'\\'));
-    let (part, _) = line.split_at(len_until(line, b'(', b')'));
-    len_until(part, b'"', b';')
-}
-
-/// How many octets there are up to the last blank and with it.
-fn len_to_blank(octets: &[u8]) -> usize
-    ensures within { result ≤ length octets.now }
-    ensures blank { 0 < result → HoldsAt (λ c. is_blank c ≡ true) octets.now (result - 1) }
-{
-    for (index, octet) in octets.iter().enumerate().rev() {
-        if is_blank(*octet) {
-            return index + 1;
-        }
-    }
-    0
 }
 
 /// Where a walk that keeps no items goes on, past the bare items in a row of which the ends are

@@ -1,5 +1,6 @@
 -- How far comments and bare items go, octet by octet and as the bits of 64 octets tell it.
-use Rattle.std.proofs.lemmas.List.Elements.{All-from_recursion}
+use Rattle.std.proofs.lemmas.List.{take-take}
+use Rattle.std.proofs.lemmas.List.Elements.{All-from_recursion, All-take}
 use Rattle.std.proofs.lemmas.List.Sums.{prefix_len-le-length}
 use Rattle.std.proofs.Common.{Fits, ap₂, bit_and, bit_or, eqb, w8, ◌/◌, ◌%◌, not}
 use Rattle.std.proofs.lemmas.Bool.{agree_below}
@@ -10,9 +11,10 @@ use Rattle.std.specs.Prelude.{not}
 use Rattle.std.specs.Simd.Lanes.{mask_l}
 use lib.Lanes.{Each1, top, zip2}
 use lib.ListN.{replicate}
-use Rattle.zone_text.proofs.Common.{common_steps, All, AllByRecursion, Bool, EndsAt, List, [], agree_below_at, ap, arith, cond, drop, drop-drop, false, get_or, length, length-drop, length-map, length-take, map, min, ne_eqb, ◌||◌, refl, stops_bare, sym, take, true, ℕ, ◌+◌, ◌-◌, ◌<◌, ◌==◌, ◌^◌, ◌∙◌, ◌∷◌, ◌≡◌, ◌≢◌, ◌≤◌, add-one, before_line_feed, drop-cons, drop_of_length-le}
+use Rattle.zone_text.proofs.Common.{common_steps, All, AllByRecursion, Bool, EndsAt, List, [], agree_below_at, ap, arith, cond, drop, drop-drop, false, get_or, length, length-drop, length-map, length-take, map, min, ne_eqb, ◌||◌, refl, stops_bare, sym, take, true, ℕ, ◌+◌, ◌-◌, ◌<◌, ◌==◌, ◌^◌, ◌∙◌, ◌∷◌, ◌≡◌, ◌≢◌, ◌≤◌, add-one, before_line_feed, drop-cons, drop_of_length-le, subst}
 use Rattle.zone_name.proofs.InOctets.LookedUp.{Repeats, every_below, looked_up}
 use Rattle.zone_name.proofs.InOctets.Runs.{after_bits, first_inside, none_inside, prefix_step}
+use Rattle.zone_text.specs.Machine.ItemLengths.{IsInRow, ends_row}
 use Rattle.zone_text.specs.Machine.Stops.{Tells}
 use Rattle.zone_text.specs.Tokens.{is_blank}
 use Rattle.zone_text.specs.declared.stops.Stops.{Stops}
@@ -114,6 +116,14 @@ unknown_len stops octets ahead seen more tells none is back len = grind (arith, 
 pub unknown_rest : (new : Stops) (octets ahead : List ℕ) (seen more : ℕ) → ahead ≡ drop seen octets → Tells new (drop (more + 1) ahead) → Tells new (drop (seen + more + 1) octets)
 unknown_rest new octets ahead seen more back tells = grind (arith, common_steps, drop-drop)
 
+-- ---- a row of bare items and blanks
+
+pub in_row : (octets : List ℕ) (n : ℕ) → n ≤ len_to ends_row octets → All IsInRow (take n octets)
+in_row octets n within =
+    let parts = stops_at_len ends_row octets (len_to ends_row octets) refl in
+    let all : take n (take (len_to ends_row octets) octets) ≡ take n octets = take-take n (len_to ends_row octets) octets within in
+    subst (All IsInRow) all (All-take IsInRow n (take (len_to ends_row octets) octets) parts.1)
+
 -- ---- 64 octets beside each other
 
 -- of what stops an item, all that is no greater than a space but a line feed is a blank
@@ -133,8 +143,8 @@ map_agrees : (p q : ℕ → Bool) (v : List ℕ) → agree_below p q 256 ≡ tru
 map_agrees p q [] all fits = refl
 map_agrees p q (x ∷ v) all fits = ap₂ (λ b bs. b ∷ bs) (agree_below_at p q 256 x all fits.0.fits) (map_agrees p q v all fits.1)
 
-pub stop_bits_are : (octets t s alike z : List ℕ) → 64 ≤ length octets → ((k : ℕ) → Fits w8 (get_or octets k 0)) → Repeats 64 t s → alike ≡ swz_l w8 16 t 0 (zip2 bit_and (take 64 octets) (replicate 64 15)) → z ≡ zip2 bit_or (zip2 same_mask (take 64 octets) alike) (zip2 same_mask (take 64 octets) (replicate 64 41)) → agree_below (λ x. top 7 (stop_lane s x)) stops_bare 256 ≡ true → mask_l (map (top 7) z) % 2 ^ 64 ≡ mask_l (map stops_bare (take 64 octets))
-stop_bits_are octets t s alike z room fits copies look lanes agree =
+pub found_bits_are : (p : ℕ → Bool) (octets t s alike z : List ℕ) → 64 ≤ length octets → ((k : ℕ) → Fits w8 (get_or octets k 0)) → Repeats 64 t s → alike ≡ swz_l w8 16 t 0 (zip2 bit_and (take 64 octets) (replicate 64 15)) → z ≡ zip2 bit_or (zip2 same_mask (take 64 octets) alike) (zip2 same_mask (take 64 octets) (replicate 64 41)) → agree_below (λ x. top 7 (stop_lane s x)) p 256 ≡ true → mask_l (map (top 7) z) % 2 ^ 64 ≡ mask_l (map p (take 64 octets))
+found_bits_are p octets t s alike z room fits copies look lanes agree =
     let v = take 64 octets in
     let long : length v ≡ 64 = omega (arith, length-take 64 octets) in
     let read : alike ≡ map (λ x. get_or s (bit_and x 15) 0) v = look ∙ looked_up 64 t s v _ long (zip2_splat bit_and v 64 15 long) copies in
@@ -144,7 +154,7 @@ stop_bits_are octets t s alike z room fits copies look lanes agree =
     ap (λ l. mask_l (map (top 7) l) % 2 ^ 64) all
     ∙ ap (λ l. mask_l l % 2 ^ 64) (map-map (top 7) (stop_lane s) v)
     ∙ mask_l-mod (map (λ x. top 7 (stop_lane s x)) v) 64 (omega (arith, length-map v (λ x. top 7 (stop_lane s x)), long))
-    ∙ ap mask_l (map_agrees (λ x. top 7 (stop_lane s x)) stops_bare v agree (chunk-fits w8 0 64 octets fits))
+    ∙ ap mask_l (map_agrees (λ x. top 7 (stop_lane s x)) p v agree (chunk-fits w8 0 64 octets fits))
 
 -- the octets before one go on with the item
 abbrev pub GoesTo : List ℕ → ℕ → Type 0

@@ -9,14 +9,15 @@ use Rattle.std.specs.Prelude.{not, ◌||◌, ◌⊎◌}
 use Rattle.zone_rdata.specs.Item as raw
 use Rattle.zone_text.proofs.Entries.Kept.{keeps_more}
 use Rattle.zone_text.proofs.Files.Left.{line_feeds}
-use Rattle.zone_text.proofs.Scanning.StopMarks.{first_at, goes_on, is_either, len_to, prefix_stops, stops_at_len}
+use Rattle.zone_text.proofs.Scanning.StopMarks.{first_at, goes_on, prefix_stops}
 use Rattle.zone_text.proofs.Tokens.Cuttings.{HasRoom, Stops, Takes, begins, breaks, cuts, depth_on, no_token, one_token_more, some_octet}
 use Rattle.zone_text.proofs.Tokens.ForGood.{ends_not_for_good, malformed_is_bad, stays_for_good}
 use Rattle.zone_text.proofs.Tokens.ItemsLeft.{each_plain, ends_but_mark, plain_text}
 use Rattle.zone_text.proofs.Scanning.FirstEntries.{feeds_of_both, none_first, none_in, other_than_ten}
 pub use Rattle.zone_text.specs.Machine.Spans.{AreUnits, BeginsToken, EndsToken, IsItemOrComment, IsLostToken, IsOpenToken, IsSeen, ItemIs, RunsOut, Settles, between, in_bare, in_bare_lost, in_comment, in_quotes, in_quotes_lost}
+use Rattle.zone_text.specs.Machine.ItemLengths.{IsInRow}
 use Rattle.zone_text.specs.Machine.Stops.{Tells}
-pub use Rattle.zone_text.specs.Machine.Walk.{BeginAs, EndsEntry, IsCut, IsInRow, IsMark, KeepsAll, KeepsToken, StandsAt, StandsOpen, Walked, a_closing, a_line_feed, an_opening, fronted}
+pub use Rattle.zone_text.specs.Machine.Walk.{BeginAs, EndsEntry, IsCut, IsMark, KeepsAll, KeepsToken, StandsAt, StandsOpen, Walked, a_closing, a_line_feed, an_opening, fronted}
 use Rattle.zone_text.specs.Machine.Walk.{begins as mark_begins, closes_nothing as mark_closes, ends as mark_last}
 use Rattle.zone_text.specs.declared.stops.Stops.{Stops as StopBits}
 use Rattle.zone_text.specs.declared.walk.At.{At}
@@ -460,32 +461,18 @@ stands_begun octets at keeps kept start seen depth feeds none =
 
 -- ---- bare items and blanks in a row
 
-only_blank : (is feed left right mark note escape : Bool) → (feed || escape) ≡ false → (left || right) ≡ false → (mark || note) ≡ false → (is || feed || mark || left || right || note) || escape ≡ true → is ≡ true
-only_blank true feed left right mark note escape l p q stops = refl
-only_blank false true left right mark note escape l p q stops = absurd (let e : true ≡ false = l in cc)
-only_blank false false true right mark note escape l p q stops = absurd (let e : true ≡ false = p in cc)
-only_blank false false false true mark note escape l p q stops = absurd (let e : true ≡ false = p in cc)
-only_blank false false false false true note escape l p q stops = absurd (let e : true ≡ false = q in cc)
-only_blank false false false false false true escape l p q stops = absurd (let e : true ≡ false = q in cc)
-only_blank false false false false false false true l p q stops = absurd (let e : true ≡ false = l in cc)
-only_blank false false false false false false false l p q stops = stops
+only_blank : (is feed mark left right note escape : Bool) → (feed || mark || left || right || note || escape) ≡ false → (is || feed || mark || left || right || note) || escape ≡ true → is ≡ true
+only_blank true feed mark left right note escape none stops = refl
+only_blank false true mark left right note escape none stops = absurd (let e : true ≡ false = none in cc)
+only_blank false false true left right note escape none stops = absurd (let e : true ≡ false = none in cc)
+only_blank false false false true right note escape none stops = absurd (let e : true ≡ false = none in cc)
+only_blank false false false false true note escape none stops = absurd (let e : true ≡ false = none in cc)
+only_blank false false false false false true escape none stops = absurd (let e : true ≡ false = none in cc)
+only_blank false false false false false false true none stops = absurd (let e : true ≡ false = none in cc)
+only_blank false false false false false false false none stops = stops
 
-pub in_row : (octets line part : List ℕ) (n m k : ℕ) → n ≡ len_to (is_either 10 92) octets → line ≡ take n octets → m ≡ len_to (is_either 40 41) line → part ≡ take m line → k ≡ len_to (is_either 34 59) part → All IsInRow (take k octets)
-in_row octets line part n m k no_line line_is no_part part_is no_row =
-    let a = stops_at_len (is_either 10 92) octets n no_line in
-    let b = stops_at_len (is_either 40 41) line m no_part in
-    let c = stops_at_len (is_either 34 59) part k no_row in
-    let short : k ≤ length octets = omega (arith, a.0, b.0, c.0, ap length line_is, ap length part_is, length-take n octets, length-take m line) in
-    let less : (k ≤ m) × (k ≤ n) = (omega (arith, c.0, ap length part_is, length-take m line), omega (arith, b.0, c.0, ap length line_is, ap length part_is, length-take n octets, length-take m line)) in
-    All-from_get_or IsInRow (take k octets) 0 (λ i below.
-    let here : i < k = omega (arith, below, length-take k octets) in
-    let x : ℕ = get_or octets i 0 in
-    let in_line : get_or line i 0 ≡ x = ap (λ t. get_or t i 0) line_is ∙ get_or-take n octets i 0 (omega (arith, here, less.1)) in
-    let in_part : get_or part i 0 ≡ x = ap (λ t. get_or t i 0) part_is ∙ get_or-take m line i 0 (omega (arith, here, less.0)) ∙ in_line in
-    let first : is_either 10 92 x ≡ false = sym (ap (is_either 10 92) (get_or-take n octets i 0 (omega (arith, here, less.1)))) ∙ All-get_or (λ c. is_either 10 92 c ≡ false) (take n octets) i 0 (omega (arith, here, less.1, a.0, length-take n octets)) a.1 in
-    let second : is_either 40 41 x ≡ false = sym (ap (is_either 40 41) (get_or-take m line i 0 (omega (arith, here, less.0)) ∙ in_line)) ∙ All-get_or (λ c. is_either 40 41 c ≡ false) (take m line) i 0 (omega (arith, here, less.0, b.0, length-take m line)) b.1 in
-    let third : is_either 34 59 x ≡ false = sym (ap (is_either 34 59) (get_or-take k part i 0 here ∙ in_part)) ∙ All-get_or (λ c. is_either 34 59 c ≡ false) (take k part) i 0 (omega (arith, here, c.0, length-take k part)) c.1 in
-    subst IsInRow (sym (get_or-take k octets i 0 here)) (λ stops. only_blank (is_blank x) (x == 10) (x == 40) (x == 41) (x == 34) (x == 59) (x == 92) first second third stops))
+blank_in_row : (c : ℕ) → IsInRow c → stops_bare c ≡ true → is_blank c ≡ true
+blank_in_row c in_row stops = only_blank (is_blank c) (c == 10) (c == 34) (c == 40) (c == 41) (c == 59) (c == 92) in_row stops
 
 blank_stops : (c : ℕ) → is_blank c ≡ true → goes_on c ≡ false
 blank_stops c is = ap (λ b. not ((b || c == 10 || c == 34 || c == 40 || c == 41 || c == 59) || c == 92)) is
@@ -512,7 +499,7 @@ passed_row (suc fuel) octets rest depth feeds k fits so_far within row some last
     let c : ℕ = get_or rest n 0 in
     let first : drop n rest ≡ c ∷ drop (n + 1) rest = first_at rest n (omega (arith, less, within)) in
     let stops : stops_bare c ≡ true = subst (EndsAt stops_bare) first (prefix_stops rest n refl).2 in
-    let is : is_blank c ≡ true = (subst IsInRow (get_or-take k rest n 0 less) (All-get_or IsInRow (take k rest) n 0 (omega (arith, less, within, length-take k rest)) row)) stops in
+    let is : is_blank c ≡ true = blank_in_row c (subst IsInRow (get_or-take k rest n 0 less) (All-get_or IsInRow (take k rest) n 0 (omega (arith, less, within, length-take k rest)) row)) stops in
     let bare_passed = walked_bare octets rest (take n rest) (drop n rest) (drop (n + 1) rest) depth feeds c n false [] [] so_far refl refl refl first (no_escape_stop c is) (λ e. absurd (let clash : false ≡ true = e in cc)) in
     let next = walked_blank octets (drop n rest) (drop (n + 1) rest) depth feeds c false [] bare_passed first is in
     elim (cases_lt (n + 1) k) [

@@ -1,5 +1,5 @@
 -- How far an item goes, as it is looked for from the left (RFC 1035 5.1).
-use Rattle.std.specs.Prelude.{◌≡◌, ℕ, List, [], ◌∷◌, length, ◌==◌, ◌||◌, Bool, true}
+use Rattle.std.specs.Prelude.{◌≡◌, ℕ, List, [], ◌∷◌, length, ◌==◌, ◌||◌, Bool, false, true}
 use Rattle.zone_name.specs.Machine.Units.{units_first}
 use Rattle.zone_name.specs.Spelling.{written_text}
 use Rattle.zone_rdata.specs.Strings.{is_quote}
@@ -19,6 +19,14 @@ stops_within extent c = ends_within extent c || c == 92
 -- of a bare item
 abbrev pub stops_bare : ℕ → Bool
 stops_bare c = ends_item c || c == 92
+
+-- what ends a row of bare items and blanks: all that stops a bare item but blanks
+abbrev pub ends_row : ℕ → Bool
+ends_row c = c == 10 || c == 34 || c == 40 || c == 41 || c == 59 || c == 92
+
+-- an octet of a row
+abbrev pub IsInRow : ℕ → Type 0
+IsInRow c = ends_row c ≡ false
 
 -- the octets before the first that ends an item and belongs to no escape, and before a backslash
 -- that begins none

@@ -8,11 +8,10 @@ use Rattle.zone_text.specs.Breaks.{IsBroken, MayEndBefore}
 use Rattle.zone_text.specs.Entries.{Cut, cut_from, in_front_of, item_of}
 use Rattle.zone_text.specs.FirstEntry.{IsBrokenOff, IsOneEntry}
 use Rattle.zone_text.specs.Kept.{AreKept}
-use Rattle.zone_text.specs.Machine.ItemLengths.{stops_bare}
 use Rattle.zone_text.specs.Machine.Kept.{Keeps}
 use Rattle.zone_text.specs.Machine.Spans.{IsItemOrComment, IsOpenToken, IsSeen}
 use Rattle.zone_text.specs.Machine.Stops.{Tells}
-use Rattle.zone_text.specs.Tokens.{Token, text, token_text, IsToken, AllFollow, depth_after, is_blank}
+use Rattle.zone_text.specs.Tokens.{Token, text, token_text, IsToken, AllFollow, depth_after}
 use Rattle.zone_text.specs.declared.stops.Stops.{Stops}
 use Rattle.zone_text.specs.declared.walk.At.{At}
 use Rattle.zone_text.specs.declared.walk.Mark.{Mark}
@@ -104,12 +103,6 @@ IsWalked octets keeps kept (reached.ClosesNothing n) =
 abbrev pub TellsAfter : List ℕ → Reached → Stops → Type 0
 TellsAfter octets (reached.Ends n feeds) known = Tells known (drop n octets)
 TellsAfter octets found known = ⊤
-
--- ---- bare items and blanks in a row
-
--- an octet of a bare item without an escape, or a blank
-abbrev pub IsInRow : ℕ → Type 0
-IsInRow c = stops_bare c ≡ true → is_blank c ≡ true
 
 -- ---- a token more
 

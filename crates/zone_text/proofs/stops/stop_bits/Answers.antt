@@ -1,6 +1,6 @@
-use Rattle.zone_text.proofs.Common.{arith, length-take, refl, take}
+use Rattle.zone_text.proofs.Common.{arith, length-take, refl, stops_bare, take}
 use Rattle.zone_name.proofs.InOctets.LookedUp.{low_places}
-use Rattle.zone_text.proofs.Scanning.StopMarks.{stop_bits_are}
+use Rattle.zone_text.proofs.Scanning.StopMarks.{found_bits_are}
 use Rattle.zone_text.specs.declared.stops.TheConstants.{BY_LOW_BITS}
 use Rattle.zone_text.proofs.stops.stop_bits.Goals as goal
 
@@ -8,4 +8,4 @@ pub swizzle-alike : goal.swizzle-alike
 swizzle-alike c = low_places 4 64 (take 64 c.args.octets.now) refl (omega (arith, c.requires, length-take 64 c.args.octets.now))
 
 pub returns : goal.returns
-returns c = stop_bits_are c.args.octets.now BY_LOW_BITS (take 16 BY_LOW_BITS) _ _ c.requires c.type_inv.octets refl refl refl refl
+returns c = found_bits_are stops_bare c.args.octets.now BY_LOW_BITS (take 16 BY_LOW_BITS) _ _ c.requires c.type_inv.octets refl refl refl refl
