@@ -1,59 +1,21 @@
 //! The line of a refusal. It is made in a room of its own, and takes no memory.
 ghost use Rattle.std.specs.Prelude.{◌≡◌, ◌≤◌, length, OnOk};
-ghost use Rattle.std.proofs.Common.{sym};
-ghost use Rattle.std.proofs.lemmas.List.{append-nil};
-ghost use Rattle.zone_name.specs.Machine.Fitting.{TakesWhatFits, fitted_twice};
 ghost use Rattle.zone_engine.specs.Telling.{argument_of, place_words, refusal_line};
 
-use arrayvec::ArrayVec;
 use itoa::Buffer;
-use std::convert::Infallible;
-use zone_name::Sink;
+use zone_name::{FixedBuffer, Sink};
 use zone_rdata::{Fault, Place};
 
 /// No line of a refusal has more octets. An owner's canonical spelling has 1,021 at most.
 const LONGEST: usize = 2048;
 
-/// Room for the line of a refusal. Octets that don't fit are dropped, and a line fits.
-#[derive(Drop)]
-pub(crate) struct RefusalRoom {
-    octets: ArrayVec<u8, LONGEST>,
-}
-
-impl Sink for RefusalRoom {
-    ghost takes = { λ a x b. TakesWhatFits 2048 a.octets.items x b.octets.items };
-
-    type Error = Infallible;
-
-    fn push(&mut self, octets: &[u8]) -> Result<(), Infallible> {
-        let _ = self.octets.try_extend_from_slice(octets);
-        Ok(())
-    }
-
-    ghost nothing = { λ a _. sym (append-nil a.octets.items) };
-
-    ghost joins = { λ a b c x y.
-        fitted_twice 2048 a.octets.items b.octets.items c.octets.items x y };
-}
-
-impl RefusalRoom {
-    /// The line of a refusal in its room.
-    pub(crate) fn with_line(fault: &Fault, place: Place) -> RefusalRoom
-        ensures { result.octets.items ≡ refusal_line fault.now place }
-    {
-        let mut room = RefusalRoom {
-            octets: ArrayVec::new(),
-        };
-        let Ok(()) = push_refusal(&mut room, fault, place);
-        room
-    }
-
-    /// The octets of the line.
-    pub(crate) fn as_slice(&self) -> &[u8]
-        ensures { result.now ≡ self.now.octets.items }
-    {
-        self.octets.as_slice()
-    }
+/// The line of a refusal.
+pub(crate) fn line_of(fault: &Fault, place: Place) -> FixedBuffer<LONGEST>
+    ensures { result ≡ refusal_line fault.now place }
+{
+    let mut line = FixedBuffer::new();
+    let Ok(()) = push_refusal(&mut line, fault, place);
+    line
 }
 
 /// Number, name and argument of the fault, its place, and what is wrong.

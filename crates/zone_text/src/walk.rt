@@ -4,8 +4,9 @@ ghost use Rattle.std.specs.Prelude.{◌≡◌, ◌≢◌, ◌∷◌, ◌-◌, �
 ghost use Rattle.zone_rdata.specs.Item.{raw};
 ghost use Rattle.zone_text.specs.Machine.ItemLengths.{stops_bare};
 ghost use Rattle.zone_text.specs.Machine.Kept.{KeepsBare};
+ghost use Rattle.zone_text.specs.Machine.Spans.{BeginsToken};
 ghost use Rattle.zone_text.specs.Machine.Stops.{Tells};
-ghost use Rattle.zone_text.specs.Machine.Walk.{IsMark, IsWalked, KeepsToken, StandsAt, StandsOpen, TellsAfter};
+ghost use Rattle.zone_text.specs.Machine.Walk.{IsBegun, IsMark, IsStep, IsWalked, KeepsToken, StandsAt, StandsOpen, TellsAfter};
 ghost use Rattle.zone_text.specs.OpenEntry.{EndIs};
 ghost use Rattle.zone_text.specs.Tokens.{is_blank};
 
@@ -54,6 +55,28 @@ enum Mark {
     ClosesNothing,
     /// The beginning of a quoted item or a comment.
     Begins,
+}
+
+/// A walk between two tokens.
+#[derive(Clone, Copy, Drop)]
+struct Between<'t> {
+    /// The octets after the tokens that were passed.
+    rest: &'t [u8],
+    /// What is known of these octets.
+    stops: Stops,
+    /// The parentheses that are open.
+    depth: u64,
+    /// The line feeds of the tokens.
+    feeds: usize,
+}
+
+/// What a walk comes to by a token.
+#[derive(Clone, Copy, Drop)]
+enum Step<'t> {
+    /// The octets after it.
+    Goes(Between<'t>),
+    /// What the walk reaches, and what is known of the octets after the entry, where it ends.
+    Reaches(Reached, Stops),
 }
 
 impl At {
@@ -156,6 +179,72 @@ fn stand(octets: &[u8], rest: &[u8], seen: usize, depth: u64, feeds: usize) -> A
     }
 }
 
+/// Passes over the item or comment at the front of `token`, and puts its item after those before it,
+/// where items are kept. `after` is the walk past the octet that stopped a bare item there.
+#[inline(always)]
+fn pass_token<'t>(
+    octets: &'t [u8],
+    token: &'t [u8],
+    after: Between<'t>,
+    keeps: bool,
+    items: &mut Vec<Item<'t>>,
+) -> Result<Step<'t>, AllocError>
+    requires begins { BeginsToken token.now }
+    requires begun { IsBegun octets.now token.now after keeps (map raw items.old.items) }
+    ensures { IfOk result (IsStep octets.now token.now keeps (map raw items.new.items)) }
+{
+    match token_span(token, 0) {
+        Span::Whole(len) => {
+            let (text, rest) = token.split_at(len);
+            Ok(Step::Goes(Between {
+                rest,
+                stops: after.stops.past(after.rest, rest),
+                depth: after.depth,
+                feeds: after.feeds + keep_token(text, keeps, items)?,
+            }))
+        }
+        Span::Open(seen) => {
+            let at = stand(octets, token, seen, after.depth, after.feeds);
+            Ok(Step::Reaches(Reached::Open(at), after.stops))
+        }
+        Span::Lost(len) => {
+            let lost = Reached::LostEscape(octets.len() - token.len() + len);
+            Ok(Step::Reaches(lost, after.stops))
+        }
+    }
+}
+
+/// Passes over the token that begins with an octet that stops a bare item, if it is no blank. `after`
+/// is the walk past this octet.
+#[inline(always)]
+fn pass_mark<'t>(
+    octets: &'t [u8],
+    token: &'t [u8],
+    stop: u8,
+    after: Between<'t>,
+    keeps: bool,
+    items: &mut Vec<Item<'t>>,
+) -> Result<Step<'t>, AllocError>
+    requires stops { stops_bare stop ≡ true }
+    requires other { stop ≢ 92 }
+    requires marks { is_blank stop ≡ false }
+    requires first { token.now ≡ stop ∷ after.rest.now }
+    requires begun { IsBegun octets.now token.now after keeps (map raw items.old.items) }
+    ensures { IfOk result (IsStep octets.now token.now keeps (map raw items.new.items)) }
+{
+    let passed = octets.len() - after.rest.len();
+    match mark_at(stop, after.depth) {
+        Mark::Passes(depth, fed) => Ok(Step::Goes(Between {
+            depth,
+            feeds: after.feeds + fed,
+            ..after
+        })),
+        Mark::Ends => Ok(Step::Reaches(Reached::Ends(passed, after.feeds + 1), after.stops)),
+        Mark::ClosesNothing => Ok(Step::Reaches(Reached::ClosesNothing(passed), after.stops)),
+        Mark::Begins => pass_token(octets, token, after, keeps, items),
+    }
+}
+
 /// Walks on from where fewer octets left the entry, and puts the items after those before them
 /// where they are kept. What is known of the octets ahead becomes what is known of those after the
 /// entry, where it ends.
@@ -173,58 +262,42 @@ fn walk_on<'t>(
         (λ reached. IsWalked octets.now keeps (map raw items.new.items) reached) }
     ensures known { IfOk result (λ reached. TellsAfter octets.now reached known.new) }
 {
-    let mut depth = from.depth;
-    let mut feeds = from.feeds;
-    let (_, ahead) = octets.split_at(from.start);
-    let mut stops = *known;
-    let mut rest = ahead;
+    let (_, rest) = octets.split_at(from.start);
+    let mut walk = Between {
+        rest,
+        stops: *known,
+        depth: from.depth,
+        feeds: from.feeds,
+    };
     loop {
-        let (len, next_stops) = stops.bare_len(rest);
-        let (bare, stopped) = rest.split_at(len);
-        let Some((stop, after)) = stopped.split_first() else {
-            return Ok(Reached::Open(stand(octets, rest, rest.len(), depth, feeds)));
+        let (len, stops) = walk.stops.bare_len(walk.rest);
+        let (bare, stopped) = walk.rest.split_at(len);
+        let Some((stop, rest)) = stopped.split_first() else {
+            let at = stand(octets, walk.rest, walk.rest.len(), walk.depth, walk.feeds);
+            return Ok(Reached::Open(at));
+        };
+        let after = Between {
+            rest,
+            stops,
+            ..walk
         };
         // Most items stop so.
         if is_blank_stop(*stop) {
             keep_bare(bare, keeps, items)?;
-            stops = next_stops;
-            rest = after;
+            walk = after;
             continue;
         }
-        let token = if *stop == b'\\' {
-            rest
+        let step = if *stop == b'\\' {
+            pass_token(octets, walk.rest, after, keeps, items)?
         } else {
             keep_bare(bare, keeps, items)?;
-            match mark_at(*stop, depth) {
-                Mark::Passes(next_depth, fed) => {
-                    depth = next_depth;
-                    feeds += fed;
-                    stops = next_stops;
-                    rest = after;
-                    continue;
-                }
-                Mark::Ends => {
-                    *known = next_stops;
-                    return Ok(Reached::Ends(octets.len() - after.len(), feeds + 1));
-                }
-                Mark::ClosesNothing => {
-                    return Ok(Reached::ClosesNothing(octets.len() - after.len()));
-                }
-                Mark::Begins => stopped,
-            }
+            pass_mark(octets, stopped, *stop, after, keeps, items)?
         };
-        match token_span(token, 0) {
-            Span::Whole(len) => {
-                let (text, left) = token.split_at(len);
-                feeds += keep_token(text, keeps, items)?;
-                stops = next_stops.past(after, left);
-                rest = left;
-            }
-            Span::Open(seen) => {
-                return Ok(Reached::Open(stand(octets, token, seen, depth, feeds)));
-            }
-            Span::Lost(len) => {
-                return Ok(Reached::LostEscape(octets.len() - token.len() + len));
+        match step {
+            Step::Goes(next) => walk = next,
+            Step::Reaches(reached, stops) => {
+                *known = stops;
+                return Ok(reached);
             }
         }
     }

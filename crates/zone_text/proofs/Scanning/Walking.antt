@@ -17,10 +17,11 @@ use Rattle.zone_text.proofs.Scanning.FirstEntries.{feeds_of_both, none_first, no
 pub use Rattle.zone_text.specs.Machine.Spans.{AreUnits, BeginsToken, EndsToken, IsItemOrComment, IsLostToken, IsOpenToken, IsSeen, ItemIs, RunsOut, Settles, between, in_bare, in_bare_lost, in_comment, in_quotes, in_quotes_lost}
 use Rattle.zone_text.specs.Machine.ItemLengths.{IsInRow}
 use Rattle.zone_text.specs.Machine.Stops.{Tells}
-pub use Rattle.zone_text.specs.Machine.Walk.{BeginAs, EndsEntry, IsCut, IsMark, KeepsAll, KeepsToken, StandsAt, StandsOpen, Walked, a_closing, a_line_feed, an_opening, fronted}
+pub use Rattle.zone_text.specs.Machine.Walk.{BeginAs, EndsEntry, IsBegun, IsCut, IsMark, IsPast, KeepsAll, KeepsToken, StandsAt, StandsOpen, Walked, a_closing, a_line_feed, an_opening, fronted}
 use Rattle.zone_text.specs.Machine.Walk.{begins as mark_begins, closes_nothing as mark_closes, ends as mark_last}
 use Rattle.zone_text.specs.declared.stops.Stops.{Stops as StopBits}
 use Rattle.zone_text.specs.declared.walk.At.{At}
+use Rattle.zone_text.specs.declared.walk.Between.{Between}
 use Rattle.zone_text.specs.declared.walk.Mark.TheVariants as marks
 
 -- ---- what follows a token
@@ -300,14 +301,6 @@ mark_closing depth c (a_closing is deep e) = absurd cc
 mark_closing depth c (mark_last is none e) = absurd cc
 mark_closing depth c (mark_begins is e) = absurd cc
 
-pub mark_token : (depth c : ℕ) (octets after : List ℕ) → octets ≡ c ∷ after → IsMark depth c marks.Begins → BeginsToken octets
-mark_token depth c octets after first (mark_begins is e) = subst BeginsToken (sym first) (inr is)
-mark_token depth c octets after first (a_line_feed is deep e) = absurd cc
-mark_token depth c octets after first (an_opening is e) = absurd cc
-mark_token depth c octets after first (a_closing is deep e) = absurd cc
-mark_token depth c octets after first (mark_last is none e) = absurd cc
-mark_token depth c octets after first (mark_closes is none e) = absurd cc
-
 -- ---- a longer token
 
 kept_all : (p : Token) (items kept new : List RawItem) → IsToken p → AreKept items kept → KeepsAll (item_of p) kept new → AreKept (items ++ item_of p) new
@@ -386,48 +379,37 @@ walked_bare octets (c ∷ rest) front stopped after depth feeds stop (suc n) kee
     bare_kept (comment octets) front kept new text_is is kind first_is keep = absurd (goes 59 (let e : c ≡ 59 = cc in e) refl)
     bare_kept p front kept new text_is is kind first_is keep = absurd kind
 
--- an item with a backslash begins there
-pub mark_in_bare : (rest stopped after : List ℕ) (c n : ℕ) → n ≡ prefix_len goes_on rest → stopped ≡ drop n rest → stopped ≡ c ∷ after → c ≡ 92 → BeginsToken rest
-mark_in_bare [] stopped after c n len back first is = absurd (omega (arith, ap length back, ap length first, length-drop {A = ℕ} n []))
-mark_in_bare (d ∷ rest) stopped after c zero len back first is = let same : d ≡ c = cc in inl (ap ends_item (same ∙ is))
-mark_in_bare (d ∷ rest) stopped after c (suc n) len back first is = inl (or_parts (ends_item d) (d == 92) (recursion_from_All (λ c. stops_bare c ≡ false) (d ∷ take n rest) (prefix_stops (d ∷ rest) (suc n) len).1).0).0
-
 -- ---- where a token begins that is no mark
 
--- the rest, from the token on, and the octets after what stopped a bare item there
-pub record Here (octets rest after token : List ℕ) (depth feeds : ℕ) (keeps : Bool) (kept : List RawItem) : Type 0 where
-  pub walked : Walked octets token depth feeds keeps kept
-  pub begins : BeginsToken token
-  pub skip : ℕ
-  pub skipped : after ≡ drop skip token
-  pub room : skip ≤ length token
-  pub within : length token ≤ length rest
+pub tells_after : (stops : StopBits) (rest stopped after : List ℕ) (c n : ℕ) → stopped ≡ drop n rest → stopped ≡ c ∷ after → Tells stops (drop (n + 1) rest) → Tells stops after
+tells_after stops rest stopped after c n back first tells = subst (Tells stops) (sym (drop-drop 1 n rest) ∙ ap (drop 1) (sym back ∙ first)) tells
 
--- at a backslash it began before
-pub here_escape : (octets rest stopped after : List ℕ) (depth feeds c n : ℕ) (keeps : Bool) (kept : List RawItem) → Walked octets rest depth feeds keeps kept → n ≡ prefix_len goes_on rest → stopped ≡ drop n rest → stopped ≡ c ∷ after → c ≡ 92 → Here octets rest after rest depth feeds keeps kept
-here_escape octets rest stopped after depth feeds c n keeps kept so_far len back first is = record {
+-- at a backslash it began before, with the bare item
+pub begun_before : (octets rest stopped : List ℕ) (after : Between) (c n : ℕ) (keeps : Bool) (kept : List RawItem) → Walked octets rest after.depth after.feeds keeps kept → stopped ≡ drop n rest → stopped ≡ c ∷ after.rest.now → Tells after.stops (drop (n + 1) rest) → IsBegun octets rest after keeps kept
+begun_before octets rest stopped after c n keeps kept so_far back first tells = record {
   walked = so_far;
-  begins = mark_in_bare rest stopped after c n len back first is;
+  tells = tells_after after.stops rest stopped after.rest.now c n back first tells;
   skip = n + 1;
   skipped = sym (sym (drop-drop 1 n rest) ∙ ap (drop 1) (sym back ∙ first));
   room = omega (arith, ap length back, ap length first, length-drop n rest);
-  within = omega arith;
 }
 
-pub here_mark : (octets rest stopped after : List ℕ) (depth feeds c n : ℕ) (keeps : Bool) (kept : List RawItem) → Walked octets stopped depth feeds keeps kept → stopped ≡ drop n rest → stopped ≡ c ∷ after → IsMark depth c marks.Begins → Here octets rest after stopped depth feeds keeps kept
-here_mark octets rest stopped after depth feeds c n keeps kept so_far back first is = record {
+pub begun_there : (octets rest stopped : List ℕ) (after : Between) (c n : ℕ) (keeps : Bool) (kept : List RawItem) → Walked octets stopped after.depth after.feeds keeps kept → stopped ≡ drop n rest → stopped ≡ c ∷ after.rest.now → Tells after.stops (drop (n + 1) rest) → IsBegun octets stopped after keeps kept
+begun_there octets rest stopped after c n keeps kept so_far back first tells = record {
   walked = so_far;
-  begins = mark_token depth c stopped after first is;
+  tells = tells_after after.stops rest stopped after.rest.now c n back first tells;
   skip = 1;
   skipped = sym (ap (drop 1) first);
   room = omega (arith, ap length first);
-  within = omega (arith, ap length back, length-drop n rest);
 }
 
-pub left_of : (token after left : List ℕ) (skip n : ℕ) → after ≡ drop skip token → skip ≤ length token → left ≡ drop n token → n ≤ length token → length left ≤ length after → left ≡ drop (length after - length left) after
-left_of token after left skip n skipped room back within less =
-    let more : length after - length left + skip ≡ n = omega (arith, ap length skipped, ap length back, length-drop skip token, length-drop n token, room, within, less) in
-    back ∙ ap (λ k. drop k token) (let e : n ≡ skip + (length after - length left) = omega (arith, more) in e) ∙ sym (drop-drop (length after - length left) skip token) ∙ ap (drop (length after - length left)) (sym skipped)
+-- what is past the end of other octets is past them
+pub past_more : (octets rest token : List ℕ) (walk : Between) (n : ℕ) (keeps : Bool) (kept : List RawItem) → token ≡ drop n rest → IsPast octets token walk keeps kept → IsPast octets rest walk keeps kept
+past_more octets rest token walk n keeps kept back past = record {
+  walked = past.walked;
+  tells = past.tells;
+  shorter = omega (arith, past.shorter, ap length back, length-drop n rest);
+}
 
 -- ---- the place of a rest
 
@@ -675,9 +657,3 @@ few_of octets rest depth feeds keeps kept so_far = omega (arith, so_far.feeds_ar
 
 pub deep_of : (octets rest : List ℕ) (depth feeds : ℕ) (keeps : Bool) (kept : List RawItem) → Walked octets rest depth feeds keeps kept → depth + length rest ≤ length octets
 deep_of octets rest depth feeds keeps kept so_far = omega (arith, so_far.deep, ap length so_far.whole, length-append (text so_far.before) rest)
-
-pub after_less : (rest stopped after : List ℕ) (c n : ℕ) → stopped ≡ drop n rest → stopped ≡ c ∷ after → length after < length rest
-after_less rest stopped after c n back first = omega (arith, ap length back, ap length first, length-drop n rest)
-
-pub tells_after : (stops : StopBits) (rest stopped after : List ℕ) (c n : ℕ) → stopped ≡ drop n rest → stopped ≡ c ∷ after → Tells stops (drop (n + 1) rest) → Tells stops after
-tells_after stops rest stopped after c n back first tells = subst (Tells stops) (sym (drop-drop 1 n rest) ∙ ap (drop 1) (sym back ∙ first)) tells

@@ -14,10 +14,13 @@ use Rattle.zone_text.specs.Machine.Stops.{Tells}
 use Rattle.zone_text.specs.Tokens.{Token, text, token_text, IsToken, AllFollow, depth_after}
 use Rattle.zone_text.specs.declared.stops.Stops.{Stops}
 use Rattle.zone_text.specs.declared.walk.At.{At}
+use Rattle.zone_text.specs.declared.walk.Between.{Between}
 use Rattle.zone_text.specs.declared.walk.Mark.{Mark}
 use Rattle.zone_text.specs.declared.walk.Mark.TheVariants as marks
 use Rattle.zone_text.specs.declared.walk.Reached.{Reached}
 use Rattle.zone_text.specs.declared.walk.Reached.TheVariants as reached
+use Rattle.zone_text.specs.declared.walk.Step.{Step}
+use Rattle.zone_text.specs.declared.walk.Step.TheVariants.{Goes, Reaches}
 
 -- ---- a text from the left
 
@@ -105,6 +108,28 @@ TellsAfter octets (reached.Ends n feeds) known = Tells known (drop n octets)
 TellsAfter octets found known = ⊤
 
 -- ---- a token more
+
+-- a walk came to a token, and `after` is it past an octet of the token that was looked at
+pub record IsBegun (octets token : List ℕ) (after : Between) (keeps : Bool)
+    (kept : List RawItem) : Type 0 where
+  pub walked : Walked octets token after.depth after.feeds keeps kept
+  pub tells : Tells after.stops after.rest.now
+  pub skip : ℕ
+  pub skipped : after.rest.now ≡ drop skip token
+  pub room : skip ≤ length token
+
+-- a walk came past a token
+pub record IsPast (octets token : List ℕ) (walk : Between) (keeps : Bool)
+    (kept : List RawItem) : Type 0 where
+  pub walked : Walked octets walk.rest.now walk.depth walk.feeds keeps kept
+  pub tells : Tells walk.stops walk.rest.now
+  pub shorter : length walk.rest.now < length token
+
+-- a walk comes to this by a token
+abbrev pub IsStep : List ℕ → List ℕ → Bool → List RawItem → Step → Type 0
+IsStep octets token keeps kept (Goes walk) = IsPast octets token walk keeps kept
+IsStep octets token keeps kept (Reaches found stops) =
+    IsWalked octets keeps kept found × TellsAfter octets found stops
 
 -- what an octet is that stops a bare item and is no blank, at a depth of parentheses
 pub data IsMark (depth c : ℕ) (mark : Mark) : Type 0 where
