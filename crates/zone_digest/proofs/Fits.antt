@@ -1,5 +1,5 @@
 -- A ZONEMD record at the apex can stand in a zone.
-use Rattle.zone_set.proofs.Common.{[], ◌≡◌, List, ◌∷◌, refl, sym, ap, ◌∙◌, subst, arith, inl, inr, ⊎_elim, ◌⊎◌, ◌↔◌, Ordering, Equal, Less, Greater, Ascends, canonical_cmp, Has, InOneSet, IsRecord, IsWithin, IsZone, Record, ordering_reverse}
+use Rattle.zone_set.proofs.Common.{[], ◌≡◌, List, refl, sym, ap, ◌∙◌, subst, arith, inl, inr, ⊎_elim, ◌⊎◌, ◌↔◌, Equal, Ascends, canonical_cmp, Has, InOneSet, IsRecord, IsWithin, IsZone, Record}
 use Rattle.zone_set.specs.Zone.{Zone}
 use Rattle.zone_set.proofs.Holding.Together.{each_Has, each_from_Has}
 use Rattle.zone_set.proofs.Ordering.SetOrder.{canonical_total, exact_canonical}

@@ -17,4 +17,5 @@ mod SameVerdict
 mod SoaNumbers
 mod OneTtl
 mod OneWanted
+mod SomeVerdict
 pub mod SeenBefore

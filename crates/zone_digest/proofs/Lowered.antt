@@ -1,6 +1,6 @@
 -- Data has a form with its names in lower case.
-use Rattle.zone_rdata.proofs.Common.{[], ◌≡◌, ℕ, ◌+◌, ◌<◌, ◌≤◌, List, ◌∷◌, ◌++◌, length, take, drop, refl, sym, ap, ◌∙◌, subst, arith, flat_map, map}
-use Rattle.std.proofs.Common.{Bool, true, false, suc, zero, Option, None, Some, inl, inr, ⊎_elim, ◌⊎◌, length-append, take-append-drop}
+use Rattle.zone_rdata.proofs.Common.{[], ◌≡◌, ℕ, ◌+◌, ◌<◌, ◌≤◌, List, ◌∷◌, ◌++◌, length, take, drop, refl, sym, ap, subst, arith, flat_map, map}
+use Rattle.std.proofs.Common.{Bool, true, false, suc, zero, Option, None, Some, inl, inr, ◌⊎◌, length-append}
 use Rattle.std.specs.Bool.{Decides}
 use Rattle.std.specs.Prelude.{nat_le}
 use Rattle.std.proofs.lemmas.List.{length-drop}

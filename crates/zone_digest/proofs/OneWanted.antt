@@ -1,5 +1,5 @@
 -- A zone has one serial, one list of findings, and wants one record by a hash algorithm.
-use Rattle.zone_set.proofs.Common.{[], ◌≡◌, ℕ, List, ◌∷◌, ◌++◌, ◌+◌, length, length-append, refl, sym, ap, ap₂, ◌∙◌, subst, arith, Ascends, Has, IsZone, Record, canonical_cmp}
+use Rattle.zone_set.proofs.Common.{[], ◌≡◌, ℕ, List, ◌∷◌, ◌++◌, ◌+◌, length, length-append, sym, ap, ap₂, ◌∙◌, subst, arith, Ascends, IsZone, Record, canonical_cmp}
 use Rattle.std.specs.List.{AllZip}
 use Rattle.zone_name.specs.Common.{Octets}
 use Rattle.zone_rdata.proofs.Octets.Sent.{append_same}

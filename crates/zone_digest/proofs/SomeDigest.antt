@@ -1,5 +1,5 @@
 -- A zone has a digest of each algorithm.
-use Rattle.zone_set.proofs.Common.{[], ◌≡◌, List, ◌∷◌, refl, sym, ap, ◌∙◌, subst, arith, inl, inr, ⊎_elim, ◌⊎◌, ◌↔◌, AllByRecursion, Equal, Less, Has, InOneSet, IsRecord, IsZone, Record, SameRecords, bytes_decides, data_of, exact_bytes, exact_unsigned, name_cmp-exact, take, if◌then◌else◌, ◌==◌}
+use Rattle.zone_set.proofs.Common.{[], ◌≡◌, List, ◌∷◌, refl, sym, ap, ◌∙◌, subst, inl, inr, ⊎_elim, ◌⊎◌, ◌↔◌, Equal, Has, InOneSet, IsRecord, IsZone, Record, bytes_decides, exact_bytes, exact_unsigned, name_cmp-exact, take, if◌then◌else◌, ◌==◌}
 use Rattle.std.proofs.lemmas.Bool.Decides.{Decides-eqb}
 use Rattle.std.specs.Cmp.Lexicographic.{pointwise_decides}
 use Rattle.std.specs.List.{flat_map}
@@ -7,7 +7,7 @@ use Rattle.zone_name.specs.Common.{Labels}
 use Rattle.zone_set.proofs.Holding.Together.{each_Has}
 use Rattle.zone_set.proofs.Ordering.SetOrder.{both_equal}
 use Rattle.zone_set.specs.Zone.{Zone}
-use Rattle.zone_digest.specs.Digest.{AreDigested, AscendsByOwner, digest_cmp, hashed, IsDigest, IsDigested, IsLeftOut, IsLoweredRecord, record_octets}
+use Rattle.zone_digest.specs.Digest.{AscendsByOwner, digest_cmp, hashed, IsDigest, IsLeftOut, IsLoweredRecord, record_octets}
 use Rattle.zone_digest.specs.NamesInData.{names_of}
 use Rattle.zone_digest.specs.declared.algorithm.Algorithm.{Algorithm}
 use Rattle.zone_digest.specs.declared.algorithm.ZoneDigest.{ZoneDigest}

@@ -4,7 +4,7 @@ ghost use Rattle.std.specs.Prelude.{◌≡◌, ◌↔◌, List};
 ghost use Rattle.zone_digest.specs.Digest.{IsDigest};
 ghost use Rattle.zone_digest.specs.Findings.{AreFindings};
 ghost use Rattle.zone_digest.specs.Laws.{DifferInLeftOut, DifferInLetters, HasNoPair, HasOneMore, HasTtlOfItsSet, TellTheSame, TellsVerified};
-ghost use Rattle.zone_digest.specs.Verdict.{IsSerial, IsVerdictOn, IsVerified};
+ghost use Rattle.zone_digest.specs.Verdict.{IsSerial, IsVerdictOn, IsVerified, IsZonemd};
 ghost use Rattle.zone_digest.specs.Wanted.{IsWanted, StatesDigest};
 ghost use Rattle.zone_digest.specs.declared.algorithm.Algorithm.{Algorithm};
 ghost use Rattle.zone_digest.specs.declared.algorithm.ZoneDigest.{ZoneDigest};
@@ -64,6 +64,12 @@ pub fn the_wanted_record_fits()
 pub fn the_record_of_a_digest_is_verified()
     ensures { (z w : Zone) (r : Record) (a : Algorithm) → StatesDigest z a r → HasNoPair z a
         → HasOneMore z r w → IsVerdictOn w r Verified }
+{}
+
+/// Each ZONEMD record at the apex of a zone has a verdict.
+pub fn each_zonemd_record_has_a_verdict()
+    ensures { (z : Zone) (r : Record) → IsZone z → IsZonemd z r
+        → (v : Verdict) × IsVerdictOn z r v }
 {}
 
 /// A verdict depends on the apex and on the set of records alone.
