@@ -1,5 +1,6 @@
 -- From findings and records to what an order is answered.
-use Rattle.std.proofs.Common.{◌≡◌, ◌⊎◌, ◌∙◌, ◌∷◌, ◌++◌, [], ℕ, List, ap, append_assoc, ap₂, codes, decimal, drop, inl, inr, subst, sym}
+use Rattle.std.proofs.Common.{◌<◌, ◌^◌, ◌≡◌, ◌⊎◌, ◌∙◌, ◌∷◌, ◌++◌, [], ℕ, List, ap, append_assoc, ap₂, codes, decimal, drop, inl, inr, subst, sym}
+use Rattle.std.proofs.lemmas.Nat.{from_be_bytes-to_be_bytes_4}
 use Rattle.std.specs.Int.{to_be_bytes, w32}
 use Rattle.std.specs.Result.{is_ok}
 use Rattle.std.specs.Prelude.{if◌then◌else◌, Err, IfErr, IfOk, IfSome, None, Ok, OnOk, Option, Result, Some, ◌↔◌}
@@ -33,9 +34,9 @@ use Rattle.digest_command.specs.declared.order.Order.TheVariants.{Verify}
 abbrev pub HasStatus : List Finding → ℕ → Type 0
 HasStatus findings status = (TellsVerified findings × (status ≡ 0)) ⊎ ((TellsVerified findings → ⊥) × (status ≡ 1))
 
-module _ (z : Zone) (serial : ℕ) (findings : List Finding) (text : List ℕ) (is_serial : IsSerial z (to_be_bytes w32 serial)) (are : AreFindings z findings) (is : text ≡ findings_text serial findings) (tells : TellsVerified findings ↔ IsVerified z) where
+module _ (z : Zone) (serial : ℕ) (findings : List Finding) (text : List ℕ) (short : serial < 2 ^ 32) (is_serial : IsSerial z (to_be_bytes w32 serial)) (are : AreFindings z findings) (is : text ≡ findings_text serial findings) (tells : TellsVerified findings ↔ IsVerified z) where
   told_of : TellsFindings z text
-  told_of = record { serial = serial; is_serial = is_serial; findings = findings; are_findings = are; is_text = is }
+  told_of = record { serial = to_be_bytes w32 serial; is_serial = is_serial; findings = findings; are_findings = are; is_text = is ∙ ap (λ n. findings_text n findings) (sym (from_be_bytes-to_be_bytes_4 serial short)) }
 
   pub told : (status : ℕ) → HasStatus findings status → (origin : Option Labels) → IsAnswer z (Verify origin) text status
   told status (inl good) origin = subst (IsAnswer z (Verify origin) text) (sym good.1) (verified origin text (tells.0 good.0) told_of)

@@ -2,3 +2,4 @@ mod Asked
 mod Findings
 mod Answering
 mod Statuses
+mod OneAnswer

@@ -30,11 +30,11 @@ verdict_of z _ text _ (verified origin t is told) = inl (is, refl)
 verdict_of z _ text _ (not_verified origin t never told) = inr (never, refl)
 verdict_of z _ text _ (digest origin algorithm notation r wanted) = tt
 
-of_verified : (z : Zone) (status : ℕ) → HasVerdict z status → IsVerified z → status ≡ 0
+pub of_verified : (z : Zone) (status : ℕ) → HasVerdict z status → IsVerified z → status ≡ 0
 of_verified z status (inl good) is = good.1
 of_verified z status (inr bad) is = absurd (bad.0 is)
 
-of_unverified : (z : Zone) (status : ℕ) → HasVerdict z status → (IsVerified z → ⊥) → status ≡ 1
+pub of_unverified : (z : Zone) (status : ℕ) → HasVerdict z status → (IsVerified z → ⊥) → status ≡ 1
 of_unverified z status (inl good) never = absurd (never good.0)
 of_unverified z status (inr bad) never = bad.1
 

@@ -1,8 +1,8 @@
 -- What a run of an order reads, writes and answers (this project's own).
 use Rattle.std.specs.Prelude.{◌≡◌, ℕ, List, Option, IfSome, ◌⊎◌}
-use Rattle.std.specs.Int.{to_be_bytes, w32}
+use Rattle.std.specs.Int.{from_be_bytes, w32}
 use Rattle.std.specs.Io.KnownBytes.{Appends}
-use Rattle.zone_name.specs.Common.{Labels}
+use Rattle.zone_name.specs.Common.{Labels, Octets}
 use Rattle.zone_rdata.specs.Record.{Record}
 use Rattle.zone_rdata.specs.declared.fault.Stop.{Stop}
 use Rattle.zone_rdata.specs.declared.fault.Stop.TheVariants.{Write, Memory}
@@ -47,11 +47,11 @@ input_for order octets = read_as_with (origin_of order) octets
 
 -- what is told of a zone's ZONEMD records: the lines of the findings under the SOA's serial
 pub record TellsFindings (z : Zone) (text : List ℕ) : Type 0 where
-  pub serial : ℕ
-  pub is_serial : IsSerial z (to_be_bytes w32 serial)
+  pub serial : Octets
+  pub is_serial : IsSerial z serial
   pub findings : List Finding
   pub are_findings : AreFindings z findings
-  pub is_text : text ≡ findings_text serial findings
+  pub is_text : text ≡ findings_text (from_be_bytes w32 serial) findings
 
 -- What a zone is answered to an order, with the exit status: that it is verified, 0; why it isn't,
 -- 1; or the ZONEMD record that it wants, 0.

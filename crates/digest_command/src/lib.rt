@@ -3,6 +3,7 @@
 
 mod answer;
 mod command;
+pub mod laws;
 mod lines;
 mod notation;
 mod order;

@@ -1,44 +1,15 @@
 -- A ZONEMD record at the apex can stand in a zone.
-use Rattle.zone_set.proofs.Common.{[], ◌≡◌, List, ◌∷◌, refl, sym, ap, ◌∙◌, subst, arith, inl, inr, ⊎_elim, ◌⊎◌, ◌↔◌, Ordering, Equal, Less, Greater, Ascends, canonical_cmp, Has, InOneSet, IsRecord, IsWithin, IsZone, Record, ordering_reverse}
+use Rattle.zone_set.proofs.Common.{[], ◌≡◌, List, refl, sym, ap, ◌∙◌, subst, arith, inl, inr, ⊎_elim, ◌⊎◌, ◌↔◌, Equal, Ascends, canonical_cmp, Has, InOneSet, IsRecord, IsWithin, IsZone, Record}
 use Rattle.zone_set.specs.Zone.{Zone}
 use Rattle.zone_set.proofs.Holding.Together.{each_Has, each_from_Has}
 use Rattle.zone_set.proofs.Ordering.SetOrder.{canonical_total, exact_canonical}
 use Rattle.zone_digest.specs.Laws.{HasOneMore, HasTtlOfItsSet}
+use Rattle.zone_digest.proofs.Putting.{put}
 use Rattle.zone_digest.proofs.Sets.{record_same}
-
--- an ascending list with one record more
-abbrev Grown : Record → List Record → Type 0
-Grown r rs = (new : List Record) × Ascends new × ((s : Record) → Has new s ↔ ((s ≡ r) ⊎ Has rs s))
-
-put_by : (r x : Record) (rs : List Record) (o : Ordering) → canonical_cmp r x ≡ o → Ascends (x ∷ rs) → (canonical_cmp r x ≡ Equal → x ≡ r) → Grown r rs → Grown r (x ∷ rs)
-put_by r x rs Less known up tied more =
-    (r ∷ x ∷ rs, ((known, each_from_Has (λ s. canonical_cmp r s ≡ Less) rs (λ s has. canonical_total.trans r x s known (each_Has (λ t. canonical_cmp x t ≡ Less) rs s up.0 has))), up), λ s. (λ has. has, λ has. has))
-put_by r x rs Equal known up tied more =
-    (x ∷ rs, up, λ s. (inr, λ any. ⊎_elim (λ same. inl (same ∙ sym (tied known))) (λ has. has) any))
-put_by r x rs Greater known up tied (new, up_new, same) = (x ∷ new, (each_from_Has (λ s. canonical_cmp x s ≡ Less) new behind, up_new), λ s. (there s, back s))
-  where
-    less : canonical_cmp x r ≡ Less
-    less = canonical_total.antisymm x r ∙ ap ordering_reverse known
-
-    behind : (s : Record) → Has new s → canonical_cmp x s ≡ Less
-    behind s has = ⊎_elim (λ e. subst (λ t. canonical_cmp x t ≡ Less) (sym e) less) (λ h. each_Has (λ t. canonical_cmp x t ≡ Less) rs s up.0 h) ((same s).0 has)
-
-    there : (s : Record) → Has (x ∷ new) s → (s ≡ r) ⊎ Has (x ∷ rs) s
-    there s (inl e) = inr (inl e)
-    there s (inr has) = ⊎_elim inl (λ h. inr (inr h)) ((same s).0 has)
-
-    back : (s : Record) → (s ≡ r) ⊎ Has (x ∷ rs) s → Has (x ∷ new) s
-    back s (inl e) = inr ((same s).1 (inl e))
-    back s (inr (inl e)) = inl e
-    back s (inr (inr h)) = inr ((same s).1 (inr h))
-
-put : (r : Record) (rs : List Record) → Ascends rs → ((s : Record) → Has rs s → canonical_cmp r s ≡ Equal → s ≡ r) → Grown r rs
-put r [] up tied = (r ∷ [], (tt, tt), λ s. (λ has. has, λ has. has))
-put r (x ∷ rs) up tied = put_by r x rs (canonical_cmp r x) refl up (tied x (inl refl)) (put r rs up.1 (λ s has. tied s (inr has)))
 
 pub fits : (z : Zone) (r : Record) → IsZone z → IsRecord r → r.class ≡ z.class → r.owner ≡ z.apex → r.kind ≡ 63 → HasTtlOfItsSet z r → (w : Zone) × IsZone w × HasOneMore z r w
 fits z r is record_is class owner kind ttl =
-    let g = put r z.records is.compatible.ascend tied in
+    let g = put canonical_cmp canonical_total Ascends tt (λ s records. (λ up. up, λ up. up)) r z.records is.compatible.ascend tied in
     (record { apex = z.apex; class = z.class; records = g.0 }, zone_of g.0 g.1 g.2, record { apex = refl; same = g.2 })
   where
     own_class : (s : Record) → Has z.records s → s.class ≡ z.class

@@ -9,8 +9,13 @@ mod Zonemds
 mod FieldsOf
 mod OneVerdict
 mod SameDigest
+mod Putting
+mod Lowered
+mod SomeDigest
 mod Fits
 mod SameVerdict
 mod SoaNumbers
 mod OneTtl
+mod OneWanted
+mod SomeVerdict
 pub mod SeenBefore

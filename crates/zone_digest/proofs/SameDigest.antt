@@ -25,7 +25,7 @@ use Rattle.zone_digest.proofs.SetOrder.{two_kept}
 use Rattle.zone_digest.proofs.Sets.{record_same}
 
 -- ---- letters
-one_form : (r l m : Record) → IsLoweredRecord r l → IsLoweredRecord r m → m ≡ l
+pub one_form : (r l m : Record) → IsLoweredRecord r l → IsLoweredRecord r m → m ≡ l
 one_form r l m is iz = record_same l m (iz.owner ∙ sym is.owner) (iz.class ∙ sym is.class) (iz.kind ∙ sym is.kind) (iz.ttl ∙ sym is.ttl) (lowered_once (names_of r.kind r.octets) r.octets m.octets l.octets iz.octets is.octets)
 
 two_of : (r l : Record) → IsLoweredRecord r l → r.kind ≡ 46 → take 2 l.octets ≡ take 2 r.octets

@@ -1,5 +1,6 @@
 -- What the laws speak of.
 use Rattle.std.specs.Prelude.{◌≡◌, ◌≢◌, List, [], ◌∷◌, ◌⊎◌, ◌↔◌}
+use Rattle.std.specs.List.{AllZip}
 use Rattle.zone_rdata.specs.Record.{Record}
 use Rattle.zone_set.specs.Zone.{Has, InOneSet, Zone}
 use Rattle.zone_digest.specs.Digest.{IsLeftOut, IsLoweredRecord}
@@ -42,3 +43,7 @@ HasTtlOfItsSet z r = (s : Record) → Has z.records s → InOneSet s r → s.ttl
 abbrev pub TellsVerified : List Finding → Type 0
 TellsVerified [] = ⊥
 TellsVerified (finding ∷ findings) = (finding.verdict ≡ Verified) ⊎ TellsVerified findings
+
+-- findings that tell the same of the same data, one after another
+abbrev pub TellTheSame : List Finding → List Finding → Type 0
+TellTheSame = AllZip (λ f g. (f.octets.now ≡ g.octets.now) × (f.verdict ≡ g.verdict))

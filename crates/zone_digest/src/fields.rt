@@ -1,7 +1,12 @@
 //! The fields of ZONEMD data (RFC 8976 2.2).
-ghost use Rattle.std.specs.Prelude.{IfSome, IfNone};
-ghost use Rattle.zone_digest.specs.Verdict.{Fields, HasFields};
+ghost use Rattle.std.specs.Prelude.{◌≡◌, ◌≢◌, IfSome, IfNone};
+ghost use Rattle.zone_digest.specs.Verdict.{Fields, HasFields, number};
 ghost use Rattle.zone_digest.specs.Machine.Reading.{fields_of};
+
+use crate::algorithm::Algorithm;
+
+/// The number of the scheme SIMPLE (RFC 8976 5.2).
+pub(crate) const SIMPLE: u8 = 1;
 
 /// The fields of ZONEMD data (RFC 8976 2.2).
 #[derive(Clone, Copy, Debug)]
@@ -29,4 +34,17 @@ pub(crate) fn fields_at(octets: &[u8]) -> Option<ParsedFields<'_>>
         algorithm: *algorithm,
         digest,
     })
+}
+
+/// The hash algorithm of fields of scheme SIMPLE, where it is a known one.
+pub(crate) fn algorithm_of(fields: &ParsedFields<'_>) -> Option<Algorithm>
+    ensures found { IfSome result (λ a. (fields.now.scheme ≡ 1)
+        × (fields.now.algorithm ≡ number a)) }
+    ensures none { IfNone result (fields.now.scheme ≡ 1 → (a : Algorithm)
+        → fields.now.algorithm ≢ number a) }
+{
+    if fields.scheme != SIMPLE {
+        return None;
+    }
+    Algorithm::of_number(fields.algorithm)
 }

@@ -3,8 +3,8 @@
 ghost use Rattle.std.specs.Prelude.{◌≡◌, ◌↔◌, List};
 ghost use Rattle.zone_digest.specs.Digest.{IsDigest};
 ghost use Rattle.zone_digest.specs.Findings.{AreFindings};
-ghost use Rattle.zone_digest.specs.Laws.{DifferInLeftOut, DifferInLetters, HasNoPair, HasOneMore, HasTtlOfItsSet, TellsVerified};
-ghost use Rattle.zone_digest.specs.Verdict.{IsVerdictOn, IsVerified};
+ghost use Rattle.zone_digest.specs.Laws.{DifferInLeftOut, DifferInLetters, HasNoPair, HasOneMore, HasTtlOfItsSet, TellTheSame, TellsVerified};
+ghost use Rattle.zone_digest.specs.Verdict.{IsSerial, IsVerdictOn, IsVerified, IsZonemd};
 ghost use Rattle.zone_digest.specs.Wanted.{IsWanted, StatesDigest};
 ghost use Rattle.zone_digest.specs.declared.algorithm.Algorithm.{Algorithm};
 ghost use Rattle.zone_digest.specs.declared.algorithm.ZoneDigest.{ZoneDigest};
@@ -18,6 +18,11 @@ ghost use Rattle.zone_set.specs.Zone.{IsZone, SameRecords, Zone};
 /// A zone has at most one digest by each hash algorithm.
 pub fn one_digest_of_a_zone()
     ensures { (z : Zone) (a : Algorithm) → AtMostOneIs (IsDigest z a) }
+{}
+
+/// A zone has a digest by each hash algorithm.
+pub fn each_zone_has_a_digest()
+    ensures { (z : Zone) (a : Algorithm) → IsZone z → (d : ZoneDigest) × IsDigest z a d }
 {}
 
 /// A record has at most one verdict.
@@ -61,10 +66,32 @@ pub fn the_record_of_a_digest_is_verified()
         → HasOneMore z r w → IsVerdictOn w r Verified }
 {}
 
+/// Each ZONEMD record at the apex of a zone has a verdict.
+pub fn each_zonemd_record_has_a_verdict()
+    ensures { (z : Zone) (r : Record) → IsZone z → IsZonemd z r
+        → (v : Verdict) × IsVerdictOn z r v }
+{}
+
 /// A verdict depends on the apex and on the set of records alone.
 pub fn one_zone_has_one_verdict()
     ensures { (z w : Zone) (r : Record) (v : Verdict) → z.apex ≡ w.apex
         → SameRecords z.records w.records → IsVerdictOn z r v ↔ IsVerdictOn w r v }
+{}
+
+/// A zone has at most one serial.
+pub fn one_serial_of_a_zone()
+    ensures { (z : Zone) → IsZone z → AtMostOneIs (IsSerial z) }
+{}
+
+/// A zone wants at most one record by a hash algorithm.
+pub fn one_wanted_record()
+    ensures { (z : Zone) (a : Algorithm) → IsZone z → AtMostOneIs (IsWanted z a) }
+{}
+
+/// The verdicts on the ZONEMD records of a zone are one list.
+pub fn one_list_of_findings()
+    ensures { (z : Zone) (findings others : List Finding) → AreFindings z findings
+        → AreFindings z others → TellTheSame findings others }
 {}
 
 /// What is told of a zone says that a record is verified exactly if the zone is.

@@ -3,7 +3,7 @@ ghost use Rattle.std.specs.Prelude.{◌≡◌, ◌⊎◌, IfSome, false, true};
 ghost use Rattle.zone_digest.specs.Machine.Seen.{HasPair, has_seen};
 
 use crate::algorithm::Algorithm;
-use crate::fields::fields_at;
+use crate::fields::{algorithm_of, fields_at};
 
 /// Which hash algorithms the records of scheme SIMPLE have that were looked at.
 #[derive(Clone, Copy, Debug)]
@@ -56,9 +56,5 @@ impl Seen {
 fn algorithm_in(octets: &[u8]) -> Option<Algorithm>
     ensures { IfSome result (HasPair octets.now) }
 {
-    let fields = fields_at(octets)?;
-    if fields.scheme != 1 {
-        return None;
-    }
-    Algorithm::of_number(fields.algorithm)
+    algorithm_of(&fields_at(octets)?)
 }

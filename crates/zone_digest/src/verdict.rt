@@ -10,7 +10,7 @@ ghost use Rattle.zone_set.specs.Zone.{IsZone};
 
 use crate::algorithm::Algorithm;
 use crate::digest::{ZONEMD, digest_of};
-use crate::fields::{ParsedFields, fields_at};
+use crate::fields::{ParsedFields, SIMPLE, algorithm_of, fields_at};
 use crate::seen::Seen;
 use crate::serial::serial_of;
 use std::alloc::{AllocError, Global};
@@ -131,10 +131,10 @@ fn verdict_of(
     if !has_serial(zone, fields.serial) {
         return Ok(Verdict::OtherSerial);
     }
-    if fields.scheme != 1 {
-        return Ok(Verdict::UnknownScheme);
-    }
-    let Some(algorithm) = Algorithm::of_number(fields.algorithm) else {
+    let Some(algorithm) = algorithm_of(&fields) else {
+        if fields.scheme != SIMPLE {
+            return Ok(Verdict::UnknownScheme);
+        }
         return Ok(Verdict::UnknownAlgorithm);
     };
     if seen.has(algorithm) {
@@ -199,8 +199,8 @@ fn has_its_size(fields: &ParsedFields<'_>) -> bool
     ensures { IsTrue result ↔ ((a : Algorithm) → fields.now.scheme ≡ 1
         → fields.now.algorithm ≡ number a → length fields.now.digest.now ≡ digest_size a) }
 {
-    match Algorithm::of_number(fields.algorithm) {
-        Some(algorithm) => fields.scheme != 1 || fields.digest.len() == algorithm.size(),
+    match algorithm_of(fields) {
+        Some(algorithm) => fields.digest.len() == algorithm.size(),
         None => true,
     }
 }

@@ -8,15 +8,13 @@ ghost use Rattle.zone_rdata.specs.Record.{IsRecord};
 
 use crate::algorithm::Algorithm;
 use crate::digest::{ZONEMD, digest_of};
+use crate::fields::SIMPLE;
 use crate::serial::{serial_of, soa_of};
 use crate::verdict::zonemds_of;
 use std::alloc::{AllocError, Global};
 use zone_name::laws::are_octets;
 use zone_rdata::{Kind, RdataRef, Rr, RrRef};
 use zone_set::Zone;
-
-/// The number of the scheme SIMPLE (RFC 8976 5.2).
-const SIMPLE: u8 = 1;
 
 /// The ZONEMD record that states the digest of a zone, of scheme SIMPLE (RFC 8976 2.2), at its
 /// apex and with its serial. Its TTL is that of the ZONEMD records that are there, and where there

@@ -20,6 +20,7 @@ mod orders;
 mod pieces;
 mod programs;
 mod readings;
+mod rfc_8976;
 mod runs;
 mod scripts;
 mod streams;

@@ -2,68 +2,60 @@
 //! the exit status. The digests are those of RFC 8976, appendix A, and for a zone that has nothing
 //! but its SOA of a second program.
 //!
-//! A row has a name, the words after the program's name, and the input: its first line says what
-//! the reader does at the end of the file after it, `whole` or `broken`. The answer is the exit
-//! status, what is written on standard output, and after `--` what is written on standard error.
+//! A row has a name, the words after the program's name, and the input: its first line says what it
+//! is, a section of the appendix, whose zone has the changes after it, `transfer`, a stream in
+//! notation, or a file and what the reader does at its end, `whole` or `broken`. The answer is the
+//! exit status, what is written on standard output, and after `--` what is written on standard error.
+use crate::tests::rfc_8976::zone_of;
 use digest_command::{LineFault, Notation, Order, order_after_name, order_of, refuse, run};
 use std::alloc::Global;
-use std::io::{ErrorKind, Read, Write};
+use std::io::{Read, Write};
 use std::test::Fail;
 use test_support::{
-    BROKEN, Narrow, Question, Run, Supply, check_lines, check_octets, check_same, check_table,
-    had_memory, parted, push_run, push_text, push_words, roomy, words_of,
+    Program, Question, check_lines, check_narrow, check_octets, check_table, parted, push_run_of,
+    push_text, push_words, roomy, stream_of, supplied, words_of,
 };
 use zone_digest::Algorithm;
 use zone_name::Name;
 
-/// The status of a run of a command line over a reader and a writer, and what it tells.
-fn digested<R: Read, W: Write>(
-    alloc: Global,
-    line: &str,
-    input: &mut R,
-    output: &mut W,
-) -> Result<(u8, Vec<u8>), Fail> {
-    let mut told = roomy(alloc)?;
-    let status = match order_of(alloc, &words_of(alloc, line)?) {
-        Ok(order) => run(alloc, &order, input, output, &mut told),
-        Err(fault) => refuse(&fault, &mut told),
-    };
-    had_memory(&told)?;
-    Ok((status, told))
-}
+/// The program.
+struct Zonedigest;
 
-/// What a run of a command line over a reader does.
-fn ran<R: Read>(alloc: Global, line: &str, input: &mut R) -> Result<Run, Fail> {
-    let mut output = roomy(alloc)?;
-    let (status, told) = digested(alloc, line, input, &mut output)?;
-    Ok(Run {
-        status,
-        output,
-        told,
-    })
-}
-
-/// The octets of a file, and the error of the reader after them.
-fn supplied(input: &str) -> Result<(&[u8], Option<ErrorKind>), Fail> {
-    match parted(input, "\n")? {
-        ("broken", file) => Ok((file.as_bytes(), BROKEN)),
-        (_, file) => Ok((file.as_bytes(), None)),
+impl Program for Zonedigest {
+    fn run<R: Read, W: Write>(
+        alloc: Global,
+        words: &[String],
+        input: &mut R,
+        output: &mut W,
+        told: &mut Vec<u8>,
+    ) -> u8 {
+        match order_of(alloc, words) {
+            Ok(order) => run(alloc, &order, input, output, told),
+            Err(fault) => refuse(&fault, told),
+        }
     }
 }
 
-/// What a run does, over a reader that gives all at once and over one that gives an octet at a
-/// time.
+/// What a run does.
 struct Digesting;
 
 impl Question for Digesting {
     fn answer(alloc: Global, asked: &'static str, out: &mut Vec<u8>) -> Result<(), Fail> {
         let (_, rest) = parted(asked, "\n")?;
         let (line, input) = parted(rest, "\n")?;
-        let (octets, error) = supplied(input)?;
-        let at_once = ran(alloc, line, &mut Supply::at_once(octets, error))?;
-        let singly = ran(alloc, line, &mut Supply::singly(octets, error))?;
-        singly.check(at_once.status, &at_once.output, &at_once.told)?;
-        push_run(alloc, out, &at_once)
+        match parted(input, "\n")? {
+            ("whole" | "broken", _) => {
+                push_run_of::<Zonedigest>(alloc, out, line, supplied(input)?)
+            }
+            ("transfer", lines) => {
+                let stream = stream_of(alloc, lines)?;
+                push_run_of::<Zonedigest>(alloc, out, line, (&stream, None))
+            }
+            (section, changes) => {
+                let file = zone_of(alloc, section, changes)?;
+                push_run_of::<Zonedigest>(alloc, out, line, (file.as_bytes(), None))
+            }
+        }
     }
 }
 
@@ -71,81 +63,61 @@ impl Question for Digesting {
 const ZONES: &str = "\
 == zone_of_a_1
 verify example.
-whole
-example. 86400 IN SOA ns1.example. admin.example. 2018031900 1800 900 604800 86400
-example. 86400 IN NS ns1.example.
-example. 86400 IN NS ns2.example.
-example. 86400 IN TYPE63 \\# 54 7848b91c0101c68090d90a7aed716bc459f9340e3d7c1370d4d24b7e2fc3a1ddc\
-0b9a87153b9a9713b3c9ae5cc27777f98b8e730044c
-ns1.example. 3600 IN A 203.0.113.63
-ns2.example. 3600 IN AAAA 2001:db8::63
+A.1
 => 0
 verified: serial 2018031900, SIMPLE, SHA-384
 --
 == zone_of_a_1_changed
 verify example.
-whole
-example. 86400 IN SOA ns1.example. admin.example. 2018031900 1800 900 604800 86400
-example. 86400 IN NS ns1.example.
-example. 86400 IN NS ns2.example.
-example. 86400 IN TYPE63 \\# 54 7848b91c0101c68090d90a7aed716bc459f9340e3d7c1370d4d24b7e2fc3a1ddc\
-0b9a87153b9a9713b3c9ae5cc27777f98b8e730044c
-ns1.example. 3600 IN A 203.0.112.63
-ns2.example. 3600 IN AAAA 2001:db8::63
+A.1
+cb00713f to cb00703f
 => 1
 not verified: ZONEMD 2018031900 1 1: the digest differs
 --
+== transfer_of_a_1
+verify transfer
+transfer
+header 1 8400 1 4 0 0; question example. AXFR IN; \
+@12 86400 IN SOA ns1@12 admin@12 2018031900 1800 900 604800 86400; @12 86400 IN NS ns1@12; \
+@12 86400 IN NS ns2@12; @12 86400 IN TYPE63 #7848b91c0101c68090d90a7aed716bc459f9340e3d7c1370d4d2\
+4b7e2fc3a1ddc0b9a87153b9a9713b3c9ae5cc27777f98b8e730044c
+header 1 8400 0 3 0 0; ns1.example. 3600 IN A #cb00713f; \
+ns2@16 3600 IN TYPE28 #20010db8000000000000000000000063; \
+@16 86400 IN SOA ns1@16 admin@16 2018031900 1800 900 604800 86400
+=> 0
+verified: serial 2018031900, SIMPLE, SHA-384
+--
+== transfer_without_a_record
+verify transfer
+transfer
+header 1 8400 1 3 0 0; QUESTION; OPENING; SERVER; CLOSING
+=> 1
+not verified: no ZONEMD record at the apex
+--
+== transfer_cut_off
+verify transfer
+transfer
+header 1 8400 1 2 0 0; QUESTION; OPENING; SERVER
+=> 3
+--
+F38 NoClosingSoa at message 2 offset 0: the transfer has no closing SOA
 == first_verified_of_a_3
 verify example.
-whole
-example. 86400 IN SOA ns1.example. admin.example. 2018031900 1800 900 604800 86400
-example. 86400 IN NS ns1.example.
-example. 86400 IN NS ns2.example.
-example. 86400 IN TYPE63 \\# 54 7848b91c010162e6cf51b02e54b9b5f967d547ce43136792901f9f88e637493da\
-af401c92c279dd10f0edb1c56f8080211f8480ee306
-example. 86400 IN TYPE63 \\# 70 7848b91c010208cfa1115c7b948c4163a901270395ea226a930cd2cbcf2fa9a5e\
-6eb85f37c8a4e114d884e66f176eab121cb02db7d652e0cc4827e7a3204f166b47e5613fd27
-example. 86400 IN TYPE63 \\# 22 7848b91c01f0e2d523f654b9422a96c5a8f44607bbee
-example. 86400 IN TYPE63 \\# 26 7848b91cf101e1846540e33a9e4189792d18d5d131f605fc283e
-ns1.example. 3600 IN A 203.0.113.63
-ns2.example. 86400 IN TXT \"This example has multiple digests\"
-ns2.example. 3600 IN AAAA 2001:db8::63
+A.3
 => 0
 verified: serial 2018031900, SIMPLE, SHA-384
 --
 == second_verified_of_a_3
 verify example.
-whole
-example. 86400 IN SOA ns1.example. admin.example. 2018031900 1800 900 604800 86400
-example. 86400 IN NS ns1.example.
-example. 86400 IN NS ns2.example.
-example. 86400 IN TYPE63 \\# 54 7848b91c010163e6cf51b02e54b9b5f967d547ce43136792901f9f88e637493da\
-af401c92c279dd10f0edb1c56f8080211f8480ee306
-example. 86400 IN TYPE63 \\# 70 7848b91c010208cfa1115c7b948c4163a901270395ea226a930cd2cbcf2fa9a5e\
-6eb85f37c8a4e114d884e66f176eab121cb02db7d652e0cc4827e7a3204f166b47e5613fd27
-example. 86400 IN TYPE63 \\# 22 7848b91c01f0e2d523f654b9422a96c5a8f44607bbee
-example. 86400 IN TYPE63 \\# 26 7848b91cf101e1846540e33a9e4189792d18d5d131f605fc283e
-ns1.example. 3600 IN A 203.0.113.63
-ns2.example. 86400 IN TXT \"This example has multiple digests\"
-ns2.example. 3600 IN AAAA 2001:db8::63
+A.3
+62e6cf51b0 to 63e6cf51b0
 => 0
 verified: serial 2018031900, SIMPLE, SHA-512
 --
 == each_record_of_a_3_changed
 verify example.
-whole
-example. 86400 IN SOA ns1.example. admin.example. 2018031900 1800 900 604800 86400
-example. 86400 IN NS ns1.example.
-example. 86400 IN NS ns2.example.
-example. 86400 IN TYPE63 \\# 54 7848b91c010162e6cf51b02e54b9b5f967d547ce43136792901f9f88e637493da\
-af401c92c279dd10f0edb1c56f8080211f8480ee306
-example. 86400 IN TYPE63 \\# 70 7848b91c010208cfa1115c7b948c4163a901270395ea226a930cd2cbcf2fa9a5e\
-6eb85f37c8a4e114d884e66f176eab121cb02db7d652e0cc4827e7a3204f166b47e5613fd27
-example. 86400 IN TYPE63 \\# 22 7848b91c01f0e2d523f654b9422a96c5a8f44607bbee
-example. 86400 IN TYPE63 \\# 26 7848b91cf101e1846540e33a9e4189792d18d5d131f605fc283e
-ns1.example. 3600 IN A 203.0.112.63
-ns2.example. 86400 IN TXT \"This example has multiple digests\"
-ns2.example. 3600 IN AAAA 2001:db8::63
+A.3
+cb00713f to cb00703f
 => 1
 not verified: ZONEMD 2018031900 1 1: the digest differs
 not verified: ZONEMD 2018031900 1 2: the digest differs
@@ -229,66 +201,28 @@ verified: serial 1, SIMPLE, SHA-384
 --
 == digest_of_a_1
 digest example.
-whole
-example. 86400 IN SOA ns1.example. admin.example. 2018031900 1800 900 604800 86400
-example. 86400 IN NS ns1.example.
-example. 86400 IN NS ns2.example.
-example. 86400 IN TYPE63 \\# 54 7848b91c0101c68090d90a7aed716bc459f9340e3d7c1370d4d24b7e2fc3a1ddc\
-0b9a87153b9a9713b3c9ae5cc27777f98b8e730044c
-ns1.example. 3600 IN A 203.0.113.63
-ns2.example. 3600 IN AAAA 2001:db8::63
+A.1
 => 0
 example. 86400 IN ZONEMD 2018031900 1 1 c68090d90a7aed716bc459f9340e3d7c1370d4d24b7e2fc3a1ddc\
 0b9a87153b9a9713b3c9ae5cc27777f98b8e730044c
 --
 == digest_of_a_1_generic
 digest example. --generic
-whole
-example. 86400 IN SOA ns1.example. admin.example. 2018031900 1800 900 604800 86400
-example. 86400 IN NS ns1.example.
-example. 86400 IN NS ns2.example.
-example. 86400 IN TYPE63 \\# 54 7848b91c0101c68090d90a7aed716bc459f9340e3d7c1370d4d24b7e2fc3a1ddc\
-0b9a87153b9a9713b3c9ae5cc27777f98b8e730044c
-ns1.example. 3600 IN A 203.0.113.63
-ns2.example. 3600 IN AAAA 2001:db8::63
+A.1
 => 0
 example. 86400 IN TYPE63 \\# 54 7848b91c0101c68090d90a7aed716bc459f9340e3d7c1370d4d24b7e2fc3a1ddc\
 0b9a87153b9a9713b3c9ae5cc27777f98b8e730044c
 --
 == sha_512_of_a_3
 digest --sha512 example.
-whole
-example. 86400 IN SOA ns1.example. admin.example. 2018031900 1800 900 604800 86400
-example. 86400 IN NS ns1.example.
-example. 86400 IN NS ns2.example.
-example. 86400 IN TYPE63 \\# 54 7848b91c010162e6cf51b02e54b9b5f967d547ce43136792901f9f88e637493da\
-af401c92c279dd10f0edb1c56f8080211f8480ee306
-example. 86400 IN TYPE63 \\# 70 7848b91c010208cfa1115c7b948c4163a901270395ea226a930cd2cbcf2fa9a5e\
-6eb85f37c8a4e114d884e66f176eab121cb02db7d652e0cc4827e7a3204f166b47e5613fd27
-example. 86400 IN TYPE63 \\# 22 7848b91c01f0e2d523f654b9422a96c5a8f44607bbee
-example. 86400 IN TYPE63 \\# 26 7848b91cf101e1846540e33a9e4189792d18d5d131f605fc283e
-ns1.example. 3600 IN A 203.0.113.63
-ns2.example. 86400 IN TXT \"This example has multiple digests\"
-ns2.example. 3600 IN AAAA 2001:db8::63
+A.3
 => 0
 example. 86400 IN ZONEMD 2018031900 1 2 08cfa1115c7b948c4163a901270395ea226a930cd2cbcf2fa9a5e\
 6eb85f37c8a4e114d884e66f176eab121cb02db7d652e0cc4827e7a3204f166b47e5613fd27
 --
 == sha_512_of_a_3_generic
 digest example. --generic --sha512
-whole
-example. 86400 IN SOA ns1.example. admin.example. 2018031900 1800 900 604800 86400
-example. 86400 IN NS ns1.example.
-example. 86400 IN NS ns2.example.
-example. 86400 IN TYPE63 \\# 54 7848b91c010162e6cf51b02e54b9b5f967d547ce43136792901f9f88e637493da\
-af401c92c279dd10f0edb1c56f8080211f8480ee306
-example. 86400 IN TYPE63 \\# 70 7848b91c010208cfa1115c7b948c4163a901270395ea226a930cd2cbcf2fa9a5e\
-6eb85f37c8a4e114d884e66f176eab121cb02db7d652e0cc4827e7a3204f166b47e5613fd27
-example. 86400 IN TYPE63 \\# 22 7848b91c01f0e2d523f654b9422a96c5a8f44607bbee
-example. 86400 IN TYPE63 \\# 26 7848b91cf101e1846540e33a9e4189792d18d5d131f605fc283e
-ns1.example. 3600 IN A 203.0.113.63
-ns2.example. 86400 IN TXT \"This example has multiple digests\"
-ns2.example. 3600 IN AAAA 2001:db8::63
+A.3
 => 0
 example. 86400 IN TYPE63 \\# 70 7848b91c010208cfa1115c7b948c4163a901270395ea226a930cd2cbcf2fa9a5e\
 6eb85f37c8a4e114d884e66f176eab121cb02db7d652e0cc4827e7a3204f166b47e5613fd27
@@ -319,15 +253,8 @@ x. 60 CH ZONEMD 1 1 1 c0195b04938fbdf4765ff1173789de8fc25b9fc9b5dfb555e853c897f0
 --
 == record_of_another_zone
 verify example.
-whole
-example. 86400 IN SOA ns1.example. admin.example. 2018031900 1800 900 604800 86400
-example. 86400 IN NS ns1.example.
-example. 86400 IN NS ns2.example.
-example. 86400 IN TYPE63 \\# 54 7848b91c0101c68090d90a7aed716bc459f9340e3d7c1370d4d24b7e2fc3a1ddc\
-0b9a87153b9a9713b3c9ae5cc27777f98b8e730044c
-ns1.example. 3600 IN A 203.0.113.63
-ns2.example. 3600 IN AAAA 2001:db8::63
-foo.test. 555 IN TXT a
+A.1
++ foo.test. 555 IN TXT a
 => 3
 --
 F43 OutOfZone foo.test. in the input: an owner lies outside the zone
@@ -449,18 +376,12 @@ fn the_name_of_zonedigest_is_passed_over(rt: HostRuntime) -> Result<(), Fail> {
     check_octets("the order", &told, b"verify x.")
 }
 
-/// That a run over a writer that takes no more than this many octets writes these.
-fn check_narrow(alloc: Global, room: usize, taken: &[u8]) -> Result<(), Fail> {
-    let mut writer = Narrow::new(alloc, 7, room, true)?;
-    let mut input = b"@ 60 SOA n h 1 2 3 4 5\n".as_slice();
-    let (status, told) = digested(alloc, "verify x.", &mut input, &mut writer)?;
-    check_same("the status", status, 4)?;
-    check_octets("what is written", writer.taken(), taken)?;
-    check_octets("what is told", &told, b"write failed\n")
-}
-
 #[test]
 fn a_failing_writer_of_verdicts_is_told(rt: HostRuntime) -> Result<(), Fail> {
-    check_narrow(rt.alloc(), 0, b"")?;
-    check_narrow(rt.alloc(), 12, b"not verified")
+    check_narrow::<Zonedigest>(
+        rt.alloc(),
+        "verify x.",
+        b"@ 60 SOA n h 1 2 3 4 5\n",
+        b"not verified: no ZONEMD record at the apex\n",
+    )
 }

@@ -13,33 +13,35 @@ returns-then-not-has_serial c =
     let well = subst (λ o. IsWellFormed o f) c.octets.ensures c.in-Some.ensures.found in
     other_serial f well (λ serial. (let is = c.has_serial.ensures.1 serial in grind (arith, is, c.if-not-has_serial.true)))
 
-pub returns-then-fields-ne1 : goal.returns-then-fields-ne1
-returns-then-fields-ne1 c =
+-- the data is well formed and has the zone's serial
+pub returns-in_default-algorithm_of : goal.returns-in_default-algorithm_of
+returns-in_default-algorithm_of c =
     let f = fields_of c.in-Some.fields in
     let well = subst (λ o. IsWellFormed o f) c.octets.ensures c.in-Some.ensures.found in
     let serial = c.has_serial.ensures.0 c.if-not-has_serial.false in
-    unknown_scheme f (well, serial) (λ one. omega (arith, c.if-fields-ne1.true, one))
+    let simple : f.scheme ≡ 1 = omega (arith, c.if-fields-ne-SIMPLE.false) in
+    unknown_algorithm f (well, serial) simple (c.in_default-algorithm_of.ensures.none simple)
 
-pub returns-in_default-of_number : goal.returns-in_default-of_number
-returns-in_default-of_number c =
+pub returns-then-fields-ne-SIMPLE : goal.returns-then-fields-ne-SIMPLE
+returns-then-fields-ne-SIMPLE c =
     let f = fields_of c.in-Some.fields in
     let well = subst (λ o. IsWellFormed o f) c.octets.ensures c.in-Some.ensures.found in
     let serial = c.has_serial.ensures.0 c.if-not-has_serial.false in
-    unknown_algorithm f (well, serial) (omega (arith, c.if-fields-ne1.false)) c.in_default-of_number.ensures.none
+    unknown_scheme f (well, serial) (λ one. omega (arith, c.if-fields-ne-SIMPLE.true, one))
 
 pub supported_verdict-requires-clause-supported : goal.supported_verdict-requires-clause-supported
 supported_verdict-requires-clause-supported c =
     let f = fields_of c.in-Some.fields in
     let well = subst (λ o. IsWellFormed o f) c.octets.ensures c.in-Some.ensures.found in
     let serial = c.has_serial.ensures.0 c.if-not-has_serial.false in
-    record { serial = (well, serial); scheme = omega (arith, c.if-fields-ne1.false); algorithm = c.in-Some-of_number.ensures.found }
+    let pair = c.in-Some-algorithm_of.ensures.found in
+    record { serial = (well, serial); scheme = pair.0; algorithm = pair.1 }
 
 pub returns-then-has : goal.returns-then-has
 returns-then-has c =
     let f = fields_of c.in-Some.fields in
     let well = subst (λ o. IsWellFormed o f) c.octets.ensures c.in-Some.ensures.found in
     let serial = c.has_serial.ensures.0 c.if-not-has_serial.false in
-    let scheme : f.scheme ≡ 1 = omega (arith, c.if-fields-ne1.false) in
-    let number_is = c.in-Some-of_number.ensures.found in
-    let again = c.requires.seen c.in-Some-of_number.algorithm (sym c.has.ensures ∙ c.if-has.true) f scheme number_is in
-    repeated f c.in-Some-of_number.algorithm (record { serial = (well, serial); scheme = scheme; algorithm = number_is }) again
+    let pair = c.in-Some-algorithm_of.ensures.found in
+    let again = c.requires.seen c.in-Some-algorithm_of.algorithm (sym c.has.ensures ∙ c.if-has.true) f pair.0 pair.1 in
+    repeated f c.in-Some-algorithm_of.algorithm (record { serial = (well, serial); scheme = pair.0; algorithm = pair.1 }) again
