@@ -1,6 +1,6 @@
 //! Data in words: its fields, one after another.
 use crate::field::push_field;
-use crate::kinds::{push_amtrelay, push_ipseckey};
+use crate::kinds::{push_amtrelay, push_hip, push_ipseckey};
 use crate::unprinted::Unprinted;
 use zone_words::{Field, Fields};
 
@@ -19,6 +19,7 @@ pub(crate) fn push_words(
         Fields::Same(fields) => push_fields(fields, octets, out),
         Fields::Ipseckey => push_ipseckey(octets, out),
         Fields::Amtrelay => push_amtrelay(octets, out),
+        Fields::Hip => push_hip(octets, out),
     }
 }
 

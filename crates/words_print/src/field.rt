@@ -58,9 +58,10 @@ fn push_last(kind: FieldKind, octets: &[u8], out: &mut Vec<u8>) -> Result<(), Un
         FieldKind::Prefixes => push_prefixes(octets, out),
         FieldKind::Location => push_location(octets, out),
         FieldKind::Parameters => push_parameters(octets, out),
-        // No field of all octets.
+        // No field of all octets, or one that `host_identity` prints.
         FieldKind::Nothing
         | FieldKind::Bare(_)
+        | FieldKind::Each(_)
         | FieldKind::OneString
         | FieldKind::PerhapsOneString => Err(Unprinted::NoData),
     }
@@ -86,10 +87,12 @@ fn push_bare<'o>(
         BareKind::Tag => push_tag(octets, out),
         BareKind::Ipv4 => push_ipv4(octets, out),
         BareKind::Ipv6 => push_ipv6(octets, out),
-        // Those of the types that `gateway` prints as a whole.
-        BareKind::AddressType(_) | BareKind::Discovery | BareKind::NoAddress => {
-            Err(Unprinted::NoData)
-        }
+        // Those of the types that `gateway` and `host_identity` print as a whole.
+        BareKind::AddressType(_)
+        | BareKind::Discovery
+        | BareKind::NoAddress
+        | BareKind::HostIdentityTag
+        | BareKind::PublicKey => Err(Unprinted::NoData),
         BareKind::NodeId => push_node_id(octets, out),
         BareKind::Eui48 => push_eui(octets, 6, out),
         BareKind::Eui64 => push_eui(octets, 8, out),

@@ -7,6 +7,7 @@ use Rattle.zone_words.proofs.Origins.{origin_once}
 use Rattle.zone_words.proofs.Turns.{Under, fails_in_words, fails_under, items_behind, record_once, says_under}
 use Rattle.zone_words.specs.DataItem.{items_of}
 use Rattle.zone_words.specs.Entry.{in_words}
+use Rattle.zone_words.specs.Data.{in_order}
 use Rattle.zone_words.specs.Table.{fields_in}
 use Rattle.zone_words.specs.Written.{in_octets}
 
@@ -57,13 +58,13 @@ module _ (origin : Labels) (before : List Entry) (entry : Entry) where
     same_above = origin_once origin before above over p.under q.under;
   }
 
-  states_once : (f g : FurtherType) (above over : Labels) (d e : List TouchingItem) (a b : List ℕ) → f ≡ g → above ≡ over → d ≡ e → StatesData above (fields_in f.fields d) d a → StatesData over (fields_in g.fields e) e b → a ≡ b
+  states_once : (f g : FurtherType) (above over : Labels) (d e : List TouchingItem) (a b : List ℕ) → f ≡ g → above ≡ over → d ≡ e → StatesData above (fields_in f.fields d) (in_order f.fields) d a → StatesData over (fields_in g.fields e) (in_order g.fields) e b → a ≡ b
   states_once f g above over d e a b same one items p q =
-      data_once over (fields_in g.fields e) e a b (subst (λ x. StatesData over (fields_in g.fields x) x a) items (subst (λ (x : FurtherType). StatesData over (fields_in x.fields d) d a) same (subst (λ x. StatesData x (fields_in f.fields d) d a) one p))) q
+      data_once over (fields_in g.fields e) (in_order g.fields) e a b (subst (λ x. StatesData over (fields_in g.fields x) (in_order g.fields) x a) items (subst (λ (x : FurtherType). StatesData over (fields_in x.fields d) (in_order x.fields) d a) same (subst (λ x. StatesData x (fields_in f.fields d) (in_order f.fields) d a) one p))) q
 
-  states_or_fails : (f g : FurtherType) (above over : Labels) (d e : List TouchingItem) (a field : List ℕ) (fault : _) → f ≡ g → above ≡ over → d ≡ e → StatesData above (fields_in f.fields d) d a → DataFails over (fields_in g.fields e) e field fault → ⊥
+  states_or_fails : (f g : FurtherType) (above over : Labels) (d e : List TouchingItem) (a field : List ℕ) (fault : _) → f ≡ g → above ≡ over → d ≡ e → StatesData above (fields_in f.fields d) (in_order f.fields) d a → DataFails over (fields_in g.fields e) (in_order g.fields) e field fault → ⊥
   states_or_fails f g above over d e a field fault same one items p q =
-      data_or_fault over (fields_in g.fields e) e a field fault (subst (λ x. StatesData over (fields_in g.fields x) x a) items (subst (λ (x : FurtherType). StatesData over (fields_in x.fields d) d a) same (subst (λ x. StatesData x (fields_in f.fields d) d a) one p))) q
+      data_or_fault over (fields_in g.fields e) (in_order g.fields) e a field fault (subst (λ x. StatesData over (fields_in g.fields x) (in_order g.fields) x a) items (subst (λ (x : FurtherType). StatesData over (fields_in x.fields d) (in_order x.fields) d a) same (subst (λ x. StatesData x (fields_in f.fields d) (in_order f.fields) d a) one p))) q
 
   pub says_once : (word other : List ℕ) (d e : List TouchingItem) (it as_well : Anew) → d ≡ e → SaysAnew origin before entry word d it → SaysAnew origin before entry other e as_well → it ≡ as_well
   says_once word other d e it as_well same (in_generic_form f above is few line generic name) (in_generic_form g over is_too few_too line_too generic_too name_too) =
@@ -89,9 +90,9 @@ module _ (origin : Labels) (before : List Entry) (entry : Entry) where
   refusals_once f g field other fault as_well same one too =
       ap (λ t. refusal entry t field fault) same ∙ ap (λ t. refusal entry g t fault) one ∙ ap (λ t. refusal entry g other t) too
 
-  faults_once : (f g : FurtherType) (above over : Labels) (d e : List TouchingItem) (field other : List ℕ) (fault as_well : WordsFault) → f ≡ g → above ≡ over → d ≡ e → DataFails above (fields_in f.fields d) d field fault → DataFails over (fields_in g.fields e) e other as_well → refusal entry f field fault ≡ refusal entry g other as_well
+  faults_once : (f g : FurtherType) (above over : Labels) (d e : List TouchingItem) (field other : List ℕ) (fault as_well : WordsFault) → f ≡ g → above ≡ over → d ≡ e → DataFails above (fields_in f.fields d) (in_order f.fields) d field fault → DataFails over (fields_in g.fields e) (in_order g.fields) e other as_well → refusal entry f field fault ≡ refusal entry g other as_well
   faults_once f g above over d e field other fault as_well same one items p q =
-      let told = data_fault_once over (fields_in g.fields e) e field other fault as_well (subst (λ x. DataFails over (fields_in g.fields x) x field fault) items (subst (λ (x : FurtherType). DataFails over (fields_in x.fields d) d field fault) same (subst (λ x. DataFails x (fields_in f.fields d) d field fault) one p))) q in
+      let told = data_fault_once over (fields_in g.fields e) (in_order g.fields) e field other fault as_well (subst (λ x. DataFails over (fields_in g.fields x) (in_order g.fields) x field fault) items (subst (λ (x : FurtherType). DataFails over (fields_in x.fields d) (in_order x.fields) d field fault) same (subst (λ x. DataFails x (fields_in f.fields d) (in_order f.fields) d field fault) one p))) q in
       refusals_once f g field other fault as_well same told.field told.fault_same
 
   -- and one refusal is told of it

@@ -9,6 +9,8 @@ use Rattle.zone_words.proofs.Base64Texts.{no_base64, one_base64}
 use Rattle.zone_words.proofs.Gateways.{up_to_fault_once, up_to_once, up_to_or_fault}
 use Rattle.zone_words.proofs.HexDigits.{no_digits, one_hex}
 use Rattle.zone_words.proofs.HexPairs.{eui_once}
+use Rattle.zone_words.proofs.EachItems.{each_fault_once, each_once, each_or_fault}
+use Rattle.zone_words.proofs.HostIdentities.{key_fault_once, key_once, key_or_fault}
 use Rattle.zone_words.proofs.JoinedItems.{joined_once}
 use Rattle.zone_words.proofs.LengthsBefore.{after_length_fault_once, after_length_once, after_length_or_fault}
 use Rattle.zone_words.proofs.Locations.{location_once, no_items}
@@ -25,6 +27,7 @@ use Rattle.zone_words.proofs.TypeItems.{perhaps_types_once, types_once}
 use Rattle.zone_words.proofs.TypeWords.{algorithm_once, certificate_type_once, type_word_once}
 use Rattle.zone_words.proofs.UnescapedTexts.{unescaped_once, unescaped_or_bad}
 use Rattle.zone_words.specs.DataItem.{items_of}
+use Rattle.zone_words.specs.EachItem.{EachStates, OneFails}
 use Rattle.zone_words.specs.FirstItem.{FirstFails, FirstStates}
 use Rattle.zone_words.specs.Kinds.AfterLength.{FailsAfterLength, StatesAfterLength}
 use Rattle.zone_words.specs.Kinds.Base64.{IsBase64}
@@ -37,9 +40,9 @@ use Rattle.zone_words.specs.Kinds.Salt.{IsSalt}
 use Rattle.zone_words.specs.Kinds.Strings.{FailsPerhaps, FailsString, FailsStrings, StatesPerhaps, StatesString, StatesStrings, of_string}
 use Rattle.zone_words.specs.Kinds.Value.{FailsQuotedValue, StatesQuotedValue}
 use Rattle.zone_words.specs.declared.field.BareKind.{BareKind}
-use Rattle.zone_words.specs.declared.field.BareKind.TheVariants.{AddressType, Algorithm, CertificateType, Discovery, Eui48, Eui64, Hash, Ipv4, Ipv6, Name, NoAddress, NodeId, RecordType, Salt, Tag, Time, U8, U16, U32}
+use Rattle.zone_words.specs.declared.field.BareKind.TheVariants.{AddressType, Algorithm, CertificateType, Discovery, Eui48, Eui64, Hash, HostIdentityTag, Ipv4, Ipv6, Name, NoAddress, NodeId, PublicKey, RecordType, Salt, Tag, Time, U8, U16, U32}
 use Rattle.zone_words.specs.declared.field.FieldKind.{FieldKind}
-use Rattle.zone_words.specs.declared.field.FieldKind.TheVariants.{Bare, Base64, Hex, Location, Nothing, OneString, Parameters, PerhapsOneString, PerhapsTypes, Prefixes, QuotedValue, Strings, Types, Value}
+use Rattle.zone_words.specs.declared.field.FieldKind.TheVariants.{Bare, Base64, Each, Hex, Location, Nothing, OneString, Parameters, PerhapsOneString, PerhapsTypes, Prefixes, QuotedValue, Strings, Types, Value}
 
 -- ---- what is proved of every kind
 
@@ -101,6 +104,8 @@ text_is_one origin NoAddress text = record { once = λ a b p q. p.1 ∙ sym q.1;
 text_is_one origin NodeId text = by_own _ _ (node_id_once text)
 text_is_one origin Eui48 text = by_own _ _ (λ a b. eui_once 6 text a b (omega arith))
 text_is_one origin Eui64 text = by_own _ _ (λ a b. eui_once 8 text a b (omega arith))
+text_is_one origin HostIdentityTag text = by_length _ IsHex one_hex text
+text_is_one origin PublicKey text = record { once = key_once text; or_fault = key_or_fault text; fault_once = key_fault_once text }
 
 -- ---- an item
 
@@ -128,6 +133,13 @@ first_is_one : (States : RawItem → List ℕ → Type 0) (Fails : RawItem → W
 first_is_one States Fails one [] = only _ _ (λ octets p. p)
 first_is_one States Fails one (item ∷ items) = one item
 
+each_is_one : (States : RawItem → List ℕ → Type 0) (Fails : RawItem → WordsFault → Type 0) → ((item : RawItem) → IsOne (States item) (Fails item)) → (items : List RawItem) → IsOne (EachStates States items) (OneFails States Fails items)
+each_is_one States Fails one items =
+    let once : (item : RawItem) (a b : List ℕ) → States item a → States item b → a ≡ b = λ item. (one item).once in
+    let or_fault : (item : RawItem) (octets : List ℕ) (fault : WordsFault) → States item octets → Fails item fault → ⊥ = λ item. (one item).or_fault in
+    let fault_once : (item : RawItem) (a b : WordsFault) → Fails item a → Fails item b → a ≡ b = λ item. (one item).fault_once in
+    record { once = each_once States once items; or_fault = each_or_fault States Fails or_fault items; fault_once = each_fault_once States Fails or_fault fault_once items }
+
 perhaps_is_one : (items : List RawItem) → IsOne (StatesPerhaps items) (FailsPerhaps items)
 perhaps_is_one [] = record { once = λ a b p q. p ∙ sym q; or_fault = λ octets fault p q. q; fault_once = λ a b p q. absurd p }
 perhaps_is_one (item ∷ items) = string_is_one item
@@ -151,6 +163,7 @@ joined_are_one own StandsFor none once = by_items own (StatesJoined StandsFor) (
 
 field_is_one : (origin : Labels) (kind : FieldKind) (items : List TouchingItem) → IsOne (StatesField origin kind items) (FailsField origin kind items)
 field_is_one origin (Bare kind) items = first_is_one _ _ (bare_is_one origin kind) (items_of items)
+field_is_one origin (Each kind) items = each_is_one _ _ (bare_is_one origin kind) (items_of items)
 field_is_one origin OneString items = first_is_one _ _ string_is_one (items_of items)
 field_is_one origin PerhapsOneString items = perhaps_is_one (items_of items)
 field_is_one origin Value items = first_is_one _ _ (λ item. value_is_one (item_text item)) (items_of items)

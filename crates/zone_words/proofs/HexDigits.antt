@@ -1,9 +1,32 @@
 -- Hexadecimal digits stand for one list of octets.
-use Rattle.zone_words.proofs.Common.{IsHex, List, arith, decode_of-ok, decode_of-same, length, ℕ, ◌≡◌}
+use Rattle.zone_words.proofs.Common.{AppendsStated, IsHex, List, NothingStated, TooLong, WordsFault, [], arith, decode_of-ok, decode_of-same, length, ℕ, ◌*◌, ◌++◌, ◌/◌, ◌<◌, ◌∷◌, ◌≡◌, ◌≤◌}
+use Rattle.zone_words.proofs.LengthsBefore.{appended_after_length}
+use Rattle.zone_words.specs.Kinds.AfterLength.{FailsAfterLength, StatesAfterLength, of_no_octets, of_too_many}
+use Rattle.zone_words.specs.declared.fault.WordsFault.TheVariants.{NoHexadecimal}
+
+-- two digits for each octet
+pub twice : (text octets : List ℕ) → IsHex text octets → length text ≡ 2 * length octets
+twice text octets is = (decode_of-ok text octets is.digits).2
 
 -- no digits stand for no octet
 pub no_digits : (text octets : List ℕ) → length text ≡ 0 → IsHex text octets → ⊥
-no_digits text octets none is = omega (arith, is.some, (decode_of-ok text octets is.digits).2)
+no_digits text octets none is = omega (arith, is.some, twice text octets is)
 
 pub one_hex : (text a b : List ℕ) → IsHex text a → IsHex text b → a ≡ b
 one_hex text a b x y = decode_of-same text a b x.digits y.digits
+
+-- ---- after their length
+
+pub counted_appended : (text old mid new : List ℕ) → length text ≤ 510 → mid ≡ old ++ (length text / 2) ∷ [] → AppendsStated (IsHex text) mid new → AppendsStated (StatesAfterLength IsHex text) old new
+counted_appended text old mid new few grown more =
+    let count : length text ≡ 2 * length more.octets = twice text more.octets more.stated in
+    let half : length text / 2 ≡ length more.octets = omega (arith, count) in
+    let short : length more.octets ≤ 255 = omega (arith, count) in
+    appended_after_length IsHex text old mid new (length text / 2) grown more half short
+
+-- more digits than a length tells
+pub long_counted : (text old new : List ℕ) → 510 < length text → AppendsStated (IsHex text) old new → FailsAfterLength NoHexadecimal IsHex text TooLong
+long_counted text old new long more = of_too_many more.octets more.stated (omega (arith, twice text more.octets more.stated))
+
+pub no_counted : (text : List ℕ) (fault : WordsFault) → NothingStated NoHexadecimal (IsHex text) fault → FailsAfterLength NoHexadecimal IsHex text fault
+no_counted text fault nothing = rw nothing.0 (of_no_octets nothing.1)

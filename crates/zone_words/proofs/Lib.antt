@@ -39,7 +39,9 @@ pub mod TypeItems
 mod Salts
 pub mod FurtherWords
 pub mod Gateways
+mod HostIdentities
 pub mod FieldLaws
+mod EachItems
 pub mod DataLaws
 pub mod FaultsOnce
 mod GivenItems

@@ -64,7 +64,7 @@ data_fault_answered e P Q goes h = grind arith
 some_left : (items : List TouchingItem) → 0 < length items → items ≢ []
 some_left items some e = let none : length items ≡ 0 = ap length e in omega arith
 
-pub whole_fails : (origin : Labels) (fields : List NamedField) (items left : List TouchingItem) (old octets name : List ℕ) (n m : ℕ) (fault : WordsFault) → old ≡ [] → n ≡ length left → m ≡ length octets → AppendsParts origin fields items left old octets → name ≡ last_name fields → WholeFails n m fault → DataFails origin fields items name fault
+pub whole_fails : (origin : Labels) (fields : List NamedField) (items left : List TouchingItem) (old octets name : List ℕ) (n m : ℕ) (fault : WordsFault) → old ≡ [] → n ≡ length left → m ≡ length octets → AppendsParts origin fields items left old octets → name ≡ last_name fields → WholeFails n m fault → DataFails origin fields joined items name fault
 whole_fails origin fields items left old octets name n m fault empty count size h last (inl bad) =
     rw bad.0 (items_left h.parts h.each (λ none. some_left left (let some = bad.1 in omega arith) (h.rest ∙ none)) last)
 whole_fails origin fields items left old octets name n m fault empty count size h last (inr bad) =

@@ -15,6 +15,7 @@ use Rattle.zone_words.specs.Entry.{in_words}
 use Rattle.zone_words.specs.Machine.EntryWriting.{PushesEntry}
 use Rattle.zone_words.specs.Machine.Further.{IsForm}
 use Rattle.zone_words.specs.Machine.Turn.{AreInWords, AreOfRecord, IsTurnWritten, SayAround, StandsBeside, TakesRecordsTurn, TakesTurn, TurnIs, WritesTurn, refusal_in, told_by}
+use Rattle.zone_words.specs.Data.{in_order}
 use Rattle.zone_words.specs.Table.{fields_in}
 use Rattle.zone_words.specs.Written.{in_octets}
 use Rattle.zone_words.specs.declared.entry_form.EntryForm.{EntryForm}
@@ -336,24 +337,24 @@ renamed_there octets origin before line all_tokens found kept_items above around
     (record { name = f.mnemonic; row = own_mnemonic (written_text a.units) f a.under.stated.named; same = ap folded_label (sym a.word) ∙ same })))
 
 -- words that state octets
-pub stated_there : (octets : List ℕ) (origin : Labels) (before : List Entry) (line : ℕ) (all_tokens : List Token) (found : FurtherRecord) (kept_items : List RawItem) (above : Labels) (around : Around) (given_items : List TouchingItem) (stated : EntryData) → Cuts octets all_tokens → AreOfRecord origin before line all_tokens found kept_items above → AreInWords found kept_items → StandsBeside octets kept_items found around → ((back : List Token) → AreTokensOf around.back.now back → map raw found.items.now ≡ items_of (touching_items true back) → given_items ≡ touching_items true back) → ((back : List Token) → AreTokensOf around.back.now back → map raw found.items.now ≡ items_of (touching_items true back) → stated.staying.items ≡ text (filter stays back)) → StatesData above (fields_in (further_of found.further.now).fields given_items) given_items stated.octets.items → TurnIs origin before line all_tokens stated (turns.InOctets around)
+pub stated_there : (octets : List ℕ) (origin : Labels) (before : List Entry) (line : ℕ) (all_tokens : List Token) (found : FurtherRecord) (kept_items : List RawItem) (above : Labels) (around : Around) (given_items : List TouchingItem) (stated : EntryData) → Cuts octets all_tokens → AreOfRecord origin before line all_tokens found kept_items above → AreInWords found kept_items → StandsBeside octets kept_items found around → ((back : List Token) → AreTokensOf around.back.now back → map raw found.items.now ≡ items_of (touching_items true back) → given_items ≡ touching_items true back) → ((back : List Token) → AreTokensOf around.back.now back → map raw found.items.now ≡ items_of (touching_items true back) → stated.staying.items ≡ text (filter stays back)) → StatesData above (fields_in (further_of found.further.now).fields given_items) (in_order (further_of found.further.now).fields) given_items stated.octets.items → TurnIs origin before line all_tokens stated (turns.InOctets around)
 unfolding say_there
 stated_there octets origin before line all_tokens found kept_items above around given_items stated cut of words stands given_are stays_are states =
     let a = around_there octets origin before line all_tokens found kept_items above around cut of words.few stands in
     let f : FurtherType = further_of found.further.now in
     subst (λ k. (said : SayAround origin before line all_tokens around (in_octets k stated.octets.items)) × (stated.staying.items ≡ text (filter stays said.back))) (sym stands.number) (
       say_there origin before line all_tokens found kept_items above around a _ (in_words f above stated.octets.items a.under a.few (subst AreOnOneLine a.items words.on_one_line) (λ g. words.in_words (subst IsGeneric (sym a.items) g))
-          (subst (λ d. StatesData above (fields_in f.fields d) d stated.octets.items) (given_are a.back a.after_are a.items) states)),
+          (subst (λ d. StatesData above (fields_in f.fields d) (in_order f.fields) d stated.octets.items) (given_are a.back a.after_are a.items) states)),
       stays_are a.back a.after_are a.items,
     )
 
 -- words that state none
-pub fails_there : (octets : List ℕ) (origin : Labels) (before : List Entry) (line : ℕ) (all_tokens : List Token) (found : FurtherRecord) (kept_items : List RawItem) (above : Labels) (around : Around) (given_items : List TouchingItem) (field : List ℕ) (fault : WordsFault) (it : Refused) → Cuts octets all_tokens → AreOfRecord origin before line all_tokens found kept_items above → AreInWords found kept_items → StandsBeside octets kept_items found around → ((back : List Token) → AreTokensOf around.back.now back → map raw found.items.now ≡ items_of (touching_items true back) → given_items ≡ touching_items true back) → DataFails above (fields_in (further_of found.further.now).fields given_items) given_items field fault → it ≡ record { line = line; mnemonic = found.further.now.mnemonic.now; field = field; fault = fault } → TokensFail origin before line all_tokens it
+pub fails_there : (octets : List ℕ) (origin : Labels) (before : List Entry) (line : ℕ) (all_tokens : List Token) (found : FurtherRecord) (kept_items : List RawItem) (above : Labels) (around : Around) (given_items : List TouchingItem) (field : List ℕ) (fault : WordsFault) (it : Refused) → Cuts octets all_tokens → AreOfRecord origin before line all_tokens found kept_items above → AreInWords found kept_items → StandsBeside octets kept_items found around → ((back : List Token) → AreTokensOf around.back.now back → map raw found.items.now ≡ items_of (touching_items true back) → given_items ≡ touching_items true back) → DataFails above (fields_in (further_of found.further.now).fields given_items) (in_order (further_of found.further.now).fields) given_items field fault → it ≡ record { line = line; mnemonic = found.further.now.mnemonic.now; field = field; fault = fault } → TokensFail origin before line all_tokens it
 fails_there octets origin before line all_tokens found kept_items above around given_items field fault it cut of words stands given_are fails told_is =
     let a = around_there octets origin before line all_tokens found kept_items above around cut of words.few stands in
     let f : FurtherType = further_of found.further.now in
     let bad = no_data f above field fault a.under (λ g. words.in_words (subst IsGeneric (sym a.items) g)) a.few (subst AreOnOneLine a.items words.on_one_line)
-    (subst (λ d. DataFails above (fields_in f.fields d) d field fault) (given_are a.back a.after_are a.items) fails) in
+    (subst (λ d. DataFails above (fields_in f.fields d) (in_order f.fields) d field fault) (given_are a.back a.after_are a.items) fails) in
     subst (λ (r : Refused). TokensFail origin before line all_tokens r) (sym told_is) (record { front = a.front; back = a.back; word = a.units; split = a.whole; fails = bad })
 
 -- too many items, and a line feed within quotes

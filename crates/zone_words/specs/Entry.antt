@@ -13,7 +13,7 @@ use Rattle.zone_text.specs.Inherited.{HasClass}
 use Rattle.zone_text.specs.Records.{HasValue}
 use Rattle.zone_text.specs.Statements.{Parts, parts_in, statement_of}
 use Rattle.zone_text.specs.Tokens.{Token, bare, quoted}
-use Rattle.zone_words.specs.Data.{StatesData, DataFails}
+use Rattle.zone_words.specs.Data.{StatesData, DataFails, in_order}
 use Rattle.zone_words.specs.DataItem.{TouchingItem, items_of}
 use Rattle.zone_words.specs.Origin.{IsCasedOrigin}
 use Rattle.zone_words.specs.Rewriting.{Outcome, Refused, IsRewritten}
@@ -76,7 +76,8 @@ pub data SaysAnew (origin : Labels) (before : List Entry) (entry : Entry) (word 
       → IsFurtherUnder origin before entry word (items_of data_items) further above
       → length entry.items < most_items → AreOnOneLine (items_of data_items)
       → (IsGeneric (items_of data_items) → ⊥)
-      → StatesData above (fields_in further.fields data_items) data_items octets
+      → StatesData above (fields_in further.fields data_items) (in_order further.fields) data_items
+      octets
       → SaysAnew origin before entry word data_items (in_octets further.number octets)
 
 -- the refusal of an entry
@@ -103,7 +104,8 @@ pub data IsRefused (origin : Labels) (before : List Entry) (entry : Entry) (word
       → IsFurtherUnder origin before entry word (items_of data_items) further above
       → (IsGeneric (items_of data_items) → ⊥) → length entry.items < most_items
       → AreOnOneLine (items_of data_items)
-      → DataFails above (fields_in further.fields data_items) data_items field fault
+      → DataFails above (fields_in further.fields data_items) (in_order further.fields) data_items
+      field fault
       → IsRefused origin before entry word data_items (refusal entry further field fault)
 
 -- what the tokens of an entry say anew, from the type's word on: those before it, and those after

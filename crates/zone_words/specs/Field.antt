@@ -6,12 +6,14 @@ use Rattle.zone_words.specs.Kinds.Gateway.{FailsAddressType, FailsDiscovery, Fai
 use Rattle.zone_words.specs.Kinds.Location.{FailsLocation, StatesLocation}
 use Rattle.zone_words.specs.Kinds.Prefixes.{FailsPrefixes, StatesPrefixes}
 use Rattle.zone_words.specs.DataItem.{TouchingItem, items_of}
+use Rattle.zone_words.specs.EachItem.{OneFails, EachStates}
 use Rattle.zone_words.specs.FirstItem.{FirstFails, FirstStates}
 use Rattle.zone_words.specs.Kinds.Address.{FailsIpv4, FailsIpv6, StatesIpv4, StatesIpv6}
 use Rattle.zone_words.specs.Kinds.Base64.{FailsBase64, StatesBase64}
 use Rattle.zone_words.specs.Kinds.Eui.{FailsEui, StatesEui}
 use Rattle.zone_words.specs.Kinds.Hash.{FailsHash, StatesHash}
 use Rattle.zone_words.specs.Kinds.Hex.{FailsHex, StatesHex}
+use Rattle.zone_words.specs.Kinds.HostIdentity.{FailsHostIdentityTag, FailsPublicKey, StatesHostIdentityTag, StatesPublicKey}
 use Rattle.zone_words.specs.Kinds.Name.{FailsName, StatesName}
 use Rattle.zone_words.specs.Kinds.NodeId.{FailsNodeId, StatesNodeId}
 use Rattle.zone_words.specs.Kinds.Number.{FailsU8, FailsU16, FailsU32, StatesU8, StatesU16, StatesU32}
@@ -24,11 +26,11 @@ use Rattle.zone_words.specs.Kinds.Value.{FailsQuotedValue, FailsValue, StatesQuo
 use Rattle.zone_words.specs.Kinds.Word.{FailsAlgorithm, FailsCertificateType, FailsType, StatesAlgorithm, StatesCertificateType, StatesType}
 use Rattle.zone_words.specs.Parameters.{FailsParameters, StatesParameters}
 use Rattle.zone_words.specs.declared.fault.WordsFault.{WordsFault}
-use Rattle.zone_words.specs.declared.fault.WordsFault.TheVariants.{NoBase32Hex, NoHexadecimal, NotAName, NotANumber, NotATag, NotATime, NotAType, NotAnAddress}
+use Rattle.zone_words.specs.declared.fault.WordsFault.TheVariants.{NoBase32Hex, NoBase64, NoHexadecimal, NotAName, NotANumber, NotATag, NotATime, NotAType, NotAnAddress}
 use Rattle.zone_words.specs.declared.field.BareKind.{BareKind}
-use Rattle.zone_words.specs.declared.field.BareKind.TheVariants.{AddressType, Algorithm, CertificateType, Discovery, Eui48, Eui64, Hash, Ipv4, Ipv6, Name, NoAddress, NodeId, RecordType, Salt, Tag, Time, U8, U16, U32}
+use Rattle.zone_words.specs.declared.field.BareKind.TheVariants.{AddressType, Algorithm, CertificateType, Discovery, Eui48, Eui64, Hash, HostIdentityTag, Ipv4, Ipv6, Name, NoAddress, NodeId, PublicKey, RecordType, Salt, Tag, Time, U8, U16, U32}
 use Rattle.zone_words.specs.declared.field.FieldKind.{FieldKind}
-use Rattle.zone_words.specs.declared.field.FieldKind.TheVariants.{Bare, Base64, Hex, Location, Nothing, OneString, Parameters, PerhapsOneString, PerhapsTypes, Prefixes, QuotedValue, Strings, Types, Value}
+use Rattle.zone_words.specs.declared.field.FieldKind.TheVariants.{Bare, Base64, Each, Hex, Location, Nothing, OneString, Parameters, PerhapsOneString, PerhapsTypes, Prefixes, QuotedValue, Strings, Types, Value}
 
 -- what is wrong with a quoted item where a bare one is due
 abbrev pub quoted_fault : BareKind → WordsFault
@@ -44,6 +46,8 @@ quoted_fault NoAddress = NotAName None
 quoted_fault NodeId = NotAnAddress
 quoted_fault Eui48 = NotAnAddress
 quoted_fault Eui64 = NotAnAddress
+quoted_fault HostIdentityTag = NoHexadecimal
+quoted_fault PublicKey = NoBase64
 quoted_fault kind = NotANumber
 
 -- what a text or items state, and why they state nothing
@@ -77,6 +81,8 @@ text_meaning origin NoAddress = meaning StatesNoAddress FailsNoAddress
 text_meaning origin NodeId = meaning StatesNodeId FailsNodeId
 text_meaning origin Eui48 = meaning (StatesEui 6) (FailsEui 6)
 text_meaning origin Eui64 = meaning (StatesEui 8) (FailsEui 8)
+text_meaning origin HostIdentityTag = meaning StatesHostIdentityTag FailsHostIdentityTag
+text_meaning origin PublicKey = meaning StatesPublicKey FailsPublicKey
 
 -- that of an item, which has to be bare
 abbrev pub StatesBare : Labels → BareKind → RawItem → List ℕ → Type 0
@@ -112,6 +118,11 @@ abbrev pub first : (RawItem → List ℕ → Type 0) → (RawItem → WordsFault
     → Meaning (List RawItem)
 first States Fails = meaning (FirstStates States) (FirstFails Fails)
 
+-- that of items of which each states octets, if there are any
+abbrev pub each : (RawItem → List ℕ → Type 0) → (RawItem → WordsFault → Type 0)
+    → Meaning (List RawItem)
+each States Fails = meaning (EachStates States) (OneFails States Fails)
+
 -- items, without and with whether they touch
 abbrev pub Items : Type 0
 Items = List RawItem × List TouchingItem
@@ -123,6 +134,7 @@ alone m = meaning (λ items. m.States items.0) (λ items. m.Fails items.0)
 -- that of a field's own items under an origin
 abbrev pub field_meaning : Labels → FieldKind → Meaning Items
 field_meaning origin (Bare kind) = alone (first (StatesBare origin kind) (FailsBare origin kind))
+field_meaning origin (Each kind) = alone (each (StatesBare origin kind) (FailsBare origin kind))
 field_meaning origin OneString = alone (first StatesString FailsString)
 field_meaning origin PerhapsOneString = alone (meaning StatesPerhaps FailsPerhaps)
 field_meaning origin Value = alone (first StatesValue FailsValue)

@@ -21,3 +21,4 @@ pub mod NodeId
 pub mod Prefixes
 pub mod Location
 pub mod Gateway
+pub mod HostIdentity

@@ -2,6 +2,7 @@ pub mod DataItem
 pub mod Fault
 pub mod Mnemonics
 pub mod FirstItem
+pub mod EachItem
 pub mod Kinds
 pub mod Field
 pub mod Table

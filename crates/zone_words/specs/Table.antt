@@ -7,10 +7,10 @@ use Rattle.zone_rdata.specs.Words.{IsWordAmong}
 use Rattle.zone_words.specs.DataItem.{TouchingItem}
 use Rattle.zone_words.specs.Kinds.Number.{stated_number}
 use Rattle.zone_words.specs.declared.field.BareKind.{BareKind}
-use Rattle.zone_words.specs.declared.field.BareKind.TheVariants.{AddressType, Algorithm, CertificateType, Discovery, Eui48, Eui64, Hash, Ipv4, Ipv6, Name, NoAddress, NodeId, RecordType, Salt, Tag, Time, U16, U32, U8}
+use Rattle.zone_words.specs.declared.field.BareKind.TheVariants.{AddressType, Algorithm, CertificateType, Discovery, Eui48, Eui64, Hash, HostIdentityTag, Ipv4, Ipv6, Name, NoAddress, NodeId, PublicKey, RecordType, Salt, Tag, Time, U16, U32, U8}
 use Rattle.zone_words.specs.declared.field.Field.{Field}
 use Rattle.zone_words.specs.declared.field.FieldKind.{FieldKind}
-use Rattle.zone_words.specs.declared.field.FieldKind.TheVariants.{Bare, Base64, Hex, Location, Nothing, OneString, Parameters, PerhapsOneString, PerhapsTypes, Prefixes, QuotedValue, Strings, Types, Value}
+use Rattle.zone_words.specs.declared.field.FieldKind.TheVariants.{Bare, Base64, Each, Hex, Location, Nothing, OneString, Parameters, PerhapsOneString, PerhapsTypes, Prefixes, QuotedValue, Strings, Types, Value}
 use Rattle.zone_words.specs.declared.fields.Fields as coded_fields
 use Rattle.zone_words.specs.declared.fields.Fields.TheVariants as coded
 use Rattle.zone_words.specs.declared.table.FurtherType as code
@@ -20,11 +20,13 @@ pub record NamedField : Type 0 where
   pub name : List ℕ
   pub kind : FieldKind
 
--- the fields of a type's data: the same for all its data, or some depend on the items before them
+-- the fields of a type's data: the same for all its data, or some depend on the items before them,
+-- or their octets stand in another order
 pub data Fields : Type 0 where
   same : List NamedField → Fields
   of_ipseckey : Fields
   of_amtrelay : Fields
+  of_hip : Fields
 
 -- a type: its number, its mnemonic, whether it is one of class IN alone, and the fields of its data
 pub record FurtherType : Type 0 where
@@ -54,8 +56,8 @@ in_internet number mnemonic fields =
       fields = same fields;
     }
 
-abbrev pub by_items : ℕ → List ℕ → Fields → FurtherType
-by_items number mnemonic fields =
+abbrev pub of_its_own : ℕ → List ℕ → Fields → FurtherType
+of_its_own number mnemonic fields =
     record { number = number; mnemonic = mnemonic; in_internet_alone = false; fields = fields }
 
 -- ---- fields that depend on the items before them
@@ -99,11 +101,21 @@ amtrelay_fields items =
     ∷ field (codes "type") (Bare (AddressType (is_one (number_at items 1))))
     ∷ field (codes "relay") (Bare (address_kind (number_at items 2))) ∷ []
 
+-- ---- fields whose octets stand in another order
+
+-- RFC 8005 5, 6
+abbrev pub hip_fields : List NamedField
+hip_fields =
+    field (codes "pk algorithm") (Bare U8) ∷ field (codes "hit") (Bare HostIdentityTag)
+    ∷ field (codes "public key") (Bare PublicKey)
+    ∷ field (codes "rendezvous servers") (Each Name) ∷ []
+
 -- the fields of data with these items
 abbrev pub fields_in : Fields → List TouchingItem → List NamedField
 fields_in (same fields) items = fields
 fields_in of_ipseckey items = ipseckey_fields items
 fields_in of_amtrelay items = amtrelay_fields items
+fields_in of_hip items = hip_fields
 
 -- ---- the table
 
@@ -134,7 +146,7 @@ further_types =
     ∷ in_every 44 (codes "SSHFP")  -- RFC 4255 3.2
     (field (codes "algorithm") (Bare U8) ∷ field (codes "type") (Bare U8)
     ∷ field (codes "fingerprint") Hex ∷ [])
-    ∷ by_items 45 (codes "IPSECKEY") of_ipseckey
+    ∷ of_its_own 45 (codes "IPSECKEY") of_ipseckey
     ∷ in_every 46 (codes "RRSIG")  -- RFC 4034 3.2
     (field (codes "type covered") (Bare RecordType) ∷ field (codes "algorithm") (Bare Algorithm)
     ∷ field (codes "labels") (Bare U8) ∷ field (codes "original ttl") (Bare U32)
@@ -160,6 +172,7 @@ further_types =
     ∷ in_every 53 (codes "SMIMEA")  -- RFC 8162 2
     (field (codes "usage") (Bare U8) ∷ field (codes "selector") (Bare U8)
     ∷ field (codes "matching type") (Bare U8) ∷ field (codes "data") Hex ∷ [])
+    ∷ of_its_own 55 (codes "HIP") of_hip
     ∷ in_every 59 (codes "CDS")  -- RFC 7344 3.1
     (field (codes "key tag") (Bare U16) ∷ field (codes "algorithm") (Bare Algorithm)
     ∷ field (codes "digest type") (Bare U8) ∷ field (codes "digest") Hex ∷ [])
@@ -196,7 +209,7 @@ further_types =
     ∷ in_every 257 (codes "CAA")  -- RFC 8659 4.1.1
     (field (codes "flags") (Bare U8) ∷ field (codes "tag") (Bare Tag)
     ∷ field (codes "value") Value ∷ [])
-    ∷ by_items 260 (codes "AMTRELAY") of_amtrelay
+    ∷ of_its_own 260 (codes "AMTRELAY") of_amtrelay
     ∷ []
 
 -- the rows of the code are these
@@ -207,6 +220,7 @@ abbrev pub of_code : coded_fields.Fields → Fields
 of_code (coded.Same fields) = same (map field_of fields.now)
 of_code coded.Ipseckey = of_ipseckey
 of_code coded.Amtrelay = of_amtrelay
+of_code coded.Hip = of_hip
 
 abbrev pub further_of : code.FurtherType → FurtherType
 further_of row =

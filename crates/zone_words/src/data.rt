@@ -1,16 +1,17 @@
 //! Data in words: its fields, one after another.
 ghost use Rattle.std.specs.Prelude.{◌≡◌, ◌≤◌, [], drop, length, map, IfOk, IfErr, IfSome, IfNone, OnOk, OnErr};
-ghost use Rattle.zone_words.specs.Data.{AFieldFails, DataFails, IfDataFault, StatesData, last_name};
+ghost use Rattle.zone_words.specs.Data.{AFieldFails, DataFails, IfDataFault, StatesData, in_order, joined, last_name, lengths_first};
 ghost use Rattle.zone_words.specs.DataItem.{given};
 ghost use Rattle.zone_words.specs.Fault.{AppendsStated};
 ghost use Rattle.zone_words.specs.Field.{StatesField};
 ghost use Rattle.zone_words.specs.Machine.Fields.{AppendsParts, IsFieldFault, IsWhole, WholeFails};
-ghost use Rattle.zone_words.specs.Table.{field_of, fields_in, of_code};
+ghost use Rattle.zone_words.specs.Table.{field_of, fields_in, hip_fields, of_code};
 
 use crate::data_item::DataItem;
 use crate::fault::{WordsFailing, WordsFault};
 use crate::field::Field;
-use crate::fields::{Fields, amtrelay_fields, ipseckey_fields};
+use crate::fields::{Fields, amtrelay_fields, hip_fields, ipseckey_fields};
+use crate::kinds::lengths_first;
 use zone_name::CasedName;
 
 /// Why items state no data.
@@ -42,17 +43,40 @@ pub(crate) fn read_data(
 ) -> Result<(), DataFailing>
     ensures states { OnOk result
         (StatesData origin.now (fields_in (of_code fields.now) (map given items.now))
-        (map given items.now) octets.new.items) }
+        (in_order (of_code fields.now)) (map given items.now) octets.new.items) }
     ensures fault { IfErr result
         (IfDataFault (DataFails origin.now (fields_in (of_code fields.now) (map given items.now))
-        (map given items.now))) }
+        (in_order (of_code fields.now)) (map given items.now))) }
     ensures emptied { OnErr result (octets.new.items ≡ []) }
 {
     match fields {
         Fields::Same(fields) => read_fields(fields, items, origin, octets),
         Fields::Ipseckey => read_fields(&ipseckey_fields(items), items, origin, octets),
         Fields::Amtrelay => read_fields(&amtrelay_fields(items), items, origin, octets),
+        Fields::Hip => read_host_identity(items, origin, octets),
     }
+}
+
+/// Puts the octets that items state under an origin as HIP data in place of what `octets` held. On
+/// any error `octets` is left empty.
+///
+/// # Errors
+///
+/// Those of `read_fields`.
+fn read_host_identity(
+    items: &[DataItem],
+    origin: &CasedName,
+    octets: &mut Vec<u8>,
+) -> Result<(), DataFailing>
+    ensures states { OnOk result
+        (StatesData origin.now hip_fields lengths_first (map given items.now) octets.new.items) }
+    ensures fault { IfErr result
+        (IfDataFault (DataFails origin.now hip_fields lengths_first (map given items.now))) }
+    ensures emptied { OnErr result (octets.new.items ≡ []) }
+{
+    read_fields(&hip_fields(), items, origin, octets)?;
+    lengths_first(octets);
+    Ok(())
 }
 
 /// Puts the octets that items state under an origin, field after field, in place of what `octets`
@@ -70,10 +94,11 @@ fn read_fields(
     octets: &mut Vec<u8>,
 ) -> Result<(), DataFailing>
     ensures states { OnOk result
-        (StatesData origin.now (map field_of fields.now) (map given items.now)
+        (StatesData origin.now (map field_of fields.now) joined (map given items.now)
         octets.new.items) }
     ensures fault { IfErr result
-        (IfDataFault (DataFails origin.now (map field_of fields.now) (map given items.now))) }
+        (IfDataFault (DataFails origin.now (map field_of fields.now) joined
+        (map given items.now))) }
     ensures emptied { OnErr result (octets.new.items ≡ []) }
 {
     octets.clear();

@@ -1,18 +1,21 @@
 //! The fields of a type's data: what they are called, and what their items state.
 ghost use Rattle.std.specs.Prelude.{◌≡◌, map, IfErr, OnOk};
+ghost use Rattle.zone_rdata.specs.Item.{raw};
 ghost use Rattle.zone_words.specs.DataItem.{given, raw_item};
 ghost use Rattle.zone_words.specs.Fault.{AppendsStated, IfFault};
+ghost use Rattle.zone_words.specs.EachItem.{EachStates, OneFails};
 ghost use Rattle.zone_words.specs.Field.{FailsBare, StatesBare, field_meaning, own_count, quoted_fault, takes_one, text_meaning};
 ghost use Rattle.zone_words.specs.FirstItem.{FirstFails, FirstStates};
 
 use crate::data_item::DataItem;
 use crate::fault::{WordsFailing, WordsFault};
 use crate::kinds::{
-    push_address_type, push_algorithm, push_base64, push_certificate_type, push_discovery,
-    push_eui48, push_eui64, push_first_quoted_value, push_first_string, push_first_value,
-    push_hash, push_hex, push_ipv4, push_ipv6, push_location, push_name, push_no_address,
-    push_node_id, push_nothing, push_perhaps_string, push_perhaps_types, push_prefixes, push_salt,
-    push_strings, push_tag, push_time, push_type, push_types, push_u8, push_u16, push_u32,
+    push_address_type, push_algorithm, push_base64, push_certificate_type, push_counted_digits,
+    push_discovery, push_eui48, push_eui64, push_first_quoted_value, push_first_string,
+    push_first_value, push_hash, push_hex, push_ipv4, push_ipv6, push_location, push_name,
+    push_no_address, push_node_id, push_nothing, push_perhaps_string, push_perhaps_types,
+    push_prefixes, push_public_key, push_salt, push_strings, push_tag, push_time, push_type,
+    push_types, push_u8, push_u16, push_u32,
 };
 use crate::parameters::push_parameters;
 use zone_name::CasedName;
@@ -60,6 +63,10 @@ pub enum BareKind {
     Eui48,
     /// Eight pairs of hexadecimal digits (RFC 7043 4.2).
     Eui64,
+    /// Hexadecimal digits, after the number of their octets (RFC 8005 6).
+    HostIdentityTag,
+    /// Base64, after the number of its octets, which has two (RFC 8005 6).
+    PublicKey,
 }
 
 /// What the items of a field state.
@@ -67,6 +74,8 @@ pub enum BareKind {
 pub enum FieldKind {
     /// One bare item.
     Bare(BareKind),
+    /// Bare items up to the end, or none.
+    Each(BareKind),
     /// A character-string, bare or quoted (RFC 1035 3.3).
     OneString,
     /// A character-string that may be left out.
@@ -115,8 +124,9 @@ impl BareKind {
             BareKind::RecordType => WordsFault::NotAType,
             BareKind::Time => WordsFault::NotATime,
             BareKind::Name | BareKind::NoAddress => WordsFault::NotAName(None),
-            BareKind::Salt => WordsFault::NoHexadecimal,
+            BareKind::Salt | BareKind::HostIdentityTag => WordsFault::NoHexadecimal,
             BareKind::Hash => WordsFault::NoBase32Hex,
+            BareKind::PublicKey => WordsFault::NoBase64,
             BareKind::Tag => WordsFault::NotATag,
             BareKind::Ipv4
             | BareKind::Ipv6
@@ -157,6 +167,30 @@ impl BareKind {
             BareKind::NodeId => push_node_id(text, out),
             BareKind::Eui48 => push_eui48(text, out),
             BareKind::Eui64 => push_eui64(text, out),
+            BareKind::HostIdentityTag => push_counted_digits(text, out),
+            BareKind::PublicKey => push_public_key(text, out),
+        }
+    }
+
+    /// Appends the octets that an item states, which has to be bare.
+    ///
+    /// # Errors
+    ///
+    /// What is wrong with it, and want of memory. `out` may have got some octets.
+    fn push_item(
+        self,
+        item: Item,
+        origin: &CasedName,
+        out: &mut Vec<u8>,
+    ) -> Result<(), WordsFailing>
+        ensures states { OnOk result
+            (AppendsStated (StatesBare origin.now self (raw item.entry)) out.old.items
+            out.new.items) }
+        ensures fault { IfErr result (IfFault (FailsBare origin.now self (raw item.entry))) }
+    {
+        match item {
+            Item::Bare(text) => self.push(text, origin, out),
+            Item::Quoted(_) => Err(WordsFailing::Fault(self.quoted_fault())),
         }
     }
 
@@ -179,12 +213,34 @@ impl BareKind {
             (IfFault (FirstFails (FailsBare origin.now self) (map raw_item items.now))) }
     {
         match items.first() {
-            Some(first) => match first.item {
-                Item::Bare(text) => self.push(text, origin, out),
-                Item::Quoted(_) => Err(WordsFailing::Fault(self.quoted_fault())),
-            },
+            Some(first) => self.push_item(first.item, origin, out),
             None => Err(WordsFailing::Fault(WordsFault::NothingLeft)),
         }
+    }
+
+    /// Appends the octets that each item states, which have to be bare.
+    ///
+    /// # Errors
+    ///
+    /// What is wrong with the leftmost item that states none, and want of memory. `out` may have
+    /// got some octets.
+    fn push_each(
+        self,
+        items: &[DataItem],
+        origin: &CasedName,
+        out: &mut Vec<u8>,
+    ) -> Result<(), WordsFailing>
+        ensures states { OnOk result
+            (AppendsStated (EachStates (StatesBare origin.now self) (map raw_item items.now))
+            out.old.items out.new.items) }
+        ensures fault { IfErr result
+            (IfFault (OneFails (StatesBare origin.now self) (FailsBare origin.now self)
+            (map raw_item items.now))) }
+    {
+        for item in items {
+            self.push_item(item.item, origin, out)?;
+        }
+        Ok(())
     }
 }
 
@@ -230,6 +286,7 @@ impl FieldKind {
     {
         match self {
             FieldKind::Bare(kind) => kind.push_first(items, origin, out),
+            FieldKind::Each(kind) => kind.push_each(items, origin, out),
             FieldKind::OneString => push_first_string(items, out),
             FieldKind::PerhapsOneString => push_perhaps_string(items, out),
             FieldKind::Value => push_first_value(items, out),

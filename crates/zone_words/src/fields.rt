@@ -3,11 +3,13 @@ ghost use Rattle.std.specs.Prelude.{◌≡◌, ◌==◌, map, min, option_map};
 ghost use Rattle.zone_rdata.specs.Item.{raw};
 ghost use Rattle.zone_words.specs.DataItem.{given};
 ghost use Rattle.zone_words.specs.Kinds.Number.{stated_number};
-ghost use Rattle.zone_words.specs.Table.{address_kind, amtrelay_fields, field_of, ipseckey_fields, is_one, key_kind, number_at};
+ghost use Rattle.zone_words.specs.Table.{address_kind, amtrelay_fields, field_of, hip_fields, ipseckey_fields, is_one, key_kind, number_at};
 
 use crate::data_item::DataItem;
-use crate::field::BareKind::{AddressType, Discovery, Ipv4, Ipv6, Name, NoAddress, U8};
-use crate::field::FieldKind::{Bare, Base64, Nothing};
+use crate::field::BareKind::{
+    AddressType, Discovery, HostIdentityTag, Ipv4, Ipv6, Name, NoAddress, PublicKey, U8,
+};
+use crate::field::FieldKind::{Bare, Base64, Each, Nothing};
 use crate::field::{BareKind, Field, FieldKind};
 use zone_rdata::{Item, decimal_of};
 
@@ -22,6 +24,9 @@ pub enum Fields {
     /// Those of AMTRELAY: its relay depends on the type before it, of which the octet has a bit of
     /// the item before that (RFC 8777 4.2).
     Amtrelay,
+    /// Those of HIP, the same for all its data: the lengths of its tag and its key stand before both
+    /// (RFC 8005 5).
+    Hip,
 }
 
 /// The fields of IPSECKEY data with these items.
@@ -50,6 +55,18 @@ pub(crate) fn amtrelay_fields(items: &[DataItem]) -> [Field; 4]
         Field("discovery optional", Bare(Discovery)),
         Field("type", Bare(AddressType(optional))),
         Field("relay", Bare(relay)),
+    ]
+}
+
+/// The fields of HIP data.
+pub(crate) fn hip_fields() -> [Field; 4]
+    ensures { map field_of result ≡ hip_fields }
+{
+    [
+        Field("pk algorithm", Bare(U8)),
+        Field("hit", Bare(HostIdentityTag)),
+        Field("public key", Bare(PublicKey)),
+        Field("rendezvous servers", Each(Name)),
     ]
 }
 

@@ -1,8 +1,5 @@
 //! The further types, a row each, their numbers ascending, with the section of the RFC that gives
 //! the words of each.
-//!
-//! HIP isn't among them: the octets of its data stand in another order than its words, with their
-//! numbers before them (RFC 8005 5, 6).
 ghost use Rattle.std.specs.Prelude.{◌≡◌, IfSome, IfNone, codes, option_copied};
 ghost use Rattle.std.specs.Option.{option_map};
 ghost use Rattle.zone_name.specs.Common.{NothingIs};
@@ -19,7 +16,7 @@ use crate::field::FieldKind::{
     Bare, Base64, Hex, Location, OneString, Parameters, PerhapsOneString, PerhapsTypes, Prefixes,
     QuotedValue, Strings, Types, Value,
 };
-use crate::fields::Fields::{self, Amtrelay, Ipseckey, Same};
+use crate::fields::Fields::{self, Amtrelay, Hip, Ipseckey, Same};
 use zone_rdata::{Row, number_of_word, row_of};
 
 /// A type whose data is read in words here.
@@ -176,6 +173,8 @@ pub(crate) static FURTHER_TYPES: &[FurtherType] = &[
         Field("usage", Bare(U8)), Field("selector", Bare(U8)), Field("matching type", Bare(U8)),
         Field("data", Hex),
     ]) },
+    // RFC 8005 6
+    FurtherType { number: 55, mnemonic: "HIP", in_internet_alone: false, fields: Hip },
     // RFC 7344 3.1
     FurtherType { number: 59, mnemonic: "CDS", in_internet_alone: false, fields: Same(&[
         Field("key tag", Bare(U16)), Field("algorithm", Bare(Algorithm)),

@@ -56,7 +56,9 @@ fn take_label(octets: &[u8]) -> Result<(&[u8], &[u8]), Unprinted>
 
 /// Appends the name at the front, absolute and with its letters (RFC 1035 3.1), and gives what is
 /// left.
-pub(crate) fn push_name<'o>(octets: &'o [u8], out: &mut Vec<u8>) -> Result<&'o [u8], Unprinted> {
+pub(crate) fn push_name<'o>(octets: &'o [u8], out: &mut Vec<u8>) -> Result<&'o [u8], Unprinted>
+    ensures { IfOk result (λ rest. length rest.now < length octets.now) }
+{
     let (mut label, mut rest) = take_label(octets)?;
     if label.is_empty() {
         out.push(b'.')?;

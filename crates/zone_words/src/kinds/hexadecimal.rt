@@ -1,6 +1,7 @@
 ghost use Rattle.std.specs.Prelude.{map, IfErr, OnOk};
 ghost use Rattle.zone_words.specs.DataItem.{raw_item};
 ghost use Rattle.zone_words.specs.Fault.{AppendsStated, IfFault, NothingStated};
+ghost use Rattle.zone_words.specs.Kinds.AfterLength.{FailsAfterLength, StatesAfterLength};
 ghost use Rattle.zone_words.specs.Kinds.Hex.{FailsHex, IsHex, StatesHex};
 ghost use Rattle.zone_words.specs.declared.fault.WordsFault.TheVariants.{NoHexadecimal};
 
@@ -25,6 +26,29 @@ pub(crate) fn push_hex(items: &[DataItem], out: &mut Vec<u8>) -> Result<(), Word
 {
     let text = joined_text(*out.allocator(), items, WordsFault::NoHexadecimal)?;
     push_digits(text.as_slice(), out)
+}
+
+/// The digits of the most octets that stand after their length, which are 255.
+const MOST_COUNTED: usize = 510;
+
+/// Appends the octets, 1 to 255, that hexadecimal digits stand for, after their length, of one
+/// octet.
+///
+/// # Errors
+///
+/// `NoHexadecimal` where the text is not the digits of octets, `TooLong` where these are more than
+/// 255, and `OutOfMemory` where memory is refused. `out` may then have some of the octets.
+pub(crate) fn push_counted_digits(text: &[u8], out: &mut Vec<u8>) -> Result<(), WordsFailing>
+    ensures states { OnOk result
+        (AppendsStated (StatesAfterLength IsHex text.now) out.old.items out.new.items) }
+    ensures fault { IfErr result (IfFault (FailsAfterLength NoHexadecimal IsHex text.now)) }
+{
+    if text.len() > MOST_COUNTED {
+        push_digits(text, out)?;
+        return Err(WordsFailing::Fault(WordsFault::TooLong));
+    }
+    out.push((text.len() / 2) as u8)?;
+    push_digits(text, out)
 }
 
 /// Appends the octets, one or more, that hexadecimal digits stand for.

@@ -2,11 +2,8 @@ ghost use Rattle.std.specs.Prelude.{IfErr, OnOk};
 ghost use Rattle.zone_words.specs.Fault.{AppendsStated, IfFault};
 ghost use Rattle.zone_words.specs.Kinds.Salt.{FailsSalt, StatesSalt};
 
-use super::hexadecimal::push_digits;
-use crate::fault::{WordsFailing, WordsFault};
-
-/// The digits of the longest salt, which has 255 octets.
-const MOST_DIGITS: usize = 510;
+use super::hexadecimal::push_counted_digits;
+use crate::fault::WordsFailing;
 
 /// Appends a salt after its length, of one octet: `-` is an empty one, and hexadecimal digits in
 /// either letter case are one of 1 to 255 octets (RFC 5155 3.3).
@@ -22,10 +19,5 @@ pub(crate) fn push_salt(text: &[u8], out: &mut Vec<u8>) -> Result<(), WordsFaili
     if text == b"-".as_slice() {
         return Ok(out.extend_from_slice(&[0])?);
     }
-    if text.len() > MOST_DIGITS {
-        push_digits(text, out)?;
-        return Err(WordsFailing::Fault(WordsFault::TooLong));
-    }
-    out.push((text.len() / 2) as u8)?;
-    push_digits(text, out)
+    push_counted_digits(text, out)
 }

@@ -14,22 +14,24 @@ pub fn a_word_is_one_further_type()
 
 /// Items state at most one list of octets as the data of fields under an origin.
 pub fn data_is_unique()
-    ensures { (origin : Labels) (fields : List NamedField) (items : List TouchingItem)
-        (a b : List ℕ) → StatesData origin fields items a → StatesData origin fields items b
-        → a ≡ b }
+    ensures { (origin : Labels) (fields : List NamedField) (ordered : List (List ℕ) → List ℕ)
+        (items : List TouchingItem) (a b : List ℕ) → StatesData origin fields ordered items a
+        → StatesData origin fields ordered items b → a ≡ b }
 {}
 
 /// Items with which something is wrong state no data.
 pub fn faulty_items_state_none()
-    ensures { (origin : Labels) (fields : List NamedField) (items : List TouchingItem)
-        (octets name : List ℕ) (fault : WordsFault) → StatesData origin fields items octets
-        → DataFails origin fields items name fault → ⊥ }
+    ensures { (origin : Labels) (fields : List NamedField) (ordered : List (List ℕ) → List ℕ)
+        (items : List TouchingItem) (octets name : List ℕ) (fault : WordsFault)
+        → StatesData origin fields ordered items octets
+        → DataFails origin fields ordered items name fault → ⊥ }
 {}
 
 /// Items state at most one fault, of one field, where they state no data.
 pub fn data_has_one_fault()
-    ensures { (origin : Labels) (fields : List NamedField) (items : List TouchingItem)
-        (name other : List ℕ) (fault as_well : WordsFault)
-        → DataFails origin fields items name fault → DataFails origin fields items other as_well
+    ensures { (origin : Labels) (fields : List NamedField) (ordered : List (List ℕ) → List ℕ)
+        (items : List TouchingItem) (name other : List ℕ) (fault as_well : WordsFault)
+        → DataFails origin fields ordered items name fault
+        → DataFails origin fields ordered items other as_well
         → (name ≡ other) × (fault ≡ as_well) }
 {}

@@ -11,3 +11,9 @@ returns-in-Eui48-clause-states c = rw c.in-Eui48.is c.push_eui48.ensures.states
 
 pub returns-in-Eui64-clause-states : goal.returns-in-Eui64-clause-states
 returns-in-Eui64-clause-states c = rw c.in-Eui64.is c.push_eui64.ensures.states
+
+pub returns-in-PublicKey-clause-states : goal.returns-in-PublicKey-clause-states
+returns-in-PublicKey-clause-states c = rw c.in-PublicKey.is c.push_public_key.ensures.states
+
+pub returns-in-PublicKey-clause-fault : goal.returns-in-PublicKey-clause-fault
+returns-in-PublicKey-clause-fault c = rw c.in-PublicKey.is c.push_public_key.ensures.fault

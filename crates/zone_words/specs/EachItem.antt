@@ -1,0 +1,20 @@
+-- What items state where each states its own octets, one after another.
+use Rattle.std.specs.Prelude.{◌≡◌, ℕ, ◌⊎◌, List, [], ◌∷◌}
+use Rattle.std.specs.List.{AllZip, flat_map}
+use Rattle.zone_rdata.specs.Spelling.{RawItem}
+use Rattle.zone_words.specs.declared.fault.WordsFault.{WordsFault}
+
+-- each item states its part of the octets
+pub record EachStates (States : RawItem → List ℕ → Type 0) (items : List RawItem)
+    (octets : List ℕ) : Type 0 where
+  pub parts : List (List ℕ)
+  pub each : AllZip States items parts
+  pub value : octets ≡ flat_map (λ part. part) parts
+
+-- the first item fails, or it states octets and a later one is the first that fails
+abbrev pub OneFails : (RawItem → List ℕ → Type 0) → (RawItem → WordsFault → Type 0)
+    → List RawItem → WordsFault → Type 0
+OneFails States Fails [] fault = ⊥
+OneFails States Fails (item ∷ items) fault =
+    Fails item fault
+    ⊎ ((octets : List ℕ) × States item octets × OneFails States Fails items fault)

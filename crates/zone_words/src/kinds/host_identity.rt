@@ -1,0 +1,44 @@
+//! What the data of a host's identity has: its public key, and the order of its octets (RFC 8005).
+ghost use Rattle.std.specs.Prelude.{◌≡◌, IfErr, OnOk};
+ghost use Rattle.zone_words.specs.Fault.{AppendsStated, IfFault};
+ghost use Rattle.zone_words.specs.Kinds.HostIdentity.{FailsPublicKey, StatesPublicKey};
+ghost use Rattle.zone_words.specs.Machine.HostIdentity.{AreLengthsWithin, PutsLengthsFirst};
+
+use super::base64_text::push_decoded;
+use crate::fault::{WordsFailing, WordsFault};
+
+/// The longest key, of which the length has two octets.
+const MOST: usize = 65_535;
+
+/// Appends a public key, of one octet or more, after its length, of two octets: base64 in one item
+/// (RFC 8005 6).
+///
+/// # Errors
+///
+/// `NoBase64` where the text is none, `TooLong` where the key has more than 65,535 octets, and
+/// `OutOfMemory` where memory is refused.
+pub(crate) fn push_public_key(text: &[u8], out: &mut Vec<u8>) -> Result<(), WordsFailing>
+    ensures states { OnOk result
+        (AppendsStated (StatesPublicKey text.now) out.old.items out.new.items) }
+    ensures fault { IfErr result (IfFault (FailsPublicKey text.now)) }
+{
+    let mut key = Vec::new(*out.allocator());
+    push_decoded(text, &mut key)?;
+    if key.len() > MOST {
+        return Err(WordsFailing::Fault(WordsFault::TooLong));
+    }
+    out.extend_from_slice(&(key.len() as u16).to_be_bytes())?;
+    out.extend_from_slice(&key)?;
+    Ok(())
+}
+
+/// Puts the lengths of the tag and of the key, of one octet and two, before both and around the
+/// algorithm, which has stood before them (RFC 8005 5).
+pub(crate) fn lengths_first(octets: &mut Vec<u8>)
+    requires { AreLengthsWithin octets.old.items }
+    ensures { PutsLengthsFirst octets.old.items octets.new.items }
+{
+    octets.swap(0, 1);
+    let key_length = 2 + usize::from(octets[0]);
+    octets[2..key_length + 2].rotate_right(2);
+}
