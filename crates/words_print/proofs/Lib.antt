@@ -6,3 +6,4 @@ mod FirstLine
 mod Classed
 mod Read
 mod ShownLines
+mod Origins

@@ -49,8 +49,8 @@ one_cut_of_lines (l ∷ a) (m ∷ b) last p q none same =
 
 line_rewritten : (line shown : List ℕ) → IsRecordLine line → IsShownLine line shown → StatesItsClass shown × IsRewriting [] shown line []
 line_rewritten line shown is (stays same) = (subst StatesItsClass (sym same) is.states, subst (λ t. IsRewriting [] t line []) (sym same) is.own)
-line_rewritten line shown is (in_words names states rewritten) = (states, rewritten)
-line_rewritten line shown is (after_others ahead old new none parted others names rewritten) = absurd (none is.states)
+line_rewritten line shown is (in_words names record_is) = (record_is.states, record_is.under_root)
+line_rewritten line shown is (after_others ahead old new end none parted others ends names record_is) = absurd (none is.states)
 
 each_rewritten : (lines shown : List (List ℕ)) → AllByRecursion IsRecordLine lines → EachIsShown lines shown → EachRewritten shown lines
 each_rewritten [] [] are each = tt

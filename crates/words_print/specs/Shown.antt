@@ -1,8 +1,9 @@
 -- What is shown for the lines of a text: the data of records of further types in words in place of
 -- the generic form (RFC 3597 5). That words stand for data is said by their rewriting: the generic
 -- form that stood there.
-use Rattle.std.specs.Prelude.{◌≡◌, ◌≢◌, ℕ, List, [], ◌∷◌, ◌++◌, IsSome, ⊤}
+use Rattle.std.specs.Prelude.{◌≡◌, ◌≢◌, ◌≤◌, ◌⊎◌, ℕ, List, [], ◌∷◌, ◌++◌, EachIndex, IsSome, slice_index, ⊤}
 use Rattle.std.specs.List.{AllByRecursion}
+use Rattle.zone_name.specs.Common.{Labels}
 use Rattle.zone_print.specs.Laws.{EndsWithItsFeed, HasNoFeed}
 use Rattle.zone_text.specs.Entries.{entry_of}
 use Rattle.zone_text.specs.FirstEntry.{IsOneEntry}
@@ -20,7 +21,13 @@ pub record StatesItsClass (octets : List ℕ) : Type 0 where
   pub one : IsOneEntry octets tokens
   pub class : IsSome (class_word (statement_of (entry_of 1 tokens)))
 
--- all before the word of a further type stays, and its mnemonic takes the word's place
+-- octets that a terminal shows as they are: spaces and the graphic ones of ASCII (RFC 20 4)
+abbrev pub ArePrinted : List ℕ → Type 0
+ArePrinted octets =
+    EachIndex octets (λ k. (32 ≤ slice_index octets k) × (slice_index octets k ≤ 126))
+
+-- All before the word of a further type stays. Its mnemonic takes the word's place, and words that
+-- are printed that of what stands after it, up to an end that stays too.
 pub record GetsMnemonic (old new : List ℕ) : Type 0 where
   pub front : List ℕ
   pub word : List ℕ
@@ -28,18 +35,33 @@ pub record GetsMnemonic (old new : List ℕ) : Type 0 where
   pub named : IsFurtherWord word further
   pub after : List ℕ
   pub words : List ℕ
-  pub old_is : old ≡ front ++ word ++ after
-  pub new_is : new ≡ front ++ further.mnemonic ++ words
+  pub printed : ArePrinted words
+  pub end : List ℕ
+  pub old_is : old ≡ front ++ word ++ after ++ end
+  pub new_is : new ≡ front ++ further.mnemonic ++ words ++ end
 
--- What is shown for a line: itself; or a record that states its class, whose rewriting under the
--- root is the line; or, where the line is no such record, as in a difference of two texts, the same
--- of what stands from some place on, as a record without an owner.
+-- A record that states its class, in words: its rewriting is the record that was there, under the
+-- root and under another origin too, so that no name in it is relative.
+pub record IsRecordInWords (old new : List ℕ) : Type 0 where
+  pub states : StatesItsClass new
+  pub under_root : IsRewriting [] new old []
+  pub origin : Labels
+  pub not_root : origin ≢ []
+  pub under_origin : IsRewriting origin new old []
+
+-- the line feed that ends a line, or nothing, as at the end of a text
+abbrev pub IsLineEnd : List ℕ → Type 0
+IsLineEnd end = (end ≡ []) ⊎ (end ≡ 10 ∷ [])
+
+-- What is shown for a line: itself; or its record in words; or, where the line is no record that
+-- states its class, as in a difference of two texts or at the end of one, what stands from some
+-- place on in words, as it would be if it were a record without an owner.
 pub data IsShownLine (line shown : List ℕ) : Type 0 where
   stays : shown ≡ line → IsShownLine line shown
-  in_words : GetsMnemonic line shown → StatesItsClass shown → IsRewriting [] shown line []
-      → IsShownLine line shown
-  after_others : (ahead old new : List ℕ) → (StatesItsClass line → ⊥) → line ≡ ahead ++ old
-      → shown ≡ ahead ++ new → GetsMnemonic old new → IsRewriting [] (32 ∷ new) (32 ∷ old) []
+  in_words : GetsMnemonic line shown → IsRecordInWords line shown → IsShownLine line shown
+  after_others : (ahead old new end : List ℕ) → (StatesItsClass line → ⊥)
+      → line ≡ ahead ++ old ++ end → shown ≡ ahead ++ new ++ end → IsLineEnd end
+      → GetsMnemonic old new → IsRecordInWords (32 ∷ old ++ 10 ∷ []) (32 ∷ new ++ 10 ∷ [])
       → IsShownLine line shown
 
 -- line for line

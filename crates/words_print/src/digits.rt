@@ -51,10 +51,9 @@ fn octets_of_block(digits: &[u8]) -> Option<[u8; BLOCK / 2]>
     Some(octets.to_array())
 }
 
-/// Puts the octets that digits stand for in place of what `octets` held. `false`: they stand for
-/// none.
+/// Appends the octets that digits stand for. `false`: they stand for none, and `octets` may have
+/// got some.
 pub(crate) fn read_digits(digits: &[u8], octets: &mut Vec<u8>) -> Result<bool, AllocError> {
-    octets.clear();
     let mut rest = digits;
     while rest.len() >= BLOCK {
         let Some(block) = octets_of_block(rest) else {

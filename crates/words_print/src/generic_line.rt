@@ -1,6 +1,7 @@
 //! The generic form at the end of a line (RFC 3597 5).
 ghost use Rattle.std.specs.Prelude.{IfSome};
 ghost use Rattle.words_print.specs.Machine.Found.{FoundIn, IsParted};
+ghost use Rattle.words_print.specs.Shown.{IsLineEnd};
 
 use memchr::{memchr, memrchr, memrchr2};
 use zone_rdata::Class;
@@ -15,22 +16,35 @@ pub(crate) struct GenericLine<'l> {
     pub(crate) class: &'l [u8],
     /// The type's word.
     pub(crate) word: &'l [u8],
-    /// The generic form, from the blank before it on, and the line feed, if there is one.
-    pub(crate) rest: &'l [u8],
+    /// The generic form, and the blank before it.
+    pub(crate) form: &'l [u8],
+    /// The line feed, if there is one.
+    pub(crate) end: &'l [u8],
     /// The type.
     pub(crate) further: &'static FurtherType,
 }
 
-/// The generic form with the blank before it at the end of a line, and what stands before that.
-fn split_generic(line: &[u8]) -> Option<(&[u8], &[u8])>
-    ensures { IfSome result (λ parts. IsParted line.now parts.0.now parts.1.now) }
+/// A line without the line feed that ends it, and that, if there is one.
+fn split_end(line: &[u8]) -> (&[u8], &[u8])
+    ensures parted { IsParted line.now result.0.now result.1.now }
+    ensures end { IsLineEnd result.1.now }
 {
-    let mark = memrchr(b'\\', line)?;
-    let (before, rest) = line.split_at(mark.checked_sub(1)?);
-    if !rest.starts_with(b" \\# ") {
+    match line.split_last() {
+        Some((b'\n', octets)) => (octets, b"\n"),
+        _ => (line, b""),
+    }
+}
+
+/// The generic form with the blank before it at the end of octets, and what stands before that.
+fn split_generic(octets: &[u8]) -> Option<(&[u8], &[u8])>
+    ensures { IfSome result (λ parts. IsParted octets.now parts.0.now parts.1.now) }
+{
+    let mark = memrchr(b'\\', octets)?;
+    let (before, form) = octets.split_at(mark.checked_sub(1)?);
+    if !form.starts_with(b" \\# ") {
         return None;
     }
-    Some((before, rest))
+    Some((before, form))
 }
 
 /// The last word, and what stands before it with the blank that parts it.
@@ -68,7 +82,8 @@ fn class_of(octets: &[u8]) -> Option<Class> {
 pub(crate) fn generic_line(line: &[u8]) -> Option<GenericLine<'_>>
     ensures { IfSome result (FoundIn line.now) }
 {
-    let (before, rest) = split_generic(line)?;
+    let (octets, end) = split_end(line);
+    let (before, form) = split_generic(octets)?;
     let (before, word) = split_word(before)?;
     let (ahead, class) = split_class(before);
     let further = further_type_of(word)?;
@@ -80,21 +95,16 @@ pub(crate) fn generic_line(line: &[u8]) -> Option<GenericLine<'_>>
         ahead,
         class,
         word,
-        rest,
+        form,
+        end,
         further,
     })
 }
 
 impl GenericLine<'_> {
-    /// Whether a line feed ends it.
-    pub(crate) fn is_ended(&self) -> bool {
-        self.rest.ends_with(b"\n")
-    }
-
     /// What stands after the number of octets: their hexadecimal digits.
     pub(crate) fn digits(&self) -> &[u8] {
-        let form = self.rest.strip_suffix(b"\n").unwrap_or(self.rest);
-        let number = form.strip_prefix(b" \\# ").unwrap_or(form);
+        let number = self.form.strip_prefix(b" \\# ").unwrap_or(self.form);
         match memchr(b' ', number) {
             Some(blank) => &number[blank + 1..],
             None => &[],

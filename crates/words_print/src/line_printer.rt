@@ -1,7 +1,7 @@
 //! Lines in words.
-ghost use Rattle.std.specs.Prelude.{◌≡◌, ◌++◌, ◌∷◌, [], IfOk, Ok, OnErr, OnOk, length, map, true};
-ghost use Rattle.words_print.specs.Machine.Found.{FoundIn};
-ghost use Rattle.words_print.specs.Shown.{IsShownLine};
+ghost use Rattle.std.specs.Prelude.{◌≡◌, ◌≢◌, ◌↔◌, ◌++◌, ◌∷◌, [], IfOk, IsTrue, Ok, OnErr, OnOk, length, map, true};
+ghost use Rattle.words_print.specs.Machine.Found.{FoundIn, HoldsNothing};
+ghost use Rattle.words_print.specs.Shown.{ArePrinted, IsRecordInWords, IsShownLine};
 ghost use Rattle.zone_rdata.specs.Item.{raw};
 ghost use Rattle.zone_text.specs.FirstEntry.{IsFirstEntry};
 ghost use Rattle.zone_words.specs.Entry.{IsRewriting};
@@ -17,7 +17,8 @@ use zone_name::CasedName;
 use zone_rdata::Item;
 use zone_words::Rewriter;
 
-/// A printer of lines in words. It keeps the room that it needs from line to line.
+/// A printer of lines in words. It keeps the room that it needs from line to line, and nothing in
+/// it.
 #[derive(Drop)]
 pub(crate) struct LinePrinter {
     alloc: Global,
@@ -25,7 +26,7 @@ pub(crate) struct LinePrinter {
     reader: Rewriter,
     /// The octets of a record's data.
     octets: Vec<u8>,
-    /// Their words, with the line feed after them.
+    /// Their words.
     words: Vec<u8>,
     /// What is shown.
     shown: Vec<u8>,
@@ -41,63 +42,97 @@ fn has_read(reader: &Rewriter, wanted: &[u8]) -> bool
     reader.refusals().count == 0 && reader.written() == wanted
 }
 
-/// Whether a text is rewritten under the root as another one, and nothing is told of it.
-fn is_rewritten(reader: &mut Rewriter, text: &[u8], wanted: &[u8]) -> Result<bool, AllocError>
-    ensures { result ≡ Ok true → IsRewriting [] text.now wanted.now [] }
-{
-    reader.restart(&CasedName::root());
-    reader.feed(text)?;
-    reader.finish()?;
-    Ok(has_read(reader, wanted))
-}
-
-/// Whether a text that is one entry, of which these items are kept, is rewritten under the root as
+/// Whether a text that is one entry, of which these items are kept, is rewritten under an origin as
 /// another one, and nothing is told of it.
-fn is_entry_rewritten(
+fn is_rewritten(
     reader: &mut Rewriter,
+    origin: &CasedName,
     text: &[u8],
     items: &[Item],
     wanted: &[u8],
 ) -> Result<bool, AllocError>
     requires { IsFirstEntry text.now (length text.now) (map raw items.now) }
-    ensures { result ≡ Ok true → IsRewriting [] text.now wanted.now [] }
+    ensures { result ≡ Ok true → IsRewriting origin.now text.now wanted.now [] }
 {
-    reader.rewrite_entry(&CasedName::root(), text, items)?;
+    reader.rewrite_entry(origin, text, items)?;
     Ok(has_read(reader, wanted))
 }
 
-/// Puts the record of a line in words after octets in place of what `shown` held.
+/// An origin that isn't the root: `x.`.
+fn another_origin() -> CasedName
+    ensures { result ≢ [] }
+{
+    let mut origin = CasedName::root();
+    let _ = origin.set_from_text(b"x.", None);
+    origin
+}
+
+/// Whether a text is one record that states its class, and is rewritten under the root as another
+/// one, and under another origin as the same, as a record without relative names is.
+fn is_in_words(
+    alloc: Global,
+    reader: &mut Rewriter,
+    text: &[u8],
+    wanted: &[u8],
+) -> Result<bool, AllocError>
+    ensures { result ≡ Ok true → IsRecordInWords wanted.now text.now }
+{
+    let mut items = room_for_items(alloc)?;
+    let ClassStated::Yes = class_stated(text, &mut items)? else {
+        return Ok(false);
+    };
+    if !is_rewritten(reader, &CasedName::root(), text, &items, wanted)? {
+        return Ok(false);
+    }
+    is_rewritten(reader, &another_origin(), text, &items, wanted)
+}
+
+/// Whether a terminal shows each octet as it is.
+fn are_printed(octets: &[u8]) -> bool
+    ensures { IsTrue result ↔ ArePrinted octets.now }
+{
+    octets.iter().all(|octet| *octet >= b' ' && *octet <= b'~')
+}
+
+/// Puts the record of a line in words after octets, and an end after it, in place of what `shown`
+/// held.
 fn put_shown(
     begin: &[u8],
     found: &GenericLine,
     words: &[u8],
+    end: &[u8],
     shown: &mut Vec<u8>,
 ) -> Result<(), AllocError>
     ensures { OnOk result (shown.new.items ≡ begin.now ++ found.now.class.now
-        ++ found.now.further.now.mnemonic.now ++ words.now) }
+        ++ found.now.further.now.mnemonic.now ++ words.now ++ end.now) }
 {
     shown.clear();
     shown.extend_from_slice(begin)?;
     shown.extend_from_slice(found.class)?;
     shown.extend_from_slice(found.further.mnemonic.as_bytes())?;
-    shown.extend_from_slice(words)
+    shown.extend_from_slice(words)?;
+    shown.extend_from_slice(end)
 }
 
-/// Puts the record of a line as it stands there after a blank in place of what `wanted` held.
+/// Puts the record of a line as it stands there after a blank, and a line feed after it, in place
+/// of what `wanted` held.
 fn put_wanted(found: &GenericLine, wanted: &mut Vec<u8>) -> Result<(), AllocError>
     ensures { OnOk result (wanted.new.items ≡ 32 ∷ found.now.class.now ++ found.now.word.now
-        ++ found.now.rest.now) }
+        ++ found.now.form.now ++ 10 ∷ []) }
 {
     wanted.clear();
     wanted.extend_from_slice(b" ")?;
     wanted.extend_from_slice(found.class)?;
     wanted.extend_from_slice(found.word)?;
-    wanted.extend_from_slice(found.rest)
+    wanted.extend_from_slice(found.form)?;
+    wanted.extend_from_slice(b"\n")
 }
 
 impl LinePrinter {
     /// A printer without any room yet.
-    pub(crate) fn new(alloc: Global) -> LinePrinter {
+    pub(crate) fn new(alloc: Global) -> LinePrinter
+        ensures { HoldsNothing result }
+    {
         LinePrinter {
             alloc,
             reader: Rewriter::new(alloc, &CasedName::root()),
@@ -108,43 +143,47 @@ impl LinePrinter {
         }
     }
 
-    /// Puts the words of a line's data, and its line feed, in place of what `words` held. `false`:
-    /// its octets have no words.
-    fn find_words(&mut self, found: &GenericLine) -> Result<bool, AllocError> {
+    /// Lets go of all that it has of a line.
+    fn let_go(&mut self)
+        ensures { HoldsNothing self.new }
+    {
+        self.octets.clear();
+        self.words.clear();
+        self.shown.clear();
+        self.wanted.clear();
+    }
+
+    /// Appends the words of a line's data to `words`. `false`: its octets have no words, or a
+    /// terminal would show some as something else, and `words` may have got some.
+    fn find_words(&mut self, found: &GenericLine) -> Result<bool, AllocError>
+        ensures { result ≡ Ok true → ArePrinted self.new.words.items }
+    {
         if !read_digits(found.digits(), &mut self.octets)? {
             return Ok(false);
         }
-        self.words.clear();
         match push_words(found.further.fields, &self.octets, &mut self.words) {
-            Ok(()) => {}
-            Err(Unprinted::NoData) => return Ok(false),
-            Err(Unprinted::OutOfMemory) => return Err(AllocError),
+            Ok(()) => Ok(are_printed(&self.words)),
+            Err(Unprinted::NoData) => Ok(false),
+            Err(Unprinted::OutOfMemory) => Err(AllocError),
         }
-        if found.is_ended() {
-            self.words.extend_from_slice(b"\n")?;
-        }
-        Ok(true)
     }
 
-    /// Puts the line in words in place of what `shown` held. Whether that is one record that states
-    /// its class, and is rewritten as the line.
+    /// Puts the line in words in place of what `shown` held. Whether that is its record in words.
     fn shows_whole(&mut self, line: &[u8], found: &GenericLine) -> Result<bool, AllocError>
-        requires { FoundIn line.now found.now }
-        ensures { result ≡ Ok true → IsShownLine line.now self.new.shown.items }
+        requires found { FoundIn line.now found.now }
+        requires words { ArePrinted self.old.words.items }
+        ensures shown { result ≡ Ok true → IsShownLine line.now self.new.shown.items }
+        ensures words { self.new.words.items ≡ self.old.words.items }
     {
-        put_shown(found.ahead, found, &self.words, &mut self.shown)?;
-        let mut items = room_for_items(self.alloc)?;
-        match class_stated(&self.shown, &mut items)? {
-            ClassStated::Yes => is_entry_rewritten(&mut self.reader, &self.shown, &items, line),
-            ClassStated::No => Ok(false),
-            ClassStated::Untold => Ok(false),
-        }
+        put_shown(found.ahead, found, &self.words, found.end, &mut self.shown)?;
+        is_in_words(self.alloc, &mut self.reader, &self.shown, line)
     }
 
     /// Puts the line in words in place of what `shown` held. Whether the line isn't one record that
-    /// states its class, and its record by itself is rewritten as it stands there.
+    /// states its class, and its record by itself is shown so.
     fn shows_after_others(&mut self, line: &[u8], found: &GenericLine) -> Result<bool, AllocError>
-        requires { FoundIn line.now found.now }
+        requires found { FoundIn line.now found.now }
+        requires words { ArePrinted self.old.words.items }
         ensures { result ≡ Ok true → IsShownLine line.now self.new.shown.items }
     {
         let mut items = room_for_items(self.alloc)?;
@@ -152,11 +191,11 @@ impl LinePrinter {
             return Ok(false);
         };
         put_wanted(found, &mut self.wanted)?;
-        put_shown(b" ", found, &self.words, &mut self.shown)?;
-        if !is_rewritten(&mut self.reader, &self.shown, &self.wanted)? {
+        put_shown(b" ", found, &self.words, b"\n", &mut self.shown)?;
+        if !is_in_words(self.alloc, &mut self.reader, &self.shown, &self.wanted)? {
             return Ok(false);
         }
-        put_shown(found.ahead, found, &self.words, &mut self.shown)?;
+        put_shown(found.ahead, found, &self.words, found.end, &mut self.shown)?;
         Ok(true)
     }
 
@@ -177,11 +216,7 @@ impl LinePrinter {
     }
 
     /// Appends what is shown for a line.
-    ///
-    /// # Errors
-    ///
-    /// `AllocError`, and nothing is appended.
-    pub(crate) fn push_line(&mut self, line: &[u8], out: &mut Vec<u8>) -> Result<(), AllocError>
+    fn append_shown(&mut self, line: &[u8], out: &mut Vec<u8>) -> Result<(), AllocError>
         ensures shown { OnOk result
             (AppendsStated (IsShownLine line.now) out.old.items out.new.items) }
         ensures err { OnErr result (out.new.items ≡ out.old.items) }
@@ -191,6 +226,22 @@ impl LinePrinter {
         } else {
             out.extend_from_slice(line)
         }
+    }
+
+    /// Appends what is shown for a line, of which the printer keeps nothing.
+    ///
+    /// # Errors
+    ///
+    /// `AllocError`, and nothing is appended.
+    pub(crate) fn push_line(&mut self, line: &[u8], out: &mut Vec<u8>) -> Result<(), AllocError>
+        ensures shown { OnOk result
+            (AppendsStated (IsShownLine line.now) out.old.items out.new.items) }
+        ensures err { OnErr result (out.new.items ≡ out.old.items) }
+        ensures nothing { HoldsNothing self.new }
+    {
+        let answer = self.append_shown(line, out);
+        self.let_go();
+        answer
     }
 }
 

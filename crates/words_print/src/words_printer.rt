@@ -12,8 +12,8 @@ use std::alloc::{AllocError, Global};
 use std::marker::Model;
 
 /// A printer of a text in words that is fed in pieces, line by line. It keeps the line that isn't
-/// ended. Contracts see what it has written and nobody has taken, that line, and whether it has
-/// failed.
+/// ended, and nothing of those before. Contracts see what it has written and nobody has taken, that
+/// line, and whether it has failed.
 ///
 /// Once it was refused memory it has failed: every later `feed` and `finish` answers `AllocError`.
 /// What it has written then ends with a whole line.
@@ -28,6 +28,7 @@ pub struct WordsPrinter {
 }
 
 impl Model for WordsPrinter {
+    ghost use Rattle.words_print.specs.Machine.Found.{HoldsNothing};
     ghost use Rattle.words_print.specs.Printer.{PrinterState};
 
     ghost Value = { PrinterState };
@@ -37,6 +38,8 @@ impl Model for WordsPrinter {
       waiting = p.waiting.items;
       has_failed = p.has_failed;
     } };
+
+    ghost invariant = { λ p. HoldsNothing p.lines };
 }
 
 /// The line at the front with its line feed, and what is left. `None`: no line feed is there.

@@ -1,4 +1,4 @@
-use Rattle.std.proofs.Common.{◌≡◌, [], true}
+use Rattle.std.proofs.Common.{◌≡◌, true}
 use Rattle.words_print.proofs.Read.{read_as}
 use Rattle.words_print.proofs.line_printer.is_rewritten.Goals as goal
 
@@ -6,6 +6,6 @@ pub returns : goal.returns
 returns c = λ yes.
     let is : c.has_read.result ≡ true = cc yes in
     let read = c.has_read.ensures is in
-    read_as c.finish.new.self c.args.text.now c.args.wanted.now
-    (c.in_ok-finish.ensures.stands [] c.args.text.now [] (c.in_ok-feed.ensures.stands [] [] [] (rw c.root.ensures at c.restart.ensures.stands)))
-    c.in_ok-finish.ensures.finished read.0 read.1
+    read_as c.args.origin.now c.rewrite_entry.new.self c.args.text.now c.args.wanted.now
+    c.in_ok-rewrite_entry.ensures.stands
+    c.in_ok-rewrite_entry.ensures.finished read.0 read.1
