@@ -1,6 +1,7 @@
 -- What a line is made of, and the lines to come.
 use Rattle.zone_print.proofs.Common.{common_steps, take, ◌≡◌, ◌≢◌, ℕ, List, [], ◌∷◌, ◌++◌, ap, append_assoc, arith, name_text, Record, data_of, data_text, line, lines}
 use Rattle.std.proofs.lemmas.List.{take_at}
+use Rattle.zone_rdata.specs.RecordText.{record_text}
 use Rattle.zone_print.specs.Machine.Middle.{before_kind, kind_column, line_middle, HoldsMiddle}
 use Rattle.zone_print.proofs.Feeds.{line_ends_with_feed}
 use Rattle.zone_print.proofs.Front.{some_after, some_more}
@@ -20,6 +21,10 @@ line_parts owner ttl class kind rdata = regroup owner (32 ∷ ttl) (32 ∷ class
 -- a line is its owner, its middle in two parts, the data and a line feed
 pub line_split : (r : Record) → line r ≡ name_text r.owner ++ (before_kind r ++ (kind_column r ++ (data_text (data_of r) ++ 10 ∷ [])))
 line_split r = grind (arith, common_steps)
+
+-- a line is the text of its record and a line feed
+pub line_shown : (r : Record) → line r ≡ record_text r ++ 10 ∷ []
+line_shown r = grind (arith, common_steps)
 
 -- of the middle of the last record what stands before its type is kept
 pub middle_kept : (text : List ℕ) (kept : ℕ) (last r : Record) → HoldsMiddle text kept last → last.ttl ≡ r.ttl

@@ -1,11 +1,12 @@
 //! Laws of zones and their canonical text. The functions only call other laws: their contracts are
 //! the laws.
-ghost use Rattle.std.specs.Prelude.{◌≡◌, ◌*◌, ◌≤◌, ◌↔◌, List, length};
+ghost use Rattle.std.specs.Prelude.{◌≡◌, ◌*◌, ◌≤◌, ◌↔◌, ◌++◌, ◌∷◌, [], List, length};
 ghost use Rattle.std.specs.Cmp.{IsTotalOrder};
 ghost use Rattle.std.specs.List.{AllByRecursion};
 ghost use Rattle.std.specs.declared.cmp.Ordering.TheVariants.{Equal};
 ghost use Rattle.zone_name.specs.Common.{AtMostOneIs, Labels, Octets};
 ghost use Rattle.zone_rdata.specs.Record.{IsRecord, Record, data_of};
+ghost use Rattle.zone_rdata.specs.RecordText.{record_text};
 ghost use Rattle.zone_print.specs.Canonical.{canon, line, lines, text_limit};
 ghost use Rattle.zone_print.specs.Denotes.{Denotes};
 ghost use Rattle.zone_print.specs.Laws.{EachLineEnds, IsLineOf, placed_from};
@@ -28,6 +29,12 @@ use zone_text::laws::tokens::{lines_are_cut_by_themselves, one_cut_of_a_text};
 #[tactic(auto, using(crate::proofs::Feeds::line_ends_with_feed))]
 pub fn each_line_ends()
     ensures { EachLineEnds }
+{}
+
+/// The line of a record is its canonical text, which `{}` shows of it, and a line feed.
+#[tactic(auto, using(crate::proofs::Lines::line_shown))]
+pub fn a_line_is_its_record_shown()
+    ensures { (r : Record) → line r ≡ record_text r ++ 10 ∷ [] }
 {}
 
 /// The canonical order is total, and records that it doesn't tell apart have one owner and one
