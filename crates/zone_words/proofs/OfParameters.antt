@@ -5,6 +5,7 @@ pub mod Lists
 pub mod Ascending
 pub mod KeyLists
 pub mod Protocols
+pub mod Listed
 pub mod Texts
 pub mod Values
 pub mod Reading

@@ -23,7 +23,7 @@ mod word;
 
 pub(crate) use address::{push_ipv4, push_ipv6};
 pub(crate) use base32_hex::push_hash;
-pub(crate) use base64_text::push_base64;
+pub(crate) use base64_text::{push_base64, push_decoded};
 pub(crate) use eui::{push_eui48, push_eui64};
 pub(crate) use gateway::{push_address_type, push_discovery, push_no_address, push_nothing};
 pub(crate) use hexadecimal::{push_counted_digits, push_hex};

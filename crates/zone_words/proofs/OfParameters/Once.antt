@@ -1,5 +1,6 @@
 -- Items state the octets of one list of parameters, or have a fault.
-use Rattle.zone_words.proofs.OfParameters.Protocols.{items_once}
+use Rattle.zone_words.proofs.Base64Texts.{one_base64}
+use Rattle.zone_words.proofs.OfParameters.Listed.{items_once}
 use Rattle.zone_words.proofs.Common.{All-from_recursion, All-permutation, AllByRecursion, Alpn, AreComplete, AreOnce, Ascend, AscendAbove, BeginWith, BeginWithKey, BeginWithNoKey, DohPath, Ech, FailsParameters, FailsValue, Ipv4Hint, Ipv6Hint, IsNew, IsPermutation, IsPermutation-trans, IsShort, IsThere, Key, List, ListsItems, Mandatory, NoDefaultAlpn, Numbered, Ohttp, Ok, Parameter, ParameterText, Port, RequiresKeys, Sent, StateEach, StatesParameter, StatesParameters, StatesValue, TouchingItem, WordsFault, [], alone, ap, arith, bad_escape, bad_value, bare_value, flat_map, groups_unique, inl, inr, length, long_value, map, missing_key, no_key, numbers_unique, quoted_value, recursion_from_All, refl, repeated_key, sent, sent_octets, subst, sym, to_be_bytes, w16, ℕ, ◌++◌, ◌<◌, ◌∙◌, ◌∷◌, ◌≡◌, ◌≤◌, ◌⊎◌}
 use Rattle.std.proofs.lemmas.List.Sorted.{IsPermutation-sym}
 use Rattle.zone_rdata.specs.Address.{IsIpv4Address, IsIpv6Address}
@@ -19,7 +20,7 @@ value_once Alpn text a b x y = let e = unescaped_once text x.spelt y.spelt x.une
 value_once NoDefaultAlpn text a b x y = x.1 ∙ sym y.1
 value_once Port text a b x y = x.2 ∙ ap (to_be_bytes w16) (x.1.0.value ∙ sym y.1.0.value) ∙ sym y.2
 value_once Ipv4Hint text a b x y = addresses_once IsIpv4Address (numbers_unique 3) text a b x y
-value_once Ech text a b x y = let same : Ok a ≡ Ok b = sym x.0 ∙ y.0 in cc
+value_once Ech text a b x y = one_base64 text a b x y
 value_once Ipv6Hint text a b x y = addresses_once IsIpv6Address groups_unique text a b x y
 value_once DohPath text a b x y = unescaped_once text a b x.0 y.0
 value_once Ohttp text a b x y = x.1 ∙ sym y.1

@@ -1,9 +1,8 @@
 -- The items of a list as the code reads them.
-use Rattle.zone_words.proofs.Common.{AllByRecursion, AllByRecursion-append, HasNoItems, IsProtocol, List, ListsItems, ListsProtocols, None, NothingIs, Option, Some, Unescaped, [], ap, append-nil, append_assoc, arith, false, flat_map, flat_map_more, length, length-append, onto_first, option_map, refl, subst, sym, with_length, ℕ, ◌++◌, ◌<◌, ◌∙◌, ◌∷◌, ◌≡◌, ◌≤◌}
-use Rattle.zone_words.proofs.UnescapedTexts.{unescaped_once}
-use Rattle.zone_words.specs.Parameters.Value.{items_of}
+use Rattle.zone_words.proofs.Common.{AllByRecursion, AllByRecursion-append, HasNoItems, IsProtocol, List, None, Option, Some, [], ap, append-nil, append_assoc, arith, false, flat_map, flat_map_more, length, length-append, onto_first, option_map, refl, subst, sym, with_length, ℕ, ◌++◌, ◌<◌, ◌∙◌, ◌∷◌, ◌≡◌, ◌≤◌}
+use Rattle.zone_words.specs.Machine.Parameters.{items_of}
 
-abbrev Items : Type 0
+abbrev pub Items : Type 0
 Items = List (List ℕ)
 
 -- octets before the first item
@@ -15,7 +14,7 @@ prefixed_more : (octets : List ℕ) (c : ℕ) (items : Items) → prefixed (octe
 prefixed_more [] c items = refl
 prefixed_more (d ∷ octets) c items = ap (onto_first d) (prefixed_more octets c items)
 
-prefixed_first : (octets first : List ℕ) (items : Items) → prefixed octets (first ∷ items) ≡ (octets ++ first) ∷ items
+pub prefixed_first : (octets first : List ℕ) (items : Items) → prefixed octets (first ∷ items) ≡ (octets ++ first) ∷ items
 prefixed_first [] first items = refl
 prefixed_first (c ∷ octets) first items = ap (onto_first c) (prefixed_first octets first items)
 
@@ -103,14 +102,3 @@ each_back (item ∷ done) items each = each_back done items each.1
 pub stops_by : (done : Items) (items : Option Items) (found : Items) → ((more : Items) → items ≡ Some more → AllByRecursion IsProtocol more → ⊥) → option_map (λ more. done ++ more) items ≡ Some found → AllByRecursion IsProtocol found → ⊥
 stops_by done None found none e each = absurd cc
 stops_by done (Some items) found none e each = none items refl (each_back done items (subst (AllByRecursion IsProtocol) (let same : Some found ≡ Some (done ++ items) = sym e in cc) each))
-
-pub items_once : (text a b : List ℕ) → ListsItems text a → ListsItems text b → a ≡ b
-items_once text a b x y =
-    let both : Some x.protocols ≡ Some y.protocols = sym x.items ∙ y.items in
-    let same : x.protocols ≡ y.protocols = cc in
-    x.value ∙ ap (flat_map with_length) same ∙ sym y.value
-
-pub protocols_stop : (text octets slice : List ℕ) → Unescaped text octets → slice ≡ octets → NothingIs (ListsItems slice) → NothingIs (ListsProtocols text)
-protocols_stop text octets slice is same none others are =
-    let e = unescaped_once text are.spelt octets are.unescaped is ∙ sym same in
-    none others (subst (λ t. ListsItems t others) e are.items)

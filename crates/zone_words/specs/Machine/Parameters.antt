@@ -1,12 +1,13 @@
 -- How the code takes parameters apart.
-use Rattle.std.specs.Prelude.{◌≡◌, ℕ, ◌<◌, false, List, [], ◌∷◌, length, decimal, ⊤, Option, Some, None, option_map}
+use Rattle.std.specs.Prelude.{◌≡◌, ℕ, ◌<◌, ◌==◌, ◌||◌, Bool, true, false, if◌then◌else◌, List, [], ◌∷◌, length, decimal, ⊤, Option, Some, None, option_map}
 use Rattle.std.specs.Borrow.{Bor}
-use Rattle.std.specs.List.{AllByRecursion, onto_first}
+use Rattle.std.specs.List.{AllByRecursion, flat_map, onto_first}
 use Rattle.zone_name.specs.Common.{NothingIs}
+use Rattle.zone_name.specs.Name.{with_length}
 use Rattle.zone_rdata.specs.Address.{IsIpv4Address, IsIpv6Address}
 use Rattle.zone_words.specs.Parameters.Keys.{key_text}
 use Rattle.zone_words.specs.Parameters.Text as texts
-use Rattle.zone_words.specs.Parameters.Value.{IsProtocol, items_of}
+use Rattle.zone_words.specs.Parameters.Value.{IsProtocol}
 use Rattle.zone_words.specs.Unescaped.{Unescaped}
 use Rattle.zone_words.specs.declared.fault.WordsFault.{WordsFault}
 use Rattle.zone_words.specs.declared.fault.WordsFault.TheVariants as faults
@@ -39,6 +40,24 @@ text_of text = record { key = text.key.now; value = text.value.now }
 abbrev pub IsAddressOf : Version → List ℕ → List ℕ → Type 0
 IsAddressOf V4 = IsIpv4Address
 IsAddressOf V6 = IsIpv6Address
+
+-- The items of a list, whose octets are parted by commas; a backslash stands before a comma or a
+-- backslash alone, which then means itself (RFC 9460 A.1). `true`: a backslash stands before.
+abbrev pub items_of : Bool → List ℕ → Option (List (List ℕ))
+items_of true [] = None
+items_of false [] = Some ([] ∷ [])
+items_of true (c ∷ text) =
+    if c == 44 || c == 92 then option_map (onto_first c) (items_of false text) else None
+items_of false (c ∷ text) =
+    if c == 44 then option_map (λ items. [] ∷ items) (items_of false text)
+    else (if c == 92 then items_of true text else option_map (onto_first c) (items_of false text))
+
+-- those items, each after its length
+pub record ReadsItems (text octets : List ℕ) : Type 0 where
+  pub protocols : List (List ℕ)
+  pub items : items_of false text ≡ Some protocols
+  pub each : AllByRecursion IsProtocol protocols
+  pub value : octets ≡ flat_map with_length protocols
 
 -- what a list begins with
 abbrev pub IsNextListed : List ℕ → NextListed → Type 0

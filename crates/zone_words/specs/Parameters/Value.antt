@@ -1,15 +1,14 @@
 -- The octets that the value of a parameter states, by its key (RFC 9460 7, 8, A.1; RFC 9461 5; RFC
 -- 9540 4), and why it states none.
-use Rattle.std.specs.Prelude.{◌≡◌, ℕ, ◌<◌, ◌≤◌, ◌==◌, ◌||◌, Bool, true, false, if◌then◌else◌, List, [], ◌∷◌, length, ⊤, Option, Some, None, option_map, Ok}
+use Rattle.std.specs.Prelude.{◌≡◌, ℕ, ◌<◌, ◌≤◌, ◌==◌, ◌||◌, if◌then◌else◌, List, [], ◌∷◌, length, map, ⊤}
 use Rattle.std.specs.Int.{w16, to_be_bytes}
-use Rattle.std.specs.List.{AllByRecursion, AllZip, flat_map, onto_first, slice_split}
+use Rattle.std.specs.List.{AllByRecursion, AllZip, flat_map, join_with_byte, slice_split}
 use Rattle.std.specs.List.Sorted.{IsPermutation}
-use Rattle.base64.specs.Engines.{standard}
-use Rattle.base64.specs.GeneralPurpose.{decode_of}
 use Rattle.zone_name.specs.Common.{NothingIs}
 use Rattle.zone_name.specs.Name.{with_length}
 use Rattle.zone_rdata.specs.Address.{IsIpv4Address, IsIpv6Address}
 use Rattle.zone_rdata.specs.Fields.Number.{SpellsNumber}
+use Rattle.zone_words.specs.Kinds.Base64.{IsBase64}
 use Rattle.zone_words.specs.Parameters.Keys.{SpellsKey, number_of}
 use Rattle.zone_words.specs.Unescaped.{Unescaped}
 use Rattle.zone_words.specs.declared.fault.WordsFault.{WordsFault}
@@ -40,25 +39,23 @@ pub record ListsKeys (text numbers : List ℕ) : Type 0 where
   pub same : IsPermutation stated numbers
   pub ascend : AscendAbove 0 numbers
 
--- The items of a list, whose octets are parted by commas; a backslash stands before a comma or a
--- backslash alone, which then means itself (RFC 9460 A.1). `true`: a backslash stands before.
-abbrev pub items_of : Bool → List ℕ → Option (List (List ℕ))
-items_of true [] = None
-items_of false [] = Some ([] ∷ [])
-items_of true (c ∷ text) =
-    if c == 44 || c == 92 then option_map (onto_first c) (items_of false text) else None
-items_of false (c ∷ text) =
-    if c == 44 then option_map (λ items. [] ∷ items) (items_of false text)
-    else (if c == 92 then items_of true text else option_map (onto_first c) (items_of false text))
+-- an item of a list as it stands there: a backslash before each comma and each backslash (RFC 9460
+-- A.1)
+abbrev pub escaped_octet : ℕ → List ℕ
+escaped_octet c = if c == 44 || c == 92 then 92 ∷ c ∷ [] else c ∷ []
+
+abbrev pub escaped_item : List ℕ → List ℕ
+escaped_item octets = flat_map escaped_octet octets
 
 -- 1 to 255 octets
 abbrev pub IsProtocol : List ℕ → Type 0
 IsProtocol name = (0 < length name) × (length name ≤ 255)
 
--- the items of a list, each after its length
+-- one item or more, parted by commas, and each after its length
 pub record ListsItems (text octets : List ℕ) : Type 0 where
   pub protocols : List (List ℕ)
-  pub items : items_of false text ≡ Some protocols
+  pub some : 0 < length protocols
+  pub spelt : text ≡ join_with_byte 44 (map escaped_item protocols)
   pub each : AllByRecursion IsProtocol protocols
   pub value : octets ≡ flat_map with_length protocols
 
@@ -81,7 +78,7 @@ StatesPort text octets =
 
 -- base64 of at least one octet (RFC 9848)
 abbrev pub StatesEch : List ℕ → List ℕ → Type 0
-StatesEch text octets = (decode_of standard text ≡ Ok octets) × (0 < length octets)
+StatesEch text octets = IsBase64 text octets
 
 -- no value
 abbrev pub StatesNone : List ℕ → List ℕ → Type 0

@@ -29,7 +29,7 @@ pub(crate) fn push_base64(items: &[DataItem], out: &mut Vec<u8>) -> Result<(), W
 }
 
 /// Appends the octets, one or more, that a text in base64 stands for.
-pub(super) fn push_decoded(text: &[u8], out: &mut Vec<u8>) -> Result<(), WordsFailing>
+pub(crate) fn push_decoded(text: &[u8], out: &mut Vec<u8>) -> Result<(), WordsFailing>
     ensures states { OnOk result (AppendsStated (IsBase64 text.now) out.old.items out.new.items) }
     ensures fault { IfErr result (IfFault (NothingStated NoBase64 (IsBase64 text.now))) }
 {

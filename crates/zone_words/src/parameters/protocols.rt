@@ -1,7 +1,7 @@
 ghost use Rattle.std.specs.Prelude.{IfErr, IfSome, IfNone, OnOk};
 ghost use Rattle.zone_words.specs.Fault.{AppendsStated, IfFault, NothingStated};
-ghost use Rattle.zone_words.specs.Machine.Parameters.{FailsEscaped, HasNoItems, IsFirstItem, IsNextListed};
-ghost use Rattle.zone_words.specs.Parameters.Value.{ListsItems, ListsProtocols};
+ghost use Rattle.zone_words.specs.Machine.Parameters.{FailsEscaped, HasNoItems, IsFirstItem, IsNextListed, ReadsItems};
+ghost use Rattle.zone_words.specs.Parameters.Value.{ListsProtocols};
 ghost use Rattle.zone_words.specs.declared.fault.WordsFault.TheVariants as faults;
 
 use crate::fault::{WordsFailing, WordsFault};
@@ -72,9 +72,9 @@ fn first_item(text: &[u8]) -> Option<(ArrayVec<u8, 255>, Option<&[u8]>)>
 /// Appends the items of a list, each after its length.
 fn push_items(text: &[u8], out: &mut Vec<u8>) -> Result<(), WordsFailing>
     ensures stated { OnOk result
-        (AppendsStated (ListsItems text.now) out.old.items out.new.items) }
+        (AppendsStated (ReadsItems text.now) out.old.items out.new.items) }
     ensures fault { IfErr result
-        (IfFault (NothingStated faults.NotAValue (ListsItems text.now))) }
+        (IfFault (NothingStated faults.NotAValue (ReadsItems text.now))) }
 {
     let mut rest = text;
     loop {

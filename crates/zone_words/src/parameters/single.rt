@@ -5,9 +5,8 @@ ghost use Rattle.zone_words.specs.Parameters.Value.{StatesEch, StatesNone, State
 ghost use Rattle.zone_words.specs.declared.fault.WordsFault.TheVariants as faults;
 
 use crate::fault::{WordsFailing, WordsFault};
+use crate::kinds::push_decoded;
 use crate::unescaped::push_unescaped;
-use base64::DecodeAllocError;
-use base64::engine::general_purpose::STANDARD;
 use zone_rdata::decimal_of;
 
 /// Appends the octets of a port (RFC 9460 7.2).
@@ -34,18 +33,17 @@ pub(super) fn push_port(text: &[u8], out: &mut Vec<u8>) -> Result<(), WordsFaili
 ///
 /// # Errors
 ///
-/// `NotAValue`; and want of memory. Either leaves `out` unchanged.
+/// `NotAValue`; and want of memory. Some of the octets may have been appended.
 pub(super) fn push_ech(text: &[u8], out: &mut Vec<u8>) -> Result<(), WordsFailing>
     ensures stated { OnOk result
         (AppendsStated (StatesEch text.now) out.old.items out.new.items) }
     ensures fault { IfErr result
         (IfFault (NothingStated faults.NotAValue (StatesEch text.now))) }
 {
-    let before = out.len();
-    match STANDARD.decode_vec(text, out) {
-        Ok(()) if out.len() > before => Ok(()),
-        Err(DecodeAllocError::OutOfMemory) => Err(WordsFailing::OutOfMemory),
-        _ => Err(WordsFault::NotAValue.into()),
+    match push_decoded(text, out) {
+        Ok(()) => Ok(()),
+        Err(WordsFailing::Fault(_)) => Err(WordsFailing::Fault(WordsFault::NotAValue)),
+        Err(WordsFailing::OutOfMemory) => Err(WordsFailing::OutOfMemory),
     }
 }
 

@@ -1,5 +1,5 @@
 use Rattle.zone_words.proofs.Common.{Some, [], ap, arith, false, nat_tests, option_map, subst, sym, ◌∙◌}
-use Rattle.zone_words.specs.Parameters.Value.{items_of}
+use Rattle.zone_words.specs.Machine.Parameters.{items_of}
 use Rattle.zone_words.proofs.OfParameters.Protocols.{HasItem, empty_parts, item_full, item_more, item_parts, map_first, prefixed}
 use Rattle.zone_words.proofs.parameters.protocols.first_item.Goals as goal
 

@@ -1,5 +1,5 @@
 use Rattle.zone_words.proofs.Common.{[], append-nil, false, refl, sym, ◌∙◌}
-use Rattle.zone_words.specs.Parameters.Value.{items_of}
+use Rattle.zone_words.specs.Machine.Parameters.{items_of}
 use Rattle.zone_words.proofs.OfParameters.Protocols.{items_more, map_whole, stops_by}
 use Rattle.zone_words.proofs.parameters.protocols.push_items.Goals as goal
 

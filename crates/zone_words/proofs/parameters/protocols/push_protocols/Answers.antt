@@ -1,5 +1,5 @@
 use Rattle.zone_words.proofs.OfParameters.Escapes.{path_wrong, path_nothing}
-use Rattle.zone_words.proofs.OfParameters.Protocols.{protocols_stop}
+use Rattle.zone_words.proofs.OfParameters.Listed.{protocols_appended, protocols_stop}
 use Rattle.zone_words.proofs.Common.{ListsProtocols, fault_passed}
 use Rattle.zone_words.proofs.parameters.protocols.push_protocols.Goals as goal
 
@@ -10,3 +10,8 @@ pub returns-in_err-push_items-clause-fault : goal.returns-in_err-push_items-clau
 returns-in_err-push_items-clause-fault c =
     let spelt = c.in_ok-push_unescaped.ensures.states in
     fault_passed c.from_residual-in_err-push_items.result c.in_err-push_items.field-0.0 _ _ c.from_residual-in_err-push_items.ensures.1 (λ fault none. path_nothing ListsProtocols c.args.text.now spelt.octets fault spelt.stated none.0 (protocols_stop c.args.text.now spelt.octets c.as_slice.result.now spelt.stated (cc (c.as_slice.ensures.value, spelt.written, c.new-spelt.ensures.items)) none.1)) c.in_err-push_items.ensures.fault
+
+pub returns-clause-stated : goal.returns-clause-stated
+returns-clause-stated c =
+    let spelt = c.in_ok-push_unescaped.ensures.states in
+    protocols_appended c.args.text.now spelt.octets c.as_slice.result.now c.args.out.now.items c.push_items.new.out.items spelt.stated (cc (c.as_slice.ensures.value, spelt.written, c.new-spelt.ensures.items)) c.in_ok-push_items.ensures.stated
