@@ -5,64 +5,43 @@
 //! the reader does at the end of the file after it, `whole` or `broken`. The answer is the exit
 //! status, what is written on standard output, and after `--` what is written on standard error.
 use std::alloc::Global;
-use std::io::{ErrorKind, Read, Write};
+use std::io::{Read, Write};
 use std::test::Fail;
 use test_support::{
-    BROKEN, Narrow, Question, Run, Supply, check_lines, check_octets, check_same, check_table,
-    had_memory, parted, push_run, push_text, push_words, roomy, words_of,
+    BROKEN, Narrow, Program, Question, Supply, check_lines, check_narrow, check_octets, check_same,
+    check_table, parted, push_run_of, push_text, push_words, roomy, run_of, supplied, told_by,
+    words_of,
 };
 use words_command::{LineFault, Order, order_after_name, order_of, refuse, run};
 use zone_engine::{Form, explain_line, normalise_bytes};
 use zone_name::Name;
 
-/// The status of a run of a command line over a reader and a writer, and what it tells.
-fn filtered<R: Read, W: Write>(
-    alloc: Global,
-    line: &str,
-    input: &mut R,
-    output: &mut W,
-) -> Result<(u8, Vec<u8>), Fail> {
-    let mut told = roomy(alloc)?;
-    let status = match order_of(alloc, &words_of(alloc, line)?) {
-        Ok(order) => run(alloc, &order, input, output, &mut told),
-        Err(fault) => refuse(&fault, &mut told),
-    };
-    had_memory(&told)?;
-    Ok((status, told))
-}
+/// The program.
+struct Zonewords;
 
-/// What a run of a command line over a reader does.
-fn ran<R: Read>(alloc: Global, line: &str, input: &mut R) -> Result<Run, Fail> {
-    let mut output = roomy(alloc)?;
-    let (status, told) = filtered(alloc, line, input, &mut output)?;
-    Ok(Run {
-        status,
-        output,
-        told,
-    })
-}
-
-/// The octets of a file, and the error of the reader after them.
-fn supplied(input: &str) -> Result<(&[u8], Option<ErrorKind>), Fail> {
-    match parted(input, "\n")? {
-        ("broken", file) => Ok((file.as_bytes(), BROKEN)),
-        (_, file) => Ok((file.as_bytes(), None)),
+impl Program for Zonewords {
+    fn run<R: Read, W: Write>(
+        alloc: Global,
+        words: &[String],
+        input: &mut R,
+        output: &mut W,
+        told: &mut Vec<u8>,
+    ) -> u8 {
+        match order_of(alloc, words) {
+            Ok(order) => run(alloc, &order, input, output, told),
+            Err(fault) => refuse(&fault, told),
+        }
     }
 }
 
-/// What a run does, over a reader that gives all at once and over one that gives an octet at a
-/// time.
+/// What a run does.
 struct Filtering;
 
 impl Question for Filtering {
     fn answer(alloc: Global, asked: &'static str, out: &mut Vec<u8>) -> Result<(), Fail> {
         let (_, rest) = parted(asked, "\n")?;
         let (line, input) = parted(rest, "\n")?;
-        let (octets, error) = supplied(input)?;
-        let at_once = ran(alloc, line, &mut Supply::at_once(octets, error))?;
-        let singly = ran(alloc, line, &mut Supply::singly(octets, error))?;
-        singly.check(at_once.status, &at_once.output, &at_once.told)?;
-        push_run(alloc, out, &at_once)
+        push_run_of::<Zonewords>(alloc, out, line, supplied(input)?)
     }
 }
 
@@ -254,11 +233,8 @@ const ZONE: &[u8] = b"@ 60 SOA n h 1 2 3 4 5\n@ 60 NS n\na 60 CAA 0 issue x\n";
 #[test]
 fn the_beginning_of_a_file_is_refused(rt: HostRuntime) -> Result<(), Fail> {
     let alloc = rt.alloc();
-    let broken = ran(
-        alloc,
-        "generic x.",
-        &mut Supply::at_once(&ZONE[..40], BROKEN),
-    )?;
+    let mut reader = Supply::at_once(&ZONE[..40], BROKEN);
+    let broken = run_of::<Zonewords, Supply<'_>>(alloc, "generic x.", &mut reader)?;
     let wanted = b"@ 60 SOA n h 1 2 3 4 5\n@ 60 NS n\n$STOPPED\n";
     broken.check(4, wanted, b"read failed\n")?;
     let origin = Name::from_text(b"x.", None)?;
@@ -300,29 +276,17 @@ x. 3600 IN CAA 0 issue \"ca1.example.net\"
 #[test]
 fn a_text_in_words_comes_back(rt: HostRuntime) -> Result<(), Fail> {
     let alloc = rt.alloc();
-    let shown = ran(alloc, "words", &mut Supply::at_once(CANONICAL, None))?;
+    let mut reader = Supply::at_once(CANONICAL, None);
+    let shown = run_of::<Zonewords, Supply<'_>>(alloc, "words", &mut reader)?;
     shown.check(0, IN_WORDS, b"")?;
     let mut reader = Supply::at_once(&shown.output, None);
-    ran(alloc, "generic .", &mut reader)?.check(0, CANONICAL, b"")
-}
-
-/// That a run over a writer that fails writes what it takes of a text, and tells that it failed.
-fn check_narrow(alloc: Global, line: &str, input: &[u8], text: &[u8]) -> Result<(), Fail> {
-    for room in 0..text.len() {
-        let mut writer = Narrow::new(alloc, 3, room, true)?;
-        let mut reader = Supply::at_once(input, None);
-        let (status, told) = filtered(alloc, line, &mut reader, &mut writer)?;
-        check_same("the status", status, 4)?;
-        check_octets("the front", writer.taken(), &text[..room])?;
-        check_octets("the line", &told, b"write failed\n")?;
-    }
-    Ok(())
+    run_of::<Zonewords, Supply<'_>>(alloc, "generic .", &mut reader)?.check(0, CANONICAL, b"")
 }
 
 #[test]
 fn a_failing_writer_is_told(rt: HostRuntime) -> Result<(), Fail> {
-    check_narrow(rt.alloc(), "generic x.", FILE, TEXT)?;
-    check_narrow(rt.alloc(), "words", CANONICAL, IN_WORDS)
+    check_narrow::<Zonewords>(rt.alloc(), "generic x.", FILE, TEXT)?;
+    check_narrow::<Zonewords>(rt.alloc(), "words", CANONICAL, IN_WORDS)
 }
 
 /// Where no room is left for `$STOPPED`, the failed read is told all the same.
@@ -331,7 +295,12 @@ fn the_first_failure_is_told(rt: HostRuntime) -> Result<(), Fail> {
     let alloc = rt.alloc();
     let mut writer = Narrow::new(alloc, 3, 36, true)?;
     let mut reader = Supply::at_once(FILE, BROKEN);
-    let (status, told) = filtered(alloc, "generic x.", &mut reader, &mut writer)?;
+    let (status, told) = told_by::<Zonewords, Supply<'_>, Narrow>(
+        alloc,
+        "generic x.",
+        &mut reader,
+        &mut writer,
+    )?;
     check_same("the status", status, 4)?;
     let front = b"a TYPE257 \\# 8 0005697373756578\n$STO";
     check_octets("the front", writer.taken(), front)?;
