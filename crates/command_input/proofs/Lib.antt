@@ -1,2 +1,1 @@
-mod Origins
-mod Lines
+pub mod Origins

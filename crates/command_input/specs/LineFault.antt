@@ -19,13 +19,13 @@ line_status NoFinalDot = 2
 line_status (Clap told) = 2
 line_status Memory = 4
 
--- what the user is told of a bad origin
+-- what the user is told of a bad origin, where a transfer has a word in its place
 abbrev pub bad_origin_line : List ℕ
 bad_origin_line = codes "F46 BadOrigin: an origin is an absolute name or the word transfer"
 
--- what the user is told of it
-abbrev pub line_text : LineFault → List ℕ
-line_text BadOrigin = bad_origin_line
-line_text NoFinalDot = bad_origin_line ++ codes "; this one lacks the dot at its end"
-line_text (Clap told) = string_bytes told
-line_text Memory = stop_line stops.Memory
+-- what the user is told of it, by a program that tells of a bad origin so
+abbrev pub line_text : List ℕ → LineFault → List ℕ
+line_text bad_origin BadOrigin = bad_origin
+line_text bad_origin NoFinalDot = bad_origin ++ codes "; this one lacks the dot at its end"
+line_text bad_origin (Clap told) = string_bytes told
+line_text bad_origin Memory = stop_line stops.Memory

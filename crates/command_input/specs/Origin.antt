@@ -12,22 +12,33 @@ abbrev pub IsOriginText : Text → Option Labels → Type 0
 IsOriginText text None = text ≡ codes "transfer"
 IsOriginText text (Some origin) = Spells None text origin
 
--- A text that asks for nothing and spells a name under the root: a dot at its end is all that is
--- missing. `@`, which spells the root there, stands for another origin and lacks none.
-pub record IsUndotted (text : Text) : Type 0 where
-  pub none : NothingIs (IsOriginText text)
+-- a text that spells a name under the root, but for `@`, which stands for another origin
+pub record SpellsUnderRoot (text : Text) : Type 0 where
   pub no_at : text ≢ codes "@"
   pub origin : Labels
   pub under_root : Spells (Some []) text origin
 
--- a text that asks for nothing for another reason
-pub record IsNoOrigin (text : Text) : Type 0 where
-  pub none : NothingIs (IsOriginText text)
-  pub not_undotted : IsUndotted text → ⊥
+-- a text that is no origin, whatever a program takes for one, and spells a name under the root: a
+-- dot at its end is all that is missing
+pub record IsUndotted {Origin : Type 0} (Is : Text → Origin → Type 0) (text : Text) : Type 0 where
+  pub none : NothingIs (Is text)
+  pub is_name : SpellsUnderRoot text
+
+-- a text that is no origin for another reason
+pub record IsNoOrigin {Origin : Type 0} (Is : Text → Origin → Type 0) (text : Text) : Type 0 where
+  pub none : NothingIs (Is text)
+  pub not_undotted : IsUndotted Is text → ⊥
 
 -- a fault that the text of an origin makes
-abbrev pub IsOfOrigin : Text → LineFault → Type 0
-IsOfOrigin text BadOrigin = IsNoOrigin text
-IsOfOrigin text NoFinalDot = IsUndotted text
-IsOfOrigin text (Clap told) = ⊥
-IsOfOrigin text Memory = ⊥
+abbrev pub IsOfOrigin : {Origin : Type 0} → (Text → Origin → Type 0) → Text → LineFault → Type 0
+IsOfOrigin Is text BadOrigin = IsNoOrigin Is text
+IsOfOrigin Is text NoFinalDot = IsUndotted Is text
+IsOfOrigin Is text (Clap told) = ⊥
+IsOfOrigin Is text Memory = ⊥
+
+-- the fault that a text makes if it is no origin
+abbrev pub IsUnlessOrigin : Text → LineFault → Type 0
+IsUnlessOrigin text BadOrigin = SpellsUnderRoot text → ⊥
+IsUnlessOrigin text NoFinalDot = SpellsUnderRoot text
+IsUnlessOrigin text (Clap told) = ⊥
+IsUnlessOrigin text Memory = ⊥

@@ -8,5 +8,5 @@ pub mod status;
 mod telling;
 
 pub use line_fault::LineFault;
-pub use origin::origin_of;
-pub use telling::{refuse, report};
+pub use origin::{origin_fault, origin_of};
+pub use telling::{refuse, refuse_saying, report};

@@ -1,5 +1,5 @@
 //! Why a command line is no order.
-ghost use Rattle.std.specs.Prelude.{◌≡◌};
+ghost use Rattle.std.specs.Prelude.{◌≡◌, ◌++◌};
 ghost use Rattle.command_input.specs.LineFault.{line_status, line_text};
 
 use crate::status;
@@ -10,7 +10,7 @@ use zone_engine::OUT_OF_MEMORY;
 /// Why a command line is no order.
 #[derive(Debug, Drop)]
 pub enum LineFault {
-    /// An origin is neither an absolute name nor the word `transfer`.
+    /// An origin is none that the program takes.
     BadOrigin,
     /// An origin is a name that lacks the dot at its end alone.
     NoFinalDot,
@@ -44,20 +44,16 @@ impl From<NoCall> for LineFault {
 }
 
 impl LineFault {
-    /// The text for the user, without a line feed at its end.
-    pub fn text(&self) -> &str
-        ensures { result.now ≡ line_text self.now }
+    /// The text for the user, in two parts and without a line feed at its end. `bad_origin` tells
+    /// of a bad origin.
+    pub(crate) fn text<'t>(&'t self, bad_origin: &'t str) -> (&'t str, &'t str)
+        ensures { result.0.now ++ result.1.now ≡ line_text bad_origin.now self.now }
     {
         match self {
-            LineFault::BadOrigin => {
-                "F46 BadOrigin: an origin is an absolute name or the word transfer"
-            }
-            LineFault::NoFinalDot => {
-                "F46 BadOrigin: an origin is an absolute name or the word transfer; \
-                 this one lacks the dot at its end"
-            }
-            LineFault::Clap(text) => text.as_str(),
-            LineFault::Memory => OUT_OF_MEMORY,
+            LineFault::BadOrigin => (bad_origin, ""),
+            LineFault::NoFinalDot => (bad_origin, "; this one lacks the dot at its end"),
+            LineFault::Clap(text) => (text.as_str(), ""),
+            LineFault::Memory => (OUT_OF_MEMORY, ""),
         }
     }
 

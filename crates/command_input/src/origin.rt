@@ -1,7 +1,6 @@
 //! The origin of an input, as a word of the command line gives it.
 ghost use Rattle.std.specs.Prelude.{IfErr, IfOk};
-ghost use Rattle.zone_name.specs.Common.{NothingIs};
-ghost use Rattle.command_input.specs.Origin.{IsOfOrigin, IsOriginText};
+ghost use Rattle.command_input.specs.Origin.{IsOfOrigin, IsOriginText, IsUnlessOrigin};
 
 use crate::line_fault::LineFault;
 use zone_name::Name;
@@ -17,21 +16,21 @@ const TRANSFER: &str = "transfer";
 /// a dot at its end, and `BadOrigin` where it is neither for another reason.
 pub fn origin_of(text: &str) -> Result<Option<Name>, LineFault>
     ensures ordered { IfOk result (IsOriginText text.now) }
-    ensures refused { IfErr result (IsOfOrigin text.now) }
+    ensures refused { IfErr result (IsOfOrigin IsOriginText text.now) }
 {
     if text == TRANSFER {
         return Ok(None);
     }
     match Name::from_text(text.as_bytes(), None) {
         Ok(origin) => Ok(Some(origin)),
-        Err(_) => Err(fault_of(text)),
+        Err(_) => Err(origin_fault(text)),
     }
 }
 
-/// Why a text is no origin. `@` is the name of another origin, and no name without its dot.
-fn fault_of(text: &str) -> LineFault
-    requires { NothingIs (IsOriginText text.now) }
-    ensures { IsOfOrigin text.now result }
+/// Why a text is no origin, if it is none: `NoFinalDot` where it would be a name with a dot at its
+/// end, and else `BadOrigin`. `@` is the name of another origin, and no name without its dot.
+pub fn origin_fault(text: &str) -> LineFault
+    ensures { IsUnlessOrigin text.now result }
 {
     if text == "@" {
         return LineFault::BadOrigin;

@@ -6,7 +6,7 @@ pub const SUCCESS: u8 = 0;
 /// The words of the command line give no order.
 pub const BAD_COMMAND_LINE: u8 = 2;
 
-/// An input is refused.
+/// An input, or part of it, is refused.
 pub const REFUSED: u8 = 3;
 
 /// Reading, writing or memory failed.

@@ -1,6 +1,6 @@
 //! What a user is told where no order was given, or where a run stopped.
 ghost use Rattle.std.specs.Prelude.{◌++◌};
-ghost use Rattle.command_input.specs.LineFault.{line_status, line_text};
+ghost use Rattle.command_input.specs.LineFault.{bad_origin_line, line_status, line_text};
 ghost use Rattle.zone_engine.specs.Telling.{stop_line, stop_status, TellsLine};
 
 use crate::line_fault::LineFault;
@@ -8,6 +8,9 @@ use crate::status;
 use zone_engine::{OUT_OF_MEMORY, READ_FAILED, WRITE_FAILED, tell, tell_refusal};
 use zone_print::OctetWriter;
 use zone_rdata::Stop;
+
+/// What is told of a bad origin where a transfer has a word in its place.
+const BAD_ORIGIN: &str = "F46 BadOrigin: an origin is an absolute name or the word transfer";
 
 /// Tells why a run stopped, after these words, and answers its status: 4 where that could not be
 /// told. It takes no memory.
@@ -23,10 +26,20 @@ pub fn report<E: OctetWriter>(words: &str, stop: &Stop, errors: &mut E) -> u8
     }
 }
 
-/// Tells why a command line is no order, and answers the status: 4 where that could not be told.
+/// Tells why a command line is no order, and answers the status: 4 where that could not be told. An
+/// origin is one that [`origin_of`](crate::origin_of) reads.
 pub fn refuse<E: OctetWriter>(fault: &LineFault, errors: &mut E) -> u8
-    ensures { TellsLine (line_text fault.now) (line_status fault.now)
+    ensures { TellsLine (line_text bad_origin_line fault.now) (line_status fault.now)
         (E.state errors.old) (E.state errors.new) result }
 {
-    tell(errors, "", fault.text(), fault.status())
+    refuse_saying(BAD_ORIGIN, fault, errors)
+}
+
+/// Tells why a command line is no order, as [`refuse`] does, where these words tell of a bad origin.
+pub fn refuse_saying<E: OctetWriter>(bad_origin: &str, fault: &LineFault, errors: &mut E) -> u8
+    ensures { TellsLine (line_text bad_origin.now fault.now) (line_status fault.now)
+        (E.state errors.old) (E.state errors.new) result }
+{
+    let (front, end) = fault.text(bad_origin);
+    tell(errors, front, end, fault.status())
 }

@@ -78,9 +78,9 @@ Orders words order = (call : Call) × Calls commands words call × Asks call ord
 -- by `clap` they are no command with all its arguments, and what it tells ends in no line feed.
 abbrev pub IsLineFault : List Text → LineFault → Type 0
 IsLineFault words BadOrigin =
-    (call : Call) × Calls commands words call × IsNoOrigin (origin_text call)
+    (call : Call) × Calls commands words call × IsNoOrigin IsOriginText (origin_text call)
 IsLineFault words NoFinalDot =
-    (call : Call) × Calls commands words call × IsUndotted (origin_text call)
+    (call : Call) × Calls commands words call × IsUndotted IsOriginText (origin_text call)
 IsLineFault words (Clap told) =
     NothingIs (Calls commands words) × HasNoFinalLineFeed (string_bytes told)
 IsLineFault words Memory = Unit {0}

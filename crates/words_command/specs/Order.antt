@@ -1,17 +1,14 @@
 -- What a command line asks for (this project's own).
-use Rattle.std.specs.Prelude.{◌≢◌, ℕ, List, [], ◌∷◌, ◌++◌, codes, string_bytes, Some, None, refl}
+use Rattle.std.specs.Prelude.{ℕ, List, [], ◌∷◌, codes, string_bytes, None, refl}
 use Rattle.clap.specs.Words.{App, Text}
 use Rattle.command_line.specs.Calls.{Calls, Commands, HasNoFinalLineFeed, command_app, program_of}
-use Rattle.command_line.specs.declared.no_call.NoCall.{NoCall}
-use Rattle.command_line.specs.declared.no_call.NoCall.TheVariants as no_calls
+use Rattle.command_input.specs.Origin.{IsNoOrigin, IsUndotted}
+use Rattle.command_input.specs.declared.line_fault.LineFault.{LineFault}
+use Rattle.command_input.specs.declared.line_fault.LineFault.TheVariants as line_faults
 use Rattle.zone_name.specs.Common.{NothingIs, Labels}
 use Rattle.zone_name.specs.Spelling.{SpellsCased}
-use Rattle.zone_rdata.specs.declared.fault.Stop.TheVariants.{Memory}
-use Rattle.zone_engine.specs.Telling.{stop_line}
 use Rattle.words_command.specs.declared.order.Order.{Order}
 use Rattle.words_command.specs.declared.order.Order.TheVariants.{Generic, Words}
-use Rattle.words_command.specs.declared.order.LineFault.{LineFault}
-use Rattle.words_command.specs.declared.order.LineFault.TheVariants as line_faults
 
 -- the program with its commands and the argument of the first, as `clap` sees it
 abbrev pub program_app : App
@@ -55,27 +52,14 @@ Asks (generic text) (Generic origin) = IsOriginText text origin
 Asks in_words Words = Unit {0}
 Asks _ _ = ⊥
 
--- A text that asks for nothing and spells a name under the root: a dot at its end is all that is
--- missing. `@`, which spells the root there, stands for another origin and lacks none.
-pub record IsUndotted (text : Text) : Type 0 where
-  pub none : NothingIs (IsOriginText text)
-  pub no_at : text ≢ codes "@"
-  pub origin : Labels
-  pub under_root : SpellsCased (Some []) text origin
-
--- a text that asks for nothing for another reason
-pub record IsNoOrigin (text : Text) : Type 0 where
-  pub none : NothingIs (IsOriginText text)
-  pub not_undotted : IsUndotted text → ⊥
-
 -- the text of an origin asks for nothing, and not for want of a dot at its end
 abbrev pub HasBadOrigin : Call → Type 0
-HasBadOrigin (generic origin) = IsNoOrigin origin
+HasBadOrigin (generic origin) = IsNoOrigin IsOriginText origin
 HasBadOrigin in_words = ⊥
 
 -- the text of an origin asks for nothing for want of a dot at its end
 abbrev pub HasUndottedOrigin : Call → Type 0
-HasUndottedOrigin (generic origin) = IsUndotted origin
+HasUndottedOrigin (generic origin) = IsUndotted IsOriginText origin
 HasUndottedOrigin in_words = ⊥
 
 -- The words give the order: by `clap` they are a command with the texts that ask for it.
@@ -93,26 +77,6 @@ IsLineFault words (line_faults.Clap told) =
     NothingIs (Calls commands words) × HasNoFinalLineFeed (string_bytes told)
 IsLineFault words line_faults.Memory = Unit {0}
 
--- what is told of words that call nothing
-abbrev pub told_fault : NoCall → LineFault
-told_fault (no_calls.Told text) = line_faults.Clap text
-told_fault no_calls.Memory = line_faults.Memory
-
--- the exit status of a command line that gives no order
-abbrev pub line_status : LineFault → ℕ
-line_status line_faults.BadOrigin = 2
-line_status line_faults.NoFinalDot = 2
-line_status (line_faults.Clap told) = 2
-line_status line_faults.Memory = 4
-
 -- what the user is told of a bad origin
 abbrev pub bad_origin_line : List ℕ
 bad_origin_line = codes "an origin is an absolute name"
-
--- what the user is told of it
-abbrev pub line_text : LineFault → List ℕ
-line_text line_faults.BadOrigin = bad_origin_line
-line_text line_faults.NoFinalDot =
-    bad_origin_line ++ codes "; this one lacks the dot at its end"
-line_text (line_faults.Clap told) = string_bytes told
-line_text line_faults.Memory = stop_line Memory

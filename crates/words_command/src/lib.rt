@@ -8,7 +8,7 @@ mod filter;
 mod filtering;
 mod order;
 mod program;
-mod status;
 
-pub use order::{LineFault, Order, order_after_name, order_of};
+pub use command_input::LineFault;
+pub use order::{Order, order_after_name, order_of};
 pub use program::{refuse, run};

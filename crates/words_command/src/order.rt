@@ -1,14 +1,13 @@
 ghost use Rattle.std.specs.Prelude.{◌≡◌, drop, map, IfOk, IfErr, string_bytes};
-ghost use Rattle.zone_name.specs.Common.{NothingIs};
-ghost use Rattle.words_command.specs.Machine.Calling.{texts_of, IsOfCall, IsOfOrigin};
-ghost use Rattle.words_command.specs.Order.{Asks, IsOriginText, Orders, IsLineFault, line_status, line_text};
+ghost use Rattle.command_input.specs.Origin.{IsOfOrigin};
+ghost use Rattle.words_command.specs.Machine.Calling.{texts_of, IsOfCall};
+ghost use Rattle.words_command.specs.Order.{Asks, IsOriginText, Orders, IsLineFault};
 
 use crate::command::PROGRAM;
-use crate::status;
 use clap::ArgMatches;
-use command_line::{FromMatches, NoCall, Program, after_name, call_of};
-use std::alloc::{AllocError, Global};
-use zone_engine::OUT_OF_MEMORY;
+use command_input::{LineFault, origin_fault};
+use command_line::{FromMatches, Program, after_name, call_of};
+use std::alloc::Global;
 use zone_name::CasedName;
 
 /// What a command line asks for.
@@ -20,70 +19,6 @@ pub enum Order {
     /// Write the text on standard input again, line by line, the data of further types in words in
     /// place of the generic form.
     Words,
-}
-
-/// Why a command line is no order.
-#[derive(Debug, Drop)]
-pub enum LineFault {
-    /// The origin is no absolute name.
-    BadOrigin,
-    /// The origin is a name that lacks the dot at its end alone.
-    NoFinalDot,
-    /// What `clap` tells a user in place of matches, help included.
-    Clap(String),
-    /// Memory was refused.
-    Memory,
-}
-
-impl From<AllocError> for LineFault {
-    ghost use Rattle.words_command.specs.declared.order.LineFault.TheVariants as line_faults;
-
-    ghost from_gives = { λ _ e. e ≡ line_faults.Memory };
-
-    fn from(_error: AllocError) -> LineFault {
-        LineFault::Memory
-    }
-}
-
-impl From<NoCall> for LineFault {
-    ghost use Rattle.words_command.specs.Order.{told_fault};
-
-    ghost from_gives = { λ no_call fault. fault ≡ told_fault no_call };
-
-    fn from(no_call: NoCall) -> LineFault {
-        match no_call {
-            NoCall::Told(text) => LineFault::Clap(text),
-            NoCall::Memory => LineFault::Memory,
-        }
-    }
-}
-
-impl LineFault {
-    /// The text for the user, without a line feed at its end.
-    pub fn text(&self) -> &str
-        ensures { result.now ≡ line_text self.now }
-    {
-        match self {
-            LineFault::BadOrigin => "an origin is an absolute name",
-            LineFault::NoFinalDot => {
-                "an origin is an absolute name; this one lacks the dot at its end"
-            }
-            LineFault::Clap(text) => text.as_str(),
-            LineFault::Memory => OUT_OF_MEMORY,
-        }
-    }
-
-    /// The exit status.
-    pub fn status(&self) -> u8
-        ensures { result ≡ line_status self.now }
-    {
-        match self {
-            LineFault::BadOrigin | LineFault::NoFinalDot | LineFault::Clap(_) => {
-                status::BAD_COMMAND_LINE
-            }
-            LineFault::Memory => status::FAILED,
-        }
-    }
 }
 
 /// The order that the words after the program's name give.
@@ -167,24 +102,10 @@ impl Call<'_> {
 /// `BadOrigin` and `NoFinalDot`.
 fn origin_of(text: &str) -> Result<CasedName, LineFault>
     ensures ordered { IfOk result (IsOriginText text.now) }
-    ensures refused { IfErr result (IsOfOrigin text.now) }
+    ensures refused { IfErr result (IsOfOrigin IsOriginText text.now) }
 {
     match CasedName::from_text(text.as_bytes(), None) {
         Ok(origin) => Ok(origin),
-        Err(_) => Err(fault_of(text)),
-    }
-}
-
-/// Why a text is no origin. `@` is the name of another origin, and no name without its dot.
-fn fault_of(text: &str) -> LineFault
-    requires { NothingIs (IsOriginText text.now) }
-    ensures { IsOfOrigin text.now result }
-{
-    if text == "@" {
-        return LineFault::BadOrigin;
-    }
-    match CasedName::from_text(text.as_bytes(), Some(&CasedName::root())) {
-        Ok(_) => LineFault::NoFinalDot,
-        Err(_) => LineFault::BadOrigin,
+        Err(_) => Err(origin_fault(text)),
     }
 }

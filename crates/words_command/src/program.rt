@@ -1,13 +1,14 @@
 ghost use Rattle.std.specs.Prelude.{◌≡◌, ◌++◌, IfOk, OnErr, OnOk, string_bytes};
 ghost use Rattle.zone_engine.specs.Telling.{TellsLine};
-ghost use Rattle.words_command.specs.Order.{line_status, line_text};
+ghost use Rattle.command_input.specs.LineFault.{line_status, line_text};
+ghost use Rattle.words_command.specs.Order.{bad_origin_line};
 ghost use Rattle.words_command.specs.Run.{devices, failure_line, Runs, TellsRefused};
 ghost use Rattle.words_command.specs.Telling.{others_words, refusals_line};
 
 use crate::carry_out::carry_out;
 use crate::failure::Failure;
-use crate::order::{LineFault, Order};
-use crate::status;
+use crate::order::Order;
+use command_input::{LineFault, refuse_saying, status};
 use std::alloc::{AllocError, Global};
 use zone_engine::{OUT_OF_MEMORY, OctetReader, tell};
 use zone_print::OctetWriter;
@@ -89,8 +90,8 @@ fn tell_line<E: OctetWriter>(line: Result<String, AllocError>, errors: &mut E) -
 
 /// Tells why a command line is no order, and answers the status: 4 where that could not be told.
 pub fn refuse<E: OctetWriter>(fault: &LineFault, errors: &mut E) -> u8
-    ensures { TellsLine (line_text fault.now) (line_status fault.now)
+    ensures { TellsLine (line_text bad_origin_line fault.now) (line_status fault.now)
         (E.state errors.old) (E.state errors.new) result }
 {
-    tell(errors, "", fault.text(), fault.status())
+    refuse_saying("an origin is an absolute name", fault, errors)
 }

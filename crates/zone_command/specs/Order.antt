@@ -72,11 +72,11 @@ HasOrigin IsSuch (compare origin path origin' path') =
 
 -- the text of an origin asks for nothing, and not for want of a dot at its end
 abbrev pub HasBadOrigin : Call → Type 0
-HasBadOrigin = HasOrigin IsNoOrigin
+HasBadOrigin = HasOrigin (IsNoOrigin IsOriginText)
 
 -- the text of an origin asks for nothing for want of a dot at its end
 abbrev pub HasUndottedOrigin : Call → Type 0
-HasUndottedOrigin = HasOrigin IsUndotted
+HasUndottedOrigin = HasOrigin (IsUndotted IsOriginText)
 
 -- The words give the order: by `clap` they are a command with the texts that ask for it.
 abbrev pub Orders : List Text → Order → Type 0

@@ -320,8 +320,9 @@ impl Question for Given {
             Ok(Order::Words) => push_text(out, "words"),
             Err(LineFault::Memory) => Err(Fail::from("memory")),
             Err(fault) => {
-                let status = fault.status();
-                let text = fault.text();
+                let mut told = roomy(alloc)?;
+                let status = refuse(&fault, &mut told);
+                let text = str::from_utf8(&told).map_err(|_| Fail::from("no text"))?;
                 let (line, _) = text.split_once('\n').unwrap_or((text, ""));
                 push_words(alloc, out, format_args!("{status} {line}"))
             }

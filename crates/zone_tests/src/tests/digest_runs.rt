@@ -330,8 +330,10 @@ impl Question for Given {
             Err(LineFault::Memory) => Err(Fail::from("memory")),
             Err(LineFault::Clap(text)) if !text.is_empty() => push_text(out, "clap"),
             Err(fault) => {
-                let (status, text) = (fault.status(), fault.text());
-                push_words(alloc, out, format_args!("{status} {text}"))
+                let mut told = roomy(alloc)?;
+                let status = refuse(&fault, &mut told);
+                push_words(alloc, out, format_args!("{status} "))?;
+                Ok(out.extend_from_slice(told.strip_suffix(b"\n").ok_or("no line")?)?)
             }
         }
     }

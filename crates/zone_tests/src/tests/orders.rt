@@ -43,13 +43,14 @@ fn push_order(out: &mut Vec<u8>, order: &Order) -> Result<(), Fail> {
     }
 }
 
-/// Appends the status and the text of a fault. What `clap` tells is any text.
+/// Appends the status and the line of a fault. What `clap` tells is any text.
 fn push_refusal(alloc: Global, out: &mut Vec<u8>, fault: &LineFault) -> Result<(), Fail> {
-    let status = fault.status();
+    let mut told = roomy(alloc)?;
+    let status = refuse(fault, &mut told);
     push_words(alloc, out, format_args!("{status} "))?;
     match fault {
         LineFault::Clap(text) if !text.is_empty() => push_text(out, "clap"),
-        _ => push_text(out, fault.text()),
+        _ => Ok(out.extend_from_slice(told.strip_suffix(b"\n").ok_or("no line")?)?),
     }
 }
 
