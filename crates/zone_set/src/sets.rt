@@ -250,8 +250,6 @@ fn settle_base(base: &mut Name, entries: &SortedChunks<Entry, LIMIT>, owner: &Na
 }
 
 /// Whether both are SOA records, and they differ in owner or data.
-// Inlined: of all records but one a look at the type tells.
-#[inline(always)]
 pub(crate) fn is_other_soa(first: &RrRef<'_>, rr: &RrRef<'_>) -> bool
     ensures { IsTrue result ↔ AreTwoSoas (record_of first.now) (record_of rr.now) }
 {

@@ -163,7 +163,8 @@ pub(crate) fn split_token(text: &[u8]) -> Option<(Option<Item<'_>>, &[u8])>
 pub const MOST_ITEMS: usize = 65_552;
 
 /// Whether an item's text is no longer than a string may be (RFC 1035 3.3).
-#[inline(always)]
+// Not inlined: only an entry of very many items asks, and each item of all would pay for it.
+#[inline(never)]
 fn is_short(item: Item) -> bool
     ensures { IsTrue result → IsShort (raw item.entry) }
 {
