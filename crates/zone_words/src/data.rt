@@ -11,7 +11,8 @@ use crate::data_item::DataItem;
 use crate::fault::{WordsFailing, WordsFault};
 use crate::field::Field;
 use crate::fields::{Fields, amtrelay_fields, hip_fields, ipseckey_fields};
-use crate::kinds::lengths_first;
+use crate::kinds::{lengths_first, print_amtrelay, print_hip, print_ipseckey};
+use crate::unprinted::Unprinted;
 use zone_name::CasedName;
 
 /// Why items state no data.
@@ -164,7 +165,7 @@ fn push_field(
     ensures fault { IfErr result
         (IfDataFault (IsFieldFault origin.now (field_of field.now) (map given own.now))) }
 {
-    match field.1.push(own, origin, out) {
+    match field.1.read(own, origin, out) {
         Ok(()) => Ok(()),
         Err(WordsFailing::Fault(fault)) => Err(DataFailing::Fault {
             field: field.0,
@@ -196,5 +197,33 @@ fn last_name(fields: &[Field]) -> &'static str
     match fields.last() {
         Some(field) => field.0,
         None => "data",
+    }
+}
+
+/// Appends the words of data, a blank before each item.
+///
+/// # Errors
+///
+/// `NoData` where the octets aren't data of these fields, and want of memory. `out` may have got
+/// some words.
+pub fn print_data(fields: Fields, octets: &[u8], out: &mut Vec<u8>) -> Result<(), Unprinted> {
+    match fields {
+        Fields::Same(fields) => print_fields(fields, octets, out),
+        Fields::Ipseckey => print_ipseckey(octets, out),
+        Fields::Amtrelay => print_amtrelay(octets, out),
+        Fields::Hip => print_hip(octets, out),
+    }
+}
+
+/// Appends the words of fields, a blank before each item.
+fn print_fields(fields: &[Field], octets: &[u8], out: &mut Vec<u8>) -> Result<(), Unprinted> {
+    let mut rest = octets;
+    for field in fields {
+        rest = field.1.print(rest, out)?;
+    }
+    if rest.is_empty() {
+        Ok(())
+    } else {
+        Err(Unprinted::NoData)
     }
 }

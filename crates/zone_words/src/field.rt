@@ -10,16 +10,20 @@ ghost use Rattle.zone_words.specs.FirstItem.{FirstFails, FirstStates};
 use crate::data_item::DataItem;
 use crate::fault::{WordsFailing, WordsFault};
 use crate::kinds::{
-    push_address_type, push_algorithm, push_base64, push_certificate_type, push_counted_digits,
-    push_discovery, push_eui48, push_eui64, push_first_quoted_value, push_first_string,
-    push_first_value, push_hash, push_hex, push_ipv4, push_ipv6, push_location, push_name,
-    push_no_address, push_node_id, push_nothing, push_perhaps_string, push_perhaps_types,
-    push_prefixes, push_public_key, push_salt, push_strings, push_tag, push_time, push_type,
-    push_types, push_u8, push_u16, push_u32,
+    print_base64, print_certificate_type, print_eui, print_hash, print_ipv4, print_ipv6,
+    print_location, print_name, print_node_id, print_prefixes, print_quoted, print_salt,
+    print_string, print_strings, print_tag, print_time, print_type, print_types, print_u8,
+    print_u16, print_u32, read_address_type, read_algorithm, read_base64, read_certificate_type,
+    read_counted_digits, read_discovery, read_eui48, read_eui64, read_first_quoted_value,
+    read_first_string, read_first_value, read_hash, read_hex, read_ipv4, read_ipv6, read_location,
+    read_name, read_no_address, read_node_id, read_nothing, read_perhaps_string,
+    read_perhaps_types, read_prefixes, read_public_key, read_salt, read_strings, read_tag,
+    read_time, read_type, read_types, read_u8, read_u16, read_u32,
 };
-use crate::parameters::push_parameters;
+use crate::parameters::{print_parameters, read_parameters};
+use crate::unprinted::Unprinted;
 use zone_name::CasedName;
-use zone_rdata::Item;
+use zone_rdata::{Item, push_hex};
 
 /// What the text of one bare item states.
 #[derive(Clone, Copy, Debug, PartialEq, Eq)]
@@ -141,34 +145,34 @@ impl BareKind {
     /// # Errors
     ///
     /// What is wrong with the text, and want of memory. `out` may have got some octets.
-    fn push(self, text: &[u8], origin: &CasedName, out: &mut Vec<u8>) -> Result<(), WordsFailing>
+    fn read(self, text: &[u8], origin: &CasedName, out: &mut Vec<u8>) -> Result<(), WordsFailing>
         ensures states { OnOk result
             (AppendsStated ((text_meaning origin.now self).States text.now) out.old.items
             out.new.items) }
         ensures fault { IfErr result (IfFault ((text_meaning origin.now self).Fails text.now)) }
     {
         match self {
-            BareKind::U8 => push_u8(text, out),
-            BareKind::U16 => push_u16(text, out),
-            BareKind::U32 => push_u32(text, out),
-            BareKind::Algorithm => push_algorithm(text, out),
-            BareKind::CertificateType => push_certificate_type(text, out),
-            BareKind::RecordType => push_type(text, out),
-            BareKind::Time => push_time(text, out),
-            BareKind::Name => push_name(text, origin, out),
-            BareKind::Salt => push_salt(text, out),
-            BareKind::Hash => push_hash(text, out),
-            BareKind::Tag => push_tag(text, out),
-            BareKind::Ipv4 => push_ipv4(text, out),
-            BareKind::Ipv6 => push_ipv6(text, out),
-            BareKind::AddressType(optional) => push_address_type(text, optional, out),
-            BareKind::Discovery => push_discovery(text, out),
-            BareKind::NoAddress => push_no_address(text, out),
-            BareKind::NodeId => push_node_id(text, out),
-            BareKind::Eui48 => push_eui48(text, out),
-            BareKind::Eui64 => push_eui64(text, out),
-            BareKind::HostIdentityTag => push_counted_digits(text, out),
-            BareKind::PublicKey => push_public_key(text, out),
+            BareKind::U8 => read_u8(text, out),
+            BareKind::U16 => read_u16(text, out),
+            BareKind::U32 => read_u32(text, out),
+            BareKind::Algorithm => read_algorithm(text, out),
+            BareKind::CertificateType => read_certificate_type(text, out),
+            BareKind::RecordType => read_type(text, out),
+            BareKind::Time => read_time(text, out),
+            BareKind::Name => read_name(text, origin, out),
+            BareKind::Salt => read_salt(text, out),
+            BareKind::Hash => read_hash(text, out),
+            BareKind::Tag => read_tag(text, out),
+            BareKind::Ipv4 => read_ipv4(text, out),
+            BareKind::Ipv6 => read_ipv6(text, out),
+            BareKind::AddressType(optional) => read_address_type(text, optional, out),
+            BareKind::Discovery => read_discovery(text, out),
+            BareKind::NoAddress => read_no_address(text, out),
+            BareKind::NodeId => read_node_id(text, out),
+            BareKind::Eui48 => read_eui48(text, out),
+            BareKind::Eui64 => read_eui64(text, out),
+            BareKind::HostIdentityTag => read_counted_digits(text, out),
+            BareKind::PublicKey => read_public_key(text, out),
         }
     }
 
@@ -177,7 +181,7 @@ impl BareKind {
     /// # Errors
     ///
     /// What is wrong with it, and want of memory. `out` may have got some octets.
-    fn push_item(
+    fn read_item(
         self,
         item: Item,
         origin: &CasedName,
@@ -189,7 +193,7 @@ impl BareKind {
         ensures fault { IfErr result (IfFault (FailsBare origin.now self (raw item.entry))) }
     {
         match item {
-            Item::Bare(text) => self.push(text, origin, out),
+            Item::Bare(text) => self.read(text, origin, out),
             Item::Quoted(_) => Err(WordsFailing::Fault(self.quoted_fault())),
         }
     }
@@ -200,7 +204,7 @@ impl BareKind {
     ///
     /// `NothingLeft` where there is no item, what is wrong with it, and want of memory. `out` may
     /// have got some octets.
-    fn push_first(
+    fn read_first(
         self,
         items: &[DataItem],
         origin: &CasedName,
@@ -213,7 +217,7 @@ impl BareKind {
             (IfFault (FirstFails (FailsBare origin.now self) (map raw_item items.now))) }
     {
         match items.first() {
-            Some(first) => self.push_item(first.item, origin, out),
+            Some(first) => self.read_item(first.item, origin, out),
             None => Err(WordsFailing::Fault(WordsFault::NothingLeft)),
         }
     }
@@ -224,7 +228,7 @@ impl BareKind {
     ///
     /// What is wrong with the leftmost item that states none, and want of memory. `out` may have
     /// got some octets.
-    fn push_each(
+    fn read_each(
         self,
         items: &[DataItem],
         origin: &CasedName,
@@ -238,9 +242,37 @@ impl BareKind {
             (map raw_item items.now))) }
     {
         for item in items {
-            self.push_item(item.item, origin, out)?;
+            self.read_item(item.item, origin, out)?;
         }
         Ok(())
+    }
+
+    /// Appends the item at the front, and gives what is left.
+    fn print<'o>(self, octets: &'o [u8], out: &mut Vec<u8>) -> Result<&'o [u8], Unprinted> {
+        match self {
+            // An algorithm by its number: servers differ in some mnemonics.
+            BareKind::U8 | BareKind::Algorithm => print_u8(octets, out),
+            BareKind::U16 => print_u16(octets, out),
+            BareKind::U32 => print_u32(octets, out),
+            BareKind::CertificateType => print_certificate_type(octets, out),
+            BareKind::RecordType => print_type(octets, out),
+            BareKind::Time => print_time(octets, out),
+            BareKind::Name => print_name(octets, out),
+            BareKind::Salt => print_salt(octets, out),
+            BareKind::Hash => print_hash(octets, out),
+            BareKind::Tag => print_tag(octets, out),
+            BareKind::Ipv4 => print_ipv4(octets, out),
+            BareKind::Ipv6 => print_ipv6(octets, out),
+            // Those of the types that `gateway` and `host_identity` print as a whole.
+            BareKind::AddressType(_)
+            | BareKind::Discovery
+            | BareKind::NoAddress
+            | BareKind::HostIdentityTag
+            | BareKind::PublicKey => Err(Unprinted::NoData),
+            BareKind::NodeId => print_node_id(octets, out),
+            BareKind::Eui48 => print_eui(octets, 6, out),
+            BareKind::Eui64 => print_eui(octets, 8, out),
+        }
     }
 }
 
@@ -271,7 +303,7 @@ impl FieldKind {
     /// # Errors
     ///
     /// What is wrong with the items, and want of memory. `out` may have got some octets.
-    pub(crate) fn push(
+    pub(crate) fn read(
         self,
         items: &[DataItem],
         origin: &CasedName,
@@ -285,21 +317,79 @@ impl FieldKind {
             (map raw_item items.now, map given items.now))) }
     {
         match self {
-            FieldKind::Bare(kind) => kind.push_first(items, origin, out),
-            FieldKind::Each(kind) => kind.push_each(items, origin, out),
-            FieldKind::OneString => push_first_string(items, out),
-            FieldKind::PerhapsOneString => push_perhaps_string(items, out),
-            FieldKind::Value => push_first_value(items, out),
-            FieldKind::QuotedValue => push_first_quoted_value(items, out),
-            FieldKind::Strings => push_strings(items, out),
-            FieldKind::Hex => push_hex(items, out),
-            FieldKind::Base64 => push_base64(items, out),
-            FieldKind::Types => push_types(items, out),
-            FieldKind::PerhapsTypes => push_perhaps_types(items, out),
-            FieldKind::Prefixes => push_prefixes(items, out),
-            FieldKind::Location => push_location(items, out),
-            FieldKind::Nothing => push_nothing(items, out),
-            FieldKind::Parameters => push_parameters(items, out),
+            FieldKind::Bare(kind) => kind.read_first(items, origin, out),
+            FieldKind::Each(kind) => kind.read_each(items, origin, out),
+            FieldKind::OneString => read_first_string(items, out),
+            FieldKind::PerhapsOneString => read_perhaps_string(items, out),
+            FieldKind::Value => read_first_value(items, out),
+            FieldKind::QuotedValue => read_first_quoted_value(items, out),
+            FieldKind::Strings => read_strings(items, out),
+            FieldKind::Hex => read_hex(items, out),
+            FieldKind::Base64 => read_base64(items, out),
+            FieldKind::Types => read_types(items, out),
+            FieldKind::PerhapsTypes => read_perhaps_types(items, out),
+            FieldKind::Prefixes => read_prefixes(items, out),
+            FieldKind::Location => read_location(items, out),
+            FieldKind::Nothing => read_nothing(items, out),
+            FieldKind::Parameters => read_parameters(items, out),
+        }
+    }
+
+    /// Appends the words of a field that all octets are, a blank before each item.
+    fn print_last(self, octets: &[u8], out: &mut Vec<u8>) -> Result<(), Unprinted> {
+        match self {
+            FieldKind::Value | FieldKind::QuotedValue => {
+                out.push(b' ')?;
+                print_quoted(octets, out)?;
+                Ok(())
+            }
+            FieldKind::Hex => {
+                out.push(b' ')?;
+                push_hex(octets, out)?;
+                Ok(())
+            }
+            FieldKind::Base64 => {
+                out.push(b' ')?;
+                print_base64(octets, out)
+            }
+            FieldKind::Strings => print_strings(octets, out),
+            FieldKind::Types | FieldKind::PerhapsTypes => print_types(octets, out),
+            FieldKind::Prefixes => print_prefixes(octets, out),
+            FieldKind::Location => print_location(octets, out),
+            FieldKind::Parameters => print_parameters(octets, out),
+            // No field of all octets, or one that `host_identity` prints.
+            FieldKind::Nothing
+            | FieldKind::Bare(_)
+            | FieldKind::Each(_)
+            | FieldKind::OneString
+            | FieldKind::PerhapsOneString => Err(Unprinted::NoData),
+        }
+    }
+
+    /// Appends the words of the field at the front, a blank before each item, and gives what is left.
+    pub(crate) fn print<'o>(
+        self,
+        octets: &'o [u8],
+        out: &mut Vec<u8>,
+    ) -> Result<&'o [u8], Unprinted> {
+        match self {
+            FieldKind::Bare(kind) => {
+                out.push(b' ')?;
+                kind.print(octets, out)
+            }
+            FieldKind::OneString => {
+                out.push(b' ')?;
+                print_string(octets, out)
+            }
+            FieldKind::PerhapsOneString if octets.is_empty() => Ok(octets),
+            FieldKind::PerhapsOneString => {
+                out.push(b' ')?;
+                print_string(octets, out)
+            }
+            _ => {
+                self.print_last(octets, out)?;
+                Ok(&[])
+            }
         }
     }
 }

@@ -1,4 +1,5 @@
-//! The kinds of fields, a file each.
+//! The kinds of fields, a file each: how the octets of each are read from items, and how they are
+//! printed.
 mod address;
 mod base32_hex;
 mod base64_text;
@@ -21,22 +22,32 @@ mod types;
 mod value;
 mod word;
 
-pub(crate) use address::{push_ipv4, push_ipv6};
-pub(crate) use base32_hex::push_hash;
-pub(crate) use base64_text::{push_base64, push_decoded};
-pub(crate) use eui::{push_eui48, push_eui64};
-pub(crate) use gateway::{push_address_type, push_discovery, push_no_address, push_nothing};
-pub(crate) use hexadecimal::{push_counted_digits, push_hex};
-pub(crate) use host_identity::{lengths_first, push_public_key};
-pub(crate) use location::push_location;
-pub(crate) use name::push_name;
-pub(crate) use node_id::push_node_id;
-pub(crate) use number::{push_u8, push_u16, push_u32};
-pub(crate) use prefixes::push_prefixes;
-pub(crate) use salt::push_salt;
-pub(crate) use string::{push_first_string, push_perhaps_string, push_strings};
-pub(crate) use tag::push_tag;
-pub(crate) use time::push_time;
-pub(crate) use types::{push_perhaps_types, push_types};
-pub(crate) use value::{push_first_quoted_value, push_first_value};
-pub(crate) use word::{push_algorithm, push_certificate_type, push_type};
+pub(crate) use address::{print_ipv4, print_ipv6, read_ipv4, read_ipv6};
+pub(crate) use base32_hex::{print_hash, read_hash};
+pub(crate) use base64_text::{print_base64, push_decoded, read_base64};
+pub(crate) use eui::{print_eui, read_eui48, read_eui64};
+pub(crate) use gateway::{
+    print_amtrelay, print_ipseckey, read_address_type, read_discovery, read_no_address,
+    read_nothing,
+};
+pub(crate) use hexadecimal::{read_counted_digits, read_hex};
+pub(crate) use host_identity::{lengths_first, print_hip, read_public_key};
+pub(crate) use location::{print_location, read_location};
+pub(crate) use name::{print_name, read_name};
+pub(crate) use node_id::{print_node_id, read_node_id};
+pub(crate) use number::{
+    print_decimal, print_u8, print_u16, print_u32, read_u8, read_u16, read_u32,
+};
+pub(crate) use prefixes::{print_prefixes, read_prefixes};
+pub(crate) use salt::{print_salt, read_salt};
+pub(crate) use string::{
+    print_quoted, print_string, print_strings, print_unit, read_first_string, read_perhaps_string,
+    read_strings,
+};
+pub(crate) use tag::{print_tag, read_tag};
+pub(crate) use time::{print_time, read_time};
+pub(crate) use types::{print_types, read_perhaps_types, read_types};
+pub(crate) use value::{read_first_quoted_value, read_first_value};
+pub(crate) use word::{
+    print_certificate_type, print_type, read_algorithm, read_certificate_type, read_type,
+};

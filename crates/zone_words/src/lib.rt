@@ -22,10 +22,13 @@ mod parameters;
 mod refusal;
 mod rewriter;
 mod table;
+mod taking;
 mod turn;
 mod unescaped;
+mod unprinted;
 mod writing;
 
+pub use data::print_data;
 pub use data_item::DataItem;
 pub use fault::{WordsFailing, WordsFault};
 pub use field::{BareKind, Field, FieldKind};
@@ -34,3 +37,4 @@ pub use mnemonics::{certificate_mnemonic, type_mnemonic};
 pub use refusal::{Refusal, Refusals};
 pub use rewriter::{Rewriter, Rewritten, rewrite_file};
 pub use table::{FurtherType, further_type_of};
+pub use unprinted::Unprinted;

@@ -3,6 +3,7 @@
 mod addresses;
 mod key;
 mod keys;
+mod printing;
 mod protocols;
 mod single;
 mod stated;
@@ -16,7 +17,8 @@ ghost use Rattle.zone_words.specs.Parameters.{FailsParameters, StatesParameters}
 
 use crate::data_item::DataItem;
 use crate::fault::{WordsFailing, WordsFault};
-use stated::{has_required, push_sent, read_parameters};
+pub(crate) use printing::print_parameters;
+use stated::{has_required, push_sent, stated_parameters};
 
 /// Appends the octets of the parameters that all the items state, in ascending order of their keys
 /// (RFC 9460 2.1, 2.2).
@@ -26,12 +28,12 @@ use stated::{has_required, push_sent, read_parameters};
 /// The first of these from the left: `NotAKey`; `RepeatedKey`; `NotAValue` and `BadEscape`. Where
 /// there is none of them, `MandatoryKeyMissing`, and then `TooLong` for a value of more than 65,535
 /// octets. Or memory is refused. Some of the octets may have been appended.
-pub(crate) fn push_parameters(items: &[DataItem], out: &mut Vec<u8>) -> Result<(), WordsFailing>
+pub(crate) fn read_parameters(items: &[DataItem], out: &mut Vec<u8>) -> Result<(), WordsFailing>
     ensures states { OnOk result
         (AppendsStated (StatesParameters (map given items.now)) out.old.items out.new.items) }
     ensures fault { IfErr result (IfFault (FailsParameters (map given items.now))) }
 {
-    let stated = read_parameters(*out.allocator(), items)?;
+    let stated = stated_parameters(*out.allocator(), items)?;
     if !has_required(&stated) {
         return Err(WordsFault::MandatoryKeyMissing.into());
     }

@@ -7,6 +7,7 @@ ghost use Rattle.zone_words.specs.declared.fault.WordsFault.TheVariants.{NoBase6
 use super::joined::joined_text;
 use crate::data_item::DataItem;
 use crate::fault::{WordsFailing, WordsFault};
+use crate::unprinted::Unprinted;
 use base64::DecodeAllocError;
 use base64::engine::general_purpose::STANDARD;
 
@@ -19,7 +20,7 @@ use base64::engine::general_purpose::STANDARD;
 /// all items has another character, no octet, not its whole padding at its very end, or unused bits
 /// that aren't zero; and `OutOfMemory` where memory is refused. `out` may then have some of the
 /// octets.
-pub(crate) fn push_base64(items: &[DataItem], out: &mut Vec<u8>) -> Result<(), WordsFailing>
+pub(crate) fn read_base64(items: &[DataItem], out: &mut Vec<u8>) -> Result<(), WordsFailing>
     ensures states { OnOk result
         (AppendsStated (StatesBase64 (map raw_item items.now)) out.old.items out.new.items) }
     ensures fault { IfErr result (IfFault (FailsBase64 (map raw_item items.now))) }
@@ -40,5 +41,22 @@ pub(crate) fn push_decoded(text: &[u8], out: &mut Vec<u8>) -> Result<(), WordsFa
         Ok(()) => Ok(()),
         Err(DecodeAllocError::DecodeError(_)) => Err(WordsFailing::Fault(WordsFault::NoBase64)),
         Err(DecodeAllocError::OutOfMemory) => Err(WordsFailing::OutOfMemory),
+    }
+}
+
+/// The most octets of data (RFC 1035 3.2.1).
+const MOST: usize = 65_535;
+
+/// Appends octets in base64 (RFC 4648 4).
+pub(crate) fn print_base64(octets: &[u8], out: &mut Vec<u8>) -> Result<(), Unprinted> {
+    if octets.len() > MOST {
+        return Err(Unprinted::NoData);
+    }
+    let before = out.len();
+    out.resize(before + octets.len().div_ceil(3) * 4, 0)?;
+    let (_, room) = out.as_mut_slice().split_at_mut(before);
+    match STANDARD.encode_slice(octets, room) {
+        Ok(_) => Ok(()),
+        Err(_) => Err(Unprinted::NoData),
     }
 }

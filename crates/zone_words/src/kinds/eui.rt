@@ -5,7 +5,10 @@ ghost use Rattle.zone_words.specs.Kinds.Eui.{FailsEui, IsPair, StatesEui};
 ghost use Rattle.zone_words.specs.Machine.Pairs.{BeginsWithPair, IsCutPair};
 
 use crate::fault::{WordsFailing, WordsFault};
+use crate::taking::take;
+use crate::unprinted::Unprinted;
 use hex::decode_to_slice;
+use zone_rdata::push_hex;
 
 /// Appends the six octets of an EUI-48: pairs of hexadecimal digits in either letter case, parted
 /// by hyphens (RFC 7043 3.2).
@@ -14,12 +17,12 @@ use hex::decode_to_slice;
 ///
 /// `NotAnAddress` where the text is none, and `OutOfMemory` where memory is refused. `out` may then
 /// have some of the octets.
-pub(crate) fn push_eui48(text: &[u8], out: &mut Vec<u8>) -> Result<(), WordsFailing>
+pub(crate) fn read_eui48(text: &[u8], out: &mut Vec<u8>) -> Result<(), WordsFailing>
     ensures states { OnOk result
         (AppendsStated (StatesEui 6 text.now) out.old.items out.new.items) }
     ensures fault { IfErr result (IfFault (FailsEui 6 text.now)) }
 {
-    push_pairs(text, 6, out)
+    read_pairs(text, 6, out)
 }
 
 /// Appends the eight octets of an EUI-64: pairs of hexadecimal digits in either letter case, parted
@@ -29,16 +32,16 @@ pub(crate) fn push_eui48(text: &[u8], out: &mut Vec<u8>) -> Result<(), WordsFail
 ///
 /// `NotAnAddress` where the text is none, and `OutOfMemory` where memory is refused. `out` may then
 /// have some of the octets.
-pub(crate) fn push_eui64(text: &[u8], out: &mut Vec<u8>) -> Result<(), WordsFailing>
+pub(crate) fn read_eui64(text: &[u8], out: &mut Vec<u8>) -> Result<(), WordsFailing>
     ensures states { OnOk result
         (AppendsStated (StatesEui 8 text.now) out.old.items out.new.items) }
     ensures fault { IfErr result (IfFault (FailsEui 8 text.now)) }
 {
-    push_pairs(text, 8, out)
+    read_pairs(text, 8, out)
 }
 
 /// Appends the octets of so many pairs parted by hyphens.
-fn push_pairs(text: &[u8], count: usize, out: &mut Vec<u8>) -> Result<(), WordsFailing>
+fn read_pairs(text: &[u8], count: usize, out: &mut Vec<u8>) -> Result<(), WordsFailing>
     requires some { 0 < count }
     requires few { count ≤ 8 }
     ensures states { OnOk result
@@ -80,4 +83,21 @@ fn octet_of(text: &[u8]) -> Option<u8>
     let mut octet = [0; 1];
     decode_to_slice(text, &mut octet).ok()?;
     Some(octet[0])
+}
+
+/// Appends the first octets, so many, as pairs of hexadecimal digits parted by hyphens (RFC 7043
+/// 3.2, 4.2), and gives what is left.
+pub(crate) fn print_eui<'o>(
+    octets: &'o [u8],
+    count: usize,
+    out: &mut Vec<u8>,
+) -> Result<&'o [u8], Unprinted> {
+    let (address, rest) = take(octets, count)?;
+    for (at, octet) in address.iter().enumerate() {
+        if at > 0 {
+            out.extend_from_slice(b"-")?;
+        }
+        push_hex(&[*octet], out)?;
+    }
+    Ok(rest)
 }

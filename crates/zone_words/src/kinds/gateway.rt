@@ -4,9 +4,14 @@ ghost use Rattle.zone_words.specs.DataItem.{raw_item};
 ghost use Rattle.zone_words.specs.Fault.{AppendsStated, IfFault};
 ghost use Rattle.zone_words.specs.Kinds.Gateway.{FailsAddressType, FailsDiscovery, FailsNoAddress, FailsNothing, StatesAddressType, StatesDiscovery, StatesNoAddress, StatesNothing, discovery_bit};
 
-use super::number::at_most;
+use super::address::{print_ipv4, print_ipv6};
+use super::base64_text::print_base64;
+use super::name::print_name;
+use super::number::{at_most, print_decimal};
 use crate::data_item::DataItem;
 use crate::fault::{WordsFailing, WordsFault};
+use crate::taking::take_u8;
+use crate::unprinted::Unprinted;
 use zone_rdata::decimal_of;
 
 /// The greatest type of a gateway or a relay, that of a name.
@@ -19,7 +24,7 @@ const MOST_TYPE: u32 = 3;
 /// # Errors
 ///
 /// `NotANumber`, `TooLarge` and want of memory.
-pub(crate) fn push_address_type(
+pub(crate) fn read_address_type(
     text: &[u8],
     optional: bool,
     out: &mut Vec<u8>,
@@ -47,7 +52,7 @@ fn discovery_bit(optional: bool) -> u8
 /// # Errors
 ///
 /// `NotANumber` and `TooLarge`.
-pub(crate) fn push_discovery(text: &[u8], out: &mut Vec<u8>) -> Result<(), WordsFailing>
+pub(crate) fn read_discovery(text: &[u8], out: &mut Vec<u8>) -> Result<(), WordsFailing>
     ensures states { OnOk result
         (AppendsStated (StatesDiscovery text.now) out.old.items out.new.items) }
     ensures fault { IfErr result (IfFault (FailsDiscovery text.now)) }
@@ -62,7 +67,7 @@ pub(crate) fn push_discovery(text: &[u8], out: &mut Vec<u8>) -> Result<(), Words
 /// # Errors
 ///
 /// `NotAName` where the text is another.
-pub(crate) fn push_no_address(text: &[u8], out: &mut Vec<u8>) -> Result<(), WordsFailing>
+pub(crate) fn read_no_address(text: &[u8], out: &mut Vec<u8>) -> Result<(), WordsFailing>
     ensures states { OnOk result
         (AppendsStated (StatesNoAddress text.now) out.old.items out.new.items) }
     ensures fault { IfErr result (IfFault (FailsNoAddress text.now)) }
@@ -78,7 +83,7 @@ pub(crate) fn push_no_address(text: &[u8], out: &mut Vec<u8>) -> Result<(), Word
 /// # Errors
 ///
 /// `ItemsLeftOver` where there is one.
-pub(crate) fn push_nothing(items: &[DataItem], out: &mut Vec<u8>) -> Result<(), WordsFailing>
+pub(crate) fn read_nothing(items: &[DataItem], out: &mut Vec<u8>) -> Result<(), WordsFailing>
     ensures states { OnOk result
         (AppendsStated (StatesNothing (map raw_item items.now)) out.old.items out.new.items) }
     ensures fault { IfErr result (IfFault (FailsNothing (map raw_item items.now))) }
@@ -87,5 +92,58 @@ pub(crate) fn push_nothing(items: &[DataItem], out: &mut Vec<u8>) -> Result<(), 
         Ok(())
     } else {
         Err(WordsFailing::Fault(WordsFault::ItemsLeftOver))
+    }
+}
+
+/// Appends the address of a type at the front (RFC 4025 2.3, RFC 8777 4.2.3), a blank before it,
+/// and gives what is left.
+fn print_address<'o>(
+    number: u8,
+    octets: &'o [u8],
+    out: &mut Vec<u8>,
+) -> Result<&'o [u8], Unprinted> {
+    out.extend_from_slice(b" ")?;
+    match number {
+        0 => {
+            out.extend_from_slice(b".")?;
+            Ok(octets)
+        }
+        1 => print_ipv4(octets, out),
+        2 => print_ipv6(octets, out),
+        3 => print_name(octets, out),
+        _ => Err(Unprinted::NoData),
+    }
+}
+
+/// Appends the words of IPSECKEY data (RFC 4025 3.1), a blank before each item.
+pub(crate) fn print_ipseckey(octets: &[u8], out: &mut Vec<u8>) -> Result<(), Unprinted> {
+    let (precedence, rest) = take_u8(octets)?;
+    let (gateway, rest) = take_u8(rest)?;
+    let (algorithm, rest) = take_u8(rest)?;
+    for number in [precedence, gateway, algorithm] {
+        out.extend_from_slice(b" ")?;
+        print_decimal(u32::from(number), out)?;
+    }
+    let key = print_address(gateway, rest, out)?;
+    if key.is_empty() {
+        return Ok(());
+    }
+    out.extend_from_slice(b" ")?;
+    print_base64(key, out)
+}
+
+/// Appends the words of AMTRELAY data (RFC 8777 4.3.1), a blank before each item.
+pub(crate) fn print_amtrelay(octets: &[u8], out: &mut Vec<u8>) -> Result<(), Unprinted> {
+    let (precedence, rest) = take_u8(octets)?;
+    let (relay, rest) = take_u8(rest)?;
+    for number in [precedence, relay / 128, relay % 128] {
+        out.extend_from_slice(b" ")?;
+        print_decimal(u32::from(number), out)?;
+    }
+    let rest = print_address(relay % 128, rest, out)?;
+    if rest.is_empty() {
+        Ok(())
+    } else {
+        Err(Unprinted::NoData)
     }
 }

@@ -19,13 +19,13 @@ use hex::decode_to_slice;
 /// `NothingLeft` where there is no item; `NoHexadecimal` where an item is quoted or has another
 /// character, and where the digits of all items are none or odd in number; and `OutOfMemory` where
 /// memory is refused. `out` may then have some of the octets.
-pub(crate) fn push_hex(items: &[DataItem], out: &mut Vec<u8>) -> Result<(), WordsFailing>
+pub(crate) fn read_hex(items: &[DataItem], out: &mut Vec<u8>) -> Result<(), WordsFailing>
     ensures states { OnOk result
         (AppendsStated (StatesHex (map raw_item items.now)) out.old.items out.new.items) }
     ensures fault { IfErr result (IfFault (FailsHex (map raw_item items.now))) }
 {
     let text = joined_text(*out.allocator(), items, WordsFault::NoHexadecimal)?;
-    push_digits(text.as_slice(), out)
+    read_digits(text.as_slice(), out)
 }
 
 /// The digits of the most octets that stand after their length, which are 255.
@@ -38,21 +38,21 @@ const MOST_COUNTED: usize = 510;
 ///
 /// `NoHexadecimal` where the text is not the digits of octets, `TooLong` where these are more than
 /// 255, and `OutOfMemory` where memory is refused. `out` may then have some of the octets.
-pub(crate) fn push_counted_digits(text: &[u8], out: &mut Vec<u8>) -> Result<(), WordsFailing>
+pub(crate) fn read_counted_digits(text: &[u8], out: &mut Vec<u8>) -> Result<(), WordsFailing>
     ensures states { OnOk result
         (AppendsStated (StatesAfterLength IsHex text.now) out.old.items out.new.items) }
     ensures fault { IfErr result (IfFault (FailsAfterLength NoHexadecimal IsHex text.now)) }
 {
     if text.len() > MOST_COUNTED {
-        push_digits(text, out)?;
+        read_digits(text, out)?;
         return Err(WordsFailing::Fault(WordsFault::TooLong));
     }
     out.push((text.len() / 2) as u8)?;
-    push_digits(text, out)
+    read_digits(text, out)
 }
 
 /// Appends the octets, one or more, that hexadecimal digits stand for.
-pub(super) fn push_digits(text: &[u8], out: &mut Vec<u8>) -> Result<(), WordsFailing>
+pub(super) fn read_digits(text: &[u8], out: &mut Vec<u8>) -> Result<(), WordsFailing>
     ensures states { OnOk result (AppendsStated (IsHex text.now) out.old.items out.new.items) }
     ensures fault { IfErr result (IfFault (NothingStated NoHexadecimal (IsHex text.now))) }
 {

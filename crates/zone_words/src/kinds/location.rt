@@ -8,12 +8,14 @@ ghost use Rattle.zone_words.specs.Kinds.Location.{BeginsWithAltitude, BeginsWith
 
 mod metres;
 mod place;
+mod printing;
 mod scaled;
 
 use crate::data_item::DataItem;
 use crate::fault::{WordsFailing, WordsFault};
 use metres::{altitude_of, size_of};
 use place::{Axis, split_place};
+pub(crate) use printing::print_location;
 use std::alloc::AllocError;
 
 /// The size that stands where it is left out: 1 metre.
@@ -46,7 +48,7 @@ struct Location {
 ///
 /// `NothingLeft` where there is no item, `NotALocation` where items state no location; and
 /// `OutOfMemory`. `out` may have got some of the octets.
-pub(crate) fn push_location(items: &[DataItem], out: &mut Vec<u8>) -> Result<(), WordsFailing>
+pub(crate) fn read_location(items: &[DataItem], out: &mut Vec<u8>) -> Result<(), WordsFailing>
     ensures states { OnOk result
         (AppendsStated (StatesLocation (map raw_item items.now)) out.old.items out.new.items) }
     ensures fault { IfErr result (IfFault (FailsLocation (map raw_item items.now))) }

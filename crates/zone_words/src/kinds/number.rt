@@ -6,6 +6,10 @@ ghost use Rattle.zone_words.specs.Kinds.Number.{FailsU8, FailsU16, FailsU32, Sta
 ghost use Rattle.zone_words.specs.Machine.Numbers.{FailsToFit, Fits, IsOver};
 
 use crate::fault::{WordsFailing, WordsFault};
+use crate::taking::{take_u8, take_u16, take_u32};
+use crate::unprinted::Unprinted;
+use itoa::Buffer;
+use std::alloc::AllocError;
 use zone_rdata::decimal_of;
 
 /// Appends the number of 8 bits that decimal digits stand for.
@@ -13,7 +17,7 @@ use zone_rdata::decimal_of;
 /// # Errors
 ///
 /// `NotANumber`, `TooLarge` and want of memory.
-pub(crate) fn push_u8(text: &[u8], out: &mut Vec<u8>) -> Result<(), WordsFailing>
+pub(crate) fn read_u8(text: &[u8], out: &mut Vec<u8>) -> Result<(), WordsFailing>
     ensures states { OnOk result
         (AppendsStated (StatesU8 text.now) out.old.items out.new.items) }
     ensures fault { IfErr result (IfFault (FailsU8 text.now)) }
@@ -27,7 +31,7 @@ pub(crate) fn push_u8(text: &[u8], out: &mut Vec<u8>) -> Result<(), WordsFailing
 /// # Errors
 ///
 /// `NotANumber`, `TooLarge` and want of memory.
-pub(crate) fn push_u16(text: &[u8], out: &mut Vec<u8>) -> Result<(), WordsFailing>
+pub(crate) fn read_u16(text: &[u8], out: &mut Vec<u8>) -> Result<(), WordsFailing>
     ensures states { OnOk result
         (AppendsStated (StatesU16 text.now) out.old.items out.new.items) }
     ensures fault { IfErr result (IfFault (FailsU16 text.now)) }
@@ -41,7 +45,7 @@ pub(crate) fn push_u16(text: &[u8], out: &mut Vec<u8>) -> Result<(), WordsFailin
 /// # Errors
 ///
 /// `NotANumber`, `TooLarge` and want of memory.
-pub(crate) fn push_u32(text: &[u8], out: &mut Vec<u8>) -> Result<(), WordsFailing>
+pub(crate) fn read_u32(text: &[u8], out: &mut Vec<u8>) -> Result<(), WordsFailing>
     ensures states { OnOk result
         (AppendsStated (StatesU32 text.now) out.old.items out.new.items) }
     ensures fault { IfErr result (IfFault (FailsU32 text.now)) }
@@ -93,4 +97,31 @@ pub(super) fn at_most(most: u32, number: Option<u64>) -> Result<u32, WordsFault>
         Some(_) => Err(WordsFault::TooLarge),
         None => Err(WordsFault::NotANumber),
     }
+}
+
+/// Appends a number in decimal.
+pub(crate) fn print_decimal(number: u32, out: &mut Vec<u8>) -> Result<(), AllocError> {
+    let mut digits = Buffer::new();
+    out.extend_from_slice(digits.format(number).as_bytes())
+}
+
+/// Appends the number of 8 bits at the front, and gives what is left.
+pub(crate) fn print_u8<'o>(octets: &'o [u8], out: &mut Vec<u8>) -> Result<&'o [u8], Unprinted> {
+    let (number, rest) = take_u8(octets)?;
+    print_decimal(u32::from(number), out)?;
+    Ok(rest)
+}
+
+/// Appends the number of 16 bits at the front, and gives what is left.
+pub(crate) fn print_u16<'o>(octets: &'o [u8], out: &mut Vec<u8>) -> Result<&'o [u8], Unprinted> {
+    let (number, rest) = take_u16(octets)?;
+    print_decimal(u32::from(number), out)?;
+    Ok(rest)
+}
+
+/// Appends the number of 32 bits at the front, and gives what is left.
+pub(crate) fn print_u32<'o>(octets: &'o [u8], out: &mut Vec<u8>) -> Result<&'o [u8], Unprinted> {
+    let (number, rest) = take_u32(octets)?;
+    print_decimal(number, out)?;
+    Ok(rest)
 }

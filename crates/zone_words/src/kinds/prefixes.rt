@@ -7,11 +7,16 @@ ghost use Rattle.zone_words.specs.DataItem.{raw_item};
 ghost use Rattle.zone_words.specs.Fault.{AppendsStated, IfFault};
 ghost use Rattle.zone_words.specs.Kinds.Prefixes.{FailsPrefixes, IsAddressText, IsPrefixOctets, SpellsPrefix, StatesPrefixes, family_of, octets_of, sign};
 ghost use Rattle.zone_words.specs.Machine.Prefixes.{IsAfterMark, IsItemPrefix};
+ghost use Rattle.std.specs.Prelude.{◌<◌, IfOk, length};
 
+use super::address::{print_ipv4, print_ipv6};
 use super::bitmap::trimmed_len;
+use super::number::print_decimal;
 use crate::cut::{cut_at_first, cut_at_last};
 use crate::data_item::DataItem;
 use crate::fault::{WordsFailing, WordsFault};
+use crate::taking::{take, take_u8, take_u16};
+use crate::unprinted::Unprinted;
 use std::alloc::AllocError;
 use zone_rdata::{Item, decimal_of, ipv4_octets_of, ipv6_octets_of};
 
@@ -64,7 +69,7 @@ impl Address {
 ///
 /// `NoPrefix` where an item is quoted, or no prefix; and `OutOfMemory`. `out` may have got some of
 /// the octets.
-pub(crate) fn push_prefixes(items: &[DataItem], out: &mut Vec<u8>) -> Result<(), WordsFailing>
+pub(crate) fn read_prefixes(items: &[DataItem], out: &mut Vec<u8>) -> Result<(), WordsFailing>
     ensures states { OnOk result
         (AppendsStated (StatesPrefixes (map raw_item items.now)) out.old.items out.new.items) }
     ensures fault { IfErr result (IfFault (FailsPrefixes (map raw_item items.now))) }
@@ -73,14 +78,14 @@ pub(crate) fn push_prefixes(items: &[DataItem], out: &mut Vec<u8>) -> Result<(),
         let Some(prefix) = prefix_of_item(item.item) else {
             return Err(WordsFailing::Fault(WordsFault::NoPrefix));
         };
-        push_prefix(prefix, out)?;
+        read_prefix(prefix, out)?;
     }
     Ok(())
 }
 
 /// Appends a prefix: the zeros that end its address are left out (RFC 3123 4).
 #[tactic(auto, using(crate::proofs::Prefixes::prefix_appended))]
-fn push_prefix(prefix: Prefix, out: &mut Vec<u8>) -> Result<(), AllocError>
+fn read_prefix(prefix: Prefix, out: &mut Vec<u8>) -> Result<(), AllocError>
     ensures { OnOk result (AppendsStated (IsPrefixOctets prefix) out.old.items out.new.items) }
 {
     let octets = prefix.address.octets();
@@ -165,4 +170,51 @@ fn bits_of(text: &[u8], address: Address) -> Option<u8>
         return None;
     }
     Some(bits as u8)
+}
+
+/// Appends the address of a family whose last octets, which are zero, may be left out.
+fn print_address(family: u16, octets: &[u8], out: &mut Vec<u8>) -> Result<(), Unprinted> {
+    let len = match family {
+        1 => 4,
+        2 => 16,
+        _ => return Err(Unprinted::NoData),
+    };
+    if octets.len() > len {
+        return Err(Unprinted::NoData);
+    }
+    let mut whole = [0; 16];
+    let (front, _) = whole.split_at_mut(octets.len());
+    front.copy_from_slice(octets);
+    if family == 1 {
+        print_ipv4(&whole, out)?;
+    } else {
+        print_ipv6(&whole, out)?;
+    }
+    Ok(())
+}
+
+/// Appends the prefix at the front (RFC 3123 4, 5), a blank before it, and gives what is left.
+fn print_prefix<'o>(octets: &'o [u8], out: &mut Vec<u8>) -> Result<&'o [u8], Unprinted>
+    ensures { IfOk result (λ rest. length rest.now < length octets.now) }
+{
+    let (family, rest) = take_u16(octets)?;
+    let (length, rest) = take_u8(rest)?;
+    let (count, rest) = take_u8(rest)?;
+    let (address, rest) = take(rest, usize::from(count % 128))?;
+    out.extend_from_slice(if count < 128 { b" " } else { b" !" })?;
+    print_decimal(u32::from(family), out)?;
+    out.extend_from_slice(b":")?;
+    print_address(family, address, out)?;
+    out.extend_from_slice(b"/")?;
+    print_decimal(u32::from(length), out)?;
+    Ok(rest)
+}
+
+/// Appends prefixes, a blank before each.
+pub(crate) fn print_prefixes(octets: &[u8], out: &mut Vec<u8>) -> Result<(), Unprinted> {
+    let mut rest = octets;
+    while !rest.is_empty() {
+        rest = print_prefix(rest, out)?;
+    }
+    Ok(())
 }

@@ -2,8 +2,11 @@ ghost use Rattle.std.specs.Prelude.{IfErr, OnOk};
 ghost use Rattle.zone_words.specs.Fault.{AppendsStated, IfFault};
 ghost use Rattle.zone_words.specs.Kinds.Salt.{FailsSalt, StatesSalt};
 
-use super::hexadecimal::push_counted_digits;
+use super::hexadecimal::read_counted_digits;
 use crate::fault::WordsFailing;
+use crate::taking::take_counted;
+use crate::unprinted::Unprinted;
+use zone_rdata::push_hex;
 
 /// Appends a salt after its length, of one octet: `-` is an empty one, and hexadecimal digits in
 /// either letter case are one of 1 to 255 octets (RFC 5155 3.3).
@@ -12,12 +15,23 @@ use crate::fault::WordsFailing;
 ///
 /// `NoHexadecimal` where the text is neither `-` nor the digits of octets, `TooLong` where these are
 /// more than 255, and `OutOfMemory` where memory is refused. `out` may then have some of the octets.
-pub(crate) fn push_salt(text: &[u8], out: &mut Vec<u8>) -> Result<(), WordsFailing>
+pub(crate) fn read_salt(text: &[u8], out: &mut Vec<u8>) -> Result<(), WordsFailing>
     ensures states { OnOk result (AppendsStated (StatesSalt text.now) out.old.items out.new.items) }
     ensures fault { IfErr result (IfFault (FailsSalt text.now)) }
 {
     if text == b"-".as_slice() {
         return Ok(out.extend_from_slice(&[0])?);
     }
-    push_counted_digits(text, out)
+    read_counted_digits(text, out)
+}
+
+/// Appends the salt at the front, `-` for one without octets (RFC 5155 3.3), and gives what is
+/// left.
+pub(crate) fn print_salt<'o>(octets: &'o [u8], out: &mut Vec<u8>) -> Result<&'o [u8], Unprinted> {
+    let (salt, rest) = take_counted(octets)?;
+    if salt.is_empty() {
+        out.extend_from_slice(b"-")?;
+    }
+    push_hex(salt, out)?;
+    Ok(rest)
 }

@@ -6,9 +6,14 @@ ghost use Rattle.zone_words.specs.Fault.{AppendsStated, IfFault};
 ghost use Rattle.zone_words.specs.FirstItem.{FirstFails, FirstStates};
 ghost use Rattle.zone_words.specs.Kinds.Strings.{FailsPerhaps, FailsString, FailsStrings, StatesPerhaps, StatesString, StatesStrings};
 ghost use Rattle.zone_words.specs.Machine.Strings.{failing_of_string};
+ghost use Rattle.std.specs.Prelude.{◌<◌, IfOk, length};
 
 use crate::data_item::DataItem;
 use crate::fault::{WordsFailing, WordsFault};
+use crate::taking::take_counted;
+use crate::unprinted::Unprinted;
+use std::alloc::AllocError;
+use zone_name::decimal_escape;
 use zone_rdata::{Failing, Fault, Item, NarrowFailing};
 
 /// Appends the string that an item is, after its length.
@@ -16,7 +21,7 @@ use zone_rdata::{Failing, Fault, Item, NarrowFailing};
 /// # Errors
 ///
 /// The leftmost of `BadEscape` and `StringTooLong`; and want of memory.
-fn push_string(item: Item, out: &mut Vec<u8>) -> Result<(), WordsFailing>
+fn read_string(item: Item, out: &mut Vec<u8>) -> Result<(), WordsFailing>
     ensures states { OnOk result
         (AppendsStated (StatesString (raw item.entry)) out.old.items out.new.items) }
     ensures fault { IfErr result (IfFault (FailsString (raw item.entry))) }
@@ -31,15 +36,15 @@ fn push_string(item: Item, out: &mut Vec<u8>) -> Result<(), WordsFailing>
 ///
 /// # Errors
 ///
-/// `NothingLeft` where there is no item, and those of `push_string`.
-pub(crate) fn push_first_string(items: &[DataItem], out: &mut Vec<u8>) -> Result<(), WordsFailing>
+/// `NothingLeft` where there is no item, and those of `read_string`.
+pub(crate) fn read_first_string(items: &[DataItem], out: &mut Vec<u8>) -> Result<(), WordsFailing>
     ensures states { OnOk result
         (AppendsStated (FirstStates StatesString (map raw_item items.now)) out.old.items
         out.new.items) }
     ensures fault { IfErr result (IfFault (FirstFails FailsString (map raw_item items.now))) }
 {
     match items.first() {
-        Some(first) => push_string(first.item, out),
+        Some(first) => read_string(first.item, out),
         None => Err(WordsFailing::Fault(WordsFault::NothingLeft)),
     }
 }
@@ -48,14 +53,14 @@ pub(crate) fn push_first_string(items: &[DataItem], out: &mut Vec<u8>) -> Result
 ///
 /// # Errors
 ///
-/// Those of `push_string`.
-pub(crate) fn push_perhaps_string(items: &[DataItem], out: &mut Vec<u8>) -> Result<(), WordsFailing>
+/// Those of `read_string`.
+pub(crate) fn read_perhaps_string(items: &[DataItem], out: &mut Vec<u8>) -> Result<(), WordsFailing>
     ensures states { OnOk result
         (AppendsStated (StatesPerhaps (map raw_item items.now)) out.old.items out.new.items) }
     ensures fault { IfErr result (IfFault (FailsPerhaps (map raw_item items.now))) }
 {
     match items.first() {
-        Some(first) => push_string(first.item, out),
+        Some(first) => read_string(first.item, out),
         None => Ok(()),
     }
 }
@@ -64,9 +69,9 @@ pub(crate) fn push_perhaps_string(items: &[DataItem], out: &mut Vec<u8>) -> Resu
 ///
 /// # Errors
 ///
-/// `NothingLeft` where there is no item, and those of `push_string`, of the leftmost item that has
+/// `NothingLeft` where there is no item, and those of `read_string`, of the leftmost item that has
 /// one. `out` may have got some of the strings.
-pub(crate) fn push_strings(items: &[DataItem], out: &mut Vec<u8>) -> Result<(), WordsFailing>
+pub(crate) fn read_strings(items: &[DataItem], out: &mut Vec<u8>) -> Result<(), WordsFailing>
     ensures states { OnOk result
         (AppendsStated (StatesStrings (map raw_item items.now)) out.old.items out.new.items) }
     ensures fault { IfErr result (IfFault (FailsStrings (map raw_item items.now))) }
@@ -75,7 +80,7 @@ pub(crate) fn push_strings(items: &[DataItem], out: &mut Vec<u8>) -> Result<(), 
         return Err(WordsFailing::Fault(WordsFault::NothingLeft));
     }
     for item in items {
-        push_string(item.item, out)?;
+        read_string(item.item, out)?;
     }
     Ok(())
 }
@@ -89,4 +94,41 @@ fn failing_of(failing: NarrowFailing) -> WordsFailing
         Failing::Fault(_) => WordsFailing::Fault(WordsFault::StringTooLong),
         Failing::Memory => WordsFailing::OutOfMemory,
     }
+}
+
+/// Appends an octet between quotes (RFC 1035 5.1).
+pub(crate) fn print_unit(octet: u8, out: &mut Vec<u8>) -> Result<(), AllocError> {
+    match octet {
+        b'"' | b'\\' => out.extend_from_slice(&[b'\\', octet]),
+        b' '..=b'~' => out.extend_from_slice(&[octet]),
+        _ => out.extend_from_slice(&decimal_escape(octet)),
+    }
+}
+
+/// Appends octets in quotes.
+pub(crate) fn print_quoted(octets: &[u8], out: &mut Vec<u8>) -> Result<(), AllocError> {
+    out.extend_from_slice(b"\"")?;
+    for octet in octets {
+        print_unit(*octet, out)?;
+    }
+    out.extend_from_slice(b"\"")
+}
+
+/// Appends the character-string at the front, in quotes, and gives what is left.
+pub(crate) fn print_string<'o>(octets: &'o [u8], out: &mut Vec<u8>) -> Result<&'o [u8], Unprinted>
+    ensures { IfOk result (λ rest. length rest.now < length octets.now) }
+{
+    let (string, rest) = take_counted(octets)?;
+    print_quoted(string, out)?;
+    Ok(rest)
+}
+
+/// Appends character-strings, a blank before each.
+pub(crate) fn print_strings(octets: &[u8], out: &mut Vec<u8>) -> Result<(), Unprinted> {
+    let mut rest = octets;
+    while !rest.is_empty() {
+        out.extend_from_slice(b" ")?;
+        rest = print_string(rest, out)?;
+    }
+    Ok(())
 }

@@ -5,13 +5,15 @@ ghost use Rattle.zone_words.specs.Fault.{AppendsStated, IfFault};
 ghost use Rattle.zone_words.specs.Kinds.Tag.{FailsTag, IsTag, StatesTag, is_letter_or_digit};
 
 use crate::fault::{WordsFailing, WordsFault};
+use crate::taking::take_counted;
+use crate::unprinted::Unprinted;
 
 /// Appends a tag of 1 to 255 letters and digits after its length.
 ///
 /// # Errors
 ///
 /// `NotATag` for any other text; and `OutOfMemory`.
-pub(crate) fn push_tag(text: &[u8], out: &mut Vec<u8>) -> Result<(), WordsFailing>
+pub(crate) fn read_tag(text: &[u8], out: &mut Vec<u8>) -> Result<(), WordsFailing>
     ensures states { OnOk result
         (AppendsStated (StatesTag text.now) out.old.items out.new.items) }
     ensures fault { IfErr result (IfFault (FailsTag text.now)) }
@@ -41,4 +43,11 @@ fn are_letters_and_digits(text: &[u8]) -> bool
         }
     }
     true
+}
+
+/// Appends the letters and digits at the front as they are (RFC 8659 4.1), and gives what is left.
+pub(crate) fn print_tag<'o>(octets: &'o [u8], out: &mut Vec<u8>) -> Result<&'o [u8], Unprinted> {
+    let (tag, rest) = take_counted(octets)?;
+    out.extend_from_slice(tag)?;
+    Ok(rest)
 }

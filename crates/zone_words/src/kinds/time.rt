@@ -8,9 +8,11 @@ ghost use Rattle.zone_words.specs.Fault.{AppendsStated, IfFault};
 ghost use Rattle.zone_words.specs.Kinds.Time.{AreFourteenDigits, AreSecondsOf, FailsTime, StatesTime, shown_in};
 
 mod calendar;
+mod date;
 
 use crate::fault::{WordsFailing, WordsFault};
 use calendar::DateTime;
+pub(crate) use date::print_time;
 use zone_rdata::decimal_of;
 
 /// Appends the four octets of a time: up to ten digits are seconds since 1970, and fourteen a date
@@ -20,7 +22,7 @@ use zone_rdata::decimal_of;
 ///
 /// `TooLarge` where up to ten digits are a number of more than 32 bits, `NotATime` for any other
 /// text that is no time; and `OutOfMemory`.
-pub(crate) fn push_time(text: &[u8], out: &mut Vec<u8>) -> Result<(), WordsFailing>
+pub(crate) fn read_time(text: &[u8], out: &mut Vec<u8>) -> Result<(), WordsFailing>
     ensures states { OnOk result
         (AppendsStated (StatesTime text.now) out.old.items out.new.items) }
     ensures fault { IfErr result (IfFault (FailsTime text.now)) }

@@ -8,10 +8,13 @@ ghost use Rattle.zone_words.specs.Fault.{AppendsStated, IfFault};
 ghost use Rattle.zone_words.specs.Kinds.Types.{FailsPerhapsTypes, FailsTypes, NamesType, StatesPerhapsTypes, StatesTypes};
 
 use super::bitmap::push_windows;
+use super::word::print_type_word;
 use crate::data_item::DataItem;
 use crate::fault::{WordsFailing, WordsFault};
 use crate::mnemonics::type_of_word;
-use std::alloc::Global;
+use crate::taking::{take_counted, take_u8};
+use crate::unprinted::Unprinted;
+use std::alloc::{AllocError, Global};
 use zone_rdata::Item;
 
 /// More types than most bitmaps have, so that room for them is made once.
@@ -23,7 +26,7 @@ const USUAL_TYPES: usize = 16;
 ///
 /// `NothingLeft` where there is no item; `NotAType` where an item is quoted, or is the word of no
 /// type of which records can be; and `OutOfMemory`. `out` may have got some of the octets.
-pub(crate) fn push_types(items: &[DataItem], out: &mut Vec<u8>) -> Result<(), WordsFailing>
+pub(crate) fn read_types(items: &[DataItem], out: &mut Vec<u8>) -> Result<(), WordsFailing>
     ensures states { OnOk result
         (AppendsStated (StatesTypes (map raw_item items.now)) out.old.items out.new.items) }
     ensures fault { IfErr result (IfFault (FailsTypes (map raw_item items.now))) }
@@ -31,7 +34,7 @@ pub(crate) fn push_types(items: &[DataItem], out: &mut Vec<u8>) -> Result<(), Wo
     if items.is_empty() {
         return Err(WordsFailing::Fault(WordsFault::NothingLeft));
     }
-    push_perhaps_types(items, out)
+    read_perhaps_types(items, out)
 }
 
 /// Appends the bitmap of the types that items name, in any order: no octets where there is no item.
@@ -40,7 +43,7 @@ pub(crate) fn push_types(items: &[DataItem], out: &mut Vec<u8>) -> Result<(), Wo
 ///
 /// `NotAType` where an item is quoted, or is the word of no type of which records can be; and
 /// `OutOfMemory`. `out` may have got some of the octets.
-pub(crate) fn push_perhaps_types(items: &[DataItem], out: &mut Vec<u8>) -> Result<(), WordsFailing>
+pub(crate) fn read_perhaps_types(items: &[DataItem], out: &mut Vec<u8>) -> Result<(), WordsFailing>
     ensures states { OnOk result
         (AppendsStated (StatesPerhapsTypes (map raw_item items.now)) out.old.items out.new.items) }
     ensures fault { IfErr result (IfFault (FailsPerhapsTypes (map raw_item items.now))) }
@@ -76,4 +79,45 @@ fn type_of_item(item: Item) -> Option<u16>
         Item::Bare(word) => type_of_word(word),
         Item::Quoted(_) => None,
     }
+}
+
+/// Appends the words of the types whose bits are set in an octet, the first of which is that of
+/// this type, a blank before each.
+fn print_octet(first: u16, octet: u8, out: &mut Vec<u8>) -> Result<(), AllocError> {
+    let mut number = first;
+    for bit in [128, 64, 32, 16, 8, 4, 2, 1] {
+        if octet & bit != 0 {
+            out.push(b' ')?;
+            print_type_word(number, out)?;
+        }
+        number = number.wrapping_add(1);
+    }
+    Ok(())
+}
+
+/// Appends the words of the types whose bits are set in octets, the first of which has the bit of
+/// this type, a blank before each.
+fn print_window(first: u16, octets: &[u8], out: &mut Vec<u8>) -> Result<(), AllocError> {
+    let mut number = first;
+    for octet in octets {
+        // Most are zero.
+        if *octet != 0 {
+            print_octet(number, *octet, out)?;
+        }
+        number = number.wrapping_add(8);
+    }
+    Ok(())
+}
+
+/// Appends the words of the types of a bitmap, window after window (RFC 4034 4.1.2), a blank before
+/// each.
+pub(crate) fn print_types(octets: &[u8], out: &mut Vec<u8>) -> Result<(), Unprinted> {
+    let mut rest = octets;
+    while !rest.is_empty() {
+        let (window, after) = take_u8(rest)?;
+        let (bits, after) = take_counted(after)?;
+        print_window(u16::from(window) * 256, bits, out)?;
+        rest = after;
+    }
+    Ok(())
 }

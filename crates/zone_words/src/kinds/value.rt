@@ -15,15 +15,15 @@ use zone_rdata::Item;
 ///
 /// # Errors
 ///
-/// `NothingLeft` where there is no item, and those of `push_value`.
-pub(crate) fn push_first_value(items: &[DataItem], out: &mut Vec<u8>) -> Result<(), WordsFailing>
+/// `NothingLeft` where there is no item, and those of `read_value`.
+pub(crate) fn read_first_value(items: &[DataItem], out: &mut Vec<u8>) -> Result<(), WordsFailing>
     ensures states { OnOk result
         (AppendsStated (FirstStates StatesValue (map raw_item items.now)) out.old.items
         out.new.items) }
     ensures fault { IfErr result (IfFault (FirstFails FailsValue (map raw_item items.now))) }
 {
     match items.first() {
-        Some(first) => push_value(first.item, out),
+        Some(first) => read_value(first.item, out),
         None => Err(WordsFailing::Fault(WordsFault::NothingLeft)),
     }
 }
@@ -32,8 +32,8 @@ pub(crate) fn push_first_value(items: &[DataItem], out: &mut Vec<u8>) -> Result<
 ///
 /// # Errors
 ///
-/// `NothingLeft` where there is no item, and those of `push_quoted_value`.
-pub(crate) fn push_first_quoted_value(
+/// `NothingLeft` where there is no item, and those of `read_quoted_value`.
+pub(crate) fn read_first_quoted_value(
     items: &[DataItem],
     out: &mut Vec<u8>,
 ) -> Result<(), WordsFailing>
@@ -44,7 +44,7 @@ pub(crate) fn push_first_quoted_value(
         (IfFault (FirstFails FailsQuotedValue (map raw_item items.now))) }
 {
     match items.first() {
-        Some(first) => push_quoted_value(first.item, out),
+        Some(first) => read_quoted_value(first.item, out),
         None => Err(WordsFailing::Fault(WordsFault::NothingLeft)),
     }
 }
@@ -55,7 +55,7 @@ pub(crate) fn push_first_quoted_value(
 ///
 /// `BadEscape` where a backslash begins no escape; and `OutOfMemory`. `out` may have got some of
 /// the octets.
-fn push_value(item: Item, out: &mut Vec<u8>) -> Result<(), WordsFailing>
+fn read_value(item: Item, out: &mut Vec<u8>) -> Result<(), WordsFailing>
     ensures states { OnOk result
         (AppendsStated (StatesValue (raw item.entry)) out.old.items out.new.items) }
     ensures fault { IfErr result (IfFault (FailsValue (raw item.entry))) }
@@ -71,7 +71,7 @@ fn push_value(item: Item, out: &mut Vec<u8>) -> Result<(), WordsFailing>
 ///
 /// `NotQuoted` for a bare item, `BadEscape` where a backslash begins no escape; and `OutOfMemory`.
 /// `out` may have got some of the octets.
-fn push_quoted_value(item: Item, out: &mut Vec<u8>) -> Result<(), WordsFailing>
+fn read_quoted_value(item: Item, out: &mut Vec<u8>) -> Result<(), WordsFailing>
     ensures states { OnOk result
         (AppendsStated (StatesQuotedValue (raw item.entry)) out.old.items out.new.items) }
     ensures fault { IfErr result (IfFault (FailsQuotedValue (raw item.entry))) }

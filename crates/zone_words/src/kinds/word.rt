@@ -6,9 +6,15 @@ ghost use Rattle.zone_words.specs.Fault.{AppendsStated, IfFault};
 ghost use Rattle.zone_words.specs.Kinds.Word.{FailsAlgorithm, FailsCertificateType, FailsType, StatesAlgorithm, StatesCertificateType, StatesType};
 ghost use Rattle.zone_words.specs.Mnemonics.{IsAlgorithm};
 
-use super::number::{push_one_octet, push_two_octets};
+use super::number::{print_decimal, push_one_octet, push_two_octets};
 use crate::fault::{WordsFailing, WordsFault};
-use crate::mnemonics::{ALGORITHMS, CERTIFICATE_TYPES, FURTHER_ALGORITHMS, type_of_word};
+use crate::mnemonics::{
+    ALGORITHMS, CERTIFICATE_TYPES, FURTHER_ALGORITHMS, certificate_mnemonic, type_mnemonic,
+    type_of_word,
+};
+use crate::taking::take_u16;
+use crate::unprinted::Unprinted;
+use std::alloc::AllocError;
 use zone_rdata::number_of_word;
 
 /// The number of an algorithm of DNSSEC, in digits or by a mnemonic in any letter case (RFC 4034
@@ -29,7 +35,7 @@ fn algorithm_of(text: &[u8]) -> Option<u64>
 /// # Errors
 ///
 /// `NotANumber` where it is neither, `TooLarge` and want of memory.
-pub(crate) fn push_algorithm(text: &[u8], out: &mut Vec<u8>) -> Result<(), WordsFailing>
+pub(crate) fn read_algorithm(text: &[u8], out: &mut Vec<u8>) -> Result<(), WordsFailing>
     ensures states { OnOk result
         (AppendsStated (StatesAlgorithm text.now) out.old.items out.new.items) }
     ensures fault { IfErr result (IfFault (FailsAlgorithm text.now)) }
@@ -44,7 +50,7 @@ pub(crate) fn push_algorithm(text: &[u8], out: &mut Vec<u8>) -> Result<(), Words
 /// # Errors
 ///
 /// `NotANumber` where it is neither, `TooLarge` and want of memory.
-pub(crate) fn push_certificate_type(text: &[u8], out: &mut Vec<u8>) -> Result<(), WordsFailing>
+pub(crate) fn read_certificate_type(text: &[u8], out: &mut Vec<u8>) -> Result<(), WordsFailing>
     ensures states { OnOk result
         (AppendsStated (StatesCertificateType text.now) out.old.items out.new.items) }
     ensures fault { IfErr result (IfFault (FailsCertificateType text.now)) }
@@ -59,7 +65,7 @@ pub(crate) fn push_certificate_type(text: &[u8], out: &mut Vec<u8>) -> Result<()
 /// # Errors
 ///
 /// `NotAType` where it is the word of none of which records can be, and want of memory.
-pub(crate) fn push_type(word: &[u8], out: &mut Vec<u8>) -> Result<(), WordsFailing>
+pub(crate) fn read_type(word: &[u8], out: &mut Vec<u8>) -> Result<(), WordsFailing>
     ensures states { OnOk result
         (AppendsStated (StatesType word.now) out.old.items out.new.items) }
     ensures fault { IfErr result (IfFault (FailsType word.now)) }
@@ -69,4 +75,36 @@ pub(crate) fn push_type(word: &[u8], out: &mut Vec<u8>) -> Result<(), WordsFaili
     };
     out.extend_from_slice(&number.to_be_bytes())?;
     Ok(())
+}
+
+/// Appends the word of a type: its mnemonic, or TYPE and its number (RFC 3597 5).
+pub(super) fn print_type_word(number: u16, out: &mut Vec<u8>) -> Result<(), AllocError> {
+    match type_mnemonic(number) {
+        Some(mnemonic) => out.extend_from_slice(mnemonic),
+        None => {
+            out.extend_from_slice(b"TYPE")?;
+            print_decimal(u32::from(number), out)
+        }
+    }
+}
+
+/// Appends the word of the type at the front, and gives what is left.
+pub(crate) fn print_type<'o>(octets: &'o [u8], out: &mut Vec<u8>) -> Result<&'o [u8], Unprinted> {
+    let (number, rest) = take_u16(octets)?;
+    print_type_word(number, out)?;
+    Ok(rest)
+}
+
+/// Appends the type of a certificate at the front, by its mnemonic or else in decimal (RFC 4398
+/// 2.1), and gives what is left.
+pub(crate) fn print_certificate_type<'o>(
+    octets: &'o [u8],
+    out: &mut Vec<u8>,
+) -> Result<&'o [u8], Unprinted> {
+    let (number, rest) = take_u16(octets)?;
+    match certificate_mnemonic(number) {
+        Some(mnemonic) => out.extend_from_slice(mnemonic)?,
+        None => print_decimal(u32::from(number), out)?,
+    }
+    Ok(rest)
 }

@@ -22,7 +22,7 @@ pub(super) enum Version {
 /// # Errors
 ///
 /// `NotAValue`; and want of memory. Either leaves `out` unchanged.
-fn push_address(version: Version, text: &[u8], out: &mut Vec<u8>) -> Result<(), WordsFailing>
+fn read_address(version: Version, text: &[u8], out: &mut Vec<u8>) -> Result<(), WordsFailing>
     ensures stated { OnOk result
         (AppendsStated (IsAddressOf version text.now) out.old.items out.new.items) }
     ensures fault { IfErr result
@@ -51,7 +51,7 @@ fn push_address(version: Version, text: &[u8], out: &mut Vec<u8>) -> Result<(), 
 /// # Errors
 ///
 /// `NotAValue`; and want of memory. Some of the octets may have been appended.
-pub(super) fn push_addresses(
+pub(super) fn read_addresses(
     version: Version,
     text: &[u8],
     out: &mut Vec<u8>,
@@ -63,9 +63,9 @@ pub(super) fn push_addresses(
 {
     let mut rest = text;
     while let Some((address, after)) = cut_at_first(rest, b',') {
-        push_address(version, address, out)?;
+        read_address(version, address, out)?;
         rest = after;
     }
-    push_address(version, rest, out)?;
+    read_address(version, rest, out)?;
     Ok(())
 }

@@ -64,7 +64,7 @@ fn ascending_keys(alloc: Global, text: &[u8]) -> Result<Vec<u16>, WordsFailing>
 }
 
 /// Appends the octets of numbers of 16 bits.
-fn push_numbers(numbers: &[u16], out: &mut Vec<u8>) -> Result<(), AllocError>
+fn read_numbers(numbers: &[u16], out: &mut Vec<u8>) -> Result<(), AllocError>
     ensures { OnOk result
         (out.new.items ≡ out.old.items ++ flat_map (to_be_bytes w16) numbers.now) }
 {
@@ -79,7 +79,7 @@ fn push_numbers(numbers: &[u16], out: &mut Vec<u8>) -> Result<(), AllocError>
 /// # Errors
 ///
 /// `NotAValue`; and want of memory. Some of either may have been appended.
-pub(super) fn push_mandatory(
+pub(super) fn read_mandatory(
     text: &[u8],
     required: &mut Vec<u16>,
     out: &mut Vec<u8>,
@@ -92,7 +92,7 @@ pub(super) fn push_mandatory(
         (IfFault (NothingStated faults.NotAValue (StatesKeys text.now))) }
 {
     let numbers = ascending_keys(*out.allocator(), text)?;
-    push_numbers(numbers.as_slice(), out)?;
+    read_numbers(numbers.as_slice(), out)?;
     required.extend_from_slice(numbers.as_slice())?;
     Ok(())
 }

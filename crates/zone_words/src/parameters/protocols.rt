@@ -70,7 +70,7 @@ fn first_item(text: &[u8]) -> Option<(ArrayVec<u8, 255>, Option<&[u8]>)>
 }
 
 /// Appends the items of a list, each after its length.
-fn push_items(text: &[u8], out: &mut Vec<u8>) -> Result<(), WordsFailing>
+fn read_items(text: &[u8], out: &mut Vec<u8>) -> Result<(), WordsFailing>
     ensures stated { OnOk result
         (AppendsStated (ReadsItems text.now) out.old.items out.new.items) }
     ensures fault { IfErr result
@@ -96,13 +96,13 @@ fn push_items(text: &[u8], out: &mut Vec<u8>) -> Result<(), WordsFailing>
 ///
 /// `BadEscape` where an escape of the text is none, and else `NotAValue`; and want of memory. Some
 /// of the octets may have been appended.
-pub(super) fn push_protocols(text: &[u8], out: &mut Vec<u8>) -> Result<(), WordsFailing>
+pub(super) fn read_protocols(text: &[u8], out: &mut Vec<u8>) -> Result<(), WordsFailing>
     ensures stated { OnOk result
         (AppendsStated (ListsProtocols text.now) out.old.items out.new.items) }
     ensures fault { IfErr result (IfFault (FailsEscaped ListsProtocols text.now)) }
 {
     let mut spelt = Vec::new(*out.allocator());
     push_unescaped(text, &mut spelt)?;
-    push_items(spelt.as_slice(), out)?;
+    read_items(spelt.as_slice(), out)?;
     Ok(())
 }

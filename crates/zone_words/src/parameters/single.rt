@@ -14,7 +14,7 @@ use zone_rdata::decimal_of;
 /// # Errors
 ///
 /// `NotAValue`; and want of memory. Either leaves `out` unchanged.
-pub(super) fn push_port(text: &[u8], out: &mut Vec<u8>) -> Result<(), WordsFailing>
+pub(super) fn read_port(text: &[u8], out: &mut Vec<u8>) -> Result<(), WordsFailing>
     ensures stated { OnOk result
         (AppendsStated (StatesPort text.now) out.old.items out.new.items) }
     ensures fault { IfErr result
@@ -34,7 +34,7 @@ pub(super) fn push_port(text: &[u8], out: &mut Vec<u8>) -> Result<(), WordsFaili
 /// # Errors
 ///
 /// `NotAValue`; and want of memory. Some of the octets may have been appended.
-pub(super) fn push_ech(text: &[u8], out: &mut Vec<u8>) -> Result<(), WordsFailing>
+pub(super) fn read_ech(text: &[u8], out: &mut Vec<u8>) -> Result<(), WordsFailing>
     ensures stated { OnOk result
         (AppendsStated (StatesEch text.now) out.old.items out.new.items) }
     ensures fault { IfErr result
@@ -52,7 +52,7 @@ pub(super) fn push_ech(text: &[u8], out: &mut Vec<u8>) -> Result<(), WordsFailin
 /// # Errors
 ///
 /// `NotAValue` where there is a value.
-pub(super) fn push_none(text: &[u8], out: &mut Vec<u8>) -> Result<(), WordsFailing>
+pub(super) fn read_none(text: &[u8], out: &mut Vec<u8>) -> Result<(), WordsFailing>
     ensures stated { OnOk result
         (AppendsStated (StatesNone text.now) out.old.items out.new.items) }
     ensures fault { IfErr result
@@ -70,7 +70,7 @@ pub(super) fn push_none(text: &[u8], out: &mut Vec<u8>) -> Result<(), WordsFaili
 ///
 /// `BadEscape` where an escape of the text is none, `NotAValue` where the text is empty; and want
 /// of memory. Some of the octets may have been appended.
-pub(super) fn push_path(text: &[u8], out: &mut Vec<u8>) -> Result<(), WordsFailing>
+pub(super) fn read_path(text: &[u8], out: &mut Vec<u8>) -> Result<(), WordsFailing>
     ensures stated { OnOk result
         (AppendsStated (StatesPath text.now) out.old.items out.new.items) }
     ensures fault { IfErr result (IfFault (FailsEscaped StatesPath text.now)) }

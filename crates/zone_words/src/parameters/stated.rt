@@ -11,7 +11,7 @@ ghost use Rattle.zone_words.specs.declared.fault.WordsFault.TheVariants as fault
 
 use super::key::key_of;
 use super::text::{ParameterText, first_parameter};
-use super::value::push_value;
+use super::value::read_value;
 use crate::data_item::DataItem;
 use crate::fault::{WordsFailing, WordsFault};
 use std::alloc::{AllocError, Global};
@@ -43,7 +43,7 @@ fn add_parameter(text: ParameterText, stated: &mut Stated) -> Result<(), WordsFa
         return Err(WordsFault::RepeatedKey.into());
     }
     let mut value = Vec::new(*stated.required.allocator());
-    push_value(key, text.value, &mut stated.required, &mut value)?;
+    read_value(key, text.value, &mut stated.required, &mut value)?;
     match stated.values.insert(number, value) {
         Ok(_) => Ok(()),
         Err(failed) => Err(AllocError::from(failed).into()),
@@ -68,7 +68,7 @@ fn read_parameter(items: &[DataItem], stated: &mut Stated) -> Result<usize, Word
 }
 
 /// Reads the parameters that all the items state.
-pub(super) fn read_parameters(alloc: Global, items: &[DataItem]) -> Result<Stated, WordsFailing>
+pub(super) fn stated_parameters(alloc: Global, items: &[DataItem]) -> Result<Stated, WordsFailing>
     ensures found { IfOk result (HasStated (map given items.now) []) }
     ensures fault { IfErr result (IfFault (FailsParameters (map given items.now))) }
 {

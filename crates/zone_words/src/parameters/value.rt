@@ -2,11 +2,11 @@ ghost use Rattle.std.specs.Prelude.{IfErr, OnOk};
 ghost use Rattle.zone_words.specs.Fault.{AppendsStated, IfFault};
 ghost use Rattle.zone_words.specs.Parameters.Value.{FailsValue, RequiresKeys, StatesValue};
 
-use super::addresses::{Version, push_addresses};
+use super::addresses::{Version, read_addresses};
 use super::key::Key;
-use super::keys::push_mandatory;
-use super::protocols::push_protocols;
-use super::single::{push_ech, push_none, push_path, push_port};
+use super::keys::read_mandatory;
+use super::protocols::read_protocols;
+use super::single::{read_ech, read_none, read_path, read_port};
 use crate::fault::WordsFailing;
 use crate::unescaped::push_unescaped;
 
@@ -17,7 +17,7 @@ use crate::unescaped::push_unescaped;
 ///
 /// `BadEscape` where escapes are undone and one is none, and else `NotAValue`; and want of memory.
 /// Some of either may have been appended.
-pub(super) fn push_value(
+pub(super) fn read_value(
     key: Key,
     text: &[u8],
     required: &mut Vec<u16>,
@@ -30,15 +30,15 @@ pub(super) fn push_value(
     ensures fault { IfErr result (IfFault (FailsValue key text.now)) }
 {
     match key {
-        Key::Mandatory => push_mandatory(text, required, out),
-        Key::Alpn => push_protocols(text, out),
-        Key::NoDefaultAlpn => push_none(text, out),
-        Key::Port => push_port(text, out),
-        Key::Ipv4Hint => push_addresses(Version::V4, text, out),
-        Key::Ech => push_ech(text, out),
-        Key::Ipv6Hint => push_addresses(Version::V6, text, out),
-        Key::DohPath => push_path(text, out),
-        Key::Ohttp => push_none(text, out),
+        Key::Mandatory => read_mandatory(text, required, out),
+        Key::Alpn => read_protocols(text, out),
+        Key::NoDefaultAlpn => read_none(text, out),
+        Key::Port => read_port(text, out),
+        Key::Ipv4Hint => read_addresses(Version::V4, text, out),
+        Key::Ech => read_ech(text, out),
+        Key::Ipv6Hint => read_addresses(Version::V6, text, out),
+        Key::DohPath => read_path(text, out),
+        Key::Ohttp => read_none(text, out),
         Key::Numbered(_) => push_unescaped(text, out),
     }
 }
