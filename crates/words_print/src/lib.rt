@@ -3,16 +3,10 @@
 #![tactic(auto)]
 
 mod class_stated;
-mod data;
 mod digits;
-mod field;
 mod generic_line;
-mod kinds;
 pub mod laws;
 mod line_printer;
-mod parameters;
-mod taking;
-mod unprinted;
 mod words_printer;
 
 pub use line_printer::print_line;

@@ -8,14 +8,12 @@ ghost use Rattle.zone_words.specs.Entry.{IsRewriting};
 ghost use Rattle.zone_words.specs.Fault.{AppendsStated};
 
 use crate::class_stated::{ClassStated, class_stated, room_for_items};
-use crate::data::push_words;
 use crate::digits::read_digits;
 use crate::generic_line::{GenericLine, generic_line};
-use crate::unprinted::Unprinted;
 use std::alloc::{AllocError, Global};
 use zone_name::CasedName;
 use zone_rdata::Item;
-use zone_words::Rewriter;
+use zone_words::{Rewriter, Unprinted, print_data};
 
 /// A printer of lines in words. It keeps the room that it needs from line to line, and nothing in
 /// it.
@@ -161,7 +159,7 @@ impl LinePrinter {
         if !read_digits(found.digits(), &mut self.octets)? {
             return Ok(false);
         }
-        match push_words(found.further.fields, &self.octets, &mut self.words) {
+        match print_data(found.further.fields, &self.octets, &mut self.words) {
             Ok(()) => Ok(are_printed(&self.words)),
             Err(Unprinted::NoData) => Ok(false),
             Err(Unprinted::OutOfMemory) => Err(AllocError),

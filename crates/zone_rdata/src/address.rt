@@ -8,4 +8,4 @@ mod printing;
 pub use groups::four_groups_of;
 pub use ipv4::ipv4_octets_of;
 pub use ipv6::ipv6_octets_of;
-pub(crate) use printing::{push_ipv4, push_ipv6};
+pub use printing::{push_ipv4, push_ipv6};

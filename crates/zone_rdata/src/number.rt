@@ -43,7 +43,7 @@ pub(crate) fn at_most(most: u32, number: Option<u64>) -> Result<u32, Cause>
 }
 
 /// Appends a number in decimal.
-pub(crate) fn push_decimal<S: Sink>(number: u32, out: &mut S) -> Result<(), S::Error>
+pub fn push_decimal<S: Sink>(number: u32, out: &mut S) -> Result<(), S::Error>
     ensures ok { OnOk result (S.takes out.old (decimal number) out.new) }
     ensures err { OnErr result (S.takes out.old [] out.new) }
 {

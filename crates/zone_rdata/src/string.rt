@@ -112,7 +112,7 @@ fn string_of(item: Item<'_>) -> Result<ArrayVec<u8, LONGEST_STRING>, Cause>
 /// # Errors
 ///
 /// `out` refuses octets. A prefix of the text may have been appended.
-pub(crate) fn push_string_text<S: Sink>(octets: &[u8], out: &mut S) -> Result<(), S::Error>
+pub fn push_string_text<S: Sink>(octets: &[u8], out: &mut S) -> Result<(), S::Error>
     ensures ok { OnOk result (S.takes out.old (string_text octets.now) out.new) }
     ensures err { OnErr result (TakesSome S.takes out.old out.new) }
 {

@@ -8,6 +8,7 @@ pub mod Field
 pub mod Table
 pub mod Data
 pub mod Parameters
+pub mod Printed
 pub mod Machine
 pub mod Written
 pub mod Rewriting

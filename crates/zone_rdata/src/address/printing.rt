@@ -172,7 +172,7 @@ fn text_of_ipv6(octets: &[u8]) -> ArrayVec<u8, ROOM>
 /// # Errors
 ///
 /// `out` refuses the octets, and is unchanged.
-pub(crate) fn push_ipv4<S: Sink>(octets: &[u8], out: &mut S) -> Result<(), S::Error>
+pub fn push_ipv4<S: Sink>(octets: &[u8], out: &mut S) -> Result<(), S::Error>
     requires { length octets.now ≡ 4 }
     ensures ok { OnOk result (S.takes out.old (ipv4_text octets.now) out.new) }
     ensures err { OnErr result (S.takes out.old [] out.new) }
@@ -186,7 +186,7 @@ pub(crate) fn push_ipv4<S: Sink>(octets: &[u8], out: &mut S) -> Result<(), S::Er
 /// # Errors
 ///
 /// `out` refuses the octets, and is unchanged.
-pub(crate) fn push_ipv6<S: Sink>(octets: &[u8], out: &mut S) -> Result<(), S::Error>
+pub fn push_ipv6<S: Sink>(octets: &[u8], out: &mut S) -> Result<(), S::Error>
     requires { length octets.now ≡ 16 }
     ensures ok { OnOk result (S.takes out.old (ipv6_text octets.now) out.new) }
     ensures err { OnErr result (S.takes out.old [] out.new) }

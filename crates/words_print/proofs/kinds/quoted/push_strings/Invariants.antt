@@ -1,5 +1,0 @@
-use Rattle.std.proofs.Common.{length}
-use Rattle.words_print.proofs.kinds.quoted.push_strings.Given as goal
-
-abbrev pub decreases-loop-rest : goal.decreases-loop-rest
-decreases-loop-rest l = length l.rest
