@@ -42,7 +42,7 @@ units_feedless (w ∷ units) each = omega (arith, append_octets (text_of w) (wri
 blank_feedless : (c : ℕ) → IsToken (blank c) → line_feeds (token_text (blank c)) ≡ 0
 blank_feedless c is = none_counted (c ∷ []) ((λ e. both_ways (is_blank c) (ap is_blank e) is), tt)
 
-bare_feedless : (units : List Written) → IsToken (bare units) → line_feeds (token_text (bare units)) ≡ 0
+pub bare_feedless : (units : List Written) → IsToken (bare units) → line_feeds (token_text (bare units)) ≡ 0
 bare_feedless units is = units_feedless units is.1
 
 quoted_feeds : (units : List Written) → line_feeds (token_text (quoted units)) ≡ line_feeds (written_text units)

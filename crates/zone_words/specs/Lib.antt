@@ -21,3 +21,4 @@ pub mod NoFurther
 pub mod CutAlike
 pub mod FaultText
 pub mod Unescaped
+pub mod WordsLine

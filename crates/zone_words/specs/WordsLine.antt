@@ -1,0 +1,64 @@
+-- A record of a further type on one line of a master file, with its data in words and in the
+-- generic form (RFC 1035 5.1, RFC 3597 5).
+use Rattle.std.specs.Prelude.{◌≡◌, ◌≢◌, ℕ, List, [], ◌∷◌, ◌++◌, Bool, true, if◌then◌else◌, slice_get, IfSome, ⊤}
+use Rattle.zone_name.specs.Spelling.{Written, written_text}
+use Rattle.zone_rdata.specs.Item.{RawItem}
+use Rattle.zone_rdata.specs.Item as raw
+use Rattle.zone_rdata.specs.Strings.{StandsInQuotes}
+use Rattle.zone_rdata.specs.Text.{written_item}
+use Rattle.zone_rdata.specs.Words.{IsClass, IsClassWord}
+use Rattle.zone_text.specs.Inherited.{IsTtl}
+use Rattle.zone_text.specs.Tokens.{IsToken, bare, text}
+use Rattle.zone_words.specs.DataItem.{TouchingItem}
+use Rattle.zone_words.specs.Table.{FurtherType}
+use Rattle.zone_words.specs.Written.{generic_tokens}
+
+-- a text that is one bare item
+pub record IsBareText (text : List ℕ) : Type 0 where
+  pub units : List Written
+  pub is : IsToken (bare units)
+  pub spelt : text ≡ written_text units
+
+-- an item that stands on a line as it is
+abbrev pub Stands : RawItem → Type 0
+Stands (raw.bare text) = IsBareText text
+Stands (raw.quoted text) = StandsInQuotes text
+
+abbrev pub IsQuoted : RawItem → Type 0
+IsQuoted (raw.bare text) = ⊥
+IsQuoted (raw.quoted text) = ⊤
+
+-- it stands so, and in quotes if it touches the item before it
+pub record StandsBehind (i : TouchingItem) : Type 0 where
+  pub stands : Stands i.item
+  pub parted : i.touches ≡ true → IsQuoted i.item
+
+-- items one after another: a blank stands before each that doesn't touch the one before it
+abbrev pub written_items : List TouchingItem → List ℕ
+written_items [] = []
+written_items (i ∷ items) =
+    (if i.touches then [] else 32 ∷ []) ++ (written_item i.item ++ written_items items)
+
+-- what stands before the type: the owner, the TTL and the class, each before a blank
+pub record IsHead (head : List ℕ) (class : ℕ) : Type 0 where
+  pub owner : List ℕ
+  pub ttl : List ℕ
+  pub word : List ℕ
+  pub whole : head ≡ owner ++ 32 ∷ (ttl ++ 32 ∷ (word ++ 32 ∷ []))
+  pub owner_stands : IsBareText owner
+  pub no_directive : IfSome (slice_get owner 0) (λ c. c ≢ 36)
+  pub ttl_stands : IsBareText ttl
+  pub seconds : ℕ
+  pub is_ttl : IsTtl ttl seconds
+  pub word_stands : IsBareText word
+  pub is_word : IsClassWord word class
+  pub is_class : IsClass class
+
+-- the line of a record with its data in words
+abbrev pub words_line : List ℕ → FurtherType → List TouchingItem → List ℕ
+words_line head further items = head ++ (further.mnemonic ++ (written_items items ++ 10 ∷ []))
+
+-- the same with its data in the generic form
+abbrev pub generic_line : List ℕ → FurtherType → List ℕ → List ℕ
+generic_line head further octets =
+    head ++ (text (generic_tokens further.number octets) ++ 10 ∷ [])
