@@ -1,6 +1,6 @@
 -- A record in words on one line is rewritten as the record with its data in the generic form.
 use Rattle.zone_words.proofs.Common.{AllByRecursion, AllByRecursion-append, AreOnOneLine, BecomesUnder, Bool, Cuts, Entry, FurtherType, HasClass, IsFurtherRecord, IsFurtherUnder, IsFurtherWord, IsGeneric, IsMnemonic, IsRewriting, IsToken, IsUnit, Labels, List, MatchOption, Named, None, Option, Parts, RawItem, Refused, SaysAnew, Some, StatesData, Token, TokensSay, TouchingItem, Word, Written, [], and_last, anew, ap, append-nil, append_assoc, arith, blank, by_mnemonic, class_among, closing, codes, comment, common_steps, count_by, cut_from, encode_lower, ends_item, entry_of, escaped, false, false≢true, filter, find, find_mapped, flat_map, flat_map-append, folded_label, found_each, further_names, further_type, further_types, generic_tokens, if◌then◌else◌, in_class, is_blank, item_of, latest, length, length-append, line_feed, line_feeds_in, list_all, map, mnemonic_among, most_items, nat_tests, not, not-true, opening, option_map, option_or, owned, parts_after, parts_in, plain, refl, slice_get, statement_by, statement_of, stays, subst, suc, sym, text, token_text, touching_items, true, type_token, word, word_after, written, written_text, zero, ℕ, ◌++◌, ◌+◌, ◌<◌, ◌==◌, ◌∙◌, ◌∷◌, ◌≡◌, ◌≢◌}
-use Rattle.std.specs.Prelude.{◌&&◌, nat_lt, IfSome, option_and_then}
+use Rattle.std.specs.Prelude.{◌&&◌, nat_lt, IfSome, IsSome, option_and_then}
 use Rattle.std.proofs.lemmas.List.{length-map}
 use Rattle.std.proofs.lemmas.List.Sums.{sum_by-cons}
 use Rattle.zone_text.specs.Entries.{in_front_of}
@@ -15,6 +15,7 @@ use Rattle.zone_rdata.specs.Words.{IsClass, IsClassWord}
 use Rattle.zone_text.proofs.Heads.ClassWords.{class_word_first, class_word_known, time_first}
 use Rattle.zone_text.proofs.Heads.WordsLeft.{next_part}
 use Rattle.zone_text.specs.Entries.{Cut}
+use Rattle.zone_text.specs.FirstEntry.{IsOneEntry}
 use Rattle.zone_text.specs.Inherited.{class_word}
 use Rattle.zone_text.specs.Records.{HasValue}
 use Rattle.zone_text.specs.Statements.{begins_with_digit, class, is_class_word, ttl}
@@ -25,6 +26,7 @@ use Rattle.zone_words.specs.DataItem.{items_of}
 use Rattle.zone_words.specs.Entry.{in_words}
 use Rattle.zone_words.specs.Rewriting.{EachBecomes, whole}
 use Rattle.zone_words.specs.Table.{fields_in}
+use Rattle.zone_words.specs.PrintedData.{PrintsData}
 use Rattle.zone_words.specs.WordsLine.{IsBareText, IsHead, IsQuoted, Stands, StandsBehind, generic_line, words_line, written_items}
 use Rattle.zone_words.specs.Written.{Anew, digit_tokens, in_octets}
 
@@ -302,7 +304,10 @@ record_parts ttl_text class_text type_text items is_ttl no_ttl is_class none =
     ∙ next_part (ttl ttl_text ∷ []) (raw.bare class_text) (raw.bare type_text ∷ items) (Some (class class_text)) (rw (no_ttl, is_class) refl)
     ∙ next_part (ttl ttl_text ∷ class class_text ∷ []) (raw.bare type_text) items None (none (ttl ttl_text ∷ class class_text ∷ []))
 
-module _ (origin : Labels) (head : List ℕ) (class_number : ℕ) (further : FurtherType) (items : List TouchingItem) (octets : List ℕ) (h : IsHead head class_number) (row : further_type further.number ≡ Some further) (alone : further.in_internet_alone ≡ true → class_number ≡ in_class) (s : AllByRecursion StandsBehind items) (few : length items + 4 < most_items) (words : IsGeneric (items_of items) → ⊥) (states : StatesData origin (fields_in further.fields items) (in_order further.fields) items octets) where
+module _ (head : List ℕ) (class_number : ℕ) (further : FurtherType) (items : List TouchingItem) (octets : List ℕ) (h : IsHead head class_number) (row : further_type further.number ≡ Some further) (printed : PrintsData further.fields items octets) where
+  abbrev s : AllByRecursion StandsBehind items
+  s = printed.stand
+
   abbrev owner_units : List Written
   owner_units = h.owner_stands.units
   abbrev ttl_units : List Written
@@ -371,47 +376,51 @@ module _ (origin : Labels) (head : List ℕ) (class_number : ℕ) (further : Fur
       (subst (λ t. begins_with_digit t ≡ false) h.word_stands.spelt (class_word_first h.word class_number h.is_word))
       (subst (λ t. is_class_word t ≡ true) h.word_stands.spelt (class_word_known h.word class_number h.is_word)) none_at_type)
 
-  in_its_class : further.in_internet_alone ≡ true → HasClass [] (entry_of 1 tokens) in_class
-  in_its_class is =
-      subst (λ o. MatchOption (option_or (option_and_then (λ (p : Parts). class_among p.words) o) None) (in_class ≡ 1) (λ t. IsClassWord t in_class)) (sym split)
-      (subst (λ t. IsClassWord t in_class) h.word_stands.spelt (subst (IsClassWord h.word) (alone is) h.is_word))
+  pub one_entry : (found : List Token) × IsOneEntry (words_line head further items) found × IsSome (class_word (statement_of (entry_of 1 found)))
+  one_entry = (tokens, record { cut = cuts; ended = ended }, subst (λ o. IsSome (option_and_then (λ (p : Parts). class_among p.words) o)) (sym split) refl)
 
-  stated : IsFurtherRecord [] (entry_of 1 tokens) (written_text type_units) (items_of items) further
-  stated = record {
-    parts = parts;
-    split = split;
-    values = (subst (λ t. HasValue (ttl t)) h.ttl_stands.spelt (h.seconds, h.is_ttl), (subst (λ t. HasValue (class t)) h.word_stands.spelt (class_number, (h.is_word, h.is_class)), tt));
-    from_type = refl;
-    named = subst (λ t. IsFurtherWord t further) (plain_text further.mnemonic) (mnemonic_named further row);
-    class = in_its_class;
-  }
+  module _ (origin : Labels) (alone : further.in_internet_alone ≡ true → class_number ≡ in_class) where
+    in_its_class : further.in_internet_alone ≡ true → HasClass [] (entry_of 1 tokens) in_class
+    in_its_class is =
+        subst (λ o. MatchOption (option_or (option_and_then (λ (p : Parts). class_among p.words) o) None) (in_class ≡ 1) (λ t. IsClassWord t in_class)) (sym split)
+        (subst (λ t. IsClassWord t in_class) h.word_stands.spelt (subst (IsClassWord h.word) (alone is) h.is_word))
 
-  few_items : length (entry_of 1 tokens).items < most_items
-  few_items = let e = ap length entry_items in let l = length-map items (λ (d : TouchingItem). d.item) in omega (arith, e, l, few)
+    stated : IsFurtherRecord [] (entry_of 1 tokens) (written_text type_units) (items_of items) further
+    stated = record {
+      parts = parts;
+      split = split;
+      values = (subst (λ t. HasValue (ttl t)) h.ttl_stands.spelt (h.seconds, h.is_ttl), (subst (λ t. HasValue (class t)) h.word_stands.spelt (class_number, (h.is_word, h.is_class)), tt));
+      from_type = refl;
+      named = subst (λ t. IsFurtherWord t further) (plain_text further.mnemonic) (mnemonic_named further row);
+      class = in_its_class;
+    }
 
-  says : SaysAnew origin [] (entry_of 1 tokens) (written_text type_units) items (in_octets further.number octets)
-  says = in_words further origin octets (record { stated = stated; under = refl }) few_items (one_line items s) words states
+    few_items : length (entry_of 1 tokens).items < most_items
+    few_items = let e = ap length entry_items in let l = length-map items (λ (d : TouchingItem). d.item) in omega (arith, e, l, printed.few)
 
-  say : TokensSay origin [] 1 tokens front back (in_octets further.number octets)
-  say = record {
-    word = type_units;
-    split = refl;
-    says = subst (λ d. SaysAnew origin [] (entry_of 1 tokens) (written_text type_units) d (in_octets further.number octets)) (sym (tail_touching items s)) says;
-  }
+    says : SaysAnew origin [] (entry_of 1 tokens) (written_text type_units) items (in_octets further.number octets)
+    says = in_words further origin octets (record { stated = stated; under = refl }) few_items (one_line items s) printed.in_words (printed.states origin)
 
-  -- ---- what is written for it
+    say : TokensSay origin [] 1 tokens front back (in_octets further.number octets)
+    say = record {
+      word = type_units;
+      split = refl;
+      says = subst (λ d. SaysAnew origin [] (entry_of 1 tokens) (written_text type_units) d (in_octets further.number octets)) (sym (tail_touching items s)) says;
+    }
 
-  abbrev new : List Token
-  new = front ++ written (in_octets further.number octets) back
+    -- ---- what is written for it
 
-  new_text : generic_line head further octets ≡ text new
-  new_text =
-      sym (flat_map-append token_text front (generic_tokens further.number octets ++ filter stays back)
-      ∙ (λ j. front_text j ++ (flat_map-append token_text (generic_tokens further.number octets) (filter stays back) ∙ ap (λ t. text (generic_tokens further.number octets) ++ text t) (tail_stays items s)) j))
+    abbrev new : List Token
+    new = front ++ written (in_octets further.number octets) back
 
-  pub words_rewritten : IsRewriting origin (words_line head further items) (generic_line head further octets) []
-  words_rewritten =
-      whole tokens (record { written = new; told = [] } ∷ []) cuts
-      (subst (λ (c : Cut). EachBecomes (BecomesUnder origin) [] 1 (and_last c.ended c.open_tokens) (record { written = new; told = [] } ∷ [])) (sym ended)
-      (anew front back (in_octets further.number octets) say refl, tt))
-      (new_text ∙ sym (append-nil (text new))) refl
+    new_text : generic_line head further octets ≡ text new
+    new_text =
+        sym (flat_map-append token_text front (generic_tokens further.number octets ++ filter stays back)
+        ∙ (λ j. front_text j ++ (flat_map-append token_text (generic_tokens further.number octets) (filter stays back) ∙ ap (λ t. text (generic_tokens further.number octets) ++ text t) (tail_stays items s)) j))
+
+    pub words_rewritten : IsRewriting origin (words_line head further items) (generic_line head further octets) []
+    words_rewritten =
+        whole tokens (record { written = new; told = [] } ∷ []) cuts
+        (subst (λ (c : Cut). EachBecomes (BecomesUnder origin) [] 1 (and_last c.ended c.open_tokens) (record { written = new; told = [] } ∷ [])) (sym ended)
+        (anew front back (in_octets further.number octets) say refl, tt))
+        (new_text ∙ sym (append-nil (text new))) refl
