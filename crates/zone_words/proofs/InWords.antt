@@ -29,204 +29,7 @@ use Rattle.zone_words.specs.Table.{fields_in}
 use Rattle.zone_words.specs.PrintedData.{PrintsData}
 use Rattle.zone_words.specs.WordsLine.{IsBareText, IsHead, IsQuoted, Stands, StandsBehind, generic_line, words_line, written_items}
 use Rattle.zone_words.specs.Written.{Anew, digit_tokens, in_octets}
-
--- ---- the tokens of items
-
-abbrev token_of : (item : RawItem) → Stands item → Token
-token_of (raw.bare t) s = bare s.units
-token_of (raw.quoted t) s = quoted s.units
-
-abbrev gap : Bool → List Token → List Token
-gap true tokens = tokens
-gap false tokens = blank 32 ∷ tokens
-
--- those of items one after another, and the line feed behind them
-abbrev tail : (items : List TouchingItem) → AllByRecursion StandsBehind items → List Token
-tail [] s = line_feed ∷ []
-tail (i ∷ items) s = gap i.touches (token_of i.item s.0.stands ∷ tail items s.1)
-
-token_written : (item : RawItem) (s : Stands item) → token_text (token_of item s) ≡ written_item item
-token_written (raw.bare t) s = sym s.spelt
-token_written (raw.quoted t) s = ap (λ u. 34 ∷ u ++ 34 ∷ []) (sym s.parts)
-
-token_is : (item : RawItem) (s : Stands item) → IsToken (token_of item s)
-token_is (raw.bare t) s = s.is
-token_is (raw.quoted t) s = s.each
-
-item_is : (item : RawItem) (s : Stands item) → item_of (token_of item s) ≡ item ∷ []
-item_is (raw.bare t) s = ap (λ u. raw.bare u ∷ []) (sym s.spelt)
-item_is (raw.quoted t) s = ap (λ u. raw.quoted u ∷ []) (sym s.parts)
-
--- ---- what holds of them
-
-gap_text : (touches : Bool) (tokens : List Token) → text (gap touches tokens) ≡ (if touches then [] else 32 ∷ []) ++ text tokens
-gap_text true tokens = refl
-gap_text false tokens = refl
-
-tail_text : (items : List TouchingItem) (s : AllByRecursion StandsBehind items) → text (tail items s) ≡ written_items items ++ 10 ∷ []
-tail_text [] s = refl
-tail_text (i ∷ items) s =
-    gap_text i.touches (token_of i.item s.0.stands ∷ tail items s.1)
-    ∙ ap (λ t. (if i.touches then [] else 32 ∷ []) ++ t) ((λ j. token_written i.item s.0.stands j ++ tail_text items s.1 j) ∙ sym (append_assoc (written_item i.item) (written_items items) (10 ∷ [])))
-    ∙ sym (append_assoc (if i.touches then [] else 32 ∷ []) (written_item i.item ++ written_items items) (10 ∷ []))
-
-gap_each : (touches : Bool) (tokens : List Token) → AllByRecursion IsToken tokens → AllByRecursion IsToken (gap touches tokens)
-gap_each true tokens each = each
-gap_each false tokens each = (refl, each)
-
-tail_each : (items : List TouchingItem) (s : AllByRecursion StandsBehind items) → AllByRecursion IsToken (tail items s)
-tail_each [] s = (tt, tt)
-tail_each (i ∷ items) s = gap_each i.touches (token_of i.item s.0.stands ∷ tail items s.1) (token_is i.item s.0.stands, tail_each items s.1)
-
--- a bare or a quoted item
-abbrev IsItemToken : Token → Type 0
-IsItemToken (bare units) = Unit {0}
-IsItemToken (quoted units) = Unit {0}
-IsItemToken p = ⊥
-
-item_token : (item : RawItem) (s : Stands item) → IsItemToken (token_of item s)
-item_token (raw.bare t) s = tt
-item_token (raw.quoted t) s = tt
-
-behind_item : (p q : Token) → IsItemToken p → IsItemToken q → (IsItemToken q → (units : List Written) × (q ≡ quoted units)) → MayFollow p q
-behind_item (bare units) q is q_is quotes = let found = quotes q_is in subst (MayFollow (bare units)) (sym found.1) tt
-behind_item (quoted units) q is q_is quotes = tt
-behind_item (blank c) q is q_is quotes = absurd is
-behind_item opening q is q_is quotes = absurd is
-behind_item closing q is q_is quotes = absurd is
-behind_item line_feed q is q_is quotes = absurd is
-behind_item (comment octets) q is q_is quotes = absurd is
-
-quoted_token : (item : RawItem) (s : Stands item) → IsQuoted item → (units : List Written) × (token_of item s ≡ quoted units)
-quoted_token (raw.bare t) s is = absurd is
-quoted_token (raw.quoted t) s is = (s.units, refl)
-
-before_blank : (p : Token) → IsItemToken p → MayFollow p (blank 32)
-before_blank (bare units) is = tt
-before_blank (quoted units) is = tt
-before_blank (blank c) is = absurd is
-before_blank opening is = absurd is
-before_blank closing is = absurd is
-before_blank line_feed is = absurd is
-before_blank (comment octets) is = absurd is
-
-before_feed : (p : Token) → IsItemToken p → MayFollow p line_feed
-before_feed (bare units) is = tt
-before_feed (quoted units) is = tt
-before_feed (blank c) is = absurd is
-before_feed opening is = absurd is
-before_feed closing is = absurd is
-before_feed line_feed is = absurd is
-before_feed (comment octets) is = absurd is
-
-gap_follow : (p : Token) (touches : Bool) (item : RawItem) (st : Stands item) (tokens : List Token) → IsItemToken p → (touches ≡ true → IsQuoted item) → AllFollow (token_of item st ∷ tokens) → AllFollow (p ∷ gap touches (token_of item st ∷ tokens))
-gap_follow p true item st tokens is quotes more = (behind_item p (token_of item st) is (item_token item st) (λ _. quoted_token item st (quotes refl)), more)
-gap_follow p false item st tokens is quotes more = (before_blank p is, (tt, more))
-
-tail_follow : (p : Token) (items : List TouchingItem) (s : AllByRecursion StandsBehind items) → IsItemToken p → AllFollow (p ∷ tail items s)
-tail_follow p [] s is = (before_feed p is, tt)
-tail_follow p (i ∷ items) s is =
-    gap_follow p i.touches i.item s.0.stands (tail items s.1) is s.0.parted (tail_follow (token_of i.item s.0.stands) items s.1 (item_token i.item s.0.stands))
-
--- ---- one entry
-
-item_depth : (p : Token) (tokens : List Token) → IsItemToken p → depth_after zero (p ∷ tokens) ≡ depth_after zero tokens
-item_depth (bare units) tokens is = refl
-item_depth (quoted units) tokens is = refl
-item_depth (blank c) tokens is = absurd is
-item_depth opening tokens is = absurd is
-item_depth closing tokens is = absurd is
-item_depth line_feed tokens is = absurd is
-item_depth (comment octets) tokens is = absurd is
-
-gap_depth : (touches : Bool) (tokens : List Token) → depth_after zero (gap touches tokens) ≡ depth_after zero tokens
-gap_depth true tokens = refl
-gap_depth false tokens = refl
-
-tail_depth : (items : List TouchingItem) (s : AllByRecursion StandsBehind items) → depth_after zero (tail items s) ≡ Some zero
-tail_depth [] s = refl
-tail_depth (i ∷ items) s =
-    gap_depth i.touches (token_of i.item s.0.stands ∷ tail items s.1)
-    ∙ item_depth (token_of i.item s.0.stands) (tail items s.1) (item_token i.item s.0.stands)
-    ∙ tail_depth items s.1
-
-abbrev one_cut_of : List Token → Cut
-one_cut_of tokens = record { ended = tokens ∷ []; open_tokens = [] }
-
-abbrev IsOneOf : List Token → Type 0
-IsOneOf tokens = cut_from zero tokens ≡ one_cut_of tokens
-
-item_cut : (p : Token) (tokens : List Token) → IsItemToken p → IsOneOf tokens → IsOneOf (p ∷ tokens)
-item_cut (bare units) tokens is one = ap (in_front_of (bare units)) one
-item_cut (quoted units) tokens is one = ap (in_front_of (quoted units)) one
-item_cut (blank c) tokens is one = absurd is
-item_cut opening tokens is one = absurd is
-item_cut closing tokens is one = absurd is
-item_cut line_feed tokens is one = absurd is
-item_cut (comment octets) tokens is one = absurd is
-
-blank_cut : (tokens : List Token) → IsOneOf tokens → IsOneOf (blank 32 ∷ tokens)
-blank_cut tokens one = ap (in_front_of (blank 32)) one
-
-gap_cut : (touches : Bool) (tokens : List Token) → IsOneOf tokens → IsOneOf (gap touches tokens)
-gap_cut true tokens one = one
-gap_cut false tokens one = blank_cut tokens one
-
-tail_cut : (items : List TouchingItem) (s : AllByRecursion StandsBehind items) → IsOneOf (tail items s)
-tail_cut [] s = refl
-tail_cut (i ∷ items) s =
-    gap_cut i.touches (token_of i.item s.0.stands ∷ tail items s.1) (item_cut (token_of i.item s.0.stands) (tail items s.1) (item_token i.item s.0.stands) (tail_cut items s.1))
-
--- ---- its items
-
-gap_items : (touches : Bool) (tokens : List Token) → flat_map item_of (gap touches tokens) ≡ flat_map item_of tokens
-gap_items true tokens = refl
-gap_items false tokens = refl
-
-tail_items : (items : List TouchingItem) (s : AllByRecursion StandsBehind items) → flat_map item_of (tail items s) ≡ items_of items
-tail_items [] s = refl
-tail_items (i ∷ items) s =
-    gap_items i.touches (token_of i.item s.0.stands ∷ tail items s.1) ∙ (λ j. item_is i.item s.0.stands j ++ tail_items items s.1 j)
-
-touch_token : (after : Bool) (item : RawItem) (s : Stands item) (tokens : List Token) → touching_items after (token_of item s ∷ tokens) ≡ record { item = item; touches = after } ∷ touching_items true tokens
-touch_token after (raw.bare t) s tokens = ap (λ u. record { item = raw.bare u; touches = after } ∷ touching_items true tokens) (sym s.spelt)
-touch_token after (raw.quoted t) s tokens = ap (λ u. record { item = raw.quoted u; touches = after } ∷ touching_items true tokens) (sym s.parts)
-
-touch_gap : (touches : Bool) (item : RawItem) (s : Stands item) (tokens : List Token) → touching_items true (gap touches (token_of item s ∷ tokens)) ≡ record { item = item; touches = touches } ∷ touching_items true tokens
-touch_gap true item s tokens = touch_token true item s tokens
-touch_gap false item s tokens = touch_token false item s tokens
-
-tail_touching : (items : List TouchingItem) (s : AllByRecursion StandsBehind items) → touching_items true (tail items s) ≡ items
-tail_touching [] s = refl
-tail_touching (i ∷ items) s = touch_gap i.touches i.item s.0.stands (tail items s.1) ∙ ap (λ t. i ∷ t) (tail_touching items s.1)
-
-stay_token : (item : RawItem) (s : Stands item) (tokens : List Token) → filter stays (token_of item s ∷ tokens) ≡ filter stays tokens
-stay_token (raw.bare t) s tokens = refl
-stay_token (raw.quoted t) s tokens = refl
-
-stay_gap : (touches : Bool) (tokens : List Token) → filter stays (gap touches tokens) ≡ filter stays tokens
-stay_gap true tokens = refl
-stay_gap false tokens = refl
-
-tail_stays : (items : List TouchingItem) (s : AllByRecursion StandsBehind items) → filter stays (tail items s) ≡ line_feed ∷ []
-tail_stays [] s = refl
-tail_stays (i ∷ items) s =
-    stay_gap i.touches (token_of i.item s.0.stands ∷ tail items s.1)
-    ∙ stay_token i.item s.0.stands (tail items s.1) ∙ tail_stays items s.1
-
--- ---- no line feed stands in them
-
-no_feed_in : (front : List ℕ) → AllByRecursion (λ c. c ≢ 10) front → count_by (λ c. c == 10) front ≡ 0
-no_feed_in [] none = refl
-no_feed_in (c ∷ front) none = grind (arith, nat_tests, sum_by-cons, no_feed_in front none.1)
-
-item_feeds : (item : RawItem) → Stands item → line_feeds_in item ≡ 0
-item_feeds (raw.bare t) s = ap (count_by (λ c. c == 10)) s.spelt ∙ bare_feedless s.units s.is
-item_feeds (raw.quoted t) s = no_feed_in t s.one_line
-
-one_line : (items : List TouchingItem) → AllByRecursion StandsBehind items → AreOnOneLine (items_of items)
-one_line [] s = tt
-one_line (i ∷ items) s = (item_feeds i.item s.0.stands, one_line items s.1)
+use Rattle.zone_words.proofs.HeadLines.{IsOneOf, front, front_text, line_cut, line_ended, line_items, one_line, tail, tail_stays, tail_touching, tokens}
 
 -- ---- the mnemonic of a further type
 
@@ -308,84 +111,64 @@ module _ (head : List ℕ) (class_number : ℕ) (further : FurtherType) (items :
   abbrev s : AllByRecursion StandsBehind items
   s = printed.stand
 
-  abbrev owner_units : List Written
-  owner_units = h.owner_stands.units
-  abbrev ttl_units : List Written
-  ttl_units = h.ttl_stands.units
-  abbrev class_units : List Written
-  class_units = h.word_stands.units
-
-  abbrev front : List Token
-  front = bare owner_units ∷ blank 32 ∷ bare ttl_units ∷ blank 32 ∷ bare class_units ∷ blank 32 ∷ []
-
-  abbrev type_units : List Written
-  type_units = map plain further.mnemonic
+  abbrev type_is : IsToken (word further.mnemonic)
+  type_is = mnemonic_token further row
 
   abbrev back : List Token
   back = tail items s
 
-  abbrev tokens : List Token
-  tokens = front ++ bare type_units ∷ back
+  abbrev all_tokens : List Token
+  all_tokens = tokens head class_number further.mnemonic items h type_is s
 
-  -- ---- its octets
+  abbrev before : List Token
+  before = front head class_number further.mnemonic items h type_is s
 
-  front_text : text front ≡ head
-  front_text = (λ j. sym h.owner_stands.spelt j ++ 32 ∷ (sym h.ttl_stands.spelt j ++ 32 ∷ (sym h.word_stands.spelt j ++ 32 ∷ []))) ∙ sym h.whole
-
-  line_text : words_line head further items ≡ text tokens
-  line_text =
-      sym (flat_map-append token_text front (bare type_units ∷ back)
-      ∙ (λ j. front_text j ++ (sym (plain_text further.mnemonic) j ++ tail_text items s j)))
-
-  cuts : Cuts (words_line head further items) tokens
-  cuts = record {
-    whole = line_text;
-    each = (h.owner_stands.is, (refl, (h.ttl_stands.is, (refl, (h.word_stands.is, (refl, (mnemonic_token further row, tail_each items s)))))));
-    follow = (tt, (tt, (tt, (tt, (tt, (tt, tail_follow (bare type_units) items s tt))))));
-    balanced = tail_depth items s;
-  }
-
-  ended : IsOneOf tokens
-  ended =
-      item_cut (bare owner_units) _ tt (blank_cut _ (item_cut (bare ttl_units) _ tt (blank_cut _ (item_cut (bare class_units) _ tt (blank_cut _ (item_cut (bare type_units) back tt (tail_cut items s)))))))
+  abbrev owner_text : List ℕ
+  owner_text = written_text h.owner_stands.units
+  abbrev ttl_text : List ℕ
+  ttl_text = written_text h.ttl_stands.units
+  abbrev class_text : List ℕ
+  class_text = written_text h.word_stands.units
+  abbrev type_text : List ℕ
+  type_text = written_text (map plain further.mnemonic)
 
   -- ---- what it states
 
   abbrev rest_items : List RawItem
-  rest_items = raw.bare (written_text ttl_units) ∷ raw.bare (written_text class_units) ∷ raw.bare (written_text type_units) ∷ items_of items
+  rest_items = raw.bare ttl_text ∷ raw.bare class_text ∷ raw.bare type_text ∷ items_of items
 
-  entry_items : (entry_of 1 tokens).items ≡ raw.bare (written_text owner_units) ∷ rest_items
-  entry_items = ap (λ t. raw.bare (written_text owner_units) ∷ raw.bare (written_text ttl_units) ∷ raw.bare (written_text class_units) ∷ raw.bare (written_text type_units) ∷ t) (tail_items items s)
+  entry_items : (entry_of 1 all_tokens).items ≡ raw.bare owner_text ∷ rest_items
+  entry_items = line_items head class_number further.mnemonic items h type_is s
 
-  is_owned : statement_of (entry_of 1 tokens) ≡ owned (raw.bare (written_text owner_units)) rest_items
+  is_owned : statement_of (entry_of 1 all_tokens) ≡ owned (raw.bare owner_text) rest_items
   is_owned =
-      ap (statement_by (slice_get (text tokens) 0)) entry_items
-      ∙ owned_by owner_units _ (raw.bare (written_text owner_units)) rest_items h.owner_stands.is (subst (λ t. IfSome (slice_get t 0) (λ c. c ≢ 36)) h.owner_stands.spelt h.no_directive)
+      ap (statement_by (slice_get (text all_tokens) 0)) entry_items
+      ∙ owned_by h.owner_stands.units _ (raw.bare owner_text) rest_items h.owner_stands.is (subst (λ t. IfSome (slice_get t 0) (λ c. c ≢ 36)) h.owner_stands.spelt h.no_directive)
 
   abbrev parts : Parts
-  parts = record { words = ttl (written_text ttl_units) ∷ class (written_text class_units) ∷ []; rest = raw.bare (written_text type_units) ∷ items_of items }
+  parts = record { words = ttl ttl_text ∷ class class_text ∷ []; rest = raw.bare type_text ∷ items_of items }
 
-  none_at_type : (before : List Word) → word_after before (raw.bare (written_text type_units)) ≡ None
+  none_at_type : (before : List Word) → word_after before (raw.bare type_text) ≡ None
   none_at_type before = subst (λ t. word_after before (raw.bare t) ≡ None) (plain_text further.mnemonic) (no_word further row before)
 
-  split : parts_in (statement_of (entry_of 1 tokens)) ≡ Some parts
+  split : parts_in (statement_of (entry_of 1 all_tokens)) ≡ Some parts
   split =
       ap parts_in is_owned
-      ∙ ap Some (record_parts (written_text ttl_units) (written_text class_units) (written_text type_units) (items_of items)
+      ∙ ap Some (record_parts ttl_text class_text type_text (items_of items)
       (subst (λ t. begins_with_digit t ≡ true) h.ttl_stands.spelt (time_first h.ttl h.seconds h.is_ttl.time))
       (subst (λ t. begins_with_digit t ≡ false) h.word_stands.spelt (class_word_first h.word class_number h.is_word))
       (subst (λ t. is_class_word t ≡ true) h.word_stands.spelt (class_word_known h.word class_number h.is_word)) none_at_type)
 
   pub one_entry : (found : List Token) × IsOneEntry (words_line head further items) found × IsSome (class_word (statement_of (entry_of 1 found)))
-  one_entry = (tokens, record { cut = cuts; ended = ended }, subst (λ o. IsSome (option_and_then (λ (p : Parts). class_among p.words) o)) (sym split) refl)
+  one_entry = (all_tokens, record { cut = line_cut head class_number further.mnemonic items h type_is s; ended = line_ended head class_number further.mnemonic items h type_is s }, subst (λ o. IsSome (option_and_then (λ (p : Parts). class_among p.words) o)) (sym split) refl)
 
   module _ (origin : Labels) (alone : further.in_internet_alone ≡ true → class_number ≡ in_class) where
-    in_its_class : further.in_internet_alone ≡ true → HasClass [] (entry_of 1 tokens) in_class
+    in_its_class : further.in_internet_alone ≡ true → HasClass [] (entry_of 1 all_tokens) in_class
     in_its_class is =
         subst (λ o. MatchOption (option_or (option_and_then (λ (p : Parts). class_among p.words) o) None) (in_class ≡ 1) (λ t. IsClassWord t in_class)) (sym split)
         (subst (λ t. IsClassWord t in_class) h.word_stands.spelt (subst (IsClassWord h.word) (alone is) h.is_word))
 
-    stated : IsFurtherRecord [] (entry_of 1 tokens) (written_text type_units) (items_of items) further
+    stated : IsFurtherRecord [] (entry_of 1 all_tokens) type_text (items_of items) further
     stated = record {
       parts = parts;
       split = split;
@@ -395,32 +178,32 @@ module _ (head : List ℕ) (class_number : ℕ) (further : FurtherType) (items :
       class = in_its_class;
     }
 
-    few_items : length (entry_of 1 tokens).items < most_items
+    few_items : length (entry_of 1 all_tokens).items < most_items
     few_items = let e = ap length entry_items in let l = length-map items (λ (d : TouchingItem). d.item) in omega (arith, e, l, printed.few)
 
-    says : SaysAnew origin [] (entry_of 1 tokens) (written_text type_units) items (in_octets further.number octets)
+    says : SaysAnew origin [] (entry_of 1 all_tokens) type_text items (in_octets further.number octets)
     says = in_words further origin octets (record { stated = stated; under = refl }) few_items (one_line items s) printed.in_words (printed.states origin)
 
-    say : TokensSay origin [] 1 tokens front back (in_octets further.number octets)
+    say : TokensSay origin [] 1 all_tokens before back (in_octets further.number octets)
     say = record {
-      word = type_units;
+      word = map plain further.mnemonic;
       split = refl;
-      says = subst (λ d. SaysAnew origin [] (entry_of 1 tokens) (written_text type_units) d (in_octets further.number octets)) (sym (tail_touching items s)) says;
+      says = subst (λ d. SaysAnew origin [] (entry_of 1 all_tokens) type_text d (in_octets further.number octets)) (sym (tail_touching items s)) says;
     }
 
     -- ---- what is written for it
 
     abbrev new : List Token
-    new = front ++ written (in_octets further.number octets) back
+    new = before ++ written (in_octets further.number octets) back
 
     new_text : generic_line head further octets ≡ text new
     new_text =
-        sym (flat_map-append token_text front (generic_tokens further.number octets ++ filter stays back)
-        ∙ (λ j. front_text j ++ (flat_map-append token_text (generic_tokens further.number octets) (filter stays back) ∙ ap (λ t. text (generic_tokens further.number octets) ++ text t) (tail_stays items s)) j))
+        sym (flat_map-append token_text before (generic_tokens further.number octets ++ filter stays back)
+        ∙ (λ j. front_text head class_number further.mnemonic items h type_is s j ++ (flat_map-append token_text (generic_tokens further.number octets) (filter stays back) ∙ ap (λ t. text (generic_tokens further.number octets) ++ text t) (tail_stays items s)) j))
 
     pub words_rewritten : IsRewriting origin (words_line head further items) (generic_line head further octets) []
     words_rewritten =
-        whole tokens (record { written = new; told = [] } ∷ []) cuts
-        (subst (λ (c : Cut). EachBecomes (BecomesUnder origin) [] 1 (and_last c.ended c.open_tokens) (record { written = new; told = [] } ∷ [])) (sym ended)
-        (anew front back (in_octets further.number octets) say refl, tt))
+        whole all_tokens (record { written = new; told = [] } ∷ []) (line_cut head class_number further.mnemonic items h type_is s)
+        (subst (λ (c : Cut). EachBecomes (BecomesUnder origin) [] 1 (and_last c.ended c.open_tokens) (record { written = new; told = [] } ∷ [])) (sym (line_ended head class_number further.mnemonic items h type_is s))
+        (anew before back (in_octets further.number octets) say refl, tt))
         (new_text ∙ sym (append-nil (text new))) refl

@@ -56,4 +56,5 @@ pub mod KnownItems
 pub mod BecomesOnce
 pub mod Moved
 pub mod Registered
+mod HeadLines
 mod InWords
