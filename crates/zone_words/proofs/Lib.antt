@@ -58,3 +58,4 @@ pub mod Moved
 pub mod Registered
 mod HeadLines
 mod InWords
+mod GenericLines

@@ -42,7 +42,7 @@ some_onto (suc k) n acc some =
     either_some (n / 10 == 0) (digit_glyph false (n % 10) ∷ acc) (digits_onto k 10 false (n / 10) (digit_glyph false (n % 10) ∷ acc))
     (omega arith) (some_onto k (n / 10) (digit_glyph false (n % 10) ∷ acc) (omega arith))
 
-some_decimal : (n : ℕ) → 0 < length (decimal n)
+pub some_decimal : (n : ℕ) → 0 < length (decimal n)
 unfolding digits
 some_decimal n =
     either_some (n / 10 == 0) (digit_glyph false (n % 10) ∷ []) (digits_onto 63 10 false (n / 10) (digit_glyph false (n % 10) ∷ []))
@@ -74,10 +74,10 @@ word_token octets some each = (omega (arith, length-map octets plain), plain_uni
 pub type_is : (number : ℕ) → IsToken (type_token number)
 type_is number = word_token (codes "TYPE" ++ decimal number) (omega arith) (AllByRecursion-append IsPlain (codes "TYPE") (decimal number) (grind arith) (plain_decimal number))
 
-mark_is : IsToken (bare (escaped 35 ∷ []))
+pub mark_is : IsToken (bare (escaped 35 ∷ []))
 mark_is = (omega arith, ((refl, (λ e. omega arith), (λ e. omega arith)), tt))
 
-hex_some : (c : ℕ) (octets : List ℕ) → 0 < length (encode_lower (c ∷ octets))
+pub hex_some : (c : ℕ) (octets : List ℕ) → 0 < length (encode_lower (c ∷ octets))
 unfolding encode_with
 hex_some c octets = omega arith
 

@@ -1,8 +1,11 @@
 //! Laws of records in words on a line, over the definitions alone.
-ghost use Rattle.std.specs.Prelude.{◌≡◌, List, [], ℕ, IsSome, Some, true};
+ghost use Rattle.std.specs.List.{flat_map};
+ghost use Rattle.std.specs.Prelude.{◌≡◌, ◌∷◌, ◌++◌, List, [], ℕ, IsSome, Some, codes, decimal, true};
 ghost use Rattle.zone_name.specs.Common.{Labels};
+ghost use Rattle.zone_rdata.specs.Generic.{generic_items};
+ghost use Rattle.zone_rdata.specs.Item.{bare};
 ghost use Rattle.zone_rdata.specs.Table.{in_class};
-ghost use Rattle.zone_text.specs.Entries.{entry_of};
+ghost use Rattle.zone_text.specs.Entries.{entry_of, item_of};
 ghost use Rattle.zone_text.specs.FirstEntry.{IsOneEntry};
 ghost use Rattle.zone_text.specs.Inherited.{class_word};
 ghost use Rattle.zone_text.specs.Statements.{statement_of};
@@ -28,4 +31,13 @@ pub fn a_line_in_words_is_rewritten()
         → PrintsData further.fields items octets
         → IsRewriting origin (words_line head further items) (generic_line head further octets)
         [] }
+{}
+
+/// The line of a record with its data in the generic form is one entry, whose items are its parts.
+pub fn a_generic_line_is_one_entry()
+    ensures { (head : List ℕ) (class : ℕ) (further : FurtherType) (octets : List ℕ)
+        (h : IsHead head class) → (tokens : List Token)
+        × IsOneEntry (generic_line head further octets) tokens
+        × (flat_map item_of tokens ≡ bare h.owner ∷ bare h.ttl ∷ bare h.word
+        ∷ bare (codes "TYPE" ++ decimal further.number) ∷ generic_items octets) }
 {}
