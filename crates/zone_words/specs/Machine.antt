@@ -16,3 +16,4 @@ pub mod Stated
 pub mod Cuts
 pub mod Prefixes
 pub mod Locations
+pub mod Taking

@@ -1,7 +1,8 @@
 -- Identifiers of hardware in text, EUI-48 and EUI-64 (RFC 7043 3.2, 4.2).
-use Rattle.std.specs.Prelude.{◌≡◌, ℕ, List, [], ◌∷◌, length, Ok}
+use Rattle.std.specs.Prelude.{◌≡◌, ℕ, List, [], ◌∷◌, length, map, Ok}
 use Rattle.std.specs.List.{AllZip, join_with_byte}
-use Rattle.hex.specs.Hex.{decode_sized}
+use Rattle.hex.specs.Hex.{decode_sized, encode_lower}
+use Rattle.zone_name.specs.Common.{AreOctets}
 use Rattle.zone_words.specs.Fault.{NothingStated}
 use Rattle.zone_words.specs.declared.fault.WordsFault.{WordsFault}
 use Rattle.zone_words.specs.declared.fault.WordsFault.TheVariants.{NotAnAddress}
@@ -19,3 +20,12 @@ pub record StatesEui (count : ℕ) (text octets : List ℕ) : Type 0 where
 
 abbrev pub FailsEui : ℕ → List ℕ → WordsFault → Type 0
 FailsEui count text fault = NothingStated NotAnAddress (StatesEui count text) fault
+
+-- two digits in lower case for each octet, with hyphens between them
+abbrev pub eui_text : List ℕ → List ℕ
+eui_text octets = join_with_byte 45 (map (λ c. encode_lower (c ∷ [])) octets)
+
+pub record PrintsEui (count : ℕ) (text octets : List ℕ) : Type 0 where
+  pub counted : length octets ≡ count
+  pub each : AreOctets octets
+  pub printed : text ≡ eui_text octets

@@ -1,13 +1,15 @@
-ghost use Rattle.std.specs.Prelude.{◌≡◌, ◌≤◌, ◌<◌, ◌∷◌, ◌++◌, IfErr, IfNone, IfSome, OnOk};
+ghost use Rattle.std.specs.Prelude.{◌≡◌, ◌≤◌, ◌<◌, ◌∷◌, ◌++◌, IfErr, IfNone, IfOk, IfSome, OnOk};
 ghost use Rattle.zone_name.specs.Common.{NothingIs};
 ghost use Rattle.zone_words.specs.Fault.{AppendsStated, IfFault};
-ghost use Rattle.zone_words.specs.Kinds.Eui.{FailsEui, IsPair, StatesEui};
+ghost use Rattle.zone_words.specs.Kinds.Eui.{FailsEui, IsPair, PrintsEui, StatesEui, eui_text};
 ghost use Rattle.zone_words.specs.Machine.Pairs.{BeginsWithPair, IsCutPair};
+ghost use Rattle.zone_words.specs.Printed.{IfNoData, NoFront, PrintsFront};
 
 use crate::fault::{WordsFailing, WordsFault};
 use crate::taking::take;
 use crate::unprinted::Unprinted;
 use hex::decode_to_slice;
+use std::alloc::AllocError;
 use zone_rdata::push_hex;
 
 /// Appends the six octets of an EUI-48: pairs of hexadecimal digits in either letter case, parted
@@ -87,17 +89,34 @@ fn octet_of(text: &[u8]) -> Option<u8>
 
 /// Appends the first octets, so many, as pairs of hexadecimal digits parted by hyphens (RFC 7043
 /// 3.2, 4.2), and gives what is left.
+///
+/// # Errors
+///
+/// `NoData` where the octets end before, and `OutOfMemory`.
 pub(crate) fn print_eui<'o>(
     octets: &'o [u8],
     count: usize,
     out: &mut Vec<u8>,
-) -> Result<&'o [u8], Unprinted> {
+) -> Result<&'o [u8], Unprinted>
+    ensures printed { IfOk result (λ rest. PrintsFront (PrintsEui count) (StatesEui count)
+        octets.now rest.now out.old.items out.new.items) }
+    ensures none { IfErr result (IfNoData (NoFront (StatesEui count) octets.now)) }
+{
     let (address, rest) = take(octets, count)?;
-    for (at, octet) in address.iter().enumerate() {
-        if at > 0 {
-            out.extend_from_slice(b"-")?;
-        }
-        push_hex(&[*octet], out)?;
-    }
+    print_pairs(address, out)?;
     Ok(rest)
+}
+
+/// Appends the pair of each octet, parted by hyphens.
+fn print_pairs(octets: &[u8], out: &mut Vec<u8>) -> Result<(), AllocError>
+    ensures { OnOk result (out.new.items ≡ out.old.items ++ eui_text octets.now) }
+{
+    if let [first, rest @ ..] = octets {
+        push_hex(&[*first], out)?;
+        for octet in rest {
+            out.push(b'-')?;
+            push_hex(&[*octet], out)?;
+        }
+    }
+    Ok(())
 }

@@ -1,9 +1,9 @@
-ghost use Rattle.std.specs.Prelude.{IfErr, OnOk};
+ghost use Rattle.std.specs.Prelude.{IfErr, IfOk, OnOk};
 ghost use Rattle.zone_words.specs.Fault.{AppendsStated, IfFault};
-ghost use Rattle.zone_words.specs.Kinds.NodeId.{FailsNodeId, StatesNodeId};
+ghost use Rattle.zone_words.specs.Kinds.NodeId.{FailsNodeId, PrintsNodeId, StatesNodeId};
+ghost use Rattle.zone_words.specs.Printed.{IfNoData, NoFront, PrintsFront};
 
 use crate::fault::{WordsFailing, WordsFault};
-use crate::taking::take;
 use crate::unprinted::Unprinted;
 use zone_rdata::{four_groups_of, push_hex};
 
@@ -24,18 +24,26 @@ pub(crate) fn read_node_id(text: &[u8], out: &mut Vec<u8>) -> Result<(), WordsFa
     Ok(out.extend_from_slice(&octets)?)
 }
 
-/// Appends the four groups of four hexadecimal digits at the front (RFC 6742 2.1.2), and gives what
-/// is left.
-pub(crate) fn print_node_id<'o>(
-    octets: &'o [u8],
-    out: &mut Vec<u8>,
-) -> Result<&'o [u8], Unprinted> {
-    let (node, rest) = take(octets, 8)?;
-    for (at, group) in node.chunks(2).enumerate() {
-        if at > 0 {
-            out.extend_from_slice(b":")?;
-        }
-        push_hex(group, out)?;
-    }
+/// Appends the eight octets at the front as four groups of four hexadecimal digits parted by colons
+/// (RFC 6742 2.1.2), and gives what is left.
+///
+/// # Errors
+///
+/// `NoData` where the octets end before, and `OutOfMemory`.
+pub(crate) fn print_node_id<'o>(octets: &'o [u8], out: &mut Vec<u8>) -> Result<&'o [u8], Unprinted>
+    ensures printed { IfOk result (λ rest.
+        PrintsFront PrintsNodeId StatesNodeId octets.now rest.now out.old.items out.new.items) }
+    ensures none { IfErr result (IfNoData (NoFront StatesNodeId octets.now)) }
+{
+    let [a, b, c, d, e, f, g, h, rest @ ..] = octets else {
+        return Err(Unprinted::NoData);
+    };
+    push_hex(&[*a, *b], out)?;
+    out.push(b':')?;
+    push_hex(&[*c, *d], out)?;
+    out.push(b':')?;
+    push_hex(&[*e, *f], out)?;
+    out.push(b':')?;
+    push_hex(&[*g, *h], out)?;
     Ok(rest)
 }

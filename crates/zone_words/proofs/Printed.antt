@@ -1,0 +1,4 @@
+-- What is printed, and that it states the octets.
+pub mod Fronts
+pub mod Addresses
+pub mod Pairs

@@ -1,0 +1,64 @@
+-- Hexadecimal digits that are printed in groups: identifiers of hardware, and of nodes.
+use Rattle.zone_words.proofs.Common.{AreOctets, List, [], ap, append_assoc, arith, bytes_each, encode_lower, flat_map, get_or, join_with_byte, length, map, refl, subst, sym, take, take-length, take_more, drop, ℕ, ◌++◌, ◌+◌, ◌-◌, ◌<◌, ◌≤◌, ◌∙◌, ◌∷◌, ◌≡◌}
+use Rattle.zone_words.proofs.Printed.Addresses.{part_octets}
+use Rattle.zone_words.proofs.Printed.Fronts.{front_printed, front_short}
+use Rattle.zone_words.specs.Kinds.Eui.{PrintsEui, StatesEui, eui_text}
+use Rattle.zone_words.specs.Kinds.NodeId.{PrintsNodeId, StatesNodeId}
+use Rattle.zone_words.specs.Printed.{NoFront, PrintsFront}
+
+-- ---- identifiers of hardware
+
+-- a further pair
+pub pair_more : (c : ℕ) (octets : List ℕ) (n : ℕ) → eui_text (c ∷ (octets ++ n ∷ [])) ≡ eui_text (c ∷ octets) ++ (45 ∷ encode_lower (n ∷ []))
+pair_more c [] n = refl
+pair_more c (d ∷ octets) n = ap (λ t. encode_lower (c ∷ []) ++ 45 ∷ t) (pair_more d octets n) ∙ sym (append_assoc (encode_lower (c ∷ [])) (45 ∷ eui_text (d ∷ octets)) (45 ∷ encode_lower (n ∷ [])))
+
+-- a further pair is appended
+pub eui_step : (old out mid new : List ℕ) (first : ℕ) (rest : List ℕ) (i n : ℕ) → out ≡ old ++ eui_text (first ∷ take i rest) → mid ≡ out ++ 45 ∷ [] → new ≡ mid ++ encode_lower (n ∷ []) → n ≡ get_or rest i 0 → i < length rest → new ≡ old ++ eui_text (first ∷ take (i + 1) rest)
+eui_step old out mid new first rest i n so_far hyphen pair at less =
+    let longer : take (i + 1) rest ≡ take i rest ++ n ∷ [] = take_more rest i 0 less ∙ ap (λ d. take i rest ++ d ∷ []) (sym at) in
+    let text : eui_text (first ∷ take (i + 1) rest) ≡ eui_text (first ∷ take i rest) ++ (45 ∷ encode_lower (n ∷ [])) = ap (λ t. eui_text (first ∷ t)) longer ∙ pair_more first (take i rest) n in
+    let joined : new ≡ out ++ (45 ∷ encode_lower (n ∷ [])) = pair ∙ ap (λ t. t ++ encode_lower (n ∷ [])) hyphen ∙ append_assoc out (45 ∷ []) (encode_lower (n ∷ [])) in
+    joined ∙ ap (λ t. t ++ (45 ∷ encode_lower (n ∷ []))) so_far ∙ append_assoc old (eui_text (first ∷ take i rest)) (45 ∷ encode_lower (n ∷ [])) ∙ ap (λ t. old ++ t) (sym text)
+
+pub eui_front : (count : ℕ) (octets rest old new part : List ℕ) → ((i : ℕ) → get_or octets i 0 < 256) → octets ≡ part ++ rest → length part ≡ count → new ≡ old ++ eui_text part → PrintsFront (PrintsEui count) (StatesEui count) octets rest old new
+eui_front count octets rest old new part each whole counted appended =
+    front_printed (PrintsEui count) (StatesEui count) count octets rest old new part (eui_text part) (λ text octets is. is.counted) whole counted
+    (record { counted = counted; each = part_octets octets part rest each whole; printed = refl }) appended
+
+pub no_eui : (count : ℕ) (octets : List ℕ) → length octets < count → NoFront (StatesEui count) octets
+no_eui count octets short = front_short (StatesEui count) count octets (λ text octets is. is.counted) short
+
+-- ---- identifiers of nodes
+
+abbrev node_text : ℕ → ℕ → ℕ → ℕ → ℕ → ℕ → ℕ → ℕ → List ℕ
+node_text a b c d e f g h =
+    encode_lower (a ∷ b ∷ []) ++ 58 ∷ (encode_lower (c ∷ d ∷ []) ++ 58 ∷ (encode_lower (e ∷ f ∷ []) ++ 58 ∷ encode_lower (g ∷ h ∷ [])))
+
+pub node_appended : (a b c d e f g h : ℕ) (old o1 o2 o3 o4 o5 o6 new : List ℕ) → o1 ≡ old ++ encode_lower (a ∷ b ∷ []) → o2 ≡ o1 ++ 58 ∷ [] → o3 ≡ o2 ++ encode_lower (c ∷ d ∷ [])
+    → o4 ≡ o3 ++ 58 ∷ [] → o5 ≡ o4 ++ encode_lower (e ∷ f ∷ []) → o6 ≡ o5 ++ 58 ∷ [] → new ≡ o6 ++ encode_lower (g ∷ h ∷ []) → new ≡ old ++ node_text a b c d e f g h
+node_appended a b c d e f g h old o1 o2 o3 o4 o5 o6 new e1 e2 e3 e4 e5 e6 e7 = rw (e7, e6, e5, e4, e3, e2, e1) (simp append_assoc)
+
+pub node_front : (a b c d e f g h : ℕ) (octets rest old new : List ℕ) → ((i : ℕ) → get_or octets i 0 < 256) → octets ≡ a ∷ b ∷ c ∷ d ∷ e ∷ f ∷ g ∷ h ∷ rest → new ≡ old ++ node_text a b c d e f g h → PrintsFront PrintsNodeId StatesNodeId octets rest old new
+node_front a b c d e f g h octets rest old new each whole appended =
+    front_printed PrintsNodeId StatesNodeId 8 octets rest old new (a ∷ b ∷ c ∷ d ∷ e ∷ f ∷ g ∷ h ∷ []) (node_text a b c d e f g h) (λ text octets is. is.four) whole refl
+    (record {
+      groups = (a ∷ b ∷ []) ∷ (c ∷ d ∷ []) ∷ (e ∷ f ∷ []) ∷ (g ∷ h ∷ []) ∷ [];
+      four = refl;
+      two = (refl, (refl, (refl, (refl, tt))));
+      each = part_octets octets (a ∷ b ∷ c ∷ d ∷ e ∷ f ∷ g ∷ h ∷ []) rest each whole;
+      whole = refl;
+      printed = refl;
+    }) appended
+
+pub node_printed : (octets old o1 o2 o3 o4 o5 o6 new : List ℕ) → 8 ≤ length octets → ((i : ℕ) → get_or octets i 0 < 256) → o1 ≡ old ++ encode_lower (get_or octets 0 0 ∷ get_or octets 1 0 ∷ []) → o2 ≡ o1 ++ 58 ∷ []
+    → o3 ≡ o2 ++ encode_lower (get_or octets 2 0 ∷ get_or octets 3 0 ∷ []) → o4 ≡ o3 ++ 58 ∷ [] → o5 ≡ o4 ++ encode_lower (get_or octets 4 0 ∷ get_or octets 5 0 ∷ []) → o6 ≡ o5 ++ 58 ∷ []
+    → new ≡ o6 ++ encode_lower (get_or octets 6 0 ∷ get_or octets 7 0 ∷ []) → PrintsFront PrintsNodeId StatesNodeId octets (take (length octets - 8) (drop 8 octets)) old new
+node_printed (a ∷ b ∷ c ∷ d ∷ e ∷ f ∷ g ∷ h ∷ rest) old o1 o2 o3 o4 o5 o6 new long each e1 e2 e3 e4 e5 e6 e7 =
+    let count : length (a ∷ b ∷ c ∷ d ∷ e ∷ f ∷ g ∷ h ∷ rest) - 8 ≡ length rest = omega arith in
+    let left : take (length (a ∷ b ∷ c ∷ d ∷ e ∷ f ∷ g ∷ h ∷ rest) - 8) rest ≡ rest = ap (λ n. take n rest) count ∙ take-length rest in
+    node_front a b c d e f g h _ _ old new each (ap (λ r. a ∷ b ∷ c ∷ d ∷ e ∷ f ∷ g ∷ h ∷ r) (sym left)) (node_appended a b c d e f g h old o1 o2 o3 o4 o5 o6 new e1 e2 e3 e4 e5 e6 e7)
+node_printed octets old o1 o2 o3 o4 o5 o6 new long each e1 e2 e3 e4 e5 e6 e7 = absurd (omega (arith, long))
+
+pub no_node : (octets : List ℕ) → length octets < 8 → NoFront StatesNodeId octets
+no_node octets short = front_short StatesNodeId 8 octets (λ text octets is. is.four) short
