@@ -1,0 +1,7 @@
+-- What the printers of kinds print, a file each.
+pub mod Counted
+pub mod PassedNone
+pub mod Tags
+pub mod Digits
+pub mod Strings
+pub mod Base64Items
