@@ -5,3 +5,4 @@ pub mod Tags
 pub mod Digits
 pub mod Strings
 pub mod Base64Items
+pub mod Names
