@@ -60,3 +60,4 @@ pub mod Registered
 mod HeadLines
 mod InWords
 mod GenericLines
+pub mod Printed

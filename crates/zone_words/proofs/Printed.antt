@@ -2,3 +2,10 @@
 pub mod Fronts
 pub mod Addresses
 pub mod Pairs
+pub mod Counted
+pub mod PassedNone
+pub mod Tags
+pub mod Digits
+pub mod Strings
+pub mod Base64Items
+pub mod Names

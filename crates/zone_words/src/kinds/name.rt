@@ -1,14 +1,15 @@
-ghost use Rattle.std.specs.Prelude.{◌≡◌, IfErr, IfOk, OnErr, OnOk, Some};
+ghost use Rattle.std.specs.Prelude.{◌≡◌, ◌<◌, ◌≤◌, ◌++◌, length, IfErr, IfOk, OnErr, OnOk, Some};
+ghost use Rattle.zone_name.specs.Name.{with_length};
 ghost use Rattle.zone_name.specs.Spelling.{SpellsCased};
 ghost use Rattle.zone_words.specs.Fault.{AppendsStated, IfFault};
-ghost use Rattle.zone_words.specs.Kinds.Name.{FailsName, StatesName};
-ghost use Rattle.std.specs.Prelude.{◌+◌, ◌<◌, IfOk, length};
+ghost use Rattle.zone_words.specs.Kinds.Name.{FailsName, PrintsName, StatesName, StatesSomeName};
+ghost use Rattle.zone_words.specs.Machine.Names.{NoLabel, PrintsLabels};
+ghost use Rattle.zone_words.specs.Printed.{IfNoData, NoFront, PrintsFront};
 
 use crate::fault::{WordsFailing, WordsFault};
 use crate::taking::{take, take_u8};
 use crate::unprinted::Unprinted;
-use std::alloc::AllocError;
-use zone_name::{CasedName, decimal_escape};
+use zone_name::{CasedName, push_label};
 
 /// Appends the uncompressed octets of the name that a text spells under the origin, with the
 /// letters of both (RFC 1035 3.1, 5.1).
@@ -42,68 +43,64 @@ fn name_of(text: &[u8], origin: &CasedName) -> Result<CasedName, WordsFault>
     }
 }
 
-/// Whether an octet stands for itself in a name (RFC 1035 5.1).
-fn is_plain(octet: u8) -> bool {
-    match octet {
-        b'"' | b'$' | b'(' | b')' | b'.' | b';' | b'@' | b'\\' => false,
-        _ => octet > b' ' && octet <= b'~',
-    }
-}
-
-/// Appends an octet of a label.
-fn print_octet(octet: u8, out: &mut Vec<u8>) -> Result<(), AllocError> {
-    if is_plain(octet) {
-        out.extend_from_slice(&[octet])
-    } else if octet > b' ' && octet <= b'~' {
-        out.extend_from_slice(&[b'\\', octet])
-    } else {
-        out.extend_from_slice(&decimal_escape(octet))
-    }
-}
-
-/// Whether each octet stands for itself in a name.
-fn are_plain(octets: &[u8]) -> bool {
-    octets.iter().all(|octet| is_plain(*octet))
-}
-
-/// Appends a label.
-fn print_label(label: &[u8], out: &mut Vec<u8>) -> Result<(), AllocError> {
-    if are_plain(label) {
-        return out.extend_from_slice(label);
-    }
-    for octet in label {
-        print_octet(*octet, out)?;
-    }
-    Ok(())
-}
-
 /// The longest label (RFC 1035 2.3.4).
-const LONGEST: u8 = 63;
+const LONGEST_LABEL: u8 = 63;
+
+/// The most octets of a name (RFC 1035 2.3.4).
+const LONGEST_NAME: usize = 255;
 
 /// The label at the front, the root's without an octet, and what is left.
 fn take_label(octets: &[u8]) -> Result<(&[u8], &[u8]), Unprinted>
-    ensures { IfOk result (λ parts. length parts.1.now < length octets.now) }
+    ensures left { IfOk result (λ parts. length parts.1.now < length octets.now) }
+    ensures short { IfOk result (λ parts. length parts.0.now ≤ 63) }
+    ensures whole { IfOk result (λ parts.
+        octets.now ≡ with_length parts.0.now ++ parts.1.now) }
+    ensures none { IfErr result (IfNoData (NoLabel octets.now)) }
 {
     let (len, rest) = take_u8(octets)?;
-    if len > LONGEST {
+    if len > LONGEST_LABEL {
         return Err(Unprinted::NoData);
     }
     take(rest, usize::from(len))
 }
 
+/// Appends the labels of the name at the front, a dot after each and none for the root, and gives
+/// what is left.
+fn print_labels<'o>(octets: &'o [u8], out: &mut Vec<u8>) -> Result<&'o [u8], Unprinted>
+    ensures printed { IfOk result (λ rest.
+        PrintsLabels octets.now rest.now out.old.items out.new.items) }
+    ensures none { IfErr result (IfNoData (NoFront StatesSomeName octets.now)) }
+{
+    let mut rest = octets;
+    loop {
+        let (label, after) = take_label(rest)?;
+        rest = after;
+        if label.is_empty() {
+            break;
+        }
+        push_label(label, out)?;
+    }
+    if octets.len() - rest.len() > LONGEST_NAME {
+        return Err(Unprinted::NoData);
+    }
+    Ok(rest)
+}
+
 /// Appends the name at the front, absolute and with its letters (RFC 1035 3.1), and gives what is
 /// left.
+///
+/// # Errors
+///
+/// `NoData` where no name stands at the front, and want of memory. `out` may have got some of it.
 pub(crate) fn print_name<'o>(octets: &'o [u8], out: &mut Vec<u8>) -> Result<&'o [u8], Unprinted>
-    ensures { IfOk result (λ rest. length rest.now < length octets.now) }
+    ensures left { IfOk result (λ rest. length rest.now < length octets.now) }
+    ensures printed { IfOk result (λ rest.
+        PrintsFront PrintsName StatesSomeName octets.now rest.now out.old.items out.new.items) }
+    ensures none { IfErr result (IfNoData (NoFront StatesSomeName octets.now)) }
 {
-    let (mut label, mut rest) = take_label(octets)?;
-    if label.is_empty() {
+    let rest = print_labels(octets, out)?;
+    if octets.len() - rest.len() == 1 {
         out.push(b'.')?;
-    }
-    while !label.is_empty() {
-        print_label(label, out)?;
-        out.push(b'.')?;
-        (label, rest) = take_label(rest)?;
     }
     Ok(rest)
 }
