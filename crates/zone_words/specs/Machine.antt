@@ -17,3 +17,4 @@ pub mod Cuts
 pub mod Prefixes
 pub mod Locations
 pub mod Taking
+pub mod PrintedTypes

@@ -12,7 +12,7 @@ use crate::fault::{WordsFailing, WordsFault};
 use crate::kinds::{
     print_base64, print_certificate_type, print_eui, print_hash, print_ipv4, print_ipv6,
     print_location, print_name, print_node_id, print_prefixes, print_quoted, print_salt,
-    print_string, print_strings, print_tag, print_time, print_type, print_types, print_u8,
+    print_perhaps_types, print_string, print_strings, print_tag, print_time, print_type, print_types, print_u8,
     print_u16, print_u32, read_address_type, read_algorithm, read_base64, read_certificate_type,
     read_counted_digits, read_discovery, read_eui48, read_eui64, read_first_quoted_value,
     read_first_string, read_first_value, read_hash, read_hex, read_ipv4, read_ipv6, read_location,
@@ -353,7 +353,8 @@ impl FieldKind {
                 print_base64(octets, out)
             }
             FieldKind::Strings => print_strings(octets, out),
-            FieldKind::Types | FieldKind::PerhapsTypes => print_types(octets, out),
+            FieldKind::Types => print_types(octets, out),
+            FieldKind::PerhapsTypes => print_perhaps_types(octets, out),
             FieldKind::Prefixes => print_prefixes(octets, out),
             FieldKind::Location => print_location(octets, out),
             FieldKind::Parameters => print_parameters(octets, out),

@@ -1,0 +1,2 @@
+-- What is printed, and that it states the octets.
+pub mod Types
