@@ -1,2 +1,5 @@
 -- What is printed, and that it states the octets.
+pub mod Fronts
+pub mod Addresses
+pub mod Time
 pub mod Types

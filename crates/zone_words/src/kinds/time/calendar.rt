@@ -127,7 +127,11 @@ fn year_of(days: u32) -> u32
 {
     // Never too low, and too high by one at most.
     let year = 1970 + days / 365;
-    if days_to_year(year) > days { year - 1 } else { year }
+    if days_to_year(year) > days {
+        year - 1
+    } else {
+        year
+    }
 }
 
 /// The month of a day of a year, of which the first is 0.
@@ -139,5 +143,9 @@ fn month_of(year: u32, day: u32) -> u32
 {
     // Never too high, and too low by one at most.
     let month = day / 31 + 1;
-    if month < 12 && days_before(year, month + 1) <= day { month + 1 } else { month }
+    if month < 12 && days_before(year, month + 1) <= day {
+        month + 1
+    } else {
+        month
+    }
 }
