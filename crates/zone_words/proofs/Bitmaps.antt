@@ -21,7 +21,7 @@ octet_below (c ∷ octets) zero each = each.0
 octet_below (c ∷ octets) (suc k) each = octet_below octets k each.1
 
 -- a window has a type
-window_type : (w : Window) → IsWindow w → (k : ℕ) × ((k < 256) × HasBit w.bits k)
+pub window_type : (w : Window) → IsWindow w → (k : ℕ) × ((k < 256) × HasBit w.bits k)
 window_type w is =
     let at = length w.bits - 1 in
     let bit = some_bit 8 (get_or w.bits at 0) (octet_below w.bits at is.octets) is.last in
@@ -43,7 +43,7 @@ no_less least (w ∷ windows) n up have =
 abbrev HaveThose : List Window → List Window → Type 0
 HaveThose ws vs = (n : ℕ) → HaveType ws n → HaveType vs n
 
-type_at : (w : Window) (ws : List Window) (k : ℕ) → k < 256 → HasBit w.bits k → HaveType (w ∷ ws) (w.number * 256 + k)
+pub type_at : (w : Window) (ws : List Window) (k : ℕ) → k < 256 → HasBit w.bits k → HaveType (w ∷ ws) (w.number * 256 + k)
 type_at w ws k below bit =
     let number : (w.number * 256 + k) / 256 ≡ w.number = omega arith in
     let rest : (w.number * 256 + k) % 256 ≡ k = omega arith in

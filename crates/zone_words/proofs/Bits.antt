@@ -135,12 +135,12 @@ pub record HavePushed (types rest old new : List ℕ) : Type 0 where
   pub rise : RiseFrom (least * 256) rest
   pub have : (n : ℕ) → HaveType windows n ↔ Contains done n
 
-ascend_more : (least count : ℕ) (windows : List Window) (w : Window) → AscendFrom least windows → AllByRecursion (λ v. v.number < count) windows → least ≤ w.number → count ≤ w.number → AscendFrom least (windows ++ w ∷ [])
+pub ascend_more : (least count : ℕ) (windows : List Window) (w : Window) → AscendFrom least windows → AllByRecursion (λ v. v.number < count) windows → least ≤ w.number → count ≤ w.number → AscendFrom least (windows ++ w ∷ [])
 ascend_more least count [] w up below from more = (from, tt)
 ascend_more least count (v ∷ windows) w up below from more =
     (up.0, ascend_more (v.number + 1) count windows w up.1 below.1 (omega (arith, below.0)) more)
 
-below_more_windows : (count more : ℕ) (windows : List Window) → count ≤ more → AllByRecursion (λ v. v.number < count) windows → AllByRecursion (λ v. v.number < more) windows
+pub below_more_windows : (count more : ℕ) (windows : List Window) → count ≤ more → AllByRecursion (λ v. v.number < count) windows → AllByRecursion (λ v. v.number < more) windows
 below_more_windows count more [] up below = tt
 below_more_windows count more (v ∷ windows) up below =
     (omega (arith, below.0), below_more_windows count more windows up below.1)
@@ -149,7 +149,7 @@ below_more_windows count more (v ∷ windows) up below =
 abbrev InWindow : Window → ℕ → Type 0
 InWindow w n = (n / 256 ≡ w.number) × HasBit w.bits (n % 256)
 
-in_more : (windows : List Window) (w : Window) (n : ℕ) → HaveType (windows ++ w ∷ []) n → HaveType windows n ⊎ InWindow w n
+pub in_more : (windows : List Window) (w : Window) (n : ℕ) → HaveType (windows ++ w ∷ []) n → HaveType windows n ⊎ InWindow w n
 in_more [] w n have = elim have [ inl here ↦ inr here | inr none ↦ absurd none ]
 in_more (v ∷ windows) w n have =
     elim have [
@@ -160,7 +160,7 @@ in_more (v ∷ windows) w n have =
       ]
     ]
 
-more_in : (windows : List Window) (w : Window) (n : ℕ) → HaveType windows n ⊎ InWindow w n → HaveType (windows ++ w ∷ []) n
+pub more_in : (windows : List Window) (w : Window) (n : ℕ) → HaveType windows n ⊎ InWindow w n → HaveType (windows ++ w ∷ []) n
 more_in [] w n have = elim have [ inl none ↦ absurd none | inr here ↦ inl here ]
 more_in (v ∷ windows) w n have =
     elim have [

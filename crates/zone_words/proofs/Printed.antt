@@ -9,3 +9,5 @@ pub mod Digits
 pub mod Strings
 pub mod Base64Items
 pub mod Names
+pub mod Time
+pub mod Types

@@ -35,7 +35,7 @@ each_named [] numbers zip = tt
 each_named (item ∷ items) [] zip = absurd zip
 each_named (item ∷ items) (n ∷ numbers) zip = ((n, zip.0), each_named items numbers zip.1)
 
-named_among : (items : List RawItem) (numbers : List ℕ) (n : ℕ) → AllZip NamesType items numbers → NameType items n → Contains numbers n
+pub named_among : (items : List RawItem) (numbers : List ℕ) (n : ℕ) → AllZip NamesType items numbers → NameType items n → Contains numbers n
 named_among [] numbers n zip is = absurd is
 named_among (item ∷ items) [] n zip is = absurd zip
 named_among (item ∷ items) (m ∷ numbers) n zip is =
@@ -44,7 +44,7 @@ named_among (item ∷ items) (m ∷ numbers) n zip is =
       | inr rest ↦ Contains-append_right (m ∷ []) numbers n (named_among items numbers n zip.1 rest)
     ]
 
-among_named : (items : List RawItem) (numbers : List ℕ) (n : ℕ) → AllZip NamesType items numbers → Contains numbers n → NameType items n
+pub among_named : (items : List RawItem) (numbers : List ℕ) (n : ℕ) → AllZip NamesType items numbers → Contains numbers n → NameType items n
 among_named [] [] n zip has = absurd (none_in n has)
 among_named [] (m ∷ numbers) n zip has = absurd zip
 among_named (item ∷ items) [] n zip has = absurd zip

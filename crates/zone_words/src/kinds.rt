@@ -46,7 +46,7 @@ pub(crate) use string::{
 };
 pub(crate) use tag::{print_tag, read_tag};
 pub(crate) use time::{print_time, read_time};
-pub(crate) use types::{print_types, read_perhaps_types, read_types};
+pub(crate) use types::{print_perhaps_types, print_types, read_perhaps_types, read_types};
 pub(crate) use value::{print_value_item, read_first_quoted_value, read_first_value};
 pub(crate) use word::{
     print_algorithm, print_certificate_type, print_type, read_algorithm, read_certificate_type,

@@ -46,3 +46,11 @@ pub data FailsTime (text : List ℕ) : WordsFault → Type 0 where
   too_large : AreTooManySeconds text → FailsTime text TooLarge
   not_a_time : NothingIs (AreSecondsOf text) → (AreTooManySeconds text → ⊥)
       → FailsTime text NotATime
+
+-- The fourteen digits of the date and the time of day that the calendar has so many seconds after
+-- 1970, of which there are 32 bits (RFC 4034 3.2)
+pub record PrintsTime (text octets : List ℕ) : Type 0 where
+  pub digits : AreFourteenDigits text
+  pub date : IsDateTime (shown_in text)
+  pub short : seconds_since (shown_in text) < 4294967296
+  pub value : octets ≡ to_be_bytes w32 (seconds_since (shown_in text))

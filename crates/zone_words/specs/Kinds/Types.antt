@@ -1,10 +1,13 @@
 -- Types by their words, which a bitmap has (RFC 4034 4.1.2).
-use Rattle.std.specs.Prelude.{ℕ, ◌<◌, ◌⊎◌, List, [], ◌∷◌, length}
-use Rattle.std.specs.List.{AllByRecursion}
+use Rattle.std.specs.Prelude.{◌≡◌, ℕ, ◌<◌, ◌⊎◌, List, [], ◌∷◌, length, map}
+use Rattle.std.specs.List.{AllByRecursion, Contains}
+use Rattle.std.specs.List.Sorted.{IsStrictlyIncreasing}
 use Rattle.zone_rdata.specs.Item.{RawItem, bare, quoted}
+use Rattle.zone_rdata.specs.Words.{IsKind}
 use Rattle.zone_words.specs.Fault.{NothingStated}
 use Rattle.zone_words.specs.Kinds.Bitmap.{IsBitmapOf}
 use Rattle.zone_words.specs.Kinds.Joined.{FailsAs}
+use Rattle.zone_words.specs.Kinds.Word.{type_word}
 use Rattle.zone_words.specs.Mnemonics.{IsTypeWord}
 use Rattle.zone_words.specs.declared.fault.WordsFault.{WordsFault}
 use Rattle.zone_words.specs.declared.fault.WordsFault.TheVariants.{NotAType}
@@ -37,3 +40,19 @@ FailsPerhapsTypes items fault = NothingStated NotAType (StatesPerhapsTypes items
 
 abbrev pub FailsTypes : List RawItem → WordsFault → Type 0
 FailsTypes items fault = FailsAs NotAType StatesTypes items fault
+
+abbrev pub type_item : ℕ → RawItem
+type_item n = bare (type_word n)
+
+-- The words of the types that a bitmap has, ascending. Records can be of each (RFC 4034 4.1.2).
+pub record PrintsPerhapsTypes (items : List RawItem) (octets : List ℕ) : Type 0 where
+  pub types : List ℕ
+  pub ascending : IsStrictlyIncreasing types
+  pub kinds : AllByRecursion IsKind types
+  pub bitmap : IsBitmapOf (Contains types) octets
+  pub words : items ≡ map type_item types
+
+-- the same of one type or more
+pub record PrintsTypes (items : List RawItem) (octets : List ℕ) : Type 0 where
+  pub some : 0 < length items
+  pub types : PrintsPerhapsTypes items octets

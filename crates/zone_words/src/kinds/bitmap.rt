@@ -1,11 +1,14 @@
 //! Type bitmaps (RFC 4034 4.1.2).
-ghost use Rattle.std.specs.Prelude.{◌≡◌, ◌≢◌, ◌/◌, ◌-◌, ◌<◌, ◌≤◌, ◌↔◌, ℕ, length, slice_index, take, OnOk};
+ghost use Rattle.std.specs.Prelude.{◌≡◌, ◌≢◌, ◌/◌, ◌-◌, ◌<◌, ◌≤◌, ◌↔◌, ℕ, List, length, slice_index, take, IfErr, IfOk, OnOk};
 ghost use Rattle.std.specs.List.{AllByRecursion, Contains};
 ghost use Rattle.std.specs.List.Sorted.{IsNonDecreasing};
 ghost use Rattle.zone_words.specs.Fault.{AppendsStated};
-ghost use Rattle.zone_words.specs.Kinds.Bitmap.{HasBit, IsBitmapOf};
-ghost use Rattle.zone_words.specs.Machine.Windows.{AppendsWindow, HavePlace};
+ghost use Rattle.zone_words.specs.Kinds.Bitmap.{HasBit, IsBitmapOf, Window};
+ghost use Rattle.zone_words.specs.Machine.Windows.{AppendsWindow, BeginsWithWindow, HavePlace, window_of};
+ghost use Rattle.zone_words.specs.Printed.{IfNoData};
 
+use crate::taking::{take_counted, take_u8};
+use crate::unprinted::Unprinted;
 use std::alloc::AllocError;
 
 /// The octets of bits that a window has at most.
@@ -78,4 +81,25 @@ pub(super) fn trimmed_len(bits: &[u8]) -> usize
         len -= 1;
     }
     len
+}
+
+/// The window at the front, as its number and its bits, and what is left.
+///
+/// # Errors
+///
+/// `NoData` where no window stands there: they end before, or there are none of its bits, too many,
+/// or the last octet of them is 0.
+pub(super) fn take_window(octets: &[u8]) -> Result<(u8, &[u8], &[u8]), Unprinted>
+    ensures window { IfOk result (λ parts.
+        BeginsWithWindow octets.now (window_of parts.0 parts.1.now) parts.2.now) }
+    ensures none { IfErr result (IfNoData ((w : Window) (rest : List ℕ)
+        → BeginsWithWindow octets.now w rest → ⊥)) }
+    ensures less { IfOk result (λ parts. length parts.2.now < length octets.now) }
+{
+    let (number, rest) = take_u8(octets)?;
+    let (bits, rest) = take_counted(rest)?;
+    match bits.last() {
+        Some(last) if *last != 0 && bits.len() <= WINDOW_LEN => Ok((number, bits, rest)),
+        _ => Err(Unprinted::NoData),
+    }
 }

@@ -1,20 +1,23 @@
 //! Types by their words, as a bitmap (RFC 4034 4.1.2).
 ghost use Rattle.std.specs.List.{AllZip};
-ghost use Rattle.std.specs.Prelude.{map, IfErr, IfNone, IfOk, IfSome, OnOk};
+ghost use Rattle.std.specs.Prelude.{◌≡◌, ◌+◌, ◌*◌, ◌<◌, ◌≤◌, ◌∷◌, ◌++◌, [], length, map, IfErr, IfNone, IfOk, IfSome, OnOk};
 ghost use Rattle.zone_name.specs.Common.{NothingIs};
 ghost use Rattle.zone_rdata.specs.Item.{raw};
+ghost use Rattle.zone_rdata.specs.Words.{IsKind};
 ghost use Rattle.zone_words.specs.DataItem.{raw_item};
 ghost use Rattle.zone_words.specs.Fault.{AppendsStated, IfFault};
-ghost use Rattle.zone_words.specs.Kinds.Types.{FailsPerhapsTypes, FailsTypes, NamesType, StatesPerhapsTypes, StatesTypes};
+ghost use Rattle.zone_words.specs.Kinds.Types.{FailsPerhapsTypes, FailsTypes, NamesType, PrintsPerhapsTypes, PrintsTypes, StatesPerhapsTypes, StatesTypes, type_item};
+ghost use Rattle.zone_words.specs.Machine.PrintedTypes.{HasNoKind, IsInOctet, PrintsBetween};
+ghost use Rattle.zone_words.specs.Machine.Windows.{IsInWindow};
+ghost use Rattle.zone_words.specs.Printed.{IfNoData, NoItems, PrintsAll, after_blanks};
 
-use super::bitmap::push_windows;
+use super::bitmap::{push_windows, take_window};
 use super::word::print_type_word;
 use crate::data_item::DataItem;
 use crate::fault::{WordsFailing, WordsFault};
-use crate::mnemonics::type_of_word;
-use crate::taking::{take_counted, take_u8};
+use crate::mnemonics::{number_of_kind, type_of_word};
 use crate::unprinted::Unprinted;
-use std::alloc::{AllocError, Global};
+use std::alloc::Global;
 use zone_rdata::Item;
 
 /// More types than most bitmaps have, so that room for them is made once.
@@ -81,43 +84,108 @@ fn type_of_item(item: Item) -> Option<u16>
     }
 }
 
-/// Appends the words of the types whose bits are set in an octet, the first of which is that of
-/// this type, a blank before each.
-fn print_octet(first: u16, octet: u8, out: &mut Vec<u8>) -> Result<(), AllocError> {
-    let mut number = first;
-    for bit in [128, 64, 32, 16, 8, 4, 2, 1] {
-        if octet & bit != 0 {
-            out.push(b' ')?;
-            print_type_word(number, out)?;
+/// Appends the word of a type after a blank.
+///
+/// # Errors
+///
+/// `NoData` where no record can be of the type; and `OutOfMemory`.
+fn print_kind(number: u16, out: &mut Vec<u8>) -> Result<(), Unprinted>
+    ensures kind { OnOk result (IsKind number) }
+    ensures printed { OnOk result
+        (out.new.items ≡ out.old.items ++ after_blanks (type_item number ∷ [])) }
+    ensures none { IfErr result (IfNoData (IsKind number → ⊥)) }
+{
+    let Some(kind) = number_of_kind(u64::from(number)) else {
+        return Err(Unprinted::NoData);
+    };
+    out.push(b' ')?;
+    print_type_word(kind, out)?;
+    Ok(())
+}
+
+/// Appends the words of the types whose bits are set in an octet, the highest of which is that of
+/// the first type, each after a blank.
+///
+/// # Errors
+///
+/// `NoData` where no record can be of one of them; and `OutOfMemory`.
+fn print_octet(first: u16, octet: u8, out: &mut Vec<u8>) -> Result<(), Unprinted>
+    requires { first ≤ 65528 }
+    ensures printed { OnOk result (PrintsBetween (IsInOctet first octet)
+        first (first + 8) out.old.items out.new.items) }
+    ensures none { IfErr result
+        (IfNoData (HasNoKind (IsInOctet first octet) first (first + 8))) }
+{
+    for place in 0..8u16 {
+        if (octet >> (7 - place)) % 2 == 1 {
+            print_kind(first + place, out)?;
         }
-        number = number.wrapping_add(1);
     }
     Ok(())
 }
 
-/// Appends the words of the types whose bits are set in octets, the first of which has the bit of
-/// this type, a blank before each.
-fn print_window(first: u16, octets: &[u8], out: &mut Vec<u8>) -> Result<(), AllocError> {
-    let mut number = first;
-    for octet in octets {
+/// Appends the words of the types of a window, each after a blank.
+///
+/// # Errors
+///
+/// `NoData` where no record can be of one of them; and `OutOfMemory`.
+fn print_window(number: u8, bits: &[u8], out: &mut Vec<u8>) -> Result<(), Unprinted>
+    requires { length bits.now ≤ 32 }
+    ensures printed { OnOk result (PrintsBetween (IsInWindow number bits.now)
+        (number * 256) (number * 256 + 256) out.old.items out.new.items) }
+    ensures none { IfErr result (IfNoData
+        (HasNoKind (IsInWindow number bits.now) (number * 256) (number * 256 + 256))) }
+{
+    let first = u16::from(number) * 256;
+    for (index, octet) in bits.iter().enumerate() {
         // Most are zero.
         if *octet != 0 {
-            print_octet(number, *octet, out)?;
+            print_octet(first + index as u16 * 8, *octet, out)?;
         }
-        number = number.wrapping_add(8);
     }
     Ok(())
 }
 
-/// Appends the words of the types of a bitmap, window after window (RFC 4034 4.1.2), a blank before
-/// each.
-pub(crate) fn print_types(octets: &[u8], out: &mut Vec<u8>) -> Result<(), Unprinted> {
+/// Appends the words of the types of a bitmap (RFC 4034 4.1.2), ascending, each after a blank.
+/// Nothing, where there are no octets.
+///
+/// # Errors
+///
+/// `NoData` where the octets are no bitmap, or one that has a type of which no record can be; and
+/// `OutOfMemory`. `out` may have got some of the words.
+pub(crate) fn print_perhaps_types(octets: &[u8], out: &mut Vec<u8>) -> Result<(), Unprinted>
+    ensures printed { OnOk result
+        (PrintsAll PrintsPerhapsTypes octets.now out.old.items out.new.items) }
+    ensures none { IfErr result (IfNoData (NoItems StatesPerhapsTypes octets.now)) }
+{
     let mut rest = octets;
+    // The lowest number that the next window can have.
+    let mut least = 0u16;
     while !rest.is_empty() {
-        let (window, after) = take_u8(rest)?;
-        let (bits, after) = take_counted(after)?;
-        print_window(u16::from(window) * 256, bits, out)?;
+        let (number, bits, after) = take_window(rest)?;
+        if u16::from(number) < least {
+            return Err(Unprinted::NoData);
+        }
+        print_window(number, bits, out)?;
+        least = u16::from(number) + 1;
         rest = after;
     }
     Ok(())
+}
+
+/// Appends the words of the types of a bitmap that has one at least (RFC 4034 4.1.2), ascending,
+/// each after a blank.
+///
+/// # Errors
+///
+/// `NoData` where the octets are no bitmap, or one that has no type or one of which no record can
+/// be; and `OutOfMemory`. `out` may have got some of the words.
+pub(crate) fn print_types(octets: &[u8], out: &mut Vec<u8>) -> Result<(), Unprinted>
+    ensures printed { OnOk result (PrintsAll PrintsTypes octets.now out.old.items out.new.items) }
+    ensures none { IfErr result (IfNoData (NoItems StatesTypes octets.now)) }
+{
+    if octets.is_empty() {
+        return Err(Unprinted::NoData);
+    }
+    print_perhaps_types(octets, out)
 }

@@ -1,5 +1,8 @@
-ghost use Rattle.std.specs.Prelude.{◌≡◌, ◌+◌, ◌-◌, ◌≤◌, ◌↔◌, IsTrue};
-ghost use Rattle.zone_words.specs.Kinds.Calendar.{IsDateTime, days_of_months, days_of_years, is_leap, month_length, seconds_since};
+ghost use Rattle.std.specs.Prelude.{◌≡◌, ◌+◌, ◌-◌, ◌<◌, ◌≤◌, ◌↔◌, IsTrue};
+ghost use Rattle.zone_words.specs.Kinds.Calendar.{IsDateTime, days_of_months, days_of_years, is_leap, month_length, seconds_since, year_length};
+
+/// The seconds of a day.
+const DAY: u32 = 86_400;
 
 /// A date of the Gregorian calendar and a time of day in UTC.
 #[derive(Clone, Copy)]
@@ -27,6 +30,26 @@ impl DateTime {
             && self.hour <= 23
             && self.minute <= 59
             && self.second <= 59
+    }
+
+    /// That of so many seconds since 1970, leap seconds left out.
+    pub(super) fn after(seconds: u32) -> DateTime
+        ensures exists { IsDateTime result }
+        ensures value { seconds_since result ≡ seconds }
+        ensures four_digits { result.year ≤ 9999 }
+    {
+        let (days, second) = (seconds / DAY, seconds % DAY);
+        let year = year_of(days);
+        let rest = days - days_to_year(year);
+        let month = month_of(year, rest);
+        DateTime {
+            year,
+            month,
+            day: rest - days_before(year, month) + 1,
+            hour: second / 3600,
+            minute: second / 60 % 60,
+            second: second % 60,
+        }
     }
 
     /// The seconds since 1970, leap seconds left out.
@@ -92,4 +115,37 @@ fn days_to_year(year: u32) -> u32
 {
     let before = year - 1;
     365 * (year - 1970) + before / 4 + before / 400 - before / 100 - 477
+}
+
+/// The year of a day so many days after 1 January 1970, at most those of 2 ^ 32 seconds.
+#[tactic(auto, using(crate::proofs::Years::years_closed))]
+fn year_of(days: u32) -> u32
+    requires { days ≤ 49710 }
+    ensures within { (1970 ≤ result) × (result ≤ 2106) }
+    ensures begun { days_of_years (result - 1970) ≤ days }
+    ensures going { days < days_of_years (result - 1970) + year_length result }
+{
+    // Never too low, and too high by one at most.
+    let year = 1970 + days / 365;
+    if days_to_year(year) > days {
+        year - 1
+    } else {
+        year
+    }
+}
+
+/// The month of a day of a year, of which the first is 0.
+fn month_of(year: u32, day: u32) -> u32
+    requires { day < year_length year }
+    ensures within { (1 ≤ result) × (result ≤ 12) }
+    ensures begun { days_of_months year (result - 1) ≤ day }
+    ensures going { day < days_of_months year (result - 1) + month_length year result }
+{
+    // Never too high, and too low by one at most.
+    let month = day / 31 + 1;
+    if month < 12 && days_before(year, month + 1) <= day {
+        month + 1
+    } else {
+        month
+    }
 }
