@@ -50,6 +50,7 @@ pub mod Prefixes
 pub mod Scaled
 pub mod Places
 pub mod Locations
+pub mod Printed
 pub mod KeptRecords
 pub mod Turns
 pub mod KnownItems

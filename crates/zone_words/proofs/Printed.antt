@@ -1,0 +1,2 @@
+-- What is printed for octets states them, and stands as it is printed.
+pub mod Location
