@@ -218,6 +218,7 @@ IsDigitAndPower n = (n / 16 ≤ 9) × ((n % 16 ≤ 9) × (n / 16 ≡ 0 → n % 1
 pub record IsOnEarth (l : Location) : Type 0 where
   pub latitude : IsPlace Latitude l.latitude
   pub longitude : IsPlace Longitude l.longitude
+  pub altitude : l.altitude < 2 ^ 32
   pub size : IsDigitAndPower l.size
   pub horizontal : IsDigitAndPower l.horizontal
   pub vertical : IsDigitAndPower l.vertical

@@ -41,7 +41,8 @@ pub(crate) fn print_location(octets: &[u8], out: &mut Vec<u8>) -> Result<(), Unp
 /// The location that octets of version 0 hold. `None`: they hold none.
 fn location_in(octets: &[u8]) -> Option<Location>
     ensures found { IfSome result (λ l. octets.now ≡ location_octets l) }
-    ensures fits { IfSome result (λ l. (l.latitude < 2 ^ 32) × (l.longitude < 2 ^ 32)) }
+    ensures fits { IfSome result (λ l.
+        (l.latitude < 2 ^ 32) × (l.longitude < 2 ^ 32) × (l.altitude < 2 ^ 32)) }
     ensures none { IfNone result (HasNoLocation octets.now) }
 {
     let [0, size, horizontal, vertical, a, b, c, d, e, f, g, h, i, j, k, l] = octets else {

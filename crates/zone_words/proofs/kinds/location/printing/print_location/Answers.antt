@@ -5,7 +5,7 @@ use Rattle.zone_words.proofs.kinds.location.printing.print_location.Goals as goa
 
 pub returns-then-not-is_on_earth-clause-none : goal.returns-then-not-is_on_earth-clause-none
 returns-then-not-is_on_earth-clause-none c = λ items states.
-    let on = states_on_earth items c.args.octets.now c.in-Some.location c.in-Some.ensures.fits.0 c.in-Some.ensures.fits.1 c.in-Some.ensures.found states in
+    let on = states_on_earth items c.args.octets.now c.in-Some.location c.in-Some.ensures.fits.0 c.in-Some.ensures.fits.1 c.in-Some.ensures.fits.2 c.in-Some.ensures.found states in
     false≢true (sym c.if-not-is_on_earth.true ∙ c.is_on_earth.ensures.1 on)
 
 pub returns-clause-printed : goal.returns-clause-printed
