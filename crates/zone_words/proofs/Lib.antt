@@ -49,6 +49,7 @@ pub mod Cuts
 pub mod Prefixes
 pub mod Scaled
 pub mod Places
+mod PlaceChoices
 pub mod Locations
 pub mod Printed
 pub mod KeptRecords

@@ -10,9 +10,9 @@ use Rattle.zone_rdata.proofs.Common.{StandsBare, bare_append, bare_octets, is_ba
 use Rattle.zone_rdata.specs.Text.{written_item}
 use Rattle.zone_name.specs.Spelling.{is_digit}
 use Rattle.zone_words.proofs.Scaled.{m_cut}
-use Rattle.zone_words.proofs.Common.{AllByRecursion, AreCentimetres, BeginsWithAltitude, Bool, IsAltitude, IsAngle, IsDecimal, IsScaled, above, below, eqb_tells, false, folded_label, if◌then◌else◌, ltb-false, ltb-true, nat_lt, true, with_point, without_m, ◌==◌, BeginsWithPlace, BeginsWithSize, IsFirstDigit, IsLocation, List, RawItem, StatesLocation, [], ap, append-nil, append_assoc, arith, cases_lt, drop, flat_map-append, from_middle, inl, inr, length, location_octets, most_degrees, nat_tests, pow-le-pow_right, pow-suc, refl, subst, sym, take, to_be_bytes, w32, ℕ, ◌*◌, ◌++◌, ◌+◌, ◌-◌, ◌/◌, ◌%◌, ◌<◌, ◌^◌, ◌∙◌, ◌∷◌, ◌≡◌, ◌≤◌}
+use Rattle.zone_words.proofs.Common.{AllByRecursion, AreCentimetres, Bool, IsAltitude, IsAngle, IsScaled, above, below, false, folded_label, if◌then◌else◌, nat_lt, true, with_point, without_m, ◌==◌, BeginsWithPlace, BeginsWithSize, IsFirstDigit, IsLocation, List, RawItem, StatesLocation, [], ap, append-nil, append_assoc, arith, cases_lt, drop, flat_map-append, from_middle, inl, inr, location_octets, nat_tests, pow-le-pow_right, pow-suc, refl, subst, sym, take, w32, ℕ, ◌*◌, ◌++◌, ◌+◌, ◌-◌, ◌/◌, ◌%◌, ◌<◌, ◌^◌, ◌∙◌, ◌∷◌, ◌≡◌, ◌≤◌}
 use Rattle.zone_words.specs.Kinds.Location.{IsDigitAndPower, IsOnEarth, IsPlace, IsSize, PrintsLocation, altitude_text, angle_at, angle_items, capital_letter, half_at, hundredths, last_digit, letter, location_items, metres, place_items, seconds, size_text, whole}
-use Rattle.zone_words.specs.Printed.{NoItems, after_blanks}
+use Rattle.zone_words.specs.Printed.{after_blanks}
 use Rattle.zone_words.specs.declared.kinds.location.Location.{Location}
 use Rattle.zone_words.specs.declared.kinds.location.place.Axis.{Axis}
 use Rattle.zone_words.specs.declared.kinds.location.place.Axis.TheVariants.{Latitude, Longitude}
@@ -157,34 +157,47 @@ size_printed n is =
     let nine : n / 16 * q ≤ 9 * q = mul-le-mul_right q is.0 in
     let few : n / 16 * q ≤ 9000000000 = size_few n is in
     let digit : n / 16 * q / q ≡ n / 16 = mul-div_left (n / 16) some in
-    let next : 10 ^ (n % 16 + 1) ≡ q * 10 = ap (λ (k : ℕ). 10 ^ k) (omega arith) ∙ pow-suc 10 (n % 16) in
-    (n / 16 * q, (metres_scaled (n / 16 * q) (omega arith), (few, record {
-      power = n % 16;
-      few = is.1.0;
-      first = elim (cases_lt 0 (n / 16)) [
-        | inl digits ↦ inr (let one : 1 * q ≤ n / 16 * q = mul-le-mul_right q digits in omega arith)
-        | inr none ↦ inl (is.1.1 (omega arith))
-      ];
-      below = omega arith;
-      value = omega (arith, digit);
-    })))
+    let next : 10 ^ (n % 16 + 1) ≡ q * 10 = ap (λ (k : ℕ). 10 ^ k) (omega arith) ∙ pow-suc 10 (n % 16) in (
+      n / 16 * q,
+      (
+        metres_scaled (n / 16 * q) (omega arith),
+        (
+          few,
+          record {
+            power = n % 16;
+            few = is.1.0;
+            first = elim (cases_lt 0 (n / 16)) [
+              | inl digits ↦ inr (let one : 1 * q ≤ n / 16 * q = mul-le-mul_right q digits in omega arith)
+              | inr none ↦ inl (is.1.1 (omega arith))
+            ];
+            below = omega arith;
+            value = omega (arith, digit);
+          },
+        ),
+      ),
+    )
 
 pub location_printed_states : (items : List RawItem) (octets : List ℕ) → PrintsLocation items octets → StatesLocation items octets
 location_printed_states items octets (l, (is, (are, value))) =
-    let last : List RawItem = bare (altitude_text l.altitude) ∷ bare (size_text l.size) ∷ bare (size_text l.horizontal) ∷ bare (size_text l.vertical) ∷ [] in
-    (l, (subst (λ (given : List RawItem). IsLocation given l) (sym are) (record {
-      after_latitude = place_items Longitude l.longitude ++ last;
-      latitude = place_begins Latitude l.latitude (place_items Longitude l.longitude ++ last) is.latitude;
-      after_longitude = last;
-      longitude = place_begins Longitude l.longitude last is.longitude;
-      after_altitude = bare (size_text l.size) ∷ bare (size_text l.horizontal) ∷ bare (size_text l.vertical) ∷ [];
-      altitude = (altitude_by (nat_lt l.altitude 10000000) l.altitude is.altitude refl, refl);
-      after_size = bare (size_text l.horizontal) ∷ bare (size_text l.vertical) ∷ [];
-      size = (size_printed l.size is.size, refl);
-      after_horizontal = bare (size_text l.vertical) ∷ [];
-      horizontal = (size_printed l.horizontal is.horizontal, refl);
-      vertical = (size_printed l.vertical is.vertical, refl);
-    }), value))
+    let last : List RawItem = bare (altitude_text l.altitude) ∷ bare (size_text l.size) ∷ bare (size_text l.horizontal) ∷ bare (size_text l.vertical) ∷ [] in (
+      l,
+      (
+        subst (λ (given : List RawItem). IsLocation given l) (sym are) (record {
+          after_latitude = place_items Longitude l.longitude ++ last;
+          latitude = place_begins Latitude l.latitude (place_items Longitude l.longitude ++ last) is.latitude;
+          after_longitude = last;
+          longitude = place_begins Longitude l.longitude last is.longitude;
+          after_altitude = bare (size_text l.size) ∷ bare (size_text l.horizontal) ∷ bare (size_text l.vertical) ∷ [];
+          altitude = (altitude_by (nat_lt l.altitude 10000000) l.altitude is.altitude refl, refl);
+          after_size = bare (size_text l.horizontal) ∷ bare (size_text l.vertical) ∷ [];
+          size = (size_printed l.size is.size, refl);
+          after_horizontal = bare (size_text l.vertical) ∷ [];
+          horizontal = (size_printed l.horizontal is.horizontal, refl);
+          vertical = (size_printed l.vertical is.vertical, refl);
+        }),
+        value,
+      ),
+    )
 
 -- ---- what is printed stands as it is printed
 

@@ -45,7 +45,25 @@ fn location_in(octets: &[u8]) -> Option<Location>
         (l.latitude < 2 ^ 32) × (l.longitude < 2 ^ 32) × (l.altitude < 2 ^ 32)) }
     ensures none { IfNone result (HasNoLocation octets.now) }
 {
-    let [0, size, horizontal, vertical, a, b, c, d, e, f, g, h, i, j, k, l] = octets else {
+    let [
+        0,
+        size,
+        horizontal,
+        vertical,
+        a,
+        b,
+        c,
+        d,
+        e,
+        f,
+        g,
+        h,
+        i,
+        j,
+        k,
+        l,
+    ] = octets
+    else {
         return None;
     };
     Some(Location {
@@ -206,9 +224,5 @@ fn print_hundredths(centimetres: u64, out: &mut Vec<u8>) -> Result<(), AllocErro
     if centimetres % 100 == 0 {
         return Ok(());
     }
-    out.extend_from_slice(&[
-        b'.',
-        last_digit(centimetres / 10),
-        last_digit(centimetres),
-    ])
+    out.extend_from_slice(&[b'.', last_digit(centimetres / 10), last_digit(centimetres)])
 }
