@@ -1,5 +1,6 @@
 //! How locations are printed (RFC 1876 3).
-ghost use Rattle.std.specs.Prelude.{◌≡◌, ◌++◌, ◌∷◌, [], ◌+◌, ◌*◌, ◌/◌, ◌%◌, ◌^◌, ◌<◌, ◌≤◌, IfErr, IfNone, IfSome, IsTrue, OnOk, ◌↔◌};
+ghost use Rattle.std.specs.Int.{w32, to_be_bytes};
+ghost use Rattle.std.specs.Prelude.{◌≡◌, ◌≢◌, length, ◌++◌, ◌∷◌, [], ◌+◌, ◌*◌, ◌/◌, ◌%◌, ◌^◌, ◌<◌, ◌≤◌, IfErr, IfNone, IfSome, IsTrue, OnOk, ◌↔◌};
 ghost use Rattle.zone_words.specs.Kinds.Location.{IsDigitAndPower, IsOnEarth, IsPlace, PrintsLocation, StatesLocation, altitude_text, angle_at, angle_items, capital_letter, half_at, hundredths, last_digit, location_items, location_octets, metres, place_items, seconds, size_text};
 ghost use Rattle.zone_words.specs.Machine.Locations.{HasNoLocation};
 ghost use Rattle.zone_words.specs.Printed.{IfNoData, NoItems, PrintsAll, after_blanks};
@@ -45,35 +46,34 @@ fn location_in(octets: &[u8]) -> Option<Location>
         (l.latitude < 2 ^ 32) × (l.longitude < 2 ^ 32) × (l.altitude < 2 ^ 32)) }
     ensures none { IfNone result (HasNoLocation octets.now) }
 {
-    let [
-        0,
-        size,
-        horizontal,
-        vertical,
-        a,
-        b,
-        c,
-        d,
-        e,
-        f,
-        g,
-        h,
-        i,
-        j,
-        k,
-        l,
-    ] = octets
-    else {
+    let [0, size, horizontal, vertical, places @ ..] = octets else {
         return None;
     };
+    let (latitude, longitude, altitude) = numbers_in(places)?;
     Some(Location {
         size: *size,
         horizontal: *horizontal,
         vertical: *vertical,
-        latitude: u32::from_be_bytes([*a, *b, *c, *d]),
-        longitude: u32::from_be_bytes([*e, *f, *g, *h]),
-        altitude: u32::from_be_bytes([*i, *j, *k, *l]),
+        latitude,
+        longitude,
+        altitude,
     })
+}
+
+/// The three numbers of 32 bits that octets hold. `None`: they aren't twelve.
+fn numbers_in(octets: &[u8]) -> Option<(u32, u32, u32)>
+    ensures found { IfSome result (λ n. octets.now
+        ≡ to_be_bytes w32 n.0 ++ (to_be_bytes w32 n.1 ++ to_be_bytes w32 n.2)) }
+    ensures none { IfNone result (length octets.now ≢ 12) }
+{
+    let [a, b, c, d, e, f, g, h, i, j, k, l] = octets else {
+        return None;
+    };
+    Some((
+        u32::from_be_bytes([*a, *b, *c, *d]),
+        u32::from_be_bytes([*e, *f, *g, *h]),
+        u32::from_be_bytes([*i, *j, *k, *l]),
+    ))
 }
 
 /// Whether items state the location.
