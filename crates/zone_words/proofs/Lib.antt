@@ -50,7 +50,9 @@ pub mod Cuts
 pub mod Prefixes
 pub mod Scaled
 pub mod Places
+mod PlaceChoices
 pub mod Locations
+pub mod Printed
 pub mod KeptRecords
 pub mod Turns
 pub mod KnownItems

@@ -1,6 +1,10 @@
 -- Items state one location at most.
-use Rattle.zone_words.proofs.Common.{BeginsWithAltitude, BeginsWithPlace, BeginsWithSize, DataItem, FailsLocation, IsLocation, List, NotALocation, NothingIs, RawItem, StatesLocation, [], ap, append_assoc, arith, length, length-append, location_octets, map, raw_item, refl, subst, sym, to_be_bytes, w32, ℕ, ◌++◌, ◌<◌, ◌∙◌, ◌∷◌, ◌≡◌}
+use Rattle.zone_words.proofs.Common.{BeginsWithAltitude, BeginsWithPlace, BeginsWithSize, DataItem, FailsLocation, IsLocation, List, NotALocation, NothingIs, RawItem, StatesLocation, [], ap, append_assoc, arith, inl, inr, length, length-append, location_octets, map, raw_item, refl, subst, sym, to_be_bytes, w32, ℕ, ◌++◌, ◌<◌, ◌∙◌, ◌∷◌, ◌≡◌}
+use Rattle.zone_name.specs.Common.{EitherIs}
+use Rattle.zone_rdata.proofs.Choices.{Choice}
+use Rattle.zone_words.proofs.PlaceChoices.{altitude_begins, place_or_not, size_begins}
 use Rattle.zone_words.proofs.Places.{altitude_once, place_once, size_once}
+use Rattle.zone_words.specs.declared.fault.WordsFault.TheVariants.{NothingLeft}
 use Rattle.zone_words.specs.declared.kinds.location.Location.{Location}
 use Rattle.zone_words.specs.declared.kinds.location.place.Axis.TheVariants.{Latitude, Longitude}
 
@@ -87,3 +91,44 @@ no_items l is = omega (arith, ap length is.latitude.parts, length-append is.lati
 pub no_location : (items : List DataItem) → 0 < length items → NothingIs (IsLocation (map raw_item items)) → FailsLocation (map raw_item items) NotALocation
 no_location [] some none = absurd (omega arith)
 no_location (item ∷ items) some none = (refl, λ octets states. none states.0 states.1.0)
+
+-- ---- a location or none
+
+left_or_not : (items r s t u v w : List RawItem) (l : Location) → BeginsWithPlace Latitude items l.latitude r → BeginsWithPlace Longitude r l.longitude s → BeginsWithAltitude s l.altitude t → BeginsWithSize 18 t l.size u → BeginsWithSize 22 u l.horizontal v → BeginsWithSize 19 v l.vertical w → Choice (IsLocation items)
+left_or_not items r s t u v [] l first second third fourth fifth sixth =
+    inl (l, location_found items r s t u v [] l first second third fourth fifth sixth refl)
+left_or_not items r s t u v (item ∷ w) l first second third fourth fifth sixth =
+    inr (λ m is. let none = (six items m is l.latitude r first l.longitude s second l.altitude t third l.size u fourth l.horizontal v fifth l.vertical (item ∷ w) sixth).1 in omega (arith, ap length none))
+
+-- the sizes that items after an altitude begin with
+sizes_or_not : (items r s t : List RawItem) (a b c : ℕ) → BeginsWithPlace Latitude items a r → BeginsWithPlace Longitude r b s → BeginsWithAltitude s c t → Choice (IsLocation items)
+sizes_or_not items r s t a b c first second third = elim (size_begins 18 t) [
+  | inr none ↦ inr (λ l is. none l.size is.after_size (size_at items l is a r first b s second c t third))
+  | inl fourth ↦ elim (size_begins 22 fourth.1.0) [
+    | inr none ↦ inr (λ l is. none l.horizontal is.after_horizontal (horizontal_at items l is a r first b s second c t third fourth.0 fourth.1.0 fourth.1.1))
+    | inl fifth ↦ elim (size_begins 19 fifth.1.0) [
+      | inr none ↦ inr (λ l is. none l.vertical [] (vertical_at items l is a r first b s second c t third fourth.0 fourth.1.0 fourth.1.1 fifth.0 fifth.1.0 fifth.1.1))
+      | inl sixth ↦ left_or_not items r s t fourth.1.0 fifth.1.0 sixth.1.0 (record { size = fourth.0; horizontal = fifth.0; vertical = sixth.0; latitude = a; longitude = b; altitude = c }) first second third fourth.1.1 fifth.1.1 sixth.1.1
+    ]
+  ]
+]
+
+location_or_not : (items : List RawItem) → Choice (IsLocation items)
+location_or_not items = elim (place_or_not Latitude items) [
+  | inr none ↦ inr (λ l is. none l.latitude is.after_latitude is.latitude)
+  | inl first ↦ elim (place_or_not Longitude first.1.0) [
+    | inr none ↦ inr (λ l is. none l.longitude is.after_longitude (longitude_at items l is first.0 first.1.0 first.1.1))
+    | inl second ↦ elim (altitude_begins second.1.0) [
+      | inr none ↦ inr (λ l is. none l.altitude is.after_altitude (altitude_at items l is first.0 first.1.0 first.1.1 second.0 second.1.0 second.1.1))
+      | inl third ↦ sizes_or_not items first.1.0 second.1.0 third.1.0 first.0 second.0 third.0 first.1.1 second.1.1 third.1.1
+    ]
+  ]
+]
+
+-- items state a location or have a fault
+pub location_states_or_fails : (items : List RawItem) → EitherIs (StatesLocation items) (FailsLocation items)
+location_states_or_fails [] = inr (NothingLeft, refl)
+location_states_or_fails (item ∷ items) = elim (location_or_not (item ∷ items)) [
+  | inl found ↦ inl (location_octets found.0, (found.0, (found.1, refl)))
+  | inr none ↦ inr (NotALocation, (refl, λ octets states. none states.0 states.1.0))
+]

@@ -89,7 +89,7 @@ cut_half axis items at d half inside none is =
 
 -- ---- one angle
 
-bare_same : (Stated : List ℕ → ℕ → Type 0) → ((text : List ℕ) (m n : ℕ) → Stated text m → Stated text n → m ≡ n) → (item : RawItem) (m n : ℕ) → OfBareItem Stated item m → OfBareItem Stated item n → m ≡ n
+pub bare_same : (Stated : List ℕ → ℕ → Type 0) → ((text : List ℕ) (m n : ℕ) → Stated text m → Stated text n → m ≡ n) → (item : RawItem) (m n : ℕ) → OfBareItem Stated item m → OfBareItem Stated item n → m ≡ n
 bare_same Stated once (bare text) m n a b = once text m n a b
 bare_same Stated once (quoted text) m n a b = absurd a
 
@@ -103,7 +103,7 @@ parts_same (x ∷ y ∷ []) m n a b =
     omega (arith, a.2.1.1.1.1, b.2.1.1.1.1)
 parts_same (x ∷ y ∷ z ∷ items) m n a b = absurd a
 
-angle_same : (items : List RawItem) (m n : ℕ) → IsAngle items m → IsAngle items n → m ≡ n
+pub angle_same : (items : List RawItem) (m n : ℕ) → IsAngle items m → IsAngle items n → m ≡ n
 angle_same [] m n a b = absurd a
 angle_same (x ∷ items) m n a b =
     let degrees = bare_same IsDecimal decimal_once x a.0 b.0 a.2.0 b.2.0 in

@@ -11,3 +11,4 @@ pub mod Base64Items
 pub mod Names
 pub mod Time
 pub mod Types
+pub mod Location

@@ -1,5 +1,5 @@
 -- Locations on Earth (RFC 1876 2, 3).
-use Rattle.std.specs.Prelude.{◌≡◌, ℕ, ◌+◌, ◌-◌, ◌*◌, ◌/◌, ◌^◌, ◌<◌, ◌≤◌, ◌⊎◌, List, [], ◌∷◌, ◌++◌, length, ◌==◌, ◌||◌, if◌then◌else◌, codes}
+use Rattle.std.specs.Prelude.{◌≡◌, ℕ, ◌+◌, ◌-◌, ◌*◌, ◌/◌, ◌%◌, ◌^◌, ◌<◌, ◌≤◌, ◌⊎◌, List, [], ◌∷◌, ◌++◌, length, ◌==◌, ◌||◌, nat_lt, if◌then◌else◌, codes, decimal}
 use Rattle.std.specs.Int.{w32, to_be_bytes}
 use Rattle.zone_name.specs.Name.{folded_label}
 use Rattle.zone_rdata.specs.Item.{RawItem, bare, quoted}
@@ -151,3 +151,80 @@ StatesLocation items octets =
 
 abbrev pub FailsLocation : List RawItem → WordsFault → Type 0
 FailsLocation items fault = FailsAs NotALocation StatesLocation items fault
+
+-- ---- how a location is printed
+
+abbrev pub last_digit : ℕ → ℕ
+last_digit n = 48 + n % 10
+
+-- centimetres in metres, with two decimals where they aren't zero
+abbrev pub hundredths : ℕ → List ℕ
+hundredths c =
+    if c % 100 == 0 then [] else 46 ∷ last_digit (c / 10) ∷ last_digit c ∷ []
+
+abbrev pub metres : ℕ → List ℕ
+metres c = decimal (c / 100) ++ (hundredths c ++ codes "m")
+
+-- thousandths of a second in seconds, with three decimals
+abbrev pub seconds : ℕ → List ℕ
+seconds n =
+    decimal (n / 1000) ++ 46 ∷ last_digit (n / 100) ∷ last_digit (n / 10) ∷ last_digit n ∷ []
+
+-- thousandths of a second of arc in degrees, minutes and seconds
+abbrev pub angle_items : ℕ → List RawItem
+angle_items n =
+    bare (decimal (n / 3600000)) ∷ bare (decimal (n / 60000 % 60)) ∷ bare (seconds (n % 60000)) ∷ []
+
+-- on which side of the equator or the meridian a place lies, and how far from it
+abbrev pub half_at : ℕ → Half
+half_at n = if nat_lt n 2147483648 then Lower else Upper
+
+abbrev pub angle_at : ℕ → ℕ
+angle_at n = if nat_lt n 2147483648 then 2147483648 - n else n - 2147483648
+
+abbrev pub capital_letter : Axis → Half → List ℕ
+capital_letter Latitude Upper = codes "N"
+capital_letter Latitude Lower = codes "S"
+capital_letter Longitude Upper = codes "E"
+capital_letter Longitude Lower = codes "W"
+
+abbrev pub place_items : Axis → ℕ → List RawItem
+place_items axis n = angle_items (angle_at n) ++ bare (capital_letter axis (half_at n)) ∷ []
+
+-- centimetres from 100,000 metres below the spheroid on, with `-` where they are below it
+abbrev pub altitude_text : ℕ → List ℕ
+altitude_text n =
+    if nat_lt n 10000000 then 45 ∷ metres (10000000 - n) else metres (n - 10000000)
+
+-- a digit and a power of ten
+abbrev pub size_text : ℕ → List ℕ
+size_text n = metres (n / 16 * 10 ^ (n % 16))
+
+abbrev pub location_items : Location → List RawItem
+location_items l =
+    place_items Latitude l.latitude ++ (place_items Longitude l.longitude
+    ++ (bare (altitude_text l.altitude) ∷ bare (size_text l.size) ∷ bare (size_text l.horizontal)
+    ∷ bare (size_text l.vertical) ∷ []))
+
+-- the place lies no further from the middle than the axis goes
+abbrev pub IsPlace : Axis → ℕ → Type 0
+IsPlace axis n = angle_at n ≤ most_degrees axis * 3600000
+
+-- a digit and a power of ten up to 9, where digit 0 has power 0
+abbrev pub IsDigitAndPower : ℕ → Type 0
+IsDigitAndPower n = (n / 16 ≤ 9) × ((n % 16 ≤ 9) × (n / 16 ≡ 0 → n % 16 ≡ 0))
+
+-- what has words
+pub record IsOnEarth (l : Location) : Type 0 where
+  pub latitude : IsPlace Latitude l.latitude
+  pub longitude : IsPlace Longitude l.longitude
+  pub altitude : l.altitude < 2 ^ 32
+  pub size : IsDigitAndPower l.size
+  pub horizontal : IsDigitAndPower l.horizontal
+  pub vertical : IsDigitAndPower l.vertical
+
+-- degrees, minutes and seconds with three decimals, and each half's letter; altitude, size and
+-- precisions in metres
+abbrev pub PrintsLocation : List RawItem → List ℕ → Type 0
+PrintsLocation items octets =
+    (l : Location) × (IsOnEarth l × ((items ≡ location_items l) × (octets ≡ location_octets l)))

@@ -4,7 +4,8 @@ use Rattle.std.specs.List.{AllByRecursion}
 use Rattle.zone_name.specs.Common.{NothingIs}
 use Rattle.zone_rdata.specs.Item.{RawItem}
 use Rattle.zone_rdata.specs.Number.{IsDecimal}
-use Rattle.zone_words.specs.Kinds.Location.{IsHalfOf}
+use Rattle.zone_words.specs.Kinds.Location.{IsHalfOf, location_octets}
+use Rattle.zone_words.specs.declared.kinds.location.Location.{Location}
 use Rattle.zone_words.specs.declared.kinds.location.place.Axis.{Axis}
 use Rattle.zone_words.specs.declared.kinds.location.place.Half.{Half}
 
@@ -46,3 +47,7 @@ BeginsWithMinus (c ∷ text) = c ≡ 45
 pub record IsAfterMinus (text : List ℕ) (below : Bool) (rest : List ℕ) : Type 0 where
   pub parts : text ≡ minus below ++ rest
   pub first : below ≡ false → BeginsWithMinus text → ⊥
+
+-- the octets are those of no location
+abbrev pub HasNoLocation : List ℕ → Type 0
+HasNoLocation octets = (l : Location) → octets ≡ location_octets l → ⊥

@@ -39,7 +39,7 @@ pub(super) enum Half {
 
 impl Axis {
     /// The degrees of the greatest angle.
-    fn most_degrees(self) -> u64
+    pub(super) fn most_degrees(self) -> u64
         ensures value { result ≡ most_degrees self }
         ensures few { result ≤ 180 }
     {
