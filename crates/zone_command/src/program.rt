@@ -4,13 +4,13 @@ ghost use Rattle.zone_print.specs.Writing.{IsFailedWrite};
 ghost use Rattle.zone_command.specs.Machine.Telling.{TellsVerdict};
 ghost use Rattle.zone_command.specs.Run.{devices, ReadsSecond, Runs};
 ghost use Rattle.zone_engine.specs.Reading.{ReadsFew};
-ghost use Rattle.zone_engine.specs.Telling.{stop_line, stop_status, verdict_line, verdict_status, which_words, TellsLine, WritesLine, WritesPartOfLine};
+ghost use Rattle.zone_engine.specs.Telling.{stop_line, stop_status, verdict_line, verdict_status, TellsLine, WritesLine, WritesPartOfLine};
 
 use crate::order::Order;
 use command_input::{report, status};
 use itoa::Buffer;
 use std::alloc::Global;
-use zone_engine::{Form, OctetReader, Verdict, Which, compare, explain, normalise, write_line};
+use zone_engine::{Form, OctetReader, Verdict, compare, explain, normalise, write_line};
 use zone_print::OctetWriter;
 use zone_rdata::Stop;
 
@@ -62,7 +62,7 @@ pub fn run<R1: OctetReader, R2: OctetReader, W: OctetWriter, E: OctetWriter>(
             );
             match compare(alloc, forms.0, first, forms.1, second) {
                 Ok(verdict) => tell_verdict(verdict, output, errors),
-                Err((which, stop)) => report(words_of(which), &stop, errors),
+                Err(error) => report(error.which.words(), &error.stop, errors),
             }
         }
     }
@@ -112,15 +112,5 @@ fn status_of(verdict: Verdict) -> u8
     match verdict {
         Verdict::Same => status::SUCCESS,
         Verdict::Different(_) => DIFFERENT,
-    }
-}
-
-/// What a line on this input of a comparison begins with.
-fn words_of(which: Which) -> &'static str
-    ensures { result.now ≡ which_words which }
-{
-    match which {
-        Which::First => "first: ",
-        Which::Second => "second: ",
     }
 }

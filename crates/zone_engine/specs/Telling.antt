@@ -7,6 +7,7 @@ use Rattle.zone_rdata.specs.declared.fault.Stop.{Stop}
 use Rattle.zone_rdata.specs.declared.fault.Stop.TheVariants.{Refused, Read, Write, Memory}
 use Rattle.zone_print.specs.Device.{Device, WorksOn, Fails}
 use Rattle.zone_print.specs.Writing.{AppendsPart}
+use Rattle.zone_engine.specs.declared.comparison.CompareError.{CompareError}
 use Rattle.zone_engine.specs.declared.comparison.Verdict.{Verdict}
 use Rattle.zone_engine.specs.declared.comparison.Verdict.TheVariants.{Same, Different}
 use Rattle.zone_engine.specs.declared.comparison.Which.{Which}
@@ -16,6 +17,10 @@ use Rattle.zone_engine.specs.declared.comparison.Which.TheVariants.{First, Secon
 abbrev pub which_words : Which → List ℕ
 which_words First = codes "first: "
 which_words Second = codes "second: "
+
+-- the line on what stopped a comparison
+abbrev pub compare_error_line : CompareError → List ℕ
+compare_error_line error = which_words error.which ++ stop_line error.stop
 
 -- the exit status of a run that stopped
 abbrev pub stop_status : Stop → ℕ

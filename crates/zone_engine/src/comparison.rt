@@ -1,13 +1,16 @@
-ghost use Rattle.std.specs.Prelude.{◌≤◌, length, IfOk, IfErr, IfSome, OnOk};
+ghost use Rattle.std.specs.Prelude.{◌≡◌, ◌≤◌, length, IfOk, IfErr, IfSome, OnOk};
 ghost use Rattle.zone_print.specs.Canonical.{canon, text_limit};
 ghost use Rattle.zone_engine.specs.Compare.{Compares, IsVerdictOnTexts, StopsCompare, StopsCompareBytes};
 ghost use Rattle.zone_engine.specs.Form.{read_as};
 ghost use Rattle.zone_engine.specs.Reading.{ReadsToEnd};
+ghost use Rattle.zone_engine.specs.Telling.{which_words};
 
 use crate::engine::accepted_zone;
 use crate::form::Form;
 use crate::octets::{OctetReader, OctetSlice};
 use std::alloc::Global;
+use std::error::Error;
+use std::fmt;
 use zone_print::laws::equal_lines_are_equal_records;
 use zone_rdata::Stop;
 use zone_set::Zone;
@@ -31,6 +34,42 @@ pub enum Which {
     Second,
 }
 
+impl Which {
+    /// What a line on this input begins with: `first: ` or `second: `.
+    pub fn words(self) -> &'static str
+        ensures { result.now ≡ which_words self }
+    {
+        match self {
+            Which::First => "first: ",
+            Which::Second => "second: ",
+        }
+    }
+}
+
+/// Why two inputs weren't compared.
+#[derive(Debug, Drop)]
+pub struct CompareError {
+    /// The first input that stopped it.
+    pub which: Which,
+    /// Why that input stopped it.
+    pub stop: Stop,
+}
+
+/// The line that tells a user which input stopped a comparison, and why, without a line feed.
+impl fmt::Display for CompareError {
+    ghost use Rattle.std.specs.Prelude.{Some};
+    ghost use Rattle.zone_engine.specs.Telling.{compare_error_line};
+
+    ghost output = { λ error. Some (compare_error_line error) };
+
+    fn fmt<W: fmt::Write>(&self, f: &mut fmt::Formatter<W>) -> fmt::Result {
+        f.write_str(self.which.words())?;
+        self.stop.fmt(f)
+    }
+}
+
+impl Error for CompareError {}
+
 /// Compares the canonical texts of the zones that two readers' octets denote, without making the
 /// texts. Each reader is read as by [`normalise`](crate::normalise), the second one after the first
 /// input was judged whole.
@@ -46,7 +85,7 @@ pub fn compare<R: OctetReader, S: OctetReader>(
     first: &mut R,
     second_form: Form<'_>,
     second: &mut S,
-) -> Result<Verdict, (Which, Stop)>
+) -> Result<Verdict, CompareError>
     ensures compared { IfOk result (λ verdict.
         IfSome (R.state first.old).octets (λ octets. IfSome (S.state second.old).octets (λ others.
         Compares (read_as first_form.entry octets)
@@ -54,17 +93,23 @@ pub fn compare<R: OctetReader, S: OctetReader>(
     ensures stopped { IfErr result
         (λ why. StopsCompare (read_as first_form.entry) (read_as second_form.entry)
         (R.state first.old) (R.state first.new) (S.state second.old) (S.state second.new)
-        why.0 why.1) }
+        why.which why.stop) }
     ensures read { OnOk result (ReadsToEnd text_limit (R.state first.old) (R.state first.new)
         × ReadsToEnd text_limit (S.state second.old) (S.state second.new)) }
 {
     let zone = match accepted_zone(alloc, first_form, first) {
         Ok(zone) => zone,
-        Err(stop) => return Err((Which::First, stop)),
+        Err(stop) => {
+            let which = Which::First;
+            return Err(CompareError { which, stop });
+        }
     };
     match accepted_zone(alloc, second_form, second) {
         Ok(other) => Ok(first_difference(&zone, &other)),
-        Err(stop) => Err((Which::Second, stop)),
+        Err(stop) => {
+            let which = Which::Second;
+            Err(CompareError { which, stop })
+        }
     }
 }
 
@@ -79,12 +124,12 @@ pub fn compare_bytes(
     first: &[u8],
     second_form: Form<'_>,
     second: &[u8],
-) -> Result<Verdict, (Which, Stop)>
+) -> Result<Verdict, CompareError>
     ensures compared { IfOk result (Compares (read_as first_form.entry first.now)
         (read_as second_form.entry second.now)) }
     ensures stopped { IfErr result
         (λ why. StopsCompareBytes (read_as first_form.entry first.now)
-        (read_as second_form.entry second.now) why.0 why.1) }
+        (read_as second_form.entry second.now) why.which why.stop) }
 {
     let mut first = OctetSlice { rest: first };
     let mut second = OctetSlice { rest: second };

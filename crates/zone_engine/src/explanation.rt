@@ -1,12 +1,10 @@
-ghost use Rattle.std.specs.Prelude.{◌≡◌, ◌<◌, ◌++◌, ◌∷◌, [], IfErr, IfOk, IsOk, OnErr, OnOk, string_bytes};
-ghost use Rattle.std.specs.List.{AllByRecursion};
-ghost use Rattle.zone_name.specs.Text.{name_text};
+ghost use Rattle.std.specs.Prelude.{◌≡◌, IfErr, IfOk, OnOk, string_bytes};
 ghost use Rattle.zone_print.specs.Canonical.{text_limit};
 ghost use Rattle.zone_print.specs.Device.{WorksOn};
 ghost use Rattle.zone_engine.specs.Explain.{Explains, StopsExplain};
 ghost use Rattle.zone_engine.specs.Form.{read_as};
 ghost use Rattle.zone_engine.specs.Reading.{ReadsFew, ReadsWhole, TellsRead};
-ghost use Rattle.zone_engine.specs.Telling.{argument_of, place_words, refusal_line, stop_line};
+ghost use Rattle.zone_engine.specs.Telling.{refusal_line, stop_line};
 
 use crate::engine::accepted_zone;
 use crate::form::Form;
@@ -14,7 +12,6 @@ use crate::line::{write_line, write_refusal};
 use crate::octets::OctetReader;
 use itoa::Buffer;
 use std::alloc::{AllocError, Global};
-use zone_name::Name;
 use zone_print::OctetWriter;
 use zone_rdata::{Fault, Place, Stop};
 
@@ -71,7 +68,7 @@ pub fn explain<R: OctetReader, W: OctetWriter>(
     }
 }
 
-/// The line that tells a user why a run stopped, without its line feed.
+/// The line that tells a user why a run stopped, without its line feed, as `{}` shows it.
 ///
 /// # Errors
 ///
@@ -79,12 +76,7 @@ pub fn explain<R: OctetReader, W: OctetWriter>(
 pub fn explain_line(alloc: Global, stop: &Stop) -> Result<String, AllocError>
     ensures { IfOk result (λ line. string_bytes line ≡ stop_line stop.now) }
 {
-    match stop {
-        Stop::Refused(fault, place) => refusal_line(alloc, fault, *place),
-        Stop::Read => String::from_str(alloc, READ_FAILED),
-        Stop::Write => String::from_str(alloc, WRITE_FAILED),
-        Stop::Memory => String::from_str(alloc, OUT_OF_MEMORY),
-    }
+    format!(in alloc; "{stop}")
 }
 
 /// Number, name and argument of the fault, its place, and what is wrong.
@@ -95,58 +87,5 @@ pub fn explain_line(alloc: Global, stop: &Stop) -> Result<String, AllocError>
 pub fn refusal_line(alloc: Global, fault: &Fault, place: Place) -> Result<String, AllocError>
     ensures { IfOk result (λ line. string_bytes line ≡ refusal_line fault.now place) }
 {
-    let (number, name, text) = (fault.number(), fault.name(), fault.text());
-    let mut line = format!(in alloc; "F{number} {name}")?;
-    push_argument(alloc, &mut line, fault)?;
-    push_place(&mut line, place)?;
-    write!(line, ": {text}")?;
-    Ok(line)
-}
-
-/// The error code or the owner that the fault names. It takes no memory where there is neither.
-fn push_argument(alloc: Global, line: &mut String, fault: &Fault) -> Result<(), AllocError>
-    ensures text { OnOk result (string_bytes line.new ≡ string_bytes line.old
-        ++ argument_of fault.now) }
-    ensures nothing { argument_of fault.now ≡ [] → IsOk result }
-{
-    match fault {
-        Fault::ErrorCode(code) => write!(line, " {code}"),
-        Fault::OutOfZone(owner) => push_owner(alloc, line, owner),
-        _ => Ok(()),
-    }
-}
-
-/// The place in words.
-fn push_place(line: &mut String, place: Place) -> Result<(), AllocError>
-    ensures { OnOk result (string_bytes line.new ≡ string_bytes line.old ++ place_words place) }
-{
-    match place {
-        Place::Line(number) => write!(line, " at line {number}"),
-        Place::Message(number, offset) => write!(line, " at message {number} offset {offset}"),
-        Place::Whole => line.push_str(" in the input"),
-    }
-}
-
-/// A space and the canonical spelling of the name, which is ASCII.
-#[tactic(auto, using(crate::proofs::Telling::ascii_name))]
-fn push_owner(alloc: Global, line: &mut String, owner: &Name) -> Result<(), AllocError>
-    ensures { OnOk result (string_bytes line.new ≡ string_bytes line.old
-        ++ 32 ∷ name_text owner.now) }
-{
-    owner.known();
-    let mut spelling = Vec::new(alloc);
-    owner.push_text(&mut spelling)?;
-    line.push(' ')?;
-    push_ascii(line, spelling.as_slice())
-}
-
-/// Octets of ASCII.
-fn push_ascii(line: &mut String, octets: &[u8]) -> Result<(), AllocError>
-    requires { AllByRecursion (λ c. c < 128) octets.now }
-    ensures { OnOk result (string_bytes line.new ≡ string_bytes line.old ++ octets.now) }
-{
-    for octet in octets {
-        line.push(char::from(*octet))?;
-    }
-    Ok(())
+    explain_line(alloc, &Stop::Refused(fault.copy(), place))
 }

@@ -15,7 +15,7 @@ mod loader;
 mod octets;
 mod refusal;
 
-pub use comparison::{Verdict, Which, compare, compare_bytes};
+pub use comparison::{CompareError, Verdict, Which, compare, compare_bytes};
 pub use engine::{accepted_bytes, accepted_zone, accepted_zone_within, normalise, normalise_bytes};
 pub use explanation::{
     OUT_OF_MEMORY, READ_FAILED, WRITE_FAILED, explain, explain_line, refusal_line,

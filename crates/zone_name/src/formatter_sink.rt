@@ -1,5 +1,5 @@
 //! What a sink takes, written to a formatter: so what prints into a sink has its `Display`.
-ghost use Rattle.std.specs.Prelude.{◌≡◌, false, OnOk};
+ghost use Rattle.std.specs.Prelude.{◌≡◌, false, true, OnErr, OnOk};
 ghost use Rattle.zone_name.specs.FormatterSink.{Formats, has_failed};
 ghost use Rattle.zone_name.specs.Machine.Formatted.{formatted_nothing, formatted_twice};
 
@@ -32,7 +32,8 @@ impl<'f, W: fmt::Write> FormatterSink<'f, W> {
     ///
     /// The writer refused octets.
     pub fn finish(&self) -> fmt::Result
-        ensures { OnOk result (has_failed self.now ≡ false) }
+        ensures ok { OnOk result (has_failed self.now ≡ false) }
+        ensures err { OnErr result (has_failed self.now ≡ true) }
     {
         if self.failed { Err(fmt::Error) } else { Ok(()) }
     }

@@ -7,3 +7,4 @@ pub mod Stops
 pub mod OneZone
 pub mod Items
 pub mod ReadBack
+pub mod Walks

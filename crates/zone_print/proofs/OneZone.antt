@@ -1,8 +1,6 @@
 -- A zone is fixed by its set of records.
-use Rattle.zone_print.proofs.Common.{◌≡◌, ℕ, List, [], ◌∷◌, Less, Equal, refl, sym, ap, ap₂, ◌∙◌, inl, arith, Record, data_of, Placed, FileStates, Has, SameRecords, Zone, IsZone, Denotes, Labels}
-use Rattle.std.proofs.lemmas.Cmp.{tied_itself}
+use Rattle.zone_print.proofs.Common.{◌≡◌, ℕ, List, Equal, arith, Record, data_of, Placed, FileStates, SameRecords, Zone, IsZone, Denotes, Labels}
 use Rattle.std.proofs.lemmas.Map.Lookups.{exact_unsigned, exact_bytes}
-use Rattle.std.specs.Ordering.{ordering_reverse}
 use Rattle.zone_name.specs.Order.{name_cmp}
 use Rattle.zone_set.specs.Order.{canonical_cmp, Ascends}
 use Rattle.zone_set.proofs.Holding.Together.{each_Has}

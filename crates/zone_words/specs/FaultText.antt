@@ -2,6 +2,8 @@
 use Rattle.std.specs.Prelude.{ℕ, List, codes, None, Some}
 use Rattle.zone_name.specs.declared.fault.NameFault.{NameFault}
 use Rattle.zone_name.specs.declared.fault.NameFault.TheVariants as names
+use Rattle.zone_words.specs.declared.fault.WordsFailing.{WordsFailing}
+use Rattle.zone_words.specs.declared.fault.WordsFailing.TheVariants as failings
 use Rattle.zone_words.specs.declared.fault.WordsFault.{WordsFault}
 use Rattle.zone_words.specs.declared.fault.WordsFault.TheVariants as faults
 
@@ -38,3 +40,8 @@ fault_text faults.NotAKey = codes "not a key"
 fault_text faults.RepeatedKey = codes "a repeated key"
 fault_text faults.NotAValue = codes "not a value"
 fault_text faults.MandatoryKeyMissing = codes "a mandatory key is missing"
+
+-- of a failing: of a fault what is wrong
+abbrev pub failing_text : WordsFailing → List ℕ
+failing_text (failings.Fault fault) = fault_text fault
+failing_text failings.OutOfMemory = codes "out of memory"

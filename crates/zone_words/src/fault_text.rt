@@ -2,7 +2,8 @@
 ghost use Rattle.std.specs.Prelude.{◌≡◌};
 ghost use Rattle.zone_words.specs.FaultText.{fault_text, name_fault_text};
 
-use crate::fault::WordsFault;
+use crate::fault::{WordsFailing, WordsFault};
+use std::error::Error;
 use std::fmt;
 use zone_name::NameFault;
 
@@ -65,3 +66,22 @@ impl fmt::Display for WordsFault {
         f.write_str(self.text())
     }
 }
+
+/// Of a fault what is wrong, as [`WordsFault::text`] has it.
+impl fmt::Display for WordsFailing {
+    ghost use Rattle.std.specs.Prelude.{Some};
+    ghost use Rattle.zone_words.specs.FaultText.{failing_text};
+
+    ghost output = { λ failing. Some (failing_text failing) };
+
+    fn fmt<W: fmt::Write>(&self, f: &mut fmt::Formatter<W>) -> fmt::Result {
+        match self {
+            WordsFailing::Fault(fault) => fault.fmt(f),
+            WordsFailing::OutOfMemory => f.write_str("out of memory"),
+        }
+    }
+}
+
+impl Error for WordsFault {}
+
+impl Error for WordsFailing {}

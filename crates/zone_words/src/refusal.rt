@@ -3,6 +3,7 @@ ghost use Rattle.std.specs.Prelude.{◌≡◌, ◌+◌, ◌<◌, ◌≤◌, ◌^
 ghost use Rattle.zone_words.specs.Refusal.{AddsTold, refused_of};
 
 use crate::fault::WordsFault;
+use std::error::Error;
 use std::fmt;
 
 /// An entry of a further type that states no data.
@@ -71,3 +72,5 @@ impl fmt::Display for Refusal {
         )
     }
 }
+
+impl Error for Refusal {}

@@ -11,8 +11,8 @@ use std::rt::Env;
 pub use zone_command::{LineFault, Order, Source, order_of, run};
 use zone_command::{order_after_name, refuse};
 pub use zone_engine::{
-    Form, OctetReader, Verdict, Which, compare, examples, explain, explain_line, laws, normalise,
-    normalise_bytes,
+    CompareError, Form, OctetReader, Verdict, Which, compare, examples, explain, explain_line,
+    laws, normalise, normalise_bytes,
 };
 
 fn main(rt: HostRuntime) -> ExitCode {

@@ -3,13 +3,13 @@
 use std::alloc::Global;
 use std::test::Fail;
 use test_support::{
-    Question, check, check_lines, check_octets, check_same, check_table, push_words,
+    Question, check, check_lines, check_octets, check_same, check_table, push_words, roomy,
 };
 use zone_name::CasedName;
 use zone_text::{FirstEntry, first_entry};
 use zone_words::{
-    Refusals, Rewriter, Rewritten, certificate_mnemonic, further_type_of, rewrite_file,
-    type_mnemonic,
+    Refusals, Rewriter, Rewritten, WordsFailing, WordsFault, certificate_mnemonic, further_type_of,
+    rewrite_file, type_mnemonic,
 };
 
 /// What a file under the origin `Example.` becomes, with what is told after it. It is the same
@@ -473,4 +473,16 @@ fn words_of_numbers(_rt: HostRuntime) -> Result<(), Fail> {
     check(further_type_of(b"A").is_none(), "A is no further type")?;
     check_octets("a type", type_mnemonic(1).ok_or("1")?, b"A")?;
     check_octets("a certificate", certificate_mnemonic(3).ok_or("3")?, b"PGP")
+}
+
+#[test]
+fn failings_of_words_are_shown(rt: HostRuntime) -> Result<(), Fail> {
+    let mut shown = roomy(rt.alloc())?;
+    for failing in [
+        WordsFailing::Fault(WordsFault::NotAKey),
+        WordsFailing::OutOfMemory,
+    ] {
+        push_words(rt.alloc(), &mut shown, format_args!("{failing}\n"))?;
+    }
+    check_octets("the words", &shown, b"not a key\nout of memory\n")
 }

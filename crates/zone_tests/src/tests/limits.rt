@@ -3,13 +3,13 @@
 use crate::tests::check_stopped;
 use std::alloc::Global;
 use std::test::Fail;
-use test_support::{check_octets, check_same};
+use test_support::{check_octets, check_same, push_words, roomy};
 use zone_engine::{
     Form, OctetSlice, Verdict, Which, accepted_bytes, accepted_zone, accepted_zone_within,
     compare_bytes,
 };
 use zone_name::Name;
-use zone_print::{push_zone_within, write_zone_within};
+use zone_print::{OctetVec, push_zone_within, write_zone_within};
 use zone_set::{Zone, ZoneBuilder};
 use zone_text::read_file;
 
@@ -67,16 +67,25 @@ fn an_input_at_the_limit_is_accepted(rt: HostRuntime) -> Result<(), Fail> {
 }
 
 #[test]
+fn a_text_is_written_to_memory(rt: HostRuntime) -> Result<(), Fail> {
+    let zone = zone_of(rt.alloc())?;
+    let mut written = OctetVec::new(rt.alloc());
+    write_zone_within(rt.alloc(), &zone, &mut written, 54)?;
+    check_octets("what is written", &written.finish()?, TEXT)
+}
+
+#[test]
 fn octets_in_memory_are_compared(rt: HostRuntime) -> Result<(), Fail> {
     let root = Name::root();
     let form = Form::File(&root);
-    match compare_bytes(rt.alloc(), form, FILE, form, TEXT) {
-        Ok(verdict) => check_same("a file and its text", verdict, Verdict::Same)?,
-        Err((_, stop)) => return Err(Fail::from(stop)),
-    }
-    let Err((which, stop)) = compare_bytes(rt.alloc(), form, FILE, form, b"a") else {
+    let verdict = compare_bytes(rt.alloc(), form, FILE, form, TEXT)?;
+    check_same("a file and its text", verdict, Verdict::Same)?;
+    let Err(error) = compare_bytes(rt.alloc(), form, FILE, form, b"a") else {
         return Err(Fail::from("accepted"));
     };
-    check_same("the one that is refused", which, Which::Second)?;
-    check_stopped(rt.alloc(), Some(stop), "F7 UnknownType at line 1")
+    check_same("the one that is refused", error.which, Which::Second)?;
+    let mut shown = roomy(rt.alloc())?;
+    push_words(rt.alloc(), &mut shown, &error)?;
+    let wanted = b"second: F7 UnknownType at line 1: the type word is missing or unknown";
+    check_octets("the error as it is shown", &shown, wanted)
 }

@@ -182,10 +182,8 @@ fn check_kept_under(
     let again = normalise_bytes(alloc, Form::File(&origin), text)?;
     check_octets("a canonical text is read back", &again, text)?;
     let (mut first, mut second) = (octets, text);
-    match compare(alloc, form, &mut first, Form::File(&origin), &mut second) {
-        Ok(verdict) => check_same("an input and its text", verdict, Verdict::Same),
-        Err((_, stop)) => Err(Fail::from(stop)),
-    }
+    let verdict = compare(alloc, form, &mut first, Form::File(&origin), &mut second)?;
+    check_same("an input and its text", verdict, Verdict::Same)
 }
 
 /// That a canonical text of an input is read back under other origins and its own.
