@@ -6,6 +6,7 @@ ghost use Rattle.zone_text.specs.declared.open_entry.EntryState.TheVariants.{Ope
 
 use crate::blank::blank_lines;
 use crate::ended::EndedEntries;
+use crate::entry::cut_entry;
 use crate::open_entry::{EntryState, OpenEntry};
 use crate::stops::Stops;
 use crate::walk::{Reached, walk};
@@ -66,7 +67,7 @@ impl EntrySplitter {
                 }
                 if let Reached::Ends(len, feeds) = walk(rest, &mut stops, &mut items)? {
                     let (entry, after) = rest.split_at(len);
-                    self.ended.read_cut(entry, &items, feeds)?;
+                    self.ended.read(entry, &items, feeds)?;
                     rest = after;
                     continue;
                 }
@@ -126,7 +127,9 @@ impl EntrySplitter {
     {
         {
             let mut items = Vec::new(self.alloc);
-            self.ended.read(self.unfinished.octets(), &mut items)?;
+            let entry = self.unfinished.octets();
+            let feeds = cut_entry(entry, &mut items)?;
+            self.ended.read(entry, &items, feeds)?;
         }
         self.unfinished.clear();
         Ok(())

@@ -12,7 +12,7 @@ use Rattle.zone_text.proofs.Files.Left.{line_feeds}
 use Rattle.zone_text.proofs.Scanning.StopMarks.{first_at, goes_on, prefix_stops}
 use Rattle.zone_text.proofs.Tokens.Cuttings.{HasRoom, Stops, Takes, begins, breaks, cuts, depth_on, no_token, one_token_more, some_octet}
 use Rattle.zone_text.proofs.Tokens.ForGood.{ends_not_for_good, malformed_is_bad, stays_for_good}
-use Rattle.zone_text.proofs.Tokens.ItemsLeft.{each_plain, ends_but_mark, plain_text}
+use Rattle.zone_text.proofs.Tokens.WrittenItems.{each_plain, ends_but_mark, plain_text}
 use Rattle.zone_text.proofs.Scanning.FirstEntries.{feeds_of_both, none_first, none_in, other_than_ten}
 pub use Rattle.zone_text.specs.Machine.Spans.{AreUnits, BeginsToken, EndsToken, IsItemOrComment, IsLostToken, IsOpenToken, IsSeen, ItemIs, RunsOut, Settles, between, in_bare, in_bare_lost, in_comment, in_quotes, in_quotes_lost}
 use Rattle.zone_text.specs.Machine.ItemLengths.{IsInRow}
@@ -26,7 +26,7 @@ use Rattle.zone_text.specs.declared.walk.Mark.TheVariants as marks
 
 -- ---- what follows a token
 
-begin_self : (rest : List ℕ) → BeginAs rest rest
+pub begin_self : (rest : List ℕ) → BeginAs rest rest
 begin_self [] = tt
 begin_self (c ∷ rest) = refl
 
@@ -39,7 +39,7 @@ begin_less [] piece tail begins = tt
 begin_less (c ∷ rest) piece [] begins = absurd begins
 begin_less (c ∷ rest) piece (d ∷ tail) begins = begins
 
-settled_stops : (p : Token) (left tail : List ℕ) → Settles p left → BeginAs left tail → Stops p tail
+pub settled_stops : (p : Token) (left tail : List ℕ) → Settles p left → BeginAs left tail → Stops p tail
 settled_stops (bare units) [] tail settled begins = absurd settled
 settled_stops (bare units) (c ∷ left) [] settled begins = absurd begins
 settled_stops (bare units) (c ∷ left) (d ∷ tail) settled begins = at_octet d tail refl (ap ends_item (sym begins) ∙ settled)

@@ -6,7 +6,7 @@ use Rattle.zone_rdata.specs.Item.{RawItem}
 use Rattle.zone_text.proofs.Scanning.StopMarks.{first_at}
 use Rattle.zone_text.proofs.Scanning.StopMarks.{nothing_left as none_beyond}
 use Rattle.zone_text.proofs.Tokens.Cuttings.{EndsComment, begins, comment_dropped, comment_each, comment_ends, comment_whole, some_octet}
-use Rattle.zone_text.proofs.Tokens.ItemsLeft.{IsWrittenTo, at_mark, each_plain, plain_text, stops_or}
+use Rattle.zone_text.proofs.Tokens.WrittenItems.{IsWrittenTo, at_mark, each_plain, plain_text, stops_or}
 use Rattle.zone_text.specs.Machine.Spans.{AreUnits, BeginsToken, EndsHere, EndsToken, IsLostBy, IsItemOrComment, IsOpenToken, IsSeenComment, IsSpan, IsTokenSpan, between, in_bare, in_bare_lost, in_comment, in_quotes, in_quotes_lost}
 use Rattle.zone_text.specs.Tokens.{IsToken}
 use Rattle.zone_text.specs.declared.token.Span.{Span}
