@@ -78,7 +78,7 @@ impl EntrySplitter {
         Ok(())
     }
 
-    /// As `take_part`, of few octets at once.
+    /// Takes octets of the unfinished entry, few at once, and gives those that are left.
     fn take_some<'p>(&mut self, octets: &'p [u8]) -> Result<&'p [u8], AllocError>
         requires is { IsSplitter self.old.ended self.old.unfinished }
         requires undecided { self.old.ended.decided.ending ≡ None }
@@ -87,20 +87,7 @@ impl EntrySplitter {
         ensures { IfOk result (λ left. TakesPart self.old octets.now left.now self.new) }
     {
         let (some, _) = octets.split_at(octets.len().min(AT_ONCE));
-        let taken = some.len() - self.take_part(some)?.len();
-        let (_, left) = octets.split_at(taken);
-        Ok(left)
-    }
-
-    /// Takes octets of the unfinished entry, and gives those that are left of them.
-    fn take_part<'p>(&mut self, octets: &'p [u8]) -> Result<&'p [u8], AllocError>
-        requires is { IsSplitter self.old.ended self.old.unfinished }
-        requires undecided { self.old.ended.decided.ending ≡ None }
-        requires some { 0 < length octets.now }
-        requires fits { reach self.old + length octets.now < 2 ^ 64 }
-        ensures { IfOk result (λ left. TakesPart self.old octets.now left.now self.new) }
-    {
-        let taken = self.unfinished.take(octets)?;
+        let taken = self.unfinished.take(some)?;
         let (_, left) = octets.split_at(taken.len);
         match taken.state {
             EntryState::Open => Ok(left),
@@ -110,7 +97,7 @@ impl EntrySplitter {
             }
             EntryState::Broken(fault) => {
                 self.ended.refuse(fault);
-                self.drop_unfinished();
+                self.unfinished.clear();
                 Ok(left)
             }
         }
@@ -135,15 +122,6 @@ impl EntrySplitter {
         Ok(())
     }
 
-    /// Lets go of the octets of the unfinished entry.
-    pub(crate) fn drop_unfinished(&mut self)
-        ensures none { self.new.unfinished.octets ≡ [] }
-        ensures state { self.new.unfinished.state ≡ Open }
-        ensures ended { self.new.ended ≡ self.old.ended }
-    {
-        self.unfinished.clear();
-    }
-
     /// Takes the end of the file.
     pub(crate) fn finish(&mut self) -> Result<(), AllocError>
         requires is { IsSplitter self.old.ended self.old.unfinished }
@@ -158,7 +136,7 @@ impl EntrySplitter {
         if self.ended.decided.ending.is_none() {
             self.end_last()?;
         }
-        self.drop_unfinished();
+        self.unfinished.clear();
         Ok(())
     }
 

@@ -18,4 +18,4 @@ returns-in-Whole-clause-shorter c =
     omega (arith, fits.0, fits.1, ap length c.split_at.ensures.back, length-drop c.in-Whole.len c.args.text.now)
 
 pub returns-clause-found : goal.returns-clause-found
-returns-clause-found c = first_to_end _ _ _ c.token_span.ensures c.in_default.not-Whole (omega (arith, ap length c.in_ok-first.ensures.cases.0)) c.item_of.ensures
+returns-clause-found c = first_to_end _ _ _ c.token_span.ensures c.in_default.not-Whole (omega (arith, ap length c.in_ok-first.ensures.cases.0)) c.item_of-2.ensures
