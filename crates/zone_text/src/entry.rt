@@ -46,17 +46,15 @@ pub fn first_entry<'t>(
     ensures found { IfOk result (λ found. FirstIs octets.now (map raw items.new.items) found) }
     ensures emptied { OnErr result (items.new.items ≡ []) }
 {
-    let reached = walk(octets, &mut Stops::unseen(octets), items);
-    if let Ok(Reached::Ends(len, _feeds)) = reached {
-        return Ok(FirstEntry::Whole(len));
-    }
+    let found = match walk(octets, &mut Stops::unseen(octets), items) {
+        Ok(Reached::Ends(len, _feeds)) => return Ok(FirstEntry::Whole(len)),
+        Ok(Reached::Open(_at)) => Ok(FirstEntry::Open),
+        Ok(Reached::LostEscape(_len)) => Ok(FirstEntry::BadEscape),
+        Ok(Reached::ClosesNothing(_len)) => Ok(FirstEntry::UnbalancedParenthesis),
+        Err(refused) => Err(refused),
+    };
     items.clear();
-    match reached? {
-        Reached::Ends(len, _feeds) => Ok(FirstEntry::Whole(len)),
-        Reached::Open(_at) => Ok(FirstEntry::Open),
-        Reached::LostEscape(_len) => Ok(FirstEntry::BadEscape),
-        Reached::ClosesNothing(_len) => Ok(FirstEntry::UnbalancedParenthesis),
-    }
+    found
 }
 
 /// As `entry_items`, and gives the number of line feeds. After `AllocError` `items` holds nothing

@@ -115,8 +115,8 @@ impl EntrySplitter {
         {
             let mut items = Vec::new(self.alloc);
             let entry = self.unfinished.octets();
-            let feeds = cut_entry(entry, &mut items)?;
-            self.ended.read(entry, &items, feeds)?;
+            let lines = cut_entry(entry, &mut items)?;
+            self.ended.read(entry, &items, lines)?;
         }
         self.unfinished.clear();
         Ok(())

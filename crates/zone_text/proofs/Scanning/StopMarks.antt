@@ -37,15 +37,6 @@ len_to p xs = prefix_len (λ c. not (p c)) xs
 abbrev pub is_either : ℕ → ℕ → ℕ → Bool
 is_either one other c = c == one || c == other
 
-pub goes_past : (p : ℕ → Bool) (text : List ℕ) (i n : ℕ) → i < length text → p (get_or text i 0) ≡ false → n ≡ i + len_to p (drop i text) → n ≡ i + 1 + len_to p (drop (i + 1) text)
-goes_past p text i n less other so_far = grind (arith, common_steps, first_at, prefix_step p (get_or text i 0) (drop (i + 1) text))
-
-pub stops_here : (p : ℕ → Bool) (text : List ℕ) (i n : ℕ) → i < length text → p (get_or text i 0) ≡ true → n ≡ i + len_to p (drop i text) → i ≡ n
-stops_here p text i n less is so_far = grind (arith, common_steps, first_at, prefix_step p (get_or text i 0) (drop (i + 1) text))
-
-pub nothing_stops : (p : ℕ → Bool) (text : List ℕ) (i n : ℕ) → length text ≤ i → i ≤ length text → n ≡ i + len_to p (drop i text) → length text ≡ n
-nothing_stops p text i n over within so_far = grind (arith, common_steps, nothing_left)
-
 pub before_len : (xs : List ℕ) → len_to (is_either 10 10) xs ≡ length (before_line_feed xs)
 unfolding before_line_feed
 before_len [] = refl
@@ -125,10 +116,6 @@ in_row octets n within =
     subst (All IsInRow) all (All-take IsInRow n (take (len_to ends_row octets) octets) parts.1)
 
 -- ---- 64 octets beside each other
-
--- of what stops an item, all that is no greater than a space but a line feed is a blank
-pub blank_stop : (rest stopped after : List ℕ) (stop len : ℕ) → len ≡ prefix_len goes_on rest → stopped ≡ drop len rest → stopped ≡ stop ∷ after → stop ≤ 32 → stop ≢ 10 → is_blank stop ≡ true
-blank_stop rest stopped after stop len is back first low other = grind (arith, prefix_stops rest len is, every_below, ne_eqb)
 
 -- the low four bits of each lane are a place in a table of 16
 itself : (v : List ℕ) → v ≡ map (λ x. x) v

@@ -207,12 +207,6 @@ bare_span text more c (spans.Lost n) first no_comment no_quote (k, are, lost, wi
 pub token_within : (octets : List ℕ) (n : ℕ) → EndsToken octets n → (0 < n) × (n ≤ length octets)
 token_within octets n ends = (omega (arith, ends.len, some_octet ends.token ends.is), omega (arith, ends.len, ap length ends.parts, length-append (token_text ends.token) ends.left))
 
-pub open_within : (octets : List ℕ) (n : ℕ) → IsOpenToken octets n → n ≤ length octets
-open_within octets n (between none len) = omega (arith, len)
-open_within octets n (in_comment note first each len) = omega (arith, len)
-open_within octets n (in_quotes inside k are first ended len) = omega (arith, len, units_within is_quote inside k are, ap length first)
-open_within octets n (in_bare are ended some) = units_within ends_item octets n are
-
 -- ---- the item of a token
 
 pub comment_item : (token rest : List ℕ) (c : ℕ) → token ≡ c ∷ rest → c ≡ 59 → (p : Token) → token ≡ token_text p → IsToken p → IsItemOrComment p → [] ≡ item_of p
@@ -229,9 +223,3 @@ quoted_item token rest inside c first is front (quoted units) text_is token_is k
 quoted_item token rest inside c first is front (bare units) text_is token_is kind = absurd (both_ways (ends_item 34) (subst (λ d. ends_item d ≡ false) is (begins c rest (bare units) [] token_is (sym first ∙ text_is ∙ sym (append-nil (written_text units))))) refl)
 quoted_item token rest inside c first is front (comment octets) text_is token_is kind = absurd (let same : c ≡ 59 = cc in omega (arith, same, is))
 quoted_item token rest inside c first is front p text_is token_is kind = absurd kind
-
-pub bare_item : (token : List ℕ) → ((rest : List ℕ) → token ≢ 59 ∷ rest) → ((rest : List ℕ) → token ≢ 34 ∷ rest) → (p : Token) → token ≡ token_text p → IsToken p → IsItemOrComment p → raw.bare token ∷ [] ≡ item_of p
-bare_item token no_comment no_quote (bare units) text_is token_is kind = ap (λ t. raw.bare t ∷ []) text_is
-bare_item token no_comment no_quote (quoted units) text_is token_is kind = absurd (no_quote (written_text units ++ 34 ∷ []) text_is)
-bare_item token no_comment no_quote (comment octets) text_is token_is kind = absurd (no_comment octets text_is)
-bare_item token no_comment no_quote p text_is token_is kind = absurd kind
