@@ -332,6 +332,17 @@ pub(crate) fn walk_more(alloc: Global, octets: &[u8], at: At) -> Result<Reached,
     }
 }
 
+/// Whether the first octet is a quote.
+fn begins_with_quote(octets: &[u8]) -> bool
+    ensures yes { result ≡ true → (after : List ℕ) × (octets.now ≡ 34 ∷ after) }
+    ensures no { result ≡ false → (after : List ℕ) → octets.now ≢ 34 ∷ after }
+{
+    match octets.split_first() {
+        Some((first, _)) => *first == b'"',
+        None => false,
+    }
+}
+
 /// What is wrong with an entry where the input ends after these octets, which a walk left open.
 /// `None`: they are a whole entry, or there are none.
 pub(crate) fn end_fault(octets: &[u8], at: At) -> Option<Fault>
@@ -342,7 +353,7 @@ pub(crate) fn end_fault(octets: &[u8], at: At) -> Option<Fault>
     if at.seen - at.start < rest.len() {
         return Some(Fault::BadEscape);
     }
-    if let [b'"', ..] = rest {
+    if begins_with_quote(rest) {
         return Some(Fault::UnclosedQuote);
     }
     if at.depth > 0 {
