@@ -1,5 +1,5 @@
 use Rattle.std.proofs.lemmas.List.{nil_from_length}
-use Rattle.zone_text.proofs.Common.{EndsAt, arith, length, map, raw, stops_bare, subst, sym, ◌∙◌}
+use Rattle.zone_text.proofs.Common.{EndsAt, arith, length, map, raw, refl, stops_bare, subst, sym, ◌∙◌}
 use Rattle.zone_text.proofs.Scanning.StopMarks.{prefix_stops}
 use Rattle.zone_text.proofs.Scanning.Walking.{IsPast, begun_before, begun_there, deep_of, few_of, no_escape_stop, open_to_end, past_more, stands, tells_after, walked_bare, walked_blank}
 use Rattle.zone_text.proofs.walk.walk_on.Goals as goal
