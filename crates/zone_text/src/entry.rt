@@ -59,10 +59,7 @@ pub fn first_entry<'t>(
 
 /// As `entry_items`, and gives the number of line feeds. After `AllocError` `items` holds nothing
 /// that is used again.
-pub(crate) fn cut_entry<'t>(
-    entry: &'t [u8],
-    items: &mut Vec<Item<'t>>,
-) -> Result<usize, AllocError>
+pub(crate) fn cut_entry<'t>(entry: &'t [u8], items: &mut Vec<Item<'t>>) -> Result<usize, AllocError>
     ensures kept { OnOk result (KeepsItems entry.now (map raw items.new.items)) }
     ensures feeds { IfOk result (λ feeds. feeds ≡ count_by (λ c. c == 10) entry.now) }
 {

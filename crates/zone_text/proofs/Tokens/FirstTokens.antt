@@ -1,5 +1,5 @@
 -- The first token of a text that is cut into tokens, and the items of those after it.
-use Rattle.zone_text.proofs.Common.{AllByRecursion, AreKept, AreTokensOf, BadEscape, Bool, Cuts, Fault, IsBadEscape, IsToken, IsUnit, Keeps, KeepsItems, List, Option, RawItem, Sign, Some, Token, UnclosedQuote, Written, [], a_quote, a_semicolon, ap, append-nil, append_assoc, arith, at_backslash, at_end, bare, both_ways, cases_Bool, closing, comment, drop, drop-append_seam, ends_item, eqb-true, false, flat_map, front_of, inl, inr, is_blank, is_quote, item_of, length, length-append, no_escape, no_quote, no_quoted_escape, of_item, refl, rules, sign_of, stops, subst, sym, take, take-append-drop, take-append_seam, takes, text, token_text, true, written_text, ℕ, ◌++◌, ◌<◌, ◌==◌, ◌||◌, ◌∙◌, ◌∷◌, ◌≡◌, ◌≢◌}
+use Rattle.zone_text.proofs.Common.{AllByRecursion, AreKept, AreTokensOf, BadEscape, Bool, Cuts, Fault, IsBadEscape, IsToken, IsUnit, Keeps, KeepsItems, List, Option, RawItem, Sign, Some, Token, UnclosedQuote, Written, [], a_quote, a_semicolon, ap, append-nil, append_assoc, arith, at_backslash, at_end, bare, both_ways, cases_Bool, closing, comment, drop, drop-append_seam, ends_item, eqb-true, false, flat_map, front_of, inl, inr, is_blank, is_quote, item_of, length, length-append, no_escape, no_quote, no_quoted_escape, of_item, refl, rules, sign_of, stops, subst, sym, take, take-append-drop, take-append_seam, takes, text, token_text, true, written_text, ℕ, ◌++◌, ◌<◌, ◌==◌, ◌||◌, ◌∙◌, ◌∷◌, ◌≡◌}
 use Rattle.std.proofs.Math.Logic.{⊎_elim}
 use Rattle.zone_text.specs.Machine.Cutting as cutting
 use Rattle.zone_text.proofs.Entries.Kept.{keeps_more}

@@ -2,12 +2,11 @@
 use Rattle.std.proofs.Math.Logic.{⊎_elim}
 use Rattle.zone_text.proofs.Common.{All, AllByRecursion, AllByRecursion-append, Bool, EndsAt, IsBadEscape, IsCutOff, IsLostEscape, IsUnit, List, Token, Written, [], after_backslash, after_digit, after_two_digits, ap, append-nil, append_assoc, arith, bare, before_line_feed, both_ways, comment, drop, drop-append_seam, ends_item, eqb-true, false, flat_map-append, from_line_feed, get_or, inl, inr, is_digit, is_quote, item_of, length, length-append, length-drop, length-take, map, ne_eqb, plain, quoted, refl, sym, subst, take, take-append-drop, take-append_seam, text_of, token_text, true, written_text, ℕ, ◌++◌, ◌+◌, ◌-◌, ◌<◌, ◌==◌, ◌∙◌, ◌∷◌, ◌≡◌, ◌≢◌, ◌≤◌, ◌||◌, at_line_end, one_digit, two_digits, too_great, decimal, escaped, octet_of, cases_eq, cases_lt, cases_Bool, suc, zero, Some}
 use Rattle.zone_rdata.specs.Item as raw
-use Rattle.zone_rdata.specs.Item.{RawItem}
 use Rattle.zone_text.proofs.Scanning.StopMarks.{first_at}
 use Rattle.zone_text.proofs.Scanning.StopMarks.{nothing_left as none_beyond}
 use Rattle.zone_text.proofs.Tokens.Cuttings.{EndsComment, begins, comment_dropped, comment_each, comment_ends, comment_whole, some_octet}
 use Rattle.zone_text.proofs.Tokens.WrittenItems.{IsWrittenTo, at_mark, each_plain, plain_text, stops_or}
-use Rattle.zone_text.specs.Machine.Spans.{AreUnits, BeginsToken, EndsHere, EndsToken, IsLostBy, IsItemOrComment, IsOpenToken, IsSeenComment, IsSpan, IsTokenSpan, between, in_bare, in_bare_lost, in_comment, in_quotes, in_quotes_lost}
+use Rattle.zone_text.specs.Machine.Spans.{AreUnits, BeginsToken, EndsHere, EndsToken, IsLostBy, IsItemOrComment, IsSeenComment, IsSpan, IsTokenSpan, in_bare, in_bare_lost, in_comment, in_quotes, in_quotes_lost}
 use Rattle.zone_text.specs.Tokens.{IsToken}
 use Rattle.zone_text.specs.declared.token.Span.{Span}
 use Rattle.zone_text.specs.declared.token.Span.TheVariants as spans
