@@ -1,6 +1,6 @@
 //! One walk over an entry, which may stop where octets end and go on with more of them (RFC 1035
 //! 5.1).
-ghost use Rattle.std.specs.Prelude.{◌≡◌, ◌≢◌, ◌∷◌, ◌-◌, ◌<◌, ◌≤◌, ◌^◌, ℕ, List, [], false, length, map, true, drop, IfOk, OnOk};
+ghost use Rattle.std.specs.Prelude.{◌≡◌, ◌≢◌, ◌∷◌, ◌-◌, ◌<◌, ◌≤◌, ℕ, List, [], false, length, map, true, drop, IfOk, OnOk};
 ghost use Rattle.zone_rdata.specs.Item.{raw};
 ghost use Rattle.zone_text.specs.Machine.ItemLengths.{stops_bare};
 ghost use Rattle.zone_text.specs.Machine.Kept.{KeepsBare};
