@@ -56,12 +56,12 @@ pub use Rattle.zone_text.specs.Inherited.{HasClass, IsLastOwner, IsOrigin, IsOwn
 pub use Rattle.zone_text.specs.Lasting.{BreaksAtEnd, BreaksForGood, EndInLineFeed, IsCutOff, IsLostEscape, StaysBroken, after_backslash, after_digit, after_two_digits, at_line_end, closing_stays, escape_open, escape_stays, nothing_left, one_digit, quote_open, quoted_escape_open, quoted_escape_stays, too_great, two_digits}
 pub use Rattle.zone_text.specs.Line.{IsItem, StatesWhole, line_of}
 pub use Rattle.zone_text.specs.Machine.Blank.{AreBlankLines, IsBlankLine, IsComment, commented, no_lines, one_line_more}
-pub use Rattle.zone_text.specs.Machine.Cutting.{Cutting, Front, IsInFront, IsNoToken, Sign, a_blank, a_closing, a_line_feed, a_quote, a_semicolon, an_opening, bare_front, cut_on, depth_past, end_front, front_by, of_item, quoted_front, sign_of, stops, takes}
+pub use Rattle.zone_text.specs.Machine.Cutting.{Cutting, Front, Sign, a_blank, a_closing, a_line_feed, a_quote, a_semicolon, an_opening, bare_front, cut_on, depth_past, end_front, front_by, of_item, quoted_front, sign_of, stops, takes}
 unfoldable pub use Rattle.zone_text.specs.Machine.Cutting.{before_line_feed, cut_by, cutting, from_line_feed, front_of}
 pub use Rattle.zone_text.proofs.Entries.Heads.{HasHeadOf, Head}
 pub use Rattle.zone_text.specs.Machine.EntryReading.{DecidesEntry, HasOwnerOrNone, IsRecordEntry, SetsOrigin, SetsTtl, decides_fault, decides_none, decides_one, one_bare, with_owner}
 pub use Rattle.zone_text.specs.Machine.Feeding.{Follow, IsSplitter, ReadsEntry, ReadsOctets, state_of}
-pub use Rattle.zone_text.specs.Machine.ItemLengths.{EndsAt, ends_within, item_len, stops_bare, stops_within}
+pub use Rattle.zone_text.specs.Machine.ItemLengths.{EndsAt, ends_within, stops_bare, stops_within}
 pub use Rattle.zone_text.specs.Machine.Kept.{IsShort, Keeps, KeepsBare}
 pub use Rattle.zone_text.specs.Machine.Lower.{Choices, Lower, Once}
 pub use Rattle.zone_text.specs.Machine.WordTexts.{HaveTexts}

@@ -2,8 +2,9 @@
 pub mod BlankLines
 pub mod CutAgain
 pub mod Cuttings
+pub mod FirstTokens
 pub mod ForGood
-pub mod ItemsLeft
+pub mod WrittenItems
 pub mod Lasting
 pub mod Spans
 pub mod StandingItems

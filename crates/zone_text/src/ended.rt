@@ -1,15 +1,11 @@
 //! The entries that were ended, read one by one (RFC 1035 5.1).
-ghost use Rattle.std.specs.Prelude.{◌≡◌, ◌+◌, ◌<◌, ◌≤◌, ◌^◌, ◌==◌, [], count_by, length, map, IfOk, OnOk, Some, None};
+ghost use Rattle.std.specs.Prelude.{◌≡◌, ◌+◌, ◌<◌, ◌^◌, ◌==◌, [], count_by, length, map, OnOk, Some, None};
 ghost use Rattle.zone_rdata.specs.Item.{raw};
 ghost use Rattle.zone_text.specs.ParserState.{IsStateAfter};
 ghost use Rattle.zone_text.specs.Machine.Feeding.{ReadsOctets};
 ghost use Rattle.zone_text.specs.Kept.{KeepsItems};
 
-use crate::feeds::line_feeds;
-use crate::items::cut_items;
 use crate::parser_state::ParserState;
-use crate::stops::Stops;
-use crate::walk::{Reached, walk};
 use std::alloc::{AllocError, Global};
 use zone_name::Name;
 use zone_rdata::{Fault, Item, PendingRecords, Place};
@@ -23,22 +19,6 @@ pub(crate) struct EndedEntries {
     pub(crate) state: ParserState,
     /// The line after them.
     pub(crate) line: u64,
-}
-
-/// Puts the items of a whole entry, which is known to be cut into tokens, in place of what `items`
-/// held, and gives the number of its line feeds.
-fn cut_entry<'t>(entry: &'t [u8], items: &mut Vec<Item<'t>>) -> Result<usize, AllocError>
-    ensures kept { OnOk result (KeepsItems entry.now (map raw items.new.items)) }
-    ensures feeds { IfOk result (λ feeds. feeds ≡ count_by (λ c. c == 10) entry.now) }
-{
-    if let Reached::Ends(len, feeds) = walk(entry, &mut Stops::unseen(entry), items)? {
-        if len == entry.len() {
-            return Ok(feeds);
-        }
-    }
-    // The end of the file ends it.
-    cut_items(entry, items)?;
-    Ok(line_feeds(entry))
 }
 
 impl EndedEntries {
@@ -56,23 +36,8 @@ impl EndedEntries {
         }
     }
 
-    /// Reads the entry after them, which is known to be cut into tokens. `items` holds nothing that
-    /// is used again.
-    pub(crate) fn read<'t>(
-        &mut self,
-        entry: &'t [u8],
-        items: &mut Vec<Item<'t>>,
-    ) -> Result<(), AllocError>
-        requires undecided { self.old.decided.ending ≡ None }
-        requires fits { self.old.line + length entry.now < 2 ^ 64 }
-        ensures { OnOk result (ReadsOctets entry.now self.old self.new) }
-    {
-        let feeds = cut_entry(entry, items)?;
-        self.read_cut(entry, items, feeds)
-    }
-
     /// Reads the entry after them, of which these are the items and the number of its line feeds.
-    pub(crate) fn read_cut<'t>(
+    pub(crate) fn read<'t>(
         &mut self,
         entry: &'t [u8],
         items: &[Item<'t>],

@@ -1,14 +1,16 @@
 //! What other tools on master files stand on: the entry at the front of octets, an entry's items,
 //! and the tokens of a text, one by one (RFC 1035 5.1).
-ghost use Rattle.std.specs.Prelude.{◌≡◌, ◌<◌, [], ◌∷◌, List, map, length, IfNone, IfOk, IfSome, OnErr, OnOk, option_map, option_to_list};
+ghost use Rattle.std.specs.Prelude.{◌≡◌, ◌<◌, ◌==◌, ◌||◌, [], ◌∷◌, List, count_by, map, length, IfNone, IfOk, IfSome, OnErr, OnOk, option_map, option_to_list};
 ghost use Rattle.zone_rdata.specs.Item.{raw};
 ghost use Rattle.zone_text.specs.Entries.{item_of};
 ghost use Rattle.zone_text.specs.FirstEntry.{FirstIs};
 ghost use Rattle.zone_text.specs.Kept.{KeepsItems};
-ghost use Rattle.zone_text.specs.Tokens.{Token, AreTokensOf};
+ghost use Rattle.zone_text.specs.Tokens.{Token, AreTokensOf, is_blank};
 
-use crate::items::{cut_items, split_token};
+use crate::feeds::line_feeds;
+use crate::items::{is_blank, keep};
 use crate::stops::Stops;
+use crate::token::{Span, item_of, token_span};
 use crate::walk::{Reached, walk};
 use std::alloc::AllocError;
 use zone_rdata::Item;
@@ -25,27 +27,6 @@ pub enum FirstEntry {
     BadEscape,
     /// They don't end it, and break by `Fault::UnbalancedParenthesis`, whatever follows them.
     UnbalancedParenthesis,
-}
-
-/// As `first_entry`. After `AllocError` nothing is said of `items`.
-fn find_entry<'t>(octets: &'t [u8], items: &mut Vec<Item<'t>>) -> Result<FirstEntry, AllocError>
-    ensures { IfOk result (λ found. FirstIs octets.now (map raw items.new.items) found) }
-{
-    match walk(octets, &mut Stops::unseen(octets), items)? {
-        Reached::Ends(len, _feeds) => Ok(FirstEntry::Whole(len)),
-        Reached::Open(_at) => {
-            items.clear();
-            Ok(FirstEntry::Open)
-        }
-        Reached::LostEscape(_len) => {
-            items.clear();
-            Ok(FirstEntry::BadEscape)
-        }
-        Reached::ClosesNothing(_len) => {
-            items.clear();
-            Ok(FirstEntry::UnbalancedParenthesis)
-        }
-    }
 }
 
 /// Finds the entry at the front of octets. Where the octets end it, its items come in place of what
@@ -65,13 +46,38 @@ pub fn first_entry<'t>(
     ensures found { IfOk result (λ found. FirstIs octets.now (map raw items.new.items) found) }
     ensures emptied { OnErr result (items.new.items ≡ []) }
 {
-    match find_entry(octets, items) {
-        Ok(found) => Ok(found),
-        Err(refused) => {
-            items.clear();
-            Err(refused)
+    let found = match walk(octets, &mut Stops::unseen(octets), items) {
+        Ok(Reached::Ends(len, _feeds)) => return Ok(FirstEntry::Whole(len)),
+        Ok(Reached::Open(_at)) => Ok(FirstEntry::Open),
+        Ok(Reached::LostEscape(_len)) => Ok(FirstEntry::BadEscape),
+        Ok(Reached::ClosesNothing(_len)) => Ok(FirstEntry::UnbalancedParenthesis),
+        Err(refused) => Err(refused),
+    };
+    items.clear();
+    found
+}
+
+/// As `entry_items`, and gives the number of line feeds. After `AllocError` `items` holds nothing
+/// that is used again.
+pub(crate) fn cut_entry<'t>(entry: &'t [u8], items: &mut Vec<Item<'t>>) -> Result<usize, AllocError>
+    ensures kept { OnOk result (KeepsItems entry.now (map raw items.new.items)) }
+    ensures feeds { IfOk result (λ feeds. feeds ≡ count_by (λ c. c == 10) entry.now) }
+{
+    if let Reached::Ends(len, feeds) = walk(entry, &mut Stops::unseen(entry), items)? {
+        if len == entry.len() {
+            return Ok(feeds);
         }
     }
+    // No line feed ends it.
+    items.clear();
+    let mut rest = entry;
+    while let Some((item, after)) = first_token(rest) {
+        if let Some(item) = item {
+            keep(item, items)?;
+        }
+        rest = after;
+    }
+    Ok(line_feeds(entry))
 }
 
 /// Puts the items of octets that are cut into tokens, as a whole entry is, in place of what `items`
@@ -87,8 +93,8 @@ pub fn entry_items<'t>(entry: &'t [u8], items: &mut Vec<Item<'t>>) -> Result<(),
     ensures found { OnOk result (KeepsItems entry.now (map raw items.new.items)) }
     ensures emptied { OnErr result (items.new.items ≡ []) }
 {
-    match cut_items(entry, items) {
-        Ok(()) => Ok(()),
+    match cut_entry(entry, items) {
+        Ok(_feeds) => Ok(()),
         Err(refused) => {
             items.clear();
             Err(refused)
@@ -96,11 +102,17 @@ pub fn entry_items<'t>(entry: &'t [u8], items: &mut Vec<Item<'t>>) -> Result<(),
     }
 }
 
+/// Whether the octet is a token that is no item: a blank, a parenthesis or a line feed.
+fn is_between(octet: u8) -> bool
+    ensures { result ≡ (is_blank octet || octet == 10 || octet == 40 || octet == 41) }
+{
+    is_blank(octet) || matches!(octet, b'\n' | b'(' | b')')
+}
+
 /// The token at the front of a text that is cut into tokens: its item, if it is one, and the rest
 /// of the text. A token without an item is a blank, which is one octet (`is_blank` tells it by the
 /// first octet), a parenthesis, a comment without its line feed, or a line feed. `None`: the text
 /// is empty.
-#[tactic(auto, using(crate::proofs::Tokens::ItemsLeft::front_tokens))]
 pub fn first_token(text: &[u8]) -> Option<(Option<Item<'_>>, &[u8])>
     ensures none { IfNone result (text.now ≡ []) }
     ensures found { IfSome result (λ found. (p : Token) (more : List Token)
@@ -108,10 +120,14 @@ pub fn first_token(text: &[u8]) -> Option<(Option<Item<'_>>, &[u8])>
         → (option_to_list (option_map raw found.0) ≡ item_of p) × AreTokensOf found.1.now more) }
     ensures shorter { IfSome result (λ found. length found.1.now < length text.now) }
 {
-    match split_token(text) {
-        Some(found) => Some(found),
-        None if text.is_empty() => None,
-        // It isn't cut into tokens.
-        None => Some((None, &[])),
+    let (first, after) = text.split_first()?;
+    if is_between(*first) {
+        return Some((None, after));
     }
+    if let Span::Whole(len) = token_span(text, 0) {
+        let (token, rest) = text.split_at(len);
+        return Some((item_of(token), rest));
+    }
+    // The end of the text ends it.
+    Some((item_of(text), &[]))
 }

@@ -6,6 +6,7 @@ ghost use Rattle.zone_text.specs.declared.open_entry.EntryState.TheVariants.{Ope
 
 use crate::blank::blank_lines;
 use crate::ended::EndedEntries;
+use crate::entry::cut_entry;
 use crate::open_entry::{EntryState, OpenEntry};
 use crate::stops::Stops;
 use crate::walk::{Reached, walk};
@@ -66,7 +67,7 @@ impl EntrySplitter {
                 }
                 if let Reached::Ends(len, feeds) = walk(rest, &mut stops, &mut items)? {
                     let (entry, after) = rest.split_at(len);
-                    self.ended.read_cut(entry, &items, feeds)?;
+                    self.ended.read(entry, &items, feeds)?;
                     rest = after;
                     continue;
                 }
@@ -77,7 +78,7 @@ impl EntrySplitter {
         Ok(())
     }
 
-    /// As `take_part`, of few octets at once.
+    /// Takes octets of the unfinished entry, few at once, and gives those that are left.
     fn take_some<'p>(&mut self, octets: &'p [u8]) -> Result<&'p [u8], AllocError>
         requires is { IsSplitter self.old.ended self.old.unfinished }
         requires undecided { self.old.ended.decided.ending ≡ None }
@@ -86,20 +87,7 @@ impl EntrySplitter {
         ensures { IfOk result (λ left. TakesPart self.old octets.now left.now self.new) }
     {
         let (some, _) = octets.split_at(octets.len().min(AT_ONCE));
-        let taken = some.len() - self.take_part(some)?.len();
-        let (_, left) = octets.split_at(taken);
-        Ok(left)
-    }
-
-    /// Takes octets of the unfinished entry, and gives those that are left of them.
-    fn take_part<'p>(&mut self, octets: &'p [u8]) -> Result<&'p [u8], AllocError>
-        requires is { IsSplitter self.old.ended self.old.unfinished }
-        requires undecided { self.old.ended.decided.ending ≡ None }
-        requires some { 0 < length octets.now }
-        requires fits { reach self.old + length octets.now < 2 ^ 64 }
-        ensures { IfOk result (λ left. TakesPart self.old octets.now left.now self.new) }
-    {
-        let taken = self.unfinished.take(octets)?;
+        let taken = self.unfinished.take(some)?;
         let (_, left) = octets.split_at(taken.len);
         match taken.state {
             EntryState::Open => Ok(left),
@@ -109,7 +97,7 @@ impl EntrySplitter {
             }
             EntryState::Broken(fault) => {
                 self.ended.refuse(fault);
-                self.drop_unfinished();
+                self.unfinished.clear();
                 Ok(left)
             }
         }
@@ -126,19 +114,12 @@ impl EntrySplitter {
     {
         {
             let mut items = Vec::new(self.alloc);
-            self.ended.read(self.unfinished.octets(), &mut items)?;
+            let entry = self.unfinished.octets();
+            let lines = cut_entry(entry, &mut items)?;
+            self.ended.read(entry, &items, lines)?;
         }
         self.unfinished.clear();
         Ok(())
-    }
-
-    /// Lets go of the octets of the unfinished entry.
-    pub(crate) fn drop_unfinished(&mut self)
-        ensures none { self.new.unfinished.octets ≡ [] }
-        ensures state { self.new.unfinished.state ≡ Open }
-        ensures ended { self.new.ended ≡ self.old.ended }
-    {
-        self.unfinished.clear();
     }
 
     /// Takes the end of the file.
@@ -155,7 +136,7 @@ impl EntrySplitter {
         if self.ended.decided.ending.is_none() {
             self.end_last()?;
         }
-        self.drop_unfinished();
+        self.unfinished.clear();
         Ok(())
     }
 

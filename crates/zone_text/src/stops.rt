@@ -85,10 +85,7 @@ impl Stops {
             → left.now ≡ drop (length octets.now - length left.now) octets.now }
         ensures { Tells result left.now }
     {
-        if octets.len() < left.len() {
-            return Stops::unseen(left);
-        }
-        if left.len() <= self.unseen {
+        if octets.len() < left.len() || left.len() <= self.unseen {
             return Stops::unseen(left);
         }
         let passed = octets.len() - left.len();

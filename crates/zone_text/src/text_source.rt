@@ -76,7 +76,7 @@ impl TextSource {
                 Ok(())
             }
             Err(_) => {
-                self.splitter.drop_unfinished();
+                self.splitter.unfinished.clear();
                 self.status = FedStatus::OutOfMemory;
                 Err(Stop::Memory)
             }
@@ -104,7 +104,7 @@ impl TextSource {
                 Ok(())
             }
             Err(_) => {
-                self.splitter.drop_unfinished();
+                self.splitter.unfinished.clear();
                 self.status = FedStatus::OutOfMemory;
                 Err(Stop::Memory)
             }

@@ -53,7 +53,7 @@ fn lost_len(after: &[u8]) -> Option<usize>
 /// How far an item goes, without its quotes, of which so many octets are known to be whole units.
 // Not inlined: few items have a backslash or quotes.
 #[inline(never)]
-#[tactic(auto, using(crate::proofs::Tokens::ItemsLeft::item_lengths))]
+#[tactic(auto, using(crate::proofs::Tokens::WrittenItems::escape_more))]
 fn item_span(text: &[u8], known: usize, extent: Extent) -> Span
     requires { AreUnits (ends_within extent) text.now known }
     ensures { IsSpan (ends_within extent) text.now result }

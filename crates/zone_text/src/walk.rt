@@ -1,12 +1,12 @@
 //! One walk over an entry, which may stop where octets end and go on with more of them (RFC 1035
 //! 5.1).
-ghost use Rattle.std.specs.Prelude.{◌≡◌, ◌≢◌, ◌∷◌, ◌-◌, ◌<◌, ◌≤◌, ◌^◌, ℕ, List, [], false, length, map, true, drop, IfOk, OnOk};
+ghost use Rattle.std.specs.Prelude.{◌≡◌, ◌≢◌, ◌∷◌, ◌-◌, ◌<◌, ◌≤◌, ℕ, List, [], false, length, map, true, drop, IfOk, OnOk};
 ghost use Rattle.zone_rdata.specs.Item.{raw};
 ghost use Rattle.zone_text.specs.Machine.ItemLengths.{stops_bare};
 ghost use Rattle.zone_text.specs.Machine.Kept.{KeepsBare};
 ghost use Rattle.zone_text.specs.Machine.Spans.{BeginsToken};
 ghost use Rattle.zone_text.specs.Machine.Stops.{Tells};
-ghost use Rattle.zone_text.specs.Machine.Walk.{IsBegun, IsMark, IsStep, IsWalked, KeepsToken, StandsAt, StandsOpen, TellsAfter};
+ghost use Rattle.zone_text.specs.Machine.Walk.{IsBegun, IsStep, IsWalked, KeepsToken, StandsAt, StandsOpen, TellsAfter};
 ghost use Rattle.zone_text.specs.OpenEntry.{EndIs};
 ghost use Rattle.zone_text.specs.Tokens.{is_blank};
 
@@ -42,19 +42,6 @@ pub(crate) enum Reached {
     LostEscape(usize),
     /// A `)` that closes nothing, the last of so many octets.
     ClosesNothing(usize),
-}
-
-/// What stands where a bare item stops, if it is no blank.
-#[derive(Clone, Copy, Drop)]
-enum Mark {
-    /// A token of one octet, after which so many parentheses are open, and its line feeds.
-    Passes(u64, usize),
-    /// The line feed that ends the entry.
-    Ends,
-    /// A `)` that closes nothing.
-    ClosesNothing,
-    /// The beginning of a quoted item or a comment.
-    Begins,
 }
 
 /// A walk between two tokens.
@@ -106,25 +93,6 @@ fn is_blank_stop(stop: u8) -> bool
     stop <= b' ' && stop != b'\n'
 }
 
-/// What an octet is that stops a bare item, if it is no blank, where so many parentheses are open.
-#[inline(always)]
-fn mark_at(stop: u8, depth: u64) -> Mark
-    requires stops { stops_bare stop ≡ true }
-    requires other { stop ≢ 92 }
-    requires marks { is_blank stop ≡ false }
-    requires fits { depth < 2 ^ 63 }
-    ensures { IsMark depth stop result }
-{
-    match stop {
-        b'\n' if depth == 0 => Mark::Ends,
-        b'\n' => Mark::Passes(depth, 1),
-        b'(' => Mark::Passes(depth + 1, 0),
-        b')' if depth == 0 => Mark::ClosesNothing,
-        b')' => Mark::Passes(depth - 1, 0),
-        _ => Mark::Begins,
-    }
-}
-
 /// Puts a bare item after those before it, where there are octets of it and items are kept.
 #[inline(always)]
 fn keep_bare<'t>(text: &'t [u8], keeps: bool, items: &mut Vec<Item<'t>>) -> Result<(), AllocError>
@@ -158,27 +126,6 @@ fn keep_token<'t>(
     Ok(line_feeds(token))
 }
 
-/// Where an entry stands of which the last octets begin with no whole token, or none are left, and
-/// so many of them were seen.
-#[inline(always)]
-fn stand(octets: &[u8], rest: &[u8], seen: usize, depth: u64, feeds: usize) -> At
-    requires within { length rest.now ≤ length octets.now }
-    requires seen { seen ≤ length rest.now }
-    ensures start { result.start ≡ length octets.now - length rest.now }
-    ensures seen { result.seen - result.start ≡ seen }
-    ensures order { result.start ≤ result.seen }
-    ensures depth { result.depth ≡ depth }
-    ensures feeds { result.feeds ≡ feeds }
-{
-    let start = octets.len() - rest.len();
-    At {
-        start,
-        seen: start + seen,
-        depth,
-        feeds,
-    }
-}
-
 /// Passes over the item or comment at the front of `token`, and puts its item after those before it,
 /// where items are kept. `after` is the walk past the octet that stopped a bare item there.
 #[inline(always)]
@@ -204,7 +151,13 @@ fn pass_token<'t>(
             }))
         }
         Span::Open(seen) => {
-            let at = stand(octets, token, seen, after.depth, after.feeds);
+            let start = octets.len() - token.len();
+            let at = At {
+                start,
+                seen: start + seen,
+                depth: after.depth,
+                feeds: after.feeds,
+            };
             Ok(Step::Reaches(Reached::Open(at), after.stops))
         }
         Span::Lost(len) => {
@@ -233,15 +186,24 @@ fn pass_mark<'t>(
     ensures { IfOk result (IsStep octets.now token.now keeps (map raw items.new.items)) }
 {
     let passed = octets.len() - after.rest.len();
-    match mark_at(stop, after.depth) {
-        Mark::Passes(depth, fed) => Ok(Step::Goes(Between {
-            depth,
-            feeds: after.feeds + fed,
+    match stop {
+        b'\n' if after.depth == 0 => {
+            Ok(Step::Reaches(Reached::Ends(passed, after.feeds + 1), after.stops))
+        }
+        b'\n' => Ok(Step::Goes(Between {
+            feeds: after.feeds + 1,
             ..after
         })),
-        Mark::Ends => Ok(Step::Reaches(Reached::Ends(passed, after.feeds + 1), after.stops)),
-        Mark::ClosesNothing => Ok(Step::Reaches(Reached::ClosesNothing(passed), after.stops)),
-        Mark::Begins => pass_token(octets, token, after, keeps, items),
+        b'(' => Ok(Step::Goes(Between {
+            depth: after.depth + 1,
+            ..after
+        })),
+        b')' if after.depth == 0 => Ok(Step::Reaches(Reached::ClosesNothing(passed), after.stops)),
+        b')' => Ok(Step::Goes(Between {
+            depth: after.depth - 1,
+            ..after
+        })),
+        _ => pass_token(octets, token, after, keeps, items),
     }
 }
 
@@ -273,8 +235,12 @@ fn walk_on<'t>(
         let (len, stops) = walk.stops.bare_len(walk.rest);
         let (bare, stopped) = walk.rest.split_at(len);
         let Some((stop, rest)) = stopped.split_first() else {
-            let at = stand(octets, walk.rest, walk.rest.len(), walk.depth, walk.feeds);
-            return Ok(Reached::Open(at));
+            return Ok(Reached::Open(At {
+                start: octets.len() - walk.rest.len(),
+                seen: octets.len(),
+                depth: walk.depth,
+                feeds: walk.feeds,
+            }));
         };
         let after = Between {
             rest,

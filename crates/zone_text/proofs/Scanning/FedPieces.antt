@@ -1,6 +1,6 @@
 -- A piece fed part by part.
 use Rattle.zone_text.proofs.Common.{EndedEntries, EntrySplitter, Fault, Follow, IsBrokenOff, IsOneEntry, IsOpen, IsSplitter, Labels, Line, List, None, Place, Placed, ReadsOctets, Some, [], ap, append-nil, append_assoc, arith, drop, length, length-append, length-take, subst, sym, take, take-append-drop, ℕ, ◌++◌, ◌+◌, ◌-◌, ◌<◌, ◌∙◌, ◌≡◌, ◌≤◌}
-use Rattle.std.proofs.Math.Seq.{drop-append_seam}
+use Rattle.std.proofs.lemmas.List.{take-take}
 use Rattle.zone_text.proofs.Entries.Begun.{nothing_taken}
 use Rattle.zone_text.proofs.Files.Followed.{follow_break, follow_fault, follow_on, follow_one}
 use Rattle.zone_text.specs.Machine.Feeding.{TakesPart}
@@ -17,52 +17,52 @@ FollowsOn old unfinished new left part =
 
 -- what an entry that is open takes of octets
 pub record TakesFront (held : HeldEntry) (octets left : List ℕ) (taken : Taken) (now : HeldEntry) : Type 0 where
-  pub takes : TakesFrom held octets taken now
+  pub within : taken.len ≤ length octets
+  pub more : now.octets ≡ held.octets ++ take taken.len octets
+  pub state : now.state ≡ taken.state
+  pub is : EntryIs now.octets now.state
   pub some : 0 < taken.len
   pub back : left ≡ drop taken.len octets
+
+-- what it takes of the first of them
+pub takes_front : (held now : HeldEntry) (octets front left : List ℕ) (taken : Taken) (n : ℕ) → front ≡ take n octets → TakesFrom held front taken now → held.state ≡ states.Open → 0 < length front → left ≡ drop taken.len octets → TakesFront held octets left taken now
+takes_front held now octets front left taken n cut takes is_open some back =
+    let size : length front ≡ length (take n octets) = ap length cut in
+    record {
+      within = omega (arith, takes.within, size, length-take n octets);
+      more = takes.octets ∙ ap (λ t. held.octets ++ t) (ap (take taken.len) cut ∙ take-take taken.len n octets (omega (arith, takes.within, size, length-take n octets)));
+      state = takes.state;
+      is = takes.is;
+      some = takes.some is_open some;
+      back = back;
+    }
 
 whole_of : (held now : HeldEntry) (octets left : List ℕ) (taken : Taken) → TakesFront held octets left taken now → octets ≡ take taken.len octets ++ left
 whole_of held now octets left taken front = sym (take-append-drop taken.len octets) ∙ ap (λ t. take taken.len octets ++ t) (sym front.back)
 
 len_of : (held now : HeldEntry) (octets left : List ℕ) (taken : Taken) → TakesFront held octets left taken now → length (take taken.len octets) ≡ taken.len
-len_of held now octets left taken front = omega (arith, length-take taken.len octets, front.takes.within)
-
--- what is taken of octets at the front is taken of all
-pub some_of_part : (old new : EntrySplitter) (octets front left rest : List ℕ) (n : ℕ) → front ≡ take n octets → TakesPart old front left new → rest ≡ drop (length front - length left) octets → TakesPart old octets rest new
-some_of_part old new octets front left rest n cut takes back =
-    let beyond : List ℕ = drop n octets in
-    let whole : octets ≡ takes.part ++ (left ++ beyond) = sym (take-append-drop n octets) ∙ ap (λ (f : List ℕ). f ++ beyond) (cc (cut, takes.whole)) ∙ append_assoc takes.part left beyond in
-    let count : length front - length left ≡ length takes.part = omega (arith, ap length takes.whole, length-append takes.part left) in
-    let same : rest ≡ left ++ beyond = back ∙ ap (λ k. drop k octets) count ∙ ap (drop (length takes.part)) whole ∙ drop-append_seam takes.part (left ++ beyond) in
-    record {
-      part = takes.part;
-      whole = whole ∙ ap (λ (l : List ℕ). takes.part ++ l) (sym same);
-      some = takes.some;
-      is = takes.is;
-      near = takes.near;
-      follow = takes.follow;
-    }
+len_of held now octets left taken front = omega (arith, length-take taken.len octets, front.within)
 
 -- they lead on
 pub part_open : (old new : EntrySplitter) (octets left : List ℕ) (taken : Taken) → IsSplitter old.ended old.unfinished → old.ended.decided.ending ≡ None → TakesFront old.unfinished octets left taken new.unfinished → taken.state ≡ states.Open → new.ended ≡ old.ended → TakesPart old octets left new
 part_open old new octets left taken is none front state same =
     let part : List ℕ = take taken.len octets in
     let len = len_of old.unfinished new.unfinished octets left taken front in
-    let is_open = subst (λ s. EntryIs new.unfinished.octets s) (front.takes.state ∙ state) front.takes.is in
+    let is_open = subst (λ s. EntryIs new.unfinished.octets s) (front.state ∙ state) front.is in
     record {
       part = part;
       whole = whole_of old.unfinished new.unfinished octets left taken front;
       some = omega (arith, len, front.some);
       is = record {
-        state = front.takes.state ∙ state;
+        state = front.state ∙ state;
         dropped = λ found ending. absurd (let e : Some found ≡ None = sym ending ∙ ap (λ (s : EndedEntries). s.decided.ending) same ∙ none in let t : ⊥ = cc in t);
         line = subst (λ (s : EndedEntries). 1 ≤ s.line) (sym same) is.line;
       };
-      near = omega (arith, len, ap length front.takes.octets, length-append old.unfinished.octets part, ap (λ (s : EndedEntries). s.line) same);
+      near = omega (arith, len, ap length front.more, length-append old.unfinished.octets part, ap (λ (s : EndedEntries). s.line) same);
       follow = λ origin fed given follow.
           subst (λ (s : EndedEntries). Follow origin s new.unfinished.octets (fed ++ part) given) (sym same)
-          (subst (λ t. Follow origin old.ended t (fed ++ part) given) (sym front.takes.octets)
-          (follow_on origin old.ended old.unfinished.octets part fed given (subst (λ t. IsOpen t) front.takes.octets is_open) none follow));
+          (subst (λ t. Follow origin old.ended t (fed ++ part) given) (sym front.more)
+          (follow_on origin old.ended old.unfinished.octets part fed given (subst (λ t. IsOpen t) front.more is_open) none follow));
     }
 
 -- they end an entry
@@ -70,16 +70,16 @@ pub part_ended : (old new : EntrySplitter) (octets left : List ℕ) (taken : Tak
 part_ended old new octets left taken now is none front state reads empty is_open =
     let part : List ℕ = take taken.len octets in
     let len = len_of old.unfinished now octets left taken front in
-    let entry = subst (λ s. EntryIs now.octets s) (front.takes.state ∙ state) front.takes.is in
+    let entry = subst (λ s. EntryIs now.octets s) (front.state ∙ state) front.is in
     record {
       part = part;
       whole = whole_of old.unfinished now octets left taken front;
       some = omega (arith, len, front.some);
       is = nothing_taken new.ended new.unfinished empty is_open (omega (arith, is.line, reads.later));
-      near = omega (arith, len, reads.near, ap length empty, ap length front.takes.octets, length-append old.unfinished.octets part);
+      near = omega (arith, len, reads.near, ap length empty, ap length front.more, length-append old.unfinished.octets part);
       follow = λ origin fed given follow.
           subst (λ t. Follow origin new.ended t (fed ++ part) given) (sym empty)
-          (follow_one origin old.ended new.ended old.unfinished.octets part fed given entry.0 (subst (λ t. IsOneEntry t entry.0) front.takes.octets entry.1) none (subst (λ t. ReadsOctets t old.ended new.ended) front.takes.octets reads) follow);
+          (follow_one origin old.ended new.ended old.unfinished.octets part fed given entry.0 (subst (λ t. IsOneEntry t entry.0) front.more entry.1) none (subst (λ t. ReadsOctets t old.ended new.ended) front.more reads) follow);
     }
 
 -- they break the text for good
@@ -87,7 +87,7 @@ pub part_broken : (old new : EntrySplitter) (octets left : List ℕ) (taken : Ta
 part_broken old new octets left taken now fault is none front state records ending line empty is_open =
     let part : List ℕ = take taken.len octets in
     let len = len_of old.unfinished now octets left taken front in
-    let off = subst (λ s. EntryIs now.octets s) (front.takes.state ∙ state) front.takes.is in
+    let off = subst (λ s. EntryIs now.octets s) (front.state ∙ state) front.is in
     record {
       part = part;
       whole = whole_of old.unfinished now octets left taken front;
@@ -96,7 +96,7 @@ part_broken old new octets left taken now fault is none front state records endi
       near = omega (arith, len, line, ap length empty);
       follow = λ origin fed given follow.
           subst (λ t. Follow origin new.ended t (fed ++ part) given) (sym empty)
-          (follow_break origin old.ended new.ended fault old.unfinished.octets part fed given (subst (λ t. IsBrokenOff t fault) front.takes.octets off) none records ending follow);
+          (follow_break origin old.ended new.ended fault old.unfinished.octets part fed given (subst (λ t. IsBrokenOff t fault) front.more off) none records ending follow);
     }
 
 pub part_less : (old new : EntrySplitter) (octets left : List ℕ) → TakesPart old octets left new → length left < length octets

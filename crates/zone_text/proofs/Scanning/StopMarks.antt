@@ -11,12 +11,11 @@ use Rattle.std.specs.Prelude.{not}
 use Rattle.std.specs.Simd.Lanes.{mask_l}
 use lib.Lanes.{Each1, top, zip2}
 use lib.ListN.{replicate}
-use Rattle.zone_text.proofs.Common.{common_steps, All, AllByRecursion, Bool, EndsAt, List, [], agree_below_at, ap, arith, cond, drop, drop-drop, false, get_or, length, length-drop, length-map, length-take, map, min, ne_eqb, ◌||◌, refl, stops_bare, sym, take, true, ℕ, ◌+◌, ◌-◌, ◌<◌, ◌==◌, ◌^◌, ◌∙◌, ◌∷◌, ◌≡◌, ◌≢◌, ◌≤◌, add-one, before_line_feed, drop-cons, drop_of_length-le, subst}
-use Rattle.zone_name.proofs.InOctets.LookedUp.{Repeats, every_below, looked_up}
+use Rattle.zone_text.proofs.Common.{common_steps, All, AllByRecursion, Bool, EndsAt, List, [], agree_below_at, ap, arith, cond, drop, drop-drop, false, get_or, length, length-drop, length-map, length-take, map, min, ◌||◌, refl, stops_bare, sym, take, true, ℕ, ◌+◌, ◌-◌, ◌<◌, ◌==◌, ◌^◌, ◌∙◌, ◌∷◌, ◌≡◌, ◌≢◌, ◌≤◌, add-one, before_line_feed, drop-cons, drop_of_length-le, subst}
+use Rattle.zone_name.proofs.InOctets.LookedUp.{Repeats, looked_up}
 use Rattle.zone_name.proofs.InOctets.Runs.{after_bits, first_inside, none_inside, prefix_step}
 use Rattle.zone_text.specs.Machine.ItemLengths.{IsInRow, ends_row}
 use Rattle.zone_text.specs.Machine.Stops.{Tells}
-use Rattle.zone_text.specs.Tokens.{is_blank}
 use Rattle.zone_text.specs.declared.stops.Stops.{Stops}
 
 -- ---- how far was looked
@@ -36,15 +35,6 @@ len_to p xs = prefix_len (λ c. not (p c)) xs
 
 abbrev pub is_either : ℕ → ℕ → ℕ → Bool
 is_either one other c = c == one || c == other
-
-pub goes_past : (p : ℕ → Bool) (text : List ℕ) (i n : ℕ) → i < length text → p (get_or text i 0) ≡ false → n ≡ i + len_to p (drop i text) → n ≡ i + 1 + len_to p (drop (i + 1) text)
-goes_past p text i n less other so_far = grind (arith, common_steps, first_at, prefix_step p (get_or text i 0) (drop (i + 1) text))
-
-pub stops_here : (p : ℕ → Bool) (text : List ℕ) (i n : ℕ) → i < length text → p (get_or text i 0) ≡ true → n ≡ i + len_to p (drop i text) → i ≡ n
-stops_here p text i n less is so_far = grind (arith, common_steps, first_at, prefix_step p (get_or text i 0) (drop (i + 1) text))
-
-pub nothing_stops : (p : ℕ → Bool) (text : List ℕ) (i n : ℕ) → length text ≤ i → i ≤ length text → n ≡ i + len_to p (drop i text) → length text ≡ n
-nothing_stops p text i n over within so_far = grind (arith, common_steps, nothing_left)
 
 pub before_len : (xs : List ℕ) → len_to (is_either 10 10) xs ≡ length (before_line_feed xs)
 unfolding before_line_feed
@@ -125,10 +115,6 @@ in_row octets n within =
     subst (All IsInRow) all (All-take IsInRow n (take (len_to ends_row octets) octets) parts.1)
 
 -- ---- 64 octets beside each other
-
--- of what stops an item, all that is no greater than a space but a line feed is a blank
-pub blank_stop : (rest stopped after : List ℕ) (stop len : ℕ) → len ≡ prefix_len goes_on rest → stopped ≡ drop len rest → stopped ≡ stop ∷ after → stop ≤ 32 → stop ≢ 10 → is_blank stop ≡ true
-blank_stop rest stopped after stop len is back first low other = grind (arith, prefix_stops rest len is, every_below, ne_eqb)
 
 -- the low four bits of each lane are a place in a table of 16
 itself : (v : List ℕ) → v ≡ map (λ x. x) v

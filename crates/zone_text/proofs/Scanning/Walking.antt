@@ -12,21 +12,19 @@ use Rattle.zone_text.proofs.Files.Left.{line_feeds}
 use Rattle.zone_text.proofs.Scanning.StopMarks.{first_at, goes_on, prefix_stops}
 use Rattle.zone_text.proofs.Tokens.Cuttings.{HasRoom, Stops, Takes, begins, breaks, cuts, depth_on, no_token, one_token_more, some_octet}
 use Rattle.zone_text.proofs.Tokens.ForGood.{ends_not_for_good, malformed_is_bad, stays_for_good}
-use Rattle.zone_text.proofs.Tokens.ItemsLeft.{each_plain, ends_but_mark, plain_text}
+use Rattle.zone_text.proofs.Tokens.WrittenItems.{each_plain, ends_but_mark, plain_text}
 use Rattle.zone_text.proofs.Scanning.FirstEntries.{feeds_of_both, none_first, none_in, other_than_ten}
 pub use Rattle.zone_text.specs.Machine.Spans.{AreUnits, BeginsToken, EndsToken, IsItemOrComment, IsLostToken, IsOpenToken, IsSeen, ItemIs, RunsOut, Settles, between, in_bare, in_bare_lost, in_comment, in_quotes, in_quotes_lost}
 use Rattle.zone_text.specs.Machine.ItemLengths.{IsInRow}
 use Rattle.zone_text.specs.Machine.Stops.{Tells}
-pub use Rattle.zone_text.specs.Machine.Walk.{BeginAs, EndsEntry, IsBegun, IsCut, IsMark, IsPast, KeepsAll, KeepsToken, StandsAt, StandsOpen, Walked, a_closing, a_line_feed, an_opening, fronted}
-use Rattle.zone_text.specs.Machine.Walk.{begins as mark_begins, closes_nothing as mark_closes, ends as mark_last}
+pub use Rattle.zone_text.specs.Machine.Walk.{BeginAs, EndsEntry, IsBegun, IsCut, IsPast, KeepsAll, KeepsToken, StandsAt, StandsOpen, Walked, fronted}
 use Rattle.zone_text.specs.declared.stops.Stops.{Stops as StopBits}
 use Rattle.zone_text.specs.declared.walk.At.{At}
 use Rattle.zone_text.specs.declared.walk.Between.{Between}
-use Rattle.zone_text.specs.declared.walk.Mark.TheVariants as marks
 
 -- ---- what follows a token
 
-begin_self : (rest : List ℕ) → BeginAs rest rest
+pub begin_self : (rest : List ℕ) → BeginAs rest rest
 begin_self [] = tt
 begin_self (c ∷ rest) = refl
 
@@ -39,7 +37,7 @@ begin_less [] piece tail begins = tt
 begin_less (c ∷ rest) piece [] begins = absurd begins
 begin_less (c ∷ rest) piece (d ∷ tail) begins = begins
 
-settled_stops : (p : Token) (left tail : List ℕ) → Settles p left → BeginAs left tail → Stops p tail
+pub settled_stops : (p : Token) (left tail : List ℕ) → Settles p left → BeginAs left tail → Stops p tail
 settled_stops (bare units) [] tail settled begins = absurd settled
 settled_stops (bare units) (c ∷ left) [] settled begins = absurd begins
 settled_stops (bare units) (c ∷ left) (d ∷ tail) settled begins = at_octet d tail refl (ap ends_item (sym begins) ∙ settled)
@@ -260,46 +258,20 @@ walked_blank octets rest left depth feeds c keeps kept so_far first is =
     let more : feeds + line_feeds (c ∷ []) ≡ feeds = omega (arith, none) in
     subst (λ f. Walked octets left depth f keeps kept) more (walked_past octets rest left depth feeds keeps kept (blank c) so_far (record { parts = first; token = is; settled = tt; room = tt; none = tt }) refl)
 
-pub walked_mark : (octets rest left : List ℕ) (depth feeds c d f : ℕ) (keeps : Bool) (kept : List RawItem) → Walked octets rest depth feeds keeps kept → rest ≡ c ∷ left → IsMark depth c (marks.Passes d f) → Walked octets left d (feeds + f) keeps kept
-walked_mark octets rest left depth feeds c d f keeps kept so_far first (a_line_feed is deep e) =
-    let d_is : d ≡ depth = cc in
-    let f_is : f ≡ 1 = cc in
-    rw (d_is, f_is) (walked_past octets rest left depth feeds keeps kept line_feed so_far (record { parts = first_octet rest left c 10 first is; token = tt; settled = tt; room = tt; none = deep }) refl)
-walked_mark octets rest left depth feeds c d f keeps kept so_far first (an_opening is e) =
-    let d_is : d ≡ depth + 1 = cc in
-    let f_is : f ≡ 0 = cc in
-    rw (d_is, f_is) (subst (λ k. Walked octets left k (feeds + 0) keeps kept) (let more : suc depth ≡ depth + 1 = omega arith in more) (walked_past octets rest left depth feeds keeps kept opening so_far (record { parts = first_octet rest left c 40 first is; token = tt; settled = tt; room = tt; none = tt }) refl))
-walked_mark octets rest left depth feeds c d f keeps kept so_far first (a_closing is deep e) =
-    let d_is : d ≡ depth - 1 = cc in
-    let f_is : f ≡ 0 = cc in
-    rw (d_is, f_is) (walked_past octets rest left depth feeds keeps kept closing so_far (record { parts = first_octet rest left c 41 first is; token = tt; settled = tt; room = omega (arith, deep); none = tt }) refl)
-walked_mark octets rest left depth feeds c d f keeps kept so_far first (mark_last is none e) = absurd cc
-walked_mark octets rest left depth feeds c d f keeps kept so_far first (mark_closes is none e) = absurd cc
-walked_mark octets rest left depth feeds c d f keeps kept so_far first (mark_begins is e) = absurd cc
+pub walked_feed : (octets rest left : List ℕ) (depth feeds c : ℕ) (keeps : Bool) (kept : List RawItem) → Walked octets rest depth feeds keeps kept → rest ≡ c ∷ left → c ≡ 10 → depth ≢ 0 → Walked octets left depth (feeds + 1) keeps kept
+walked_feed octets rest left depth feeds c keeps kept so_far first is deep =
+    walked_past octets rest left depth feeds keeps kept line_feed so_far (record { parts = first_octet rest left c 10 first is; token = tt; settled = tt; room = tt; none = deep }) refl
 
-pub few_fed : (depth c d f : ℕ) → IsMark depth c (marks.Passes d f) → f ≤ 1
-few_fed depth c d f (a_line_feed is deep e) = let f_is : f ≡ 1 = cc in omega (arith, f_is)
-few_fed depth c d f (an_opening is e) = let f_is : f ≡ 0 = cc in omega (arith, f_is)
-few_fed depth c d f (a_closing is deep e) = let f_is : f ≡ 0 = cc in omega (arith, f_is)
-few_fed depth c d f (mark_last is none e) = absurd cc
-few_fed depth c d f (mark_closes is none e) = absurd cc
-few_fed depth c d f (mark_begins is e) = absurd cc
+pub walked_opening : (octets rest left : List ℕ) (depth feeds c : ℕ) (keeps : Bool) (kept : List RawItem) → Walked octets rest depth feeds keeps kept → rest ≡ c ∷ left → c ≡ 40 → Walked octets left (depth + 1) feeds keeps kept
+walked_opening octets rest left depth feeds c keeps kept so_far first is =
+    let more : suc depth ≡ depth + 1 = omega arith in
+    let none : feeds + 0 ≡ feeds = omega arith in
+    subst (λ f. Walked octets left (depth + 1) f keeps kept) none (subst (λ k. Walked octets left k (feeds + 0) keeps kept) more (walked_past octets rest left depth feeds keeps kept opening so_far (record { parts = first_octet rest left c 40 first is; token = tt; settled = tt; room = tt; none = tt }) refl))
 
-pub mark_ends : (depth c : ℕ) → IsMark depth c marks.Ends → (c ≡ 10) × (depth ≡ 0)
-mark_ends depth c (mark_last is none e) = (is, none)
-mark_ends depth c (a_line_feed is deep e) = absurd cc
-mark_ends depth c (an_opening is e) = absurd cc
-mark_ends depth c (a_closing is deep e) = absurd cc
-mark_ends depth c (mark_closes is none e) = absurd cc
-mark_ends depth c (mark_begins is e) = absurd cc
-
-pub mark_closing : (depth c : ℕ) → IsMark depth c marks.ClosesNothing → (c ≡ 41) × (depth ≡ 0)
-mark_closing depth c (mark_closes is none e) = (is, none)
-mark_closing depth c (a_line_feed is deep e) = absurd cc
-mark_closing depth c (an_opening is e) = absurd cc
-mark_closing depth c (a_closing is deep e) = absurd cc
-mark_closing depth c (mark_last is none e) = absurd cc
-mark_closing depth c (mark_begins is e) = absurd cc
+pub walked_closing : (octets rest left : List ℕ) (depth feeds c : ℕ) (keeps : Bool) (kept : List RawItem) → Walked octets rest depth feeds keeps kept → rest ≡ c ∷ left → c ≡ 41 → depth ≢ 0 → Walked octets left (depth - 1) feeds keeps kept
+walked_closing octets rest left depth feeds c keeps kept so_far first is deep =
+    let none : feeds + 0 ≡ feeds = omega arith in
+    subst (λ f. Walked octets left (depth - 1) f keeps kept) none (walked_past octets rest left depth feeds keeps kept closing so_far (record { parts = first_octet rest left c 41 first is; token = tt; settled = tt; room = omega (arith, deep); none = tt }) refl)
 
 -- ---- a longer token
 

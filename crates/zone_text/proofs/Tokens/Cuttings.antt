@@ -160,7 +160,7 @@ front_takes depth (bare []) rest is stop room = absurd (omega (arith, is.0))
 front_takes depth (bare (w ∷ units)) rest is stop room = front_of_bare depth w units rest is.1 stop
 front_takes depth (quoted units) rest is stop room = cc (front_of_quote depth ((written_text units ++ 34 ∷ []) ++ rest) units (34 ∷ rest) (append_assoc (written_text units) (34 ∷ []) rest) is (at_octet 34 rest refl refl))
 
-broken_front : (depth : ℕ) (rest : List ℕ) (fault : Fault) → IsBroken depth rest fault → front_of depth rest ≡ stops (Some fault)
+pub broken_front : (depth : ℕ) (rest : List ℕ) (fault : Fault) → IsBroken depth rest fault → front_of depth rest ≡ stops (Some fault)
 unfolding front_of
 broken_front depth rest fault (closes_nothing after e whole) = rw (e, whole) refl
 broken_front depth rest fault (no_escape bad) = cc (front_of_units depth 92 bad.0 [] (92 ∷ bad.0) refl refl tt (at_backslash (subst IsBadEscape bad.1 bad)))

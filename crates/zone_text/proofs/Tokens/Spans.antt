@@ -2,12 +2,11 @@
 use Rattle.std.proofs.Math.Logic.{⊎_elim}
 use Rattle.zone_text.proofs.Common.{All, AllByRecursion, AllByRecursion-append, Bool, EndsAt, IsBadEscape, IsCutOff, IsLostEscape, IsUnit, List, Token, Written, [], after_backslash, after_digit, after_two_digits, ap, append-nil, append_assoc, arith, bare, before_line_feed, both_ways, comment, drop, drop-append_seam, ends_item, eqb-true, false, flat_map-append, from_line_feed, get_or, inl, inr, is_digit, is_quote, item_of, length, length-append, length-drop, length-take, map, ne_eqb, plain, quoted, refl, sym, subst, take, take-append-drop, take-append_seam, text_of, token_text, true, written_text, ℕ, ◌++◌, ◌+◌, ◌-◌, ◌<◌, ◌==◌, ◌∙◌, ◌∷◌, ◌≡◌, ◌≢◌, ◌≤◌, ◌||◌, at_line_end, one_digit, two_digits, too_great, decimal, escaped, octet_of, cases_eq, cases_lt, cases_Bool, suc, zero, Some}
 use Rattle.zone_rdata.specs.Item as raw
-use Rattle.zone_rdata.specs.Item.{RawItem}
 use Rattle.zone_text.proofs.Scanning.StopMarks.{first_at}
 use Rattle.zone_text.proofs.Scanning.StopMarks.{nothing_left as none_beyond}
 use Rattle.zone_text.proofs.Tokens.Cuttings.{EndsComment, begins, comment_dropped, comment_each, comment_ends, comment_whole, some_octet}
-use Rattle.zone_text.proofs.Tokens.ItemsLeft.{IsWrittenTo, at_mark, each_plain, plain_text, stops_or}
-use Rattle.zone_text.specs.Machine.Spans.{AreUnits, BeginsToken, EndsHere, EndsToken, IsLostBy, IsItemOrComment, IsOpenToken, IsSeenComment, IsSpan, IsTokenSpan, between, in_bare, in_bare_lost, in_comment, in_quotes, in_quotes_lost}
+use Rattle.zone_text.proofs.Tokens.WrittenItems.{IsWrittenTo, at_mark, each_plain, plain_text, stops_or}
+use Rattle.zone_text.specs.Machine.Spans.{AreUnits, BeginsToken, EndsHere, EndsToken, IsLostBy, IsItemOrComment, IsSeenComment, IsSpan, IsTokenSpan, in_bare, in_bare_lost, in_comment, in_quotes, in_quotes_lost}
 use Rattle.zone_text.specs.Tokens.{IsToken}
 use Rattle.zone_text.specs.declared.token.Span.{Span}
 use Rattle.zone_text.specs.declared.token.Span.TheVariants as spans
@@ -207,12 +206,6 @@ bare_span text more c (spans.Lost n) first no_comment no_quote (k, are, lost, wi
 pub token_within : (octets : List ℕ) (n : ℕ) → EndsToken octets n → (0 < n) × (n ≤ length octets)
 token_within octets n ends = (omega (arith, ends.len, some_octet ends.token ends.is), omega (arith, ends.len, ap length ends.parts, length-append (token_text ends.token) ends.left))
 
-pub open_within : (octets : List ℕ) (n : ℕ) → IsOpenToken octets n → n ≤ length octets
-open_within octets n (between none len) = omega (arith, len)
-open_within octets n (in_comment note first each len) = omega (arith, len)
-open_within octets n (in_quotes inside k are first ended len) = omega (arith, len, units_within is_quote inside k are, ap length first)
-open_within octets n (in_bare are ended some) = units_within ends_item octets n are
-
 -- ---- the item of a token
 
 pub comment_item : (token rest : List ℕ) (c : ℕ) → token ≡ c ∷ rest → c ≡ 59 → (p : Token) → token ≡ token_text p → IsToken p → IsItemOrComment p → [] ≡ item_of p
@@ -229,9 +222,3 @@ quoted_item token rest inside c first is front (quoted units) text_is token_is k
 quoted_item token rest inside c first is front (bare units) text_is token_is kind = absurd (both_ways (ends_item 34) (subst (λ d. ends_item d ≡ false) is (begins c rest (bare units) [] token_is (sym first ∙ text_is ∙ sym (append-nil (written_text units))))) refl)
 quoted_item token rest inside c first is front (comment octets) text_is token_is kind = absurd (let same : c ≡ 59 = cc in omega (arith, same, is))
 quoted_item token rest inside c first is front p text_is token_is kind = absurd kind
-
-pub bare_item : (token : List ℕ) → ((rest : List ℕ) → token ≢ 59 ∷ rest) → ((rest : List ℕ) → token ≢ 34 ∷ rest) → (p : Token) → token ≡ token_text p → IsToken p → IsItemOrComment p → raw.bare token ∷ [] ≡ item_of p
-bare_item token no_comment no_quote (bare units) text_is token_is kind = ap (λ t. raw.bare t ∷ []) text_is
-bare_item token no_comment no_quote (quoted units) text_is token_is kind = absurd (no_quote (written_text units ++ 34 ∷ []) text_is)
-bare_item token no_comment no_quote (comment octets) text_is token_is kind = absurd (no_comment octets text_is)
-bare_item token no_comment no_quote p text_is token_is kind = absurd kind

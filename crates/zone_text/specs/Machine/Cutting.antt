@@ -1,13 +1,11 @@
 -- How a master file is cut from the left: what stands at its beginning, and what the rest makes of
 -- it (RFC 1035 5.1).
-use Rattle.std.specs.Prelude.{◌≡◌, ⊤, ℕ, zero, suc, ◌-◌, List, [], ◌∷◌, length, ◌==◌, if◌then◌else◌, Option, Some, None}
+use Rattle.std.specs.Prelude.{ℕ, zero, suc, ◌-◌, List, [], ◌∷◌, length, ◌==◌, if◌then◌else◌, Option, Some, None}
 use Rattle.zone_name.specs.Spelling.{Written}
 use Rattle.zone_name.specs.Machine.Units.{Units, units_first}
 use Rattle.zone_rdata.specs.Strings.{is_quote}
 use Rattle.zone_rdata.specs.declared.fault.Fault.{Fault}
 use Rattle.zone_rdata.specs.declared.fault.Fault.TheVariants.{BadEscape, UnclosedQuote, UnbalancedParenthesis}
-use Rattle.zone_rdata.specs.Spelling.{RawItem}
-use Rattle.zone_text.specs.Entries.{item_of}
 use Rattle.zone_text.specs.Tokens.{Token, blank, opening, closing, line_feed, comment, bare, quoted, is_blank, ends_item}
 
 -- ---- a comment's octets, and the rest
@@ -79,17 +77,6 @@ end_front (suc depth) = stops (Some UnbalancedParenthesis)
 unfoldable pub front_of : ℕ → List ℕ → Front
 front_of depth [] = end_front depth
 front_of depth (c ∷ rest) = front_by depth c rest (sign_of c)
-
--- octets begin with a token, of which these are the items, and the rest follows it
-pub record IsInFront (octets : List ℕ) (items : List RawItem) (rest : List ℕ) : Type 0 where
-  pub token : Token
-  pub front : front_of 1 octets ≡ takes token rest
-  pub stated : item_of token ≡ items
-
--- no token: the end, or a fault
-abbrev pub IsNoToken : Front → Type 0
-IsNoToken (takes p rest) = ⊥
-IsNoToken (stops fault) = ⊤
 
 -- ---- the whole text
 

@@ -38,15 +38,7 @@ pub data DecidesEntry (origin : Labels) (before : List Entry) (entry : Entry) (p
       → DecidesEntry origin before entry place old new next
 
 abbrev pub with_owner : Option Labels → ParserState → ParserState
-with_owner owner d = record {
-  origin = d.origin;
-  owner = owner;
-  class = d.class;
-  default_ttl = d.default_ttl;
-  last_ttl = d.last_ttl;
-  minimum = d.minimum;
-  rdata = d.rdata;
-}
+with_owner owner d = record d { owner = owner }
 
 -- A record entry in the state that others left, but for the owner, which is the entry's: that
 -- owner, and the items after it
@@ -73,28 +65,6 @@ pub record AppendsRecord (origin : Labels) (before : List Entry) (entry : Entry)
   pub left : IsStateAfter origin (entry ∷ before) next
   pub appended : new ≡ old ++ (record { rr = stated; place = place }) ∷ []
 
-abbrev pub with_origin : Labels → ParserState → ParserState
-with_origin origin d = record {
-  origin = origin;
-  owner = d.owner;
-  class = d.class;
-  default_ttl = d.default_ttl;
-  last_ttl = d.last_ttl;
-  minimum = d.minimum;
-  rdata = d.rdata;
-}
-
-abbrev pub with_default_ttl : Option ℕ → ParserState → ParserState
-with_default_ttl seconds d = record {
-  origin = d.origin;
-  owner = d.owner;
-  class = d.class;
-  default_ttl = seconds;
-  last_ttl = d.last_ttl;
-  minimum = d.minimum;
-  rdata = d.rdata;
-}
-
 -- the owner becomes the name that a text spells under the origin
 pub record SetsOwner (text : List ℕ) (d next : ParserState) : Type 0 where
   pub name : Labels
@@ -110,7 +80,7 @@ pub record SetsOrigin (items : List RawItem) (d next : ParserState) : Type 0 whe
   pub text : List ℕ
   pub item : one_bare items ≡ Some text
   pub spelled : Spells (Some d.origin) text next.origin
-  pub others : next ≡ with_origin next.origin d
+  pub others : next ≡ record d { origin = next.origin }
 
 -- `$TTL` has one bare item, the TTL that the default becomes
 pub record SetsTtl (items : List RawItem) (d next : ParserState) : Type 0 where
@@ -118,7 +88,7 @@ pub record SetsTtl (items : List RawItem) (d next : ParserState) : Type 0 where
   pub seconds : ℕ
   pub item : one_bare items ≡ Some text
   pub ttl : IsTtl text seconds
-  pub others : next ≡ with_default_ttl (Some seconds) d
+  pub others : next ≡ record d { default_ttl = Some seconds }
 
 -- the item of `$ORIGIN` is no name under an origin
 abbrev pub OriginFaultUnder : Labels → Option (List ℕ) → Fault → Type 0

@@ -1,7 +1,5 @@
 -- How far an item goes, as it is looked for from the left (RFC 1035 5.1).
-use Rattle.std.specs.Prelude.{◌≡◌, ℕ, List, [], ◌∷◌, length, ◌==◌, ◌||◌, Bool, false, true}
-use Rattle.zone_name.specs.Machine.Units.{units_first}
-use Rattle.zone_name.specs.Spelling.{written_text}
+use Rattle.std.specs.Prelude.{◌≡◌, ℕ, List, [], ◌∷◌, ◌==◌, ◌||◌, Bool, false, true}
 use Rattle.zone_rdata.specs.Strings.{is_quote}
 use Rattle.zone_text.specs.Tokens.{ends_item}
 use Rattle.zone_text.specs.declared.items.Extent.{Extent}
@@ -27,11 +25,6 @@ ends_row c = c == 10 || c == 34 || c == 40 || c == 41 || c == 59 || c == 92
 -- an octet of a row
 abbrev pub IsInRow : ℕ → Type 0
 IsInRow c = ends_row c ≡ false
-
--- the octets before the first that ends an item and belongs to no escape, and before a backslash
--- that begins none
-abbrev pub item_len : (ℕ → Bool) → List ℕ → ℕ
-item_len ends text = length (written_text (units_first ends text).units)
 
 -- the text ends, or begins with an octet that ends what is before it
 abbrev pub EndsAt : (ℕ → Bool) → List ℕ → Type 0

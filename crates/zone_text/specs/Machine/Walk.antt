@@ -1,5 +1,5 @@
 -- How far a walk over an entry came, token by token (RFC 1035 5.1).
-use Rattle.std.specs.Prelude.{◌≡◌, ◌≢◌, ⊤, ℕ, zero, ◌+◌, ◌-◌, ◌<◌, ◌≤◌, List, [], ◌∷◌, ◌++◌, drop, take, length, count_by, ◌==◌, Bool, true, Option, Some, None, ◌⊎◌}
+use Rattle.std.specs.Prelude.{◌≡◌, ⊤, ℕ, zero, ◌+◌, ◌-◌, ◌<◌, ◌≤◌, List, [], ◌∷◌, ◌++◌, drop, take, length, count_by, ◌==◌, Bool, true, Option, Some, None}
 use Rattle.std.specs.List.{AllByRecursion, flat_map}
 use Rattle.zone_rdata.specs.Spelling.{RawItem}
 use Rattle.zone_rdata.specs.declared.fault.Fault.{Fault}
@@ -15,8 +15,6 @@ use Rattle.zone_text.specs.Tokens.{Token, text, token_text, IsToken, AllFollow, 
 use Rattle.zone_text.specs.declared.stops.Stops.{Stops}
 use Rattle.zone_text.specs.declared.walk.At.{At}
 use Rattle.zone_text.specs.declared.walk.Between.{Between}
-use Rattle.zone_text.specs.declared.walk.Mark.{Mark}
-use Rattle.zone_text.specs.declared.walk.Mark.TheVariants as marks
 use Rattle.zone_text.specs.declared.walk.Reached.{Reached}
 use Rattle.zone_text.specs.declared.walk.Reached.TheVariants as reached
 use Rattle.zone_text.specs.declared.walk.Step.{Step}
@@ -130,15 +128,6 @@ abbrev pub IsStep : List ℕ → List ℕ → Bool → List RawItem → Step →
 IsStep octets token keeps kept (Goes walk) = IsPast octets token walk keeps kept
 IsStep octets token keeps kept (Reaches found stops) =
     IsWalked octets keeps kept found × TellsAfter octets found stops
-
--- what an octet is that stops a bare item and is no blank, at a depth of parentheses
-pub data IsMark (depth c : ℕ) (mark : Mark) : Type 0 where
-  a_line_feed : c ≡ 10 → depth ≢ 0 → mark ≡ marks.Passes depth 1 → IsMark depth c mark
-  an_opening : c ≡ 40 → mark ≡ marks.Passes (depth + 1) 0 → IsMark depth c mark
-  a_closing : c ≡ 41 → depth ≢ 0 → mark ≡ marks.Passes (depth - 1) 0 → IsMark depth c mark
-  ends : c ≡ 10 → depth ≡ 0 → mark ≡ marks.Ends → IsMark depth c mark
-  closes_nothing : c ≡ 41 → depth ≡ 0 → mark ≡ marks.ClosesNothing → IsMark depth c mark
-  begins : (c ≡ 34) ⊎ (c ≡ 59) → mark ≡ marks.Begins → IsMark depth c mark
 
 -- the items of a token come after others
 abbrev pub KeepsAll : List RawItem → List RawItem → List RawItem → Type 0

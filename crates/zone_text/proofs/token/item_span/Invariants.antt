@@ -1,5 +1,5 @@
 use Rattle.zone_text.proofs.Common.{ends_within, length, ◌-◌}
-use Rattle.zone_text.proofs.Tokens.ItemsLeft.{IsWrittenTo}
+use Rattle.zone_text.proofs.Tokens.WrittenItems.{IsWrittenTo}
 use Rattle.zone_text.proofs.token.item_span.Given as goal
 
 abbrev pub invariant-loop-len : goal.invariant-loop-len

@@ -15,7 +15,8 @@ returns-in_ok-keep_token-in-Whole c =
 
 pub returns-in-Open : goal.returns-in-Open
 returns-in-Open c =
-    (stands c.args.octets.now c.args.token.now c.args.after.depth c.args.after.feeds c.in-Open.seen c.args.keeps _ c.stand-at.result c.requires.begun.walked (rw c.in-Open.is at c.token_span.ensures) c.stand-at.ensures.start c.stand-at.ensures.seen c.stand-at.ensures.order c.stand-at.ensures.depth c.stand-at.ensures.feeds, tt)
+    let token = rw c.in-Open.is at c.token_span.ensures in
+    (stands c.args.octets.now c.args.token.now c.args.after.depth c.args.after.feeds c.in-Open.seen c.args.keeps _ _ c.requires.begun.walked token refl (omega arith) (omega arith) refl refl, tt)
 
 pub returns-in-Lost : goal.returns-in-Lost
 returns-in-Lost c =

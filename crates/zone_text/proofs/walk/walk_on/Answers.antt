@@ -1,5 +1,5 @@
 use Rattle.std.proofs.lemmas.List.{nil_from_length}
-use Rattle.zone_text.proofs.Common.{EndsAt, length, map, raw, stops_bare, subst, sym, ◌∙◌}
+use Rattle.zone_text.proofs.Common.{EndsAt, arith, length, map, raw, refl, stops_bare, subst, sym, ◌∙◌}
 use Rattle.zone_text.proofs.Scanning.StopMarks.{prefix_stops}
 use Rattle.zone_text.proofs.Scanning.Walking.{IsPast, begun_before, begun_there, deep_of, few_of, no_escape_stop, open_to_end, past_more, stands, tells_after, walked_bare, walked_blank}
 use Rattle.zone_text.proofs.walk.walk_on.Goals as goal
@@ -10,9 +10,9 @@ split_at-requires-in-loop-stop c = (prefix_stops c.loop-stop.walk.rest.now c.bar
 
 pub returns-in_default-clause-walked : goal.returns-in_default-clause-walked
 returns-in_default-clause-walked c =
-    stands c.args.octets.now c.loop-stop.walk.rest.now c.loop-stop.walk.depth c.loop-stop.walk.feeds (length c.loop-stop.walk.rest.now) c.args.keeps _ c.stand-at.result c.loop-stop.invariant.walked
+    stands c.args.octets.now c.loop-stop.walk.rest.now c.loop-stop.walk.depth c.loop-stop.walk.feeds (length c.loop-stop.walk.rest.now) c.args.keeps _ _ c.loop-stop.invariant.walked
     (open_to_end c.loop-stop.walk.rest.now c.split_at-in-loop-stop.result.1.now c.bare_len-len.result.0 c.bare_len-len.ensures.len c.split_at-in-loop-stop.ensures.back (nil_from_length c.split_at-in-loop-stop.result.1.now c.in_default.ensures.cases))
-    c.stand-at.ensures.start c.stand-at.ensures.seen c.stand-at.ensures.order c.stand-at.ensures.depth c.stand-at.ensures.feeds
+    refl (omega (arith, few_of _ _ _ _ _ _ c.loop-stop.invariant.walked)) (omega arith) refl refl
 
 pub is_blank_stop-requires : goal.is_blank_stop-requires
 is_blank_stop-requires c = subst (EndsAt stops_bare) (sym c.split_at-in-loop-stop.ensures.back ∙ c.in-Some.ensures.cases.0) (prefix_stops c.loop-stop.walk.rest.now c.bare_len-len.result.0 c.bare_len-len.ensures.len).2

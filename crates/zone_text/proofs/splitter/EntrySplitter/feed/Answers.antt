@@ -20,7 +20,7 @@ loop-self-preserved-then-blank-gt0 c =
 pub loop-self-preserved-in-Ends : goal.loop-self-preserved-in-Ends
 loop-self-preserved-in-Ends c =
     let first = first_of _ _ _ _ (rw c.in-Ends.is at c.in_ok-len.ensures.walked) in
-    let read = c.in_ok-read_cut.ensures (rw c.deref.ensures.value (keeps_items _ _ _ _ first c.split_at.ensures.front)) in
+    let read = c.in_ok-read.ensures (rw c.deref.ensures.value (keeps_items _ _ _ _ first c.split_at.ensures.front)) in
     let none = none_found c.loop-self.self.ended.decided.ending c.if-is_none.ensures in
     record {
       fed = fed_entry c.args.self.now c.loop-self.self _ c.args.piece.now c.loop-self.rest.now c.split_at.result.0.now c.split_at.result.1.now c.in-Ends.len _ c.loop-self.invariant.fed none (sym c.octets.ensures ∙ none_left c.octets.result.now (length c.octets.result.now) c.is_empty-in-loop-self.result refl c.is_empty-in-loop-self.ensures c.if-is_empty.true) first c.split_at.ensures.front c.split_at.ensures.back read refl;

@@ -1,7 +1,7 @@
 use Rattle.std.proofs.lemmas.List.Sums.{count_by-le-length}
 use Rattle.zone_text.proofs.Common.{refl}
 use Rattle.zone_text.proofs.Entries.EntryTaken.{lines_after, takes_entry}
-use Rattle.zone_text.proofs.ended.EndedEntries.read_cut.Goals as goal
+use Rattle.zone_text.proofs.ended.EndedEntries.read.Goals as goal
 
 pub returns : goal.returns
 returns c are =
